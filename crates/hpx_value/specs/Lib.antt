@@ -1,0 +1,6 @@
+pub mod Ids
+pub mod Values
+pub mod Shapes
+pub mod Hands
+pub mod Laws
+pub mod Profiles

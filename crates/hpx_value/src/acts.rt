@@ -1,0 +1,114 @@
+ghost use Rattle.std.specs.Prelude.{◌≡◌, ◌<◌, ◌≤◌, ℕ, IfOk, IfErr};
+ghost use Rattle.hpx_value.specs.Values.{State, Act, bare_act, bare_state, message_of, named};
+ghost use Rattle.hpx_value.specs.Shapes.{IsAct, IsState};
+ghost use Rattle.hpx_value.specs.Hands.{Outcome};
+ghost use Rattle.hpx_value.specs.Laws.{KeepsLaws};
+
+use crate::memory::OutOfMemory;
+use crate::outcome::Outcome;
+use crate::value::{Act, State};
+use std::alloc::Global;
+use std::marker::PhantomData;
+
+/// What actions do.
+pub trait Acts {
+    /// The number of localities.
+    ghost count: { Self → ℕ };
+
+    /// The outcome at so many localities, of an action on an object of a kind, at a locality, in a state.
+    ghost act_of: { ℕ → ℕ → ℕ → State → Act → Outcome };
+
+    fn localities(&self) -> u32
+        ensures { result ≡ count self.now };
+
+    fn act(
+        &self,
+        alloc: Global,
+        kind: u32,
+        here: u32,
+        state: &State,
+        action: &Act,
+    ) -> Result<Outcome, OutOfMemory>
+        ensures { IfOk result (λ outcome. outcome ≡ act_of (count self.now) kind here state.now action.now) };
+
+    ghost keeps_laws: { (n kind here : ℕ) (s : State) (a : Act) → 1 ≤ n → n ≤ 64 → here < n → IsState s → IsAct a
+        → KeepsLaws n kind s a (act_of n kind here s a) };
+
+    /// Neither the name of the action nor the credits of ids matter.
+    ghost is_blind: { (n kind here : ℕ) (s : State) (a : Act)
+        → act_of n kind here s a ≡ act_of n kind here (bare_state s) (named 0 0 (message_of (bare_act a))) };
+}
+
+/// An action to be run, and what it is run on.
+#[derive(Drop)]
+pub struct Job {
+    pub at: u32,
+    pub kind: u32,
+    pub state: State,
+    pub action: Act,
+}
+
+/// A job with its outcome, which is no other than the acts' own.
+#[derive(Drop)]
+pub struct Done<A: Acts> {
+    pub job: Job,
+    pub localities: u32,
+    pub outcome: Outcome,
+    acts: PhantomData<A>,
+    ghost right: { outcome ≡ A.act_of localities job.kind job.at job.state job.action },
+}
+
+impl<A: Acts> Done<A> {
+    /// Runs a job. An `Err` hands it back, for want of memory alone.
+    pub fn compute(alloc: Global, acts: &A, job: Job) -> Result<Done<A>, Job>
+        ensures job { IfOk result (λ done. done.job ≡ job) }
+        ensures localities { IfOk result (λ done. done.localities ≡ A.count acts.now) }
+        ensures err { IfErr result (λ back. back ≡ job) }
+    {
+        let localities = acts.localities();
+        match acts.act(alloc, job.kind, job.at, &job.state, &job.action) {
+            Ok(outcome) => Ok(Done {
+                job,
+                localities,
+                outcome,
+                acts: PhantomData,
+            }),
+            Err(_) => Err(job),
+        }
+    }
+
+    /// The job that was run.
+    pub fn job(&self) -> &Job
+        ensures { result.now ≡ self.now.job }
+    {
+        &self.job
+    }
+
+    /// What it does.
+    pub fn outcome(&self) -> &Outcome
+        ensures { result.now ≡ self.now.outcome }
+    {
+        &self.outcome
+    }
+
+    /// At how many localities it was run.
+    pub fn localities(&self) -> u32
+        ensures { result ≡ self.now.localities }
+    {
+        self.localities
+    }
+
+    /// The job and its outcome.
+    pub fn parts(self) -> (Job, Outcome)
+        ensures job { result.0 ≡ self.job }
+        ensures outcome { result.1 ≡ self.outcome }
+    {
+        let Done {
+            job,
+            localities: _,
+            outcome,
+            acts: _,
+        } = self;
+        (job, outcome)
+    }
+}
