@@ -1,0 +1,21 @@
+-- The types of the code below, as clauses see them.
+pub use Rattle.hpx_value.specs.Ids.{Id}
+pub use Rattle.hpx_value.specs.declared.value.Value.{Value}
+pub use Rattle.hpx_value.specs.declared.value.Value.TheVariants.{Unit as Nothing, Flag, Int, Text, Ref, Fault, Ints}
+pub use Rattle.hpx_value.specs.declared.value.Cont.{Cont}
+pub use Rattle.hpx_value.specs.declared.value.State.{State}
+pub use Rattle.hpx_value.specs.declared.value.Act.{Act}
+pub use Rattle.hpx_value.specs.declared.value.Message.{Message}
+pub use Rattle.hpx_value.specs.declared.outcome.Target.{Target}
+pub use Rattle.hpx_value.specs.declared.outcome.Target.TheVariants.{Place, Root}
+pub use Rattle.hpx_value.specs.declared.outcome.SendCont.{SendCont}
+pub use Rattle.hpx_value.specs.declared.outcome.SendCont.TheVariants.{Nothing as NoCont, Own, Made, Here}
+pub use Rattle.hpx_value.specs.declared.outcome.NewState.{NewState}
+pub use Rattle.hpx_value.specs.declared.outcome.Make.{Make}
+pub use Rattle.hpx_value.specs.declared.outcome.Sending.{Sending}
+pub use Rattle.hpx_value.specs.declared.outcome.Reply.{Reply}
+pub use Rattle.hpx_value.specs.declared.outcome.Outcome.{Outcome}
+pub use Rattle.hpx_value.specs.declared.outcome.Due.{Due}
+pub use Rattle.hpx_value.specs.declared.outcome.Due.TheVariants.{Message as MessageDue, Print as PrintDue}
+pub use Rattle.hpx_parcel.specs.declared.parcel.Parcel.{Parcel}
+pub use Rattle.hpx_parcel.specs.declared.parcel.Parcel.TheVariants.{Apply}

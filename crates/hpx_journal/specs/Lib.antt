@@ -1,0 +1,9 @@
+pub mod Data
+pub mod Bags
+pub mod Entries
+pub mod Weights
+pub mod Books
+pub mod Local
+pub mod Roots
+pub mod Whole
+pub mod Keyed

@@ -1,0 +1,5 @@
+//! The journal: every change of the world is an entry.
+#![tactic(auto)]
+
+pub mod entry;
+pub mod journal;
