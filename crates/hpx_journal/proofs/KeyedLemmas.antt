@@ -16,6 +16,17 @@ counts_true p x h = rw h refl
 pub counts_false : {X : Type 0} (p : X → Bool) (x : X) → p x ≡ false → counts_of p x ≡ 0
 counts_false p x h = rw h refl
 
+pub count_same : {X : Type 0} (p q : X → Bool) → ((x : X) → p x ≡ q x) → (xs : List X) → count_by p xs ≡ count_by q xs
+count_same p q h [] = refl
+count_same p q h (x ∷ xs) =
+    omega (
+      arith,
+      sum_by-cons (counts_of p) x xs,
+      sum_by-cons (counts_of q) x xs,
+      ap {B = ℕ} (λ b. cond b 1 0) (h x),
+      count_same p q h xs,
+    )
+
 pub count_middle : {X : Type 0} (p : X → Bool) (l : List X) (x : X) (r : List X)
     → count_by p (l ++ x ∷ r) ≡ count_by p (l ++ r) + cond (p x) 1 0
 count_middle p l x r = omega (
@@ -45,21 +56,21 @@ find_hit p (y ∷ l) x r h z = elim (cases_Bool (p y)) [
   | inr t ↦ rw t (find_hit p l x r h (omega (arith, sum_by-cons (counts_of p) y l)))
 ]
 
-module _ {K X : Type 0} (test : K → X → Bool) (key : X → K) (means : (k : K) (x : X) → test k x ≡ true → k ≡ key x)
+module _ {K X : Type 0} (test : K → X → Bool) (key : X → K) (means : (k : K) (x : X) → test k x ≡ true → (y : X) → test k y ≡ test (key x) y)
     (own : (x : X) → test (key x) x ≡ true) where
   pub Agree-put : (xs l r : List X) (x : X) → Agree test xs (l ++ r) → count_by (test (key x)) xs ≡ 0
       → Agree test (x ∷ xs) (l ++ x ∷ r)
   Agree-put xs l r x h empty = record {
     single = λ k. elim (cases_Bool (test k x)) [
       | inl t ↦
-          let z : count_by (test k) xs ≡ 0 = subst (λ j. count_by (test j) xs ≡ 0) (sym (means k x t)) empty in
+          let z : count_by (test k) xs ≡ 0 = count_same (test k) (test (key x)) (means k x t) xs ∙ empty in
           omega (arith, sum_by-cons (counts_of (test k)) x xs, counts_true (test k) x t)
       | inr t ↦ omega (arith, sum_by-cons (counts_of (test k)) x xs, counts_false (test k) x t, h.single k)
     ];
     counts = λ k. omega (arith, sum_by-cons (counts_of (test k)) x xs, count_middle (test k) l x r, h.counts k);
     finds = λ k. elim (cases_Bool (test k x)) [
       | inl t ↦
-          let z : count_by (test k) xs ≡ 0 = subst (λ j. count_by (test j) xs ≡ 0) (sym (means k x t)) empty in
+          let z : count_by (test k) xs ≡ 0 = count_same (test k) (test (key x)) (means k x t) xs ∙ empty in
           let e : count_by (test k) l ≡ 0 = omega (arith, h.counts k, sum_by-append (counts_of (test k)) l r) in
           rw t (sym (find_hit (test k) l x r t e))
       | inr t ↦ rw t (h.finds k ∙ sym (find_miss (test k) l x r t))
@@ -95,8 +106,7 @@ module _ {K X : Type 0} (test : K → X → Bool) (key : X → K) (means : (k : 
               find-without (test k) (test (key x)) xs
               (λ y s. elim (cases_Bool (test k y)) [
                 | inl u ↦
-                    let e : k ≡ key x = means k y u ∙ sym (means (key x) y s) in
-                    absurd (let c : true ≡ false = sym (own x) ∙ (ap (λ j. test j x) (sym e) ∙ t) in cc)
+                    absurd (let c : true ≡ false = sym (own x) ∙ (means (key x) y s x ∙ (sym (means k y u x) ∙ t)) in cc)
                 | inr u ↦ u
               ])
               ∙ (h.finds k ∙ find_miss (test k) l x r t)
@@ -157,7 +167,7 @@ counted_none p (x ∷ xs) h = elim (cases_Bool (p x)) [
   | inr t ↦ rw t (counted_none p xs (omega (arith, sum_by-cons (counts_of p) x xs)))
 ]
 
-module _ {K X : Type 0} (test : K → X → Bool) (key : X → K) (means : (k : K) (x : X) → test k x ≡ true → k ≡ key x)
+module _ {K X : Type 0} (test : K → X → Bool) (key : X → K) (means : (k : K) (x : X) → test k x ≡ true → (y : X) → test k y ≡ test (key x) y)
     (own : (x : X) → test (key x) x ≡ true) where
   pub Agree-sym : (xs ys : List X) → Agree test xs ys → Agree test ys xs
   Agree-sym xs ys h = record {

@@ -5,6 +5,7 @@ pub mod Present
 pub mod Wholes
 pub mod Joined
 pub mod KeyedLemmas
+pub mod Keys
 pub mod Single
 pub mod Grow
 pub mod Once
