@@ -1,0 +1,13 @@
+pub mod Bags
+pub mod Same
+pub mod Moves
+pub mod Present
+pub mod Wholes
+pub mod Joined
+pub mod KeyedLemmas
+pub mod Keys
+pub mod Single
+pub mod Grow
+pub mod Once
+pub mod Roads
+pub mod Start

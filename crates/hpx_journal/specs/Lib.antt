@@ -7,3 +7,4 @@ pub mod Local
 pub mod Roots
 pub mod Whole
 pub mod Keyed
+pub mod Laws
