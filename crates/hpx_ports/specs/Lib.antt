@@ -1,0 +1,5 @@
+pub mod Faults
+pub mod Told
+pub mod Bytes
+pub mod Plans
+pub mod Supplies
