@@ -1,1 +1,9 @@
 pub mod Hand
+pub mod Fit
+pub mod Bare
+pub mod Free
+pub mod Tables
+pub mod Jobs
+pub mod Stands
+pub mod Changes
+pub mod Frames

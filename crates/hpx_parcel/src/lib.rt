@@ -1,4 +1,0 @@
-//! Frames.
-#![tactic(auto)]
-
-pub mod parcel;

@@ -1,0 +1,205 @@
+-- Messages and states made of a hand without credits are those made of the hand, without credits.
+use Rattle.std.proofs.Common.{ℕ, zero, suc, Bool, true, false, cond, List, [], ◌∷◌, ◌++◌, ◌≡◌, ◌+◌, ◌==◌, pos, Option, Some, None, length, map, refl, sym, ap, ◌∙◌, subst, arith, inl, inr}
+use Rattle.std.specs.List.{find, list_any, slice_index_or}
+use Rattle.std.proofs.lemmas.List.{map-append, length-map}
+use Rattle.std.proofs.lemmas.Bool.{cases_Bool}
+use Rattle.hpx_value.specs.Ids.{bare}
+use Rattle.hpx_value.specs.Values.{bare_act, bare_state, bare_message, message_of, named, refs_in}
+use Rattle.hpx_value.specs.Hands.{Slot, session, id_at, slot_at, own_slot, hand_ids, hand_slots, hand_slot, addressed, cont_at, slot_ids, renumbered, answer, target_id, send_slot, sent, replied, due_of, conts_from, slots_kept, state_after}
+use Rattle.hpx_journal.specs.Data.{Id, Value, Int, Cont, State, Act, Message, Due, MessageDue, PrintDue, Target, Place, Root, SendCont, NoCont, Own, Made, Here, Sending, Reply, Outcome}
+use Rattle.hpx_journal.specs.Entries.{target_of}
+use Rattle.hpx_journal.specs.Local.{is_standing, acts_on, is_busy}
+use Rattle.hpx_journal.specs.declared.entry.Standing.{Standing}
+use Rattle.hpx_top.specs.Bare.{bare_standing, bare_due}
+
+pub bare_twice : (ids : List Id) → map bare (map bare ids) ≡ map bare ids
+bare_twice [] = refl
+bare_twice (id ∷ ids) = ap (λ xs. bare id ∷ xs) (bare_twice ids)
+
+pub id_at-bare : (ids : List Id) (i : ℕ) → id_at (map bare ids) i ≡ bare (id_at ids i)
+id_at-bare [] i = refl
+id_at-bare (id ∷ ids) zero = refl
+id_at-bare (id ∷ ids) (suc i) = id_at-bare ids i
+
+pub target-bare : (act : Act) → target_of (bare_act act) ≡ bare (target_of act)
+target-bare act = id_at-bare act.ids 0
+
+pub found-bare : (o : Id) (xs : List Standing) (x : Standing) → find (is_standing o) xs ≡ Some x
+    → find (is_standing (bare o)) (map bare_standing xs) ≡ Some (bare_standing x)
+found-bare o [] x h = cc
+found-bare o (y ∷ ys) x h = elim (cases_Bool (is_standing o y)) [
+  | inl t ↦ rw t (let e : Some y ≡ Some x = rw t at h in ap (λ (z : Option Standing). option_bare z) e)
+  | inr t ↦ rw t (found-bare o ys x (rw t at h))
+]
+  where
+    option_bare : Option Standing → Option Standing
+    option_bare None = None
+    option_bare (Some z) = Some (bare_standing z)
+
+any-bare : (o : Id) (xs : List Act) → list_any (acts_on (bare o)) (map bare_act xs) ≡ list_any (acts_on o) xs
+any-bare o [] = refl
+any-bare o (x ∷ xs) = rw (target-bare x, any-bare o xs) refl
+
+pub busy-bare : (o : Id) (xs : List Act) → is_busy (bare o) (map bare_act xs) ≡ is_busy o xs
+busy-bare o xs = ap (λ b. cond (o.kind == 7) false b) (any-bare o xs)
+
+-- ---- a hand
+
+abbrev pub bare_slot : Slot → Slot
+bare_slot x = record { object = bare x.object; number = x.number }
+
+hand-bare : (s : State) (a : Act) → hand_ids (bare_state s) (bare_act a) [] ≡ map bare (hand_ids s a [])
+hand-bare s a = sym (map-append bare s.ids (a.ids ++ []) ∙ ap (λ xs. map bare s.ids ++ xs) (map-append bare a.ids []))
+
+slot_at-bare : (ids : List Id) (c : Cont) → slot_at (map bare ids) c ≡ bare_slot (slot_at ids c)
+slot_at-bare ids c = ap (λ id. record { object = id; number = c.slot }) (id_at-bare ids c.place)
+
+conts-bare : (ids : List Id) (cs : List Cont) → map (slot_at (map bare ids)) cs ≡ map bare_slot (map (slot_at ids) cs)
+conts-bare ids [] = refl
+conts-bare ids (c ∷ cs) =
+    ap (λ x. x ∷ map (slot_at (map bare ids)) cs) (slot_at-bare ids c) ∙ ap (λ xs. bare_slot (slot_at ids c) ∷ xs) (conts-bare ids cs)
+
+own-bare : (ids : List Id) (c : Option Cont) → own_slot (map bare ids) c ≡ map bare_slot (own_slot ids c)
+own-bare ids None = refl
+own-bare ids (Some c) = ap (λ x. x ∷ []) (slot_at-bare ids c)
+
+slots-bare : (s : State) (a : Act) → hand_slots (bare_state s) (bare_act a) ≡ map bare_slot (hand_slots s a)
+slots-bare s a =
+    ap (λ xs. xs ++ own_slot (map bare a.ids) a.cont) (conts-bare s.ids s.conts)
+    ∙ (ap (λ xs. map bare_slot (map (slot_at s.ids) s.conts) ++ xs) (own-bare a.ids a.cont)
+    ∙ sym (map-append bare_slot (map (slot_at s.ids) s.conts) (own_slot a.ids a.cont)))
+
+nth-bare : (xs : List Slot) (n : ℕ)
+    → slice_index_or (map bare_slot xs) n (record { object = session; number = 0 }) ≡ bare_slot (slice_index_or xs n (record { object = session; number = 0 }))
+nth-bare [] n = refl
+nth-bare (x ∷ xs) zero = refl
+nth-bare (x ∷ xs) (suc n) = nth-bare xs n
+
+slot-bare : (s : State) (a : Act) (n : ℕ) → hand_slot (bare_state s) (bare_act a) n ≡ bare_slot (hand_slot s a n)
+slot-bare s a n = ap (λ xs. slice_index_or xs n (record { object = session; number = 0 })) (slots-bare s a) ∙ nth-bare (hand_slots s a) n
+
+-- ---- messages
+
+abbrev pub bare_option : Option Slot → Option Slot
+bare_option None = None
+bare_option (Some x) = Some (bare_slot x)
+
+refs-bare : (hand : List Id) (places : List ℕ) → map (id_at (map bare hand)) places ≡ map bare (map (id_at hand) places)
+refs-bare hand [] = refl
+refs-bare hand (p ∷ ps) = ap (λ x. x ∷ map (id_at (map bare hand)) ps) (id_at-bare hand p) ∙ ap (λ xs. bare (id_at hand p) ∷ xs) (refs-bare hand ps)
+
+addressed-bare : (hand : List Id) (target : Id) (code : ℕ) (args : List Value) (cont : Option Slot)
+    → addressed (map bare hand) (bare target) code args (bare_option cont) ≡ bare_message (addressed hand target code args cont)
+addressed-bare hand target code args None =
+    ap (λ ids. record (addressed (map bare hand) (bare target) code args None) { ids = bare target ∷ ids })
+    (ap (λ xs. xs ++ []) (refs-bare hand (refs_in args)) ∙ sym (map-append bare (map (id_at hand) (refs_in args)) []))
+addressed-bare hand target code args (Some x) =
+    ap (λ ids. record (addressed (map bare hand) (bare target) code args (Some (bare_slot x))) { ids = bare target ∷ ids })
+    (ap (λ xs. xs ++ bare x.object ∷ []) (refs-bare hand (refs_in args)) ∙ sym (map-append bare (map (id_at hand) (refs_in args)) (x.object ∷ [])))
+
+target_id-bare : (hand : List Id) (t : Target) → target_id (map bare hand) t ≡ bare (target_id hand t)
+target_id-bare hand (Place p) = id_at-bare hand p
+target_id-bare hand (Root kind at) = refl
+
+send_slot-bare : (s : State) (a : Act) (c : SendCont) → send_slot (bare_state s) (bare_act a) [] c ≡ bare_option (send_slot s a [] c)
+send_slot-bare s a NoCont = refl
+send_slot-bare s a (Own n) = ap (λ x. Some x) (slot-bare s a n)
+send_slot-bare s a (Made make slot) =
+    ap (λ id. Some (record { object = id; number = slot }))
+    (ap (λ xs. id_at xs (length (map bare s.ids) + length (map bare a.ids) + make)) (hand-bare s a)
+    ∙ (ap (λ n. id_at (map bare (hand_ids s a [])) (n + length (map bare a.ids) + make)) (length-map s.ids bare)
+    ∙ (ap (λ n. id_at (map bare (hand_ids s a [])) (length s.ids + n + make)) (length-map a.ids bare)
+    ∙ id_at-bare (hand_ids s a []) (length s.ids + length a.ids + make))))
+send_slot-bare s a (Here slot) = refl
+
+sent-bare : (s : State) (a : Act) (x : Sending) → sent (bare_state s) (bare_act a) [] x ≡ bare_message (sent s a [] x)
+sent-bare s a x =
+    ap (λ hand. addressed hand (target_id hand x.target) x.code x.args (send_slot (bare_state s) (bare_act a) [] x.cont)) (hand-bare s a)
+    ∙ (ap (λ t. addressed (map bare (hand_ids s a [])) t x.code x.args (send_slot (bare_state s) (bare_act a) [] x.cont)) (target_id-bare (hand_ids s a []) x.target)
+    ∙ (ap (λ c. addressed (map bare (hand_ids s a [])) (bare (target_id (hand_ids s a []) x.target)) x.code x.args c) (send_slot-bare s a x.cont)
+    ∙ addressed-bare (hand_ids s a []) (target_id (hand_ids s a []) x.target) x.code x.args (send_slot s a [] x.cont)))
+
+replied-bare : (s : State) (a : Act) (x : Reply) → replied (bare_state s) (bare_act a) [] x ≡ bare_message (replied s a [] x)
+replied-bare s a x =
+    let slot = hand_slot s a x.cont in
+    ap (λ hand. answer hand (hand_slot (bare_state s) (bare_act a) x.cont) x.value) (hand-bare s a)
+    ∙ (ap (λ y. answer (map bare (hand_ids s a [])) y x.value) (slot-bare s a x.cont)
+    ∙ addressed-bare (hand_ids s a []) slot.object 3 (Int (pos slot.number) ∷ x.value ∷ []) None)
+
+sends-bare : (s : State) (a : Act) (xs : List Sending)
+    → map (λ x. MessageDue (sent (bare_state s) (bare_act a) [] x)) xs ≡ map bare_due (map (λ x. MessageDue (sent s a [] x)) xs)
+sends-bare s a [] = refl
+sends-bare s a (x ∷ xs) =
+    ap (λ m. MessageDue m ∷ map (λ y. MessageDue (sent (bare_state s) (bare_act a) [] y)) xs) (sent-bare s a x)
+    ∙ ap (λ ys. MessageDue (bare_message (sent s a [] x)) ∷ ys) (sends-bare s a xs)
+
+replies-bare : (s : State) (a : Act) (xs : List Reply)
+    → map (λ x. MessageDue (replied (bare_state s) (bare_act a) [] x)) xs ≡ map bare_due (map (λ x. MessageDue (replied s a [] x)) xs)
+replies-bare s a [] = refl
+replies-bare s a (x ∷ xs) =
+    ap (λ m. MessageDue m ∷ map (λ y. MessageDue (replied (bare_state s) (bare_act a) [] y)) xs) (replied-bare s a x)
+    ∙ ap (λ ys. MessageDue (bare_message (replied s a [] x)) ∷ ys) (replies-bare s a xs)
+
+prints-bare : (xs : List (List ℕ)) → map PrintDue xs ≡ map bare_due (map PrintDue xs)
+prints-bare [] = refl
+prints-bare (x ∷ xs) = ap (λ ys. PrintDue x ∷ ys) (prints-bare xs)
+
+-- what is due, without credits
+pub due-bare : (s : State) (a : Act) (out : Outcome) → due_of (bare_state s) (bare_act a) [] out ≡ map bare_due (due_of s a [] out)
+due-bare s a out =
+    let sends = map (λ x. MessageDue (sent s a [] x)) out.sends in
+    let replies = map (λ x. MessageDue (replied s a [] x)) out.replies in
+    let prints = map PrintDue out.prints in
+    let sends' = map (λ x. MessageDue (sent (bare_state s) (bare_act a) [] x)) out.sends in
+    let replies' = map (λ x. MessageDue (replied (bare_state s) (bare_act a) [] x)) out.replies in
+    ap (λ xs. xs ++ (replies' ++ prints)) (sends-bare s a out.sends)
+    ∙ (ap (λ xs. map bare_due sends ++ (xs ++ prints)) (replies-bare s a out.replies)
+    ∙ (ap (λ xs. map bare_due sends ++ (map bare_due replies ++ xs)) (prints-bare out.prints)
+    ∙ (ap (λ xs. map bare_due sends ++ xs) (sym (map-append bare_due replies prints))
+    ∙ sym (map-append bare_due sends (replies ++ prints)))))
+
+-- ---- the new state
+
+kept-bare : (s : State) (a : Act) (numbers : List ℕ)
+    → map (hand_slot (bare_state s) (bare_act a)) numbers ≡ map bare_slot (map (hand_slot s a) numbers)
+kept-bare s a [] = refl
+kept-bare s a (n ∷ ns) =
+    ap (λ x. x ∷ map (hand_slot (bare_state s) (bare_act a)) ns) (slot-bare s a n)
+    ∙ ap (λ xs. bare_slot (hand_slot s a n) ∷ xs) (kept-bare s a ns)
+
+conts_from-bare : (n : ℕ) (xs : List Slot) → conts_from n (map bare_slot xs) ≡ conts_from n xs
+conts_from-bare n [] = refl
+conts_from-bare n (x ∷ xs) = ap (λ cs. record { place = n; slot = x.number } ∷ cs) (conts_from-bare (n + 1) xs)
+
+objects-bare : (xs : List Slot) → map (λ x. x.object) (map bare_slot xs) ≡ map bare (map (λ x. x.object) xs)
+objects-bare [] = refl
+objects-bare (x ∷ xs) = ap (λ ys. bare x.object ∷ ys) (objects-bare xs)
+
+-- the new state, with these continuations and ids
+abbrev state_with : Outcome → List Cont → List Id → State
+state_with out cs ids = record { drawn = out.state.drawn; values = renumbered 0 out.state.values; conts = cs; ids = ids }
+
+-- the new state, without credits
+pub state-bare : (s : State) (a : Act) (out : Outcome) → state_after (bare_state s) (bare_act a) [] out ≡ bare_state (state_after s a [] out)
+state-bare s a out =
+    let refs = refs_in out.state.values in
+    let slots = map (hand_slot s a) out.state.conts in
+    let make = λ (cs : List Cont) (ids : List Id). state_with out cs ids in
+    ap (λ xs. make (conts_from (length refs) xs) (map (id_at (hand_ids (bare_state s) (bare_act a) [])) refs ++ map (λ x. x.object) xs)) (kept-bare s a out.state.conts)
+    ∙ (ap (λ cs. make cs (map (id_at (hand_ids (bare_state s) (bare_act a) [])) refs ++ map (λ x. x.object) (map bare_slot slots))) (conts_from-bare (length refs) slots)
+    ∙ (ap (λ hand. make (conts_from (length refs) slots) (map (id_at hand) refs ++ map (λ x. x.object) (map bare_slot slots))) (hand-bare s a)
+    ∙ (ap (λ xs. make (conts_from (length refs) slots) (xs ++ map (λ x. x.object) (map bare_slot slots))) (refs-bare (hand_ids s a []) refs)
+    ∙ (ap (λ xs. make (conts_from (length refs) slots) (map bare (map (id_at (hand_ids s a [])) refs) ++ xs)) (objects-bare slots)
+    ∙ ap (λ ids. make (conts_from (length refs) slots) ids) (sym (map-append bare (map (id_at (hand_ids s a [])) refs) (map (λ x. x.object) slots)))))))
+
+-- ---- what the acts do not see
+
+-- neither names nor credits matter, so neither do credits alone
+pub blind_of : (act_of : State → Act → Outcome)
+    → ((s : State) (a : Act) → act_of s a ≡ act_of (bare_state s) (named 0 0 (message_of (bare_act a))))
+    → (s : State) (a : Act) → act_of (bare_state s) (bare_act a) ≡ act_of s a
+blind_of act_of blind s a =
+    blind (bare_state s) (bare_act a)
+    ∙ (ap (λ ids. act_of (record { drawn = s.drawn; values = s.values; conts = s.conts; ids = ids }) (named 0 0 (message_of (bare_act (bare_act a))))) (bare_twice s.ids)
+    ∙ (ap (λ ids. act_of (bare_state s) (record { origin = 0; serial = 0; code = a.code; args = a.args; cont = a.cont; ids = ids })) (bare_twice a.ids)
+    ∙ sym (blind s a)))

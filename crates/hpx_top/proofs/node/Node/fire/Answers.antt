@@ -1,0 +1,33 @@
+use Rattle.std.proofs.Common.{◌≡◌, Some, sym, ap, ◌∙◌}
+use Rattle.std.specs.List.{slice_get}
+use Rattle.hpx_top.specs.Tables.{Tables}
+use Rattle.hpx_top.specs.Free.{IsFree}
+use Rattle.hpx_top.proofs.Written.{writes_from}
+use Rattle.hpx_top.proofs.node.Node.fire.Goals as goal
+
+pub returns-clause-fired : goal.returns-clause-fired
+returns-clause-fired g c =
+    writes_from _ _ _ _ _ _ _ c.in_ok-reserve.ensures.same c.in_ok-reserve-2.ensures.entries
+    (c.start.ensures.fired c.in_ok-job.job.action (rw c.in_ok-reserve.ensures.same c.in_ok-job.ensures.action))
+
+pub returns-clause-job : goal.returns-clause-job
+returns-clause-job g c =
+    let at = rw (← c.self.view_is) at c.in_ok-job.ensures.action in
+    let free : IsFree c.self.inside.running.items c.self.inside.objects.items c.in_ok-job.job.action =
+    rw (← c.as_slice.ensures.value, ← c.as_slice-2.ensures.value) (c.in-Some.ensures.free c.in_ok-job.job.action at) in
+    let found = rw c.as_slice-2.ensures.value at (c.in-Some.ensures.found c.in_ok-job.job.action at) in
+    let stands : slice_get c.self.inside.objects.items c.in-Some.spot.1 ≡ Some free.standing = sym found ∙ free.found in
+    let job = (rw (← c.self.view_is) at c.in_ok-job.ensures.object) free.standing stands in
+    rw (← c.self.view_is) (record {
+      i = c.in-Some.spot.0;
+      standing = free.standing;
+      action = at;
+      first = rw (← c.as_slice.ensures.value, ← c.as_slice-2.ensures.value) c.in-Some.ensures.first;
+      free = free;
+      found = free.found;
+      here = rw (← c.self.view_is) at c.in_ok-job.ensures.here;
+      kind = job.0;
+      state = job.1;
+      accepted = c.start.ensures.accepted ∙ rw (c.in_ok-reserve.ensures.same, ← c.self.view_is);
+      running = c.start.ensures.running c.in_ok-job.job.action (rw (c.in_ok-reserve.ensures.same, ← c.self.view_is) at) ∙ rw (c.in_ok-reserve.ensures.same, ← c.self.view_is);
+    })

@@ -1,0 +1,18 @@
+-- An action that may be fired.
+use Rattle.std.specs.Prelude.{false, List, [], ◌∷◌, Some, ◌≡◌}
+use Rattle.std.specs.List.{find}
+use Rattle.hpx_journal.specs.Data.{Act}
+use Rattle.hpx_journal.specs.Entries.{target_of}
+use Rattle.hpx_journal.specs.declared.entry.Standing.{Standing}
+use Rattle.hpx_journal.specs.Local.{is_standing, is_busy}
+
+-- its object stands here and is not busy
+pub record IsFree (running : List Act) (objects : List Standing) (act : Act) : Type 0 where
+  pub standing : Standing
+  pub found : find (is_standing (target_of act)) objects ≡ Some standing
+  pub idle : is_busy (target_of act) running ≡ false
+
+-- none of them may be fired
+abbrev pub NoneIsFree : List Act → List Standing → List Act → Type 0
+NoneIsFree running objects [] = Unit {0}
+NoneIsFree running objects (act ∷ acts) = (IsFree running objects act → ⊥) × NoneIsFree running objects acts
