@@ -1,0 +1,10 @@
+pub mod Loops
+pub mod Ids
+pub mod Lists
+pub mod Taken
+pub mod Fields
+pub mod Values
+pub mod Each
+pub mod Acts
+pub mod Bytes
+pub mod Frames

@@ -1,0 +1,4 @@
+pub mod Types
+pub mod Spelling
+pub mod Parcels
+pub mod Reading
