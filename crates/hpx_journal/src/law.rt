@@ -1,10 +1,13 @@
 //! What every legal journal keeps: the contracts are the laws.
-ghost use Rattle.std.specs.Prelude.{ℕ, List, [], ◌≡◌, ◌≤◌, ◌+◌, ◌++◌, ◌<◌};
+ghost use Rattle.std.specs.Prelude.{ℕ, List, [], ◌∷◌, ◌≡◌, ◌≤◌, ◌+◌, ◌++◌, ◌<◌};
 ghost use Rattle.std.specs.List.{count_by};
 ghost use Rattle.hpx_journal.specs.Entries.{Name, Entry, Standing, Rules, Frame, same_frame};
 ghost use Rattle.hpx_journal.specs.Local.{boot};
-ghost use Rattle.hpx_journal.specs.Whole.{IsJoin, IsLegal, IsClean, part, start, run, run_local, road_run, outs, ins, fires, dones, fires_at, dones_at};
+ghost use Rattle.hpx_journal.specs.Whole.{Space, IsJoin, IsLegal, IsClean, part, start, run, run_local, road_run, outs, ins, fires, dones, fires_at, dones_at};
 ghost use Rattle.hpx_journal.specs.Laws.{IsOnRoad, IsSpelled};
+ghost use Rattle.hpx_journal.specs.Roots.{roots};
+ghost use Rattle.hpx_journal.specs.Pool.{Pool, Shows, AreSound, OnlySessionPrints, IsBlind, IsPlainRun, state_of};
+ghost use Rattle.hpx_journal.specs.Sessions.{IsSettled, BeginsWith, IsSession, IsPlainSession, entries_of, shown};
 
 /// Node journals put together are one legal journal without a foreign arrival, and each front of a legal journal is
 /// legal. In it each action is fired once and done once, both at one locality.
@@ -30,4 +33,23 @@ pub fn road_law()
         count_by (same_frame f) (road_run [] es) + count_by (same_frame f) (ins es) ≡ count_by (λ x. same_frame f x.1) (outs es) }
     ensures spelled { (r : Rules) (roots : ℕ → List Standing) (es : List Entry) (f : Frame) → IsLegal r (start roots) es →
         IsOnRoad f (run r (start roots) es) → IsSpelled r f }
+{}
+
+/// A legal journal is a run of the plain pool: an entry is a line, one step of an action, or nothing.
+pub fn reduction_law()
+    ensures { (r : Rules) (w : Space) (p : Pool) (out : List (List ℕ)) (es : List Entry) →
+        OnlySessionPrints r → IsBlind r → Shows r w p out → AreSound w → IsLegal r w es → IsPlainRun r w p out es }
+{}
+
+/// What a session prints, block after block, is what the plain pool prints, line after line.
+pub fn session_law()
+    ensures plain { (r : Rules) (w : Space) (lines : List (List ℕ)) (blocks : List (List Entry)) →
+        OnlySessionPrints r → IsBlind r → IsSettled r w → AreSound w → IsSession r w lines blocks →
+        IsPlainSession r (state_of w) lines (shown blocks) }
+    ensures boot { (r : Rules) (n : ℕ) (lines : List (List ℕ)) (blocks : List (List Entry)) →
+        OnlySessionPrints r → IsBlind r → IsSession r (start (roots n)) lines blocks →
+        IsPlainSession r (state_of (start (roots n))) lines (shown blocks) }
+    ensures grows { (r : Rules) (w : Space) (lines : List (List ℕ)) (blocks : List (List Entry)) (line : List ℕ) (es : List Entry) →
+        IsSession r w lines blocks → IsLegal r w (entries_of blocks ++ es) → BeginsWith line es →
+        IsSettled r (run r w (entries_of blocks ++ es)) → IsSession r w (lines ++ line ∷ []) (blocks ++ es ∷ []) }
 {}
