@@ -18,3 +18,5 @@ pub mod Reduce
 pub mod Only
 pub mod Plain
 pub mod Boot
+pub mod Stands
+pub mod Begun

@@ -31,7 +31,7 @@ found_object o xs x h = same_object-true o x.object (find-passes (is_standing o)
 pub same_object-bare : (o t u : Id) → bare t ≡ bare u → same_object o t ≡ same_object o u
 same_object-bare o t u h = ap (λ v. same_object o v) h
 
-apart : (o t : Id) → same_object o t ≡ false → (y : Standing) → is_standing t y ≡ true → is_standing o y ≡ false
+pub apart : (o t : Id) → same_object o t ≡ false → (y : Standing) → is_standing t y ≡ true → is_standing o y ≡ false
 apart o t h y e = sym (same_object-bare o t y.object (same_object-true t y.object e)) ∙ h
 
 settled_find_at : (b : Bool) (o t : Id) (xs : List Standing) (new : Standing) → same_object o t ≡ b
