@@ -1,0 +1,4 @@
+//! One locality, all localities over a fabric, and the top call.
+#![tactic(auto)]
+
+pub mod hand;
