@@ -149,6 +149,10 @@ pub legal_rest : (r : Rules) (w : Space) (es later : List Entry) → IsLegal r w
 legal_rest r w [] later h = h
 legal_rest r w (e ∷ es) later h = legal_rest r (step r w e) es later h.1
 
+pub legal_append : (r : Rules) (w : Space) (es later : List Entry) → IsLegal r w es → IsLegal r (run r w es) later → IsLegal r w (es ++ later)
+legal_append r w [] later h i = i
+legal_append r w (e ∷ es) later h i = (h.0, legal_append r (step r w e) es later h.1 i)
+
 pub run_append : (r : Rules) (w : Space) (es later : List Entry) → run r w (es ++ later) ≡ run r (run r w es) later
 run_append r w [] later = refl
 run_append r w (e ∷ es) later = run_append r (step r w e) es later

@@ -11,3 +11,13 @@ pub mod Grow
 pub mod Once
 pub mod Roads
 pub mod Start
+pub mod SameMessage
+pub mod Mass
+pub mod Sound
+pub mod Reduce
+pub mod Only
+pub mod Plain
+pub mod Boot
+pub mod Stands
+pub mod Begun
+mod Witness

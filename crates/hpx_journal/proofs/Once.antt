@@ -14,10 +14,10 @@ use Rattle.hpx_journal.proofs.Present.{fired_moves, done_moves, fire_names, done
 use Rattle.hpx_journal.proofs.Wholes.{IsWhole, whole_run, total_moves, at_same, at_other}
 use Rattle.hpx_journal.proofs.Joined.{one_place}
 
-abbrev fired_or_done : Name → Local → ℕ
+abbrev pub fired_or_done : Name → Local → ℕ
 fired_or_done a s = count_by (is_act a) s.fired + count_by (is_act a) s.done
 
-abbrev done_here : Name → Local → ℕ
+abbrev pub done_here : Name → Local → ℕ
 done_here a s = count_by (is_act a) s.done
 
 fire_counts : (a : Name) (e : Event) → sum_by (name_counts a) (fire_names e) ≡ cond (is_fire a e) 1 0
@@ -54,7 +54,7 @@ dones_step r w e ok a =
       done_counts a e.event,
     )
 
-fires_run : (r : Rules) (w : Space) (es : List Entry) → IsLegal r w es → (a : Name)
+pub fires_run : (r : Rules) (w : Space) (es : List Entry) → IsLegal r w es → (a : Name)
     → total r.localities (λ k. fired_or_done a ((run r w es).places k))
     ≡ total r.localities (λ k. fired_or_done a (w.places k)) + fires a es
 fires_run r w [] h a = omega arith
@@ -62,7 +62,7 @@ fires_run r w (e ∷ es) h a =
     rw (sum_by-cons (λ x. cond (is_fire a x.event) 1 0) e es)
     (omega (arith, fires_step r w e h.0 a, fires_run r (step r w e) es h.1 a))
 
-dones_run : (r : Rules) (w : Space) (es : List Entry) → IsLegal r w es → (a : Name)
+pub dones_run : (r : Rules) (w : Space) (es : List Entry) → IsLegal r w es → (a : Name)
     → total r.localities (λ k. done_here a ((run r w es).places k))
     ≡ total r.localities (λ k. done_here a (w.places k)) + dones a es
 dones_run r w [] h a = omega arith

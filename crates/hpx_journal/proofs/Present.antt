@@ -24,10 +24,10 @@ drawn_at b h n = cond ((b.origin == h) && (nat_lt 0 b.serial && nat_le b.serial 
 abbrev pub drawn : Name → Local → ℕ
 drawn b s = drawn_at b s.here s.serial
 
-abbrev next : ℕ → ℕ → Name
+abbrev pub next : ℕ → ℕ → Name
 next h n = record { origin = h; serial = n + 1 }
 
-drawn_next : (b : Name) (h n : ℕ) → name_counts b (next h n) + drawn_at b h n ≡ drawn_at b h (n + 1)
+pub drawn_next : (b : Name) (h n : ℕ) → name_counts b (next h n) + drawn_at b h n ≡ drawn_at b h (n + 1)
 drawn_next b h n = grind (arith, nat_tests)
 
 abbrev pub fire_names : Event → List Name

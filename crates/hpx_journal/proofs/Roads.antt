@@ -1,14 +1,15 @@
 -- What is on the road of a legal journal.
-use Rattle.std.proofs.Common.{ℕ, Bool, true, false, cond, List, [], ◌∷◌, ◌++◌, ◌≡◌, ◌<◌, Option, Some, None, refl, sym, subst, inl, inr}
+use Rattle.std.proofs.Common.{ℕ, Bool, true, false, cond, List, [], ◌∷◌, ◌++◌, ◌≡◌, ◌<◌, ◌≤◌, Option, Some, None, refl, sym, subst, inl, inr}
 use Rattle.std.specs.Prelude.{◌||◌}
-use Rattle.std.specs.List.{list_any, AllByRecursion}
+use Rattle.std.specs.List.{list_any, count_by, AllByRecursion}
 use Rattle.std.proofs.lemmas.Bool.{cases_Bool}
 use Rattle.hpx_journal.specs.Bags.{without, minus}
 use Rattle.hpx_journal.specs.Data.{Parcel, Apply}
-use Rattle.hpx_journal.specs.Entries.{Event, Out, Entry, Rules, Frame, same_frame}
+use Rattle.hpx_journal.specs.Entries.{Event, Out, Entry, Standing, Rules, Frame, same_frame}
 use Rattle.hpx_journal.specs.Local.{Local, Row, GoesOut}
-use Rattle.hpx_journal.specs.Whole.{Space, sends, arrives, step, run, IsLegal}
+use Rattle.hpx_journal.specs.Whole.{Space, sends, arrives, step, run, road_run, IsLegal, start, SameBag}
 use Rattle.hpx_journal.specs.Laws.{IsSpelled}
+use Rattle.hpx_journal.proofs.Grow.{run_road, flight_on_road}
 use Rattle.hpx_journal.proofs.Same.{same_frame-true}
 
 module _ {X : Type 0} (P : X → Type 0) where
@@ -59,3 +60,10 @@ pub on_road_spelled : (r : Rules) (w : Space) (es : List Entry) (f : Frame) → 
 on_road_spelled r w es f legal empty on =
     any_all (IsSpelled r) f (run r w es).road
     (road_spelled r w es legal (subst (AllByRecursion (IsSpelled r)) (sym empty) tt)) on
+
+-- what a fabric has in flight is as what is on the road
+pub flight_spelled : (r : Rules) (roots : ℕ → List Standing) (es : List Entry) (flight : List Frame) (f : Frame) → IsLegal r (start roots) es
+    → SameBag (road_run [] es) flight → 1 ≤ count_by (same_frame f) flight → IsSpelled r f
+flight_spelled r roots es flight f legal same on =
+    on_road_spelled r (start roots) es f legal refl
+    (subst (λ road. list_any (same_frame f) road ≡ true) (sym (run_road r (start roots) es)) (flight_on_road f (road_run [] es) flight same on))

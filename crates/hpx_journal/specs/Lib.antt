@@ -8,3 +8,5 @@ pub mod Roots
 pub mod Whole
 pub mod Keyed
 pub mod Laws
+pub mod Pool
+pub mod Sessions
