@@ -1,2 +1,3 @@
 pub mod FaultsLemmas
 pub mod ToldLemmas
+pub mod FramesLemmas
