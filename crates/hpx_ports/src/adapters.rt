@@ -34,6 +34,13 @@ impl<R: Read> ReaderSource<R> {
         }
     }
 
+    /// How many bytes were read.
+    pub fn taken(&self) -> u64
+        ensures { result ≡ self.now.taken }
+    {
+        self.taken
+    }
+
     /// How many reads failed.
     pub fn faults(&self) -> u64
         ensures { result ≡ self.now.faults }

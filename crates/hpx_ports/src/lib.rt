@@ -13,3 +13,6 @@ pub mod plan;
 pub mod sink;
 pub mod source;
 mod unread;
+
+#[cfg(test)]
+mod tests;
