@@ -1,4 +1,6 @@
-ghost use Rattle.std.specs.Prelude.{◌≡◌, None};
+ghost use Rattle.std.specs.Prelude.{◌≡◌, ◌+◌, ◌^◌, ◌<◌, ◌≤◌, None, IfOk, OnOk, OnErr};
+ghost use Rattle.hpx_ports.specs.Faults.{Rose, raised};
+ghost use Rattle.hpx_ports.specs.Bytes.{Reads, Writes};
 
 use crate::fault::{Failed, raise};
 use crate::sink::Sink;
@@ -57,7 +59,14 @@ impl<R: Read> Source for ReaderSource<R> {
     ghost left = { λ s. None };
 
     /// A read that was interrupted has failed.
-    fn read(&mut self, buf: &mut [u8]) -> Result<usize, Failed> {
+    fn read(&mut self, buf: &mut [u8]) -> Result<usize, Failed>
+        ensures ok { IfOk result (λ n. Reads n buf.new None None) }
+        ensures taken { IfOk result (λ n. self.new ≡ record self.old { taken = self.old.taken + n }) }
+        ensures taken_fits { OnOk result (self.new.taken < 2 ^ 64) }
+        ensures err { OnErr result (self.new ≡ record self.old { faults = raised self.old.faults }) }
+        ensures cause { OnErr result (Rose self.old.faults self.new.faults) }
+        ensures never_falls { self.old.faults ≤ self.new.faults }
+    {
         match self.reader.read(buf) {
             Ok(count) if count as u64 <= u64::MAX - self.taken => {
                 self.taken += count as u64;
@@ -108,7 +117,13 @@ impl<W: Write> Sink for WriterSink<W> {
     ghost held = { λ s. None };
 
     /// A writer that takes nothing of a piece has failed.
-    fn write(&mut self, piece: &[u8]) -> Result<usize, Failed> {
+    fn write(&mut self, piece: &[u8]) -> Result<usize, Failed>
+        ensures ok { IfOk result (λ n. Writes n piece.now None None) }
+        ensures same { OnOk result (self.new ≡ self.old) }
+        ensures faults { OnErr result (self.new ≡ raised self.old) }
+        ensures cause { OnErr result (Rose self.old self.new) }
+        ensures never_falls { self.old ≤ self.new }
+    {
         match self.writer.write(piece) {
             Ok(count) if count > 0 || piece.is_empty() => Ok(count),
             _ => {

@@ -72,6 +72,10 @@ fn a_reader_is_a_source(rt: HostRuntime) -> Result<(), Fail> {
     let mut source = ReaderSource::new(b"hello".as_slice());
     assert_eq!(rt; three_reads(&mut source), [Ok(3), Ok(2), Ok(0)]);
     assert_eq!(rt; source.taken(), 5);
+    let mut buf = *b"....";
+    let mut source = ReaderSource::new(b"hello".as_slice());
+    assert_eq!(rt; source.read(&mut buf), Ok(4));
+    assert_eq!(rt; buf, *b"hell");
     assert_eq!(rt; source.faults(), 0);
     Ok(())
 }
