@@ -1,2 +1,4 @@
 pub mod FaultsLemmas
 pub mod ToldLemmas
+pub mod BytesLemmas
+pub mod FramesLemmas

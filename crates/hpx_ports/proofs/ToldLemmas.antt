@@ -1,9 +1,8 @@
--- What is added to a told list in several steps.
-use Rattle.std.proofs.Common.{◌≡◌, ◌+◌, ◌-◌, ◌≤◌, arith, ℕ, List, [], ◌++◌, take, drop, length, Option, Some, None, refl, ap, sym, ◌∙◌}
-use Rattle.std.proofs.lemmas.List.{append_assoc, append-nil, take_rest, length-drop}
-use Rattle.std.proofs.Math.Seq.{take-add}
-use Rattle.hpx_ports.specs.Told.{followed}
-use Rattle.hpx_ports.specs.Bytes.{Writes}
+-- What is added to a told list, in several steps, and what then holds of it.
+use Rattle.std.proofs.Common.{◌≡◌, List, [], ◌++◌, Option, Some, None, IfSome, refl, ap, sym, subst}
+use Rattle.std.specs.Option.{is_some}
+use Rattle.std.proofs.lemmas.List.{append_assoc, append-nil}
+use Rattle.hpx_ports.specs.Told.{followed, preceded}
 
 pub followed-nil : {T : Type 0} (told : Option (List T)) → followed told [] ≡ told
 followed-nil None = refl
@@ -13,16 +12,29 @@ pub followed-followed : {T : Type 0} (told : Option (List T)) (xs ys : List T) �
 followed-followed None xs ys = refl
 followed-followed (Some zs) xs ys = ap Some (append_assoc zs xs ys)
 
--- a write goes on where the ones before it ended
-pub written_on : (n at : ℕ) (bytes : List ℕ) (first old new : Option (List ℕ)) → old ≡ followed first (take at bytes) → Writes n (take (length bytes - at) (drop at bytes)) old new → new ≡ followed first (take (at + n) bytes)
-written_on n at bytes first old new h w =
-    let piece : take (length bytes - at) (drop at bytes) ≡ drop at bytes = take_rest bytes at in
-    let held : new ≡ followed old (take n (drop at bytes)) = rw piece at w.held in
-    held ∙ (ap (λ told. followed told (take n (drop at bytes))) h ∙ (followed-followed first (take at bytes) (take n (drop at bytes)) ∙ ap (followed first) (sym (take-add at n bytes))))
+pub preceded-nil : {T : Type 0} (told : Option (List T)) → preceded [] told ≡ told
+preceded-nil None = refl
+preceded-nil (Some xs) = refl
 
--- a write ends within the bytes
-pub written_within : (n at : ℕ) (bytes : List ℕ) (old new : Option (List ℕ)) → at ≤ length bytes → Writes n (take (length bytes - at) (drop at bytes)) old new → at + n ≤ length bytes
-written_within n at bytes old new h w =
-    let piece : take (length bytes - at) (drop at bytes) ≡ drop at bytes = take_rest bytes at in
-    let fits : n ≤ length (drop at bytes) = rw piece at w.fits in
-    omega (arith, length-drop at bytes)
+pub preceded-preceded : {T : Type 0} (xs ys : List T) (told : Option (List T)) → preceded xs (preceded ys told) ≡ preceded (xs ++ ys) told
+preceded-preceded xs ys None = refl
+preceded-preceded xs ys (Some zs) = ap Some (sym (append_assoc xs ys zs))
+
+-- adding to a list doesn't change whether it is told
+pub is_some-followed : {T : Type 0} (told : Option (List T)) (more : List T) → is_some (followed told more) ≡ is_some told
+is_some-followed None more = refl
+is_some-followed (Some xs) more = refl
+
+pub is_some-preceded : {T : Type 0} (more : List T) (told : Option (List T)) → is_some (preceded more told) ≡ is_some told
+is_some-preceded more None = refl
+is_some-preceded more (Some xs) = refl
+
+-- what holds where more was added
+pub IfSome-followed : {T : Type 0} (P Q : List T → Type 0) (more : List T) → ((xs : List T) → P xs → Q (xs ++ more)) → (old new : Option (List T)) → new ≡ followed old more → IfSome old P → IfSome new Q
+IfSome-followed P Q more step None new e h = subst (λ told. IfSome told Q) (sym e) h
+IfSome-followed P Q more step (Some xs) new e h = subst (λ told. IfSome told Q) (sym e) (step xs h)
+
+-- what holds where the front was taken
+pub IfSome-preceded : {T : Type 0} (P Q : List T → Type 0) (front : List T) → ((xs : List T) → P (front ++ xs) → Q xs) → (old new : Option (List T)) → old ≡ preceded front new → IfSome old P → IfSome new Q
+IfSome-preceded P Q front step old None e h = tt
+IfSome-preceded P Q front step old (Some xs) e h = step xs (subst (λ told. IfSome told P) e h)

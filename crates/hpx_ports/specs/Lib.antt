@@ -7,3 +7,4 @@ pub mod Holdings
 pub mod Frames
 pub mod Orders
 pub mod Carriage
+pub mod Counted

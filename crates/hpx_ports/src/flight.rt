@@ -1,6 +1,6 @@
-ghost use Rattle.std.specs.Prelude.{◌≡◌, ◌∷◌, ◌++◌, [], length, remove, slice_get, IfOk, OnOk, OnErr};
+ghost use Rattle.std.specs.Prelude.{◌≡◌, ◌∷◌, ◌++◌, [], Some, length, remove, slice_get, IfOk, OnOk, OnErr};
 ghost use Rattle.hpx_ports.specs.Orders.{next_place, order_after};
-ghost use Rattle.hpx_ports.specs.Frames.{events_of};
+ghost use Rattle.hpx_ports.specs.Frames.{Delivers, events_of};
 
 use crate::fabric::Wire;
 use crate::order::Order;
@@ -78,6 +78,7 @@ impl Flight {
         ensures flight { OnOk result (self.new.flight ≡ remove self.old.flight (next_place self.old.order (length self.old.flight))) }
         ensures trace { IfOk result (λ got. self.new.trace ≡ self.old.trace ++ events_of got) }
         ensures order { IfOk result (λ got. self.new.order ≡ order_after self.old.order got) }
+        ensures delivers { IfOk result (λ got. Delivers (Some self.old.flight) (Some self.new.flight) got) }
         ensures err { OnErr result (self.new ≡ self.old) }
     {
         if self.frames.is_empty() {

@@ -1,9 +1,11 @@
 //! The outside as traits: sources and sinks of bytes, and fabrics that carry frames.
 #![tactic(auto)]
 
+pub mod adapters;
 pub mod fabric;
 pub mod fault;
 mod flight;
+pub mod memory_fabric;
 pub mod memory_sink;
 pub mod memory_source;
 pub mod order;
@@ -11,3 +13,6 @@ pub mod plan;
 pub mod sink;
 pub mod source;
 mod unread;
+
+#[cfg(test)]
+mod tests;

@@ -1,4 +1,4 @@
-ghost use Rattle.std.specs.Prelude.{◌≡◌, ◌+◌, ◌≤◌, ◌↔◌, ℕ, List, Some, IsTrue, length, min, drop, IfOk, OnOk, OnErr, IsOk, IsErr};
+ghost use Rattle.std.specs.Prelude.{◌≡◌, ◌+◌, ◌^◌, ◌<◌, ◌≤◌, ◌↔◌, ℕ, List, Some, IsTrue, length, min, drop, IfOk, OnOk, OnErr, IsOk, IsErr};
 ghost use Rattle.hpx_ports.specs.Faults.{Rose, raised};
 ghost use Rattle.hpx_ports.specs.Bytes.{Reads};
 ghost use Rattle.hpx_ports.specs.Plans.{fails_next, after_call};
@@ -50,6 +50,7 @@ impl Source for SureSource {
         ensures ok { IfOk result (λ n. Reads n buf.new (Some self.old.left) (Some self.new.left)) }
         ensures behind { IfOk result (λ n. drop n buf.new ≡ drop n buf.old) }
         ensures taken { IfOk result (λ n. self.new.taken ≡ self.old.taken + n) }
+        ensures taken_fits { OnOk result (self.new.taken < 2 ^ 64) }
     {
         Ok(self.reading.read(buf))
     }
@@ -112,6 +113,7 @@ impl Source for MemSource {
         ensures ok { IfOk result (λ n. Reads n buf.new (Some self.old.left) (Some self.new.left)) }
         ensures behind { IfOk result (λ n. drop n buf.new ≡ drop n buf.old) }
         ensures taken { IfOk result (λ n. self.new.taken ≡ self.old.taken + n) }
+        ensures taken_fits { OnOk result (self.new.taken < 2 ^ 64) }
         ensures same_faults { OnOk result (self.new.faults ≡ self.old.faults) }
 
         ensures left_err { OnErr result (self.new.left ≡ self.old.left) }

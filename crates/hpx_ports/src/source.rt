@@ -1,4 +1,4 @@
-ghost use Rattle.std.specs.Prelude.{◌≡◌, ◌+◌, ◌≤◌, ℕ, List, drop, IfOk, OnErr};
+ghost use Rattle.std.specs.Prelude.{◌≡◌, ◌+◌, ◌^◌, ◌<◌, ◌≤◌, ℕ, List, IfOk, OnOk, OnErr};
 ghost use Rattle.std.specs.declared.option.Option.{Option};
 ghost use Rattle.hpx_ports.specs.Faults.{Rose};
 ghost use Rattle.hpx_ports.specs.Bytes.{Reads};
@@ -21,8 +21,8 @@ pub trait Source {
     /// been taken fails.
     fn read(&mut self, buf: &mut [u8]) -> Result<usize, Failed>
         ensures ok { IfOk result (λ n. Reads n buf.new (left self.old) (left self.new)) }
-        ensures behind { IfOk result (λ n. drop n buf.new ≡ drop n buf.old) }
         ensures taken { IfOk result (λ n. taken self.new ≡ taken self.old + n) }
+        ensures taken_fits { OnOk result (taken self.new < 2 ^ 64) }
 
         ensures left_err { OnErr result (left self.new ≡ left self.old) }
         ensures taken_err { OnErr result (taken self.new ≡ taken self.old) }

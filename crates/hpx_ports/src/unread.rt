@@ -1,4 +1,4 @@
-ghost use Rattle.std.specs.Prelude.{◌≡◌, ◌+◌, ◌≤◌, ◌++◌, length, min, take, drop};
+ghost use Rattle.std.specs.Prelude.{◌≡◌, ◌+◌, ◌^◌, ◌<◌, ◌++◌, length, min, take, drop};
 
 use hpx_value::items::Bytes;
 use std::marker::Model;
@@ -36,6 +36,7 @@ impl Reading {
         ensures bytes { buf.new ≡ take result self.old.left ++ drop result buf.old }
         ensures left { self.new.left ≡ drop result self.old.left }
         ensures taken { self.new.taken ≡ self.old.taken + result }
+        ensures taken_fits { self.new.taken < 2 ^ 64 }
     {
         let left = &self.bytes.as_slice()[self.at..];
         let count = left.len().min(buf.len());

@@ -1,5 +1,5 @@
 use Rattle.std.proofs.Common.{arith}
-use Rattle.hpx_ports.proofs.ToldLemmas.{written_on, written_within}
+use Rattle.hpx_ports.proofs.BytesLemmas.{written_on, written_within}
 use Rattle.hpx_ports.proofs.sink.write_all.Goals as goal
 
 pub loop-at-preserved : goal.loop-at-preserved
