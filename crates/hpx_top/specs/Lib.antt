@@ -1,0 +1,3 @@
+pub mod Console
+pub mod Acts
+pub mod ActsLaws
