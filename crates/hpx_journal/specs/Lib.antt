@@ -7,3 +7,6 @@ pub mod Local
 pub mod Roots
 pub mod Whole
 pub mod Keyed
+pub mod Laws
+pub mod Pool
+pub mod Sessions

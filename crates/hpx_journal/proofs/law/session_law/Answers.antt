@@ -1,0 +1,16 @@
+use Rattle.hpx_journal.specs.Roots.{roots}
+use Rattle.hpx_journal.specs.Whole.{start}
+use Rattle.hpx_journal.proofs.Plain.{session_plain, session_grows}
+use Rattle.hpx_journal.proofs.Boot.{boot_sound, boot_settled}
+use Rattle.hpx_journal.proofs.law.session_law.Goals as goal
+
+pub returns-clause-plain : goal.returns-clause-plain
+returns-clause-plain c = λ r w lines blocks law blind settled sound h. session_plain r law blind w lines blocks settled sound h
+
+pub returns-clause-boot : goal.returns-clause-boot
+returns-clause-boot c = λ r n lines blocks law blind h.
+    session_plain r law blind (start (roots n)) lines blocks (boot_settled r n) (boot_sound n) h
+
+pub returns-clause-grows : goal.returns-clause-grows
+returns-clause-grows c = λ r w lines blocks line es h legal begins settled.
+    session_grows r w lines blocks line es h legal begins settled

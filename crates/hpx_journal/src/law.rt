@@ -1,0 +1,71 @@
+//! What every legal journal keeps: the contracts are the laws.
+ghost use Rattle.std.specs.Prelude.{ℕ, List, [], ◌∷◌, ◌≡◌, ◌≤◌, ◌+◌, ◌++◌, ◌<◌};
+ghost use Rattle.std.specs.List.{count_by};
+ghost use Rattle.hpx_journal.specs.Entries.{Name, In, Entry, Standing, Rules, Frame, same_frame};
+ghost use Rattle.hpx_journal.specs.Local.{boot, IsForeign};
+ghost use Rattle.hpx_journal.specs.Whole.{Space, IsJoin, IsLegal, IsClean, part, start, run, run_local, road_run, outs, ins, fires, dones, fires_at, dones_at};
+ghost use Rattle.hpx_journal.specs.Laws.{IsOnRoad, IsSpelled, begun, TargetsStand};
+ghost use Rattle.hpx_journal.specs.Roots.{roots};
+ghost use Rattle.hpx_journal.specs.Pool.{Pool, Shows, AreSound, OnlySessionPrints, IsBlind, IsPlainRun, state_of};
+ghost use Rattle.hpx_journal.specs.Sessions.{IsSettled, BeginsWith, IsSession, IsPlainSession, entries_of, shown};
+
+/// Node journals put together are one legal journal without a foreign arrival, and each front of a legal journal is
+/// legal.
+pub fn join_law()
+    ensures legal { (r : Rules) (roots : ℕ → List Standing) (es : List Entry) → IsJoin r (start roots) es → IsLegal r (start roots) es }
+    ensures clean { (r : Rules) (roots : ℕ → List Standing) (es : List Entry) (k : ℕ) →
+        IsLegal r (start roots) es → k < r.localities → IsClean r (boot (roots k) k) (part k es) }
+    ensures prefix { (r : Rules) (roots : ℕ → List Standing) (es later : List Entry) →
+        IsLegal r (start roots) (es ++ later) → IsLegal r (start roots) es }
+{}
+
+/// Each action is fed or sent once, fired once and done once, the last two at one locality, where its target stands from
+/// the one to the other. Where nothing is pending each was fired and done.
+pub fn once_law()
+    ensures begun_once { (r : Rules) (roots : ℕ → List Standing) (es : List Entry) (a : Name) → IsLegal r (start roots) es → begun a es ≤ 1 }
+    ensures fired_once { (r : Rules) (roots : ℕ → List Standing) (es : List Entry) (a : Name) → IsLegal r (start roots) es → fires a es ≤ 1 }
+    ensures done_once { (r : Rules) (roots : ℕ → List Standing) (es : List Entry) (a : Name) → IsLegal r (start roots) es → dones a es ≤ 1 }
+    ensures done_where { (r : Rules) (roots : ℕ → List Standing) (es : List Entry) (k : ℕ) (a : Name) →
+        IsLegal r (start roots) es → dones_at k a es ≤ fires_at k a es }
+    ensures fired_begun { (r : Rules) (roots : ℕ → List Standing) (es : List Entry) (a : Name) →
+        IsLegal r (start roots) es → fires a es ≤ begun a es }
+    ensures stands { (r : Rules) (roots : ℕ → List Standing) (es : List Entry) (k : ℕ) →
+        IsLegal r (start roots) es → TargetsStand ((run r (start roots) es).places k) }
+    ensures all_fired { (r : Rules) (roots : ℕ → List Standing) (es : List Entry) (a : Name) →
+        IsLegal r (start roots) es → IsSettled r (run r (start roots) es) → fires a es ≡ begun a es }
+    ensures all_done { (r : Rules) (roots : ℕ → List Standing) (es : List Entry) (a : Name) →
+        IsLegal r (start roots) es → IsSettled r (run r (start roots) es) → dones a es ≡ begun a es }
+{}
+
+/// What a journal leaves at one locality is what its entries there leave, and what it leaves on the road was sent and not
+/// accepted. Each frame there spells an action, which is no foreign arrival where it goes.
+pub fn road_law()
+    ensures part { (r : Rules) (roots : ℕ → List Standing) (es : List Entry) (k : ℕ) →
+        (run r (start roots) es).places k ≡ run_local r (boot (roots k) k) (part k es) }
+    ensures road { (r : Rules) (roots : ℕ → List Standing) (es : List Entry) → (run r (start roots) es).road ≡ road_run [] es }
+    ensures frames { (r : Rules) (roots : ℕ → List Standing) (es : List Entry) (f : Frame) → IsLegal r (start roots) es →
+        count_by (same_frame f) (road_run [] es) + count_by (same_frame f) (ins es) ≡ count_by (λ x. same_frame f x.1) (outs es) }
+    ensures spelled { (r : Rules) (roots : ℕ → List Standing) (es : List Entry) (f : Frame) → IsLegal r (start roots) es →
+        IsOnRoad f (run r (start roots) es) → IsSpelled r f }
+    ensures native { (r : Rules) (roots : ℕ → List Standing) (es : List Entry) (k : ℕ) (bytes : List ℕ) → IsLegal r (start roots) es →
+        k < r.localities → IsOnRoad (k, bytes) (run r (start roots) es) → IsForeign r ((run r (start roots) es).places k) (In bytes) → ⊥ }
+{}
+
+/// A legal journal is a run of the plain pool: an entry is a line, one step of an action, or nothing.
+pub fn reduction_law()
+    ensures { (r : Rules) (w : Space) (p : Pool) (out : List (List ℕ)) (es : List Entry) →
+        OnlySessionPrints r → IsBlind r → Shows r w p out → AreSound w → IsLegal r w es → IsPlainRun r w p out es }
+{}
+
+/// What a session prints, block after block, is what the plain pool prints, line after line.
+pub fn session_law()
+    ensures plain { (r : Rules) (w : Space) (lines : List (List ℕ)) (blocks : List (List Entry)) →
+        OnlySessionPrints r → IsBlind r → IsSettled r w → AreSound w → IsSession r w lines blocks →
+        IsPlainSession r (state_of w) lines (shown blocks) }
+    ensures boot { (r : Rules) (n : ℕ) (lines : List (List ℕ)) (blocks : List (List Entry)) →
+        OnlySessionPrints r → IsBlind r → IsSession r (start (roots n)) lines blocks →
+        IsPlainSession r (state_of (start (roots n))) lines (shown blocks) }
+    ensures grows { (r : Rules) (w : Space) (lines : List (List ℕ)) (blocks : List (List Entry)) (line : List ℕ) (es : List Entry) →
+        IsSession r w lines blocks → IsLegal r w (entries_of blocks ++ es) → BeginsWith line es →
+        IsSettled r (run r w (entries_of blocks ++ es)) → IsSession r w (lines ++ line ∷ []) (blocks ++ es ∷ []) }
+{}
