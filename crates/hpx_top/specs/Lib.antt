@@ -1,3 +1,6 @@
 pub mod Console
 pub mod Acts
 pub mod ActsLaws
+pub mod PlainText
+pub mod PlainLemmas
+pub mod PlainRows

@@ -1,6 +1,7 @@
 //! What actions on the session and on the tally do.
 pub mod console;
 pub mod effect;
+pub mod lines;
 pub mod session;
 pub mod tally;
 
