@@ -1,2 +1,4 @@
 pub mod Numbers
 pub mod Numbering
+pub mod TextPhases
+pub mod TextSession

@@ -523,3 +523,15 @@ pub is_blind : (n kind here : ℕ) (s : State) (a : Act)
     → Acts.act_of n kind here s a ≡ Acts.act_of n kind here (bare_state s) (named 0 0 (message_of (bare_act a)))
 unfolding Acts.act_of
 is_blind n kind here s a = rw (is_none-map bare s.ids) refl
+
+-- ---- only the session prints
+
+effect_silent : (n kind : ℕ) (s : State) (a : Act) → kind ≢ 1 → (e : Effect) → IsFine kind s a e → (Acts.outcome_by n s a e).prints ≡ []
+effect_silent n kind s a other Unlisted fine = refl
+effect_silent n kind s a other (Asks drawn code args) fine = refl
+effect_silent n kind s a other (Prints texts) fine = absurd (other fine.0.session)
+effect_silent n kind s a other (Keeps values v) fine = refl
+
+pub is_silent : (n kind here : ℕ) (s : State) (a : Act) → kind ≢ 1 → (Acts.act_of n kind here s a).prints ≡ []
+unfolding Acts.act_of
+is_silent n kind here s a other = effect_silent n kind s a other (Acts.effect_of n kind here s a) (effect_fine n kind here s a)

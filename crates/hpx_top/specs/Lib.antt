@@ -4,3 +4,4 @@ pub mod ActsLaws
 pub mod PlainText
 pub mod PlainLemmas
 pub mod PlainRows
+pub mod TextLaw

@@ -2,3 +2,4 @@
 #![tactic(auto)]
 
 pub mod acts;
+pub mod text_law;
