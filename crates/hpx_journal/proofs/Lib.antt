@@ -20,3 +20,4 @@ pub mod Plain
 pub mod Boot
 pub mod Stands
 pub mod Begun
+mod Witness

@@ -1,12 +1,12 @@
 -- Whole sessions, block after block: each is a run of the plain pool until nothing is pending.
-use Rattle.std.proofs.Common.{ℕ, suc, List, [], ◌∷◌, ◌++◌, ◌≡◌, ◌<◌, refl, sym, ap, ◌∙◌, subst, arith, append-nil}
+use Rattle.std.proofs.Common.{ℕ, zero, suc, List, [], ◌∷◌, ◌++◌, ◌≡◌, ◌<◌, refl, sym, ap, ◌∙◌, subst, arith, append-nil}
 use Rattle.std.specs.List.{sum_by, AllByRecursion}
 use Rattle.std.proofs.lemmas.List.Sums.{sum_by-cons}
 use Rattle.hpx_journal.specs.Data.{Message}
 use Rattle.hpx_journal.specs.Entries.{Name, Event, Line, Fire, Done, Sent, Print, Out, In, Entry, Rules, Frame, acts_in}
 use Rattle.hpx_journal.specs.Whole.{Space, run, IsLegal}
-use Rattle.hpx_journal.specs.Pool.{Pool, fed, Goes, Runs, act_mass, due_mass, frame_mass, mass_at, mass, state_of, prints_due, prints_of, Shows, IsBlind, OnlySessionPrints, AreSound}
-use Rattle.hpx_journal.specs.Sessions.{IsSettled, FeedsNothing, BeginsWith, IsBlock, IsSession, entries_of, shown, Steps, at_rest, IsPlainBlock, IsPlainSession}
+use Rattle.hpx_journal.specs.Pool.{Pool, fed, IsActed, Goes, Runs, act_mass, due_mass, frame_mass, mass_at, mass, state_of, prints_due, prints_of, Shows, IsBlind, OnlySessionPrints, AreSound}
+use Rattle.hpx_journal.specs.Sessions.{IsSettled, FeedsNothing, BeginsWith, IsBlock, IsSession, entries_of, shown, Steps, at_rest, IsPlainBlock, IsPlainSession, IsPlainFront, IsPlainBrokenOff}
 use Rattle.hpx_journal.proofs.Bags.{total-zero}
 use Rattle.hpx_journal.proofs.Grow.{legal_append, legal_rest, run_append}
 use Rattle.hpx_journal.proofs.Reduce.{reduced}
@@ -111,6 +111,51 @@ module _ (r : Rules) (law : OnlySessionPrints r) (blind : IsBlind r) where
       let one = block w line es settled sound h.0 in
       (state_of (run r w es), one.plain, session_plain (run r w es) lines blocks h.0.settled one.sound h.1)
   session_plain w _ _ settled sound h = absurd h
+
+-- ---- a line that is broken off
+
+module _ (r : Rules) (law : OnlySessionPrints r) (blind : IsBlind r) where
+  front_at : (w : Space) (line : List ℕ) (e : Entry) (es : List Entry) (a : Name) → IsSettled r w → AreSound w → e.event ≡ Line a line
+      → AllByRecursion (λ x. FeedsNothing x.event) es → IsLegal r w (e ∷ es) → IsPlainFront r (state_of w) line (prints_of (e ∷ es))
+  front_at w line e es a settled sound begins none legal =
+      let some : 0 < r.localities = omega (arith, legal.0.place) in
+      let x = reduced r w (at_rest (state_of w)) [] (e ∷ es) (settled_shows r w some settled) sound law blind legal in
+      let mid : Pool = (x.runs).0 in
+      let first : mid ≡ fed (at_rest (state_of w)) line = subst (λ v. Goes r (at_rest (state_of w)) v mid) begins (x.runs).1 in
+      let rest : AreSteps r (fed (at_rest (state_of w)) line) x.pool =
+      subst (λ v. AreSteps r v x.pool) first (steps_of r mid x.pool es none (x.runs).2) in
+      record {
+        steps = rest.number;
+        end = x.pool;
+        acts = rest.steps;
+        later = prints_due ((run r w (e ∷ es)).places 0).due;
+        printed = x.shows.printed;
+      }
+
+  pub front : (w : Space) (line : List ℕ) (es : List Entry) → IsSettled r w → AreSound w → BeginsWith line es → IsLegal r w es
+      → IsPlainFront r (state_of w) line (prints_of es)
+  front w line [] settled sound begins legal = absurd begins
+  front w line (e ∷ es) settled sound begins legal =
+      front_at w line e es (begins.0).0 settled sound (begins.0).1 begins.1 legal
+
+  pub session_front : (w : Space) (lines : List (List ℕ)) (blocks : List (List Entry)) (line : List ℕ) (es : List Entry) → IsSettled r w → AreSound w
+      → IsSession r w lines blocks → BeginsWith line es → IsLegal r (run r w (entries_of blocks)) es
+      → IsPlainBrokenOff r (state_of w) lines (shown blocks) line (prints_of es)
+  session_front w [] [] line es settled sound h begins legal = front w line es settled sound begins legal
+  session_front w (l ∷ lines) (xs ∷ blocks) line es settled sound h begins legal =
+      let one = block r law blind w l xs settled sound h.0 in (
+        state_of (run r w xs),
+        one.plain,
+        session_front (run r w xs) lines blocks line es h.0.settled one.sound h.1 begins
+            (subst (λ v. IsLegal r v es) (run_append r w xs (entries_of blocks)) legal),
+      )
+  session_front w [] (x ∷ xs) line es settled sound h begins legal = absurd h
+  session_front w (x ∷ xs) [] line es settled sound h begins legal = absurd h
+
+-- what each step keeps, a number of steps keeps
+pub steps_keep : (r : Rules) (Inv : Pool → Type 0) → ((p q : Pool) → Inv p → IsActed r p q → Inv q) → (n : ℕ) (p q : Pool) → Steps r n p q → Inv p → Inv q
+steps_keep r Inv keeps zero p q steps h = subst Inv (sym steps) h
+steps_keep r Inv keeps (suc n) p q steps h = steps_keep r Inv keeps n steps.0 q steps.2 (keeps p steps.0 h steps.1)
 
 -- ---- how a session grows
 

@@ -70,3 +70,18 @@ IsPlainSession r states [] [] = Unit {0}
 IsPlainSession r states (line ∷ lines) (text ∷ texts) =
     (states' : Id → Option State) × IsPlainBlock r states line text states' × IsPlainSession r states' lines texts
 IsPlainSession r states _ _ = ⊥
+
+-- a line is fed at rest, and some steps follow: what is printed so far begins what they print
+pub record IsPlainFront (r : Rules) (states : Id → Option State) (line : List ℕ) (text : List (List ℕ)) : Type 0 where
+  pub steps : ℕ
+  pub end : Pool
+  pub acts : Steps r steps (fed (at_rest states) line) end
+  pub later : List (List ℕ)
+  pub printed : text ++ later ≡ end.printed
+
+-- a session, and then a line that is broken off
+abbrev pub IsPlainBrokenOff : Rules → (Id → Option State) → List (List ℕ) → List (List (List ℕ)) → List ℕ → List (List ℕ) → Type 0
+IsPlainBrokenOff r states [] [] line text = IsPlainFront r states line text
+IsPlainBrokenOff r states (l ∷ lines) (t ∷ texts) line text =
+    (states' : Id → Option State) × IsPlainBlock r states l t states' × IsPlainBrokenOff r states' lines texts line text
+IsPlainBrokenOff r states _ _ line text = ⊥

@@ -6,8 +6,8 @@ ghost use Rattle.hpx_journal.specs.Local.{boot, IsForeign};
 ghost use Rattle.hpx_journal.specs.Whole.{Space, IsJoin, IsLegal, IsClean, part, start, run, run_local, road_run, outs, ins, fires, dones, fires_at, dones_at};
 ghost use Rattle.hpx_journal.specs.Laws.{IsOnRoad, IsSpelled, begun, TargetsStand};
 ghost use Rattle.hpx_journal.specs.Roots.{roots};
-ghost use Rattle.hpx_journal.specs.Pool.{Pool, Shows, AreSound, OnlySessionPrints, IsBlind, IsPlainRun, state_of};
-ghost use Rattle.hpx_journal.specs.Sessions.{IsSettled, BeginsWith, IsSession, IsPlainSession, entries_of, shown};
+ghost use Rattle.hpx_journal.specs.Pool.{Pool, Shows, AreSound, OnlySessionPrints, IsBlind, IsPlainRun, state_of, prints_of};
+ghost use Rattle.hpx_journal.specs.Sessions.{IsSettled, BeginsWith, IsSession, IsPlainSession, IsPlainBrokenOff, entries_of, shown};
 
 /// Node journals put together are one legal journal without a foreign arrival, and each front of a legal journal is
 /// legal.
@@ -57,7 +57,8 @@ pub fn reduction_law()
         OnlySessionPrints r → IsBlind r → Shows r w p out → AreSound w → IsLegal r w es → IsPlainRun r w p out es }
 {}
 
-/// What a session prints, block after block, is what the plain pool prints, line after line.
+/// What a session prints, block after block, is what the plain pool prints, line after line. Where a line is broken off,
+/// what was printed begins what the pool prints.
 pub fn session_law()
     ensures plain { (r : Rules) (w : Space) (lines : List (List ℕ)) (blocks : List (List Entry)) →
         OnlySessionPrints r → IsBlind r → IsSettled r w → AreSound w → IsSession r w lines blocks →
@@ -65,6 +66,9 @@ pub fn session_law()
     ensures boot { (r : Rules) (n : ℕ) (lines : List (List ℕ)) (blocks : List (List Entry)) →
         OnlySessionPrints r → IsBlind r → IsSession r (start (roots n)) lines blocks →
         IsPlainSession r (state_of (start (roots n))) lines (shown blocks) }
+    ensures broken_off { (r : Rules) (w : Space) (lines : List (List ℕ)) (blocks : List (List Entry)) (line : List ℕ) (es : List Entry) →
+        OnlySessionPrints r → IsBlind r → IsSettled r w → AreSound w → IsSession r w lines blocks → BeginsWith line es →
+        IsLegal r (run r w (entries_of blocks)) es → IsPlainBrokenOff r (state_of w) lines (shown blocks) line (prints_of es) }
     ensures grows { (r : Rules) (w : Space) (lines : List (List ℕ)) (blocks : List (List Entry)) (line : List ℕ) (es : List Entry) →
         IsSession r w lines blocks → IsLegal r w (entries_of blocks ++ es) → BeginsWith line es →
         IsSettled r (run r w (entries_of blocks ++ es)) → IsSession r w (lines ++ line ∷ []) (blocks ++ es ∷ []) }

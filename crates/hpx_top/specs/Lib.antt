@@ -1,3 +1,4 @@
+pub mod Hand
 pub mod Console
 pub mod Acts
 pub mod ActsLaws

@@ -1,5 +1,6 @@
-//! The runtime as one call: the acts of its objects, and what a session prints.
+//! One locality, all localities over a fabric, and the top call.
 #![tactic(auto)]
 
 pub mod acts;
+pub mod hand;
 pub mod text_law;

@@ -1,0 +1,9 @@
+pub mod Faults
+pub mod Told
+pub mod Bytes
+pub mod Plans
+pub mod Supplies
+pub mod Holdings
+pub mod Frames
+pub mod Orders
+pub mod Carriage
