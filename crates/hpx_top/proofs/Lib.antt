@@ -2,3 +2,5 @@ pub mod Numbers
 pub mod Numbering
 pub mod TextPhases
 pub mod TextSession
+pub mod PlainLemmas
+mod PlainRows

@@ -1,6 +1,6 @@
 -- A line of the console over the plain pool: it waits, the tally is asked, it answers, and it is over.
 use Rattle.std.specs.Prelude.{ℤ, pos, ◌%◌, ◌+ℤ◌, ◌==◌, if◌then◌else◌}
-use Rattle.std.proofs.Common.{ℕ, zero, suc, Bool, true, false, List, [], ◌∷◌, ◌++◌, ◌≡◌, ◌+◌, ◌<◌, ◌≤◌, Option, Some, None, refl, sym, ap, ◌∙◌, subst, arith}
+use Rattle.std.proofs.Common.{ℕ, zero, suc, Bool, true, false, List, [], ◌∷◌, ◌++◌, ◌≡◌, ◌+◌, ◌<◌, ◌≤◌, Option, Some, None, refl, sym, ap, ◌∙◌, subst, arith, inl, inr, ◌⊎◌}
 use Rattle.std.proofs.Math.Nat.{mod-lt}
 use Rattle.std.proofs.lemmas.Bool.{lt-ltb, le-leb, and_right}
 use Rattle.hpx_value.specs.Ids.{Id, bare_id, same_object}
@@ -118,6 +118,23 @@ pub record IsOver (n d : ℕ) (v : ℤ) (c : Command) (q : Pool) : Type 0 where
   pub few : drawn ≤ d + 1
   pub ended : IsEnded n drawn v c q
 
+-- a message is still to be acted on, and nothing is printed
+pub record IsWaiting (q : Pool) : Type 0 where
+  pub message : Message
+  pub pending : q.pending ≡ message ∷ []
+  pub printed : q.printed ≡ []
+
+still : (n d : ℕ) (o : Option ℤ) (m : Message) (p q : Pool) → At n d o (m ∷ []) [] p → q ≡ p → IsWaiting q
+still n d o m p q at same = record {
+  message = m;
+  pending = ap (λ x. x.pending) same ∙ at.pending;
+  printed = ap (λ x. x.printed) same ∙ at.printed;
+}
+
+then_ends : {A B C : Type 0} → (B → C) → A ⊎ B → A ⊎ C
+then_ends f (inl a) = inl a
+then_ends f (inr b) = inr (f b)
+
 -- what the tally does
 
 add_fits : (o : Option ℤ) (z : ℤ) → fits (number_in o +ℤ z) ≡ true
@@ -185,82 +202,84 @@ module _ (n : ℕ) (parcel_of : List ℕ → Option Parcel) (some : 1 ≤ n) (fe
   over_stays zero d o out p q at steps = subst (At n d o [] out) (sym steps) at
   over_stays (suc k) d o out p q at steps = absurd (none_acts (rules n parcel_of) p steps.0 at.pending steps.1)
 
-  answer_ends : (k slot d : ℕ) (o : Option ℤ) (v : Value) (out : List (List ℕ)) (p q : Pool) → d ≤ 4000000000 → At n d o (set slot v ∷ []) out p
-      → Steps (rules n parcel_of) k p q → q.pending ≡ [] → At n d o [] (out ++ answer_texts v) q
-  answer_ends zero slot d o v out p q h at steps idle = let left : set slot v ∷ [] ≡ [] = sym at.pending ∙ (ap (λ x. x.pending) (sym steps) ∙ idle) in cc
-  answer_ends (suc k) slot d o v out p q h at steps idle =
+  answer_ends : (k slot d : ℕ) (o : Option ℤ) (v : Value) (p q : Pool) → d ≤ 4000000000 → At n d o (set slot v ∷ []) [] p
+      → Steps (rules n parcel_of) k p q → IsWaiting q ⊎ At n d o [] (answer_texts v) q
+  answer_ends zero slot d o v p q h at steps = inl (still n d o (set slot v) p q at steps)
+  answer_ends (suc k) slot d o v p q h at steps =
       let next = only (rules n parcel_of) p steps.0 (set slot v) (session_state d) at.pending at.session_at steps.1 in
       let next' = subst (IsNext p steps.0 (set slot v) (session_state d)) (answered n parcel_of some few v slot d h) next in
-      over_stays k d o (out ++ answer_texts v) steps.0 q (session_next n d d o (set slot v ∷ []) out p steps.0 (set slot v) (session_state d) _ refl at next' refl) steps.2
+      inr (over_stays k d o (answer_texts v) steps.0 q
+      (session_next n d d o (set slot v ∷ []) [] p steps.0 (set slot v) (session_state d) _ refl at next' refl) steps.2)
 
   -- the tally answers: what it keeps, and what the session prints then
   tally_ends : (k slot d : ℕ) (o o' : Option ℤ) (code : ℕ) (args values : List Value) (v : Value) (p q : Pool) → d ≤ 4000000000
-      → At n d o (ask n code args slot ∷ []) [] p → Steps (rules n parcel_of) k p q → q.pending ≡ []
+      → At n d o (ask n code args slot ∷ []) [] p → Steps (rules n parcel_of) k p q
       → tally_effect (held (stored o)) (stored o) code args ≡ Keeps values v
       → state_after (tally_state o) (named 0 0 (ask n code args slot)) [] (outcome_by n (tally_state o) (named 0 0 (ask n code args slot)) (Keeps values v)) ≡ tally_state o'
       → sent_by (ask n code args slot) (tally_state o) (outcome_by n (tally_state o) (named 0 0 (ask n code args slot)) (Keeps values v)) ≡ set slot v ∷ []
-      → At n d o' [] (answer_texts v) q
-  tally_ends zero slot d o o' code args values v p q h at steps idle effect after sent =
-      let left : ask n code args slot ∷ [] ≡ [] = sym at.pending ∙ (ap (λ x. x.pending) (sym steps) ∙ idle) in cc
-  tally_ends (suc k) slot d o o' code args values v p q h at steps idle effect after sent =
+      → IsWaiting q ⊎ At n d o' [] (answer_texts v) q
+  tally_ends zero slot d o o' code args values v p q h at steps effect after sent = inl (still n d o (ask n code args slot) p q at steps)
+  tally_ends (suc k) slot d o o' code args values v p q h at steps effect after sent =
       let m = ask n code args slot in
       let x = outcome_by n (tally_state o) (named 0 0 m) (Keeps values v) in
       let same : outcome_in (rules n parcel_of) m (tally_state o) ≡ x = asked n parcel_of some few code args slot o ∙ ap (outcome_by n (tally_state o) (named 0 0 m)) effect in
       let next = only (rules n parcel_of) p steps.0 m (tally_state o) at.pending at.tally_at steps.1 in
       let next' = subst (IsNext p steps.0 m (tally_state o)) same next in
       let answering = tally_next n d o o' (m ∷ []) [] p steps.0 m (tally_state o) x refl at next' after in
-      answer_ends k slot d o' v [] steps.0 q h (subst (λ ms. At n d o' ms [] steps.0) sent answering) steps.2 idle
+      answer_ends k slot d o' v steps.0 q h (subst (λ ms. At n d o' ms [] steps.0) sent answering) steps.2
 
   -- a number is added, by whether the sum fits
   add_ends : (k slot d : ℕ) (o : Option ℤ) (z : ℤ) (p q : Pool) (b : Bool) → fits (number_in o +ℤ z) ≡ b → d ≤ 4000000000
-      → At n d o (ask n 16 (Int z ∷ []) slot ∷ []) [] p → Steps (rules n parcel_of) k p q → q.pending ≡ []
-      → IsEnded n d (number_in o) (Add z) q
-  add_ends k slot d o z p q true e h at steps idle = record {
-    kept = Some (number_in o +ℤ z);
-    number = ap (λ b. if b then number_in o +ℤ z else number_in o) (sym e);
-    at = subst (λ texts. At n d (Some (number_in o +ℤ z)) [] texts q) (ap (λ b. if b then [] else fault_text 1 ∷ []) (sym e))
-        (tally_ends k slot d o (Some (number_in o +ℤ z)) 16 (Int z ∷ []) (Int (number_in o +ℤ z) ∷ []) Nothing p q h at steps idle (add_fits o z e) refl refl);
-  }
-  add_ends k slot d o z p q false e h at steps idle = record {
-    kept = o;
-    number = ap (λ b. if b then number_in o +ℤ z else number_in o) (sym e);
-    at = subst (λ texts. At n d o [] texts q) (ap (λ b. if b then [] else fault_text 1 ∷ []) (sym e))
-        (tally_ends k slot d o o 16 (Int z ∷ []) (stored o) (Fault 1) p q h at steps idle (add_overflows o z e) (keeps_stored o n 16 (Int z ∷ []) slot (Fault 1)) refl);
-  }
+      → At n d o (ask n 16 (Int z ∷ []) slot ∷ []) [] p → Steps (rules n parcel_of) k p q → IsWaiting q ⊎ IsEnded n d (number_in o) (Add z) q
+  add_ends k slot d o z p q true e h at steps =
+      then_ends (λ over. record {
+        kept = Some (number_in o +ℤ z);
+        number = ap (λ b. if b then number_in o +ℤ z else number_in o) (sym e);
+        at = subst (λ texts. At n d (Some (number_in o +ℤ z)) [] texts q) (ap (λ b. if b then [] else fault_text 1 ∷ []) (sym e)) over;
+      })
+      (tally_ends k slot d o (Some (number_in o +ℤ z)) 16 (Int z ∷ []) (Int (number_in o +ℤ z) ∷ []) Nothing p q h at steps (add_fits o z e) refl refl)
+  add_ends k slot d o z p q false e h at steps =
+      then_ends (λ over. record {
+        kept = o;
+        number = ap (λ b. if b then number_in o +ℤ z else number_in o) (sym e);
+        at = subst (λ texts. At n d o [] texts q) (ap (λ b. if b then [] else fault_text 1 ∷ []) (sym e)) over;
+      })
+      (tally_ends k slot d o o 16 (Int z ∷ []) (stored o) (Fault 1) p q h at steps (add_overflows o z e) (keeps_stored o n 16 (Int z ∷ []) slot (Fault 1)) refl)
 
   query_ends : (k slot d : ℕ) (o : Option ℤ) (p q : Pool) → d ≤ 4000000000
-      → At n d o (ask n 17 [] slot ∷ []) [] p → Steps (rules n parcel_of) k p q → q.pending ≡ []
-      → IsEnded n d (number_in o) Query q
-  query_ends k slot d o p q h at steps idle = record {
-    kept = o;
-    number = refl;
-    at = tally_ends k slot d o o 17 [] (stored o) (Int (number_in o)) p q h at steps idle (query_effect_is o) (keeps_stored o n 17 [] slot (Int (number_in o))) refl;
-  }
+      → At n d o (ask n 17 [] slot ∷ []) [] p → Steps (rules n parcel_of) k p q → IsWaiting q ⊎ IsEnded n d (number_in o) Query q
+  query_ends k slot d o p q h at steps =
+      then_ends (λ over. record { kept = o; number = refl; at = over })
+      (tally_ends k slot d o o 17 [] (stored o) (Int (number_in o)) p q h at steps (query_effect_is o) (keeps_stored o n 17 [] slot (Int (number_in o))) refl)
 
   -- the session has read the line: what is left then, by the command
-  read_ends : (k d : ℕ) (o : Option ℤ) (m : Message) (p q : Pool) (c : Command) → d + 1 ≤ 4000000000
-      → At n (drawn_by d c) o (asked_by n d c) (printed_by c) p → Steps (rules n parcel_of) k p q → q.pending ≡ [] → IsOver n d (number_in o) c q
-  read_ends k d o m p q (Add z) h at steps idle =
-      record { drawn = d + 1; few = omega arith; ended = add_ends k d (d + 1) o z p q (fits (number_in o +ℤ z)) refl h at steps idle }
-  read_ends k d o m p q Query h at steps idle =
-      record { drawn = d + 1; few = omega arith; ended = query_ends k d (d + 1) o p q h at steps idle }
-  read_ends k d o m p q BadNumber h at steps idle =
-      record { drawn = d; few = omega arith; ended = record { kept = o; number = refl; at = over_stays k d o (bad_number ∷ []) p q at steps } }
-  read_ends k d o m p q BadCommand h at steps idle =
-      record { drawn = d; few = omega arith; ended = record { kept = o; number = refl; at = over_stays k d o (bad_command ∷ []) p q at steps } }
+  read_ends : (k d : ℕ) (o : Option ℤ) (p q : Pool) (c : Command) → d + 1 ≤ 4000000000
+      → At n (drawn_by d c) o (asked_by n d c) (printed_by c) p → Steps (rules n parcel_of) k p q → IsWaiting q ⊎ IsOver n d (number_in o) c q
+  read_ends k d o p q (Add z) h at steps =
+      then_ends (λ ended. record { drawn = d + 1; few = omega arith; ended = ended }) (add_ends k d (d + 1) o z p q (fits (number_in o +ℤ z)) refl h at steps)
+  read_ends k d o p q Query h at steps =
+      then_ends (λ ended. record { drawn = d + 1; few = omega arith; ended = ended }) (query_ends k d (d + 1) o p q h at steps)
+  read_ends k d o p q BadNumber h at steps =
+      inr (record { drawn = d; few = omega arith; ended = record { kept = o; number = refl; at = over_stays k d o (bad_number ∷ []) p q at steps } })
+  read_ends k d o p q BadCommand h at steps =
+      inr (record { drawn = d; few = omega arith; ended = record { kept = o; number = refl; at = over_stays k d o (bad_command ∷ []) p q at steps } })
 
   -- the line waits at the session
   pub line_ends : (k d : ℕ) (o : Option ℤ) (line : List ℕ) (p q : Pool) → d + 1 ≤ 4000000000 → At n d o (line_message (97 ∷ line) ∷ []) [] p
-      → Steps (rules n parcel_of) k p q → q.pending ≡ [] → IsOver n d (number_in o) (command_of line) q
-  line_ends zero d o line p q h at steps idle =
-      let left : line_message (97 ∷ line) ∷ [] ≡ [] = sym at.pending ∙ (ap (λ x. x.pending) (sym steps) ∙ idle) in cc
-  line_ends (suc k) d o line p q h at steps idle =
+      → Steps (rules n parcel_of) k p q → IsWaiting q ⊎ IsOver n d (number_in o) (command_of line) q
+  line_ends zero d o line p q h at steps = inl (still n d o (line_message (97 ∷ line)) p q at steps)
+  line_ends (suc k) d o line p q h at steps =
       let m = line_message (97 ∷ line) in
       let c = command_of line in
       let x = outcome_by n (session_state d) (named 0 0 m) (command_effect d c) in
       let next = only (rules n parcel_of) p steps.0 m (session_state d) at.pending at.session_at steps.1 in
       let next' = subst (IsNext p steps.0 m (session_state d)) (lined n parcel_of some few line d (omega arith)) next in
       let read = session_next n d (drawn_by d c) o (m ∷ []) [] p steps.0 m (session_state d) x refl at next' (after_read n d m c) in
-      read_ends k d o m steps.0 q c h
+      read_ends k d o steps.0 q c h
       (subst (λ texts. At n (drawn_by d c) o (asked_by n d c) texts steps.0) (texts_read n d m c)
-      (subst (λ ms. At n (drawn_by d c) o ms x.prints steps.0) (sent_read n d (97 ∷ line) c) read)) steps.2 idle
+      (subst (λ ms. At n (drawn_by d c) o ms x.prints steps.0) (sent_read n d (97 ∷ line) c) read)) steps.2
+
+  -- nothing is pending at the end
+  pub idle_over : (d : ℕ) (v : ℤ) (c : Command) (q : Pool) → q.pending ≡ [] → IsWaiting q ⊎ IsOver n d v c q → IsOver n d v c q
+  idle_over d v c q idle (inl waits) = let left : waits.message ∷ [] ≡ [] = sym waits.pending ∙ idle in cc
+  idle_over d v c q idle (inr over) = over

@@ -3,6 +3,4 @@ pub mod Console
 pub mod Acts
 pub mod ActsLaws
 pub mod PlainText
-pub mod PlainLemmas
-pub mod PlainRows
 pub mod TextLaw

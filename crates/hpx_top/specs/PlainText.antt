@@ -125,3 +125,8 @@ written [] texts = []
 written (line ∷ lines) texts =
     if is_long line then prompt ++ (bad_command ++ written lines texts)
     else prompt ++ (first_of texts ++ written lines (others_of texts))
+
+-- the front of a text
+pub record IsFront (front whole : List ℕ) : Type 0 where
+  pub later : List ℕ
+  pub is : front ++ later ≡ whole
