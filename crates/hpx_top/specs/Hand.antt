@@ -3,8 +3,6 @@ use Rattle.std.specs.Prelude.{ℕ, List, length, ◌≤◌, ◌<◌}
 use Rattle.std.specs.List.{AllByRecursion, slice_index_or}
 use Rattle.hpx_value.specs.Ids.{Id}
 use Rattle.hpx_value.specs.Hands.{Slot, session}
-use Rattle.hpx_value.specs.declared.value.State.{State}
-use Rattle.hpx_value.specs.declared.value.Act.{Act}
 use Rattle.hpx_value.specs.declared.outcome.Outcome.{Outcome}
 use Rattle.hpx_value.specs.declared.outcome.Sending.{Sending}
 use Rattle.hpx_value.specs.declared.outcome.Target.{Target}

@@ -7,3 +7,8 @@ pub mod Jobs
 pub mod Stands
 pub mod Changes
 pub mod Frames
+pub mod Console
+pub mod Acts
+pub mod ActsLaws
+pub mod PlainText
+pub mod TextLaw

@@ -1,9 +1,11 @@
-//! One locality, all localities over a fabric, and the top call.
+//! The acts of the console, one locality, all localities over a fabric, and the top call.
 #![tactic(auto)]
 
+pub mod acts;
 pub mod boot;
 pub mod find;
 pub mod hand;
 pub mod kept;
 pub mod node;
 pub mod parts;
+pub mod text_law;
