@@ -11,3 +11,7 @@ pub mod TextPhases
 pub mod TextSession
 pub mod PlainLemmas
 mod PlainRows
+pub mod SoundLemmas
+pub mod AwayLemmas
+pub mod Booted
+pub mod TurnLemmas

@@ -6,6 +6,7 @@ pub mod boot;
 pub mod find;
 pub mod hand;
 pub mod kept;
+pub mod locals;
 pub mod node;
 pub mod parts;
 pub mod text_law;

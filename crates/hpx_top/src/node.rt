@@ -153,6 +153,7 @@ impl<A: Acts + Copy> Node<A> {
         requires page { 1 ≤ book.old.spare }
         requires stands { Stands (rules_of A.act_of self.old.localities) self.old [] book.old.entries }
         ensures stands { Stands (rules_of A.act_of self.old.localities) self.new [] book.new.entries }
+        ensures writes { Writes [] self.old self.new book.old.entries book.new.entries }
         ensures fired { (act : _) → slice_get self.old.accepted i ≡ Some act → Writes (Fire (name_of act) ∷ []) self.old self.new book.old.entries book.new.entries }
         ensures accepted { self.new.accepted ≡ remove self.old.accepted i }
         ensures running { (act : _) → slice_get self.old.accepted i ≡ Some act → self.new.running ≡ self.old.running ++ act ∷ [] }
@@ -172,6 +173,7 @@ impl<A: Acts + Copy> Node<A> {
         requires room { HasRoom book.old.entries }
         requires stands { Stands (rules_of A.act_of self.old.localities) self.old [] book.old.entries }
         ensures stands { Stands (rules_of A.act_of self.old.localities) self.new [] book.new.entries }
+        ensures writes { Writes [] self.old self.new book.old.entries book.new.entries }
         ensures fired { IfOk result (λ o. IfSome o (λ job. Writes (Fire (name_of job.action) ∷ []) self.old self.new book.old.entries book.new.entries)) }
         ensures job { IfOk result (λ o. IfSome o (Starts self.old self.new)) }
         ensures none { IfOk result (λ o. IfNone o (NoneIsFree self.old.running self.old.objects self.old.accepted × OnlySpare self.old self.new book.old book.new)) }
@@ -352,6 +354,7 @@ impl<A: Acts + Copy> Node<A> {
         ensures serial { self.new.serial ≡ self.old.serial }
         ensures spare { self.old.spare ≤ self.new.spare }
         ensures page { book.new.spare + 1 ≡ book.old.spare }
+        ensures inner { Writes [] self.old self.new book.old.entries book.new.entries }
         ensures writes { Writes (Event.Done (name_of done.now.job.action) false ∷ []) self.old self.new book.old.entries book.new.entries }
     {
         let act = self.running.remove(i);
@@ -431,6 +434,7 @@ impl<A: Acts + Copy> Node<A> {
         requires room { HasRoom book.old.entries }
         requires stands { Stands (rules_of A.act_of self.old.localities) self.old [] book.old.entries }
         ensures stands { Stands (rules_of A.act_of self.old.localities) self.new [] book.new.entries }
+        ensures writes { Writes [] self.old self.new book.old.entries book.new.entries }
         ensures committed { IfOk result (λ f. f ≡ Finished.Committed → Writes (Event.Done (name_of done.job.action) false ∷ []) self.old self.new book.old.entries book.new.entries) }
         ensures not_running { IfOk result (λ f. f ≡ Finished.NotRunning →
             (done.localities ≡ self.old.localities → IsRunning self.old done.job → ⊥) × OnlySpare self.old self.new book.old book.new) }
@@ -465,6 +469,7 @@ impl<A: Acts + Copy> Node<A> {
         requires few { self.old.serial + 1 < 2 ^ 64 }
         requires stands { Stands (rules_of A.act_of self.old.localities) self.old [] book.old.entries }
         ensures stands { Stands (rules_of A.act_of self.old.localities) self.new [] book.new.entries }
+        ensures writes { Writes [] self.old self.new book.old.entries book.new.entries }
         ensures line { Writes (Line action bytes ∷ []) self.old self.new book.old.entries book.new.entries }
     {
         let at = self.here;
@@ -483,6 +488,7 @@ impl<A: Acts + Copy> Node<A> {
         requires room { HasRoom book.old.entries }
         requires stands { Stands (rules_of A.act_of self.old.localities) self.old [] book.old.entries }
         ensures stands { Stands (rules_of A.act_of self.old.localities) self.new [] book.new.entries }
+        ensures writes { Writes [] self.old self.new book.old.entries book.new.entries }
         ensures line { OnOk result (Writes (Line (record { origin = self.old.here; serial = self.old.serial + 1 }) line ∷ []) self.old self.new book.old.entries book.new.entries) }
         ensures err { OnErr result (OnlySpare self.old self.new book.old book.new) }
     {

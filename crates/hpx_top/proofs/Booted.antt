@@ -1,0 +1,44 @@
+-- Nodes at boot.
+use Rattle.std.proofs.Common.{ℕ, zero, suc, List, [], ◌∷◌, ◌++◌, ◌≡◌, ◌<◌, ◌≤◌, ◌+◌, Some, length, refl, sym, ap, ◌∙◌, subst, arith, inl, inr, ◌⊎◌}
+use Rattle.std.specs.List.{slice_get}
+use Rattle.hpx_top.specs.Tables.{Tables}
+use Rattle.hpx_top.specs.Stands.{Stands, rules_of}
+use Rattle.hpx_top.specs.Sound.{Meaning, StandsAt, IsSound}
+
+pub record AreBooted (act_of : Meaning) (n : ℕ) (nodes : List Tables) : Type 0 where
+  pub each : (k : ℕ) (t : Tables) → slice_get nodes k ≡ Some t → StandsAt act_of n k t []
+
+last_or_before : (xs : List Tables) (y : Tables) (k : ℕ) (t : Tables) → slice_get (xs ++ y ∷ []) k ≡ Some t
+    → (slice_get xs k ≡ Some t) ⊎ ((k ≡ length xs) × (y ≡ t))
+last_or_before [] y zero t h = inr (refl, cc)
+last_or_before [] y (suc k) t h = cc
+last_or_before (x ∷ xs) y zero t h = inl h
+last_or_before (x ∷ xs) y (suc k) t h = elim (last_or_before xs y k t h) [
+  | inl i ↦ inl i
+  | inr i ↦ inr (ap suc i.0, i.1)
+]
+
+pub booted_none : (act_of : Meaning) (n : ℕ) → AreBooted act_of n []
+booted_none act_of n = record { each = λ k t h. absurd (cc) }
+
+pub booted_more : (act_of : Meaning) (n : ℕ) (nodes : List Tables) (t : Tables) → AreBooted act_of n nodes → t.here ≡ length nodes
+    → t.localities ≡ n → Stands (rules_of act_of n) t [] [] → AreBooted act_of n (nodes ++ t ∷ [])
+booted_more act_of n nodes t h here localities stands = record {
+  each = λ k x at. elim (last_or_before nodes t k x at) [
+    | inl i ↦ h.each k x i
+    | inr i ↦ subst (λ y. StandsAt act_of n k y []) i.1 (record {
+      here = here ∙ sym i.0;
+      localities = localities;
+      stands = stands;
+    })
+  ];
+}
+
+pub booted_sound : (act_of : Meaning) (n : ℕ) (nodes : List Tables) → AreBooted act_of n nodes → length nodes ≡ n → 1 ≤ n → n ≤ 64
+    → IsSound act_of nodes []
+booted_sound act_of n nodes h count some few = record {
+  few = rw count few;
+  some = rw count some;
+  stand = rw count h.each;
+  carried = tt;
+}

@@ -1,0 +1,9 @@
+use Rattle.std.proofs.Common.{◌≡◌, length}
+use Rattle.hpx_top.proofs.Booted.{AreBooted}
+use Rattle.hpx_top.proofs.locals.Locals.boot.Given as goal
+
+abbrev pub invariant-loop-k : goal.invariant-loop-k
+invariant-loop-k g l = record {
+  count : length l.nodes.items ≡ l.k;
+  booted : AreBooted g.A.Acts.act_of (g.A.Acts.count l.acts) l.nodes.items;
+}

@@ -1,0 +1,38 @@
+use Rattle.std.proofs.Common.{subst, ap, sym, ◌∙◌, ◌≡◌, [], refl}
+use Rattle.hpx_top.specs.Tables.{Tables}
+use Rattle.hpx_top.specs.Sound.{SendsOne}
+use Rattle.hpx_top.proofs.SoundLemmas.{stands_own, sound_out, sends_of}
+use Rattle.hpx_top.proofs.TurnLemmas.{here_at, grows_at, same_at, got_at}
+use Rattle.hpx_top.proofs.AwayLemmas.{carrying_sent}
+use Rattle.hpx_top.proofs.locals.Locals.pump.Goals as goal
+
+pub returns-in-None-clause-none : goal.returns-in-None-clause-none
+returns-in-None-clause-none g c = λ same. (
+  same_at _ _ _ c.requires.sound c.args.k c.index_mut-node.result.now c.index_mut-node.result.now c.requires.range c.index_mut-node.ensures.value
+  c.args.self.now.journal c.args.self.now.journal (record { tables = refl; entries = refl }),
+  λ t at. let same = got_at _ _ _ c.requires.sound c.args.k c.index_mut-node.result.now c.index_mut-node.result.now c.requires.range c.index_mut-node.ensures.value t at in
+      let P : Tables → Type 0 = λ x. x.outgoing ≡ [] in subst P same c.in-None.ensures.none,
+)
+
+pub gone-requires-clause-stands : goal.gone-requires-clause-stands
+gone-requires-clause-stands g c =
+    rw c.reserve.ensures.entries
+    (stands_own _ _ _ c.requires.sound c.args.k c.index_mut-node.result.now c.requires.range c.index_mut-node.ensures.value)
+
+pub returns-clause-sound : goal.returns-clause-sound
+returns-clause-sound g c =
+    sound_out _ _ _ _ c.args.k c.index_mut-node.result.now _ c.in-Some.to c.in-Ok.bytes c.requires.sound c.requires.range c.index_mut-node.ensures.value
+    (rw c.reserve.ensures.entries at c.gone.ensures.writes) c.gone.ensures.stands
+
+pub returns-clause-carrying : goal.returns-clause-carrying
+returns-clause-carrying g c =
+    carrying_sent _ _ _ _ _ _ _ c.args.k c.in-Some.to c.in-Ok.bytes c.requires.carrying
+    (rw c.as_slice.ensures at c.in_ok-send.ensures.flight) (rw c.as_slice.ensures at c.in_ok-send.ensures.trace)
+    (subst (λ k. SendsOne k (c.in-Some.to, c.in-Ok.bytes) c.args.self.now.journal.entries c.gone.new.book.entries)
+    (here_at _ _ _ c.requires.sound c.args.k c.index_mut-node.result.now c.gone.new.self c.requires.range c.index_mut-node.ensures.value)
+    (sends_of c.index_mut-node.result.now c.gone.new.self _ _ c.in-Some.to c.in-Ok.bytes (rw c.reserve.ensures.entries at c.gone.ensures.writes)))
+
+pub returns-clause-sent : goal.returns-clause-sent
+returns-clause-sent g c = λ same. (c.in-Some.to, c.in-Ok.bytes,
+  grows_at _ _ _ c.requires.sound c.args.k c.index_mut-node.result.now c.gone.new.self c.requires.range c.index_mut-node.ensures.value _ _
+  (rw c.reserve.ensures.entries at c.gone.ensures.writes))

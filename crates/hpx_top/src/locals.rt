@@ -1,0 +1,217 @@
+ghost use Rattle.std.specs.Prelude.{◌≡◌, ◌≤◌, ◌<◌, ◌+◌, ◌∷◌, ◌++◌, [], ℕ, List, length, OnOk, OnErr, IfOk, IfErr, IfSome, IfNone, IsTrue, ◌↔◌, true, false, Ok, Some, None, sum_by, IsErrOf, slice_get};
+ghost use Rattle.std.specs.List.{list_any, AllByRecursion};
+ghost use Rattle.hpx_journal.specs.Bags.{without};
+ghost use Rattle.hpx_journal.specs.Entries.{Frame, same_frame, name_of};
+ghost use Rattle.hpx_journal.specs.Weights.{HasRoom};
+ghost use Rattle.hpx_journal.specs.Laws.{IsSpelled};
+ghost use Rattle.hpx_journal.specs.Whole.{ins, outs, Grows};
+ghost use Rattle.hpx_ports.specs.Faults.{Rose};
+ghost use Rattle.hpx_top.specs.Tables.{IsPassive};
+ghost use Rattle.hpx_top.specs.Stands.{rules_of};
+ghost use Rattle.hpx_top.specs.Sound.{IsSound, IsSame, IsInside, SendsOne, AcceptsOne, IsCarrying, IsQuiet, road_of, listed};
+ghost use Rattle.hpx_top.specs.Free.{NoneIsFree};
+ghost use Rattle.hpx_top.specs.Jobs.{IsRunning};
+
+use crate::node::Node;
+use crate::parts::{FinishFault, Finished, TakeFault};
+use hpx_journal::entry::Event;
+use hpx_journal::journal::Journal;
+use hpx_parcel::write::encode;
+use hpx_ports::fabric::Fabric;
+use hpx_ports::fault::FabricFault;
+use hpx_value::acts::{Acts, Done, Job};
+use hpx_value::items::{Bytes, Text};
+use hpx_value::memory::OutOfMemory;
+use std::alloc::Global;
+
+/// All localities, the one journal, and a frame that was delivered and not yet accepted.
+#[derive(Drop)]
+pub struct Locals<A: Acts + Copy> {
+    pub nodes: Vec<Node<A>>,
+    pub journal: Journal,
+    pub hand: Option<(u32, Bytes)>,
+}
+
+impl<A: Acts + Copy> Locals<A> {
+    /// All localities at boot.
+    #[tactic(auto, using(crate::proofs::Booted::booted_none, crate::proofs::Booted::booted_more))]
+    pub fn boot(alloc: Global, acts: A) -> Result<Locals<A>, OutOfMemory>
+        requires some { 1 ≤ A.count acts }
+        requires few { A.count acts ≤ 64 }
+        ensures sound { IfOk result (λ w. IsSound A.act_of w.nodes.items w.journal.entries) }
+        ensures count { IfOk result (λ w. length w.nodes.items ≡ A.count acts) }
+        ensures empty { IfOk result (λ w. w.journal.entries ≡ []) }
+        ensures hand { IfOk result (λ w. w.hand ≡ None) }
+    {
+        let mut nodes = Vec::new(alloc);
+        for k in 0..acts.localities() {
+            nodes.push(Node::boot(alloc, acts, k)?)?;
+        }
+        Ok(Locals {
+            nodes,
+            journal: Journal::new(alloc),
+            hand: None,
+        })
+    }
+
+    /// The locality k fires its first action that can be.
+    pub fn fire(&mut self, alloc: Global, k: usize) -> Result<Option<Job>, OutOfMemory>
+        requires range { k < length self.old.nodes.items }
+        requires room { HasRoom self.old.journal.entries }
+        requires sound { IsSound A.act_of self.old.nodes.items self.old.journal.entries }
+        ensures sound { IsSound A.act_of self.new.nodes.items self.new.journal.entries }
+        ensures count { length self.new.nodes.items ≡ length self.old.nodes.items }
+        ensures inside { IsInside self.old.journal.entries self.new.journal.entries }
+        ensures hand { self.new.hand ≡ self.old.hand }
+        ensures fired { IfOk result (λ o. IfSome o (λ job. Grows k (Event.Fire (name_of job.action) ∷ []) self.old.journal.entries self.new.journal.entries)) }
+        ensures here { IfOk result (λ o. IfSome o (λ job. job.at ≡ k)) }
+        ensures none { IfOk result (λ o. IfNone o (IsSame self.old.nodes.items self.new.nodes.items self.old.journal.entries self.new.journal.entries
+            × ((t : _) → slice_get self.old.nodes.items k ≡ Some t → NoneIsFree t.running t.objects t.accepted))) }
+        ensures err { OnErr result (IsSame self.old.nodes.items self.new.nodes.items self.old.journal.entries self.new.journal.entries) }
+    {
+        self.nodes[k].fire(alloc, &mut self.journal)
+    }
+
+    /// A job that is done is committed at its locality k.
+    pub fn finish(
+        &mut self,
+        alloc: Global,
+        k: usize,
+        done: Done<A>,
+    ) -> Result<Finished, FinishFault<A>>
+        requires range { k < length self.old.nodes.items }
+        requires room { HasRoom self.old.journal.entries }
+        requires sound { IsSound A.act_of self.old.nodes.items self.old.journal.entries }
+        ensures sound { IsSound A.act_of self.new.nodes.items self.new.journal.entries }
+        ensures count { length self.new.nodes.items ≡ length self.old.nodes.items }
+        ensures inside { IsInside self.old.journal.entries self.new.journal.entries }
+        ensures hand { self.new.hand ≡ self.old.hand }
+        ensures committed { IfOk result (λ f. f ≡ Finished.Committed → Grows k (Event.Done (name_of done.job.action) false ∷ []) self.old.journal.entries self.new.journal.entries) }
+        ensures not_running { IfOk result (λ f. f ≡ Finished.NotRunning →
+            IsSame self.old.nodes.items self.new.nodes.items self.old.journal.entries self.new.journal.entries
+            × ((t : _) → slice_get self.old.nodes.items k ≡ Some t → done.localities ≡ t.localities → IsRunning t done.job → ⊥)) }
+        ensures err { IfErr result (λ e. (e.undone ≡ done) × IsSame self.old.nodes.items self.new.nodes.items self.old.journal.entries self.new.journal.entries) }
+    {
+        self.nodes[k].finish(alloc, &mut self.journal, done)
+    }
+
+    /// Locality 0 accepts a line.
+    pub fn feed(&mut self, alloc: Global, line: Text) -> Result<(), OutOfMemory>
+        requires short { length line ≤ 1025 }
+        requires room { HasRoom self.old.journal.entries }
+        requires sound { IsSound A.act_of self.old.nodes.items self.old.journal.entries }
+        ensures sound { IsSound A.act_of self.new.nodes.items self.new.journal.entries }
+        ensures count { length self.new.nodes.items ≡ length self.old.nodes.items }
+        ensures inside { IsInside self.old.journal.entries self.new.journal.entries }
+        ensures hand { self.new.hand ≡ self.old.hand }
+        ensures line { OnOk result ((action : _) × Grows 0 (Event.Line action line ∷ []) self.old.journal.entries self.new.journal.entries) }
+        ensures err { OnErr result (IsSame self.old.nodes.items self.new.nodes.items self.old.journal.entries self.new.journal.entries) }
+    {
+        self.nodes[0].feed(alloc, &mut self.journal, line)
+    }
+
+    /// A frame that was sent is accepted where it goes.
+    fn accept(&mut self, alloc: Global, frame: &(u32, Bytes)) -> Result<(), OutOfMemory>
+        requires there { list_any (same_frame frame.now) (road_of self.old.journal.entries) ≡ true }
+        requires spelled { IsSpelled (rules_of A.act_of (length self.old.nodes.items)) frame.now }
+        requires room { HasRoom self.old.journal.entries }
+        requires sound { IsSound A.act_of self.old.nodes.items self.old.journal.entries }
+        ensures sound { IsSound A.act_of self.new.nodes.items self.new.journal.entries }
+        ensures count { length self.new.nodes.items ≡ length self.old.nodes.items }
+        ensures hand { self.new.hand ≡ self.old.hand }
+        ensures ok { OnOk result (AcceptsOne frame.now self.old.journal.entries self.new.journal.entries) }
+        ensures written { OnOk result (Grows frame.now.0 (Event.In frame.now.1 ∷ []) self.old.journal.entries self.new.journal.entries) }
+        ensures err { OnErr result (IsSame self.old.nodes.items self.new.nodes.items self.old.journal.entries self.new.journal.entries) }
+    {
+        match self.nodes[frame.0 as usize].take(alloc, &mut self.journal, &frame.1) {
+            Ok(()) => Ok(()),
+            Err(TakeFault::OutOfMemory) => Err(OutOfMemory),
+            Err(TakeFault::BadFrame { at: _, why: _ }) => unreachable!(),
+        }
+    }
+
+    /// Takes a frame into the hand, where none is.
+    fn fill<F: Fabric>(&mut self, fabric: &mut F) -> Result<(), FabricFault>
+        requires carrying { IsCarrying self.old.hand (F.flight fabric.old) (F.trace fabric.old) self.old.journal.entries }
+        ensures same { self.new ≡ record self.old { hand = self.new.hand } }
+        ensures carrying { IsCarrying self.new.hand (F.flight fabric.new) (F.trace fabric.new) self.new.journal.entries }
+        ensures empty { OnOk result (self.new.hand ≡ None → (self.old.hand ≡ None) × (F.flight fabric.new ≡ Some [])) }
+        ensures err { OnErr result (self.new.hand ≡ self.old.hand) }
+        ensures cause { IsErrOf result FabricFault.Failed → Rose (F.faults fabric.old) (F.faults fabric.new) }
+        ensures faults { F.faults fabric.old ≤ F.faults fabric.new }
+    {
+        if let None = self.hand {
+            self.hand = fabric.deliver()?;
+        }
+        Ok(())
+    }
+
+    /// The oldest action of locality k for another is spelled and sent. False where there is none.
+    pub fn pump<F: Fabric>(
+        &mut self,
+        alloc: Global,
+        k: usize,
+        fabric: &mut F,
+    ) -> Result<bool, FabricFault>
+        requires range { k < length self.old.nodes.items }
+        requires room { HasRoom self.old.journal.entries }
+        requires sound { IsSound A.act_of self.old.nodes.items self.old.journal.entries }
+        requires carrying { IsCarrying self.old.hand (F.flight fabric.old) (F.trace fabric.old) self.old.journal.entries }
+        ensures sound { IsSound A.act_of self.new.nodes.items self.new.journal.entries }
+        ensures count { length self.new.nodes.items ≡ length self.old.nodes.items }
+        ensures carrying { IsCarrying self.new.hand (F.flight fabric.new) (F.trace fabric.new) self.new.journal.entries }
+        ensures hand { self.new.hand ≡ self.old.hand }
+        ensures sent { result ≡ Ok true → (to : ℕ) × (bytes : List ℕ) × Grows k (Event.Out to bytes ∷ []) self.old.journal.entries self.new.journal.entries }
+        ensures none { result ≡ Ok false → IsSame self.old.nodes.items self.new.nodes.items self.old.journal.entries self.new.journal.entries
+            × ((t : _) → slice_get self.old.nodes.items k ≡ Some t → t.outgoing ≡ []) }
+        ensures err { OnErr result (IsSame self.old.nodes.items self.new.nodes.items self.old.journal.entries self.new.journal.entries) }
+        ensures cause { IsErrOf result FabricFault.Failed → Rose (F.faults fabric.old) (F.faults fabric.new) }
+        ensures faults { F.faults fabric.old ≤ F.faults fabric.new }
+    {
+        let node = &mut self.nodes[k];
+        let (to, bytes) = match node.front() {
+            Some((to, parcel)) => (to, encode(alloc, parcel)),
+            None => return Ok(false),
+        };
+        let bytes = match bytes {
+            Ok(bytes) => bytes,
+            Err(OutOfMemory) => return Err(FabricFault::OutOfMemory),
+        };
+        if self.journal.reserve(1).is_err() {
+            return Err(FabricFault::OutOfMemory);
+        }
+        fabric.send(k as u32, to, bytes.as_slice())?;
+        node.gone(&mut self.journal, to, bytes);
+        Ok(true)
+    }
+
+    /// Accepts the frame in hand, or one that is delivered now. False where there is none. A frame that was delivered and
+    /// not accepted stays in hand.
+    pub fn take<F: Fabric>(&mut self, alloc: Global, fabric: &mut F) -> Result<bool, FabricFault>
+        requires room { HasRoom self.old.journal.entries }
+        requires sound { IsSound A.act_of self.old.nodes.items self.old.journal.entries }
+        requires carrying { IsCarrying self.old.hand (F.flight fabric.old) (F.trace fabric.old) self.old.journal.entries }
+        ensures sound { IsSound A.act_of self.new.nodes.items self.new.journal.entries }
+        ensures count { length self.new.nodes.items ≡ length self.old.nodes.items }
+        ensures carrying { IsCarrying self.new.hand (F.flight fabric.new) (F.trace fabric.new) self.new.journal.entries }
+        ensures accepted { result ≡ Ok true → (k : ℕ) × (bytes : List ℕ) × Grows k (Event.In bytes ∷ []) self.old.journal.entries self.new.journal.entries }
+        ensures none { result ≡ Ok false → (self.old.hand ≡ None) × (self.new.hand ≡ None) × (F.flight fabric.new ≡ Some [])
+            × IsSame self.old.nodes.items self.new.nodes.items self.old.journal.entries self.new.journal.entries }
+        ensures err { OnErr result (IsSame self.old.nodes.items self.new.nodes.items self.old.journal.entries self.new.journal.entries) }
+        ensures cause { IsErrOf result FabricFault.Failed → Rose (F.faults fabric.old) (F.faults fabric.new) }
+        ensures faults { F.faults fabric.old ≤ F.faults fabric.new }
+    {
+        self.fill(fabric)?;
+        let frame = match self.hand.take() {
+            Some(frame) => frame,
+            None => return Ok(false),
+        };
+        match self.accept(alloc, &frame) {
+            Ok(()) => Ok(true),
+            Err(OutOfMemory) => {
+                self.hand = Some(frame);
+                Err(FabricFault::OutOfMemory)
+            }
+        }
+    }
+}
