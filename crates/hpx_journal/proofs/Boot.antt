@@ -14,7 +14,7 @@ use Rattle.hpx_journal.specs.Pool.{AreSound, state_in, state_of}
 use Rattle.hpx_journal.specs.Sessions.{IsSettled}
 use Rattle.hpx_journal.proofs.Roads.{all-append}
 
-if_all : (P : Standing → Type 0) (b : Bool) (xs : List Standing) → (b ≡ true → AllByRecursion P xs) → AllByRecursion P (cond b xs [])
+pub if_all : (P : Standing → Type 0) (b : Bool) (xs : List Standing) → (b ≡ true → AllByRecursion P xs) → AllByRecursion P (cond b xs [])
 if_all P true xs h = h refl
 if_all P false xs h = tt
 
@@ -48,7 +48,7 @@ boot_settled r n = record { waiting = λ k h. refl; fired = λ k h. refl; due = 
 pub session_stands : (n : ℕ) → state_of (start (roots n)) session ≡ Some empty_state
 session_stands n = refl
 
-and_false : (b : Bool) → (b && false) ≡ false
+pub and_false : (b : Bool) → (b && false) ≡ false
 and_false true = refl
 and_false false = refl
 

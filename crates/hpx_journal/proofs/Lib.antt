@@ -21,3 +21,5 @@ pub mod Boot
 pub mod Stands
 pub mod Begun
 mod Witness
+pub mod Rooted
+pub mod Quiet

@@ -30,7 +30,7 @@ module _ {X : Type 0} (P : X → Type 0) where
   all-minus test xs [] h = h
   all-minus test xs (k ∷ ks) h = all-minus test (without (test k) xs) ks (all-without (test k) xs h)
 
-any_all : (P : Frame → Type 0) (f : Frame) (xs : List Frame) → AllByRecursion P xs → list_any (same_frame f) xs ≡ true → P f
+pub any_all : (P : Frame → Type 0) (f : Frame) (xs : List Frame) → AllByRecursion P xs → list_any (same_frame f) xs ≡ true → P f
 any_all P f [] h any = cc
 any_all P f (x ∷ xs) h any = elim (cases_Bool (same_frame f x)) [
   | inl t ↦ subst P (sym (same_frame-true f x t)) h.0

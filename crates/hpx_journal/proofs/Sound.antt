@@ -120,7 +120,7 @@ still_sound r k s e row still sound = record {
 }
 
 -- what holds of all objects, and looks at their ids alone
-done_all : (P : Id → Type 0) (r : Rules) (s : Local) (a : Name) (act : Act) (x : Standing) → find (is_act a) s.fired ≡ Some act
+pub done_all : (P : Id → Type 0) (r : Rules) (s : Local) (a : Name) (act : Act) (x : Standing) → find (is_act a) s.fired ≡ Some act
     → find (is_standing (target_of act)) s.objects ≡ Some x → AllByRecursion (λ y. P y.object) s.objects
     → AllByRecursion (λ y. P y.object) (after r s (Done a false)).objects
 done_all P r s a act x fires stands all =

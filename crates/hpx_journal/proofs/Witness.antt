@@ -1,5 +1,6 @@
 -- A session that there is: one line at two localities asks the tally, which answers 7, and the session prints it.
-use Rattle.std.proofs.Common.{ℕ, zero, suc, false, cond, List, [], ◌∷◌, ◌≡◌, ◌<◌, ◌+◌, Option, Some, None, refl, arith}
+use Rattle.std.proofs.Common.{ℕ, zero, suc, Bool, true, false, cond, List, [], ◌∷◌, ◌≡◌, ◌<◌, ◌+◌, Option, Some, None, refl, arith, inr, take, drop}
+use Rattle.std.specs.List.{AllByRecursion}
 use Rattle.std.specs.Prelude.{pos, ◌==◌}
 use Rattle.std.specs.Str.{bytes_eq}
 use Rattle.std.proofs.lemmas.Bool.{ne_eqb}
@@ -13,6 +14,9 @@ use Rattle.hpx_journal.specs.Roots.{roots, root}
 use Rattle.hpx_journal.specs.Whole.{start, step, run, IsLegal}
 use Rattle.hpx_journal.specs.Pool.{IsBlind, OnlySessionPrints, state_of}
 use Rattle.hpx_journal.specs.Sessions.{IsSettled, IsSession, IsPlainSession, shown}
+use Rattle.hpx_journal.specs.Rooted.{IsRootTarget, SendsToRoots, HasTarget}
+use Rattle.hpx_journal.proofs.Grow.{legal_front}
+use Rattle.hpx_journal.proofs.Rooted.{legal_found}
 use Rattle.hpx_journal.proofs.Boot.{boot_sound, boot_settled}
 use Rattle.hpx_journal.proofs.Plain.{session_plain}
 
@@ -117,3 +121,25 @@ blind = record { blind = λ kind here s a. refl }
 
 pub plain : IsPlainSession rules (state_of (start (roots 2))) (line ∷ []) (((55 ∷ []) ∷ []) ∷ [])
 plain = session_plain rules silent blind (start (roots 2)) (line ∷ []) (journal ∷ []) (boot_settled rules 2) (boot_sound 2) session_there
+
+-- ---- every send is to the tally, which is a root at 1 of 2 localities
+
+to_tally : (session feeds : Bool) (s : State)
+    → AllByRecursion (λ x. IsRootTarget 2 x.target) (cond session (cond feeds (asks s) (shows s)) (answers s)).sends
+to_tally true true s = (inr (inr (refl, refl)), tt)
+to_tally true false s = tt
+to_tally false feeds s = tt
+
+pub to_roots : SendsToRoots rules
+to_roots = record { targets = λ kind here s a h. to_tally (kind == 1) (a.code == 4) s }
+
+-- when the question was accepted it waits at 1, and its target stands there
+abbrev asked_only : List Entry
+asked_only = take 6 journal
+
+pub tally_found : HasTarget 2 (run rules (start (roots 2)) asked_only) asked
+unfolding step after
+tally_found =
+    let h : AllByRecursion (HasTarget 2 (run rules (start (roots 2)) asked_only)) (asked ∷ []) =
+    legal_found rules asked_only (legal_front rules (start (roots 2)) asked_only (drop 6 journal) legal) to_roots 1 (omega arith) in
+    h.0

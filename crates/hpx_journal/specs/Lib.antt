@@ -10,3 +10,4 @@ pub mod Keyed
 pub mod Laws
 pub mod Pool
 pub mod Sessions
+pub mod Rooted

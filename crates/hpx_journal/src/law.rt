@@ -1,11 +1,13 @@
 //! What every legal journal keeps: the contracts are the laws.
-ghost use Rattle.std.specs.Prelude.{ℕ, List, [], ◌∷◌, ◌≡◌, ◌≤◌, ◌+◌, ◌++◌, ◌<◌};
-ghost use Rattle.std.specs.List.{count_by};
-ghost use Rattle.hpx_journal.specs.Entries.{Name, In, Entry, Standing, Rules, Frame, same_frame};
-ghost use Rattle.hpx_journal.specs.Local.{boot, IsForeign};
+ghost use Rattle.std.specs.Prelude.{ℕ, true, List, [], ◌∷◌, ◌≡◌, ◌≤◌, ◌+◌, ◌++◌, ◌<◌, length};
+ghost use Rattle.std.specs.List.{list_any, count_by, AllByRecursion};
+ghost use Rattle.hpx_value.specs.Ids.{Id};
+ghost use Rattle.hpx_journal.specs.Entries.{Name, In, Entry, Standing, Rules, Frame, same_frame, acts_in};
+ghost use Rattle.hpx_journal.specs.Local.{boot, is_standing, IsForeign};
 ghost use Rattle.hpx_journal.specs.Whole.{Space, IsJoin, IsLegal, IsClean, part, start, run, run_local, road_run, outs, ins, fires, dones, fires_at, dones_at};
 ghost use Rattle.hpx_journal.specs.Laws.{IsOnRoad, IsSpelled, begun, TargetsStand};
 ghost use Rattle.hpx_journal.specs.Roots.{roots};
+ghost use Rattle.hpx_journal.specs.Rooted.{IsRootId, SendsToRoots, IsRooted, AreForRoots, HasTarget};
 ghost use Rattle.hpx_journal.specs.Pool.{Pool, Shows, AreSound, OnlySessionPrints, IsBlind, IsPlainRun, state_of, prints_of};
 ghost use Rattle.hpx_journal.specs.Sessions.{IsSettled, BeginsWith, IsSession, IsPlainSession, IsPlainBrokenOff, entries_of, shown};
 
@@ -72,4 +74,35 @@ pub fn session_law()
     ensures grows { (r : Rules) (w : Space) (lines : List (List ℕ)) (blocks : List (List Entry)) (line : List ℕ) (es : List Entry) →
         IsSession r w lines blocks → IsLegal r w (entries_of blocks ++ es) → BeginsWith line es →
         IsSettled r (run r w (entries_of blocks ++ es)) → IsSession r w (lines ++ line ∷ []) (blocks ++ es ∷ []) }
+{}
+
+/// Where nothing is made and no send names a root that there is not, every id anywhere is that of a root, each root stands
+/// at its home, and so does the target of each action that waits.
+pub fn rooted_law()
+    ensures rooted { (r : Rules) (es : List Entry) → SendsToRoots r → IsLegal r (start (roots r.localities)) es →
+        IsRooted r (run r (start (roots r.localities)) es) }
+    ensures waits { (r : Rules) (es : List Entry) (k : ℕ) → SendsToRoots r → IsLegal r (start (roots r.localities)) es → k < r.localities →
+        AreForRoots r.localities ((run r (start (roots r.localities)) es).places k).waiting }
+    ensures fired { (r : Rules) (es : List Entry) (k : ℕ) → SendsToRoots r → IsLegal r (start (roots r.localities)) es → k < r.localities →
+        AreForRoots r.localities ((run r (start (roots r.localities)) es).places k).fired }
+    ensures road { (r : Rules) (es : List Entry) → SendsToRoots r → IsLegal r (start (roots r.localities)) es →
+        AllByRecursion (λ f. AreForRoots r.localities (acts_in (r.parcel_of f.1))) (run r (start (roots r.localities)) es).road }
+    ensures stands { (r : Rules) (es : List Entry) (o : Id) → IsLegal r (start (roots r.localities)) es → IsRootId r.localities o →
+        list_any (is_standing o) ((run r (start (roots r.localities)) es).places o.home).objects ≡ true }
+    ensures found { (r : Rules) (es : List Entry) (k : ℕ) → SendsToRoots r → IsLegal r (start (roots r.localities)) es → k < r.localities →
+        AllByRecursion (HasTarget r.localities (run r (start (roots r.localities)) es)) ((run r (start (roots r.localities)) es).places k).waiting }
+{}
+
+/// On the road are as many frames as were sent and not accepted. Where there are none, and no locality has anything
+/// waiting, fired or due, nothing is pending anywhere.
+pub fn quiet_law()
+    ensures road_length { (r : Rules) (roots : ℕ → List Standing) (es : List Entry) → IsLegal r (start roots) es →
+        length (run r (start roots) es).road + length (ins es) ≡ length (outs es) }
+    ensures road { (r : Rules) (roots : ℕ → List Standing) (es : List Entry) → IsLegal r (start roots) es →
+        length (ins es) ≡ length (outs es) → (run r (start roots) es).road ≡ [] }
+    ensures settled { (r : Rules) (roots : ℕ → List Standing) (es : List Entry) → IsLegal r (start roots) es →
+        ((k : ℕ) → k < r.localities → ((run r (start roots) es).places k).waiting ≡ []) →
+        ((k : ℕ) → k < r.localities → ((run r (start roots) es).places k).fired ≡ []) →
+        ((k : ℕ) → k < r.localities → ((run r (start roots) es).places k).due ≡ []) →
+        length (ins es) ≡ length (outs es) → IsSettled r (run r (start roots) es) }
 {}
