@@ -94,3 +94,6 @@ fn is_session(state: &State) -> bool
 {
     is_alone(state) && state.values.is_empty() && state.drawn <= MOST_SLOTS
 }
+
+#[cfg(test)]
+mod tests;

@@ -5,6 +5,11 @@ ghost use Rattle.hpx_top.specs.Console.{words_of, number_of, command_of, number_
 use hpx_value::memory::OutOfMemory;
 use std::alloc::Global;
 
+/// What is printed for an amount that is no number of 64 bits.
+pub const BAD_NUMBER: &[u8] = b"error: bad number\n";
+/// What is printed for a line that is no command, and for one that is too long, which is not fed.
+pub const BAD_COMMAND: &[u8] = b"error: bad command\n";
+
 /// What a line asks for.
 #[derive(Clone, Copy, Debug, PartialEq, Eq)]
 pub enum Command {

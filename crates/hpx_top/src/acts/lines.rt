@@ -14,8 +14,6 @@ use std::alloc::Global;
 pub const COMMANDS: &[u8] = b"commands: reset, add [amount], query, help, quit\n";
 /// What stands before each line.
 pub const PROMPT: &[u8] = b"> ";
-/// What a line that is too long prints, which is not fed.
-pub const BAD_COMMAND: &[u8] = b"error: bad command\n";
 
 /// How many bytes a line has at most.
 const MOST_BYTES: usize = 1024;

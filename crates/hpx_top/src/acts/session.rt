@@ -2,7 +2,9 @@
 ghost use Rattle.std.specs.Prelude.{◌≡◌, ◌≤◌, ◌∷◌, [], IfOk};
 ghost use Rattle.hpx_top.specs.Acts.{session_effect, line_effect, answer_texts};
 
-use crate::acts::console::{Command, fault_text, number_text, read_command};
+use crate::acts::console::{
+    BAD_COMMAND, BAD_NUMBER, Command, fault_text, number_text, read_command,
+};
 use crate::acts::effect::{Effect, one};
 use hpx_value::codes::{ADD, LINE, QUERY, SET};
 use hpx_value::items::{Items, Text, Texts};
@@ -47,8 +49,8 @@ fn line_effect(alloc: Global, drawn: u32, text: &Text) -> Result<Effect, OutOfMe
             code: QUERY,
             args: Items::new(alloc),
         },
-        Command::BadNumber => Effect::Prints(text_of(alloc, "error: bad number\n")?),
-        Command::BadCommand => Effect::Prints(text_of(alloc, "error: bad command\n")?),
+        Command::BadNumber => Effect::Prints(text_of(alloc, BAD_NUMBER)?),
+        Command::BadCommand => Effect::Prints(text_of(alloc, BAD_COMMAND)?),
     })
 }
 
@@ -64,11 +66,8 @@ fn answer_texts(alloc: Global, value: &Value) -> Result<Texts, OutOfMemory>
 }
 
 /// One text.
-fn text_of(alloc: Global, text: &str) -> Result<Texts, OutOfMemory>
+fn text_of(alloc: Global, text: &[u8]) -> Result<Texts, OutOfMemory>
     ensures { IfOk result (λ texts. texts ≡ text.now ∷ []) }
 {
-    one(
-        alloc,
-        Items::from_vec(String::from_str(alloc, text)?.into_bytes()),
-    )
+    one(alloc, Items::from_vec(text.to_vec(alloc)?))
 }
