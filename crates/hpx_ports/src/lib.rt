@@ -12,7 +12,6 @@ pub mod order;
 pub mod plan;
 pub mod sink;
 pub mod source;
-mod unread;
-
 #[cfg(test)]
 mod tests;
+mod unread;

@@ -64,8 +64,9 @@ impl Fabric for SureFabric {
     fn send(&mut self, from: u32, to: u32, frame: &[u8]) -> Result<(), FabricFault>
         ensures sure { IsOkUnless result FabricFault.OutOfMemory }
         ensures ok { OnOk result (self.new ≡ record self.old {
-            flight = self.old.flight ++ (to, frame.now) ∷ [];
-            trace = self.old.trace ++ Wire.Sent from to frame.now ∷ [] }) }
+          flight = self.old.flight ++ (to, frame.now) ∷ [];
+          trace = self.old.trace ++ Wire.Sent from to frame.now ∷ [];
+        }) }
         ensures err { OnErr result (self.new ≡ self.old) }
     {
         self.flight.send(from, to, frame)?;
@@ -77,9 +78,10 @@ impl Fabric for SureFabric {
         ensures sure { IsOkUnless result FabricFault.OutOfMemory }
         ensures got { IfOk result (λ got. got ≡ slice_get self.old.flight (next_place self.old.order (length self.old.flight))) }
         ensures ok { IfOk result (λ got. self.new ≡ record {
-            flight = remove self.old.flight (next_place self.old.order (length self.old.flight));
-            trace = self.old.trace ++ events_of got;
-            order = order_after self.old.order got }) }
+          flight = remove self.old.flight (next_place self.old.order (length self.old.flight));
+          trace = self.old.trace ++ events_of got;
+          order = order_after self.old.order got;
+        }) }
         ensures err { OnErr result (self.new ≡ self.old) }
 
         ensures flight { IfOk result (λ got. Delivers (Some self.old.flight) (Some self.new.flight) got) }
@@ -103,8 +105,13 @@ impl Model for MemFabric {
     ghost Value = { Carriage };
 
     ghost view = { λ f. record {
-        flight = f.flight.flight; trace = f.flight.trace; order = f.flight.order;
-        sends = f.sends; delivers = f.delivers; faults = f.faults } };
+      flight = f.flight.flight;
+      trace = f.flight.trace;
+      order = f.flight.order;
+      sends = f.sends;
+      delivers = f.delivers;
+      faults = f.faults;
+    } };
 }
 
 impl MemFabric {
@@ -112,10 +119,13 @@ impl MemFabric {
     /// numbers are to fail, from 1.
     pub fn new(alloc: Global, order: Order, sends: Lengths, delivers: Lengths) -> MemFabric
         ensures { result ≡ record {
-            flight = []; trace = []; order = order;
-            sends = record { numbers = sends; calls = 0 };
-            delivers = record { numbers = delivers; calls = 0 };
-            faults = 0 } }
+          flight = [];
+          trace = [];
+          order = order;
+          sends = record { numbers = sends; calls = 0 };
+          delivers = record { numbers = delivers; calls = 0 };
+          faults = 0;
+        } }
     {
         MemFabric {
             flight: Flight::new(alloc, order),
@@ -165,13 +175,17 @@ impl Fabric for MemFabric {
     fn send(&mut self, from: u32, to: u32, frame: &[u8]) -> Result<(), FabricFault>
         ensures planned { IsErrOf result FabricFault.Failed ↔ IsTrue (fails_next self.old.sends) }
         ensures ok { OnOk result (self.new ≡ record self.old {
-            flight = self.old.flight ++ (to, frame.now) ∷ [];
-            trace = self.old.trace ++ Wire.Sent from to frame.now ∷ [];
-            sends = after_call self.old.sends }) }
+          flight = self.old.flight ++ (to, frame.now) ∷ [];
+          trace = self.old.trace ++ Wire.Sent from to frame.now ∷ [];
+          sends = after_call self.old.sends;
+        }) }
         ensures failed { IsErrOf result FabricFault.Failed → self.new ≡ record self.old {
-            sends = after_call self.old.sends; faults = raised self.old.faults } }
+          sends = after_call self.old.sends;
+          faults = raised self.old.faults;
+        } }
         ensures no_memory { IsErrOf result FabricFault.OutOfMemory → self.new ≡ record self.old {
-            sends = after_call self.old.sends } }
+          sends = after_call self.old.sends;
+        } }
 
         ensures flight_err { OnErr result (self.new.flight ≡ self.old.flight) }
         ensures trace_err { OnErr result (self.new.trace ≡ self.old.trace) }
@@ -191,14 +205,18 @@ impl Fabric for MemFabric {
         ensures planned { IsErrOf result FabricFault.Failed ↔ IsTrue (fails_next self.old.delivers) }
         ensures got { IfOk result (λ got. got ≡ slice_get self.old.flight (next_place self.old.order (length self.old.flight))) }
         ensures ok { IfOk result (λ got. self.new ≡ record self.old {
-            flight = remove self.old.flight (next_place self.old.order (length self.old.flight));
-            trace = self.old.trace ++ events_of got;
-            order = order_after self.old.order got;
-            delivers = after_call self.old.delivers }) }
+          flight = remove self.old.flight (next_place self.old.order (length self.old.flight));
+          trace = self.old.trace ++ events_of got;
+          order = order_after self.old.order got;
+          delivers = after_call self.old.delivers;
+        }) }
         ensures failed { IsErrOf result FabricFault.Failed → self.new ≡ record self.old {
-            delivers = after_call self.old.delivers; faults = raised self.old.faults } }
+          delivers = after_call self.old.delivers;
+          faults = raised self.old.faults;
+        } }
         ensures no_memory { IsErrOf result FabricFault.OutOfMemory → self.new ≡ record self.old {
-            delivers = after_call self.old.delivers } }
+          delivers = after_call self.old.delivers;
+        } }
 
         ensures flight { IfOk result (λ got. Delivers (Some self.old.flight) (Some self.new.flight) got) }
         ensures flight_err { OnErr result (self.new.flight ≡ self.old.flight) }

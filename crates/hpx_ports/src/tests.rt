@@ -154,7 +154,12 @@ fn chosen_sends_and_deliveries_fail(rt: HostRuntime) -> Result<(), Fail> {
 #[test]
 fn faults_are_printed(rt: HostRuntime) -> Result<(), Fail> {
     let alloc = rt.alloc();
-    let text = format!(in alloc; "{}, {}, {}", Failed, FabricFault::Failed, FabricFault::OutOfMemory)?;
+    let text = format!(in alloc;
+        "{}, {}, {}",
+        Failed,
+        FabricFault::Failed,
+        FabricFault::OutOfMemory
+    )?;
     assert_eq!(rt; text.as_str(), "failed, failed, out of memory");
     Ok(())
 }

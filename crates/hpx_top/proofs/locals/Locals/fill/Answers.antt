@@ -20,5 +20,5 @@ pub returns-in_ok-self-clause-empty : goal.returns-in_ok-self-clause-empty
 returns-in_ok-self-clause-empty g c = λ none. (
   c.in-None.is,
   nothing c.in_ok-self.field-0 (g.F.Fabric.flight c.args.fabric.now) (g.F.Fabric.flight c.deliver.new.self) c.requires.carrying.frames c.requires.carrying.flight_is
-  c.in_ok-self.ensures.flight none,
+      c.in_ok-self.ensures.flight none,
 )

@@ -9,7 +9,7 @@ use Rattle.hpx_top.proofs.locals.Locals.pump.Goals as goal
 pub returns-in-None-clause-none : goal.returns-in-None-clause-none
 returns-in-None-clause-none g c = λ same. (
   same_at _ _ _ c.requires.sound c.args.k c.index_mut-node.result.now c.index_mut-node.result.now c.requires.range c.index_mut-node.ensures.value
-  c.args.self.now.journal c.args.self.now.journal (record { tables = refl; entries = refl }),
+      c.args.self.now.journal c.args.self.now.journal (record { tables = refl; entries = refl }),
   λ t at. let same = got_at _ _ _ c.requires.sound c.args.k c.index_mut-node.result.now c.index_mut-node.result.now c.requires.range c.index_mut-node.ensures.value t at in
       let P : Tables → Type 0 = λ x. x.outgoing ≡ [] in subst P same c.in-None.ensures.none,
 )
@@ -33,6 +33,9 @@ returns-clause-carrying g c =
     (sends_of c.index_mut-node.result.now c.gone.new.self _ _ c.in-Some.to c.in-Ok.bytes (rw c.reserve.ensures.entries at c.gone.ensures.writes)))
 
 pub returns-clause-sent : goal.returns-clause-sent
-returns-clause-sent g c = λ same. (c.in-Some.to, c.in-Ok.bytes,
+returns-clause-sent g c = λ same. (
+  c.in-Some.to,
+  c.in-Ok.bytes,
   grows_at _ _ _ c.requires.sound c.args.k c.index_mut-node.result.now c.gone.new.self c.requires.range c.index_mut-node.ensures.value _ _
-  (rw c.reserve.ensures.entries at c.gone.ensures.writes))
+      (rw c.reserve.ensures.entries at c.gone.ensures.writes),
+)
