@@ -14,3 +14,4 @@ pub mod PlainText
 pub mod TextLaw
 pub mod Sound
 pub mod Places
+pub mod Turns

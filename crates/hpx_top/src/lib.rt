@@ -10,3 +10,5 @@ pub mod locals;
 pub mod node;
 pub mod parts;
 pub mod text_law;
+pub mod turns;
+pub mod world;

@@ -1,0 +1,243 @@
+ghost use Rattle.std.specs.Prelude.{◌≡◌, ◌≤◌, ◌<◌, ◌+◌, ◌-◌, ◌^◌, ◌∷◌, [], ℕ, length, min, OnOk, OnErr, IfOk, IfErr, IsTrue, ◌↔◌, Ok, Err, Some, None, option_copied, slice_get, ◌⊎◌};
+ghost use Rattle.hpx_journal.specs.Weights.{HasRoom, total_weight};
+ghost use Rattle.hpx_journal.specs.Roots.{roots};
+ghost use Rattle.hpx_journal.specs.Whole.{IsLegal, start, Grows};
+ghost use Rattle.hpx_ports.specs.Faults.{Rose};
+ghost use Rattle.hpx_top.specs.Stands.{rules_of};
+ghost use Rattle.hpx_top.specs.Sound.{IsSame, IsInside, IsCarrying, IsQuiet};
+ghost use Rattle.hpx_top.specs.Turns.{Wrote};
+ghost use Rattle.hpx_top.specs.Free.{NoneIsFree};
+ghost use Rattle.hpx_top.specs.Jobs.{IsRunning};
+
+use crate::locals::Locals;
+use crate::parts::{FinishFault, Finished};
+use crate::turns::{Choice, Turned, WorldFault};
+use hpx_journal::entry::Event;
+use hpx_journal::journal::Journal;
+use hpx_ports::fabric::Fabric;
+use hpx_ports::fault::FabricFault;
+use hpx_value::acts::{Acts, Done};
+use hpx_value::items::Text;
+use hpx_value::memory::OutOfMemory;
+use std::alloc::Global;
+use std::marker::Model;
+
+/// All localities.
+#[derive(Drop)]
+pub struct World<A: Acts + Copy> {
+    acts: A,
+    locals: Locals<A>,
+}
+
+impl<A: Acts + Copy> Model for World<A> {
+    ghost use Rattle.std.specs.Prelude.{◌≡◌, length};
+    ghost use Rattle.hpx_top.specs.Places.{Places};
+    ghost use Rattle.hpx_top.specs.Sound.{IsSound};
+
+    ghost Value = { Places };
+
+    ghost view = { λ w. record { nodes = w.locals.nodes.items; journal = w.locals.journal; hand = w.locals.hand } };
+
+    ghost invariant = { λ w. (A.count w.acts ≡ length w.locals.nodes.items)
+        × IsSound A.act_of w.locals.nodes.items w.locals.journal.entries };
+}
+
+impl<A: Acts + Copy> World<A> {
+    /// All localities at boot: the roots stand, and the journal is empty.
+    pub fn boot(alloc: Global, acts: A) -> Result<World<A>, OutOfMemory>
+        requires some { 1 ≤ A.count acts }
+        requires few { A.count acts ≤ 64 }
+        ensures count { IfOk result (λ w. length w.nodes ≡ A.count acts) }
+        ensures empty { IfOk result (λ w. w.journal.entries ≡ []) }
+        ensures hand { IfOk result (λ w. w.hand ≡ None) }
+    {
+        Ok(World {
+            acts,
+            locals: Locals::boot(alloc, acts)?,
+        })
+    }
+
+    /// What actions do here.
+    pub fn acts(&self) -> &A
+        ensures { A.count result.now ≡ length self.now.nodes }
+    {
+        &self.acts
+    }
+
+    /// The journal, which is legal.
+    pub fn journal(&self) -> &Journal
+        ensures journal { result.now ≡ self.now.journal }
+        ensures legal { let n = length self.now.nodes in IsLegal (rules_of A.act_of n) (start (roots n)) self.now.journal.entries }
+    {
+        &self.locals.journal
+    }
+
+    /// Why the journal is full, with a job that was to be committed.
+    fn full(&self, choice: Choice<A>) -> WorldFault<A>
+        ensures full { (done : _) → choice ≡ Choice.Finish done →
+            result ≡ WorldFault.JournalFull (length self.now.journal.entries) (min (2 ^ 64 - 1) (total_weight self.now.journal.entries)) (Some done) }
+        ensures other { (e w : ℕ) (u : _) → result ≡ WorldFault.JournalFull e w u →
+            (e ≡ length self.now.journal.entries) × (w ≡ min (2 ^ 64 - 1) (total_weight self.now.journal.entries)) }
+        ensures is { (e : ℕ) × (w : ℕ) × (u : _) × (result ≡ WorldFault.JournalFull e w u) }
+    {
+        let undone = match choice {
+            Choice::Finish(done) => Some(done),
+            _ => None,
+        };
+        WorldFault::JournalFull {
+            entries: self.locals.journal.entries(),
+            weight: self.locals.journal.weight(),
+            undone,
+        }
+    }
+
+    fn feed(&mut self, alloc: Global, line: Text) -> Result<Turned, WorldFault<A>>
+        requires short { length line ≤ 1025 }
+        requires room { HasRoom self.old.journal.entries }
+        ensures legal { let n = length self.new.nodes in IsLegal (rules_of A.act_of n) (start (roots n)) self.new.journal.entries }
+        ensures count { length self.new.nodes ≡ length self.old.nodes }
+        ensures hand { self.new.hand ≡ self.old.hand }
+        ensures inside { IsInside self.old.journal.entries self.new.journal.entries }
+        ensures wrote { IfOk result (λ t. Wrote t self.old.journal.entries self.new.journal.entries) }
+        ensures line { IfOk result (λ t. (action : _) × Grows 0 (Event.Line action line ∷ []) self.old.journal.entries self.new.journal.entries) }
+        ensures err { OnErr result (IsSame self.old.nodes self.new.nodes self.old.journal.entries self.new.journal.entries) }
+        ensures memory { IfErr result (λ e. e ≡ WorldFault.OutOfMemory None) }
+    {
+        match self.locals.feed(alloc, line) {
+            Ok(()) => Ok(Turned::Fed),
+            Err(OutOfMemory) => Err(WorldFault::OutOfMemory { undone: None }),
+        }
+    }
+
+    fn fire(&mut self, alloc: Global, k: usize) -> Result<Turned, WorldFault<A>>
+        requires range { k < length self.old.nodes }
+        requires room { HasRoom self.old.journal.entries }
+        ensures legal { let n = length self.new.nodes in IsLegal (rules_of A.act_of n) (start (roots n)) self.new.journal.entries }
+        ensures count { length self.new.nodes ≡ length self.old.nodes }
+        ensures hand { self.new.hand ≡ self.old.hand }
+        ensures inside { IsInside self.old.journal.entries self.new.journal.entries }
+        ensures wrote { IfOk result (λ t. Wrote t self.old.journal.entries self.new.journal.entries) }
+        ensures fired { (job : _) → result ≡ Ok (Turned.Fired job) → job.at ≡ k }
+        ensures idle { result ≡ Ok Turned.Idle → IsSame self.old.nodes self.new.nodes self.old.journal.entries self.new.journal.entries
+            × ((t : _) → slice_get self.old.nodes k ≡ Some t → NoneIsFree t.running t.objects t.accepted) }
+        ensures err { OnErr result (IsSame self.old.nodes self.new.nodes self.old.journal.entries self.new.journal.entries) }
+        ensures memory { IfErr result (λ e. e ≡ WorldFault.OutOfMemory None) }
+    {
+        match self.locals.fire(alloc, k) {
+            Ok(Some(job)) => Ok(Turned::Fired(job)),
+            Ok(None) => Ok(Turned::Idle),
+            Err(OutOfMemory) => Err(WorldFault::OutOfMemory { undone: None }),
+        }
+    }
+
+    fn finish(&mut self, alloc: Global, done: Done<A>) -> Result<Turned, WorldFault<A>>
+        requires range { done.job.at < length self.old.nodes }
+        requires room { HasRoom self.old.journal.entries }
+        ensures legal { let n = length self.new.nodes in IsLegal (rules_of A.act_of n) (start (roots n)) self.new.journal.entries }
+        ensures count { length self.new.nodes ≡ length self.old.nodes }
+        ensures hand { self.new.hand ≡ self.old.hand }
+        ensures inside { IsInside self.old.journal.entries self.new.journal.entries }
+        ensures wrote { IfOk result (λ t. Wrote t self.old.journal.entries self.new.journal.entries) }
+        ensures not_running { result ≡ Ok (Turned.Finished Finished.NotRunning) →
+            IsSame self.old.nodes self.new.nodes self.old.journal.entries self.new.journal.entries
+            × ((t : _) → slice_get self.old.nodes done.job.at ≡ Some t → done.localities ≡ t.localities → IsRunning t done.job → ⊥) }
+        ensures err { OnErr result (IsSame self.old.nodes self.new.nodes self.old.journal.entries self.new.journal.entries) }
+        ensures memory { IfErr result (λ e. e ≡ WorldFault.OutOfMemory (Some done)) }
+    {
+        match self.locals.finish(alloc, done.job.at as usize, done) {
+            Ok(finished) => Ok(Turned::Finished(finished)),
+            Err(FinishFault { undone }) => Err(WorldFault::OutOfMemory {
+                undone: Some(undone),
+            }),
+        }
+    }
+
+    fn pump<F: Fabric>(
+        &mut self,
+        alloc: Global,
+        k: usize,
+        fabric: &mut F,
+    ) -> Result<Turned, WorldFault<A>>
+        requires range { k < length self.old.nodes }
+        requires room { HasRoom self.old.journal.entries }
+        requires carrying { IsCarrying self.old.hand (F.flight fabric.old) (F.trace fabric.old) self.old.journal.entries }
+        ensures legal { let n = length self.new.nodes in IsLegal (rules_of A.act_of n) (start (roots n)) self.new.journal.entries }
+        ensures count { length self.new.nodes ≡ length self.old.nodes }
+        ensures carrying { IsCarrying self.new.hand (F.flight fabric.new) (F.trace fabric.new) self.new.journal.entries }
+        ensures hand { self.new.hand ≡ self.old.hand }
+        ensures wrote { IfOk result (λ t. Wrote t self.old.journal.entries self.new.journal.entries) }
+        ensures empty { result ≡ Ok Turned.Empty → IsSame self.old.nodes self.new.nodes self.old.journal.entries self.new.journal.entries
+            × ((t : _) → slice_get self.old.nodes k ≡ Some t → t.outgoing ≡ []) }
+        ensures err { OnErr result (IsSame self.old.nodes self.new.nodes self.old.journal.entries self.new.journal.entries) }
+        ensures which { IfErr result (λ e. (e ≡ WorldFault.Fabric) ⊎ (e ≡ WorldFault.OutOfMemory None)) }
+        ensures cause { result ≡ Err WorldFault.Fabric → Rose (F.faults fabric.old) (F.faults fabric.new) }
+        ensures faults { F.faults fabric.old ≤ F.faults fabric.new }
+    {
+        match self.locals.pump(alloc, k, fabric) {
+            Ok(true) => Ok(Turned::Moved),
+            Ok(false) => Ok(Turned::Empty),
+            Err(FabricFault::Failed) => Err(WorldFault::Fabric),
+            Err(FabricFault::OutOfMemory) => Err(WorldFault::OutOfMemory { undone: None }),
+        }
+    }
+
+    fn take<F: Fabric>(&mut self, alloc: Global, fabric: &mut F) -> Result<Turned, WorldFault<A>>
+        requires room { HasRoom self.old.journal.entries }
+        requires carrying { IsCarrying self.old.hand (F.flight fabric.old) (F.trace fabric.old) self.old.journal.entries }
+        ensures legal { let n = length self.new.nodes in IsLegal (rules_of A.act_of n) (start (roots n)) self.new.journal.entries }
+        ensures count { length self.new.nodes ≡ length self.old.nodes }
+        ensures carrying { IsCarrying self.new.hand (F.flight fabric.new) (F.trace fabric.new) self.new.journal.entries }
+        ensures wrote { IfOk result (λ t. Wrote t self.old.journal.entries self.new.journal.entries) }
+        ensures empty { result ≡ Ok Turned.Empty → (self.old.hand ≡ None) × (self.new.hand ≡ None) × (F.flight fabric.new ≡ Some [])
+            × IsSame self.old.nodes self.new.nodes self.old.journal.entries self.new.journal.entries }
+        ensures err { OnErr result (IsSame self.old.nodes self.new.nodes self.old.journal.entries self.new.journal.entries) }
+        ensures which { IfErr result (λ e. (e ≡ WorldFault.Fabric) ⊎ (e ≡ WorldFault.OutOfMemory None)) }
+        ensures cause { result ≡ Err WorldFault.Fabric → Rose (F.faults fabric.old) (F.faults fabric.new) }
+        ensures faults { F.faults fabric.old ≤ F.faults fabric.new }
+    {
+        match self.locals.take(alloc, fabric) {
+            Ok(true) => Ok(Turned::Moved),
+            Ok(false) => Ok(Turned::Empty),
+            Err(FabricFault::Failed) => Err(WorldFault::Fabric),
+            Err(FabricFault::OutOfMemory) => Err(WorldFault::OutOfMemory { undone: None }),
+        }
+    }
+
+    /// One turn. At a refusal nothing has changed, save that a frame that was delivered stays in hand.
+    pub fn turn<F: Fabric>(
+        &mut self,
+        alloc: Global,
+        choice: Choice<A>,
+        fabric: &mut F,
+    ) -> Result<Turned, WorldFault<A>>
+        requires feed { (line : _) → choice ≡ Choice.Feed line → length line ≤ 1025 }
+        requires fire { (k : _) → choice ≡ Choice.Fire k → k < length self.old.nodes }
+        requires finish { (done : _) → choice ≡ Choice.Finish done → done.job.at < length self.old.nodes }
+        requires pump { (k : _) → choice ≡ Choice.Pump k → k < length self.old.nodes }
+        requires carrying { IsCarrying self.old.hand (F.flight fabric.old) (F.trace fabric.old) self.old.journal.entries }
+
+        ensures legal { let n = length self.new.nodes in IsLegal (rules_of A.act_of n) (start (roots n)) self.new.journal.entries }
+        ensures carrying { IsCarrying self.new.hand (F.flight fabric.new) (F.trace fabric.new) self.new.journal.entries }
+        ensures count { length self.new.nodes ≡ length self.old.nodes }
+        ensures wrote { IfOk result (λ t. Wrote t self.old.journal.entries self.new.journal.entries) }
+
+        ensures err { OnErr result (IsSame self.old.nodes self.new.nodes self.old.journal.entries self.new.journal.entries) }
+        ensures full { (HasRoom self.old.journal.entries → ⊥) → (e w : ℕ) × (u : _) × (result ≡ Err (WorldFault.JournalFull e w u)) }
+        ensures full_only { (e w : ℕ) (u : _) → result ≡ Err (WorldFault.JournalFull e w u) → HasRoom self.old.journal.entries → ⊥ }
+        ensures undone_full { (done : _) (e w : ℕ) (u : _) → choice ≡ Choice.Finish done → result ≡ Err (WorldFault.JournalFull e w u) → u ≡ Some done }
+        ensures undone { (done : _) (u : _) → choice ≡ Choice.Finish done → result ≡ Err (WorldFault.OutOfMemory u) → u ≡ Some done }
+        ensures cause { result ≡ Err WorldFault.Fabric → Rose (F.faults fabric.old) (F.faults fabric.new) }
+        ensures faults { F.faults fabric.old ≤ F.faults fabric.new }
+    {
+        if !self.journal().room() {
+            return Err(self.full(choice));
+        }
+        match choice {
+            Choice::Feed(line) => self.feed(alloc, line),
+            Choice::Fire(k) => self.fire(alloc, k as usize),
+            Choice::Finish(done) => self.finish(alloc, done),
+            Choice::Pump(k) => self.pump(alloc, k as usize, fabric),
+            Choice::Take => self.take(alloc, fabric),
+        }
+    }
+}
