@@ -12,7 +12,7 @@ use Rattle.hpx_parcel.specs.Types.{Id, Value, Nothing, Flag, Int, Text, Ref, Fau
 use Rattle.hpx_parcel.specs.Spelling.{number_text, int_text, id_text, first_text, without_first, value_text, ids_left, each_text, ids_after, values_text, slot_text, cont_text, message_text, act_text}
 use Rattle.hpx_parcel.specs.Parcels.{FitsValue}
 use Rattle.hpx_parcel.specs.Reading.{are_bytes}
-use Rattle.hpx_parcel.proofs.Fields.{IsBytes}
+use Rattle.hpx_parcel.proofs.FieldLaws.{IsBytes}
 
 abbrev pub AreBytes : List ℕ → Type 0
 AreBytes bytes = AllByRecursion (λ b. b < 256) bytes
@@ -47,7 +47,7 @@ pub number_bytes : (n x : ℕ) → AreBytes (number_text n x)
 unfolding number_text
 number_bytes n x = high_first_bytes n x
 
-id_bytes : (id : Id) → AreBytes (id_text id)
+pub id_bytes : (id : Id) → AreBytes (id_text id)
 unfolding id_text
 id_bytes id = are-append (number_text 8 (upper_half id)) (number_text 8 id.number) (number_bytes 8 (upper_half id)) (number_bytes 8 id.number)
 

@@ -12,8 +12,8 @@ use Rattle.hpx_parcel.specs.Types.{Id, Value, Nothing, Flag, Int, Text, Ref, Fau
 use Rattle.hpx_parcel.specs.Spelling.{number_text, int_text, id_text, value_text, ids_left, each_text, ids_after, values_text}
 use Rattle.hpx_parcel.specs.Parcels.{HasRightCredit, FitsValue}
 use Rattle.hpx_parcel.specs.Reading.{◌>>=◌, count_at, value_at, id_list, each_at, values_at}
-use Rattle.hpx_parcel.proofs.Fields.{IsBytes, bind_ok, ok_is, Takes, Takes-then, count_takes, count_again, length-number}
-use Rattle.hpx_parcel.proofs.Values.{IsPlain, plain_left, plain_refs, Has, Took, value_takes, value_again}
+use Rattle.hpx_parcel.proofs.FieldLaws.{IsBytes, bind_ok, ok_is, Takes, Takes-then, count_takes, count_again, length-number}
+use Rattle.hpx_parcel.proofs.ValueLaws.{IsPlain, plain_left, plain_refs, Has, Took, value_takes, value_again}
 
 -- what was read of values: their ids come first, then those that are left
 pub record TookEach (limit place : ℕ) (bytes : List ℕ) (vs : List Value) (ids : List Id) (rest : List ℕ) : Type 0 where

@@ -2,9 +2,11 @@ pub mod Loops
 pub mod Ids
 pub mod Lists
 pub mod Taken
-pub mod Fields
-pub mod Values
+pub mod FieldLaws
+pub mod ValueLaws
 pub mod Each
-pub mod Acts
+pub mod ActLaws
 pub mod Bytes
+pub mod StateLaws
+pub mod Rules
 pub mod Frames

@@ -2,3 +2,4 @@ pub mod Types
 pub mod Spelling
 pub mod Parcels
 pub mod Reading
+pub mod Credits

@@ -5,17 +5,17 @@ use Rattle.std.specs.Int.{w64, cast_signed}
 use Rattle.byteorder.specs.Endian.{big_number}
 use Rattle.hpx_value.specs.Ids.{upper_half, id_in}
 use Rattle.hpx_value.specs.Values.{named}
-use Rattle.hpx_parcel.specs.Types.{Id, Value, Nothing, Flag, Int, Text, Ref, Fault, Ints, Cont, Act, Message, Parcel, Apply, Why, Long, Cut, Kind, BadId, BadValue, Trailing}
+use Rattle.hpx_parcel.specs.Types.{Id, Value, Nothing, Flag, Int, Text, Ref, Fault, Ints, Cont, State, Act, Message, Parcel, Apply, Return, Ask, Give, Cached, Move, Go, Object, Landed, Free, Why, Long, Cut, Kind, BadId, BadValue, Trailing}
 use Rattle.hpx_parcel.specs.declared.parcel.DecodeFault.{DecodeFault}
 use Rattle.hpx_parcel.specs.declared.parcel.DecodeFault.TheVariants as faults
 use Rattle.hpx_parcel.specs.Parcels.{Spells}
-pub use Rattle.hpx_parcel.specs.declared.read.Stop.{Stop}
-pub use Rattle.hpx_parcel.specs.declared.read.ReadError.{ReadError}
-use Rattle.hpx_parcel.specs.declared.read.ReadError.TheVariants as errors
-pub use Rattle.hpx_parcel.specs.declared.read.IdRule.{IdRule}
-pub use Rattle.hpx_parcel.specs.declared.read.IdRule.TheVariants.{Named, Movable}
-pub use Rattle.hpx_parcel.specs.declared.read.ActRule.{ActRule}
-pub use Rattle.hpx_parcel.specs.declared.read.ActRule.TheVariants.{Applied, Moves}
+pub use Rattle.hpx_parcel.specs.declared.fields.Stop.{Stop}
+pub use Rattle.hpx_parcel.specs.declared.fields.ReadError.{ReadError}
+use Rattle.hpx_parcel.specs.declared.fields.ReadError.TheVariants as errors
+pub use Rattle.hpx_parcel.specs.declared.fields.IdRule.{IdRule}
+pub use Rattle.hpx_parcel.specs.declared.fields.IdRule.TheVariants.{Named, Movable, Credited, Least, Bare}
+pub use Rattle.hpx_parcel.specs.declared.acts.ActRule.{ActRule}
+pub use Rattle.hpx_parcel.specs.declared.acts.ActRule.TheVariants.{Applied, Moves}
 
 infixl 10 ◌>>=◌
 abbrev pub ◌>>=◌ : {A B : Type 0} → Result A Stop → (A → Result B Stop) → Result B Stop
@@ -70,10 +70,18 @@ id_of msb lsb = if is_id msb lsb then Some (id_in msb lsb) else None
 abbrev pub credit_fits : Id → Bool
 credit_fits id = if nat_lt id.kind 16 then is_none id.log else is_some id.log
 
+-- the least credit
+abbrev pub is_least : Option ℕ → Bool
+is_least None = false
+is_least (Some log) = log == 0
+
 -- the ids that a field takes
 abbrev pub allows : IdRule → Id → Bool
 allows Named id = credit_fits id
 allows Movable id = credit_fits id && (nat_le 16 id.kind && nat_le id.kind 31)
+allows Credited id = is_some id.log && nat_le 16 id.kind
+allows Least id = is_least id.log && nat_le 16 id.kind
+allows Bare id = is_none id.log && nat_le 16 id.kind
 
 unfoldable pub id_at : IdRule → List ℕ → Result (Id × List ℕ) Stop
 id_at rule bytes = do
@@ -219,11 +227,68 @@ within bytes x = if nat_lt (length x.1 + 65000) (length bytes) then Err (stop_at
 unfoldable pub act_at : ActRule → List ℕ → Result (Act × List ℕ) Stop
 act_at rule bytes = long_act_at rule bytes >>= within bytes
 
+-- kept continuations, the first with its id at place
+unfoldable pub conts_at : ℕ → ℕ → List ℕ → Result (List Cont × List Id × List ℕ) Stop
+conts_at place zero bytes = Ok ([], [], bytes)
+conts_at place (suc n) bytes = do
+  first ← slot_at bytes
+  others ← conts_at (place + 1) n first.2
+  Ok (record { place = place; slot = first.1 } ∷ others.0, first.0 ∷ others.1, others.2)
+
+-- with what was read before
+abbrev pub joined_conts : List Cont → List Id → Result (List Cont × List Id × List ℕ) Stop → Result (List Cont × List Id × List ℕ) Stop
+joined_conts cs ids read = read >>= λ x. Ok (cs ++ x.0, ids ++ x.1, x.2)
+
+-- the end of a state, whose continuations' ids come last: at most 128 Refs and continuations together
+unfoldable pub kept_at : ℕ → List Value → List Id → List ℕ → Result (State × List ℕ) Stop
+kept_at drawn values ids bytes = do
+  n ← count_at (128 - length ids) bytes
+  conts ← conts_at (length ids) n.0 n.1
+  Ok (record { drawn = drawn; values = values; conts = conts.0; ids = ids ++ conts.1 }, conts.2)
+
+-- a state, whatever its length
+unfoldable pub long_state_at : List ℕ → Result (State × List ℕ) Stop
+long_state_at bytes = do
+  drawn ← number_at 4 bytes
+  values ← values_at 128 0 drawn.1
+  kept_at drawn.0 values.0 values.1 values.2
+
+unfoldable pub state_at : List ℕ → Result (State × List ℕ) Stop
+state_at bytes = long_state_at bytes >>= within bytes
+
+-- an id and a number
+unfoldable pub pair_at : IdRule → ℕ → List ℕ → Result (Id × ℕ × List ℕ) Stop
+pair_at rule n bytes = do
+  id ← id_at rule bytes
+  x ← number_at n id.1
+  Ok (id.0, x.0, x.1)
+
+unfoldable pub ask_at : List ℕ → Result (Parcel × List ℕ) Stop
+ask_at bytes = do
+  x ← pair_at Least 2 bytes
+  entry ← number_at 8 x.2
+  Ok (Ask x.0 x.1 entry.0, entry.1)
+
+unfoldable pub object_at : List ℕ → Result (Parcel × List ℕ) Stop
+object_at bytes = do
+  a ← act_at Moves bytes
+  s ← state_at a.1
+  Ok (Object a.0 s.0, s.1)
+
 -- a parcel by its kind
 unfoldable pub fields_at : ℕ → List ℕ → List ℕ → Result (Parcel × List ℕ) Stop
 fields_at kind bytes rest =
     if kind == 1 then (act_at Applied rest >>= λ a. Ok (Apply a.0, a.1))
-    else Err (stop_at bytes Kind)
+    else (if kind == 2 then (id_at Credited rest >>= λ x. Ok (Return x.0, x.1))
+    else (if kind == 3 then ask_at rest
+    else (if kind == 4 then (pair_at Credited 8 rest >>= λ x. Ok (Give x.0 x.1, x.2))
+    else (if kind == 5 then (pair_at Bare 2 rest >>= λ x. Ok (Cached x.0 x.1, x.2))
+    else (if kind == 6 then (act_at Moves rest >>= λ a. Ok (Move a.0, a.1))
+    else (if kind == 7 then (act_at Moves rest >>= λ a. Ok (Go a.0, a.1))
+    else (if kind == 8 then object_at rest
+    else (if kind == 9 then (pair_at Credited 2 rest >>= λ x. Ok (Landed x.0 x.1, x.2))
+    else (if kind == 10 then (id_at Bare rest >>= λ x. Ok (Free x.0, x.1))
+    else Err (stop_at bytes Kind))))))))))
 
 unfoldable pub parcel_at : List ℕ → Result (Parcel × List ℕ) Stop
 parcel_at bytes = do

@@ -5,7 +5,7 @@ use Rattle.std.specs.Int.{w64, cast_unsigned}
 use Rattle.byteorder.specs.Endian.{big_bytes}
 use Rattle.hpx_value.specs.Ids.{upper_half}
 use Rattle.hpx_value.specs.Values.{message_of}
-use Rattle.hpx_parcel.specs.Types.{Id, Value, Nothing, Flag, Int, Text, Ref, Fault, Ints, Cont, Act, Message, Parcel, Apply}
+use Rattle.hpx_parcel.specs.Types.{Id, Value, Nothing, Flag, Int, Text, Ref, Fault, Ints, Cont, State, Act, Message, Parcel, Apply, Return, Ask, Give, Cached, Move, Go, Object, Landed, Free}
 
 -- a whole number in so many bytes, the highest first
 unfoldable pub number_text : ℕ → ℕ → List ℕ
@@ -85,6 +85,31 @@ message_text m =
 unfoldable pub act_text : Act → List ℕ
 act_text a = number_text 2 a.origin ++ (number_text 8 a.serial ++ message_text (message_of a))
 
+-- kept continuations one after the other
+abbrev pub conts_text : List Id → List Cont → List ℕ
+conts_text ids [] = []
+conts_text ids (c ∷ cs) = slot_text ids c ++ conts_text (without_first ids) cs
+
+-- the ids that kept continuations leave
+abbrev pub ids_behind : List Id → List Cont → List Id
+ids_behind ids [] = ids
+ids_behind ids (c ∷ cs) = ids_behind (without_first ids) cs
+
+-- a state: the slots drawn, its values, and how many continuations it keeps, with these
+unfoldable pub state_text : State → List ℕ
+state_text s =
+    number_text 4 s.drawn
+    ++ (values_text s.ids s.values ++ (number_text 2 (length s.conts) ++ conts_text (ids_after s.ids s.values) s.conts))
+
 -- a parcel: version 1, its kind, and its fields
 unfoldable pub text_of : Parcel → List ℕ
 text_of (Apply a) = 1 ∷ 1 ∷ act_text a
+text_of (Return id) = 1 ∷ 2 ∷ id_text id
+text_of (Ask id asker entry) = 1 ∷ 3 ∷ (id_text id ++ (number_text 2 asker ++ number_text 8 entry))
+text_of (Give id entry) = 1 ∷ 4 ∷ (id_text id ++ number_text 8 entry)
+text_of (Cached id place) = 1 ∷ 5 ∷ (id_text id ++ number_text 2 place)
+text_of (Move a) = 1 ∷ 6 ∷ act_text a
+text_of (Go a) = 1 ∷ 7 ∷ act_text a
+text_of (Object a s) = 1 ∷ 8 ∷ (act_text a ++ state_text s)
+text_of (Landed id place) = 1 ∷ 9 ∷ (id_text id ++ number_text 2 place)
+text_of (Free id) = 1 ∷ 10 ∷ id_text id

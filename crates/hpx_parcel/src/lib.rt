@@ -1,9 +1,12 @@
 //! Frames: the one spelling of each parcel, and the parcel that bytes spell.
 #![tactic(auto)]
 
+mod acts;
+mod fields;
 pub mod laws;
 pub mod parcel;
 pub mod read;
 #[cfg(test)]
 mod tests;
+mod values;
 pub mod write;

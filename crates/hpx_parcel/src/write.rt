@@ -2,9 +2,9 @@ ghost use Rattle.std.specs.Prelude.{◌≡◌, ◌++◌, ◌∷◌, ◌<◌, ◌
 ghost use Rattle.std.specs.List.{AllByRecursion, flat_map};
 ghost use Rattle.std.specs.Int.{w64};
 ghost use Rattle.hpx_value.specs.Ids.{IsId};
-ghost use Rattle.hpx_value.specs.Shapes.{AreValues, IsAct, IsValue};
-ghost use Rattle.hpx_parcel.specs.Parcels.{IsParcel, FitsValue, FitsCont, FitsAct, FitsParcel, Spells};
-ghost use Rattle.hpx_parcel.specs.Spelling.{number_text, int_text, id_text, first_text, without_first, value_text, ids_left, each_text, ids_after, values_text, slot_text, cont_text, ids_past, message_text, act_text, text_of};
+ghost use Rattle.hpx_value.specs.Shapes.{AreValues, IsAct, IsState, IsValue};
+ghost use Rattle.hpx_parcel.specs.Parcels.{IsParcel, FitsValue, FitsCont, FitsSlot, FitsAct, FitsState, FitsParcel, Spells};
+ghost use Rattle.hpx_parcel.specs.Spelling.{number_text, int_text, id_text, first_text, without_first, value_text, ids_left, each_text, ids_after, values_text, slot_text, cont_text, ids_past, message_text, act_text, conts_text, ids_behind, state_text, text_of};
 ghost use Rattle.hpx_parcel.specs.Reading.{parcel_of};
 
 use crate::parcel::Parcel;
@@ -12,7 +12,7 @@ use byteorder::{BigEndian, ByteOrder};
 use hpx_value::gid::Gid;
 use hpx_value::items::{Bytes, Items};
 use hpx_value::memory::OutOfMemory;
-use hpx_value::value::{Act, Cont, Value};
+use hpx_value::value::{Act, Cont, State, Value};
 use std::alloc::Global;
 
 #[tactic(auto, unfolding(crate::specs::Spelling::number_text))]
@@ -234,6 +234,37 @@ fn put_act(out: &mut Vec<u8>, act: &Act) -> Result<(), OutOfMemory>
     Ok(())
 }
 
+/// Kept continuations one after the other, each with the next id. The ids after them are handed back.
+fn put_conts<'a>(
+    out: &mut Vec<u8>,
+    conts: &[Cont],
+    ids: &'a [Gid],
+) -> Result<&'a [Gid], OutOfMemory>
+    ensures text { OnOk result (out.new.items ≡ out.old.items ++ conts_text ids.now conts.now) }
+    ensures left { IfOk result (λ rest. rest.now ≡ ids_behind ids.now conts.now) }
+    ensures valid { IfOk result (λ rest. AllByRecursion IsId rest.now → AllByRecursion IsId ids.now) }
+    ensures fits { OnOk result (AllByRecursion FitsSlot conts.now) }
+{
+    let mut rest = ids;
+    for cont in conts {
+        rest = put_slot(out, cont, rest)?;
+    }
+    Ok(rest)
+}
+
+#[tactic(auto, unfolding(crate::specs::Spelling::state_text))]
+fn put_state(out: &mut Vec<u8>, state: &State) -> Result<(), OutOfMemory>
+    requires { IsState state.now }
+    ensures text { OnOk result (out.new.items ≡ out.old.items ++ state_text state.now) }
+    ensures fits { OnOk result (FitsState state.now) }
+{
+    put_u32(out, state.drawn)?;
+    let rest = put_values(out, state.values.as_slice(), state.ids.as_slice())?;
+    put_u16(out, state.conts.len() as u16)?;
+    put_conts(out, state.conts.as_slice(), rest)?;
+    Ok(())
+}
+
 #[tactic(auto, unfolding(crate::specs::Spelling::text_of))]
 fn put_parcel(out: &mut Vec<u8>, parcel: &Parcel) -> Result<(), OutOfMemory>
     requires { IsParcel parcel.now }
@@ -245,6 +276,48 @@ fn put_parcel(out: &mut Vec<u8>, parcel: &Parcel) -> Result<(), OutOfMemory>
         Parcel::Apply(act) => {
             out.push(1)?;
             put_act(out, act)
+        }
+        Parcel::Return(id) => {
+            out.push(2)?;
+            put_id(out, id)
+        }
+        Parcel::Ask { id, asker, entry } => {
+            out.push(3)?;
+            put_id(out, id)?;
+            put_u16(out, *asker)?;
+            put_u64(out, *entry)
+        }
+        Parcel::Give { id, entry } => {
+            out.push(4)?;
+            put_id(out, id)?;
+            put_u64(out, *entry)
+        }
+        Parcel::Cached { id, place } => {
+            out.push(5)?;
+            put_id(out, id)?;
+            put_u16(out, *place)
+        }
+        Parcel::Move(act) => {
+            out.push(6)?;
+            put_act(out, act)
+        }
+        Parcel::Go(act) => {
+            out.push(7)?;
+            put_act(out, act)
+        }
+        Parcel::Object { action, state } => {
+            out.push(8)?;
+            put_act(out, action)?;
+            put_state(out, state)
+        }
+        Parcel::Landed { id, place } => {
+            out.push(9)?;
+            put_id(out, id)?;
+            put_u16(out, *place)
+        }
+        Parcel::Free(id) => {
+            out.push(10)?;
+            put_id(out, id)
         }
     }
 }

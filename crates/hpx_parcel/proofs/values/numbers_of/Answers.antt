@@ -2,7 +2,7 @@ use Rattle.std.proofs.Common.{rules, FitsSigned, w64, to_z-of_z}
 use Rattle.std.proofs.lemmas.Result.{err_from_is_err_and}
 use Rattle.hpx_parcel.specs.Reading.{numbers_at}
 use Rattle.hpx_parcel.proofs.Loops.{numbers_go_on, numbers_end, numbers_done}
-use Rattle.hpx_parcel.proofs.read.numbers_of.Goals as goal
+use Rattle.hpx_parcel.proofs.values.numbers_of.Goals as goal
 
 pub returns-in_err-number : goal.returns-in_err-number
 returns-in_err-number c =

@@ -2,7 +2,7 @@ use Rattle.std.proofs.Common.{◌≡◌, ◌++◌, ◌∷◌, []}
 use Rattle.std.proofs.lemmas.List.{length-append}
 use Rattle.hpx_parcel.specs.Reading.{id_list}
 use Rattle.hpx_parcel.proofs.Loops.{each_goes_on, each_ends, each_done}
-use Rattle.hpx_parcel.proofs.read.each_of.Goals as goal
+use Rattle.hpx_parcel.proofs.values.each_of.Goals as goal
 
 pub returns-in-Err-clause-given : goal.returns-in-Err-clause-given
 returns-in-Err-clause-given c =

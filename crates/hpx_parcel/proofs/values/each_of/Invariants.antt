@@ -1,6 +1,6 @@
 use Rattle.std.proofs.Common.{◌≡◌, ◌≤◌, ◌-◌, [], length}
 use Rattle.hpx_parcel.specs.Reading.{each_at, joined}
-use Rattle.hpx_parcel.proofs.read.each_of.Given as goal
+use Rattle.hpx_parcel.proofs.values.each_of.Given as goal
 
 abbrev pub invariant-loop : goal.invariant-loop
 invariant-loop l = record {

@@ -12,7 +12,7 @@ use Rattle.hpx_parcel.specs.Types.{Id, Value, Nothing, Flag, Int, Text, Ref, Fau
 use Rattle.hpx_parcel.specs.Spelling.{number_text, int_text, id_text, value_text, ids_left}
 use Rattle.hpx_parcel.specs.Parcels.{HasRightCredit, FitsValue}
 use Rattle.hpx_parcel.specs.Reading.{◌>>=◌, stop_at, count_at, Named, credit_fits, id_at, int_at, text_at, flag_at, fault_at, numbers_at, ints_at, plain_at, value_at, id_list}
-use Rattle.hpx_parcel.proofs.Fields.{IsBytes, IsBytes-rest, bind_ok, test_ok, chosen, ok_is, Takes, Takes-then, Takes-byte, count_takes, count_again, id_takes, id_again, int_takes, int_again, text_takes, text_again, flag_takes, flag_again, fault_takes, fault_again}
+use Rattle.hpx_parcel.proofs.FieldLaws.{IsBytes, IsBytes-rest, bind_ok, test_ok, chosen, ok_is, Takes, Takes-then, Takes-byte, count_takes, count_again, id_takes, id_again, int_takes, int_again, text_takes, text_again, flag_takes, flag_again, fault_takes, fault_again}
 
 -- ---- numbers with a sign, one after the other
 
@@ -114,8 +114,8 @@ plain_ints rest x fits e =
     subst (λ (y : Value × List ℕ). Plain (6 ∷ rest) y.0 y.1) (ok_is (Ints a.0.0, a.0.1) x a.2) made
 
 -- by its tag
-go : (tag b : ℕ) {A : Type 0} (x y z : A) (P : ℕ → Type 0) → cond (eqb tag b) x y ≡ z → (x ≡ z → P b) → (y ≡ z → P tag) → P tag
-go tag b x y z P e here other =
+pub by_tag : (tag b : ℕ) {A : Type 0} (x y z : A) (P : ℕ → Type 0) → cond (eqb tag b) x y ≡ z → (x ≡ z → P b) → (y ≡ z → P tag) → P tag
+by_tag tag b x y z P e here other =
     elim (chosen (eqb tag b) x y z e) [
       | inl w ↦ subst P (sym (eqb-true _ _ w.0)) (here w.1)
       | inr w ↦ other w.1
@@ -125,12 +125,12 @@ pub plain_takes : (tag : ℕ) (bytes rest : List ℕ) (x : Value × List ℕ) �
 unfolding plain_at
 plain_takes tag bytes rest x fits e =
     let P : ℕ → Type 0 = λ t. Plain (t ∷ rest) x.0 x.1 in
-    go tag 0 _ _ _ P e (λ h. subst (λ (y : Value × List ℕ). Plain (0 ∷ rest) y.0 y.1) (ok_is (Nothing, rest) x h) (plain_nothing rest fits))
-    (λ e1. go tag 1 _ _ _ P e1 (plain_flag rest x fits)
-    (λ e2. go tag 2 _ _ _ P e2 (plain_int rest x fits)
-    (λ e3. go tag 3 _ _ _ P e3 (plain_text rest x fits)
-    (λ e5. go tag 5 _ _ _ P e5 (plain_fault rest x fits)
-    (λ e6. go tag 6 _ _ _ P e6 (plain_ints rest x fits)
+    by_tag tag 0 _ _ _ P e (λ h. subst (λ (y : Value × List ℕ). Plain (0 ∷ rest) y.0 y.1) (ok_is (Nothing, rest) x h) (plain_nothing rest fits))
+    (λ e1. by_tag tag 1 _ _ _ P e1 (plain_flag rest x fits)
+    (λ e2. by_tag tag 2 _ _ _ P e2 (plain_int rest x fits)
+    (λ e3. by_tag tag 3 _ _ _ P e3 (plain_text rest x fits)
+    (λ e5. by_tag tag 5 _ _ _ P e5 (plain_fault rest x fits)
+    (λ e6. by_tag tag 6 _ _ _ P e6 (plain_ints rest x fits)
     (λ h. absurd (cc h)))))))
 
 pub plain_any : (ids : List Id) (v : Value) → IsPlain v → value_text ids v ≡ value_text [] v

@@ -9,9 +9,9 @@ use Rattle.hpx_value.specs.Shapes.{IsCount, AreValues, places_of, listed, values
 use Rattle.hpx_parcel.specs.Types.{Id, Value, Cont, Message, Act, BadValue}
 use Rattle.hpx_parcel.specs.Spelling.{number_text, id_text, first_text, values_text, slot_text, cont_text, message_text, act_text}
 use Rattle.hpx_parcel.specs.Parcels.{HasRightCredit, FitsValue, FitsCont}
-use Rattle.hpx_parcel.specs.Reading.{◌>>=◌, stop_at, number_at, IdRule, ActRule, Named, Movable, credit_fits, allows, target_rule, takes_code, takes_args, id_at, id_list, values_at, slot_at, cont_at, ended_at, call_at, message_at, long_act_at, within, act_at}
-use Rattle.hpx_parcel.proofs.Fields.{IsBytes, IsBytes-rest, bind_ok, guard_ok, test_ok, chosen, ok_is, Takes, Takes-then, Takes-byte, wide2, wide4, wide8, number_takes, number_again, length-number, id_takes, id_again}
-use Rattle.hpx_parcel.proofs.Values.{credit_is, credit_back}
+use Rattle.hpx_parcel.specs.Reading.{◌>>=◌, stop_at, number_at, IdRule, ActRule, Named, Applied, Moves, credit_fits, allows, target_rule, takes_code, takes_args, id_at, id_list, values_at, slot_at, cont_at, ended_at, call_at, message_at, long_act_at, within, act_at}
+use Rattle.hpx_parcel.proofs.FieldLaws.{IsBytes, IsBytes-rest, bind_ok, guard_ok, test_ok, chosen, ok_is, Takes, Takes-then, Takes-byte, wide2, wide4, wide8, number_takes, number_again, length-number, id_takes, id_again}
+use Rattle.hpx_parcel.proofs.ValueLaws.{credit_is, credit_back}
 use Rattle.hpx_parcel.proofs.Each.{Given, values_take, values_again, length-values, length-id, ids_after_own}
 
 -- ---- slots and continuations
@@ -133,15 +133,15 @@ pub record IsFine (rule : ActRule) (m : Message) : Type 0 where
 abbrev pub made : ℕ → List Value → Option Cont → Id → List Id → Option Id → Message
 made code args cont target ids o = record { code = code; args = args; cont = cont; ids = target ∷ (ids ++ id_list o) }
 
-all-append : (P : Id → Type 0) (xs ys : List Id) → AllByRecursion P xs → AllByRecursion P ys → AllByRecursion P (xs ++ ys)
+pub all-append : (P : Id → Type 0) (xs ys : List Id) → AllByRecursion P xs → AllByRecursion P ys → AllByRecursion P (xs ++ ys)
 all-append P [] ys p q = q
 all-append P (x ∷ xs) ys p q = (p.0, all-append P xs ys p.1 q)
 
-all-front : (P : Id → Type 0) (xs ys : List Id) → AllByRecursion P (xs ++ ys) → AllByRecursion P xs
+pub all-front : (P : Id → Type 0) (xs ys : List Id) → AllByRecursion P (xs ++ ys) → AllByRecursion P xs
 all-front P [] ys p = tt
 all-front P (x ∷ xs) ys p = (p.0, all-front P xs ys p.1)
 
-all-back : (P : Id → Type 0) (xs ys : List Id) → AllByRecursion P (xs ++ ys) → AllByRecursion P ys
+pub all-back : (P : Id → Type 0) (xs ys : List Id) → AllByRecursion P (xs ++ ys) → AllByRecursion P ys
 all-back P [] ys p = p
 all-back P (x ∷ xs) ys p = all-back P xs ys p.1
 
@@ -151,9 +151,9 @@ unfolding message_text
 made_text code args cont target ids o many =
     ap (λ (js : List Id). id_text target ++ (number_text 2 code ++ (values_text (ids ++ id_list o) args ++ cont_text js cont))) (ids_after_own args ids (id_list o) many)
 
-allowed_credit : (rule : IdRule) (id : Id) → allows rule id ≡ true → HasRightCredit id
-allowed_credit Named id e = credit_is id e
-allowed_credit Movable id e = credit_is id ((and_parts (credit_fits id) (leb 16 id.kind && leb id.kind 31) e).0)
+target_credit : (rule : ActRule) (id : Id) → allows (target_rule rule) id ≡ true → HasRightCredit id
+target_credit Applied id e = credit_is id e
+target_credit Moves id e = credit_is id ((and_parts (credit_fits id) (leb 16 id.kind && leb id.kind 31) e).0)
 
 call_takes : (rule : ActRule) (target : Id) (bytes : List ℕ) (x : Message × List ℕ) → IsBytes bytes → IsId target → allows (target_rule rule) target ≡ true
     → call_at rule target bytes ≡ Ok x → (part : List ℕ) × (message_text x.0 ≡ id_text target ++ part) × Takes bytes part x.1 × IsFine rule x.0
@@ -189,7 +189,7 @@ call_takes rule target bytes x fits valid allowed e =
       args_fit = read.fits;
       cont_fits = t2.fits;
       valid = (valid, all-append IsId b.0.1 (id_list o) read.valid t2.valid);
-      credit = (allowed_credit (target_rule rule) target allowed, all-append HasRightCredit b.0.1 (id_list o) read.credit t2.credit);
+      credit = (target_credit rule target allowed, all-append HasRightCredit b.0.1 (id_list o) read.credit t2.credit);
       target = allowed;
       code = g.0;
       args = h.0;
