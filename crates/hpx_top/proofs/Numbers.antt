@@ -10,16 +10,16 @@ use Rattle.std.specs.Int.{w64}
 use Rattle.std.specs.List.{starts_with}
 use Rattle.std.specs.Str.{all_ascii_digits, IsUtf8, IsAscii}
 use Rattle.std.specs.Str.Parse.{ParsesSigned, digits_value}
-use Rattle.hpx_top.specs.Console.{is_some, fits, signed, number_of}
+use Rattle.hpx_top.specs.Console.{is_filled, fits, signed, number_of}
 
 digits : IsNumeralModel (λ ds. all_ascii_digits ds ≡ true) (digits_value 10)
 digits = numerals_by_value _ tells_all_ascii_digits
 
-some_from_length : (ds : List ℕ) → 0 < length ds → is_some ds ≡ true
+some_from_length : (ds : List ℕ) → 0 < length ds → is_filled ds ≡ true
 some_from_length [] h = absurd (omega arith)
 some_from_length (d ∷ ds) h = refl
 
-length_from_some : (ds : List ℕ) → is_some ds ≡ true → 0 < length ds
+length_from_some : (ds : List ℕ) → is_filled ds ≡ true → 0 < length ds
 length_from_some [] h = cc
 length_from_some (d ∷ ds) h = omega arith
 
@@ -32,18 +32,18 @@ read_signed : {E : Type 0} (sign : ℕ → ℤ) (ds : List ℕ) (r : Result ℤ 
     → (Q → fits (sign (digits_value 10 ds)) ≡ true) → (fits (sign (digits_value 10 ds)) ≡ true → Q)
     → result_ok r ≡ signed sign ds
 read_signed sign ds (Ok z) Q h in_range back =
-    let some : is_some ds ≡ true = some_from_length ds h.0.1 in
-    let good : (is_some ds && all_ascii_digits ds) ≡ true = both _ _ some h.0.0 in
+    let some : is_filled ds ≡ true = some_from_length ds h.0.1 in
+    let good : (is_filled ds && all_ascii_digits ds) ≡ true = both _ _ some h.0.0 in
     let fit : fits (sign (digits_value 10 ds)) ≡ true = in_range h.0.2 in
     rw good (rw fit (ap Some h.1))
-read_signed sign ds (Err e) Q h in_range back = read_bad (is_some ds && all_ascii_digits ds) refl (fits (sign (digits_value 10 ds))) refl
+read_signed sign ds (Err e) Q h in_range back = read_bad (is_filled ds && all_ascii_digits ds) refl (fits (sign (digits_value 10 ds))) refl
   where
-    read_bad : (good : Bool) → (is_some ds && all_ascii_digits ds) ≡ good → (fit : Bool) → fits (sign (digits_value 10 ds)) ≡ fit
+    read_bad : (good : Bool) → (is_filled ds && all_ascii_digits ds) ≡ good → (fit : Bool) → fits (sign (digits_value 10 ds)) ≡ fit
         → None ≡ signed sign ds
     read_bad false g fit f = rw g refl
     read_bad true g false f = rw g (rw f refl)
     read_bad true g true f =
-        let parts : (is_some ds ≡ true) × (all_ascii_digits ds ≡ true) = and_parts _ _ g in
+        let parts : (is_filled ds ≡ true) × (all_ascii_digits ds ≡ true) = and_parts _ _ g in
         absurd (h (parts.1, length_from_some ds parts.0, back f))
 
 fits_pos : (n : ℕ) → n < 2 ^ 63 → fits (pos n) ≡ true
@@ -85,11 +85,11 @@ ascii_more b bs h more (suc i) = more i
 
 -- no sign and digits, where these are not ASCII
 no_digits : (sign : ℕ → ℤ) (ds : List ℕ) → (IsAscii ds → ⊥) → None ≡ signed sign ds
-no_digits sign ds h = by_test (is_some ds && all_ascii_digits ds) refl
+no_digits sign ds h = by_test (is_filled ds && all_ascii_digits ds) refl
   where
-    by_test : (good : Bool) → (is_some ds && all_ascii_digits ds) ≡ good → None ≡ signed sign ds
+    by_test : (good : Bool) → (is_filled ds && all_ascii_digits ds) ≡ good → None ≡ signed sign ds
     by_test false g = rw g refl
-    by_test true g = let parts : (is_some ds ≡ true) × (all_ascii_digits ds ≡ true) = and_parts _ _ g in
+    by_test true g = let parts : (is_filled ds ≡ true) × (all_ascii_digits ds ≡ true) = and_parts _ _ g in
         absurd (h (IsAscii-from_digits ds (digits.to ds parts.1)))
 
 -- bytes that are no text are no number

@@ -9,7 +9,7 @@ use Rattle.hpx_journal.specs.declared.entry.Entry.{Entry}
 use Rattle.hpx_journal.specs.Entries.{Rules}
 use Rattle.hpx_journal.specs.Whole.{Space, run}
 use Rattle.hpx_journal.specs.Sessions.{IsSession, shown}
-use Rattle.hpx_top.specs.Console.{is_some, bad_command}
+use Rattle.hpx_top.specs.Console.{is_filled, bad_command}
 use Rattle.hpx_top.specs.PlainText.{is_long, is_quit, is_newline, IsPiece, IsFirstLine, lines_in, before_quit, lines_of, quits, fed, prompt, line_text, lines_text, after_line, after_lines, first_of, others_of, written}
 
 -- ---- lines
@@ -63,7 +63,7 @@ quits-first input line rest more h =
 
 -- an input without a newline
 pub lines_in-last : (piece : List ℕ) → IsPiece piece
-    → lines_in (slice_split is_newline piece) ≡ (if is_some piece then strip_carriage_return piece ∷ [] else [])
+    → lines_in (slice_split is_newline piece) ≡ (if is_filled piece then strip_carriage_return piece ∷ [] else [])
 lines_in-last piece h = ap lines_in (slice_split_none is_newline piece (all_other piece h))
 
 -- ---- lines fed

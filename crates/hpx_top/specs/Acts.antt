@@ -21,6 +21,7 @@ abbrev pub line_effect : ℕ → List Value → Effect
 line_effect drawn (Text (mark ∷ line) ∷ []) = if mark == 97 then command_effect drawn (command_of line) else Unlisted
 line_effect drawn _ = Unlisted
 
+-- what the session prints for an answer
 abbrev pub answer_texts : Value → List (List ℕ)
 answer_texts (Int z) = number_text z ∷ []
 answer_texts (Fault code) = fault_text code ∷ []
@@ -45,14 +46,17 @@ held [] = Some (pos 0)
 held (Int z ∷ []) = Some z
 held _ = None
 
+-- a sum that does not fit is answered Fault 1, and nothing changes
 abbrev pub add_effect : List Value → ℤ → List Value → Effect
 add_effect values z (Int amount ∷ []) = if fits (z +ℤ amount) then Keeps (Int (z +ℤ amount) ∷ []) Nothing else Keeps values (Fault 1)
 add_effect values z _ = Unlisted
 
+-- QUERY has no arguments
 abbrev pub query_effect : List Value → ℤ → List Value → Effect
 query_effect values z [] = Keeps values (Int z)
 query_effect values z (arg ∷ args) = Unlisted
 
+-- what the tally does, by the number that it holds
 abbrev pub tally_effect : Option ℤ → List Value → ℕ → List Value → Effect
 tally_effect None values code args = Unlisted
 tally_effect (Some z) values code args =
@@ -60,28 +64,31 @@ tally_effect (Some z) values code args =
 
 -- ---- every object
 
-abbrev pub is_none : {X : Type 0} → List X → Bool
-is_none [] = true
-is_none (x ∷ xs) = false
+-- no elements
+abbrev pub is_empty : {X : Type 0} → List X → Bool
+is_empty [] = true
+is_empty (x ∷ xs) = false
 
 -- an object that names no other
 abbrev pub is_alone : State → Bool
-is_alone s = is_none s.conts && is_none s.ids
+is_alone s = is_empty s.conts && is_empty s.ids
 
 -- a session keeps no more than how many slots it has drawn
 abbrev pub is_session : State → Bool
-is_session s = is_alone s && (is_none s.values && nat_le s.drawn 4000000000)
+is_session s = is_alone s && (is_empty s.values && nat_le s.drawn 4000000000)
 
 -- there are from 1 to 64 localities, and this is one of them
 abbrev pub is_place : ℕ → ℕ → Bool
 is_place n here = nat_lt here n && nat_le n 64
 
+-- what an action does at a locality that there is
 abbrev pub effect_on : ℕ → State → Act → Effect
 effect_on kind s a =
     if (kind == 1) && is_session s then session_effect s.drawn a.code a.args a.cont
     else if (kind == 6) && is_alone s then tally_effect (held s.values) s.values a.code a.args
     else Unlisted
 
+-- what an action does
 abbrev pub effect_of : ℕ → ℕ → ℕ → State → Act → Effect
 effect_of n kind here s a = if is_place n here then effect_on kind s a else Unlisted
 
@@ -101,6 +108,7 @@ abbrev pub answers : State → Option Cont → Value → List Reply
 answers s None value = []
 answers s (Some cont) value = record { cont = length s.conts; value = value } ∷ []
 
+-- what is sent to the tally, at locality 1 mod n
 abbrev pub question : ℕ → ℕ → ℕ → List Value → Sending
 question n drawn code args = record { target = Root 6 (1 % n); code = code; args = args; cont = Here drawn }
 

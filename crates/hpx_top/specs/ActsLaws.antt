@@ -211,12 +211,12 @@ tally_fine kind s a k none (Some z) e =
     either_fine kind s a (a.code == 16) _ _ (λ c. add_fine kind s a k none h z a.args)
     (λ c. either_fine kind s a (a.code == 17) _ _ (λ d. query_fine kind s a k none h z a.args) (λ d. tt))
 
-none_left : {X : Type 0} (xs : List X) → Acts.is_none xs ≡ true → xs ≡ []
+none_left : {X : Type 0} (xs : List X) → Acts.is_empty xs ≡ true → xs ≡ []
 none_left [] e = refl
 none_left (x ∷ xs) e = cc
 
 alone_conts : (s : State) → Acts.is_alone s ≡ true → s.conts ≡ []
-alone_conts s e = none_left s.conts (and_parts (Acts.is_none s.conts) (Acts.is_none s.ids) e).0
+alone_conts s e = none_left s.conts (and_parts (Acts.is_empty s.conts) (Acts.is_empty s.ids) e).0
 
 effect_fine : (n kind here : ℕ) (s : State) (a : Act) → IsFine kind s a (Acts.effect_of n kind here s a)
 effect_fine n kind here s a =
@@ -225,7 +225,7 @@ effect_fine n kind here s a =
     session : ((kind == 1) && Acts.is_session s) ≡ true → IsFine kind s a (Acts.session_effect s.drawn a.code a.args a.cont)
     session e =
         let parts = and_parts (kind == 1) (Acts.is_session s) e in
-        let alone = (and_parts (Acts.is_alone s) (Acts.is_none s.values && nat_le s.drawn 4000000000) parts.1).0 in
+        let alone = (and_parts (Acts.is_alone s) (Acts.is_empty s.values && nat_le s.drawn 4000000000) parts.1).0 in
         session_fine kind s a (eqb-true kind 1 parts.0) (alone_conts s alone) a.cont refl
 
     tally : ((kind == 6) && Acts.is_alone s) ≡ true → IsFine kind s a (Acts.tally_effect (Acts.held s.values) s.values a.code a.args)
@@ -515,14 +515,14 @@ keeps_laws n kind here s a some few place state act = effect_keeps n kind s a st
 
 -- ---- neither names nor credits matter
 
-is_none-map : {X Y : Type 0} (f : X → Y) (xs : List X) → Acts.is_none (map f xs) ≡ Acts.is_none xs
-is_none-map f [] = refl
-is_none-map f (x ∷ xs) = refl
+is_empty-map : {X Y : Type 0} (f : X → Y) (xs : List X) → Acts.is_empty (map f xs) ≡ Acts.is_empty xs
+is_empty-map f [] = refl
+is_empty-map f (x ∷ xs) = refl
 
 pub is_blind : (n kind here : ℕ) (s : State) (a : Act)
     → Acts.act_of n kind here s a ≡ Acts.act_of n kind here (bare_state s) (named 0 0 (message_of (bare_act a)))
 unfolding Acts.act_of
-is_blind n kind here s a = rw (is_none-map bare s.ids) refl
+is_blind n kind here s a = rw (is_empty-map bare s.ids) refl
 
 -- ---- only the session prints
 

@@ -14,13 +14,14 @@ use Rattle.hpx_top.specs.declared.acts.console.Command.TheVariants.{Add, Query, 
 abbrev pub is_blank : ℕ → Bool
 is_blank b = (b == 32) || (b == 9)
 
-abbrev pub is_some : List ℕ → Bool
-is_some [] = false
-is_some (b ∷ bs) = true
+-- at least one byte
+abbrev pub is_filled : List ℕ → Bool
+is_filled [] = false
+is_filled (b ∷ bs) = true
 
 -- the runs of bytes between blanks
 abbrev pub words_of : List ℕ → List (List ℕ)
-words_of line = filter is_some (slice_split is_blank line)
+words_of line = filter is_filled (slice_split is_blank line)
 
 -- ---- numbers
 
@@ -29,12 +30,13 @@ abbrev pub fits : ℤ → Bool
 fits (pos n) = nat_lt n (2 ^ 63)
 fits (negsuc n) = nat_lt n (2 ^ 63)
 
+-- the number, where it fits
 abbrev pub if_fits : ℤ → Option ℤ
 if_fits z = if fits z then Some z else None
 
 -- one or more digits, and the number under a sign
 abbrev pub signed : (ℕ → ℤ) → List ℕ → Option ℤ
-signed sign digits = if is_some digits && all_ascii_digits digits then if_fits (sign (digits_value 10 digits)) else None
+signed sign digits = if is_filled digits && all_ascii_digits digits then if_fits (sign (digits_value 10 digits)) else None
 
 -- an optional minus, and digits
 abbrev pub number_of : List ℕ → Option ℤ
@@ -43,6 +45,7 @@ number_of (b ∷ bs) = if b == 45 then signed (λ n. neg_ℤ (pos n)) bs else si
 
 -- ---- commands
 
+-- what `add` asks for, by its number
 abbrev pub amount_of : Option ℤ → Command
 amount_of None = BadNumber
 amount_of (Some z) = Add z
@@ -53,14 +56,17 @@ command_in (word ∷ []) = if bytes_eq word (codes "query") then Query else BadC
 command_in (word ∷ amount ∷ []) = if bytes_eq word (codes "add") then amount_of (number_of amount) else BadCommand
 command_in _ = BadCommand
 
+-- the command that a line is
 abbrev pub command_of : List ℕ → Command
 command_of line = command_in (words_of line)
 
 -- ---- texts
 
+-- printed for an amount that is no number
 abbrev pub bad_number : List ℕ
 bad_number = codes "error: bad number\n"
 
+-- printed for a line that is no command
 abbrev pub bad_command : List ℕ
 bad_command = codes "error: bad command\n"
 
@@ -84,5 +90,6 @@ fault_word code =
     else if code == 11 then codes "wrong kind"
     else []
 
+-- printed for a fault
 abbrev pub fault_text : ℕ → List ℕ
 fault_text code = codes "error: " ++ fault_word code ++ codes "\n"

@@ -5,7 +5,7 @@ use Rattle.std.specs.Str.{bytes_eq}
 use Rattle.std.specs.Str.Lines.{strip_carriage_return}
 use Rattle.hpx_top.specs.declared.acts.console.Command.{Command}
 use Rattle.hpx_top.specs.declared.acts.console.Command.TheVariants.{Add, Query, BadNumber, BadCommand}
-use Rattle.hpx_top.specs.Console.{is_some, words_of, command_of, fits, bad_number, bad_command, number_text, fault_text}
+use Rattle.hpx_top.specs.Console.{is_filled, words_of, command_of, fits, bad_number, bad_command, number_text, fault_text}
 
 -- ---- lines
 
@@ -13,6 +13,7 @@ use Rattle.hpx_top.specs.Console.{is_some, words_of, command_of, fits, bad_numbe
 abbrev pub is_long : List ℕ → Bool
 is_long line = nat_lt 1024 (length line)
 
+-- the one word `quit`
 abbrev pub are_quit : List (List ℕ) → Bool
 are_quit (word ∷ []) = bytes_eq word (codes "quit")
 are_quit _ = false
@@ -21,13 +22,14 @@ are_quit _ = false
 abbrev pub is_quit : List ℕ → Bool
 is_quit line = not (is_long line) && are_quit (words_of line)
 
+-- the byte 10
 abbrev pub is_newline : ℕ → Bool
 is_newline b = b == 10
 
 -- the lines in the pieces between newlines: a last empty piece is none, and a carriage return at the end is dropped
 abbrev pub lines_in : List (List ℕ) → List (List ℕ)
 lines_in [] = []
-lines_in (piece ∷ []) = if is_some piece then strip_carriage_return piece ∷ [] else []
+lines_in (piece ∷ []) = if is_filled piece then strip_carriage_return piece ∷ [] else []
 lines_in (piece ∷ next ∷ pieces) = strip_carriage_return piece ∷ lines_in (next ∷ pieces)
 
 -- no newline is among the bytes
@@ -61,6 +63,7 @@ fed (line ∷ lines) = if is_long line then fed lines else (97 ∷ line) ∷ fed
 
 -- ---- one number
 
+-- the sum, where it fits
 abbrev pub sum_kept : ℤ → ℤ → ℤ
 sum_kept v z = if fits (v +ℤ z) then v +ℤ z else v
 
@@ -93,9 +96,11 @@ line_text v line = if is_long line then bad_command else command_text v (command
 
 -- ---- the text of a session
 
+-- what a console prints first
 abbrev pub commands : List ℕ
 commands = codes "commands: reset, add [amount], query, help, quit\n"
 
+-- what stands before a line
 abbrev pub prompt : List ℕ
 prompt = codes "> "
 
@@ -115,6 +120,7 @@ abbrev pub first_of : List (List (List ℕ)) → List ℕ
 first_of [] = []
 first_of (text ∷ texts) = concat text
 
+-- the texts behind the first
 abbrev pub others_of : List (List (List ℕ)) → List (List (List ℕ))
 others_of [] = []
 others_of (text ∷ texts) = texts
