@@ -59,9 +59,9 @@ module _ (r : Rules) (w : Space) (whole : IsWhole r w) where
   not_foreign_in : (k : ℕ) → k < r.localities → (p : Option Parcel)
       → ((a : Name) → sum_by (act_counts a) (acts_in p) ≤ sum_by (frame_acts r a) w.road)
       → IsForeignIn (w.places k) p → ⊥
-  not_foreign_in k h None road f = f
   not_foreign_in k h (Some (Apply act)) road f =
       not_foreign_act k h act (omega (arith, road (name_of act), one_named act)) f
+  not_foreign_in k h _ road f = f
 
   pub not_foreign : (k : ℕ) → k < r.localities → (e : Event) → Covers same_frame w.road (arrives_at k e)
       → IsForeign r (w.places k) e → ⊥

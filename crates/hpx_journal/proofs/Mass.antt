@@ -81,13 +81,13 @@ due_messages f (PrintDue b ∷ rest) = omega (arith, sum_by-cons (due_mass f) (P
 out_mass : (s : Local) (p : Option Parcel) → GoesOut s p → (f : Message → ℕ)
     → sum_by (act_mass f) (minus is_act s.waiting (map name_of (acts_in p))) + sum_by (act_mass f) (acts_in p)
     ≡ sum_by (act_mass f) s.waiting
-out_mass s None h f = absurd h
 out_mass s (Some (Apply act)) h f =
     omega (
       arith,
       sum_by-cons (act_mass f) (bare_act act) [],
       sum_by-without-find (act_mass f) (is_act (name_of act)) s.waiting (bare_act act) h,
     )
+out_mass s _ h f = absurd h
 
 done_mass : (f : Message → ℕ) (fired : Option Act) (act : Act) → fired ≡ Some act → sum_by f (done_message fired) ≡ f (message_of act)
 done_mass f fired act h = rw h (omega (arith, sum_by-cons f (message_of act) []))

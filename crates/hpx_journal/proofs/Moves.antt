@@ -12,8 +12,8 @@ use Rattle.hpx_journal.proofs.Same.{same_name-true}
 
 -- what leaves the waiting actions was among them
 goes_out_covers : (s : Local) (p : Option Parcel) → GoesOut s p → Covers is_act s.waiting (map name_of (acts_in p))
-goes_out_covers s None h = tt
 goes_out_covers s (Some (Apply act)) h = (list_any-find (is_act (name_of act)) s.waiting (bare_act act) h, tt)
+goes_out_covers s _ h = absurd h
 
 pub leaves_covered : (r : Rules) (s : Local) (e : Event) → Row r s e → Covers is_act s.waiting (leaves r e)
 leaves_covered r s (Fire a) h = (list_any-find (is_act a) s.waiting h.0 h.2, tt)

@@ -71,8 +71,8 @@ done_moves r s _ h b = refl
 
 parcel_leaves : (b : Name) (p : Option Parcel)
     → sum_by (name_counts b) (map name_of (acts_in p)) ≡ 0 + sum_by (act_counts b) (acts_in p)
-parcel_leaves b None = refl
 parcel_leaves b (Some (Apply act)) = omega arith
+parcel_leaves b _ = refl
 
 leaves_split : (r : Rules) (e : Event) (b : Name)
     → sum_by (name_counts b) (leaves r e) ≡ sum_by (name_counts b) (fire_names e) + sum_by (frame_acts r b) (sends e)

@@ -39,8 +39,8 @@ any_all P f (x ∷ xs) h any = elim (cases_Bool (same_frame f x)) [
 
 out_spelled : (r : Rules) (s : Local) (to : ℕ) (bytes : List ℕ) (p : Option Parcel) → r.parcel_of bytes ≡ p → to < r.localities
     → GoesOut s p → IsSpelled r (to, bytes)
-out_spelled r s to bytes None e h g = absurd g
 out_spelled r s to bytes (Some (Apply act)) e h g = record { place = h; act = act; spells = e }
+out_spelled r s to bytes _ e h g = absurd g
 
 sends_spelled : (r : Rules) (s : Local) (e : Event) → Row r s e → AllByRecursion (IsSpelled r) (sends e)
 sends_spelled r s (Out to bytes) row = (out_spelled r s to bytes (r.parcel_of bytes) refl row.0 row.2, tt)

@@ -156,8 +156,8 @@ module _ (r : Rules) where
   tail_rooted (x ∷ xs) h = h.1
 
   goes_out_rooted : (s : Local) (p : Option Parcel) → GoesOut s p → ActsAreRooted size s.waiting → ActsAreRooted size (acts_in p)
-  goes_out_rooted s None g h = absurd g
   goes_out_rooted s (Some (Apply act)) g h = (find-all ActIsRooted (is_act (name_of act)) s.waiting (bare_act act) h g, tt)
+  goes_out_rooted s _ g h = absurd g
 
   sends_are_rooted : (s : Local) (e : Event) → Row r s e → ActsAreRooted size s.waiting → AllByRecursion (FrameIsRooted r) (sends e)
   sends_are_rooted s (Out to bytes) row h = (goes_out_rooted s (r.parcel_of bytes) row.2 h, tt)

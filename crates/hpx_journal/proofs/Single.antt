@@ -39,8 +39,8 @@ comes_once s act b single native = elim (cases_Bool (same_name b (name_of act)))
 
 in_once : (s : Local) (p : Option Parcel) (b : Name) → IsSingle s → (IsForeignIn s p → ⊥)
     → present b s + undrawn_at b s.here s.serial + sum_by (act_counts b) (acts_in p) ≤ 1
-in_once s None b single native = omega (arith, single.once b)
 in_once s (Some (Apply act)) b single native = comes_once s act b single native
+in_once s _ b single native = omega (arith, single.once b)
 
 arrives_once : (r : Rules) (s : Local) (e : Event) (b : Name) → IsSingle s → (IsForeign r s e → ⊥)
     → present b s + undrawn_at b s.here s.serial + sum_by (frame_acts r b) (arrives_at s.here e) ≤ 1

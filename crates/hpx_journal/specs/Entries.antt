@@ -26,10 +26,10 @@ name_of act = record { origin = act.origin; serial = act.serial }
 abbrev pub target_of : Act → Id
 target_of act = id_at act.ids 0
 
--- the actions in a parcel, with bare ids
+-- the actions in a parcel that may be sent so far, with bare ids
 abbrev pub acts_in : Option Parcel → List Act
-acts_in None = []
 acts_in (Some (Apply act)) = bare_act act ∷ []
+acts_in _ = []
 
 -- the action that a line is: code 4, LINE, on the session
 abbrev pub line_act : Name → List ℕ → Act

@@ -139,8 +139,8 @@ TurnAllows s _ = s.due ≡ []
 
 -- the parcel that goes out is here
 abbrev pub GoesOut : Local → Option Parcel → Type 0
-GoesOut s None = ⊥
 GoesOut s (Some (Apply act)) = find (is_act (name_of act)) s.waiting ≡ Some (bare_act act)
+GoesOut s _ = ⊥
 
 -- the row of an entry: where it is allowed
 abbrev pub Row : Rules → Local → Event → Type 0
@@ -177,7 +177,7 @@ IsForeignAct s act = (1 ≤ present (name_of act) s) ⊎ ((act.origin ≡ s.here
 
 abbrev pub IsForeignIn : Local → Option Parcel → Type 0
 IsForeignIn s (Some (Apply act)) = IsForeignAct s act
-IsForeignIn s None = ⊥
+IsForeignIn s _ = ⊥
 
 abbrev pub IsForeign : Rules → Local → Event → Type 0
 IsForeign r s (In bytes) = IsForeignIn s (r.parcel_of bytes)
