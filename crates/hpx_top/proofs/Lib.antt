@@ -15,3 +15,4 @@ pub mod SoundLemmas
 pub mod AwayLemmas
 pub mod Booted
 pub mod TurnLemmas
+pub mod Posted

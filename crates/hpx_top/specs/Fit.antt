@@ -1,5 +1,5 @@
 -- What a node keeps is well formed.
-use Rattle.std.specs.Prelude.{ℕ, ◌≡◌}
+use Rattle.std.specs.Prelude.{ℕ, [], None, ◌≡◌}
 use Rattle.std.specs.List.{AllByRecursion}
 use Rattle.hpx_value.specs.Shapes.{IsState}
 use Rattle.hpx_value.specs.Values.{named}
@@ -16,9 +16,15 @@ pub record IsKept (x : Standing) : Type 0 where
   pub state : IsState x.state
   pub credit : AllByRecursion HasRightCredit x.state.ids
 
--- the action in a parcel
+-- the action in a parcel that carries one
 abbrev pub applied : Parcel → Act
 applied (Apply act) = act
+applied _ = record { origin = 0; serial = 0; code = 0; args = []; cont = None; ids = [] }
+
+-- the parcel carries an action, which has a spelling
+pub record CarriesFit (parcel : Parcel) : Type 0 where
+  pub action : parcel ≡ Apply (applied parcel)
+  pub fit : IsFit (applied parcel)
 
 -- what is due may be sent
 abbrev pub IsFitDue : Due → Type 0

@@ -1,5 +1,5 @@
 -- Frames that a node sends and takes.
-use Rattle.std.specs.Prelude.{ℕ, List, [], ◌∷◌, Some, ◌≡◌}
+use Rattle.std.specs.Prelude.{ℕ, List, [], ◌∷◌, Some, ◌≡◌, ◌≢◌}
 use Rattle.hpx_journal.specs.Data.{Parcel, Apply}
 use Rattle.hpx_top.specs.Fit.{IsFit}
 use Rattle.hpx_parcel.specs.declared.parcel.DecodeFault.TheVariants as faults
@@ -29,4 +29,5 @@ pub record IsFront (t : Tables) (to : ℕ) (bytes : List ℕ) : Type 0 where
 -- why a frame is refused
 abbrev pub IsRefused : TakeFault → List ℕ → Type 0
 IsRefused refusals.OutOfMemory bytes = Unit {0}
+IsRefused refusals.NoAction bytes = (parcel : Parcel) × (parcel_of bytes ≡ Some parcel) × ((act : _) → parcel ≢ Apply act)
 IsRefused (refusals.BadFrame at why) bytes = Refuses (faults.BadFrame at why) bytes

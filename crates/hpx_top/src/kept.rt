@@ -16,13 +16,13 @@ pub struct Fit {
 
 impl Model for Fit {
     ghost use Rattle.hpx_journal.specs.Data.{Act};
-    ghost use Rattle.hpx_top.specs.Fit.{IsFit, applied};
+    ghost use Rattle.hpx_top.specs.Fit.{CarriesFit, applied};
 
     ghost Value = { Act };
 
     ghost view = { λ f. applied f.parcel };
 
-    ghost invariant = { λ f. IsFit (applied f.parcel) };
+    ghost invariant = { λ f. CarriesFit f.parcel };
 }
 
 impl Fit {
@@ -41,8 +41,10 @@ impl Fit {
         ensures act { result.now ≡ self.now }
         ensures fit { IsFit self.now }
     {
-        let Parcel::Apply(act) = &self.parcel;
-        act
+        match &self.parcel {
+            Parcel::Apply(act) => act,
+            _ => unreachable!(),
+        }
     }
 
     /// What it is called.

@@ -126,7 +126,7 @@ impl<A: Acts + Copy> Locals<A> {
         match self.nodes[frame.0 as usize].take(alloc, &mut self.journal, &frame.1) {
             Ok(()) => Ok(()),
             Err(TakeFault::OutOfMemory) => Err(OutOfMemory),
-            Err(TakeFault::BadFrame { at: _, why: _ }) => unreachable!(),
+            Err(_) => unreachable!(),
         }
     }
 

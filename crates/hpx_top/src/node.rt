@@ -262,6 +262,7 @@ impl<A: Acts + Copy> Node<A> {
     {
         let act = match decode(alloc, frame.as_slice()) {
             Ok(Parcel::Apply(act)) => act,
+            Ok(_) => return Err(TakeFault::NoAction),
             Err(DecodeFault::BadFrame { at, why }) => return Err(TakeFault::BadFrame { at, why }),
             Err(DecodeFault::OutOfMemory) => return Err(TakeFault::OutOfMemory),
         };

@@ -27,5 +27,7 @@ pub struct FinishFault<A: Acts> {
 #[derive(Clone, Copy, Debug, PartialEq, Eq)]
 pub enum TakeFault {
     BadFrame { at: u32, why: Why },
+    /// It spells a parcel that is no action.
+    NoAction,
     OutOfMemory,
 }
