@@ -4,9 +4,9 @@ use Rattle.std.specs.List.{sum_by, AllByRecursion}
 use Rattle.std.proofs.lemmas.List.Sums.{sum_by-cons}
 use Rattle.hpx_journal.specs.Data.{Message}
 use Rattle.hpx_journal.specs.Entries.{Name, Event, Line, Fire, Done, Sent, Print, Out, In, Entry, Rules, Frame, acts_in}
-use Rattle.hpx_journal.specs.Whole.{Space, run, IsLegal}
+use Rattle.hpx_journal.specs.Whole.{FeedsNothing, Space, run, IsLegal}
 use Rattle.hpx_journal.specs.Pool.{Pool, fed, IsActed, Goes, Runs, act_mass, due_mass, frame_mass, mass_at, mass, state_of, prints_due, prints_of, Shows, IsBlind, OnlySessionPrints, AreSound}
-use Rattle.hpx_journal.specs.Sessions.{IsSettled, FeedsNothing, BeginsWith, IsBlock, IsSession, entries_of, shown, Steps, at_rest, IsPlainBlock, IsPlainSession, IsPlainFront, IsPlainBrokenOff}
+use Rattle.hpx_journal.specs.Sessions.{IsSettled, BeginsWith, IsBlock, IsSession, entries_of, shown, Steps, at_rest, IsPlainBlock, IsPlainSession, IsPlainFront, IsPlainBrokenOff}
 use Rattle.hpx_journal.proofs.Bags.{total-zero}
 use Rattle.hpx_journal.proofs.Grow.{legal_append, legal_rest, run_append}
 use Rattle.hpx_journal.proofs.Reduce.{reduced}

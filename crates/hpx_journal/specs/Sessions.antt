@@ -4,7 +4,7 @@ use Rattle.std.specs.List.{AllByRecursion}
 use Rattle.hpx_value.specs.Ids.{Id}
 use Rattle.hpx_journal.specs.Data.{State}
 use Rattle.hpx_journal.specs.Entries.{Name, Event, Line, Entry, Rules, acts_in}
-use Rattle.hpx_journal.specs.Whole.{Space, IsLegal, run}
+use Rattle.hpx_journal.specs.Whole.{Space, IsLegal, FeedsNothing, run}
 use Rattle.hpx_journal.specs.Pool.{Pool, fed, IsActed, prints_of}
 
 -- nothing is pending and nothing is due
@@ -15,10 +15,6 @@ pub record IsSettled (r : Rules) (w : Space) : Type 0 where
   pub road : AllByRecursion (λ f. acts_in (r.parcel_of f.1) ≡ []) w.road
 
 -- ---- blocks
-
-abbrev pub FeedsNothing : Event → Type 0
-FeedsNothing (Line a bytes) = ⊥
-FeedsNothing _ = Unit {0}
 
 abbrev pub BeginsWith : List ℕ → List Entry → Type 0
 BeginsWith line [] = ⊥

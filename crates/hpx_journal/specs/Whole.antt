@@ -2,7 +2,7 @@
 use Rattle.std.specs.Prelude.{ℕ, Bool, false, cond, List, [], ◌∷◌, ◌++◌, ◌≡◌, ◌<◌, ◌==◌, ◌&&◌, map}
 use Rattle.std.specs.List.{filter, count_by}
 use Rattle.hpx_journal.specs.Bags.{minus, Covers}
-use Rattle.hpx_journal.specs.Entries.{Name, Event, Fire, Done, Out, In, Entry, Standing, Rules, Frame, same_frame, same_name}
+use Rattle.hpx_journal.specs.Entries.{Name, Event, Line, Fire, Done, Out, In, Entry, Standing, Rules, Frame, same_frame, same_name}
 use Rattle.hpx_journal.specs.Local.{Local, Allowed, NodeKeeps, IsForeign, after, boot}
 
 -- what each locality has, and the frames that were sent and not yet accepted
@@ -135,10 +135,15 @@ abbrev pub AreAt : ℕ → List Entry → Type 0
 AreAt k [] = Unit {0}
 AreAt k (e ∷ es) = (e.at ≡ k) × AreAt k es
 
--- neither sent nor accepted
+-- no line
+abbrev pub FeedsNothing : Event → Type 0
+FeedsNothing (Line a bytes) = ⊥
+FeedsNothing _ = Unit {0}
+
+-- neither fed, sent nor accepted
 abbrev pub AreInner : List Entry → Type 0
 AreInner [] = Unit {0}
-AreInner (e ∷ es) = (sends e.event ≡ []) × (arrives e ≡ []) × AreInner es
+AreInner (e ∷ es) = (sends e.event ≡ []) × (arrives e ≡ []) × FeedsNothing e.event × AreInner es
 
 abbrev pub at_all : ℕ → List Event → List Entry
 at_all k es = map (λ e. record { at = k; event = e }) es

@@ -1,5 +1,5 @@
 -- A call of one node keeps all localities sound.
-use Rattle.std.proofs.Common.{true, ℕ, zero, suc, List, [], ◌∷◌, ◌++◌, ◌≡◌, ◌≢◌, ◌+◌, ◌<◌, ◌≤◌, Some, None, Option, refl, sym, ap, ◌∙◌, subst, arith, length, get_or, set, length-set, append-nil, append_assoc, inl, inr}
+use Rattle.std.proofs.Common.{true, ℕ, zero, suc, List, [], ◌∷◌, ◌++◌, ◌≡◌, ◌≢◌, ◌+◌, ◌<◌, ◌≤◌, Some, None, Option, refl, sym, ap, ◌∙◌, subst, arith, length, get_or, set, length-set, append-nil, append_assoc, inl, inr, ◌⊎◌}
 use Rattle.std.specs.List.{slice_get, list_any}
 use Rattle.std.proofs.lemmas.Bool.{cases_eq}
 use Rattle.hpx_journal.specs.Bags.{Covers, minus, without}
@@ -7,6 +7,7 @@ use Rattle.hpx_journal.specs.Data.{Due}
 use Rattle.hpx_journal.specs.Entries.{Rules, Frame, same_frame}
 use Rattle.hpx_journal.specs.declared.entry.Entry.{Entry}
 use Rattle.hpx_journal.specs.declared.entry.Event.{Event}
+use Rattle.hpx_journal.specs.declared.entry.Name.{Name}
 use Rattle.hpx_journal.specs.declared.entry.Event.TheVariants.{Line, Fire, Done, Sent, Print, In, Out}
 use Rattle.hpx_journal.specs.Local.{boot, NodeKeeps}
 use Rattle.hpx_journal.specs.Roots.{roots}
@@ -70,7 +71,7 @@ inner_carried r k road [] h at inner = tt
 inner_carried r k road (e ∷ es) h at inner = (
   subst (λ j. j < r.localities) (sym at.0) h,
   subst (Covers same_frame road) (sym inner.1) tt,
-  inner_carried r k (road_after road e) es h at.1 inner.2,
+  inner_carried r k (road_after road e) es h at.1 inner.3,
 )
 
 inner_road : (road : List Frame) (es : List Entry) → AreInner es → road_run road es ≡ road
@@ -78,7 +79,7 @@ inner_road road [] inner = refl
 inner_road road (e ∷ es) inner =
     let same : road_after road e ≡ road =
     ap (λ fs. fs ++ minus same_frame road (arrives e)) inner.0 ∙ ap (λ fs. minus same_frame road fs) inner.1 in
-    ap (λ fs. road_run fs es) same ∙ inner_road road es inner.2
+    ap (λ fs. road_run fs es) same ∙ inner_road road es inner.3
 
 no_outs : (k : ℕ) (e : Event) → sends e ≡ [] → outs_by k e ≡ []
 no_outs k (Line a bytes) h = refl
@@ -91,11 +92,11 @@ no_outs k (In bytes) h = refl
 
 inner_outs : (es : List Entry) → AreInner es → outs es ≡ []
 inner_outs [] inner = refl
-inner_outs (e ∷ es) inner = ap (λ xs. xs ++ outs es) (no_outs e.at e.event inner.0) ∙ inner_outs es inner.2
+inner_outs (e ∷ es) inner = ap (λ xs. xs ++ outs es) (no_outs e.at e.event inner.0) ∙ inner_outs es inner.3
 
 inner_ins : (es : List Entry) → AreInner es → ins es ≡ []
 inner_ins [] inner = refl
-inner_ins (e ∷ es) inner = ap (λ xs. xs ++ ins es) inner.1 ∙ inner_ins es inner.2
+inner_ins (e ∷ es) inner = ap (λ xs. xs ++ ins es) inner.1 ∙ inner_ins es inner.3
 
 road_append : (road : List Frame) (xs ys : List Entry) → road_run road (xs ++ ys) ≡ road_run (road_run road xs) ys
 road_append road [] ys = refl
@@ -205,6 +206,23 @@ pub sound_inner : (act_of : Meaning) (nodes : List Tables) (es es' : List Entry)
     → IsSound act_of nodes es → k < length nodes → t ≡ get_or nodes k t → Writes [] t t' es es' → Stands (rules_of act_of t.localities) t' [] es'
     → IsSound act_of (set nodes k t') es'
 sound_inner act_of nodes es es' k t t' h lt is writes stands = sound_grows act_of nodes es h k t t' [] es' lt is writes stands tt
+
+-- a call that may accept a line
+pub sound_line : (act_of : Meaning) (nodes : List Tables) (es es' : List Entry) (k : ℕ) (t t' : Tables) (action : Name) (bytes : List ℕ)
+    → IsSound act_of nodes es → k < length nodes → t ≡ get_or nodes k t → Writes [] t t' es es' ⊎ Writes (Line action bytes ∷ []) t t' es es'
+    → Stands (rules_of act_of t.localities) t' [] es' → IsSound act_of (set nodes k t') es'
+sound_line act_of nodes es es' k t t' action bytes h lt is (inl writes) stands = sound_inner act_of nodes es es' k t t' h lt is writes stands
+sound_line act_of nodes es es' k t t' action bytes h lt is (inr writes) stands =
+    sound_grows act_of nodes es h k t t' (Line action bytes ∷ []) es' lt is writes stands (lt, tt, tt)
+
+pub inside_line : (t t' : Tables) (es es' : List Entry) (action : Name) (bytes : List ℕ)
+    → Writes [] t t' es es' ⊎ Writes (Line action bytes ∷ []) t t' es es' → IsInside es es'
+inside_line t t' es es' action bytes (inl w) = inside_of t t' es es' w
+inside_line t t' es es' action bytes (inr w) = record {
+  road = road_grows t.here (Line action bytes ∷ []) es es' w.grows;
+  outs = outs_grow t.here (Line action bytes ∷ []) es es' w.grows ∙ append-nil (outs es);
+  ins = ins_grow t.here (Line action bytes ∷ []) es es' w.grows ∙ append-nil (ins es);
+}
 
 -- a call that sends a frame
 pub sound_out : (act_of : Meaning) (nodes : List Tables) (es es' : List Entry) (k : ℕ) (t t' : Tables) (to : ℕ) (bytes : List ℕ)

@@ -16,7 +16,7 @@ at_append k (x ∷ xs) ys h i = (h.0, at_append k xs ys h.1 i)
 
 inner_append : (xs ys : List Entry) → AreInner xs → AreInner ys → AreInner (xs ++ ys)
 inner_append [] ys h i = i
-inner_append (x ∷ xs) ys h i = (h.0, h.1, inner_append xs ys h.2 i)
+inner_append (x ∷ xs) ys h i = (h.0, h.1, h.2, inner_append xs ys h.3 i)
 
 grows_then : (k : ℕ) (first : List Event) (a b c : List Entry) → Grows k first a b → Grows k [] b c → Grows k first a c
 grows_then k first a b c g h = record {

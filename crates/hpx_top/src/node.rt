@@ -1,4 +1,4 @@
-ghost use Rattle.std.specs.Prelude.{◌≡◌, ◌≢◌, ◌≤◌, ◌<◌, ◌+◌, ◌-◌, ◌^◌, ◌∷◌, ◌++◌, ◌↔◌, [], ℕ, false, true, List, Some, None, IsTrue, OnOk, OnErr, IfOk, IfErr, IfSome, IfNone, length, slice_get};
+ghost use Rattle.std.specs.Prelude.{◌≡◌, ◌≢◌, ◌≤◌, ◌<◌, ◌+◌, ◌-◌, ◌^◌, ◌∷◌, ◌++◌, ◌↔◌, ◌⊎◌, [], ℕ, false, true, List, Some, None, IsTrue, OnOk, OnErr, IfOk, IfErr, IfSome, IfNone, length, slice_get};
 ghost use Rattle.std.specs.List.{find, remove, AllByRecursion};
 ghost use Rattle.hpx_value.specs.Values.{named};
 ghost use Rattle.hpx_value.specs.Hands.{due_of, state_after};
@@ -470,7 +470,6 @@ impl<A: Acts + Copy> Node<A> {
         requires few { self.old.serial + 1 < 2 ^ 64 }
         requires stands { Stands (rules_of A.act_of self.old.localities) self.old [] book.old.entries }
         ensures stands { Stands (rules_of A.act_of self.old.localities) self.new [] book.new.entries }
-        ensures writes { Writes [] self.old self.new book.old.entries book.new.entries }
         ensures line { Writes (Line action bytes ∷ []) self.old self.new book.old.entries book.new.entries }
     {
         let at = self.here;
@@ -489,7 +488,8 @@ impl<A: Acts + Copy> Node<A> {
         requires room { HasRoom book.old.entries }
         requires stands { Stands (rules_of A.act_of self.old.localities) self.old [] book.old.entries }
         ensures stands { Stands (rules_of A.act_of self.old.localities) self.new [] book.new.entries }
-        ensures writes { Writes [] self.old self.new book.old.entries book.new.entries }
+        ensures writes { Writes [] self.old self.new book.old.entries book.new.entries
+            ⊎ Writes (Line (record { origin = self.old.here; serial = self.old.serial + 1 }) line ∷ []) self.old self.new book.old.entries book.new.entries }
         ensures line { OnOk result (Writes (Line (record { origin = self.old.here; serial = self.old.serial + 1 }) line ∷ []) self.old self.new book.old.entries book.new.entries) }
         ensures err { OnErr result (OnlySpare self.old self.new book.old book.new) }
     {

@@ -1,4 +1,4 @@
-use Rattle.hpx_top.proofs.SoundLemmas.{stands_own, sound_inner, inside_of}
+use Rattle.hpx_top.proofs.SoundLemmas.{stands_own, sound_line, inside_line}
 use Rattle.hpx_top.proofs.TurnLemmas.{IfOk-map, IfErr-map, IfSome-map, IfNone-map, here_at, grows_at, same_at, got_at}
 use Rattle.hpx_top.proofs.locals.Locals.feed.Goals as goal
 
@@ -7,10 +7,10 @@ feed-requires-clause-stands g c = stands_own _ _ _ c.requires.sound 0 c.index_mu
 
 pub returns-clause-sound : goal.returns-clause-sound
 returns-clause-sound g c =
-    sound_inner _ _ _ _ 0 c.index_mut.result.now _ c.requires.sound c.requires.sound.some c.index_mut.ensures.value c.feed.ensures.writes c.feed.ensures.stands
+    sound_line _ _ _ _ 0 c.index_mut.result.now _ _ _ c.requires.sound c.requires.sound.some c.index_mut.ensures.value c.feed.ensures.writes c.feed.ensures.stands
 
 pub returns-clause-inside : goal.returns-clause-inside
-returns-clause-inside g c = inside_of _ _ _ _ c.feed.ensures.writes
+returns-clause-inside g c = inside_line _ _ _ _ _ _ c.feed.ensures.writes
 
 pub feed-requires-clause-here : goal.feed-requires-clause-here
 feed-requires-clause-here g c = here_at _ _ _ c.requires.sound 0 c.index_mut.result.now c.index_mut.result.now c.requires.sound.some c.index_mut.ensures.value
