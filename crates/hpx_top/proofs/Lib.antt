@@ -16,3 +16,4 @@ pub mod AwayLemmas
 pub mod Booted
 pub mod TurnLemmas
 pub mod Posted
+pub mod QuietLemmas

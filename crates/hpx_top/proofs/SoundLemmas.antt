@@ -238,7 +238,7 @@ pub sound_in : (act_of : Meaning) (nodes : List Tables) (es es' : List Entry) (t
 sound_in act_of nodes es es' t t' to bytes h lt is writes stands there =
     sound_grows act_of nodes es h to t t' (In bytes ∷ []) es' lt is writes stands (lt, (there, tt), tt)
 
-get_some : (xs : List Tables) (k : ℕ) → k < length xs → (x : Tables) × (slice_get xs k ≡ Some x)
+pub get_some : (xs : List Tables) (k : ℕ) → k < length xs → (x : Tables) × (slice_get xs k ≡ Some x)
 get_some [] k h = absurd (omega arith)
 get_some (x ∷ xs) zero h = (x, refl)
 get_some (x ∷ xs) (suc k) h = get_some xs k (omega arith)

@@ -54,6 +54,42 @@ impl<A: Acts + Copy> Locals<A> {
         })
     }
 
+    /// How many frames were sent, and how many accepted, in all.
+    fn frames(&self) -> (u128, u128)
+        requires few { length self.now.nodes.items ≤ 64 }
+        ensures sent { result.0 ≡ sum_by (λ t. t.sent) self.now.nodes.items }
+        ensures taken { result.1 ≡ sum_by (λ t. t.taken) self.now.nodes.items }
+    {
+        let mut sent = 0;
+        let mut taken = 0;
+        for node in self.nodes.iter() {
+            sent += node.sent() as u128;
+            taken += node.taken() as u128;
+        }
+        (sent, taken)
+    }
+
+    /// Whether each node is passive.
+    fn are_passive(&self) -> bool
+        ensures { IsTrue result ↔ AllByRecursion IsPassive self.now.nodes.items }
+    {
+        for node in self.nodes.iter() {
+            if !node.is_passive() {
+                return false;
+            }
+        }
+        true
+    }
+
+    /// Whether nothing is to be done anywhere: each node is passive, and each frame that was sent was accepted.
+    pub fn quiet(&self) -> bool
+        requires few { length self.now.nodes.items ≤ 64 }
+        ensures { IsTrue result ↔ IsQuiet self.now.nodes.items self.now.hand }
+    {
+        let (sent, taken) = self.frames();
+        sent == taken && self.hand.is_none() && self.are_passive()
+    }
+
     /// The locality k fires its first action that can be.
     pub fn fire(&mut self, alloc: Global, k: usize) -> Result<Option<Job>, OutOfMemory>
         requires range { k < length self.old.nodes.items }

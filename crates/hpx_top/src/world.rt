@@ -1,7 +1,8 @@
-ghost use Rattle.std.specs.Prelude.{◌≡◌, ◌≤◌, ◌<◌, ◌+◌, ◌-◌, ◌^◌, ◌∷◌, [], ℕ, length, min, OnOk, OnErr, IfOk, IfErr, IsTrue, ◌↔◌, Ok, Err, Some, None, option_copied, slice_get, ◌⊎◌};
+ghost use Rattle.std.specs.Prelude.{◌≡◌, ◌≤◌, ◌<◌, ◌+◌, ◌-◌, ◌^◌, ◌∷◌, [], ℕ, true, length, min, OnOk, OnErr, IfOk, IfErr, IsTrue, ◌↔◌, Ok, Err, Some, None, option_copied, slice_get, ◌⊎◌};
 ghost use Rattle.hpx_journal.specs.Weights.{HasRoom, total_weight};
 ghost use Rattle.hpx_journal.specs.Roots.{roots};
-ghost use Rattle.hpx_journal.specs.Whole.{IsLegal, start, Grows};
+ghost use Rattle.hpx_journal.specs.Whole.{IsLegal, start, run, Grows};
+ghost use Rattle.hpx_journal.specs.Sessions.{IsSettled};
 ghost use Rattle.hpx_ports.specs.Faults.{Rose};
 ghost use Rattle.hpx_top.specs.Stands.{rules_of};
 ghost use Rattle.hpx_top.specs.Sound.{IsSame, IsInside, IsCarrying, IsQuiet};
@@ -70,6 +71,14 @@ impl<A: Acts + Copy> World<A> {
         ensures legal { let n = length self.now.nodes in IsLegal (rules_of A.act_of n) (start (roots n)) self.now.journal.entries }
     {
         &self.locals.journal
+    }
+
+    /// Whether nothing is to be done anywhere: then nothing is pending and nothing is due.
+    pub fn quiet(&self) -> bool
+        ensures is { IsTrue result ↔ IsQuiet self.now.nodes self.now.hand }
+        ensures settled { let n = length self.now.nodes in result ≡ true → IsSettled (rules_of A.act_of n) (run (rules_of A.act_of n) (start (roots n)) self.now.journal.entries) }
+    {
+        self.locals.quiet()
     }
 
     /// Why the journal is full, with a job that was to be committed.
