@@ -1,18 +1,17 @@
 -- Which ids and actions fields take.
-use Rattle.std.proofs.Common.{◌≡◌, ◌≢◌, ℕ, zero, suc, ◌+◌, ◌^◌, ◌<◌, ◌≤◌, ◌&&◌, Bool, true, false, cond, ltb, leb, eqb, List, [], ◌∷◌, ◌++◌, length, Option, Some, None, Result, Ok, refl, sym, ap, subst, ◌∙◌, append_assoc, arith}
-use Rattle.std.specs.Prelude.{ℤ, pos, negsuc, MatchOption, is_some, is_none}
+use Rattle.std.proofs.Common.{◌≡◌, ◌≢◌, ℕ, ◌^◌, ◌<◌, ◌≤◌, ◌&&◌, true, false, cond, leb, eqb, List, [], ◌∷◌, ◌++◌, length, Option, Some, None, Ok, refl, ap, subst, ◌∙◌, append_assoc, arith}
+use Rattle.std.specs.Prelude.{pos, negsuc, MatchOption, is_some, is_none}
 use Rattle.std.specs.List.{AllByRecursion}
 use Rattle.std.proofs.lemmas.Bool.{leb-true, le-leb, eqb-true, eq-eqb, ne_eqb, and_parts, and_from}
 use Rattle.hpx_value.specs.Ids.{IsId}
-use Rattle.hpx_value.specs.Values.{message_of}
 use Rattle.hpx_value.specs.Shapes.{values_size}
 use Rattle.hpx_parcel.specs.Types.{Id, Value, Nothing, Flag, Int, Text, Ref, Fault, Ints, Act}
 use Rattle.hpx_parcel.specs.Spelling.{number_text, id_text}
 use Rattle.hpx_parcel.specs.Parcels.{HasRightCredit, HasCredit, HasLeastCredit, IsBare, IsMovable, IsPlace, IsSent, IsApplied, IsMove, FitsAct}
-use Rattle.hpx_parcel.specs.Reading.{◌>>=◌, Stop, number_at, IdRule, ActRule, Named, Movable, Credited, Least, Bare, Applied, Moves, credit_fits, is_least, allows, id_at, pair_at, are_move_args}
-use Rattle.hpx_parcel.proofs.FieldLaws.{IsBytes, bind_ok, done, ok_is, Takes, Takes-then, IsWide, number_takes, number_again, id_takes, id_again}
-use Rattle.hpx_parcel.proofs.ValueLaws.{credit_is, credit_back}
-use Rattle.hpx_parcel.proofs.ActLaws.{FirstPasses, IsFine, IsSpelled}
+use Rattle.hpx_parcel.specs.Reading.{◌>>=◌, number_at, IdRule, ActRule, Named, Movable, Credited, Least, Bare, Applied, Moves, credit_fits, is_least, allows, id_at, pair_at, are_move_args}
+use Rattle.hpx_parcel.proofs.FieldLaws.{IsBytes, bind_ok, ok_is, Takes, Takes-then, IsWide, number_takes, number_again, id_takes, id_again}
+use Rattle.hpx_parcel.proofs.ValueLaws.{credit_back}
+use Rattle.hpx_parcel.proofs.ActLaws.{FirstPasses, IsSpelled}
 
 -- ---- ids
 

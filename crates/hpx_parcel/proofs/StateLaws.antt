@@ -1,18 +1,18 @@
 -- States: what is read is spelled so, and what is spelled so is read.
-use Rattle.std.proofs.Common.{◌≡◌, ℕ, zero, suc, ◌+◌, ◌-◌, ◌*◌, ◌^◌, ◌<◌, ◌≤◌, false, ltb, List, [], ◌∷◌, ◌++◌, length, take, drop, Result, Ok, Err, refl, sym, ap, subst, ◌∙◌, append_assoc, arith}
+use Rattle.std.proofs.Common.{◌≡◌, ℕ, zero, suc, ◌+◌, ◌-◌, ◌*◌, ◌≤◌, false, ltb, List, [], ◌∷◌, ◌++◌, length, take, drop, Ok, refl, sym, ap, subst, ◌∙◌, append_assoc, arith}
 use Rattle.std.specs.List.{AllByRecursion}
 use Rattle.std.proofs.lemmas.Bool.{ltb-false, le-ltb}
-use Rattle.std.proofs.lemmas.List.{append-nil, length-append, length-take, length-drop, take-append-drop}
+use Rattle.std.proofs.lemmas.List.{length-append, length-take, length-drop, take-append-drop}
 use Rattle.hpx_value.specs.Ids.{IsId}
 use Rattle.hpx_value.specs.Values.{refs_in}
-use Rattle.hpx_value.specs.Shapes.{IsCount, AreValues, IsState, places_of, values_size}
-use Rattle.hpx_parcel.specs.Types.{Id, Value, Cont, State, Why, BadValue}
+use Rattle.hpx_value.specs.Shapes.{IsCount, AreValues, places_of, values_size}
+use Rattle.hpx_parcel.specs.Types.{Id, Value, Cont, State, BadValue}
 use Rattle.hpx_parcel.specs.Spelling.{number_text, id_text, ids_after, without_first, values_text, slot_text, conts_text, state_text}
 use Rattle.hpx_parcel.specs.Parcels.{HasRightCredit, FitsSlot, FitsState, IsCarried}
-use Rattle.hpx_parcel.specs.Reading.{◌>>=◌, Stop, stop_at, number_at, count_at, values_at, slot_at, conts_at, kept_at, long_state_at, within, state_at}
-use Rattle.hpx_parcel.proofs.FieldLaws.{IsBytes, bind_ok, guard_ok, done, ok_is, Takes, Takes-then, wide4, number_takes, number_again, length-number, count_takes, count_again}
-use Rattle.hpx_parcel.proofs.Each.{TookEach, Given, values_take, values_again, length-values, length-id, ids_after_own}
-use Rattle.hpx_parcel.proofs.ActLaws.{cont_to, TookSlot, slot_takes, slot_again, all-append, all-front, all-back}
+use Rattle.hpx_parcel.specs.Reading.{◌>>=◌, stop_at, number_at, count_at, values_at, slot_at, conts_at, kept_at, long_state_at, within, state_at}
+use Rattle.hpx_parcel.proofs.FieldLaws.{IsBytes, bind_ok, guard_ok, ok_is, Takes, Takes-then, wide4, number_takes, number_again, length-number, count_takes, count_again}
+use Rattle.hpx_parcel.proofs.Each.{Given, values_take, values_again, length-values, length-id, ids_after_own}
+use Rattle.hpx_parcel.proofs.ActLaws.{cont_to, slot_takes, slot_again, all-append, all-front, all-back}
 use Rattle.hpx_parcel.proofs.Bytes.{AreBytes, are-append, number_bytes, values_bytes, slot_bytes}
 
 -- ---- kept continuations

@@ -9,6 +9,7 @@ pub record Credit : Type 0 where
   pub object : Id
   pub log : ℕ
 
+-- the credit of an id, if it has one
 abbrev pub credit_list : Id → Option ℕ → List Credit
 credit_list id None = []
 credit_list id (Some log) = record { object = bare id; log = log } ∷ []
@@ -31,6 +32,7 @@ ids_in (Object a s) = a.ids ++ s.ids
 ids_in (Landed id place) = id ∷ []
 ids_in (Free id) = id ∷ []
 
+-- the credits of a parcel, if there is one
 abbrev pub parcel_credits : Option Parcel → List Credit
 parcel_credits None = []
 parcel_credits (Some p) = credits_of (ids_in p)

@@ -77,13 +77,16 @@ FitsValue (Ref place) = Unit {0}
 FitsValue (Fault code) = Unit {0}
 FitsValue (Ints numbers) = AllByRecursion (FitsSigned w64) numbers
 
+-- a slot is within its type
 abbrev pub FitsSlot : Cont → Type 0
 FitsSlot c = c.slot < 2 ^ 32
 
+-- the same of a continuation
 abbrev pub FitsCont : Option Cont → Type 0
 FitsCont None = Unit {0}
 FitsCont (Some c) = FitsSlot c
 
+-- an action has numbers within their types
 pub record FitsAct (a : Act) : Type 0 where
   pub origin : a.origin < 2 ^ 16
   pub serial : a.serial < 2 ^ 64
@@ -92,12 +95,14 @@ pub record FitsAct (a : Act) : Type 0 where
   pub cont : FitsCont a.cont
   pub ids : AllByRecursion IsId a.ids
 
+-- a state has numbers within their types
 pub record FitsState (s : State) : Type 0 where
   pub drawn : s.drawn < 2 ^ 32
   pub values : AllByRecursion FitsValue s.values
   pub conts : AllByRecursion FitsSlot s.conts
   pub ids : AllByRecursion IsId s.ids
 
+-- a parcel has numbers within their types
 abbrev pub FitsParcel : Parcel → Type 0
 FitsParcel (Apply a) = FitsAct a
 FitsParcel (Return id) = IsId id

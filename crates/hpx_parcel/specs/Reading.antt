@@ -17,6 +17,7 @@ pub use Rattle.hpx_parcel.specs.declared.fields.IdRule.TheVariants.{Named, Movab
 pub use Rattle.hpx_parcel.specs.declared.acts.ActRule.{ActRule}
 pub use Rattle.hpx_parcel.specs.declared.acts.ActRule.TheVariants.{Applied, Moves}
 
+-- what comes next, if nothing is wrong so far
 infixl 10 ◌>>=◌
 abbrev pub ◌>>=◌ : {A B : Type 0} → Result A Stop → (A → Result B Stop) → Result B Stop
 (Ok x) >>= f = f x
@@ -35,6 +36,7 @@ abbrev pub Fails : {Y : Type 0} → ReadError → Result Y Stop → Type 0
 Fails errors.OutOfMemory read = Unit {0}
 Fails (errors.Stop s) read = read ≡ Err s
 
+-- the same for both outcomes
 abbrev pub Gives : {X Y : Type 0} → (X → Y) → Result X ReadError → Result Y Stop → Type 0
 Gives view (Ok x) read = read ≡ Ok (view x)
 Gives view (Err e) read = Fails e read
@@ -49,6 +51,7 @@ abbrev pub next_byte : List ℕ → Result (ℕ × List ℕ) Stop
 next_byte [] = Err cut_off
 next_byte (b ∷ rest) = Ok (b, rest)
 
+-- a whole number in n bytes, the highest first
 unfoldable pub number_at : ℕ → List ℕ → Result (ℕ × List ℕ) Stop
 number_at n bytes = if nat_lt (length bytes) n then Err cut_off else Ok (big_number n bytes, drop n bytes)
 
@@ -83,6 +86,7 @@ allows Credited id = is_some id.log && nat_le 16 id.kind
 allows Least id = is_least id.log && nat_le 16 id.kind
 allows Bare id = is_none id.log && nat_le 16 id.kind
 
+-- an id that a rule takes
 unfoldable pub id_at : IdRule → List ℕ → Result (Id × List ℕ) Stop
 id_at rule bytes = do
   msb ← number_at 8 bytes
@@ -90,26 +94,31 @@ id_at rule bytes = do
   id ← found (id_of msb.0 lsb.0) (stop_at bytes BadId)
   if allows rule id then Ok (id, lsb.1) else Err (stop_at bytes BadId)
 
+-- a flag, behind its tag
 unfoldable pub flag_at : List ℕ → Result (Value × List ℕ) Stop
 flag_at bytes = do
   b ← next_byte bytes
   if b.0 == 0 then Ok (Flag false, b.1) else (if b.0 == 1 then Ok (Flag true, b.1) else Err (stop_at bytes BadValue))
 
+-- a number with a sign
 unfoldable pub int_at : List ℕ → Result (ℤ × List ℕ) Stop
 int_at bytes = do
   n ← number_at 8 bytes
   Ok (cast_signed w64 n.0, n.1)
 
+-- a text of at most 16,384 bytes
 unfoldable pub text_at : List ℕ → Result (List ℕ × List ℕ) Stop
 text_at bytes = do
   n ← count_at 16384 bytes
   if nat_lt (length n.1) n.0 then Err cut_off else Ok (take n.0 n.1, drop n.0 n.1)
 
+-- a fault from 1 to 11, behind its tag
 unfoldable pub fault_at : List ℕ → Result (Value × List ℕ) Stop
 fault_at bytes = do
   b ← next_byte bytes
   if nat_le 1 b.0 && nat_le b.0 11 then Ok (Fault b.0, b.1) else Err (stop_at bytes BadValue)
 
+-- so many numbers with signs
 unfoldable pub numbers_at : ℕ → List ℕ → Result (List ℤ × List ℕ) Stop
 numbers_at zero bytes = Ok ([], bytes)
 numbers_at (suc n) bytes = do
@@ -117,6 +126,7 @@ numbers_at (suc n) bytes = do
   others ← numbers_at n first.1
   Ok (first.0 ∷ others.0, others.1)
 
+-- at most 4,096 numbers with signs
 unfoldable pub ints_at : List ℕ → Result (List ℤ × List ℕ) Stop
 ints_at bytes = do
   n ← count_at 4096 bytes
@@ -141,6 +151,7 @@ value_at limit place bytes = do
       then (if nat_lt place limit then (id_at Named tag.1 >>= λ id. Ok (Ref place, Some id.0, id.1)) else Err (stop_at bytes BadValue))
       else plain_at tag.0 bytes tag.1 >>= λ v. Ok (v.0, None, v.1)
 
+-- the id, as a list
 abbrev pub id_list : Option Id → List Id
 id_list None = []
 id_list (Some id) = id ∷ []
@@ -157,6 +168,7 @@ each_at limit place (suc n) bytes = do
 abbrev pub joined : List Value → List Id → Result (List Value × List Id × List ℕ) Stop → Result (List Value × List Id × List ℕ) Stop
 joined vs ids read = read >>= λ x. Ok (vs ++ x.0, ids ++ x.1, x.2)
 
+-- at most 1,024 values
 unfoldable pub values_at : ℕ → ℕ → List ℕ → Result (List Value × List Id × List ℕ) Stop
 values_at limit place bytes = do
   n ← count_at 1024 bytes
@@ -177,10 +189,12 @@ cont_at place bytes = do
       else (if b.0 == 1 then (slot_at b.1 >>= λ s. Ok (Some (record { place = place; slot = s.1 }), Some s.0, s.2))
       else Err (stop_at bytes BadValue))
 
+-- the targets that an action may have
 abbrev pub target_rule : ActRule → IdRule
 target_rule Applied = Named
 target_rule Moves = Movable
 
+-- the codes that an action may have: 1 is that of a MOVE
 abbrev pub takes_code : ActRule → ℕ → Bool
 takes_code Applied code = if code == 1 then false else true
 takes_code Moves code = code == 1
@@ -190,6 +204,7 @@ abbrev pub are_move_args : List Value → Bool
 are_move_args (Int (pos t) ∷ []) = nat_le t 63
 are_move_args _ = false
 
+-- the arguments that an action may have
 abbrev pub takes_args : ActRule → List Value → Bool
 takes_args Applied args = true
 takes_args Moves args = are_move_args args
@@ -207,6 +222,7 @@ call_at rule target bytes = do
   args ← if takes_code rule code.0 then values_at 33 1 code.1 else Err (stop_at bytes BadValue)
   if takes_args rule args.0 then ended_at code.0 args.0 (target ∷ args.1) args.2 else Err (stop_at code.1 BadValue)
 
+-- an action without its name
 unfoldable pub message_at : ActRule → List ℕ → Result (Message × List ℕ) Stop
 message_at rule bytes = do
   target ← id_at (target_rule rule) bytes
@@ -224,6 +240,7 @@ long_act_at rule bytes = do
 abbrev pub within : {A : Type 0} → List ℕ → A × List ℕ → Result (A × List ℕ) Stop
 within bytes x = if nat_lt (length x.1 + 65000) (length bytes) then Err (stop_at bytes BadValue) else Ok x
 
+-- an action of at most 65,000 bytes
 unfoldable pub act_at : ActRule → List ℕ → Result (Act × List ℕ) Stop
 act_at rule bytes = long_act_at rule bytes >>= within bytes
 
@@ -253,6 +270,7 @@ long_state_at bytes = do
   values ← values_at 128 0 drawn.1
   kept_at drawn.0 values.0 values.1 values.2
 
+-- a state of at most 65,000 bytes
 unfoldable pub state_at : List ℕ → Result (State × List ℕ) Stop
 state_at bytes = long_state_at bytes >>= within bytes
 
@@ -263,12 +281,14 @@ pair_at rule n bytes = do
   x ← number_at n id.1
   Ok (id.0, x.0, x.1)
 
+-- the fields of an Ask
 unfoldable pub ask_at : List ℕ → Result (Parcel × List ℕ) Stop
 ask_at bytes = do
   x ← pair_at Least 2 bytes
   entry ← number_at 8 x.2
   Ok (Ask x.0 x.1 entry.0, entry.1)
 
+-- the fields of an Object
 unfoldable pub object_at : List ℕ → Result (Parcel × List ℕ) Stop
 object_at bytes = do
   a ← act_at Moves bytes
@@ -290,6 +310,7 @@ fields_at kind bytes rest =
     else (if kind == 10 then (id_at Bare rest >>= λ x. Ok (Free x.0, x.1))
     else Err (stop_at bytes Kind))))))))))
 
+-- a parcel of version 1
 unfoldable pub parcel_at : List ℕ → Result (Parcel × List ℕ) Stop
 parcel_at bytes = do
   version ← next_byte bytes
@@ -307,6 +328,7 @@ pub record FaultAt : Type 0 where
   pub at : ℕ
   pub why : Why
 
+-- with the place from the left, of so many bytes in all
 abbrev pub placed : ℕ → Result Parcel Stop → Result Parcel FaultAt
 placed total (Ok p) = Ok p
 placed total (Err s) = Err (record { at = total - s.left; why = s.why })
@@ -316,10 +338,12 @@ unfoldable pub reading : List ℕ → Result Parcel FaultAt
 reading bytes =
     if nat_lt 65536 (length bytes) then Err (record { at = 65536; why = Long }) else placed (length bytes) (whole_of bytes)
 
+-- what was read, if nothing was wrong
 abbrev pub read_of : Result Parcel FaultAt → Option Parcel
 read_of (Ok p) = Some p
 read_of (Err f) = None
 
+-- no number is above 255
 abbrev pub are_bytes : List ℕ → Bool
 are_bytes bytes = list_all (λ b. nat_lt b 256) bytes
 

@@ -67,6 +67,7 @@ values_text ids vs = number_text 2 (length vs) ++ each_text ids vs
 unfoldable pub slot_text : List Id → Cont → List ℕ
 slot_text ids c = first_text ids ++ number_text 4 c.slot
 
+-- a continuation, if there is one
 unfoldable pub cont_text : List Id → Option Cont → List ℕ
 cont_text ids None = 0 ∷ []
 cont_text ids (Some c) = 1 ∷ slot_text ids c
@@ -82,6 +83,7 @@ message_text m =
     let ids = without_first m.ids in
     first_text m.ids ++ (number_text 2 m.code ++ (values_text ids m.args ++ cont_text (ids_after ids m.args) m.cont))
 
+-- an action: the locality and the number that name it, and what it is
 unfoldable pub act_text : Act → List ℕ
 act_text a = number_text 2 a.origin ++ (number_text 8 a.serial ++ message_text (message_of a))
 

@@ -61,7 +61,7 @@ impl ActRule {
     }
 }
 
-pub(crate) fn are_move_args(args: &[Value]) -> bool
+fn are_move_args(args: &[Value]) -> bool
     ensures { result ≡ are_move_args args.now }
 {
     match args {
@@ -91,10 +91,7 @@ fn link_of(bytes: &[u8]) -> Result<(Link, &[u8]), ReadError>
 }
 
 #[tactic(auto, unfolding(crate::specs::Reading::cont_at))]
-pub(crate) fn cont_of(
-    place: u16,
-    bytes: &[u8],
-) -> Result<(Option<Cont>, Option<Gid>, &[u8]), ReadError>
+fn cont_of(place: u16, bytes: &[u8]) -> Result<(Option<Cont>, Option<Gid>, &[u8]), ReadError>
     ensures { Gives (λ x. (x.0, x.1, x.2.now)) result (cont_at place bytes.now) }
 {
     let (byte, rest) = byte_of(bytes)?;
@@ -110,7 +107,7 @@ pub(crate) fn cont_of(
 
 /// The end of an action: its continuation, whose id comes last.
 #[tactic(auto, unfolding(crate::specs::Reading::ended_at))]
-pub(crate) fn ended_of(
+fn ended_of(
     code: u16,
     args: Values,
     mut ids: Gids,
@@ -137,7 +134,7 @@ pub(crate) fn ended_of(
 }
 
 #[tactic(auto, unfolding(crate::specs::Reading::call_at))]
-pub(crate) fn call_of(
+fn call_of(
     alloc: Global,
     rule: ActRule,
     target: Gid,
@@ -164,11 +161,7 @@ pub(crate) fn call_of(
 }
 
 #[tactic(auto, unfolding(crate::specs::Reading::message_at))]
-pub(crate) fn message_of(
-    alloc: Global,
-    rule: ActRule,
-    bytes: &[u8],
-) -> Result<(Message, &[u8]), ReadError>
+fn message_of(alloc: Global, rule: ActRule, bytes: &[u8]) -> Result<(Message, &[u8]), ReadError>
     ensures { Gives (λ x. (x.0, x.1.now)) result (message_at rule bytes.now) }
 {
     match id_with(rule.target(), bytes) {

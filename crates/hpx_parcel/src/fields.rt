@@ -179,7 +179,7 @@ pub(crate) fn count_of(limit: u16, bytes: &[u8]) -> Result<(u16, &[u8]), ReadErr
     Ok((count, rest))
 }
 
-pub(crate) fn gid_of(msb: u64, lsb: u64) -> Option<Gid>
+fn gid_of(msb: u64, lsb: u64) -> Option<Gid>
     ensures { result ≡ id_of msb lsb }
 {
     Gid::read(msb, lsb)

@@ -170,7 +170,7 @@ fn is_refused_row(alloc: Global, front: &str, row: &str) -> Result<bool, Fail> {
     let (at, rest) = row.split_once(' ').ok_or("a place")?;
     let (word, text) = rest.split_once(' ').unwrap_or((rest, ""));
     let at: u32 = at.parse()?;
-    let why = why_of(word).ok_or("a sort")?;
+    let why = why_of(word).ok_or("sort")?;
     let mut bytes = bytes_of(alloc, front)?;
     bytes.extend_from_slice(&bytes_of(alloc, text)?)?;
     Ok(is_refused(alloc, &bytes, at, why))
@@ -255,7 +255,7 @@ fn reads_each_value(rt: HostRuntime) -> Result<(), Fail> {
         Value::Ints(ints),
     ] = act.args.as_slice()
     else {
-        return Err("a value of each kind".into());
+        return Err("each value".into());
     };
     assert_eq!(rt; text.as_slice(), b"hi".as_slice());
     assert_eq!(rt; ints.as_slice(), [1, i64::MIN].as_slice());
@@ -267,7 +267,7 @@ fn reads_a_state(rt: HostRuntime) -> Result<(), Fail> {
     let alloc = rt.alloc();
     let bytes = bytes_of(alloc, state_frame())?;
     let Parcel::Object { action, state } = decode(alloc, &bytes)? else {
-        return Err("an object".into());
+        return Err("an object, with its state".into());
     };
     assert_eq!(rt; action.code, 1);
     assert_eq!(rt; state.drawn, u32::MAX);
@@ -303,7 +303,7 @@ fn with_refs(alloc: Global, front: &str, count: u8, end: &str) -> Result<Vec<u8>
 /// A front, three of the longest texts and one of another length, and an end.
 fn with_texts(alloc: Global, front: &str, last: u16, end: &str) -> Result<Vec<u8>, Fail> {
     let mut bytes = bytes_of(alloc, front)?;
-    bytes.extend_from_slice(&[0, 4])?;
+    bytes.extend_from_slice(&[0u8, 4])?;
     for len in [16_384, 16_384, 16_384, last] {
         bytes.push(3)?;
         bytes.extend_from_slice(&len.to_be_bytes())?;

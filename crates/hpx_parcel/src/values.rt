@@ -20,7 +20,7 @@ const MOST_INTS: u16 = 4_096;
 const LAST_FAULT: u8 = 11;
 
 #[tactic(auto, unfolding(crate::specs::Reading::flag_at))]
-pub(crate) fn flag_of(bytes: &[u8]) -> Result<(Value, &[u8]), ReadError>
+fn flag_of(bytes: &[u8]) -> Result<(Value, &[u8]), ReadError>
     ensures { Gives (λ x. (x.0, x.1.now)) result (flag_at bytes.now) }
 {
     let (byte, rest) = byte_of(bytes)?;
@@ -32,7 +32,7 @@ pub(crate) fn flag_of(bytes: &[u8]) -> Result<(Value, &[u8]), ReadError>
 }
 
 #[tactic(auto, unfolding(crate::specs::Reading::text_at))]
-pub(crate) fn text_of(alloc: Global, bytes: &[u8]) -> Result<(Text, &[u8]), ReadError>
+fn text_of(alloc: Global, bytes: &[u8]) -> Result<(Text, &[u8]), ReadError>
     ensures { Gives (λ x. (x.0, x.1.now)) result (text_at bytes.now) }
 {
     let (len, rest) = count_of(LONGEST_TEXT, bytes)?;
@@ -45,7 +45,7 @@ pub(crate) fn text_of(alloc: Global, bytes: &[u8]) -> Result<(Text, &[u8]), Read
 }
 
 #[tactic(auto, unfolding(crate::specs::Reading::fault_at))]
-pub(crate) fn fault_of(bytes: &[u8]) -> Result<(Value, &[u8]), ReadError>
+fn fault_of(bytes: &[u8]) -> Result<(Value, &[u8]), ReadError>
     ensures { Gives (λ x. (x.0, x.1.now)) result (fault_at bytes.now) }
 {
     let (code, rest) = byte_of(bytes)?;
@@ -56,11 +56,7 @@ pub(crate) fn fault_of(bytes: &[u8]) -> Result<(Value, &[u8]), ReadError>
     }
 }
 
-pub(crate) fn numbers_of(
-    alloc: Global,
-    count: u16,
-    bytes: &[u8],
-) -> Result<(Ints, &[u8]), ReadError>
+fn numbers_of(alloc: Global, count: u16, bytes: &[u8]) -> Result<(Ints, &[u8]), ReadError>
     ensures { Gives (λ x. (x.0, x.1.now)) result (numbers_at count bytes.now) }
 {
     let mut numbers = Items::new(alloc);
@@ -74,7 +70,7 @@ pub(crate) fn numbers_of(
 }
 
 #[tactic(auto, unfolding(crate::specs::Reading::ints_at))]
-pub(crate) fn ints_of(alloc: Global, bytes: &[u8]) -> Result<(Ints, &[u8]), ReadError>
+fn ints_of(alloc: Global, bytes: &[u8]) -> Result<(Ints, &[u8]), ReadError>
     ensures { Gives (λ x. (x.0, x.1.now)) result (ints_at bytes.now) }
 {
     let (count, rest) = count_of(MOST_INTS, bytes)?;
@@ -82,7 +78,7 @@ pub(crate) fn ints_of(alloc: Global, bytes: &[u8]) -> Result<(Ints, &[u8]), Read
 }
 
 #[tactic(auto, unfolding(crate::specs::Reading::plain_at))]
-pub(crate) fn plain_of<'a>(
+fn plain_of<'a>(
     alloc: Global,
     tag: u8,
     bytes: &[u8],
@@ -111,7 +107,7 @@ pub(crate) fn plain_of<'a>(
 }
 
 #[tactic(auto, unfolding(crate::specs::Reading::value_at))]
-pub(crate) fn value_of(
+fn value_of(
     alloc: Global,
     limit: u16,
     place: usize,
@@ -144,7 +140,7 @@ pub(crate) fn push_found(ids: &mut Gids, id: Option<Gid>) -> Result<(), OutOfMem
 }
 
 /// Values, whose ids come after those that there are.
-pub(crate) fn each_of(
+fn each_of(
     alloc: Global,
     limit: u16,
     count: u16,
