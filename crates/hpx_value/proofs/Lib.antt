@@ -1,0 +1,2 @@
+-- Lemmas on the halves of ids.
+pub mod Halves

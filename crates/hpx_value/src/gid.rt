@@ -60,8 +60,10 @@ impl Gid {
         }
     }
 
-    /// The id that two halves are, if they are one.
+    /// The id that two halves are, if they are one. The halves of an id give back that id.
+    #[tactic(auto, using(crate::proofs::Halves::shown_by))]
     pub fn read(msb: u64, lsb: u64) -> Option<Gid>
+        ensures made { (id : Id) → IsId id → upper_half id ≡ msb → id.number ≡ lsb → result ≡ Some id }
         ensures some { IfSome result (λ id. (upper_half id ≡ msb) × (id.number ≡ lsb)) }
         ensures valid { IfSome result IsId }
         ensures none { IfNone result ((id : Id) → IsId id → upper_half id ≡ msb → id.number ≡ lsb → ⊥) }
