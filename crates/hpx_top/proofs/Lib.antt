@@ -11,3 +11,4 @@ pub mod TextPhases
 pub mod TextSession
 pub mod PlainLemmas
 mod PlainRows
+pub mod ReaderLemmas

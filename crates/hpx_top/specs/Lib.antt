@@ -12,3 +12,5 @@ pub mod Acts
 pub mod ActsLaws
 pub mod PlainText
 pub mod TextLaw
+pub mod Pending
+pub mod Reader

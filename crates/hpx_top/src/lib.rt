@@ -8,4 +8,5 @@ pub mod hand;
 pub mod kept;
 pub mod node;
 pub mod parts;
+pub mod reader;
 pub mod text_law;
