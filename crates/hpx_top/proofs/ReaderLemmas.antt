@@ -111,6 +111,11 @@ reads_onto n old buf new left later reads room is =
 
 -- ---- lines
 
+-- before anything was read, the lines that are left are those of the source's bytes
+pub lines_left-start : (left : Option (List ℕ)) → lines_left (record { pending = []; read = 0; ended = false }) left ≡ option_map (λ input. lines_in (slice_split is_newline input)) left
+lines_left-start None = refl
+lines_left-start (Some bytes) = refl
+
 -- a newline among the bytes that are pending ends the first of the lines
 pub lines_left-newline : (reading : Reading) (n : ℕ) (left : Option (List ℕ)) → IsNewlineAt reading.pending n
     → lines_left reading left ≡ preceded (strip_carriage_return (take n reading.pending) ∷ []) (lines_left (record reading { pending = drop (n + 1) reading.pending }) left)
