@@ -68,7 +68,7 @@ abbrev pub Answers : Next → Reading → Reading → Option (List ℕ) → Opti
 Answers (Line line) old new left later = TakesLine line (lines_left old left) (lines_left new later)
 Answers Long old new left later = TakesLong (lines_left old left) (lines_left new later)
 Answers Quit old new left later = TakesQuit (lines_left old left) (lines_left new later)
-Answers End old new left later = IsAtEnd new (input_left old left) (lines_left old left)
+Answers End old new left later = IsAtEnd new (input_left old left) (lines_left old left) × (input_left new later ≡ input_left old left)
 Answers Full old new left later = IsFull new × (input_left new later ≡ input_left old left)
 
 -- ---- within a call
