@@ -17,3 +17,4 @@ pub mod Booted
 pub mod TurnLemmas
 pub mod Posted
 pub mod QuietLemmas
+pub mod ReaderLemmas

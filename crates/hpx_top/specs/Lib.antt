@@ -15,3 +15,5 @@ pub mod TextLaw
 pub mod Sound
 pub mod Places
 pub mod Turns
+pub mod Pending
+pub mod Reader

@@ -9,6 +9,7 @@ pub mod kept;
 pub mod locals;
 pub mod node;
 pub mod parts;
+pub mod reader;
 pub mod text_law;
 pub mod turns;
 pub mod world;
