@@ -1,0 +1,7 @@
+//! The ids that a locality holds, each with its owner: a table by key.
+#![tactic(auto)]
+
+pub mod held;
+pub mod ids;
+#[cfg(test)]
+mod tests;
