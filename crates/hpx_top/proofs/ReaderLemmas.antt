@@ -11,11 +11,11 @@ use Rattle.std.proofs.Math.ListN.{drop_of_length-le}
 use Rattle.hpx_ports.specs.Told.{preceded}
 use Rattle.hpx_ports.specs.Bytes.{Reads}
 use Rattle.hpx_top.specs.declared.reader.Next.{Next}
-use Rattle.hpx_top.specs.declared.reader.Next.TheVariants.{Line, Long, Quit}
+use Rattle.hpx_top.specs.declared.reader.Next.TheVariants.{Line, Long, Quit, End, Full}
 use Rattle.hpx_top.specs.PlainText.{is_long, is_quit, is_newline, IsPiece, lines_in}
 use Rattle.hpx_top.specs.Pending.{IsNewlineAt, IsSearched, ReadsOnto}
 use Rattle.hpx_top.specs.declared.reader.ReadFault.{ReadFault}
-use Rattle.hpx_top.specs.Reader.{Reading, still_left, input_left, lines_left, Answers, IsLast, next_of}
+use Rattle.hpx_top.specs.Reader.{Reading, still_left, input_left, lines_left, bytes_left, Answers, LeavesFewer, IsLast, next_of}
 use Rattle.hpx_top.proofs.PlainLemmas.{lines_in-first, lines_in-last}
 
 -- ---- pieces
@@ -180,3 +180,21 @@ handed_out (Ok answer) line rest old mid new left later next is same first =
     subst (λ next. Answers next old new left later) (sym next)
     (subst (λ new. Answers (next_of line) old new left later) (sym is)
     (Answers-line line old (record mid { pending = rest }) left later (ap (option_map (λ input. lines_in (slice_split is_newline input))) (sym same) ∙ first)))
+
+-- ---- what is left to be handed out or read
+
+leaves_fewer : (next : Next) (old new : Reading) → bytes_left new < bytes_left old → LeavesFewer next old new
+leaves_fewer (Line line) old new less = less
+leaves_fewer Long old new less = less
+leaves_fewer Quit old new less = tt
+leaves_fewer End old new less = tt
+leaves_fewer Full old new less = tt
+
+-- some bytes of those that are pending were handed out
+pub handed_out-fewer : (result : Result Next ReadFault) (count : ℕ) (old mid new : Reading) → OnOk result (new ≡ record mid { pending = drop count mid.pending })
+    → bytes_left mid ≡ bytes_left old → 0 < count → count ≤ length mid.pending
+    → IfOk result (λ next. LeavesFewer next old new)
+handed_out-fewer (Err fault) count old mid new is kept some within = tt
+handed_out-fewer (Ok next) count old mid new is kept some within =
+    let less : (67108864 - mid.read) + length (drop count mid.pending) < bytes_left old = omega (arith, length-drop count mid.pending) in
+    leaves_fewer next old new (subst (λ new. bytes_left new < bytes_left old) (sym is) less)

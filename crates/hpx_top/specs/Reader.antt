@@ -71,6 +71,16 @@ Answers Quit old new left later = TakesQuit (lines_left old left) (lines_left ne
 Answers End old new left later = IsAtEnd new (input_left old left) (lines_left old left) × (input_left new later ≡ input_left old left)
 Answers Full old new left later = IsFull new × (input_left new later ≡ input_left old left)
 
+-- how many bytes may still be handed out or read
+abbrev pub bytes_left : Reading → ℕ
+bytes_left reading = (67108864 - reading.read) + length reading.pending
+
+-- a line that is handed out leaves fewer
+abbrev pub LeavesFewer : Next → Reading → Reading → Type 0
+LeavesFewer (Line line) old new = bytes_left new < bytes_left old
+LeavesFewer Long old new = bytes_left new < bytes_left old
+LeavesFewer _ old new = Unit {0}
+
 -- ---- within a call
 
 -- how many reads may come at most

@@ -4,7 +4,7 @@ ghost use Rattle.std.specs.Prelude.{◌≡◌, ◌+◌, ◌<◌, ◌≤◌, true
 ghost use Rattle.std.specs.Str.Lines.{strip_carriage_return};
 ghost use Rattle.hpx_ports.specs.Faults.{Rose};
 ghost use Rattle.hpx_top.specs.PlainText.{IsPiece};
-ghost use Rattle.hpx_top.specs.Reader.{input_left, reads_left, wants_more, IsFound, last_of, next_of, Answers};
+ghost use Rattle.hpx_top.specs.Reader.{input_left, bytes_left, reads_left, wants_more, IsFound, last_of, next_of, Answers, LeavesFewer};
 
 mod pending;
 #[cfg(test)]
@@ -117,6 +117,7 @@ impl LineReader {
         ensures counted { self.new.read + S.taken source.old ≡ self.old.read + S.taken source.new }
         ensures limit { self.new.read ≤ 67108864 }
         ensures fewer { OnOk result (reads_left self.new < reads_left self.old) }
+        ensures kept { bytes_left self.new ≡ bytes_left self.old }
         ensures cause { IsErrOf result ReadFault.Failed → Rose (S.faults source.old) (S.faults source.new) }
         ensures never_falls { S.faults source.old ≤ S.faults source.new }
     {
@@ -134,6 +135,7 @@ impl LineReader {
         ensures input { input_left self.new (S.left source.new) ≡ input_left self.old (S.left source.old) }
         ensures counted { self.new.read + S.taken source.old ≡ self.old.read + S.taken source.new }
         ensures limit { self.new.read ≤ 67108864 }
+        ensures kept { bytes_left self.new ≡ bytes_left self.old }
         ensures full { self.old.read ≡ 67108864 → self.old.ended ≡ false → IsPiece self.old.pending → result ≡ Ok Found.AtLimit }
         ensures still { wants_more self.old ≡ false → source.new ≡ source.old }
         ensures cause { IsErrOf result ReadFault.Failed → Rose (S.faults source.old) (S.faults source.new) }
@@ -171,6 +173,7 @@ impl LineReader {
     pub fn next_line<S: Source>(&mut self, alloc: Global, source: &mut S) -> Result<Next, ReadFault>
         ensures ok { IfOk result (λ next. Answers next self.old self.new (S.left source.old) (S.left source.new)) }
         ensures err { OnErr result (input_left self.new (S.left source.new) ≡ input_left self.old (S.left source.old)) }
+        ensures fewer { IfOk result (λ next. LeavesFewer next self.old self.new) }
         ensures full { self.old.read ≡ 67108864 → self.old.ended ≡ false → IsPiece self.old.pending → result ≡ Ok Next.Full }
         ensures still { wants_more self.old ≡ false → source.new ≡ source.old }
         ensures counted { self.new.read + S.taken source.old ≡ self.old.read + S.taken source.new }
