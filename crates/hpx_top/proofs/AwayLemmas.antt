@@ -117,3 +117,16 @@ carrying_taken frame fl tr es es' c one = record {
   sent = c.sent ∙ sym one.outs;
   arrived = c.arrived ∙ (sym one.ins ∙ sym (append-nil (ins es')));
 }
+
+-- at the start nothing is away
+pub carrying_start : (h : Option Frame) (fl : Option (List Frame)) (tr : Option (List Wire)) (es : List Entry)
+    → h ≡ None → fl ≡ Some [] → tr ≡ Some [] → es ≡ [] → IsCarrying h fl tr es
+carrying_start h fl tr es hand flight trace none = rw (hand, flight, trace, none) (record {
+  frames = [];
+  wires = [];
+  flight_is = refl;
+  trace_is = refl;
+  bag = λ x. refl;
+  sent = refl;
+  arrived = refl;
+})

@@ -18,3 +18,4 @@ pub mod TurnLemmas
 pub mod Posted
 pub mod QuietLemmas
 pub mod ReaderLemmas
+pub mod Unfed

@@ -17,3 +17,4 @@ pub mod Places
 pub mod Turns
 pub mod Pending
 pub mod Reader
+pub mod Usage

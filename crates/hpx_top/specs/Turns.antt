@@ -1,10 +1,11 @@
 -- What a turn wrote.
-use Rattle.std.specs.Prelude.{ℕ, false, List, [], ◌∷◌, ◌≡◌, ◌⊎◌}
+use Rattle.std.specs.Prelude.{ℕ, false, List, [], ◌∷◌, ◌++◌, ◌≡◌, ◌⊎◌}
+use Rattle.std.specs.List.{AllByRecursion}
 use Rattle.hpx_journal.specs.Entries.{name_of}
 use Rattle.hpx_journal.specs.declared.entry.Name.{Name}
 use Rattle.hpx_journal.specs.declared.entry.Entry.{Entry}
 use Rattle.hpx_journal.specs.declared.entry.Event.TheVariants.{Line, Fire, Done, Out, In}
-use Rattle.hpx_journal.specs.Whole.{Grows}
+use Rattle.hpx_journal.specs.Whole.{Grows, FeedsNothing}
 use Rattle.hpx_top.specs.declared.turns.Turned.{Turned}
 use Rattle.hpx_top.specs.declared.turns.Turned.TheVariants as turned
 use Rattle.hpx_top.specs.declared.parts.Finished.TheVariants.{Committed, NotRunning}
@@ -24,3 +25,9 @@ Wrote (turned.Finished Committed) old new = (k : ℕ) × (action : Name) × Grow
 Wrote (turned.Finished NotRunning) old new = new ≡ old
 Wrote turned.Moved old new = MovesFrame old new
 Wrote turned.Empty old new = new ≡ old
+
+-- the journal grew, if at all, by entries that feed nothing
+pub record IsUnfed (old new : List Entry) : Type 0 where
+  pub more : List Entry
+  pub is : new ≡ old ++ more
+  pub unfed : AllByRecursion (λ e. FeedsNothing e.event) more

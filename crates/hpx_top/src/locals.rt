@@ -9,6 +9,7 @@ ghost use Rattle.hpx_ports.specs.Faults.{Rose};
 ghost use Rattle.hpx_top.specs.Tables.{IsPassive};
 ghost use Rattle.hpx_top.specs.Stands.{rules_of};
 ghost use Rattle.hpx_top.specs.Sound.{IsSound, IsSame, IsInside, SendsOne, AcceptsOne, IsCarrying, IsQuiet, road_of, listed};
+ghost use Rattle.hpx_top.specs.Turns.{IsUnfed};
 ghost use Rattle.hpx_top.specs.Free.{NoneIsFree};
 ghost use Rattle.hpx_top.specs.Jobs.{IsRunning};
 
@@ -98,6 +99,7 @@ impl<A: Acts + Copy> Locals<A> {
         ensures sound { IsSound A.act_of self.new.nodes.items self.new.journal.entries }
         ensures count { length self.new.nodes.items ≡ length self.old.nodes.items }
         ensures inside { IsInside self.old.journal.entries self.new.journal.entries }
+        ensures unfed { IsUnfed self.old.journal.entries self.new.journal.entries }
         ensures hand { self.new.hand ≡ self.old.hand }
         ensures fired { IfOk result (λ o. IfSome o (λ job. Grows k (Event.Fire (name_of job.action) ∷ []) self.old.journal.entries self.new.journal.entries)) }
         ensures here { IfOk result (λ o. IfSome o (λ job. job.at ≡ k)) }
@@ -121,6 +123,7 @@ impl<A: Acts + Copy> Locals<A> {
         ensures sound { IsSound A.act_of self.new.nodes.items self.new.journal.entries }
         ensures count { length self.new.nodes.items ≡ length self.old.nodes.items }
         ensures inside { IsInside self.old.journal.entries self.new.journal.entries }
+        ensures unfed { IsUnfed self.old.journal.entries self.new.journal.entries }
         ensures hand { self.new.hand ≡ self.old.hand }
         ensures committed { IfOk result (λ f. f ≡ Finished.Committed → Grows k (Event.Done (name_of done.job.action) false ∷ []) self.old.journal.entries self.new.journal.entries) }
         ensures not_running { IfOk result (λ f. f ≡ Finished.NotRunning →

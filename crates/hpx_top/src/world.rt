@@ -1,4 +1,4 @@
-ghost use Rattle.std.specs.Prelude.{◌≡◌, ◌≤◌, ◌<◌, ◌+◌, ◌-◌, ◌^◌, ◌∷◌, [], ℕ, true, length, min, OnOk, OnErr, IfOk, IfErr, IsTrue, ◌↔◌, Ok, Err, Some, None, option_copied, slice_get, ◌⊎◌};
+ghost use Rattle.std.specs.Prelude.{◌≡◌, ◌≤◌, ◌<◌, ◌+◌, ◌-◌, ◌^◌, ◌∷◌, [], ℕ, true, false, length, min, OnOk, OnErr, IfOk, IfErr, IsTrue, ◌↔◌, Ok, Err, Some, None, option_copied, slice_get, ◌⊎◌};
 ghost use Rattle.hpx_journal.specs.Weights.{HasRoom, total_weight};
 ghost use Rattle.hpx_journal.specs.Roots.{roots};
 ghost use Rattle.hpx_journal.specs.Whole.{IsLegal, start, run, Grows};
@@ -6,7 +6,8 @@ ghost use Rattle.hpx_journal.specs.Sessions.{IsSettled};
 ghost use Rattle.hpx_ports.specs.Faults.{Rose};
 ghost use Rattle.hpx_top.specs.Stands.{rules_of};
 ghost use Rattle.hpx_top.specs.Sound.{IsSame, IsInside, IsCarrying, IsQuiet};
-ghost use Rattle.hpx_top.specs.Turns.{Wrote};
+ghost use Rattle.hpx_top.specs.Turns.{Wrote, IsUnfed};
+ghost use Rattle.hpx_journal.specs.Entries.{name_of};
 ghost use Rattle.hpx_top.specs.Free.{NoneIsFree};
 ghost use Rattle.hpx_top.specs.Jobs.{IsRunning};
 
@@ -93,11 +94,7 @@ impl<A: Acts + Copy> World<A> {
             Choice::Finish(done) => Some(done),
             _ => None,
         };
-        WorldFault::JournalFull {
-            entries: self.locals.journal.entries(),
-            weight: self.locals.journal.weight(),
-            undone,
-        }
+        self.locals.full(undone)
     }
 
     fn feed(&mut self, alloc: Global, line: Text) -> Result<Turned, WorldFault<A>>
@@ -147,6 +144,8 @@ impl<A: Acts + Copy> World<A> {
         ensures hand { self.new.hand ≡ self.old.hand }
         ensures inside { IsInside self.old.journal.entries self.new.journal.entries }
         ensures wrote { IfOk result (λ t. Wrote t self.old.journal.entries self.new.journal.entries) }
+        ensures committed { result ≡ Ok (Turned.Finished Finished.Committed)
+            → Grows done.job.at (Event.Done (name_of done.job.action) false ∷ []) self.old.journal.entries self.new.journal.entries }
         ensures not_running { result ≡ Ok (Turned.Finished Finished.NotRunning) →
             IsSame self.old.nodes self.new.nodes self.old.journal.entries self.new.journal.entries
             × ((t : _) → slice_get self.old.nodes done.job.at ≡ Some t → done.localities ≡ t.localities → IsRunning t done.job → ⊥) }
@@ -229,6 +228,10 @@ impl<A: Acts + Copy> World<A> {
         ensures carrying { IsCarrying self.new.hand (F.flight fabric.new) (F.trace fabric.new) self.new.journal.entries }
         ensures count { length self.new.nodes ≡ length self.old.nodes }
         ensures wrote { IfOk result (λ t. Wrote t self.old.journal.entries self.new.journal.entries) }
+        ensures line { (line : _) → choice ≡ Choice.Feed line → IfOk result (λ t. (action : _) × Grows 0 (Event.Line action line ∷ []) self.old.journal.entries self.new.journal.entries) }
+        ensures fired { (k : _) (job : _) → choice ≡ Choice.Fire k → result ≡ Ok (Turned.Fired job) → job.at ≡ k }
+        ensures committed { (done : _) → choice ≡ Choice.Finish done → result ≡ Ok (Turned.Finished Finished.Committed)
+            → Grows done.job.at (Event.Done (name_of done.job.action) false ∷ []) self.old.journal.entries self.new.journal.entries }
 
         ensures err { OnErr result (IsSame self.old.nodes self.new.nodes self.old.journal.entries self.new.journal.entries) }
         ensures full { (HasRoom self.old.journal.entries → ⊥) → (e w : ℕ) × (u : _) × (result ≡ Err (WorldFault.JournalFull e w u)) }
@@ -248,5 +251,22 @@ impl<A: Acts + Copy> World<A> {
             Choice::Pump(k) => self.pump(alloc, k as usize, fabric),
             Choice::Take => self.take(alloc, fabric),
         }
+    }
+
+    /// Turns, until none can be made. Nothing is fed. At a refusal the turns before it stand.
+    pub fn drain<F: Fabric>(&mut self, alloc: Global, fabric: &mut F) -> Result<(), WorldFault<A>>
+        requires carrying { IsCarrying self.old.hand (F.flight fabric.old) (F.trace fabric.old) self.old.journal.entries }
+
+        ensures legal { let n = length self.new.nodes in IsLegal (rules_of A.act_of n) (start (roots n)) self.new.journal.entries }
+        ensures carrying { IsCarrying self.new.hand (F.flight fabric.new) (F.trace fabric.new) self.new.journal.entries }
+        ensures count { length self.new.nodes ≡ length self.old.nodes }
+        ensures unfed { IsUnfed self.old.journal.entries self.new.journal.entries }
+
+        ensures full_only { (e w : ℕ) (u : _) → result ≡ Err (WorldFault.JournalFull e w u) → HasRoom self.new.journal.entries → ⊥ }
+        ensures cause { result ≡ Err WorldFault.Fabric → Rose (F.faults fabric.old) (F.faults fabric.new) }
+        ensures faults { F.faults fabric.old ≤ F.faults fabric.new }
+    {
+        let acts = self.acts;
+        self.locals.drain(alloc, &acts, fabric)
     }
 }

@@ -3,6 +3,7 @@ use Rattle.hpx_top.specs.Tables.{Tables}
 use Rattle.hpx_top.specs.Jobs.{IsRunning}
 use Rattle.hpx_top.proofs.SoundLemmas.{stands_own, sound_inner, inside_of}
 use Rattle.hpx_top.proofs.TurnLemmas.{IfOk-map, IfErr-map, IfSome-map, IfNone-map, here_at, grows_at, same_at, got_at}
+use Rattle.hpx_top.proofs.Unfed.{unfed_of}
 use Rattle.hpx_top.proofs.locals.Locals.finish.Goals as goal
 
 pub finish-requires-clause-stands : goal.finish-requires-clause-stands
@@ -33,3 +34,6 @@ pub returns-clause-err : goal.returns-clause-err
 returns-clause-err g c =
     IfErr-map c.finish.result _ _ (λ e h. (h.0, same_at _ _ _ c.requires.sound c.args.k c.index_mut.result.now c.finish.new.self c.requires.range c.index_mut.ensures.value _ _ h.1))
     c.finish.ensures.err
+
+pub returns-clause-unfed : goal.returns-clause-unfed
+returns-clause-unfed g c = unfed_of _ _ _ _ c.finish.ensures.writes

@@ -3,6 +3,7 @@ use Rattle.hpx_top.specs.Tables.{Tables}
 use Rattle.hpx_top.specs.Free.{NoneIsFree}
 use Rattle.hpx_top.proofs.SoundLemmas.{stands_own, sound_inner, inside_of}
 use Rattle.hpx_top.proofs.TurnLemmas.{IfOk-map, IfErr-map, IfSome-map, IfNone-map, here_at, grows_at, same_at, got_at}
+use Rattle.hpx_top.proofs.Unfed.{unfed_of}
 use Rattle.hpx_top.proofs.locals.Locals.fire.Goals as goal
 
 pub fire-requires-clause-stands : goal.fire-requires-clause-stands
@@ -38,3 +39,6 @@ pub returns-clause-err : goal.returns-clause-err
 returns-clause-err g c =
     IfErr-map c.fire.result _ _ (λ e. same_at _ _ _ c.requires.sound c.args.k c.index_mut.result.now c.fire.new.self c.requires.range c.index_mut.ensures.value _ _)
     c.fire.ensures.err
+
+pub returns-clause-unfed : goal.returns-clause-unfed
+returns-clause-unfed g c = unfed_of _ _ _ _ c.fire.ensures.writes

@@ -1,0 +1,17 @@
+use Rattle.std.proofs.Common.{◌≡◌, ◌≤◌, ◌-◌, length}
+use Rattle.hpx_top.specs.Sound.{IsSound, IsCarrying}
+use Rattle.hpx_top.specs.Turns.{IsUnfed}
+use Rattle.hpx_top.proofs.locals.Locals.drain.Given as goal
+
+-- each turn so far kept what all localities keep
+abbrev pub invariant-loop : goal.invariant-loop
+invariant-loop g l =
+    IsSound g.A.Acts.act_of l.self.nodes.items l.self.journal.entries
+    × (length l.self.nodes.items ≡ length l.fn.self.nodes.items)
+    × IsCarrying l.self.hand (g.F.Fabric.flight l.fabric) (g.F.Fabric.trace l.fabric) l.self.journal.entries
+    × IsUnfed l.fn.self.journal.entries l.self.journal.entries
+    × (g.F.Fabric.faults l.fn.fabric ≤ g.F.Fabric.faults l.fabric)
+
+-- how many entries may still come
+abbrev pub decreases-loop : goal.decreases-loop
+decreases-loop g l = 2097152 - length l.self.journal.entries

@@ -1,0 +1,135 @@
+//! The top call: all that the program does, over ports that it is given.
+ghost use Rattle.std.specs.Prelude.{◌≡◌, ◌≢◌, ◌≤◌, [], Some, None, Err, IfSome, OnOk, ℕ, length};
+ghost use Rattle.hpx_journal.specs.Weights.{HasRoom};
+ghost use Rattle.hpx_ports.specs.Faults.{Rose};
+ghost use Rattle.hpx_top.specs.Usage.{bad_word};
+
+use crate::acts::AllActs;
+use crate::session::{SessionFault, serve};
+use crate::world::World;
+use hpx_ports::fabric::Fabric;
+use hpx_ports::sink::{Sink, write_all};
+use hpx_ports::source::Source;
+use hpx_value::items::{Text, Texts};
+use std::alloc::Global;
+
+/// How a run ended: its status, the world where one was booted, and the fabric.
+#[derive(Drop)]
+pub struct End<F: Fabric> {
+    pub status: u8,
+    pub world: Option<World<AllActs>>,
+    pub fabric: F,
+}
+
+/// The words of the one application that there is.
+const ACCUMULATOR: &[u8] = b"accumulator";
+const TWO_LOCALITIES: &[u8] = b"--hpx:localities=2";
+
+/// The place, from 1, of the first word that is not what it must be; 0 where a word is missing.
+pub fn bad_word(words: &[Text]) -> Option<u8>
+    ensures { result ≡ bad_word words.now }
+{
+    match words {
+        [] => Some(0),
+        [first, ..] if first.as_slice() != ACCUMULATOR => Some(1),
+        [_] => Some(0),
+        [_, second, ..] if second.as_slice() != TWO_LOCALITIES => Some(2),
+        [_, _] => None,
+        _ => Some(3),
+    }
+}
+
+/// The line for words that are refused.
+fn usage_line(place: u8) -> &'static [u8] {
+    match place {
+        0 => b"hpx: bad word 0\n",
+        1 => b"hpx: bad word 1\n",
+        2 => b"hpx: bad word 2\n",
+        _ => b"hpx: bad word 3\n",
+    }
+}
+
+/// The line and the status of a session that ended early.
+fn line_of(fault: SessionFault) -> (&'static [u8], u8)
+    ensures read { result.1 ≡ 2 → fault ≡ SessionFault.Read }
+    ensures write { result.1 ≡ 3 → fault ≡ SessionFault.Write }
+    ensures fabric { result.1 ≡ 4 → fault ≡ SessionFault.Fabric }
+    ensures full { result.1 ≡ 5 → fault ≡ SessionFault.JournalFull }
+    ensures early { 2 ≤ result.1 }
+{
+    match fault {
+        SessionFault::Read => (b"hpx: read failed\n", 2),
+        SessionFault::Write => (b"hpx: write failed\n", 3),
+        SessionFault::Fabric => (b"hpx: fabric failed\n", 4),
+        SessionFault::JournalFull => (b"hpx: journal full\n", 5),
+        SessionFault::OutOfMemory => (b"hpx: out of memory\n", 6),
+        SessionFault::Strange => (b"hpx: strange parcel\n", 8),
+        SessionFault::InputFull => (b"hpx: input full\n", 9),
+    }
+}
+
+/// A session over two localities, on a fabric in which nothing is in flight yet.
+#[tactic(auto, using(crate::proofs::AwayLemmas::carrying_start))]
+fn serve_all<S: Source, K: Sink, F: Fabric>(
+    alloc: Global,
+    source: &mut S,
+    sink: &mut K,
+    fabric: &mut F,
+) -> (Option<World<AllActs>>, Result<(), SessionFault>)
+    requires flight { F.flight fabric.old ≡ Some [] }
+    requires trace { F.trace fabric.old ≡ Some [] }
+    ensures read { result.1 ≡ Err SessionFault.Read → Rose (S.faults source.old) (S.faults source.new) }
+    ensures write { result.1 ≡ Err SessionFault.Write → Rose (K.faults sink.old) (K.faults sink.new) }
+    ensures fabric { result.1 ≡ Err SessionFault.Fabric → Rose (F.faults fabric.old) (F.faults fabric.new) }
+    ensures full { result.1 ≡ Err SessionFault.JournalFull → IfSome result.0 (λ w. HasRoom w.journal.entries → ⊥) }
+    ensures world { OnOk result.1 (IfSome result.0 (λ w. length w.nodes ≡ 2)) }
+{
+    let mut world = match World::boot(alloc, AllActs { localities: 2 }) {
+        Ok(world) => world,
+        Err(_) => return (None, Err(SessionFault::OutOfMemory)),
+    };
+    let served = serve(alloc, &mut world, source, sink, fabric);
+    (Some(world), served)
+}
+
+/// Runs the program on its words. A status other than 0 writes one line on `err`; where that fails, the status stays.
+pub fn run<S: Source, K: Sink, E: Sink, F: Fabric>(
+    alloc: Global,
+    words: &Texts,
+    source: &mut S,
+    sink: &mut K,
+    err: &mut E,
+    mut fabric: F,
+) -> End<F>
+    requires flight { F.flight fabric ≡ Some [] }
+    requires trace { F.trace fabric ≡ Some [] }
+    ensures usage { (place : ℕ) → bad_word words.now ≡ Some place → (result.status ≡ 1) × (source.new ≡ source.old) × (sink.new ≡ sink.old) }
+    ensures usage_only { bad_word words.now ≡ None → result.status ≢ 1 }
+    ensures read { result.status ≡ 2 → Rose (S.faults source.old) (S.faults source.new) }
+    ensures write { result.status ≡ 3 → Rose (K.faults sink.old) (K.faults sink.new) }
+    ensures fabric { result.status ≡ 4 → Rose (F.faults fabric) (F.faults result.fabric) }
+    ensures full { result.status ≡ 5 → IfSome result.world (λ w. HasRoom w.journal.entries → ⊥) }
+{
+    if let Some(place) = bad_word(words.as_slice()) {
+        let _ = write_all(err, usage_line(place));
+        return End {
+            status: 1,
+            world: None,
+            fabric,
+        };
+    }
+    let (world, served) = serve_all(alloc, source, sink, &mut fabric);
+    let status = match served {
+        Ok(()) => 0,
+        Err(fault) => {
+            let (line, status) = line_of(fault);
+            let _ = write_all(err, line);
+            status
+        }
+    };
+    End {
+        status,
+        world,
+        fabric,
+    }
+}
