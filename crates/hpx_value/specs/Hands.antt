@@ -20,6 +20,7 @@ pub record Slot : Type 0 where
   pub object : Id
   pub number : ℕ
 
+-- the id of the session: the root of kind 1 at locality 0
 abbrev pub session : Id
 session = bare_id 0 1 1
 
@@ -31,6 +32,7 @@ id_at ids place = slice_index_or ids place session
 abbrev pub slot_at : List Id → Cont → Slot
 slot_at ids c = record { object = id_at ids c.place; number = c.slot }
 
+-- where the continuation of an action leads, if it has one
 abbrev pub own_slot : List Id → Option Cont → List Slot
 own_slot ids None = []
 own_slot ids (Some c) = slot_at ids c ∷ []
@@ -43,6 +45,7 @@ hand_ids s a made = s.ids ++ (a.ids ++ made)
 abbrev pub hand_slots : State → Act → List Slot
 hand_slots s a = map (slot_at s.ids) s.conts ++ own_slot a.ids a.cont
 
+-- the continuation of the hand under a number
 abbrev pub hand_slot : State → Act → ℕ → Slot
 hand_slot s a number = slice_index_or (hand_slots s a) number (record { object = session; number = 0 })
 
@@ -62,6 +65,7 @@ abbrev pub cont_at : ℕ → Option Slot → Option Cont
 cont_at place None = None
 cont_at place (Some x) = Some (record { place = place; slot = x.number })
 
+-- the object of a slot, if there is one, as the last id of a message
 abbrev pub slot_ids : Option Slot → List Id
 slot_ids None = []
 slot_ids (Some x) = x.object ∷ []
@@ -75,6 +79,7 @@ addressed hand target code args cont = record {
   ids = target ∷ (map (id_at hand) (refs_in args) ++ slot_ids cont);
 }
 
+-- the id that a target stands for; a root has number 1
 abbrev pub target_id : List Id → Target → Id
 target_id hand (Place place) = id_at hand place
 target_id hand (Root kind at) = bare_id at kind 1
@@ -87,6 +92,7 @@ send_slot s a made (Made make slot) =
     Some (record { object = id_at (hand_ids s a made) (length s.ids + length a.ids + make); number = slot })
 send_slot s a made (Here slot) = Some (record { object = session; number = slot })
 
+-- the message that a send leaves due
 abbrev pub sent : State → Act → List Id → Sending → Message
 sent s a made x =
     let hand = hand_ids s a made in addressed hand (target_id hand x.target) x.code x.args (send_slot s a made x.cont)
@@ -95,6 +101,7 @@ sent s a made x =
 abbrev pub answer : List Id → Slot → Value → Message
 answer hand x v = addressed hand x.object 3 (Int (pos x.number) ∷ v ∷ []) None
 
+-- the message that a reply leaves due
 abbrev pub replied : State → Act → List Id → Reply → Message
 replied s a made x = answer (hand_ids s a made) (hand_slot s a x.cont) x.value
 
@@ -109,6 +116,7 @@ abbrev pub conts_from : ℕ → List Slot → List Cont
 conts_from place [] = []
 conts_from place (x ∷ xs) = record { place = place; slot = x.number } ∷ conts_from (place + 1) xs
 
+-- the continuations that the new state keeps, in order
 abbrev pub slots_kept : State → Act → NewState → List Slot
 slots_kept s a new = map (hand_slot s a) new.conts
 

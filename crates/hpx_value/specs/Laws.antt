@@ -12,10 +12,12 @@ owns (Own number) = number ∷ []
 owns (Made make slot) = []
 owns (Here slot) = []
 
+-- the continuations that the sends hand on, in order
 abbrev pub handed_on : List Sending → List ℕ
 handed_on [] = []
 handed_on (x ∷ xs) = owns x.cont ++ handed_on xs
 
+-- the continuations that the replies answer, in order
 abbrev pub answered : List Reply → List ℕ
 answered [] = []
 answered (x ∷ xs) = x.cont ∷ answered xs
@@ -33,26 +35,30 @@ pub record MadeSlot : Type 0 where
   pub make : ℕ
   pub slot : ℕ
 
+-- the slot of a made object that a send names
 abbrev pub makes_slot : SendCont → List MadeSlot
 makes_slot NoCont = []
 makes_slot (Own number) = []
 makes_slot (Made make slot) = record { make = make; slot = slot } ∷ []
 makes_slot (Here slot) = []
 
+-- the slots of made objects that the sends name, in order
 abbrev pub made_slots : List Sending → List MadeSlot
 made_slots [] = []
 made_slots (x ∷ xs) = makes_slot x.cont ++ made_slots xs
 
+-- whether it is this slot of this made object
 abbrev pub is_made_slot : ℕ → ℕ → MadeSlot → Bool
 is_made_slot make slot x = cond (x.make == make) (x.slot == slot) (1 == 0)
 
--- the slots of the session that are drawn
+-- the slot of the session that a send draws
 abbrev pub draws : SendCont → List ℕ
 draws NoCont = []
 draws (Own number) = []
 draws (Made make slot) = []
 draws (Here slot) = slot ∷ []
 
+-- the slots of the session that the sends draw, in order
 abbrev pub drawn_slots : List Sending → List ℕ
 drawn_slots [] = []
 drawn_slots (x ∷ xs) = draws x.cont ++ drawn_slots xs

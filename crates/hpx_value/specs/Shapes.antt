@@ -23,10 +23,12 @@ value_size (Ref place) = 17
 value_size (Fault code) = 2
 value_size (Ints numbers) = 3 + length numbers * 8
 
+-- how many bytes values take in a frame
 abbrev pub values_size : List Value → ℕ
 values_size [] = 0
 values_size (v ∷ vs) = value_size v + values_size vs
 
+-- how many bytes a continuation takes in a frame, or the lack of one
 abbrev pub cont_size : Option Cont → ℕ
 cont_size None = 1
 cont_size (Some c) = 21
@@ -41,6 +43,7 @@ abbrev pub places_of : List Cont → List ℕ
 places_of [] = []
 places_of (c ∷ cs) = c.place ∷ places_of cs
 
+-- a continuation as a list of one, or of none
 abbrev pub listed : Option Cont → List Cont
 listed None = []
 listed (Some c) = c ∷ []

@@ -27,13 +27,15 @@ message_of a = record { code = a.code; args = a.args; cont = a.cont; ids = a.ids
 abbrev pub named : ℕ → ℕ → Message → Act
 named origin serial m = record { origin = origin; serial = serial; code = m.code; args = m.args; cont = m.cont; ids = m.ids }
 
--- with ids that show no credit
+-- a state with ids that show no credit
 abbrev pub bare_state : State → State
 bare_state s = record { drawn = s.drawn; values = s.values; conts = s.conts; ids = map bare s.ids }
 
+-- a message with ids that show no credit
 abbrev pub bare_message : Message → Message
 bare_message m = record { code = m.code; args = m.args; cont = m.cont; ids = map bare m.ids }
 
+-- an action with ids that show no credit
 abbrev pub bare_act : Act → Act
 bare_act a = record { origin = a.origin; serial = a.serial; code = a.code; args = a.args; cont = a.cont; ids = map bare a.ids }
 

@@ -18,9 +18,11 @@ pub trait Acts {
     /// The outcome at so many localities, of an action on an object of a kind, at a locality, in a state.
     ghost act_of: { ℕ → ℕ → ℕ → State → Act → Outcome };
 
+    /// How many localities there are.
     fn localities(&self) -> u32
         ensures { result ≡ count self.now };
 
+    /// The outcome of an action here. An `Err` is for want of memory alone.
     fn act(
         &self,
         alloc: Global,

@@ -1,3 +1,5 @@
+ghost use Rattle.std.specs.Prelude.{◌≡◌};
+
 use crate::codes::*;
 use crate::exact::Exact;
 use crate::gid::Gid;
@@ -20,6 +22,13 @@ fn id_with(home: u32, kind: u32, number: u64, log: Option<u8>) -> Option<Gid> {
         Some(log) => Some(plain.with_log(log)),
         None => Some(plain),
     }
+}
+
+/// An id by its own halves, which give it back.
+fn read_back(id: Gid) -> Option<Gid>
+    ensures { result ≡ Some id }
+{
+    Gid::read(id.msb, id.lsb)
 }
 
 fn text(alloc: Global, bytes: &[u8]) -> Result<Text, AllocError> {
@@ -110,6 +119,7 @@ fn ids_have_their_halves(rt: HostRuntime) -> Result<(), Fail> {
         assert_eq!(rt; id.msb, msb);
         assert_eq!(rt; id.lsb, number);
         assert_eq!(rt; Gid::read(msb, number), Some(id), "at {msb:x}");
+        assert_eq!(rt; read_back(id), Some(id), "at {msb:x}");
         assert_eq!(rt; id.home(), home);
         assert_eq!(rt; id.kind(), kind);
         assert_eq!(rt; id.number(), number);
