@@ -7,9 +7,8 @@ use hpx_ports::order::Order;
 use hpx_top::run::run;
 use hpx_value::items::{Items, Text, Texts};
 use std::alloc::Global;
-use std::env;
-use std::io;
 use std::process::ExitCode;
+use std::{env, io};
 
 /// The status where the words cannot be had.
 const NO_WORDS: u8 = 6;
@@ -23,14 +22,7 @@ fn main(rt: HostRuntime) -> ExitCode {
     let mut sink = WriterSink::new(rt.stdout());
     let mut err = WriterSink::new(rt.stderr());
     let fabric = SureFabric::new(rt.alloc(), Order::FirstIn);
-    let end = run(
-        rt.alloc(),
-        &words,
-        &mut source,
-        &mut sink,
-        &mut err,
-        fabric,
-    );
+    let end = run(rt.alloc(), &words, &mut source, &mut sink, &mut err, fabric);
     ExitCode::from(end.status)
 }
 

@@ -1,11 +1,10 @@
 -- What calls do to what is on the road.
-use Rattle.std.proofs.Common.{true, ℕ, cond, List, [], ◌∷◌, ◌++◌, ◌≡◌, ◌+◌, ◌≤◌, Some, None, Option, refl, sym, ap, ◌∙◌, subst, arith, append-nil, append_assoc}
-use Rattle.std.specs.List.{count_by, sum_by, list_any}
+use Rattle.std.proofs.Common.{true, ℕ, List, [], ◌∷◌, ◌++◌, ◌≡◌, Some, None, Option, refl, sym, ap, ◌∙◌, subst, arith, append-nil}
+use Rattle.std.specs.List.{count_by, list_any}
 use Rattle.std.proofs.lemmas.List.Sums.{sum_by-append, sum_by-cons}
-use Rattle.hpx_journal.specs.Bags.{without}
 use Rattle.hpx_journal.specs.Entries.{Frame, same_frame}
 use Rattle.hpx_journal.specs.declared.entry.Entry.{Entry}
-use Rattle.hpx_journal.specs.Whole.{outs, ins}
+use Rattle.hpx_journal.specs.Whole.{ins}
 use Rattle.hpx_journal.proofs.Same.{same_frame-true, same_frame-refl}
 use Rattle.hpx_journal.proofs.Bags.{sum_by-without}
 use Rattle.hpx_journal.proofs.Grow.{flight_on_road}

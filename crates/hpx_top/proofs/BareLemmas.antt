@@ -1,12 +1,12 @@
 -- Messages and states made of a hand without credits are those made of the hand, without credits.
-use Rattle.std.proofs.Common.{ℕ, zero, suc, Bool, true, false, cond, List, [], ◌∷◌, ◌++◌, ◌≡◌, ◌+◌, ◌==◌, pos, Option, Some, None, length, map, refl, sym, ap, ◌∙◌, subst, arith, inl, inr}
+use Rattle.std.proofs.Common.{ℕ, zero, suc, false, cond, List, [], ◌∷◌, ◌++◌, ◌≡◌, ◌+◌, ◌==◌, pos, Option, Some, None, length, map, refl, sym, ap, ◌∙◌, inl, inr}
 use Rattle.std.specs.List.{find, list_any, slice_index_or}
 use Rattle.std.proofs.lemmas.List.{map-append, length-map}
 use Rattle.std.proofs.lemmas.Bool.{cases_Bool}
 use Rattle.hpx_value.specs.Ids.{bare}
 use Rattle.hpx_value.specs.Values.{bare_act, bare_state, bare_message, message_of, named, refs_in}
-use Rattle.hpx_value.specs.Hands.{Slot, session, id_at, slot_at, own_slot, hand_ids, hand_slots, hand_slot, addressed, cont_at, slot_ids, renumbered, answer, target_id, send_slot, sent, replied, due_of, conts_from, slots_kept, state_after}
-use Rattle.hpx_journal.specs.Data.{Id, Value, Int, Cont, State, Act, Message, Due, MessageDue, PrintDue, Target, Place, Root, SendCont, NoCont, Own, Made, Here, Sending, Reply, Outcome}
+use Rattle.hpx_value.specs.Hands.{Slot, session, id_at, slot_at, own_slot, hand_ids, hand_slots, hand_slot, addressed, renumbered, answer, target_id, send_slot, sent, replied, due_of, conts_from, state_after}
+use Rattle.hpx_journal.specs.Data.{Id, Value, Int, Cont, State, Act, MessageDue, PrintDue, Target, Place, Root, SendCont, NoCont, Own, Made, Here, Sending, Reply, Outcome}
 use Rattle.hpx_journal.specs.Entries.{target_of}
 use Rattle.hpx_journal.specs.Local.{is_standing, acts_on, is_busy}
 use Rattle.hpx_journal.specs.declared.entry.Standing.{Standing}

@@ -1,15 +1,14 @@
 -- What an outcome makes is well formed, by the laws.
-use Rattle.std.proofs.Common.{ℕ, zero, suc, Bool, true, false, cond, List, [], ◌∷◌, ◌++◌, ◌≡◌, ◌≢◌, ◌+◌, ◌<◌, ◌≤◌, Option, Some, None, length, map, refl, sym, ap, ◌∙◌, subst, arith, inl, inr, ◌⊎◌, pos, lit<}
+use Rattle.std.proofs.Common.{ℕ, zero, suc, List, [], ◌∷◌, ◌++◌, ◌≡◌, ◌≢◌, ◌+◌, ◌<◌, ◌≤◌, Option, Some, None, length, map, refl, ap, arith, inl, inr, pos, lit<}
 use Rattle.std.specs.List.{AllByRecursion, slice_index_or}
 use Rattle.std.proofs.lemmas.List.{length-map}
 use Rattle.std.proofs.Common.{length-append}
-use Rattle.hpx_value.specs.Values.{refs_in, message_of, named}
-use Rattle.hpx_value.specs.Shapes.{IsMessage, IsState, IsAct}
-use Rattle.hpx_value.specs.Hands.{Slot, session, id_at, slot_at, own_slot, hand_ids, hand_slots, hand_slot, addressed, cont_at, slot_ids, renumbered, answer, target_id, send_slot, sent, replied, due_of, conts_from, slots_kept, state_after}
+use Rattle.hpx_value.specs.Values.{refs_in, named}
+use Rattle.hpx_value.specs.Shapes.{IsMessage}
+use Rattle.hpx_value.specs.Hands.{Slot, session, id_at, slot_at, own_slot, hand_ids, hand_slots, hand_slot, addressed, slot_ids, renumbered, target_id, send_slot, sent, replied, due_of, conts_from, slots_kept, state_after}
 use Rattle.hpx_value.specs.Laws.{KeepsLaws, IsRoot, IsTarget}
-use Rattle.hpx_journal.specs.Data.{Id, Value, Nothing, Flag, Int, Text, Ref, Fault, Ints, Cont, State, Act, Message, Due, MessageDue, PrintDue, Target, Place, Root, SendCont, NoCont, Own, Made, Here, Sending, Reply, Outcome, Apply}
-use Rattle.hpx_journal.specs.declared.entry.Standing.{Standing}
-use Rattle.hpx_parcel.specs.Parcels.{HasRightCredit, IsParcel, IsSent, IsApplied}
+use Rattle.hpx_journal.specs.Data.{Id, Value, Nothing, Flag, Int, Text, Ref, Fault, Ints, Cont, State, Act, Message, MessageDue, PrintDue, Target, Place, Root, SendCont, NoCont, Own, Made, Here, Sending, Reply, Outcome}
+use Rattle.hpx_parcel.specs.Parcels.{HasRightCredit}
 use Rattle.hpx_journal.proofs.Roads.{all-append}
 use Rattle.hpx_top.specs.Fit.{IsFit, IsFitDue, IsKept}
 use Rattle.hpx_top.specs.Hand.{CanBeSent, CanBeMade, IsNearRoot}

@@ -1,5 +1,5 @@
 -- One more action on its way out keeps what holds of each.
-use Rattle.std.proofs.Common.{ℕ, zero, suc, List, [], ◌∷◌, ◌++◌, ◌≡◌, ◌≢◌, ◌<◌, arith, length}
+use Rattle.std.proofs.Common.{ℕ, zero, suc, List, [], ◌∷◌, ◌++◌, ◌≢◌, ◌<◌, arith}
 use Rattle.std.specs.List.{All}
 use Rattle.hpx_top.specs.declared.parts.Outgoing.{Outgoing}
 

@@ -12,7 +12,7 @@ use Rattle.hpx_journal.specs.Local.{Local, boot, is_act}
 use Rattle.hpx_journal.specs.Roots.{roots}
 use Rattle.hpx_journal.specs.Whole.{part, run, run_local, start, IsCarried, IsClean, IsLegal, road_after, outs, outs_by, ins, arrives}
 use Rattle.hpx_journal.specs.Sessions.{IsSettled}
-use Rattle.hpx_journal.proofs.Bags.{total-zero, total-change, total-same}
+use Rattle.hpx_journal.proofs.Bags.{total-zero, total-change}
 use Rattle.hpx_journal.proofs.Grow.{run_part}
 use Rattle.hpx_journal.proofs.Joined.{part_same, part_other}
 use Rattle.hpx_journal.proofs.Keys.{own}
@@ -20,8 +20,8 @@ use Rattle.hpx_journal.proofs.KeyedLemmas.{counts_of, counts_true}
 use Rattle.hpx_journal.proofs.Quiet.{legal_quiet}
 use Rattle.hpx_journal.proofs.Start.{legal_part_clean}
 use Rattle.hpx_top.specs.Tables.{Tables, IsPassive}
-use Rattle.hpx_top.specs.Stands.{Stands, Shows, queued, born, rules_of}
-use Rattle.hpx_top.specs.Sound.{Meaning, StandsAt, IsSound, IsQuiet}
+use Rattle.hpx_top.specs.Stands.{Shows, queued, rules_of}
+use Rattle.hpx_top.specs.Sound.{Meaning, IsSound, IsQuiet}
 use Rattle.hpx_top.proofs.SoundLemmas.{get_some, sound_legal}
 
 -- ---- sums over localities
@@ -116,7 +116,7 @@ module _ (act_of : Meaning) (nodes : List Tables) (hand : Option Frame) (es : Li
       let own = sound.stand k t at in
       let clean = legal_part_clean r (roots (length nodes)) es legal k lt in
       let shows = subst (λ j. Shows t [] (run_local r (at_start j) (part j es))) own.here
-          (own.stands.shows (subst (λ j. IsClean r (at_start j) (part j es)) (sym own.here) clean)) in
+      (own.stands.shows (subst (λ j. IsClean r (at_start j) (part j es)) (sym own.here) clean)) in
       subst (Shows t []) (sym (run_part r (start (roots (length nodes))) es k)) shows
 
   sent_all : sum_by (λ t. t.sent) nodes ≡ length (outs es)
@@ -132,8 +132,8 @@ module _ (act_of : Meaning) (nodes : List Tables) (hand : Option Frame) (es : Li
   pub quiet_settled : IsSettled r (run r (start (roots (length nodes))) es)
   quiet_settled = legal_quiet r (roots (length nodes)) es legal
       (λ k lt. let x = get_some nodes k lt in let s = shown k x.0 x.1 lt in
-          none_agrees _ (subst (Agree is_act _) (queued_none x.0 (passive_at nodes k x.0 quiet.passive x.1)) s.tied.waiting))
+      none_agrees _ (subst (Agree is_act _) (queued_none x.0 (passive_at nodes k x.0 quiet.passive x.1)) s.tied.waiting))
       (λ k lt. let x = get_some nodes k lt in let s = shown k x.0 x.1 lt in
-          none_agrees _ (subst (Agree is_act _) (ap (map bare_act) (passive_at nodes k x.0 quiet.passive x.1).running) s.tied.fired))
+      none_agrees _ (subst (Agree is_act _) (ap (map bare_act) (passive_at nodes k x.0 quiet.passive x.1).running) s.tied.fired))
       (λ k lt. let x = get_some nodes k lt in let s = shown k x.0 x.1 lt in s.tied.left)
       (sym taken_all ∙ (quiet.taken ∙ sent_all))

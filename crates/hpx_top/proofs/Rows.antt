@@ -1,5 +1,5 @@
 -- Each row of the table of entries, from the tables of a node.
-use Rattle.std.proofs.Common.{◌≢◌, inl, inr, ℕ, suc, Bool, true, false, cond, List, [], ◌∷◌, ◌++◌, ◌≡◌, ◌+◌, ◌<◌, ◌≤◌, ◌==◌, Option, Some, None, refl, sym, ap, ◌∙◌, arith, subst, length, append-nil, append_assoc, take, drop, map, set}
+use Rattle.std.proofs.Common.{◌≢◌, inl, ℕ, suc, Bool, true, false, cond, List, [], ◌∷◌, ◌++◌, ◌≡◌, ◌+◌, ◌<◌, ◌≤◌, ◌==◌, Some, refl, sym, ap, ◌∙◌, arith, subst, length, append-nil, append_assoc, take, drop, map, set}
 use Rattle.std.specs.List.{list_any, find, count_by, slice_get, remove}
 use Rattle.std.proofs.lemmas.List.{map-append}
 use Rattle.std.proofs.lemmas.Bool.Decides.{nat_tests}
@@ -9,13 +9,13 @@ use Rattle.hpx_value.specs.Hands.{due_of, state_after}
 use Rattle.hpx_value.specs.declared.acts.Job.{Job}
 use Rattle.hpx_journal.specs.Bags.{without, minus}
 use Rattle.hpx_journal.specs.Keyed.{Agree}
-use Rattle.hpx_journal.specs.Data.{Id, Act, State, Message, Outcome, Make, Due, MessageDue, PrintDue, Apply}
+use Rattle.hpx_journal.specs.Data.{Id, Act, State, Message, Outcome, Due, MessageDue, PrintDue, Apply}
 use Rattle.hpx_journal.specs.Entries.{Rules, name_of, target_of, acts_in, line_act}
 use Rattle.hpx_journal.specs.declared.entry.Entry.{Entry}
 use Rattle.hpx_journal.specs.declared.entry.Name.{Name}
 use Rattle.hpx_journal.specs.declared.entry.Event.TheVariants.{Fire, Done, Line, Sent, Print, Out, In}
 use Rattle.hpx_journal.specs.declared.entry.Standing.{Standing}
-use Rattle.hpx_journal.specs.Local.{Local, Allowed, IsForeign, IsForeignIn, IsSingle, after, is_act, acts_on, is_standing, is_busy, present, listed, outcome, objects_after, settled, settled_at, due_after, due_left, due_at, undrawn_at, next_name, due_act, tail, GoesOut}
+use Rattle.hpx_journal.specs.Local.{Local, IsForeignIn, IsSingle, after, is_act, acts_on, is_standing, is_busy, present, listed, outcome, objects_after, settled, settled_at, due_after, due_left, due_at, undrawn_at, next_name, due_act, tail, GoesOut}
 use Rattle.hpx_journal.specs.Whole.{outs, ins}
 use Rattle.hpx_journal.proofs.Bags.{sum_by-without-find}
 use Rattle.hpx_journal.proofs.Keys.{means, own, stood, means_object, own_object}
@@ -24,9 +24,9 @@ use Rattle.hpx_top.specs.Bare.{bare_standing, bare_due}
 use Rattle.hpx_top.specs.Tables.{Tables}
 use Rattle.hpx_top.specs.Free.{IsFree}
 use Rattle.hpx_top.specs.Jobs.{IsAt}
-use Rattle.hpx_top.specs.Changes.{Puts, kept}
+use Rattle.hpx_top.specs.Changes.{Puts}
 use Rattle.hpx_top.specs.declared.parts.Outgoing.{Outgoing}
-use Rattle.hpx_top.specs.Stands.{Tied, Shows, Stands, queued}
+use Rattle.hpx_top.specs.Stands.{Stands, queued}
 use Rattle.hpx_top.proofs.BareLemmas.{target-bare, found-bare, busy-bare, due-bare, state-bare}
 use Rattle.hpx_top.proofs.StandsLemmas.{Follows, Counts, stands_push}
 

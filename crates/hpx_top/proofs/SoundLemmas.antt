@@ -1,9 +1,8 @@
 -- A call of one node keeps all localities sound.
-use Rattle.std.proofs.Common.{true, ℕ, zero, suc, List, [], ◌∷◌, ◌++◌, ◌≡◌, ◌≢◌, ◌+◌, ◌<◌, ◌≤◌, Some, None, Option, refl, sym, ap, ◌∙◌, subst, arith, length, get_or, set, length-set, append-nil, append_assoc, inl, inr, ◌⊎◌}
+use Rattle.std.proofs.Common.{true, ℕ, zero, suc, List, [], ◌∷◌, ◌++◌, ◌≡◌, ◌≢◌, ◌<◌, ◌≤◌, Some, refl, sym, ap, ◌∙◌, subst, arith, length, get_or, set, length-set, append-nil, append_assoc, inl, inr, ◌⊎◌}
 use Rattle.std.specs.List.{slice_get, list_any}
 use Rattle.std.proofs.lemmas.Bool.{cases_eq}
-use Rattle.hpx_journal.specs.Bags.{Covers, minus, without}
-use Rattle.hpx_journal.specs.Data.{Due}
+use Rattle.hpx_journal.specs.Bags.{Covers, minus}
 use Rattle.hpx_journal.specs.Entries.{Rules, Frame, same_frame}
 use Rattle.hpx_journal.specs.declared.entry.Entry.{Entry}
 use Rattle.hpx_journal.specs.declared.entry.Event.{Event}
@@ -11,7 +10,7 @@ use Rattle.hpx_journal.specs.declared.entry.Name.{Name}
 use Rattle.hpx_journal.specs.declared.entry.Event.TheVariants.{Line, Fire, Done, Sent, Print, In, Out}
 use Rattle.hpx_journal.specs.Local.{boot, NodeKeeps}
 use Rattle.hpx_journal.specs.Roots.{roots}
-use Rattle.hpx_journal.specs.Whole.{part, run_local, IsClean, AreAt, AreInner, Grows, at_all, IsCarried, road_run, road_after, IsJoin, IsLegal, start, sends, arrives, outs, ins, outs_by, arrives_at}
+use Rattle.hpx_journal.specs.Whole.{part, run_local, IsClean, AreAt, AreInner, Grows, at_all, IsCarried, road_run, road_after, IsLegal, start, sends, arrives, outs, ins, outs_by}
 use Rattle.hpx_journal.specs.Laws.{IsSpelled}
 use Rattle.hpx_journal.proofs.Grow.{part_append, part_away, carried_append, run_road}
 use Rattle.hpx_journal.proofs.Roads.{on_road_spelled}

@@ -1,5 +1,5 @@
 -- What calls of nodes say, said of all localities.
-use Rattle.std.proofs.Common.{ℕ, zero, suc, List, [], ◌∷◌, ◌++◌, ◌≡◌, ◌<◌, ◌≤◌, ◌+◌, Some, None, Ok, Err, Option, Result, refl, sym, ap, ◌∙◌, subst, arith, length, get_or, set, map}
+use Rattle.std.proofs.Common.{ℕ, zero, suc, List, [], ◌∷◌, ◌≡◌, ◌<◌, Some, None, Ok, Err, Option, Result, sym, ap, ◌∙◌, subst, arith, length, get_or, set, map}
 use Rattle.std.specs.Option.{IfSome, IfNone}
 use Rattle.std.specs.Result.{IfOk, IfErr}
 use Rattle.std.specs.List.{slice_get}

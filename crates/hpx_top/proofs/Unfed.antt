@@ -1,5 +1,5 @@
 -- What turns write, one after another.
-use Rattle.std.proofs.Common.{ℕ, true, false, List, [], ◌∷◌, ◌++◌, ◌≡◌, ◌<◌, ◌≤◌, Some, None, Ok, Err, Option, Result, Bool, refl, sym, ap, ◌∙◌, subst, arith, length, append-nil, append_assoc, length-append}
+use Rattle.std.proofs.Common.{ℕ, true, false, List, [], ◌∷◌, ◌++◌, ◌≡◌, ◌<◌, ◌≤◌, Ok, Err, Option, Result, Bool, refl, sym, ap, ◌∙◌, arith, length, append-nil, append_assoc, length-append}
 use Rattle.std.specs.List.{AllByRecursion}
 use Rattle.std.specs.Result.{OnErr}
 use Rattle.hpx_journal.specs.Entries.{Frame}
@@ -12,7 +12,7 @@ use Rattle.hpx_ports.specs.declared.fault.FabricFault.{FabricFault}
 use Rattle.hpx_top.specs.Tables.{Tables}
 use Rattle.hpx_top.specs.Changes.{Writes}
 use Rattle.hpx_top.specs.Sound.{IsCarrying, IsInside, IsSame}
-use Rattle.hpx_top.specs.Turns.{IsUnfed, MovesFrame}
+use Rattle.hpx_top.specs.Turns.{IsUnfed}
 use Rattle.hpx_top.proofs.AwayLemmas.{carrying_same}
 
 abbrev pub AreUnfed : List Entry → Type 0

@@ -1,5 +1,5 @@
 -- What a call of a node changes.
-use Rattle.std.specs.Prelude.{ℕ, List, [], ◌∷◌, ◌++◌, ◌≡◌, ◌≤◌, ◌+◌, map}
+use Rattle.std.specs.Prelude.{List, ◌∷◌, ◌++◌, ◌≡◌, ◌≤◌, ◌+◌, map}
 use Rattle.hpx_journal.specs.Data.{Act}
 use Rattle.hpx_journal.specs.Books.{Book}
 use Rattle.hpx_journal.specs.declared.entry.Entry.{Entry}

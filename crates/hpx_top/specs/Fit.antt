@@ -1,5 +1,5 @@
 -- What a node keeps is well formed.
-use Rattle.std.specs.Prelude.{ℕ, [], None, ◌≡◌}
+use Rattle.std.specs.Prelude.{[], None, ◌≡◌}
 use Rattle.std.specs.List.{AllByRecursion}
 use Rattle.hpx_value.specs.Shapes.{IsState}
 use Rattle.hpx_value.specs.Values.{named}

@@ -1,11 +1,10 @@
 -- A job that is done, against what a node keeps.
-use Rattle.std.specs.Prelude.{ℕ, List, [], ◌∷◌, ◌++◌, Some, ◌≡◌, take}
+use Rattle.std.specs.Prelude.{ℕ, [], ◌∷◌, ◌++◌, Some, ◌≡◌, take}
 use Rattle.std.specs.List.{find, slice_get, remove, AllByRecursion}
 use Rattle.hpx_value.specs.Shapes.{IsState}
 use Rattle.hpx_parcel.specs.Parcels.{HasRightCredit}
 use Rattle.hpx_value.specs.declared.acts.Job.{Job}
-use Rattle.hpx_journal.specs.Data.{Act, Outcome}
-use Rattle.hpx_journal.specs.Entries.{Rules, target_of}
+use Rattle.hpx_journal.specs.Entries.{target_of}
 use Rattle.hpx_journal.specs.declared.entry.Standing.{Standing}
 use Rattle.hpx_journal.specs.Local.{is_standing}
 use Rattle.hpx_top.specs.Tables.{Tables}

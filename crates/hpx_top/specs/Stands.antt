@@ -1,5 +1,5 @@
 -- How a node's tables stand for its part of the journal.
-use Rattle.std.specs.Prelude.{ℕ, List, [], ◌++◌, ◌≡◌, ◌≤◌, length, map}
+use Rattle.std.specs.Prelude.{ℕ, List, ◌++◌, ◌≡◌, ◌≤◌, length, map}
 use Rattle.hpx_value.specs.Values.{bare_act}
 use Rattle.hpx_journal.specs.Data.{Act, Due, State, Outcome}
 use Rattle.hpx_journal.specs.Entries.{Rules}

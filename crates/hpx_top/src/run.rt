@@ -4,6 +4,9 @@ ghost use Rattle.hpx_journal.specs.Weights.{HasRoom};
 ghost use Rattle.hpx_ports.specs.Faults.{Rose};
 ghost use Rattle.hpx_top.specs.Usage.{bad_word};
 
+#[cfg(test)]
+mod tests;
+
 use crate::acts::AllActs;
 use crate::session::{SessionFault, serve};
 use crate::world::World;
@@ -23,6 +26,7 @@ pub struct End<F: Fabric> {
 
 /// The words of the one application that there is.
 const ACCUMULATOR: &[u8] = b"accumulator";
+
 const TWO_LOCALITIES: &[u8] = b"--hpx:localities=2";
 
 /// The place, from 1, of the first word that is not what it must be; 0 where a word is missing.

@@ -1,5 +1,4 @@
-use Rattle.std.proofs.Common.{subst, ap, sym, ◌∙◌}
-use Rattle.hpx_journal.specs.Entries.{Frame}
+use Rattle.std.proofs.Common.{subst}
 use Rattle.hpx_top.specs.Sound.{AcceptsOne}
 use Rattle.hpx_top.proofs.Written.{writes_spare}
 use Rattle.hpx_top.proofs.SoundLemmas.{stands_own, sound_in, sound_inner, accepts_of}

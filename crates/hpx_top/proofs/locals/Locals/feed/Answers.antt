@@ -1,5 +1,5 @@
 use Rattle.hpx_top.proofs.SoundLemmas.{stands_own, sound_line, inside_line}
-use Rattle.hpx_top.proofs.TurnLemmas.{IfOk-map, IfErr-map, IfSome-map, IfNone-map, here_at, grows_at, same_at, got_at}
+use Rattle.hpx_top.proofs.TurnLemmas.{IfOk-map, IfErr-map, here_at, grows_at, same_at}
 use Rattle.hpx_top.proofs.locals.Locals.feed.Goals as goal
 
 pub feed-requires-clause-stands : goal.feed-requires-clause-stands

@@ -1,4 +1,4 @@
-use Rattle.std.proofs.Common.{subst, None, Option, Some, [], ◌≡◌, sym, ◌∙◌, List, ℕ, ◌∷◌}
+use Rattle.std.proofs.Common.{subst, None, Option, Some, [], ◌≡◌, List}
 use Rattle.hpx_journal.specs.Entries.{Frame}
 use Rattle.hpx_ports.specs.Frames.{Delivers}
 use Rattle.hpx_top.specs.Sound.{IsCarrying}

@@ -2,7 +2,7 @@ use Rattle.std.proofs.Common.{◌≡◌, subst}
 use Rattle.hpx_top.specs.Tables.{Tables}
 use Rattle.hpx_top.specs.Jobs.{IsRunning}
 use Rattle.hpx_top.proofs.SoundLemmas.{stands_own, sound_inner, inside_of}
-use Rattle.hpx_top.proofs.TurnLemmas.{IfOk-map, IfErr-map, IfSome-map, IfNone-map, here_at, grows_at, same_at, got_at}
+use Rattle.hpx_top.proofs.TurnLemmas.{IfOk-map, IfErr-map, grows_at, same_at, got_at}
 use Rattle.hpx_top.proofs.Unfed.{unfed_of}
 use Rattle.hpx_top.proofs.locals.Locals.finish.Goals as goal
 

@@ -1,4 +1,3 @@
-use Rattle.std.proofs.Common.{sym, ◌∙◌}
 use Rattle.hpx_top.proofs.Unfed.{unfed_sent, unfed_then, unfed_none}
 use Rattle.hpx_top.proofs.locals.Locals.pump_first.Goals as goal
 

@@ -1,4 +1,4 @@
-use Rattle.std.proofs.Common.{subst, ap, sym, ◌∙◌, ◌≡◌, ◌<◌, [], Some, None, refl}
+use Rattle.std.proofs.Common.{subst, sym, ◌∙◌, ◌≡◌, None, refl}
 use Rattle.hpx_top.specs.Sound.{IsSound, IsCarrying}
 use Rattle.hpx_top.proofs.SoundLemmas.{sound_spelled}
 use Rattle.hpx_top.proofs.AwayLemmas.{carrying_there, carrying_taken}

@@ -1,6 +1,5 @@
-use Rattle.std.proofs.Common.{◌≡◌, Some, sym, ap, ◌∙◌}
+use Rattle.std.proofs.Common.{◌≡◌, Some, sym, ◌∙◌}
 use Rattle.std.specs.List.{slice_get}
-use Rattle.hpx_top.specs.Tables.{Tables}
 use Rattle.hpx_top.specs.Free.{IsFree}
 use Rattle.hpx_top.proofs.Written.{writes_from}
 use Rattle.hpx_top.proofs.node.Node.fire.Goals as goal

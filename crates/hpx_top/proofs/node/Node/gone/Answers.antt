@@ -1,4 +1,4 @@
-use Rattle.std.proofs.Common.{arith, sym, ◌∙◌, ap, drop, ◌≡◌, ◌<◌, ◌≢◌}
+use Rattle.std.proofs.Common.{arith, ◌∙◌, ap, drop, ◌≡◌, ◌<◌, ◌≢◌}
 use Rattle.std.proofs.lemmas.List.Elements.{All-tail, All-head}
 use Rattle.hpx_top.specs.declared.parts.Outgoing.{Outgoing}
 use Rattle.hpx_top.proofs.StandsLemmas.{sent_few}

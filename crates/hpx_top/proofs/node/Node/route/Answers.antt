@@ -1,11 +1,15 @@
-use Rattle.std.proofs.Common.{arith, refl, sym, append-nil, append_assoc, map, [], ◌∷◌, ◌++◌}
+use Rattle.std.proofs.Common.{arith, refl, sym, append-nil, append_assoc, map, [], ◌++◌}
 use Rattle.std.proofs.lemmas.List.{map-append}
 use Rattle.hpx_top.proofs.Posted.{away_posted}
 use Rattle.hpx_top.proofs.node.Node.route.Goals as goal
 
 pub invariant_of-self : goal.invariant_of-self
-invariant_of-self g c = rw (c.push_back_reserved.ensures.items) (c.self.invariant.0, c.self.invariant.1, c.self.invariant.2,
-    away_posted c.self.inside.localities c.self.inside.here c.self.inside.outgoing.items _ c.self.invariant.3 (omega (arith, c.if-to-self.true), λ e. omega (arith, e, c.if-to-self-2.true)))
+invariant_of-self g c = rw (c.push_back_reserved.ensures.items) (
+  c.self.invariant.0,
+  c.self.invariant.1,
+  c.self.invariant.2,
+  away_posted c.self.inside.localities c.self.inside.here c.self.inside.outgoing.items _ c.self.invariant.3 (omega (arith, c.if-to-self.true), λ e. omega (arith, e, c.if-to-self-2.true)),
+)
 
 pub returns-then-to-self-2 : goal.returns-then-to-self-2
 returns-then-to-self-2 g c = rw (← c.self.view_is) (record {

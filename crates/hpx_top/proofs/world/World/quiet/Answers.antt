@@ -1,4 +1,3 @@
-use Rattle.std.proofs.Common.{IsTrue}
 use Rattle.hpx_top.proofs.QuietLemmas.{quiet_settled, truth}
 use Rattle.hpx_top.proofs.world.World.quiet.Goals as goal
 

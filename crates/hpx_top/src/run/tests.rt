@@ -1,0 +1,239 @@
+use crate::run::{End, run};
+use hpx_ports::fabric::{Fabric, Wire};
+use hpx_ports::memory_fabric::{MemFabric, SureFabric};
+use hpx_ports::memory_sink::{MemSink, SureSink};
+use hpx_ports::memory_source::{MemSource, SureSource};
+use hpx_ports::order::Order;
+use hpx_value::items::{Bytes, Items, Lengths, Text, Texts};
+use std::alloc::{AllocError, Global};
+use std::test::Fail;
+
+const WORDS: [&[u8]; 2] = [b"accumulator", b"--hpx:localities=2"];
+
+const ORDERS: [Order; 3] = [Order::FirstIn, Order::LastIn, Order::Scrambled(7)];
+
+// The first frame of `add 5`, in hexadecimal digits.
+const FIRST_FRAME: &[u8] =
+    b"010100000000000000000002000000020000000d0000000000000001001000010200000000000000050100000001000000030000000000000001\
+00000000";
+
+fn bytes(alloc: Global, text: &[u8]) -> Result<Bytes, AllocError> {
+    Ok(Bytes::from_vec(Vec::from_slice(alloc, text)?))
+}
+
+fn calls(alloc: Global, numbers: &[u64]) -> Result<Lengths, AllocError> {
+    Ok(Lengths::from_vec(Vec::from_slice(alloc, numbers)?))
+}
+
+fn words(alloc: Global, words: &[&[u8]]) -> Result<Texts, AllocError> {
+    let mut texts = Vec::new(alloc);
+    for word in words {
+        texts.push(Text::from_vec(Vec::from_slice(alloc, word)?))?;
+    }
+    Ok(Items::from_vec(texts))
+}
+
+fn hexadecimal(alloc: Global, bytes: &[u8]) -> Result<Vec<u8>, AllocError> {
+    let digits = b"0123456789abcdef";
+    let mut text = Vec::new(alloc);
+    for byte in bytes {
+        text.push(digits[(*byte >> 4) as usize])?;
+        text.push(digits[(*byte & 15) as usize])?;
+    }
+    Ok(text)
+}
+
+// The text behind the commands line, for sessions that end well.
+fn session(alloc: Global, input: &[u8], order: Order) -> Result<(u8, Vec<u8>, u64), AllocError> {
+    let mut source = SureSource::new(bytes(alloc, input)?);
+    let mut sink = SureSink::new(alloc);
+    let mut err = SureSink::new(alloc);
+    let fabric = SureFabric::new(alloc, order);
+    let end = run(
+        alloc,
+        &words(alloc, &WORDS)?,
+        &mut source,
+        &mut sink,
+        &mut err,
+        fabric,
+    );
+    let entries = match &end.world {
+        Some(world) => world.journal().entries(),
+        None => 0,
+    };
+    Ok((end.status, Vec::from_slice(alloc, sink.bytes())?, entries))
+}
+
+#[test]
+fn sessions_print_what_one_number_says(rt: HostRuntime) -> Result<(), Fail> {
+    let alloc = rt.alloc();
+    for order in ORDERS {
+        for (input, want) in [
+            (
+                b"add 5\nquery\nquit\n".as_slice(),
+                b"commands: reset, add [amount], query, help, quit\n> > 5\n> ".as_slice(),
+            ),
+            (
+                b"add 9223372036854775807\nadd 1\nquery\n",
+                b"commands: reset, add [amount], query, help, quit\n> > error: overflow\n> 9223372036854775807\n> ",
+            ),
+            (b"", b"commands: reset, add [amount], query, help, quit\n> "),
+            (
+                b"add 5\nadd 10\nquery\nadd 2\nquery\nquit\n",
+                b"commands: reset, add [amount], query, help, quit\n> > > 15\n> > 17\n> ",
+            ),
+            (
+                b"add\nadd x\n\nadd -3\r\nquery",
+                b"commands: reset, add [amount], query, help, quit\n> error: bad command\n> error: bad number\n> error: bad command\n> > -3\n> ",
+            ),
+        ] {
+            let (status, text, _) = session(alloc, input, order)?;
+            assert_eq!(rt; status, 0);
+            assert_eq!(rt; text.as_slice(), want);
+        }
+    }
+    Ok(())
+}
+
+#[test]
+fn each_command_crosses_the_fabric(rt: HostRuntime) -> Result<(), Fail> {
+    let alloc = rt.alloc();
+    let mut source = SureSource::new(bytes(alloc, b"add 5\nquery\nquit\n")?);
+    let mut sink = SureSink::new(alloc);
+    let mut err = SureSink::new(alloc);
+    let fabric = SureFabric::new(alloc, Order::FirstIn);
+    let end = run(
+        alloc,
+        &words(alloc, &WORDS)?,
+        &mut source,
+        &mut sink,
+        &mut err,
+        fabric,
+    );
+    assert_eq!(rt; end.fabric.in_flight(), 0);
+    assert_eq!(rt; end.fabric.trace().len(), 8);
+    match end.fabric.trace().first() {
+        Some(Wire::Sent { from, to, bytes }) => {
+            assert_eq!(rt; (*from, *to), (0, 1));
+            assert_eq!(rt; bytes.len(), 62);
+            assert_eq!(rt;
+                hexadecimal(alloc, bytes.as_slice())?.as_slice(),
+                FIRST_FRAME
+            );
+        }
+        _ => assert_eq!(rt; true, false),
+    }
+    let (_, _, entries) = session(alloc, b"add 5\nquery\nquit\n", Order::FirstIn)?;
+    assert_eq!(rt; entries, 27);
+    let (_, _, entries) = session(alloc, b"", Order::FirstIn)?;
+    assert_eq!(rt; entries, 0);
+    Ok(())
+}
+
+#[test]
+fn long_lines_are_not_fed(rt: HostRuntime) -> Result<(), Fail> {
+    let alloc = rt.alloc();
+    let mut input = Vec::new(alloc);
+    for _ in 0..1025 {
+        input.push(b'x')?;
+    }
+    let (status, text, entries) = session(alloc, input.as_slice(), Order::FirstIn)?;
+    assert_eq!(rt; status, 0);
+    assert_eq!(rt; entries, 0);
+    let want: &[u8] = b"commands: reset, add [amount], query, help, quit\n> error: bad command\n> ";
+    assert_eq!(rt; text.as_slice(), want);
+    Ok(())
+}
+
+// Status, output and error line of `add 5` over ports that fail at these calls.
+fn failing(
+    alloc: Global,
+    reads: &[u64],
+    writes: &[u64],
+    sends: &[u64],
+    delivers: &[u64],
+) -> Result<(u8, Vec<u8>, Vec<u8>), AllocError> {
+    let mut source = MemSource::new(bytes(alloc, b"add 5\nquery\n")?, calls(alloc, reads)?);
+    let mut sink = MemSink::new(alloc, calls(alloc, writes)?);
+    let mut err = SureSink::new(alloc);
+    let fabric = MemFabric::new(
+        alloc,
+        Order::FirstIn,
+        calls(alloc, sends)?,
+        calls(alloc, delivers)?,
+    );
+    let end = run(
+        alloc,
+        &words(alloc, &WORDS)?,
+        &mut source,
+        &mut sink,
+        &mut err,
+        fabric,
+    );
+    Ok((
+        end.status,
+        Vec::from_slice(alloc, sink.bytes())?,
+        Vec::from_slice(alloc, err.bytes())?,
+    ))
+}
+
+#[test]
+fn a_port_that_fails_ends_the_run(rt: HostRuntime) -> Result<(), Fail> {
+    let alloc = rt.alloc();
+    let first: &[u8] = b"commands: reset, add [amount], query, help, quit\n> ";
+    let (status, text, line) = failing(alloc, &[1], &[], &[], &[])?;
+    assert_eq!(rt; status, 2);
+    assert_eq!(rt; text.as_slice(), first);
+    assert_eq!(rt; line.as_slice(), b"hpx: read failed\n".as_slice());
+    let (status, text, line) = failing(alloc, &[], &[1], &[], &[])?;
+    assert_eq!(rt; status, 3);
+    assert_eq!(rt; text.as_slice(), b"".as_slice());
+    assert_eq!(rt; line.as_slice(), b"hpx: write failed\n".as_slice());
+    let (status, text, line) = failing(alloc, &[], &[], &[1], &[])?;
+    assert_eq!(rt; status, 4);
+    assert_eq!(rt; text.as_slice(), first);
+    assert_eq!(rt; line.as_slice(), b"hpx: fabric failed\n".as_slice());
+    let (status, text, _) = failing(alloc, &[], &[], &[], &[1])?;
+    assert_eq!(rt; status, 4);
+    assert_eq!(rt; text.as_slice(), first);
+    let (status, text, _) = failing(alloc, &[], &[], &[], &[])?;
+    assert_eq!(rt; status, 0);
+    let whole: &[u8] = b"commands: reset, add [amount], query, help, quit\n> > 5\n> ";
+    assert_eq!(rt; text.as_slice(), whole);
+    Ok(())
+}
+
+#[test]
+fn other_words_are_refused(rt: HostRuntime) -> Result<(), Fail> {
+    let alloc = rt.alloc();
+    for (given, want) in [
+        (&[] as &[&[u8]], b"hpx: bad word 0\n".as_slice()),
+        (&[b"accumulator"], b"hpx: bad word 0\n"),
+        (&[b"fib"], b"hpx: bad word 1\n"),
+        (
+            &[b"accumulator", b"--hpx:localities=3"],
+            b"hpx: bad word 2\n",
+        ),
+        (
+            &[b"accumulator", b"--hpx:localities=2", b"more"],
+            b"hpx: bad word 3\n",
+        ),
+    ] {
+        let mut source = SureSource::new(bytes(alloc, b"add 5\n")?);
+        let mut sink = SureSink::new(alloc);
+        let mut err = SureSink::new(alloc);
+        let fabric = SureFabric::new(alloc, Order::FirstIn);
+        let End { status, .. } = run(
+            alloc,
+            &words(alloc, given)?,
+            &mut source,
+            &mut sink,
+            &mut err,
+            fabric,
+        );
+        assert_eq!(rt; status, 1);
+        assert_eq!(rt; sink.bytes(), b"".as_slice());
+        assert_eq!(rt; err.bytes(), want);
+    }
+    Ok(())
+}
