@@ -1,6 +1,7 @@
 use crate::kept::Fit;
 use hpx_parcel::parcel::Why;
 use hpx_value::acts::{Acts, Done};
+use thiserror::Error;
 
 /// An action that goes to another locality.
 #[derive(Drop)]
@@ -24,10 +25,14 @@ pub struct FinishFault<A: Acts> {
 }
 
 /// Why a frame was not accepted.
-#[derive(Clone, Copy, Debug, PartialEq, Eq)]
+#[derive(Clone, Copy, Debug, PartialEq, Eq, Error)]
 pub enum TakeFault {
+    /// It spells no parcel.
+    #[error("bad frame")]
     BadFrame { at: u32, why: Why },
     /// It spells a parcel that is no action.
+    #[error("no action")]
     NoAction,
+    #[error("out of memory")]
     OutOfMemory,
 }

@@ -43,12 +43,12 @@ fn hexadecimal(alloc: Global, bytes: &[u8]) -> Result<Vec<u8>, AllocError> {
     Ok(text)
 }
 
-// The text behind the commands line, for sessions that end well.
+// Status, text and number of entries of a session over ports in memory of which none fails.
 fn session(alloc: Global, input: &[u8], order: Order) -> Result<(u8, Vec<u8>, u64), AllocError> {
-    let mut source = SureSource::new(bytes(alloc, input)?);
-    let mut sink = SureSink::new(alloc);
-    let mut err = SureSink::new(alloc);
-    let fabric = SureFabric::new(alloc, order);
+    let mut source = MemSource::new(bytes(alloc, input)?, Lengths::new(alloc));
+    let mut sink = MemSink::new(alloc, Lengths::new(alloc));
+    let mut err = MemSink::new(alloc, Lengths::new(alloc));
+    let fabric = MemFabric::new(alloc, order, Lengths::new(alloc), Lengths::new(alloc));
     let end = run(
         alloc,
         &words(alloc, &WORDS)?,
@@ -83,7 +83,7 @@ fn sessions_print_what_one_number_says(rt: HostRuntime) -> Result<(), Fail> {
                 b"commands: reset, add [amount], query, help, quit\n> > > 15\n> > 17\n> ",
             ),
             (
-                b"add\nadd x\n\nadd -3\r\nquery",
+                b"add\nadd x\n\nadd -3\r\nquery\n\t quit \nquery",
                 b"commands: reset, add [amount], query, help, quit\n> error: bad command\n> error: bad number\n> error: bad command\n> > -3\n> ",
             ),
         ] {
