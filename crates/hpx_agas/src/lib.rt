@@ -5,3 +5,5 @@ mod queues;
 pub mod record;
 pub mod records;
 mod table;
+#[cfg(test)]
+mod tests;
