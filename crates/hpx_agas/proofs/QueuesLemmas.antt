@@ -5,6 +5,8 @@ use Rattle.std.specs.List.{SameBelow, ShiftedDown}
 use Rattle.std.proofs.lemmas.Bool.{cases_Bool, cases_lt, eqb-true, eq-eqb}
 use Rattle.std.proofs.lemmas.List.{take-append-drop, append-nil, get_or-take, get_or-drop, length-take-le, length-drop, length-append}
 use Rattle.std.proofs.Math.Seq.{drop-cons}
+use Rattle.std.specs.List.{sum_by}
+use Rattle.std.proofs.lemmas.List.Sums.{sum_by-append, sum_by-cons, sum_by-take-drop}
 use Rattle.hpx_agas.specs.declared.record.Waiting.{Waiting}
 use Rattle.hpx_agas.specs.Queues.{items_of, NeverFalls, IsFirstAbove, IsFirstAt}
 
@@ -131,3 +133,12 @@ module _ {Q : Type 0} where
         ]
         | inr right ↦ omega (arith, h (a + 1) (b + 1) d (omega arith) inside, ap (λ w. w.number) (down a d right), ap (λ w. w.number) (down b d (omega arith)))
       ]
+
+  -- sums over all that waits
+  pub pushed_sum : (f : Waiting Q → ℕ) (xs : List (Waiting Q)) (i : ℕ) (w : Waiting Q) → sum_by f (take i xs ++ w ∷ drop i xs) ≡ sum_by f xs + f w
+  pushed_sum f xs i w = omega (arith, sum_by-append f (take i xs) (w ∷ drop i xs), sum_by-cons f w (drop i xs), sum_by-take-drop f xs i)
+
+  pub popped_sum : (f : Waiting Q → ℕ) (xs : List (Waiting Q)) (i : ℕ) (w : Waiting Q) → i < length xs → w ≡ get_or xs i w → sum_by f (take i xs ++ drop (suc i) xs) + f w ≡ sum_by f xs
+  popped_sum f xs i w within is =
+      let rest : drop i xs ≡ w ∷ drop (suc i) xs = drop-cons xs i w within ∙ ap (λ x. x ∷ drop (suc i) xs) (sym is) in
+      omega (arith, sum_by-append f (take i xs) (drop (suc i) xs), sum_by-cons f w (drop (suc i) xs), sum_by-take-drop f xs i, ap (sum_by f) rest)

@@ -9,6 +9,10 @@ module _ {Q : Type 0} where
   abbrev pub items_of : ℕ → List (Waiting Q) → List Q
   items_of n waiting = map (λ w. w.item) (filter (λ w. w.number == n) waiting)
 
+  -- an item that waits for the object of a number
+  abbrev pub waits : ℕ → Q → Waiting Q
+  waits n item = record { number = n; item = item }
+
   -- numbers do not fall
   abbrev pub NeverFalls : List (Waiting Q) → Type 0
   NeverFalls waiting = IsNonDecreasingBy (λ (w : Waiting Q). w.number) waiting

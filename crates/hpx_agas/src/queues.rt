@@ -1,5 +1,6 @@
-ghost use Rattle.std.specs.Prelude.{◌≡◌, ◌≢◌, ◌≤◌, ◌<◌, ◌+◌, ◌∷◌, ◌++◌, [], ℕ, nat_lt, nat_le, IfNone, OnOk, MatchOption, length};
-ghost use Rattle.hpx_agas.specs.Queues.{items_of, NeverFalls, IsFirstAbove, IsFirstAt};
+ghost use Rattle.std.specs.Prelude.{◌≡◌, ◌≢◌, ◌≤◌, ◌<◌, ◌+◌, ◌∷◌, ◌++◌, [], ℕ, nat_lt, nat_le, sum_by, IfSome, IfNone, OnOk, MatchOption, length};
+ghost use Rattle.hpx_agas.specs.declared.record.Waiting.{Waiting};
+ghost use Rattle.hpx_agas.specs.Queues.{items_of, waits, NeverFalls, IsFirstAbove, IsFirstAt};
 
 use crate::record::Waiting;
 use std::alloc::{AllocError, Global};
@@ -70,6 +71,7 @@ impl<Q> Queues<Q> {
         requires { 1 ≤ self.old.spare }
         ensures here { items_of number self.new.waiting ≡ items_of number self.old.waiting ++ item ∷ [] }
         ensures others { (n : ℕ) → n ≢ number → items_of n self.new.waiting ≡ items_of n self.old.waiting }
+        ensures sums { (f : Waiting Q → ℕ) → sum_by f self.new.waiting ≡ sum_by f self.old.waiting + f (waits number item) }
         ensures spare { self.old.spare ≤ self.new.spare + 1 }
     {
         let i = up_to(&self.waiting, number);
@@ -82,6 +84,7 @@ impl<Q> Queues<Q> {
         ensures item { MatchOption result (items_of number self.old.waiting ≡ []) (λ item. items_of number self.old.waiting ≡ item ∷ items_of number self.new.waiting) }
         ensures none { IfNone result (self.new ≡ self.old) }
         ensures others { (n : ℕ) → n ≢ number → items_of n self.new.waiting ≡ items_of n self.old.waiting }
+        ensures sums { IfSome result (λ item. (f : Waiting Q → ℕ) → sum_by f self.new.waiting + f (waits number item) ≡ sum_by f self.old.waiting) }
         ensures spare { self.old.spare ≤ self.new.spare }
     {
         let i = below(&self.waiting, number);

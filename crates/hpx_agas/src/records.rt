@@ -1,9 +1,11 @@
-ghost use Rattle.std.specs.Prelude.{◌≡◌, ◌≢◌, ◌≤◌, ◌<◌, ◌+◌, ◌-◌, ◌^◌, ◌∷◌, ◌++◌, ◌↔◌, [], ℕ, Some, None, true, false, if◌then◌else◌, is_some, option_map, ◌==◌, Ok, slice_get, IsSome, IsSomeAnd, IsErr, IfSome, IfNone, IfOk, OnOk, OnErr, MatchOption, length};
+ghost use Rattle.std.specs.Prelude.{◌≡◌, ◌≢◌, ◌≤◌, ◌<◌, ◌+◌, ◌-◌, ◌^◌, ◌∷◌, ◌++◌, ◌↔◌, [], ℕ, Some, None, true, false, if◌then◌else◌, is_some, option_map, sum_by, ◌==◌, Ok, slice_get, IsSome, IsSomeAnd, IsErr, IfSome, IfNone, IfOk, OnOk, OnErr, MatchOption, length};
 ghost use Rattle.std.specs.Option.{option_map_or};
 ghost use Rattle.hpx_value.specs.Ids.{Id, same_object, bare_id};
 ghost use Rattle.hpx_value.specs.Profiles.{IsValid};
 ghost use Rattle.hpx_agas.specs.declared.record.Record.{Record};
 ghost use Rattle.hpx_agas.specs.Credits.{credit};
+ghost use Rattle.hpx_agas.specs.declared.record.Waiting.{Waiting};
+ghost use Rattle.hpx_agas.specs.Queues.{waits};
 ghost use Rattle.hpx_agas.specs.Registries.{record_of, queue_of, newborn, left_of, lowered, granted_of, asked, count_of, move_of, Covers, IsFree, IsMovingTo, IsSound};
 
 use crate::queues::Queues;
@@ -54,6 +56,8 @@ pub struct Records<Q> {
 
 impl<Q> Model for Records<Q> {
     ghost use Rattle.std.specs.Prelude.{min};
+    ghost use Rattle.hpx_agas.specs.declared.record.Waiting.{Waiting};
+    ghost use Rattle.hpx_agas.specs.Queues.{waits};
     ghost use Rattle.hpx_agas.specs.Registries.{Registry, registry_code, IsKept};
 
     ghost Value = { Registry Q };
@@ -202,7 +206,7 @@ impl<Q> Records<Q> {
         ensures left { IfOk result (λ left. IfSome (record_of self.old gid) (λ r. left ≡ left_of r gid)) }
         ensures record { OnOk result (IfSome (record_of self.old gid) (λ r. record_of self.new gid ≡ lowered r gid)) }
         ensures others { (o : Id) → same_object gid o ≡ false → record_of self.new o ≡ record_of self.old o }
-        ensures queues { (o : Id) → same_object gid o ≡ false → queue_of self.new o ≡ queue_of self.old o }
+        ensures queues { (o : Id) → queue_of self.new o ≡ queue_of self.old o }
         ensures rest { self.new ≡ record self.old { records = self.new.records; spare = self.new.spare } }
         ensures err { OnErr result (self.new ≡ self.old) }
         ensures spare { self.old.spare ≤ self.new.spare }
@@ -303,6 +307,7 @@ impl<Q> Records<Q> {
         requires moving { IsSome (move_of self.old gid) }
         ensures queue { queue_of self.new gid ≡ queue_of self.old gid ++ item ∷ [] }
         ensures queues { (o : Id) → same_object gid o ≡ false → queue_of self.new o ≡ queue_of self.old o }
+        ensures sums { (f : Waiting Q → ℕ) → sum_by f self.new.waiting ≡ sum_by f self.old.waiting + f (waits gid.number item) }
         ensures rest { self.new ≡ record self.old { waiting = self.new.waiting; spare = self.new.spare } }
         ensures spare { self.old.spare ≤ self.new.spare + 1 }
     {
@@ -313,6 +318,7 @@ impl<Q> Records<Q> {
     pub fn release(&mut self, gid: Gid) -> Option<Q>
         ensures item { MatchOption result (queue_of self.old gid ≡ []) (λ item. queue_of self.old gid ≡ item ∷ queue_of self.new gid) }
         ensures queues { (o : Id) → same_object gid o ≡ false → queue_of self.new o ≡ queue_of self.old o }
+        ensures sums { IfSome result (λ item. (f : Waiting Q → ℕ) → sum_by f self.new.waiting + f (waits gid.number item) ≡ sum_by f self.old.waiting) }
         ensures rest { self.new ≡ record self.old { waiting = self.new.waiting; spare = self.new.spare } }
         ensures none { IfNone result (self.new ≡ self.old) }
         ensures spare { self.old.spare ≤ self.new.spare }

@@ -2,7 +2,7 @@ use Rattle.std.proofs.Common.{◌≡◌, ◌<◌, ◌≤◌, ◌∙◌, length, 
 use Rattle.std.proofs.lemmas.Bool.{ltb-true, ltb-false}
 use Rattle.std.proofs.lemmas.List.{get_or_default}
 use Rattle.hpx_agas.specs.Queues.{IsFirstAt}
-use Rattle.hpx_agas.proofs.QueuesLemmas.{popped_here, popped_others, missed, stays_in_order}
+use Rattle.hpx_agas.proofs.QueuesLemmas.{popped_here, popped_others, popped_sum, missed, stays_in_order}
 use Rattle.hpx_agas.proofs.queues.Queues.pop.Goals as goal
 use Rattle.hpx_agas.proofs.queues.Queues.pop.Goals.{in_default-via-in-Some+else-first-number, in_default-via-in_default}
 
@@ -46,3 +46,13 @@ returns-in_default-clause-item g c =
           let past : length c.self.inside.waiting.items ≤ c.below-i.result = rw c.deref-2.ensures.value at (ltb-false _ _ (sym w.in_default.ensures.lookup.0)) in
           absurd (omega arith)
     ]))
+
+pub returns-in-Some-clause-sums : goal.returns-in-Some-clause-sums
+returns-in-Some-clause-sums g c =
+    let within : c.below-i.result < length c.self.inside.waiting.items = rw c.deref-2.ensures.value at (ltb-true _ _ (sym c.in-Some.ensures.lookup.0)) in
+    let seen : c.in-Some.first.now ≡ get_or c.self.inside.waiting.items c.below-i.result c.in-Some.first.now = rw c.deref-2.ensures.value at c.in-Some.ensures.lookup.1 in
+    let same : c.remove.result.number ≡ c.args.number =
+    ap (λ w. w.number) (c.remove.ensures.value ∙ get_or_default c.self.inside.waiting.items c.below-i.result c.remove.result c.in-Some.first.now within ∙ sym seen) ∙ c.if-first-number.true in
+    let items = rw add-one at c.remove.ensures.by_index.2 in
+    rw (← c.self.view_is, items, ← same)
+    (λ f. popped_sum f c.self.inside.waiting.items c.below-i.result c.remove.result within c.remove.ensures.value)

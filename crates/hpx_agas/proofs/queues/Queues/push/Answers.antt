@@ -1,5 +1,5 @@
 use Rattle.hpx_agas.specs.Queues.{IsFirstAbove}
-use Rattle.hpx_agas.proofs.QueuesLemmas.{pushed_here, pushed_others}
+use Rattle.hpx_agas.proofs.QueuesLemmas.{pushed_here, pushed_others, pushed_sum}
 use Rattle.hpx_agas.proofs.queues.Queues.push.Goals as goal
 
 pub returns-clause-here : goal.returns-clause-here
@@ -14,3 +14,9 @@ returns-clause-others g c =
     let items = rw c.unwrap.ensures at c.insert-done.ensures.items in
     rw (← c.self.view_is, items)
     (pushed_others c.self.inside.waiting.items c.up_to-i.result (record { number = c.args.number; item = c.args.item }))
+
+pub returns-clause-sums : goal.returns-clause-sums
+returns-clause-sums g c =
+    let items = rw c.unwrap.ensures at c.insert-done.ensures.items in
+    rw (← c.self.view_is, items)
+    (λ f. pushed_sum f c.self.inside.waiting.items c.up_to-i.result (record { number = c.args.number; item = c.args.item }))
