@@ -1,0 +1,3 @@
+pub mod RecordsLemmas
+pub mod QueuesLemmas
+pub mod RegistriesLemmas

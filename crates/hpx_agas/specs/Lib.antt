@@ -1,0 +1,5 @@
+pub mod Credits
+pub mod Records
+pub mod Queues
+pub mod Codes
+pub mod Registries

@@ -1,0 +1,9 @@
+//! The records that a home keeps of its live objects: counts, places, moves under way, and what waits for them.
+#![tactic(auto)]
+
+mod queues;
+pub mod record;
+pub mod records;
+mod table;
+#[cfg(test)]
+mod tests;
