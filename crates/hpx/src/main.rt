@@ -28,14 +28,7 @@ fn main(rt: HostRuntime) -> ExitCode {
     let mut source = ReaderSource::new(rt.stdin());
     let mut sink = WriterSink::new(rt.stdout());
     let fabric = SureFabric::new(rt.alloc(), Order::FirstIn);
-    let end = run(
-        rt.alloc(),
-        &words,
-        &mut source,
-        &mut sink,
-        &mut err,
-        fabric,
-    );
+    let end = run(rt.alloc(), &words, &mut source, &mut sink, &mut err, fabric);
     ExitCode::from(end.status)
 }
 
