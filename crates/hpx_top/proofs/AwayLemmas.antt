@@ -2,13 +2,13 @@
 use Rattle.std.proofs.Common.{true, ℕ, List, [], ◌∷◌, ◌++◌, ◌≡◌, Some, None, Option, refl, sym, ap, ◌∙◌, subst, arith, append-nil}
 use Rattle.std.specs.List.{count_by, list_any}
 use Rattle.std.proofs.lemmas.List.Sums.{sum_by-append, sum_by-cons}
-use Rattle.hpx_journal.specs.Entries.{Frame, same_frame}
-use Rattle.hpx_journal.specs.declared.entry.Entry.{Entry}
-use Rattle.hpx_journal.specs.Whole.{ins}
-use Rattle.hpx_journal.proofs.Same.{same_frame-true, same_frame-refl}
-use Rattle.hpx_journal.proofs.Bags.{sum_by-without}
-use Rattle.hpx_journal.proofs.Grow.{flight_on_road}
-use Rattle.hpx_journal.proofs.KeyedLemmas.{counts_of, counts_true, count_middle}
+use Rattle.hpx_root_journal.specs.Entries.{Frame, same_frame}
+use Rattle.hpx_root_journal.specs.declared.entry.Entry.{Entry}
+use Rattle.hpx_root_journal.specs.Whole.{ins}
+use Rattle.hpx_root_journal.proofs.Same.{same_frame-true, same_frame-refl}
+use Rattle.hpx_root_journal.proofs.Bags.{sum_by-without}
+use Rattle.hpx_root_journal.proofs.Grow.{flight_on_road}
+use Rattle.hpx_root_journal.proofs.KeyedLemmas.{counts_of, counts_true, count_middle}
 use Rattle.hpx_ports.specs.Told.{followed}
 use Rattle.hpx_ports.specs.Frames.{Delivers, events_of}
 use Rattle.hpx_ports.specs.declared.fabric.Wire.{Wire}

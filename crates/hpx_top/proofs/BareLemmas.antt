@@ -6,10 +6,10 @@ use Rattle.std.proofs.lemmas.Bool.{cases_Bool}
 use Rattle.hpx_value.specs.Ids.{bare}
 use Rattle.hpx_value.specs.Values.{bare_act, bare_state, bare_message, message_of, named, refs_in}
 use Rattle.hpx_value.specs.Hands.{Slot, session, id_at, slot_at, own_slot, hand_ids, hand_slots, hand_slot, addressed, renumbered, answer, target_id, send_slot, sent, replied, due_of, conts_from, state_after}
-use Rattle.hpx_journal.specs.Data.{Id, Value, Int, Cont, State, Act, MessageDue, PrintDue, Target, Place, Root, SendCont, NoCont, Own, Made, Here, Sending, Reply, Outcome}
-use Rattle.hpx_journal.specs.Entries.{target_of}
-use Rattle.hpx_journal.specs.Local.{is_standing, acts_on, is_busy}
-use Rattle.hpx_journal.specs.declared.entry.Standing.{Standing}
+use Rattle.hpx_root_journal.specs.Data.{Id, Value, Int, Cont, State, Act, MessageDue, PrintDue, Target, Place, Root, SendCont, NoCont, Own, Made, Here, Sending, Reply, Outcome}
+use Rattle.hpx_root_journal.specs.Entries.{target_of}
+use Rattle.hpx_root_journal.specs.Local.{is_standing, acts_on, is_busy}
+use Rattle.hpx_root_journal.specs.declared.entry.Standing.{Standing}
 use Rattle.hpx_top.specs.Bare.{bare_standing, bare_due}
 
 pub bare_twice : (ids : List Id) → map bare (map bare ids) ≡ map bare ids

@@ -3,12 +3,12 @@ use Rattle.std.proofs.Common.{ℕ, Bool, true, false, cond, [], ◌∷◌, ◌++
 use Rattle.std.specs.Prelude.{◌==◌, ◌%◌}
 use Rattle.std.specs.List.{count_by}
 use Rattle.std.proofs.lemmas.Bool.Decides.{nat_tests}
-use Rattle.hpx_journal.specs.Data.{Id}
-use Rattle.hpx_journal.specs.Entries.{Rules}
-use Rattle.hpx_journal.specs.Keyed.{Agree}
-use Rattle.hpx_journal.specs.Local.{is_standing}
-use Rattle.hpx_journal.specs.Roots.{root, roots, roots_of_first}
-use Rattle.hpx_journal.proofs.Single.{single_boot}
+use Rattle.hpx_root_journal.specs.Data.{Id}
+use Rattle.hpx_root_journal.specs.Entries.{Rules}
+use Rattle.hpx_root_journal.specs.Keyed.{Agree}
+use Rattle.hpx_root_journal.specs.Local.{is_standing}
+use Rattle.hpx_root_journal.specs.Roots.{root, roots, roots_of_first}
+use Rattle.hpx_root_journal.proofs.Single.{single_boot}
 use Rattle.hpx_top.specs.Bare.{bare_standing}
 use Rattle.hpx_top.specs.Tables.{Tables}
 use Rattle.hpx_top.specs.Stands.{Stands}

@@ -7,9 +7,9 @@ use Rattle.hpx_value.specs.Values.{refs_in, named}
 use Rattle.hpx_value.specs.Shapes.{IsMessage}
 use Rattle.hpx_value.specs.Hands.{Slot, session, id_at, slot_at, own_slot, hand_ids, hand_slots, hand_slot, addressed, slot_ids, renumbered, target_id, send_slot, sent, replied, due_of, conts_from, slots_kept, state_after}
 use Rattle.hpx_value.specs.Laws.{KeepsLaws, IsRoot, IsTarget}
-use Rattle.hpx_journal.specs.Data.{Id, Value, Nothing, Flag, Int, Text, Ref, Fault, Ints, Cont, State, Act, Message, MessageDue, PrintDue, Target, Place, Root, SendCont, NoCont, Own, Made, Here, Sending, Reply, Outcome}
+use Rattle.hpx_root_journal.specs.Data.{Id, Value, Nothing, Flag, Int, Text, Ref, Fault, Ints, Cont, State, Act, Message, MessageDue, PrintDue, Target, Place, Root, SendCont, NoCont, Own, Made, Here, Sending, Reply, Outcome}
 use Rattle.hpx_parcel.specs.Parcels.{HasRightCredit}
-use Rattle.hpx_journal.proofs.Roads.{all-append}
+use Rattle.hpx_root_journal.proofs.Roads.{all-append}
 use Rattle.hpx_top.specs.Fit.{IsFit, IsFitDue, IsKept}
 use Rattle.hpx_top.specs.Hand.{CanBeSent, CanBeMade, IsNearRoot}
 

@@ -1,7 +1,7 @@
 -- One more action that may not be fired.
 use Rattle.std.proofs.Common.{List, [], ◌∷◌, ◌++◌}
-use Rattle.hpx_journal.specs.Data.{Act}
-use Rattle.hpx_journal.specs.declared.entry.Standing.{Standing}
+use Rattle.hpx_root_journal.specs.Data.{Act}
+use Rattle.hpx_root_journal.specs.declared.entry.Standing.{Standing}
 use Rattle.hpx_top.specs.Free.{IsFree, NoneIsFree}
 
 pub NoneIsFree-push : (running : List Act) (objects : List Standing) (acts : List Act) (act : Act) → NoneIsFree running objects acts

@@ -5,10 +5,10 @@ use Rattle.std.specs.Str.Lines.{strip_carriage_return}
 use Rattle.std.proofs.Common.{sym, ap, ◌∙◌, arith, append_assoc, append-nil, zero, suc}
 use Rattle.std.proofs.lemmas.Bool.{or_parts}
 use Rattle.std.proofs.lemmas.List.Splits.{slice_split_at, slice_split_none}
-use Rattle.hpx_journal.specs.declared.entry.Entry.{Entry}
-use Rattle.hpx_journal.specs.Entries.{Rules}
-use Rattle.hpx_journal.specs.Whole.{Space, run}
-use Rattle.hpx_journal.specs.Sessions.{IsSession, shown}
+use Rattle.hpx_root_journal.specs.declared.entry.Entry.{Entry}
+use Rattle.hpx_root_journal.specs.Entries.{Rules}
+use Rattle.hpx_root_journal.specs.Whole.{Space, run}
+use Rattle.hpx_root_journal.specs.Sessions.{IsSession, shown}
 use Rattle.hpx_top.specs.Console.{is_filled, bad_command}
 use Rattle.hpx_top.specs.PlainText.{is_long, is_quit, is_newline, IsPiece, IsFirstLine, lines_in, before_quit, lines_of, quits, fed, prompt, line_text, lines_text, after_line, after_lines, first_of, others_of, written}
 

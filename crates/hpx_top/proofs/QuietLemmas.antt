@@ -3,22 +3,22 @@ use Rattle.std.proofs.Common.{ℕ, zero, suc, List, [], ◌∷◌, ◌++◌, ◌
 use Rattle.std.specs.List.{slice_get, sum_by, AllByRecursion}
 use Rattle.std.proofs.lemmas.List.Sums.{sum_by-cons}
 use Rattle.hpx_value.specs.Values.{bare_act}
-use Rattle.hpx_journal.specs.Bags.{total}
-use Rattle.hpx_journal.specs.Data.{Act}
-use Rattle.hpx_journal.specs.Keyed.{Agree}
-use Rattle.hpx_journal.specs.Entries.{Rules, Frame, name_of}
-use Rattle.hpx_journal.specs.declared.entry.Entry.{Entry}
-use Rattle.hpx_journal.specs.Local.{Local, boot, is_act}
-use Rattle.hpx_journal.specs.Roots.{roots}
-use Rattle.hpx_journal.specs.Whole.{part, run, run_local, start, IsCarried, IsClean, IsLegal, road_after, outs, outs_by, ins, arrives}
-use Rattle.hpx_journal.specs.Sessions.{IsSettled}
-use Rattle.hpx_journal.proofs.Bags.{total-zero, total-change}
-use Rattle.hpx_journal.proofs.Grow.{run_part}
-use Rattle.hpx_journal.proofs.Joined.{part_same, part_other}
-use Rattle.hpx_journal.proofs.Keys.{own}
-use Rattle.hpx_journal.proofs.KeyedLemmas.{counts_of, counts_true}
-use Rattle.hpx_journal.proofs.Quiet.{legal_quiet}
-use Rattle.hpx_journal.proofs.Start.{legal_part_clean}
+use Rattle.hpx_root_journal.specs.Bags.{total}
+use Rattle.hpx_root_journal.specs.Data.{Act}
+use Rattle.hpx_root_journal.specs.Keyed.{Agree}
+use Rattle.hpx_root_journal.specs.Entries.{Rules, Frame, name_of}
+use Rattle.hpx_root_journal.specs.declared.entry.Entry.{Entry}
+use Rattle.hpx_root_journal.specs.Local.{Local, boot, is_act}
+use Rattle.hpx_root_journal.specs.Roots.{roots}
+use Rattle.hpx_root_journal.specs.Whole.{part, run, run_local, start, IsCarried, IsClean, IsLegal, road_after, outs, outs_by, ins, arrives}
+use Rattle.hpx_root_journal.specs.Sessions.{IsSettled}
+use Rattle.hpx_root_journal.proofs.Bags.{total-zero, total-change}
+use Rattle.hpx_root_journal.proofs.Grow.{run_part}
+use Rattle.hpx_root_journal.proofs.Joined.{part_same, part_other}
+use Rattle.hpx_root_journal.proofs.Keys.{own}
+use Rattle.hpx_root_journal.proofs.KeyedLemmas.{counts_of, counts_true}
+use Rattle.hpx_root_journal.proofs.Quiet.{legal_quiet}
+use Rattle.hpx_root_journal.proofs.Start.{legal_part_clean}
 use Rattle.hpx_top.specs.Tables.{Tables, IsPassive}
 use Rattle.hpx_top.specs.Stands.{Shows, queued, rules_of}
 use Rattle.hpx_top.specs.Sound.{Meaning, IsSound, IsQuiet}

@@ -7,19 +7,19 @@ use Rattle.hpx_value.specs.Ids.{bare}
 use Rattle.hpx_value.specs.Values.{bare_act, bare_state, bare_message, named}
 use Rattle.hpx_value.specs.Hands.{due_of, state_after}
 use Rattle.hpx_value.specs.declared.acts.Job.{Job}
-use Rattle.hpx_journal.specs.Bags.{without, minus}
-use Rattle.hpx_journal.specs.Keyed.{Agree}
-use Rattle.hpx_journal.specs.Data.{Id, Act, State, Message, Outcome, Due, MessageDue, PrintDue, Apply}
-use Rattle.hpx_journal.specs.Entries.{Rules, name_of, target_of, acts_in, line_act}
-use Rattle.hpx_journal.specs.declared.entry.Entry.{Entry}
-use Rattle.hpx_journal.specs.declared.entry.Name.{Name}
-use Rattle.hpx_journal.specs.declared.entry.Event.TheVariants.{Fire, Done, Line, Sent, Print, Out, In}
-use Rattle.hpx_journal.specs.declared.entry.Standing.{Standing}
-use Rattle.hpx_journal.specs.Local.{Local, IsForeignIn, IsSingle, after, is_act, acts_on, is_standing, is_busy, present, listed, outcome, objects_after, settled, settled_at, due_after, due_left, due_at, undrawn_at, next_name, due_act, tail, GoesOut}
-use Rattle.hpx_journal.specs.Whole.{outs, ins}
-use Rattle.hpx_journal.proofs.Bags.{sum_by-without-find}
-use Rattle.hpx_journal.proofs.Keys.{means, own, stood, means_object, own_object}
-use Rattle.hpx_journal.proofs.KeyedLemmas.{Agree-put, Agree-take, Agree-found, Agree-idle, split_get, split_set, counts_of, counts_true, count_middle}
+use Rattle.hpx_root_journal.specs.Bags.{without, minus}
+use Rattle.hpx_root_journal.specs.Keyed.{Agree}
+use Rattle.hpx_root_journal.specs.Data.{Id, Act, State, Message, Outcome, Due, MessageDue, PrintDue, Apply}
+use Rattle.hpx_root_journal.specs.Entries.{Rules, name_of, target_of, acts_in, line_act}
+use Rattle.hpx_root_journal.specs.declared.entry.Entry.{Entry}
+use Rattle.hpx_root_journal.specs.declared.entry.Name.{Name}
+use Rattle.hpx_root_journal.specs.declared.entry.Event.TheVariants.{Fire, Done, Line, Sent, Print, Out, In}
+use Rattle.hpx_root_journal.specs.declared.entry.Standing.{Standing}
+use Rattle.hpx_root_journal.specs.Local.{Local, IsForeignIn, IsSingle, after, is_act, acts_on, is_standing, is_busy, present, listed, outcome, objects_after, settled, settled_at, due_after, due_left, due_at, undrawn_at, next_name, due_act, tail, GoesOut}
+use Rattle.hpx_root_journal.specs.Whole.{outs, ins}
+use Rattle.hpx_root_journal.proofs.Bags.{sum_by-without-find}
+use Rattle.hpx_root_journal.proofs.Keys.{means, own, stood, means_object, own_object}
+use Rattle.hpx_root_journal.proofs.KeyedLemmas.{Agree-put, Agree-take, Agree-found, Agree-idle, split_get, split_set, counts_of, counts_true, count_middle}
 use Rattle.hpx_top.specs.Bare.{bare_standing, bare_due}
 use Rattle.hpx_top.specs.Tables.{Tables}
 use Rattle.hpx_top.specs.Free.{IsFree}

@@ -2,20 +2,20 @@
 use Rattle.std.proofs.Common.{true, ℕ, zero, suc, List, [], ◌∷◌, ◌++◌, ◌≡◌, ◌≢◌, ◌<◌, ◌≤◌, Some, refl, sym, ap, ◌∙◌, subst, arith, length, get_or, set, length-set, append-nil, append_assoc, inl, inr, ◌⊎◌}
 use Rattle.std.specs.List.{slice_get, list_any}
 use Rattle.std.proofs.lemmas.Bool.{cases_eq}
-use Rattle.hpx_journal.specs.Bags.{Covers, minus}
-use Rattle.hpx_journal.specs.Entries.{Rules, Frame, same_frame}
-use Rattle.hpx_journal.specs.declared.entry.Entry.{Entry}
-use Rattle.hpx_journal.specs.declared.entry.Event.{Event}
-use Rattle.hpx_journal.specs.declared.entry.Name.{Name}
-use Rattle.hpx_journal.specs.declared.entry.Event.TheVariants.{Line, Fire, Done, Sent, Print, In, Out}
-use Rattle.hpx_journal.specs.Local.{boot, NodeKeeps}
-use Rattle.hpx_journal.specs.Roots.{roots}
-use Rattle.hpx_journal.specs.Whole.{part, run_local, IsClean, AreAt, AreInner, Grows, at_all, IsCarried, road_run, road_after, IsLegal, start, sends, arrives, outs, ins, outs_by}
-use Rattle.hpx_journal.specs.Laws.{IsSpelled}
-use Rattle.hpx_journal.proofs.Grow.{part_append, part_away, carried_append, run_road}
-use Rattle.hpx_journal.proofs.Roads.{on_road_spelled}
-use Rattle.hpx_journal.proofs.Start.{joined_legal}
-use Rattle.hpx_journal.proofs.KeyedLemmas.{get_slice_get}
+use Rattle.hpx_root_journal.specs.Bags.{Covers, minus}
+use Rattle.hpx_root_journal.specs.Entries.{Rules, Frame, same_frame}
+use Rattle.hpx_root_journal.specs.declared.entry.Entry.{Entry}
+use Rattle.hpx_root_journal.specs.declared.entry.Event.{Event}
+use Rattle.hpx_root_journal.specs.declared.entry.Name.{Name}
+use Rattle.hpx_root_journal.specs.declared.entry.Event.TheVariants.{Line, Fire, Done, Sent, Print, In, Out}
+use Rattle.hpx_root_journal.specs.Local.{boot, NodeKeeps}
+use Rattle.hpx_root_journal.specs.Roots.{roots}
+use Rattle.hpx_root_journal.specs.Whole.{part, run_local, IsClean, AreAt, AreInner, Grows, at_all, IsCarried, road_run, road_after, IsLegal, start, sends, arrives, outs, ins, outs_by}
+use Rattle.hpx_root_journal.specs.Laws.{IsSpelled}
+use Rattle.hpx_root_journal.proofs.Grow.{part_append, part_away, carried_append, run_road}
+use Rattle.hpx_root_journal.proofs.Roads.{on_road_spelled}
+use Rattle.hpx_root_journal.proofs.Start.{joined_legal}
+use Rattle.hpx_root_journal.proofs.KeyedLemmas.{get_slice_get}
 use Rattle.hpx_top.specs.Tables.{Tables}
 use Rattle.hpx_top.specs.Stands.{Stands, Shows, born, rules_of}
 use Rattle.hpx_top.specs.Changes.{Writes}

@@ -1,15 +1,15 @@
 -- A step of the tables is a step of the locality.
 use Rattle.std.proofs.Common.{ℕ, List, [], ◌∷◌, ◌++◌, ◌≡◌, ◌+◌, ◌≤◌, refl, sym, ap, ◌∙◌, arith, subst, inl, inr, length, length-append}
-use Rattle.hpx_journal.specs.Data.{Due}
-use Rattle.hpx_journal.specs.Entries.{Rules}
-use Rattle.hpx_journal.specs.declared.entry.Entry.{Entry}
-use Rattle.hpx_journal.specs.declared.entry.Event.{Event}
-use Rattle.hpx_journal.specs.declared.entry.Event.TheVariants.{Line, Fire, Done, Sent, Print, Out, In}
-use Rattle.hpx_journal.specs.Local.{Local, Allowed, IsForeign, NodeKeeps, after, boot}
-use Rattle.hpx_journal.specs.Roots.{roots}
-use Rattle.hpx_journal.specs.Whole.{part, run_local, IsClean, outs, ins, outs_by, arrives, arrives_at}
-use Rattle.hpx_journal.proofs.Grow.{keeps_append, part_append, part_at}
-use Rattle.hpx_journal.proofs.Single.{single_after}
+use Rattle.hpx_root_journal.specs.Data.{Due}
+use Rattle.hpx_root_journal.specs.Entries.{Rules}
+use Rattle.hpx_root_journal.specs.declared.entry.Entry.{Entry}
+use Rattle.hpx_root_journal.specs.declared.entry.Event.{Event}
+use Rattle.hpx_root_journal.specs.declared.entry.Event.TheVariants.{Line, Fire, Done, Sent, Print, Out, In}
+use Rattle.hpx_root_journal.specs.Local.{Local, Allowed, IsForeign, NodeKeeps, after, boot}
+use Rattle.hpx_root_journal.specs.Roots.{roots}
+use Rattle.hpx_root_journal.specs.Whole.{part, run_local, IsClean, outs, ins, outs_by, arrives, arrives_at}
+use Rattle.hpx_root_journal.proofs.Grow.{keeps_append, part_append, part_at}
+use Rattle.hpx_root_journal.proofs.Single.{single_after}
 use Rattle.std.proofs.lemmas.Bool.{eq-eqb, ne_eqb, cases_eq}
 use Rattle.hpx_top.specs.Tables.{Tables}
 use Rattle.hpx_top.specs.Stands.{Tied, Shows, Stands, born}

@@ -6,10 +6,10 @@ use Rattle.std.proofs.lemmas.Bool.{lt-ltb, le-leb, and_right}
 use Rattle.hpx_value.specs.Ids.{Id, bare_id, same_object}
 use Rattle.hpx_value.specs.Values.{named}
 use Rattle.hpx_value.specs.Hands.{session, state_after}
-use Rattle.hpx_journal.specs.Data.{Value, Nothing, Int, Fault, State, Message, Outcome, Parcel}
-use Rattle.hpx_journal.specs.Pool.{Pool, target_in, line_message, outcome_in, sent_by}
-use Rattle.hpx_journal.specs.Sessions.{Steps}
-use Rattle.hpx_journal.proofs.Only.{IsNext, only, none_acts}
+use Rattle.hpx_root_journal.specs.Data.{Value, Nothing, Int, Fault, State, Message, Outcome, Parcel}
+use Rattle.hpx_root_journal.specs.Pool.{Pool, target_in, line_message, outcome_in, sent_by}
+use Rattle.hpx_root_journal.specs.Sessions.{Steps}
+use Rattle.hpx_root_journal.proofs.Only.{IsNext, only, none_acts}
 use Rattle.hpx_top.specs.declared.acts.console.Command.{Command}
 use Rattle.hpx_top.specs.declared.acts.console.Command.TheVariants.{Add, Query, BadNumber, BadCommand}
 use Rattle.hpx_top.specs.declared.acts.effect.Effect.TheVariants.{Keeps}

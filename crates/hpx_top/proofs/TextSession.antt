@@ -4,12 +4,12 @@ use Rattle.std.specs.List.{concat}
 use Rattle.std.proofs.Common.{ℕ, Bool, true, false, List, [], ◌∷◌, ◌++◌, ◌≡◌, ◌+◌, ◌≤◌, length, Option, Some, None, refl, sym, ap, ◌∙◌, subst, inl, inr, ◌⊎◌, arith, append-nil, append_assoc}
 use Rattle.hpx_value.specs.Ids.{Id}
 use Rattle.hpx_value.specs.Hands.{session}
-use Rattle.hpx_journal.specs.Data.{State, Parcel}
-use Rattle.hpx_journal.specs.Whole.{start}
-use Rattle.hpx_journal.specs.Roots.{roots}
-use Rattle.hpx_journal.specs.Pool.{Pool, line_message, OnlySessionPrints, IsBlind, state_of}
-use Rattle.hpx_journal.specs.Sessions.{IsPlainBlock, IsPlainSession, IsPlainFront, IsPlainBrokenOff}
-use Rattle.hpx_journal.proofs.Boot.{session_stands, tally_stands}
+use Rattle.hpx_root_journal.specs.Data.{State, Parcel}
+use Rattle.hpx_root_journal.specs.Whole.{start}
+use Rattle.hpx_root_journal.specs.Roots.{roots}
+use Rattle.hpx_root_journal.specs.Pool.{Pool, line_message, OnlySessionPrints, IsBlind, state_of}
+use Rattle.hpx_root_journal.specs.Sessions.{IsPlainBlock, IsPlainSession, IsPlainFront, IsPlainBrokenOff}
+use Rattle.hpx_root_journal.proofs.Boot.{session_stands, tally_stands}
 use Rattle.hpx_top.specs.declared.acts.console.Command.{Command}
 use Rattle.hpx_top.specs.declared.acts.console.Command.TheVariants.{Add, Query, BadNumber, BadCommand}
 use Rattle.hpx_top.specs.Console.{command_of, fits, bad_number, bad_command, number_text, fault_text}

@@ -3,11 +3,11 @@ use Rattle.std.proofs.Common.{ℕ, zero, suc, List, [], ◌∷◌, ◌≡◌, �
 use Rattle.std.specs.Option.{IfSome, IfNone}
 use Rattle.std.specs.Result.{IfOk, IfErr}
 use Rattle.std.specs.List.{slice_get}
-use Rattle.hpx_journal.specs.Books.{Book}
-use Rattle.hpx_journal.specs.declared.entry.Entry.{Entry}
-use Rattle.hpx_journal.specs.declared.entry.Event.{Event}
-use Rattle.hpx_journal.specs.Whole.{Grows}
-use Rattle.hpx_journal.proofs.KeyedLemmas.{get_slice_get}
+use Rattle.hpx_root_journal.specs.Books.{Book}
+use Rattle.hpx_root_journal.specs.declared.entry.Entry.{Entry}
+use Rattle.hpx_root_journal.specs.declared.entry.Event.{Event}
+use Rattle.hpx_root_journal.specs.Whole.{Grows}
+use Rattle.hpx_root_journal.proofs.KeyedLemmas.{get_slice_get}
 use Rattle.hpx_top.specs.Tables.{Tables}
 use Rattle.hpx_top.specs.Changes.{Writes, OnlySpare}
 use Rattle.hpx_top.specs.Sound.{Meaning, IsSound, IsSame, without_spare}

@@ -2,11 +2,11 @@
 use Rattle.std.proofs.Common.{ℕ, true, false, List, [], ◌∷◌, ◌++◌, ◌≡◌, ◌<◌, ◌≤◌, Ok, Err, Option, Result, Bool, refl, sym, ap, ◌∙◌, arith, length, append-nil, append_assoc, length-append}
 use Rattle.std.specs.List.{AllByRecursion}
 use Rattle.std.specs.Result.{OnErr}
-use Rattle.hpx_journal.specs.Entries.{Frame}
-use Rattle.hpx_journal.specs.declared.entry.Entry.{Entry}
-use Rattle.hpx_journal.specs.declared.entry.Event.{Event}
-use Rattle.hpx_journal.specs.declared.entry.Event.TheVariants.{Out, In}
-use Rattle.hpx_journal.specs.Whole.{Grows, FeedsNothing, AreInner, at_all}
+use Rattle.hpx_root_journal.specs.Entries.{Frame}
+use Rattle.hpx_root_journal.specs.declared.entry.Entry.{Entry}
+use Rattle.hpx_root_journal.specs.declared.entry.Event.{Event}
+use Rattle.hpx_root_journal.specs.declared.entry.Event.TheVariants.{Out, In}
+use Rattle.hpx_root_journal.specs.Whole.{Grows, FeedsNothing, AreInner, at_all}
 use Rattle.hpx_ports.specs.declared.fabric.Wire.{Wire}
 use Rattle.hpx_ports.specs.declared.fault.FabricFault.{FabricFault}
 use Rattle.hpx_top.specs.Tables.{Tables}

@@ -1,11 +1,11 @@
 -- What several calls write, one after another.
 use Rattle.std.proofs.Common.{ℕ, List, [], ◌∷◌, ◌++◌, ◌≡◌, refl, sym, ap, ◌∙◌, subst, append-nil, append_assoc}
-use Rattle.hpx_journal.specs.Data.{Due}
-use Rattle.hpx_journal.specs.Entries.{Rules}
-use Rattle.hpx_journal.specs.Books.{Book}
-use Rattle.hpx_journal.specs.declared.entry.Entry.{Entry}
-use Rattle.hpx_journal.specs.declared.entry.Event.{Event}
-use Rattle.hpx_journal.specs.Whole.{Grows, AreAt, AreInner, at_all}
+use Rattle.hpx_root_journal.specs.Data.{Due}
+use Rattle.hpx_root_journal.specs.Entries.{Rules}
+use Rattle.hpx_root_journal.specs.Books.{Book}
+use Rattle.hpx_root_journal.specs.declared.entry.Entry.{Entry}
+use Rattle.hpx_root_journal.specs.declared.entry.Event.{Event}
+use Rattle.hpx_root_journal.specs.Whole.{Grows, AreAt, AreInner, at_all}
 use Rattle.hpx_top.specs.Tables.{Tables}
 use Rattle.hpx_top.specs.Stands.{Stands}
 use Rattle.hpx_top.specs.Changes.{Writes, OnlySpare}

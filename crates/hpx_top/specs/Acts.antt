@@ -1,6 +1,6 @@
 -- What actions on the session and on the tally do.
 use Rattle.std.specs.Prelude.{ℕ, ℤ, pos, Bool, true, false, nat_lt, nat_le, List, [], ◌∷◌, ◌+◌, ◌%◌, ◌+ℤ◌, ◌==◌, ◌&&◌, Option, Some, None, length, if◌then◌else◌}
-use Rattle.hpx_journal.specs.Data.{Value, Nothing, Int, Text, Fault, Cont, State, Act, Root, Here, NewState, Sending, Reply, Outcome}
+use Rattle.hpx_root_journal.specs.Data.{Value, Nothing, Int, Text, Fault, Cont, State, Act, Root, Here, NewState, Sending, Reply, Outcome}
 use Rattle.hpx_top.specs.declared.acts.console.Command.{Command}
 use Rattle.hpx_top.specs.declared.acts.console.Command.TheVariants.{Add, Query, BadNumber, BadCommand}
 use Rattle.hpx_top.specs.declared.acts.effect.Effect.{Effect}

@@ -11,7 +11,7 @@ use Rattle.hpx_value.specs.Values.{refs_in, bare_state, bare_act, named, message
 use Rattle.hpx_value.specs.Shapes.{IsState, IsAct, IsMessage, IsCount, places_of}
 use Rattle.hpx_value.specs.Hands.{Slot, renumbered, conts_from, hand_ids, hand_slot, hand_slots, slot_at, own_slot, id_at, session, addressed, answer, replied}
 use Rattle.hpx_value.specs.Laws.{KeepsLaws, UsesEachOnce, answered, is_made_slot}
-use Rattle.hpx_journal.specs.Data.{Value, Nothing, Flag, Int, Text, Ref, Fault, Ints, Cont, State, Act}
+use Rattle.hpx_root_journal.specs.Data.{Value, Nothing, Flag, Int, Text, Ref, Fault, Ints, Cont, State, Act}
 use Rattle.hpx_top.specs.declared.acts.console.Command.{Command}
 use Rattle.hpx_top.specs.declared.acts.console.Command.TheVariants.{Add, Query, BadNumber, BadCommand}
 use Rattle.hpx_top.specs.declared.acts.effect.Effect.{Effect}

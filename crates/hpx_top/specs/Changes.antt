@@ -1,10 +1,10 @@
 -- What a call of a node changes.
 use Rattle.std.specs.Prelude.{List, ◌∷◌, ◌++◌, ◌≡◌, ◌≤◌, ◌+◌, map}
-use Rattle.hpx_journal.specs.Data.{Act}
-use Rattle.hpx_journal.specs.Books.{Book}
-use Rattle.hpx_journal.specs.declared.entry.Entry.{Entry}
-use Rattle.hpx_journal.specs.declared.entry.Event.{Event}
-use Rattle.hpx_journal.specs.Whole.{Grows}
+use Rattle.hpx_root_journal.specs.Data.{Act}
+use Rattle.hpx_root_journal.specs.Books.{Book}
+use Rattle.hpx_root_journal.specs.declared.entry.Entry.{Entry}
+use Rattle.hpx_root_journal.specs.declared.entry.Event.{Event}
+use Rattle.hpx_root_journal.specs.Whole.{Grows}
 use Rattle.hpx_top.specs.Tables.{Tables}
 
 -- nothing but for how many more there is memory

@@ -3,8 +3,8 @@ use Rattle.std.specs.Prelude.{[], None, ◌≡◌}
 use Rattle.std.specs.List.{AllByRecursion}
 use Rattle.hpx_value.specs.Shapes.{IsState}
 use Rattle.hpx_value.specs.Values.{named}
-use Rattle.hpx_journal.specs.Data.{Act, Due, MessageDue, PrintDue, Parcel, Apply}
-use Rattle.hpx_journal.specs.declared.entry.Standing.{Standing}
+use Rattle.hpx_root_journal.specs.Data.{Act, Due, MessageDue, PrintDue, Parcel, Apply}
+use Rattle.hpx_root_journal.specs.declared.entry.Standing.{Standing}
 use Rattle.hpx_parcel.specs.Parcels.{IsParcel, HasRightCredit}
 
 -- an action that has a spelling

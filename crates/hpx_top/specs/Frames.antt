@@ -1,6 +1,6 @@
 -- Frames that a node sends and takes.
 use Rattle.std.specs.Prelude.{ℕ, List, ◌∷◌, Some, ◌≡◌, ◌≢◌}
-use Rattle.hpx_journal.specs.Data.{Parcel, Apply}
+use Rattle.hpx_root_journal.specs.Data.{Parcel, Apply}
 use Rattle.hpx_top.specs.Fit.{IsFit}
 use Rattle.hpx_parcel.specs.declared.parcel.DecodeFault.TheVariants as faults
 use Rattle.hpx_parcel.specs.Reading.{parcel_of, Refuses}

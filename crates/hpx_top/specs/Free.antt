@@ -1,10 +1,10 @@
 -- An action that may be fired.
 use Rattle.std.specs.Prelude.{false, List, [], ◌∷◌, Some, ◌≡◌}
 use Rattle.std.specs.List.{find}
-use Rattle.hpx_journal.specs.Data.{Act}
-use Rattle.hpx_journal.specs.Entries.{target_of}
-use Rattle.hpx_journal.specs.declared.entry.Standing.{Standing}
-use Rattle.hpx_journal.specs.Local.{is_standing, is_busy}
+use Rattle.hpx_root_journal.specs.Data.{Act}
+use Rattle.hpx_root_journal.specs.Entries.{target_of}
+use Rattle.hpx_root_journal.specs.declared.entry.Standing.{Standing}
+use Rattle.hpx_root_journal.specs.Local.{is_standing, is_busy}
 
 -- its object stands here and is not busy
 pub record IsFree (running : List Act) (objects : List Standing) (act : Act) : Type 0 where

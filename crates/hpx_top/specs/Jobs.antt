@@ -4,9 +4,9 @@ use Rattle.std.specs.List.{find, slice_get, remove, AllByRecursion}
 use Rattle.hpx_value.specs.Shapes.{IsState}
 use Rattle.hpx_parcel.specs.Parcels.{HasRightCredit}
 use Rattle.hpx_value.specs.declared.acts.Job.{Job}
-use Rattle.hpx_journal.specs.Entries.{target_of}
-use Rattle.hpx_journal.specs.declared.entry.Standing.{Standing}
-use Rattle.hpx_journal.specs.Local.{is_standing}
+use Rattle.hpx_root_journal.specs.Entries.{target_of}
+use Rattle.hpx_root_journal.specs.declared.entry.Standing.{Standing}
+use Rattle.hpx_root_journal.specs.Local.{is_standing}
 use Rattle.hpx_top.specs.Tables.{Tables}
 use Rattle.hpx_top.specs.Fit.{IsFit}
 use Rattle.hpx_top.specs.Free.{IsFree, NoneIsFree}

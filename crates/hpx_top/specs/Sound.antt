@@ -1,11 +1,11 @@
 -- What holds of all localities together, after each turn.
 use Rattle.std.specs.Prelude.{ℕ, List, [], ◌∷◌, ◌++◌, ◌≡◌, ◌≤◌, Option, Some, None, length, map, sum_by}
 use Rattle.std.specs.List.{slice_get, AllByRecursion}
-use Rattle.hpx_journal.specs.Data.{State, Act, Outcome}
-use Rattle.hpx_journal.specs.Bags.{without}
-use Rattle.hpx_journal.specs.Entries.{Frame, same_frame}
-use Rattle.hpx_journal.specs.declared.entry.Entry.{Entry}
-use Rattle.hpx_journal.specs.Whole.{IsCarried, road_run, outs, ins, SameBag}
+use Rattle.hpx_root_journal.specs.Data.{State, Act, Outcome}
+use Rattle.hpx_root_journal.specs.Bags.{without}
+use Rattle.hpx_root_journal.specs.Entries.{Frame, same_frame}
+use Rattle.hpx_root_journal.specs.declared.entry.Entry.{Entry}
+use Rattle.hpx_root_journal.specs.Whole.{IsCarried, road_run, outs, ins, SameBag}
 use Rattle.hpx_ports.specs.declared.fabric.Wire.{Wire}
 use Rattle.hpx_ports.specs.declared.fabric.Wire.TheVariants.{Sent as SentWire, Delivered as DeliveredWire}
 use Rattle.hpx_top.specs.Tables.{Tables, IsPassive}

@@ -1,13 +1,13 @@
 -- How a node's tables stand for its part of the journal.
 use Rattle.std.specs.Prelude.{ℕ, List, ◌++◌, ◌≡◌, ◌≤◌, length, map}
 use Rattle.hpx_value.specs.Values.{bare_act}
-use Rattle.hpx_journal.specs.Data.{Act, Due, State, Outcome}
-use Rattle.hpx_journal.specs.Entries.{Rules}
-use Rattle.hpx_journal.specs.Keyed.{Agree}
-use Rattle.hpx_journal.specs.declared.entry.Entry.{Entry}
-use Rattle.hpx_journal.specs.Local.{Local, NodeKeeps, IsSingle, boot, is_act, is_standing}
-use Rattle.hpx_journal.specs.Roots.{roots}
-use Rattle.hpx_journal.specs.Whole.{part, run_local, IsClean, outs, ins}
+use Rattle.hpx_root_journal.specs.Data.{Act, Due, State, Outcome}
+use Rattle.hpx_root_journal.specs.Entries.{Rules}
+use Rattle.hpx_root_journal.specs.Keyed.{Agree}
+use Rattle.hpx_root_journal.specs.declared.entry.Entry.{Entry}
+use Rattle.hpx_root_journal.specs.Local.{Local, NodeKeeps, IsSingle, boot, is_act, is_standing}
+use Rattle.hpx_root_journal.specs.Roots.{roots}
+use Rattle.hpx_root_journal.specs.Whole.{part, run_local, IsClean, outs, ins}
 use Rattle.hpx_parcel.specs.Reading.{parcel_of}
 use Rattle.hpx_top.specs.Tables.{Tables}
 use Rattle.hpx_top.specs.Bare.{bare_standing, bare_due}

@@ -1,7 +1,7 @@
 -- A node as clauses see it: what it keeps of its part of the journal, and for how many more actions it has memory.
 use Rattle.std.specs.Prelude.{ℕ, List, [], ◌≡◌}
-use Rattle.hpx_journal.specs.Data.{Act}
-use Rattle.hpx_journal.specs.declared.entry.Standing.{Standing}
+use Rattle.hpx_root_journal.specs.Data.{Act}
+use Rattle.hpx_root_journal.specs.declared.entry.Standing.{Standing}
 use Rattle.hpx_top.specs.declared.parts.Outgoing.{Outgoing}
 
 pub record Tables : Type 0 where

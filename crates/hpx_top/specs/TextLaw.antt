@@ -1,7 +1,7 @@
 -- The rules by which the journals of a console are judged.
 use Rattle.std.specs.Prelude.{ℕ, List, Option}
-use Rattle.hpx_journal.specs.Data.{Parcel}
-use Rattle.hpx_journal.specs.Entries.{Rules}
+use Rattle.hpx_root_journal.specs.Data.{Parcel}
+use Rattle.hpx_root_journal.specs.Entries.{Rules}
 use Rattle.hpx_top.specs.Acts.{act_of}
 
 -- at n localities, whatever bytes spell

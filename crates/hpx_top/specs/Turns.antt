@@ -1,11 +1,11 @@
 -- What a turn wrote.
 use Rattle.std.specs.Prelude.{ℕ, false, List, [], ◌∷◌, ◌++◌, ◌≡◌, ◌⊎◌}
 use Rattle.std.specs.List.{AllByRecursion}
-use Rattle.hpx_journal.specs.Entries.{name_of}
-use Rattle.hpx_journal.specs.declared.entry.Name.{Name}
-use Rattle.hpx_journal.specs.declared.entry.Entry.{Entry}
-use Rattle.hpx_journal.specs.declared.entry.Event.TheVariants.{Line, Fire, Done, Out, In}
-use Rattle.hpx_journal.specs.Whole.{Grows, FeedsNothing}
+use Rattle.hpx_root_journal.specs.Entries.{name_of}
+use Rattle.hpx_root_journal.specs.declared.entry.Name.{Name}
+use Rattle.hpx_root_journal.specs.declared.entry.Entry.{Entry}
+use Rattle.hpx_root_journal.specs.declared.entry.Event.TheVariants.{Line, Fire, Done, Out, In}
+use Rattle.hpx_root_journal.specs.Whole.{Grows, FeedsNothing}
 use Rattle.hpx_top.specs.declared.turns.Turned.{Turned}
 use Rattle.hpx_top.specs.declared.turns.Turned.TheVariants as turned
 use Rattle.hpx_top.specs.declared.parts.Finished.TheVariants.{Committed, NotRunning}

@@ -1,5 +1,5 @@
 ghost use Rattle.std.specs.Prelude.{◌≡◌, ◌≤◌, ◌<◌, [], ◌∷◌, ◌++◌, ◌==◌, if◌then◌else◌, List, IfOk, OnOk, pos};
-ghost use Rattle.hpx_journal.specs.Roots.{root, roots, roots_of_first};
+ghost use Rattle.hpx_root_journal.specs.Roots.{root, roots, roots_of_first};
 ghost use Rattle.hpx_value.specs.declared.value.Value.{Value};
 
 use crate::kept::Kept;

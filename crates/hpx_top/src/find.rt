@@ -2,8 +2,8 @@ ghost use Rattle.std.specs.Prelude.{◌≡◌, ◌<◌, ◌+◌, ℕ, true, fals
 ghost use Rattle.std.specs.List.{list_any};
 ghost use Rattle.std.specs.VecDeque.{deque_len};
 ghost use Rattle.hpx_value.specs.Hands.{id_at};
-ghost use Rattle.hpx_journal.specs.Entries.{target_of};
-ghost use Rattle.hpx_journal.specs.Local.{is_standing, acts_on, is_busy};
+ghost use Rattle.hpx_root_journal.specs.Entries.{target_of};
+ghost use Rattle.hpx_root_journal.specs.Local.{is_standing, acts_on, is_busy};
 ghost use Rattle.hpx_top.specs.Free.{NoneIsFree, IsFree};
 
 use crate::kept::{Fit, Kept};
@@ -24,7 +24,7 @@ pub fn target(act: &Act) -> Gid
 }
 
 /// Where an object stands, if it does.
-#[tactic(auto, using(hpx_journal::proofs::KeyedLemmas::find_step, hpx_journal::proofs::KeyedLemmas::find_at_index))]
+#[tactic(auto, using(hpx_root_journal::proofs::KeyedLemmas::find_step, hpx_root_journal::proofs::KeyedLemmas::find_at_index))]
 pub fn place_of(objects: &[Kept], o: Gid) -> Option<usize>
     ensures inside { IfSome result (λ j. j < length objects.now) }
     ensures found { IfSome result (λ j. find (is_standing o) objects.now ≡ slice_get objects.now j) }

@@ -1,9 +1,9 @@
 ghost use Rattle.std.specs.Prelude.{◌≡◌};
-ghost use Rattle.hpx_journal.specs.Entries.{name_of};
+ghost use Rattle.hpx_root_journal.specs.Entries.{name_of};
 ghost use Rattle.hpx_top.specs.Fit.{IsFit, IsKept};
 
-use hpx_journal::entry::{Name, Standing};
 use hpx_parcel::parcel::Parcel;
+use hpx_root_journal::entry::{Name, Standing};
 use hpx_value::gid::Gid;
 use hpx_value::value::{Act, State};
 use std::marker::Model;
@@ -15,7 +15,7 @@ pub struct Fit {
 }
 
 impl Model for Fit {
-    ghost use Rattle.hpx_journal.specs.Data.{Act};
+    ghost use Rattle.hpx_root_journal.specs.Data.{Act};
     ghost use Rattle.hpx_top.specs.Fit.{CarriesFit, applied};
 
     ghost Value = { Act };
@@ -74,7 +74,7 @@ pub struct Kept {
 }
 
 impl Model for Kept {
-    ghost use Rattle.hpx_journal.specs.declared.entry.Standing.{Standing};
+    ghost use Rattle.hpx_root_journal.specs.declared.entry.Standing.{Standing};
     ghost use Rattle.hpx_top.specs.Fit.{IsKept};
 
     ghost Value = { Standing };

@@ -1,6 +1,6 @@
 //! A session of the console: each line that is read is fed, and what it prints is written.
 ghost use Rattle.std.specs.Prelude.{◌≡◌, ◌≢◌, ◌≤◌, ◌<◌, ℕ, [], Ok, Err, length, true};
-ghost use Rattle.hpx_journal.specs.Weights.{HasRoom};
+ghost use Rattle.hpx_root_journal.specs.Weights.{HasRoom};
 ghost use Rattle.hpx_ports.specs.Faults.{Rose};
 ghost use Rattle.hpx_top.specs.Sound.{IsCarrying};
 ghost use Rattle.hpx_top.specs.Reader.{bytes_left};
@@ -11,12 +11,12 @@ use crate::acts::lines::{COMMANDS, PROMPT, marked};
 use crate::reader::{LineReader, Next, ReadFault};
 use crate::turns::{Choice, WorldFault};
 use crate::world::World;
-use hpx_journal::entry::Event;
-use hpx_journal::journal::Journal;
 use hpx_ports::fabric::Fabric;
 use hpx_ports::fault::Failed;
 use hpx_ports::sink::{Sink, write_all};
 use hpx_ports::source::Source;
+use hpx_root_journal::entry::Event;
+use hpx_root_journal::journal::Journal;
 use hpx_value::items::Text;
 use std::alloc::Global;
 use thiserror::Error;

@@ -1,6 +1,6 @@
 //! Turns of all localities, one after another, until nothing can be done.
 ghost use Rattle.std.specs.Prelude.{◌≡◌, ◌≢◌, ◌≤◌, ◌<◌, ◌-◌, ◌^◌, ℕ, length, min, true, false, Ok, Err, None, Some};
-ghost use Rattle.hpx_journal.specs.Weights.{HasRoom, total_weight};
+ghost use Rattle.hpx_root_journal.specs.Weights.{HasRoom, total_weight};
 ghost use Rattle.hpx_ports.specs.Faults.{Rose};
 ghost use Rattle.hpx_top.specs.Sound.{IsSound, IsInside, IsCarrying};
 ghost use Rattle.hpx_top.specs.Turns.{IsUnfed};

@@ -1,16 +1,16 @@
 //! What the console's sessions print: the contracts are the laws.
 ghost use Rattle.std.specs.Prelude.{ℕ, List, [], ◌∷◌, ◌++◌, Option, pos, false, ◌≡◌, ◌≤◌, ◌<◌, length};
 ghost use Rattle.std.specs.List.{concat};
-ghost use Rattle.hpx_journal.specs.Data.{Parcel};
-ghost use Rattle.hpx_journal.specs.Pool.{prints_of};
-ghost use Rattle.hpx_journal.specs.Whole.{start, run, IsLegal};
-ghost use Rattle.hpx_journal.specs.Roots.{roots};
-ghost use Rattle.hpx_journal.specs.declared.entry.Entry.{Entry};
-ghost use Rattle.hpx_journal.specs.Sessions.{IsSession, BeginsWith, entries_of, shown};
+ghost use Rattle.hpx_root_journal.specs.Data.{Parcel};
+ghost use Rattle.hpx_root_journal.specs.Pool.{prints_of};
+ghost use Rattle.hpx_root_journal.specs.Whole.{start, run, IsLegal};
+ghost use Rattle.hpx_root_journal.specs.Roots.{roots};
+ghost use Rattle.hpx_root_journal.specs.declared.entry.Entry.{Entry};
+ghost use Rattle.hpx_root_journal.specs.Sessions.{IsSession, BeginsWith, entries_of, shown};
 ghost use Rattle.hpx_top.specs.PlainText.{is_long, fed, written, lines_text, prompt, IsFront};
 ghost use Rattle.hpx_top.specs.TextLaw.{rules};
 
-use hpx_journal::law::session_law;
+use hpx_root_journal::law::session_law;
 
 /// Whatever the order in which frames come: where each line that is not too long is fed, and the next only once nothing is
 /// pending, the console writes what one number says. Where a line is broken off, it has written the front of that.

@@ -1,6 +1,6 @@
 use Rattle.std.proofs.Common.{◌<◌, arith, length, subst, sym}
 use Rattle.std.proofs.lemmas.List.{take_more}
-use Rattle.hpx_journal.specs.Data.{Act}
+use Rattle.hpx_root_journal.specs.Data.{Act}
 use Rattle.hpx_top.specs.Free.{IsFree}
 use Rattle.hpx_top.proofs.FreeLemmas.{NoneIsFree-push}
 use Rattle.hpx_top.proofs.find.first_free.Goals as goal

@@ -1,6 +1,6 @@
 use Rattle.std.proofs.Common.{◌≡◌, drop}
 use Rattle.std.specs.List.{find}
-use Rattle.hpx_journal.specs.Local.{is_standing}
+use Rattle.hpx_root_journal.specs.Local.{is_standing}
 use Rattle.hpx_top.proofs.find.place_of.Given as goal
 
 abbrev pub invariant-loop-j : goal.invariant-loop-j

@@ -1,10 +1,10 @@
 use Rattle.std.proofs.Common.{arith, ◌∷◌}
 use Rattle.std.specs.Prelude.{pos}
-use Rattle.hpx_journal.specs.Pool.{state_of, prints_of}
-use Rattle.hpx_journal.specs.Roots.{roots}
-use Rattle.hpx_journal.specs.Sessions.{shown}
-use Rattle.hpx_journal.specs.Whole.{start}
-use Rattle.hpx_journal.proofs.Boot.{boot_sound, boot_settled}
+use Rattle.hpx_root_journal.specs.Pool.{state_of, prints_of}
+use Rattle.hpx_root_journal.specs.Roots.{roots}
+use Rattle.hpx_root_journal.specs.Sessions.{shown}
+use Rattle.hpx_root_journal.specs.Whole.{start}
+use Rattle.hpx_root_journal.proofs.Boot.{boot_sound, boot_settled}
 use Rattle.hpx_top.specs.PlainText.{fed}
 use Rattle.hpx_top.specs.TextLaw.{rules}
 use Rattle.hpx_top.proofs.TextSession.{boot_stable, only_session, names_blind, session_text, broken_text}

@@ -1,5 +1,5 @@
 use Rattle.std.proofs.Common.{subst, None, Option, Some, [], ◌≡◌, List}
-use Rattle.hpx_journal.specs.Entries.{Frame}
+use Rattle.hpx_root_journal.specs.Entries.{Frame}
 use Rattle.hpx_ports.specs.Frames.{Delivers}
 use Rattle.hpx_top.specs.Sound.{IsCarrying}
 use Rattle.hpx_top.proofs.AwayLemmas.{carrying_filled}

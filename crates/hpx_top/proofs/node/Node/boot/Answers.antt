@@ -1,5 +1,5 @@
 use Rattle.std.proofs.Common.{refl, ap, ◌∙◌}
-use Rattle.hpx_journal.specs.Roots.{roots}
+use Rattle.hpx_root_journal.specs.Roots.{roots}
 use Rattle.hpx_top.proofs.BootLemmas.{stands_boot}
 use Rattle.hpx_top.proofs.node.Node.boot.Goals as goal
 

@@ -1,5 +1,5 @@
 use Rattle.std.proofs.Common.{arith, refl, drop}
-use Rattle.hpx_journal.proofs.KeyedLemmas.{slice_get_is, split_get}
+use Rattle.hpx_root_journal.proofs.KeyedLemmas.{slice_get_is, split_get}
 use Rattle.hpx_top.proofs.node.Node.front.Goals as goal
 
 pub returns-clause-some : goal.returns-clause-some

@@ -1,5 +1,5 @@
 use Rattle.std.proofs.Common.{◌≡◌, ◌∷◌}
-use Rattle.hpx_journal.specs.Data.{MessageDue, PrintDue}
+use Rattle.hpx_root_journal.specs.Data.{MessageDue, PrintDue}
 use Rattle.hpx_top.proofs.Rows.{stands_sent, stands_print}
 use Rattle.hpx_top.proofs.node.Node.pay.Goals as goal
 

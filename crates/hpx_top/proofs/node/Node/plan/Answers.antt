@@ -2,7 +2,7 @@ use Rattle.std.proofs.Common.{ℕ, List, [], ◌≡◌, ◌≤◌, ◌<◌, leng
 use Rattle.std.specs.List.{AllByRecursion}
 use Rattle.hpx_value.specs.Laws.{KeepsLaws}
 use Rattle.hpx_value.specs.Hands.{due_of, state_after}
-use Rattle.hpx_journal.specs.Data.{State, Due, Outcome}
+use Rattle.hpx_root_journal.specs.Data.{State, Due, Outcome}
 use Rattle.hpx_value.specs.declared.acts.Job.{Job}
 use Rattle.hpx_top.specs.Fit.{IsFitDue, IsKept}
 use Rattle.hpx_top.specs.Hand.{CanBeMade}

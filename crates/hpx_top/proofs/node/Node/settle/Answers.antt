@@ -1,6 +1,6 @@
 use Rattle.std.proofs.Common.{◌≡◌, Some, arith, ap, ◌∙◌}
 use Rattle.std.specs.List.{slice_get}
-use Rattle.hpx_journal.proofs.KeyedLemmas.{slice_get_is, slice_get_less}
+use Rattle.hpx_root_journal.proofs.KeyedLemmas.{slice_get_is, slice_get_less}
 use Rattle.hpx_top.proofs.BareLemmas.{blind_of}
 use Rattle.hpx_top.proofs.Rows.{stands_done}
 use Rattle.hpx_top.proofs.node.Node.settle.Goals as goal

@@ -1,6 +1,6 @@
 use Rattle.std.proofs.Common.{◌<◌, ◌≡◌, Some, length}
 use Rattle.std.specs.List.{slice_get}
-use Rattle.hpx_journal.proofs.KeyedLemmas.{slice_get_is}
+use Rattle.hpx_root_journal.proofs.KeyedLemmas.{slice_get_is}
 use Rattle.hpx_top.proofs.Rows.{stands_fire}
 use Rattle.hpx_top.proofs.node.Node.start.Goals as goal
 
