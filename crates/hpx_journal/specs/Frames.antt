@@ -1,0 +1,43 @@
+-- What a parcel carries: actions and an object with bare ids, and credits.
+use Rattle.std.specs.Prelude.{ℕ, List, [], ◌∷◌, Option, Some, None, map}
+use Rattle.hpx_value.specs.Values.{bare_act, bare_state}
+use Rattle.hpx_parcel.specs.Credits.{Credit, credits_of, ids_in}
+use Rattle.hpx_journal.specs.Data.{Id, State, Act, Parcel, Apply, Return, Ask, Give, Cached, Move, Go, Shipped, Arrived, Free}
+use Rattle.hpx_journal.specs.Entries.{Travel, target_of, move_to}
+use Rattle.hpx_journal.specs.Tokens.{Token, held, owing}
+
+-- the actions in a parcel
+abbrev pub acts_in : Option Parcel → List Act
+acts_in (Some (Apply act)) = bare_act act ∷ []
+acts_in (Some (Move act)) = bare_act act ∷ []
+acts_in (Some (Go act)) = bare_act act ∷ []
+acts_in (Some (Shipped act state)) = bare_act act ∷ []
+acts_in _ = []
+
+abbrev pub travel_of : Act → State → Option ℕ → List Travel
+travel_of act state None = []
+travel_of act state (Some to) = record { object = target_of act; state = state; to = to } ∷ []
+
+-- the object that a parcel ships, towards the place of its MOVE
+abbrev pub travels_in : Option Parcel → List Travel
+travels_in (Some (Shipped act state)) = travel_of (bare_act act) (bare_state state) (move_to act)
+travels_in _ = []
+
+-- the credits in a parcel
+abbrev pub credits_with : Parcel → List Credit
+credits_with p = credits_of (ids_in p)
+
+-- the tokens of a parcel, as they stand at either end: those of actions and objects are held, the others are owed
+abbrev pub tokens_in : Option Parcel → List Token
+tokens_in None = []
+tokens_in (Some (Return id)) = map owing (credits_with (Return id))
+tokens_in (Some (Ask id asker entry)) = map owing (credits_with (Ask id asker entry))
+tokens_in (Some (Give id entry)) = map owing (credits_with (Give id entry))
+tokens_in (Some (Arrived id place)) = map owing (credits_with (Arrived id place))
+tokens_in (Some p) = map held (credits_with p)
+
+-- the objects that an Ask or a Give is about
+abbrev pub asks_in : Option Parcel → List Id
+asks_in (Some (Ask id asker entry)) = id ∷ []
+asks_in (Some (Give id entry)) = id ∷ []
+asks_in _ = []

@@ -1,0 +1,16 @@
+pub mod Data
+pub mod Bags
+pub mod Entries
+pub mod Tokens
+pub mod Frames
+pub mod Local
+pub mod Rows
+pub mod Names
+pub mod Foreign
+pub mod Roots
+pub mod Whole
+pub mod Slots
+pub mod Weights
+pub mod Books
+pub mod Keyed
+pub mod Laws

@@ -1,0 +1,131 @@
+use hpx_value::gid::Gid;
+use hpx_value::items::{Bytes, Text};
+use hpx_value::value::State;
+
+/// What an action is called: the locality where it was sent or fed, and a number drawn there.
+#[derive(Clone, Copy, Debug, PartialEq, Eq)]
+pub struct Name {
+    pub origin: u16,
+    pub serial: u64,
+}
+
+/// Why the home writes the count of an object.
+#[derive(Clone, Copy, Debug, PartialEq, Eq)]
+pub enum Reason {
+    /// A credit of this log came back.
+    Returned(u8),
+    /// More credit was asked for, and there is room below the limit.
+    Granted,
+    /// More credit was asked for, and there is no room; the count stays.
+    Refused,
+}
+
+/// What was done. Objects are bare ids.
+#[derive(Drop)]
+pub enum Event {
+    /// A line was fed.
+    Line {
+        action: Name,
+        bytes: Text,
+    },
+    /// A job was handed out.
+    Fire {
+        action: Name,
+    },
+    /// An id of this log became two of the log below.
+    Split {
+        object: Gid,
+        log: u8,
+    },
+    /// An object was made, with its first id.
+    Born {
+        object: Gid,
+        state: State,
+    },
+    /// An action was committed, or failed for want of credit.
+    Done {
+        action: Name,
+        failed: bool,
+    },
+    /// The next send or reply of the Done before was sent.
+    Sent {
+        action: Name,
+    },
+    /// The next print of the Done before was printed.
+    Print {
+        bytes: Text,
+    },
+    /// An id of this log was given up; its credit is owed to the home.
+    Up {
+        object: Gid,
+        log: u8,
+    },
+    /// An id of log 0 was given away to ask for more credit.
+    Asked {
+        object: Gid,
+    },
+    /// The id that was asked for came, with this log.
+    Given {
+        object: Gid,
+        log: u8,
+    },
+    /// The home wrote the count of an object.
+    Count {
+        object: Gid,
+        count: u128,
+        why: Reason,
+    },
+    /// The storage of a dead object was freed.
+    Freed {
+        object: Gid,
+    },
+    /// An object left for another locality.
+    Left {
+        object: Gid,
+        to: u32,
+    },
+    /// An object arrived.
+    Landed {
+        object: Gid,
+    },
+    /// The cache was asked where the target of the action sent just before is.
+    Looked {
+        object: Gid,
+        hit: bool,
+    },
+    /// A message to the own locality was handled; its kind is that of its frame.
+    Mail {
+        kind: u8,
+    },
+    /// A frame was sent.
+    Out {
+        to: u32,
+        bytes: Bytes,
+    },
+    /// A frame was accepted.
+    In {
+        bytes: Bytes,
+    },
+}
+
+/// What was done, and at which locality.
+#[derive(Drop)]
+pub struct Entry {
+    pub at: u32,
+    pub event: Event,
+}
+
+/// An object that stands at a locality.
+#[derive(Drop)]
+pub struct Standing {
+    pub object: Gid,
+    pub state: State,
+}
+
+/// An object that has left a locality or has come to one, and where it is to stand.
+#[derive(Drop)]
+pub struct Travel {
+    pub object: Gid,
+    pub state: State,
+    pub to: u32,
+}
