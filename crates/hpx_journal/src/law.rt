@@ -1,9 +1,65 @@
-//! What every legal journal keeps: the contracts are the laws.
-ghost use Rattle.std.specs.Prelude.{ℕ, List, ◌++◌, ◌≡◌};
-ghost use Rattle.hpx_journal.specs.Entries.{Entry, Rules};
-ghost use Rattle.hpx_journal.specs.Whole.{IsLegal};
+//! What every legal journal keeps: the contracts are the laws. "After every entry" is said as: of each front of it.
+ghost use Rattle.std.specs.Prelude.{ℕ, true, false, List, [], ◌∷◌, ◌++◌, ◌≡◌, ◌≤◌, ◌<◌, ◌+◌, ◌↔◌, length};
+ghost use Rattle.std.specs.List.{count_by};
+ghost use Rattle.hpx_value.specs.Ids.{Id};
+ghost use Rattle.hpx_journal.specs.Entries.{Name, Done, Freed, In, Entry, Rules, Frame, same_frame};
+ghost use Rattle.hpx_journal.specs.Local.{Local, boot};
+ghost use Rattle.hpx_journal.specs.Names.{IsBacked};
+ghost use Rattle.hpx_journal.specs.Foreign.{NodeKeeps, IsForeign};
+ghost use Rattle.hpx_journal.specs.Roots.{roots};
+ghost use Rattle.hpx_journal.specs.Whole.{IsLegal, IsJoin, IsClean, IsCarried, IsQuiet, IsQuietAt, part, replayed, run_local, credit_sum, recorded_in, IsDeadIn, names_in};
+ghost use Rattle.hpx_journal.specs.Laws.{HasGrammar, IsBornIn, IsOnRoad, IsLegalLocal, AreAt, TargetsStand, Commits, Fails, entry_at, held_in, owed_in, asking_in, asked_in, given_in, begun, fires, dones, fires_at, dones_at, freeds, ins, outs, road_run};
 
 /// Each front of a legal journal is legal.
 pub fn front_law()
     ensures { (r : Rules) (es later : List Entry) → IsLegal r (es ++ later) → IsLegal r es }
+{}
+
+/// Node journals put together, each backed at its own locality, are one legal journal without a foreign arrival, in which
+/// each locality stays backed.
+pub fn join_law()
+    ensures legal { (r : Rules) (es : List Entry) → HasGrammar r → IsJoin r es → IsLegal r es }
+    ensures clean { (r : Rules) (es : List Entry) (k : ℕ) → HasGrammar r → IsLegal r es → k < r.localities →
+        IsClean r (boot (roots r.localities k) k) (part k es) }
+    ensures backed { (r : Rules) (es later : List Entry) (k : ℕ) → HasGrammar r → IsJoin r (es ++ later) → k < r.localities →
+        IsBacked ((replayed r es).places k) }
+{}
+
+/// The credits of each object are what is recorded of it, and it is dead exactly where it was born and has no credit.
+pub fn ledger_law()
+    ensures sums { (r : Rules) (es later : List Entry) (o : Id) → IsLegal r (es ++ later) →
+        credit_sum r o (replayed r es) ≡ recorded_in o (replayed r es) }
+    ensures dies { (r : Rules) (es later : List Entry) (o : Id) → IsLegal r (es ++ later) →
+        IsDeadIn o (replayed r es) ↔ (IsBornIn o (replayed r es) × (credit_sum r o (replayed r es) ≡ 0)) }
+{}
+
+/// Each name of a managed object has a credit of its own, so once it is dead nothing ever names it. It is freed after
+/// that, once, and is nowhere then.
+pub fn life_law()
+    ensures named { (r : Rules) (es later : List Entry) (o : Id) → HasGrammar r → IsJoin r (es ++ later) → 16 ≤ o.kind →
+        names_in r o (replayed r es) + given_in r o (replayed r es) ≤ held_in r o (replayed r es) + asked_in r o (replayed r es) }
+    ensures asked { (r : Rules) (es later : List Entry) (o : Id) → HasGrammar r → IsJoin r (es ++ later) → 16 ≤ o.kind →
+        asked_in r o (replayed r es) ≤ owed_in r o (replayed r es) + asking_in r o (replayed r es) + given_in r o (replayed r es) }
+    ensures dead { (r : Rules) (es later : List Entry) (o : Id) → HasGrammar r → IsJoin r (es ++ later) → 16 ≤ o.kind →
+        IsDeadIn o (replayed r es) → names_in r o (replayed r (es ++ later)) ≡ 0 }
+    ensures stays_dead { (r : Rules) (es later : List Entry) (o : Id) → IsLegal r (es ++ later) → IsDeadIn o (replayed r es) →
+        IsDeadIn o (replayed r (es ++ later)) }
+    ensures freed { (r : Rules) (es later : List Entry) (k : ℕ) (o : Id) → IsLegal r (es ++ entry_at k (Freed o) ∷ later) →
+        IsDeadIn o (replayed r es) }
+    ensures freed_once { (r : Rules) (es : List Entry) (o : Id) → IsLegal r es → 16 ≤ o.kind → freeds o es ≤ 1 }
+{}
+
+/// Each action is fed or sent once, fired once and done once, the last two at one locality, where its target stands from
+/// the one to the other. What a Done leaves is the outcome of its action, or the failure.
+pub fn once_law()
+    ensures begun_once { (r : Rules) (es : List Entry) (a : Name) → IsLegal r es → begun a es ≤ 1 }
+    ensures fired_once { (r : Rules) (es : List Entry) (a : Name) → IsLegal r es → fires a es ≤ 1 }
+    ensures done_once { (r : Rules) (es : List Entry) (a : Name) → IsLegal r es → dones a es ≤ 1 }
+    ensures done_where { (r : Rules) (es : List Entry) (k : ℕ) (a : Name) → IsLegal r es → dones_at k a es ≤ fires_at k a es }
+    ensures fired_begun { (r : Rules) (es : List Entry) (a : Name) → IsLegal r es → fires a es ≤ begun a es }
+    ensures stands { (r : Rules) (es : List Entry) (k : ℕ) → IsLegal r es → TargetsStand ((replayed r es).places k) }
+    ensures committed { (r : Rules) (es later : List Entry) (k : ℕ) (a : Name) → IsLegal r (es ++ entry_at k (Done a false) ∷ later) →
+        Commits r a ((replayed r es).places k) ((replayed r (es ++ entry_at k (Done a false) ∷ [])).places k) }
+    ensures failed { (r : Rules) (es later : List Entry) (k : ℕ) (a : Name) → IsLegal r (es ++ entry_at k (Done a true) ∷ later) →
+        Fails a ((replayed r es).places k) ((replayed r (es ++ entry_at k (Done a true) ∷ [])).places k) }
 {}
