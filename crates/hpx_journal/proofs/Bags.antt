@@ -1,6 +1,6 @@
 -- Sums over bags.
 use Rattle.std.proofs.Common.{ℕ, zero, suc, Bool, true, false, cond, List, [], ◌∷◌, ◌≡◌, ◌+◌, ◌<◌, ◌≤◌, Option, Some, None, refl, arith, inl, inr, ◌≢◌}
-use Rattle.std.specs.List.{list_any, find, sum_by}
+use Rattle.std.specs.List.{list_any, find, sum_by, count_by}
 use Rattle.std.specs.Prelude.{◌||◌}
 use Rattle.std.proofs.lemmas.List.Sums.{sum_by-cons}
 use Rattle.std.proofs.lemmas.Bool.{cases_lt, cases_eq}
@@ -73,6 +73,19 @@ find-none_at p false y ys ih h = ih h
 pub find-none : {X : Type 0} (p : X → Bool) (xs : List X) → list_any p xs ≡ false → find p xs ≡ None
 find-none p [] h = refl
 find-none p (y ∷ ys) h = find-none_at p (p y) y ys (find-none p ys) h
+
+abbrev counts_of : {X : Type 0} → (X → Bool) → X → ℕ
+counts_of p x = cond (p x) 1 0
+
+find-nothing_at : {X : Type 0} (p : X → Bool) (b : Bool) (x : X) (xs : List X) → p x ≡ b
+    → (count_by p xs ≡ 0 → find p xs ≡ None) → count_by p (x ∷ xs) ≡ 0 → cond b (Some x) (find p xs) ≡ None
+find-nothing_at p true x xs e ih h = let one : counts_of p x ≡ 1 = rw e refl in absurd (omega (arith, sum_by-cons (counts_of p) x xs))
+find-nothing_at p false x xs e ih h = ih (omega (arith, sum_by-cons (counts_of p) x xs))
+
+-- where nothing counts nothing is found
+pub find-nothing : {X : Type 0} (p : X → Bool) (xs : List X) → count_by p xs ≡ 0 → find p xs ≡ None
+find-nothing p [] h = refl
+find-nothing p (x ∷ xs) h = find-nothing_at p (p x) x xs refl (find-nothing p xs) h
 
 find-same_at : {X : Type 0} (b c : Bool) (x : X) (m n : Option X) → b ≡ c → m ≡ n → cond b (Some x) m ≡ cond c (Some x) n
 find-same_at b c x m n e f = cc

@@ -1,19 +1,20 @@
 -- An action is fed or sent once.
-use Rattle.std.proofs.Common.{ℕ, cond, List, [], ◌∷◌, ◌≡◌, ◌+◌, ◌≤◌, arith}
+use Rattle.std.proofs.Common.{ℕ, cond, List, [], ◌∷◌, ◌≡◌, ◌+◌, ◌<◌, ◌≤◌, ap, arith}
+use Rattle.std.specs.List.{sum_by, count_by}
 use Rattle.std.proofs.lemmas.List.Sums.{sum_by-cons}
 use Rattle.hpx_journal.specs.Bags.{total}
 use Rattle.hpx_journal.specs.Entries.{Name, Event, Line, Sent, Entry, Rules}
-use Rattle.hpx_journal.specs.Local.{Local, after}
+use Rattle.hpx_journal.specs.Local.{Local, is_act, after}
 use Rattle.hpx_journal.specs.Rows.{Row}
 use Rattle.hpx_journal.specs.Foreign.{present}
-use Rattle.hpx_journal.specs.Whole.{Space, step, run, MayStand, IsLegalFrom}
-use Rattle.hpx_journal.specs.Laws.{is_begun, begun, fires}
-use Rattle.hpx_journal.proofs.Bags.{total-le}
+use Rattle.hpx_journal.specs.Whole.{Space, step, run, MayStand, IsLegalFrom, IsQuiet}
+use Rattle.hpx_journal.specs.Laws.{is_begun, begun, fires, dones}
+use Rattle.hpx_journal.proofs.Bags.{total-le, total-same}
 use Rattle.hpx_journal.proofs.Moves.{name_counts}
-use Rattle.hpx_journal.proofs.Present.{drawn, drawn_at, drawn_next, next}
+use Rattle.hpx_journal.proofs.Present.{frame_acts, drawn, drawn_at, drawn_next, next}
 use Rattle.hpx_journal.proofs.Wholes.{IsWhole, whole_run, total_moves}
 use Rattle.hpx_journal.proofs.Joined.{one_place}
-use Rattle.hpx_journal.proofs.Once.{fired_or_done, fires_run}
+use Rattle.hpx_journal.proofs.Once.{fired_or_done, done_here, fires_run, dones_run}
 
 draws_at : (b a : Name) (h n : ℕ) → a ≡ next h n → drawn_at b h (n + 1) ≡ drawn_at b h n + name_counts b a
 draws_at b a h n e = rw e (omega (arith, drawn_next b h n))
@@ -64,3 +65,39 @@ module _ (r : Rules) (w : Space) (es : List Entry) (whole : IsWhole r w) (legal 
         end.single a,
         total-le r.localities (λ k. fired_or_done a ((run r w es).places k)) (λ k. present a ((run r w es).places k)) (λ k h. omega arith),
       )
+
+  module _ (quiet : IsQuiet r (run r w es)) where
+    only_done : (k : ℕ) → k < r.localities → present a ((run r w es).places k) ≡ done_here a ((run r w es).places k)
+    only_done k h = omega (arith, ap (count_by (is_act a)) (quiet.places k h).waiting, ap (count_by (is_act a)) (quiet.places k h).fired)
+
+    fired_done : (k : ℕ) → k < r.localities → fired_or_done a ((run r w es).places k) ≡ done_here a ((run r w es).places k)
+    fired_done k h = omega (arith, ap (count_by (is_act a)) (quiet.places k h).fired)
+
+    nothing_done : total r.localities (λ k. present a (w.places k)) ≡ 0
+    nothing_done = omega (arith, whole.single a)
+
+    pub dones_begun : dones a es ≡ begun a es
+    dones_begun =
+        omega (
+          arith,
+          dones_run r w es legal a,
+          begun_run r w es legal a,
+          end.single a,
+          nothing_done,
+          ap (sum_by (frame_acts r a)) quiet.road,
+          total-same r.localities (λ k. present a ((run r w es).places k)) (λ k. done_here a ((run r w es).places k)) only_done,
+          total-le r.localities (λ k. done_here a (w.places k)) (λ k. present a (w.places k)) (λ k h. omega arith),
+        )
+
+    pub fires_all : fires a es ≡ begun a es
+    fires_all =
+        omega (
+          arith,
+          dones_begun,
+          fires_run r w es legal a,
+          dones_run r w es legal a,
+          nothing_done,
+          total-same r.localities (λ k. fired_or_done a ((run r w es).places k)) (λ k. done_here a ((run r w es).places k)) fired_done,
+          total-le r.localities (λ k. fired_or_done a (w.places k)) (λ k. present a (w.places k)) (λ k h. omega arith),
+          total-le r.localities (λ k. done_here a (w.places k)) (λ k. present a (w.places k)) (λ k h. omega arith),
+        )

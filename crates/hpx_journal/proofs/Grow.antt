@@ -71,6 +71,21 @@ join_grows r w old new k join here kept carried = record {
   carried = carried_append r w.road old new join.carried carried;
 }
 
+-- fronts of parts and of joins
+keeps_front : (r : Rules) (s : Local) (xs ys : List Entry) → NodeKeeps r s (xs ++ ys) → NodeKeeps r s xs
+keeps_front r s [] ys h = tt
+keeps_front r s (x ∷ xs) ys h = λ native. let k = h native in (k.0, k.1, keeps_front r (after r s x.event) xs ys k.2)
+
+carried_front : (r : Rules) (road : List Frame) (xs ys : List Entry) → IsCarried r road (xs ++ ys) → IsCarried r road xs
+carried_front r road [] ys h = tt
+carried_front r road (x ∷ xs) ys h = (h.0, h.1, carried_front r (road_after road x) xs ys h.2)
+
+pub join_front : (r : Rules) (w : Space) (es later : List Entry) → IsJoinFrom r w (es ++ later) → IsJoinFrom r w es
+join_front r w es later join = record {
+  parts = λ k h. keeps_front r (w.places k) (part k es) (part k later) (subst (NodeKeeps r (w.places k)) (part_append k es later) (join.parts k h));
+  carried = carried_front r w.road es later join.carried;
+}
+
 -- a node's part, longer
 pub keeps_append : (r : Rules) (s : Local) (xs ys : List Entry) → NodeKeeps r s xs
     → (IsClean r s xs → NodeKeeps r (run_local r s xs) ys) → NodeKeeps r s (xs ++ ys)

@@ -15,7 +15,7 @@ use Rattle.hpx_journal.specs.Rows.{Row, IsDead}
 use Rattle.hpx_journal.specs.Names.{IsBacked}
 use Rattle.hpx_journal.specs.Foreign.{present, kept, IsForeign}
 use Rattle.hpx_journal.specs.Roots.{root, roots, roots_of_first}
-use Rattle.hpx_journal.specs.Whole.{Space, IsLegal, IsJoin, IsClean, step, part, start, replayed, credit_sum, recorded_in, IsDeadIn, names_in}
+use Rattle.hpx_journal.specs.Whole.{IsQuiet, Space, IsLegal, IsJoin, IsClean, step, part, start, replayed, credit_sum, recorded_in, IsDeadIn, names_in}
 use Rattle.hpx_journal.specs.Laws.{HasGrammar, IsBornIn, Commits, Fails, entry_at, held_in, owed_in, asked_in, given_in, asking_in, TargetsStand, IsOnRoad, begun, fires, dones, fires_at, dones_at, freeds}
 use Rattle.hpx_journal.proofs.Bags.{total-zero}
 use Rattle.hpx_journal.proofs.Alls.{all-append}
@@ -30,7 +30,7 @@ use Rattle.hpx_journal.proofs.Commits.{commits, fails}
 use Rattle.hpx_journal.proofs.Joined.{AreBacked, join_legal, join_backed, not_foreign, born_once}
 use Rattle.hpx_journal.proofs.Grow.{legal_clean}
 use Rattle.hpx_journal.proofs.Once.{fires_once, dones_once, dones_where}
-use Rattle.hpx_journal.proofs.Begun.{begun_once, fires_begun}
+use Rattle.hpx_journal.proofs.Begun.{begun_once, fires_begun, fires_all, dones_begun}
 use Rattle.hpx_journal.proofs.Life.{names_named, asks_pending, dead_unnamed, dead_run}
 use Rattle.hpx_journal.proofs.Frees.{FreesDead, freed_dead, frees_run}
 
@@ -83,7 +83,7 @@ boot_sane : (xs : List Standing) (k : ℕ) → IsSane (boot xs k)
 boot_sane xs k = record { numbered = λ o h. refl; dead = λ o h. refl; stand = tt }
 
 module _ (r : Rules) where
-  abbrev first : Space
+  abbrev pub first : Space
   first = start (roots r.localities)
 
   start_kept : (o : Id) → 16 ≤ o.kind → total r.localities (λ k. kept o (first.places k)) ≡ 0
@@ -141,6 +141,12 @@ module _ (r : Rules) where
     pub legal_dones : (a : Name) → dones a es ≤ 1
     legal_dones a = dones_once r first es start_whole legal a
 
+    pub quiet_fires : IsQuiet r (replayed r es) → (a : Name) → fires a es ≡ begun a es
+    quiet_fires quiet a = fires_all r first es start_whole legal a (start_drawn a) quiet
+
+    pub quiet_dones : IsQuiet r (replayed r es) → (a : Name) → dones a es ≡ begun a es
+    quiet_dones quiet a = dones_begun r first es start_whole legal a (start_drawn a) quiet
+
     pub legal_dones_where : (k : ℕ) (a : Name) → dones_at k a es ≤ fires_at k a es
     legal_dones_where k a = dones_where r first es legal k a refl
 
@@ -157,9 +163,6 @@ module _ (r : Rules) where
           start_kept o managed,
           born_once r (replayed r es) legal_whole o,
         )
-
-    pub legal_freed_once : (o : Id) → 16 ≤ o.kind → freeds o es ≤ 1
-    legal_freed_once o managed = omega (arith, legal_freed o managed)
 
     -- a frame on the road is no foreign arrival where it goes
     pub road_native : HasGrammar r → (k : ℕ) (bytes : List ℕ) → k < r.localities → IsOnRoad (k, bytes) (replayed r es)
