@@ -1,12 +1,12 @@
 -- Words of the laws of journals.
-use Rattle.std.specs.Prelude.{ℕ, Bool, true, false, List, [], ◌∷◌, ◌++◌, ◌≡◌, ◌+◌, ◌==◌, ◌&&◌, Option, Some}
+use Rattle.std.specs.Prelude.{ℕ, Bool, true, false, List, [], ◌∷◌, ◌++◌, ◌≡◌, ◌+◌, ◌==◌, ◌&&◌, ◌≤◌, Option, Some, None}
 use Rattle.std.specs.List.{list_any, count_by, sum_by, AllByRecursion}
 use Rattle.hpx_value.specs.Ids.{same_object}
 use Rattle.hpx_value.specs.Hands.{due_of, state_after}
 use Rattle.hpx_parcel.specs.Parcels.{IsParcel}
 use Rattle.hpx_journal.specs.Data.{Id, Parcel, Ask, Give}
 use Rattle.hpx_journal.specs.Bags.{without, total}
-use Rattle.hpx_journal.specs.Entries.{Name, Event, Line, Fire, Done, Sent, Freed, Out, Entry, Rules, Frame, same_frame, same_name, target_of}
+use Rattle.hpx_journal.specs.Entries.{Name, Event, Line, Fire, Done, Sent, Given, Count, Refused, Freed, Out, In, Entry, Rules, Frame, same_frame, same_name, target_of}
 use Rattle.hpx_journal.specs.Tokens.{Token, is_held, is_owed}
 use Rattle.hpx_journal.specs.Frames.{tokens_in}
 use Rattle.hpx_journal.specs.Local.{Local, is_act, is_standing, is_recorded, is_given, outcome, failure, after}
@@ -75,6 +75,47 @@ outs (e ∷ es) = outs_by e.at e.event ++ outs es
 abbrev pub ins : List Entry → List Frame
 ins [] = []
 ins (e ∷ es) = arrives e ++ ins es
+
+-- ---- refusals
+
+-- a Give of log 0: the id comes back with no more credit
+abbrev pub is_least : Option ℕ → Bool
+is_least None = false
+is_least (Some log) = log == 0
+
+abbrev pub is_refusing : Option Parcel → Bool
+is_refusing (Some (Give id entry)) = is_least id.log
+is_refusing _ = false
+
+-- the events that send one, take one in, and hand one over
+abbrev pub sends_refusal : Rules → Event → Bool
+sends_refusal r (Out to bytes) = is_refusing (r.parcel_of bytes)
+sends_refusal r _ = false
+
+abbrev pub takes_refusal : Rules → Event → Bool
+takes_refusal r (In bytes) = is_refusing (r.parcel_of bytes)
+takes_refusal r _ = false
+
+abbrev pub hands_refusal : Event → Bool
+hands_refusal (Given o log) = log == 0
+hands_refusal _ = false
+
+-- the events that write a refusal, and those that fail for one
+abbrev pub is_refused_count : Event → Bool
+is_refused_count (Count o count Refused) = true
+is_refused_count _ = false
+
+abbrev pub is_failed : Event → Bool
+is_failed (Done a true) = true
+is_failed _ = false
+
+abbrev pub count_events : (Event → Bool) → List Entry → ℕ
+count_events p es = count_by (λ e. p e.event) es
+
+-- at a locality, what is sent or handed over with log 0 came so, or was refused there
+pub record RefusesForCause (r : Rules) (es : List Entry) : Type 0 where
+  pub few : count_events (sends_refusal r) es + count_events hands_refusal es
+      ≤ count_events (takes_refusal r) es + count_events is_refused_count es
 
 -- ---- parts and the road
 

@@ -8,7 +8,7 @@ ghost use Rattle.hpx_journal.specs.Names.{IsBacked};
 ghost use Rattle.hpx_journal.specs.Foreign.{kept, NodeKeeps, IsForeign};
 ghost use Rattle.hpx_journal.specs.Roots.{roots};
 ghost use Rattle.hpx_journal.specs.Whole.{IsLegal, IsJoin, IsClean, IsCarried, IsQuiet, IsQuietAt, part, replayed, run_local, credit_sum, recorded_in, IsDeadIn, names_in};
-ghost use Rattle.hpx_journal.specs.Laws.{HasGrammar, IsBornIn, IsOnRoad, IsLegalLocal, AreAt, SameBag, TargetsStand, Commits, Fails, entry_at, held_in, owed_in, asking_in, asked_in, given_in, begun, fires, dones, fires_at, dones_at, freeds, ins, outs, road_run};
+ghost use Rattle.hpx_journal.specs.Laws.{RefusesForCause, count_events, is_failed, hands_refusal, is_refused_count, HasGrammar, IsBornIn, IsOnRoad, IsLegalLocal, AreAt, SameBag, TargetsStand, Commits, Fails, entry_at, held_in, owed_in, asking_in, asked_in, given_in, begun, fires, dones, fires_at, dones_at, freeds, ins, outs, road_run};
 
 /// Each front of a legal journal is legal.
 pub fn front_law()
@@ -111,4 +111,14 @@ pub fn quiet_law()
         ((o : Id) → IsDeadIn o (replayed r es) → 1 ≤ freeds o es) → IsQuiet r (replayed r es) }
     ensures all_fired { (r : Rules) (es : List Entry) (a : Name) → IsLegal r es → IsQuiet r (replayed r es) → fires a es ≡ begun a es }
     ensures all_done { (r : Rules) (es : List Entry) (a : Name) → IsLegal r es → IsQuiet r (replayed r es) → dones a es ≡ begun a es }
+{}
+
+/// At each locality no more actions fail than ids come back there with no more credit. Where each locality hands over and
+/// sends such an id only for one that came or that its own record refused, no more actions fail than Counts are refused.
+pub fn failure_law()
+    ensures handed { (r : Rules) (es : List Entry) (k : ℕ) → IsLegal r es →
+        count_events is_failed (part k es) ≤ count_events hands_refusal (part k es) }
+    ensures refused { (r : Rules) (es : List Entry) → IsLegal r es →
+        ((k : ℕ) → k < r.localities → RefusesForCause r (part k es)) →
+        count_events is_failed es ≤ count_events is_refused_count es }
 {}
