@@ -34,7 +34,7 @@ pub trait Acts {
         ensures { IfOk result (λ outcome. outcome ≡ act_of (count self.now) kind here state.now action.now) };
 
     ghost keeps_laws: { (n kind here : ℕ) (s : State) (a : Act) → 1 ≤ n → n ≤ 64 → here < n → IsState s → IsAct a
-        → KeepsLaws n kind s a (act_of n kind here s a) };
+        → KeepsLaws n kind here s a (act_of n kind here s a) };
 
     /// Neither the name of the action nor the credits of ids matter.
     ghost is_blind: { (n kind here : ℕ) (s : State) (a : Act)
