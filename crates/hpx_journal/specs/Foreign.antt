@@ -16,13 +16,17 @@ present a s = count_by (is_act a) s.waiting + count_by (is_act a) s.fired + coun
 abbrev pub kept : Id → Local → ℕ
 kept o s = count_by (is_standing o) s.objects + count_by (is_travel o) s.travels
 
+-- a number that was not drawn, where n is the last that was: they begin with 1
+abbrev pub IsUndrawn : ℕ → ℕ → Type 0
+IsUndrawn n number = (number ≡ 0) ⊎ (n < number)
+
 -- the action is here already, or bears a name of here that was not drawn
 abbrev pub IsForeignAct : Local → Act → Type 0
-IsForeignAct s act = (1 ≤ present (name_of act) s) ⊎ ((act.origin ≡ s.here) × (s.serial < act.serial))
+IsForeignAct s act = (1 ≤ present (name_of act) s) ⊎ ((act.origin ≡ s.here) × IsUndrawn s.serial act.serial)
 
 -- the object is to stand elsewhere, is here already, or bears a number of here that was not drawn
 abbrev pub IsForeignTravel : Local → Travel → Type 0
-IsForeignTravel s x = (x.to ≢ s.here) ⊎ ((1 ≤ kept x.object s) ⊎ ((x.object.home ≡ s.here) × (s.number < x.object.number)))
+IsForeignTravel s x = (x.to ≢ s.here) ⊎ ((1 ≤ kept x.object s) ⊎ ((x.object.home ≡ s.here) × IsUndrawn s.number x.object.number))
 
 abbrev pub AnyAct : Local → List Act → Type 0
 AnyAct s [] = ⊥

@@ -2,7 +2,7 @@
 use Rattle.std.specs.Prelude.{ℕ, List, [], ◌∷◌, Option, Some, None, map}
 use Rattle.hpx_value.specs.Values.{bare_act, bare_state}
 use Rattle.hpx_parcel.specs.Credits.{Credit, credits_of, ids_in}
-use Rattle.hpx_journal.specs.Data.{Id, State, Act, Parcel, Apply, Return, Ask, Give, Cached, Move, Go, Shipped, Arrived, Free}
+use Rattle.hpx_journal.specs.Data.{Id, State, Act, Parcel, Apply, Return, Ask, Give, Move, Go, Shipped, Arrived}
 use Rattle.hpx_journal.specs.Entries.{Travel, target_of, move_to}
 use Rattle.hpx_journal.specs.Tokens.{Token, held, owing}
 
@@ -20,7 +20,7 @@ travel_of act state (Some to) = record { object = target_of act; state = state; 
 
 -- the object that a parcel ships, towards the place of its MOVE
 abbrev pub travels_in : Option Parcel → List Travel
-travels_in (Some (Shipped act state)) = travel_of (bare_act act) (bare_state state) (move_to act)
+travels_in (Some (Shipped act state)) = travel_of (bare_act act) (bare_state state) (move_to (bare_act act))
 travels_in _ = []
 
 -- the credits in a parcel

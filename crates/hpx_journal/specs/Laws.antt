@@ -1,16 +1,25 @@
 -- Words of the laws of journals.
-use Rattle.std.specs.Prelude.{ℕ, Bool, true, false, List, [], ◌∷◌, ◌++◌, ◌≡◌, ◌==◌, ◌&&◌, Some}
-use Rattle.std.specs.List.{list_any, count_by, AllByRecursion}
+use Rattle.std.specs.Prelude.{ℕ, Bool, true, false, List, [], ◌∷◌, ◌++◌, ◌≡◌, ◌+◌, ◌==◌, ◌&&◌, ◌≤◌, Option, Some, None}
+use Rattle.std.specs.List.{list_any, count_by, sum_by, AllByRecursion}
 use Rattle.hpx_value.specs.Ids.{same_object}
+use Rattle.hpx_value.specs.Hands.{due_of, state_after}
 use Rattle.hpx_parcel.specs.Parcels.{IsParcel}
-use Rattle.hpx_journal.specs.Data.{Id, Parcel}
-use Rattle.hpx_journal.specs.Entries.{Name, Event, Line, Fire, Done, Sent, Freed, Out, In, Entry, Rules, Frame, same_frame, same_name, target_of}
-use Rattle.hpx_journal.specs.Local.{Local, is_standing}
-use Rattle.hpx_journal.specs.Whole.{Space, arrives}
+use Rattle.hpx_journal.specs.Data.{Id, Parcel, Ask, Give}
+use Rattle.hpx_journal.specs.Bags.{without, total}
+use Rattle.hpx_journal.specs.Entries.{Name, Event, Line, Fire, Done, Sent, Given, Count, Refused, Freed, Out, In, Entry, Rules, Frame, same_frame, same_name, target_of}
+use Rattle.hpx_journal.specs.Tokens.{Token, is_held, is_owed}
+use Rattle.hpx_journal.specs.Frames.{tokens_in}
+use Rattle.hpx_journal.specs.Local.{Local, is_act, is_standing, is_recorded, is_given, outcome, failure, after}
+use Rattle.hpx_journal.specs.Rows.{Allowed, Runs, AreMade, is_refused}
+use Rattle.hpx_journal.specs.Whole.{Space, arrives, road_after}
 
 -- bytes spell nothing but well formed parcels
 pub record HasGrammar (r : Rules) : Type 0 where
   pub grammar : (bytes : List ℕ) (p : Parcel) → r.parcel_of bytes ≡ Some p → IsParcel p
+
+-- an entry at k
+abbrev pub entry_at : ℕ → Event → Entry
+entry_at k e = record { at = k; event = e }
 
 -- ---- counts of entries
 
@@ -67,11 +76,133 @@ abbrev pub ins : List Entry → List Frame
 ins [] = []
 ins (e ∷ es) = arrives e ++ ins es
 
+-- ---- refusals
+
+-- a Give of log 0: the id comes back with no more credit
+abbrev pub is_least : Option ℕ → Bool
+is_least None = false
+is_least (Some log) = log == 0
+
+abbrev pub is_refusing : Option Parcel → Bool
+is_refusing (Some (Give id entry)) = is_least id.log
+is_refusing _ = false
+
+-- the events that send one, take one in, and hand one over
+abbrev pub sends_refusal : Rules → Event → Bool
+sends_refusal r (Out to bytes) = is_refusing (r.parcel_of bytes)
+sends_refusal r _ = false
+
+abbrev pub takes_refusal : Rules → Event → Bool
+takes_refusal r (In bytes) = is_refusing (r.parcel_of bytes)
+takes_refusal r _ = false
+
+abbrev pub hands_refusal : Event → Bool
+hands_refusal (Given o log) = log == 0
+hands_refusal _ = false
+
+-- the events that write a refusal, and those that fail for one
+abbrev pub is_refused_count : Event → Bool
+is_refused_count (Count o count Refused) = true
+is_refused_count _ = false
+
+abbrev pub is_failed : Event → Bool
+is_failed (Done a true) = true
+is_failed _ = false
+
+abbrev pub count_events : (Event → Bool) → List Entry → ℕ
+count_events p es = count_by (λ e. p e.event) es
+
+-- at a locality, what is sent or handed over with log 0 came so, or was refused there
+pub record RefusesForCause (r : Rules) (es : List Entry) : Type 0 where
+  pub few : count_events (sends_refusal r) es + count_events hands_refusal es
+      ≤ count_events (takes_refusal r) es + count_events is_refused_count es
+
+-- ---- parts and the road
+
+-- the frames that entries leave on the road
+abbrev pub road_run : List Frame → List Entry → List Frame
+road_run road [] = road
+road_run road (e ∷ es) = road_run (road_after road e) es
+
+-- each entry is allowed at its locality
+abbrev pub IsLegalLocal : Rules → Local → List Entry → Type 0
+IsLegalLocal r s [] = Unit {0}
+IsLegalLocal r s (e ∷ es) = Allowed r s e × IsLegalLocal r (after r s e.event) es
+
+-- all entries are at k
+abbrev pub AreAt : ℕ → List Entry → Type 0
+AreAt k [] = Unit {0}
+AreAt k (e ∷ es) = (e.at ≡ k) × AreAt k es
+
+-- the same frames, each as often
+abbrev pub SameBag : List Frame → List Frame → Type 0
+SameBag xs ys = (f : Frame) → count_by (same_frame f) xs ≡ count_by (same_frame f) ys
+
 -- ---- what laws say
+
+-- a record of o stands at its home
+abbrev pub IsBorn : Id → Local → Type 0
+IsBorn o s = list_any (is_recorded o) s.counts ≡ true
+
+abbrev pub IsBornIn : Id → Space → Type 0
+IsBornIn o w = IsBorn o (w.places o.home)
 
 -- the targets of all fired actions stand there
 abbrev pub TargetsStand : Local → Type 0
 TargetsStand s = AllByRecursion (λ act. list_any (is_standing (target_of act)) s.objects ≡ true) s.fired
 
+-- ---- tokens of the whole
+
+-- how many tokens of o are held, at all localities and on the road
+abbrev pub held_in : Rules → Id → Space → ℕ
+held_in r o w = total r.localities (λ k. count_by (is_held o) (w.places k).tokens)
+    + sum_by (λ f. count_by (is_held o) (tokens_in (r.parcel_of f.1))) w.road
+
+-- how many are owed at the localities
+abbrev pub owed_in : Rules → Id → Space → ℕ
+owed_in r o w = total r.localities (λ k. count_by (is_owed o) (w.places k).tokens)
+
+-- the tokens of an Ask or a Give
+abbrev pub ask_tokens : Option Parcel → List Token
+ask_tokens (Some (Ask id asker entry)) = tokens_in (Some (Ask id asker entry))
+ask_tokens (Some (Give id entry)) = tokens_in (Some (Give id entry))
+ask_tokens _ = []
+
+-- how many are on the road in an Ask or a Give
+abbrev pub asking_in : Rules → Id → Space → ℕ
+asking_in r o w = sum_by (λ f. count_by (is_owed o) (ask_tokens (r.parcel_of f.1))) w.road
+
+-- how often o was asked for, and was given, at all localities
+abbrev pub asked_in : Rules → Id → Space → ℕ
+asked_in r o w = total r.localities (λ k. count_by (same_object o) (w.places k).asked)
+
+abbrev pub given_in : Rules → Id → Space → ℕ
+given_in r o w = total r.localities (λ k. count_by (is_given o) (w.places k).given)
+
+-- ----
+
 abbrev pub IsOnRoad : Frame → Space → Type 0
 IsOnRoad f w = list_any (same_frame f) w.road ≡ true
+
+-- what a Done does: the action was fired here, its target stood, and the makes of the outcome are fresh; the target has the
+-- outcome's state, what is due is the outcome's, and the action is done
+pub record Commits (r : Rules) (a : Name) (s t : Local) : Type 0 where
+  pub runs : Runs s a
+  pub made : AreMade (outcome r s runs.act runs.target).makes s.fresh s.objects
+  pub objects : t.objects ≡ record {
+    object = runs.target.object;
+    state = state_after runs.target.state runs.act s.fresh (outcome r s runs.act runs.target);
+  } ∷ without (is_standing runs.target.object) s.objects
+  pub due : t.due ≡ due_of runs.target.state runs.act s.fresh (outcome r s runs.act runs.target)
+  pub fired : t.fired ≡ without (is_act a) s.fired
+  pub done : t.done ≡ runs.act ∷ s.done
+
+-- what a failed Done does: the action was fired here, every state stays, and the failure is due
+pub record Fails (a : Name) (s t : Local) : Type 0 where
+  pub runs : Runs s a
+  pub nothing_fresh : s.fresh ≡ []
+  pub refused : list_any (is_refused runs.act runs.target.state) s.refusals ≡ true
+  pub objects : t.objects ≡ s.objects
+  pub due : t.due ≡ failure runs.act
+  pub fired : t.fired ≡ without (is_act a) s.fired
+  pub done : t.done ≡ runs.act ∷ s.done

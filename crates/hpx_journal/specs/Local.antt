@@ -1,14 +1,14 @@
 -- One locality: what it has, and what it has after an entry. Nothing here looks beyond the locality.
 use Rattle.std.specs.Prelude.{ℕ, Bool, true, false, cond, List, [], ◌∷◌, ◌++◌, ◌+◌, ◌-◌, ◌^◌, ◌==◌, Option, Some, None, map}
 use Rattle.std.specs.Prelude.{codes}
-use Rattle.std.specs.List.{list_any, find, count_by}
+use Rattle.std.specs.List.{list_any, find}
 use Rattle.hpx_value.specs.Ids.{same_object}
 use Rattle.hpx_value.specs.Values.{named}
-use Rattle.hpx_value.specs.Hands.{Slot, own_slot, answer, due_of, state_after}
+use Rattle.hpx_value.specs.Hands.{own_slot, answer, due_of, state_after}
 use Rattle.hpx_parcel.specs.Credits.{Credit}
 use Rattle.hpx_journal.specs.Data.{Id, Fault, Act, Make, Outcome, Due, MessageDue, PrintDue, State}
 use Rattle.hpx_journal.specs.Bags.{without, minus}
-use Rattle.hpx_journal.specs.Entries.{Name, Reason, Returned, Granted, Refused, Event, Line, Fire, Split, Born, Done, Sent, Print, Up, Asked, Given, Count, Freed, Left, Landed, Looked, Mail, Out, In, Standing, Travel, Rules, same_name, name_of, target_of, line_act}
+use Rattle.hpx_journal.specs.Entries.{Name, Returned, Granted, Refused, Event, Line, Fire, Split, Born, Done, Sent, Print, Up, Asked, Given, Count, Freed, Left, Landed, Out, In, Standing, Travel, Rules, same_name, name_of, target_of, line_act}
 use Rattle.hpx_journal.specs.Tokens.{Token, held_token, owed_token, same_token}
 use Rattle.hpx_journal.specs.Frames.{acts_in, travels_in, tokens_in, asks_in}
 

@@ -5,7 +5,7 @@ use Rattle.hpx_value.specs.Ids.{same_object}
 use Rattle.hpx_value.specs.Values.{bare_act, bare_state}
 use Rattle.hpx_journal.specs.Data.{Id, Act, State, Message, Make, Due, MessageDue, PrintDue, Parcel, Apply, Return, Ask, Give, Cached, Move, Go, Shipped, Arrived, Free}
 use Rattle.hpx_journal.specs.Bags.{Covers}
-use Rattle.hpx_journal.specs.Entries.{Name, Reason, Returned, Granted, Refused, Event, Line, Fire, Split, Born, Done, Sent, Print, Up, Asked, Given, Count, Freed, Left, Landed, Looked, Mail, Out, In, Entry, Standing, Travel, Rules, same_name, name_of, target_of, move_to}
+use Rattle.hpx_journal.specs.Entries.{Name, Returned, Granted, Refused, Event, Line, Fire, Split, Born, Done, Sent, Print, Up, Asked, Given, Count, Freed, Left, Landed, Looked, Mail, Out, In, Entry, Standing, Travel, Rules, same_name, name_of, target_of, move_to}
 use Rattle.hpx_journal.specs.Tokens.{same_token}
 use Rattle.hpx_journal.specs.Frames.{acts_in}
 use Rattle.hpx_journal.specs.Local.{Local, Recorded, Refusal, is_act, is_standing, is_travel, is_given, is_given_none, acts_on, is_busy, next_name, takes, recorded, outcome, made_state}
@@ -72,7 +72,7 @@ MayGo s to (Move act) = Unit {0}
 MayGo s to (Go act) = Unit {0}
 MayGo s to (Shipped act state) =
     (move_to (bare_act act) ≡ Some to)
-    × (find (is_travel (target_of act)) s.travels ≡ Some (record { object = target_of (bare_act act); state = bare_state state; to = to }))
+    × (find (is_travel (target_of (bare_act act))) s.travels ≡ Some (record { object = target_of (bare_act act); state = bare_state state; to = to }))
 MayGo s to (Return id) = to ≡ id.home
 MayGo s to (Ask id asker entry) = to ≡ id.home
 MayGo s to (Arrived id place) = to ≡ id.home

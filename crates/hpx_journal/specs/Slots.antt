@@ -1,5 +1,5 @@
 -- Slots: where an answer is awaited, and the answers that are due or were sent.
-use Rattle.std.specs.Prelude.{ℕ, pos, Bool, false, cond, List, [], ◌∷◌, ◌+◌, ◌==◌, ◌&&◌, map}
+use Rattle.std.specs.Prelude.{ℕ, pos, Bool, false, cond, List, ◌∷◌, ◌+◌, ◌==◌, ◌&&◌, map}
 use Rattle.std.specs.List.{sum_by, count_by}
 use Rattle.hpx_value.specs.Ids.{same_object}
 use Rattle.hpx_value.specs.Values.{named}

@@ -1,5 +1,5 @@
 -- All localities, and the road between them.
-use Rattle.std.specs.Prelude.{ℕ, Bool, false, cond, List, [], ◌∷◌, ◌++◌, ◌≡◌, ◌<◌, ◌==◌, ◌+◌, None}
+use Rattle.std.specs.Prelude.{ℕ, false, cond, List, [], ◌∷◌, ◌++◌, ◌≡◌, ◌<◌, ◌==◌, ◌+◌, None}
 use Rattle.std.specs.List.{filter, sum_by, count_by, find, AllByRecursion}
 use Rattle.hpx_value.specs.Ids.{same_object}
 use Rattle.hpx_journal.specs.Data.{Id}

@@ -1,9 +1,124 @@
-//! What every legal journal keeps: the contracts are the laws.
-ghost use Rattle.std.specs.Prelude.{ℕ, List, ◌++◌, ◌≡◌};
-ghost use Rattle.hpx_journal.specs.Entries.{Entry, Rules};
-ghost use Rattle.hpx_journal.specs.Whole.{IsLegal};
+//! What every legal journal keeps: the contracts are the laws. "After every entry" is said as: of each front of it.
+ghost use Rattle.std.specs.Prelude.{ℕ, true, false, List, [], ◌∷◌, ◌++◌, ◌≡◌, ◌≢◌, ◌≤◌, ◌<◌, ◌+◌, ◌↔◌, length};
+ghost use Rattle.std.specs.List.{count_by};
+ghost use Rattle.hpx_value.specs.Ids.{Id};
+ghost use Rattle.hpx_journal.specs.Entries.{Name, Done, Freed, In, Entry, Rules, Frame, same_frame};
+ghost use Rattle.hpx_journal.specs.Local.{Local, boot};
+ghost use Rattle.hpx_journal.specs.Names.{IsBacked};
+ghost use Rattle.hpx_journal.specs.Foreign.{kept, NodeKeeps, IsForeign};
+ghost use Rattle.hpx_journal.specs.Roots.{roots};
+ghost use Rattle.hpx_journal.specs.Whole.{IsLegal, IsJoin, IsClean, IsCarried, IsQuiet, IsQuietAt, part, replayed, run_local, credit_sum, recorded_in, IsDeadIn, names_in};
+ghost use Rattle.hpx_journal.specs.Laws.{RefusesForCause, count_events, is_failed, hands_refusal, is_refused_count, HasGrammar, IsBornIn, IsOnRoad, IsLegalLocal, AreAt, SameBag, TargetsStand, Commits, Fails, entry_at, held_in, owed_in, asking_in, asked_in, given_in, begun, fires, dones, fires_at, dones_at, freeds, ins, outs, road_run};
 
 /// Each front of a legal journal is legal.
 pub fn front_law()
     ensures { (r : Rules) (es later : List Entry) → IsLegal r (es ++ later) → IsLegal r es }
+{}
+
+/// Node journals put together, each backed at its own locality, are one legal journal without a foreign arrival, in which
+/// each locality stays backed.
+pub fn join_law()
+    ensures legal { (r : Rules) (es : List Entry) → HasGrammar r → IsJoin r es → IsLegal r es }
+    ensures clean { (r : Rules) (es : List Entry) (k : ℕ) → HasGrammar r → IsLegal r es → k < r.localities →
+        IsClean r (boot (roots r.localities k) k) (part k es) }
+    ensures backed { (r : Rules) (es later : List Entry) (k : ℕ) → HasGrammar r → IsJoin r (es ++ later) → k < r.localities →
+        IsBacked ((replayed r es).places k) }
+{}
+
+/// The credits of each object are what is recorded of it, and it is dead exactly where it was born and has no credit.
+pub fn ledger_law()
+    ensures sums { (r : Rules) (es later : List Entry) (o : Id) → IsLegal r (es ++ later) →
+        credit_sum r o (replayed r es) ≡ recorded_in o (replayed r es) }
+    ensures dies { (r : Rules) (es later : List Entry) (o : Id) → IsLegal r (es ++ later) →
+        IsDeadIn o (replayed r es) ↔ (IsBornIn o (replayed r es) × (credit_sum r o (replayed r es) ≡ 0)) }
+{}
+
+/// Each name of a managed object has a credit of its own, so once it is dead nothing ever names it. It is freed after
+/// that, once, and is nowhere then.
+pub fn life_law()
+    ensures named { (r : Rules) (es later : List Entry) (o : Id) → HasGrammar r → IsJoin r (es ++ later) → 16 ≤ o.kind →
+        names_in r o (replayed r es) + given_in r o (replayed r es) ≤ held_in r o (replayed r es) + asked_in r o (replayed r es) }
+    ensures asked { (r : Rules) (es later : List Entry) (o : Id) → HasGrammar r → IsJoin r (es ++ later) → 16 ≤ o.kind →
+        asked_in r o (replayed r es) ≤ owed_in r o (replayed r es) + asking_in r o (replayed r es) + given_in r o (replayed r es) }
+    ensures dead { (r : Rules) (es later : List Entry) (o : Id) → HasGrammar r → IsJoin r (es ++ later) → 16 ≤ o.kind →
+        IsDeadIn o (replayed r es) → names_in r o (replayed r (es ++ later)) ≡ 0 }
+    ensures stays_dead { (r : Rules) (es later : List Entry) (o : Id) → IsLegal r (es ++ later) → IsDeadIn o (replayed r es) →
+        IsDeadIn o (replayed r (es ++ later)) }
+    ensures freed { (r : Rules) (es later : List Entry) (k : ℕ) (o : Id) → IsLegal r (es ++ entry_at k (Freed o) ∷ later) →
+        IsDeadIn o (replayed r es) }
+    ensures freed_once { (r : Rules) (es : List Entry) (o : Id) → IsLegal r es → freeds o es ≤ 1 }
+    ensures gone { (r : Rules) (es : List Entry) (o : Id) (k : ℕ) → IsLegal r es → k < r.localities → 1 ≤ freeds o es →
+        kept o ((replayed r es).places k) ≡ 0 }
+{}
+
+/// Each action is fed or sent once, fired once and done once, the last two at one locality, where its target stands from
+/// the one to the other. What a Done leaves is the outcome of its action, or the failure.
+pub fn once_law()
+    ensures begun_once { (r : Rules) (es : List Entry) (a : Name) → IsLegal r es → begun a es ≤ 1 }
+    ensures fired_once { (r : Rules) (es : List Entry) (a : Name) → IsLegal r es → fires a es ≤ 1 }
+    ensures done_once { (r : Rules) (es : List Entry) (a : Name) → IsLegal r es → dones a es ≤ 1 }
+    ensures done_where { (r : Rules) (es : List Entry) (k : ℕ) (a : Name) → IsLegal r es → dones_at k a es ≤ fires_at k a es }
+    ensures fired_begun { (r : Rules) (es : List Entry) (a : Name) → IsLegal r es → fires a es ≤ begun a es }
+    ensures stands { (r : Rules) (es : List Entry) (k : ℕ) → IsLegal r es → TargetsStand ((replayed r es).places k) }
+    ensures committed { (r : Rules) (es later : List Entry) (k : ℕ) (a : Name) → IsLegal r (es ++ entry_at k (Done a false) ∷ later) →
+        Commits r a ((replayed r es).places k) ((replayed r (es ++ entry_at k (Done a false) ∷ [])).places k) }
+    ensures failed { (r : Rules) (es later : List Entry) (k : ℕ) (a : Name) → IsLegal r (es ++ entry_at k (Done a true) ∷ later) →
+        Fails a ((replayed r es).places k) ((replayed r (es ++ entry_at k (Done a true) ∷ [])).places k) }
+{}
+
+/// What a journal leaves at one locality is what its entries there leave, and what it leaves on the road was sent and not
+/// accepted: no foreign arrival where it goes. A journal that is fed by counts is carried by the road.
+pub fn part_law()
+    ensures part { (r : Rules) (es : List Entry) (k : ℕ) →
+        (replayed r es).places k ≡ run_local r (boot (roots r.localities k) k) (part k es) }
+    ensures allowed { (r : Rules) (es : List Entry) (k : ℕ) → IsLegal r es →
+        IsLegalLocal r (boot (roots r.localities k) k) (part k es) }
+    ensures road { (r : Rules) (es : List Entry) → (replayed r es).road ≡ road_run [] es }
+    ensures frames { (r : Rules) (es : List Entry) (f : Frame) → IsLegal r es →
+        count_by (same_frame f) (road_run [] es) + count_by (same_frame f) (ins es) ≡ count_by (λ x. same_frame f x.1) (outs es) }
+    ensures on_road { (r : Rules) (es : List Entry) (flight : List Frame) (f : Frame) → SameBag (road_run [] es) flight →
+        1 ≤ count_by (same_frame f) flight → IsOnRoad f (replayed r es) }
+    ensures native { (r : Rules) (es : List Entry) (k : ℕ) (bytes : List ℕ) → HasGrammar r → IsLegal r es → k < r.localities →
+        IsOnRoad (k, bytes) (replayed r es) → IsForeign r ((replayed r es).places k) (In bytes) → ⊥ }
+    ensures carried { (r : Rules) (es : List Entry) →
+        ((front : List Entry) (e : Entry) (later : List Entry) → es ≡ front ++ e ∷ later → e.at < r.localities) →
+        ((front later : List Entry) → es ≡ front ++ later → (f : Frame) →
+        count_by (same_frame f) (ins front) ≤ count_by (λ x. same_frame f x.1) (outs front)) →
+        IsCarried r [] es }
+{}
+
+/// How parts and joins grow by entries of one locality.
+pub fn growth_law()
+    ensures part { (k : ℕ) (es later : List Entry) → part k (es ++ later) ≡ part k es ++ part k later }
+    ensures own { (k : ℕ) (es : List Entry) → AreAt k es → part k es ≡ es }
+    ensures other { (j k : ℕ) (es : List Entry) → AreAt k es → k ≢ j → part j es ≡ [] }
+    ensures keeps { (r : Rules) (s : Local) (es later : List Entry) → NodeKeeps r s es →
+        (IsClean r s es → NodeKeeps r (run_local r s es) later) → NodeKeeps r s (es ++ later) }
+    ensures join { (r : Rules) (es later : List Entry) (k : ℕ) → IsJoin r es → AreAt k later →
+        (k < r.localities → NodeKeeps r (boot (roots r.localities k) k) (part k es ++ later)) →
+        IsCarried r (road_run [] es) later → IsJoin r (es ++ later) }
+    ensures front { (r : Rules) (es later : List Entry) → IsJoin r (es ++ later) → IsJoin r es }
+{}
+
+/// On the road are as many frames as were sent and not accepted. Where there are none, each locality is quiet, and each
+/// dead object was freed, the journal is quiet; each action was then fired and done.
+pub fn quiet_law()
+    ensures road_length { (r : Rules) (es : List Entry) → IsLegal r es →
+        length (replayed r es).road + length (ins es) ≡ length (outs es) }
+    ensures road { (r : Rules) (es : List Entry) → IsLegal r es → length (ins es) ≡ length (outs es) → (replayed r es).road ≡ [] }
+    ensures quiet { (r : Rules) (es : List Entry) → IsLegal r es →
+        ((k : ℕ) → k < r.localities → IsQuietAt ((replayed r es).places k)) → length (ins es) ≡ length (outs es) →
+        ((o : Id) → IsDeadIn o (replayed r es) → 1 ≤ freeds o es) → IsQuiet r (replayed r es) }
+    ensures all_fired { (r : Rules) (es : List Entry) (a : Name) → IsLegal r es → IsQuiet r (replayed r es) → fires a es ≡ begun a es }
+    ensures all_done { (r : Rules) (es : List Entry) (a : Name) → IsLegal r es → IsQuiet r (replayed r es) → dones a es ≡ begun a es }
+{}
+
+/// At each locality no more actions fail than ids come back there with no more credit. Where each locality hands over and
+/// sends such an id only for one that came or that its own record refused, no more actions fail than Counts are refused.
+pub fn failure_law()
+    ensures handed { (r : Rules) (es : List Entry) (k : ℕ) → IsLegal r es →
+        count_events is_failed (part k es) ≤ count_events hands_refusal (part k es) }
+    ensures refused { (r : Rules) (es : List Entry) → IsLegal r es →
+        ((k : ℕ) → k < r.localities → RefusesForCause r (part k es)) →
+        count_events is_failed es ≤ count_events is_refused_count es }
 {}

@@ -4,3 +4,5 @@ pub mod Halves
 pub mod Uses
 -- An outcome that keeps the state and answers keeps the laws.
 pub mod Kept
+-- The order of an outcome's mentions, in one example.
+mod Example

@@ -1,8 +1,7 @@
 -- When all values are counted, the bytes so far are those of all.
-use Rattle.std.proofs.Common.{◌≡◌, ◌≤◌, ◌+◌, min, drop, length, ap, sym, ◌∙◌, arith, ℕ}
+use Rattle.std.proofs.Common.{ap, arith}
 use Rattle.std.proofs.lemmas.List.{drop_all}
 use Rattle.hpx_value.specs.Shapes.{values_size}
-use Rattle.hpx_journal.specs.Weights.{state_size}
 use Rattle.hpx_journal.proofs.journal.state_size.Goals as goal
 
 pub returns : goal.returns

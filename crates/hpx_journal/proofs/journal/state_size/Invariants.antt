@@ -1,5 +1,5 @@
 -- The bytes so far, with those of the values that are left, are those of all.
-use Rattle.std.proofs.Common.{◌≡◌, ◌≤◌, ◌+◌, ◌-◌, ◌^◌, ◌*◌, min, length, drop}
+use Rattle.std.proofs.Common.{◌≡◌, ◌≤◌, ◌+◌, ◌-◌, ◌^◌, min, drop}
 use Rattle.hpx_value.specs.Shapes.{values_size}
 use Rattle.hpx_journal.specs.Weights.{state_size}
 use Rattle.hpx_journal.proofs.journal.state_size.Given as goal

@@ -1,0 +1,8 @@
+use Rattle.hpx_journal.proofs.Failures.{legal_failures, legal_refusals}
+use Rattle.hpx_journal.proofs.law.failure_law.Goals as goal
+
+pub returns-clause-handed : goal.returns-clause-handed
+returns-clause-handed c = λ r es k h. legal_failures r es h k
+
+pub returns-clause-refused : goal.returns-clause-refused
+returns-clause-refused c = λ r es h cause. legal_refusals r es h cause
