@@ -1,0 +1,159 @@
+-- An action that is done is one step of the pool.
+use Rattle.std.proofs.Common.{ℕ, true, false, cond, List, [], ◌∷◌, ◌++◌, ◌≡◌, ◌≢◌, ◌+◌, Option, Some, None, refl, sym, ap, ◌∙◌, subst, arith, append-nil}
+use Rattle.std.specs.List.{list_any, find, sum_by, AllByRecursion}
+use Rattle.std.proofs.lemmas.List.Sums.{sum_by-cons, sum_by-append}
+use Rattle.hpx_value.specs.Ids.{Id}
+use Rattle.hpx_value.specs.Values.{message_of, named}
+use Rattle.hpx_journal.specs.Data.{Act, State, Message, Make, Outcome}
+use Rattle.hpx_journal.specs.Entries.{Name, Done, Entry, Standing, Rules, target_of}
+use Rattle.hpx_journal.specs.Frames.{travels_in}
+use Rattle.hpx_journal.specs.Local.{Local, after, is_standing, is_act, outcome, due_left}
+use Rattle.hpx_journal.specs.Rows.{AreMade}
+use Rattle.hpx_journal.specs.Whole.{Space, road_after, step, MayStand}
+use Rattle.hpx_journal.specs.Pool.{Pool, outcome_in, sent_by, AreNew, acted, IsActed, Goes, act_mass, mass_at, prints_due, HasTravel, Shows, IsBlind, OnlySessionPrints}
+use Rattle.hpx_journal.proofs.Bags.{sum_by-without-find, find-passes, list_any-find, total-term}
+use Rattle.hpx_journal.proofs.Same.{same_object-true}
+use Rattle.hpx_journal.proofs.SameMessage.{same_message, same_message-true, same_message-refl}
+use Rattle.hpx_journal.proofs.Mass.{messages, messages-due, brings, ends}
+use Rattle.hpx_journal.proofs.PoolLists.{all-both}
+use Rattle.hpx_journal.proofs.PoolActs.{acted_alike, travel_stays, target_there}
+use Rattle.hpx_journal.proofs.PoolSteps.{IsApart, IsDrawn, done_here, done_there}
+use Rattle.hpx_journal.proofs.PoolSound.{AreDistinct, done_prints, done_silent}
+use Rattle.hpx_journal.proofs.PoolWhole.{travels_apart, road_apart, road_travels}
+use Rattle.hpx_journal.proofs.Reduce.{IsAmong, among, sum_by-middle, IsReached, assemble}
+
+-- objects that are made are new to the pool
+made_new : (states : Id → Option State) (k number : ℕ) (makes : List Make) (fresh : List Id) (objects : List Standing) → AreMade makes fresh objects
+    → AllByRecursion (λ o. states o ≡ None) fresh → AllByRecursion (IsDrawn k number) fresh → AreDistinct fresh → AreNew states k makes fresh
+made_new states k number [] [] objects made none drawn distinct = tt
+made_new states k number (make ∷ makes) (o ∷ fresh) objects made none drawn distinct =
+    (made.0, (drawn.0).1, none.0, distinct.0, made_new states k number makes fresh objects made.2 none.1 drawn.1 distinct.1)
+made_new states k number [] (o ∷ fresh) objects made none drawn distinct = absurd made
+made_new states k number (make ∷ makes) [] objects made none drawn distinct = absurd made
+
+module _ (r : Rules) (blind : IsBlind r) (law : OnlySessionPrints r) (w : Space) (reached : IsReached r w) (p : Pool) (out : List (List ℕ)) (shows : Shows r w p out)
+    (k : ℕ) (a : Name) (ok : MayStand r w (record { at = k; event = Done a false })) (act : Act) (x : Standing)
+    (fires : find (is_act a) (w.places k).fired ≡ Some act) (stands : find (is_standing (target_of act)) (w.places k).objects ≡ Some x)
+    (made : AreMade (outcome r (w.places k) act x).makes (w.places k).fresh (w.places k).objects) where
+  abbrev s : Local
+  s = w.places k
+
+  abbrev e : Entry
+  e = record { at = k; event = Done a false }
+
+  there : (p.states (target_of act) ≡ Some x.state) × (p.places (target_of act) ≡ k)
+  there = target_there r p shows.alike k s (shows.places k ok.place) (reached.sound k).here a act x fires stands
+
+  abbrev done : Outcome
+  done = outcome_in r k (message_of act) x.state
+
+  -- the outcome is that of the message
+  outcome_eq : outcome r s act x ≡ done
+  outcome_eq =
+      let kind : x.object.kind ≡ (target_of act).kind =
+      ap (λ v. v.kind) (sym (same_object-true (target_of act) x.object (find-passes (is_standing (target_of act)) s.objects x stands))) in
+      ap (λ n. r.outcome_of n s.here x.state act) kind
+      ∙ (ap (λ j. r.outcome_of (target_of act).kind j x.state act) (reached.sound k).here
+      ∙ (blind.blind (target_of act).kind k x.state act ∙ sym (blind.blind (target_of act).kind k x.state (named 0 0 (message_of act)))))
+
+  is_pending : IsAmong (λ m. m ≡ message_of act) p.pending
+  is_pending =
+      let f : Message → ℕ = λ m. cond (same_message (message_of act) m) 1 0 in
+      let one : f (message_of act) ≡ 1 = ap {B = ℕ} (λ b. cond b 1 0) (same_message-refl (message_of act)) in
+      among (λ m. m ≡ message_of act) (same_message (message_of act)) (λ m t. sym (same_message-true (message_of act) m t)) p.pending
+      (omega (
+        arith,
+        one,
+        shows.pending f,
+        sum_by-without-find (act_mass f) (is_act a) s.fired act fires,
+        total-term r.localities (λ j. mass_at f (w.places j)) k ok.place,
+      ))
+
+  abbrev others : List Message
+  others = is_pending.before ++ is_pending.behind
+
+  abbrev next : Pool
+  next = acted p k (message_of act) x.state s.fresh others done
+
+  split : p.pending ≡ is_pending.before ++ message_of act ∷ is_pending.behind
+  split = is_pending.split ∙ ap (λ m. is_pending.before ++ m ∷ is_pending.behind) is_pending.fact
+
+  made_done : AreMade done.makes s.fresh s.objects
+  made_done = subst (λ o. AreMade o.makes s.fresh s.objects) outcome_eq made
+
+  target_any : list_any (is_standing (target_of act)) s.objects ≡ true
+  target_any = list_any-find (is_standing (target_of act)) s.objects x stands
+
+  bag : (f : Message → ℕ) → sum_by f next.pending + sum_by f (ends s (Done a false)) ≡ sum_by f p.pending + sum_by f (brings r s (Done a false))
+  bag f =
+      let n : sum_by f (ends s (Done a false)) ≡ f (message_of act) = rw fires (omega (arith, sum_by-cons f (message_of act) [])) in
+      let d : due_left r s false (find (is_act a) s.fired) ≡ due_left r s false (Some act) = ap (due_left r s false) fires in
+      let m : brings r s (Done a false) ≡ sent_by (message_of act) x.state s.fresh done =
+      ap messages d ∙ (rw stands (messages-due x.state act s.fresh (outcome r s act x)) ∙ ap (λ o. sent_by (message_of act) x.state s.fresh o) outcome_eq) in
+      let b : sum_by f (brings r s (Done a false)) ≡ sum_by f (sent_by (message_of act) x.state s.fresh done) = ap (sum_by f) m in
+      let l : sum_by f p.pending ≡ sum_by f (is_pending.before ++ message_of act ∷ is_pending.behind) = ap (sum_by f) split in
+      omega (
+        arith,
+        n,
+        b,
+        l,
+        sum_by-append f (sent_by (message_of act) x.state s.fresh done) others,
+        sum_by-middle f is_pending.before (message_of act) is_pending.behind,
+      )
+
+  console_prints : k ≡ 0 → (out ++ []) ++ prints_due (after r s (Done a false)).due ≡ next.printed
+  console_prints same =
+      let none : out ≡ p.printed =
+      sym (append-nil out) ∙ (ap (λ due. out ++ prints_due due) (sym ok.allowed.turn) ∙ (ap (λ j. out ++ prints_due (w.places j).due) same ∙ shows.printed)) in
+      ap (λ v. (out ++ []) ++ v) (done_prints r s a act x fires stands ∙ ap (λ o. o.prints) outcome_eq)
+      ∙ ap (λ v. v ++ done.prints) (append-nil out ∙ none)
+
+  other_prints : k ≢ 0 → p.printed ≡ next.printed
+  other_prints other =
+      let none : done.prints ≡ [] = ap (λ o. o.prints) (sym outcome_eq) ∙ done_silent r s a act x fires stands k (reached.sound k) law other in
+      sym (append-nil p.printed) ∙ ap (λ v. p.printed ++ v) (sym none)
+
+  road_next : AllByRecursion (λ f. AllByRecursion (HasTravel next) (travels_in (r.parcel_of f.1))) (road_after w.road e)
+  road_next =
+      all-both (λ f. AllByRecursion (HasTravel p) (travels_in (r.parcel_of f.1))) (λ f. AllByRecursion (IsApart (target_of act)) (travels_in (r.parcel_of f.1)))
+      (λ f. AllByRecursion (HasTravel next) (travels_in (r.parcel_of f.1)))
+      (λ f has apart. all-both (HasTravel p) (IsApart (target_of act)) (HasTravel next)
+      (λ y h d. travel_stays p shows.alike k act x.state s.fresh others done there.0 (shows.places k ok.place).fresh y h d)
+      (travels_in (r.parcel_of f.1)) has apart)
+      (road_after w.road e)
+      (road_travels (HasTravel p) r w e ok (shows.places k ok.place).travels shows.road)
+      (road_travels (IsApart (target_of act)) r w e ok
+      (travels_apart r w reached.whole reached.sound (target_of act) k ok.place target_any k ok.place)
+      (road_apart r w reached.whole reached.carried (target_of act) k ok.place target_any))
+
+  shows_next : Shows r (step r w e) next (out ++ [])
+  shows_next =
+      assemble r w reached p out shows e ok tt next bag
+      (done_here r p shows.alike k s (shows.places k ok.place) (reached.sound k).here a act x fires stands done outcome_eq made_done others
+      (reached.sound k).drawn (travels_apart r w reached.whole reached.sound (target_of act) k ok.place target_any k ok.place))
+      (λ j h other. done_there r p shows.alike k s (shows.places k ok.place) (reached.sound k).here a act x fires stands done outcome_eq made_done others
+      (reached.sound k).drawn j (w.places j) other (shows.places j h) (reached.sound j).drawn
+      (travels_apart r w reached.whole reached.sound (target_of act) k ok.place target_any j h))
+      road_next
+      (acted_alike p shows.alike k act x.state s.fresh others done there.0)
+      console_prints
+      (λ other. (refl, other_prints other))
+
+  new_objects : AreNew p.states k done.makes s.fresh
+  new_objects = made_new p.states k s.number done.makes s.fresh s.objects made_done (shows.places k ok.place).fresh (reached.sound k).drawn (reached.sound k).distinct
+
+  is_acted : IsActed r p next
+  is_acted = record {
+    message = message_of act;
+    before = is_pending.before;
+    behind = is_pending.behind;
+    state = x.state;
+    made = s.fresh;
+    pending = split;
+    stands = there.0;
+    new = subst (λ j. AreNew p.states j (outcome_in r j (message_of act) x.state).makes s.fresh) (sym there.1) new_objects;
+    next = ap (λ j. acted p j (message_of act) x.state s.fresh others (outcome_in r j (message_of act) x.state)) (sym there.1);
+  }
+
+  pub done_step : (q : Pool) × Goes r p (Done a false) q × Shows r (step r w e) q (out ++ [])
+  done_step = (next, is_acted, shows_next)
