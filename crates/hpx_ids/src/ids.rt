@@ -7,15 +7,12 @@ ghost use Rattle.hpx_ids.specs.Tables.{entry, adopted, asked, shown, half, CanSp
 use crate::held::{Held, Owner};
 use hpx_value::exact::Exact;
 use hpx_value::gid::Gid;
-use hpx_value::items::Items;
+use hpx_value::items::Keys;
 use hpx_value::memory::OutOfMemory;
 use slab::Slab;
 use std::alloc::Global;
 use std::marker::Model;
 use thiserror::Error;
-
-/// Keys of a table.
-pub type Keys = Items<usize>;
 
 /// The entry does not ask for this object.
 #[derive(Clone, Copy, Debug, PartialEq, Eq, Error)]

@@ -4,13 +4,17 @@ ghost use Rattle.hpx_value.specs.Shapes.{IsAct, IsState};
 ghost use Rattle.hpx_value.specs.Hands.{Outcome};
 ghost use Rattle.hpx_value.specs.Laws.{KeepsLaws};
 
+use crate::items::Items;
 use crate::memory::OutOfMemory;
 use crate::outcome::Outcome;
 use crate::value::{Act, State};
 use std::alloc::Global;
 use std::marker::PhantomData;
 
-/// What actions do.
+/// What actions do, and the laws that they keep, whatever they are.
+///
+/// The laws are in `specs/Laws.antt`: an outcome names its hand alone and nothing too often, uses each continuation once,
+/// makes, sends and prints little, is well formed, moves objects rightly, and leaves a plain object empty.
 pub trait Acts {
     /// The number of localities.
     ghost count: { Self → ℕ };
@@ -50,6 +54,9 @@ pub struct Job {
     pub action: Act,
 }
 
+/// Jobs, in order.
+pub type Jobs = Items<Job>;
+
 /// A job with its outcome, which is no other than the acts' own.
 #[derive(Drop)]
 pub struct Done<A: Acts> {
@@ -65,6 +72,7 @@ impl<A: Acts> Done<A> {
     pub fn compute(alloc: Global, acts: &A, job: Job) -> Result<Done<A>, Job>
         ensures job { IfOk result (λ done. done.job ≡ job) }
         ensures localities { IfOk result (λ done. done.localities ≡ A.count acts.now) }
+        ensures outcome { IfOk result (λ done. done.outcome ≡ A.act_of (A.count acts.now) job.kind job.at job.state job.action) }
         ensures err { IfErr result (λ back. back ≡ job) }
     {
         let localities = acts.localities();
