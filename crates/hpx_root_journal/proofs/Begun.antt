@@ -46,13 +46,6 @@ begun_run r w (e ∷ es) h a =
       begun_run r (step r w e) es h.1 a,
     )
 
-road_empty : (r : Rules) (a : Name) (road : List Frame) → AllByRecursion (λ f. acts_in (r.parcel_of f.1) ≡ []) road
-    → sum_by (frame_acts r a) road ≡ 0
-road_empty r a [] h = refl
-road_empty r a (f ∷ fs) h =
-    let none : frame_acts r a f ≡ 0 = ap (sum_by (act_counts a)) h.0 in
-    omega (arith, sum_by-cons (frame_acts r a) f fs, road_empty r a fs h.1)
-
 module _ (r : Rules) (w : Space) (es : List Entry) (whole : IsWhole r w) (legal : IsLegal r w es) (a : Name)
     (none : total r.localities (λ k. drawn a (w.places k)) ≡ 0) where
   end : IsWhole r (run r w es)
@@ -90,7 +83,7 @@ module _ (r : Rules) (w : Space) (es : List Entry) (whole : IsWhole r w) (legal 
           begun_run r w es legal a,
           end.single a,
           nothing_done,
-          road_empty r a (run r w es).road settled.road,
+          ap (sum_by (frame_acts r a)) settled.road,
           total-same r.localities (λ k. present a ((run r w es).places k)) (λ k. done_here a ((run r w es).places k)) only_done,
           total-le r.localities (λ k. done_here a (w.places k)) (λ k. present a (w.places k)) (λ k h. omega arith),
         )

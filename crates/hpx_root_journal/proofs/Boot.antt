@@ -41,7 +41,7 @@ pub boot_sound : (n : ℕ) → AreSound (start (roots n))
 boot_sound n = record { each = λ k. record { here = refl; home = home_all n k; console = session_all n k; unprinted = λ h. refl } }
 
 pub boot_settled : (r : Rules) (n : ℕ) → IsSettled r (start (roots n))
-boot_settled r n = record { waiting = λ k h. refl; fired = λ k h. refl; due = λ k h. refl; road = tt }
+boot_settled r n = record { waiting = λ k h. refl; fired = λ k h. refl; due = λ k h. refl; road = refl }
 
 -- ---- what the roots keep
 

@@ -23,3 +23,4 @@ pub mod Begun
 mod Witness
 pub mod Rooted
 pub mod Quiet
+pub mod Limits

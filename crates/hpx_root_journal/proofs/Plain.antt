@@ -14,18 +14,11 @@ use Rattle.hpx_root_journal.proofs.Only.{none_pending}
 
 -- ---- what is settled weighs nothing
 
-road_still : (r : Rules) (f : Message → ℕ) (road : List Frame) → AllByRecursion (λ x. acts_in (r.parcel_of x.1) ≡ []) road
-    → sum_by (frame_mass r f) road ≡ 0
-road_still r f [] h = refl
-road_still r f (x ∷ xs) h =
-    let none : frame_mass r f x ≡ 0 = ap (sum_by (act_mass f)) h.0 in
-    omega (arith, sum_by-cons (frame_mass r f) x xs, road_still r f xs h.1)
-
 pub settled_mass : (r : Rules) (w : Space) → IsSettled r w → (f : Message → ℕ) → mass r f w ≡ 0
 settled_mass r w settled f =
     omega (
       arith,
-      road_still r f w.road settled.road,
+      ap (sum_by (frame_mass r f)) settled.road,
       total-zero r.localities (λ k. mass_at f (w.places k)) (λ k h. omega (
         arith,
         ap (sum_by (act_mass f)) (settled.waiting k h),

@@ -55,5 +55,5 @@ module _ (r : Rules) (roots : ℕ → List Standing) (es : List Entry) (legal : 
     waiting = waiting;
     fired = fired;
     due = due;
-    road = subst (AllByRecursion (λ f. acts_in (r.parcel_of f.1) ≡ [])) (sym (legal_road_empty same)) tt;
+    road = legal_road_empty same;
   }

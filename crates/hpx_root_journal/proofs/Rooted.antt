@@ -1,5 +1,5 @@
 -- Where nothing is made: every id is that of a root, and each root stands at its home.
-use Rattle.std.proofs.Common.{ℕ, zero, suc, Bool, true, false, cond, List, [], ◌∷◌, ◌++◌, ◌≡◌, ◌<◌, ◌≤◌, ◌⊎◌, Option, Some, None, refl, sym, subst, arith, map, inl, inr}
+use Rattle.std.proofs.Common.{ℕ, zero, suc, Bool, true, false, cond, List, [], ◌∷◌, ◌++◌, ◌≡◌, ◌<◌, ◌≤◌, ◌⊎◌, Option, Some, None, refl, sym, subst, arith, length, map, inl, inr}
 use Rattle.std.specs.Prelude.{◌==◌, ◌%◌, ◌||◌, slice_index_or, pos}
 use Rattle.std.specs.List.{list_any, find, AllByRecursion}
 use Rattle.std.proofs.lemmas.Nat.{mod_below}
@@ -7,14 +7,15 @@ use Rattle.std.proofs.lemmas.Bool.{eq-eqb, eqb-true, cases_eq}
 use Rattle.hpx_value.specs.Ids.{Id, bare_id}
 use Rattle.hpx_value.specs.Values.{bare_act, refs_in}
 use Rattle.hpx_value.specs.Laws.{IsRoot, IsTarget}
+use Rattle.hpx_value.specs.Shapes.{IsMessage, IsAct, IsState}
 use Rattle.hpx_value.specs.Hands.{Slot, session, id_at, slot_at, own_slot, hand_ids, hand_slot, hand_slots, slot_ids, addressed, target_id, send_slot, sent, replied, due_of, state_after, slots_kept}
 use Rattle.hpx_root_journal.specs.Bags.{minus, Covers}
-use Rattle.hpx_root_journal.specs.Data.{Value, Int, Cont, State, Act, Target, Place, Root, SendCont, NoCont, Own, Made, Here, Sending, Outcome, Due, MessageDue, PrintDue, Parcel, Apply}
-use Rattle.hpx_root_journal.specs.Entries.{Name, Event, Line, Fire, Done, Sent, Print, Out, In, Entry, Standing, Rules, Frame, same_frame, name_of, target_of, acts_in}
+use Rattle.hpx_root_journal.specs.Data.{Value, Int, Cont, State, Act, Target, Place, Root, SendCont, NoCont, Own, Made, Here, Sending, Reply, Outcome, Due, MessageDue, PrintDue, Parcel, Apply}
+use Rattle.hpx_root_journal.specs.Entries.{Name, Event, Line, Fire, Done, Sent, Print, Out, In, Entry, Standing, Rules, Frame, same_frame, name_of, target_of, acts_in, line_act}
 use Rattle.hpx_root_journal.specs.Local.{Local, Row, GoesOut, after, is_act, is_standing, listed, due_act, comes, leaves, outcome, tail}
 use Rattle.hpx_root_journal.specs.Roots.{root, roots, roots_of_first}
 use Rattle.hpx_root_journal.specs.Whole.{Space, step, run, at_place, start, sends, arrives, arrives_at, MayStand, IsLegal}
-use Rattle.hpx_root_journal.specs.Rooted.{IsRootId, AreRoots, IsRootTarget, SendsToRoots, ActsAreRooted, FrameIsRooted, DueIsRooted, IsRootedAt, IsRooted, AreForRoots, HasTarget}
+use Rattle.hpx_root_journal.specs.Rooted.{IsRootId, AreRoots, IsRootTarget, IsRootedOutcome, SendsToRoots, IsRootedAct, ActsAreRooted, FrameIsRooted, DueIsRooted, IsRootedAt, IsRooted, AreForRoots, HasTarget}
 use Rattle.hpx_root_journal.proofs.Wholes.{at_same, at_other}
 use Rattle.hpx_root_journal.proofs.Roads.{all-append, all-without, all-minus, any_all}
 use Rattle.hpx_root_journal.proofs.Stands.{all-map, stands_still}
@@ -118,45 +119,63 @@ module _ (n : ℕ) where
     addressed_rooted target code args cont h i =
         (h, all-append (IsRootId n) (map (id_at (hand_ids s a [])) (refs_in args)) (slot_ids cont) (refs_rooted (refs_in args)) i)
 
-    sends_rooted : (xs : List Sending) → AllByRecursion (λ x. IsRootTarget n x.target) xs
+    sends_rooted : (xs : List Sending) → AllByRecursion (λ x. IsRootTarget n x.target) xs → AllByRecursion (λ x. IsMessage (sent s a [] x)) xs
         → AllByRecursion (DueIsRooted n) (map (λ x. MessageDue (sent s a [] x)) xs)
-    sends_rooted [] h = tt
-    sends_rooted (x ∷ xs) h = (
-      addressed_rooted (target_id (hand_ids s a []) x.target) x.code x.args (send_slot s a [] x.cont) (target_rooted x.target h.0) (cont_rooted x.cont),
-      sends_rooted xs h.1,
+    sends_rooted [] h i = tt
+    sends_rooted (x ∷ xs) h i = (
+      (
+        addressed_rooted (target_id (hand_ids s a []) x.target) x.code x.args (send_slot s a [] x.cont) (target_rooted x.target h.0) (cont_rooted x.cont),
+        i.0,
+      ),
+      sends_rooted xs h.1 i.1,
     )
 
-    -- what is due is for roots, where each send names one that there is
-    pub due_rooted : (out : Outcome) → AllByRecursion (λ x. IsRootTarget n x.target) out.sends → AllByRecursion (DueIsRooted n) (due_of s a [] out)
+    replies_rooted : (xs : List Reply) → AllByRecursion (λ x. IsMessage (replied s a [] x)) xs
+        → AllByRecursion (DueIsRooted n) (map (λ x. MessageDue (replied s a [] x)) xs)
+    replies_rooted [] h = tt
+    replies_rooted (x ∷ xs) h = (
+      (
+        addressed_rooted (hand_slot s a x.cont).object 3 (Int (pos (hand_slot s a x.cont).number) ∷ x.value ∷ []) None (slot_rooted x.cont) tt,
+        h.0,
+      ),
+      replies_rooted xs h.1,
+    )
+
+    -- what is due is for roots, and well formed
+    pub due_rooted : (out : Outcome) → IsRootedOutcome n s a out → AllByRecursion (DueIsRooted n) (due_of s a [] out)
     due_rooted out h =
-        all-append (DueIsRooted n) (map (λ x. MessageDue (sent s a [] x)) out.sends) _ (sends_rooted out.sends h)
+        all-append (DueIsRooted n) (map (λ x. MessageDue (sent s a [] x)) out.sends) _ (sends_rooted out.sends h.targets h.sends)
         (all-append (DueIsRooted n) (map (λ x. MessageDue (replied s a [] x)) out.replies) (map PrintDue out.prints)
-        (all_mapped (DueIsRooted n) (λ x. MessageDue (replied s a [] x)) out.replies
-        (all_of (λ x. DueIsRooted n (MessageDue (replied s a [] x)))
-        (λ x. addressed_rooted (hand_slot s a x.cont).object 3 (Int (pos (hand_slot s a x.cont).number) ∷ x.value ∷ []) None (slot_rooted x.cont) tt)
-        out.replies))
+        (replies_rooted out.replies h.replies)
         (all_mapped (DueIsRooted n) PrintDue out.prints (all_of (λ bytes. DueIsRooted n (PrintDue bytes)) (λ bytes. tt) out.prints)))
 
 -- ---- one entry
+
+line_shape : (a : Name) (bytes : List ℕ) → length bytes ≤ 1025 → IsAct (line_act a bytes)
+line_shape a bytes short = record {
+  values = record { few = omega arith; each = (omega arith, tt) };
+  refs = tt;
+  few_refs = omega arith;
+  cont = tt;
+  ids = refl;
+  short = omega arith;
+}
 
 module _ (r : Rules) where
   abbrev size : ℕ
   size = r.localities
 
-  abbrev ActIsRooted : Act → Type 0
-  ActIsRooted act = AreRoots size act.ids
-
   due_act_rooted : (a : Name) (due : List Due) → AllByRecursion (DueIsRooted size) due → ActsAreRooted size (due_act a due)
   due_act_rooted a [] h = tt
   due_act_rooted a (PrintDue bytes ∷ rest) h = tt
-  due_act_rooted a (MessageDue m ∷ rest) h = (h.0, tt)
+  due_act_rooted a (MessageDue m ∷ rest) h = (record { ids = h.0.0; shape = h.0.1 }, tt)
 
   tail_rooted : (due : List Due) → AllByRecursion (DueIsRooted size) due → AllByRecursion (DueIsRooted size) (tail due)
   tail_rooted [] h = tt
   tail_rooted (x ∷ xs) h = h.1
 
   goes_out_rooted : (s : Local) (p : Option Parcel) → GoesOut s p → ActsAreRooted size s.waiting → ActsAreRooted size (acts_in p)
-  goes_out_rooted s (Some (Apply act)) g h = (find-all ActIsRooted (is_act (name_of act)) s.waiting (bare_act act) h g, tt)
+  goes_out_rooted s (Some (Apply act)) g h = (find-all (IsRootedAct size) (is_act (name_of act)) s.waiting (bare_act act) h g, tt)
   goes_out_rooted s _ g h = absurd g
 
   sends_are_rooted : (s : Local) (e : Event) → Row r s e → ActsAreRooted size s.waiting → AllByRecursion (FrameIsRooted r) (sends e)
@@ -164,29 +183,29 @@ module _ (r : Rules) where
   sends_are_rooted s _ row h = tt
 
   module _ (s : Local) (rooted : IsRootedAt size s) where
-    comes_rooted : (k : ℕ) (e : Event) → AllByRecursion (FrameIsRooted r) (arrives_at k e) → ActsAreRooted size (comes r s e)
-    comes_rooted k (Line a bytes) h = ((session_root size, tt), tt)
-    comes_rooted k (Sent a) h = due_act_rooted a s.due rooted.due
-    comes_rooted k (In bytes) h = h.0
-    comes_rooted k _ h = tt
+    comes_rooted : (k : ℕ) (e : Event) → Row r s e → AllByRecursion (FrameIsRooted r) (arrives_at k e) → ActsAreRooted size (comes r s e)
+    comes_rooted k (Line a bytes) row h = (record { ids = (session_root size, tt); shape = line_shape a bytes row.2 }, tt)
+    comes_rooted k (Sent a) row h = due_act_rooted a s.due rooted.due
+    comes_rooted k (In bytes) row h = h.0
+    comes_rooted k _ row h = tt
 
-    waiting_rooted : (k : ℕ) (e : Event) → AllByRecursion (FrameIsRooted r) (arrives_at k e) → ActsAreRooted size (after r s e).waiting
+    waiting_rooted : (k : ℕ) (e : Event) → Row r s e → AllByRecursion (FrameIsRooted r) (arrives_at k e) → ActsAreRooted size (after r s e).waiting
     unfolding after
-    waiting_rooted k e h =
-        all-append ActIsRooted (comes r s e) (minus is_act s.waiting (leaves r e)) (comes_rooted k e h)
-        (all-minus ActIsRooted is_act s.waiting (leaves r e) rooted.waiting)
+    waiting_rooted k e row h =
+        all-append (IsRootedAct size) (comes r s e) (minus is_act s.waiting (leaves r e)) (comes_rooted k e row h)
+        (all-minus (IsRootedAct size) is_act s.waiting (leaves r e) rooted.waiting)
 
     fired_rooted : (e : Event) → ActsAreRooted size (after r s e).fired
     unfolding after
     fired_rooted (Fire a) =
-        all-append ActIsRooted (listed (find (is_act a) s.waiting)) s.fired (listed_all ActIsRooted (is_act a) s.waiting rooted.waiting) rooted.fired
-    fired_rooted (Done a failed) = all-without ActIsRooted (is_act a) s.fired rooted.fired
+        all-append (IsRootedAct size) (listed (find (is_act a) s.waiting)) s.fired (listed_all (IsRootedAct size) (is_act a) s.waiting rooted.waiting) rooted.fired
+    fired_rooted (Done a failed) = all-without (IsRootedAct size) (is_act a) s.fired rooted.fired
     fired_rooted _ = rooted.fired
 
     done_rooted : (e : Event) → ActsAreRooted size (after r s e).done
     unfolding after
     done_rooted (Done a failed) =
-        all-append ActIsRooted (listed (find (is_act a) s.fired)) s.done (listed_all ActIsRooted (is_act a) s.fired rooted.fired) rooted.done
+        all-append (IsRootedAct size) (listed (find (is_act a) s.fired)) s.done (listed_all (IsRootedAct size) (is_act a) s.fired rooted.fired) rooted.done
     done_rooted _ = rooted.done
 
     objects_rooted : (e : Event) → Row r s e → AllByRecursion (λ x. IsRootId size x.object) (after r s e).objects
@@ -204,36 +223,58 @@ module _ (r : Rules) where
         let P : Standing → Type 0 = λ y. AreRoots size y.state.ids in
         subst (AllByRecursion P) (sym (done_objects r s a act x row.2 row.3)) (
           state_rooted size x.state act (find-all P (is_standing (target_of act)) s.objects x rooted.states row.3)
-              (find-all ActIsRooted (is_act a) s.fired act rooted.fired row.2) (outcome r s act x),
+              (find-all (IsRootedAct size) (is_act a) s.fired act rooted.fired row.2).ids (outcome r s act x),
           all-without P (is_standing x.object) s.objects rooted.states,
         )
     states_rooted _ row = rooted.states
 
-    due_is_rooted : SendsToRoots r → s.here < size → (e : Event) → Row r s e → AllByRecursion (DueIsRooted size) (after r s e).due
-    unfolding after
-    due_is_rooted law h (Done a true) row = absurd row
-    due_is_rooted law h (Done a false) row =
-        let act = row.0 in
-        let x = row.1 in
-        subst (AllByRecursion (DueIsRooted size)) (sym (done_due r s a act x row.2 row.3))
-        (due_rooted size x.state act
-        (find-all (λ y. AreRoots size y.state.ids) (is_standing (target_of act)) s.objects x rooted.states row.3)
-        (find-all ActIsRooted (is_act a) s.fired act rooted.fired row.2) (outcome r s act x)
-        (law.targets x.object.kind s.here x.state act h))
-    due_is_rooted law h (Sent a) row = tail_rooted s.due rooted.due
-    due_is_rooted law h (Print bytes) row = tail_rooted s.due rooted.due
-    due_is_rooted law h _ row = rooted.due
+    module _ (law : SendsToRoots r) (h : s.here < size) where
+      -- the outcome of an action that is fired, where its target stands
+      outcome_rooted : (a : Name) (act : Act) (x : Standing) → find (is_act a) s.fired ≡ Some act
+          → find (is_standing (target_of act)) s.objects ≡ Some x → IsRootedOutcome size x.state act (outcome r s act x)
+      outcome_rooted a act x fires stands =
+          law.outcomes x.object.kind s.here x.state act h
+          (find-all (λ y. IsState y.state) (is_standing (target_of act)) s.objects x rooted.shapes stands)
+          (find-all (IsRootedAct size) (is_act a) s.fired act rooted.fired fires).shape
 
-    pub rooted_after : SendsToRoots r → s.here < size → (k : ℕ) (e : Event) → Row r s e → AllByRecursion (FrameIsRooted r) (arrives_at k e)
-        → IsRootedAt size (after r s e)
-    rooted_after law h k e row arrives = record {
-      waiting = waiting_rooted k e arrives;
-      fired = fired_rooted e;
-      done = done_rooted e;
-      objects = objects_rooted e row;
-      states = states_rooted e row;
-      due = due_is_rooted law h e row;
-    }
+      shapes_rooted : (e : Event) → Row r s e → AllByRecursion (λ x. IsState x.state) (after r s e).objects
+      unfolding after
+      shapes_rooted (Done a true) row = absurd row
+      shapes_rooted (Done a false) row =
+          let act = row.0 in
+          let x = row.1 in
+          let P : Standing → Type 0 = λ y. IsState y.state in
+          subst (AllByRecursion P) (sym (done_objects r s a act x row.2 row.3)) (
+            (outcome_rooted a act x row.2 row.3).state,
+            all-without P (is_standing x.object) s.objects rooted.shapes,
+          )
+      shapes_rooted _ row = rooted.shapes
+
+      due_is_rooted : (e : Event) → Row r s e → AllByRecursion (DueIsRooted size) (after r s e).due
+      unfolding after
+      due_is_rooted (Done a true) row = absurd row
+      due_is_rooted (Done a false) row =
+          let act = row.0 in
+          let x = row.1 in
+          subst (AllByRecursion (DueIsRooted size)) (sym (done_due r s a act x row.2 row.3))
+          (due_rooted size x.state act
+          (find-all (λ y. AreRoots size y.state.ids) (is_standing (target_of act)) s.objects x rooted.states row.3)
+          (find-all (IsRootedAct size) (is_act a) s.fired act rooted.fired row.2).ids (outcome r s act x)
+          (outcome_rooted a act x row.2 row.3))
+      due_is_rooted (Sent a) row = tail_rooted s.due rooted.due
+      due_is_rooted (Print bytes) row = tail_rooted s.due rooted.due
+      due_is_rooted _ row = rooted.due
+
+      pub rooted_after : (k : ℕ) (e : Event) → Row r s e → AllByRecursion (FrameIsRooted r) (arrives_at k e) → IsRootedAt size (after r s e)
+      rooted_after k e row arrives = record {
+        waiting = waiting_rooted k e row arrives;
+        fired = fired_rooted e;
+        done = done_rooted e;
+        objects = objects_rooted e row;
+        states = states_rooted e row;
+        shapes = shapes_rooted e row;
+        due = due_is_rooted e row;
+      }
 
   -- ---- the whole
 
@@ -311,6 +352,33 @@ states_empty n k =
     all-append P (cond (k == 0) (roots_of_first n) []) _ (if_all P (k == 0) (roots_of_first n) (λ e. (tt, (tt, (tt, tt)))))
     (tt, (tt, (tt, if_all P (k == 1 % n) (root k 6 [] ∷ []) (λ e. (tt, tt)))))
 
+empty_shape : IsState (record { drawn = 0; values = []; conts = []; ids = [] })
+empty_shape = record {
+  values = record { few = omega arith; each = tt };
+  refs = tt;
+  conts = tt;
+  ids = refl;
+  few = omega arith;
+  short = omega arith;
+}
+
+count_shape : (n : ℕ) → IsState (record { drawn = 0; values = Int (pos n) ∷ []; conts = []; ids = [] })
+count_shape n = record {
+  values = record { few = omega arith; each = (tt, tt) };
+  refs = tt;
+  conts = tt;
+  ids = refl;
+  few = omega arith;
+  short = omega arith;
+}
+
+states_formed : (n k : ℕ) → AllByRecursion (λ x. IsState x.state) (roots n k)
+states_formed n k =
+    let P : Standing → Type 0 = λ x. IsState x.state in
+    all-append P (cond (k == 0) (roots_of_first n) []) _
+    (if_all P (k == 0) (roots_of_first n) (λ e. (empty_shape, (empty_shape, (count_shape n, tt)))))
+    (empty_shape, (empty_shape, (empty_shape, if_all P (k == 1 % n) (root k 6 [] ∷ []) (λ e. (empty_shape, tt)))))
+
 boot_rooted : (r : Rules) → IsRooted r (start (roots r.localities))
 boot_rooted r = record {
   places = λ k h. record {
@@ -319,6 +387,7 @@ boot_rooted r = record {
     done = tt;
     objects = roots_rooted r.localities k h;
     states = states_empty r.localities k;
+    shapes = states_formed r.localities k;
     due = tt;
   };
   road = tt;
@@ -381,7 +450,7 @@ module _ (r : Rules) (es : List Entry) (legal : IsLegal r (start (roots r.locali
 
     for_roots : (acts : List Act) → ActsAreRooted r.localities acts → AreForRoots r.localities acts
     for_roots acts h =
-        all-map (λ act. AreRoots r.localities act.ids) (λ act. IsRootId r.localities (target_of act)) (target_root r.localities) acts h
+        all-map (IsRootedAct r.localities) (λ act. IsRootId r.localities (target_of act)) (λ act i. target_root r.localities act i.ids) acts h
 
     pub legal_waits : (k : ℕ) → k < r.localities → AreForRoots r.localities (left.places k).waiting
     legal_waits k h = for_roots (left.places k).waiting (legal_rooted.places k h).waiting

@@ -6,6 +6,7 @@ use Rattle.std.specs.Str.{bytes_eq}
 use Rattle.std.proofs.lemmas.Bool.{ne_eqb}
 use Rattle.hpx_value.specs.Ids.{bare_id}
 use Rattle.hpx_value.specs.Values.{named, message_of}
+use Rattle.hpx_value.specs.Shapes.{IsState}
 use Rattle.hpx_value.specs.Hands.{session}
 use Rattle.hpx_root_journal.specs.Data.{Int, State, Act, Root, Here, Outcome, Parcel, Apply}
 use Rattle.hpx_root_journal.specs.Entries.{Name, Event, Line, Fire, Done, Sent, Print, Out, In, Entry, Standing, Rules, line_act}
@@ -14,7 +15,7 @@ use Rattle.hpx_root_journal.specs.Roots.{roots, root}
 use Rattle.hpx_root_journal.specs.Whole.{start, step, run, IsLegal}
 use Rattle.hpx_root_journal.specs.Pool.{IsBlind, OnlySessionPrints, state_of}
 use Rattle.hpx_root_journal.specs.Sessions.{IsSettled, IsSession, IsPlainSession, shown}
-use Rattle.hpx_root_journal.specs.Rooted.{IsRootTarget, SendsToRoots, HasTarget}
+use Rattle.hpx_root_journal.specs.Rooted.{IsRootedOutcome, SendsToRoots, HasTarget}
 use Rattle.hpx_root_journal.proofs.Grow.{legal_front}
 use Rattle.hpx_root_journal.proofs.Rooted.{legal_found}
 use Rattle.hpx_root_journal.proofs.Boot.{boot_sound, boot_settled}
@@ -88,7 +89,7 @@ drew = record { object = session; state = record { drawn = 1; values = []; conts
 
 pub legal : IsLegal rules (start (roots 2)) journal
 unfolding step after
-legal = (record { place = omega arith; allowed = record { here = refl; turn = refl; row = (refl, refl, omega arith) }; road = tt }, (record { place = omega arith; allowed = record { here = refl; turn = refl; row = (line_act (name 0 1) line, root 0 1 [], refl, refl, refl) }; road = tt }, (record { place = omega arith; allowed = record { here = refl; turn = refl; row = (line_act (name 0 1) line, root 0 1 [], refl, refl, refl) }; road = tt }, (record { place = omega arith; allowed = record { here = refl; turn = tt; row = (message_of asked, [], refl, refl) }; road = tt }, (record { place = omega arith; allowed = record { here = refl; turn = refl; row = (omega arith, (λ h. absurd (omega arith)), refl) }; road = tt }, (record { place = omega arith; allowed = record { here = refl; turn = refl; row = tt }; road = (refl, tt) }, (record { place = omega arith; allowed = record { here = refl; turn = refl; row = (asked, root 1 6 [], refl, refl, refl) }; road = tt }, (record { place = omega arith; allowed = record { here = refl; turn = refl; row = (asked, root 1 6 [], refl, refl, refl) }; road = tt }, (record { place = omega arith; allowed = record { here = refl; turn = tt; row = (message_of answered, [], refl, refl) }; road = tt }, (record { place = omega arith; allowed = record { here = refl; turn = refl; row = (omega arith, (λ h. absurd (omega arith)), refl) }; road = tt }, (record { place = omega arith; allowed = record { here = refl; turn = refl; row = tt }; road = (refl, tt) }, (record { place = omega arith; allowed = record { here = refl; turn = refl; row = (answered, drew, refl, refl, refl) }; road = tt }, (record { place = omega arith; allowed = record { here = refl; turn = refl; row = (answered, drew, refl, refl, refl) }; road = tt }, (record { place = omega arith; allowed = record { here = refl; turn = tt; row = ([], refl) }; road = tt }, tt))))))))))))))
+legal = (record { place = omega arith; allowed = record { here = refl; turn = refl; row = (refl, refl, omega arith) }; road = tt }, (record { place = omega arith; allowed = record { here = refl; turn = refl; row = (line_act (name 0 1) line, root 0 1 [], refl, refl, refl) }; road = tt }, (record { place = omega arith; allowed = record { here = refl; turn = refl; row = (line_act (name 0 1) line, root 0 1 [], refl, refl, refl) }; road = tt }, (record { place = omega arith; allowed = record { here = refl; turn = tt; row = (message_of asked, [], refl, refl) }; road = tt }, (record { place = omega arith; allowed = record { here = refl; turn = refl; row = (omega arith, (λ h. absurd (omega arith)), refl) }; road = tt }, (record { place = omega arith; allowed = record { here = refl; turn = refl; row = (asked, refl) }; road = (refl, tt) }, (record { place = omega arith; allowed = record { here = refl; turn = refl; row = (asked, root 1 6 [], refl, refl, refl) }; road = tt }, (record { place = omega arith; allowed = record { here = refl; turn = refl; row = (asked, root 1 6 [], refl, refl, refl) }; road = tt }, (record { place = omega arith; allowed = record { here = refl; turn = tt; row = (message_of answered, [], refl, refl) }; road = tt }, (record { place = omega arith; allowed = record { here = refl; turn = refl; row = (omega arith, (λ h. absurd (omega arith)), refl) }; road = tt }, (record { place = omega arith; allowed = record { here = refl; turn = refl; row = (answered, refl) }; road = (refl, tt) }, (record { place = omega arith; allowed = record { here = refl; turn = refl; row = (answered, drew, refl, refl, refl) }; road = tt }, (record { place = omega arith; allowed = record { here = refl; turn = refl; row = (answered, drew, refl, refl, refl) }; road = tt }, (record { place = omega arith; allowed = record { here = refl; turn = tt; row = ([], refl) }; road = tt }, tt))))))))))))))
 
 of_two : (P : ℕ → Type 0) → P 0 → P 1 → (k : ℕ) → k < 2 → P k
 of_two P zeroth first zero h = zeroth
@@ -103,7 +104,7 @@ settled =
       waiting = of_two (λ k. (end.places k).waiting ≡ []) refl refl;
       fired = of_two (λ k. (end.places k).fired ≡ []) refl refl;
       due = of_two (λ k. (end.places k).due ≡ []) refl refl;
-      road = tt;
+      road = refl;
     }
 
 pub session_there : IsSession rules (start (roots 2)) (line ∷ []) (journal ∷ [])
@@ -124,14 +125,53 @@ plain = session_plain rules silent blind (start (roots 2)) (line ∷ []) (journa
 
 -- ---- every send is to the tally, which is a root at 1 of 2 localities
 
-to_tally : (session feeds : Bool) (s : State)
-    → AllByRecursion (λ x. IsRootTarget 2 x.target) (cond session (cond feeds (asks s) (shows s)) (answers s)).sends
-to_tally true true s = (inr (inr (refl, refl)), tt)
-to_tally true false s = tt
-to_tally false feeds s = tt
+drawn_shape : (drawn : ℕ) → IsState (record { drawn = drawn; values = []; conts = []; ids = [] })
+drawn_shape drawn = record {
+  values = record { few = omega arith; each = tt };
+  refs = tt;
+  conts = tt;
+  ids = refl;
+  few = omega arith;
+  short = omega arith;
+}
+
+to_tally : (session feeds : Bool) (s : State) (a : Act) → IsRootedOutcome 2 s a (cond session (cond feeds (asks s) (shows s)) (answers s))
+to_tally true true s a = record {
+  targets = (inr (inr (refl, refl)), tt);
+  state = drawn_shape (s.drawn + 1);
+  sends = (
+    record {
+      values = record { few = omega arith; each = tt };
+      refs = tt;
+      few_refs = omega arith;
+      cont = (refl, tt);
+      ids = refl;
+      short = omega arith;
+    },
+    tt,
+  );
+  replies = tt;
+}
+to_tally true false s a = record { targets = tt; state = drawn_shape s.drawn; sends = tt; replies = tt }
+to_tally false feeds s a = record {
+  targets = tt;
+  state = drawn_shape s.drawn;
+  sends = tt;
+  replies = (
+    record {
+      values = record { few = omega arith; each = (tt, (tt, tt)) };
+      refs = tt;
+      few_refs = omega arith;
+      cont = tt;
+      ids = refl;
+      short = omega arith;
+    },
+    tt,
+  );
+}
 
 pub to_roots : SendsToRoots rules
-to_roots = record { targets = λ kind here s a h. to_tally (kind == 1) (a.code == 4) s }
+to_roots = record { outcomes = λ kind here s a h state act. to_tally (kind == 1) (a.code == 4) s a }
 
 -- when the question was accepted it waits at 1, and its target stands there
 abbrev asked_only : List Entry

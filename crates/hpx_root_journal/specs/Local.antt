@@ -158,7 +158,8 @@ Row r s (Done a false) =
 Row r s (Sent a) = (m : Message) × (rest : List Due) × (s.due ≡ MessageDue m ∷ rest) × (a ≡ next_name s)
 Row r s (Print bytes) = (rest : List Due) × (s.due ≡ PrintDue bytes ∷ rest)
 Row r s (Out to bytes) = (to < r.localities) × (to ≢ s.here) × GoesOut s (r.parcel_of bytes)
-Row r s (In bytes) = Unit {0}
+-- a parcel that may be sent so far
+Row r s (In bytes) = (act : Act) × (r.parcel_of bytes ≡ Some (Apply act))
 
 pub record Allowed (r : Rules) (s : Local) (e : Entry) : Type 0 where
   pub here : e.at ≡ s.here

@@ -3,16 +3,16 @@ use Rattle.std.specs.Prelude.{ℕ, zero, suc, List, [], ◌∷◌, ◌++◌, ◌
 use Rattle.std.specs.List.{AllByRecursion}
 use Rattle.hpx_value.specs.Ids.{Id}
 use Rattle.hpx_root_journal.specs.Data.{State}
-use Rattle.hpx_root_journal.specs.Entries.{Name, Event, Line, Entry, Rules, acts_in}
+use Rattle.hpx_root_journal.specs.Entries.{Name, Event, Line, Entry, Rules}
 use Rattle.hpx_root_journal.specs.Whole.{Space, IsLegal, FeedsNothing, run}
 use Rattle.hpx_root_journal.specs.Pool.{Pool, fed, IsActed, prints_of}
 
--- nothing is pending and nothing is due
+-- nothing is pending, nothing is due, and no frame is on the road
 pub record IsSettled (r : Rules) (w : Space) : Type 0 where
   pub waiting : (k : ℕ) → k < r.localities → (w.places k).waiting ≡ []
   pub fired : (k : ℕ) → k < r.localities → (w.places k).fired ≡ []
   pub due : (k : ℕ) → k < r.localities → (w.places k).due ≡ []
-  pub road : AllByRecursion (λ f. acts_in (r.parcel_of f.1) ≡ []) w.road
+  pub road : w.road ≡ []
 
 -- ---- blocks
 

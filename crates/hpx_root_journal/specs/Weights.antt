@@ -23,3 +23,13 @@ total_weight es = sum_by weight_of es
 pub record HasRoom (es : List Entry) : Type 0 where
   pub entries : length es + 1024 ≤ 2097152
   pub weight : total_weight es + 16777216 ≤ 2 ^ 30
+
+-- within the limits of a journal: 2,097,152 entries of weight 2^30
+pub record IsWithin (es : List Entry) : Type 0 where
+  pub entries : length es ≤ 2097152
+  pub weight : total_weight es ≤ 2 ^ 30
+
+-- no more is added than one turn may: 1,024 entries of weight 2^24 in all
+pub record AddsATurn (old new : List Entry) : Type 0 where
+  pub entries : length new ≤ length old + 1024
+  pub weight : total_weight new ≤ total_weight old + 16777216

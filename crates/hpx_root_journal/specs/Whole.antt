@@ -140,17 +140,10 @@ abbrev pub FeedsNothing : Event → Type 0
 FeedsNothing (Line a bytes) = ⊥
 FeedsNothing _ = Unit {0}
 
--- neither fed, sent nor accepted
-abbrev pub AreInner : List Entry → Type 0
-AreInner [] = Unit {0}
-AreInner (e ∷ es) = (sends e.event ≡ []) × (arrives e ≡ []) × FeedsNothing e.event × AreInner es
-
+-- these events, each at k
 abbrev pub at_all : ℕ → List Event → List Entry
 at_all k es = map (λ e. record { at = k; event = e }) es
 
--- the journal is longer by entries at k: those that are given, which may be of frames, and then more
-pub record Grows (k : ℕ) (first : List Event) (old new : List Entry) : Type 0 where
-  pub more : List Entry
-  pub is : new ≡ old ++ (at_all k first ++ more)
-  pub here : AreAt k more
-  pub inner : AreInner more
+-- the journal is longer by these events at k, in this order, and by nothing else
+pub record Grows (k : ℕ) (events : List Event) (old new : List Entry) : Type 0 where
+  pub is : new ≡ old ++ at_all k events

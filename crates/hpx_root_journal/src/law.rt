@@ -5,6 +5,7 @@ ghost use Rattle.hpx_value.specs.Ids.{Id};
 ghost use Rattle.hpx_root_journal.specs.Entries.{Name, In, Entry, Standing, Rules, Frame, same_frame, acts_in};
 ghost use Rattle.hpx_root_journal.specs.Local.{boot, is_standing, IsForeign};
 ghost use Rattle.hpx_root_journal.specs.Whole.{Space, IsJoin, IsLegal, IsClean, part, start, run, run_local, road_run, outs, ins, fires, dones, fires_at, dones_at};
+ghost use Rattle.hpx_root_journal.specs.Weights.{HasRoom, IsWithin, AddsATurn};
 ghost use Rattle.hpx_root_journal.specs.Laws.{IsOnRoad, IsSpelled, begun, TargetsStand};
 ghost use Rattle.hpx_root_journal.specs.Roots.{roots};
 ghost use Rattle.hpx_root_journal.specs.Rooted.{IsRootId, SendsToRoots, IsRooted, AreForRoots, HasTarget};
@@ -105,4 +106,9 @@ pub fn quiet_law()
         ((k : ℕ) → k < r.localities → ((run r (start roots) es).places k).fired ≡ []) →
         ((k : ℕ) → k < r.localities → ((run r (start roots) es).places k).due ≡ []) →
         length (ins es) ≡ length (outs es) → IsSettled r (run r (start roots) es) }
+{}
+
+/// Where there is room, a turn leaves a journal within its limits.
+pub fn limit_law()
+    ensures { (old new : List Entry) → HasRoom old → AddsATurn old new → IsWithin new }
 {}

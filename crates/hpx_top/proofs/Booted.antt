@@ -1,9 +1,9 @@
 -- Nodes at boot.
 use Rattle.std.proofs.Common.{ℕ, zero, suc, List, [], ◌∷◌, ◌++◌, ◌≡◌, ◌≤◌, Some, length, refl, sym, ap, ◌∙◌, subst, inl, inr, ◌⊎◌}
 use Rattle.std.specs.List.{slice_get}
-use Rattle.hpx_top.specs.Tables.{Tables}
+use Rattle.hpx_top.specs.Tables.{Tables, IsPassive}
 use Rattle.hpx_top.specs.Stands.{Stands, rules_of}
-use Rattle.hpx_top.specs.Sound.{Meaning, StandsAt, IsSound}
+use Rattle.hpx_top.specs.Sound.{Meaning, StandsAt, IsSound, NoneRuns}
 
 pub record AreBooted (act_of : Meaning) (n : ℕ) (nodes : List Tables) : Type 0 where
   pub each : (k : ℕ) (t : Tables) → slice_get nodes k ≡ Some t → StandsAt act_of n k t []
@@ -42,3 +42,7 @@ booted_sound act_of n nodes h count some few = record {
   stand = rw count h.each;
   carried = tt;
 }
+
+pub none_runs_more : (nodes : List Tables) (t : Tables) → NoneRuns nodes → IsPassive t → NoneRuns (nodes ++ t ∷ [])
+none_runs_more [] t h passive = (passive.running, tt)
+none_runs_more (x ∷ xs) t h passive = (h.0, none_runs_more xs t h.1 passive)

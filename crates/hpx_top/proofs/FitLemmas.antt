@@ -1,7 +1,9 @@
 -- What an outcome makes is well formed, by the laws.
 use Rattle.std.proofs.Common.{ℕ, zero, suc, List, [], ◌∷◌, ◌++◌, ◌≡◌, ◌≢◌, ◌+◌, ◌<◌, ◌≤◌, Option, Some, None, length, map, refl, ap, arith, inl, inr, pos, lit<, lit≤}
-use Rattle.std.specs.List.{AllByRecursion, slice_index_or}
+use Rattle.std.specs.Prelude.{◌*◌}
+use Rattle.std.specs.List.{AllByRecursion, slice_index_or, sum_by}
 use Rattle.std.proofs.lemmas.List.{length-map}
+use Rattle.std.proofs.lemmas.List.Sums.{sum_by-cons, sum_by-append}
 use Rattle.std.proofs.Common.{length-append}
 use Rattle.hpx_value.specs.Values.{refs_in, named}
 use Rattle.hpx_value.specs.Shapes.{IsMessage, IsState, listed}
@@ -13,6 +15,7 @@ use Rattle.hpx_root_journal.specs.Data.{Id, Value, Nothing, Flag, Int, Text, Ref
 use Rattle.hpx_parcel.specs.Parcels.{HasRightCredit}
 use Rattle.hpx_root_journal.proofs.Roads.{all-append}
 use Rattle.hpx_top.specs.Fit.{IsFit, IsFitDue, IsKept}
+use Rattle.hpx_top.specs.Changes.{due_weight}
 use Rattle.hpx_top.specs.Hand.{CanBeSent, CanBeMade, IsNearRoot}
 
 -- ---- credits
@@ -248,4 +251,27 @@ few_due s a out h i j =
       length-map out.sends (λ x. MessageDue (sent s a [] x)),
       length-map out.replies (λ x. MessageDue (replied s a [] x)),
       length-map out.prints PrintDue,
+    )
+
+-- ---- what is due is not heavy
+
+messages_light : {X : Type 0} (make : X → Message) (xs : List X) → sum_by due_weight (map (λ x. MessageDue (make x)) xs) ≡ 64 * length xs
+messages_light make [] = refl
+messages_light make (x ∷ xs) =
+    omega (arith, sum_by-cons due_weight (MessageDue (make x)) (map (λ y. MessageDue (make y)) xs), messages_light make xs)
+
+prints_light : (xs : List (List ℕ)) → AllByRecursion (λ bytes. length bytes ≤ 16384) xs → sum_by due_weight (map PrintDue xs) ≤ 16448 * length xs
+prints_light [] h = omega arith
+prints_light (x ∷ xs) h = omega (arith, sum_by-cons due_weight (PrintDue x) (map PrintDue xs), prints_light xs h.1, h.0)
+
+pub light_due : (s : State) (a : Act) (out : Outcome) → length out.sends ≤ 32 → length out.replies ≤ 129 → length out.prints ≤ 16
+    → AllByRecursion (λ bytes. length bytes ≤ 16384) out.prints → sum_by due_weight (due_of s a [] out) ≤ 273472
+light_due s a out h i j short =
+    omega (
+      arith,
+      sum_by-append due_weight (map (λ x. MessageDue (sent s a [] x)) out.sends) (map (λ x. MessageDue (replied s a [] x)) out.replies ++ map PrintDue out.prints),
+      sum_by-append due_weight (map (λ x. MessageDue (replied s a [] x)) out.replies) (map PrintDue out.prints),
+      messages_light (sent s a []) out.sends,
+      messages_light (replied s a []) out.replies,
+      prints_light out.prints short,
     )

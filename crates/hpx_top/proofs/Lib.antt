@@ -14,8 +14,11 @@ mod PlainRows
 pub mod SoundLemmas
 pub mod AwayLemmas
 pub mod Booted
+pub mod DueLemmas
 pub mod TurnLemmas
 pub mod Posted
+pub mod IdleLemmas
+pub mod TurnedLemmas
 pub mod QuietLemmas
 pub mod ReaderLemmas
 pub mod Unfed

@@ -265,7 +265,7 @@ module _ (r : Rules) (t t' : Tables) where
         record {
           here = sym shown.tied.here;
           turn = shown.tied.left;
-          row = tt;
+          row = (act, spelled);
         },
         record {
           here = shown.tied.here ∙ sym (ap (λ (x : Tables). x.here) puts.rest);

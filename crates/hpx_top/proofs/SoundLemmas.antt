@@ -1,16 +1,15 @@
 -- A call of one node keeps all localities sound.
-use Rattle.std.proofs.Common.{true, ℕ, zero, suc, List, [], ◌∷◌, ◌++◌, ◌≡◌, ◌≢◌, ◌<◌, ◌≤◌, Some, refl, sym, ap, ◌∙◌, subst, arith, length, get_or, set, length-set, append-nil, append_assoc, inl, inr, ◌⊎◌}
-use Rattle.std.specs.List.{slice_get, list_any}
+use Rattle.std.proofs.Common.{true, ℕ, zero, suc, List, [], ◌∷◌, ◌++◌, ◌≡◌, ◌≢◌, ◌<◌, ◌≤◌, Some, refl, sym, ap, ◌∙◌, subst, arith, length, get_or, set, length-set, append-nil, append_assoc, inl, inr}
+use Rattle.std.specs.List.{slice_get, list_any, AllByRecursion}
 use Rattle.std.proofs.lemmas.Bool.{cases_eq}
 use Rattle.hpx_root_journal.specs.Bags.{Covers, minus}
 use Rattle.hpx_root_journal.specs.Entries.{Rules, Frame, same_frame}
 use Rattle.hpx_root_journal.specs.declared.entry.Entry.{Entry}
 use Rattle.hpx_root_journal.specs.declared.entry.Event.{Event}
-use Rattle.hpx_root_journal.specs.declared.entry.Name.{Name}
-use Rattle.hpx_root_journal.specs.declared.entry.Event.TheVariants.{Line, Fire, Done, Sent, Print, In, Out}
+use Rattle.hpx_root_journal.specs.declared.entry.Event.TheVariants.{In, Out}
 use Rattle.hpx_root_journal.specs.Local.{boot, NodeKeeps}
 use Rattle.hpx_root_journal.specs.Roots.{roots}
-use Rattle.hpx_root_journal.specs.Whole.{part, run_local, IsClean, AreAt, AreInner, Grows, at_all, IsCarried, road_run, road_after, IsLegal, start, sends, arrives, outs, ins, outs_by}
+use Rattle.hpx_root_journal.specs.Whole.{part, run_local, IsClean, AreAt, Grows, at_all, IsCarried, road_run, road_after, IsLegal, start, sends, arrives, arrives_at, outs, ins, outs_by}
 use Rattle.hpx_root_journal.specs.Laws.{IsSpelled}
 use Rattle.hpx_root_journal.proofs.Grow.{part_append, part_away, carried_append, run_road}
 use Rattle.hpx_root_journal.proofs.Roads.{on_road_spelled}
@@ -23,17 +22,17 @@ use Rattle.hpx_top.specs.Sound.{Meaning, StandsAt, IsSound, IsInside, SendsOne, 
 
 -- ---- the other nodes
 
-at_first : (k : ℕ) (first : List Event) (more : List Entry) → AreAt k more → AreAt k (at_all k first ++ more)
-at_first k [] more h = h
-at_first k (e ∷ es) more h = (refl, at_first k es more h)
+at_events : (k : ℕ) (events : List Event) → AreAt k (at_all k events)
+at_events k [] = tt
+at_events k (e ∷ es) = (refl, at_events k es)
 
-part_kept : (j k : ℕ) (first : List Event) (es es' : List Entry) → Grows k first es es' → k ≢ j → part j es' ≡ part j es
-part_kept j k first es es' g away =
-    ap (part j) g.is ∙ (part_append j es (at_all k first ++ g.more)
-    ∙ (ap (λ zs. part j es ++ zs) (part_away j k (at_all k first ++ g.more) (at_first k first g.more g.here) away) ∙ append-nil (part j es)))
+part_kept : (j k : ℕ) (events : List Event) (es es' : List Entry) → Grows k events es es' → k ≢ j → part j es' ≡ part j es
+part_kept j k events es es' g away =
+    ap (part j) g.is ∙ (part_append j es (at_all k events)
+    ∙ (ap (λ zs. part j es ++ zs) (part_away j k (at_all k events) (at_events k events) away) ∙ append-nil (part j es)))
 
-few_kept : (k : ℕ) (first : List Event) (es es' : List Entry) → Grows k first es es' → length es ≤ length es'
-few_kept k first es es' g = rw g.is (omega (arith, length_more es (at_all k first ++ g.more)))
+few_kept : (k : ℕ) (events : List Event) (es es' : List Entry) → Grows k events es es' → length es ≤ length es'
+few_kept k events es es' g = rw g.is (omega (arith, length_more es (at_all k events)))
   where
     length_more : (xs ys : List Entry) → length xs ≤ length (xs ++ ys)
     length_more [] ys = omega arith
@@ -51,7 +50,7 @@ stands_other r t k first es es' g away h =
       shows = subst (λ p. IsClean r (born r t) p → Shows t [] (run_local r (born r t) p)) same h.shows;
     }
 
-set_same : (xs : List Tables) (k : ℕ) (t : Tables) → k < length xs → slice_get (set xs k t) k ≡ Some t
+pub set_same : (xs : List Tables) (k : ℕ) (t : Tables) → k < length xs → slice_get (set xs k t) k ≡ Some t
 set_same [] k t h = absurd (omega arith)
 set_same (x ∷ xs) zero t h = refl
 set_same (x ∷ xs) (suc k) t h = set_same xs k t (omega arith)
@@ -65,37 +64,48 @@ set_other (x ∷ xs) (suc k) (suc j) t away = set_other xs k j t (λ e. away (ap
 
 -- ---- the road, and what went and came
 
-inner_carried : (r : Rules) (k : ℕ) (road : List Frame) (es : List Entry) → k < r.localities → AreAt k es → AreInner es → IsCarried r road es
-inner_carried r k road [] h at inner = tt
-inner_carried r k road (e ∷ es) h at inner = (
-  subst (λ j. j < r.localities) (sym at.0) h,
-  subst (Covers same_frame road) (sym inner.1) tt,
-  inner_carried r k (road_after road e) es h at.1 inner.3,
-)
+-- an event of no frame
+abbrev pub IsInner : Event → Type 0
+IsInner (Out to bytes) = ⊥
+IsInner (In bytes) = ⊥
+IsInner _ = Unit {0}
 
-inner_road : (road : List Frame) (es : List Entry) → AreInner es → road_run road es ≡ road
-inner_road road [] inner = refl
-inner_road road (e ∷ es) inner =
-    let same : road_after road e ≡ road =
-    ap (λ fs. fs ++ minus same_frame road (arrives e)) inner.0 ∙ ap (λ fs. minus same_frame road fs) inner.1 in
-    ap (λ fs. road_run fs es) same ∙ inner_road road es inner.3
+no_sends : (e : Event) → IsInner e → sends e ≡ []
+no_sends (Out to bytes) h = absurd h
+no_sends _ h = refl
 
-no_outs : (k : ℕ) (e : Event) → sends e ≡ [] → outs_by k e ≡ []
-no_outs k (Line a bytes) h = refl
-no_outs k (Fire a) h = refl
-no_outs k (Done a failed) h = refl
-no_outs k (Sent a) h = refl
-no_outs k (Print bytes) h = refl
-no_outs k (Out to bytes) h = absurd (cc)
-no_outs k (In bytes) h = refl
+no_arrivals : (k : ℕ) (e : Event) → IsInner e → arrives_at k e ≡ []
+no_arrivals k (In bytes) h = absurd h
+no_arrivals k _ h = refl
 
-inner_outs : (es : List Entry) → AreInner es → outs es ≡ []
-inner_outs [] inner = refl
-inner_outs (e ∷ es) inner = ap (λ xs. xs ++ outs es) (no_outs e.at e.event inner.0) ∙ inner_outs es inner.3
+no_outs : (k : ℕ) (e : Event) → IsInner e → outs_by k e ≡ []
+no_outs k (Out to bytes) h = absurd h
+no_outs k _ h = refl
 
-inner_ins : (es : List Entry) → AreInner es → ins es ≡ []
-inner_ins [] inner = refl
-inner_ins (e ∷ es) inner = ap (λ xs. xs ++ ins es) inner.1 ∙ inner_ins es inner.3
+module _ (k : ℕ) where
+  inner_road_after : (road : List Frame) (e : Event) → IsInner e → road_after road (record { at = k; event = e }) ≡ road
+  inner_road_after road e h =
+      ap (λ fs. fs ++ minus same_frame road (arrives_at k e)) (no_sends e h) ∙ ap (λ fs. minus same_frame road fs) (no_arrivals k e h)
+
+  inner_carried : (r : Rules) (road : List Frame) (es : List Event) → k < r.localities → AllByRecursion IsInner es → IsCarried r road (at_all k es)
+  inner_carried r road [] h inner = tt
+  inner_carried r road (e ∷ es) h inner = (
+    h,
+    subst (Covers same_frame road) (sym (no_arrivals k e inner.0)) tt,
+    inner_carried r (road_after road (record { at = k; event = e })) es h inner.1,
+  )
+
+  inner_road : (road : List Frame) (es : List Event) → AllByRecursion IsInner es → road_run road (at_all k es) ≡ road
+  inner_road road [] inner = refl
+  inner_road road (e ∷ es) inner = ap (λ fs. road_run fs (at_all k es)) (inner_road_after road e inner.0) ∙ inner_road road es inner.1
+
+  inner_outs : (es : List Event) → AllByRecursion IsInner es → outs (at_all k es) ≡ []
+  inner_outs [] inner = refl
+  inner_outs (e ∷ es) inner = ap (λ xs. xs ++ outs (at_all k es)) (no_outs k e inner.0) ∙ inner_outs es inner.1
+
+  inner_ins : (es : List Event) → AllByRecursion IsInner es → ins (at_all k es) ≡ []
+  inner_ins [] inner = refl
+  inner_ins (e ∷ es) inner = ap (λ xs. xs ++ ins (at_all k es)) (no_arrivals k e inner.0) ∙ inner_ins es inner.1
 
 road_append : (road : List Frame) (xs ys : List Entry) → road_run road (xs ++ ys) ≡ road_run (road_run road xs) ys
 road_append road [] ys = refl
@@ -109,30 +119,29 @@ ins_append : (xs ys : List Entry) → ins (xs ++ ys) ≡ ins xs ++ ins ys
 ins_append [] ys = refl
 ins_append (x ∷ xs) ys = ap (λ zs. arrives x ++ zs) (ins_append xs ys) ∙ sym (append_assoc (arrives x) (ins xs) (ins ys))
 
-module _ (k : ℕ) (first : List Event) (es es' : List Entry) (g : Grows k first es es') where
-  pub road_grows : road_of es' ≡ road_run (road_of es) (at_all k first)
-  road_grows =
-      ap (road_run []) g.is ∙ (road_append [] es (at_all k first ++ g.more)
-      ∙ (road_append (road_of es) (at_all k first) g.more ∙ inner_road (road_run (road_of es) (at_all k first)) g.more g.inner))
+module _ (k : ℕ) (events : List Event) (es es' : List Entry) (g : Grows k events es es') where
+  pub road_grows : road_of es' ≡ road_run (road_of es) (at_all k events)
+  road_grows = ap (road_run []) g.is ∙ road_append [] es (at_all k events)
 
-  pub outs_grow : outs es' ≡ outs es ++ outs (at_all k first)
-  outs_grow =
-      ap outs g.is ∙ (outs_append es (at_all k first ++ g.more)
-      ∙ ap (λ xs. outs es ++ xs) (outs_append (at_all k first) g.more
-      ∙ (ap (λ xs. outs (at_all k first) ++ xs) (inner_outs g.more g.inner) ∙ append-nil (outs (at_all k first)))))
+  pub outs_grow : outs es' ≡ outs es ++ outs (at_all k events)
+  outs_grow = ap outs g.is ∙ outs_append es (at_all k events)
 
-  pub ins_grow : ins es' ≡ ins es ++ ins (at_all k first)
-  ins_grow =
-      ap ins g.is ∙ (ins_append es (at_all k first ++ g.more)
-      ∙ ap (λ xs. ins es ++ xs) (ins_append (at_all k first) g.more
-      ∙ (ap (λ xs. ins (at_all k first) ++ xs) (inner_ins g.more g.inner) ∙ append-nil (ins (at_all k first)))))
+  pub ins_grow : ins es' ≡ ins es ++ ins (at_all k events)
+  ins_grow = ap ins g.is ∙ ins_append es (at_all k events)
 
-pub inside_of : (t t' : Tables) (es es' : List Entry) → Writes [] t t' es es' → IsInside es es'
-inside_of t t' es es' w = record {
-  road = road_grows t.here [] es es' w.grows;
-  outs = outs_grow t.here [] es es' w.grows ∙ append-nil (outs es);
-  ins = ins_grow t.here [] es es' w.grows ∙ append-nil (ins es);
-}
+-- a call wrote of no frame
+pub record WritesInside (t t' : Tables) (es es' : List Entry) : Type 0 where
+  pub events : List Event
+  pub inner : AllByRecursion IsInner events
+  pub writes : Writes events t t' es es'
+
+pub inside_of : (t t' : Tables) (es es' : List Entry) → WritesInside t t' es es' → IsInside es es'
+inside_of t t' es es' w =
+    record {
+      road = road_grows t.here w.events es es' w.writes.grows ∙ inner_road t.here (road_of es) w.events w.inner;
+      outs = outs_grow t.here w.events es es' w.writes.grows ∙ (ap (λ xs. outs es ++ xs) (inner_outs t.here w.events w.inner) ∙ append-nil (outs es));
+      ins = ins_grow t.here w.events es es' w.writes.grows ∙ (ap (λ xs. ins es ++ xs) (inner_ins t.here w.events w.inner) ∙ append-nil (ins es));
+    }
 
 pub sends_of : (t t' : Tables) (es es' : List Entry) (to : ℕ) (bytes : List ℕ) → Writes (Out to bytes ∷ []) t t' es es' → SendsOne t.here (to, bytes) es es'
 sends_of t t' es es' to bytes w = record {
@@ -194,34 +203,16 @@ module _ (act_of : Meaning) (nodes : List Tables) (es : List Entry) (h : IsSound
           few = rw n h.few;
           some = rw n h.some;
           stand = rw n nodes';
-          carried = rw n (subst (IsCarried (rules_of act_of (length nodes)) []) (sym grows.is)
-              (carried_append r [] es (at_all k first ++ grows.more) h.carried
-              (carried_append r (road_run [] es) (at_all k first) grows.more carried
-              (inner_carried r k (road_run (road_run [] es) (at_all k first)) grows.more lt grows.here grows.inner))));
+          carried = rw n (subst (IsCarried (rules_of act_of (length nodes)) []) (sym grows.is) (carried_append r [] es (at_all k first) h.carried carried));
         }
 
 -- a call that writes of no frame
 pub sound_inner : (act_of : Meaning) (nodes : List Tables) (es es' : List Entry) (k : ℕ) (t t' : Tables)
-    → IsSound act_of nodes es → k < length nodes → t ≡ get_or nodes k t → Writes [] t t' es es' → Stands (rules_of act_of t.localities) t' [] es'
+    → IsSound act_of nodes es → k < length nodes → t ≡ get_or nodes k t → WritesInside t t' es es' → Stands (rules_of act_of t.localities) t' [] es'
     → IsSound act_of (set nodes k t') es'
-sound_inner act_of nodes es es' k t t' h lt is writes stands = sound_grows act_of nodes es h k t t' [] es' lt is writes stands tt
-
--- a call that may accept a line
-pub sound_line : (act_of : Meaning) (nodes : List Tables) (es es' : List Entry) (k : ℕ) (t t' : Tables) (action : Name) (bytes : List ℕ)
-    → IsSound act_of nodes es → k < length nodes → t ≡ get_or nodes k t → Writes [] t t' es es' ⊎ Writes (Line action bytes ∷ []) t t' es es'
-    → Stands (rules_of act_of t.localities) t' [] es' → IsSound act_of (set nodes k t') es'
-sound_line act_of nodes es es' k t t' action bytes h lt is (inl writes) stands = sound_inner act_of nodes es es' k t t' h lt is writes stands
-sound_line act_of nodes es es' k t t' action bytes h lt is (inr writes) stands =
-    sound_grows act_of nodes es h k t t' (Line action bytes ∷ []) es' lt is writes stands (lt, tt, tt)
-
-pub inside_line : (t t' : Tables) (es es' : List Entry) (action : Name) (bytes : List ℕ)
-    → Writes [] t t' es es' ⊎ Writes (Line action bytes ∷ []) t t' es es' → IsInside es es'
-inside_line t t' es es' action bytes (inl w) = inside_of t t' es es' w
-inside_line t t' es es' action bytes (inr w) = record {
-  road = road_grows t.here (Line action bytes ∷ []) es es' w.grows;
-  outs = outs_grow t.here (Line action bytes ∷ []) es es' w.grows ∙ append-nil (outs es);
-  ins = ins_grow t.here (Line action bytes ∷ []) es es' w.grows ∙ append-nil (ins es);
-}
+sound_inner act_of nodes es es' k t t' h lt is w stands =
+    sound_grows act_of nodes es h k t t' w.events es' lt is w.writes stands
+    (inner_carried k (rules_of act_of (length nodes)) (road_run [] es) w.events lt w.inner)
 
 -- a call that sends a frame
 pub sound_out : (act_of : Meaning) (nodes : List Tables) (es es' : List Entry) (k : ℕ) (t t' : Tables) (to : ℕ) (bytes : List ℕ)

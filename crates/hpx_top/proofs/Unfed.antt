@@ -6,11 +6,10 @@ use Rattle.hpx_root_journal.specs.Entries.{Frame}
 use Rattle.hpx_root_journal.specs.declared.entry.Entry.{Entry}
 use Rattle.hpx_root_journal.specs.declared.entry.Event.{Event}
 use Rattle.hpx_root_journal.specs.declared.entry.Event.TheVariants.{Out, In}
-use Rattle.hpx_root_journal.specs.Whole.{Grows, FeedsNothing, AreInner, at_all}
+use Rattle.hpx_root_journal.specs.Whole.{Grows, FeedsNothing, at_all}
 use Rattle.hpx_ports.specs.declared.fabric.Wire.{Wire}
 use Rattle.hpx_ports.specs.declared.fault.FabricFault.{FabricFault}
 use Rattle.hpx_top.specs.Tables.{Tables}
-use Rattle.hpx_top.specs.Changes.{Writes}
 use Rattle.hpx_top.specs.Sound.{IsCarrying, IsInside, IsSame}
 use Rattle.hpx_top.specs.Turns.{IsUnfed}
 use Rattle.hpx_top.proofs.AwayLemmas.{carrying_same}
@@ -22,10 +21,6 @@ unfed_append : (xs ys : List Entry) → AreUnfed xs → AreUnfed ys → AreUnfed
 unfed_append [] ys h i = i
 unfed_append (x ∷ xs) ys h i = (h.0, unfed_append xs ys h.1 i)
 
-unfed_inner : (es : List Entry) → AreInner es → AreUnfed es
-unfed_inner [] h = tt
-unfed_inner (e ∷ es) h = (h.2, unfed_inner es h.3)
-
 pub unfed_none : (a b : List Entry) → b ≡ a → IsUnfed a b
 unfed_none a b h = record { more = []; is = h ∙ sym (append-nil a); unfed = tt }
 
@@ -36,22 +31,15 @@ unfed_then a b c g h = record {
   unfed = unfed_append g.more h.more g.unfed h.unfed;
 }
 
-pub unfed_grows : (k : ℕ) (first : List Event) (a b : List Entry) → AreUnfed (at_all k first) → Grows k first a b → IsUnfed a b
-unfed_grows k first a b h g = record {
-  more = at_all k first ++ g.more;
-  is = g.is;
-  unfed = unfed_append (at_all k first) g.more h (unfed_inner g.more g.inner);
-}
-
-pub unfed_of : (t t' : Tables) (es es' : List Entry) → Writes [] t t' es es' → IsUnfed es es'
-unfed_of t t' es es' w = unfed_grows t.here [] es es' tt w.grows
+pub unfed_grows : (k : ℕ) (events : List Event) (a b : List Entry) → AreUnfed (at_all k events) → Grows k events a b → IsUnfed a b
+unfed_grows k events a b h g = record { more = at_all k events; is = g.is; unfed = h }
 
 -- no shorter
 pub unfed_le : (a b : List Entry) → IsUnfed a b → length a ≤ length b
 unfed_le a b h = omega (arith, ap length h.is, length-append a h.more)
 
 pub grows_lt : (k : ℕ) (e : Event) (a b : List Entry) → Grows k (e ∷ []) a b → length a < length b
-grows_lt k e a b g = omega (arith, ap length g.is, length-append a (at_all k (e ∷ []) ++ g.more))
+grows_lt k e a b g = omega (arith, ap length g.is, length-append a (at_all k (e ∷ [])))
 
 pub inside_then : (a b c : List Entry) → IsInside a b → IsInside b c → IsInside a c
 inside_then a b c g h = record { road = h.road ∙ g.road; outs = h.outs ∙ g.outs; ins = h.ins ∙ g.ins }

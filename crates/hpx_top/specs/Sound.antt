@@ -1,6 +1,6 @@
 -- What holds of all localities together, after each turn.
-use Rattle.std.specs.Prelude.{ℕ, List, [], ◌∷◌, ◌++◌, ◌≡◌, ◌≤◌, Option, Some, None, length, map, sum_by}
-use Rattle.std.specs.List.{slice_get, AllByRecursion}
+use Rattle.std.specs.Prelude.{ℕ, List, [], ◌∷◌, ◌++◌, ◌≡◌, ◌≤◌, Option, Some, None, length, map, sum_by, set, get_or}
+use Rattle.std.specs.List.{slice_get, remove, AllByRecursion}
 use Rattle.hpx_root_journal.specs.Data.{State, Act, Outcome}
 use Rattle.hpx_root_journal.specs.Bags.{without}
 use Rattle.hpx_root_journal.specs.Entries.{Frame, same_frame}
@@ -8,6 +8,7 @@ use Rattle.hpx_root_journal.specs.declared.entry.Entry.{Entry}
 use Rattle.hpx_root_journal.specs.Whole.{IsCarried, road_run, outs, ins, SameBag}
 use Rattle.hpx_ports.specs.declared.fabric.Wire.{Wire}
 use Rattle.hpx_ports.specs.declared.fabric.Wire.TheVariants.{Sent as SentWire, Delivered as DeliveredWire}
+use Rattle.hpx_top.specs.Free.{NoneIsFree, AreHere}
 use Rattle.hpx_top.specs.Tables.{Tables, IsPassive}
 use Rattle.hpx_top.specs.Stands.{Stands, rules_of}
 
@@ -65,6 +66,43 @@ pub record IsQuiet (nodes : List Tables) (hand : Option Frame) : Type 0 where
   pub passive : AllByRecursion IsPassive nodes
   pub empty : hand ≡ None
   pub taken : sum_by (λ t. t.taken) nodes ≡ sum_by (λ t. t.sent) nodes
+
+-- no accepted action, each of which is for an object with its home here, may be fired
+abbrev pub IsStuck : Tables → Type 0
+IsStuck t = NoneIsFree t.running t.objects t.accepted × AreHere t.localities t.here t.accepted
+
+-- no action waits to be sent
+abbrev pub SendsNothing : Tables → Type 0
+SendsNothing t = t.outgoing ≡ []
+
+-- no turn but a Feed or a Finish can do anything: nothing may be fired, sent or accepted
+pub record NothingApplies (nodes : List Tables) (held : Option Frame) (frames : Option (List Frame)) : Type 0 where
+  pub fire : AllByRecursion IsStuck nodes
+  pub pump : AllByRecursion SendsNothing nodes
+  pub hand : held ≡ None
+  pub flight : frames ≡ Some []
+
+-- ---- jobs
+
+-- the actions that run, at each locality
+abbrev pub running_in : List Tables → List (List Act)
+running_in nodes = map (λ t. t.running) nodes
+
+-- no job is out
+abbrev pub NoneRuns : List Tables → Type 0
+NoneRuns nodes = AllByRecursion (λ (acts : List Act). acts ≡ []) (running_in nodes)
+
+-- one more action runs at k
+pub record Begins (k : ℕ) (act : Act) (old new : List Tables) : Type 0 where
+  pub is : running_in new ≡ set (running_in old) k (get_or (running_in old) k [] ++ act ∷ [])
+
+-- an action that ran at k runs no longer
+pub record Stops (k : ℕ) (act : Act) (old new : List Tables) : Type 0 where
+  pub i : ℕ
+  pub ran : slice_get (get_or (running_in old) k []) i ≡ Some act
+  pub is : running_in new ≡ set (running_in old) k (remove (get_or (running_in old) k []) i)
+
+-- ---- what a call does to the road
 
 -- no frame was sent or accepted
 pub record IsInside (entries entries' : List Entry) : Type 0 where

@@ -1,30 +1,48 @@
--- What a turn wrote.
-use Rattle.std.specs.Prelude.{ℕ, false, List, [], ◌∷◌, ◌++◌, ◌≡◌, ◌⊎◌}
+-- What a turn wrote, and which jobs are out after it.
+use Rattle.std.specs.Prelude.{ℕ, List, [], ◌∷◌, ◌++◌, ◌≡◌, ◌⊎◌}
 use Rattle.std.specs.List.{AllByRecursion}
+use Rattle.hpx_value.specs.declared.acts.Job.{Job}
+use Rattle.hpx_root_journal.specs.Data.{Outcome}
 use Rattle.hpx_root_journal.specs.Entries.{name_of}
 use Rattle.hpx_root_journal.specs.declared.entry.Name.{Name}
 use Rattle.hpx_root_journal.specs.declared.entry.Entry.{Entry}
-use Rattle.hpx_root_journal.specs.declared.entry.Event.TheVariants.{Line, Fire, Done, Out, In}
+use Rattle.hpx_root_journal.specs.declared.entry.Event.TheVariants.{Line, Fire, Out, In}
 use Rattle.hpx_root_journal.specs.Whole.{Grows, FeedsNothing}
 use Rattle.hpx_top.specs.declared.turns.Turned.{Turned}
 use Rattle.hpx_top.specs.declared.turns.Turned.TheVariants as turned
 use Rattle.hpx_top.specs.declared.parts.Finished.TheVariants.{Committed, NotRunning}
+use Rattle.hpx_top.specs.Tables.{Tables}
+use Rattle.hpx_top.specs.Changes.{committed}
+use Rattle.hpx_top.specs.Sound.{Begins, Stops, running_in}
 
--- a frame was sent, or one was accepted
+-- one frame was sent, or one was accepted
 abbrev pub MovesFrame : List Entry → List Entry → Type 0
 MovesFrame old new =
     ((k : ℕ) × (to : ℕ) × (bytes : List ℕ) × Grows k (Out to bytes ∷ []) old new)
     ⊎ ((k : ℕ) × (bytes : List ℕ) × Grows k (In bytes ∷ []) old new)
 
--- the journal grew by what the turn is, first, and then by entries of the same locality that are of no frame
+-- a job was committed: the journal grew by its Done, and then by each message and print that it leaves, in order
+pub record Commits (old new : List Entry) : Type 0 where
+  pub job : Job
+  pub out : Outcome
+  pub serial : ℕ
+  pub grows : Grows job.at (committed job.at serial job out) old new
+
+-- the journal grew by what the turn is, and by nothing else
 abbrev pub Wrote : Turned → List Entry → List Entry → Type 0
 Wrote turned.Fed old new = (action : Name) × (line : List ℕ) × Grows 0 (Line action line ∷ []) old new
 Wrote (turned.Fired job) old new = Grows job.at (Fire (name_of job.action) ∷ []) old new
 Wrote turned.Idle old new = new ≡ old
-Wrote (turned.Finished Committed) old new = (k : ℕ) × (action : Name) × Grows k (Done action false ∷ []) old new
+Wrote (turned.Finished Committed) old new = Commits old new
 Wrote (turned.Finished NotRunning) old new = new ≡ old
 Wrote turned.Moved old new = MovesFrame old new
 Wrote turned.Empty old new = new ≡ old
+
+-- one more job is out, or one less, or the same are
+abbrev pub Ran : Turned → List Tables → List Tables → Type 0
+Ran (turned.Fired job) old new = Begins job.at job.action old new
+Ran (turned.Finished Committed) old new = (job : Job) × Stops job.at job.action old new
+Ran _ old new = running_in new ≡ running_in old
 
 -- the journal grew, if at all, by entries that feed nothing
 pub record IsUnfed (old new : List Entry) : Type 0 where

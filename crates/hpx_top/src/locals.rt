@@ -1,17 +1,17 @@
-ghost use Rattle.std.specs.Prelude.{◌≡◌, ◌≤◌, ◌<◌, ◌+◌, ◌∷◌, ◌++◌, [], ℕ, List, length, OnOk, OnErr, IfOk, IfErr, IfSome, IfNone, IsTrue, ◌↔◌, true, false, Ok, Some, None, sum_by, IsErrOf, slice_get};
+ghost use Rattle.std.specs.Prelude.{◌≡◌, ◌≢◌, ◌≤◌, ◌<◌, ◌+◌, ◌∷◌, ◌++◌, ◌⊎◌, [], ℕ, List, length, OnOk, OnErr, IfOk, IfErr, IfSome, IfNone, IsTrue, ◌↔◌, true, false, Ok, Some, None, sum_by, IsErrOf, slice_get};
 ghost use Rattle.std.specs.List.{list_any, AllByRecursion};
 ghost use Rattle.hpx_root_journal.specs.Bags.{without};
 ghost use Rattle.hpx_root_journal.specs.Entries.{Frame, same_frame, name_of};
-ghost use Rattle.hpx_root_journal.specs.Weights.{HasRoom};
+ghost use Rattle.hpx_root_journal.specs.Weights.{HasRoom, AddsATurn};
 ghost use Rattle.hpx_root_journal.specs.Laws.{IsSpelled};
-ghost use Rattle.hpx_root_journal.specs.Whole.{ins, outs, Grows};
+ghost use Rattle.hpx_root_journal.specs.Whole.{Grows};
 ghost use Rattle.hpx_ports.specs.Faults.{Rose};
 ghost use Rattle.hpx_top.specs.Tables.{IsPassive};
 ghost use Rattle.hpx_top.specs.Stands.{rules_of};
-ghost use Rattle.hpx_top.specs.Sound.{IsSound, IsSame, IsInside, SendsOne, AcceptsOne, IsCarrying, IsQuiet, road_of, listed};
+ghost use Rattle.hpx_top.specs.Sound.{IsSound, IsSame, IsInside, SendsOne, AcceptsOne, IsCarrying, IsQuiet, IsStuck, NoneRuns, Begins, Stops, running_in, road_of, listed};
 ghost use Rattle.hpx_top.specs.Turns.{IsUnfed};
-ghost use Rattle.hpx_top.specs.Free.{NoneIsFree};
-ghost use Rattle.hpx_top.specs.Jobs.{IsRunning};
+ghost use Rattle.hpx_top.specs.Changes.{committed};
+ghost use Rattle.hpx_top.specs.Jobs.{IsRunning, Starts};
 
 use crate::node::Node;
 use crate::parts::{FinishFault, Finished, TakeFault};
@@ -36,7 +36,7 @@ pub struct Locals<A: RootActs + Copy> {
 
 impl<A: RootActs + Copy> Locals<A> {
     /// All localities at boot.
-    #[tactic(auto, using(crate::proofs::Booted::booted_none, crate::proofs::Booted::booted_more))]
+    #[tactic(auto, using(crate::proofs::Booted::booted_none, crate::proofs::Booted::booted_more, crate::proofs::Booted::none_runs_more))]
     pub fn boot(alloc: Global, acts: A) -> Result<Locals<A>, OutOfMemory>
         requires some { 1 ≤ A.count acts }
         requires few { A.count acts ≤ 64 }
@@ -44,6 +44,7 @@ impl<A: RootActs + Copy> Locals<A> {
         ensures count { IfOk result (λ w. length w.nodes.items ≡ A.count acts) }
         ensures empty { IfOk result (λ w. w.journal.entries ≡ []) }
         ensures hand { IfOk result (λ w. w.hand ≡ None) }
+        ensures jobs { IfOk result (λ w. NoneRuns w.nodes.items) }
     {
         let mut nodes = Vec::new(alloc);
         for k in 0..acts.localities() {
@@ -103,9 +104,12 @@ impl<A: RootActs + Copy> Locals<A> {
         ensures unfed { IsUnfed self.old.journal.entries self.new.journal.entries }
         ensures hand { self.new.hand ≡ self.old.hand }
         ensures fired { IfOk result (λ o. IfSome o (λ job. Grows k (Event.Fire (name_of job.action) ∷ []) self.old.journal.entries self.new.journal.entries)) }
+        ensures few { AddsATurn self.old.journal.entries self.new.journal.entries }
         ensures here { IfOk result (λ o. IfSome o (λ job. job.at ≡ k)) }
+        ensures starts { IfOk result (λ o. IfSome o (λ job. (t t' : _) → slice_get self.old.nodes.items k ≡ Some t → slice_get self.new.nodes.items k ≡ Some t' → Starts t t' job)) }
+        ensures begins { IfOk result (λ o. IfSome o (λ job. Begins k job.action self.old.nodes.items self.new.nodes.items)) }
         ensures none { IfOk result (λ o. IfNone o (IsSame self.old.nodes.items self.new.nodes.items self.old.journal.entries self.new.journal.entries
-            × ((t : _) → slice_get self.old.nodes.items k ≡ Some t → NoneIsFree t.running t.objects t.accepted))) }
+            × ((t : _) → slice_get self.old.nodes.items k ≡ Some t → IsStuck t))) }
         ensures err { OnErr result (IsSame self.old.nodes.items self.new.nodes.items self.old.journal.entries self.new.journal.entries) }
     {
         self.nodes[k].fire(alloc, &mut self.journal)
@@ -126,7 +130,12 @@ impl<A: RootActs + Copy> Locals<A> {
         ensures inside { IsInside self.old.journal.entries self.new.journal.entries }
         ensures unfed { IsUnfed self.old.journal.entries self.new.journal.entries }
         ensures hand { self.new.hand ≡ self.old.hand }
-        ensures committed { IfOk result (λ f. f ≡ Finished.Committed → Grows k (Event.Done (name_of done.job.action) false ∷ []) self.old.journal.entries self.new.journal.entries) }
+        ensures few { AddsATurn self.old.journal.entries self.new.journal.entries }
+        ensures committed { IfOk result (λ f. f ≡ Finished.Committed → (t : _) → slice_get self.old.nodes.items k ≡ Some t →
+            Grows k (committed k t.serial done.job done.outcome) self.old.journal.entries self.new.journal.entries) }
+        ensures running { IfOk result (λ f. f ≡ Finished.Committed → (t : _) → slice_get self.old.nodes.items k ≡ Some t →
+            (done.localities ≡ t.localities) × IsRunning t done.job) }
+        ensures stops { IfOk result (λ f. f ≡ Finished.Committed → Stops k done.job.action self.old.nodes.items self.new.nodes.items) }
         ensures not_running { IfOk result (λ f. f ≡ Finished.NotRunning →
             IsSame self.old.nodes.items self.new.nodes.items self.old.journal.entries self.new.journal.entries
             × ((t : _) → slice_get self.old.nodes.items k ≡ Some t → done.localities ≡ t.localities → IsRunning t done.job → ⊥)) }
@@ -143,7 +152,9 @@ impl<A: RootActs + Copy> Locals<A> {
         ensures sound { IsSound A.act_of self.new.nodes.items self.new.journal.entries }
         ensures count { length self.new.nodes.items ≡ length self.old.nodes.items }
         ensures inside { IsInside self.old.journal.entries self.new.journal.entries }
+        ensures few { AddsATurn self.old.journal.entries self.new.journal.entries }
         ensures hand { self.new.hand ≡ self.old.hand }
+        ensures jobs { running_in self.new.nodes.items ≡ running_in self.old.nodes.items }
         ensures line { OnOk result ((action : _) × Grows 0 (Event.Line action line ∷ []) self.old.journal.entries self.new.journal.entries) }
         ensures err { OnErr result (IsSame self.old.nodes.items self.new.nodes.items self.old.journal.entries self.new.journal.entries) }
     {
@@ -160,6 +171,8 @@ impl<A: RootActs + Copy> Locals<A> {
         ensures count { length self.new.nodes.items ≡ length self.old.nodes.items }
         ensures hand { self.new.hand ≡ self.old.hand }
         ensures ok { OnOk result (AcceptsOne frame.now self.old.journal.entries self.new.journal.entries) }
+        ensures few { AddsATurn self.old.journal.entries self.new.journal.entries }
+        ensures jobs { running_in self.new.nodes.items ≡ running_in self.old.nodes.items }
         ensures written { OnOk result (Grows frame.now.0 (Event.In frame.now.1 ∷ []) self.old.journal.entries self.new.journal.entries) }
         ensures err { OnErr result (IsSame self.old.nodes.items self.new.nodes.items self.old.journal.entries self.new.journal.entries) }
     {
@@ -175,7 +188,8 @@ impl<A: RootActs + Copy> Locals<A> {
         requires carrying { IsCarrying self.old.hand (F.flight fabric.old) (F.trace fabric.old) self.old.journal.entries }
         ensures same { self.new ≡ record self.old { hand = self.new.hand } }
         ensures carrying { IsCarrying self.new.hand (F.flight fabric.new) (F.trace fabric.new) self.new.journal.entries }
-        ensures empty { OnOk result (self.new.hand ≡ None → (self.old.hand ≡ None) × (F.flight fabric.new ≡ Some [])) }
+        ensures empty { OnOk result (self.new.hand ≡ None → (self.old.hand ≡ None) × (F.flight fabric.old ≡ Some []) × (F.flight fabric.new ≡ Some [])) }
+        ensures some { OnOk result (self.new.hand ≢ None → (self.old.hand ≢ None) ⊎ (F.flight fabric.old ≢ Some [])) }
         ensures err { OnErr result (self.new.hand ≡ self.old.hand) }
         ensures cause { IsErrOf result FabricFault.Failed → Rose (F.faults fabric.old) (F.faults fabric.new) }
         ensures faults { F.faults fabric.old ≤ F.faults fabric.new }
@@ -201,6 +215,9 @@ impl<A: RootActs + Copy> Locals<A> {
         ensures count { length self.new.nodes.items ≡ length self.old.nodes.items }
         ensures carrying { IsCarrying self.new.hand (F.flight fabric.new) (F.trace fabric.new) self.new.journal.entries }
         ensures hand { self.new.hand ≡ self.old.hand }
+        ensures few { AddsATurn self.old.journal.entries self.new.journal.entries }
+        ensures jobs { running_in self.new.nodes.items ≡ running_in self.old.nodes.items }
+        ensures some { result ≡ Ok true → (t : _) → slice_get self.old.nodes.items k ≡ Some t → t.outgoing ≢ [] }
         ensures sent { result ≡ Ok true → (to : ℕ) × (bytes : List ℕ) × Grows k (Event.Out to bytes ∷ []) self.old.journal.entries self.new.journal.entries }
         ensures none { result ≡ Ok false → IsSame self.old.nodes.items self.new.nodes.items self.old.journal.entries self.new.journal.entries
             × ((t : _) → slice_get self.old.nodes.items k ≡ Some t → t.outgoing ≡ []) }
@@ -234,8 +251,11 @@ impl<A: RootActs + Copy> Locals<A> {
         ensures sound { IsSound A.act_of self.new.nodes.items self.new.journal.entries }
         ensures count { length self.new.nodes.items ≡ length self.old.nodes.items }
         ensures carrying { IsCarrying self.new.hand (F.flight fabric.new) (F.trace fabric.new) self.new.journal.entries }
+        ensures few { AddsATurn self.old.journal.entries self.new.journal.entries }
+        ensures jobs { running_in self.new.nodes.items ≡ running_in self.old.nodes.items }
+        ensures some { result ≡ Ok true → (self.old.hand ≢ None) ⊎ (F.flight fabric.old ≢ Some []) }
         ensures accepted { result ≡ Ok true → (k : ℕ) × (bytes : List ℕ) × Grows k (Event.In bytes ∷ []) self.old.journal.entries self.new.journal.entries }
-        ensures none { result ≡ Ok false → (self.old.hand ≡ None) × (self.new.hand ≡ None) × (F.flight fabric.new ≡ Some [])
+        ensures none { result ≡ Ok false → (self.old.hand ≡ None) × (F.flight fabric.old ≡ Some []) × (self.new.hand ≡ None) × (F.flight fabric.new ≡ Some [])
             × IsSame self.old.nodes.items self.new.nodes.items self.old.journal.entries self.new.journal.entries }
         ensures err { OnErr result (IsSame self.old.nodes.items self.new.nodes.items self.old.journal.entries self.new.journal.entries) }
         ensures cause { IsErrOf result FabricFault.Failed → Rose (F.faults fabric.old) (F.faults fabric.new) }

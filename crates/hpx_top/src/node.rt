@@ -1,20 +1,20 @@
-ghost use Rattle.std.specs.Prelude.{◌≡◌, ◌≢◌, ◌≤◌, ◌<◌, ◌+◌, ◌-◌, ◌^◌, ◌∷◌, ◌++◌, ◌↔◌, ◌⊎◌, [], ℕ, false, true, List, Some, None, IsTrue, OnOk, OnErr, IfOk, IfErr, IfSome, IfNone, length, slice_get};
-ghost use Rattle.std.specs.List.{find, remove, AllByRecursion};
+ghost use Rattle.std.specs.Prelude.{◌≡◌, ◌≢◌, ◌≤◌, ◌<◌, ◌+◌, ◌-◌, ◌^◌, ◌∷◌, ◌++◌, ◌↔◌, [], ℕ, false, true, List, Some, None, IsTrue, OnOk, OnErr, IfOk, IfErr, IfSome, IfNone, length, slice_get, sum_by};
+ghost use Rattle.std.specs.List.{remove, AllByRecursion};
 ghost use Rattle.hpx_value.specs.Values.{named};
 ghost use Rattle.hpx_value.specs.Hands.{due_of, state_after};
 ghost use Rattle.hpx_value.specs.declared.acts.Job.{Job};
 ghost use Rattle.hpx_root_journal.specs.Data.{Act, Apply};
 ghost use Rattle.hpx_root_journal.specs.Entries.{name_of, line_act};
-ghost use Rattle.hpx_root_journal.specs.Weights.{HasRoom};
-ghost use Rattle.hpx_root_journal.specs.declared.entry.Event.TheVariants.{Line, Fire, Out, In};
+ghost use Rattle.hpx_root_journal.specs.Weights.{HasRoom, AddsATurn};
+ghost use Rattle.hpx_root_journal.specs.declared.entry.Event.TheVariants.{Line, Fire, Done, Out, In};
 ghost use Rattle.hpx_parcel.specs.Reading.{parcel_of};
 ghost use Rattle.hpx_top.specs.Fit.{IsFit, IsFitDue, IsKept};
-ghost use Rattle.hpx_top.specs.Free.{NoneIsFree, IsFree};
+ghost use Rattle.hpx_top.specs.Free.{NoneIsFree, IsFree, AreHere};
 ghost use Rattle.hpx_top.specs.Tables.{IsPassive};
-ghost use Rattle.hpx_top.specs.Jobs.{IsAt, IsRunning, IsFitJob, Starts};
+ghost use Rattle.hpx_top.specs.Jobs.{IsAt, IsRunning, IsFitJob, Starts, Ends};
 ghost use Rattle.hpx_top.specs.Frames.{IsNext, IsFront, IsRefused};
 ghost use Rattle.hpx_top.specs.Stands.{Stands, rules_of};
-ghost use Rattle.hpx_top.specs.Changes.{OnlySpare, Puts, Writes};
+ghost use Rattle.hpx_top.specs.Changes.{OnlySpare, Puts, Writes, committed, written, owed, due_weight};
 
 use crate::boot::roots;
 use crate::find::{first_free, index_of, place_of, target};
@@ -57,6 +57,7 @@ impl<A: RootActs + Copy> Model for Node<A> {
     ghost use Rattle.std.specs.Prelude.{◌≡◌, ◌≢◌, ◌<◌, ◌≤◌, ◌-◌, min, vec_len, vec_capacity};
     ghost use Rattle.std.specs.List.{All};
     ghost use Rattle.std.specs.VecDeque.{deque_len, deque_capacity};
+    ghost use Rattle.hpx_top.specs.Free.{AreHere};
     ghost use Rattle.hpx_top.specs.Tables.{Tables};
 
     ghost Value = { Tables };
@@ -76,7 +77,8 @@ impl<A: RootActs + Copy> Model for Node<A> {
     } };
 
     ghost invariant = { λ n. (A.count n.acts ≡ n.localities) × (n.here < n.localities) × (n.localities ≤ 64)
-        × All (λ x. (x.to < n.localities) × (x.to ≢ n.here)) n.outgoing.items };
+        × All (λ x. (x.to < n.localities) × (x.to ≢ n.here)) n.outgoing.items
+        × AreHere n.localities n.here n.accepted.items };
 }
 
 impl<A: RootActs + Copy> Node<A> {
@@ -154,8 +156,8 @@ impl<A: RootActs + Copy> Node<A> {
         requires page { 1 ≤ book.old.spare }
         requires stands { Stands (rules_of A.act_of self.old.localities) self.old [] book.old.entries }
         ensures stands { Stands (rules_of A.act_of self.old.localities) self.new [] book.new.entries }
-        ensures writes { Writes [] self.old self.new book.old.entries book.new.entries }
         ensures fired { (act : _) → slice_get self.old.accepted i ≡ Some act → Writes (Fire (name_of act) ∷ []) self.old self.new book.old.entries book.new.entries }
+        ensures objects { self.new.objects ≡ self.old.objects }
         ensures accepted { self.new.accepted ≡ remove self.old.accepted i }
         ensures running { (act : _) → slice_get self.old.accepted i ≡ Some act → self.new.running ≡ self.old.running ++ act ∷ [] }
     {
@@ -174,10 +176,10 @@ impl<A: RootActs + Copy> Node<A> {
         requires room { HasRoom book.old.entries }
         requires stands { Stands (rules_of A.act_of self.old.localities) self.old [] book.old.entries }
         ensures stands { Stands (rules_of A.act_of self.old.localities) self.new [] book.new.entries }
-        ensures writes { Writes [] self.old self.new book.old.entries book.new.entries }
         ensures fired { IfOk result (λ o. IfSome o (λ job. Writes (Fire (name_of job.action) ∷ []) self.old self.new book.old.entries book.new.entries)) }
         ensures job { IfOk result (λ o. IfSome o (Starts self.old self.new)) }
         ensures none { IfOk result (λ o. IfNone o (NoneIsFree self.old.running self.old.objects self.old.accepted × OnlySpare self.old self.new book.old book.new)) }
+        ensures here { IfOk result (λ o. IfNone o (AreHere self.old.localities self.old.here self.old.accepted)) }
         ensures err { OnErr result (OnlySpare self.old self.new book.old book.new) }
     {
         let (i, j) = match first_free(
@@ -235,6 +237,7 @@ impl<A: RootActs + Copy> Node<A> {
         requires stands { Stands (rules_of A.act_of self.old.localities) self.old [] book.old.entries }
         ensures stands { Stands (rules_of A.act_of self.old.localities) self.new [] book.new.entries }
         ensures writes { Writes (In bytes ∷ []) self.old self.new book.old.entries book.new.entries }
+        ensures running { self.new.running ≡ self.old.running }
         ensures taken { self.new.taken ≡ self.old.taken + 1 }
     {
         let at = self.here;
@@ -257,6 +260,7 @@ impl<A: RootActs + Copy> Node<A> {
         requires stands { Stands (rules_of A.act_of self.old.localities) self.old [] book.old.entries }
         ensures stands { Stands (rules_of A.act_of self.old.localities) self.new [] book.new.entries }
         ensures ok { OnOk result (Writes (In frame.now ∷ []) self.old self.new book.old.entries book.new.entries) }
+        ensures running { OnOk result (self.new.running ≡ self.old.running) }
         ensures taken { OnOk result (self.new.taken ≡ self.old.taken + 1) }
         ensures err { OnErr result (OnlySpare self.old self.new book.old book.new) }
         ensures cause { IfErr result (λ e. IsRefused e frame.now) }
@@ -334,6 +338,7 @@ impl<A: RootActs + Copy> Node<A> {
         ensures kept { IfOk result (λ p. (o : _) → IsKept (record { object = o; state = p.0 })) }
         ensures fit { IfOk result (λ p. AllByRecursion IsFitDue p.1.items) }
         ensures few { IfOk result (λ p. length p.1.items ≤ 177) }
+        ensures light { IfOk result (λ p. sum_by due_weight p.1.items ≤ 273472) }
         ensures makes { IfOk result (λ p. done.now.outcome.makes ≡ []) }
     {
         let job = done.job();
@@ -356,7 +361,7 @@ impl<A: RootActs + Copy> Node<A> {
         ensures serial { self.new.serial ≡ self.old.serial }
         ensures spare { self.old.spare ≤ self.new.spare }
         ensures page { book.new.spare + 1 ≡ book.old.spare }
-        ensures inner { Writes [] self.old self.new book.old.entries book.new.entries }
+        ensures running { self.new.running ≡ remove self.old.running i }
         ensures writes { Writes (Event.Done (name_of done.now.job.action) false ∷ []) self.old self.new book.old.entries book.new.entries }
     {
         let act = self.running.remove(i);
@@ -385,7 +390,9 @@ impl<A: RootActs + Copy> Node<A> {
         ensures spare { length due.new.items ≤ self.new.spare }
         ensures page { length due.new.items ≤ book.new.spare }
         ensures serial { self.new.serial ≤ self.old.serial + 1 }
-        ensures writes { Writes [] self.old self.new book.old.entries book.new.entries }
+        ensures here { (self.new.here ≡ self.old.here) × (self.new.localities ≡ self.old.localities) }
+        ensures running { self.new.running ≡ self.old.running }
+        ensures writes { book.new.entries ++ owed self.new due.new.items ≡ book.old.entries ++ owed self.old due.old.items }
     {
         let at = self.here;
         match due.pop_front() {
@@ -409,7 +416,6 @@ impl<A: RootActs + Copy> Node<A> {
         }
     }
 
-    #[tactic(auto, using(crate::proofs::Written::writes_then, crate::proofs::Written::writes_none))]
     fn commit(&mut self, book: &mut Journal, mut due: VecDeque<Due>)
         requires fit { AllByRecursion IsFitDue due.items }
         requires spare { length due.items ≤ self.old.spare }
@@ -417,7 +423,8 @@ impl<A: RootActs + Copy> Node<A> {
         requires few { self.old.serial + length due.items < 2 ^ 64 }
         requires stands { Stands (rules_of A.act_of self.old.localities) self.old due.items book.old.entries }
         ensures stands { Stands (rules_of A.act_of self.old.localities) self.new [] book.new.entries }
-        ensures writes { Writes [] self.old self.new book.old.entries book.new.entries }
+        ensures running { self.new.running ≡ self.old.running }
+        ensures writes { Writes (written self.old.here self.old.serial due.items) self.old self.new book.old.entries book.new.entries }
     {
         while !due.is_empty() {
             self.pay(book, &mut due);
@@ -426,7 +433,7 @@ impl<A: RootActs + Copy> Node<A> {
 
     /// Commits a job that is done. Nothing changes where it is not one that runs here, or without memory; then the job is
     /// handed back.
-    #[tactic(auto, using(crate::proofs::Written::writes_then, crate::proofs::Written::writes_spare, crate::proofs::Written::stands_same))]
+    #[tactic(auto, using(crate::proofs::Written::stands_same))]
     pub fn finish(
         &mut self,
         alloc: Global,
@@ -436,11 +443,13 @@ impl<A: RootActs + Copy> Node<A> {
         requires room { HasRoom book.old.entries }
         requires stands { Stands (rules_of A.act_of self.old.localities) self.old [] book.old.entries }
         ensures stands { Stands (rules_of A.act_of self.old.localities) self.new [] book.new.entries }
-        ensures writes { Writes [] self.old self.new book.old.entries book.new.entries }
-        ensures committed { IfOk result (λ f. f ≡ Finished.Committed → Writes (Event.Done (name_of done.job.action) false ∷ []) self.old self.new book.old.entries book.new.entries) }
+        ensures committed { IfOk result (λ f. f ≡ Finished.Committed →
+            Writes (committed self.old.here self.old.serial done.job done.outcome) self.old self.new book.old.entries book.new.entries) }
+        ensures few { IfOk result (λ f. AddsATurn book.old.entries book.new.entries) }
         ensures not_running { IfOk result (λ f. f ≡ Finished.NotRunning →
             (done.localities ≡ self.old.localities → IsRunning self.old done.job → ⊥) × OnlySpare self.old self.new book.old book.new) }
         ensures running { IfOk result (λ f. f ≡ Finished.Committed → (done.localities ≡ self.old.localities) × IsRunning self.old done.job) }
+        ensures ends { IfOk result (λ f. f ≡ Finished.Committed → Ends self.old self.new done.job) }
         ensures err { IfErr result (λ e. (e.undone ≡ done) × OnlySpare self.old self.new book.old book.new) }
     {
         let (i, j) = match self.spot(&done) {
@@ -472,6 +481,7 @@ impl<A: RootActs + Copy> Node<A> {
         requires stands { Stands (rules_of A.act_of self.old.localities) self.old [] book.old.entries }
         ensures stands { Stands (rules_of A.act_of self.old.localities) self.new [] book.new.entries }
         ensures line { Writes (Line action bytes ∷ []) self.old self.new book.old.entries book.new.entries }
+        ensures running { self.new.running ≡ self.old.running }
     {
         let at = self.here;
         self.serial += 1;
@@ -489,8 +499,7 @@ impl<A: RootActs + Copy> Node<A> {
         requires room { HasRoom book.old.entries }
         requires stands { Stands (rules_of A.act_of self.old.localities) self.old [] book.old.entries }
         ensures stands { Stands (rules_of A.act_of self.old.localities) self.new [] book.new.entries }
-        ensures writes { Writes [] self.old self.new book.old.entries book.new.entries
-            ⊎ Writes (Line (record { origin = self.old.here; serial = self.old.serial + 1 }) line ∷ []) self.old self.new book.old.entries book.new.entries }
+        ensures running { self.new.running ≡ self.old.running }
         ensures line { OnOk result (Writes (Line (record { origin = self.old.here; serial = self.old.serial + 1 }) line ∷ []) self.old self.new book.old.entries book.new.entries) }
         ensures err { OnErr result (OnlySpare self.old self.new book.old book.new) }
     {

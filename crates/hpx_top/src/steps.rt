@@ -1,8 +1,9 @@
 //! Turns of all localities, one after another, until nothing can be done.
-ghost use Rattle.std.specs.Prelude.{◌≡◌, ◌≢◌, ◌≤◌, ◌<◌, ◌-◌, ◌^◌, ℕ, length, min, true, false, Ok, Err, None, Some};
-ghost use Rattle.hpx_root_journal.specs.Weights.{HasRoom, total_weight};
+ghost use Rattle.std.specs.Prelude.{◌≡◌, ◌≢◌, ◌≤◌, ◌<◌, ◌-◌, ◌^◌, [], ℕ, length, min, true, false, Ok, Err, None, Some, OnOk, slice_get};
+ghost use Rattle.std.specs.List.{AllByRecursion};
+ghost use Rattle.hpx_root_journal.specs.Weights.{HasRoom, IsWithin, AddsATurn, total_weight};
 ghost use Rattle.hpx_ports.specs.Faults.{Rose};
-ghost use Rattle.hpx_top.specs.Sound.{IsSound, IsInside, IsCarrying};
+ghost use Rattle.hpx_top.specs.Sound.{IsSound, IsSame, IsInside, IsCarrying, IsStuck, SendsNothing, NothingApplies, NoneRuns, running_in};
 ghost use Rattle.hpx_top.specs.Turns.{IsUnfed};
 
 use crate::locals::Locals;
@@ -30,6 +31,7 @@ impl<A: RootActs + Copy> Locals<A> {
     /// Locality k fires an action that can be, runs it, and commits it. False where none can be fired.
     #[tactic(auto, using(crate::proofs::Unfed::unfed_then, crate::proofs::Unfed::inside_then))]
     fn work(&mut self, alloc: Global, acts: &A, k: usize) -> Result<bool, WorldFault<A>>
+        requires acts { A.count acts.now ≡ length self.old.nodes.items }
         requires range { k < length self.old.nodes.items }
         requires room { HasRoom self.old.journal.entries }
         requires sound { IsSound A.act_of self.old.nodes.items self.old.journal.entries }
@@ -39,7 +41,10 @@ impl<A: RootActs + Copy> Locals<A> {
         ensures inside { IsInside self.old.journal.entries self.new.journal.entries }
         ensures unfed { IsUnfed self.old.journal.entries self.new.journal.entries }
         ensures longer { result ≡ Ok true → length self.old.journal.entries < length self.new.journal.entries }
-        ensures none { result ≡ Ok false → self.new.journal.entries ≡ self.old.journal.entries }
+        ensures within { IsWithin self.new.journal.entries }
+        ensures jobs { (worked : _) → result ≡ Ok worked → NoneRuns self.old.nodes.items → NoneRuns self.new.nodes.items }
+        ensures none { result ≡ Ok false → IsSame self.old.nodes.items self.new.nodes.items self.old.journal.entries self.new.journal.entries
+            × ((t : _) → slice_get self.old.nodes.items k ≡ Some t → IsStuck t) }
         ensures full { (e w : ℕ) (u : _) → result ≡ Err (WorldFault.JournalFull e w u) → HasRoom self.new.journal.entries → ⊥ }
         ensures no_fabric { result ≢ Err WorldFault.Fabric }
     {
@@ -65,6 +70,7 @@ impl<A: RootActs + Copy> Locals<A> {
 
     /// The first locality that can fires an action, runs it, and commits it. False where none can.
     fn work_first(&mut self, alloc: Global, acts: &A) -> Result<bool, WorldFault<A>>
+        requires acts { A.count acts.now ≡ length self.old.nodes.items }
         requires room { HasRoom self.old.journal.entries }
         requires sound { IsSound A.act_of self.old.nodes.items self.old.journal.entries }
         ensures sound { IsSound A.act_of self.new.nodes.items self.new.journal.entries }
@@ -73,7 +79,10 @@ impl<A: RootActs + Copy> Locals<A> {
         ensures inside { IsInside self.old.journal.entries self.new.journal.entries }
         ensures unfed { IsUnfed self.old.journal.entries self.new.journal.entries }
         ensures longer { result ≡ Ok true → length self.old.journal.entries < length self.new.journal.entries }
-        ensures none { result ≡ Ok false → self.new.journal.entries ≡ self.old.journal.entries }
+        ensures within { IsWithin self.new.journal.entries }
+        ensures jobs { (worked : _) → result ≡ Ok worked → NoneRuns self.old.nodes.items → NoneRuns self.new.nodes.items }
+        ensures none { result ≡ Ok false → IsSame self.old.nodes.items self.new.nodes.items self.old.journal.entries self.new.journal.entries
+            × AllByRecursion IsStuck self.new.nodes.items }
         ensures full { (e w : ℕ) (u : _) → result ≡ Err (WorldFault.JournalFull e w u) → HasRoom self.new.journal.entries → ⊥ }
         ensures no_fabric { result ≢ Err WorldFault.Fabric }
     {
@@ -95,7 +104,11 @@ impl<A: RootActs + Copy> Locals<A> {
         ensures carrying { IsCarrying self.new.hand (F.flight fabric.new) (F.trace fabric.new) self.new.journal.entries }
         ensures unfed { IsUnfed self.old.journal.entries self.new.journal.entries }
         ensures longer { result ≡ Ok true → length self.old.journal.entries < length self.new.journal.entries }
-        ensures none { result ≡ Ok false → self.new.journal.entries ≡ self.old.journal.entries }
+        ensures within { IsWithin self.new.journal.entries }
+        ensures jobs { running_in self.new.nodes.items ≡ running_in self.old.nodes.items }
+        ensures none { result ≡ Ok false → IsSame self.old.nodes.items self.new.nodes.items self.old.journal.entries self.new.journal.entries
+            × AllByRecursion SendsNothing self.new.nodes.items }
+        ensures same_hand { self.new.hand ≡ self.old.hand }
         ensures cause { result ≡ Err FabricFault.Failed → Rose (F.faults fabric.old) (F.faults fabric.new) }
         ensures faults { F.faults fabric.old ≤ F.faults fabric.new }
     {
@@ -117,6 +130,10 @@ impl<A: RootActs + Copy> Locals<A> {
         ensures carrying { IsCarrying self.new.hand (F.flight fabric.new) (F.trace fabric.new) self.new.journal.entries }
         ensures unfed { IsUnfed self.old.journal.entries self.new.journal.entries }
         ensures longer { result ≡ Ok true → length self.old.journal.entries < length self.new.journal.entries }
+        ensures within { IsWithin self.new.journal.entries }
+        ensures jobs { running_in self.new.nodes.items ≡ running_in self.old.nodes.items }
+        ensures none { result ≡ Ok false → IsSame self.old.nodes.items self.new.nodes.items self.old.journal.entries self.new.journal.entries
+            × AllByRecursion SendsNothing self.new.nodes.items × (self.new.hand ≡ None) × (F.flight fabric.new ≡ Some []) }
         ensures cause { result ≡ Err FabricFault.Failed → Rose (F.faults fabric.old) (F.faults fabric.new) }
         ensures faults { F.faults fabric.old ≤ F.faults fabric.new }
     {
@@ -134,6 +151,8 @@ impl<A: RootActs + Copy> Locals<A> {
         acts: &A,
         fabric: &mut F,
     ) -> Result<bool, WorldFault<A>>
+        requires acts { A.count acts.now ≡ length self.old.nodes.items }
+        requires within { IsWithin self.old.journal.entries }
         requires sound { IsSound A.act_of self.old.nodes.items self.old.journal.entries }
         requires carrying { IsCarrying self.old.hand (F.flight fabric.old) (F.trace fabric.old) self.old.journal.entries }
         ensures sound { IsSound A.act_of self.new.nodes.items self.new.journal.entries }
@@ -141,6 +160,9 @@ impl<A: RootActs + Copy> Locals<A> {
         ensures carrying { IsCarrying self.new.hand (F.flight fabric.new) (F.trace fabric.new) self.new.journal.entries }
         ensures unfed { IsUnfed self.old.journal.entries self.new.journal.entries }
         ensures longer { result ≡ Ok true → length self.old.journal.entries < length self.new.journal.entries }
+        ensures within { IsWithin self.new.journal.entries }
+        ensures jobs { (moved : _) → result ≡ Ok moved → NoneRuns self.old.nodes.items → NoneRuns self.new.nodes.items }
+        ensures none { result ≡ Ok false → NothingApplies self.new.nodes.items self.new.hand (F.flight fabric.new) }
         ensures room { result ≡ Ok true → HasRoom self.old.journal.entries }
         ensures full { (e w : ℕ) (u : _) → result ≡ Err (WorldFault.JournalFull e w u) → HasRoom self.new.journal.entries → ⊥ }
         ensures cause { result ≡ Err WorldFault.Fabric → Rose (F.faults fabric.old) (F.faults fabric.new) }
@@ -167,12 +189,17 @@ impl<A: RootActs + Copy> Locals<A> {
         acts: &A,
         fabric: &mut F,
     ) -> Result<(), WorldFault<A>>
+        requires acts { A.count acts.now ≡ length self.old.nodes.items }
+        requires within { IsWithin self.old.journal.entries }
         requires sound { IsSound A.act_of self.old.nodes.items self.old.journal.entries }
         requires carrying { IsCarrying self.old.hand (F.flight fabric.old) (F.trace fabric.old) self.old.journal.entries }
         ensures sound { IsSound A.act_of self.new.nodes.items self.new.journal.entries }
         ensures count { length self.new.nodes.items ≡ length self.old.nodes.items }
         ensures carrying { IsCarrying self.new.hand (F.flight fabric.new) (F.trace fabric.new) self.new.journal.entries }
         ensures unfed { IsUnfed self.old.journal.entries self.new.journal.entries }
+        ensures within { IsWithin self.new.journal.entries }
+        ensures jobs { OnOk result (NoneRuns self.old.nodes.items → NoneRuns self.new.nodes.items) }
+        ensures idle { OnOk result (NothingApplies self.new.nodes.items self.new.hand (F.flight fabric.new)) }
         ensures full { (e w : ℕ) (u : _) → result ≡ Err (WorldFault.JournalFull e w u) → HasRoom self.new.journal.entries → ⊥ }
         ensures cause { result ≡ Err WorldFault.Fabric → Rose (F.faults fabric.old) (F.faults fabric.new) }
         ensures faults { F.faults fabric.old ≤ F.faults fabric.new }

@@ -1,15 +1,15 @@
 ghost use Rattle.std.specs.Prelude.{◌≡◌, ◌≤◌, ◌<◌, ◌+◌, ◌-◌, ◌^◌, ◌∷◌, [], ℕ, true, false, length, min, OnOk, OnErr, IfOk, IfErr, IsTrue, ◌↔◌, Ok, Err, Some, None, option_copied, slice_get, ◌⊎◌};
-ghost use Rattle.hpx_root_journal.specs.Weights.{HasRoom, total_weight};
+ghost use Rattle.hpx_root_journal.specs.Weights.{HasRoom, IsWithin, AddsATurn, total_weight};
 ghost use Rattle.hpx_root_journal.specs.Roots.{roots};
 ghost use Rattle.hpx_root_journal.specs.Whole.{IsLegal, start, run, Grows};
 ghost use Rattle.hpx_root_journal.specs.Sessions.{IsSettled};
 ghost use Rattle.hpx_ports.specs.Faults.{Rose};
 ghost use Rattle.hpx_top.specs.Stands.{rules_of};
-ghost use Rattle.hpx_top.specs.Sound.{IsSame, IsInside, IsCarrying, IsQuiet};
-ghost use Rattle.hpx_top.specs.Turns.{Wrote, IsUnfed};
-ghost use Rattle.hpx_root_journal.specs.Entries.{name_of};
+ghost use Rattle.hpx_top.specs.Sound.{IsSame, IsInside, IsCarrying, IsQuiet, NothingApplies, NoneRuns, running_in};
+ghost use Rattle.hpx_top.specs.Changes.{committed};
+ghost use Rattle.hpx_top.specs.Turns.{Wrote, Ran, IsUnfed};
 ghost use Rattle.hpx_top.specs.Free.{NoneIsFree};
-ghost use Rattle.hpx_top.specs.Jobs.{IsRunning};
+ghost use Rattle.hpx_top.specs.Jobs.{IsRunning, Starts};
 
 use crate::locals::Locals;
 use crate::parts::{FinishFault, Finished};
@@ -35,6 +35,7 @@ pub struct World<A: RootActs + Copy> {
 impl<A: RootActs + Copy> Model for World<A> {
     ghost use Rattle.std.specs.Prelude.{◌≡◌, length};
     ghost use Rattle.hpx_top.specs.Places.{Places};
+    ghost use Rattle.hpx_root_journal.specs.Weights.{IsWithin};
     ghost use Rattle.hpx_top.specs.Sound.{IsSound};
 
     ghost Value = { Places };
@@ -42,7 +43,8 @@ impl<A: RootActs + Copy> Model for World<A> {
     ghost view = { λ w. record { nodes = w.locals.nodes.items; journal = w.locals.journal; hand = w.locals.hand } };
 
     ghost invariant = { λ w. (A.count w.acts ≡ length w.locals.nodes.items)
-        × IsSound A.act_of w.locals.nodes.items w.locals.journal.entries };
+        × IsSound A.act_of w.locals.nodes.items w.locals.journal.entries
+        × IsWithin w.locals.journal.entries };
 }
 
 impl<A: RootActs + Copy> World<A> {
@@ -53,6 +55,7 @@ impl<A: RootActs + Copy> World<A> {
         ensures count { IfOk result (λ w. length w.nodes ≡ A.count acts) }
         ensures empty { IfOk result (λ w. w.journal.entries ≡ []) }
         ensures hand { IfOk result (λ w. w.hand ≡ None) }
+        ensures jobs { IfOk result (λ w. NoneRuns w.nodes) }
     {
         Ok(World {
             acts,
@@ -67,9 +70,10 @@ impl<A: RootActs + Copy> World<A> {
         &self.acts
     }
 
-    /// The journal, which is legal.
+    /// The journal, which is legal and within its limits.
     pub fn journal(&self) -> &Journal
         ensures journal { result.now ≡ self.now.journal }
+        ensures within { IsWithin self.now.journal.entries }
         ensures legal { let n = length self.now.nodes in IsLegal (rules_of A.act_of n) (start (roots n)) self.now.journal.entries }
     {
         &self.locals.journal
@@ -106,6 +110,9 @@ impl<A: RootActs + Copy> World<A> {
         ensures hand { self.new.hand ≡ self.old.hand }
         ensures inside { IsInside self.old.journal.entries self.new.journal.entries }
         ensures wrote { IfOk result (λ t. Wrote t self.old.journal.entries self.new.journal.entries) }
+        ensures few { AddsATurn self.old.journal.entries self.new.journal.entries }
+        ensures ran { IfOk result (λ t. Ran t self.old.nodes self.new.nodes) }
+        ensures jobs { running_in self.new.nodes ≡ running_in self.old.nodes }
         ensures line { IfOk result (λ t. (action : _) × Grows 0 (Event.Line action line ∷ []) self.old.journal.entries self.new.journal.entries) }
         ensures err { OnErr result (IsSame self.old.nodes self.new.nodes self.old.journal.entries self.new.journal.entries) }
         ensures memory { IfErr result (λ e. e ≡ WorldFault.OutOfMemory None) }
@@ -124,9 +131,11 @@ impl<A: RootActs + Copy> World<A> {
         ensures hand { self.new.hand ≡ self.old.hand }
         ensures inside { IsInside self.old.journal.entries self.new.journal.entries }
         ensures wrote { IfOk result (λ t. Wrote t self.old.journal.entries self.new.journal.entries) }
+        ensures few { AddsATurn self.old.journal.entries self.new.journal.entries }
+        ensures ran { IfOk result (λ t. Ran t self.old.nodes self.new.nodes) }
+        ensures starts { (job : _) (t t' : _) → result ≡ Ok (Turned.Fired job) → slice_get self.old.nodes k ≡ Some t → slice_get self.new.nodes k ≡ Some t' → Starts t t' job }
         ensures fired { (job : _) → result ≡ Ok (Turned.Fired job) → job.at ≡ k }
-        ensures idle { result ≡ Ok Turned.Idle → IsSame self.old.nodes self.new.nodes self.old.journal.entries self.new.journal.entries
-            × ((t : _) → slice_get self.old.nodes k ≡ Some t → NoneIsFree t.running t.objects t.accepted) }
+        ensures idle { (t : _) → slice_get self.old.nodes k ≡ Some t → IfOk result (λ turned. (turned ≡ Turned.Idle) ↔ NoneIsFree t.running t.objects t.accepted) }
         ensures err { OnErr result (IsSame self.old.nodes self.new.nodes self.old.journal.entries self.new.journal.entries) }
         ensures memory { IfErr result (λ e. e ≡ WorldFault.OutOfMemory None) }
     {
@@ -145,11 +154,12 @@ impl<A: RootActs + Copy> World<A> {
         ensures hand { self.new.hand ≡ self.old.hand }
         ensures inside { IsInside self.old.journal.entries self.new.journal.entries }
         ensures wrote { IfOk result (λ t. Wrote t self.old.journal.entries self.new.journal.entries) }
-        ensures committed { result ≡ Ok (Turned.Finished Finished.Committed)
-            → Grows done.job.at (Event.Done (name_of done.job.action) false ∷ []) self.old.journal.entries self.new.journal.entries }
-        ensures not_running { result ≡ Ok (Turned.Finished Finished.NotRunning) →
-            IsSame self.old.nodes self.new.nodes self.old.journal.entries self.new.journal.entries
-            × ((t : _) → slice_get self.old.nodes done.job.at ≡ Some t → done.localities ≡ t.localities → IsRunning t done.job → ⊥) }
+        ensures few { AddsATurn self.old.journal.entries self.new.journal.entries }
+        ensures ran { IfOk result (λ t. Ran t self.old.nodes self.new.nodes) }
+        ensures committed { (t : _) → result ≡ Ok (Turned.Finished Finished.Committed) → slice_get self.old.nodes done.job.at ≡ Some t
+            → Grows done.job.at (committed done.job.at t.serial done.job done.outcome) self.old.journal.entries self.new.journal.entries }
+        ensures not_running { (t : _) → slice_get self.old.nodes done.job.at ≡ Some t → IfOk result (λ turned.
+            (turned ≡ Turned.Finished Finished.NotRunning) ↔ ((done.localities ≡ t.localities) × IsRunning t done.job → ⊥)) }
         ensures err { OnErr result (IsSame self.old.nodes self.new.nodes self.old.journal.entries self.new.journal.entries) }
         ensures memory { IfErr result (λ e. e ≡ WorldFault.OutOfMemory (Some done)) }
     {
@@ -175,8 +185,9 @@ impl<A: RootActs + Copy> World<A> {
         ensures carrying { IsCarrying self.new.hand (F.flight fabric.new) (F.trace fabric.new) self.new.journal.entries }
         ensures hand { self.new.hand ≡ self.old.hand }
         ensures wrote { IfOk result (λ t. Wrote t self.old.journal.entries self.new.journal.entries) }
-        ensures empty { result ≡ Ok Turned.Empty → IsSame self.old.nodes self.new.nodes self.old.journal.entries self.new.journal.entries
-            × ((t : _) → slice_get self.old.nodes k ≡ Some t → t.outgoing ≡ []) }
+        ensures few { AddsATurn self.old.journal.entries self.new.journal.entries }
+        ensures ran { IfOk result (λ t. Ran t self.old.nodes self.new.nodes) }
+        ensures empty { (t : _) → slice_get self.old.nodes k ≡ Some t → IfOk result (λ turned. (turned ≡ Turned.Empty) ↔ (t.outgoing ≡ [])) }
         ensures err { OnErr result (IsSame self.old.nodes self.new.nodes self.old.journal.entries self.new.journal.entries) }
         ensures which { IfErr result (λ e. (e ≡ WorldFault.Fabric) ⊎ (e ≡ WorldFault.OutOfMemory None)) }
         ensures cause { result ≡ Err WorldFault.Fabric → Rose (F.faults fabric.old) (F.faults fabric.new) }
@@ -197,8 +208,9 @@ impl<A: RootActs + Copy> World<A> {
         ensures count { length self.new.nodes ≡ length self.old.nodes }
         ensures carrying { IsCarrying self.new.hand (F.flight fabric.new) (F.trace fabric.new) self.new.journal.entries }
         ensures wrote { IfOk result (λ t. Wrote t self.old.journal.entries self.new.journal.entries) }
-        ensures empty { result ≡ Ok Turned.Empty → (self.old.hand ≡ None) × (self.new.hand ≡ None) × (F.flight fabric.new ≡ Some [])
-            × IsSame self.old.nodes self.new.nodes self.old.journal.entries self.new.journal.entries }
+        ensures few { AddsATurn self.old.journal.entries self.new.journal.entries }
+        ensures ran { IfOk result (λ t. Ran t self.old.nodes self.new.nodes) }
+        ensures empty { IfOk result (λ turned. (turned ≡ Turned.Empty) ↔ ((self.old.hand ≡ None) × (F.flight fabric.old ≡ Some []))) }
         ensures err { OnErr result (IsSame self.old.nodes self.new.nodes self.old.journal.entries self.new.journal.entries) }
         ensures which { IfErr result (λ e. (e ≡ WorldFault.Fabric) ⊎ (e ≡ WorldFault.OutOfMemory None)) }
         ensures cause { result ≡ Err WorldFault.Fabric → Rose (F.faults fabric.old) (F.faults fabric.new) }
@@ -229,10 +241,23 @@ impl<A: RootActs + Copy> World<A> {
         ensures carrying { IsCarrying self.new.hand (F.flight fabric.new) (F.trace fabric.new) self.new.journal.entries }
         ensures count { length self.new.nodes ≡ length self.old.nodes }
         ensures wrote { IfOk result (λ t. Wrote t self.old.journal.entries self.new.journal.entries) }
+        ensures ran { IfOk result (λ t. Ran t self.old.nodes self.new.nodes) }
+        ensures few { AddsATurn self.old.journal.entries self.new.journal.entries }
         ensures line { (line : _) → choice ≡ Choice.Feed line → IfOk result (λ t. (action : _) × Grows 0 (Event.Line action line ∷ []) self.old.journal.entries self.new.journal.entries) }
+        ensures jobs { (line : _) → choice ≡ Choice.Feed line → running_in self.new.nodes ≡ running_in self.old.nodes }
         ensures fired { (k : _) (job : _) → choice ≡ Choice.Fire k → result ≡ Ok (Turned.Fired job) → job.at ≡ k }
-        ensures committed { (done : _) → choice ≡ Choice.Finish done → result ≡ Ok (Turned.Finished Finished.Committed)
-            → Grows done.job.at (Event.Done (name_of done.job.action) false ∷ []) self.old.journal.entries self.new.journal.entries }
+        ensures starts { (k : _) (job : _) (t t' : _) → choice ≡ Choice.Fire k → result ≡ Ok (Turned.Fired job)
+            → slice_get self.old.nodes k ≡ Some t → slice_get self.new.nodes k ≡ Some t' → Starts t t' job }
+        ensures committed { (done : _) (t : _) → choice ≡ Choice.Finish done → result ≡ Ok (Turned.Finished Finished.Committed) → slice_get self.old.nodes done.job.at ≡ Some t
+            → Grows done.job.at (committed done.job.at t.serial done.job done.outcome) self.old.journal.entries self.new.journal.entries }
+
+        ensures idle { (k : _) (t : _) → choice ≡ Choice.Fire k → slice_get self.old.nodes k ≡ Some t
+            → IfOk result (λ turned. (turned ≡ Turned.Idle) ↔ NoneIsFree t.running t.objects t.accepted) }
+        ensures not_running { (done : _) (t : _) → choice ≡ Choice.Finish done → slice_get self.old.nodes done.job.at ≡ Some t
+            → IfOk result (λ turned. (turned ≡ Turned.Finished Finished.NotRunning) ↔ ((done.localities ≡ t.localities) × IsRunning t done.job → ⊥)) }
+        ensures empty { (k : _) (t : _) → choice ≡ Choice.Pump k → slice_get self.old.nodes k ≡ Some t
+            → IfOk result (λ turned. (turned ≡ Turned.Empty) ↔ (t.outgoing ≡ [])) }
+        ensures nothing { choice ≡ Choice.Take → IfOk result (λ turned. (turned ≡ Turned.Empty) ↔ ((self.old.hand ≡ None) × (F.flight fabric.old ≡ Some []))) }
 
         ensures err { OnErr result (IsSame self.old.nodes self.new.nodes self.old.journal.entries self.new.journal.entries) }
         ensures full { (HasRoom self.old.journal.entries → ⊥) → (e w : ℕ) × (u : _) × (result ≡ Err (WorldFault.JournalFull e w u)) }
@@ -254,13 +279,19 @@ impl<A: RootActs + Copy> World<A> {
         }
     }
 
-    /// Turns, until none can be made. Nothing is fed. At a refusal the turns before it stand.
+    /// Turns, until none can be made. Nothing is fed. Where no job was out, nothing is pending then. At a refusal the turns
+    /// before it stand.
     pub fn drain<F: Fabric>(&mut self, alloc: Global, fabric: &mut F) -> Result<(), WorldFault<A>>
         requires carrying { IsCarrying self.old.hand (F.flight fabric.old) (F.trace fabric.old) self.old.journal.entries }
 
         ensures legal { let n = length self.new.nodes in IsLegal (rules_of A.act_of n) (start (roots n)) self.new.journal.entries }
         ensures carrying { IsCarrying self.new.hand (F.flight fabric.new) (F.trace fabric.new) self.new.journal.entries }
         ensures count { length self.new.nodes ≡ length self.old.nodes }
+        ensures idle { OnOk result (NothingApplies self.new.nodes self.new.hand (F.flight fabric.new)) }
+        ensures jobs { OnOk result (NoneRuns self.old.nodes → NoneRuns self.new.nodes) }
+        ensures quiet { OnOk result (NoneRuns self.old.nodes → IsQuiet self.new.nodes self.new.hand) }
+        ensures settled { let n = length self.new.nodes in OnOk result (NoneRuns self.old.nodes →
+            IsSettled (rules_of A.act_of n) (run (rules_of A.act_of n) (start (roots n)) self.new.journal.entries)) }
         ensures unfed { IsUnfed self.old.journal.entries self.new.journal.entries }
 
         ensures full_only { (e w : ℕ) (u : _) → result ≡ Err (WorldFault.JournalFull e w u) → HasRoom self.new.journal.entries → ⊥ }

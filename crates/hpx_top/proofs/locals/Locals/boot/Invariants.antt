@@ -1,4 +1,5 @@
 use Rattle.std.proofs.Common.{◌≡◌, length}
+use Rattle.hpx_top.specs.Sound.{NoneRuns}
 use Rattle.hpx_top.proofs.Booted.{AreBooted}
 use Rattle.hpx_top.proofs.locals.Locals.boot.Given as goal
 
@@ -6,4 +7,5 @@ abbrev pub invariant-loop-k : goal.invariant-loop-k
 invariant-loop-k g l = record {
   count : length l.nodes.items ≡ l.k;
   booted : AreBooted g.A.Acts.act_of (g.A.Acts.count l.acts) l.nodes.items;
+  none : NoneRuns l.nodes.items;
 }

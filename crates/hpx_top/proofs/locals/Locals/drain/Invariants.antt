@@ -1,5 +1,6 @@
 use Rattle.std.proofs.Common.{◌≡◌, ◌≤◌, ◌-◌, length}
-use Rattle.hpx_top.specs.Sound.{IsSound, IsCarrying}
+use Rattle.hpx_root_journal.specs.Weights.{IsWithin}
+use Rattle.hpx_top.specs.Sound.{IsSound, IsCarrying, NoneRuns}
 use Rattle.hpx_top.specs.Turns.{IsUnfed}
 use Rattle.hpx_top.proofs.locals.Locals.drain.Given as goal
 
@@ -10,6 +11,8 @@ invariant-loop g l =
     × (length l.self.nodes.items ≡ length l.fn.self.nodes.items)
     × IsCarrying l.self.hand (g.F.Fabric.flight l.fabric) (g.F.Fabric.trace l.fabric) l.self.journal.entries
     × IsUnfed l.fn.self.journal.entries l.self.journal.entries
+    × IsWithin l.self.journal.entries
+    × (NoneRuns l.fn.self.nodes.items → NoneRuns l.self.nodes.items)
     × (g.F.Fabric.faults l.fn.fabric ≤ g.F.Fabric.faults l.fabric)
 
 -- how many entries may still come

@@ -1,8 +1,10 @@
-use Rattle.std.proofs.Common.{subst, ◌≡◌, [], refl}
+use Rattle.std.proofs.Common.{subst, ◌≡◌, List, [], ◌∷◌, refl, sym, ap, ◌∙◌}
 use Rattle.hpx_top.specs.Tables.{Tables}
 use Rattle.hpx_top.specs.Sound.{SendsOne}
 use Rattle.hpx_top.proofs.SoundLemmas.{stands_own, sound_out, sends_of}
-use Rattle.hpx_top.proofs.TurnLemmas.{here_at, grows_at, same_at, got_at}
+use Rattle.hpx_top.proofs.TurnLemmas.{here_at, grows_at, same_at, got_at, running_at}
+use Rattle.hpx_top.proofs.DueLemmas.{adds_out}
+use Rattle.hpx_top.proofs.IdleLemmas.{some_none}
 use Rattle.hpx_top.proofs.AwayLemmas.{carrying_sent}
 use Rattle.hpx_top.proofs.locals.Locals.pump.Goals as goal
 
@@ -39,3 +41,21 @@ returns-clause-sent g c = λ same. (
   grows_at _ _ _ c.requires.sound c.args.k c.index_mut-node.result.now c.gone.new.self c.requires.range c.index_mut-node.ensures.value _ _
       (rw c.reserve.ensures.entries at c.gone.ensures.writes),
 )
+
+pub returns-clause-few : goal.returns-clause-few
+returns-clause-few g c =
+    adds_out c.args.k c.in-Some.to c.in-Ok.bytes _ _ _ (rw c.in-Ok.is at c.encode.ensures.read)
+    (grows_at _ _ _ c.requires.sound c.args.k c.index_mut-node.result.now c.gone.new.self c.requires.range c.index_mut-node.ensures.value _ _
+    (rw c.reserve.ensures.entries at c.gone.ensures.writes))
+
+pub returns-clause-jobs : goal.returns-clause-jobs
+returns-clause-jobs g c =
+    let next = c.in-Some.ensures.some in
+    running_at _ _ _ c.requires.sound c.args.k c.index_mut-node.result.now c.gone.new.self c.requires.range c.index_mut-node.ensures.value
+    (ap (λ (x : Tables). x.running) (c.gone.ensures.rest next.first next.rest next.is))
+
+pub returns-clause-some : goal.returns-clause-some
+returns-clause-some g c = λ same t at none.
+    let next = c.in-Some.ensures.some in
+    let here = got_at _ _ _ c.requires.sound c.args.k c.index_mut-node.result.now c.gone.new.self c.requires.range c.index_mut-node.ensures.value t at in
+    some_none next.first next.rest (sym next.is ∙ (ap (λ (x : Tables). x.outgoing) here ∙ none))

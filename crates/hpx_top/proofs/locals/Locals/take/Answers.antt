@@ -8,7 +8,7 @@ pub returns-in-None-clause-none : goal.returns-in-None-clause-none
 returns-in-None-clause-none g c = λ same.
     let none : c.fill.new.self.hand ≡ None = sym c.take.ensures.value ∙ c.in-None.is in
     let empty = c.in_ok-fill.ensures.empty none in
-    (empty.0, c.take.ensures.after, empty.1, rw c.fill.ensures.same (record { tables = refl; journal = refl }))
+    (empty.0, empty.1, c.take.ensures.after, empty.2, rw c.fill.ensures.same (record { tables = refl; journal = refl }))
 
 pub accept-requires-clause-there : goal.accept-requires-clause-there
 accept-requires-clause-there g c =
@@ -28,3 +28,6 @@ returns-in-Ok-clause-carrying g c =
     (carrying_taken c.in-Some.frame _ _ _ _
     (subst (λ h. IsCarrying h (g.F.Fabric.flight c.fill.new.fabric) (g.F.Fabric.trace c.fill.new.fabric) c.fill.new.self.journal.entries) (sym c.take.ensures.value ∙ c.in-Some.is) c.fill.ensures.carrying)
     c.in-Ok.ensures.ok)
+
+pub returns-in-Ok-clause-some : goal.returns-in-Ok-clause-some
+returns-in-Ok-clause-some g c = λ same. c.in_ok-fill.ensures.some (λ none. let e = sym c.take.ensures.value ∙ c.in-Some.is in cc)

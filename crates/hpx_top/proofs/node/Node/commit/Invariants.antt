@@ -1,7 +1,7 @@
-use Rattle.std.proofs.Common.{◌≤◌, ◌<◌, ◌+◌, ◌^◌, length, []}
+use Rattle.std.proofs.Common.{◌≡◌, ◌≤◌, ◌<◌, ◌+◌, ◌++◌, ◌^◌, length, []}
 use Rattle.std.specs.List.{AllByRecursion}
 use Rattle.hpx_top.specs.Fit.{IsFitDue}
-use Rattle.hpx_top.specs.Changes.{Writes}
+use Rattle.hpx_top.specs.Changes.{owed}
 use Rattle.hpx_top.specs.Stands.{Stands, rules_of}
 use Rattle.hpx_top.proofs.node.Node.commit.Given as goal
 
@@ -12,7 +12,9 @@ invariant-loop-self g l = record {
   page : length l.due.items ≤ l.book.spare;
   few : l.self.serial + length l.due.items < 2 ^ 64;
   stands : Stands (rules_of g.A.Acts.act_of l.fn.self.localities) l.self l.due.items l.book.entries;
-  writes : Writes [] l.fn.self l.self l.fn.book.entries l.book.entries;
+  here : (l.self.here ≡ l.fn.self.here) × (l.self.localities ≡ l.fn.self.localities);
+  running : l.self.running ≡ l.fn.self.running;
+  writes : l.book.entries ++ owed l.self l.due.items ≡ l.fn.book.entries ++ owed l.fn.self l.fn.due.items;
 }
 
 abbrev pub decreases-loop-self : goal.decreases-loop-self

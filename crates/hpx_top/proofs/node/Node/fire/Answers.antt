@@ -1,6 +1,7 @@
 use Rattle.std.proofs.Common.{◌≡◌, Some, sym, ◌∙◌}
 use Rattle.std.specs.List.{slice_get}
 use Rattle.hpx_top.specs.Free.{IsFree}
+use Rattle.hpx_top.proofs.FreeLemmas.{started_runs}
 use Rattle.hpx_top.proofs.Written.{writes_from}
 use Rattle.hpx_top.proofs.node.Node.fire.Goals as goal
 
@@ -29,4 +30,10 @@ returns-clause-job g c =
       state = job.1;
       accepted = c.start.ensures.accepted ∙ rw (c.in_ok-reserve.ensures.same, ← c.self.view_is);
       running = c.start.ensures.running c.in_ok-job.job.action (rw (c.in_ok-reserve.ensures.same, ← c.self.view_is) at) ∙ rw (c.in_ok-reserve.ensures.same, ← c.self.view_is);
+      runs = started_runs c.self.inside.here c.self.inside.running.items c.self.inside.objects.items c.start.new.self c.in_ok-job.job
+          c.in-Some.spot.1 free.standing
+          ((c.start.ensures.fired c.in_ok-job.job.action (rw (c.in_ok-reserve.ensures.same, ← c.self.view_is) at)).here ∙ rw (c.in_ok-reserve.ensures.same, ← c.self.view_is))
+          (c.start.ensures.running c.in_ok-job.job.action (rw (c.in_ok-reserve.ensures.same, ← c.self.view_is) at) ∙ rw (c.in_ok-reserve.ensures.same, ← c.self.view_is))
+          (c.start.ensures.objects ∙ rw (c.in_ok-reserve.ensures.same, ← c.self.view_is))
+          (rw (← c.self.view_is) at c.in_ok-job.ensures.here) stands free.found job.0 job.1;
     })

@@ -18,6 +18,7 @@ invariant_of-self g c =
       c.self.invariant.1,
       c.self.invariant.2,
       rw is (All-tail (λ (x : Outgoing). (x.to < c.self.inside.localities) × (x.to ≢ c.self.inside.here)) front.first front.rest (rw front.is at c.self.invariant.3)),
+      c.self.invariant.4,
     )
 
 pub returns-clause-stands : goal.returns-clause-stands

@@ -1,13 +1,14 @@
 use Rattle.std.proofs.Common.{ℕ, List, [], ◌≡◌, ◌≢◌, ◌≤◌, ◌<◌, length, arith, rules, subst, sym}
-use Rattle.std.specs.List.{AllByRecursion}
+use Rattle.std.specs.List.{AllByRecursion, sum_by}
 use Rattle.hpx_value.specs.Laws.{KeepsLaws}
 use Rattle.hpx_value.specs.Hands.{due_of, state_after}
 use Rattle.hpx_root_journal.specs.Data.{State, Due, Outcome}
 use Rattle.hpx_value.specs.declared.acts.Job.{Job}
 use Rattle.hpx_top.specs.Fit.{IsFitDue, IsKept}
 use Rattle.hpx_top.specs.Hand.{CanBeMade}
+use Rattle.hpx_top.specs.Changes.{due_weight}
 use Rattle.hpx_top.specs.Jobs.{IsFitJob}
-use Rattle.hpx_top.proofs.FitLemmas.{fit_due, fit_state, can_be_made, few_due, few_replies}
+use Rattle.hpx_top.proofs.FitLemmas.{fit_due, fit_state, can_be_made, few_due, few_replies, light_due}
 use Rattle.hpx_top.proofs.node.Node.plan.Goals as goal
 
 -- what the laws say of a job that is done
@@ -30,6 +31,10 @@ module _ (n : ℕ) (job : Job) (out : Outcome) (laws : KeepsLaws n job.kind job.
   short : (xs : List Due) → xs ≡ due_of job.state job.action [] out → length xs ≤ 177
   short xs is = subst (λ ys. length ys ≤ 177) (sym is)
       (few_due job.state job.action out laws.few.sends (few_replies job.state job.action out fit.state laws.conts) laws.few.prints)
+
+  light : (xs : List Due) → xs ≡ due_of job.state job.action [] out → sum_by due_weight xs ≤ 273472
+  light xs is = subst (λ ys. sum_by due_weight ys ≤ 273472) (sym is)
+      (light_due job.state job.action out laws.few.sends (few_replies job.state job.action out fit.state laws.conts) laws.few.prints laws.few.short)
 
 pub state-requires : goal.state-requires
 state-requires g c =
@@ -96,3 +101,15 @@ returns-clause-makes g c =
     let d = c.args.done.now in
     let job = d.job in
     subst (λ out. out.makes ≡ []) (sym d.right) (g.met.A.RootActs.nothing_made d.localities job.kind job.at job.state job.action)
+
+pub returns-clause-light : goal.returns-clause-light
+returns-clause-light g c =
+    let d = c.args.done.now in
+    let job = d.job in
+    let laws : KeepsLaws c.args.done.now.localities c.args.done.now.job.kind c.args.done.now.job.at c.args.done.now.job.state c.args.done.now.job.action c.args.done.now.outcome =
+    subst (KeepsLaws d.localities job.kind job.at job.state job.action) (sym d.right)
+    (g.met.A.Acts.keeps_laws d.localities job.kind job.at job.state job.action (some c.requires.here) c.requires.few c.requires.here c.requires.fit.state c.requires.fit.action.sent.shape) in
+    let moves : AllByRecursion (λ x. x.code ≢ 1) c.args.done.now.outcome.sends =
+    subst (λ out. AllByRecursion (λ x. x.code ≢ 1) out.sends) (sym d.right)
+    (g.met.A.RootActs.nothing_moves d.localities job.kind job.at job.state job.action) in
+    light d.localities job d.outcome laws moves c.requires.few (some c.requires.here) c.requires.fit c.in_ok-due.due.items (search rules)

@@ -1,0 +1,15 @@
+use Rattle.std.proofs.Common.{◌≡◌, false, Ok, ap}
+use Rattle.hpx_top.proofs.IdleLemmas.{stuck_same}
+use Rattle.hpx_top.proofs.locals.Locals.step.Goals as goal
+
+pub returns-in-Ok-clause-none : goal.returns-in-Ok-clause-none
+returns-in-Ok-clause-none g c = λ e.
+    let still : c.in-Ok.moved ≡ false = cc in
+    let carried = c.in-Ok.ensures.none (ap (λ b. Ok b) still) in
+    let worked = c.in_ok-work_first.ensures.none (ap (λ b. Ok b) c.if-branch.false) in
+    record {
+      fire = stuck_same _ _ carried.0.tables worked.1;
+      pump = carried.1;
+      hand = carried.2;
+      flight = carried.3;
+    }

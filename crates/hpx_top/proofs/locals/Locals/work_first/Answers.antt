@@ -1,0 +1,31 @@
+use Rattle.std.proofs.Common.{Ok, refl, ap, ◌∙◌, arith}
+use Rattle.hpx_top.specs.Sound.{IsStuck}
+use Rattle.hpx_top.proofs.IdleLemmas.{stuck_more, whole, same_then, none_at}
+use Rattle.hpx_top.proofs.locals.Locals.work_first.Goals as goal
+
+pub loop-k-preserved : goal.loop-k-preserved
+loop-k-preserved g c =
+    let i = c.loop-k.invariant in
+    let none = c.in_ok-work.ensures.none (ap (λ b. Ok b) c.if-branch.false) in
+    record {
+      sound = c.work.ensures.sound;
+      count = c.work.ensures.count ∙ i.count;
+      end = i.end;
+      same = same_then _ _ _ _ _ _ i.same none.0;
+      entries = none.0.journal ∙ i.entries;
+      hand = c.work.ensures.hand ∙ i.hand;
+      stuck = stuck_more c.loop-k.k _ _ none.0.tables none.1 i.stuck;
+    }
+
+pub returns-then-branch-clause-jobs : goal.returns-then-branch-clause-jobs
+returns-then-branch-clause-jobs g c = λ worked e none. c.in_ok-work.ensures.jobs c.in_ok-work.field-0 refl (none_at _ _ c.loop-k.invariant.same.tables none)
+
+pub returns-clause-jobs : goal.returns-clause-jobs
+returns-clause-jobs g c = λ worked e none. none_at _ _ c.loop-k.invariant.same.tables none
+
+pub returns-clause-none : goal.returns-clause-none
+returns-clause-none g c = λ same. (
+  c.loop-k.invariant.same,
+  whole IsStuck c.loop-k.k c.loop-k.self.nodes.items
+      (omega (arith, c.loop-k-test.false, c.loop-k.auto.k-end, c.loop-k.invariant.count, c.loop-k.invariant.end)) c.loop-k.invariant.stuck,
+)
