@@ -1,15 +1,15 @@
 -- An action is fed or sent once, and where nothing is pending it was done.
-use Rattle.std.proofs.Common.{ℕ, cond, List, [], ◌∷◌, ◌≡◌, ◌+◌, ◌<◌, ◌≤◌, refl, ap, arith}
-use Rattle.std.specs.List.{sum_by, count_by, AllByRecursion}
+use Rattle.std.proofs.Common.{ℕ, cond, List, [], ◌∷◌, ◌≡◌, ◌+◌, ◌<◌, ◌≤◌, ap, arith}
+use Rattle.std.specs.List.{sum_by, count_by}
 use Rattle.std.proofs.lemmas.List.Sums.{sum_by-cons}
 use Rattle.hpx_root_journal.specs.Bags.{total}
-use Rattle.hpx_root_journal.specs.Entries.{Name, Event, Line, Sent, Entry, Rules, Frame, acts_in}
+use Rattle.hpx_root_journal.specs.Entries.{Name, Event, Line, Sent, Entry, Rules}
 use Rattle.hpx_root_journal.specs.Local.{Local, Row, after, present, is_act}
 use Rattle.hpx_root_journal.specs.Whole.{Space, step, run, MayStand, IsLegal, fires, dones}
 use Rattle.hpx_root_journal.specs.Sessions.{IsSettled}
 use Rattle.hpx_root_journal.specs.Laws.{is_begun, begun}
 use Rattle.hpx_root_journal.proofs.Bags.{total-le, total-same}
-use Rattle.hpx_root_journal.proofs.Moves.{act_counts, name_counts}
+use Rattle.hpx_root_journal.proofs.Moves.{name_counts}
 use Rattle.hpx_root_journal.proofs.Present.{frame_acts, drawn, drawn_at, drawn_next, next}
 use Rattle.hpx_root_journal.proofs.Wholes.{IsWhole, whole_run, total_moves}
 use Rattle.hpx_root_journal.proofs.Joined.{one_place}

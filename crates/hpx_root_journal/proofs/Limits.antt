@@ -1,6 +1,5 @@
 -- What a turn adds, and the limits.
-use Rattle.std.proofs.Common.{ℕ, List, [], ◌∷◌, ◌++◌, ◌≡◌, ◌+◌, ◌≤◌, arith, ap, length, length-append}
-use Rattle.std.specs.List.{sum_by}
+use Rattle.std.proofs.Common.{ℕ, List, ◌≡◌, ◌≤◌, arith, ap, length, length-append}
 use Rattle.std.proofs.lemmas.List.Sums.{sum_by-append}
 use Rattle.hpx_root_journal.specs.Entries.{Event, Entry}
 use Rattle.hpx_root_journal.specs.Weights.{weight_of, total_weight, HasRoom, IsWithin, AddsATurn}

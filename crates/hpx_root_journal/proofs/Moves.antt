@@ -1,5 +1,5 @@
 -- What an entry does to the waiting actions of its locality.
-use Rattle.std.proofs.Common.{ℕ, true, cond, ◌≡◌, ◌+◌, Option, Some, None, refl, arith, map}
+use Rattle.std.proofs.Common.{ℕ, true, cond, ◌≡◌, ◌+◌, Option, Some, refl, arith, map}
 use Rattle.std.specs.List.{count_by}
 use Rattle.std.proofs.lemmas.List.Sums.{sum_by-append}
 use Rattle.hpx_value.specs.Values.{bare_act}

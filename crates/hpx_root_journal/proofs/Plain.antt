@@ -1,9 +1,8 @@
 -- Whole sessions, block after block: each is a run of the plain pool until nothing is pending.
 use Rattle.std.proofs.Common.{ℕ, zero, suc, List, [], ◌∷◌, ◌++◌, ◌≡◌, ◌<◌, refl, sym, ap, ◌∙◌, subst, arith, append-nil}
 use Rattle.std.specs.List.{sum_by, AllByRecursion}
-use Rattle.std.proofs.lemmas.List.Sums.{sum_by-cons}
 use Rattle.hpx_root_journal.specs.Data.{Message}
-use Rattle.hpx_root_journal.specs.Entries.{Name, Event, Line, Fire, Done, Sent, Print, Out, In, Entry, Rules, Frame, acts_in}
+use Rattle.hpx_root_journal.specs.Entries.{Name, Event, Line, Fire, Done, Sent, Print, Out, In, Entry, Rules}
 use Rattle.hpx_root_journal.specs.Whole.{FeedsNothing, Space, run, IsLegal}
 use Rattle.hpx_root_journal.specs.Pool.{Pool, fed, IsActed, Goes, Runs, act_mass, due_mass, frame_mass, mass_at, mass, state_of, prints_due, prints_of, Shows, IsBlind, OnlySessionPrints, AreSound}
 use Rattle.hpx_root_journal.specs.Sessions.{IsSettled, BeginsWith, IsBlock, IsSession, entries_of, shown, Steps, at_rest, IsPlainBlock, IsPlainSession, IsPlainFront, IsPlainBrokenOff}

@@ -1,5 +1,5 @@
 -- Where an action is: each entry keeps how often it is here and on the road, less how often it was sent.
-use Rattle.std.proofs.Common.{ℕ, true, false, cond, List, [], ◌∷◌, ◌++◌, ◌≡◌, ◌+◌, Option, Some, None, refl, sym, ap, arith, map}
+use Rattle.std.proofs.Common.{ℕ, true, false, cond, List, [], ◌∷◌, ◌++◌, ◌≡◌, ◌+◌, Option, Some, refl, sym, ap, arith, map}
 use Rattle.std.specs.List.{find, sum_by, count_by}
 use Rattle.std.specs.Prelude.{◌&&◌, ◌==◌, nat_lt, nat_le}
 use Rattle.std.proofs.lemmas.List.Sums.{sum_by-cons}

@@ -1,9 +1,9 @@
 -- A legal journal leaves as many frames on the road as were sent and not accepted; where none are, and no locality has
 -- anything to do, it is settled.
-use Rattle.std.proofs.Common.{ℕ, List, [], ◌∷◌, ◌≡◌, ◌+◌, ◌<◌, refl, sym, ap, subst, arith, length, length-append}
-use Rattle.std.specs.List.{sum_by, AllByRecursion}
+use Rattle.std.proofs.Common.{ℕ, List, [], ◌∷◌, ◌≡◌, ◌+◌, ◌<◌, refl, ap, arith, length, length-append}
+use Rattle.std.specs.List.{sum_by}
 use Rattle.std.proofs.lemmas.List.Sums.{sum_by-cons}
-use Rattle.hpx_root_journal.specs.Entries.{Event, Out, Entry, Standing, Rules, Frame, acts_in}
+use Rattle.hpx_root_journal.specs.Entries.{Event, Out, Entry, Standing, Rules, Frame}
 use Rattle.hpx_root_journal.specs.Whole.{run, IsLegal, IsCarried, start, sends, arrives, road_after, road_run, ins, outs, outs_by}
 use Rattle.hpx_root_journal.specs.Sessions.{IsSettled}
 use Rattle.hpx_root_journal.proofs.Wholes.{road_moves}

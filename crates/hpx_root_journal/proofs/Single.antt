@@ -1,5 +1,5 @@
 -- Each name once, after each entry that is no foreign arrival.
-use Rattle.std.proofs.Common.{ℕ, true, List, [], ◌≡◌, ◌+◌, ◌<◌, ◌≤◌, Option, Some, None, arith, inl, inr, subst}
+use Rattle.std.proofs.Common.{ℕ, true, List, [], ◌≡◌, ◌+◌, ◌<◌, ◌≤◌, Option, Some, arith, inl, inr, subst}
 use Rattle.std.specs.List.{sum_by}
 use Rattle.std.proofs.lemmas.Bool.Decides.{nat_tests}
 use Rattle.std.proofs.lemmas.Bool.{cases_Bool}

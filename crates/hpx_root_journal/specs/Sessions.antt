@@ -3,7 +3,7 @@ use Rattle.std.specs.Prelude.{ℕ, zero, suc, List, [], ◌∷◌, ◌++◌, ◌
 use Rattle.std.specs.List.{AllByRecursion}
 use Rattle.hpx_value.specs.Ids.{Id}
 use Rattle.hpx_root_journal.specs.Data.{State}
-use Rattle.hpx_root_journal.specs.Entries.{Name, Event, Line, Entry, Rules}
+use Rattle.hpx_root_journal.specs.Entries.{Name, Line, Entry, Rules}
 use Rattle.hpx_root_journal.specs.Whole.{Space, IsLegal, FeedsNothing, run}
 use Rattle.hpx_root_journal.specs.Pool.{Pool, fed, IsActed, prints_of}
 

@@ -1,4 +1,4 @@
-ghost use Rattle.std.specs.Prelude.{◌≡◌, ◌≤◌, ◌<◌, ◌+◌, ◌-◌, ◌^◌, ◌∷◌, [], ℕ, true, false, length, min, OnOk, OnErr, IfOk, IfErr, IsTrue, ◌↔◌, Ok, Err, Some, None, option_copied, slice_get, ◌⊎◌};
+ghost use Rattle.std.specs.Prelude.{◌≡◌, ◌≤◌, ◌<◌, ◌+◌, ◌-◌, ◌^◌, ◌∷◌, [], ℕ, List, true, false, length, min, OnOk, OnErr, IfOk, IfErr, IsTrue, ◌↔◌, Ok, Err, Some, None, option_copied, slice_get, ◌⊎◌};
 ghost use Rattle.hpx_root_journal.specs.Weights.{HasRoom, IsWithin, AddsATurn, total_weight};
 ghost use Rattle.hpx_root_journal.specs.Roots.{roots};
 ghost use Rattle.hpx_root_journal.specs.Whole.{IsLegal, start, run, Grows};
@@ -133,6 +133,7 @@ impl<A: RootActs + Copy> World<A> {
         ensures wrote { IfOk result (λ t. Wrote t self.old.journal.entries self.new.journal.entries) }
         ensures few { AddsATurn self.old.journal.entries self.new.journal.entries }
         ensures ran { IfOk result (λ t. Ran t self.old.nodes self.new.nodes) }
+        ensures answers { IfOk result (λ t. (t ≡ Turned.Idle) ⊎ ((job : _) × (t ≡ Turned.Fired job))) }
         ensures starts { (job : _) (t t' : _) → result ≡ Ok (Turned.Fired job) → slice_get self.old.nodes k ≡ Some t → slice_get self.new.nodes k ≡ Some t' → Starts t t' job }
         ensures fired { (job : _) → result ≡ Ok (Turned.Fired job) → job.at ≡ k }
         ensures idle { (t : _) → slice_get self.old.nodes k ≡ Some t → IfOk result (λ turned. (turned ≡ Turned.Idle) ↔ NoneIsFree t.running t.objects t.accepted) }
@@ -156,6 +157,7 @@ impl<A: RootActs + Copy> World<A> {
         ensures wrote { IfOk result (λ t. Wrote t self.old.journal.entries self.new.journal.entries) }
         ensures few { AddsATurn self.old.journal.entries self.new.journal.entries }
         ensures ran { IfOk result (λ t. Ran t self.old.nodes self.new.nodes) }
+        ensures answers { IfOk result (λ t. (f : _) × (t ≡ Turned.Finished f)) }
         ensures committed { (t : _) → result ≡ Ok (Turned.Finished Finished.Committed) → slice_get self.old.nodes done.job.at ≡ Some t
             → Grows done.job.at (committed done.job.at t.serial done.job done.outcome) self.old.journal.entries self.new.journal.entries }
         ensures not_running { (t : _) → slice_get self.old.nodes done.job.at ≡ Some t → IfOk result (λ turned.
@@ -187,6 +189,8 @@ impl<A: RootActs + Copy> World<A> {
         ensures wrote { IfOk result (λ t. Wrote t self.old.journal.entries self.new.journal.entries) }
         ensures few { AddsATurn self.old.journal.entries self.new.journal.entries }
         ensures ran { IfOk result (λ t. Ran t self.old.nodes self.new.nodes) }
+        ensures answers { IfOk result (λ t. (t ≡ Turned.Empty) ⊎ ((t ≡ Turned.Moved)
+            × ((to : ℕ) × (bytes : List ℕ) × Grows k (Event.Out to bytes ∷ []) self.old.journal.entries self.new.journal.entries))) }
         ensures empty { (t : _) → slice_get self.old.nodes k ≡ Some t → IfOk result (λ turned. (turned ≡ Turned.Empty) ↔ (t.outgoing ≡ [])) }
         ensures err { OnErr result (IsSame self.old.nodes self.new.nodes self.old.journal.entries self.new.journal.entries) }
         ensures which { IfErr result (λ e. (e ≡ WorldFault.Fabric) ⊎ (e ≡ WorldFault.OutOfMemory None)) }
@@ -210,6 +214,8 @@ impl<A: RootActs + Copy> World<A> {
         ensures wrote { IfOk result (λ t. Wrote t self.old.journal.entries self.new.journal.entries) }
         ensures few { AddsATurn self.old.journal.entries self.new.journal.entries }
         ensures ran { IfOk result (λ t. Ran t self.old.nodes self.new.nodes) }
+        ensures answers { IfOk result (λ t. (t ≡ Turned.Empty) ⊎ ((t ≡ Turned.Moved)
+            × ((at : ℕ) × (bytes : List ℕ) × Grows at (Event.In bytes ∷ []) self.old.journal.entries self.new.journal.entries))) }
         ensures empty { IfOk result (λ turned. (turned ≡ Turned.Empty) ↔ ((self.old.hand ≡ None) × (F.flight fabric.old ≡ Some []))) }
         ensures err { OnErr result (IsSame self.old.nodes self.new.nodes self.old.journal.entries self.new.journal.entries) }
         ensures which { IfErr result (λ e. (e ≡ WorldFault.Fabric) ⊎ (e ≡ WorldFault.OutOfMemory None)) }
@@ -251,6 +257,12 @@ impl<A: RootActs + Copy> World<A> {
         ensures committed { (done : _) (t : _) → choice ≡ Choice.Finish done → result ≡ Ok (Turned.Finished Finished.Committed) → slice_get self.old.nodes done.job.at ≡ Some t
             → Grows done.job.at (committed done.job.at t.serial done.job done.outcome) self.old.journal.entries self.new.journal.entries }
 
+        ensures fires { (k : _) → choice ≡ Choice.Fire k → IfOk result (λ t. (t ≡ Turned.Idle) ⊎ ((job : _) × (t ≡ Turned.Fired job))) }
+        ensures finishes { (done : _) → choice ≡ Choice.Finish done → IfOk result (λ t. (f : _) × (t ≡ Turned.Finished f)) }
+        ensures pumps { (k : _) → choice ≡ Choice.Pump k → IfOk result (λ t. (t ≡ Turned.Empty) ⊎ ((t ≡ Turned.Moved)
+            × ((to : ℕ) × (bytes : List ℕ) × Grows k (Event.Out to bytes ∷ []) self.old.journal.entries self.new.journal.entries))) }
+        ensures takes { choice ≡ Choice.Take → IfOk result (λ t. (t ≡ Turned.Empty) ⊎ ((t ≡ Turned.Moved)
+            × ((at : ℕ) × (bytes : List ℕ) × Grows at (Event.In bytes ∷ []) self.old.journal.entries self.new.journal.entries))) }
         ensures idle { (k : _) (t : _) → choice ≡ Choice.Fire k → slice_get self.old.nodes k ≡ Some t
             → IfOk result (λ turned. (turned ≡ Turned.Idle) ↔ NoneIsFree t.running t.objects t.accepted) }
         ensures not_running { (done : _) (t : _) → choice ≡ Choice.Finish done → slice_get self.old.nodes done.job.at ≡ Some t
