@@ -19,3 +19,8 @@ pub mod Posted
 pub mod QuietLemmas
 pub mod ReaderLemmas
 pub mod Unfed
+pub mod LineLemmas
+pub mod SessionLemmas
+pub mod EndLemmas
+pub mod ShowLemmas
+pub mod FeedLemmas
