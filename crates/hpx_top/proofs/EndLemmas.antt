@@ -7,13 +7,12 @@ use Rattle.hpx_root_journal.specs.declared.entry.Entry.{Entry}
 use Rattle.hpx_ports.specs.Told.{preceded, followed}
 use Rattle.hpx_top.specs.PlainText.{IsFront, is_quit, is_newline, before_quit, lines_in, lines_of, quits, fed, text_of}
 use Rattle.hpx_top.specs.Reader.{Reading, HasRead, lines_left, input_left}
-use Rattle.hpx_top.specs.Session.{lines_fed, WritesFront, HandsOut, IsCut, IsOver, IsUnderWay, IsStopped}
-use Rattle.hpx_top.specs.Ends.{IsWhole, IsBrokenOff, IsBegun, IsReadUp, IsInputFull}
+use Rattle.hpx_top.specs.declared.session.SessionFault.{SessionFault}
+use Rattle.hpx_top.specs.declared.session.SessionFault.TheVariants.{Read, Write, Fabric, JournalFull, OutOfMemory, Strange, InputFull}
+use Rattle.hpx_top.specs.Session.{lines_fed, WritesFront, HandsOut, IsCut, IsCutBy, IsOver, IsUnderWay, IsStopped}
+use Rattle.hpx_top.specs.Ends.{IsWhole, IsBrokenOff, IsBegun, IsEndedBy, IsReadUp, IsInputFull}
 use Rattle.hpx_top.proofs.LineLemmas.{told_rest, before_quit_append, text_front, front_then, followed_nothing}
-
--- the lines of an input that tells
-pub told_lines : Option (List ℕ) → Option (List (List ℕ))
-told_lines left = lines_left (record { pending = []; read = 0; ended = false }) left
+use Rattle.hpx_top.proofs.SessionLemmas.{under_cut, under_over}
 
 handed : (input : List ℕ) (left : Option (List (List ℕ))) (lines rest : List (List ℕ)) → list_any is_quit lines ≡ false
     → lines_in (slice_split is_newline input) ≡ lines ++ rest → lines_of input ≡ lines ++ before_quit rest
@@ -109,3 +108,79 @@ full_at input reading left s h all =
   where
     some_is : (a b : List (List ℕ)) → Some a ≡ Some b → a ≡ b
     some_is a b h = cc
+
+-- ---- by the cause of an end
+
+pub ended_at : (f : SessionFault) (input : List ℕ) (entries : List Entry) (old new : Option (List ℕ))
+    → IsCutBy f (Some (lines_in (slice_split is_newline input))) old entries new → IsEndedBy f input entries old new
+ended_at Write input entries old new c = begun_at input entries old new c
+ended_at Read input entries old new c = broken_at 0 input entries old new c
+ended_at InputFull input entries old new c = broken_at 0 input entries old new c
+ended_at Fabric input entries old new c = broken_at 1 input entries old new c
+ended_at JournalFull input entries old new c = broken_at 1 input entries old new c
+ended_at OutOfMemory input entries old new c = broken_at 1 input entries old new c
+ended_at Strange input entries old new c = broken_at 1 input entries old new c
+
+begun_cut : (most : ℕ) (input : List ℕ) (entries : List Entry) (old new : Option (List ℕ))
+    → IsCut most (Some (lines_in (slice_split is_newline input))) old entries new → IsBegun input entries old new
+begun_cut most input entries old new c = begun_at input entries old new (under_cut most (Some (lines_in (slice_split is_newline input))) old new entries c)
+
+pub begun_by : (f : SessionFault) (input : List ℕ) (entries : List Entry) (old new : Option (List ℕ))
+    → IsCutBy f (Some (lines_in (slice_split is_newline input))) old entries new → IsBegun input entries old new
+begun_by Write input entries old new c = begun_at input entries old new c
+begun_by Read input entries old new c = begun_cut 0 input entries old new c
+begun_by InputFull input entries old new c = begun_cut 0 input entries old new c
+begun_by Fabric input entries old new c = begun_cut 1 input entries old new c
+begun_by JournalFull input entries old new c = begun_cut 1 input entries old new c
+begun_by OutOfMemory input entries old new c = begun_cut 1 input entries old new c
+begun_by Strange input entries old new c = begun_cut 1 input entries old new c
+
+-- ---- the same of the bytes that a source had left
+
+abbrev pub all_lines : Option (List ℕ) → Option (List (List ℕ))
+all_lines left = lines_left (record { pending = []; read = 0; ended = false }) left
+
+told : (input : List ℕ) (left : Option (List ℕ)) → left ≡ Some input → all_lines left ≡ Some (lines_in (slice_split is_newline input))
+told input left h = ap all_lines h
+
+pub whole_from : (ended : Bool) (input : List ℕ) (left : Option (List ℕ)) (entries : List Entry) (old new : Option (List ℕ)) → left ≡ Some input
+    → IsOver ended (all_lines left) old entries new → IsWhole input entries old new
+whole_from ended input left entries old new h o = whole_at_end ended input entries old new (subst (λ all. IsOver ended all old entries new) (told input left h) o)
+
+pub begun_over : (ended : Bool) (input : List ℕ) (left : Option (List ℕ)) (entries : List Entry) (old new : Option (List ℕ)) → left ≡ Some input
+    → IsOver ended (all_lines left) old entries new → IsBegun input entries old new
+begun_over ended input left entries old new h o =
+    begun_at input entries old new (under_over ended _ old new entries (subst (λ all. IsOver ended all old entries new) (told input left h) o))
+
+pub read_up_from : (ended : Bool) (input : List ℕ) (left rest : Option (List ℕ)) (reading : Reading) (entries : List Entry) (old new : Option (List ℕ))
+    → left ≡ Some input → IsOver ended (all_lines left) old entries new → HasRead left reading rest → reading.ended ≡ ended → IsReadUp input rest
+read_up_from ended input left rest reading entries old new h o read same =
+    read_up_at ended input reading rest entries old new (subst (λ all. IsOver ended all old entries new) (told input left h) o)
+    (subst (λ all. HasRead all reading rest) h read) same
+
+pub full_from : (input : List ℕ) (left rest : Option (List ℕ)) (reading : Reading) → left ≡ Some input → IsStopped (all_lines left) reading rest
+    → HasRead left reading rest → reading.read ≡ 67108864 → IsInputFull input rest
+full_from input left rest reading h stopped read count =
+    full_at input reading rest (subst (λ all. IsStopped all reading rest) (told input left h) stopped) (subst (λ all. HasRead all reading rest) h read) count
+
+pub ended_from : (f : SessionFault) (input : List ℕ) (left : Option (List ℕ)) (entries : List Entry) (old new : Option (List ℕ)) → left ≡ Some input
+    → IsCutBy f (all_lines left) old entries new → IsEndedBy f input entries old new
+ended_from f input left entries old new h c = ended_at f input entries old new (subst (λ all. IsCutBy f all old entries new) (told input left h) c)
+
+pub begun_from : (f : SessionFault) (input : List ℕ) (left : Option (List ℕ)) (entries : List Entry) (old new : Option (List ℕ)) → left ≡ Some input
+    → IsCutBy f (all_lines left) old entries new → IsBegun input entries old new
+begun_from f input left entries old new h c = begun_by f input entries old new (subst (λ all. IsCutBy f all old entries new) (told input left h) c)
+
+-- before anything is read
+pub read_none : (left : Option (List ℕ)) (reading : Reading) → reading ≡ record { pending = []; read = 0; ended = false } → HasRead left reading left
+read_none left reading h = subst (λ r. HasRead left r left) (sym h) (record {
+  front = [];
+  count = refl;
+  next = nothing left;
+  at_end = λ e. absurd (let never : false ≡ true = e in cc);
+  below = λ e. absurd (let never : false ≡ true = e in cc);
+})
+  where
+    nothing : (o : Option (List ℕ)) → o ≡ preceded [] o
+    nothing None = refl
+    nothing (Some xs) = refl

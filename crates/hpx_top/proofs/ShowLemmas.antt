@@ -29,6 +29,11 @@ pub if_err_from : {T E : Type 0} (r : Result T E) (e : E) (Q : E → Type 0) →
 if_err_from (Ok x) e Q h q = tt
 if_err_from (Err y) e Q h q = subst Q (sym h) q
 
+-- the error that is handed on is the one that came
+pub err_of : {T E : Type 0} (r : Result T E) (e f : E) → IsErrAnd r (λ y. y ≡ e) → r ≡ Err f → e ≡ f
+err_of (Ok x) e f h is = absurd h
+err_of (Err y) e f h is = sym h ∙ (cc)
+
 -- what holds of a value, where there is no error
 pub ok_there : {T E : Type 0} (r : Result T E) (P : Type 0) → ((e : E) → r ≡ Err e → ⊥) → OnOk r P → P
 ok_there (Ok x) P never h = h
