@@ -111,6 +111,10 @@ full_at input reading left s h all =
 
 -- ---- by the cause of an end
 
+begun_cut : (most : ℕ) (input : List ℕ) (entries : List Entry) (old new : Option (List ℕ))
+    → IsCut most (Some (lines_in (slice_split is_newline input))) old entries new → IsBegun input entries old new
+begun_cut most input entries old new c = begun_at input entries old new (under_cut most (Some (lines_in (slice_split is_newline input))) old new entries c)
+
 pub ended_at : (f : SessionFault) (input : List ℕ) (entries : List Entry) (old new : Option (List ℕ))
     → IsCutBy f (Some (lines_in (slice_split is_newline input))) old entries new → IsEndedBy f input entries old new
 ended_at Write input entries old new c = begun_at input entries old new c
@@ -119,11 +123,7 @@ ended_at InputFull input entries old new c = broken_at 0 input entries old new c
 ended_at Fabric input entries old new c = broken_at 1 input entries old new c
 ended_at JournalFull input entries old new c = broken_at 1 input entries old new c
 ended_at OutOfMemory input entries old new c = broken_at 1 input entries old new c
-ended_at Strange input entries old new c = broken_at 1 input entries old new c
-
-begun_cut : (most : ℕ) (input : List ℕ) (entries : List Entry) (old new : Option (List ℕ))
-    → IsCut most (Some (lines_in (slice_split is_newline input))) old entries new → IsBegun input entries old new
-begun_cut most input entries old new c = begun_at input entries old new (under_cut most (Some (lines_in (slice_split is_newline input))) old new entries c)
+ended_at Strange input entries old new c = begun_cut 1 input entries old new c
 
 pub begun_by : (f : SessionFault) (input : List ℕ) (entries : List Entry) (old new : Option (List ℕ))
     → IsCutBy f (Some (lines_in (slice_split is_newline input))) old entries new → IsBegun input entries old new

@@ -52,9 +52,10 @@ pub record IsInputFull (input : List ℕ) (left : Option (List ℕ)) : Type 0 wh
   pub no_line : IsPiece piece
   pub lines_are : lines_in (slice_split is_newline input) ≡ lines ++ lines_in (slice_split is_newline (piece ++ rest))
 
--- how a session was broken off: at a write anywhere, and otherwise behind a prompt
+-- how a session was broken off: at a write or a strange parcel anywhere, and otherwise behind a prompt
 abbrev pub IsEndedBy : SessionFault → List ℕ → List Entry → Option (List ℕ) → Option (List ℕ) → Type 0
 IsEndedBy Write input entries old new = IsBegun input entries old new
 IsEndedBy Read input entries old new = IsBrokenOff 0 input entries old new
+IsEndedBy Strange input entries old new = IsBegun input entries old new
 IsEndedBy InputFull input entries old new = IsBrokenOff 0 input entries old new
 IsEndedBy _ input entries old new = IsBrokenOff 1 input entries old new

@@ -20,3 +20,4 @@ pub mod Reader
 pub mod Usage
 pub mod Session
 pub mod Ends
+pub mod Statuses

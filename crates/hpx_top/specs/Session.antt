@@ -1,5 +1,5 @@
 -- How far a session has come: the lines that were handled, what was fed for them, and what was written.
-use Rattle.std.specs.Prelude.{ℕ, Bool, pos, true, false, Option, Some, IfSome, List, [], ◌∷◌, ◌++◌, ◌≡◌, ◌+◌, ◌<◌, ◌≤◌, ◌⊎◌, length, drop}
+use Rattle.std.specs.Prelude.{ℕ, Bool, pos, true, false, Option, Some, None, IfSome, List, [], ◌∷◌, ◌++◌, ◌≡◌, ◌+◌, ◌<◌, ◌≤◌, ◌⊎◌, length, drop}
 use Rattle.std.specs.List.{concat, list_any}
 use Rattle.hpx_root_journal.specs.declared.entry.Entry.{Entry}
 use Rattle.hpx_root_journal.specs.declared.entry.Event.{Event}
@@ -12,6 +12,8 @@ use Rattle.hpx_root_journal.specs.Pool.{prints_of}
 use Rattle.hpx_top.specs.declared.session.SessionFault.{SessionFault}
 use Rattle.hpx_top.specs.declared.session.SessionFault.TheVariants.{Read, Write, Fabric, JournalFull, OutOfMemory, Strange, InputFull}
 use Rattle.hpx_top.specs.Acts.{act_of}
+use Rattle.hpx_top.specs.Places.{Places}
+use Rattle.hpx_top.specs.Sound.{IsQuiet}
 use Rattle.hpx_top.specs.Stands.{rules_of}
 use Rattle.hpx_top.specs.PlainText.{is_quit, IsPiece, before_quit, fed, commands, lines_text, text_of, IsFront}
 use Rattle.hpx_top.specs.Reader.{Reading, lines_left, bytes_left}
@@ -44,6 +46,20 @@ pub record WritesUpTo (rest bytes : List ℕ) (old new : Option (List ℕ)) : Ty
   pub front : List ℕ
   pub whole : front ++ rest ≡ bytes
   pub held : new ≡ followed old front
+
+-- the journal is legal at n localities
+abbrev pub IsLegalAt : ℕ → List Entry → Type 0
+IsLegalAt n entries = IsLegal (rules_of act_of n) (start (roots n)) entries
+
+-- nothing is to be done anywhere: nothing is pending and nothing is due
+pub record IsAtRest (world : Places) : Type 0 where
+  pub quiet : IsQuiet world.nodes world.hand
+  pub settled : IsSettled (rules_of act_of (length world.nodes)) (run (rules_of act_of (length world.nodes)) (start (roots (length world.nodes))) world.journal.entries)
+
+-- the entries that stand where a run ends: none without a world
+abbrev pub entries_in : Option Places → List Entry
+entries_in None = []
+entries_in (Some world) = world.journal.entries
 
 -- the journal grew by what a line did: it was fed, and then nothing was left to do
 pub record FeedsLine (n : ℕ) (line : List ℕ) (old new : List Entry) : Type 0 where

@@ -5,10 +5,10 @@ ghost use Rattle.hpx_root_journal.specs.Pool.{prints_by, prints_of};
 ghost use Rattle.hpx_root_journal.specs.Weights.{HasRoom};
 ghost use Rattle.hpx_ports.specs.Faults.{Rose};
 ghost use Rattle.hpx_ports.specs.Told.{followed};
-ghost use Rattle.hpx_top.specs.Sound.{IsCarrying, IsQuiet};
+ghost use Rattle.hpx_top.specs.Sound.{IsCarrying};
 ghost use Rattle.hpx_top.specs.PlainText.{is_long, text_of};
 ghost use Rattle.hpx_top.specs.Reader.{HasRead, bytes_left};
-ghost use Rattle.hpx_top.specs.Session.{FeedsAtMost, FeedsLine, IsLineEndedBy, WritesFront, IsServing, IsOver, IsCutBy, IsStopped};
+ghost use Rattle.hpx_top.specs.Session.{IsAtRest, IsLegalAt, FeedsAtMost, FeedsLine, IsLineEndedBy, WritesFront, IsServing, IsOver, IsCutBy, IsStopped};
 ghost use Rattle.hpx_top.specs.Ends.{IsWhole, IsEndedBy, IsBegun, IsReadUp, IsInputFull};
 
 use crate::acts::AllActs;
@@ -122,12 +122,14 @@ fn feed<F: Fabric>(
     fabric: &mut F,
 ) -> Result<(), SessionFault>
     requires short { is_long line.now ≡ false }
+    requires legal { IsLegalAt (length world.old.nodes) world.old.journal.entries }
     requires carrying { IsCarrying world.old.hand (F.flight fabric.old) (F.trace fabric.old) world.old.journal.entries }
 
+    ensures legal { IsLegalAt (length world.new.nodes) world.new.journal.entries }
     ensures carrying { IsCarrying world.new.hand (F.flight fabric.new) (F.trace fabric.new) world.new.journal.entries }
     ensures count { length world.new.nodes ≡ length world.old.nodes }
     ensures fed { OnOk result (FeedsLine (length world.new.nodes) line.now world.old.journal.entries world.new.journal.entries) }
-    ensures quiet { OnOk result (IsQuiet world.new.nodes world.new.hand) }
+    ensures rest { OnOk result (IsAtRest world.new) }
     ensures once { FeedsAtMost (97 ∷ line.now) world.old.journal.entries world.new.journal.entries }
 
     ensures fabric { result ≡ Err SessionFault.Fabric → Rose (F.faults fabric.old) (F.faults fabric.new) }
@@ -160,12 +162,14 @@ fn serve_text<K: Sink, F: Fabric>(
     fabric: &mut F,
 ) -> Result<(), SessionFault>
     requires short { is_long line.now ≡ false }
+    requires legal { IsLegalAt (length world.old.nodes) world.old.journal.entries }
     requires carrying { IsCarrying world.old.hand (F.flight fabric.old) (F.trace fabric.old) world.old.journal.entries }
 
+    ensures legal { IsLegalAt (length world.new.nodes) world.new.journal.entries }
     ensures carrying { IsCarrying world.new.hand (F.flight fabric.new) (F.trace fabric.new) world.new.journal.entries }
     ensures count { length world.new.nodes ≡ length world.old.nodes }
     ensures fed { OnOk result (FeedsLine (length world.new.nodes) line.now world.old.journal.entries world.new.journal.entries) }
-    ensures quiet { OnOk result (IsQuiet world.new.nodes world.new.hand) }
+    ensures rest { OnOk result (IsAtRest world.new) }
     ensures held { OnOk result (K.held sink.new ≡ followed (K.held sink.old) (concat (prints_of (drop (length world.old.journal.entries) world.new.journal.entries)))) }
     ensures err { IfErr result (λ fault. IsLineEndedBy fault (length world.new.nodes) line.now world.old.journal.entries world.new.journal.entries (K.held sink.old) (K.held sink.new)) }
 
@@ -191,7 +195,8 @@ fn serve_line<S: Source, K: Sink, F: Fabric>(
 ) -> Result<bool, SessionFault>
     requires some { 1 ≤ length world.old.nodes }
     requires few { length world.old.nodes ≤ 64 }
-    requires quiet { IsQuiet world.old.nodes world.old.hand }
+    requires rest { IsAtRest world.old }
+    requires legal { IsLegalAt (length world.old.nodes) world.old.journal.entries }
     requires carrying { IsCarrying world.old.hand (F.flight fabric.old) (F.trace fabric.old) world.old.journal.entries }
 
     ensures line { result ≡ Ok true → (all : _) (before : _) →
@@ -209,7 +214,8 @@ fn serve_line<S: Source, K: Sink, F: Fabric>(
     ensures reads { (all : _) → HasRead all reader.old (S.left source.old) → HasRead all reader.new (S.left source.new) }
     ensures counted { reader.new.read + S.taken source.old ≡ reader.old.read + S.taken source.new }
 
-    ensures quiet { OnOk result (IsQuiet world.new.nodes world.new.hand) }
+    ensures rest { OnOk result (IsAtRest world.new) }
+    ensures legal { IsLegalAt (length world.new.nodes) world.new.journal.entries }
     ensures carrying { IsCarrying world.new.hand (F.flight fabric.new) (F.trace fabric.new) world.new.journal.entries }
     ensures count { length world.new.nodes ≡ length world.old.nodes }
     ensures fewer { result ≡ Ok true → bytes_left reader.new < bytes_left reader.old }
@@ -252,7 +258,7 @@ pub fn serve<S: Source, K: Sink, F: Fabric>(
     requires some { 1 ≤ length world.old.nodes }
     requires few { length world.old.nodes ≤ 64 }
     requires empty { world.old.journal.entries ≡ [] }
-    requires quiet { IsQuiet world.old.nodes world.old.hand }
+    requires rest { IsAtRest world.old }
     requires carrying { IsCarrying world.old.hand (F.flight fabric.old) (F.trace fabric.old) world.old.journal.entries }
 
     ensures whole { (input : _) → S.left source.old ≡ Some input → OnOk result (IsWhole input world.new.journal.entries (K.held sink.old) (K.held sink.new)) }
@@ -263,7 +269,8 @@ pub fn serve<S: Source, K: Sink, F: Fabric>(
     ensures input { (input : _) → S.left source.old ≡ Some input → result ≡ Err SessionFault.InputFull → IsInputFull input (S.left source.new) }
     ensures taken { result ≡ Err SessionFault.InputFull → S.taken source.new ≡ S.taken source.old + 67108864 }
 
-    ensures quiet { OnOk result (IsQuiet world.new.nodes world.new.hand) }
+    ensures rest { OnOk result (IsAtRest world.new) }
+    ensures legal { IsLegalAt (length world.new.nodes) world.new.journal.entries }
     ensures carrying { IsCarrying world.new.hand (F.flight fabric.new) (F.trace fabric.new) world.new.journal.entries }
     ensures count { length world.new.nodes ≡ length world.old.nodes }
 

@@ -36,3 +36,9 @@ returns-clause-once g c =
     let fed : IsFed (97 ∷ c.args.line.now) c.args.world.now.journal.entries c.drain.new.self.journal.entries
         = fed_then (97 ∷ c.args.line.now) c.in-Ok.marked _ c.turn.new.self.journal.entries _ (ok_there c.turn.result _ c.in_default.not-Err (c.turn.ensures.line _ refl)) is c.drain.ensures.unfed in
     inr (fed_once _ _ _ fed)
+
+pub returns-clause-rest : goal.returns-clause-rest
+returns-clause-rest g c = record {
+  quiet = c.quiet.ensures.is.0 c.if-not-quiet.false;
+  settled = c.quiet.ensures.settled c.if-not-quiet.false;
+}

@@ -1,7 +1,7 @@
 use Rattle.std.proofs.Common.{◌≡◌, ◌+◌, ◌≤◌, [], Ok, Err, false, true, length, refl, sym, ap, ◌∙◌, arith, subst}
 use Rattle.hpx_top.specs.declared.session.SessionFault.TheVariants.{InputFull}
 use Rattle.hpx_top.specs.Reader.{bytes_left}
-use Rattle.hpx_top.specs.Session.{IsServing, IsCutBy, IsOver, IsStopped, IsUnderWay}
+use Rattle.hpx_top.specs.Session.{IsLegalAt, IsServing, IsCutBy, IsOver, IsStopped, IsUnderWay}
 use Rattle.hpx_top.proofs.ShowLemmas.{if_err_from, err_of}
 use Rattle.hpx_top.proofs.SessionLemmas.{serving_start, under_start}
 use Rattle.hpx_top.proofs.FeedLemmas.{cut_write}
@@ -32,7 +32,8 @@ loop-reader-init g c = record {
     (rw c.new-reader.ensures refl) (rw c.new-reader.ensures (omega arith)) c.requires.empty c.in_ok-write.ensures.held;
   reads = read_none (g.S.Source.left c.args.source.now) c.new-reader.result c.new-reader.ensures;
   counted = rw c.new-reader.ensures (omega arith);
-  quiet = c.requires.quiet;
+  rest = c.requires.rest;
+  legal = subst (λ es. IsLegalAt (length c.args.world.now.nodes) es) (sym c.requires.empty) tt;
   carrying = c.requires.carrying;
   count = refl;
   source_faults = omega arith;
@@ -48,7 +49,8 @@ loop-reader-preserved g c =
       serving = rw (← c.loop-reader.invariant.count) next;
       reads = c.serve_line.ensures.reads _ c.loop-reader.invariant.reads;
       counted = omega (arith, c.loop-reader.invariant.counted, c.serve_line.ensures.counted);
-      quiet = c.in_ok-serve_line.ensures.quiet;
+      rest = c.in_ok-serve_line.ensures.rest;
+      legal = c.serve_line.ensures.legal;
       carrying = c.serve_line.ensures.carrying;
       count = c.serve_line.ensures.count ∙ c.loop-reader.invariant.count;
       source_faults = omega (arith, c.loop-reader.invariant.source_faults, c.serve_line.ensures.source_faults);

@@ -1,7 +1,7 @@
 use Rattle.std.proofs.Common.{◌≡◌, ◌+◌, ◌≤◌, [], false, length}
-use Rattle.hpx_top.specs.Sound.{IsCarrying, IsQuiet}
+use Rattle.hpx_top.specs.Sound.{IsCarrying}
 use Rattle.hpx_top.specs.Reader.{HasRead, bytes_left, lines_left}
-use Rattle.hpx_top.specs.Session.{IsServing}
+use Rattle.hpx_top.specs.Session.{IsAtRest, IsLegalAt, IsServing}
 use Rattle.hpx_top.proofs.session.serve.Given as goal
 
 abbrev pub invariant-loop-reader : goal.invariant-loop-reader
@@ -11,7 +11,8 @@ invariant-loop-reader g l =
         (g.K.Sink.held l.fn.sink) l.reader (g.S.Source.left l.source) l.world.journal.entries (g.K.Sink.held l.sink);
       reads : HasRead (g.S.Source.left l.fn.source) l.reader (g.S.Source.left l.source);
       counted : l.reader.read + g.S.Source.taken l.fn.source ≡ g.S.Source.taken l.source;
-      quiet : IsQuiet l.world.nodes l.world.hand;
+      rest : IsAtRest l.world;
+      legal : IsLegalAt (length l.world.nodes) l.world.journal.entries;
       carrying : IsCarrying l.world.hand (g.F.Fabric.flight l.fabric) (g.F.Fabric.trace l.fabric) l.world.journal.entries;
       count : length l.world.nodes ≡ length l.fn.world.nodes;
       source_faults : g.S.Source.faults l.fn.source ≤ g.S.Source.faults l.source;
