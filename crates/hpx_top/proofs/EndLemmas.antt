@@ -9,10 +9,10 @@ use Rattle.hpx_top.specs.PlainText.{IsFront, is_quit, is_newline, before_quit, l
 use Rattle.hpx_top.specs.Reader.{Reading, HasRead, lines_left, input_left}
 use Rattle.hpx_top.specs.declared.session.SessionFault.{SessionFault}
 use Rattle.hpx_top.specs.declared.session.SessionFault.TheVariants.{Read, Write, Fabric, JournalFull, OutOfMemory, Strange, InputFull}
-use Rattle.hpx_top.specs.Session.{lines_fed, WritesFront, HandsOut, IsCut, IsCutBy, IsOver, IsUnderWay, IsStopped}
-use Rattle.hpx_top.specs.Ends.{IsWhole, IsBrokenOff, IsBegun, IsEndedBy, IsReadUp, IsInputFull}
+use Rattle.hpx_top.specs.Session.{lines_fed, WritesFront, HandsOut, IsCut, IsCutIn, IsCutBy, IsOver, IsUnderWay, IsStopped}
+use Rattle.hpx_top.specs.Ends.{IsWhole, IsBrokenOff, IsBrokenIn, IsBegun, IsEndedBy, IsReadUp, IsInputFull}
 use Rattle.hpx_top.proofs.LineLemmas.{told_rest, before_quit_append, text_front, front_then, followed_nothing}
-use Rattle.hpx_top.proofs.SessionLemmas.{under_cut, under_over}
+use Rattle.hpx_top.proofs.SessionLemmas.{under_cut, under_in, under_over}
 
 handed : (input : List ℕ) (left : Option (List (List ℕ))) (lines rest : List (List ℕ)) → list_any is_quit lines ≡ false
     → lines_in (slice_split is_newline input) ≡ lines ++ rest → lines_of input ≡ lines ++ before_quit rest
@@ -37,6 +37,21 @@ broken_at most input entries old new c =
       later = before_quit rest.0;
       first = handed input c.left (c.lines ++ c.next) rest.0 c.handled.goes_on rest.2;
       few = c.few;
+      lines = c.journal;
+      text = c.held;
+    }
+
+pub broken_in : (input : List ℕ) (entries : List Entry) (old new : Option (List ℕ))
+    → IsCutIn (Some (lines_in (slice_split is_newline input))) old entries new → IsBrokenIn input entries old new
+broken_in input entries old new c =
+    let lines = c.lines ++ c.line ∷ [] in
+    let rest = told_rest (lines_in (slice_split is_newline input)) lines c.left c.handled.first in
+    record {
+      handled = c.lines;
+      line = c.line;
+      later = before_quit rest.0;
+      first = handed input c.left lines rest.0 c.handled.goes_on rest.2 ∙ append_assoc c.lines (c.line ∷ []) (before_quit rest.0);
+      short = c.short;
       lines = c.journal;
       text = c.held;
     }
@@ -115,25 +130,29 @@ begun_cut : (most : ℕ) (input : List ℕ) (entries : List Entry) (old new : Op
     → IsCut most (Some (lines_in (slice_split is_newline input))) old entries new → IsBegun input entries old new
 begun_cut most input entries old new c = begun_at input entries old new (under_cut most (Some (lines_in (slice_split is_newline input))) old new entries c)
 
+begun_in : (input : List ℕ) (entries : List Entry) (old new : Option (List ℕ))
+    → IsCutIn (Some (lines_in (slice_split is_newline input))) old entries new → IsBegun input entries old new
+begun_in input entries old new c = begun_at input entries old new (under_in (Some (lines_in (slice_split is_newline input))) old new entries c)
+
 pub ended_at : (f : SessionFault) (input : List ℕ) (entries : List Entry) (old new : Option (List ℕ))
     → IsCutBy f (Some (lines_in (slice_split is_newline input))) old entries new → IsEndedBy f input entries old new
 ended_at Write input entries old new c = begun_at input entries old new c
 ended_at Read input entries old new c = broken_at 0 input entries old new c
 ended_at InputFull input entries old new c = broken_at 0 input entries old new c
-ended_at Fabric input entries old new c = broken_at 1 input entries old new c
-ended_at JournalFull input entries old new c = broken_at 1 input entries old new c
+ended_at Fabric input entries old new c = broken_in input entries old new c
+ended_at JournalFull input entries old new c = broken_in input entries old new c
 ended_at OutOfMemory input entries old new c = broken_at 1 input entries old new c
-ended_at Strange input entries old new c = begun_cut 1 input entries old new c
+ended_at Strange input entries old new c = begun_in input entries old new c
 
 pub begun_by : (f : SessionFault) (input : List ℕ) (entries : List Entry) (old new : Option (List ℕ))
     → IsCutBy f (Some (lines_in (slice_split is_newline input))) old entries new → IsBegun input entries old new
 begun_by Write input entries old new c = begun_at input entries old new c
 begun_by Read input entries old new c = begun_cut 0 input entries old new c
 begun_by InputFull input entries old new c = begun_cut 0 input entries old new c
-begun_by Fabric input entries old new c = begun_cut 1 input entries old new c
-begun_by JournalFull input entries old new c = begun_cut 1 input entries old new c
+begun_by Fabric input entries old new c = begun_in input entries old new c
+begun_by JournalFull input entries old new c = begun_in input entries old new c
 begun_by OutOfMemory input entries old new c = begun_cut 1 input entries old new c
-begun_by Strange input entries old new c = begun_cut 1 input entries old new c
+begun_by Strange input entries old new c = begun_in input entries old new c
 
 -- ---- the same of the bytes that a source had left
 

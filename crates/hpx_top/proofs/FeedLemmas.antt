@@ -18,7 +18,7 @@ use Rattle.hpx_top.specs.Turns.{IsUnfed}
 use Rattle.hpx_top.specs.Session.{lines_fed, FeedsAtMost, FeedsLine, WritesFront, IsServing, IsCut, IsUnderWay, IsCutBy, IsLineEndedBy}
 use Rattle.hpx_top.proofs.Unfed.{unfed_then, unfed_grows}
 use Rattle.hpx_top.proofs.LineLemmas.{lines_fed_append, block_line}
-use Rattle.hpx_top.proofs.SessionLemmas.{cut_line, under_line}
+use Rattle.hpx_top.proofs.SessionLemmas.{cut_line, cut_in, under_line}
 
 -- a line and what follows from it are a block
 pub record IsFed (line : List ℕ) (old new : List Entry) : Type 0 where
@@ -82,10 +82,10 @@ cut_text Write n m all before now mid later reading next left rest old new line 
 cut_text Read n m all before now mid later reading next left rest old new line some few same s prompted takes e = absurd e
 cut_text InputFull n m all before now mid later reading next left rest old new line some few same s prompted takes e = absurd e
 cut_text Fabric n m all before now mid later reading next left rest old new line some few same s prompted takes e =
-    cut_line n all before now later reading next left rest old new line s (e.1 ∙ prompted) takes e.0
+    cut_in n all before now later reading next left rest old new line s (e.1 ∙ prompted) takes e.0
 cut_text JournalFull n m all before now mid later reading next left rest old new line some few same s prompted takes e =
-    cut_line n all before now later reading next left rest old new line s (e.1 ∙ prompted) takes e.0
+    cut_in n all before now later reading next left rest old new line s (e.1 ∙ prompted) takes e.0
 cut_text OutOfMemory n m all before now mid later reading next left rest old new line some few same s prompted takes e =
     cut_line n all before now later reading next left rest old new line s (e.1 ∙ prompted) takes e.0
 cut_text Strange n m all before now mid later reading next left rest old new line some few same s prompted takes e =
-    cut_line n all before now later reading next left rest old new line s (e.1 ∙ prompted) takes e.0
+    cut_in n all before now later reading next left rest old new line s (e.1 ∙ prompted) takes e.0

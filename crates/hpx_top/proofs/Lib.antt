@@ -24,3 +24,4 @@ pub mod SessionLemmas
 pub mod EndLemmas
 pub mod ShowLemmas
 pub mod FeedLemmas
+pub mod RunLemmas

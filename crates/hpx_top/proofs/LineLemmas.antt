@@ -114,6 +114,9 @@ goes_on_more xs line h g =
     list_any-append is_quit xs (line ∷ [])
     ∙ (ap (λ b. b || (is_quit line || false)) h ∙ ap (λ b. b || false) g)
 
+pub goes_on_less : (xs ys : List (List ℕ)) → list_any is_quit (xs ++ ys) ≡ false → list_any is_quit xs ≡ false
+goes_on_less xs ys h = (or_none (list_any is_quit xs) (list_any is_quit ys) (sym (list_any-append is_quit xs ys) ∙ h)).0
+
 pub long_goes_on : (line : List ℕ) → is_long line ≡ true → is_quit line ≡ false
 long_goes_on line h = ap (λ b. not b && are_quit (words_of line)) h
 

@@ -19,9 +19,9 @@ use Rattle.hpx_top.specs.Stands.{rules_of}
 use Rattle.hpx_top.specs.PlainText.{IsFront, is_long, is_quit, is_newline, lines_in, before_quit, fed, after_lines, line_text, lines_text, text_of, prompt, commands, written}
 use Rattle.hpx_top.specs.Console.{bad_command}
 use Rattle.hpx_top.specs.Reader.{Reading, lines_left, input_left, bytes_left, TakesLine, TakesLong, TakesQuit, IsAtEnd, IsFull}
-use Rattle.hpx_top.specs.Session.{lines_fed, FeedsAtMost, WritesFront, FeedsLine, IsJournalOf, HandsOut, IsServing, IsCut, IsOver, IsUnderWay, IsStopped}
+use Rattle.hpx_top.specs.Session.{lines_fed, FeedsAtMost, WritesFront, FeedsLine, IsJournalOf, HandsOut, IsServing, IsCut, IsCutIn, IsOver, IsUnderWay, IsStopped}
 use Rattle.hpx_top.proofs.TextSession.{boot_stable, only_session, names_blind, session_text}
-use Rattle.hpx_top.proofs.LineLemmas.{followed_twice, followed_nothing, preceded_nothing, preceded_twice, lines_text_more, long_text, front_all, front_then, text_front, fed_short, fed_long, goes_on_more, long_goes_on, lines_fed_append, block_line, session_lines, session_count, shown_more, entries_more, line_shown}
+use Rattle.hpx_top.proofs.LineLemmas.{followed_twice, followed_nothing, preceded_nothing, preceded_twice, lines_text_more, long_text, front_all, front_then, text_front, fed_short, fed_long, goes_on_more, goes_on_less, long_goes_on, lines_fed_append, block_line, session_lines, session_count, shown_more, entries_more, line_shown}
 
 -- ---- the journal
 
@@ -217,6 +217,25 @@ quit_among all (Some more) lines line h quit = subst (λ o. IfSome o (λ ls. lis
     or_true true = refl
     or_true false = refl
 
+-- the line was due
+pub cut_in : (n : ℕ) (all : Option (List (List ℕ))) (before now mid : Option (List ℕ)) (reading next : Reading) (left rest : Option (List ℕ))
+    (old new : List Entry) (line : List ℕ) → IsServing n all before reading left old now → mid ≡ followed now prompt
+    → TakesLine line (lines_left reading left) (lines_left next rest) → FeedsAtMost (97 ∷ line) old new → IsCutIn all before new mid
+cut_in n all before now mid reading next left rest old new line s prompted takes once = record {
+  lines = s.lines;
+  line = line;
+  left = lines_left next rest;
+  handled = hands_more all (lines_left reading left) (lines_left next rest) s.lines line s.handled takes.first takes.goes_on;
+  short = takes.fits;
+  journal = lines_in_journal once;
+  held = held_prompt before now mid commands (lines_text (pos 0) s.lines) prompt s.held prompted;
+}
+  where
+    lines_in_journal : FeedsAtMost (97 ∷ line) old new → (lines_fed new ≡ fed s.lines) ⊎ (lines_fed new ≡ fed (s.lines ++ line ∷ []))
+    lines_in_journal (inl same) = inl (same ∙ journal_lines n s.lines old s.journal)
+    lines_in_journal (inr one) =
+        inr (one ∙ (ap (λ ls. ls ++ (97 ∷ line) ∷ []) (journal_lines n s.lines old s.journal) ∙ sym (fed_short s.lines line takes.fits)))
+
 pub over_end : (n : ℕ) (all : Option (List (List ℕ))) (before now mid : Option (List ℕ)) (reading next : Reading) (left : Option (List ℕ)) (entries : List Entry)
     → IsServing n all before reading left entries now → mid ≡ followed now prompt → IsAtEnd next (input_left reading left) (lines_left reading left)
     → IsOver next.ended all before entries mid
@@ -337,6 +356,29 @@ under_cut most all before now entries c = record {
   journal = c.journal;
   written = record { front = text_of c.lines; begins = text_front c.lines c.next; held = c.held };
 }
+
+pub under_in : (all : Option (List (List ℕ))) (before now : Option (List ℕ)) (entries : List Entry) → IsCutIn all before entries now
+    → IsUnderWay all before entries now
+under_in all before now entries c = under c.journal
+  where
+    under : (lines_fed entries ≡ fed c.lines) ⊎ (lines_fed entries ≡ fed (c.lines ++ c.line ∷ [])) → IsUnderWay all before entries now
+    under (inl same) = record {
+      lines = c.lines;
+      left = preceded (c.line ∷ []) c.left;
+      handled = record {
+        first = c.handled.first ∙ sym (preceded_twice c.lines (c.line ∷ []) c.left);
+        goes_on = goes_on_less c.lines (c.line ∷ []) c.handled.goes_on;
+      };
+      journal = same;
+      written = record { front = text_of c.lines; begins = front_all (text_of c.lines); held = c.held };
+    }
+    under (inr more) = record {
+      lines = c.lines ++ c.line ∷ [];
+      left = c.left;
+      handled = c.handled;
+      journal = more;
+      written = record { front = text_of c.lines; begins = text_front c.lines (c.line ∷ []); held = c.held };
+    }
 
 pub under_over : (ended : Bool) (all : Option (List (List ℕ))) (before now : Option (List ℕ)) (entries : List Entry) → IsOver ended all before entries now
     → IsUnderWay all before entries now

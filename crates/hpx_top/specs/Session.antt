@@ -15,7 +15,7 @@ use Rattle.hpx_top.specs.Acts.{act_of}
 use Rattle.hpx_top.specs.Places.{Places}
 use Rattle.hpx_top.specs.Sound.{IsQuiet}
 use Rattle.hpx_top.specs.Stands.{rules_of}
-use Rattle.hpx_top.specs.PlainText.{is_quit, IsPiece, before_quit, fed, commands, lines_text, text_of, IsFront}
+use Rattle.hpx_top.specs.PlainText.{is_long, is_quit, IsPiece, before_quit, fed, commands, lines_text, text_of, IsFront}
 use Rattle.hpx_top.specs.Reader.{Reading, lines_left, bytes_left}
 
 -- ---- the Line entries of a journal
@@ -99,6 +99,16 @@ pub record IsCut (most : ℕ) (all : Option (List (List ℕ))) (before : Option 
   pub journal : lines_fed entries ≡ fed (lines ++ next)
   pub held : now ≡ followed before (text_of lines)
 
+-- In a line behind a prompt: the text is that of the lines before it. It is not too long, and it may have been fed.
+pub record IsCutIn (all : Option (List (List ℕ))) (before : Option (List ℕ)) (entries : List Entry) (now : Option (List ℕ)) : Type 0 where
+  pub lines : List (List ℕ)
+  pub line : List ℕ
+  pub left : Option (List (List ℕ))
+  pub handled : HandsOut all left (lines ++ line ∷ [])
+  pub short : is_long line ≡ false
+  pub journal : (lines_fed entries ≡ fed lines) ⊎ (lines_fed entries ≡ fed (lines ++ line ∷ []))
+  pub held : now ≡ followed before (text_of lines)
+
 -- after the last prompt: all lines were handled, up to the end or to a quit
 pub record IsOver (ended : Bool) (all : Option (List (List ℕ))) (before : Option (List ℕ)) (entries : List Entry) (now : Option (List ℕ)) : Type 0 where
   pub lines : List (List ℕ)
@@ -133,9 +143,10 @@ IsLineEndedBy Read n line old new before now = ⊥
 IsLineEndedBy InputFull n line old new before now = ⊥
 IsLineEndedBy _ n line old new before now = FeedsAtMost (97 ∷ line) old new × (now ≡ before)
 
--- a session was broken off: at a write anywhere, and otherwise behind a prompt
+-- a session was broken off: at a write anywhere, otherwise behind a prompt, or in the line behind it
 abbrev pub IsCutBy : SessionFault → Option (List (List ℕ)) → Option (List ℕ) → List Entry → Option (List ℕ) → Type 0
 IsCutBy Write all before entries now = IsUnderWay all before entries now
 IsCutBy Read all before entries now = IsCut 0 all before entries now
 IsCutBy InputFull all before entries now = IsCut 0 all before entries now
-IsCutBy _ all before entries now = IsCut 1 all before entries now
+IsCutBy OutOfMemory all before entries now = IsCut 1 all before entries now
+IsCutBy _ all before entries now = IsCutIn all before entries now
