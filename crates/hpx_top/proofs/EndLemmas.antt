@@ -24,7 +24,7 @@ whole_at_end ended input entries old new o =
     let rest = told_rest (lines_in (slice_split is_newline input)) o.lines o.left o.handled.first in
     let last : before_quit rest.0 ≡ [] = subst (λ l. IfSome l (λ others. before_quit others ≡ [])) rest.1 o.last in
     let all : lines_of input ≡ o.lines
-        = handed input o.left o.lines rest.0 o.handled.goes_on rest.2 ∙ (ap (λ t. o.lines ++ t) last ∙ append-nil o.lines) in
+    = handed input o.left o.lines rest.0 o.handled.goes_on rest.2 ∙ (ap (λ t. o.lines ++ t) last ∙ append-nil o.lines) in
     record { lines = o.journal ∙ ap fed (sym all); text = o.held ∙ ap (λ ls. followed old (text_of ls)) (sym all) }
 
 pub broken_at : (most : ℕ) (input : List ℕ) (entries : List Entry) (old new : Option (List ℕ))
@@ -70,7 +70,7 @@ begun_at input entries old new u =
       is = u.written.held;
       theirs = u.written.begins;
       begins = front_then u.written.front (text_of u.lines) (text_of (lines_of input)) u.written.begins
-        (subst (λ ls. IsFront (text_of u.lines) (text_of ls)) (sym first) (text_front u.lines (before_quit rest.0)));
+          (subst (λ ls. IsFront (text_of u.lines) (text_of ls)) (sym first) (text_front u.lines (before_quit rest.0)));
     }
 
 -- nothing was done yet
@@ -104,8 +104,8 @@ pub full_at : (input : List ℕ) (reading : Reading) (left : Option (List ℕ)) 
 full_at input reading left s h all =
     let read = told_rest input h.front left h.next in
     let still : lines_left reading left ≡ Some (lines_in (slice_split is_newline (reading.pending ++ read.0)))
-        = ap (λ b. lines_left (record reading { ended = b }) left) s.goes_on
-          ∙ ap (λ o. lines_left (record reading { ended = false }) o) read.1 in
+    = ap (λ b. lines_left (record reading { ended = b }) left) s.goes_on
+    ∙ ap (λ o. lines_left (record reading { ended = false }) o) read.1 in
     let rest = told_rest (lines_in (slice_split is_newline input)) s.lines (lines_left reading left) s.handled.first in
     let same : rest.0 ≡ lines_in (slice_split is_newline (reading.pending ++ read.0)) = some_is rest.0 _ (sym rest.1 ∙ still) in
     record {

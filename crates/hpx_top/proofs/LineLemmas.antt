@@ -177,8 +177,8 @@ written_cons : (b : Bool) (xs : List (List ℕ)) (first line r : List ℕ) (text
     → length texts ≡ length (if b then fed xs else (97 ∷ first) ∷ fed xs)
     → ((texts : List (List (List ℕ))) → length texts ≡ length (fed xs) → written (xs ++ line ∷ []) (texts ++ more ∷ []) ≡ written xs texts ++ r)
     → (if b then prompt ++ (bad_command ++ written (xs ++ line ∷ []) (texts ++ more ∷ []))
-      else prompt ++ (first_of (texts ++ more ∷ []) ++ written (xs ++ line ∷ []) (others_of (texts ++ more ∷ []))))
-      ≡ (if b then prompt ++ (bad_command ++ written xs texts) else prompt ++ (first_of texts ++ written xs (others_of texts))) ++ r
+    else prompt ++ (first_of (texts ++ more ∷ []) ++ written (xs ++ line ∷ []) (others_of (texts ++ more ∷ []))))
+    ≡ (if b then prompt ++ (bad_command ++ written xs texts) else prompt ++ (first_of texts ++ written xs (others_of texts))) ++ r
 written_cons true xs first line r texts more h next =
     ap (λ t. prompt ++ (bad_command ++ t)) (next texts h) ∙ regroup prompt bad_command (written xs texts) r
 written_cons false xs first line r [] more h next = absurd (let no : 0 ≡ length ((97 ∷ first) ∷ fed xs) = h in omega arith)

@@ -76,11 +76,11 @@ line_prints n lines line old new some few count short j f =
     let all : length (lines ++ line ∷ []) ≤ 4000000000 = omega (arith, length-append lines (line ∷ [])) in
     let block : drop (length old) new ≡ f.block = ap (drop (length old)) f.is ∙ drop_at old f.block (length old) refl in
     let texts : written (lines ++ line ∷ []) (shown j.blocks ++ prints_of f.block ∷ []) ≡ lines_text (pos 0) (lines ++ line ∷ [])
-        = ap (written (lines ++ line ∷ [])) (sym (shown_more j.blocks f.block)) ∙ journal_text n (lines ++ line ∷ []) (j.blocks ++ f.block ∷ []) some few all (grown n lines line old new short j f) in
+    = ap (written (lines ++ line ∷ [])) (sym (shown_more j.blocks f.block)) ∙ journal_text n (lines ++ line ∷ []) (j.blocks ++ f.block ∷ []) some few all (grown n lines line old new short j f) in
     ap (λ es. lines_text (pos 0) lines ++ (prompt ++ concat (prints_of es))) block
     ∙ line_shown (pos 0) lines (shown j.blocks) line (prints_of f.block) short
-      (session_count (rules_of act_of n) (start (roots n)) (fed lines) j.blocks j.session)
-      (journal_text n lines j.blocks some few (omega arith) j.session) texts
+    (session_count (rules_of act_of n) (start (roots n)) (fed lines) j.blocks j.session)
+    (journal_text n lines j.blocks some few (omega arith) j.session) texts
 
 -- ---- the lines of the input
 
@@ -147,8 +147,8 @@ serving_line n all before now mid later reading next left rest old new line some
   few = omega (arith, length-append s.lines (line ∷ []), s.few);
   journal = journal_more n s.lines line old new takes.fits s.journal f;
   held = held_more before now mid later commands (lines_text (pos 0) s.lines) prompt (concat (prints_of (drop (length old) new)))
-    (lines_text (pos 0) (s.lines ++ line ∷ [])) s.held prompted shown
-    (line_prints n s.lines line old new some few (omega (arith, s.few)) takes.fits s.journal f);
+      (lines_text (pos 0) (s.lines ++ line ∷ [])) s.held prompted shown
+      (line_prints n s.lines line old new some few (omega (arith, s.few)) takes.fits s.journal f);
 }
 
 -- a line was too long
@@ -162,7 +162,7 @@ serving_long n all before now mid later reading next left rest entries s prompte
   few = omega (arith, length-append s.lines (takes.line ∷ []), s.few);
   journal = journal_long n s.lines takes.line entries takes.long s.journal;
   held = held_more before now mid later commands (lines_text (pos 0) s.lines) prompt bad_command (lines_text (pos 0) (s.lines ++ takes.line ∷ []))
-    s.held prompted shown (long_more s.lines takes.line takes.long);
+      s.held prompted shown (long_more s.lines takes.line takes.long);
 }
 
 -- ---- where it ends

@@ -16,7 +16,7 @@ returns-in-Some-clause-begun g c = λ input h. begun_nothing input [] _ _ refl r
 pub returns-clause-whole : goal.returns-clause-whole
 returns-clause-whole g c =
     let is : c.match-served.status ≡ status_after c.serve_all-world.result.1 = elim c.match-served.branch [
-      in-Ok w ↦ w.status-is ∙ ap status_after (sym w.in-Ok.is)
+      | in-Ok w ↦ w.status-is ∙ ap status_after (sym w.in-Ok.is)
       | in-Err w ↦ w.status-is ∙ (w.line_of-status.ensures.status ∙ ap status_after (sym w.in-Err.is))
     ] in
     λ input h s. ended_well c.serve_all-world.result.1 _ (sym is ∙ s) (c.serve_all-world.ensures.whole input h)
@@ -24,7 +24,7 @@ returns-clause-whole g c =
 pub returns-clause-between_lines : goal.returns-clause-between_lines
 returns-clause-between_lines g c =
     let is : c.match-served.status ≡ status_after c.serve_all-world.result.1 = elim c.match-served.branch [
-      in-Ok w ↦ w.status-is ∙ ap status_after (sym w.in-Ok.is)
+      | in-Ok w ↦ w.status-is ∙ ap status_after (sym w.in-Ok.is)
       | in-Err w ↦ w.status-is ∙ (w.line_of-status.ensures.status ∙ ap status_after (sym w.in-Err.is))
     ] in
     λ input h s. ended_between c.serve_all-world.result.1 c.serve_all-world.result.0 input _ _ (moved _ _ 2 9 is s) c.serve_all-world.ensures.none (c.serve_all-world.ensures.ended input h)
@@ -32,7 +32,7 @@ returns-clause-between_lines g c =
 pub returns-clause-in_a_line : goal.returns-clause-in_a_line
 returns-clause-in_a_line g c =
     let is : c.match-served.status ≡ status_after c.serve_all-world.result.1 = elim c.match-served.branch [
-      in-Ok w ↦ w.status-is ∙ ap status_after (sym w.in-Ok.is)
+      | in-Ok w ↦ w.status-is ∙ ap status_after (sym w.in-Ok.is)
       | in-Err w ↦ w.status-is ∙ (w.line_of-status.ensures.status ∙ ap status_after (sym w.in-Err.is))
     ] in
     λ input h s. ended_within c.serve_all-world.result.1 c.serve_all-world.result.0 input _ _ (moved _ _ 4 5 is s) c.serve_all-world.ensures.none (c.serve_all-world.ensures.ended input h)
@@ -40,7 +40,7 @@ returns-clause-in_a_line g c =
 pub returns-clause-read_up : goal.returns-clause-read_up
 returns-clause-read_up g c =
     let is : c.match-served.status ≡ status_after c.serve_all-world.result.1 = elim c.match-served.branch [
-      in-Ok w ↦ w.status-is ∙ ap status_after (sym w.in-Ok.is)
+      | in-Ok w ↦ w.status-is ∙ ap status_after (sym w.in-Ok.is)
       | in-Err w ↦ w.status-is ∙ (w.line_of-status.ensures.status ∙ ap status_after (sym w.in-Err.is))
     ] in
     λ input h s. ended_well c.serve_all-world.result.1 _ (sym is ∙ s) (c.serve_all-world.ensures.read_up input h)

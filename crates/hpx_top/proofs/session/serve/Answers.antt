@@ -13,23 +13,23 @@ returns-in_err-write-clause-ended g c =
     let all = all_lines (g.S.Source.left c.args.source.now) in
     let under = under_start all (g.K.Sink.held c.args.sink.now) (g.K.Sink.held c.write.new.sink) c.args.world.now.journal.entries c.requires.empty c.in_err-write.ensures.front in
     λ input h. if_err_from c.from_residual.result c.in_err-write.field-0.0 _ c.from_residual.ensures.1
-      (ended_from c.in_err-write.field-0.0 input (g.S.Source.left c.args.source.now) c.args.world.now.journal.entries
-        (g.K.Sink.held c.args.sink.now) (g.K.Sink.held c.write.new.sink) h
-        (cut_write c.in_err-write.field-0.0 all _ _ _ c.in_err-write.ensures.cause.0 under))
+    (ended_from c.in_err-write.field-0.0 input (g.S.Source.left c.args.source.now) c.args.world.now.journal.entries
+    (g.K.Sink.held c.args.sink.now) (g.K.Sink.held c.write.new.sink) h
+    (cut_write c.in_err-write.field-0.0 all _ _ _ c.in_err-write.ensures.cause.0 under))
 
 pub returns-in_err-write-clause-begun : goal.returns-in_err-write-clause-begun
 returns-in_err-write-clause-begun g c =
     let all = all_lines (g.S.Source.left c.args.source.now) in
     let under = under_start all (g.K.Sink.held c.args.sink.now) (g.K.Sink.held c.write.new.sink) c.args.world.now.journal.entries c.requires.empty c.in_err-write.ensures.front in
     λ input h. begun_from c.in_err-write.field-0.0 input (g.S.Source.left c.args.source.now) c.args.world.now.journal.entries
-        (g.K.Sink.held c.args.sink.now) (g.K.Sink.held c.write.new.sink) h
-        (cut_write c.in_err-write.field-0.0 all _ _ _ c.in_err-write.ensures.cause.0 under)
+    (g.K.Sink.held c.args.sink.now) (g.K.Sink.held c.write.new.sink) h
+    (cut_write c.in_err-write.field-0.0 all _ _ _ c.in_err-write.ensures.cause.0 under)
 
 pub loop-reader-init : goal.loop-reader-init
 loop-reader-init g c = record {
   serving = serving_start (length c.args.world.now.nodes) (all_lines (g.S.Source.left c.args.source.now)) (g.K.Sink.held c.args.sink.now) (g.K.Sink.held c.write.new.sink)
-    c.new-reader.result (g.S.Source.left c.args.source.now) c.args.world.now.journal.entries
-    (rw c.new-reader.ensures refl) (rw c.new-reader.ensures (omega arith)) c.requires.empty c.in_ok-write.ensures.held;
+      c.new-reader.result (g.S.Source.left c.args.source.now) c.args.world.now.journal.entries
+      (rw c.new-reader.ensures refl) (rw c.new-reader.ensures (omega arith)) c.requires.empty c.in_ok-write.ensures.held;
   reads = read_none (g.S.Source.left c.args.source.now) c.new-reader.result c.new-reader.ensures;
   counted = rw c.new-reader.ensures (omega arith);
   rest = c.requires.rest;
@@ -63,7 +63,7 @@ returns-in_err-serve_line-clause-ended g c =
     let serving = rw (← c.loop-reader.invariant.count) at c.loop-reader.invariant.serving in
     let cut = c.in_err-serve_line.ensures.err _ _ serving in
     λ input h. if_err_from c.from_residual-in_err-serve_line.result c.in_err-serve_line.field-0.0 _ c.from_residual-in_err-serve_line.ensures.1
-      (ended_from c.in_err-serve_line.field-0.0 input (g.S.Source.left c.args.source.now) _ _ _ h cut)
+    (ended_from c.in_err-serve_line.field-0.0 input (g.S.Source.left c.args.source.now) _ _ _ h cut)
 
 pub returns-in_err-serve_line-clause-begun : goal.returns-in_err-serve_line-clause-begun
 returns-in_err-serve_line-clause-begun g c =
@@ -75,16 +75,16 @@ pub returns-in_err-serve_line-clause-input : goal.returns-in_err-serve_line-clau
 returns-in_err-serve_line-clause-input g c =
     let serving = rw (← c.loop-reader.invariant.count) at c.loop-reader.invariant.serving in
     λ input h e.
-      let is = ap (λ f. Err f) (err_of c.from_residual-in_err-serve_line.result c.in_err-serve_line.field-0.0 InputFull c.from_residual-in_err-serve_line.ensures.1 e) in
-      full_from input (g.S.Source.left c.args.source.now) (g.S.Source.left c.serve_line.new.source) c.serve_line.new.reader h
-      (c.in_err-serve_line.ensures.input is _ _ serving) (c.serve_line.ensures.reads _ c.loop-reader.invariant.reads) (c.in_err-serve_line.ensures.full_input is)
+    let is = ap (λ f. Err f) (err_of c.from_residual-in_err-serve_line.result c.in_err-serve_line.field-0.0 InputFull c.from_residual-in_err-serve_line.ensures.1 e) in
+    full_from input (g.S.Source.left c.args.source.now) (g.S.Source.left c.serve_line.new.source) c.serve_line.new.reader h
+    (c.in_err-serve_line.ensures.input is _ _ serving) (c.serve_line.ensures.reads _ c.loop-reader.invariant.reads) (c.in_err-serve_line.ensures.full_input is)
 
 pub returns-in_err-serve_line-clause-taken : goal.returns-in_err-serve_line-clause-taken
 returns-in_err-serve_line-clause-taken g c =
     λ e.
-      let is = ap (λ f. Err f) (err_of c.from_residual-in_err-serve_line.result c.in_err-serve_line.field-0.0 InputFull c.from_residual-in_err-serve_line.ensures.1 e) in
-      let read = c.in_err-serve_line.ensures.full_input is in
-      omega (arith, read, c.loop-reader.invariant.counted, c.serve_line.ensures.counted)
+    let is = ap (λ f. Err f) (err_of c.from_residual-in_err-serve_line.result c.in_err-serve_line.field-0.0 InputFull c.from_residual-in_err-serve_line.ensures.1 e) in
+    let read = c.in_err-serve_line.ensures.full_input is in
+    omega (arith, read, c.loop-reader.invariant.counted, c.serve_line.ensures.counted)
 
 pub returns-clause-whole : goal.returns-clause-whole
 returns-clause-whole g c =
@@ -97,8 +97,8 @@ returns-clause-read_up g c =
     let serving = rw (← c.loop-reader.invariant.count) at c.loop-reader.invariant.serving in
     let over = c.in_ok-serve_line.ensures.over (ap (λ b. Ok b) c.if-branch.false) _ _ serving in
     λ input h. read_up_from c.serve_line.new.reader.ended input (g.S.Source.left c.args.source.now) (g.S.Source.left c.serve_line.new.source)
-      c.serve_line.new.reader c.serve_line.new.world.journal.entries (g.K.Sink.held c.args.sink.now) (g.K.Sink.held c.serve_line.new.sink) h over
-      (c.serve_line.ensures.reads _ c.loop-reader.invariant.reads) refl
+    c.serve_line.new.reader c.serve_line.new.world.journal.entries (g.K.Sink.held c.args.sink.now) (g.K.Sink.held c.serve_line.new.sink) h over
+    (c.serve_line.ensures.reads _ c.loop-reader.invariant.reads) refl
 
 pub returns-clause-begun : goal.returns-clause-begun
 returns-clause-begun g c =

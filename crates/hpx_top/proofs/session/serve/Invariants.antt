@@ -8,7 +8,7 @@ abbrev pub invariant-loop-reader : goal.invariant-loop-reader
 invariant-loop-reader g l =
     record {
       serving : IsServing (length l.fn.world.nodes) (lines_left (record { pending = []; read = 0; ended = false }) (g.S.Source.left l.fn.source))
-        (g.K.Sink.held l.fn.sink) l.reader (g.S.Source.left l.source) l.world.journal.entries (g.K.Sink.held l.sink);
+          (g.K.Sink.held l.fn.sink) l.reader (g.S.Source.left l.source) l.world.journal.entries (g.K.Sink.held l.sink);
       reads : HasRead (g.S.Source.left l.fn.source) l.reader (g.S.Source.left l.source);
       counted : l.reader.read + g.S.Source.taken l.fn.source ≡ g.S.Source.taken l.source;
       rest : IsAtRest l.world;

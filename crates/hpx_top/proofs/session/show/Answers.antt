@@ -10,8 +10,7 @@ returns-in_err-show_entry-clause-front g c =
 
 pub loop-i-preserved : goal.loop-i-preserved
 loop-i-preserved g c =
-    let within : c.loop-i.i < length c.args.journal.now.entries = omega arith in
-    (
+    let within : c.loop-i.i < length c.args.journal.now.entries = omega arith in (
       up_to_more c.args.journal.now.entries c.loop-i.i _ _ _ _ within c.loop-i.invariant.0 (λ e at. c.in_ok-show_entry.ensures.held e at),
       omega arith,
     )

@@ -8,5 +8,5 @@ use Rattle.hpx_top.proofs.session.show.Given as goal
 abbrev pub invariant-loop-i : goal.invariant-loop-i
 invariant-loop-i g l =
     WritesUpTo (concat (prints_of (drop l.i l.journal.entries))) (concat (prints_of (drop l.fn.cut l.journal.entries)))
-        (g.K.Sink.held l.fn.sink) (g.K.Sink.held l.sink)
+    (g.K.Sink.held l.fn.sink) (g.K.Sink.held l.sink)
     × (g.K.Sink.faults l.fn.sink ≤ g.K.Sink.faults l.sink)

@@ -12,6 +12,6 @@ returns-clause-reads g c =
     let room : c.self.inside.read < 67108864 = rw (← c.self.view_is) at c.requires.room in
     rw (← c.self.view_is)
     (λ all h. has_read-more c.in_ok-count.count all _ _
-      (record { pending = c.self.inside.pending; read = c.self.inside.read; ended = c.self.inside.ended })
-      (record { pending = c.read_from.new.self; read = c.self.inside.read + c.in_ok-count.count; ended = nat_eq c.in_ok-count.count 0 })
-      h room c.in_ok-count.ensures.ok refl (none_at c.in_ok-count.count))
+    (record { pending = c.self.inside.pending; read = c.self.inside.read; ended = c.self.inside.ended })
+    (record { pending = c.read_from.new.self; read = c.self.inside.read + c.in_ok-count.count; ended = nat_eq c.in_ok-count.count 0 })
+    h room c.in_ok-count.ensures.ok refl (none_at c.in_ok-count.count))
