@@ -140,7 +140,8 @@ pub fn run<S: Source, K: Sink, E: Sink, F: Fabric>(
     requires flight { F.flight fabric ≡ Some [] }
     requires trace { F.trace fabric ≡ Some [] }
 
-    ensures usage { (place : ℕ) → bad_word words.now ≡ Some place → (result.status ≡ 1) × (source.new ≡ source.old) × (sink.new ≡ sink.old) }
+    ensures usage { (place : ℕ) → bad_word words.now ≡ Some place → (result.status ≡ 1)
+        × (result.world ≡ None) × (source.new ≡ source.old) × (sink.new ≡ sink.old) × (result.fabric ≡ fabric) }
     ensures usage_only { bad_word words.now ≡ None → result.status ≢ 1 }
     ensures usage_line { (place : ℕ) → bad_word words.now ≡ Some place → (Rose (E.faults err.old) (E.faults err.new) → ⊥) →
         E.held err.new ≡ followed (E.held err.old) (word_line place) }

@@ -325,3 +325,42 @@ fn other_words_are_refused(rt: HostRuntime) -> Result<(), Fail> {
     }
     Ok(())
 }
+
+// Counted by hand for one line `add 1`: Line, Fire, Done, Sent, Out and In at locality 0 and 1, Fire, Done, Sent, Out, In,
+// Fire and Done are 13 entries. They weigh 13 * 64 and the bytes in them: 6 of the line, and twice those of the two frames,
+// which are 62 and 43.
+#[test]
+fn two_thousand_lines_are_two_thousand_times_one(rt: HostRuntime) -> Result<(), Fail> {
+    let alloc = rt.alloc();
+    let mut input = Vec::new(alloc);
+    for _ in 0..2000 {
+        input.extend_from_slice(b"add 1\n")?;
+    }
+    let mut source = SureSource::new(Bytes::from_vec(input));
+    let mut sink = SureSink::new(alloc);
+    let mut err = SureSink::new(alloc);
+    let end = run(
+        alloc,
+        &words(alloc, &WORDS)?,
+        &mut source,
+        &mut sink,
+        &mut err,
+        SureFabric::new(alloc, Order::FirstIn),
+    );
+    assert_eq!(rt; end.status, 0);
+    assert_eq!(rt; end.fabric.in_flight(), 0);
+    assert_eq!(rt; end.fabric.trace().len(), 2000 * 4);
+    // The commands line has 49 bytes, and there are 2,001 prompts.
+    assert_eq!(rt; sink.bytes().len(), 49 + 2001 * 2);
+    match &end.world {
+        Some(world) => {
+            assert_eq!(rt; world.journal().entries(), 2000 * 13);
+            assert_eq!(rt;
+                world.journal().weight(),
+                2000 * (13 * 64 + 6 + 2 * 62 + 2 * 43)
+            );
+        }
+        None => assert_eq!(rt; true, false),
+    }
+    Ok(())
+}
