@@ -22,3 +22,9 @@ pub mod TurnedLemmas
 pub mod QuietLemmas
 pub mod ReaderLemmas
 pub mod Unfed
+pub mod LineLemmas
+pub mod SessionLemmas
+pub mod EndLemmas
+pub mod ShowLemmas
+pub mod FeedLemmas
+pub mod RunLemmas

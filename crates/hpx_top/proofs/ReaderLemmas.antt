@@ -15,7 +15,7 @@ use Rattle.hpx_top.specs.declared.reader.Next.TheVariants.{Line, Long, Quit, End
 use Rattle.hpx_top.specs.PlainText.{is_long, is_quit, is_newline, IsPiece, lines_in}
 use Rattle.hpx_top.specs.Pending.{IsNewlineAt, IsSearched, ReadsOnto}
 use Rattle.hpx_top.specs.declared.reader.ReadFault.{ReadFault}
-use Rattle.hpx_top.specs.Reader.{Reading, still_left, input_left, lines_left, bytes_left, Answers, LeavesFewer, IsLast, next_of}
+use Rattle.hpx_top.specs.Reader.{Reading, HasRead, still_left, input_left, lines_left, bytes_left, Answers, LeavesFewer, IsLast, next_of}
 use Rattle.hpx_top.proofs.PlainLemmas.{lines_in-first, lines_in-last}
 
 -- ---- pieces
@@ -198,3 +198,20 @@ handed_out-fewer (Err fault) count old mid new is kept some within = tt
 handed_out-fewer (Ok next) count old mid new is kept some within =
     let less : (67108864 - mid.read) + length (drop count mid.pending) < bytes_left old = omega (arith, length-drop count mid.pending) in
     leaves_fewer next old new (subst (λ new. bytes_left new < bytes_left old) (sym is) less)
+
+-- ---- what was read
+
+preceded_more : (a b : List ℕ) (o : Option (List ℕ)) → preceded a (preceded b o) ≡ preceded (a ++ b) o
+preceded_more a b None = refl
+preceded_more a b (Some xs) = ap (λ ys. Some ys) (sym (append_assoc a b xs))
+
+-- a read goes on where the last one stopped
+pub has_read-more : (n : ℕ) (all left later : Option (List ℕ)) (old new : Reading) → HasRead all old left → old.read < 67108864
+    → ReadsOnto n old.pending new.pending left later → new.read ≡ old.read + n → (new.ended ≡ true → n ≡ 0) → HasRead all new later
+has_read-more n all left later old new h room r count ended = record {
+  front = h.front ++ r.more;
+  count = omega (arith, length-append h.front r.more, h.count, r.count, count);
+  next = h.next ∙ (ap (preceded h.front) r.next ∙ preceded_more h.front r.more later);
+  at_end = λ e. r.at_end (ended e);
+  below = λ e. omega (arith, ended e, count);
+}

@@ -81,6 +81,14 @@ LeavesFewer (Line line) old new = bytes_left new < bytes_left old
 LeavesFewer Long old new = bytes_left new < bytes_left old
 LeavesFewer _ old new = Unit {0}
 
+-- what a reader read are the first of a source's bytes, and where it has met the end, all of them
+pub record HasRead (all : Option (List ℕ)) (reading : Reading) (left : Option (List ℕ)) : Type 0 where
+  pub front : List ℕ
+  pub count : length front ≡ reading.read
+  pub next : all ≡ preceded front left
+  pub at_end : reading.ended ≡ true → IfSome left (λ bytes. bytes ≡ [])
+  pub below : reading.ended ≡ true → reading.read < 67108864
+
 -- ---- within a call
 
 -- how many reads may come at most

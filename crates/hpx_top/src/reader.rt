@@ -4,7 +4,7 @@ ghost use Rattle.std.specs.Prelude.{◌≡◌, ◌+◌, ◌<◌, ◌≤◌, true
 ghost use Rattle.std.specs.Str.Lines.{strip_carriage_return};
 ghost use Rattle.hpx_ports.specs.Faults.{Rose};
 ghost use Rattle.hpx_top.specs.PlainText.{IsPiece};
-ghost use Rattle.hpx_top.specs.Reader.{input_left, bytes_left, reads_left, wants_more, IsFound, last_of, next_of, Answers, LeavesFewer};
+ghost use Rattle.hpx_top.specs.Reader.{input_left, bytes_left, reads_left, wants_more, IsFound, last_of, next_of, Answers, LeavesFewer, HasRead};
 
 mod pending;
 #[cfg(test)]
@@ -114,6 +114,7 @@ impl LineReader {
         requires room { self.old.read < 67108864 }
         requires goes_on { self.old.ended ≡ false }
         ensures input { input_left self.new (S.left source.new) ≡ input_left self.old (S.left source.old) }
+        ensures reads { (all : _) → HasRead all self.old (S.left source.old) → HasRead all self.new (S.left source.new) }
         ensures counted { self.new.read + S.taken source.old ≡ self.old.read + S.taken source.new }
         ensures limit { self.new.read ≤ 67108864 }
         ensures fewer { OnOk result (reads_left self.new < reads_left self.old) }
@@ -133,6 +134,7 @@ impl LineReader {
     fn find_line<S: Source>(&mut self, source: &mut S) -> Result<Found, ReadFault>
         ensures found { IfOk result (λ found. IsFound found self.new) }
         ensures input { input_left self.new (S.left source.new) ≡ input_left self.old (S.left source.old) }
+        ensures reads { (all : _) → HasRead all self.old (S.left source.old) → HasRead all self.new (S.left source.new) }
         ensures counted { self.new.read + S.taken source.old ≡ self.old.read + S.taken source.new }
         ensures limit { self.new.read ≤ 67108864 }
         ensures kept { bytes_left self.new ≡ bytes_left self.old }
@@ -176,6 +178,7 @@ impl LineReader {
         ensures fewer { IfOk result (λ next. LeavesFewer next self.old self.new) }
         ensures full { self.old.read ≡ 67108864 → self.old.ended ≡ false → IsPiece self.old.pending → result ≡ Ok Next.Full }
         ensures still { wants_more self.old ≡ false → source.new ≡ source.old }
+        ensures reads { (all : _) → HasRead all self.old (S.left source.old) → HasRead all self.new (S.left source.new) }
         ensures counted { self.new.read + S.taken source.old ≡ self.old.read + S.taken source.new }
         ensures limit { self.new.read ≤ 67108864 }
         ensures cause { IsErrOf result ReadFault.Failed → Rose (S.faults source.old) (S.faults source.new) }

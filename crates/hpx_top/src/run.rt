@@ -1,7 +1,12 @@
 //! The top call: all that the program does, over ports that it is given.
-ghost use Rattle.std.specs.Prelude.{◌≡◌, ◌≢◌, ◌≤◌, [], Some, None, Err, IfSome, OnOk, ℕ, length};
+ghost use Rattle.std.specs.Prelude.{◌≡◌, ◌≢◌, ◌≤◌, ◌<◌, ◌+◌, ◌⊎◌, [], Ok, Some, None, Err, IfSome, IfErr, OnOk, OnErr, ℕ, length};
 ghost use Rattle.hpx_root_journal.specs.Weights.{HasRoom};
 ghost use Rattle.hpx_ports.specs.Faults.{Rose};
+ghost use Rattle.hpx_ports.specs.Told.{followed};
+ghost use Rattle.hpx_top.specs.Ends.{IsWhole, IsBrokenOff, IsBrokenIn, IsBegun, IsEndedBy, IsReadUp, IsInputFull};
+ghost use Rattle.hpx_top.specs.Session.{IsAtRest, IsLegalAt, entries_in};
+ghost use Rattle.hpx_top.specs.Sound.{IsCarrying};
+ghost use Rattle.hpx_top.specs.Statuses.{IsStatus, status_of, status_line, word_line};
 ghost use Rattle.hpx_top.specs.Usage.{bad_word};
 
 #[cfg(test)]
@@ -44,7 +49,10 @@ pub fn bad_word(words: &[Text]) -> Option<u8>
 }
 
 /// The line for words that are refused.
-fn usage_line(place: u8) -> &'static [u8] {
+fn usage_line(place: u8) -> &'static [u8]
+    requires { place ≤ 3 }
+    ensures { result.now ≡ word_line place }
+{
     match place {
         0 => b"hpx: bad word 0\n",
         1 => b"hpx: bad word 1\n",
@@ -55,11 +63,8 @@ fn usage_line(place: u8) -> &'static [u8] {
 
 /// The line and the status of a session that ended early.
 fn line_of(fault: SessionFault) -> (&'static [u8], u8)
-    ensures read { result.1 ≡ 2 → fault ≡ SessionFault.Read }
-    ensures write { result.1 ≡ 3 → fault ≡ SessionFault.Write }
-    ensures fabric { result.1 ≡ 4 → fault ≡ SessionFault.Fabric }
-    ensures full { result.1 ≡ 5 → fault ≡ SessionFault.JournalFull }
-    ensures early { 2 ≤ result.1 }
+    ensures status { result.1 ≡ status_of fault }
+    ensures line { result.0.now ≡ status_line (status_of fault) }
 {
     match fault {
         SessionFault::Read => (b"hpx: read failed\n", 2),
@@ -69,6 +74,16 @@ fn line_of(fault: SessionFault) -> (&'static [u8], u8)
         SessionFault::OutOfMemory => (b"hpx: out of memory\n", 6),
         SessionFault::Strange => (b"hpx: strange parcel\n", 8),
         SessionFault::InputFull => (b"hpx: input full\n", 9),
+    }
+}
+
+/// Says something on `err`. Where that fails, nothing comes of it.
+fn say<E: Sink>(err: &mut E, line: &[u8])
+    ensures { (Rose (E.faults err.old) (E.faults err.new) → ⊥) → E.held err.new ≡ followed (E.held err.old) line.now }
+{
+    match write_all(err, line) {
+        Ok(()) => (),
+        Err(_) => (),
     }
 }
 
@@ -82,16 +97,33 @@ fn serve_all<S: Source, K: Sink, F: Fabric>(
 ) -> (Option<World<AllActs>>, Result<(), SessionFault>)
     requires flight { F.flight fabric.old ≡ Some [] }
     requires trace { F.trace fabric.old ≡ Some [] }
+
+    ensures whole { (input : _) → S.left source.old ≡ Some input → OnOk result.1 (IsWhole input (entries_in result.0) (K.held sink.old) (K.held sink.new)) }
+    ensures read_up { (input : _) → S.left source.old ≡ Some input → OnOk result.1 (IsReadUp input (S.left source.new)) }
+    ensures ended { (input : _) → S.left source.old ≡ Some input → IfSome result.0 (λ w.
+        IfErr result.1 (λ fault. IsEndedBy fault input w.journal.entries (K.held sink.old) (K.held sink.new))) }
+    ensures begun { (input : _) → S.left source.old ≡ Some input → IsBegun input (entries_in result.0) (K.held sink.old) (K.held sink.new) }
+    ensures input { (input : _) → S.left source.old ≡ Some input → result.1 ≡ Err SessionFault.InputFull → IsInputFull input (S.left source.new) }
+    ensures taken { result.1 ≡ Err SessionFault.InputFull → S.taken source.new ≡ S.taken source.old + 67108864 }
+
+    ensures none { result.0 ≡ None → result.1 ≡ Err SessionFault.OutOfMemory }
+    ensures localities { IfSome result.0 (λ w. length w.nodes ≡ 2) }
+    ensures rest { OnOk result.1 (IfSome result.0 (λ w. IsAtRest w)) }
+    ensures legal { IfSome result.0 (λ w. IsLegalAt 2 w.journal.entries) }
+    ensures carrying { IfSome result.0 (λ w. IsCarrying w.hand (F.flight fabric.new) (F.trace fabric.new) w.journal.entries) }
+
     ensures read { result.1 ≡ Err SessionFault.Read → Rose (S.faults source.old) (S.faults source.new) }
     ensures write { result.1 ≡ Err SessionFault.Write → Rose (K.faults sink.old) (K.faults sink.new) }
     ensures fabric { result.1 ≡ Err SessionFault.Fabric → Rose (F.faults fabric.old) (F.faults fabric.new) }
     ensures full { result.1 ≡ Err SessionFault.JournalFull → IfSome result.0 (λ w. HasRoom w.journal.entries → ⊥) }
-    ensures world { OnOk result.1 (IfSome result.0 (λ w. length w.nodes ≡ 2)) }
 {
     let mut world = match World::boot(alloc, AllActs { localities: 2 }) {
         Ok(world) => world,
         Err(_) => return (None, Err(SessionFault::OutOfMemory)),
     };
+    if !world.quiet() {
+        return (Some(world), Err(SessionFault::Strange));
+    }
     let served = serve(alloc, &mut world, source, sink, fabric);
     (Some(world), served)
 }
@@ -107,15 +139,45 @@ pub fn run<S: Source, K: Sink, E: Sink, F: Fabric>(
 ) -> End<F>
     requires flight { F.flight fabric ≡ Some [] }
     requires trace { F.trace fabric ≡ Some [] }
-    ensures usage { (place : ℕ) → bad_word words.now ≡ Some place → (result.status ≡ 1) × (source.new ≡ source.old) × (sink.new ≡ sink.old) }
+
+    ensures usage { (place : ℕ) → bad_word words.now ≡ Some place → (result.status ≡ 1)
+        × (result.world ≡ None) × (source.new ≡ source.old) × (sink.new ≡ sink.old) × (result.fabric ≡ fabric) }
     ensures usage_only { bad_word words.now ≡ None → result.status ≢ 1 }
+    ensures usage_line { (place : ℕ) → bad_word words.now ≡ Some place → (Rose (E.faults err.old) (E.faults err.new) → ⊥) →
+        E.held err.new ≡ followed (E.held err.old) (word_line place) }
+    ensures status_line { bad_word words.now ≡ None → (Rose (E.faults err.old) (E.faults err.new) → ⊥) →
+        E.held err.new ≡ followed (E.held err.old) (status_line result.status) }
+    ensures silent { result.status ≡ 0 → err.new ≡ err.old }
+    ensures no_other { IsStatus result.status }
+
+    ensures whole { (input : _) → S.left source.old ≡ Some input → result.status ≡ 0 →
+        IsWhole input (entries_in result.world) (K.held sink.old) (K.held sink.new) }
+    ensures begun { (input : _) → S.left source.old ≡ Some input → IsBegun input (entries_in result.world) (K.held sink.old) (K.held sink.new) }
+    ensures between_lines { (input : _) → S.left source.old ≡ Some input → (result.status ≡ 2) ⊎ (result.status ≡ 9) →
+        IsBrokenOff 0 input (entries_in result.world) (K.held sink.old) (K.held sink.new) }
+    ensures in_a_line { (input : _) → S.left source.old ≡ Some input → (result.status ≡ 4) ⊎ (result.status ≡ 5) →
+        IsBrokenIn input (entries_in result.world) (K.held sink.old) (K.held sink.new) }
+
+    ensures read_up { (input : _) → S.left source.old ≡ Some input → result.status ≡ 0 → IsReadUp input (S.left source.new) }
+    ensures rest { result.status ≡ 0 → IfSome result.world (λ w. IsAtRest w) }
     ensures read { result.status ≡ 2 → Rose (S.faults source.old) (S.faults source.new) }
     ensures write { result.status ≡ 3 → Rose (K.faults sink.old) (K.faults sink.new) }
     ensures fabric { result.status ≡ 4 → Rose (F.faults fabric) (F.faults result.fabric) }
     ensures full { result.status ≡ 5 → IfSome result.world (λ w. HasRoom w.journal.entries → ⊥) }
+    ensures taken { result.status ≡ 9 → S.taken source.new ≡ S.taken source.old + 67108864 }
+    ensures input { (input : _) → S.left source.old ≡ Some input → result.status ≡ 9 → IsInputFull input (S.left source.new) }
+    ensures world { result.world ≡ None → (result.status ≡ 1) ⊎ (result.status ≡ 6) }
+
+    ensures localities { IfSome result.world (λ w. length w.nodes ≡ 2) }
+    ensures legal { IfSome result.world (λ w. IsLegalAt 2 w.journal.entries) }
+    ensures carrying { IfSome result.world (λ w. IsCarrying w.hand (F.flight result.fabric) (F.trace result.fabric) w.journal.entries) }
+
+    ensures complete { bad_word words.now ≡ None → (Rose (S.faults source.old) (S.faults source.new) → ⊥) → (Rose (K.faults sink.old) (K.faults sink.new) → ⊥) →
+        (Rose (F.faults fabric) (F.faults result.fabric) → ⊥) → S.taken source.new < S.taken source.old + 67108864 →
+        IfSome result.world (λ w. HasRoom w.journal.entries) → (result.status ≡ 0) ⊎ (result.status ≡ 6) ⊎ (result.status ≡ 8) }
 {
     if let Some(place) = bad_word(words.as_slice()) {
-        let _ = write_all(err, usage_line(place));
+        say(err, usage_line(place));
         return End {
             status: 1,
             world: None,
@@ -127,7 +189,7 @@ pub fn run<S: Source, K: Sink, E: Sink, F: Fabric>(
         Ok(()) => 0,
         Err(fault) => {
             let (line, status) = line_of(fault);
-            let _ = write_all(err, line);
+            say(err, line);
             status
         }
     };

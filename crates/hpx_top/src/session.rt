@@ -1,9 +1,15 @@
 //! A session of the console: each line that is read is fed, and what it prints is written.
-ghost use Rattle.std.specs.Prelude.{◌≡◌, ◌≢◌, ◌≤◌, ◌<◌, ℕ, [], Ok, Err, length, true};
+ghost use Rattle.std.specs.Prelude.{◌≡◌, ◌≢◌, ◌≤◌, ◌<◌, ◌+◌, ◌∷◌, ℕ, [], Ok, Err, Some, OnOk, OnErr, IfErr, IfSome, length, drop, true, false, slice_get};
+ghost use Rattle.std.specs.List.{concat};
+ghost use Rattle.hpx_root_journal.specs.Pool.{prints_by, prints_of};
 ghost use Rattle.hpx_root_journal.specs.Weights.{HasRoom};
 ghost use Rattle.hpx_ports.specs.Faults.{Rose};
+ghost use Rattle.hpx_ports.specs.Told.{followed};
 ghost use Rattle.hpx_top.specs.Sound.{IsCarrying};
-ghost use Rattle.hpx_top.specs.Reader.{bytes_left};
+ghost use Rattle.hpx_top.specs.PlainText.{is_long, text_of};
+ghost use Rattle.hpx_top.specs.Reader.{HasRead, bytes_left};
+ghost use Rattle.hpx_top.specs.Session.{IsAtRest, IsLegalAt, FeedsAtMost, FeedsLine, IsLineEndedBy, WritesFront, IsServing, IsOver, IsCutBy, IsStopped};
+ghost use Rattle.hpx_top.specs.Ends.{IsWhole, IsEndedBy, IsBegun, IsReadUp, IsInputFull};
 
 use crate::acts::AllActs;
 use crate::acts::console::BAD_COMMAND;
@@ -15,7 +21,7 @@ use hpx_ports::fabric::Fabric;
 use hpx_ports::fault::Failed;
 use hpx_ports::sink::{Sink, write_all};
 use hpx_ports::source::Source;
-use hpx_root_journal::entry::Event;
+use hpx_root_journal::entry::{Entry, Event};
 use hpx_root_journal::journal::Journal;
 use hpx_value::items::Text;
 use std::alloc::Global;
@@ -41,29 +47,54 @@ pub enum SessionFault {
     InputFull,
 }
 
-/// Writes what was printed since a cut of the journal.
-fn show<K: Sink>(journal: &Journal, cut: u64, sink: &mut K) -> Result<(), SessionFault>
-    ensures cause { (fault : _) → result ≡ Err fault → (fault ≡ SessionFault.Write) × Rose (K.faults sink.old) (K.faults sink.new) }
-    ensures faults { K.faults sink.old ≤ K.faults sink.new }
-{
-    for i in cut..journal.entries() {
-        if let Some(entry) = journal.entry(i) {
-            if let Event::Print { bytes } = &entry.event {
-                write(sink, bytes.as_slice())?;
-            }
-        }
-    }
-    Ok(())
-}
-
 fn write<K: Sink>(sink: &mut K, bytes: &[u8]) -> Result<(), SessionFault>
-    ensures cause { (fault : _) → result ≡ Err fault → (fault ≡ SessionFault.Write) × Rose (K.faults sink.old) (K.faults sink.new) }
+    ensures held { OnOk result (K.held sink.new ≡ followed (K.held sink.old) bytes.now) }
+    ensures front { OnErr result (WritesFront bytes.now (K.held sink.old) (K.held sink.new)) }
+    ensures cause { IfErr result (λ fault. (fault ≡ SessionFault.Write) × Rose (K.faults sink.old) (K.faults sink.new)) }
     ensures faults { K.faults sink.old ≤ K.faults sink.new }
 {
     match write_all(sink, bytes) {
         Ok(()) => Ok(()),
         Err(Failed) => Err(SessionFault::Write),
     }
+}
+
+/// What an entry prints.
+fn printed_by(entry: &Entry) -> &[u8]
+    ensures { result.now ≡ concat (prints_by entry.now.event) }
+{
+    match &entry.event {
+        Event::Print { bytes } => bytes.as_slice(),
+        _ => &[],
+    }
+}
+
+/// Writes what one entry prints.
+fn show_entry<K: Sink>(journal: &Journal, i: u64, sink: &mut K) -> Result<(), SessionFault>
+    requires there { i < length journal.now.entries }
+    ensures held { (entry : _) → slice_get journal.now.entries i ≡ Some entry → OnOk result (K.held sink.new ≡ followed (K.held sink.old) (concat (prints_by entry.event))) }
+    ensures front { (entry : _) → slice_get journal.now.entries i ≡ Some entry → OnErr result (WritesFront (concat (prints_by entry.event)) (K.held sink.old) (K.held sink.new)) }
+    ensures cause { IfErr result (λ fault. (fault ≡ SessionFault.Write) × Rose (K.faults sink.old) (K.faults sink.new)) }
+    ensures faults { K.faults sink.old ≤ K.faults sink.new }
+{
+    match journal.entry(i) {
+        Some(entry) => write(sink, printed_by(entry)),
+        None => Ok(()),
+    }
+}
+
+/// Writes what was printed since a cut of the journal.
+fn show<K: Sink>(journal: &Journal, cut: u64, sink: &mut K) -> Result<(), SessionFault>
+    requires within { cut ≤ length journal.now.entries }
+    ensures held { OnOk result (K.held sink.new ≡ followed (K.held sink.old) (concat (prints_of (drop cut journal.now.entries)))) }
+    ensures front { OnErr result (WritesFront (concat (prints_of (drop cut journal.now.entries))) (K.held sink.old) (K.held sink.new)) }
+    ensures cause { IfErr result (λ fault. (fault ≡ SessionFault.Write) × Rose (K.faults sink.old) (K.faults sink.new)) }
+    ensures faults { K.faults sink.old ≤ K.faults sink.new }
+{
+    for i in cut..journal.entries() {
+        show_entry(journal, i, sink)?;
+    }
+    Ok(())
 }
 
 /// What a refusal of the world is for a session.
@@ -90,10 +121,17 @@ fn feed<F: Fabric>(
     line: &Text,
     fabric: &mut F,
 ) -> Result<(), SessionFault>
-    requires short { length line.now ≤ 1024 }
+    requires short { is_long line.now ≡ false }
+    requires legal { IsLegalAt (length world.old.nodes) world.old.journal.entries }
     requires carrying { IsCarrying world.old.hand (F.flight fabric.old) (F.trace fabric.old) world.old.journal.entries }
+
+    ensures legal { IsLegalAt (length world.new.nodes) world.new.journal.entries }
     ensures carrying { IsCarrying world.new.hand (F.flight fabric.new) (F.trace fabric.new) world.new.journal.entries }
     ensures count { length world.new.nodes ≡ length world.old.nodes }
+    ensures fed { OnOk result (FeedsLine (length world.new.nodes) line.now world.old.journal.entries world.new.journal.entries) }
+    ensures rest { OnOk result (IsAtRest world.new) }
+    ensures once { FeedsAtMost (97 ∷ line.now) world.old.journal.entries world.new.journal.entries }
+
     ensures fabric { result ≡ Err SessionFault.Fabric → Rose (F.faults fabric.old) (F.faults fabric.new) }
     ensures full { result ≡ Err SessionFault.JournalFull → HasRoom world.new.journal.entries → ⊥ }
     ensures other { (result ≢ Err SessionFault.Read) × (result ≢ Err SessionFault.Write) × (result ≢ Err SessionFault.InputFull) }
@@ -115,6 +153,37 @@ fn feed<F: Fabric>(
     Ok(())
 }
 
+/// Feeds a line, and writes what it prints.
+fn serve_text<K: Sink, F: Fabric>(
+    alloc: Global,
+    world: &mut World<AllActs>,
+    line: &Text,
+    sink: &mut K,
+    fabric: &mut F,
+) -> Result<(), SessionFault>
+    requires short { is_long line.now ≡ false }
+    requires legal { IsLegalAt (length world.old.nodes) world.old.journal.entries }
+    requires carrying { IsCarrying world.old.hand (F.flight fabric.old) (F.trace fabric.old) world.old.journal.entries }
+
+    ensures legal { IsLegalAt (length world.new.nodes) world.new.journal.entries }
+    ensures carrying { IsCarrying world.new.hand (F.flight fabric.new) (F.trace fabric.new) world.new.journal.entries }
+    ensures count { length world.new.nodes ≡ length world.old.nodes }
+    ensures fed { OnOk result (FeedsLine (length world.new.nodes) line.now world.old.journal.entries world.new.journal.entries) }
+    ensures rest { OnOk result (IsAtRest world.new) }
+    ensures held { OnOk result (K.held sink.new ≡ followed (K.held sink.old) (concat (prints_of (drop (length world.old.journal.entries) world.new.journal.entries)))) }
+    ensures err { IfErr result (λ fault. IsLineEndedBy fault (length world.new.nodes) line.now world.old.journal.entries world.new.journal.entries (K.held sink.old) (K.held sink.new)) }
+
+    ensures write { result ≡ Err SessionFault.Write → Rose (K.faults sink.old) (K.faults sink.new) }
+    ensures fabric { result ≡ Err SessionFault.Fabric → Rose (F.faults fabric.old) (F.faults fabric.new) }
+    ensures full { result ≡ Err SessionFault.JournalFull → HasRoom world.new.journal.entries → ⊥ }
+    ensures sink_faults { K.faults sink.old ≤ K.faults sink.new }
+    ensures fabric_faults { F.faults fabric.old ≤ F.faults fabric.new }
+{
+    let cut = world.journal().entries();
+    feed(alloc, world, line, fabric)?;
+    show(world.journal(), cut, sink)
+}
+
 /// One line: a prompt, and what the line prints. False where the lines end.
 fn serve_line<S: Source, K: Sink, F: Fabric>(
     alloc: Global,
@@ -124,15 +193,38 @@ fn serve_line<S: Source, K: Sink, F: Fabric>(
     sink: &mut K,
     fabric: &mut F,
 ) -> Result<bool, SessionFault>
+    requires some { 1 ≤ length world.old.nodes }
+    requires few { length world.old.nodes ≤ 64 }
+    requires rest { IsAtRest world.old }
+    requires legal { IsLegalAt (length world.old.nodes) world.old.journal.entries }
     requires carrying { IsCarrying world.old.hand (F.flight fabric.old) (F.trace fabric.old) world.old.journal.entries }
+
+    ensures line { result ≡ Ok true → (all : _) (before : _) →
+        IsServing (length world.old.nodes) all before reader.old (S.left source.old) world.old.journal.entries (K.held sink.old) →
+        IsServing (length world.old.nodes) all before reader.new (S.left source.new) world.new.journal.entries (K.held sink.new) }
+    ensures over { result ≡ Ok false → (all : _) (before : _) →
+        IsServing (length world.old.nodes) all before reader.old (S.left source.old) world.old.journal.entries (K.held sink.old) →
+        IsOver reader.new.ended all before world.new.journal.entries (K.held sink.new) }
+    ensures err { IfErr result (λ fault. (all : _) (before : _) →
+        IsServing (length world.old.nodes) all before reader.old (S.left source.old) world.old.journal.entries (K.held sink.old) →
+        IsCutBy fault all before world.new.journal.entries (K.held sink.new)) }
+    ensures input { result ≡ Err SessionFault.InputFull → (all : _) (before : _) →
+        IsServing (length world.old.nodes) all before reader.old (S.left source.old) world.old.journal.entries (K.held sink.old) →
+        IsStopped all reader.new (S.left source.new) }
+    ensures reads { (all : _) → HasRead all reader.old (S.left source.old) → HasRead all reader.new (S.left source.new) }
+    ensures counted { reader.new.read + S.taken source.old ≡ reader.old.read + S.taken source.new }
+
+    ensures rest { OnOk result (IsAtRest world.new) }
+    ensures legal { IsLegalAt (length world.new.nodes) world.new.journal.entries }
     ensures carrying { IsCarrying world.new.hand (F.flight fabric.new) (F.trace fabric.new) world.new.journal.entries }
     ensures count { length world.new.nodes ≡ length world.old.nodes }
     ensures fewer { result ≡ Ok true → bytes_left reader.new < bytes_left reader.old }
+
     ensures read { result ≡ Err SessionFault.Read → Rose (S.faults source.old) (S.faults source.new) }
     ensures write { result ≡ Err SessionFault.Write → Rose (K.faults sink.old) (K.faults sink.new) }
     ensures fabric { result ≡ Err SessionFault.Fabric → Rose (F.faults fabric.old) (F.faults fabric.new) }
     ensures full { result ≡ Err SessionFault.JournalFull → HasRoom world.new.journal.entries → ⊥ }
-    ensures input { result ≡ Err SessionFault.InputFull → reader.new.read ≡ 67108864 }
+    ensures full_input { result ≡ Err SessionFault.InputFull → reader.new.read ≡ 67108864 }
     ensures source_faults { S.faults source.old ≤ S.faults source.new }
     ensures sink_faults { K.faults sink.old ≤ K.faults sink.new }
     ensures fabric_faults { F.faults fabric.old ≤ F.faults fabric.new }
@@ -140,16 +232,15 @@ fn serve_line<S: Source, K: Sink, F: Fabric>(
     write(sink, PROMPT)?;
     match reader.next_line(alloc, source) {
         Ok(Next::Line(line)) => {
-            let cut = world.journal().entries();
-            feed(alloc, world, &line, fabric)?;
-            show(world.journal(), cut, sink)?;
+            serve_text(alloc, world, &line, sink, fabric)?;
             Ok(true)
         }
         Ok(Next::Long) => {
             write(sink, BAD_COMMAND)?;
             Ok(true)
         }
-        Ok(Next::Quit | Next::End) => Ok(false),
+        Ok(Next::Quit) => Ok(false),
+        Ok(Next::End) => Ok(false),
         Ok(Next::Full) => Err(SessionFault::InputFull),
         Err(ReadFault::Failed) => Err(SessionFault::Read),
         Err(ReadFault::OutOfMemory) => Err(SessionFault::OutOfMemory),
@@ -164,9 +255,25 @@ pub fn serve<S: Source, K: Sink, F: Fabric>(
     sink: &mut K,
     fabric: &mut F,
 ) -> Result<(), SessionFault>
+    requires some { 1 ≤ length world.old.nodes }
+    requires few { length world.old.nodes ≤ 64 }
+    requires empty { world.old.journal.entries ≡ [] }
+    requires rest { IsAtRest world.old }
     requires carrying { IsCarrying world.old.hand (F.flight fabric.old) (F.trace fabric.old) world.old.journal.entries }
+
+    ensures whole { (input : _) → S.left source.old ≡ Some input → OnOk result (IsWhole input world.new.journal.entries (K.held sink.old) (K.held sink.new)) }
+    ensures read_up { (input : _) → S.left source.old ≡ Some input → OnOk result (IsReadUp input (S.left source.new)) }
+    ensures ended { (input : _) → S.left source.old ≡ Some input →
+        IfErr result (λ fault. IsEndedBy fault input world.new.journal.entries (K.held sink.old) (K.held sink.new)) }
+    ensures begun { (input : _) → S.left source.old ≡ Some input → IsBegun input world.new.journal.entries (K.held sink.old) (K.held sink.new) }
+    ensures input { (input : _) → S.left source.old ≡ Some input → result ≡ Err SessionFault.InputFull → IsInputFull input (S.left source.new) }
+    ensures taken { result ≡ Err SessionFault.InputFull → S.taken source.new ≡ S.taken source.old + 67108864 }
+
+    ensures rest { OnOk result (IsAtRest world.new) }
+    ensures legal { IsLegalAt (length world.new.nodes) world.new.journal.entries }
     ensures carrying { IsCarrying world.new.hand (F.flight fabric.new) (F.trace fabric.new) world.new.journal.entries }
     ensures count { length world.new.nodes ≡ length world.old.nodes }
+
     ensures read { result ≡ Err SessionFault.Read → Rose (S.faults source.old) (S.faults source.new) }
     ensures write { result ≡ Err SessionFault.Write → Rose (K.faults sink.old) (K.faults sink.new) }
     ensures fabric { result ≡ Err SessionFault.Fabric → Rose (F.faults fabric.old) (F.faults fabric.new) }

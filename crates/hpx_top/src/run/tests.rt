@@ -145,9 +145,10 @@ fn long_lines_are_not_fed(rt: HostRuntime) -> Result<(), Fail> {
     Ok(())
 }
 
-// Status, output and error line of `add 5` over ports that fail at these calls.
+// Status, output and error line of a session over ports that fail at these calls.
 fn failing(
     alloc: Global,
+    order: Order,
     reads: &[u64],
     writes: &[u64],
     sends: &[u64],
@@ -156,12 +157,7 @@ fn failing(
     let mut source = MemSource::new(bytes(alloc, b"add 5\nquery\n")?, calls(alloc, reads)?);
     let mut sink = MemSink::new(alloc, calls(alloc, writes)?);
     let mut err = SureSink::new(alloc);
-    let fabric = MemFabric::new(
-        alloc,
-        Order::FirstIn,
-        calls(alloc, sends)?,
-        calls(alloc, delivers)?,
-    );
+    let fabric = MemFabric::new(alloc, order, calls(alloc, sends)?, calls(alloc, delivers)?);
     let end = run(
         alloc,
         &words(alloc, &WORDS)?,
@@ -177,29 +173,121 @@ fn failing(
     ))
 }
 
+const WHOLE: &[u8] = b"commands: reset, add [amount], query, help, quit\n> > 5\n> ";
+
+const AT_FIRST_LINE: &[u8] = b"commands: reset, add [amount], query, help, quit\n> ";
+
+const AT_SECOND_LINE: &[u8] = b"commands: reset, add [amount], query, help, quit\n> > ";
+
 #[test]
-fn a_port_that_fails_ends_the_run(rt: HostRuntime) -> Result<(), Fail> {
+fn each_read_may_fail(rt: HostRuntime) -> Result<(), Fail> {
     let alloc = rt.alloc();
-    let first: &[u8] = b"commands: reset, add [amount], query, help, quit\n> ";
-    let (status, text, line) = failing(alloc, &[1], &[], &[], &[])?;
-    assert_eq!(rt; status, 2);
-    assert_eq!(rt; text.as_slice(), first);
-    assert_eq!(rt; line.as_slice(), b"hpx: read failed\n".as_slice());
-    let (status, text, line) = failing(alloc, &[], &[1], &[], &[])?;
-    assert_eq!(rt; status, 3);
-    assert_eq!(rt; text.as_slice(), b"".as_slice());
-    assert_eq!(rt; line.as_slice(), b"hpx: write failed\n".as_slice());
-    let (status, text, line) = failing(alloc, &[], &[], &[1], &[])?;
-    assert_eq!(rt; status, 4);
-    assert_eq!(rt; text.as_slice(), first);
-    assert_eq!(rt; line.as_slice(), b"hpx: fabric failed\n".as_slice());
-    let (status, text, _) = failing(alloc, &[], &[], &[], &[1])?;
-    assert_eq!(rt; status, 4);
-    assert_eq!(rt; text.as_slice(), first);
-    let (status, text, _) = failing(alloc, &[], &[], &[], &[])?;
-    assert_eq!(rt; status, 0);
-    let whole: &[u8] = b"commands: reset, add [amount], query, help, quit\n> > 5\n> ";
-    assert_eq!(rt; text.as_slice(), whole);
+    for order in ORDERS {
+        for (n, want) in [(1, AT_FIRST_LINE), (2, WHOLE)] {
+            let (status, text, line) = failing(alloc, order, &[n], &[], &[], &[])?;
+            assert_eq!(rt; status, 2);
+            assert_eq!(rt; text.as_slice(), want);
+            assert_eq!(rt; line.as_slice(), b"hpx: read failed\n".as_slice());
+        }
+        let (status, text, line) = failing(alloc, order, &[3], &[], &[], &[])?;
+        assert_eq!(rt; status, 0);
+        assert_eq!(rt; text.as_slice(), WHOLE);
+        assert_eq!(rt; line.as_slice(), b"".as_slice());
+    }
+    Ok(())
+}
+
+#[test]
+fn each_write_may_fail(rt: HostRuntime) -> Result<(), Fail> {
+    let alloc = rt.alloc();
+    for order in ORDERS {
+        for (n, want) in [
+            (1, b"".as_slice()),
+            (2, b"commands: reset, add [amount], query, help, quit\n"),
+            (3, AT_FIRST_LINE),
+            (4, AT_SECOND_LINE),
+            (
+                5,
+                b"commands: reset, add [amount], query, help, quit\n> > 5\n",
+            ),
+        ] {
+            let (status, text, line) = failing(alloc, order, &[], &[n], &[], &[])?;
+            assert_eq!(rt; status, 3);
+            assert_eq!(rt; text.as_slice(), want);
+            assert_eq!(rt; line.as_slice(), b"hpx: write failed\n".as_slice());
+        }
+        let (status, text, line) = failing(alloc, order, &[], &[6], &[], &[])?;
+        assert_eq!(rt; status, 0);
+        assert_eq!(rt; text.as_slice(), WHOLE);
+        assert_eq!(rt; line.as_slice(), b"".as_slice());
+    }
+    Ok(())
+}
+
+#[test]
+fn each_send_may_fail(rt: HostRuntime) -> Result<(), Fail> {
+    let alloc = rt.alloc();
+    for order in ORDERS {
+        for (n, want) in [
+            (1, AT_FIRST_LINE),
+            (2, AT_FIRST_LINE),
+            (3, AT_SECOND_LINE),
+            (4, AT_SECOND_LINE),
+        ] {
+            let (status, text, line) = failing(alloc, order, &[], &[], &[n], &[])?;
+            assert_eq!(rt; status, 4);
+            assert_eq!(rt; text.as_slice(), want);
+            assert_eq!(rt; line.as_slice(), b"hpx: fabric failed\n".as_slice());
+        }
+        let (status, text, line) = failing(alloc, order, &[], &[], &[5], &[])?;
+        assert_eq!(rt; status, 0);
+        assert_eq!(rt; text.as_slice(), WHOLE);
+        assert_eq!(rt; line.as_slice(), b"".as_slice());
+    }
+    Ok(())
+}
+
+// A delivery may also find nothing in flight, so there are more of them than frames.
+#[test]
+fn each_delivery_may_fail(rt: HostRuntime) -> Result<(), Fail> {
+    let alloc = rt.alloc();
+    for order in ORDERS {
+        let mut failed = 0u64;
+        for n in 1..100u64 {
+            let (status, text, line) = failing(alloc, order, &[], &[], &[], &[n])?;
+            if status == 0 {
+                assert_eq!(rt; text.as_slice(), WHOLE);
+                assert_eq!(rt; line.as_slice(), b"".as_slice());
+                break;
+            }
+            failed = n;
+            assert_eq!(rt; status, 4);
+            assert!(rt; text.as_slice() == AT_FIRST_LINE || text.as_slice() == AT_SECOND_LINE);
+            assert_eq!(rt; line.as_slice(), b"hpx: fabric failed\n".as_slice());
+        }
+        assert!(rt; failed >= 4);
+        assert!(rt; failed < 99);
+    }
+    Ok(())
+}
+
+#[test]
+fn a_sink_that_fails_for_errors_changes_no_status(rt: HostRuntime) -> Result<(), Fail> {
+    let alloc = rt.alloc();
+    let mut source = MemSource::new(bytes(alloc, b"add 5\n")?, calls(alloc, &[1])?);
+    let mut sink = SureSink::new(alloc);
+    let mut err = MemSink::new(alloc, calls(alloc, &[1])?);
+    let fabric = SureFabric::new(alloc, Order::FirstIn);
+    let end = run(
+        alloc,
+        &words(alloc, &WORDS)?,
+        &mut source,
+        &mut sink,
+        &mut err,
+        fabric,
+    );
+    assert_eq!(rt; end.status, 2);
+    assert_eq!(rt; err.bytes(), b"".as_slice());
     Ok(())
 }
 
@@ -234,6 +322,45 @@ fn other_words_are_refused(rt: HostRuntime) -> Result<(), Fail> {
         assert_eq!(rt; status, 1);
         assert_eq!(rt; sink.bytes(), b"".as_slice());
         assert_eq!(rt; err.bytes(), want);
+    }
+    Ok(())
+}
+
+// Counted by hand for one line `add 1`: Line, Fire, Done, Sent, Out and In at locality 0 and 1, Fire, Done, Sent, Out, In,
+// Fire and Done are 13 entries. They weigh 13 * 64 and the bytes in them: 6 of the line, and twice those of the two frames,
+// which are 62 and 43.
+#[test]
+fn two_thousand_lines_are_two_thousand_times_one(rt: HostRuntime) -> Result<(), Fail> {
+    let alloc = rt.alloc();
+    let mut input = Vec::new(alloc);
+    for _ in 0..2000 {
+        input.extend_from_slice(b"add 1\n")?;
+    }
+    let mut source = SureSource::new(Bytes::from_vec(input));
+    let mut sink = SureSink::new(alloc);
+    let mut err = SureSink::new(alloc);
+    let end = run(
+        alloc,
+        &words(alloc, &WORDS)?,
+        &mut source,
+        &mut sink,
+        &mut err,
+        SureFabric::new(alloc, Order::FirstIn),
+    );
+    assert_eq!(rt; end.status, 0);
+    assert_eq!(rt; end.fabric.in_flight(), 0);
+    assert_eq!(rt; end.fabric.trace().len(), 2000 * 4);
+    // The commands line has 49 bytes, and there are 2,001 prompts.
+    assert_eq!(rt; sink.bytes().len(), 49 + 2001 * 2);
+    match &end.world {
+        Some(world) => {
+            assert_eq!(rt; world.journal().entries(), 2000 * 13);
+            assert_eq!(rt;
+                world.journal().weight(),
+                2000 * (13 * 64 + 6 + 2 * 62 + 2 * 43)
+            );
+        }
+        None => assert_eq!(rt; true, false),
     }
     Ok(())
 }

@@ -1,15 +1,24 @@
-use Rattle.std.proofs.Common.{◌≡◌, ◌≤◌, length}
+use Rattle.std.proofs.Common.{◌≡◌, ◌+◌, ◌≤◌, [], false, length}
 use Rattle.hpx_top.specs.Sound.{IsCarrying}
-use Rattle.hpx_top.specs.Reader.{bytes_left}
+use Rattle.hpx_top.specs.Reader.{HasRead, bytes_left, lines_left}
+use Rattle.hpx_top.specs.Session.{IsAtRest, IsLegalAt, IsServing}
 use Rattle.hpx_top.proofs.session.serve.Given as goal
 
 abbrev pub invariant-loop-reader : goal.invariant-loop-reader
 invariant-loop-reader g l =
-    IsCarrying l.world.hand (g.F.Fabric.flight l.fabric) (g.F.Fabric.trace l.fabric) l.world.journal.entries
-    × (length l.world.nodes ≡ length l.fn.world.nodes)
-    × (g.S.Source.faults l.fn.source ≤ g.S.Source.faults l.source)
-    × (g.K.Sink.faults l.fn.sink ≤ g.K.Sink.faults l.sink)
-    × (g.F.Fabric.faults l.fn.fabric ≤ g.F.Fabric.faults l.fabric)
+    record {
+      serving : IsServing (length l.fn.world.nodes) (lines_left (record { pending = []; read = 0; ended = false }) (g.S.Source.left l.fn.source))
+          (g.K.Sink.held l.fn.sink) l.reader (g.S.Source.left l.source) l.world.journal.entries (g.K.Sink.held l.sink);
+      reads : HasRead (g.S.Source.left l.fn.source) l.reader (g.S.Source.left l.source);
+      counted : l.reader.read + g.S.Source.taken l.fn.source ≡ g.S.Source.taken l.source;
+      rest : IsAtRest l.world;
+      legal : IsLegalAt (length l.world.nodes) l.world.journal.entries;
+      carrying : IsCarrying l.world.hand (g.F.Fabric.flight l.fabric) (g.F.Fabric.trace l.fabric) l.world.journal.entries;
+      count : length l.world.nodes ≡ length l.fn.world.nodes;
+      source_faults : g.S.Source.faults l.fn.source ≤ g.S.Source.faults l.source;
+      sink_faults : g.K.Sink.faults l.fn.sink ≤ g.K.Sink.faults l.sink;
+      fabric_faults : g.F.Fabric.faults l.fn.fabric ≤ g.F.Fabric.faults l.fabric;
+    }
 
 abbrev pub decreases-loop-reader : goal.decreases-loop-reader
 decreases-loop-reader g l = bytes_left l.reader

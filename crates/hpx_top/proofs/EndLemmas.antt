@@ -1,0 +1,205 @@
+-- What the end of a session says of the bytes of its input.
+use Rattle.std.specs.Prelude.{pos, IfSome, Result, Ok, Err, OnOk, if◌then◌else◌}
+use Rattle.std.specs.List.{concat, list_any, slice_split}
+use Rattle.std.proofs.Common.{ℕ, Bool, true, false, List, [], ◌∷◌, ◌++◌, ◌≡◌, ◌≢◌, ◌+◌, ◌<◌, ◌≤◌, ◌⊎◌, ◌||◌, length, Option, Some, None, refl, sym, ap, ◌∙◌, subst, inl, inr, arith, append-nil, append_assoc, length-append}
+use Rattle.std.proofs.lemmas.List.Folds.{list_any-append}
+use Rattle.hpx_root_journal.specs.declared.entry.Entry.{Entry}
+use Rattle.hpx_ports.specs.Told.{preceded, followed}
+use Rattle.hpx_top.specs.PlainText.{IsFront, is_quit, is_newline, before_quit, lines_in, lines_of, quits, fed, text_of}
+use Rattle.hpx_top.specs.Reader.{Reading, HasRead, lines_left, input_left}
+use Rattle.hpx_top.specs.declared.session.SessionFault.{SessionFault}
+use Rattle.hpx_top.specs.declared.session.SessionFault.TheVariants.{Read, Write, Fabric, JournalFull, OutOfMemory, Strange, InputFull}
+use Rattle.hpx_top.specs.Session.{lines_fed, WritesFront, HandsOut, IsCut, IsCutIn, IsCutBy, IsOver, IsUnderWay, IsStopped}
+use Rattle.hpx_top.specs.Ends.{IsWhole, IsBrokenOff, IsBrokenIn, IsBegun, IsEndedBy, IsReadUp, IsInputFull}
+use Rattle.hpx_top.proofs.LineLemmas.{told_rest, before_quit_append, text_front, front_then, followed_nothing}
+use Rattle.hpx_top.proofs.SessionLemmas.{under_cut, under_in, under_over}
+
+handed : (input : List ℕ) (left : Option (List (List ℕ))) (lines rest : List (List ℕ)) → list_any is_quit lines ≡ false
+    → lines_in (slice_split is_newline input) ≡ lines ++ rest → lines_of input ≡ lines ++ before_quit rest
+handed input left lines rest goes_on is = ap before_quit is ∙ before_quit_append lines rest goes_on
+
+pub whole_at_end : (ended : Bool) (input : List ℕ) (entries : List Entry) (old new : Option (List ℕ))
+    → IsOver ended (Some (lines_in (slice_split is_newline input))) old entries new → IsWhole input entries old new
+whole_at_end ended input entries old new o =
+    let rest = told_rest (lines_in (slice_split is_newline input)) o.lines o.left o.handled.first in
+    let last : before_quit rest.0 ≡ [] = subst (λ l. IfSome l (λ others. before_quit others ≡ [])) rest.1 o.last in
+    let all : lines_of input ≡ o.lines
+    = handed input o.left o.lines rest.0 o.handled.goes_on rest.2 ∙ (ap (λ t. o.lines ++ t) last ∙ append-nil o.lines) in
+    record { lines = o.journal ∙ ap fed (sym all); text = o.held ∙ ap (λ ls. followed old (text_of ls)) (sym all) }
+
+pub broken_at : (most : ℕ) (input : List ℕ) (entries : List Entry) (old new : Option (List ℕ))
+    → IsCut most (Some (lines_in (slice_split is_newline input))) old entries new → IsBrokenOff most input entries old new
+broken_at most input entries old new c =
+    let rest = told_rest (lines_in (slice_split is_newline input)) (c.lines ++ c.next) c.left c.handled.first in
+    record {
+      handled = c.lines;
+      next = c.next;
+      later = before_quit rest.0;
+      first = handed input c.left (c.lines ++ c.next) rest.0 c.handled.goes_on rest.2;
+      few = c.few;
+      lines = c.journal;
+      text = c.held;
+    }
+
+pub broken_in : (input : List ℕ) (entries : List Entry) (old new : Option (List ℕ))
+    → IsCutIn (Some (lines_in (slice_split is_newline input))) old entries new → IsBrokenIn input entries old new
+broken_in input entries old new c =
+    let lines = c.lines ++ c.line ∷ [] in
+    let rest = told_rest (lines_in (slice_split is_newline input)) lines c.left c.handled.first in
+    record {
+      handled = c.lines;
+      line = c.line;
+      later = before_quit rest.0;
+      first = handed input c.left lines rest.0 c.handled.goes_on rest.2 ∙ append_assoc c.lines (c.line ∷ []) (before_quit rest.0);
+      short = c.short;
+      lines = c.journal;
+      text = c.held;
+    }
+
+pub begun_at : (input : List ℕ) (entries : List Entry) (old new : Option (List ℕ))
+    → IsUnderWay (Some (lines_in (slice_split is_newline input))) old entries new → IsBegun input entries old new
+begun_at input entries old new u =
+    let rest = told_rest (lines_in (slice_split is_newline input)) u.lines u.left u.handled.first in
+    let first : lines_of input ≡ u.lines ++ before_quit rest.0 = handed input u.left u.lines rest.0 u.handled.goes_on rest.2 in
+    record {
+      handled = u.lines;
+      later = before_quit rest.0;
+      first = first;
+      lines = u.journal;
+      text = u.written.front;
+      is = u.written.held;
+      theirs = u.written.begins;
+      begins = front_then u.written.front (text_of u.lines) (text_of (lines_of input)) u.written.begins
+          (subst (λ ls. IsFront (text_of u.lines) (text_of ls)) (sym first) (text_front u.lines (before_quit rest.0)));
+    }
+
+-- nothing was done yet
+pub begun_nothing : (input : List ℕ) (entries : List Entry) (old new : Option (List ℕ)) → entries ≡ [] → new ≡ old → IsBegun input entries old new
+begun_nothing input entries old new empty same = record {
+  handled = [];
+  later = lines_of input;
+  first = refl;
+  lines = ap lines_fed empty;
+  text = [];
+  is = same ∙ sym (followed_nothing old);
+  theirs = record { later = text_of []; is = refl };
+  begins = record { later = text_of (lines_of input); is = refl };
+}
+
+pub read_up_at : (ended : Bool) (input : List ℕ) (reading : Reading) (left : Option (List ℕ)) (entries : List Entry) (old new : Option (List ℕ))
+    → IsOver ended (Some (lines_in (slice_split is_newline input))) old entries new → HasRead (Some input) reading left → reading.ended ≡ ended
+    → IsReadUp input left
+read_up_at ended input reading left entries old new o h same = up o.read_up
+  where
+    up : (ended ≡ true) ⊎ (quits input ≡ true) → IsReadUp input left
+    up (inr quit) = inl quit
+    up (inl e) =
+        let read = told_rest input h.front left h.next in
+        let none : read.0 ≡ [] = subst (λ l. IfSome l (λ bytes. bytes ≡ [])) read.1 (h.at_end (same ∙ e)) in
+        let count : length input ≡ length h.front + length read.0 = ap length read.2 ∙ length-append h.front read.0 in
+        inr (read.1 ∙ ap (λ xs. Some xs) none, omega (arith, count, ap length none, h.count, h.below (same ∙ e)))
+
+pub full_at : (input : List ℕ) (reading : Reading) (left : Option (List ℕ)) → IsStopped (Some (lines_in (slice_split is_newline input))) reading left
+    → HasRead (Some input) reading left → reading.read ≡ 67108864 → IsInputFull input left
+full_at input reading left s h all =
+    let read = told_rest input h.front left h.next in
+    let still : lines_left reading left ≡ Some (lines_in (slice_split is_newline (reading.pending ++ read.0)))
+    = ap (λ b. lines_left (record reading { ended = b }) left) s.goes_on
+    ∙ ap (λ o. lines_left (record reading { ended = false }) o) read.1 in
+    let rest = told_rest (lines_in (slice_split is_newline input)) s.lines (lines_left reading left) s.handled.first in
+    let same : rest.0 ≡ lines_in (slice_split is_newline (reading.pending ++ read.0)) = some_is rest.0 _ (sym rest.1 ∙ still) in
+    record {
+      front = h.front;
+      rest = read.0;
+      input_is = read.2;
+      left_is = read.1;
+      count = h.count ∙ all;
+      lines = s.lines;
+      piece = reading.pending;
+      goes_on = s.handled.goes_on;
+      no_line = s.no_line;
+      lines_are = rest.2 ∙ ap (λ t. s.lines ++ t) same;
+    }
+  where
+    some_is : (a b : List (List ℕ)) → Some a ≡ Some b → a ≡ b
+    some_is a b h = cc
+
+-- ---- by the cause of an end
+
+begun_cut : (most : ℕ) (input : List ℕ) (entries : List Entry) (old new : Option (List ℕ))
+    → IsCut most (Some (lines_in (slice_split is_newline input))) old entries new → IsBegun input entries old new
+begun_cut most input entries old new c = begun_at input entries old new (under_cut most (Some (lines_in (slice_split is_newline input))) old new entries c)
+
+begun_in : (input : List ℕ) (entries : List Entry) (old new : Option (List ℕ))
+    → IsCutIn (Some (lines_in (slice_split is_newline input))) old entries new → IsBegun input entries old new
+begun_in input entries old new c = begun_at input entries old new (under_in (Some (lines_in (slice_split is_newline input))) old new entries c)
+
+pub ended_at : (f : SessionFault) (input : List ℕ) (entries : List Entry) (old new : Option (List ℕ))
+    → IsCutBy f (Some (lines_in (slice_split is_newline input))) old entries new → IsEndedBy f input entries old new
+ended_at Write input entries old new c = begun_at input entries old new c
+ended_at Read input entries old new c = broken_at 0 input entries old new c
+ended_at InputFull input entries old new c = broken_at 0 input entries old new c
+ended_at Fabric input entries old new c = broken_in input entries old new c
+ended_at JournalFull input entries old new c = broken_in input entries old new c
+ended_at OutOfMemory input entries old new c = broken_at 1 input entries old new c
+ended_at Strange input entries old new c = begun_in input entries old new c
+
+pub begun_by : (f : SessionFault) (input : List ℕ) (entries : List Entry) (old new : Option (List ℕ))
+    → IsCutBy f (Some (lines_in (slice_split is_newline input))) old entries new → IsBegun input entries old new
+begun_by Write input entries old new c = begun_at input entries old new c
+begun_by Read input entries old new c = begun_cut 0 input entries old new c
+begun_by InputFull input entries old new c = begun_cut 0 input entries old new c
+begun_by Fabric input entries old new c = begun_in input entries old new c
+begun_by JournalFull input entries old new c = begun_in input entries old new c
+begun_by OutOfMemory input entries old new c = begun_cut 1 input entries old new c
+begun_by Strange input entries old new c = begun_in input entries old new c
+
+-- ---- the same of the bytes that a source had left
+
+abbrev pub all_lines : Option (List ℕ) → Option (List (List ℕ))
+all_lines left = lines_left (record { pending = []; read = 0; ended = false }) left
+
+told : (input : List ℕ) (left : Option (List ℕ)) → left ≡ Some input → all_lines left ≡ Some (lines_in (slice_split is_newline input))
+told input left h = ap all_lines h
+
+pub whole_from : (ended : Bool) (input : List ℕ) (left : Option (List ℕ)) (entries : List Entry) (old new : Option (List ℕ)) → left ≡ Some input
+    → IsOver ended (all_lines left) old entries new → IsWhole input entries old new
+whole_from ended input left entries old new h o = whole_at_end ended input entries old new (subst (λ all. IsOver ended all old entries new) (told input left h) o)
+
+pub begun_over : (ended : Bool) (input : List ℕ) (left : Option (List ℕ)) (entries : List Entry) (old new : Option (List ℕ)) → left ≡ Some input
+    → IsOver ended (all_lines left) old entries new → IsBegun input entries old new
+begun_over ended input left entries old new h o =
+    begun_at input entries old new (under_over ended _ old new entries (subst (λ all. IsOver ended all old entries new) (told input left h) o))
+
+pub read_up_from : (ended : Bool) (input : List ℕ) (left rest : Option (List ℕ)) (reading : Reading) (entries : List Entry) (old new : Option (List ℕ))
+    → left ≡ Some input → IsOver ended (all_lines left) old entries new → HasRead left reading rest → reading.ended ≡ ended → IsReadUp input rest
+read_up_from ended input left rest reading entries old new h o read same =
+    read_up_at ended input reading rest entries old new (subst (λ all. IsOver ended all old entries new) (told input left h) o)
+    (subst (λ all. HasRead all reading rest) h read) same
+
+pub full_from : (input : List ℕ) (left rest : Option (List ℕ)) (reading : Reading) → left ≡ Some input → IsStopped (all_lines left) reading rest
+    → HasRead left reading rest → reading.read ≡ 67108864 → IsInputFull input rest
+full_from input left rest reading h stopped read count =
+    full_at input reading rest (subst (λ all. IsStopped all reading rest) (told input left h) stopped) (subst (λ all. HasRead all reading rest) h read) count
+
+pub ended_from : (f : SessionFault) (input : List ℕ) (left : Option (List ℕ)) (entries : List Entry) (old new : Option (List ℕ)) → left ≡ Some input
+    → IsCutBy f (all_lines left) old entries new → IsEndedBy f input entries old new
+ended_from f input left entries old new h c = ended_at f input entries old new (subst (λ all. IsCutBy f all old entries new) (told input left h) c)
+
+pub begun_from : (f : SessionFault) (input : List ℕ) (left : Option (List ℕ)) (entries : List Entry) (old new : Option (List ℕ)) → left ≡ Some input
+    → IsCutBy f (all_lines left) old entries new → IsBegun input entries old new
+begun_from f input left entries old new h c = begun_by f input entries old new (subst (λ all. IsCutBy f all old entries new) (told input left h) c)
+
+-- before anything is read
+pub read_none : (left : Option (List ℕ)) (reading : Reading) → reading ≡ record { pending = []; read = 0; ended = false } → HasRead left reading left
+read_none left reading h = subst (λ r. HasRead left r left) (sym h) (record {
+  front = [];
+  count = refl;
+  next = nothing left;
+  at_end = λ e. absurd (let never : false ≡ true = e in cc);
+  below = λ e. absurd (let never : false ≡ true = e in cc);
+})
+  where
+    nothing : (o : Option (List ℕ)) → o ≡ preceded [] o
+    nothing None = refl
+    nothing (Some xs) = refl

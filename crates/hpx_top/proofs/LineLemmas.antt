@@ -1,0 +1,204 @@
+-- Lines of a session, one behind the others: what is fed, what is written, and what is told.
+use Rattle.std.specs.Prelude.{ℤ, pos, ◌||◌, ◌&&◌, not, if◌then◌else◌}
+use Rattle.std.specs.List.{concat, list_any, AllByRecursion, slice_get}
+use Rattle.std.proofs.Common.{ℕ, suc, Bool, true, false, List, [], ◌∷◌, ◌++◌, ◌≡◌, ◌+◌, ◌<◌, ◌≤◌, length, drop, Option, Some, None, refl, sym, ap, ◌∙◌, subst, arith, append-nil, append_assoc}
+use Rattle.std.proofs.lemmas.List.{drop_at}
+use Rattle.std.proofs.lemmas.List.Folds.{list_any-append, concat-append}
+use Rattle.hpx_root_journal.specs.declared.entry.Entry.{Entry}
+use Rattle.hpx_root_journal.specs.declared.entry.Event.{Event}
+use Rattle.hpx_root_journal.specs.declared.entry.Event.TheVariants.{Line, Fire, Done, Sent, Print, Out, In}
+use Rattle.hpx_root_journal.specs.Entries.{Rules}
+use Rattle.hpx_root_journal.specs.Whole.{Space, FeedsNothing, run}
+use Rattle.hpx_root_journal.specs.Pool.{prints_of}
+use Rattle.hpx_root_journal.specs.Sessions.{IsSession, BeginsWith, entries_of, shown}
+use Rattle.hpx_ports.specs.Told.{preceded, followed}
+use Rattle.hpx_top.specs.PlainText.{IsFront, is_long, is_quit, are_quit, before_quit, fed, line_text, after_line, after_lines, command_text, number_after, lines_text, text_of, prompt, commands, first_of, others_of, written}
+use Rattle.hpx_top.specs.Console.{words_of, command_of, bad_command}
+use Rattle.hpx_top.specs.Session.{lines_by, lines_fed}
+
+-- ---- what is told
+
+pub followed_nothing : (o : Option (List ℕ)) → followed o [] ≡ o
+followed_nothing None = refl
+followed_nothing (Some xs) = ap (λ ys. Some ys) (append-nil xs)
+
+pub followed_twice : (o : Option (List ℕ)) (a b : List ℕ) → followed (followed o a) b ≡ followed o (a ++ b)
+followed_twice None a b = refl
+followed_twice (Some xs) a b = ap (λ ys. Some ys) (append_assoc xs a b)
+
+pub preceded_nothing : (o : Option (List (List ℕ))) → preceded [] o ≡ o
+preceded_nothing None = refl
+preceded_nothing (Some xs) = refl
+
+pub preceded_twice : {T : Type 0} (a b : List T) (o : Option (List T)) → preceded a (preceded b o) ≡ preceded (a ++ b) o
+preceded_twice a b None = refl
+preceded_twice a b (Some xs) = ap (λ ys. Some ys) (sym (append_assoc a b xs))
+
+-- what is told ends with what is still left
+pub told_rest : {T : Type 0} (all lines : List T) (left : Option (List T)) → Some all ≡ preceded lines left → (rest : List T) × (left ≡ Some rest) × (all ≡ lines ++ rest)
+told_rest all lines None h = absurd (let none : Some all ≡ None = h in cc)
+told_rest all lines (Some rest) h = (rest, refl, (let some : Some all ≡ Some (lines ++ rest) = h in cc))
+
+-- ---- the text
+
+pub lines_text_append : (v : ℤ) (xs ys : List (List ℕ)) → lines_text v (xs ++ ys) ≡ lines_text v xs ++ lines_text (after_lines v xs) ys
+lines_text_append v [] ys = refl
+lines_text_append v (x ∷ xs) ys =
+    ap (λ t. prompt ++ (line_text v x ++ t)) (lines_text_append (after_line v x) xs ys)
+    ∙ regroup prompt (line_text v x) (lines_text (after_line v x) xs) (lines_text (after_lines (after_line v x) xs) ys)
+  where
+    regroup : (p a b c : List ℕ) → p ++ (a ++ (b ++ c)) ≡ (p ++ (a ++ b)) ++ c
+    regroup p a b c = simp append_assoc
+
+-- one line more
+pub lines_text_more : (v : ℤ) (xs : List (List ℕ)) (line : List ℕ) → lines_text v xs ++ (prompt ++ line_text (after_lines v xs) line) ≡ lines_text v (xs ++ line ∷ [])
+lines_text_more v xs line =
+    ap (λ t. lines_text v xs ++ (prompt ++ t)) (sym (append-nil (line_text (after_lines v xs) line))) ∙ sym (lines_text_append v xs (line ∷ []))
+
+pub long_text : (v : ℤ) (line : List ℕ) → is_long line ≡ true → line_text v line ≡ bad_command
+long_text v line h = ap (λ b. if b then bad_command else command_text v (command_of line)) h
+
+pub front_all : (t : List ℕ) → IsFront t t
+front_all t = record { later = []; is = append-nil t }
+
+pub front_then : (a b c : List ℕ) → IsFront a b → IsFront b c → IsFront a c
+front_then a b c f g = record { later = f.later ++ g.later; is = sym (append_assoc a f.later g.later) ∙ (ap (λ t. t ++ g.later) f.is ∙ g.is) }
+
+front_within : (c l p t m : List ℕ) → (c ++ (l ++ p)) ++ (t ++ (m ++ p)) ≡ c ++ ((l ++ (p ++ (t ++ m))) ++ p)
+front_within c l p t m = simp append_assoc
+
+-- the text of the first lines begins that of all
+pub text_front : (xs ys : List (List ℕ)) → IsFront (text_of xs) (text_of (xs ++ ys))
+text_front xs [] = subst (λ zs. IsFront (text_of xs) (text_of zs)) (sym (append-nil xs)) (front_all (text_of xs))
+text_front xs (y ∷ ys) =
+    let v = after_lines (pos 0) xs in
+    record {
+      later = line_text v y ++ (lines_text (after_line v y) ys ++ prompt);
+      is = front_within commands (lines_text (pos 0) xs) prompt (line_text v y) (lines_text (after_line v y) ys)
+          ∙ ap (λ t. commands ++ (t ++ prompt)) (sym (lines_text_append (pos 0) xs (y ∷ ys)));
+    }
+
+-- ---- lines that are fed
+
+fed_cons : (b : Bool) (x : List ℕ) (a c d : List (List ℕ)) → a ≡ c ++ d → (if b then a else (97 ∷ x) ∷ a) ≡ (if b then c else (97 ∷ x) ∷ c) ++ d
+fed_cons true x a c d h = h
+fed_cons false x a c d h = ap (λ t. (97 ∷ x) ∷ t) h
+
+pub fed_append : (xs ys : List (List ℕ)) → fed (xs ++ ys) ≡ fed xs ++ fed ys
+fed_append [] ys = refl
+fed_append (x ∷ xs) ys = fed_cons (is_long x) x (fed (xs ++ ys)) (fed xs) (fed ys) (fed_append xs ys)
+
+pub fed_short : (xs : List (List ℕ)) (line : List ℕ) → is_long line ≡ false → fed (xs ++ line ∷ []) ≡ fed xs ++ (97 ∷ line) ∷ []
+fed_short xs line h = fed_append xs (line ∷ []) ∙ ap (λ b. fed xs ++ (if b then [] else (97 ∷ line) ∷ [])) h
+
+pub fed_long : (xs : List (List ℕ)) (line : List ℕ) → is_long line ≡ true → fed (xs ++ line ∷ []) ≡ fed xs
+fed_long xs line h = fed_append xs (line ∷ []) ∙ (ap (λ b. fed xs ++ (if b then [] else (97 ∷ line) ∷ [])) h ∙ append-nil (fed xs))
+
+-- ---- lines that end reading
+
+or_none : (a b : Bool) → (a || b) ≡ false → (a ≡ false) × (b ≡ false)
+or_none true b h = absurd (let no : true ≡ false = h in cc)
+or_none false b h = (refl, h)
+
+before_cons : (q : Bool) (x : List ℕ) (a b : List (List ℕ)) → q ≡ false → a ≡ b → (if q then [] else x ∷ a) ≡ x ∷ b
+before_cons q x a b h e = ap (λ q. if q then [] else x ∷ a) h ∙ ap (λ t. x ∷ t) e
+
+pub before_quit_append : (xs ys : List (List ℕ)) → list_any is_quit xs ≡ false → before_quit (xs ++ ys) ≡ xs ++ before_quit ys
+before_quit_append [] ys h = refl
+before_quit_append (x ∷ xs) ys h =
+    let none = or_none (is_quit x) (list_any is_quit xs) h in
+    before_cons (is_quit x) x (before_quit (xs ++ ys)) (xs ++ before_quit ys) none.0 (before_quit_append xs ys none.1)
+
+pub goes_on_more : (xs : List (List ℕ)) (line : List ℕ) → list_any is_quit xs ≡ false → is_quit line ≡ false → list_any is_quit (xs ++ line ∷ []) ≡ false
+goes_on_more xs line h g =
+    list_any-append is_quit xs (line ∷ [])
+    ∙ (ap (λ b. b || (is_quit line || false)) h ∙ ap (λ b. b || false) g)
+
+pub goes_on_less : (xs ys : List (List ℕ)) → list_any is_quit (xs ++ ys) ≡ false → list_any is_quit xs ≡ false
+goes_on_less xs ys h = (or_none (list_any is_quit xs) (list_any is_quit ys) (sym (list_any-append is_quit xs ys) ∙ h)).0
+
+pub long_goes_on : (line : List ℕ) → is_long line ≡ true → is_quit line ≡ false
+long_goes_on line h = ap (λ b. not b && are_quit (words_of line)) h
+
+-- ---- lines in a journal
+
+pub lines_fed_append : (xs ys : List Entry) → lines_fed (xs ++ ys) ≡ lines_fed xs ++ lines_fed ys
+lines_fed_append [] ys = refl
+lines_fed_append (e ∷ es) ys = ap (λ t. lines_by e.event ++ t) (lines_fed_append es ys) ∙ sym (append_assoc (lines_by e.event) (lines_fed es) (lines_fed ys))
+
+silent : (event : Event) → FeedsNothing event → lines_by event ≡ []
+silent (Line a bytes) h = absurd h
+silent (Fire a) h = refl
+silent (Done a failed) h = refl
+silent (Sent a) h = refl
+silent (Print bytes) h = refl
+silent (Out to bytes) h = refl
+silent (In bytes) h = refl
+
+pub none_fed : (es : List Entry) → AllByRecursion (λ e. FeedsNothing e.event) es → lines_fed es ≡ []
+none_fed [] h = refl
+none_fed (e ∷ es) h = ap (λ t. t ++ lines_fed es) (silent e.event h.0) ∙ none_fed es h.1
+
+pub block_line : (line : List ℕ) (es : List Entry) → BeginsWith line es → lines_fed es ≡ line ∷ []
+block_line line [] h = absurd h
+block_line line (e ∷ es) h = ap (λ t. t ++ lines_fed es) (ap lines_by h.0.1) ∙ ap (λ t. line ∷ t) (none_fed es h.1)
+
+pub session_lines : (r : Rules) (w : Space) (lines : List (List ℕ)) (blocks : List (List Entry)) → IsSession r w lines blocks
+    → lines_fed (entries_of blocks) ≡ lines
+session_lines r w [] [] h = refl
+session_lines r w [] (es ∷ blocks) h = absurd h
+session_lines r w (line ∷ lines) [] h = absurd h
+session_lines r w (line ∷ lines) (es ∷ blocks) h =
+    lines_fed_append es (entries_of blocks)
+    ∙ (ap (λ t. t ++ lines_fed (entries_of blocks)) (block_line line es h.0.begins)
+    ∙ ap (λ t. line ∷ t) (session_lines r (run r w es) lines blocks h.1))
+
+pub session_count : (r : Rules) (w : Space) (lines : List (List ℕ)) (blocks : List (List Entry)) → IsSession r w lines blocks
+    → length (shown blocks) ≡ length lines
+session_count r w [] [] h = refl
+session_count r w [] (es ∷ blocks) h = absurd h
+session_count r w (line ∷ lines) [] h = absurd h
+session_count r w (line ∷ lines) (es ∷ blocks) h = ap (λ n. suc n) (session_count r (run r w es) lines blocks h.1)
+
+pub shown_more : (blocks : List (List Entry)) (es : List Entry) → shown (blocks ++ es ∷ []) ≡ shown blocks ++ prints_of es ∷ []
+shown_more [] es = refl
+shown_more (b ∷ blocks) es = ap (λ t. prints_of b ∷ t) (shown_more blocks es)
+
+pub entries_more : (blocks : List (List Entry)) (es : List Entry) → entries_of (blocks ++ es ∷ []) ≡ entries_of blocks ++ es
+entries_more [] es = append-nil es
+entries_more (b ∷ blocks) es = ap (λ t. b ++ t) (entries_more blocks es) ∙ sym (append_assoc b (entries_of blocks) es)
+
+-- ---- what is written for one line more
+
+regroup : (p a b r : List ℕ) → p ++ (a ++ (b ++ r)) ≡ (p ++ (a ++ b)) ++ r
+regroup p a b r = simp append_assoc
+
+written_cons : (b : Bool) (xs : List (List ℕ)) (first line r : List ℕ) (texts : List (List (List ℕ))) (more : List (List ℕ))
+    → length texts ≡ length (if b then fed xs else (97 ∷ first) ∷ fed xs)
+    → ((texts : List (List (List ℕ))) → length texts ≡ length (fed xs) → written (xs ++ line ∷ []) (texts ++ more ∷ []) ≡ written xs texts ++ r)
+    → (if b then prompt ++ (bad_command ++ written (xs ++ line ∷ []) (texts ++ more ∷ []))
+    else prompt ++ (first_of (texts ++ more ∷ []) ++ written (xs ++ line ∷ []) (others_of (texts ++ more ∷ []))))
+    ≡ (if b then prompt ++ (bad_command ++ written xs texts) else prompt ++ (first_of texts ++ written xs (others_of texts))) ++ r
+written_cons true xs first line r texts more h next =
+    ap (λ t. prompt ++ (bad_command ++ t)) (next texts h) ∙ regroup prompt bad_command (written xs texts) r
+written_cons false xs first line r [] more h next = absurd (let no : 0 ≡ length ((97 ∷ first) ∷ fed xs) = h in omega arith)
+written_cons false xs first line r (t ∷ texts) more h next =
+    let count : length texts ≡ length (fed xs) = omega (arith, h) in
+    ap (λ u. prompt ++ (concat t ++ u)) (next texts count) ∙ regroup prompt (concat t) (written xs texts) r
+
+pub written_more : (xs : List (List ℕ)) (texts : List (List (List ℕ))) (line : List ℕ) (more : List (List ℕ)) → is_long line ≡ false
+    → length texts ≡ length (fed xs) → written (xs ++ line ∷ []) (texts ++ more ∷ []) ≡ written xs texts ++ (prompt ++ (concat more ++ []))
+written_more [] [] line more short h =
+    ap (λ b. if b then prompt ++ (bad_command ++ []) else prompt ++ (concat more ++ [])) short
+written_more [] (t ∷ texts) line more short h = absurd (let no : length (t ∷ texts) ≡ 0 = h in omega arith)
+written_more (x ∷ xs) texts line more short h =
+    written_cons (is_long x) xs x line (prompt ++ (concat more ++ [])) texts more h
+    (λ texts count. written_more xs texts line more short count)
+
+-- what a line that was fed shows is its text
+pub line_shown : (v : ℤ) (xs : List (List ℕ)) (texts : List (List (List ℕ))) (line : List ℕ) (more : List (List ℕ)) → is_long line ≡ false
+    → length texts ≡ length (fed xs) → written xs texts ≡ lines_text v xs → written (xs ++ line ∷ []) (texts ++ more ∷ []) ≡ lines_text v (xs ++ line ∷ [])
+    → lines_text v xs ++ (prompt ++ concat more) ≡ lines_text v (xs ++ line ∷ [])
+line_shown v xs texts line more short h old new =
+    ap (λ t. t ++ (prompt ++ concat more)) (sym old)
+    ∙ (ap (λ t. written xs texts ++ (prompt ++ t)) (sym (append-nil (concat more))) ∙ (sym (written_more xs texts line more short h) ∙ new))

@@ -1,0 +1,391 @@
+-- A session from line to line, and what it leaves where it ends.
+use Rattle.std.specs.Prelude.{pos, IfSome, ◌||◌, if◌then◌else◌}
+use Rattle.std.specs.Option.{option_map}
+use Rattle.std.specs.List.{concat, list_any, slice_split}
+use Rattle.std.proofs.Common.{ℕ, Bool, true, false, List, [], ◌∷◌, ◌++◌, ◌≡◌, ◌≢◌, ◌+◌, ◌<◌, ◌≤◌, ◌⊎◌, length, drop, Option, Some, None, refl, sym, ap, ◌∙◌, subst, inl, inr, arith, append-nil, append_assoc, length-append}
+use Rattle.std.proofs.lemmas.List.{drop_at}
+use Rattle.std.proofs.lemmas.List.Folds.{list_any-append}
+use Rattle.hpx_root_journal.specs.declared.entry.Entry.{Entry}
+use Rattle.hpx_root_journal.specs.Roots.{roots}
+use Rattle.hpx_root_journal.specs.Whole.{IsLegal, start, run}
+use Rattle.hpx_root_journal.specs.Pool.{prints_of, state_of}
+use Rattle.hpx_root_journal.specs.Sessions.{IsSession, IsSettled, BeginsWith, entries_of, shown}
+use Rattle.hpx_root_journal.proofs.Plain.{session_plain, session_grows}
+use Rattle.hpx_root_journal.proofs.Boot.{boot_sound, boot_settled}
+use Rattle.hpx_parcel.specs.Reading.{parcel_of}
+use Rattle.hpx_ports.specs.Told.{preceded, followed}
+use Rattle.hpx_top.specs.Acts.{act_of}
+use Rattle.hpx_top.specs.Stands.{rules_of}
+use Rattle.hpx_top.specs.PlainText.{IsFront, is_long, is_quit, is_newline, lines_in, before_quit, fed, after_lines, line_text, lines_text, text_of, prompt, commands, written}
+use Rattle.hpx_top.specs.Console.{bad_command}
+use Rattle.hpx_top.specs.Reader.{Reading, lines_left, input_left, bytes_left, TakesLine, TakesLong, TakesQuit, IsAtEnd, IsFull}
+use Rattle.hpx_top.specs.Session.{lines_fed, FeedsAtMost, WritesFront, FeedsLine, IsJournalOf, HandsOut, IsServing, IsCut, IsCutIn, IsOver, IsUnderWay, IsStopped}
+use Rattle.hpx_top.proofs.TextSession.{boot_stable, only_session, names_blind, session_text}
+use Rattle.hpx_top.proofs.LineLemmas.{followed_twice, followed_nothing, preceded_nothing, preceded_twice, lines_text_more, long_text, front_all, front_then, text_front, fed_short, fed_long, goes_on_more, goes_on_less, long_goes_on, lines_fed_append, block_line, session_lines, session_count, shown_more, entries_more, line_shown}
+
+-- ---- the journal
+
+-- at boot it is a session of no lines
+pub journal_start : (n : ℕ) (entries : List Entry) → entries ≡ [] → IsJournalOf n [] entries
+journal_start n entries h = record { blocks = []; session = tt; entries_are = h }
+
+pub journal_lines : (n : ℕ) (lines : List (List ℕ)) (entries : List Entry) → IsJournalOf n lines entries → lines_fed entries ≡ fed lines
+journal_lines n lines entries j =
+    ap lines_fed j.entries_are ∙ session_lines (rules_of act_of n) (start (roots n)) (fed lines) j.blocks j.session
+
+-- a line that is too long changes nothing
+pub journal_long : (n : ℕ) (lines : List (List ℕ)) (line : List ℕ) (entries : List Entry) → is_long line ≡ true → IsJournalOf n lines entries
+    → IsJournalOf n (lines ++ line ∷ []) entries
+journal_long n lines line entries long j = record {
+  blocks = j.blocks;
+  session = subst (λ ls. IsSession (rules_of act_of n) (start (roots n)) ls j.blocks) (sym (fed_long lines line long)) j.session;
+  entries_are = j.entries_are;
+}
+
+-- a line that is fed is one block more
+grown : (n : ℕ) (lines : List (List ℕ)) (line : List ℕ) (old new : List Entry) → is_long line ≡ false → (j : IsJournalOf n lines old)
+    → (f : FeedsLine n line old new) → IsSession (rules_of act_of n) (start (roots n)) (fed (lines ++ line ∷ [])) (j.blocks ++ f.block ∷ [])
+grown n lines line old new short j f =
+    let r = rules_of act_of n in
+    let is : new ≡ entries_of j.blocks ++ f.block = f.is ∙ ap (λ es. es ++ f.block) j.entries_are in
+    subst (λ ls. IsSession r (start (roots n)) ls (j.blocks ++ f.block ∷ [])) (sym (fed_short lines line short))
+    (session_grows r (start (roots n)) (fed lines) j.blocks (97 ∷ line) f.block j.session (subst (IsLegal r (start (roots n))) is f.legal) f.begins
+    (subst (λ es. IsSettled r (run r (start (roots n)) es)) is f.settled))
+
+pub journal_more : (n : ℕ) (lines : List (List ℕ)) (line : List ℕ) (old new : List Entry) → is_long line ≡ false → IsJournalOf n lines old
+    → FeedsLine n line old new → IsJournalOf n (lines ++ line ∷ []) new
+journal_more n lines line old new short j f = record {
+  blocks = j.blocks ++ f.block ∷ [];
+  session = grown n lines line old new short j f;
+  entries_are = f.is ∙ (ap (λ es. es ++ f.block) j.entries_are ∙ sym (entries_more j.blocks f.block));
+}
+
+-- what was shown is the text of one number
+pub journal_text : (n : ℕ) (lines : List (List ℕ)) (blocks : List (List Entry)) → 1 ≤ n → n ≤ 64 → length lines ≤ 4000000000
+    → IsSession (rules_of act_of n) (start (roots n)) (fed lines) blocks → written lines (shown blocks) ≡ lines_text (pos 0) lines
+journal_text n lines blocks some few short session =
+    let r = rules_of act_of n in
+    session_text n parcel_of some few 0 (pos 0) lines (shown blocks) (state_of (start (roots n))) (omega arith) (boot_stable n)
+    (session_plain r (only_session n parcel_of) (names_blind n parcel_of) (start (roots n)) (fed lines) blocks (boot_settled r n) (boot_sound n) session)
+
+-- what a line prints is its text
+pub line_prints : (n : ℕ) (lines : List (List ℕ)) (line : List ℕ) (old new : List Entry) → 1 ≤ n → n ≤ 64 → length lines + 1 ≤ 4000000000
+    → is_long line ≡ false → IsJournalOf n lines old → FeedsLine n line old new
+    → lines_text (pos 0) lines ++ (prompt ++ concat (prints_of (drop (length old) new))) ≡ lines_text (pos 0) (lines ++ line ∷ [])
+line_prints n lines line old new some few count short j f =
+    let all : length (lines ++ line ∷ []) ≤ 4000000000 = omega (arith, length-append lines (line ∷ [])) in
+    let block : drop (length old) new ≡ f.block = ap (drop (length old)) f.is ∙ drop_at old f.block (length old) refl in
+    let texts : written (lines ++ line ∷ []) (shown j.blocks ++ prints_of f.block ∷ []) ≡ lines_text (pos 0) (lines ++ line ∷ [])
+    = ap (written (lines ++ line ∷ [])) (sym (shown_more j.blocks f.block)) ∙ journal_text n (lines ++ line ∷ []) (j.blocks ++ f.block ∷ []) some few all (grown n lines line old new short j f) in
+    ap (λ es. lines_text (pos 0) lines ++ (prompt ++ concat (prints_of es))) block
+    ∙ line_shown (pos 0) lines (shown j.blocks) line (prints_of f.block) short
+    (session_count (rules_of act_of n) (start (roots n)) (fed lines) j.blocks j.session)
+    (journal_text n lines j.blocks some few (omega arith) j.session) texts
+
+-- ---- the lines of the input
+
+pub hands_none : (all : Option (List (List ℕ))) → HandsOut all all []
+hands_none all = record { first = sym (preceded_nothing all); goes_on = refl }
+
+pub hands_more : (all left later : Option (List (List ℕ))) (lines : List (List ℕ)) (line : List ℕ) → HandsOut all left lines
+    → left ≡ preceded (line ∷ []) later → is_quit line ≡ false → HandsOut all later (lines ++ line ∷ [])
+hands_more all left later lines line h first goes_on = record {
+  first = h.first ∙ (ap (preceded lines) first ∙ preceded_twice lines (line ∷ []) later);
+  goes_on = goes_on_more lines line h.goes_on goes_on;
+}
+
+hands_no_more : (all left : Option (List (List ℕ))) (lines : List (List ℕ)) → HandsOut all left lines → HandsOut all left (lines ++ [])
+hands_no_more all left lines h = subst (HandsOut all left) (sym (append-nil lines)) h
+
+-- ---- what the sink holds
+
+-- behind what is held come a prompt and a text
+held_more : (before now mid later : Option (List ℕ)) (c l p t l' : List ℕ) → now ≡ followed before (c ++ l) → mid ≡ followed now p → later ≡ followed mid t
+    → l ++ (p ++ t) ≡ l' → later ≡ followed before (c ++ l')
+held_more before now mid later c l p t l' held prompted shown e =
+    shown ∙ (ap (λ o. followed o t) (prompted ∙ ap (λ o. followed o p) held)
+    ∙ (followed_twice (followed before (c ++ l)) p t ∙ (followed_twice before (c ++ l) (p ++ t)
+    ∙ ap (followed before) (append_assoc c l (p ++ t) ∙ ap (λ x. c ++ x) e))))
+
+held_prompt : (before now mid : Option (List ℕ)) (c l p : List ℕ) → now ≡ followed before (c ++ l) → mid ≡ followed now p → mid ≡ followed before (c ++ (l ++ p))
+held_prompt before now mid c l p held prompted =
+    prompted ∙ (ap (λ o. followed o p) held ∙ (followed_twice before (c ++ l) p ∙ ap (followed before) (append_assoc c l p)))
+
+front_regroup : (c l f later : List ℕ) → (c ++ (l ++ f)) ++ later ≡ c ++ (l ++ (f ++ later))
+front_regroup c l f later = simp append_assoc
+
+text_regroup : (c l p f later : List ℕ) → (c ++ (l ++ (p ++ f))) ++ (later ++ p) ≡ c ++ ((l ++ (p ++ (f ++ later))) ++ p)
+text_regroup c l p f later = simp append_assoc
+
+long_more : (lines : List (List ℕ)) (line : List ℕ) → is_long line ≡ true
+    → lines_text (pos 0) lines ++ (prompt ++ bad_command) ≡ lines_text (pos 0) (lines ++ line ∷ [])
+long_more lines line long =
+    ap (λ t. lines_text (pos 0) lines ++ (prompt ++ t)) (sym (long_text (after_lines (pos 0) lines) line long)) ∙ lines_text_more (pos 0) lines line
+
+-- ---- between lines
+
+-- after the first text
+pub serving_start : (n : ℕ) (all : Option (List (List ℕ))) (before now : Option (List ℕ)) (reading : Reading) (left : Option (List ℕ)) (entries : List Entry)
+    → all ≡ lines_left reading left → bytes_left reading ≤ 67108864 → entries ≡ [] → now ≡ followed before commands
+    → IsServing n all before reading left entries now
+serving_start n all before now reading left entries whole few empty held = record {
+  lines = [];
+  handled = subst (λ o. HandsOut all o []) whole (hands_none all);
+  few = omega arith;
+  journal = journal_start n entries empty;
+  held = held ∙ ap (followed before) (sym (append-nil commands));
+}
+
+-- a line was fed, and what it prints was written
+pub serving_line : (n : ℕ) (all : Option (List (List ℕ))) (before now mid later : Option (List ℕ)) (reading next : Reading) (left rest : Option (List ℕ))
+    (old new : List Entry) (line : List ℕ) → 1 ≤ n → n ≤ 64 → IsServing n all before reading left old now → mid ≡ followed now prompt
+    → TakesLine line (lines_left reading left) (lines_left next rest) → bytes_left next < bytes_left reading → FeedsLine n line old new
+    → later ≡ followed mid (concat (prints_of (drop (length old) new))) → IsServing n all before next rest new later
+serving_line n all before now mid later reading next left rest old new line some few s prompted takes fewer f shown = record {
+  lines = s.lines ++ line ∷ [];
+  handled = hands_more all (lines_left reading left) (lines_left next rest) s.lines line s.handled takes.first takes.goes_on;
+  few = omega (arith, length-append s.lines (line ∷ []), s.few);
+  journal = journal_more n s.lines line old new takes.fits s.journal f;
+  held = held_more before now mid later commands (lines_text (pos 0) s.lines) prompt (concat (prints_of (drop (length old) new)))
+      (lines_text (pos 0) (s.lines ++ line ∷ [])) s.held prompted shown
+      (line_prints n s.lines line old new some few (omega (arith, s.few)) takes.fits s.journal f);
+}
+
+-- a line was too long
+pub serving_long : (n : ℕ) (all : Option (List (List ℕ))) (before now mid later : Option (List ℕ)) (reading next : Reading) (left rest : Option (List ℕ))
+    (entries : List Entry) → IsServing n all before reading left entries now → mid ≡ followed now prompt
+    → TakesLong (lines_left reading left) (lines_left next rest) → bytes_left next < bytes_left reading
+    → later ≡ followed mid bad_command → IsServing n all before next rest entries later
+serving_long n all before now mid later reading next left rest entries s prompted takes fewer shown = record {
+  lines = s.lines ++ takes.line ∷ [];
+  handled = hands_more all (lines_left reading left) (lines_left next rest) s.lines takes.line s.handled takes.first (long_goes_on takes.line takes.long);
+  few = omega (arith, length-append s.lines (takes.line ∷ []), s.few);
+  journal = journal_long n s.lines takes.line entries takes.long s.journal;
+  held = held_more before now mid later commands (lines_text (pos 0) s.lines) prompt bad_command (lines_text (pos 0) (s.lines ++ takes.line ∷ []))
+      s.held prompted shown (long_more s.lines takes.line takes.long);
+}
+
+-- ---- where it ends
+
+-- nothing was handled behind the prompt
+pub cut_here : (most n : ℕ) (all : Option (List (List ℕ))) (before now mid : Option (List ℕ)) (reading : Reading) (left : Option (List ℕ))
+    (old new : List Entry) → IsServing n all before reading left old now → mid ≡ followed now prompt → lines_fed new ≡ lines_fed old
+    → IsCut most all before new mid
+cut_here most n all before now mid reading left old new s prompted same = record {
+  lines = s.lines;
+  next = [];
+  left = lines_left reading left;
+  handled = hands_no_more all (lines_left reading left) s.lines s.handled;
+  few = omega arith;
+  journal = same ∙ (journal_lines n s.lines old s.journal ∙ ap fed (sym (append-nil s.lines)));
+  held = held_prompt before now mid commands (lines_text (pos 0) s.lines) prompt s.held prompted;
+}
+
+-- one line more may have been fed
+pub cut_line : (n : ℕ) (all : Option (List (List ℕ))) (before now mid : Option (List ℕ)) (reading next : Reading) (left rest : Option (List ℕ))
+    (old new : List Entry) (line : List ℕ) → IsServing n all before reading left old now → mid ≡ followed now prompt
+    → TakesLine line (lines_left reading left) (lines_left next rest) → FeedsAtMost (97 ∷ line) old new → IsCut 1 all before new mid
+cut_line n all before now mid reading next left rest old new line s prompted takes (inl same) =
+    cut_here 1 n all before now mid reading left old new s prompted same
+cut_line n all before now mid reading next left rest old new line s prompted takes (inr one) = record {
+  lines = s.lines;
+  next = line ∷ [];
+  left = lines_left next rest;
+  handled = hands_more all (lines_left reading left) (lines_left next rest) s.lines line s.handled takes.first takes.goes_on;
+  few = omega arith;
+  journal = one ∙ (ap (λ ls. ls ++ (97 ∷ line) ∷ []) (journal_lines n s.lines old s.journal) ∙ sym (fed_short s.lines line takes.fits));
+  held = held_prompt before now mid commands (lines_text (pos 0) s.lines) prompt s.held prompted;
+}
+
+last_none : (o : Option (List (List ℕ))) → IfSome o (λ lines. lines ≡ []) → IfSome o (λ others. before_quit others ≡ [])
+last_none None h = h
+last_none (Some lines) h = ap before_quit h
+
+last_quit : (o later : Option (List (List ℕ))) (line : List ℕ) → o ≡ preceded (line ∷ []) later → is_quit line ≡ true
+    → IfSome o (λ others. before_quit others ≡ [])
+last_quit o None line h quit = subst (λ o. IfSome o (λ others. before_quit others ≡ [])) (sym h) tt
+last_quit o (Some lines) line h quit =
+    subst (λ o. IfSome o (λ others. before_quit others ≡ [])) (sym h) (ap (λ b. if b then [] else line ∷ before_quit lines) quit)
+
+quit_among : (all later : Option (List (List ℕ))) (lines : List (List ℕ)) (line : List ℕ) → all ≡ preceded lines (preceded (line ∷ []) later)
+    → is_quit line ≡ true → IfSome all (λ ls. list_any is_quit ls ≡ true)
+quit_among all None lines line h quit = subst (λ o. IfSome o (λ ls. list_any is_quit ls ≡ true)) (sym h) tt
+quit_among all (Some more) lines line h quit = subst (λ o. IfSome o (λ ls. list_any is_quit ls ≡ true)) (sym h)
+    (list_any-append is_quit lines (line ∷ more) ∙ (ap (λ b. list_any is_quit lines || (b || list_any is_quit more)) quit ∙ or_true (list_any is_quit lines)))
+  where
+    or_true : (b : Bool) → (b || true) ≡ true
+    or_true true = refl
+    or_true false = refl
+
+-- the line was due
+pub cut_in : (n : ℕ) (all : Option (List (List ℕ))) (before now mid : Option (List ℕ)) (reading next : Reading) (left rest : Option (List ℕ))
+    (old new : List Entry) (line : List ℕ) → IsServing n all before reading left old now → mid ≡ followed now prompt
+    → TakesLine line (lines_left reading left) (lines_left next rest) → FeedsAtMost (97 ∷ line) old new → IsCutIn all before new mid
+cut_in n all before now mid reading next left rest old new line s prompted takes once = record {
+  lines = s.lines;
+  line = line;
+  left = lines_left next rest;
+  handled = hands_more all (lines_left reading left) (lines_left next rest) s.lines line s.handled takes.first takes.goes_on;
+  short = takes.fits;
+  journal = lines_in_journal once;
+  held = held_prompt before now mid commands (lines_text (pos 0) s.lines) prompt s.held prompted;
+}
+  where
+    lines_in_journal : FeedsAtMost (97 ∷ line) old new → (lines_fed new ≡ fed s.lines) ⊎ (lines_fed new ≡ fed (s.lines ++ line ∷ []))
+    lines_in_journal (inl same) = inl (same ∙ journal_lines n s.lines old s.journal)
+    lines_in_journal (inr one) =
+        inr (one ∙ (ap (λ ls. ls ++ (97 ∷ line) ∷ []) (journal_lines n s.lines old s.journal) ∙ sym (fed_short s.lines line takes.fits)))
+
+pub over_end : (n : ℕ) (all : Option (List (List ℕ))) (before now mid : Option (List ℕ)) (reading next : Reading) (left : Option (List ℕ)) (entries : List Entry)
+    → IsServing n all before reading left entries now → mid ≡ followed now prompt → IsAtEnd next (input_left reading left) (lines_left reading left)
+    → IsOver next.ended all before entries mid
+over_end n all before now mid reading next left entries s prompted at_end = record {
+  lines = s.lines;
+  left = lines_left reading left;
+  handled = s.handled;
+  last = last_none (lines_left reading left) at_end.no_lines;
+  read_up = inl at_end.ended;
+  journal = journal_lines n s.lines entries s.journal;
+  held = held_prompt before now mid commands (lines_text (pos 0) s.lines) prompt s.held prompted;
+}
+
+pub over_quit : (n : ℕ) (ended : Bool) (all later : Option (List (List ℕ))) (before now mid : Option (List ℕ)) (reading : Reading) (left : Option (List ℕ))
+    (entries : List Entry) → IsServing n all before reading left entries now → mid ≡ followed now prompt → TakesQuit (lines_left reading left) later
+    → IsOver ended all before entries mid
+over_quit n ended all later before now mid reading left entries s prompted takes = record {
+  lines = s.lines;
+  left = lines_left reading left;
+  handled = s.handled;
+  last = last_quit (lines_left reading left) later takes.line takes.first takes.quit;
+  read_up = inr (quit_among all later s.lines takes.line (s.handled.first ∙ ap (preceded s.lines) takes.first) takes.quit);
+  journal = journal_lines n s.lines entries s.journal;
+  held = held_prompt before now mid commands (lines_text (pos 0) s.lines) prompt s.held prompted;
+}
+
+pub stopped_full : (n : ℕ) (all : Option (List (List ℕ))) (before now : Option (List ℕ)) (reading next : Reading) (left rest : Option (List ℕ)) (entries : List Entry)
+    → IsServing n all before reading left entries now → IsFull next → input_left next rest ≡ input_left reading left → IsStopped all next rest
+stopped_full n all before now reading next left rest entries s full same = record {
+  lines = s.lines;
+  handled = subst (λ o. HandsOut all o s.lines) (ap (option_map (λ input. lines_in (slice_split is_newline input))) (sym same)) s.handled;
+  no_line = full.no_line;
+  goes_on = full.goes_on;
+}
+
+-- ---- what a failed write leaves
+
+-- the first text was not written whole
+pub under_start : (all : Option (List (List ℕ))) (before now : Option (List ℕ)) (entries : List Entry) → entries ≡ [] → WritesFront commands before now
+    → IsUnderWay all before entries now
+under_start all before now entries empty w = record {
+  lines = [];
+  left = all;
+  handled = hands_none all;
+  journal = ap lines_fed empty;
+  written = record {
+    front = w.front;
+    begins = record { later = w.begins.later ++ prompt; is = sym (append_assoc w.front w.begins.later prompt) ∙ ap (λ t. t ++ prompt) w.begins.is };
+    held = w.held;
+  };
+}
+
+-- a prompt was not
+pub under_prompt : (n : ℕ) (all : Option (List (List ℕ))) (before now later : Option (List ℕ)) (reading : Reading) (left : Option (List ℕ)) (entries : List Entry)
+    → IsServing n all before reading left entries now → WritesFront prompt now later → IsUnderWay all before entries later
+under_prompt n all before now later reading left entries s w = record {
+  lines = s.lines;
+  left = lines_left reading left;
+  handled = s.handled;
+  journal = journal_lines n s.lines entries s.journal;
+  written = record {
+    front = commands ++ (lines_text (pos 0) s.lines ++ w.front);
+    begins = record {
+      later = w.begins.later;
+      is = front_regroup commands (lines_text (pos 0) s.lines) w.front w.begins.later ∙ ap (λ t. commands ++ (lines_text (pos 0) s.lines ++ t)) w.begins.is;
+    };
+    held = held_prompt before now later commands (lines_text (pos 0) s.lines) w.front s.held w.held;
+  };
+}
+
+-- the text of a line was not
+under_text : (all left : Option (List (List ℕ))) (before now mid later : Option (List ℕ)) (entries : List Entry) (lines more : List (List ℕ)) (text : List ℕ)
+    → HandsOut all left more → lines_fed entries ≡ fed more → now ≡ followed before (commands ++ lines_text (pos 0) lines) → mid ≡ followed now prompt
+    → WritesFront text mid later → lines_text (pos 0) lines ++ (prompt ++ text) ≡ lines_text (pos 0) more → IsUnderWay all before entries later
+under_text all left before now mid later entries lines more text handled journal held prompted w is = record {
+  lines = more;
+  left = left;
+  handled = handled;
+  journal = journal;
+  written = record {
+    front = commands ++ (lines_text (pos 0) lines ++ (prompt ++ w.front));
+    begins = record {
+      later = w.begins.later ++ prompt;
+      is = text_regroup commands (lines_text (pos 0) lines) prompt w.front w.begins.later
+          ∙ ap (λ t. commands ++ (t ++ prompt)) (ap (λ t. lines_text (pos 0) lines ++ (prompt ++ t)) w.begins.is ∙ is);
+    };
+    held = held_more before now mid later commands (lines_text (pos 0) lines) prompt w.front (lines_text (pos 0) lines ++ (prompt ++ w.front)) held prompted w.held refl;
+  };
+}
+
+pub under_line : (n : ℕ) (all : Option (List (List ℕ))) (before now mid later : Option (List ℕ)) (reading next : Reading) (left rest : Option (List ℕ))
+    (old new : List Entry) (line : List ℕ) → 1 ≤ n → n ≤ 64 → IsServing n all before reading left old now → mid ≡ followed now prompt
+    → TakesLine line (lines_left reading left) (lines_left next rest) → FeedsLine n line old new
+    → WritesFront (concat (prints_of (drop (length old) new))) mid later → IsUnderWay all before new later
+under_line n all before now mid later reading next left rest old new line some few s prompted takes f w =
+    under_text all (lines_left next rest) before now mid later new s.lines (s.lines ++ line ∷ []) (concat (prints_of (drop (length old) new)))
+    (hands_more all (lines_left reading left) (lines_left next rest) s.lines line s.handled takes.first takes.goes_on)
+    (journal_lines n (s.lines ++ line ∷ []) new (journal_more n s.lines line old new takes.fits s.journal f)) s.held prompted w
+    (line_prints n s.lines line old new some few (omega (arith, s.few)) takes.fits s.journal f)
+
+pub under_long : (n : ℕ) (all : Option (List (List ℕ))) (before now mid later : Option (List ℕ)) (reading next : Reading) (left rest : Option (List ℕ))
+    (entries : List Entry) → IsServing n all before reading left entries now → mid ≡ followed now prompt
+    → TakesLong (lines_left reading left) (lines_left next rest) → WritesFront bad_command mid later → IsUnderWay all before entries later
+under_long n all before now mid later reading next left rest entries s prompted takes w =
+    under_text all (lines_left next rest) before now mid later entries s.lines (s.lines ++ takes.line ∷ []) bad_command
+    (hands_more all (lines_left reading left) (lines_left next rest) s.lines takes.line s.handled takes.first (long_goes_on takes.line takes.long))
+    (journal_lines n (s.lines ++ takes.line ∷ []) entries (journal_long n s.lines takes.line entries takes.long s.journal)) s.held prompted w
+    (long_more s.lines takes.line takes.long)
+
+-- ---- each end is under way
+
+pub under_cut : (most : ℕ) (all : Option (List (List ℕ))) (before now : Option (List ℕ)) (entries : List Entry) → IsCut most all before entries now
+    → IsUnderWay all before entries now
+under_cut most all before now entries c = record {
+  lines = c.lines ++ c.next;
+  left = c.left;
+  handled = c.handled;
+  journal = c.journal;
+  written = record { front = text_of c.lines; begins = text_front c.lines c.next; held = c.held };
+}
+
+pub under_in : (all : Option (List (List ℕ))) (before now : Option (List ℕ)) (entries : List Entry) → IsCutIn all before entries now
+    → IsUnderWay all before entries now
+under_in all before now entries c = under c.journal
+  where
+    under : (lines_fed entries ≡ fed c.lines) ⊎ (lines_fed entries ≡ fed (c.lines ++ c.line ∷ [])) → IsUnderWay all before entries now
+    under (inl same) = record {
+      lines = c.lines;
+      left = preceded (c.line ∷ []) c.left;
+      handled = record {
+        first = c.handled.first ∙ sym (preceded_twice c.lines (c.line ∷ []) c.left);
+        goes_on = goes_on_less c.lines (c.line ∷ []) c.handled.goes_on;
+      };
+      journal = same;
+      written = record { front = text_of c.lines; begins = front_all (text_of c.lines); held = c.held };
+    }
+    under (inr more) = record {
+      lines = c.lines ++ c.line ∷ [];
+      left = c.left;
+      handled = c.handled;
+      journal = more;
+      written = record { front = text_of c.lines; begins = text_front c.lines (c.line ∷ []); held = c.held };
+    }
+
+pub under_over : (ended : Bool) (all : Option (List (List ℕ))) (before now : Option (List ℕ)) (entries : List Entry) → IsOver ended all before entries now
+    → IsUnderWay all before entries now
+under_over ended all before now entries o = record {
+  lines = o.lines;
+  left = o.left;
+  handled = o.handled;
+  journal = o.journal;
+  written = record { front = text_of o.lines; begins = front_all (text_of o.lines); held = o.held };
+}

@@ -1,0 +1,107 @@
+use Rattle.std.proofs.Common.{◌≡◌, ◌+◌, ◌≤◌, [], Ok, Err, false, true, length, refl, sym, ap, ◌∙◌, arith, subst}
+use Rattle.hpx_top.specs.declared.session.SessionFault.TheVariants.{InputFull}
+use Rattle.hpx_top.specs.Reader.{bytes_left}
+use Rattle.hpx_top.specs.Session.{IsLegalAt, IsServing, IsCutBy, IsOver, IsStopped, IsUnderWay}
+use Rattle.hpx_top.proofs.ShowLemmas.{if_err_from, err_of}
+use Rattle.hpx_top.proofs.SessionLemmas.{serving_start, under_start}
+use Rattle.hpx_top.proofs.FeedLemmas.{cut_write}
+use Rattle.hpx_top.proofs.EndLemmas.{all_lines, whole_from, begun_over, read_up_from, full_from, ended_from, begun_from, read_none}
+use Rattle.hpx_top.proofs.session.serve.Goals as goal
+
+pub returns-in_err-write-clause-ended : goal.returns-in_err-write-clause-ended
+returns-in_err-write-clause-ended g c =
+    let all = all_lines (g.S.Source.left c.args.source.now) in
+    let under = under_start all (g.K.Sink.held c.args.sink.now) (g.K.Sink.held c.write.new.sink) c.args.world.now.journal.entries c.requires.empty c.in_err-write.ensures.front in
+    λ input h. if_err_from c.from_residual.result c.in_err-write.field-0.0 _ c.from_residual.ensures.1
+    (ended_from c.in_err-write.field-0.0 input (g.S.Source.left c.args.source.now) c.args.world.now.journal.entries
+    (g.K.Sink.held c.args.sink.now) (g.K.Sink.held c.write.new.sink) h
+    (cut_write c.in_err-write.field-0.0 all _ _ _ c.in_err-write.ensures.cause.0 under))
+
+pub returns-in_err-write-clause-begun : goal.returns-in_err-write-clause-begun
+returns-in_err-write-clause-begun g c =
+    let all = all_lines (g.S.Source.left c.args.source.now) in
+    let under = under_start all (g.K.Sink.held c.args.sink.now) (g.K.Sink.held c.write.new.sink) c.args.world.now.journal.entries c.requires.empty c.in_err-write.ensures.front in
+    λ input h. begun_from c.in_err-write.field-0.0 input (g.S.Source.left c.args.source.now) c.args.world.now.journal.entries
+    (g.K.Sink.held c.args.sink.now) (g.K.Sink.held c.write.new.sink) h
+    (cut_write c.in_err-write.field-0.0 all _ _ _ c.in_err-write.ensures.cause.0 under)
+
+pub loop-reader-init : goal.loop-reader-init
+loop-reader-init g c = record {
+  serving = serving_start (length c.args.world.now.nodes) (all_lines (g.S.Source.left c.args.source.now)) (g.K.Sink.held c.args.sink.now) (g.K.Sink.held c.write.new.sink)
+      c.new-reader.result (g.S.Source.left c.args.source.now) c.args.world.now.journal.entries
+      (rw c.new-reader.ensures refl) (rw c.new-reader.ensures (omega arith)) c.requires.empty c.in_ok-write.ensures.held;
+  reads = read_none (g.S.Source.left c.args.source.now) c.new-reader.result c.new-reader.ensures;
+  counted = rw c.new-reader.ensures (omega arith);
+  rest = c.requires.rest;
+  legal = subst (λ es. IsLegalAt (length c.args.world.now.nodes) es) (sym c.requires.empty) tt;
+  carrying = c.requires.carrying;
+  count = refl;
+  source_faults = omega arith;
+  sink_faults = c.write.ensures.faults;
+  fabric_faults = omega arith;
+}
+
+pub loop-reader-preserved : goal.loop-reader-preserved
+loop-reader-preserved g c =
+    let serving = rw (← c.loop-reader.invariant.count) at c.loop-reader.invariant.serving in
+    let next = c.in_ok-serve_line.ensures.line (ap (λ b. Ok b) c.if-branch.true) _ _ serving in
+    record {
+      serving = rw (← c.loop-reader.invariant.count) next;
+      reads = c.serve_line.ensures.reads _ c.loop-reader.invariant.reads;
+      counted = omega (arith, c.loop-reader.invariant.counted, c.serve_line.ensures.counted);
+      rest = c.in_ok-serve_line.ensures.rest;
+      legal = c.serve_line.ensures.legal;
+      carrying = c.serve_line.ensures.carrying;
+      count = c.serve_line.ensures.count ∙ c.loop-reader.invariant.count;
+      source_faults = omega (arith, c.loop-reader.invariant.source_faults, c.serve_line.ensures.source_faults);
+      sink_faults = omega (arith, c.loop-reader.invariant.sink_faults, c.serve_line.ensures.sink_faults);
+      fabric_faults = omega (arith, c.loop-reader.invariant.fabric_faults, c.serve_line.ensures.fabric_faults);
+    }
+
+pub returns-in_err-serve_line-clause-ended : goal.returns-in_err-serve_line-clause-ended
+returns-in_err-serve_line-clause-ended g c =
+    let serving = rw (← c.loop-reader.invariant.count) at c.loop-reader.invariant.serving in
+    let cut = c.in_err-serve_line.ensures.err _ _ serving in
+    λ input h. if_err_from c.from_residual-in_err-serve_line.result c.in_err-serve_line.field-0.0 _ c.from_residual-in_err-serve_line.ensures.1
+    (ended_from c.in_err-serve_line.field-0.0 input (g.S.Source.left c.args.source.now) _ _ _ h cut)
+
+pub returns-in_err-serve_line-clause-begun : goal.returns-in_err-serve_line-clause-begun
+returns-in_err-serve_line-clause-begun g c =
+    let serving = rw (← c.loop-reader.invariant.count) at c.loop-reader.invariant.serving in
+    let cut = c.in_err-serve_line.ensures.err _ _ serving in
+    λ input h. begun_from c.in_err-serve_line.field-0.0 input (g.S.Source.left c.args.source.now) _ _ _ h cut
+
+pub returns-in_err-serve_line-clause-input : goal.returns-in_err-serve_line-clause-input
+returns-in_err-serve_line-clause-input g c =
+    let serving = rw (← c.loop-reader.invariant.count) at c.loop-reader.invariant.serving in
+    λ input h e.
+    let is = ap (λ f. Err f) (err_of c.from_residual-in_err-serve_line.result c.in_err-serve_line.field-0.0 InputFull c.from_residual-in_err-serve_line.ensures.1 e) in
+    full_from input (g.S.Source.left c.args.source.now) (g.S.Source.left c.serve_line.new.source) c.serve_line.new.reader h
+    (c.in_err-serve_line.ensures.input is _ _ serving) (c.serve_line.ensures.reads _ c.loop-reader.invariant.reads) (c.in_err-serve_line.ensures.full_input is)
+
+pub returns-in_err-serve_line-clause-taken : goal.returns-in_err-serve_line-clause-taken
+returns-in_err-serve_line-clause-taken g c =
+    λ e.
+    let is = ap (λ f. Err f) (err_of c.from_residual-in_err-serve_line.result c.in_err-serve_line.field-0.0 InputFull c.from_residual-in_err-serve_line.ensures.1 e) in
+    let read = c.in_err-serve_line.ensures.full_input is in
+    omega (arith, read, c.loop-reader.invariant.counted, c.serve_line.ensures.counted)
+
+pub returns-clause-whole : goal.returns-clause-whole
+returns-clause-whole g c =
+    let serving = rw (← c.loop-reader.invariant.count) at c.loop-reader.invariant.serving in
+    let over = c.in_ok-serve_line.ensures.over (ap (λ b. Ok b) c.if-branch.false) _ _ serving in
+    λ input h. whole_from c.serve_line.new.reader.ended input (g.S.Source.left c.args.source.now) _ _ _ h over
+
+pub returns-clause-read_up : goal.returns-clause-read_up
+returns-clause-read_up g c =
+    let serving = rw (← c.loop-reader.invariant.count) at c.loop-reader.invariant.serving in
+    let over = c.in_ok-serve_line.ensures.over (ap (λ b. Ok b) c.if-branch.false) _ _ serving in
+    λ input h. read_up_from c.serve_line.new.reader.ended input (g.S.Source.left c.args.source.now) (g.S.Source.left c.serve_line.new.source)
+    c.serve_line.new.reader c.serve_line.new.world.journal.entries (g.K.Sink.held c.args.sink.now) (g.K.Sink.held c.serve_line.new.sink) h over
+    (c.serve_line.ensures.reads _ c.loop-reader.invariant.reads) refl
+
+pub returns-clause-begun : goal.returns-clause-begun
+returns-clause-begun g c =
+    let serving = rw (← c.loop-reader.invariant.count) at c.loop-reader.invariant.serving in
+    let over = c.in_ok-serve_line.ensures.over (ap (λ b. Ok b) c.if-branch.false) _ _ serving in
+    λ input h. begun_over c.serve_line.new.reader.ended input (g.S.Source.left c.args.source.now) _ _ _ h over

@@ -1,0 +1,73 @@
+-- What a run has done where it ends, over the bytes of its input.
+use Rattle.std.specs.Prelude.{ℕ, pos, true, false, Option, Some, IfSome, List, [], ◌∷◌, ◌++◌, ◌≡◌, ◌+◌, ◌<◌, ◌≤◌, ◌⊎◌, length}
+use Rattle.std.specs.List.{list_any, slice_split}
+use Rattle.hpx_root_journal.specs.declared.entry.Entry.{Entry}
+use Rattle.hpx_ports.specs.Told.{followed}
+use Rattle.hpx_top.specs.declared.session.SessionFault.{SessionFault}
+use Rattle.hpx_top.specs.declared.session.SessionFault.TheVariants.{Read, Write, Fabric, JournalFull, OutOfMemory, Strange, InputFull}
+use Rattle.hpx_top.specs.PlainText.{is_long, is_quit, is_newline, IsPiece, lines_in, lines_of, quits, fed, text_of, IsFront}
+use Rattle.hpx_top.specs.Session.{lines_fed}
+
+-- the lines of the input were fed, up to its end or to `quit`, and the whole text was written
+pub record IsWhole (input : List ℕ) (entries : List Entry) (old new : Option (List ℕ)) : Type 0 where
+  pub lines : lines_fed entries ≡ fed (lines_of input)
+  pub text : new ≡ followed old (text_of (lines_of input))
+
+-- The first lines of the input were handled, and the text is theirs, with the prompt behind it. Of the next lines at most so
+-- many were fed.
+pub record IsBrokenOff (most : ℕ) (input : List ℕ) (entries : List Entry) (old new : Option (List ℕ)) : Type 0 where
+  pub handled : List (List ℕ)
+  pub next : List (List ℕ)
+  pub later : List (List ℕ)
+  pub first : lines_of input ≡ (handled ++ next) ++ later
+  pub few : length next ≤ most
+  pub lines : lines_fed entries ≡ fed (handled ++ next)
+  pub text : new ≡ followed old (text_of handled)
+
+-- The first lines of the input were handled, and the text is theirs, with the prompt behind it. The next line, which is not
+-- too long, was to be fed, or was fed and what follows from it was to be done.
+pub record IsBrokenIn (input : List ℕ) (entries : List Entry) (old new : Option (List ℕ)) : Type 0 where
+  pub handled : List (List ℕ)
+  pub line : List ℕ
+  pub later : List (List ℕ)
+  pub first : lines_of input ≡ handled ++ line ∷ later
+  pub short : is_long line ≡ false
+  pub lines : (lines_fed entries ≡ fed handled) ⊎ (lines_fed entries ≡ fed (handled ++ line ∷ []))
+  pub text : new ≡ followed old (text_of handled)
+
+-- The first lines of the input were fed. What was written begins the whole text, and comes of no line behind them.
+pub record IsBegun (input : List ℕ) (entries : List Entry) (old new : Option (List ℕ)) : Type 0 where
+  pub handled : List (List ℕ)
+  pub later : List (List ℕ)
+  pub first : lines_of input ≡ handled ++ later
+  pub lines : lines_fed entries ≡ fed handled
+  pub text : List ℕ
+  pub is : new ≡ followed old text
+  pub theirs : IsFront text (text_of handled)
+  pub begins : IsFront text (text_of (lines_of input))
+
+-- the input was read to its end, or to `quit`
+abbrev pub IsReadUp : List ℕ → Option (List ℕ) → Type 0
+IsReadUp input left = (quits input ≡ true) ⊎ ((left ≡ Some []) × (length input < 67108864))
+
+-- 67,108,864 bytes of the input were read. Behind lines of which none is a `quit`, they end in a piece without a newline.
+pub record IsInputFull (input : List ℕ) (left : Option (List ℕ)) : Type 0 where
+  pub front : List ℕ
+  pub rest : List ℕ
+  pub input_is : input ≡ front ++ rest
+  pub left_is : left ≡ Some rest
+  pub count : length front ≡ 67108864
+  pub lines : List (List ℕ)
+  pub piece : List ℕ
+  pub goes_on : list_any is_quit lines ≡ false
+  pub no_line : IsPiece piece
+  pub lines_are : lines_in (slice_split is_newline input) ≡ lines ++ lines_in (slice_split is_newline (piece ++ rest))
+
+-- how a session was broken off: at a write or a strange parcel anywhere, otherwise behind a prompt, or in the line behind it
+abbrev pub IsEndedBy : SessionFault → List ℕ → List Entry → Option (List ℕ) → Option (List ℕ) → Type 0
+IsEndedBy Write input entries old new = IsBegun input entries old new
+IsEndedBy Read input entries old new = IsBrokenOff 0 input entries old new
+IsEndedBy Strange input entries old new = IsBegun input entries old new
+IsEndedBy InputFull input entries old new = IsBrokenOff 0 input entries old new
+IsEndedBy OutOfMemory input entries old new = IsBrokenOff 1 input entries old new
+IsEndedBy _ input entries old new = IsBrokenIn input entries old new
