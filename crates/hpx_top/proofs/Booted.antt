@@ -1,6 +1,11 @@
 -- Nodes at boot.
-use Rattle.std.proofs.Common.{ℕ, zero, suc, List, [], ◌∷◌, ◌++◌, ◌≡◌, ◌≤◌, Some, length, refl, sym, ap, ◌∙◌, subst, inl, inr, ◌⊎◌}
-use Rattle.std.specs.List.{slice_get}
+use Rattle.std.proofs.Common.{ℕ, zero, suc, List, [], ◌∷◌, ◌++◌, ◌≡◌, ◌≤◌, Some, length, refl, sym, ap, ◌∙◌, subst, inl, inr, ◌⊎◌, ◌+◌, arith}
+use Rattle.std.specs.List.{slice_get, sum_by, AllByRecursion}
+use Rattle.std.proofs.lemmas.List.Sums.{sum_by-cons, sum_by-append}
+use Rattle.hpx_root_journal.specs.declared.entry.Entry.{Entry}
+use Rattle.hpx_root_journal.specs.Roots.{roots}
+use Rattle.hpx_root_journal.specs.Whole.{start, run}
+use Rattle.hpx_root_journal.specs.Sessions.{IsSettled}
 use Rattle.hpx_top.specs.Tables.{Tables, IsPassive}
 use Rattle.hpx_top.specs.Stands.{Stands, rules_of}
 use Rattle.hpx_top.specs.Sound.{Meaning, StandsAt, IsSound, NoneRuns}
@@ -46,3 +51,37 @@ booted_sound act_of n nodes h count some few = record {
 pub none_runs_more : (nodes : List Tables) (t : Tables) → NoneRuns nodes → IsPassive t → NoneRuns (nodes ++ t ∷ [])
 none_runs_more [] t h passive = (passive.running, tt)
 none_runs_more (x ∷ xs) t h passive = (h.0, none_runs_more xs t h.1 passive)
+
+-- each is passive, and no frame was sent or accepted
+pub record AreIdle (nodes : List Tables) : Type 0 where
+  pub passive : AllByRecursion IsPassive nodes
+  pub frames : sum_by (λ t. t.taken) nodes ≡ sum_by (λ t. t.sent) nodes
+
+pub idle_none : AreIdle []
+idle_none = record { passive = tt; frames = refl }
+
+passive_more : (nodes : List Tables) (t : Tables) → AllByRecursion IsPassive nodes → IsPassive t → AllByRecursion IsPassive (nodes ++ t ∷ [])
+passive_more [] t h passive = (passive, tt)
+passive_more (x ∷ xs) t h passive = (h.0, passive_more xs t h.1 passive)
+
+pub idle_more : (nodes : List Tables) (t : Tables) → AreIdle nodes → IsPassive t → (t.sent ≡ 0) × (t.taken ≡ 0) → AreIdle (nodes ++ t ∷ [])
+idle_more nodes t h passive none = record {
+  passive = passive_more nodes t h.passive passive;
+  frames = omega (
+    arith,
+    h.frames,
+    none.0,
+    none.1,
+    sum_by-append (λ (x : Tables). x.taken) nodes (t ∷ []),
+    sum_by-append (λ (x : Tables). x.sent) nodes (t ∷ []),
+    sum_by-cons (λ (x : Tables). x.taken) t [],
+    sum_by-cons (λ (x : Tables). x.sent) t [],
+  );
+}
+
+-- at boot nothing is pending and nothing is due
+pub boot_settled : (act_of : Meaning) (n : ℕ) (entries : List Entry) → entries ≡ []
+    → IsSettled (rules_of act_of n) (run (rules_of act_of n) (start (roots n)) entries)
+boot_settled act_of n entries empty =
+    subst (λ es. IsSettled (rules_of act_of n) (run (rules_of act_of n) (start (roots n)) es)) (sym empty)
+    (record { waiting = λ k h. refl; fired = λ k h. refl; due = λ k h. refl; road = refl })

@@ -8,7 +8,7 @@ use Rattle.hpx_ports.specs.Told.{preceded, followed}
 use Rattle.hpx_top.specs.PlainText.{IsFront, is_quit, is_newline, before_quit, lines_in, lines_of, quits, fed, text_of}
 use Rattle.hpx_top.specs.Reader.{Reading, HasRead, lines_left, input_left}
 use Rattle.hpx_top.specs.declared.session.SessionFault.{SessionFault}
-use Rattle.hpx_top.specs.declared.session.SessionFault.TheVariants.{Read, Write, Fabric, JournalFull, OutOfMemory, Strange, InputFull}
+use Rattle.hpx_top.specs.declared.session.SessionFault.TheVariants.{Read, Write, Fabric, JournalFull, OutOfMemory, InputFull}
 use Rattle.hpx_top.specs.Session.{lines_fed, WritesFront, HandsOut, IsCut, IsCutIn, IsCutBy, IsOver, IsUnderWay, IsStopped}
 use Rattle.hpx_top.specs.Ends.{IsWhole, IsBrokenOff, IsBrokenIn, IsBegun, IsEndedBy, IsReadUp, IsInputFull}
 use Rattle.hpx_top.proofs.LineLemmas.{told_rest, before_quit_append, text_front, front_then, followed_nothing}
@@ -142,7 +142,6 @@ ended_at InputFull input entries old new c = broken_at 0 input entries old new c
 ended_at Fabric input entries old new c = broken_in input entries old new c
 ended_at JournalFull input entries old new c = broken_in input entries old new c
 ended_at OutOfMemory input entries old new c = broken_at 1 input entries old new c
-ended_at Strange input entries old new c = begun_in input entries old new c
 
 pub begun_by : (f : SessionFault) (input : List ℕ) (entries : List Entry) (old new : Option (List ℕ))
     → IsCutBy f (Some (lines_in (slice_split is_newline input))) old entries new → IsBegun input entries old new
@@ -152,7 +151,6 @@ begun_by InputFull input entries old new c = begun_cut 0 input entries old new c
 begun_by Fabric input entries old new c = begun_in input entries old new c
 begun_by JournalFull input entries old new c = begun_in input entries old new c
 begun_by OutOfMemory input entries old new c = begun_cut 1 input entries old new c
-begun_by Strange input entries old new c = begun_in input entries old new c
 
 -- ---- the same of the bytes that a source had left
 

@@ -11,11 +11,15 @@ use Rattle.hpx_root_journal.specs.Sessions.{BeginsWith}
 use Rattle.hpx_root_journal.specs.Whole.{Grows}
 use Rattle.hpx_ports.specs.Told.{followed}
 use Rattle.hpx_top.specs.declared.session.SessionFault.{SessionFault}
-use Rattle.hpx_top.specs.declared.session.SessionFault.TheVariants.{Read, Write, Fabric, JournalFull, OutOfMemory, Strange, InputFull}
+use Rattle.hpx_top.specs.declared.session.SessionFault.TheVariants.{Read, Write, Fabric, JournalFull, OutOfMemory, InputFull}
 use Rattle.hpx_top.specs.PlainText.{prompt}
 use Rattle.hpx_top.specs.Reader.{Reading, TakesLine, lines_left}
 use Rattle.hpx_top.specs.Turns.{IsUnfed}
 use Rattle.hpx_top.specs.Session.{lines_fed, FeedsAtMost, FeedsLine, WritesFront, IsServing, IsCut, IsUnderWay, IsCutBy, IsLineEndedBy}
+use Rattle.std.specs.List.{AllByRecursion}
+use Rattle.hpx_root_journal.specs.Data.{Act}
+use Rattle.hpx_top.specs.Tables.{Tables, IsPassive}
+use Rattle.hpx_top.specs.Sound.{NoneRuns, running_in}
 use Rattle.hpx_top.proofs.Unfed.{unfed_then, unfed_grows}
 use Rattle.hpx_top.proofs.LineLemmas.{lines_fed_append, block_line}
 use Rattle.hpx_top.proofs.SessionLemmas.{cut_line, cut_in, under_line}
@@ -31,17 +35,23 @@ pub fed_then : (line marked : List ℕ) (old mid new : List Entry) → ((a : Nam
 fed_then line marked old mid new fed is unfed =
     let g = fed.1 in
     let e : Entry = record { at = 0; event = Line fed.0 marked } in
-    let inner : Grows 0 [] (old ++ e ∷ []) mid = record { more = g.more; is = g.is ∙ sym (append_assoc old (e ∷ []) g.more); here = g.here; inner = g.inner } in
-    let all = unfed_then (old ++ e ∷ []) mid new (unfed_grows 0 [] (old ++ e ∷ []) mid tt inner) unfed in
     record {
-      block = e ∷ all.more;
-      is = all.is ∙ append_assoc old (e ∷ []) all.more;
-      begins = ((fed.0, ap (λ bytes. Line fed.0 bytes) is), all.unfed);
+      block = e ∷ unfed.more;
+      is = unfed.is ∙ (ap (λ x. x ++ unfed.more) g.is ∙ append_assoc old (e ∷ []) unfed.more);
+      begins = ((fed.0, ap (λ bytes. Line fed.0 bytes) is), unfed.unfed);
     }
 
 pub fed_once : (line : List ℕ) (old new : List Entry) → IsFed line old new → lines_fed new ≡ lines_fed old ++ line ∷ []
 fed_once line old new f =
     ap lines_fed f.is ∙ (lines_fed_append old f.block ∙ ap (λ t. lines_fed old ++ t) (block_line line f.block f.begins))
+
+-- at rest no job is out, and feeding a line hands none out
+rest_runs_none : (nodes : List Tables) → AllByRecursion IsPassive nodes → NoneRuns nodes
+rest_runs_none [] h = tt
+rest_runs_none (t ∷ ts) h = ((h.0).running, rest_runs_none ts h.1)
+
+pub fed_runs_none : (old new : List Tables) → AllByRecursion IsPassive old → running_in new ≡ running_in old → NoneRuns new
+fed_runs_none old new h same = subst (AllByRecursion (λ (acts : List Act). acts ≡ [])) (sym same) (rest_runs_none old h)
 
 -- ---- how serving a line ends
 
@@ -58,7 +68,6 @@ ended_feed InputFull n line old new before now other fed same = absurd (other.2 
 ended_feed Fabric n line old new before now other fed same = (fed, same)
 ended_feed JournalFull n line old new before now other fed same = (fed, same)
 ended_feed OutOfMemory n line old new before now other fed same = (fed, same)
-ended_feed Strange n line old new before now other fed same = (fed, same)
 
 -- writing what it prints failed
 pub ended_show : {T : Type 0} (r : Result T SessionFault) (Q : Type 0) (n : ℕ) (line : List ℕ) (old new : List Entry) (before now : Option (List ℕ))
@@ -87,5 +96,3 @@ cut_text JournalFull n m all before now mid later reading next left rest old new
     cut_in n all before now later reading next left rest old new line s (e.1 ∙ prompted) takes e.0
 cut_text OutOfMemory n m all before now mid later reading next left rest old new line some few same s prompted takes e =
     cut_line n all before now later reading next left rest old new line s (e.1 ∙ prompted) takes e.0
-cut_text Strange n m all before now mid later reading next left rest old new line some few same s prompted takes e =
-    cut_in n all before now later reading next left rest old new line s (e.1 ∙ prompted) takes e.0

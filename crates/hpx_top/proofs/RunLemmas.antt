@@ -3,7 +3,7 @@ use Rattle.std.specs.Prelude.{Result, Ok, Err, OnOk, IfErr, IfSome}
 use Rattle.std.proofs.Common.{ℕ, List, ◌≡◌, ◌⊎◌, Option, Some, None, refl, sym, ap, ◌∙◌, inl, inr, arith}
 use Rattle.hpx_root_journal.specs.declared.entry.Entry.{Entry}
 use Rattle.hpx_top.specs.declared.session.SessionFault.{SessionFault}
-use Rattle.hpx_top.specs.declared.session.SessionFault.TheVariants.{Read, Write, Fabric, JournalFull, OutOfMemory, Strange, InputFull}
+use Rattle.hpx_top.specs.declared.session.SessionFault.TheVariants.{Read, Write, Fabric, JournalFull, OutOfMemory, InputFull}
 use Rattle.hpx_top.specs.Places.{Places}
 use Rattle.hpx_top.specs.Session.{entries_in}
 use Rattle.hpx_top.specs.Ends.{IsBrokenOff, IsBrokenIn, IsEndedBy}
@@ -17,7 +17,6 @@ ended_well (Err Write) P s h = absurd (omega arith)
 ended_well (Err Fabric) P s h = absurd (omega arith)
 ended_well (Err JournalFull) P s h = absurd (omega arith)
 ended_well (Err OutOfMemory) P s h = absurd (omega arith)
-ended_well (Err Strange) P s h = absurd (omega arith)
 ended_well (Err InputFull) P s h = absurd (omega arith)
 
 between : {T : Type 0} (r : Result T SessionFault) (P : SessionFault → Type 0) (Q : Type 0) → (status_after r ≡ 2) ⊎ (status_after r ≡ 9)
@@ -34,8 +33,6 @@ between (Err JournalFull) P Q (inl s) read input h = absurd (omega arith)
 between (Err JournalFull) P Q (inr s) read input h = absurd (omega arith)
 between (Err OutOfMemory) P Q (inl s) read input h = absurd (omega arith)
 between (Err OutOfMemory) P Q (inr s) read input h = absurd (omega arith)
-between (Err Strange) P Q (inl s) read input h = absurd (omega arith)
-between (Err Strange) P Q (inr s) read input h = absurd (omega arith)
 
 within : {T : Type 0} (r : Result T SessionFault) (P : SessionFault → Type 0) (Q : Type 0) → (status_after r ≡ 4) ⊎ (status_after r ≡ 5)
     → (P Fabric → Q) → (P JournalFull → Q) → IfErr r P → Q
@@ -51,8 +48,6 @@ within (Err InputFull) P Q (inl s) fabric full h = absurd (omega arith)
 within (Err InputFull) P Q (inr s) fabric full h = absurd (omega arith)
 within (Err OutOfMemory) P Q (inl s) fabric full h = absurd (omega arith)
 within (Err OutOfMemory) P Q (inr s) fabric full h = absurd (omega arith)
-within (Err Strange) P Q (inl s) fabric full h = absurd (omega arith)
-within (Err Strange) P Q (inr s) fabric full h = absurd (omega arith)
 
 -- without a world there was no memory
 no_world : {T : Type 0} (r : Result T SessionFault) → r ≡ Err OutOfMemory → status_after r ≡ 6

@@ -4,7 +4,7 @@ use Rattle.std.specs.List.{list_any, slice_split}
 use Rattle.hpx_root_journal.specs.declared.entry.Entry.{Entry}
 use Rattle.hpx_ports.specs.Told.{followed}
 use Rattle.hpx_top.specs.declared.session.SessionFault.{SessionFault}
-use Rattle.hpx_top.specs.declared.session.SessionFault.TheVariants.{Read, Write, Fabric, JournalFull, OutOfMemory, Strange, InputFull}
+use Rattle.hpx_top.specs.declared.session.SessionFault.TheVariants.{Read, Write, Fabric, JournalFull, OutOfMemory, InputFull}
 use Rattle.hpx_top.specs.PlainText.{is_long, is_quit, is_newline, IsPiece, lines_in, lines_of, quits, fed, text_of, IsFront}
 use Rattle.hpx_top.specs.Session.{lines_fed}
 
@@ -63,11 +63,10 @@ pub record IsInputFull (input : List ℕ) (left : Option (List ℕ)) : Type 0 wh
   pub no_line : IsPiece piece
   pub lines_are : lines_in (slice_split is_newline input) ≡ lines ++ lines_in (slice_split is_newline (piece ++ rest))
 
--- how a session was broken off: at a write or a strange parcel anywhere, otherwise behind a prompt, or in the line behind it
+-- how a session was broken off: at a write anywhere, otherwise behind a prompt, or in the line behind it
 abbrev pub IsEndedBy : SessionFault → List ℕ → List Entry → Option (List ℕ) → Option (List ℕ) → Type 0
 IsEndedBy Write input entries old new = IsBegun input entries old new
 IsEndedBy Read input entries old new = IsBrokenOff 0 input entries old new
-IsEndedBy Strange input entries old new = IsBegun input entries old new
 IsEndedBy InputFull input entries old new = IsBrokenOff 0 input entries old new
 IsEndedBy OutOfMemory input entries old new = IsBrokenOff 1 input entries old new
 IsEndedBy _ input entries old new = IsBrokenIn input entries old new

@@ -10,7 +10,7 @@ use Rattle.hpx_root_journal.specs.Sessions.{IsSession, IsSettled, BeginsWith, en
 use Rattle.hpx_ports.specs.Told.{preceded, followed}
 use Rattle.hpx_root_journal.specs.Pool.{prints_of}
 use Rattle.hpx_top.specs.declared.session.SessionFault.{SessionFault}
-use Rattle.hpx_top.specs.declared.session.SessionFault.TheVariants.{Read, Write, Fabric, JournalFull, OutOfMemory, Strange, InputFull}
+use Rattle.hpx_top.specs.declared.session.SessionFault.TheVariants.{Read, Write, Fabric, JournalFull, OutOfMemory, InputFull}
 use Rattle.hpx_top.specs.Acts.{act_of}
 use Rattle.hpx_top.specs.Places.{Places}
 use Rattle.hpx_top.specs.Sound.{IsQuiet}

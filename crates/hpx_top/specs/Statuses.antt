@@ -1,7 +1,7 @@
 -- What a run answers, and what it says of it.
 use Rattle.std.specs.Prelude.{ℕ, List, [], ◌∷◌, ◌++◌, ◌+◌, ◌==◌, ◌≡◌, ◌≢◌, ◌≤◌, codes, Result, Ok, Err, if◌then◌else◌}
 use Rattle.hpx_top.specs.declared.session.SessionFault.{SessionFault}
-use Rattle.hpx_top.specs.declared.session.SessionFault.TheVariants.{Read, Write, Fabric, JournalFull, OutOfMemory, Strange, InputFull}
+use Rattle.hpx_top.specs.declared.session.SessionFault.TheVariants.{Read, Write, Fabric, JournalFull, OutOfMemory, InputFull}
 
 -- the status for each cause
 abbrev pub status_of : SessionFault → ℕ
@@ -10,7 +10,6 @@ status_of Write = 3
 status_of Fabric = 4
 status_of JournalFull = 5
 status_of OutOfMemory = 6
-status_of Strange = 8
 status_of InputFull = 9
 
 -- the status of a session that ended
@@ -22,6 +21,7 @@ status_after (Err fault) = status_of fault
 pub record IsStatus (status : ℕ) : Type 0 where
   pub last : status ≤ 9
   pub no_frame : status ≢ 7
+  pub no_parcel : status ≢ 8
 
 -- the line for a word that is refused, by its place
 abbrev pub word_line : ℕ → List ℕ
@@ -35,6 +35,5 @@ status_line status =
     else if status == 4 then codes "hpx: fabric failed\n"
     else if status == 5 then codes "hpx: journal full\n"
     else if status == 6 then codes "hpx: out of memory\n"
-    else if status == 8 then codes "hpx: strange parcel\n"
     else if status == 9 then codes "hpx: input full\n"
     else []

@@ -36,7 +36,7 @@ pub struct Locals<A: RootActs + Copy> {
 
 impl<A: RootActs + Copy> Locals<A> {
     /// All localities at boot.
-    #[tactic(auto, using(crate::proofs::Booted::booted_none, crate::proofs::Booted::booted_more, crate::proofs::Booted::none_runs_more))]
+    #[tactic(auto, using(crate::proofs::Booted::booted_none, crate::proofs::Booted::booted_more, crate::proofs::Booted::none_runs_more, crate::proofs::Booted::idle_none, crate::proofs::Booted::idle_more))]
     pub fn boot(alloc: Global, acts: A) -> Result<Locals<A>, OutOfMemory>
         requires some { 1 ≤ A.count acts }
         requires few { A.count acts ≤ 64 }
@@ -45,6 +45,7 @@ impl<A: RootActs + Copy> Locals<A> {
         ensures empty { IfOk result (λ w. w.journal.entries ≡ []) }
         ensures hand { IfOk result (λ w. w.hand ≡ None) }
         ensures jobs { IfOk result (λ w. NoneRuns w.nodes.items) }
+        ensures quiet { IfOk result (λ w. IsQuiet w.nodes.items w.hand) }
     {
         let mut nodes = Vec::new(alloc);
         for k in 0..acts.localities() {

@@ -89,6 +89,7 @@ impl<A: RootActs + Copy> Node<A> {
         ensures here { IfOk result (λ n. n.here ≡ here) }
         ensures localities { IfOk result (λ n. n.localities ≡ A.count acts) }
         ensures passive { IfOk result IsPassive }
+        ensures frames { IfOk result (λ n. (n.sent ≡ 0) × (n.taken ≡ 0)) }
         ensures stands { IfOk result (λ n. Stands (rules_of A.act_of (A.count acts)) n [] []) }
     {
         let localities = acts.localities();

@@ -72,7 +72,6 @@ fn line_of(fault: SessionFault) -> (&'static [u8], u8)
         SessionFault::Fabric => (b"hpx: fabric failed\n", 4),
         SessionFault::JournalFull => (b"hpx: journal full\n", 5),
         SessionFault::OutOfMemory => (b"hpx: out of memory\n", 6),
-        SessionFault::Strange => (b"hpx: strange parcel\n", 8),
         SessionFault::InputFull => (b"hpx: input full\n", 9),
     }
 }
@@ -121,9 +120,6 @@ fn serve_all<S: Source, K: Sink, F: Fabric>(
         Ok(world) => world,
         Err(_) => return (None, Err(SessionFault::OutOfMemory)),
     };
-    if !world.quiet() {
-        return (Some(world), Err(SessionFault::Strange));
-    }
     let served = serve(alloc, &mut world, source, sink, fabric);
     (Some(world), served)
 }
@@ -174,7 +170,7 @@ pub fn run<S: Source, K: Sink, E: Sink, F: Fabric>(
 
     ensures complete { bad_word words.now ≡ None → (Rose (S.faults source.old) (S.faults source.new) → ⊥) → (Rose (K.faults sink.old) (K.faults sink.new) → ⊥) →
         (Rose (F.faults fabric) (F.faults result.fabric) → ⊥) → S.taken source.new < S.taken source.old + 67108864 →
-        IfSome result.world (λ w. HasRoom w.journal.entries) → (result.status ≡ 0) ⊎ (result.status ≡ 6) ⊎ (result.status ≡ 8) }
+        IfSome result.world (λ w. HasRoom w.journal.entries) → (result.status ≡ 0) ⊎ (result.status ≡ 6) }
 {
     if let Some(place) = bad_word(words.as_slice()) {
         say(err, usage_line(place));

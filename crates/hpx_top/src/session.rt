@@ -40,9 +40,6 @@ pub enum SessionFault {
     JournalFull,
     #[error("out of memory")]
     OutOfMemory,
-    /// Nothing can be done, and something is pending still.
-    #[error("strange parcel")]
-    Strange,
     #[error("input full")]
     InputFull,
 }
@@ -101,7 +98,7 @@ fn show<K: Sink>(journal: &Journal, cut: u64, sink: &mut K) -> Result<(), Sessio
 fn fault_of(fault: WorldFault<AllActs>) -> SessionFault
     ensures fabric { result ≡ SessionFault.Fabric → fault ≡ WorldFault.Fabric }
     ensures full { result ≡ SessionFault.JournalFull → (e w : ℕ) × (u : _) × (fault ≡ WorldFault.JournalFull e w u) }
-    ensures other { (result ≢ SessionFault.Read) × (result ≢ SessionFault.Write) × (result ≢ SessionFault.Strange) × (result ≢ SessionFault.InputFull) }
+    ensures other { (result ≢ SessionFault.Read) × (result ≢ SessionFault.Write) × (result ≢ SessionFault.InputFull) }
 {
     match fault {
         WorldFault::Fabric => SessionFault::Fabric,
@@ -122,6 +119,7 @@ fn feed<F: Fabric>(
     fabric: &mut F,
 ) -> Result<(), SessionFault>
     requires short { is_long line.now ≡ false }
+    requires rest { IsAtRest world.old }
     requires legal { IsLegalAt (length world.old.nodes) world.old.journal.entries }
     requires carrying { IsCarrying world.old.hand (F.flight fabric.old) (F.trace fabric.old) world.old.journal.entries }
 
@@ -144,13 +142,10 @@ fn feed<F: Fabric>(
     if let Err(fault) = world.turn(alloc, Choice::Feed(marked), fabric) {
         return Err(fault_of(fault));
     }
-    if let Err(fault) = world.drain(alloc, fabric) {
-        return Err(fault_of(fault));
+    match world.drain(alloc, fabric) {
+        Ok(()) => Ok(()),
+        Err(fault) => Err(fault_of(fault)),
     }
-    if !world.quiet() {
-        return Err(SessionFault::Strange);
-    }
-    Ok(())
 }
 
 /// Feeds a line, and writes what it prints.
@@ -162,6 +157,7 @@ fn serve_text<K: Sink, F: Fabric>(
     fabric: &mut F,
 ) -> Result<(), SessionFault>
     requires short { is_long line.now ≡ false }
+    requires rest { IsAtRest world.old }
     requires legal { IsLegalAt (length world.old.nodes) world.old.journal.entries }
     requires carrying { IsCarrying world.old.hand (F.flight fabric.old) (F.trace fabric.old) world.old.journal.entries }
 

@@ -56,6 +56,7 @@ impl<A: RootActs + Copy> World<A> {
         ensures empty { IfOk result (λ w. w.journal.entries ≡ []) }
         ensures hand { IfOk result (λ w. w.hand ≡ None) }
         ensures jobs { IfOk result (λ w. NoneRuns w.nodes) }
+        ensures quiet { IfOk result (λ w. IsQuiet w.nodes w.hand) }
     {
         Ok(World {
             acts,

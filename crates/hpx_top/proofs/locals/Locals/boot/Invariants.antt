@@ -1,6 +1,6 @@
 use Rattle.std.proofs.Common.{◌≡◌, length}
 use Rattle.hpx_top.specs.Sound.{NoneRuns}
-use Rattle.hpx_top.proofs.Booted.{AreBooted}
+use Rattle.hpx_top.proofs.Booted.{AreBooted, AreIdle}
 use Rattle.hpx_top.proofs.locals.Locals.boot.Given as goal
 
 abbrev pub invariant-loop-k : goal.invariant-loop-k
@@ -8,4 +8,5 @@ invariant-loop-k g l = record {
   count : length l.nodes.items ≡ l.k;
   booted : AreBooted g.A.Acts.act_of (g.A.Acts.count l.acts) l.nodes.items;
   none : NoneRuns l.nodes.items;
+  idle : AreIdle l.nodes.items;
 }
