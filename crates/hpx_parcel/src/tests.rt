@@ -124,11 +124,12 @@ fn refuses_what_is_cut_short_or_goes_on(rt: HostRuntime) -> Result<(), Fail> {
     for text in frames().lines() {
         let mut bytes = bytes_of(alloc, text)?;
         for len in 0..bytes.len() {
-            assert!(rt; is_refused(alloc, &bytes[..len], len as u32, Why::Cut), "{len} of {text}");
+            let at = u32::try_from(len)?;
+            assert!(rt; is_refused(alloc, &bytes[..len], at, Why::Cut), "{len} of {text}");
         }
-        let len = bytes.len();
+        let at = u32::try_from(bytes.len())?;
         bytes.push(0)?;
-        assert!(rt; is_refused(alloc, &bytes, len as u32, Why::Trailing), "{text}");
+        assert!(rt; is_refused(alloc, &bytes, at, Why::Trailing), "{text}");
     }
     Ok(())
 }
