@@ -1,10 +1,7 @@
 //! The worked frames, and their refusals.
 use crate::parcel::Parcel;
 use hpx_value::gid::Gid;
-use hpx_value::items::Items;
 use hpx_value::value::{Act, Cont, Value};
-use std::alloc::Global;
-use std::test::*;
 
 /// Frames, behind their lengths and the parcels that they spell.
 pub fn spelled() -> &'static str {
@@ -21,43 +18,31 @@ fn object() -> Gid {
     Gid::new(1, 16, 1)
 }
 
-/// ADD of 5, the fourth action of locality 0, answered to slot 1 of the session.
-fn add(alloc: Global) -> Result<Act, Fail> {
-    let mut args = Items::new(alloc);
-    args.push(Value::Int(5))?;
-    let mut ids = Items::new(alloc);
-    ids.push(object().with_log(30))?;
-    ids.push(Gid::new(0, 1, 1))?;
-    Ok(Act {
-        origin: 0,
-        serial: 4,
-        code: 16,
-        args,
-        cont: Some(Cont { place: 1, slot: 1 }),
-        ids,
-    })
+/// Whether it is ADD of 5, the fourth action of locality 0, answered to slot 1 of the session.
+fn is_add(act: &Act) -> bool {
+    let ids = [object().with_log(30), Gid::new(0, 1, 1)];
+    act.origin == 0
+        && act.serial == 4
+        && act.code == 16
+        && matches!(act.args.as_slice(), [Value::Int(5)])
+        && act.cont == Some(Cont { place: 1, slot: 1 })
+        && act.ids.as_slice() == ids.as_slice()
 }
 
-/// The parcel of a row.
-pub fn parcel(alloc: Global, name: &str) -> Result<Parcel, Fail> {
-    match name {
-        "Return" => Ok(Parcel::Return(object().with_log(30))),
-        "Apply" => Ok(Parcel::Apply(add(alloc)?)),
-        "Ask" => Ok(Parcel::Ask {
-            id: object().with_log(0),
-            asker: 0,
-            entry: 0,
-        }),
-        "Give" => Ok(Parcel::Give {
-            id: object().with_log(31),
-            entry: 0,
-        }),
-        "Free" => Ok(Parcel::Free(object())),
-        "Cached" => Ok(Parcel::Cached {
-            id: object(),
-            place: 2,
-        }),
-        _ => Err("a parcel".into()),
+/// Whether it is the parcel of a row.
+pub fn is_named(name: &str, parcel: &Parcel) -> bool {
+    match parcel {
+        Parcel::Return(id) => name == "Return" && *id == object().with_log(30),
+        Parcel::Apply(act) => name == "Apply" && is_add(act),
+        Parcel::Ask { id, asker, entry } => {
+            name == "Ask" && *id == object().with_log(0) && *asker == 0 && *entry == 0
+        }
+        Parcel::Give { id, entry } => {
+            name == "Give" && *id == object().with_log(31) && *entry == 0
+        }
+        Parcel::Free(id) => name == "Free" && *id == object(),
+        Parcel::Cached { id, place } => name == "Cached" && *id == object() && *place == 2,
+        _ => false,
     }
 }
 
