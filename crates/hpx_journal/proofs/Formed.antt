@@ -1,30 +1,29 @@
 -- States and actions in a legal journal are well formed.
-use Rattle.std.proofs.Common.{ℕ, Bool, true, false, cond, List, [], ◌∷◌, ◌++◌, ◌≡◌, ◌≢◌, suc, ◌+◌, ◌<◌, ◌≤◌, Option, Some, None, refl, sym, ap, ◌∙◌, subst, arith, inl, inr, map, length, lit≤}
-use Rattle.std.specs.Prelude.{◌==◌, ◌||◌, ◌⊎◌, codes}
-use Rattle.std.specs.List.{list_any, find, count_by, sum_by, AllByRecursion}
-use Rattle.std.proofs.lemmas.Bool.{cases_Bool}
+use Rattle.std.proofs.Common.{ℕ, Bool, true, false, cond, List, [], ◌∷◌, ◌++◌, ◌≡◌, suc, ◌+◌, ◌<◌, ◌≤◌, Option, Some, None, refl, sym, ap, ◌∙◌, subst, arith, inl, inr, map, length, lit≤}
+use Rattle.std.specs.Prelude.{◌==◌, ◌||◌, codes}
+use Rattle.std.specs.List.{list_any, find, count_by, AllByRecursion}
 use Rattle.std.proofs.lemmas.List.{length-map}
 use Rattle.std.proofs.lemmas.List.Folds.{list_any-append}
 use Rattle.std.proofs.lemmas.List.Sums.{sum_by-cons}
 use Rattle.hpx_value.specs.Ids.{Id, same_object, bare}
 use Rattle.hpx_value.specs.Values.{bare_act, bare_state, refs_in}
 use Rattle.hpx_value.specs.Shapes.{IsAct, IsMessage, IsState}
-use Rattle.hpx_value.specs.Hands.{session, sent, replied, due_of, answer, own_slot, state_after}
+use Rattle.hpx_value.specs.Hands.{session, sent, replied, due_of, answer, own_slot}
 use Rattle.hpx_value.specs.Laws.{KeepsLaws, IsManaged as IsManagedKind}
 use Rattle.hpx_value.proofs.Kept.{answer_message}
 use Rattle.hpx_parcel.specs.Parcels.{IsParcel}
 use Rattle.hpx_journal.specs.Bags.{without}
 use Rattle.hpx_journal.specs.Data.{State, Act, Fault, Make, Outcome, Due, MessageDue, PrintDue, Parcel, Apply, Move, Go, Shipped}
-use Rattle.hpx_journal.specs.Entries.{Name, Event, Line, Fire, Born, Done, Sent, Print, Freed, Left, Landed, Out, In, Standing, Travel, Rules, target_of, line_act, move_to}
+use Rattle.hpx_journal.specs.Entries.{Name, Event, Line, Fire, Born, Done, Sent, Print, Freed, Left, Landed, In, Standing, Travel, Rules, target_of, line_act, move_to}
 use Rattle.hpx_journal.specs.Frames.{acts_in, travels_in, travel_of}
 use Rattle.hpx_journal.specs.Local.{Local, after, is_act, is_standing, is_travel, listed, comes, leaves, sets_off, stops, due_act, made_state, failure, outcome, stood, leaving, tail}
 use Rattle.hpx_journal.specs.Rows.{Row, TurnAllows, AreMade, Runs}
 use Rattle.hpx_journal.specs.Foreign.{kept}
 use Rattle.hpx_journal.specs.Laws.{HasGrammar, KeepsActLaws, IsFormed, IsFormedOrFresh, IsFormedDue, TargetsStand}
 use Rattle.hpx_journal.proofs.Alls.{all-append, all-without, all-minus, all-map, all-any, all-zip, all-find, all-listed}
-use Rattle.hpx_journal.proofs.Bags.{list_any-find, find-passes, find-nothing}
+use Rattle.hpx_journal.proofs.Bags.{find-passes, find-nothing}
 use Rattle.hpx_journal.proofs.Bools.{or_left, or_right, or_cases, or_false, false_from}
-use Rattle.hpx_journal.proofs.Same.{same_object-true, same_object-refl, same_object-from, same_object-through, same_object-sym}
+use Rattle.hpx_journal.proofs.Same.{same_object-true, same_object-refl, same_object-from, same_object-sym}
 use Rattle.hpx_journal.proofs.Done.{found_same, new_standing, done_settles}
 use Rattle.hpx_journal.proofs.Life.{spelled}
 use Rattle.hpx_journal.proofs.Keys.{one_if}
@@ -176,7 +175,7 @@ made_formed (make ∷ makes) (o ∷ fresh) objects h births once x found t =
       | inr e ↦ made_formed makes fresh objects h.2 births.1 once x found e
     ]
 
-made_length : (makes : List Make) (fresh : List Id) (objects : List Standing) → AreMade makes fresh objects → length fresh ≡ length makes
+pub made_length : (makes : List Make) (fresh : List Id) (objects : List Standing) → AreMade makes fresh objects → length fresh ≡ length makes
 made_length [] [] objects h = refl
 made_length [] (o ∷ fresh) objects h = absurd h
 made_length (make ∷ makes) [] objects h = absurd h

@@ -1,7 +1,6 @@
 -- Counts by keys: each element counts at its key.
-use Rattle.std.proofs.Common.{ℕ, zero, suc, Bool, true, false, cond, List, [], ◌∷◌, ◌≡◌, ◌≢◌, ◌+◌, ◌<◌, ◌≤◌, length, refl, arith, map}
-use Rattle.std.specs.Prelude.{◌==◌}
-use Rattle.std.specs.List.{count_by, sum_by, slice_index_or, AllByRecursion}
+use Rattle.std.proofs.Common.{ℕ, zero, suc, Bool, true, false, cond, List, [], ◌∷◌, ◌≡◌, ◌≢◌, ◌+◌, ◌<◌, length, refl, arith, map}
+use Rattle.std.specs.List.{count_by, slice_index_or, AllByRecursion}
 use Rattle.std.proofs.lemmas.List.Sums.{sum_by-cons}
 use Rattle.hpx_journal.specs.Bags.{total}
 use Rattle.hpx_journal.proofs.Bags.{total-zero, total-change}

@@ -1,7 +1,7 @@
 -- What an outcome claims: each slot of its hand once, each slot of a made object once, and what the session draws.
-use Rattle.std.proofs.Common.{ℕ, zero, suc, pos, Bool, true, false, cond, not, List, [], ◌∷◌, ◌++◌, ◌≡◌, ◌≢◌, ◌+◌, ◌<◌, ◌≤◌, Option, Some, None, length, refl, sym, ap, ◌∙◌, subst, arith, map, length-append, append_assoc, nat_lt, inl, inr}
-use Rattle.std.specs.Prelude.{◌==◌, ◌&&◌, nat_le}
-use Rattle.std.specs.List.{count_by, sum_by, slice_index_or, AllByRecursion}
+use Rattle.std.proofs.Common.{ℕ, suc, Bool, true, false, cond, List, [], ◌∷◌, ◌++◌, ◌≡◌, ◌≢◌, ◌+◌, ◌<◌, ◌≤◌, Option, Some, None, length, refl, sym, ap, ◌∙◌, subst, arith, map, length-append, append_assoc, nat_lt, inl, inr}
+use Rattle.std.specs.Prelude.{◌==◌, ◌&&◌}
+use Rattle.std.specs.List.{count_by, sum_by, AllByRecursion}
 use Rattle.std.proofs.lemmas.List.Sums.{sum_by-cons, sum_by-append}
 use Rattle.std.proofs.lemmas.List.{get_or-append-add, length-map}
 use Rattle.std.proofs.lemmas.Bool.{eq-eqb, ne_eqb, lt-ltb, cases_eq}
@@ -13,12 +13,11 @@ use Rattle.hpx_value.specs.declared.outcome.SendCont.{SendCont}
 use Rattle.hpx_value.specs.declared.outcome.SendCont.TheVariants.{Nothing as NoCont, Own, Made, Here}
 use Rattle.hpx_value.specs.declared.outcome.Sending.{Sending}
 use Rattle.hpx_value.specs.declared.outcome.Reply.{Reply}
-use Rattle.hpx_value.specs.Hands.{Slot, session, id_at, slot_at, own_slot, hand_ids, hand_slots, hand_slot, slot_ids, addressed, target_id, send_slot, sent, replied, due_of, conts_from, slots_kept, state_after}
+use Rattle.hpx_value.specs.Hands.{Slot, session, id_at, slot_at, own_slot, hand_ids, hand_slots, hand_slot, addressed, target_id, send_slot, sent, replied, due_of, conts_from, slots_kept, state_after}
 use Rattle.hpx_value.specs.Laws.{KeepsLaws, UsesEachOnce, MadeSlot, owns, handed_on, answered, uses, makes_slot, made_slots, is_made_slot, draws, drawn_slots}
-use Rattle.hpx_journal.specs.Data.{Value, Cont, State, Act, Outcome, MessageDue, PrintDue}
+use Rattle.hpx_journal.specs.Data.{Value, State, Act, Outcome, MessageDue, PrintDue}
 use Rattle.hpx_value.specs.Shapes.{IsCount}
-use Rattle.hpx_journal.specs.Bags.{total}
-use Rattle.hpx_journal.specs.Slots.{same_slot, state_claims, act_claims, due_claims, answers_of}
+use Rattle.hpx_journal.specs.Slots.{same_slot, state_claims, due_claims, answers_of}
 use Rattle.hpx_journal.proofs.Bags.{total-same, total-le}
 use Rattle.hpx_journal.proofs.Keys.{one_if, by_keys, by_places, count-map}
 
