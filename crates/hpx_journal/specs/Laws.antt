@@ -1,12 +1,14 @@
 -- Words of the laws of journals.
-use Rattle.std.specs.Prelude.{ℕ, Bool, true, false, List, [], ◌∷◌, ◌++◌, ◌≡◌, ◌+◌, ◌==◌, ◌&&◌, ◌≤◌, Option, Some, None}
+use Rattle.std.specs.Prelude.{◌⊎◌, ◌<◌, ℕ, Bool, true, false, List, [], ◌∷◌, ◌++◌, ◌≡◌, ◌+◌, ◌==◌, ◌&&◌, ◌≤◌, Option, Some, None}
 use Rattle.std.specs.List.{list_any, count_by, sum_by, AllByRecursion}
 use Rattle.hpx_value.specs.Ids.{same_object}
 use Rattle.hpx_value.specs.Hands.{due_of, state_after}
+use Rattle.hpx_value.specs.Shapes.{IsAct, IsMessage, IsState}
+use Rattle.hpx_value.specs.Laws.{KeepsLaws}
 use Rattle.hpx_parcel.specs.Parcels.{IsParcel}
-use Rattle.hpx_journal.specs.Data.{Id, Parcel, Ask, Give}
+use Rattle.hpx_journal.specs.Data.{Id, State, Act, Due, MessageDue, PrintDue, Parcel, Ask, Give}
 use Rattle.hpx_journal.specs.Bags.{without, total}
-use Rattle.hpx_journal.specs.Entries.{Name, Event, Line, Fire, Done, Sent, Given, Count, Refused, Freed, Out, In, Entry, Rules, Frame, same_frame, same_name, target_of}
+use Rattle.hpx_journal.specs.Entries.{Standing, Name, Event, Line, Fire, Done, Sent, Given, Count, Refused, Freed, Out, In, Entry, Rules, Frame, same_frame, same_name, target_of}
 use Rattle.hpx_journal.specs.Tokens.{Token, is_held, is_owed}
 use Rattle.hpx_journal.specs.Frames.{tokens_in}
 use Rattle.hpx_journal.specs.Local.{Local, is_act, is_standing, is_recorded, is_given, outcome, failure, after}
@@ -206,3 +208,26 @@ pub record Fails (a : Name) (s t : Local) : Type 0 where
   pub due : t.due ≡ failure runs.act
   pub fired : t.fired ≡ without (is_act a) s.fired
   pub done : t.done ≡ runs.act ∷ s.done
+
+-- ---- meanings that keep the laws of actions
+
+pub record KeepsActLaws (r : Rules) : Type 0 where
+  pub laws : (kind here : ℕ) (s : State) (a : Act) → here < r.localities → IsState s → IsAct a
+      → KeepsLaws r.localities kind here s a (r.outcome_of kind here s a)
+
+-- of a fresh object it is known at the Done that takes it that its state is that of a make
+abbrev pub IsFormedOrFresh : List Id → Standing → Type 0
+IsFormedOrFresh fresh x = (list_any (same_object x.object) fresh ≡ true) ⊎ IsState x.state
+
+abbrev pub IsFormedDue : Due → Type 0
+IsFormedDue (MessageDue m) = IsMessage m
+IsFormedDue (PrintDue bytes) = Unit {0}
+
+-- the states and actions at a locality are well formed
+pub record IsFormed (s : Local) : Type 0 where
+  pub objects : AllByRecursion (IsFormedOrFresh s.fresh) s.objects
+  pub travels : AllByRecursion (λ x. IsState x.state) s.travels
+  pub waiting : AllByRecursion IsAct s.waiting
+  pub fired : AllByRecursion IsAct s.fired
+  pub done : AllByRecursion IsAct s.done
+  pub due : AllByRecursion IsFormedDue s.due

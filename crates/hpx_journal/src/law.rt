@@ -2,13 +2,15 @@
 ghost use Rattle.std.specs.Prelude.{ℕ, true, false, List, [], ◌∷◌, ◌++◌, ◌≡◌, ◌≢◌, ◌≤◌, ◌<◌, ◌+◌, ◌↔◌, length};
 ghost use Rattle.std.specs.List.{count_by};
 ghost use Rattle.hpx_value.specs.Ids.{Id};
+ghost use Rattle.hpx_value.specs.Hands.{Slot};
+ghost use Rattle.hpx_journal.specs.Slots.{claims_in};
 ghost use Rattle.hpx_journal.specs.Entries.{Name, Done, Freed, In, Entry, Rules, Frame, same_frame};
 ghost use Rattle.hpx_journal.specs.Local.{Local, boot};
 ghost use Rattle.hpx_journal.specs.Names.{IsBacked};
 ghost use Rattle.hpx_journal.specs.Foreign.{kept, NodeKeeps, IsForeign};
 ghost use Rattle.hpx_journal.specs.Roots.{roots};
 ghost use Rattle.hpx_journal.specs.Whole.{IsLegal, IsJoin, IsClean, IsCarried, IsQuiet, IsQuietAt, part, replayed, run_local, credit_sum, recorded_in, IsDeadIn, names_in};
-ghost use Rattle.hpx_journal.specs.Laws.{RefusesForCause, count_events, is_failed, hands_refusal, is_refused_count, HasGrammar, IsBornIn, IsOnRoad, IsLegalLocal, AreAt, SameBag, TargetsStand, Commits, Fails, entry_at, held_in, owed_in, asking_in, asked_in, given_in, begun, fires, dones, fires_at, dones_at, freeds, ins, outs, road_run};
+ghost use Rattle.hpx_journal.specs.Laws.{KeepsActLaws, IsFormed, RefusesForCause, count_events, is_failed, hands_refusal, is_refused_count, HasGrammar, IsBornIn, IsOnRoad, IsLegalLocal, AreAt, SameBag, TargetsStand, Commits, Fails, entry_at, held_in, owed_in, asking_in, asked_in, given_in, begun, fires, dones, fires_at, dones_at, freeds, ins, outs, road_run};
 ghost use Rattle.hpx_journal.specs.Pool.{Pool, OnlySessionPrints, IsBlind, Shows, NoneFails, IsPlainRun, boot_pool};
 
 /// Each front of a legal journal is legal.
@@ -122,6 +124,15 @@ pub fn failure_law()
     ensures refused { (r : Rules) (es : List Entry) → IsLegal r es →
         ((k : ℕ) → k < r.localities → RefusesForCause r (part k es)) →
         count_events is_failed es ≤ count_events is_refused_count es }
+{}
+
+/// By the laws of actions, states and actions are well formed, and each slot of an object is claimed at most once: by one
+/// continuation that names it, or by one answer to it that is due or was ever sent.
+pub fn slots_law()
+    ensures formed { (r : Rules) (es : List Entry) (k : ℕ) → HasGrammar r → KeepsActLaws r → IsLegal r es →
+        IsFormed ((replayed r es).places k) }
+    ensures slots { (r : Rules) (es later : List Entry) (x : Slot) → HasGrammar r → KeepsActLaws r → IsLegal r (es ++ later) →
+        claims_in r x (replayed r es) ≤ 1 }
 {}
 
 /// A legal journal without a failed Done is a run of the plain pool: an entry is a line, one step of an action, a pending
