@@ -190,7 +190,7 @@ roots_unclaimed n k x =
     zero_all (λ y. state_claims x y.state) (roots n k) (roots_all (λ y. state_claims x y.state ≡ 0) (λ j kind values small. refl) n k)
 
 module _ (r : Rules) where
-  start_slotted : IsSlotted r (first r)
+  pub start_slotted : IsSlotted r (first r)
   start_slotted = record {
     settled = λ k. boot_settled r.localities k;
     paid = λ x. omega (

@@ -11,7 +11,7 @@ ghost use Rattle.hpx_journal.specs.Foreign.{kept, NodeKeeps, IsForeign};
 ghost use Rattle.hpx_journal.specs.Roots.{roots};
 ghost use Rattle.hpx_journal.specs.Whole.{IsLegal, IsJoin, IsClean, IsCarried, IsQuiet, IsQuietAt, part, replayed, run_local, credit_sum, recorded_in, IsDeadIn, names_in};
 ghost use Rattle.hpx_journal.specs.Laws.{KeepsActLaws, IsFormed, RefusesForCause, count_events, is_failed, hands_refusal, is_refused_count, HasGrammar, IsBornIn, IsOnRoad, IsLegalLocal, AreAt, SameBag, TargetsStand, Commits, Fails, entry_at, held_in, owed_in, asking_in, asked_in, given_in, begun, fires, dones, fires_at, dones_at, freeds, ins, outs, road_run};
-ghost use Rattle.hpx_journal.specs.Pool.{Pool, OnlySessionPrints, IsBlind, Shows, NoneFails, IsPlainRun, boot_pool};
+ghost use Rattle.hpx_journal.specs.Pool.{Pool, IsBlind, Shows, NoneFails, IsPlainRun, boot_pool};
 
 /// Each front of a legal journal is legal.
 pub fn front_law()
@@ -139,6 +139,6 @@ pub fn slots_law()
 /// MOVE that carries its target, or nothing. It is one from boot on, and from any moment on.
 pub fn reduction_law()
     ensures boot { (r : Rules) → Shows r (replayed r []) (boot_pool r) [] }
-    ensures plain { (r : Rules) (es later : List Entry) (p : Pool) (out : List (List ℕ)) → HasGrammar r → OnlySessionPrints r → IsBlind r →
+    ensures plain { (r : Rules) (es later : List Entry) (p : Pool) (out : List (List ℕ)) → HasGrammar r → KeepsActLaws r → IsBlind r →
         IsLegal r (es ++ later) → NoneFails (es ++ later) → Shows r (replayed r es) p out → IsPlainRun r (replayed r es) p out later }
 {}
