@@ -10,7 +10,7 @@ ghost use Rattle.hpx_journal.specs.Names.{IsBacked};
 ghost use Rattle.hpx_journal.specs.Foreign.{kept, NodeKeeps, IsForeign};
 ghost use Rattle.hpx_journal.specs.Roots.{roots};
 ghost use Rattle.hpx_journal.specs.Whole.{IsLegal, IsJoin, IsClean, IsCarried, IsQuiet, IsQuietAt, part, replayed, run_local, credit_sum, recorded_in, IsDeadIn, names_in};
-ghost use Rattle.hpx_journal.specs.Laws.{KeepsActLaws, IsFormed, RefusesForCause, count_events, is_failed, hands_refusal, is_refused_count, HasGrammar, IsBornIn, IsOnRoad, IsLegalLocal, AreAt, SameBag, TargetsStand, Commits, Fails, entry_at, held_in, owed_in, asking_in, asked_in, given_in, begun, fires, dones, fires_at, dones_at, freeds, ins, outs, road_run};
+ghost use Rattle.hpx_journal.specs.Laws.{FreesTheDead, KeepsActLaws, IsFormed, RefusesForCause, count_events, is_failed, hands_refusal, is_refused_count, HasGrammar, IsBornIn, IsOnRoad, IsLegalLocal, AreAt, SameBag, TargetsStand, Commits, Fails, entry_at, held_in, owed_in, asking_in, asked_in, given_in, begun, fires, dones, fires_at, dones_at, freeds, ins, outs, road_run};
 
 /// Each front of a legal journal is legal.
 pub fn front_law()
@@ -102,12 +102,14 @@ pub fn growth_law()
     ensures front { (r : Rules) (es later : List Entry) → IsJoin r (es ++ later) → IsJoin r es }
 {}
 
-/// On the road are as many frames as were sent and not accepted. Where there are none, each locality is quiet, and each
-/// dead object was freed, the journal is quiet; each action was then fired and done.
+/// On the road are as many frames as were sent and not accepted. Where there are none and each locality frees the dead, each
+/// dead object was freed; where besides each locality is quiet, so is the journal, and each action was fired and done.
 pub fn quiet_law()
     ensures road_length { (r : Rules) (es : List Entry) → IsLegal r es →
         length (replayed r es).road + length (ins es) ≡ length (outs es) }
     ensures road { (r : Rules) (es : List Entry) → IsLegal r es → length (ins es) ≡ length (outs es) → (replayed r es).road ≡ [] }
+    ensures freed { (r : Rules) (es : List Entry) (o : Id) → IsLegal r es → (replayed r es).road ≡ [] →
+        ((k : ℕ) → k < r.localities → FreesTheDead r k (part k es)) → IsDeadIn o (replayed r es) → 1 ≤ freeds o es }
     ensures quiet { (r : Rules) (es : List Entry) → IsLegal r es →
         ((k : ℕ) → k < r.localities → IsQuietAt ((replayed r es).places k)) → length (ins es) ≡ length (outs es) →
         ((o : Id) → IsDeadIn o (replayed r es) → 1 ≤ freeds o es) → IsQuiet r (replayed r es) }
