@@ -190,7 +190,7 @@ any_counts p (x ∷ xs) h = elim (or_cases (p x) (list_any p xs) h) [
   | inr t ↦ omega (arith, any_counts p xs t, sum_by-cons (λ y. one_if (p y)) x xs)
 ]
 
-count_same_object : (a b : Id) → same_object a b ≡ true → (xs : List Standing) → count_by (is_standing a) xs ≡ count_by (is_standing b) xs
+pub count_same_object : (a b : Id) → same_object a b ≡ true → (xs : List Standing) → count_by (is_standing a) xs ≡ count_by (is_standing b) xs
 count_same_object a b h [] = refl
 count_same_object a b h (x ∷ xs) =
     omega (

@@ -70,7 +70,7 @@ roots_nameless n k o =
     zero_all (λ x. count_by (same_object o) x.state.ids) (roots n k)
     (roots_all (λ x. count_by (same_object o) x.state.ids ≡ 0) (λ j kind values small. refl) n k)
 
-boot_backed : (n k : ℕ) → IsBacked (boot (roots n k) k)
+pub boot_backed : (n k : ℕ) → IsBacked (boot (roots n k) k)
 boot_backed n k o managed = record { named = omega (arith, roots_nameless n k o); pending = omega arith }
 
 none_drawn : (a : Name) (h : ℕ) → drawn_at a h 0 ≡ 0
@@ -79,7 +79,7 @@ none_drawn a h = grind (arith, nat_tests)
 none_born : (o : Id) (h : ℕ) → born_at o h 0 ≡ 0
 none_born o h = grind (arith, nat_tests)
 
-boot_sane : (xs : List Standing) (k : ℕ) → IsSane (boot xs k)
+pub boot_sane : (xs : List Standing) (k : ℕ) → IsSane (boot xs k)
 boot_sane xs k = record { numbered = λ o h. refl; dead = λ o h. refl; stand = tt }
 
 module _ (r : Rules) where

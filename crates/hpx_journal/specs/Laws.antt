@@ -6,14 +6,15 @@ use Rattle.hpx_value.specs.Hands.{due_of, state_after}
 use Rattle.hpx_value.specs.Shapes.{IsAct, IsMessage, IsState}
 use Rattle.hpx_value.specs.Laws.{KeepsLaws}
 use Rattle.hpx_parcel.specs.Parcels.{IsParcel}
-use Rattle.hpx_journal.specs.Data.{Id, State, Act, Due, MessageDue, PrintDue, Parcel, Ask, Give}
+use Rattle.hpx_journal.specs.Data.{Id, State, Act, Due, MessageDue, PrintDue, Parcel, Ask, Give, Free}
 use Rattle.hpx_journal.specs.Bags.{without, total}
 use Rattle.hpx_journal.specs.Entries.{Standing, Name, Event, Line, Fire, Done, Sent, Given, Count, Refused, Freed, Out, In, Entry, Rules, Frame, same_frame, same_name, target_of}
 use Rattle.hpx_journal.specs.Tokens.{Token, is_held, is_owed}
 use Rattle.hpx_journal.specs.Frames.{tokens_in}
-use Rattle.hpx_journal.specs.Local.{Local, is_act, is_standing, is_recorded, is_given, outcome, failure, after}
-use Rattle.hpx_journal.specs.Rows.{Allowed, Runs, AreMade, is_refused}
-use Rattle.hpx_journal.specs.Whole.{Space, arrives, road_after}
+use Rattle.hpx_journal.specs.Local.{Local, is_act, is_standing, is_recorded, is_given, outcome, failure, after, boot}
+use Rattle.hpx_journal.specs.Rows.{Allowed, Runs, AreMade, IsDead, is_refused}
+use Rattle.hpx_journal.specs.Whole.{Space, arrives, road_after, run_local}
+use Rattle.hpx_journal.specs.Roots.{roots}
 
 -- bytes spell nothing but well formed parcels
 pub record HasGrammar (r : Rules) : Type 0 where
@@ -118,6 +119,28 @@ count_events p es = count_by (λ e. p e.event) es
 pub record RefusesForCause (r : Rules) (es : List Entry) : Type 0 where
   pub few : count_events (sends_refusal r) es + count_events hands_refusal es
       ≤ count_events (takes_refusal r) es + count_events is_refused_count es
+
+-- ---- what is freed
+
+abbrev pub is_free_of : Id → Option Parcel → Bool
+is_free_of o (Some (Free x)) = same_object o x
+is_free_of o _ = false
+
+-- the events that send a Free of o, and take one in
+abbrev pub sends_free : Rules → Id → Event → Bool
+sends_free r o (Out to bytes) = is_free_of o (r.parcel_of bytes)
+sends_free r o _ = false
+
+abbrev pub takes_free : Rules → Id → Event → Bool
+takes_free r o (In bytes) = is_free_of o (r.parcel_of bytes)
+takes_free r o _ = false
+
+-- a part of k that frees the dead: each dead object of k was freed here, or a Free of it was sent; and each Free that came
+-- was followed by a Freed
+pub record FreesTheDead (r : Rules) (k : ℕ) (es : List Entry) : Type 0 where
+  pub sent : (o : Id) → o.home ≡ k → IsDead o (run_local r (boot (roots r.localities k) k) es)
+      → 1 ≤ count_events (sends_free r o) es + freeds o es
+  pub freed : (o : Id) → count_events (takes_free r o) es ≤ freeds o es
 
 -- ---- parts and the road
 

@@ -5,12 +5,13 @@ ghost use Rattle.hpx_value.specs.Ids.{Id};
 ghost use Rattle.hpx_value.specs.Hands.{Slot};
 ghost use Rattle.hpx_journal.specs.Slots.{claims_in};
 ghost use Rattle.hpx_journal.specs.Entries.{Name, Done, Freed, In, Entry, Rules, Frame, same_frame};
-ghost use Rattle.hpx_journal.specs.Local.{Local, boot};
+ghost use Rattle.hpx_journal.specs.Local.{Local, boot, recorded};
+ghost use Rattle.hpx_journal.specs.Rows.{IsDead};
 ghost use Rattle.hpx_journal.specs.Names.{IsBacked};
-ghost use Rattle.hpx_journal.specs.Foreign.{kept, NodeKeeps, IsForeign};
+ghost use Rattle.hpx_journal.specs.Foreign.{present, IsUndrawn, kept, NodeKeeps, IsForeign};
 ghost use Rattle.hpx_journal.specs.Roots.{roots};
 ghost use Rattle.hpx_journal.specs.Whole.{IsLegal, IsJoin, IsClean, IsCarried, IsQuiet, IsQuietAt, part, replayed, run_local, credit_sum, recorded_in, IsDeadIn, names_in};
-ghost use Rattle.hpx_journal.specs.Laws.{KeepsActLaws, IsFormed, RefusesForCause, count_events, is_failed, hands_refusal, is_refused_count, HasGrammar, IsBornIn, IsOnRoad, IsLegalLocal, AreAt, SameBag, TargetsStand, Commits, Fails, entry_at, held_in, owed_in, asking_in, asked_in, given_in, begun, fires, dones, fires_at, dones_at, freeds, ins, outs, road_run};
+ghost use Rattle.hpx_journal.specs.Laws.{FreesTheDead, KeepsActLaws, IsFormed, RefusesForCause, count_events, is_failed, hands_refusal, is_refused_count, HasGrammar, IsBornIn, IsOnRoad, IsLegalLocal, AreAt, SameBag, TargetsStand, Commits, Fails, entry_at, held_in, owed_in, asking_in, asked_in, given_in, begun, fires, dones, fires_at, dones_at, freeds, ins, outs, road_run};
 ghost use Rattle.hpx_journal.specs.Pool.{Pool, IsBlind, Shows, NoneFails, IsPlainRun, boot_pool};
 
 /// Each front of a legal journal is legal.
@@ -90,6 +91,31 @@ pub fn part_law()
         IsCarried r [] es }
 {}
 
+/// A locality's part without a foreign arrival: it is legal and backed; each action is there at most once, and each managed
+/// object, and not before their numbers are drawn; targets of fired actions stand; what is dead has no count.
+pub fn single_law()
+    ensures legal { (r : Rules) (s : Local) (es : List Entry) → NodeKeeps r s es → IsClean r s es → IsLegalLocal r s es }
+    ensures backed { (r : Rules) (k : ℕ) (es : List Entry) → NodeKeeps r (boot (roots r.localities k) k) es →
+        IsClean r (boot (roots r.localities k) k) es → IsBacked (run_local r (boot (roots r.localities k) k) es) }
+    ensures act { (r : Rules) (k : ℕ) (es : List Entry) (a : Name) → IsLegalLocal r (boot (roots r.localities k) k) es →
+        IsClean r (boot (roots r.localities k) k) es → present a (run_local r (boot (roots r.localities k) k) es) ≤ 1 }
+    ensures drawn_act { (r : Rules) (k : ℕ) (es : List Entry) (a : Name) → IsLegalLocal r (boot (roots r.localities k) k) es →
+        IsClean r (boot (roots r.localities k) k) es → a.origin ≡ k →
+        IsUndrawn (run_local r (boot (roots r.localities k) k) es).serial a.serial →
+        present a (run_local r (boot (roots r.localities k) k) es) ≡ 0 }
+    ensures object { (r : Rules) (k : ℕ) (es : List Entry) (o : Id) → IsLegalLocal r (boot (roots r.localities k) k) es →
+        IsClean r (boot (roots r.localities k) k) es → 16 ≤ o.kind → kept o (run_local r (boot (roots r.localities k) k) es) ≤ 1 }
+    ensures drawn_object { (r : Rules) (k : ℕ) (es : List Entry) (o : Id) → IsLegalLocal r (boot (roots r.localities k) k) es →
+        IsClean r (boot (roots r.localities k) k) es → 16 ≤ o.kind → o.home ≡ k →
+        IsUndrawn (run_local r (boot (roots r.localities k) k) es).number o.number →
+        kept o (run_local r (boot (roots r.localities k) k) es) ≡ 0 }
+    ensures stands { (r : Rules) (k : ℕ) (es : List Entry) → IsLegalLocal r (boot (roots r.localities k) k) es →
+        IsClean r (boot (roots r.localities k) k) es → TargetsStand (run_local r (boot (roots r.localities k) k) es) }
+    ensures dead { (r : Rules) (k : ℕ) (es : List Entry) (o : Id) → IsLegalLocal r (boot (roots r.localities k) k) es →
+        IsClean r (boot (roots r.localities k) k) es → IsDead o (run_local r (boot (roots r.localities k) k) es) →
+        recorded o (run_local r (boot (roots r.localities k) k) es) ≡ 0 }
+{}
+
 /// How parts and joins grow by entries of one locality.
 pub fn growth_law()
     ensures part { (k : ℕ) (es later : List Entry) → part k (es ++ later) ≡ part k es ++ part k later }
@@ -103,12 +129,14 @@ pub fn growth_law()
     ensures front { (r : Rules) (es later : List Entry) → IsJoin r (es ++ later) → IsJoin r es }
 {}
 
-/// On the road are as many frames as were sent and not accepted. Where there are none, each locality is quiet, and each
-/// dead object was freed, the journal is quiet; each action was then fired and done.
+/// On the road are as many frames as were sent and not accepted. Where there are none and each locality frees the dead, each
+/// dead object was freed; where besides each locality is quiet, so is the journal, and each action was fired and done.
 pub fn quiet_law()
     ensures road_length { (r : Rules) (es : List Entry) → IsLegal r es →
         length (replayed r es).road + length (ins es) ≡ length (outs es) }
     ensures road { (r : Rules) (es : List Entry) → IsLegal r es → length (ins es) ≡ length (outs es) → (replayed r es).road ≡ [] }
+    ensures freed { (r : Rules) (es : List Entry) (o : Id) → IsLegal r es → (replayed r es).road ≡ [] →
+        ((k : ℕ) → k < r.localities → FreesTheDead r k (part k es)) → IsDeadIn o (replayed r es) → 1 ≤ freeds o es }
     ensures quiet { (r : Rules) (es : List Entry) → IsLegal r es →
         ((k : ℕ) → k < r.localities → IsQuietAt ((replayed r es).places k)) → length (ins es) ≡ length (outs es) →
         ((o : Id) → IsDeadIn o (replayed r es) → 1 ≤ freeds o es) → IsQuiet r (replayed r es) }
