@@ -84,16 +84,16 @@ pub record IsReached (r : Rules) (w : Space) : Type 0 where
 pub silent_at : (r : Rules) → KeepsActLaws r → (w : Space) → IsReached r w → (k : ℕ) → k < r.localities → IsSilent r (w.places k)
 silent_at r laws w reached k h = record {
   silent = λ a act x fires stands other.
-    let s = w.places k in
-    let known = reached.slotted.settled k in
-    let T = target_of act in
-    let T_x : same_object T x.object ≡ true = find-passes (is_standing T) s.objects x stands in
-    let old : list_any (same_object T) s.fresh ≡ false = find-all (IsOld s.fresh) (is_act a) s.fired act known.old fires in
-    let grown : list_any (same_object x.object) s.fresh ≡ false = sym (any-same_id T x.object s.fresh T_x) ∙ old in
-    let here : s.here < r.localities = subst (λ j. j < r.localities) (sym (reached.whole.here k)) h in
-    (laws.laws x.object.kind s.here x.state act here
-        (grown_formed s.fresh x grown (find-all (IsFormedOrFresh s.fresh) (is_standing T) s.objects x known.formed.objects stands))
-        (find-all IsAct (is_act a) s.fired act known.formed.fired fires)).few.session other;
+      let s = w.places k in
+      let known = reached.slotted.settled k in
+      let T = target_of act in
+      let T_x : same_object T x.object ≡ true = find-passes (is_standing T) s.objects x stands in
+      let old : list_any (same_object T) s.fresh ≡ false = find-all (IsOld s.fresh) (is_act a) s.fired act known.old fires in
+      let grown : list_any (same_object x.object) s.fresh ≡ false = sym (any-same_id T x.object s.fresh T_x) ∙ old in
+      let here : s.here < r.localities = subst (λ j. j < r.localities) (sym (reached.whole.here k)) h in
+      (laws.laws x.object.kind s.here x.state act here
+      (grown_formed s.fresh x grown (find-all (IsFormedOrFresh s.fresh) (is_standing T) s.objects x known.formed.objects stands))
+      (find-all IsAct (is_act a) s.fired act known.formed.fired fires)).few.session other;
 }
 
 module _ (r : Rules) (grammar : HasGrammar r) (laws : KeepsActLaws r) (w : Space) (reached : IsReached r w) (e : Entry) (ok : MayStand r w e)

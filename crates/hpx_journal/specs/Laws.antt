@@ -10,8 +10,8 @@ use Rattle.hpx_journal.specs.Data.{Id, State, Act, Due, MessageDue, PrintDue, Pa
 use Rattle.hpx_journal.specs.Bags.{without, total}
 use Rattle.hpx_journal.specs.Entries.{Standing, Name, Event, Line, Fire, Done, Sent, Given, Count, Refused, Freed, Out, In, Entry, Rules, Frame, same_frame, same_name, target_of}
 use Rattle.hpx_journal.specs.Tokens.{Token, is_held, is_owed}
-use Rattle.hpx_journal.specs.Frames.{tokens_in}
-use Rattle.hpx_journal.specs.Local.{Local, is_act, is_standing, is_recorded, is_given, outcome, failure, after, boot}
+use Rattle.hpx_journal.specs.Frames.{travels_in, tokens_in}
+use Rattle.hpx_journal.specs.Local.{Local, is_act, is_standing, is_travel, is_recorded, is_given, outcome, failure, after, boot}
 use Rattle.hpx_journal.specs.Rows.{Allowed, Runs, AreMade, IsDead, is_refused}
 use Rattle.hpx_journal.specs.Whole.{Space, arrives, road_after, run_local}
 use Rattle.hpx_journal.specs.Roots.{roots}
@@ -172,6 +172,14 @@ IsBorn o s = list_any (is_recorded o) s.counts ≡ true
 abbrev pub IsBornIn : Id → Space → Type 0
 IsBornIn o w = IsBorn o (w.places o.home)
 
+-- whether an action of this name is fired there, as a number
+abbrev pub fired_here : Name → Local → ℕ
+fired_here a s = count_by (is_act a) s.fired
+
+-- how many travels of o are on the road
+abbrev pub travelling_in : Rules → Id → Space → ℕ
+travelling_in r o w = sum_by (λ f. count_by (is_travel o) (travels_in (r.parcel_of f.1))) w.road
+
 -- the targets of all fired actions stand there
 abbrev pub TargetsStand : Local → Type 0
 TargetsStand s = AllByRecursion (λ act. list_any (is_standing (target_of act)) s.objects ≡ true) s.fired
@@ -221,6 +229,8 @@ pub record Commits (r : Rules) (a : Name) (s t : Local) : Type 0 where
   pub due : t.due ≡ due_of runs.target.state runs.act s.fresh (outcome r s runs.act runs.target)
   pub fired : t.fired ≡ without (is_act a) s.fired
   pub done : t.done ≡ runs.act ∷ s.done
+  pub waiting : t.waiting ≡ s.waiting
+  pub fresh : t.fresh ≡ []
 
 -- what a failed Done does: the action was fired here, every state stays, and the failure is due
 pub record Fails (a : Name) (s t : Local) : Type 0 where
@@ -231,6 +241,8 @@ pub record Fails (a : Name) (s t : Local) : Type 0 where
   pub due : t.due ≡ failure runs.act
   pub fired : t.fired ≡ without (is_act a) s.fired
   pub done : t.done ≡ runs.act ∷ s.done
+  pub waiting : t.waiting ≡ s.waiting
+  pub fresh : t.fresh ≡ []
 
 -- ---- meanings that keep the laws of actions
 

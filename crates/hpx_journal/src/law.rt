@@ -11,7 +11,7 @@ ghost use Rattle.hpx_journal.specs.Names.{IsBacked};
 ghost use Rattle.hpx_journal.specs.Foreign.{present, IsUndrawn, kept, NodeKeeps, IsForeign};
 ghost use Rattle.hpx_journal.specs.Roots.{roots};
 ghost use Rattle.hpx_journal.specs.Whole.{IsLegal, IsJoin, IsClean, IsCarried, IsQuiet, IsQuietAt, part, replayed, run_local, credit_sum, recorded_in, IsDeadIn, names_in};
-ghost use Rattle.hpx_journal.specs.Laws.{FreesTheDead, KeepsActLaws, IsFormed, RefusesForCause, count_events, is_failed, hands_refusal, is_refused_count, HasGrammar, IsBornIn, IsOnRoad, IsLegalLocal, AreAt, SameBag, TargetsStand, Commits, Fails, entry_at, held_in, owed_in, asking_in, asked_in, given_in, begun, fires, dones, fires_at, dones_at, freeds, ins, outs, road_run};
+ghost use Rattle.hpx_journal.specs.Laws.{fired_here, travelling_in, FreesTheDead, KeepsActLaws, IsFormed, RefusesForCause, count_events, is_failed, hands_refusal, is_refused_count, HasGrammar, IsBornIn, IsOnRoad, IsLegalLocal, AreAt, SameBag, TargetsStand, Commits, Fails, entry_at, held_in, owed_in, asking_in, asked_in, given_in, begun, fires, dones, fires_at, dones_at, freeds, ins, outs, road_run};
 ghost use Rattle.hpx_journal.specs.Pool.{Pool, IsBlind, Shows, NoneFails, IsPlainRun, boot_pool};
 
 /// Each front of a legal journal is legal.
@@ -53,10 +53,12 @@ pub fn life_law()
     ensures freed_once { (r : Rules) (es : List Entry) (o : Id) → IsLegal r es → freeds o es ≤ 1 }
     ensures gone { (r : Rules) (es : List Entry) (o : Id) (k : ℕ) → IsLegal r es → k < r.localities → 1 ≤ freeds o es →
         kept o ((replayed r es).places k) ≡ 0 }
+    ensures off_the_road { (r : Rules) (es : List Entry) (o : Id) → IsLegal r es → 1 ≤ freeds o es → travelling_in r o (replayed r es) ≡ 0 }
 {}
 
-/// Each action is fed or sent once, fired once and done once, the last two at one locality, where its target stands from
-/// the one to the other. What a Done leaves is the outcome of its action, or the failure.
+/// Each action is fed or sent at most once, fired at most once and done at most once, the last two at one locality. It is
+/// fired from the one to the other, and its target stands there then. What a Done leaves is the outcome of its action, or
+/// the failure.
 pub fn once_law()
     ensures begun_once { (r : Rules) (es : List Entry) (a : Name) → IsLegal r es → begun a es ≤ 1 }
     ensures fired_once { (r : Rules) (es : List Entry) (a : Name) → IsLegal r es → fires a es ≤ 1 }
@@ -64,6 +66,8 @@ pub fn once_law()
     ensures done_where { (r : Rules) (es : List Entry) (k : ℕ) (a : Name) → IsLegal r es → dones_at k a es ≤ fires_at k a es }
     ensures fired_begun { (r : Rules) (es : List Entry) (a : Name) → IsLegal r es → fires a es ≤ begun a es }
     ensures stands { (r : Rules) (es : List Entry) (k : ℕ) → IsLegal r es → TargetsStand ((replayed r es).places k) }
+    ensures runs { (r : Rules) (es : List Entry) (k : ℕ) (a : Name) → IsLegal r es →
+        fired_here a ((replayed r es).places k) + dones_at k a es ≡ fires_at k a es }
     ensures committed { (r : Rules) (es later : List Entry) (k : ℕ) (a : Name) → IsLegal r (es ++ entry_at k (Done a false) ∷ later) →
         Commits r a ((replayed r es).places k) ((replayed r (es ++ entry_at k (Done a false) ∷ [])).places k) }
     ensures failed { (r : Rules) (es later : List Entry) (k : ℕ) (a : Name) → IsLegal r (es ++ entry_at k (Done a true) ∷ later) →
