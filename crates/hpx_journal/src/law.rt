@@ -1,5 +1,5 @@
 //! What every legal journal keeps: the contracts are the laws. "After every entry" is said as: of each front of it.
-ghost use Rattle.std.specs.Prelude.{ℕ, true, false, List, [], ◌∷◌, ◌++◌, ◌≡◌, ◌≢◌, ◌≤◌, ◌<◌, ◌+◌, ◌↔◌, length};
+ghost use Rattle.std.specs.Prelude.{ℕ, true, false, List, [], ◌∷◌, ◌++◌, ◌≡◌, ◌≢◌, ◌≤◌, ◌<◌, ◌+◌, ◌^◌, ◌↔◌, length};
 ghost use Rattle.std.specs.List.{count_by};
 ghost use Rattle.hpx_value.specs.Ids.{Id};
 ghost use Rattle.hpx_value.specs.Hands.{Slot};
@@ -150,12 +150,15 @@ pub fn quiet_law()
 
 /// At each locality no more actions fail than ids come back there with no more credit. Where each locality hands over and
 /// sends such an id only for one that came or that its own record refused, no more actions fail than Counts are refused.
+/// No Count is, in a journal within its limits, where the greatest count is 2^53 or more.
 pub fn failure_law()
     ensures handed { (r : Rules) (es : List Entry) (k : ℕ) → IsLegal r es →
         count_events is_failed (part k es) ≤ count_events hands_refusal (part k es) }
     ensures refused { (r : Rules) (es : List Entry) → IsLegal r es →
         ((k : ℕ) → k < r.localities → RefusesForCause r (part k es)) →
         count_events is_failed es ≤ count_events is_refused_count es }
+    ensures ample { (r : Rules) (es : List Entry) → IsLegal r es → r.credit_log ≤ 31 → length es ≤ 2097152 → 2 ^ 53 ≤ r.credit_limit →
+        count_events is_refused_count es ≡ 0 }
 {}
 
 /// By the laws of actions, states and actions are well formed, and each slot of an object is claimed at most once: by one
