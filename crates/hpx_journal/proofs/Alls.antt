@@ -1,7 +1,8 @@
 -- What holds of all elements of a list.
-use Rattle.std.proofs.Common.{Bool, true, false, cond, List, [], ◌∷◌, ◌++◌}
-use Rattle.std.specs.List.{AllByRecursion}
+use Rattle.std.proofs.Common.{Bool, true, false, cond, List, [], ◌∷◌, ◌++◌, ◌≡◌, Option, Some, None, refl, subst}
+use Rattle.std.specs.List.{AllByRecursion, find}
 use Rattle.hpx_journal.specs.Bags.{without, minus}
+use Rattle.hpx_journal.specs.Local.{listed}
 
 module _ {X : Type 0} (P : X → Type 0) where
   pub all-append : (xs ys : List X) → AllByRecursion P xs → AllByRecursion P ys → AllByRecursion P (xs ++ ys)
@@ -24,3 +25,31 @@ module _ {X : Type 0} (P : X → Type 0) where
 pub all-map : {X : Type 0} (P Q : X → Type 0) → ((x : X) → P x → Q x) → (xs : List X) → AllByRecursion P xs → AllByRecursion Q xs
 all-map P Q f [] h = tt
 all-map P Q f (x ∷ xs) h = (f x h.0, all-map P Q f xs h.1)
+
+pub all-any : {X : Type 0} (P : X → Type 0) → ((x : X) → P x) → (xs : List X) → AllByRecursion P xs
+all-any P f [] = tt
+all-any P f (x ∷ xs) = (f x, all-any P f xs)
+
+-- what holds of each with one fact holds of each with two
+pub all-zip : {X : Type 0} (P Q R : X → Type 0) → ((x : X) → P x → Q x → R x) → (xs : List X)
+    → AllByRecursion P xs → AllByRecursion Q xs → AllByRecursion R xs
+all-zip P Q R f [] h i = tt
+all-zip P Q R f (x ∷ xs) h i = (f x h.0 i.0, all-zip P Q R f xs h.1 i.1)
+
+all-find_at : {X : Type 0} (P : X → Type 0) (b : Bool) (p : X → Bool) (y : X) (ys : List X) (x : X)
+    → (find p ys ≡ Some x → P x) → P y → cond b (Some y) (find p ys) ≡ Some x → P x
+all-find_at P true p y ys x ih h e = subst P (let f : y ≡ x = cc in f) h
+all-find_at P false p y ys x ih h e = ih e
+
+-- what is found is one of all
+pub all-find : {X : Type 0} (P : X → Type 0) (p : X → Bool) (xs : List X) (x : X) → AllByRecursion P xs → find p xs ≡ Some x → P x
+all-find P p [] x h e = cc
+all-find P p (y ∷ ys) x h e = all-find_at P (p y) p y ys x (all-find P p ys x h.1) h.0 e
+
+listed-all : {X : Type 0} (P : X → Type 0) (p : X → Bool) (xs : List X) → AllByRecursion P xs → (o : Option X) → find p xs ≡ o
+    → AllByRecursion P (listed o)
+listed-all P p xs h None e = tt
+listed-all P p xs h (Some x) e = (all-find P p xs x h e, tt)
+
+pub all-listed : {X : Type 0} (P : X → Type 0) (p : X → Bool) (xs : List X) → AllByRecursion P xs → AllByRecursion P (listed (find p xs))
+all-listed P p xs h = listed-all P p xs h (find p xs) refl

@@ -15,6 +15,8 @@ commits r s a h = record {
   due = rw (h.0.fired, h.0.stands) refl;
   fired = refl;
   done = rw h.0.fired refl;
+  waiting = refl;
+  fresh = refl;
 }
 
 pub fails : (r : Rules) (s : Local) (a : Name) → Row r s (Done a true) → Fails a s (after r s (Done a true))
@@ -27,4 +29,6 @@ fails r s a h = record {
   due = rw h.0.fired refl;
   fired = refl;
   done = rw h.0.fired refl;
+  waiting = refl;
+  fresh = refl;
 }

@@ -1,5 +1,5 @@
 -- An action fails only where a refused Count stands.
-use Rattle.std.proofs.Common.{ℕ, Bool, true, cond, List, [], ◌∷◌, ◌≡◌, ◌+◌, ◌<◌, ◌≤◌, refl, ap, arith}
+use Rattle.std.proofs.Common.{ℕ, Bool, true, List, [], ◌∷◌, ◌≡◌, ◌+◌, ◌<◌, ◌≤◌, refl, ap, arith}
 use Rattle.std.specs.List.{sum_by, count_by}
 use Rattle.std.proofs.lemmas.List.Sums.{sum_by-cons, sum_by-append}
 use Rattle.hpx_journal.specs.Bags.{total}
@@ -9,13 +9,11 @@ use Rattle.hpx_journal.specs.Rows.{Row}
 use Rattle.hpx_journal.specs.Whole.{IsLegal, IsCarried, part, arrives_at, sends, road_after}
 use Rattle.hpx_journal.specs.Laws.{IsLegalLocal, is_refusing, sends_refusal, takes_refusal, hands_refusal, is_refused_count, is_failed, count_events, RefusesForCause}
 use Rattle.hpx_journal.proofs.Bags.{total-zero, total-change, total-le, total-add}
+use Rattle.hpx_journal.proofs.Keys.{one_if}
 use Rattle.hpx_journal.proofs.Wholes.{road_moves}
 use Rattle.hpx_journal.proofs.Joined.{part_same, part_other}
 use Rattle.hpx_journal.proofs.Grow.{legal_part, legal_carried}
 use Rattle.hpx_journal.proofs.Start.{first}
-
-abbrev one_if : Bool → ℕ
-one_if b = cond b 1 0
 
 abbrev event_counts : (Event → Bool) → Entry → ℕ
 event_counts p e = one_if (p e.event)
@@ -58,11 +56,11 @@ failures_run r s (e ∷ es) legal h =
 -- ---- parts
 
 -- all localities are below n
-abbrev AreBelow : ℕ → List Entry → Type 0
+abbrev pub AreBelow : ℕ → List Entry → Type 0
 AreBelow n [] = Unit {0}
 AreBelow n (e ∷ es) = (e.at < n) × AreBelow n es
 
-below_all : (r : Rules) (road : List Frame) (es : List Entry) → IsCarried r road es → AreBelow r.localities es
+pub below_all : (r : Rules) (road : List Frame) (es : List Entry) → IsCarried r road es → AreBelow r.localities es
 below_all r road [] h = tt
 below_all r road (e ∷ es) h = (h.0, below_all r (road_after road e) es h.2)
 
@@ -70,7 +68,7 @@ no_parts : (p : Event → Bool) (n : ℕ) → total n (λ k. count_events p (par
 no_parts p n = total-zero n (λ k. count_events p (part k [])) (λ k h. refl)
 
 -- what stands in the whole stands in its parts
-count_parts : (p : Event → Bool) (n : ℕ) (es : List Entry) → AreBelow n es
+pub count_parts : (p : Event → Bool) (n : ℕ) (es : List Entry) → AreBelow n es
     → total n (λ k. count_events p (part k es)) ≡ count_events p es
 count_parts p n [] h = no_parts p n
 count_parts p n (e ∷ es) h =

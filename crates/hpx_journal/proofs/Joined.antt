@@ -124,7 +124,7 @@ module _ (r : Rules) (w : Space) (whole : IsWhole r w) where
       not_foreign_acts k h acts (λ a. omega (arith, road a, sum_by-cons (act_counts a) act acts)) f
 
   -- an object is born at its home alone
-  born_at_home : (o : Id) → total r.localities (λ k. born o (w.places k)) ≤ born o (w.places o.home)
+  pub born_at_home : (o : Id) → total r.localities (λ k. born o (w.places k)) ≤ born o (w.places o.home)
   born_at_home o = total-single r.localities (λ k. born o (w.places k)) o.home
       (λ k d. born_away o (w.places k).here (w.places k).number (λ e. d (sym (whole.here k) ∙ e)))
 

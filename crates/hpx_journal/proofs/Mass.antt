@@ -10,8 +10,12 @@ use Rattle.hpx_journal.specs.Entries.{Event, Line, Fire, Done, Sent, Print, Out,
 use Rattle.hpx_journal.specs.Frames.{acts_in}
 use Rattle.hpx_journal.specs.Local.{Local, after, is_act, due_left}
 use Rattle.hpx_journal.specs.Rows.{Row, TurnAllows, AreWaiting}
-use Rattle.hpx_journal.specs.Pool.{act_mass, due_mass, mass_at, line_message, sent_by, prints_due, DoesNotFail}
+use Rattle.hpx_journal.specs.Pool.{act_mass, due_mass, mass_at, line_message, sent_by, prints_due}
 use Rattle.hpx_journal.proofs.Bags.{sum_by-without-find}
+
+abbrev pub DoesNotFail : Event → Type 0
+DoesNotFail (Done a true) = ⊥
+DoesNotFail _ = Unit {0}
 
 -- ---- what is due, in two
 

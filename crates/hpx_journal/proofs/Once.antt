@@ -9,7 +9,7 @@ use Rattle.hpx_journal.specs.Entries.{Name, Event, Fire, Done, Entry, Rules}
 use Rattle.hpx_journal.specs.Local.{Local, is_act, after}
 use Rattle.hpx_journal.specs.Foreign.{present}
 use Rattle.hpx_journal.specs.Whole.{Space, step, run, IsLegalFrom, MayStand, at_place}
-use Rattle.hpx_journal.specs.Laws.{fires, dones, fires_at, dones_at, is_fire, is_done}
+use Rattle.hpx_journal.specs.Laws.{fired_here, fires, dones, fires_at, dones_at, is_fire, is_done}
 use Rattle.hpx_journal.proofs.Bags.{total-le}
 use Rattle.hpx_journal.proofs.Moves.{name_counts}
 use Rattle.hpx_journal.proofs.Present.{fired_moves, done_moves, fire_names, done_names}
@@ -93,9 +93,6 @@ module _ (r : Rules) (w : Space) (es : List Entry) (whole : IsWhole r w) (legal 
 
 -- ---- at one locality
 
-abbrev fired_here : Name → Local → ℕ
-fired_here a s = count_by (is_act a) s.fired
-
 fired_step : (r : Rules) (w : Space) (e : Entry) → MayStand r w e → (k : ℕ) (a : Name)
     → fired_here a ((step r w e).places k) + cond ((e.at == k) && is_done a e.event) 1 0
     ≡ fired_here a (w.places k) + cond ((e.at == k) && is_fire a e.event) 1 0
@@ -133,6 +130,13 @@ fired_run r w (e ∷ es) h k a =
       fired_step r w e h.0 k a,
       fired_run r (step r w e) es h.1 k a,
     )
+
+-- where nothing is fired yet, what was fired at k is done at k, or runs there still
+pub dones_or_runs : (r : Rules) (w : Space) (es : List Entry) → IsLegalFrom r w es → (k : ℕ) (a : Name)
+    → (w.places k).fired ≡ [] → fired_here a ((run r w es).places k) + dones_at k a es ≡ fires_at k a es
+dones_or_runs r w es legal k a none =
+    let z : fired_here a (w.places k) ≡ 0 = ap (count_by (is_act a)) none in
+    omega (arith, fired_run r w es legal k a)
 
 -- where nothing is fired yet, what is done at k was fired at k
 pub dones_where : (r : Rules) (w : Space) (es : List Entry) → IsLegalFrom r w es → (k : ℕ) (a : Name)

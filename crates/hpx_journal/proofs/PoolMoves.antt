@@ -13,11 +13,11 @@ use Rattle.hpx_journal.specs.Frames.{travels_in}
 use Rattle.hpx_journal.specs.Local.{after, is_standing, is_travel, acts_on, leaving}
 use Rattle.hpx_journal.specs.Rows.{Row, is_to, is_move_of}
 use Rattle.hpx_journal.specs.Whole.{Space, arrives_at, at_place, step, MayStand}
-use Rattle.hpx_journal.specs.Pool.{act_mass, mass_at, frame_mass, mass, DoesNotFail}
+use Rattle.hpx_journal.specs.Pool.{act_mass, mass_at, frame_mass, mass}
 use Rattle.hpx_journal.proofs.Bags.{list_any-find, find-passes, total-term}
 use Rattle.hpx_journal.proofs.Same.{same_frame-true}
 use Rattle.hpx_journal.proofs.Wholes.{IsWhole, total_moves, road_moves, at_same, at_other}
-use Rattle.hpx_journal.proofs.Mass.{brings, ends, mass_moves}
+use Rattle.hpx_journal.proofs.Mass.{DoesNotFail, brings, ends, mass_moves}
 use Rattle.hpx_journal.proofs.PoolLists.{all-without, all-minus, all-append, all-both, all-each, any-all, same-left, same-sym}
 use Rattle.hpx_journal.proofs.PoolSteps.{IsApart}
 use Rattle.hpx_journal.proofs.PoolSound.{IsSound}

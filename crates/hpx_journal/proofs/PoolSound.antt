@@ -1,5 +1,7 @@
 -- What each locality of a legal journal keeps, where no action fails: roots stay at home, only the session's locality prints,
 -- what is being made is new, and only managed objects travel.
+use Rattle.std.specs.Prelude.{IfSome, Option, Some, None}
+use Rattle.hpx_journal.specs.Entries.{move_to}
 use Rattle.std.proofs.Common.{ℕ, true, false, List, [], ◌∷◌, ◌++◌, ◌≡◌, ◌≢◌, ◌+◌, ◌<◌, ◌≤◌, Some, refl, ap, ◌∙◌, subst, arith, inl, inr, map}
 use Rattle.std.specs.List.{list_any, find, AllByRecursion}
 use Rattle.std.proofs.lemmas.Bool.{cases_Bool}
@@ -11,8 +13,8 @@ use Rattle.hpx_journal.specs.Frames.{travels_in}
 use Rattle.hpx_journal.specs.Local.{Local, after, is_standing, is_travel, is_act, outcome, leaving}
 use Rattle.hpx_journal.specs.Rows.{Row}
 use Rattle.hpx_journal.specs.Laws.{HasGrammar}
-use Rattle.hpx_journal.specs.Pool.{prints_due, prints_by, OnlySessionPrints, DoesNotFail}
-use Rattle.hpx_journal.proofs.Mass.{prints-due}
+use Rattle.hpx_journal.specs.Pool.{prints_due, prints_by}
+use Rattle.hpx_journal.proofs.Mass.{DoesNotFail, prints-due}
 use Rattle.hpx_journal.proofs.Bags.{find-passes}
 use Rattle.hpx_journal.proofs.Same.{same_object-true}
 use Rattle.hpx_journal.proofs.Joined.{ships}
@@ -23,6 +25,15 @@ abbrev pub AreDistinct : List Id → Type 0
 AreDistinct [] = Unit {0}
 AreDistinct (o ∷ os) = (list_any (same_object o) os ≡ false) × AreDistinct os
 
+-- at k, a fired MOVE is at its place
+abbrev pub IsAtPlace : ℕ → Act → Type 0
+IsAtPlace k act = IfSome (move_to act) (λ t. t ≡ k)
+
+-- what is done here prints only for the session
+pub record IsSilent (r : Rules) (s : Local) : Type 0 where
+  pub silent : (a : Name) (act : Act) (x : Standing) → find (is_act a) s.fired ≡ Some act → find (is_standing (target_of act)) s.objects ≡ Some x
+      → x.object.kind ≢ 1 → (outcome r s act x).prints ≡ []
+
 pub record IsSound (k : ℕ) (s : Local) : Type 0 where
   pub here : s.here ≡ k
   pub home : AllByRecursion (λ x. x.object.kind < 16 → x.object.home ≡ k) s.objects
@@ -31,6 +42,7 @@ pub record IsSound (k : ℕ) (s : Local) : Type 0 where
   pub drawn : AllByRecursion (IsDrawn k s.number) s.fresh
   pub distinct : AreDistinct s.fresh
   pub managed : AllByRecursion (λ x. 16 ≤ x.object.kind) s.travels
+  pub movers : AllByRecursion (IsAtPlace k) s.fired
 
 -- ---- what holds of all objects that stand, and of all managed ones
 
@@ -143,12 +155,12 @@ module _ (r : Rules) (s : Local) (a : Name) (act : Act) (x : Standing) (fires : 
   pub done_prints : prints_due (after r s (Done a false)).due ≡ (outcome r s act x).prints
   done_prints = ap prints_due done_due ∙ prints-due x.state act s.fresh (outcome r s act x)
 
-  pub done_silent : (k : ℕ) → IsSound k s → OnlySessionPrints r → k ≢ 0 → (outcome r s act x).prints ≡ []
+  pub done_silent : (k : ℕ) → IsSound k s → IsSilent r s → k ≢ 0 → (outcome r s act x).prints ≡ []
   done_silent k sound law h =
-      law.silent x.object.kind s.here x.state act
+      law.silent a act x fires stands
       (λ e. h (find-all (λ y. y.object.kind ≡ 1 → k ≡ 0) (is_standing (target_of act)) s.objects x sound.console stands e))
 
-silent_after : (r : Rules) (k : ℕ) (s : Local) (e : Event) → Row r s e → DoesNotFail e → OnlySessionPrints r → IsSound k s → k ≢ 0
+silent_after : (r : Rules) (k : ℕ) (s : Local) (e : Event) → Row r s e → DoesNotFail e → IsSilent r s → IsSound k s → k ≢ 0
     → prints_due (after r s e).due ≡ []
 silent_after r k s (Done a true) row well law sound h = absurd well
 silent_after r k s (Done a false) row well law sound h =
@@ -172,13 +184,24 @@ silent_after r k s (Mail kind) row well law sound h = (unprinted_stays r k s (Ma
 silent_after r k s (Out to bytes) row well law sound h = (unprinted_stays r k s (Out to bytes) row tt sound h).1
 silent_after r k s (In bytes) row well law sound h = (unprinted_stays r k s (In bytes) row tt sound h).1
 
+at_place_of : (h k : ℕ) (moves : Option ℕ) → h ≡ k → IfSome moves (λ t. t ≡ h) → IfSome moves (λ t. t ≡ k)
+at_place_of h k None e i = tt
+at_place_of h k (Some t) e i = i ∙ e
+
+movers_keep : (r : Rules) (k : ℕ) (s : Local) (e : Event) → s.here ≡ k → Row r s e → AllByRecursion (IsAtPlace k) s.fired
+    → AllByRecursion (IsAtPlace k) (after r s e).fired
+unfolding after
+movers_keep r k s (Fire a) here row all = rw (row.2) (at_place_of s.here k (move_to row.0) here row.5, all)
+movers_keep r k s (Done a failed) here row all = all-without (IsAtPlace k) (is_act a) s.fired all
+movers_keep r k s _ here row all = all
+
 not_root : (k : ℕ) (o : Id) → 16 ≤ o.kind → o.kind < 16 → o.home ≡ k
 not_root k o managed root = absurd (omega arith)
 
 not_session : (k : ℕ) (o : Id) → 16 ≤ o.kind → o.kind ≡ 1 → k ≡ 0
 not_session k o managed session = absurd (omega arith)
 
-pub sound_after : (r : Rules) (grammar : HasGrammar r) (k : ℕ) (s : Local) (e : Event) → Row r s e → DoesNotFail e → OnlySessionPrints r → IsSound k s
+pub sound_after : (r : Rules) (grammar : HasGrammar r) (k : ℕ) (s : Local) (e : Event) → Row r s e → DoesNotFail e → IsSilent r s → IsSound k s
     → IsSound k (after r s e)
 unfolding after
 sound_after r grammar k s e row well law sound =
@@ -191,4 +214,5 @@ sound_after r grammar k s e row well law sound =
       drawn = making.0;
       distinct = making.1;
       managed = travels_keep r grammar s e row sound.managed;
+      movers = movers_keep r k s e sound.here row sound.movers;
     }

@@ -10,7 +10,7 @@ use Rattle.hpx_journal.specs.Local.{Local, is_standing}
 use Rattle.hpx_journal.specs.Foreign.{kept}
 use Rattle.hpx_journal.specs.Rows.{Row}
 use Rattle.hpx_journal.specs.Whole.{Space, IsLegal, IsLegalFrom, IsCarried, IsQuiet, IsQuietAt, IsDeadIn, replayed, step, sends, arrives, road_after}
-use Rattle.hpx_journal.specs.Laws.{ins, outs, outs_by, road_run, freeds, is_freed}
+use Rattle.hpx_journal.specs.Laws.{travelling_in, ins, outs, outs_by, road_run, freeds, is_freed}
 use Rattle.hpx_journal.proofs.Wholes.{road_moves}
 use Rattle.hpx_journal.proofs.Grow.{run_road, legal_carried}
 use Rattle.hpx_journal.proofs.Bags.{total-term, find-nothing}
@@ -87,6 +87,10 @@ module _ (r : Rules) (es : List Entry) (legal : IsLegal r es) where
   pub legal_gone : (o : Id) (k : ℕ) → 16 ≤ o.kind → k < r.localities → 1 ≤ freeds o es → kept o ((replayed r es).places k) ≡ 0
   legal_gone o k managed h freed =
       omega (arith, legal_freed r es legal o managed, total-term r.localities (λ j. kept o ((replayed r es).places j)) k h)
+
+  -- nor is it on the road
+  pub legal_away : (o : Id) → 16 ≤ o.kind → 1 ≤ freeds o es → travelling_in r o (replayed r es) ≡ 0
+  legal_away o managed freed = omega (arith, freed, legal_freed r es legal o managed)
 
   pub legal_quiet : ((k : ℕ) → k < r.localities → IsQuietAt ((replayed r es).places k)) → length (ins es) ≡ length (outs es)
       → ((o : Id) → IsDeadIn o (replayed r es) → 1 ≤ freeds o es) → IsQuiet r (replayed r es)

@@ -1,4 +1,17 @@
 -- A legal journal without a failed Done is a run of the plain pool.
+use Rattle.std.specs.List.{list_any}
+use Rattle.hpx_journal.specs.Entries.{target_of}
+use Rattle.hpx_value.specs.Ids.{same_object}
+use Rattle.hpx_journal.specs.Local.{is_standing}
+use Rattle.hpx_journal.proofs.Bags.{find-passes}
+use Rattle.hpx_journal.specs.Entries.{Standing}
+use Rattle.hpx_journal.proofs.SlotsWhole.{IsSlotted, slotted_run}
+use Rattle.hpx_journal.proofs.PoolSound.{IsSilent}
+use Rattle.hpx_value.specs.Shapes.{IsState, IsAct}
+use Rattle.hpx_journal.proofs.Formed.{IsOld}
+use Rattle.hpx_journal.specs.Laws.{KeepsActLaws, IsFormedOrFresh}
+use Rattle.hpx_journal.specs.Local.{is_act}
+use Rattle.hpx_journal.proofs.PoolLists.{any-same_id, find-all}
 use Rattle.std.proofs.Common.{ℕ, Bool, true, false, cond, List, [], ◌∷◌, ◌++◌, ◌≡◌, ◌≢◌, ◌+◌, ◌<◌, ◌≤◌, refl, sym, ap, ◌∙◌, subst, arith, inl, inr, append_assoc, append-nil}
 use Rattle.std.specs.List.{sum_by, AllByRecursion}
 use Rattle.std.proofs.lemmas.List.Sums.{sum_by-cons, sum_by-append}
@@ -10,12 +23,12 @@ use Rattle.hpx_journal.specs.Frames.{travels_in}
 use Rattle.hpx_journal.specs.Local.{Local, after}
 use Rattle.hpx_journal.specs.Foreign.{kept}
 use Rattle.hpx_journal.specs.Whole.{Space, road_after, at_place, step, MayStand}
-use Rattle.hpx_journal.specs.Laws.{HasGrammar}
-use Rattle.hpx_journal.specs.Pool.{Pool, prints_due, HasTravel, ShowsAt, IsAlike, Shows, prints_by, OnlySessionPrints, DoesNotFail}
+use Rattle.hpx_journal.specs.Laws.{HasGrammar, KeepsActLaws, IsFormedOrFresh}
+use Rattle.hpx_journal.specs.Pool.{Pool, prints_due, HasTravel, ShowsAt, IsAlike, Shows, prints_by}
 use Rattle.hpx_journal.proofs.Bags.{total-term}
 use Rattle.hpx_journal.proofs.Wholes.{IsWhole, whole_step, at_same, at_other}
 use Rattle.hpx_journal.proofs.Joined.{one_object}
-use Rattle.hpx_journal.proofs.Mass.{brings, ends}
+use Rattle.hpx_journal.proofs.Mass.{DoesNotFail, brings, ends}
 use Rattle.hpx_journal.proofs.PoolSound.{IsSound, IsQuietly, prints_stay, unprinted_stays, sound_after}
 use Rattle.hpx_journal.proofs.PoolWhole.{RoadManaged, AreTowards, road_travels}
 use Rattle.hpx_journal.proofs.PoolMoves.{mass_step, towards_step}
@@ -56,19 +69,40 @@ sum_by-middle f l x r = omega (arith, sum_by-append f l (x ∷ r), sum_by-append
 
 -- ---- what the whole keeps
 
+grown_formed : (fresh : List Id) (x : Standing) → list_any (same_object x.object) fresh ≡ false → IsFormedOrFresh fresh x → IsState x.state
+grown_formed fresh x grown (inl young) = absurd (let e : true ≡ false = sym young ∙ grown in cc)
+grown_formed fresh x grown (inr formed) = formed
+
 pub record IsReached (r : Rules) (w : Space) : Type 0 where
   pub whole : IsWhole r w
   pub sound : (k : ℕ) → IsSound k (w.places k)
   pub carried : RoadManaged r w.road
   pub towards : AreTowards r w
+  pub slotted : IsSlotted r w
 
-module _ (r : Rules) (grammar : HasGrammar r) (law : OnlySessionPrints r) (w : Space) (reached : IsReached r w) (e : Entry) (ok : MayStand r w e)
+-- by the laws of actions only the session prints
+pub silent_at : (r : Rules) → KeepsActLaws r → (w : Space) → IsReached r w → (k : ℕ) → k < r.localities → IsSilent r (w.places k)
+silent_at r laws w reached k h = record {
+  silent = λ a act x fires stands other.
+      let s = w.places k in
+      let known = reached.slotted.settled k in
+      let T = target_of act in
+      let T_x : same_object T x.object ≡ true = find-passes (is_standing T) s.objects x stands in
+      let old : list_any (same_object T) s.fresh ≡ false = find-all (IsOld s.fresh) (is_act a) s.fired act known.old fires in
+      let grown : list_any (same_object x.object) s.fresh ≡ false = sym (any-same_id T x.object s.fresh T_x) ∙ old in
+      let here : s.here < r.localities = subst (λ j. j < r.localities) (sym (reached.whole.here k)) h in
+      (laws.laws x.object.kind s.here x.state act here
+      (grown_formed s.fresh x grown (find-all (IsFormedOrFresh s.fresh) (is_standing T) s.objects x known.formed.objects stands))
+      (find-all IsAct (is_act a) s.fired act known.formed.fired fires)).few.session other;
+}
+
+module _ (r : Rules) (grammar : HasGrammar r) (laws : KeepsActLaws r) (w : Space) (reached : IsReached r w) (e : Entry) (ok : MayStand r w e)
     (well : DoesNotFail e.event) where
   sound_step : (k : ℕ) → IsSound k ((step r w e).places k)
   unfolding step
   sound_step k = elim (cases_eq e.at k) [
     | inl same ↦
-        let h : IsSound e.at (after r (w.places e.at) e.event) = sound_after r grammar e.at (w.places e.at) e.event ok.allowed.row well law (reached.sound e.at) in
+        let h : IsSound e.at (after r (w.places e.at) e.event) = sound_after r grammar e.at (w.places e.at) e.event ok.allowed.row well (silent_at r laws w reached e.at ok.place) (reached.sound e.at) in
         subst (λ j. IsSound j (at_place w.places e.at (after r (w.places e.at) e.event) j)) same
         (subst (IsSound e.at) (sym (at_same w.places e.at (after r (w.places e.at) e.event))) h)
     | inr other ↦ subst (IsSound k) (sym (at_other w.places e.at (after r (w.places e.at) e.event) k other)) (reached.sound k)
@@ -84,6 +118,7 @@ module _ (r : Rules) (grammar : HasGrammar r) (law : OnlySessionPrints r) (w : S
     sound = sound_step;
     carried = carried_step;
     towards = towards_step r w e ok well reached.whole reached.sound reached.carried reached.towards;
+    slotted = slotted_run r grammar laws w (e ∷ []) reached.whole reached.slotted (ok, tt);
   }
 
 -- ---- one entry

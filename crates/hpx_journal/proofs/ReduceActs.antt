@@ -1,5 +1,11 @@
 -- An action that is done is one step of the pool.
+use Rattle.hpx_journal.specs.Pool.{moves_to}
+use Rattle.hpx_journal.proofs.PoolSound.{IsAtPlace}
+use Rattle.hpx_journal.proofs.Reduce.{silent_at}
+use Rattle.hpx_journal.specs.Laws.{KeepsActLaws}
 use Rattle.std.proofs.Common.{ℕ, true, false, cond, List, [], ◌∷◌, ◌++◌, ◌≡◌, ◌≢◌, ◌+◌, Option, Some, None, refl, sym, ap, ◌∙◌, subst, arith, append-nil}
+use Rattle.std.specs.Prelude.{IfSome}
+use Rattle.hpx_journal.specs.Laws.{KeepsActLaws}
 use Rattle.std.specs.List.{list_any, find, sum_by, AllByRecursion}
 use Rattle.std.proofs.lemmas.List.Sums.{sum_by-cons, sum_by-append}
 use Rattle.hpx_value.specs.Ids.{Id}
@@ -10,17 +16,17 @@ use Rattle.hpx_journal.specs.Frames.{travels_in}
 use Rattle.hpx_journal.specs.Local.{Local, after, is_standing, is_act, outcome, due_left}
 use Rattle.hpx_journal.specs.Rows.{AreMade}
 use Rattle.hpx_journal.specs.Whole.{Space, road_after, step, MayStand}
-use Rattle.hpx_journal.specs.Pool.{Pool, outcome_in, sent_by, AreNew, acted, IsActed, Goes, act_mass, mass_at, prints_due, HasTravel, Shows, IsBlind, OnlySessionPrints}
+use Rattle.hpx_journal.specs.Pool.{Pool, outcome_in, sent_by, AreNew, acted, IsActed, Goes, act_mass, mass_at, prints_due, HasTravel, Shows, IsBlind}
 use Rattle.hpx_journal.proofs.Bags.{sum_by-without-find, find-passes, list_any-find, total-term}
 use Rattle.hpx_journal.proofs.Same.{same_object-true}
 use Rattle.hpx_journal.proofs.SameMessage.{same_message, same_message-true, same_message-refl}
 use Rattle.hpx_journal.proofs.Mass.{messages, messages-due, brings, ends}
-use Rattle.hpx_journal.proofs.PoolLists.{all-both}
+use Rattle.hpx_journal.proofs.PoolLists.{all-both, find-all}
 use Rattle.hpx_journal.proofs.PoolActs.{acted_alike, travel_stays, target_there}
 use Rattle.hpx_journal.proofs.PoolSteps.{IsApart, IsDrawn, done_here, done_there}
-use Rattle.hpx_journal.proofs.PoolSound.{AreDistinct, done_prints, done_silent}
+use Rattle.hpx_journal.proofs.PoolSound.{AreDistinct, IsAtPlace, done_prints, done_silent}
 use Rattle.hpx_journal.proofs.PoolWhole.{travels_apart, road_apart, road_travels}
-use Rattle.hpx_journal.proofs.Reduce.{IsAmong, among, sum_by-middle, IsReached, assemble}
+use Rattle.hpx_journal.proofs.Reduce.{silent_at, IsAmong, among, sum_by-middle, IsReached, assemble}
 
 -- objects that are made are new to the pool
 made_new : (states : Id → Option State) (k number : ℕ) (makes : List Make) (fresh : List Id) (objects : List Standing) → AreMade makes fresh objects
@@ -31,7 +37,11 @@ made_new states k number (make ∷ makes) (o ∷ fresh) objects made none drawn 
 made_new states k number [] (o ∷ fresh) objects made none drawn distinct = absurd made
 made_new states k number (make ∷ makes) [] objects made none drawn distinct = absurd made
 
-module _ (r : Rules) (blind : IsBlind r) (law : OnlySessionPrints r) (w : Space) (reached : IsReached r w) (p : Pool) (out : List (List ℕ)) (shows : Shows r w p out)
+moves_there : (moves : Option ℕ) (k j : ℕ) → j ≡ k → IfSome moves (λ t. t ≡ k) → IfSome moves (λ t. t ≡ j)
+moves_there None k j e h = tt
+moves_there (Some t) k j e h = h ∙ sym e
+
+module _ (r : Rules) (blind : IsBlind r) (laws : KeepsActLaws r) (w : Space) (reached : IsReached r w) (p : Pool) (out : List (List ℕ)) (shows : Shows r w p out)
     (k : ℕ) (a : Name) (ok : MayStand r w (record { at = k; event = Done a false })) (act : Act) (x : Standing)
     (fires : find (is_act a) (w.places k).fired ≡ Some act) (stands : find (is_standing (target_of act)) (w.places k).objects ≡ Some x)
     (made : AreMade (outcome r (w.places k) act x).makes (w.places k).fresh (w.places k).objects) where
@@ -110,7 +120,7 @@ module _ (r : Rules) (blind : IsBlind r) (law : OnlySessionPrints r) (w : Space)
 
   other_prints : k ≢ 0 → p.printed ≡ next.printed
   other_prints other =
-      let none : done.prints ≡ [] = ap (λ o. o.prints) (sym outcome_eq) ∙ done_silent r s a act x fires stands k (reached.sound k) law other in
+      let none : done.prints ≡ [] = ap (λ o. o.prints) (sym outcome_eq) ∙ done_silent r s a act x fires stands k (reached.sound k) (silent_at r laws w reached k ok.place) other in
       sym (append-nil p.printed) ∙ ap (λ v. p.printed ++ v) (sym none)
 
   road_next : AllByRecursion (λ f. AllByRecursion (HasTravel next) (travels_in (r.parcel_of f.1))) (road_after w.road e)
@@ -151,6 +161,8 @@ module _ (r : Rules) (blind : IsBlind r) (law : OnlySessionPrints r) (w : Space)
     made = s.fresh;
     pending = split;
     stands = there.0;
+    there = moves_there (moves_to (message_of act)) k (p.places (target_of act)) there.1
+        (find-all (IsAtPlace k) (is_act a) s.fired act (reached.sound k).movers fires);
     new = subst (λ j. AreNew p.states j (outcome_in r j (message_of act) x.state).makes s.fresh) (sym there.1) new_objects;
     next = ap (λ j. acted p j (message_of act) x.state s.fresh others (outcome_in r j (message_of act) x.state)) (sym there.1);
   }

@@ -1,8 +1,11 @@
 -- Every entry, and whole runs.
+use Rattle.hpx_journal.proofs.SlotsWhole.{start_slotted}
+use Rattle.hpx_journal.specs.Laws.{KeepsActLaws, is_failed}
+use Rattle.hpx_journal.proofs.Mass.{DoesNotFail}
 use Rattle.std.proofs.Common.{ℕ, Bool, true, false, cond, List, [], ◌∷◌, ◌++◌, ◌≡◌, ◌<◌, ◌≤◌, Option, Some, None, refl, sym, ap, ◌∙◌, subst, arith, append_assoc, append-nil}
 use Rattle.std.specs.Prelude.{◌==◌, ◌&&◌}
 use Rattle.std.specs.List.{list_any, find, sum_by, AllByRecursion}
-use Rattle.std.proofs.lemmas.List.Sums.{sum_by-cons}
+use Rattle.std.proofs.lemmas.List.Sums.{sum_by-cons, sum_by-append}
 use Rattle.std.proofs.lemmas.Bool.{eqb-true}
 use Rattle.hpx_value.specs.Ids.{Id, same_object}
 use Rattle.hpx_journal.specs.Data.{Message}
@@ -12,8 +15,8 @@ use Rattle.hpx_journal.specs.Local.{is_standing, is_travel, boot}
 use Rattle.hpx_journal.specs.Rows.{is_to}
 use Rattle.hpx_journal.specs.Roots.{root, roots, roots_of_first}
 use Rattle.hpx_journal.specs.Whole.{Space, step, run, start, replayed, MayStand, IsLegalFrom, IsLegal}
-use Rattle.hpx_journal.specs.Laws.{HasGrammar}
-use Rattle.hpx_journal.specs.Pool.{Pool, target_in, moves_to, line_message, fed, carried, IsMoved, Goes, mass_at, HasTravel, Shows, prints_due, prints_by, prints_of, IsBlind, OnlySessionPrints, DoesNotFail, NoneFails, IsPlainRun, boot_pool, state_in, state_at}
+use Rattle.hpx_journal.specs.Laws.{HasGrammar, KeepsActLaws, is_failed}
+use Rattle.hpx_journal.specs.Pool.{Pool, target_in, moves_to, line_message, fed, carried, IsMoved, Goes, mass_at, HasTravel, Shows, prints_due, prints_by, prints_of, IsBlind, NoneFails, IsPlainRun, boot_pool, state_in, state_at}
 use Rattle.hpx_journal.proofs.Bags.{find-passes, find-none, total-zero}
 use Rattle.hpx_journal.proofs.Fronts.{legal_front, legal_rest}
 use Rattle.hpx_journal.proofs.Start.{roots_unmanaged, start_whole}
@@ -24,7 +27,7 @@ use Rattle.hpx_journal.proofs.PoolSound.{IsQuietly, prints_stay}
 use Rattle.hpx_journal.proofs.PoolWhole.{stands_apart, moving, HasMove}
 use Rattle.hpx_journal.proofs.PoolMoves.{arrived, both_true}
 use Rattle.hpx_journal.proofs.Reduce.{IsAmong, among, IsReached, reached_step, assemble, stays, calm, same_road, once}
-use Rattle.hpx_journal.proofs.Mass.{brings, ends}
+use Rattle.hpx_journal.proofs.Mass.{DoesNotFail, brings, ends}
 use Rattle.hpx_journal.proofs.ReduceActs.{done_step}
 
 -- ---- a line
@@ -100,13 +103,14 @@ module _ (r : Rules) (w : Space) (reached : IsReached r w) (p : Pool) (out : Lis
         );
       })
 
-  is_moved : IsMoved p next
+  is_moved : IsMoved o p next
   is_moved = record {
     message = pending_move.message;
     before = pending_move.before;
     behind = pending_move.behind;
     to = k;
     pending = pending_move.split;
+    target = o_m;
     move = pending_move.fact.to ∙ ap (λ v. Some v) (to ∙ (reached.sound k).here);
     next = refl;
   }
@@ -119,7 +123,7 @@ module _ (r : Rules) (w : Space) (reached : IsReached r w) (p : Pool) (out : Lis
 abbrev GoesOn : Rules → Space → Pool → List (List ℕ) → ℕ → Event → Type 0
 GoesOn r w p out k e = (q : Pool) × Goes r p e q × Shows r (step r w (record { at = k; event = e })) q (out ++ prints_by e)
 
-module _ (r : Rules) (blind : IsBlind r) (law : OnlySessionPrints r) (w : Space) (reached : IsReached r w) (p : Pool) (out : List (List ℕ)) (shows : Shows r w p out) where
+module _ (r : Rules) (blind : IsBlind r) (laws : KeepsActLaws r) (w : Space) (reached : IsReached r w) (p : Pool) (out : List (List ℕ)) (shows : Shows r w p out) where
   still_on : (k : ℕ) (e : Event) → IsStill e → IsQuietly e → Goes r p e p → DoesNotFail e
       → ((f : Message → ℕ) → sum_by f (ends (w.places k) e) ≡ sum_by f (brings r (w.places k) e))
       → MayStand r w (record { at = k; event = e }) → GoesOn r w p out k e
@@ -136,7 +140,7 @@ module _ (r : Rules) (blind : IsBlind r) (law : OnlySessionPrints r) (w : Space)
   goes_on k (Done a true) ok fine = absurd fine
   goes_on k (Done a false) ok fine =
       let row = ok.allowed.row in
-      done_step r blind law w reached p out shows k a ok (row.0).act (row.0).target (row.0).fired (row.0).stands row.1
+      done_step r blind laws w reached p out shows k a ok (row.0).act (row.0).target (row.0).fired (row.0).stands row.1
   goes_on k (Sent a) ok fine = still_on k (Sent a) tt tt refl tt (λ f. refl) ok
   goes_on k (Print bytes) ok fine = still_on k (Print bytes) tt tt refl tt (λ f. refl) ok
   goes_on k (Up o log) ok fine = still_on k (Up o log) tt tt refl tt (λ f. refl) ok
@@ -175,27 +179,38 @@ module _ (r : Rules) (blind : IsBlind r) (law : OnlySessionPrints r) (w : Space)
 
 -- ---- whole runs
 
-pub reduced : (r : Rules) → HasGrammar r → OnlySessionPrints r → IsBlind r → (w : Space) → IsReached r w → (p : Pool) (out : List (List ℕ)) (es : List Entry)
+fine_event : (e : Event) → cond {A = ℕ} (is_failed e) 1 0 ≡ 0 → DoesNotFail e
+fine_event (Done a true) h = absurd (omega (arith, h))
+fine_event (Done a false) h = tt
+fine_event _ h = tt
+
+fine_first : (e : Entry) (es : List Entry) → NoneFails (e ∷ es) → DoesNotFail e.event
+fine_first e es h = fine_event e.event (omega (arith, h, sum_by-cons (λ x. cond {A = ℕ} (is_failed x.event) 1 0) e es))
+
+fine_rest : (e : Entry) (es : List Entry) → NoneFails (e ∷ es) → NoneFails es
+fine_rest e es h = omega (arith, h, sum_by-cons (λ x. cond {A = ℕ} (is_failed x.event) 1 0) e es)
+
+pub reduced : (r : Rules) → HasGrammar r → KeepsActLaws r → IsBlind r → (w : Space) → IsReached r w → (p : Pool) (out : List (List ℕ)) (es : List Entry)
     → Shows r w p out → IsLegalFrom r w es → NoneFails es → IsPlainRun r w p out es
-reduced r grammar law blind w reached p out [] shows legal fine = record {
+reduced r grammar laws blind w reached p out [] shows legal fine = record {
   pool = p;
   runs = refl;
   shows = subst (Shows r w p) (sym (append-nil out)) shows;
 }
-reduced r grammar law blind w reached p out (e ∷ es) shows legal fine =
-    let one = goes_on r blind law w reached p out shows e.at e.event legal.0 fine.0 in
-    let rest = reduced r grammar law blind (step r w e) (reached_step r grammar law w reached e legal.0 fine.0) one.0 (out ++ prints_by e.event) es one.2 legal.1 fine.1 in
+reduced r grammar laws blind w reached p out (e ∷ es) shows legal fine =
+    let one = goes_on r blind laws w reached p out shows e.at e.event legal.0 (fine_first e es fine) in
+    let rest = reduced r grammar laws blind (step r w e) (reached_step r grammar laws w reached e legal.0 (fine_first e es fine)) one.0 (out ++ prints_by e.event) es one.2 legal.1 (fine_rest e es fine) in
     record {
       pool = rest.pool;
       runs = (one.0, one.1, rest.runs);
       shows = subst (Shows r (run r (step r w e) es) rest.pool) (append_assoc out (prints_by e.event) (prints_of es)) rest.shows;
     }
 
-reached_run : (r : Rules) → HasGrammar r → OnlySessionPrints r → (w : Space) → IsReached r w → (es : List Entry) → IsLegalFrom r w es → NoneFails es
+reached_run : (r : Rules) → HasGrammar r → KeepsActLaws r → (w : Space) → IsReached r w → (es : List Entry) → IsLegalFrom r w es → NoneFails es
     → IsReached r (run r w es)
-reached_run r grammar law w reached [] legal fine = reached
-reached_run r grammar law w reached (e ∷ es) legal fine =
-    reached_run r grammar law (step r w e) (reached_step r grammar law w reached e legal.0 fine.0) es legal.1 fine.1
+reached_run r grammar laws w reached [] legal fine = reached
+reached_run r grammar laws w reached (e ∷ es) legal fine =
+    reached_run r grammar laws (step r w e) (reached_step r grammar laws w reached e legal.0 (fine_first e es fine)) es legal.1 (fine_rest e es fine)
 
 -- ---- at boot
 
@@ -229,9 +244,11 @@ module _ (r : Rules) where
       drawn = tt;
       distinct = tt;
       managed = tt;
+      movers = tt;
     };
     carried = tt;
     towards = record { places = λ k h. tt; road = tt };
+    slotted = start_slotted r;
   }
 
   boot_states : (k : ℕ) (o : Id) → list_any (is_standing o) (roots r.localities k) ≡ true → o.home ≡ k
@@ -263,13 +280,13 @@ module _ (r : Rules) where
   }
 
 none_front : (es later : List Entry) → NoneFails (es ++ later) → NoneFails es × NoneFails later
-none_front [] later h = (tt, h)
-none_front (e ∷ es) later h = let rest = none_front es later h.1 in ((h.0, rest.0), rest.1)
+none_front es later h =
+    let sums = sum_by-append (λ x. cond {A = ℕ} (is_failed x.event) 1 0) es later in (omega (arith, h, sums), omega (arith, h, sums))
 
-pub legal_reduced : (r : Rules) (es later : List Entry) (p : Pool) (out : List (List ℕ)) → HasGrammar r → OnlySessionPrints r → IsBlind r
+pub legal_reduced : (r : Rules) (es later : List Entry) (p : Pool) (out : List (List ℕ)) → HasGrammar r → KeepsActLaws r → IsBlind r
     → IsLegal r (es ++ later) → NoneFails (es ++ later) → Shows r (replayed r es) p out → IsPlainRun r (replayed r es) p out later
-legal_reduced r es later p out grammar law blind legal fine shows =
+legal_reduced r es later p out grammar laws blind legal fine shows =
     let none = none_front es later fine in
-    reduced r grammar law blind (replayed r es)
-    (reached_run r grammar law (replayed r []) (boot_reached r) es (legal_front r (start (roots r.localities)) es later legal) none.0)
+    reduced r grammar laws blind (replayed r es)
+    (reached_run r grammar laws (replayed r []) (boot_reached r) es (legal_front r (start (roots r.localities)) es later legal) none.0)
     p out later shows (legal_rest r (start (roots r.localities)) es later legal) none.1

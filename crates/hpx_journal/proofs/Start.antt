@@ -16,7 +16,7 @@ use Rattle.hpx_journal.specs.Names.{IsBacked}
 use Rattle.hpx_journal.specs.Foreign.{present, kept, IsForeign}
 use Rattle.hpx_journal.specs.Roots.{root, roots, roots_of_first}
 use Rattle.hpx_journal.specs.Whole.{IsQuiet, Space, IsLegal, IsJoin, IsClean, step, part, start, replayed, credit_sum, recorded_in, IsDeadIn, names_in}
-use Rattle.hpx_journal.specs.Laws.{HasGrammar, IsBornIn, Commits, Fails, entry_at, held_in, owed_in, asked_in, given_in, asking_in, TargetsStand, IsOnRoad, begun, fires, dones, fires_at, dones_at, freeds}
+use Rattle.hpx_journal.specs.Laws.{fired_here, HasGrammar, IsBornIn, Commits, Fails, entry_at, held_in, owed_in, asked_in, given_in, asking_in, TargetsStand, IsOnRoad, begun, fires, dones, fires_at, dones_at, freeds}
 use Rattle.hpx_journal.proofs.Bags.{total-zero}
 use Rattle.hpx_journal.proofs.Alls.{all-append}
 use Rattle.hpx_journal.proofs.Bools.{and_false}
@@ -29,7 +29,7 @@ use Rattle.hpx_journal.proofs.Wholes.{IsWhole, whole_run, objects_run, at_same}
 use Rattle.hpx_journal.proofs.Commits.{commits, fails}
 use Rattle.hpx_journal.proofs.Joined.{AreBacked, join_legal, join_backed, not_foreign, born_once}
 use Rattle.hpx_journal.proofs.Grow.{legal_clean}
-use Rattle.hpx_journal.proofs.Once.{fires_once, dones_once, dones_where}
+use Rattle.hpx_journal.proofs.Once.{dones_or_runs, fires_once, dones_once, dones_where}
 use Rattle.hpx_journal.proofs.Begun.{begun_once, fires_begun, fires_all, dones_begun}
 use Rattle.hpx_journal.proofs.Life.{names_named, asks_pending, dead_unnamed, dead_run}
 use Rattle.hpx_journal.proofs.Frees.{FreesDead, freed_dead, frees_run}
@@ -70,7 +70,7 @@ roots_nameless n k o =
     zero_all (λ x. count_by (same_object o) x.state.ids) (roots n k)
     (roots_all (λ x. count_by (same_object o) x.state.ids ≡ 0) (λ j kind values small. refl) n k)
 
-boot_backed : (n k : ℕ) → IsBacked (boot (roots n k) k)
+pub boot_backed : (n k : ℕ) → IsBacked (boot (roots n k) k)
 boot_backed n k o managed = record { named = omega (arith, roots_nameless n k o); pending = omega arith }
 
 none_drawn : (a : Name) (h : ℕ) → drawn_at a h 0 ≡ 0
@@ -79,7 +79,7 @@ none_drawn a h = grind (arith, nat_tests)
 none_born : (o : Id) (h : ℕ) → born_at o h 0 ≡ 0
 none_born o h = grind (arith, nat_tests)
 
-boot_sane : (xs : List Standing) (k : ℕ) → IsSane (boot xs k)
+pub boot_sane : (xs : List Standing) (k : ℕ) → IsSane (boot xs k)
 boot_sane xs k = record { numbered = λ o h. refl; dead = λ o h. refl; stand = tt }
 
 module _ (r : Rules) where
@@ -149,6 +149,9 @@ module _ (r : Rules) where
 
     pub legal_dones_where : (k : ℕ) (a : Name) → dones_at k a es ≤ fires_at k a es
     legal_dones_where k a = dones_where r first es legal k a refl
+
+    pub legal_running : (k : ℕ) (a : Name) → fired_here a ((replayed r es).places k) + dones_at k a es ≡ fires_at k a es
+    legal_running k a = dones_or_runs r first es legal k a refl
 
     pub legal_fires_begun : (a : Name) → fires a es ≤ begun a es
     legal_fires_begun a = fires_begun r first es start_whole legal a (start_drawn a)

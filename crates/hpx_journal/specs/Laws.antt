@@ -1,17 +1,20 @@
 -- Words of the laws of journals.
-use Rattle.std.specs.Prelude.{ℕ, Bool, true, false, List, [], ◌∷◌, ◌++◌, ◌≡◌, ◌+◌, ◌==◌, ◌&&◌, ◌≤◌, Option, Some, None}
+use Rattle.std.specs.Prelude.{◌⊎◌, ◌<◌, ℕ, Bool, true, false, List, [], ◌∷◌, ◌++◌, ◌≡◌, ◌+◌, ◌==◌, ◌&&◌, ◌≤◌, Option, Some, None}
 use Rattle.std.specs.List.{list_any, count_by, sum_by, AllByRecursion}
 use Rattle.hpx_value.specs.Ids.{same_object}
 use Rattle.hpx_value.specs.Hands.{due_of, state_after}
+use Rattle.hpx_value.specs.Shapes.{IsAct, IsMessage, IsState}
+use Rattle.hpx_value.specs.Laws.{KeepsLaws}
 use Rattle.hpx_parcel.specs.Parcels.{IsParcel}
-use Rattle.hpx_journal.specs.Data.{Id, Parcel, Ask, Give}
+use Rattle.hpx_journal.specs.Data.{Id, State, Act, Due, MessageDue, PrintDue, Parcel, Ask, Give, Free}
 use Rattle.hpx_journal.specs.Bags.{without, total}
-use Rattle.hpx_journal.specs.Entries.{Name, Event, Line, Fire, Done, Sent, Given, Count, Refused, Freed, Out, In, Entry, Rules, Frame, same_frame, same_name, target_of}
+use Rattle.hpx_journal.specs.Entries.{Standing, Name, Event, Line, Fire, Done, Sent, Given, Count, Refused, Freed, Out, In, Entry, Rules, Frame, same_frame, same_name, target_of}
 use Rattle.hpx_journal.specs.Tokens.{Token, is_held, is_owed}
-use Rattle.hpx_journal.specs.Frames.{tokens_in}
-use Rattle.hpx_journal.specs.Local.{Local, is_act, is_standing, is_recorded, is_given, outcome, failure, after}
-use Rattle.hpx_journal.specs.Rows.{Allowed, Runs, AreMade, is_refused}
-use Rattle.hpx_journal.specs.Whole.{Space, arrives, road_after}
+use Rattle.hpx_journal.specs.Frames.{travels_in, tokens_in}
+use Rattle.hpx_journal.specs.Local.{Local, is_act, is_standing, is_travel, is_recorded, is_given, outcome, failure, after, boot}
+use Rattle.hpx_journal.specs.Rows.{Allowed, Runs, AreMade, IsDead, is_refused}
+use Rattle.hpx_journal.specs.Whole.{Space, arrives, road_after, run_local}
+use Rattle.hpx_journal.specs.Roots.{roots}
 
 -- bytes spell nothing but well formed parcels
 pub record HasGrammar (r : Rules) : Type 0 where
@@ -117,6 +120,28 @@ pub record RefusesForCause (r : Rules) (es : List Entry) : Type 0 where
   pub few : count_events (sends_refusal r) es + count_events hands_refusal es
       ≤ count_events (takes_refusal r) es + count_events is_refused_count es
 
+-- ---- what is freed
+
+abbrev pub is_free_of : Id → Option Parcel → Bool
+is_free_of o (Some (Free x)) = same_object o x
+is_free_of o _ = false
+
+-- the events that send a Free of o, and take one in
+abbrev pub sends_free : Rules → Id → Event → Bool
+sends_free r o (Out to bytes) = is_free_of o (r.parcel_of bytes)
+sends_free r o _ = false
+
+abbrev pub takes_free : Rules → Id → Event → Bool
+takes_free r o (In bytes) = is_free_of o (r.parcel_of bytes)
+takes_free r o _ = false
+
+-- a part of k that frees the dead: each dead object of k was freed here, or a Free of it was sent; and each Free that came
+-- was followed by a Freed
+pub record FreesTheDead (r : Rules) (k : ℕ) (es : List Entry) : Type 0 where
+  pub sent : (o : Id) → o.home ≡ k → IsDead o (run_local r (boot (roots r.localities k) k) es)
+      → 1 ≤ count_events (sends_free r o) es + freeds o es
+  pub freed : (o : Id) → count_events (takes_free r o) es ≤ freeds o es
+
 -- ---- parts and the road
 
 -- the frames that entries leave on the road
@@ -146,6 +171,14 @@ IsBorn o s = list_any (is_recorded o) s.counts ≡ true
 
 abbrev pub IsBornIn : Id → Space → Type 0
 IsBornIn o w = IsBorn o (w.places o.home)
+
+-- whether an action of this name is fired there, as a number
+abbrev pub fired_here : Name → Local → ℕ
+fired_here a s = count_by (is_act a) s.fired
+
+-- how many travels of o are on the road
+abbrev pub travelling_in : Rules → Id → Space → ℕ
+travelling_in r o w = sum_by (λ f. count_by (is_travel o) (travels_in (r.parcel_of f.1))) w.road
 
 -- the targets of all fired actions stand there
 abbrev pub TargetsStand : Local → Type 0
@@ -196,6 +229,8 @@ pub record Commits (r : Rules) (a : Name) (s t : Local) : Type 0 where
   pub due : t.due ≡ due_of runs.target.state runs.act s.fresh (outcome r s runs.act runs.target)
   pub fired : t.fired ≡ without (is_act a) s.fired
   pub done : t.done ≡ runs.act ∷ s.done
+  pub waiting : t.waiting ≡ s.waiting
+  pub fresh : t.fresh ≡ []
 
 -- what a failed Done does: the action was fired here, every state stays, and the failure is due
 pub record Fails (a : Name) (s t : Local) : Type 0 where
@@ -206,3 +241,28 @@ pub record Fails (a : Name) (s t : Local) : Type 0 where
   pub due : t.due ≡ failure runs.act
   pub fired : t.fired ≡ without (is_act a) s.fired
   pub done : t.done ≡ runs.act ∷ s.done
+  pub waiting : t.waiting ≡ s.waiting
+  pub fresh : t.fresh ≡ []
+
+-- ---- meanings that keep the laws of actions
+
+pub record KeepsActLaws (r : Rules) : Type 0 where
+  pub laws : (kind here : ℕ) (s : State) (a : Act) → here < r.localities → IsState s → IsAct a
+      → KeepsLaws r.localities kind here s a (r.outcome_of kind here s a)
+
+-- of a fresh object it is known at the Done that takes it that its state is that of a make
+abbrev pub IsFormedOrFresh : List Id → Standing → Type 0
+IsFormedOrFresh fresh x = (list_any (same_object x.object) fresh ≡ true) ⊎ IsState x.state
+
+abbrev pub IsFormedDue : Due → Type 0
+IsFormedDue (MessageDue m) = IsMessage m
+IsFormedDue (PrintDue bytes) = Unit {0}
+
+-- the states and actions at a locality are well formed
+pub record IsFormed (s : Local) : Type 0 where
+  pub objects : AllByRecursion (IsFormedOrFresh s.fresh) s.objects
+  pub travels : AllByRecursion (λ x. IsState x.state) s.travels
+  pub waiting : AllByRecursion IsAct s.waiting
+  pub fired : AllByRecursion IsAct s.fired
+  pub done : AllByRecursion IsAct s.done
+  pub due : AllByRecursion IsFormedDue s.due

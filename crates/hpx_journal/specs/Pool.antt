@@ -1,6 +1,6 @@
 -- The plain pool: objects with their states and places, and a bag of messages of which any may be acted on next. It has no
 -- road, no names, no credits and no death, and an action is one step.
-use Rattle.std.specs.Prelude.{ℕ, true, false, cond, List, [], ◌∷◌, ◌++◌, ◌≡◌, ◌≢◌, ◌<◌, ◌≤◌, ◌+◌, Option, Some, None, is_some, map}
+use Rattle.std.specs.Prelude.{ℕ, true, false, cond, List, [], ◌∷◌, ◌++◌, ◌≡◌, ◌<◌, ◌≤◌, ◌+◌, Option, Some, None, IfSome, is_some, map}
 use Rattle.std.specs.List.{list_any, find, sum_by, AllByRecursion}
 use Rattle.hpx_value.specs.Ids.{same_object}
 use Rattle.hpx_value.specs.Values.{bare_state, bare_act, message_of, named}
@@ -11,6 +11,7 @@ use Rattle.hpx_journal.specs.Entries.{Event, Line, Done, Print, Landed, Entry, S
 use Rattle.hpx_journal.specs.Frames.{acts_in, travels_in}
 use Rattle.hpx_journal.specs.Local.{Local, is_standing, made_state}
 use Rattle.hpx_journal.specs.Whole.{Space, run, replayed}
+use Rattle.hpx_journal.specs.Laws.{count_events, is_failed}
 
 -- what the objects keep, where they are, what is still to be acted on, and what was printed
 pub record Pool : Type 0 where
@@ -63,7 +64,7 @@ acted p here m s made others out = record {
   printed = p.printed ++ out.prints;
 }
 
--- some pending message is acted on, where its target is
+-- some pending message is acted on, where its target is; a MOVE, where it moves it
 pub record IsActed (r : Rules) (p q : Pool) : Type 0 where
   pub message : Message
   pub before : List Message
@@ -72,6 +73,7 @@ pub record IsActed (r : Rules) (p q : Pool) : Type 0 where
   pub made : List Id
   pub pending : p.pending ≡ before ++ message ∷ behind
   pub stands : p.states (target_in message) ≡ Some state
+  pub there : IfSome (moves_to message) (λ to. to ≡ p.places (target_in message))
   pub new : AreNew p.states (p.places (target_in message)) (outcome_in r (p.places (target_in message)) message state).makes made
   pub next : q ≡ acted p (p.places (target_in message)) message state made (before ++ behind) (outcome_in r (p.places (target_in message)) message state)
 
@@ -79,21 +81,23 @@ pub record IsActed (r : Rules) (p q : Pool) : Type 0 where
 abbrev pub carried : Pool → Id → ℕ → Pool
 carried p o to = record p { places = λ x. cond (same_object x o) to (p.places x) }
 
--- a pending MOVE carries its target to where it moves it
-pub record IsMoved (p q : Pool) : Type 0 where
+-- a pending MOVE of an object carries it to where it moves it
+pub record IsMoved (o : Id) (p q : Pool) : Type 0 where
   pub message : Message
   pub before : List Message
   pub behind : List Message
   pub to : ℕ
   pub pending : p.pending ≡ before ++ message ∷ behind
+  pub target : same_object o (target_in message) ≡ true
   pub move : moves_to message ≡ Some to
   pub next : q ≡ carried p (target_in message) to
 
--- what an entry does to the pool: only Line, Done and Landed do anything
+-- what an entry does to the pool: only Line, Done and Landed do anything; no action fails
 abbrev pub Goes : Rules → Pool → Event → Pool → Type 0
 Goes r p (Line a bytes) q = q ≡ fed p bytes
-Goes r p (Done a failed) q = IsActed r p q
-Goes r p (Landed o) q = IsMoved p q
+Goes r p (Done a false) q = IsActed r p q
+Goes r p (Done a true) q = ⊥
+Goes r p (Landed o) q = IsMoved o p q
 Goes r p _ q = q ≡ p
 
 abbrev pub Runs : Rules → Pool → List Entry → Pool → Type 0
@@ -176,17 +180,9 @@ pub record IsBlind (r : Rules) : Type 0 where
   pub blind : (kind here : ℕ) (s : State) (a : Act)
       → r.outcome_of kind here s a ≡ r.outcome_of kind here (bare_state s) (named 0 0 (message_of (bare_act a)))
 
--- only the session prints
-pub record OnlySessionPrints (r : Rules) : Type 0 where
-  pub silent : (kind here : ℕ) (s : State) (a : Act) → kind ≢ 1 → (r.outcome_of kind here s a).prints ≡ []
-
 -- no action fails
-abbrev pub DoesNotFail : Event → Type 0
-DoesNotFail (Done a true) = ⊥
-DoesNotFail _ = Unit {0}
-
 abbrev pub NoneFails : List Entry → Type 0
-NoneFails es = AllByRecursion (λ e. DoesNotFail e.event) es
+NoneFails es = count_events is_failed es ≡ 0
 
 -- ---- the law
 

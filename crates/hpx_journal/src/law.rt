@@ -1,15 +1,18 @@
 //! What every legal journal keeps: the contracts are the laws. "After every entry" is said as: of each front of it.
-ghost use Rattle.std.specs.Prelude.{ℕ, true, false, List, [], ◌∷◌, ◌++◌, ◌≡◌, ◌≢◌, ◌≤◌, ◌<◌, ◌+◌, ◌↔◌, length};
+ghost use Rattle.std.specs.Prelude.{ℕ, true, false, List, [], ◌∷◌, ◌++◌, ◌≡◌, ◌≢◌, ◌≤◌, ◌<◌, ◌+◌, ◌^◌, ◌↔◌, length};
 ghost use Rattle.std.specs.List.{count_by};
 ghost use Rattle.hpx_value.specs.Ids.{Id};
+ghost use Rattle.hpx_value.specs.Hands.{Slot};
+ghost use Rattle.hpx_journal.specs.Slots.{claims_in};
 ghost use Rattle.hpx_journal.specs.Entries.{Name, Done, Freed, In, Entry, Rules, Frame, same_frame};
-ghost use Rattle.hpx_journal.specs.Local.{Local, boot};
+ghost use Rattle.hpx_journal.specs.Local.{Local, boot, recorded};
+ghost use Rattle.hpx_journal.specs.Rows.{IsDead};
 ghost use Rattle.hpx_journal.specs.Names.{IsBacked};
-ghost use Rattle.hpx_journal.specs.Foreign.{kept, NodeKeeps, IsForeign};
+ghost use Rattle.hpx_journal.specs.Foreign.{present, IsUndrawn, kept, NodeKeeps, IsForeign};
 ghost use Rattle.hpx_journal.specs.Roots.{roots};
 ghost use Rattle.hpx_journal.specs.Whole.{IsLegal, IsJoin, IsClean, IsCarried, IsQuiet, IsQuietAt, part, replayed, run_local, credit_sum, recorded_in, IsDeadIn, names_in};
-ghost use Rattle.hpx_journal.specs.Laws.{RefusesForCause, count_events, is_failed, hands_refusal, is_refused_count, HasGrammar, IsBornIn, IsOnRoad, IsLegalLocal, AreAt, SameBag, TargetsStand, Commits, Fails, entry_at, held_in, owed_in, asking_in, asked_in, given_in, begun, fires, dones, fires_at, dones_at, freeds, ins, outs, road_run};
-ghost use Rattle.hpx_journal.specs.Pool.{Pool, OnlySessionPrints, IsBlind, Shows, NoneFails, IsPlainRun, boot_pool};
+ghost use Rattle.hpx_journal.specs.Laws.{fired_here, travelling_in, FreesTheDead, KeepsActLaws, IsFormed, RefusesForCause, count_events, is_failed, hands_refusal, is_refused_count, HasGrammar, IsBornIn, IsOnRoad, IsLegalLocal, AreAt, SameBag, TargetsStand, Commits, Fails, entry_at, held_in, owed_in, asking_in, asked_in, given_in, begun, fires, dones, fires_at, dones_at, freeds, ins, outs, road_run};
+ghost use Rattle.hpx_journal.specs.Pool.{Pool, IsBlind, Shows, NoneFails, IsPlainRun, boot_pool};
 
 /// Each front of a legal journal is legal.
 pub fn front_law()
@@ -50,10 +53,12 @@ pub fn life_law()
     ensures freed_once { (r : Rules) (es : List Entry) (o : Id) → IsLegal r es → freeds o es ≤ 1 }
     ensures gone { (r : Rules) (es : List Entry) (o : Id) (k : ℕ) → IsLegal r es → k < r.localities → 1 ≤ freeds o es →
         kept o ((replayed r es).places k) ≡ 0 }
+    ensures off_the_road { (r : Rules) (es : List Entry) (o : Id) → IsLegal r es → 1 ≤ freeds o es → travelling_in r o (replayed r es) ≡ 0 }
 {}
 
-/// Each action is fed or sent once, fired once and done once, the last two at one locality, where its target stands from
-/// the one to the other. What a Done leaves is the outcome of its action, or the failure.
+/// Each action is fed or sent at most once, fired at most once and done at most once, the last two at one locality. It is
+/// fired from the one to the other, and its target stands there then. What a Done leaves is the outcome of its action, or
+/// the failure.
 pub fn once_law()
     ensures begun_once { (r : Rules) (es : List Entry) (a : Name) → IsLegal r es → begun a es ≤ 1 }
     ensures fired_once { (r : Rules) (es : List Entry) (a : Name) → IsLegal r es → fires a es ≤ 1 }
@@ -61,6 +66,8 @@ pub fn once_law()
     ensures done_where { (r : Rules) (es : List Entry) (k : ℕ) (a : Name) → IsLegal r es → dones_at k a es ≤ fires_at k a es }
     ensures fired_begun { (r : Rules) (es : List Entry) (a : Name) → IsLegal r es → fires a es ≤ begun a es }
     ensures stands { (r : Rules) (es : List Entry) (k : ℕ) → IsLegal r es → TargetsStand ((replayed r es).places k) }
+    ensures runs { (r : Rules) (es : List Entry) (k : ℕ) (a : Name) → IsLegal r es →
+        fired_here a ((replayed r es).places k) + dones_at k a es ≡ fires_at k a es }
     ensures committed { (r : Rules) (es later : List Entry) (k : ℕ) (a : Name) → IsLegal r (es ++ entry_at k (Done a false) ∷ later) →
         Commits r a ((replayed r es).places k) ((replayed r (es ++ entry_at k (Done a false) ∷ [])).places k) }
     ensures failed { (r : Rules) (es later : List Entry) (k : ℕ) (a : Name) → IsLegal r (es ++ entry_at k (Done a true) ∷ later) →
@@ -88,6 +95,31 @@ pub fn part_law()
         IsCarried r [] es }
 {}
 
+/// A locality's part without a foreign arrival: it is legal and backed; each action is there at most once, and each managed
+/// object, and not before their numbers are drawn; targets of fired actions stand; what is dead has no count.
+pub fn single_law()
+    ensures legal { (r : Rules) (s : Local) (es : List Entry) → NodeKeeps r s es → IsClean r s es → IsLegalLocal r s es }
+    ensures backed { (r : Rules) (k : ℕ) (es : List Entry) → NodeKeeps r (boot (roots r.localities k) k) es →
+        IsClean r (boot (roots r.localities k) k) es → IsBacked (run_local r (boot (roots r.localities k) k) es) }
+    ensures act { (r : Rules) (k : ℕ) (es : List Entry) (a : Name) → IsLegalLocal r (boot (roots r.localities k) k) es →
+        IsClean r (boot (roots r.localities k) k) es → present a (run_local r (boot (roots r.localities k) k) es) ≤ 1 }
+    ensures drawn_act { (r : Rules) (k : ℕ) (es : List Entry) (a : Name) → IsLegalLocal r (boot (roots r.localities k) k) es →
+        IsClean r (boot (roots r.localities k) k) es → a.origin ≡ k →
+        IsUndrawn (run_local r (boot (roots r.localities k) k) es).serial a.serial →
+        present a (run_local r (boot (roots r.localities k) k) es) ≡ 0 }
+    ensures object { (r : Rules) (k : ℕ) (es : List Entry) (o : Id) → IsLegalLocal r (boot (roots r.localities k) k) es →
+        IsClean r (boot (roots r.localities k) k) es → 16 ≤ o.kind → kept o (run_local r (boot (roots r.localities k) k) es) ≤ 1 }
+    ensures drawn_object { (r : Rules) (k : ℕ) (es : List Entry) (o : Id) → IsLegalLocal r (boot (roots r.localities k) k) es →
+        IsClean r (boot (roots r.localities k) k) es → 16 ≤ o.kind → o.home ≡ k →
+        IsUndrawn (run_local r (boot (roots r.localities k) k) es).number o.number →
+        kept o (run_local r (boot (roots r.localities k) k) es) ≡ 0 }
+    ensures stands { (r : Rules) (k : ℕ) (es : List Entry) → IsLegalLocal r (boot (roots r.localities k) k) es →
+        IsClean r (boot (roots r.localities k) k) es → TargetsStand (run_local r (boot (roots r.localities k) k) es) }
+    ensures dead { (r : Rules) (k : ℕ) (es : List Entry) (o : Id) → IsLegalLocal r (boot (roots r.localities k) k) es →
+        IsClean r (boot (roots r.localities k) k) es → IsDead o (run_local r (boot (roots r.localities k) k) es) →
+        recorded o (run_local r (boot (roots r.localities k) k) es) ≡ 0 }
+{}
+
 /// How parts and joins grow by entries of one locality.
 pub fn growth_law()
     ensures part { (k : ℕ) (es later : List Entry) → part k (es ++ later) ≡ part k es ++ part k later }
@@ -101,12 +133,14 @@ pub fn growth_law()
     ensures front { (r : Rules) (es later : List Entry) → IsJoin r (es ++ later) → IsJoin r es }
 {}
 
-/// On the road are as many frames as were sent and not accepted. Where there are none, each locality is quiet, and each
-/// dead object was freed, the journal is quiet; each action was then fired and done.
+/// On the road are as many frames as were sent and not accepted. Where there are none and each locality frees the dead, each
+/// dead object was freed; where besides each locality is quiet, so is the journal, and each action was fired and done.
 pub fn quiet_law()
     ensures road_length { (r : Rules) (es : List Entry) → IsLegal r es →
         length (replayed r es).road + length (ins es) ≡ length (outs es) }
     ensures road { (r : Rules) (es : List Entry) → IsLegal r es → length (ins es) ≡ length (outs es) → (replayed r es).road ≡ [] }
+    ensures freed { (r : Rules) (es : List Entry) (o : Id) → IsLegal r es → (replayed r es).road ≡ [] →
+        ((k : ℕ) → k < r.localities → FreesTheDead r k (part k es)) → IsDeadIn o (replayed r es) → 1 ≤ freeds o es }
     ensures quiet { (r : Rules) (es : List Entry) → IsLegal r es →
         ((k : ℕ) → k < r.localities → IsQuietAt ((replayed r es).places k)) → length (ins es) ≡ length (outs es) →
         ((o : Id) → IsDeadIn o (replayed r es) → 1 ≤ freeds o es) → IsQuiet r (replayed r es) }
@@ -116,18 +150,30 @@ pub fn quiet_law()
 
 /// At each locality no more actions fail than ids come back there with no more credit. Where each locality hands over and
 /// sends such an id only for one that came or that its own record refused, no more actions fail than Counts are refused.
+/// No Count is, in a journal within its limits, where the greatest count is 2^53 or more.
 pub fn failure_law()
     ensures handed { (r : Rules) (es : List Entry) (k : ℕ) → IsLegal r es →
         count_events is_failed (part k es) ≤ count_events hands_refusal (part k es) }
     ensures refused { (r : Rules) (es : List Entry) → IsLegal r es →
         ((k : ℕ) → k < r.localities → RefusesForCause r (part k es)) →
         count_events is_failed es ≤ count_events is_refused_count es }
+    ensures ample { (r : Rules) (es : List Entry) → IsLegal r es → r.credit_log ≤ 31 → length es ≤ 2097152 → 2 ^ 53 ≤ r.credit_limit →
+        count_events is_refused_count es ≡ 0 }
+{}
+
+/// By the laws of actions, states and actions are well formed, and each slot of an object is claimed at most once: by one
+/// continuation that names it, or by one answer to it that is due or was ever sent.
+pub fn slots_law()
+    ensures formed { (r : Rules) (es : List Entry) (k : ℕ) → HasGrammar r → KeepsActLaws r → IsLegal r es →
+        IsFormed ((replayed r es).places k) }
+    ensures slots { (r : Rules) (es later : List Entry) (x : Slot) → HasGrammar r → KeepsActLaws r → IsLegal r (es ++ later) →
+        claims_in r x (replayed r es) ≤ 1 }
 {}
 
 /// A legal journal without a failed Done is a run of the plain pool: an entry is a line, one step of an action, a pending
 /// MOVE that carries its target, or nothing. It is one from boot on, and from any moment on.
 pub fn reduction_law()
     ensures boot { (r : Rules) → Shows r (replayed r []) (boot_pool r) [] }
-    ensures plain { (r : Rules) (es later : List Entry) (p : Pool) (out : List (List ℕ)) → HasGrammar r → OnlySessionPrints r → IsBlind r →
+    ensures plain { (r : Rules) (es later : List Entry) (p : Pool) (out : List (List ℕ)) → HasGrammar r → KeepsActLaws r → IsBlind r →
         IsLegal r (es ++ later) → NoneFails (es ++ later) → Shows r (replayed r es) p out → IsPlainRun r (replayed r es) p out later }
 {}

@@ -1,5 +1,5 @@
 -- Each clause is a lemma of proofs/Start.antt.
-use Rattle.hpx_journal.proofs.Start.{legal_begun, legal_fires, legal_dones, legal_dones_where, legal_fires_begun, legal_stands, legal_commits, legal_fails}
+use Rattle.hpx_journal.proofs.Start.{legal_begun, legal_fires, legal_dones, legal_dones_where, legal_running, legal_fires_begun, legal_stands, legal_commits, legal_fails}
 use Rattle.hpx_journal.proofs.law.once_law.Goals as goal
 
 pub returns-clause-begun_once : goal.returns-clause-begun_once
@@ -25,3 +25,6 @@ returns-clause-committed c = λ r es later k a h. legal_commits r es later k a h
 
 pub returns-clause-failed : goal.returns-clause-failed
 returns-clause-failed c = λ r es later k a h. legal_fails r es later k a h
+
+pub returns-clause-runs : goal.returns-clause-runs
+returns-clause-runs c = λ r es k a h. legal_running r es h k a

@@ -1,4 +1,5 @@
 use Rattle.hpx_journal.proofs.Quiet.{legal_lengths, legal_road_empty, legal_quiet}
+use Rattle.hpx_journal.proofs.Deaths.{legal_all_freed}
 use Rattle.hpx_journal.proofs.Start.{quiet_fires, quiet_dones}
 use Rattle.hpx_journal.proofs.law.quiet_law.Goals as goal
 
@@ -7,6 +8,9 @@ returns-clause-road_length c = λ r es h. legal_lengths r es h
 
 pub returns-clause-road : goal.returns-clause-road
 returns-clause-road c = λ r es h same. legal_road_empty r es h same
+
+pub returns-clause-freed : goal.returns-clause-freed
+returns-clause-freed c = λ r es o h road frees dead. legal_all_freed r es h road frees o dead
 
 pub returns-clause-quiet : goal.returns-clause-quiet
 returns-clause-quiet c = λ r es h places same freed. legal_quiet r es h places same freed
