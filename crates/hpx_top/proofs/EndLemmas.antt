@@ -1,15 +1,14 @@
 -- What the end of a session says of the bytes of its input.
-use Rattle.std.specs.Prelude.{pos, IfSome, Result, Ok, Err, OnOk, if◌then◌else◌}
-use Rattle.std.specs.List.{concat, list_any, slice_split}
-use Rattle.std.proofs.Common.{ℕ, Bool, true, false, List, [], ◌∷◌, ◌++◌, ◌≡◌, ◌≢◌, ◌+◌, ◌<◌, ◌≤◌, ◌⊎◌, ◌||◌, length, Option, Some, None, refl, sym, ap, ◌∙◌, subst, inl, inr, arith, append-nil, append_assoc, length-append}
-use Rattle.std.proofs.lemmas.List.Folds.{list_any-append}
+use Rattle.std.specs.Prelude.{IfSome}
+use Rattle.std.specs.List.{list_any, slice_split}
+use Rattle.std.proofs.Common.{ℕ, Bool, true, false, List, [], ◌∷◌, ◌++◌, ◌≡◌, ◌+◌, ◌⊎◌, length, Option, Some, None, refl, sym, ap, ◌∙◌, subst, inl, inr, arith, append-nil, append_assoc, length-append}
 use Rattle.hpx_root_journal.specs.declared.entry.Entry.{Entry}
 use Rattle.hpx_ports.specs.Told.{preceded, followed}
 use Rattle.hpx_top.specs.PlainText.{IsFront, is_quit, is_newline, before_quit, lines_in, lines_of, quits, fed, text_of}
-use Rattle.hpx_top.specs.Reader.{Reading, HasRead, lines_left, input_left}
+use Rattle.hpx_top.specs.Reader.{Reading, HasRead, lines_left}
 use Rattle.hpx_top.specs.declared.session.SessionFault.{SessionFault}
 use Rattle.hpx_top.specs.declared.session.SessionFault.TheVariants.{Read, Write, Fabric, JournalFull, OutOfMemory, InputFull}
-use Rattle.hpx_top.specs.Session.{lines_fed, WritesFront, HandsOut, IsCut, IsCutIn, IsCutBy, IsOver, IsUnderWay, IsStopped}
+use Rattle.hpx_top.specs.Session.{lines_fed, IsCut, IsCutIn, IsCutBy, IsOver, IsUnderWay, IsStopped}
 use Rattle.hpx_top.specs.Ends.{IsWhole, IsBrokenOff, IsBrokenIn, IsBegun, IsEndedBy, IsReadUp, IsInputFull}
 use Rattle.hpx_top.proofs.LineLemmas.{told_rest, before_quit_append, text_front, front_then, followed_nothing}
 use Rattle.hpx_top.proofs.SessionLemmas.{under_cut, under_in, under_over}

@@ -1,10 +1,9 @@
 -- A line that is fed, and how serving it ends.
-use Rattle.std.specs.Prelude.{Result, Ok, Err, OnOk, OnErr, IfErr, ◌≢◌}
+use Rattle.std.specs.Prelude.{Result, Ok, Err, OnErr, IfErr, ◌≢◌}
 use Rattle.std.specs.List.{concat}
-use Rattle.std.proofs.Common.{ℕ, List, [], ◌∷◌, ◌++◌, ◌≡◌, ◌<◌, ◌≤◌, ◌⊎◌, length, drop, Option, refl, sym, ap, ◌∙◌, subst, inl, inr, append_assoc}
+use Rattle.std.proofs.Common.{ℕ, List, [], ◌∷◌, ◌++◌, ◌≡◌, ◌≤◌, length, drop, Option, refl, sym, ap, ◌∙◌, subst, append_assoc}
 use Rattle.hpx_root_journal.specs.declared.entry.Name.{Name}
 use Rattle.hpx_root_journal.specs.declared.entry.Entry.{Entry}
-use Rattle.hpx_root_journal.specs.declared.entry.Event.{Event}
 use Rattle.hpx_root_journal.specs.declared.entry.Event.TheVariants.{Line}
 use Rattle.hpx_root_journal.specs.Pool.{prints_of}
 use Rattle.hpx_root_journal.specs.Sessions.{BeginsWith}
@@ -15,12 +14,11 @@ use Rattle.hpx_top.specs.declared.session.SessionFault.TheVariants.{Read, Write,
 use Rattle.hpx_top.specs.PlainText.{prompt}
 use Rattle.hpx_top.specs.Reader.{Reading, TakesLine, lines_left}
 use Rattle.hpx_top.specs.Turns.{IsUnfed}
-use Rattle.hpx_top.specs.Session.{lines_fed, FeedsAtMost, FeedsLine, WritesFront, IsServing, IsCut, IsUnderWay, IsCutBy, IsLineEndedBy}
+use Rattle.hpx_top.specs.Session.{lines_fed, FeedsAtMost, FeedsLine, WritesFront, IsServing, IsUnderWay, IsCutBy, IsLineEndedBy}
 use Rattle.std.specs.List.{AllByRecursion}
 use Rattle.hpx_root_journal.specs.Data.{Act}
 use Rattle.hpx_top.specs.Tables.{Tables, IsPassive}
 use Rattle.hpx_top.specs.Sound.{NoneRuns, running_in}
-use Rattle.hpx_top.proofs.Unfed.{unfed_then, unfed_grows}
 use Rattle.hpx_top.proofs.LineLemmas.{lines_fed_append, block_line}
 use Rattle.hpx_top.proofs.SessionLemmas.{cut_line, cut_in, under_line}
 

@@ -7,7 +7,7 @@ use Rattle.std.proofs.lemmas.List.Sums.{sum_by-cons, sum_by-append}
 use Rattle.std.proofs.Common.{length-append}
 use Rattle.hpx_value.specs.Values.{refs_in, named}
 use Rattle.hpx_value.specs.Shapes.{IsMessage, IsState, listed}
-use Rattle.hpx_value.specs.Hands.{Slot, session, id_at, slot_at, own_slot, hand_ids, hand_slots, hand_slot, addressed, slot_ids, renumbered, target_id, send_slot, sent, replied, due_of, conts_from, slots_kept, state_after}
+use Rattle.hpx_value.specs.Hands.{Slot, session, id_at, slot_at, own_slot, hand_ids, hand_slots, hand_slot, addressed, slot_ids, renumbered, target_id, send_slot, sent, replied, due_of, slots_kept, state_after}
 use Rattle.hpx_value.specs.Laws.{KeepsLaws, IsRoot, IsTarget, UsesEachOnce, uses, handed_on, answered}
 use Rattle.hpx_value.proofs.Uses.{used_few}
 use Rattle.hpx_value.proofs.Kept.{length-hand_slots, length-conts_from}

@@ -1,5 +1,5 @@
 -- What holds of all nodes, whatever memory they have, and what jobs are out.
-use Rattle.std.proofs.Common.{ℕ, zero, suc, List, [], ◌∷◌, ◌++◌, ◌≡◌, ◌<◌, ◌≢◌, ◌+◌, add-one, Some, refl, sym, ap, ◌∙◌, subst, arith, length, map, take, set, get_or}
+use Rattle.std.proofs.Common.{ℕ, zero, suc, List, [], ◌∷◌, ◌++◌, ◌≡◌, ◌<◌, ◌+◌, add-one, Some, refl, sym, ap, ◌∙◌, subst, arith, length, map, take, set, get_or}
 use Rattle.std.specs.List.{slice_get, remove, AllByRecursion}
 use Rattle.hpx_root_journal.specs.Data.{Act}
 use Rattle.hpx_root_journal.specs.declared.entry.Entry.{Entry}

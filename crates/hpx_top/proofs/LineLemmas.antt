@@ -1,9 +1,8 @@
 -- Lines of a session, one behind the others: what is fed, what is written, and what is told.
 use Rattle.std.specs.Prelude.{ℤ, pos, ◌||◌, ◌&&◌, not, if◌then◌else◌}
-use Rattle.std.specs.List.{concat, list_any, AllByRecursion, slice_get}
-use Rattle.std.proofs.Common.{ℕ, suc, Bool, true, false, List, [], ◌∷◌, ◌++◌, ◌≡◌, ◌+◌, ◌<◌, ◌≤◌, length, drop, Option, Some, None, refl, sym, ap, ◌∙◌, subst, arith, append-nil, append_assoc}
-use Rattle.std.proofs.lemmas.List.{drop_at}
-use Rattle.std.proofs.lemmas.List.Folds.{list_any-append, concat-append}
+use Rattle.std.specs.List.{concat, list_any, AllByRecursion}
+use Rattle.std.proofs.Common.{ℕ, suc, Bool, true, false, List, [], ◌∷◌, ◌++◌, ◌≡◌, length, Option, Some, None, refl, sym, ap, ◌∙◌, subst, arith, append-nil, append_assoc}
+use Rattle.std.proofs.lemmas.List.Folds.{list_any-append}
 use Rattle.hpx_root_journal.specs.declared.entry.Entry.{Entry}
 use Rattle.hpx_root_journal.specs.declared.entry.Event.{Event}
 use Rattle.hpx_root_journal.specs.declared.entry.Event.TheVariants.{Line, Fire, Done, Sent, Print, Out, In}
@@ -12,7 +11,7 @@ use Rattle.hpx_root_journal.specs.Whole.{Space, FeedsNothing, run}
 use Rattle.hpx_root_journal.specs.Pool.{prints_of}
 use Rattle.hpx_root_journal.specs.Sessions.{IsSession, BeginsWith, entries_of, shown}
 use Rattle.hpx_ports.specs.Told.{preceded, followed}
-use Rattle.hpx_top.specs.PlainText.{IsFront, is_long, is_quit, are_quit, before_quit, fed, line_text, after_line, after_lines, command_text, number_after, lines_text, text_of, prompt, commands, first_of, others_of, written}
+use Rattle.hpx_top.specs.PlainText.{IsFront, is_long, is_quit, are_quit, before_quit, fed, line_text, after_line, after_lines, command_text, lines_text, text_of, prompt, commands, first_of, others_of, written}
 use Rattle.hpx_top.specs.Console.{words_of, command_of, bad_command}
 use Rattle.hpx_top.specs.Session.{lines_by, lines_fed}
 

@@ -1,5 +1,5 @@
 -- Where nothing is to be done anywhere, the journal leaves nothing pending.
-use Rattle.std.proofs.Common.{ℕ, zero, suc, List, [], ◌∷◌, ◌++◌, ◌≡◌, ◌+◌, ◌<◌, Some, refl, sym, ap, ◌∙◌, subst, arith, length, length-append, map, take, Bool, true, false, IsTrue, Option, None, inl, inr}
+use Rattle.std.proofs.Common.{ℕ, zero, suc, List, [], ◌∷◌, ◌++◌, ◌≡◌, ◌+◌, ◌<◌, Some, refl, sym, ap, ◌∙◌, subst, arith, length, length-append, map, take, Bool, true, false, IsTrue, Option, inl, inr}
 use Rattle.std.specs.Prelude.{◌==◌, cond}
 use Rattle.std.specs.List.{slice_get, sum_by, count_by, find, AllByRecursion}
 use Rattle.std.proofs.lemmas.Bool.{cases_Bool}

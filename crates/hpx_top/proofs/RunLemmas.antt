@@ -1,13 +1,12 @@
 -- What a status says of how a session ended.
 use Rattle.std.specs.Prelude.{Result, Ok, Err, OnOk, IfErr, IfSome}
-use Rattle.std.proofs.Common.{ℕ, List, ◌≡◌, ◌⊎◌, Option, Some, None, refl, sym, ap, ◌∙◌, inl, inr, arith}
-use Rattle.hpx_root_journal.specs.declared.entry.Entry.{Entry}
+use Rattle.std.proofs.Common.{ℕ, List, ◌≡◌, ◌⊎◌, Option, Some, None, refl, ap, inl, inr, arith}
 use Rattle.hpx_top.specs.declared.session.SessionFault.{SessionFault}
 use Rattle.hpx_top.specs.declared.session.SessionFault.TheVariants.{Read, Write, Fabric, JournalFull, OutOfMemory, InputFull}
 use Rattle.hpx_top.specs.Places.{Places}
 use Rattle.hpx_top.specs.Session.{entries_in}
 use Rattle.hpx_top.specs.Ends.{IsBrokenOff, IsBrokenIn, IsEndedBy}
-use Rattle.hpx_top.specs.Statuses.{status_of, status_after}
+use Rattle.hpx_top.specs.Statuses.{status_after}
 
 -- status 0 comes of no fault
 pub ended_well : {T : Type 0} (r : Result T SessionFault) (P : Type 0) → status_after r ≡ 0 → OnOk r P → P

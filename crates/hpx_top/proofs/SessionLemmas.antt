@@ -2,26 +2,26 @@
 use Rattle.std.specs.Prelude.{pos, IfSome, ◌||◌, if◌then◌else◌}
 use Rattle.std.specs.Option.{option_map}
 use Rattle.std.specs.List.{concat, list_any, slice_split}
-use Rattle.std.proofs.Common.{ℕ, Bool, true, false, List, [], ◌∷◌, ◌++◌, ◌≡◌, ◌≢◌, ◌+◌, ◌<◌, ◌≤◌, ◌⊎◌, length, drop, Option, Some, None, refl, sym, ap, ◌∙◌, subst, inl, inr, arith, append-nil, append_assoc, length-append}
+use Rattle.std.proofs.Common.{ℕ, Bool, true, false, List, [], ◌∷◌, ◌++◌, ◌≡◌, ◌+◌, ◌<◌, ◌≤◌, ◌⊎◌, length, drop, Option, Some, None, refl, sym, ap, ◌∙◌, subst, inl, inr, arith, append-nil, append_assoc, length-append}
 use Rattle.std.proofs.lemmas.List.{drop_at}
 use Rattle.std.proofs.lemmas.List.Folds.{list_any-append}
 use Rattle.hpx_root_journal.specs.declared.entry.Entry.{Entry}
 use Rattle.hpx_root_journal.specs.Roots.{roots}
 use Rattle.hpx_root_journal.specs.Whole.{IsLegal, start, run}
 use Rattle.hpx_root_journal.specs.Pool.{prints_of, state_of}
-use Rattle.hpx_root_journal.specs.Sessions.{IsSession, IsSettled, BeginsWith, entries_of, shown}
+use Rattle.hpx_root_journal.specs.Sessions.{IsSession, IsSettled, entries_of, shown}
 use Rattle.hpx_root_journal.proofs.Plain.{session_plain, session_grows}
 use Rattle.hpx_root_journal.proofs.Boot.{boot_sound, boot_settled}
 use Rattle.hpx_parcel.specs.Reading.{parcel_of}
 use Rattle.hpx_ports.specs.Told.{preceded, followed}
 use Rattle.hpx_top.specs.Acts.{act_of}
 use Rattle.hpx_top.specs.Stands.{rules_of}
-use Rattle.hpx_top.specs.PlainText.{IsFront, is_long, is_quit, is_newline, lines_in, before_quit, fed, after_lines, line_text, lines_text, text_of, prompt, commands, written}
+use Rattle.hpx_top.specs.PlainText.{is_long, is_quit, is_newline, lines_in, before_quit, fed, after_lines, lines_text, text_of, prompt, commands, written}
 use Rattle.hpx_top.specs.Console.{bad_command}
 use Rattle.hpx_top.specs.Reader.{Reading, lines_left, input_left, bytes_left, TakesLine, TakesLong, TakesQuit, IsAtEnd, IsFull}
 use Rattle.hpx_top.specs.Session.{lines_fed, FeedsAtMost, WritesFront, FeedsLine, IsJournalOf, HandsOut, IsServing, IsCut, IsCutIn, IsOver, IsUnderWay, IsStopped}
 use Rattle.hpx_top.proofs.TextSession.{boot_stable, only_session, names_blind, session_text}
-use Rattle.hpx_top.proofs.LineLemmas.{followed_twice, followed_nothing, preceded_nothing, preceded_twice, lines_text_more, long_text, front_all, front_then, text_front, fed_short, fed_long, goes_on_more, goes_on_less, long_goes_on, lines_fed_append, block_line, session_lines, session_count, shown_more, entries_more, line_shown}
+use Rattle.hpx_top.proofs.LineLemmas.{followed_twice, preceded_nothing, preceded_twice, lines_text_more, long_text, front_all, text_front, fed_short, fed_long, goes_on_more, goes_on_less, long_goes_on, session_lines, session_count, shown_more, entries_more, line_shown}
 
 -- ---- the journal
 

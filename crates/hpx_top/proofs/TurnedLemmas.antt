@@ -1,5 +1,5 @@
 -- What nodes' calls answer, said of a turn.
-use Rattle.std.proofs.Common.{ℕ, zero, suc, List, [], ◌∷◌, ◌≡◌, Some, refl, subst, ap}
+use Rattle.std.proofs.Common.{ℕ, zero, suc, List, [], ◌∷◌, ◌≡◌, Some, refl, subst}
 use Rattle.std.specs.Prelude.{◌↔◌}
 use Rattle.std.specs.List.{slice_get}
 use Rattle.hpx_value.specs.declared.acts.Job.{Job}
@@ -9,7 +9,6 @@ use Rattle.hpx_root_journal.specs.declared.entry.Standing.{Standing}
 use Rattle.hpx_root_journal.specs.Whole.{Grows}
 use Rattle.hpx_top.specs.declared.parts.Finished.{Finished}
 use Rattle.hpx_top.specs.declared.parts.Finished.TheVariants.{Committed, NotRunning}
-use Rattle.hpx_top.specs.declared.turns.Turned.{Turned}
 use Rattle.hpx_top.specs.declared.turns.Turned.TheVariants as turned
 use Rattle.hpx_top.specs.Tables.{Tables}
 use Rattle.hpx_top.specs.Free.{IsFree, NoneIsFree}

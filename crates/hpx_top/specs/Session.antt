@@ -1,5 +1,5 @@
 -- How far a session has come: the lines that were handled, what was fed for them, and what was written.
-use Rattle.std.specs.Prelude.{ℕ, Bool, pos, true, false, Option, Some, None, IfSome, List, [], ◌∷◌, ◌++◌, ◌≡◌, ◌+◌, ◌<◌, ◌≤◌, ◌⊎◌, length, drop}
+use Rattle.std.specs.Prelude.{ℕ, Bool, pos, true, false, Option, Some, None, IfSome, List, [], ◌∷◌, ◌++◌, ◌≡◌, ◌+◌, ◌≤◌, ◌⊎◌, length, drop}
 use Rattle.std.specs.List.{concat, list_any}
 use Rattle.hpx_root_journal.specs.declared.entry.Entry.{Entry}
 use Rattle.hpx_root_journal.specs.declared.entry.Event.{Event}
@@ -10,7 +10,7 @@ use Rattle.hpx_root_journal.specs.Sessions.{IsSession, IsSettled, BeginsWith, en
 use Rattle.hpx_ports.specs.Told.{preceded, followed}
 use Rattle.hpx_root_journal.specs.Pool.{prints_of}
 use Rattle.hpx_top.specs.declared.session.SessionFault.{SessionFault}
-use Rattle.hpx_top.specs.declared.session.SessionFault.TheVariants.{Read, Write, Fabric, JournalFull, OutOfMemory, InputFull}
+use Rattle.hpx_top.specs.declared.session.SessionFault.TheVariants.{Read, Write, OutOfMemory, InputFull}
 use Rattle.hpx_top.specs.Acts.{act_of}
 use Rattle.hpx_top.specs.Places.{Places}
 use Rattle.hpx_top.specs.Sound.{IsQuiet}

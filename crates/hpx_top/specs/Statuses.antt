@@ -1,5 +1,5 @@
 -- What a run answers, and what it says of it.
-use Rattle.std.specs.Prelude.{ℕ, List, [], ◌∷◌, ◌++◌, ◌+◌, ◌==◌, ◌≡◌, ◌≢◌, ◌≤◌, codes, Result, Ok, Err, if◌then◌else◌}
+use Rattle.std.specs.Prelude.{ℕ, List, [], ◌∷◌, ◌++◌, ◌+◌, ◌==◌, ◌≢◌, ◌≤◌, codes, Result, Ok, Err, if◌then◌else◌}
 use Rattle.hpx_top.specs.declared.session.SessionFault.{SessionFault}
 use Rattle.hpx_top.specs.declared.session.SessionFault.TheVariants.{Read, Write, Fabric, JournalFull, OutOfMemory, InputFull}
 

@@ -1,4 +1,3 @@
-use Rattle.std.specs.Prelude.{Ok, Err}
 use Rattle.std.proofs.Common.{ℕ, [], ◌≡◌, ◌⊎◌, inl, inr, refl, sym, ap, ◌∙◌}
 use Rattle.hpx_top.specs.Statuses.{status_after}
 use Rattle.hpx_top.proofs.EndLemmas.{begun_nothing}

@@ -1,4 +1,4 @@
-use Rattle.std.proofs.Common.{ℕ, ◌≡◌, length, refl, ap, ◌∙◌, inl, inr, ◌∷◌}
+use Rattle.std.proofs.Common.{◌≡◌, refl, ap, ◌∙◌, inr, ◌∷◌}
 use Rattle.hpx_top.specs.Sound.{NoneRuns}
 use Rattle.hpx_top.proofs.ShowLemmas.{ok_there}
 use Rattle.hpx_top.proofs.FeedLemmas.{IsFed, fed_then, fed_once, fed_runs_none}

@@ -1,7 +1,6 @@
-use Rattle.std.proofs.Common.{◌≡◌, ◌+◌, ◌≤◌, [], Ok, Err, false, true, length, refl, sym, ap, ◌∙◌, arith, subst}
+use Rattle.std.proofs.Common.{Ok, Err, length, refl, sym, ap, ◌∙◌, arith, subst}
 use Rattle.hpx_top.specs.declared.session.SessionFault.TheVariants.{InputFull}
-use Rattle.hpx_top.specs.Reader.{bytes_left}
-use Rattle.hpx_top.specs.Session.{IsLegalAt, IsServing, IsCutBy, IsOver, IsStopped, IsUnderWay}
+use Rattle.hpx_top.specs.Session.{IsLegalAt}
 use Rattle.hpx_top.proofs.ShowLemmas.{if_err_from, err_of}
 use Rattle.hpx_top.proofs.SessionLemmas.{serving_start, under_start}
 use Rattle.hpx_top.proofs.FeedLemmas.{cut_write}

@@ -1,5 +1,5 @@
-use Rattle.std.proofs.Common.{◌≡◌, ◌<◌, sym, ap, ◌∙◌, length, refl, arith, subst}
-use Rattle.hpx_top.specs.Reader.{lines_left, input_left, TakesLine}
+use Rattle.std.proofs.Common.{length, refl}
+use Rattle.hpx_top.specs.Reader.{lines_left}
 use Rattle.hpx_top.proofs.ShowLemmas.{if_err_from}
 use Rattle.hpx_top.proofs.SessionLemmas.{serving_line, serving_long, cut_here, over_end, over_quit, under_prompt, under_long, stopped_full}
 use Rattle.hpx_top.proofs.FeedLemmas.{cut_write, cut_text}

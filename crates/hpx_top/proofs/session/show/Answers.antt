@@ -1,5 +1,5 @@
 use Rattle.std.proofs.Common.{◌<◌, length, arith}
-use Rattle.hpx_top.proofs.ShowLemmas.{any_err, up_to_start, up_to_more, up_to_front, up_to_end}
+use Rattle.hpx_top.proofs.ShowLemmas.{any_err, up_to_more, up_to_front}
 use Rattle.hpx_top.proofs.session.show.Goals as goal
 
 pub returns-in_err-show_entry-clause-front : goal.returns-in_err-show_entry-clause-front

@@ -4,7 +4,7 @@ use Rattle.hpx_top.specs.Tables.{Tables}
 use Rattle.hpx_top.specs.Changes.{committed}
 use Rattle.hpx_top.specs.Jobs.{IsRunning}
 use Rattle.hpx_top.proofs.SoundLemmas.{stands_own, sound_inner, inside_of}
-use Rattle.hpx_top.proofs.TurnLemmas.{IfOk-map, IfErr-map, here_at, grows_at, same_at, got_at, stops_at, finish_inside, finish_unfed, finish_few}
+use Rattle.hpx_top.proofs.TurnLemmas.{IfOk-map, IfErr-map, here_at, same_at, got_at, stops_at, finish_inside, finish_unfed, finish_few}
 use Rattle.hpx_top.proofs.locals.Locals.finish.Goals as goal
 
 pub finish-requires-clause-stands : goal.finish-requires-clause-stands

@@ -1,8 +1,7 @@
 use Rattle.std.proofs.Common.{◌∙◌, subst}
-use Rattle.hpx_top.specs.Tables.{Tables}
 use Rattle.hpx_top.specs.Jobs.{Starts}
 use Rattle.hpx_top.specs.Sound.{IsStuck}
-use Rattle.hpx_top.proofs.SoundLemmas.{WritesInside, stands_own, sound_inner, inside_of}
+use Rattle.hpx_top.proofs.SoundLemmas.{stands_own, sound_inner, inside_of}
 use Rattle.hpx_top.proofs.TurnLemmas.{IfOk-map, IfErr-map, IfSome-map, IfNone-map, IfOk-both, IfNone-both, here_at, grows_at, same_at, got_at, at_both, begins_at, fire_inside, fire_unfed, fire_few}
 use Rattle.hpx_top.proofs.locals.Locals.fire.Goals as goal
 

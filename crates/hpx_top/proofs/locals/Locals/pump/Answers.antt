@@ -1,4 +1,4 @@
-use Rattle.std.proofs.Common.{subst, ◌≡◌, List, [], ◌∷◌, refl, sym, ap, ◌∙◌}
+use Rattle.std.proofs.Common.{subst, ◌≡◌, [], refl, sym, ap, ◌∙◌}
 use Rattle.hpx_top.specs.Tables.{Tables}
 use Rattle.hpx_top.specs.Sound.{SendsOne}
 use Rattle.hpx_top.proofs.SoundLemmas.{stands_own, sound_out, sends_of}

@@ -1,4 +1,4 @@
-use Rattle.std.proofs.Common.{◌≡◌, ◌<◌, length, refl, sym, ◌∙◌, subst, arith}
+use Rattle.std.proofs.Common.{◌≡◌, ◌<◌, length, sym, ◌∙◌, subst, arith}
 use Rattle.hpx_value.specs.declared.acts.Job.{Job}
 use Rattle.hpx_top.specs.Jobs.{IsRunning}
 use Rattle.hpx_top.specs.Sound.{Stops}

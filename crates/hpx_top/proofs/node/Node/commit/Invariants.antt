@@ -1,4 +1,4 @@
-use Rattle.std.proofs.Common.{◌≡◌, ◌≤◌, ◌<◌, ◌+◌, ◌++◌, ◌^◌, length, []}
+use Rattle.std.proofs.Common.{◌≡◌, ◌≤◌, ◌<◌, ◌+◌, ◌++◌, ◌^◌, length}
 use Rattle.std.specs.List.{AllByRecursion}
 use Rattle.hpx_top.specs.Fit.{IsFitDue}
 use Rattle.hpx_top.specs.Changes.{owed}

@@ -1,6 +1,5 @@
 use Rattle.std.proofs.Common.{ℕ, true, ◌≡◌, ◌<◌, nat_eq, refl, ◌+◌, arith}
 use Rattle.std.proofs.lemmas.Bool.Decides.{nat_tests}
-use Rattle.hpx_top.specs.Reader.{Reading}
 use Rattle.hpx_top.proofs.ReaderLemmas.{has_read-more}
 use Rattle.hpx_top.proofs.reader.LineReader.read_more.Goals as goal
 

@@ -1,4 +1,3 @@
-use Rattle.std.proofs.Common.{◌≡◌, ◌∙◌, sym, arith}
 use Rattle.hpx_top.proofs.SoundLemmas.{sound_legal}
 use Rattle.hpx_top.proofs.TurnLemmas.{IfOk-both}
 use Rattle.hpx_top.proofs.QuietLemmas.{quiet_settled, idle_quiet, laws_root}

@@ -1,4 +1,4 @@
-use Rattle.std.proofs.Common.{◌<◌, ◌≡◌, length, arith}
+use Rattle.std.proofs.Common.{◌<◌, ◌≡◌, length}
 use Rattle.hpx_top.specs.Jobs.{IsRunning}
 use Rattle.hpx_top.proofs.SoundLemmas.{get_some, sound_legal}
 use Rattle.hpx_top.proofs.TurnedLemmas.{finish_wrote, finish_ran, finish_not_running}
