@@ -1,0 +1,6 @@
+pub mod Values
+pub mod Requests
+pub mod Contents
+pub mod Effects
+pub mod Tables
+pub mod Outcomes
