@@ -84,11 +84,10 @@ abbrev pub are_inputs : {V : Type 0} → ℕ → List (Given V) → Bool
 are_inputs n [] = true
 are_inputs n (x ∷ xs) = nat_lt x.slot n && (is_none (input_of x.slot xs) && are_inputs n xs)
 
--- a code that may be sent, and from 1 to 16 inputs
+-- a code that may be sent, and an input at least
 abbrev pub is_dataflow : ℕ → ℕ → Bool
 is_dataflow code inputs =
-    nat_lt code 65536 && (nat_le 1 inputs && (nat_le inputs 16
-    && (if code == 1 then false else if code == 3 then false else if code == 4 then false else true)))
+    nat_le 1 inputs && (if code == 1 then false else if code == 3 then false else if code == 4 then false else true)
 
 -- each value that was too long takes 2 bytes as a fault; a waiting answer is there only while an input lacks
 abbrev pub is_given : {V : Type 0} → Sort V → ℕ → ℕ → List (Given V) → Bool
@@ -104,7 +103,7 @@ is_channel k waiting closed kept =
 
 -- a latch where somebody waits is above 0
 abbrev pub is_latch : ℕ → ℕ → Bool
-is_latch waiting left = nat_le waiting 100 && (nat_le left 1000000 && ((waiting == 0) || nat_le 1 left))
+is_latch waiting left = nat_le waiting 100 && ((waiting == 0) || nat_le 1 left)
 
 -- ---- what the values of a state show
 
@@ -132,9 +131,18 @@ pairs_in k [] = Some []
 pairs_in k (v ∷ []) = None
 pairs_in k (v ∷ w ∷ vs) = both (pair_of k v w) (pairs_in k vs)
 
+-- a number up to so many
+abbrev pub count_in : ℕ → ℤ → Option ℕ
+count_in most (pos n) = if nat_le n most then Some n else None
+count_in most (negsuc n) = None
+
 -- the number of an input and a value; there are at most 16
+abbrev pub given_at : {V : Type 0} → Option ℕ → V → Option (Given V)
+given_at (Some slot) value = Some (record { slot = slot; value = value })
+given_at None value = None
+
 abbrev pub given_by : {V : Type 0} → Look → V → Option (Given V)
-given_by (Int (pos slot)) value = if nat_lt slot 16 then Some (record { slot = slot; value = value }) else None
+given_by (Int z) value = given_at (count_in 15 z) value
 given_by a value = None
 
 abbrev pub given_of : {V : Type 0} → Sort V → V → V → Option (Given V)
@@ -162,12 +170,21 @@ abbrev pub row_in : {V : Type 0} → Look → Option (Content V)
 row_in (Ints numbers) = provided (nat_le 1 (length numbers) && nat_le (length numbers) 1024) (Row numbers)
 row_in _ = None
 
+abbrev pub latch_at : {V : Type 0} → ℕ → Option ℕ → Option (Content V)
+latch_at waiting (Some left) = provided (is_latch waiting left) (Latch left)
+latch_at waiting None = None
+
 abbrev pub latch_in : {V : Type 0} → ℕ → Look → Option (Content V)
-latch_in waiting (Int (pos left)) = provided (is_latch waiting left) (Latch left)
+latch_in waiting (Int z) = latch_at waiting (count_in 1000000 z)
 latch_in waiting _ = None
 
+-- fewer wait than are to arrive
+abbrev pub barrier_at : {V : Type 0} → ℕ → Option ℕ → Option (Content V)
+barrier_at waiting (Some n) = provided (nat_lt waiting n) (Barrier n)
+barrier_at waiting None = None
+
 abbrev pub barrier_in : {V : Type 0} → ℕ → Look → Option (Content V)
-barrier_in waiting (Int (pos n)) = provided (nat_lt waiting n && nat_le n 100) (Barrier n)
+barrier_in waiting (Int z) = barrier_at waiting (count_in 100 z)
 barrier_in waiting _ = None
 
 abbrev pub channel_in : {V : Type 0} → Sort V → ℕ → Look → List V → Option (Content V)
@@ -187,9 +204,12 @@ abbrev pub flow_in : {V : Type 0} → Sort V → ℕ → ℕ → ℕ → List V 
 flow_in k waiting code inputs (v ∷ []) = started_in waiting code inputs (k.look v)
 flow_in k waiting code inputs vs = inputs_in k waiting code inputs (given_in k vs)
 
+abbrev pub dataflow_at : {V : Type 0} → Sort V → ℕ → Option ℕ → Option ℕ → List V → Option (Content V)
+dataflow_at k waiting (Some code) (Some inputs) vs = if is_dataflow code inputs then flow_in k waiting code inputs vs else None
+dataflow_at k waiting _ _ vs = None
+
 abbrev pub dataflow_in : {V : Type 0} → Sort V → ℕ → Look → Look → List V → Option (Content V)
-dataflow_in k waiting (Int (pos code)) (Int (pos inputs)) vs =
-    if is_dataflow code inputs then flow_in k waiting code inputs vs else None
+dataflow_in k waiting (Int code) (Int inputs) vs = dataflow_at k waiting (count_in 65535 code) (count_in 16 inputs) vs
 dataflow_in k waiting a b vs = None
 
 -- values that begin with one, or with two

@@ -3,7 +3,7 @@ use Rattle.std.specs.Prelude.{ℕ, zero, suc, ℤ, pos, negsuc, Bool, true, fals
 use Rattle.std.specs.Str.{bytes_eq}
 use Rattle.hpx_calls.specs.Values.{Value, Nothing, Flag, Int, Text, Ref, Fault, Ints, Look, Sort, size, is_small, is_number_or_text}
 use Rattle.hpx_calls.specs.Requests.{Request, Move, Where, Set, New, Register, Resolve, Unregister, Keys, Count, Add, Query, Reset, Step, Get, Put, PutAt, Close, Down, Wait, Arrive, Other, is_key}
-use Rattle.hpx_calls.specs.Contents.{Pair, Given, Content, Table, Maker, Size, Number, Row, Promise, Dataflow, Started, Channel, Latch, Barrier, Unreadable, given_size, input_of, precedes}
+use Rattle.hpx_calls.specs.Contents.{Pair, Given, Content, Table, Maker, Size, Number, Row, Promise, Dataflow, Started, Channel, Latch, Barrier, Unreadable, count_in, given_size, input_of, precedes}
 use Rattle.hpx_calls.specs.Effects.{Effect, Silent, Answers, Waits, Frees, Starts, Hands, Moves, Makes, Called}
 
 -- the content afterwards, and what is done
@@ -75,8 +75,12 @@ makes_bare k x [] = leaves Maker (Makes x)
 makes_bare k x _ = wrong k Maker
 
 -- a number from 1 to so many
+abbrev pub makes_at : {V : Type 0} → Sort V → (ℕ → Content V) → Option ℕ → Called V
+makes_at k f (Some n) = if nat_le 1 n then leaves Maker (Makes (f n)) else wrong k Maker
+makes_at k f None = wrong k Maker
+
 abbrev pub makes_counted : {V : Type 0} → Sort V → ℕ → (ℕ → Content V) → Look → Called V
-makes_counted k most f (Int (pos n)) = if nat_le 1 n && nat_le n most then leaves Maker (Makes (f n)) else wrong k Maker
+makes_counted k most f (Int z) = makes_at k f (count_in most z)
 makes_counted k most f _ = wrong k Maker
 
 -- from 1 to 1,024 numbers

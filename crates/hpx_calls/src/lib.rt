@@ -4,4 +4,5 @@
 pub mod codes;
 pub mod content;
 pub mod effect;
+pub mod read;
 pub mod request;

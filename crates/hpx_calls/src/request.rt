@@ -203,7 +203,7 @@ fn worded(
 }
 
 /// Whether a text can be a key.
-fn is_key(text: &Text) -> bool
+pub fn is_key(text: &Text) -> bool
     ensures { result ≡ is_key text.now }
 {
     1 <= text.len() && text.len() <= MOST_KEY
