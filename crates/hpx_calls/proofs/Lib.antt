@@ -1,3 +1,4 @@
 pub mod Layouts
 pub mod Numbers
 pub mod Fronts
+pub mod SortsLemmas

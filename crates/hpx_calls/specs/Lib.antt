@@ -4,3 +4,4 @@ pub mod Contents
 pub mod Effects
 pub mod Tables
 pub mod Outcomes
+pub mod Sorts
