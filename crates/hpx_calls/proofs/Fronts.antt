@@ -1,6 +1,6 @@
 -- Lists read from their front, one after the other.
 use Rattle.std.specs.Prelude.{ℕ, zero, suc, Bool, true, false, cond, nat_lt, List, [], ◌∷◌, ◌++◌, ◌≡◌, ◌+◌, ◌-◌, ◌<◌, ◌≤◌, ◌==◌, ◌||◌, ◌&&◌, Option, Some, None, Result, Ok, Err, IfOk, length, map, drop, take, refl}
-use Rattle.std.proofs.Common.{ap, append_assoc, sym, ◌∙◌, arith, get_or}
+use Rattle.std.proofs.Common.{ap, append_assoc, sym, subst, ◌∙◌, arith, get_or}
 use Rattle.std.proofs.lemmas.List.{append-nil, take_rest}
 use Rattle.hpx_value.specs.declared.value.Value.{Value}
 use Rattle.hpx_calls.specs.Values.{Sort, spelled, shifted, size}
@@ -94,3 +94,8 @@ many_told code by m waits all args slice first r e p q h g told =
     ok_is r _ _ (ap (λ n. request_of spelled code waits (map (shifted n) all)) (sym e) ∙ ap (λ vs. request_of spelled code waits (map (shifted by) vs)) (sym p)
     ∙ many_asked code by waits args first h g ∙ ap (λ vs. asks_many code (spelled.look (shifted by first)) (map (shifted by) (drop 1 vs))) (p ∙ sym q)
     ∙ ap (λ vs. asks_many code (spelled.look (shifted by first)) (map (shifted by) vs)) (sym (take_rest slice 1))) told
+
+-- what holds of a value holds of the `Ok` that is it
+pub ok_holds : {A E : Type 0} (P : A → Type 0) (r : Result A E) (x : A) → P x → IfOk r (λ q. q ≡ x) → IfOk r P
+ok_holds P (Ok a) x p h = subst P (sym h) p
+ok_holds P (Err z) x p h = h

@@ -2,3 +2,4 @@ pub mod Layouts
 pub mod Numbers
 pub mod Fronts
 pub mod SortsLemmas
+pub mod Told

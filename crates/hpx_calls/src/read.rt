@@ -1,10 +1,11 @@
 //! What states show.
-ghost use Rattle.std.specs.Prelude.{◌≡◌, ◌≤◌, ◌+◌, ◌*◌, ◌^◌, IfOk, MatchOption, length, nat_le, option_copied};
+ghost use Rattle.std.specs.Prelude.{◌≡◌, ◌≤◌, ◌+◌, ◌*◌, ◌^◌, ℕ, IfOk, MatchOption, length, nat_le, option_copied};
 ghost use Rattle.std.specs.List.{list_all};
 ghost use Rattle.hpx_calls.specs.Requests.{is_key};
 ghost use Rattle.hpx_calls.specs.Values.{is_small, size, spelled};
 ghost use Rattle.hpx_calls.specs.Contents.{are_inputs, barrier_in, channel_in, control_in, count_in, dataflow_in, flow_in, given_in, given_of, given_size, input_of, is_channel, is_dataflow, is_given, is_table, latch_in, of_first, of_one, of_two, pair_of, pairs_in, precedes, promise_in, resting_in, rises, row_in, size_in, table_in};
 ghost use Rattle.hpx_calls.specs.Outcomes.{content_in};
+ghost use Rattle.hpx_calls.specs.Sorts.{IsControl, IsNaming};
 
 use crate::codes::{ACCUMULATOR, BARRIER, CHANNEL, DATAFLOW, LATCH, PARTITION, PROMISE};
 use crate::content::{Content, Given, Pair};
@@ -65,6 +66,33 @@ pub fn content_in(
         Some(content) => Ok(content),
         None => Ok(Content::Unreadable(state.values.duplicate(alloc)?)),
     }
+}
+
+/// What a state of a control object shows, whatever the number of localities.
+pub fn control_content_in(
+    alloc: Global,
+    kind: u32,
+    state: &State,
+) -> Result<Content<Value>, OutOfMemory>
+    requires { 32 ≤ kind }
+    ensures content { IfOk result (λ content. (n : ℕ) → content ≡ content_in n kind state.now) }
+    ensures control { IfOk result IsControl }
+{
+    content_in(alloc, 1, kind, state)
+}
+
+/// What a state of a name service shows, at so many localities.
+pub fn naming_content_in(
+    alloc: Global,
+    localities: u32,
+    kind: u32,
+    state: &State,
+) -> Result<Content<Value>, OutOfMemory>
+    requires { kind ≤ 15 }
+    ensures content { IfOk result (λ content. content ≡ content_in localities kind state.now) }
+    ensures naming { IfOk result IsNaming }
+{
+    content_in(alloc, localities, kind, state)
 }
 
 /// A content of a kind where nobody waits.
