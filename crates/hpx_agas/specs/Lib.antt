@@ -1,4 +1,3 @@
-pub mod Credits
 pub mod Records
 pub mod Queues
 pub mod Codes

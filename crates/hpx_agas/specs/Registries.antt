@@ -1,7 +1,7 @@
 -- The records that a home keeps, and what waits for them.
 use Rattle.std.specs.Prelude.{ℕ, ◌≤◌, ◌<◌, ◌≡◌, ◌≢◌, ◌+◌, ◌-◌, ◌^◌, ◌==◌, List, [], length, Option, Some, None, is_some, nat_lt, IsSomeAnd, if◌then◌else◌, refl}
 use Rattle.std.specs.Option.{option_map_or, option_and_then}
-use Rattle.hpx_value.specs.Ids.{Id, bare_id}
+use Rattle.hpx_value.specs.Ids.{Id, bare_id, credit}
 use Rattle.hpx_value.specs.Profiles.{IsValid}
 use Rattle.hpx_value.specs.declared.profile.Profile.{Profile}
 use Rattle.hpx_agas.specs.declared.record.Record.{Record}
@@ -11,7 +11,6 @@ use Rattle.hpx_agas.specs.declared.records.Left.TheVariants.{Alive, Dead}
 use Rattle.hpx_agas.specs.declared.records.Granted.{Granted}
 use Rattle.hpx_agas.specs.declared.records.Granted.TheVariants.{Limit, Yes}
 use Rattle.hpx_agas.specs.Codes.{profile_code, record_code}
-use Rattle.hpx_agas.specs.Credits.{credit}
 use Rattle.hpx_agas.specs.Records.{find_record, Rises}
 use Rattle.hpx_agas.specs.Queues.{items_of, waiting_code}
 use Rattle.std.specs.Coded.{Coded, code_by, coded×, coded_ℕ, coded_list}

@@ -3,7 +3,6 @@ ghost use Rattle.std.specs.Option.{option_map_or};
 ghost use Rattle.hpx_value.specs.Ids.{Id, same_object, bare_id};
 ghost use Rattle.hpx_value.specs.Profiles.{IsValid};
 ghost use Rattle.hpx_agas.specs.declared.record.Record.{Record};
-ghost use Rattle.hpx_agas.specs.Credits.{credit};
 ghost use Rattle.hpx_agas.specs.declared.record.Waiting.{Waiting};
 ghost use Rattle.hpx_agas.specs.Queues.{waits};
 ghost use Rattle.hpx_agas.specs.Registries.{record_of, queue_of, newborn, left_of, lowered, granted_of, asked, count_of, move_of, Covers, IsFree, IsMovingTo, IsSound};
@@ -76,18 +75,6 @@ impl<Q> Model for Records<Q> {
     ghost invariant = { λ r. IsKept r.here r.profile r.births r.table.records r.queues.waiting };
 }
 
-/// What an id is worth: `2^log`, or nothing without a credit.
-fn credit(gid: Gid) -> u128
-    ensures value { result ≡ credit gid }
-    ensures bound { result ≤ 2 ^ 31 }
-{
-    let _upper = gid.msb;
-    match gid.log() {
-        Some(log) => 1u128 << log as u32,
-        None => 0,
-    }
-}
-
 impl<Q> Records<Q> {
     /// No records.
     pub fn new(alloc: Global, profile: Profile, here: u32) -> Records<Q>
@@ -145,6 +132,13 @@ impl<Q> Records<Q> {
         gid.with_log(self.profile.credit_log)
     }
 
+    /// How many births there were, those of dead objects included.
+    pub fn births(&self) -> u32
+        ensures { result ≡ self.now.births }
+    {
+        self.births
+    }
+
     /// How many live records there are.
     pub fn number(&self) -> u32
         ensures value { result ≡ length self.now.records }
@@ -198,21 +192,21 @@ impl<Q> Records<Q> {
         self.table.put(made);
     }
 
-    /// Takes back the credit of an id. A record whose whole credit has come back is gone. It takes no memory.
+    /// Takes back the credit of an id. A record whose whole credit has come back is gone, and what waits for it
+    /// with it: see to `queued` before. It takes no memory.
     pub fn back(&mut self, gid: Gid) -> Result<Left, Strange>
-        requires credit { IsSome gid.log }
-        requires unqueued { count_of self.old gid ≡ credit gid → queue_of self.old gid ≡ [] }
+        requires { IsSome gid.log }
         ensures strange { IsErr result ↔ ¬ Covers (record_of self.old gid) gid }
         ensures left { IfOk result (λ left. IfSome (record_of self.old gid) (λ r. left ≡ left_of r gid)) }
         ensures record { OnOk result (IfSome (record_of self.old gid) (λ r. record_of self.new gid ≡ lowered r gid)) }
         ensures others { (o : Id) → same_object gid o ≡ false → record_of self.new o ≡ record_of self.old o }
-        ensures queues { (o : Id) → queue_of self.new o ≡ queue_of self.old o }
+        ensures queues { (o : Id) → IsSome (record_of self.new o) → queue_of self.new o ≡ queue_of self.old o }
         ensures rest { self.new ≡ record self.old { records = self.new.records; spare = self.new.spare } }
         ensures err { OnErr result (self.new ≡ self.old) }
         ensures spare { self.old.spare ≤ self.new.spare }
     {
         let record = self.table.find(gid).ok_or(Strange)?;
-        let credit = credit(gid);
+        let credit = gid.credit();
         if credit > record.count {
             return Err(Strange);
         }
@@ -244,7 +238,7 @@ impl<Q> Records<Q> {
         ensures spare { self.old.spare ≤ self.new.spare }
     {
         let record = self.table.find(gid).ok_or(Strange)?;
-        if credit(gid) > record.count {
+        if gid.credit() > record.count {
             return Err(Strange);
         }
         let log = self.profile.credit_log;

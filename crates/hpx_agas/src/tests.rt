@@ -87,9 +87,6 @@ fn back(
     requires { log ≤ 9 }
     ensures { records.new.births ≡ records.old.births }
 {
-    if records.queued(gid) > 0 {
-        return Ok(());
-    }
     let credit = CREDITS[log as usize];
     let answer = records.back(gid.with_log(log));
     let place = match plain.at(gid.number()) {
@@ -225,6 +222,7 @@ fn step(
 
 // Whether the records are what the list says.
 fn compare(rt: &impl Abort, records: &Records<u64>, plain: &Plain) {
+    assert_eq!(rt; records.births() as u64, plain.births);
     assert_eq!(rt; records.number() as usize, plain.lines.len());
     for number in 0..30 {
         let gid = object(number);

@@ -67,7 +67,25 @@ impl Cache {
         ensures none { IfNone result (self.new ≡ self.old) }
         ensures size { self.new.size ≡ self.old.size }
     {
-        self.items.get(&key_of(gid)).copied()
+        let place = self.place(gid);
+        self.move_to_front(gid);
+        place
+    }
+
+    /// Where an object was last said to be; no entry moves.
+    fn place(&self, gid: Gid) -> Option<u32>
+        ensures { result ≡ lookup (same_object gid) self.now.entries }
+    {
+        self.items.peek(&key_of(gid)).copied()
+    }
+
+    /// Makes an object the latest, if it has an entry.
+    fn move_to_front(&mut self, gid: Gid)
+        ensures some { IfSome (lookup (same_object gid) self.old.entries) (λ place. self.new.entries ≡ (bare gid, place) ∷ remove_entry (same_object gid) self.old.entries) }
+        ensures none { IfNone (lookup (same_object gid) self.old.entries) (self.new ≡ self.old) }
+        ensures size { self.new.size ≡ self.old.size }
+    {
+        self.items.promote(&key_of(gid));
     }
 
     /// Learns where an object is. The entry that was not used for longest leaves a full cache.

@@ -1,2 +1,1 @@
-pub mod Credits
 pub mod Tables

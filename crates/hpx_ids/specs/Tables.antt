@@ -1,8 +1,7 @@
 -- The ids that are held, by key.
 use Rattle.std.specs.Prelude.{ℕ, Bool, true, false, ◌-◌, ◌≤◌, ◌≡◌, List, sum_by, Option, Some, None, IsSomeAnd, slice_index_or, if◌then◌else◌}
 use Rattle.std.specs.Option.{option_map}
-use Rattle.hpx_value.specs.Ids.{Id, bare}
-use Rattle.hpx_ids.specs.Credits.{credit_for}
+use Rattle.hpx_value.specs.Ids.{Id, bare, same_object, credit}
 use Rattle.hpx_ids.specs.declared.held.Held.{Held}
 use Rattle.hpx_ids.specs.declared.held.Owner.{Owner}
 
@@ -18,6 +17,10 @@ entry t e = slice_index_or t.slots e None
 -- an entry that is not asked for
 abbrev pub adopted : Id → Owner → Held
 adopted id owner = record { gid = id; owner = owner; asking = false }
+
+-- what an id is worth to an object
+abbrev pub credit_for : Id → Id → ℕ
+credit_for object id = (if same_object object id then credit id else 0)
 
 -- what an entry holds of an object: nothing while it is asked for
 abbrev pub credit_at : Id → Option Held → ℕ

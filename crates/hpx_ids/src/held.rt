@@ -4,6 +4,9 @@ use hpx_value::memory::OutOfMemory;
 use std::alloc::Global;
 
 /// Who keeps an id: an object, by its state, or an action, by the place of its origin and its number.
+///
+/// Owners are equal where all of their fields are, the credit of an object's id included. So an object stands under its
+/// bare id, at `adopt` and at `of_owner`.
 #[derive(Clone, Copy, Debug, PartialEq, Eq)]
 pub enum Owner {
     Object(Gid),

@@ -2,21 +2,17 @@ ghost use Rattle.std.specs.Prelude.{◌≡◌, ◌≢◌, ◌≤◌, ◌+◌, �
 ghost use Rattle.std.specs.Option.{option_map};
 ghost use Rattle.std.specs.List.Sorted.{IsStrictlyIncreasing};
 ghost use Rattle.hpx_value.specs.Ids.{Id, bare, same_object};
-ghost use Rattle.hpx_ids.specs.Credits.{credit, credit_for};
-ghost use Rattle.hpx_ids.specs.Tables.{entry, adopted, asked, shown, half, CanSplit, IsIdle, IsSplittable, IsSpent, AsksFor, IsKeptBy, credit_at, credit_sum};
+ghost use Rattle.hpx_ids.specs.Tables.{entry, adopted, asked, shown, half, CanSplit, IsIdle, IsSplittable, IsSpent, AsksFor, IsKeptBy, credit_for, credit_at, credit_sum};
 
 use crate::held::{Held, Owner};
 use hpx_value::exact::Exact;
 use hpx_value::gid::Gid;
-use hpx_value::items::Items;
+use hpx_value::items::Keys;
 use hpx_value::memory::OutOfMemory;
 use slab::Slab;
 use std::alloc::Global;
 use std::marker::Model;
 use thiserror::Error;
-
-/// Keys of a table.
-pub type Keys = Items<usize>;
 
 /// The entry does not ask for this object.
 #[derive(Clone, Copy, Debug, PartialEq, Eq, Error)]
@@ -39,18 +35,6 @@ impl Model for Ids {
     ghost Value = { Table };
 
     ghost view = { λ s. record { slots = s.table.slots; spare = s.table.capacity - slab_len s.table } };
-}
-
-/// What an id is worth: `2^log`, or nothing without a credit.
-fn credit(gid: Gid) -> u128
-    ensures value { result ≡ credit gid }
-    ensures bound { result ≤ 2 ^ 31 }
-{
-    let _upper = gid.msb;
-    match gid.log() {
-        Some(log) => 1u128 << log as u32,
-        None => 0,
-    }
 }
 
 /// Half of an id.
@@ -236,7 +220,7 @@ impl Ids {
         match self.table.get(e) {
             Some(held) => {
                 if !held.asking && gid.names_same(held.gid) {
-                    credit(held.gid)
+                    held.gid.credit()
                 } else {
                     0
                 }

@@ -1,6 +1,7 @@
 use crate::held::{Held, Owner};
-use crate::ids::{Ids, Keys, NotAsked};
+use crate::ids::{Ids, NotAsked};
 use hpx_value::gid::Gid;
+use hpx_value::items::Keys;
 use std::alloc::Global;
 use std::process::Abort;
 use std::test::Fail;

@@ -3,34 +3,9 @@ use Rattle.std.proofs.Common.{◌≡◌, ℕ, ◌+◌, ◌-◌, ◌*◌, ◌/◌
 use Rattle.std.specs.Prelude.{IfSome, IfNone, if◌then◌else◌}
 use Rattle.std.specs.Option.{ForSome}
 use Rattle.std.proofs.lemmas.Bool.{eqb-true, eq-eqb, lt-ltb, ltb-true, and_from, and_parts}
-use Rattle.hpx_value.specs.Ids.{Id, IsId, upper_half, id_in, log_in, credit_bits}
+use Rattle.hpx_value.specs.Ids.{Id, IsId, upper_half, id_in, credit_bits}
+use Rattle.hpx_value.proofs.Halves.{id_back}
 use Rattle.hpx_parcel.specs.Reading.{is_id, id_of}
-
-log_none : (h k : ℕ) → k < 2 ^ 20 → log_in ((h + 1) * 2 ^ 32 + 0 + k * 2 + 1) ≡ None
-log_none h k kind =
-    let bit : ((h + 1) * 2 ^ 32 + 0 + k * 2 + 1) / 2 ^ 30 % 2 ≡ 0 = omega arith in
-    rw bit refl
-
-log_some : (h k log : ℕ) → k < 2 ^ 20 → log ≤ 31 → log_in ((h + 1) * 2 ^ 32 + (2 ^ 30 + log * 2 ^ 24) + k * 2 + 1) ≡ Some log
-log_some h k log kind few =
-    let bit : ((h + 1) * 2 ^ 32 + (2 ^ 30 + log * 2 ^ 24) + k * 2 + 1) / 2 ^ 30 % 2 ≡ 1 = omega arith in
-    let bits : ((h + 1) * 2 ^ 32 + (2 ^ 30 + log * 2 ^ 24) + k * 2 + 1) / 2 ^ 24 % 32 ≡ log = omega arith in
-    rw (bit, bits) refl
-
-log_back : (h k : ℕ) (log : Option ℕ) → k < 2 ^ 20 → ForSome log (λ l. l ≤ 31) → log_in ((h + 1) * 2 ^ 32 + credit_bits log + k * 2 + 1) ≡ log
-log_back h k None kind few = log_none h k kind
-log_back h k (Some log) kind few = log_some h k log kind (few log refl)
-
-home_back : (h k : ℕ) (log : Option ℕ) → k < 2 ^ 20 → ForSome log (λ l. l ≤ 31) → ((h + 1) * 2 ^ 32 + credit_bits log + k * 2 + 1) / 2 ^ 32 - 1 ≡ h
-home_back h k None kind few = omega arith
-home_back h k (Some log) kind few = let f : log ≤ 31 = few log refl in omega arith
-
-kind_back : (h k : ℕ) (log : Option ℕ) → k < 2 ^ 20 → ForSome log (λ l. l ≤ 31) → ((h + 1) * 2 ^ 32 + credit_bits log + k * 2 + 1) / 2 % 2 ^ 20 ≡ k
-kind_back h k None kind few = omega arith
-kind_back h k (Some log) kind few = omega arith
-
-pub id_back : (id : Id) → IsId id → id_in (upper_half id) id.number ≡ id
-id_back id valid = rw (home_back id.home id.kind id.log valid.kind valid.log, kind_back id.home id.kind id.log valid.kind valid.log, log_back id.home id.kind id.log valid.kind valid.log) refl
 
 -- the upper half fits
 upper_fits_log : (h k : ℕ) (log : Option ℕ) → h < 2 ^ 32 - 1 → k < 2 ^ 20 → ForSome log (λ l. l ≤ 31) → (h + 1) * 2 ^ 32 + credit_bits log + k * 2 + 1 < 2 ^ 64

@@ -6,12 +6,10 @@ ghost use Rattle.hpx_parcel.specs.declared.fields.ReadError.TheVariants.{OutOfMe
 
 use crate::parcel::Why;
 use byteorder::{BigEndian, ByteOrder};
-use hpx_value::codes::FIRST_MANAGED;
+use hpx_value::codes::{FIRST_MANAGED, LAST_MOVABLE};
 use hpx_value::gid::Gid;
 use hpx_value::memory::OutOfMemory;
 use std::alloc::{AllocError, AllocFailed};
-
-const LAST_MOVABLE: u32 = 31;
 
 /// The first fault, and how many bytes are left from there on.
 #[derive(Clone, Copy)]

@@ -1,5 +1,13 @@
+mod fields;
+mod rows;
+
 use crate::parcel::{DecodeFault, Parcel, Why};
 use crate::read::decode;
+use crate::tests::fields::{
+    apply_front, before_ids, before_values, faults, frames, move_faults, move_front, no_ids,
+    state_faults, value_faults,
+};
+use crate::tests::rows::{parcel, refused, spelled};
 use crate::write::encode;
 use hpx_value::gid::Gid;
 use hpx_value::items::Items;
@@ -12,24 +20,6 @@ fn first_frame() -> &'static str {
     "0101 0000 0000000000000002 000000020000000d 0000000000000001 0010 0001 02 0000000000000005 01 0000000100000003 0000000000000001 00000000"
 }
 
-/// A frame of each kind, and of each value.
-fn frames() -> &'static str {
-    "0101 0000 0000000000000002 000000020000000d 0000000000000001 0010 0001 02 0000000000000005 01 0000000100000003 0000000000000001 00000000
-0101 0000 0000000000000004 000000025e000021 0000000000000001 0010 0001 02 0000000000000005 01 0000000100000003 0000000000000001 00000001
-0101 0002 0000000000000009 000000010000000f 0000000000000001 0031 0007 00 0101 02ffffffffffffffff 0300026869 04000000025e0000210000000000000001 050b 06000200000000000000018000000000000000 00
-0101 ffff ffffffffffffffff 000000020000000d 0000000000000001 0000 0003 0100 030000 060000 00
-0102 000000025e000021 0000000000000001
-0103 0000000240000021 0000000000000001 0000 0000000000000000
-0104 000000025f000021 0000000000000001 0000000000000000
-0105 0000000200000021 0000000000000001 0002
-0106 0001 0000000000000007 000000025e000021 0000000000000001 0001 0001 020000000000000001 00
-0107 0001 0000000000000007 000000025e00003f 0000000000000001 0001 0001 02000000000000003f 01 0000000100000003 0000000000000001 00000001
-0108 0001 0000000000000007 000000025e000021 0000000000000001 0001 0001 020000000000000001 00 00000000 0001 020000000000000005 0000
-0108 0001 0000000000000007 000000025e000021 0000000000000001 0001 0001 020000000000000000 00 ffffffff 0002 04000000024000002300000000000000ff 00 0002 00000001000000030000000000000001 00000009 000000025f000041 8000000000000000 ffffffff
-0109 000000025e000021 0000000000000001 0003
-010a 0000000200000021 0000000000000001"
-}
-
 /// An action with each value.
 fn value_frame() -> &'static str {
     "0101 0002 0000000000000009 000000010000000f 0000000000000001 0031 0007 00 0101 02ffffffffffffffff 0300026869 04000000025e0000210000000000000001 050b 06000200000000000000018000000000000000 00"
@@ -38,93 +28,6 @@ fn value_frame() -> &'static str {
 /// An object that moves, whose state has an id and two continuations.
 fn state_frame() -> &'static str {
     "0108 0001 0000000000000007 000000025e000021 0000000000000001 0001 0001 020000000000000000 00 ffffffff 0002 04000000024000002300000000000000ff 00 0002 00000001000000030000000000000001 00000009 000000025f000041 8000000000000000 ffffffff"
-}
-
-/// Bytes that are no frame, behind the place and the sort of their first fault.
-fn faults() -> &'static str {
-    "0 Cut
-1 Cut 01
-0 Kind 03
-0 Kind 00 01
-1 Kind 0100
-1 Kind 010b
-17 Cut 0102 000000025e000021 00000000000000
-9 Cut 0102 000000025e0000
-18 Trailing 0102 000000025e000021 0000000000000001 00
-2 BadId 0102 0000000203000021 0000000000000001
-2 BadId 0102 000000020000000b 0000000000000001
-2 BadId 0102 0000000200000021 0000000000000001
-2 BadId 0102 000000025e000021 0000000000000000
-2 BadId 0102 000000025e000020 0000000000000001
-2 BadId 0102 000000005e000021 0000000000000001
-2 BadId 0102 000000025e000001 0000000000000001
-2 BadId 0102 00000002de000021 0000000000000001
-2 BadId 0102 000000027e000021 0000000000000001
-2 BadId 0102 000000025e200021 0000000000000001
-2 BadId 0102 000000025e00000b 0000000000000001
-2 BadId 0103 000000025e000021 0000000000000001 0000 0000000000000000
-2 BadId 0103 0000000200000021 0000000000000001 0000 0000000000000000
-19 Cut 0103 0000000240000021 0000000000000001 00
-27 Cut 0103 0000000240000021 0000000000000001 0000 00000000000000
-2 BadId 0104 0000000200000021 0000000000000001 0000000000000000
-18 Cut 0104 000000025f000021 0000000000000001
-2 BadId 0105 0000000240000021 0000000000000001 0002
-2 BadId 0105 000000020000000b 0000000000000001 0002
-19 Cut 0105 0000000200000021 0000000000000001 00
-2 BadId 0109 0000000200000021 0000000000000001 0003
-19 Cut 0109 000000025e000021 0000000000000001 00
-2 BadId 010a 0000000240000021 0000000000000001
-18 Trailing 010a 0000000200000021 0000000000000001 0000
-3 Cut 0101 00
-7 Cut 0101 0000 000000
-12 BadId 0101 0000 0000000000000004 0000000200000021 0000000000000001 0001
-29 Cut 0101 0000 0000000000000004 000000025e000021 0000000000000001 00
-28 BadValue 0101 0000 0000000000000004 000000025e000021 0000000000000001 0001 0001 02
-30 BadValue 0101 0000 0000000000000004 000000025e000021 0000000000000001 0010 0401 07
-32 BadValue 0101 0000 0000000000000004 000000025e000021 0000000000000001 0010 0001 07 0000000000000005 01
-33 BadValue 0101 0000 0000000000000004 000000025e000021 0000000000000001 0010 0002 00 07
-33 BadValue 0101 0000 0000000000000004 000000025e000021 0000000000000001 0010 0001 01 02 00
-40 Cut 0101 0000 0000000000000004 000000025e000021 0000000000000001 0010 0001 02 00000000000000
-33 BadValue 0101 0000 0000000000000004 000000025e000021 0000000000000001 0010 0001 03 4001
-37 Cut 0101 0000 0000000000000004 000000025e000021 0000000000000001 0010 0001 03 4000 6869
-33 BadId 0101 0000 0000000000000004 000000025e000021 0000000000000001 0010 0001 04 0000000200000021 0000000000000001
-33 BadValue 0101 0000 0000000000000004 000000025e000021 0000000000000001 0010 0001 05 00
-33 BadValue 0101 0000 0000000000000004 000000025e000021 0000000000000001 0010 0001 05 0c
-33 BadValue 0101 0000 0000000000000004 000000025e000021 0000000000000001 0010 0001 06 1001
-50 Cut 0101 0000 0000000000000004 000000025e000021 0000000000000001 0010 0001 06 0002 000000000000000000000000000000
-32 BadValue 0101 0000 0000000000000004 000000025e000021 0000000000000001 0010 0000 02
-33 BadId 0101 0000 0000000000000004 000000025e000021 0000000000000001 0010 0000 01 0000000200000021 0000000000000001 00000000
-52 Cut 0101 0000 0000000000000004 000000025e000021 0000000000000001 0010 0000 01 0000000100000003 0000000000000001 000000
-33 Trailing 0101 0000 0000000000000004 000000025e000021 0000000000000001 0010 0000 00 00
-12 BadId 0106 0001 0000000000000007 000000025e000041 0000000000000001 0010 0001 020000000000000001 00
-28 BadValue 0107 0001 0000000000000007 000000025e000021 0000000000000001 0010 0001 020000000000000001 00
-30 BadValue 0106 0001 0000000000000007 000000025e000021 0000000000000001 0001 0000 02
-30 BadValue 0107 0001 0000000000000007 000000025e000021 0000000000000001 0001 0001 020000000000000040 02
-30 BadValue 0106 0001 0000000000000007 000000025e000021 0000000000000001 0001 0001 02ffffffffffffffff 02
-41 BadValue 0106 0001 0000000000000007 000000025e000021 0000000000000001 0001 0002 020000000000000001 07"
-}
-
-/// States with a fault, behind its place and its sort, where the state begins at place 42.
-fn state_faults() -> &'static str {
-    "45 Cut 000000
-46 BadValue 00000000 0401
-49 BadId 00000000 0001 04 0000000200000021 0000000000000001
-48 BadValue 00000000 0001 07
-48 BadValue 00000000 0000 0081
-65 BadValue 00000000 0001 04 000000025e000021 0000000000000001 0080
-50 BadId 00000000 0000 0001 0000000200000021 0000000000000001 00000000
-69 Cut 00000000 0000 0001 0000000100000003 0000000000000001 000000
-50 Trailing 00000000 0000 0000 00"
-}
-
-/// The front of a frame with an object, up to the state.
-fn move_front() -> &'static str {
-    "0108 0001 0000000000000007 000000025e000021 0000000000000001 0001 0001 020000000000000001 00"
-}
-
-/// The front of a frame with an action, up to its arguments.
-fn apply_front() -> &'static str {
-    "0101 0000 0000000000000004 000000025e000021 0000000000000001 0010"
 }
 
 /// The bytes that hexadecimal digits show, whatever stands between them.
@@ -165,15 +68,42 @@ fn is_refused(alloc: Global, bytes: &[u8], at: u32, why: Why) -> bool {
     }
 }
 
-/// Whether a front and the bytes of a row are refused as the row says.
-fn is_refused_row(alloc: Global, front: &str, row: &str) -> Result<bool, Fail> {
+/// Whether a front and the bytes of a row are refused as the row says, its place counted from one on.
+fn is_refused_row(alloc: Global, front: &str, from: u32, row: &str) -> Result<bool, Fail> {
     let (at, rest) = row.split_once(' ').ok_or("a place")?;
     let (word, text) = rest.split_once(' ').unwrap_or((rest, ""));
     let at: u32 = at.parse()?;
     let why = why_of(word).ok_or("sort")?;
     let mut bytes = bytes_of(alloc, front)?;
     bytes.extend_from_slice(&bytes_of(alloc, text)?)?;
-    Ok(is_refused(alloc, &bytes, at, why))
+    Ok(is_refused(alloc, &bytes, from.saturating_add(at), why))
+}
+
+#[test]
+fn spells_the_worked_frames(rt: HostRuntime) -> Result<(), Fail> {
+    let alloc = rt.alloc();
+    for row in spelled().lines() {
+        let (len, rest) = row.split_once(' ').ok_or("a length")?;
+        let (name, text) = rest.split_once(' ').ok_or("a name")?;
+        let bytes = bytes_of(alloc, text)?;
+        assert_eq!(rt; bytes.len(), len.parse::<usize>()?);
+        let written = encode(alloc, &parcel(alloc, name)?)?;
+        assert_eq!(rt; written.as_slice(), bytes.as_slice());
+        let again = encode(alloc, &decode(alloc, &bytes)?)?;
+        assert_eq!(rt; again.as_slice(), bytes.as_slice());
+    }
+    Ok(())
+}
+
+#[test]
+fn refuses_the_worked_faults(rt: HostRuntime) -> Result<(), Fail> {
+    for row in refused().lines() {
+        assert!(rt; is_refused_row(rt.alloc(), "", 0, row)?, "{row}");
+    }
+    let mut longest = vec![in rt.alloc(); 0; 65_536]?;
+    longest[0] = 3;
+    assert!(rt; is_refused(rt.alloc(), &longest, 0, Why::Kind));
+    Ok(())
 }
 
 #[test]
@@ -189,12 +119,60 @@ fn spells_as_it_reads(rt: HostRuntime) -> Result<(), Fail> {
 }
 
 #[test]
+fn refuses_what_is_cut_short_or_goes_on(rt: HostRuntime) -> Result<(), Fail> {
+    let alloc = rt.alloc();
+    for text in frames().lines() {
+        let mut bytes = bytes_of(alloc, text)?;
+        for len in 0..bytes.len() {
+            assert!(rt; is_refused(alloc, &bytes[..len], len as u32, Why::Cut), "{len} of {text}");
+        }
+        let len = bytes.len();
+        bytes.push(0)?;
+        assert!(rt; is_refused(alloc, &bytes, len as u32, Why::Trailing), "{text}");
+    }
+    Ok(())
+}
+
+#[test]
 fn names_the_first_fault(rt: HostRuntime) -> Result<(), Fail> {
+    let alloc = rt.alloc();
     for row in faults().lines() {
-        assert!(rt; is_refused_row(rt.alloc(), "", row)?, "{row}");
+        assert!(rt; is_refused_row(alloc, "", 0, row)?, "{row}");
     }
     for row in state_faults().lines() {
-        assert!(rt; is_refused_row(rt.alloc(), move_front(), row)?, "{row}");
+        assert!(rt; is_refused_row(alloc, move_front(), 0, row)?, "{row}");
+    }
+    for kind in ["0106", "0107", "0108"] {
+        for row in move_faults().lines() {
+            assert!(rt; is_refused_row(alloc, kind, 0, row)?, "{kind} {row}");
+        }
+    }
+    Ok(())
+}
+
+#[test]
+fn names_the_faults_of_values(rt: HostRuntime) -> Result<(), Fail> {
+    for before in before_values().lines() {
+        let (from, front) = before.split_once(' ').ok_or("a place")?;
+        let from: u32 = from.parse()?;
+        for row in value_faults().lines() {
+            assert!(rt; is_refused_row(rt.alloc(), front, from, row)?, "{front} {row}");
+        }
+    }
+    Ok(())
+}
+
+#[test]
+fn refuses_what_is_no_id(rt: HostRuntime) -> Result<(), Fail> {
+    let alloc = rt.alloc();
+    for before in before_ids().lines() {
+        let (from, front) = before.split_once(' ').ok_or("a place")?;
+        let from: u32 = from.parse()?;
+        for halves in no_ids().lines() {
+            let mut bytes = bytes_of(alloc, front)?;
+            bytes.extend_from_slice(&bytes_of(alloc, halves)?)?;
+            assert!(rt; is_refused(alloc, &bytes, from, Why::BadId), "{front} {halves}");
+        }
     }
     Ok(())
 }
@@ -311,6 +289,29 @@ fn with_texts(alloc: Global, front: &str, last: u16, end: &str) -> Result<Vec<u8
     }
     bytes.extend_from_slice(&bytes_of(alloc, end)?)?;
     Ok(bytes)
+}
+
+/// A front, so many values or numbers of zeros, and an end.
+fn with_zeros(alloc: Global, front: &str, size: usize, end: &str) -> Result<Vec<u8>, Fail> {
+    let mut bytes = bytes_of(alloc, front)?;
+    bytes.extend_from_slice(&vec![in alloc; 0; size]?)?;
+    bytes.extend_from_slice(&bytes_of(alloc, end)?)?;
+    Ok(bytes)
+}
+
+#[test]
+fn keeps_the_number_of_values(rt: HostRuntime) -> Result<(), Fail> {
+    let alloc = rt.alloc();
+    let front = format!(in alloc; "{} 0400", apply_front())?;
+    let most = with_zeros(alloc, front.as_str(), 1_024, "00")?;
+    assert!(rt; decode(alloc, &most).is_ok());
+    let front = format!(in alloc; "{} 00000000 0400", move_front())?;
+    let most = with_zeros(alloc, front.as_str(), 1_024, "0000")?;
+    assert!(rt; decode(alloc, &most).is_ok());
+    let front = format!(in alloc; "{} 0001 06 1000", apply_front())?;
+    let most = with_zeros(alloc, front.as_str(), 32_768, "00")?;
+    assert!(rt; decode(alloc, &most).is_ok());
+    Ok(())
 }
 
 #[test]

@@ -56,9 +56,9 @@ find-some p (y ∷ ys) h = find-some_at p (p y) y ys (find-some p ys) h
 -- ---- the hand, and what an outcome makes of it
 
 -- the targets of outcomes that keep the laws are as wanted
-pub kept_target : (n places : ℕ) (t : Target) → IsTarget n places t → IsRootTarget n t
-kept_target n places (Place place) h = tt
-kept_target n places (Root kind at) h = h
+pub kept_target : (n : ℕ) (t : Target) → IsTarget n t → IsRootTarget n t
+kept_target n (Place place) h = tt
+kept_target n (Root kind at) h = h
 
 module _ (n : ℕ) where
   session_root : IsRootId n session

@@ -1,12 +1,14 @@
 -- What an outcome makes is well formed, by the laws.
-use Rattle.std.proofs.Common.{ℕ, zero, suc, List, [], ◌∷◌, ◌++◌, ◌≡◌, ◌≢◌, ◌+◌, ◌<◌, ◌≤◌, Option, Some, None, length, map, refl, ap, arith, inl, inr, pos, lit<}
+use Rattle.std.proofs.Common.{ℕ, zero, suc, List, [], ◌∷◌, ◌++◌, ◌≡◌, ◌≢◌, ◌+◌, ◌<◌, ◌≤◌, Option, Some, None, length, map, refl, ap, arith, inl, inr, pos, lit<, lit≤}
 use Rattle.std.specs.List.{AllByRecursion, slice_index_or}
 use Rattle.std.proofs.lemmas.List.{length-map}
 use Rattle.std.proofs.Common.{length-append}
 use Rattle.hpx_value.specs.Values.{refs_in, named}
-use Rattle.hpx_value.specs.Shapes.{IsMessage}
+use Rattle.hpx_value.specs.Shapes.{IsMessage, IsState, listed}
 use Rattle.hpx_value.specs.Hands.{Slot, session, id_at, slot_at, own_slot, hand_ids, hand_slots, hand_slot, addressed, slot_ids, renumbered, target_id, send_slot, sent, replied, due_of, conts_from, slots_kept, state_after}
-use Rattle.hpx_value.specs.Laws.{KeepsLaws, IsRoot, IsTarget}
+use Rattle.hpx_value.specs.Laws.{KeepsLaws, IsRoot, IsTarget, UsesEachOnce, uses, handed_on, answered}
+use Rattle.hpx_value.proofs.Uses.{used_few}
+use Rattle.hpx_value.proofs.Kept.{length-hand_slots, length-conts_from}
 use Rattle.hpx_root_journal.specs.Data.{Id, Value, Nothing, Flag, Int, Text, Ref, Fault, Ints, Cont, State, Act, Message, MessageDue, PrintDue, Target, Place, Root, SendCont, NoCont, Own, Made, Here, Sending, Reply, Outcome}
 use Rattle.hpx_parcel.specs.Parcels.{HasRightCredit}
 use Rattle.hpx_root_journal.proofs.Roads.{all-append}
@@ -68,15 +70,11 @@ length-renumbered n (Text bs ∷ vs) = ap suc (length-renumbered n vs)
 length-renumbered n (Fault c ∷ vs) = ap suc (length-renumbered n vs)
 length-renumbered n (Ints ns ∷ vs) = ap suc (length-renumbered n vs)
 
-length-conts_from : (n : ℕ) (xs : List Slot) → length (conts_from n xs) ≡ length xs
-length-conts_from n [] = refl
-length-conts_from n (x ∷ xs) = ap suc (length-conts_from (n + 1) xs)
-
 -- ---- by the laws
 
-near_root : (n places : ℕ) (t : Target) → n ≤ 64 → 1 ≤ n → IsTarget n places t → IsNearRoot t
-near_root n places (Place p) few some h = tt
-near_root n places (Root kind at) few some h = (omega (arith, small h), omega (arith, big h), close h)
+near_root : (n : ℕ) (t : Target) → n ≤ 64 → 1 ≤ n → IsTarget n t → IsNearRoot t
+near_root n (Place p) few some h = tt
+near_root n (Root kind at) few some h = (omega (arith, small h), omega (arith, big h), close h)
   where
     small : IsRoot n kind at → 1 ≤ kind
     small (inl (inl k, z)) = omega arith
@@ -105,12 +103,13 @@ near_root n places (Root kind at) few some h = (omega (arith, small h), omega (a
     close (inr (inl (inr (inr k), z))) = omega arith
     close (inr (inr (k, z))) = omega arith
 
-target_credit : (n places : ℕ) (hand : List Id) (t : Target) → n ≤ 64 → 1 ≤ n → IsTarget n places t → AllByRecursion HasRightCredit hand
+target_credit : (n : ℕ) (hand : List Id) (t : Target) → n ≤ 64 → 1 ≤ n → IsTarget n t → AllByRecursion HasRightCredit hand
     → HasRightCredit (target_id hand t)
-target_credit n places hand (Place p) few some h i = credit_at hand p i
-target_credit n places hand (Root kind at) few some h i = (near_root n places (Root kind at) few some h).1
+target_credit n hand (Place p) few some h i = credit_at hand p i
+target_credit n hand (Root kind at) few some h i = (near_root n (Root kind at) few some h).1
 
-module _ (n kind : ℕ) (s : State) (a : Act) (out : Outcome) (laws : KeepsLaws n kind s a out) (few : n ≤ 64) (some : 1 ≤ n)
+module _ (n kind here : ℕ) (s : State) (a : Act) (out : Outcome) (laws : KeepsLaws n kind here s a out)
+    (moves : AllByRecursion (λ x. x.code ≢ 1) out.sends) (few : n ≤ 64) (some : 1 ≤ n)
     (credit : AllByRecursion HasRightCredit s.ids) (own : AllByRecursion HasRightCredit a.ids) where
   hand_credit : AllByRecursion HasRightCredit (hand_ids s a [])
   hand_credit = all-append HasRightCredit s.ids (a.ids ++ []) credit (all-append HasRightCredit a.ids [] own tt)
@@ -124,7 +123,7 @@ module _ (n kind : ℕ) (s : State) (a : Act) (out : Outcome) (laws : KeepsLaws 
   paid_cont (Made make slot) = credit_at (hand_ids s a []) (length s.ids + length a.ids + make) hand_credit
   paid_cont (Here slot) = session_credit
 
-  fit_sends : (xs : List Sending) → AllByRecursion (λ x. IsTarget n (length s.ids + length a.ids) x.target) xs
+  fit_sends : (xs : List Sending) → AllByRecursion (λ x. IsTarget n x.target) xs
       → AllByRecursion (λ x. IsMessage (sent s a [] x)) xs → AllByRecursion (λ x. x.code ≢ 1) xs
       → AllByRecursion IsFitDue (map (λ x. MessageDue (sent s a [] x)) xs)
   fit_sends [] targets shapes codes = tt
@@ -133,7 +132,7 @@ module _ (n kind : ℕ) (s : State) (a : Act) (out : Outcome) (laws : KeepsLaws 
       sent = record {
         shape = shapes.0;
         credit = paid_addressed (hand_ids s a []) (target_id (hand_ids s a []) x.target) x.code x.args (send_slot s a [] x.cont) hand_credit
-            (target_credit n (length s.ids + length a.ids) (hand_ids s a []) x.target few some targets.0 hand_credit) (paid_cont x.cont);
+            (target_credit n (hand_ids s a []) x.target few some targets.0 hand_credit) (paid_cont x.cont);
       };
       code = codes.0;
     },
@@ -160,8 +159,8 @@ module _ (n kind : ℕ) (s : State) (a : Act) (out : Outcome) (laws : KeepsLaws 
 
   -- all that is due may be sent
   pub fit_due : AllByRecursion IsFitDue (due_of s a [] out)
-  fit_due = all-append IsFitDue (map (λ x. MessageDue (sent s a [] x)) out.sends) _ (fit_sends out.sends laws.targets laws.sends laws.nothing_moves)
-      (all-append IsFitDue (map (λ x. MessageDue (replied s a [] x)) out.replies) (map PrintDue out.prints) (fit_replies out.replies laws.replies) (fit_prints out.prints))
+  fit_due = all-append IsFitDue (map (λ x. MessageDue (sent s a [] x)) out.sends) _ (fit_sends out.sends laws.roots (laws.shapes.sends []) moves)
+      (all-append IsFitDue (map (λ x. MessageDue (replied s a [] x)) out.replies) (map PrintDue out.prints) (fit_replies out.replies (laws.shapes.replies [])) (fit_prints out.prints))
 
   kept_credit : (xs : List Slot) → AllByRecursion IsPaid xs → AllByRecursion HasRightCredit (map (λ x. x.object) xs)
   kept_credit [] h = tt
@@ -174,35 +173,35 @@ module _ (n kind : ℕ) (s : State) (a : Act) (out : Outcome) (laws : KeepsLaws 
   -- the new state is well formed
   pub fit_state : (o : Id) → IsKept (record { object = o; state = state_after s a [] out })
   fit_state o = record {
-    state = laws.state;
+    state = laws.shapes.state [];
     credit = all-append HasRightCredit (map (id_at (hand_ids s a [])) (refs_in out.state.values)) _
         (credit_each (hand_ids s a []) (refs_in out.state.values) hand_credit)
         (kept_credit (slots_kept s a out.state) (kept_paid out.state.conts));
   }
 
-  made_sends : (xs : List Sending) → AllByRecursion (λ x. IsTarget n (length s.ids + length a.ids) x.target) xs
+  made_sends : (xs : List Sending) → AllByRecursion (λ x. IsTarget n x.target) xs
       → AllByRecursion (λ x. IsMessage (sent s a [] x)) xs → AllByRecursion CanBeSent xs
   made_sends [] targets shapes = tt
   made_sends (x ∷ xs) targets shapes = (
     record {
       few = omega (arith, shapes.0.values.few, length-renumbered 1 x.args);
-      root = near_root n (length s.ids + length a.ids) x.target few some targets.0;
+      root = near_root n x.target few some targets.0;
     },
     made_sends xs targets.1 shapes.1,
   )
 
   -- its messages and its state can be made
   pub can_be_made : CanBeMade out
-  can_be_made = record {
-    values = omega (arith, laws.state.values.few, length-renumbered 0 out.state.values);
+  can_be_made = let state = laws.shapes.state [] in record {
+    values = omega (arith, state.values.few, length-renumbered 0 out.state.values);
     conts = omega (
       arith,
-      laws.state.few,
-      laws.state.ids,
+      state.few,
+      state.ids,
       length-conts_from (length (refs_in out.state.values)) (slots_kept s a out.state),
       length-map out.state.conts (hand_slot s a),
     );
-    sends = made_sends out.sends laws.targets laws.sends;
+    sends = made_sends out.sends laws.roots (laws.shapes.sends []);
   }
 
 -- under any name
@@ -211,6 +210,30 @@ fit_named origin serial m h = record {
   sent = record { shape = h.sent.shape; credit = h.sent.credit };
   code = h.code;
 }
+
+length-answered : (xs : List Reply) → length (answered xs) ≡ length xs
+length-answered [] = refl
+length-answered (x ∷ xs) = ap suc (length-answered xs)
+
+length-listed : (c : Option Cont) → length (listed c) ≤ 1
+length-listed None = lit≤ tt
+length-listed (Some c) = lit≤ tt
+
+-- a hand has few continuations, and each is answered once at most
+pub few_replies : (s : State) (a : Act) (out : Outcome) → IsState s → UsesEachOnce (length (hand_slots s a)) (uses out) → length out.replies ≤ 129
+few_replies s a out h once =
+    let ids = h.ids in
+    let few = h.few in
+    omega (
+      arith,
+      used_few (length (hand_slots s a)) (uses out) once,
+      length-hand_slots s a,
+      length-append s.conts (listed a.cont),
+      length-listed a.cont,
+      length-append out.state.conts (handed_on out.sends ++ answered out.replies),
+      length-append (handed_on out.sends) (answered out.replies),
+      length-answered out.replies,
+    )
 
 -- few are due
 pub few_due : (s : State) (a : Act) (out : Outcome) → length out.sends ≤ 32 → length out.replies ≤ 129 → length out.prints ≤ 16

@@ -2,8 +2,8 @@
 use Rattle.std.proofs.Common.{◌≡◌, ◌≢◌, ℕ, zero, suc, ◌+◌, ◌%◌, ◌<◌, List, [], ◌∷◌, ◌++◌, length, take, get_or, refl, sym, ap, ◌∙◌, arith, ◌≤◌}
 use Rattle.std.proofs.lemmas.List.{take_more, length-take-le}
 use Rattle.std.proofs.Math.Nat.{mod-eq_of_lt}
-use Rattle.hpx_top.specs.Acts.{numbers}
-use Rattle.hpx_top.specs.ActsLaws.{numbers-append}
+use Rattle.hpx_value.specs.Kept.{numbers}
+use Rattle.hpx_value.proofs.Kept.{numbers-append}
 
 -- the next of a list from its start
 pub numbers-take : {X : Type 0} (i : ℕ) (xs : List X) (d : X) → i < length xs → numbers 0 (take (i + 1) xs) ≡ numbers 0 (take i xs) ++ i ∷ []

@@ -1,10 +1,11 @@
--- What actions on the session and on the tally do.
-use Rattle.std.specs.Prelude.{ℕ, ℤ, pos, Bool, true, false, nat_lt, nat_le, List, [], ◌∷◌, ◌+◌, ◌%◌, ◌+ℤ◌, ◌==◌, ◌&&◌, Option, Some, None, length, if◌then◌else◌}
-use Rattle.hpx_root_journal.specs.Data.{Value, Nothing, Int, Text, Fault, Cont, State, Act, Root, Here, NewState, Sending, Reply, Outcome}
+-- What actions on the session and on the tally do, and where other objects say that they are.
+use Rattle.std.specs.Prelude.{ℕ, ℤ, pos, negsuc, Bool, true, false, nat_lt, nat_le, List, [], ◌∷◌, ◌+◌, ◌%◌, ◌+ℤ◌, ◌==◌, ◌&&◌, ◌||◌, Option, Some, None, if◌then◌else◌}
+use Rattle.hpx_root_journal.specs.Data.{Value, Nothing, Int, Text, Fault, Cont, State, Act, Root, Here, Sending, Outcome}
+pub use Rattle.hpx_value.specs.Kept.{numbers, kept, answers, stays}
 use Rattle.hpx_top.specs.declared.acts.console.Command.{Command}
 use Rattle.hpx_top.specs.declared.acts.console.Command.TheVariants.{Add, Query, BadNumber, BadCommand}
 use Rattle.hpx_top.specs.declared.acts.effect.Effect.{Effect}
-use Rattle.hpx_top.specs.declared.acts.effect.Effect.TheVariants.{Unlisted, Asks, Prints, Keeps}
+use Rattle.hpx_top.specs.declared.acts.effect.Effect.TheVariants.{Unlisted, Tells, Asks, Prints, Keeps}
 use Rattle.hpx_top.specs.Console.{command_of, fits, bad_number, bad_command, number_text, fault_text}
 
 -- ---- the session
@@ -56,11 +57,19 @@ abbrev pub query_effect : List Value → ℤ → List Value → Effect
 query_effect values z [] = Keeps values (Int z)
 query_effect values z (arg ∷ args) = Unlisted
 
+-- RESET has no arguments
+abbrev pub reset_effect : List Value → Effect
+reset_effect [] = Keeps (Int (pos 0) ∷ []) Nothing
+reset_effect (arg ∷ args) = Unlisted
+
 -- what the tally does, by the number that it holds
 abbrev pub tally_effect : Option ℤ → List Value → ℕ → List Value → Effect
 tally_effect None values code args = Unlisted
 tally_effect (Some z) values code args =
-    if code == 16 then add_effect values z args else if code == 17 then query_effect values z args else Unlisted
+    if code == 16 then add_effect values z args
+    else if code == 17 then query_effect values z args
+    else if code == 18 then reset_effect args
+    else Unlisted
 
 -- ---- every object
 
@@ -81,32 +90,34 @@ is_session s = is_alone s && (is_empty s.values && nat_le s.drawn 4000000000)
 abbrev pub is_place : ℕ → ℕ → Bool
 is_place n here = nat_lt here n && nat_le n 64
 
+-- the number of a locality, of 64 at most
+abbrev pub is_locality : ℤ → Bool
+is_locality (pos t) = nat_lt t 64
+is_locality (negsuc t) = false
+
+-- the arguments of a MOVE
+abbrev pub is_move : List Value → Bool
+is_move (Int z ∷ []) = is_locality z
+is_move _ = false
+
+-- a MOVE of an object of a movable kind, from 16 to 31, or a WHERE of one of a managed kind, up to 63
+abbrev pub asks_place : ℕ → ℕ → List Value → Bool
+asks_place kind code args =
+    nat_le 16 kind && (((code == 2) && (nat_le kind 63 && is_empty args)) || ((code == 1) && (nat_le kind 31 && is_move args)))
+
 -- what an action does at a locality that there is
-abbrev pub effect_on : ℕ → State → Act → Effect
-effect_on kind s a =
+abbrev pub effect_on : ℕ → ℕ → State → Act → Effect
+effect_on kind here s a =
     if (kind == 1) && is_session s then session_effect s.drawn a.code a.args a.cont
     else if (kind == 6) && is_alone s then tally_effect (held s.values) s.values a.code a.args
+    else if asks_place kind a.code a.args then Tells here
     else Unlisted
 
 -- what an action does
 abbrev pub effect_of : ℕ → ℕ → ℕ → State → Act → Effect
-effect_of n kind here s a = if is_place n here then effect_on kind s a else Unlisted
+effect_of n kind here s a = if is_place n here then effect_on kind here s a else Unlisted
 
 -- ---- outcomes
-
--- the numbers from n on, one for each
-abbrev pub numbers : {X : Type 0} → ℕ → List X → List ℕ
-numbers n [] = []
-numbers n (x ∷ xs) = n ∷ numbers (n + 1) xs
-
--- the state as it was: its places and its continuations are the first of the hand
-abbrev pub kept : State → NewState
-kept s = record { drawn = s.drawn; values = s.values; conts = numbers 0 s.conts }
-
--- the answer to the action's own continuation, which is the last of the hand
-abbrev pub answers : State → Option Cont → Value → List Reply
-answers s None value = []
-answers s (Some cont) value = record { cont = length s.conts; value = value } ∷ []
 
 -- what is sent to the tally, at locality 1 mod n
 abbrev pub question : ℕ → ℕ → ℕ → List Value → Sending
@@ -114,8 +125,8 @@ question n drawn code args = record { target = Root 6 (1 % n); code = code; args
 
 -- what an effect comes to
 abbrev pub outcome_by : ℕ → State → Act → Effect → Outcome
-outcome_by n s a Unlisted =
-    record { state = kept s; makes = []; sends = []; replies = answers s a.cont (Fault 11); prints = [] }
+outcome_by n s a Unlisted = stays s a (Fault 11)
+outcome_by n s a (Tells here) = stays s a (Int (pos here))
 outcome_by n s a (Asks drawn code args) = record {
   state = record { drawn = drawn; values = []; conts = [] };
   makes = [];

@@ -1,88 +1,24 @@
 -- The acts keep the laws.
-use Rattle.std.specs.Prelude.{ℕ, zero, suc, ℤ, pos, negsuc, Bool, true, false, cond, nat_lt, nat_le, ◌/◌, List, [], ◌∷◌, ◌++◌, ◌≡◌, ◌≢◌, ◌+◌, ◌+ℤ◌, ◌%◌, ◌<◌, ◌≤◌, ◌==◌, ◌&&◌, ◌⊎◌, Option, Some, None, length, map, refl, if◌then◌else◌, codes}
+use Rattle.std.specs.Prelude.{ℕ, zero, suc, ℤ, pos, negsuc, Bool, true, false, cond, nat_lt, nat_le, ◌/◌, List, [], ◌∷◌, ◌++◌, ◌≡◌, ◌≢◌, ◌+◌, ◌+ℤ◌, ◌%◌, ◌<◌, ◌≤◌, ◌==◌, ◌&&◌, ◌⊎◌, Option, Some, None, length, map, flat_map, refl, if◌then◌else◌, codes}
 use Rattle.std.specs.List.{AllByRecursion, count_by}
 use Rattle.std.specs.Fmt.{digits, digits_onto, digit_glyph, decimal}
-use Rattle.std.proofs.Common.{sym, ◌∙◌, ap, inl, inr, arith, length-append, lit≤, lit<, zero-add}
-use Rattle.std.proofs.lemmas.Bool.{cond_both, and_parts, eqb-true, eqb-false, ne_eqb, le-ltb, lt-ltb}
-use Rattle.std.proofs.lemmas.List.{length-map, append-nil}
-use Rattle.std.proofs.lemmas.List.Sums.{sum_by-cons}
+use Rattle.std.proofs.Common.{sym, ◌∙◌, ap, subst, inl, inr, arith, length-append, lit≤, lit<}
+use Rattle.std.proofs.lemmas.Bool.{cond_both, and_parts, eqb-true, ne_eqb, le-ltb, lt-ltb, le-leb}
 use Rattle.hpx_value.specs.Ids.{Id, bare, bare_id}
 use Rattle.hpx_value.specs.Values.{refs_in, bare_state, bare_act, named, message_of}
-use Rattle.hpx_value.specs.Shapes.{IsState, IsAct, IsMessage, IsCount, places_of}
-use Rattle.hpx_value.specs.Hands.{Slot, renumbered, conts_from, hand_ids, hand_slot, hand_slots, slot_at, own_slot, id_at, session, addressed, answer, replied}
-use Rattle.hpx_value.specs.Laws.{KeepsLaws, UsesEachOnce, answered, is_made_slot}
-use Rattle.hpx_root_journal.specs.Data.{Value, Nothing, Flag, Int, Text, Ref, Fault, Ints, Cont, State, Act}
+use Rattle.hpx_value.specs.Shapes.{IsValue, IsState, IsAct, IsMessage, listed}
+use Rattle.hpx_value.specs.Hands.{renumbered, hand_ids, hand_slots, id_at, session, addressed}
+use Rattle.hpx_value.specs.Kept.{numbers, answers, stays}
+use Rattle.hpx_value.specs.Mentions.{mentions, reply_mentions}
+use Rattle.hpx_value.specs.Laws.{KeepsLaws, UsesEachOnce, IsMovable, IsManaged, MovesBelow, TellsThePlace, answered, is_made_slot}
+use Rattle.hpx_value.proofs.Kept.{NamesOne, few_named, one_answer, used_once, length-hand_slots, answers_messages, stays_tells, stays_keeps}
+use Rattle.hpx_root_journal.specs.Data.{Value, Nothing, Flag, Int, Text, Ref, Fault, Ints, Cont, State, Act, Outcome}
 use Rattle.hpx_top.specs.declared.acts.console.Command.{Command}
 use Rattle.hpx_top.specs.declared.acts.console.Command.TheVariants.{Add, Query, BadNumber, BadCommand}
 use Rattle.hpx_top.specs.declared.acts.effect.Effect.{Effect}
-use Rattle.hpx_top.specs.declared.acts.effect.Effect.TheVariants.{Unlisted, Asks, Prints, Keeps}
+use Rattle.hpx_top.specs.declared.acts.effect.Effect.TheVariants.{Unlisted, Tells, Asks, Prints, Keeps}
 use Rattle.hpx_top.specs.Console.{command_of, fits, number_text, fault_word, fault_text}
-use Rattle.hpx_top.specs.Acts.{numbers}
 use Rattle.hpx_top.specs.Acts
-
--- ---- the state as it was
-
-same_values : (n : ℕ) (vs : List Value) → IsCount n (refs_in vs) → renumbered n vs ≡ vs
-same_values n [] h = refl
-same_values n (Ref place ∷ vs) h = rw (h.0) (ap (λ rest. Ref n ∷ rest) (same_values (n + 1) vs h.1))
-same_values n (Nothing ∷ vs) h = ap (λ rest. Nothing ∷ rest) (same_values n vs h)
-same_values n (Flag b ∷ vs) h = ap (λ rest. Flag b ∷ rest) (same_values n vs h)
-same_values n (Int z ∷ vs) h = ap (λ rest. Int z ∷ rest) (same_values n vs h)
-same_values n (Text bytes ∷ vs) h = ap (λ rest. Text bytes ∷ rest) (same_values n vs h)
-same_values n (Fault code ∷ vs) h = ap (λ rest. Fault code ∷ rest) (same_values n vs h)
-same_values n (Ints numbers ∷ vs) h = ap (λ rest. Ints numbers ∷ rest) (same_values n vs h)
-
-counted_below : (m n : ℕ) (ps : List ℕ) → IsCount n ps → n + length ps ≤ m → AllByRecursion (λ p. p < m) ps
-counted_below m n [] h low = tt
-counted_below m n (p ∷ ps) h low = (omega (arith, h.0), counted_below m (n + 1) ps h.1 (omega arith))
-
-placed : (n : ℕ) (xs : List Slot) → IsCount n (places_of (conts_from n xs))
-placed n [] = tt
-placed n (x ∷ xs) = (refl, placed (n + 1) xs)
-
-length-conts_from : (n : ℕ) (xs : List Slot) → length (conts_from n xs) ≡ length xs
-length-conts_from n [] = refl
-length-conts_from n (x ∷ xs) = ap suc (length-conts_from (n + 1) xs)
-
-length-numbers : {X : Type 0} (n : ℕ) (xs : List X) → length (Acts.numbers n xs) ≡ length xs
-length-numbers n [] = refl
-length-numbers n (x ∷ xs) = ap suc (length-numbers (n + 1) xs)
-
--- ---- counts of continuations
-
-abbrev one_if : Bool → ℕ
-one_if b = cond b 1 0
-
--- each number from n on, one for each of a list, stands once
-count-numbers_below : {X : Type 0} (i n : ℕ) (xs : List X) → i < n → count_by (λ j. j == i) (numbers n xs) ≡ 0
-count-numbers_below i n [] h = refl
-count-numbers_below i n (x ∷ xs) h =
-    let other : one_if (n == i) ≡ 0 = ap one_if (ne_eqb n i (omega arith)) in
-    let rest = count-numbers_below i (n + 1) xs (omega arith) in
-    let step : count_by (λ j. j == i) (numbers n (x ∷ xs)) ≡ one_if (n == i) + count_by (λ j. j == i) (numbers (n + 1) xs) = sum_by-cons (λ j. one_if (j == i)) n (numbers (n + 1) xs) in
-    omega (arith, step, other, rest)
-
-count_first : {X : Type 0} (i n : ℕ) (x : X) (xs : List X) (b : Bool) → (n == i) ≡ b → n ≤ i
-    → (n + 1 ≤ i → count_by (λ j. j == i) (numbers (n + 1) xs) ≡ one_if (nat_lt i (n + 1 + length xs)))
-    → count_by (λ j. j == i) (numbers n (x ∷ xs)) ≡ one_if (nat_lt i (n + length (x ∷ xs)))
-count_first i n x xs true e h more =
-    let first : n ≡ i = eqb-true n i e in
-    let this : one_if (n == i) ≡ 1 = ap one_if e in
-    let within : one_if (nat_lt i (n + length (x ∷ xs))) ≡ 1 = ap one_if (lt-ltb i (n + length (x ∷ xs)) (omega arith)) in
-    let rest = count-numbers_below i (n + 1) xs (omega arith) in
-    let step : count_by (λ j. j == i) (numbers n (x ∷ xs)) ≡ one_if (n == i) + count_by (λ j. j == i) (numbers (n + 1) xs) = sum_by-cons (λ j. one_if (j == i)) n (numbers (n + 1) xs) in
-    omega (arith, step, this, within, rest)
-count_first i n x xs false e h more =
-    let apart : n ≢ i = eqb-false n i e in
-    let this : one_if (n == i) ≡ 0 = ap one_if e in
-    let same : one_if (nat_lt i (n + 1 + length xs)) ≡ one_if (nat_lt i (n + length (x ∷ xs))) = ap (λ m. one_if (nat_lt i m)) (omega arith) in
-    let rest = more (omega arith) in
-    let step : count_by (λ j. j == i) (numbers n (x ∷ xs)) ≡ one_if (n == i) + count_by (λ j. j == i) (numbers (n + 1) xs) = sum_by-cons (λ j. one_if (j == i)) n (numbers (n + 1) xs) in
-    omega (arith, step, this, same, rest)
-
-count-numbers : {X : Type 0} (i n : ℕ) (xs : List X) → n ≤ i → count_by (λ j. j == i) (numbers n xs) ≡ one_if (nat_lt i (n + length xs))
-count-numbers i n [] h = sym (ap one_if (le-ltb i (n + 0) (omega arith)))
-count-numbers i n (x ∷ xs) h = count_first i n x xs (n == i) refl h (λ low. count-numbers i (n + 1) xs low)
 
 -- ---- texts
 
@@ -151,6 +87,7 @@ record IsAsked (s : State) (drawn code : ℕ) (args : List Value) : Type 0 where
 
 abbrev IsFine : ℕ → State → Act → Effect → Type 0
 IsFine kind s a Unlisted = Unit {0}
+IsFine kind s a (Tells here) = Unit {0}
 IsFine kind s a (Asks drawn code args) = IsSpeaking kind s a × IsAsked s drawn code args
 IsFine kind s a (Prints texts) = IsSpeaking kind s a × IsShown texts
 IsFine kind s a (Keeps values answer) = (kind ≡ 6) × (s.conts ≡ []) × IsHeld values × IsAnswer answer
@@ -198,6 +135,10 @@ query_fine : (kind : ℕ) (s : State) (a : Act) → kind ≡ 6 → s.conts ≡ [
 query_fine kind s a k none h z [] = (k, none, h, tt)
 query_fine kind s a k none h z (arg ∷ args) = tt
 
+reset_fine : (kind : ℕ) (s : State) (a : Act) → kind ≡ 6 → s.conts ≡ [] → (args : List Value) → IsFine kind s a (Acts.reset_effect args)
+reset_fine kind s a k none [] = (k, none, tt, tt)
+reset_fine kind s a k none (arg ∷ args) = tt
+
 held_values : (values : List Value) (z : ℤ) → Acts.held values ≡ Some z → IsHeld values
 held_values [] z e = tt
 held_values (Int y ∷ []) z e = tt
@@ -209,7 +150,8 @@ tally_fine kind s a k none None e = tt
 tally_fine kind s a k none (Some z) e =
     let h = held_values s.values z e in
     either_fine kind s a (a.code == 16) _ _ (λ c. add_fine kind s a k none h z a.args)
-    (λ c. either_fine kind s a (a.code == 17) _ _ (λ d. query_fine kind s a k none h z a.args) (λ d. tt))
+    (λ c. either_fine kind s a (a.code == 17) _ _ (λ d. query_fine kind s a k none h z a.args)
+    (λ d. either_fine kind s a (a.code == 18) _ _ (λ r. reset_fine kind s a k none a.args) (λ r. tt)))
 
 none_left : {X : Type 0} (xs : List X) → Acts.is_empty xs ≡ true → xs ≡ []
 none_left [] e = refl
@@ -234,84 +176,42 @@ effect_fine n kind here s a =
         tally_fine kind s a (eqb-true kind 6 parts.0) (alone_conts s parts.1) (Acts.held s.values) refl
 
     others : ((kind == 1) && Acts.is_session s) ≡ false
-        → IsFine kind s a (if (kind == 6) && Acts.is_alone s then Acts.tally_effect (Acts.held s.values) s.values a.code a.args else Unlisted)
-    others e = either_fine kind s a ((kind == 6) && Acts.is_alone s) _ _ tally (λ e. tt)
+        → IsFine kind s a (if (kind == 6) && Acts.is_alone s then Acts.tally_effect (Acts.held s.values) s.values a.code a.args
+        else if Acts.asks_place kind a.code a.args then Tells here else Unlisted)
+    others e = either_fine kind s a ((kind == 6) && Acts.is_alone s) _ _ tally
+        (λ e. either_fine kind s a (Acts.asks_place kind a.code a.args) _ _ (λ f. tt) (λ f. tt))
 
--- ---- answers
+-- ---- what is named, and used
 
-abbrev listed : Option Cont → List Cont
-listed None = []
-listed (Some c) = c ∷ []
+held_refs : (values : List Value) → IsHeld values → refs_in values ≡ []
+held_refs [] h = refl
+held_refs (Int z ∷ []) h = refl
+held_refs _ h = absurd h
 
-pub numbers-append : {X : Type 0} (n : ℕ) (xs : List X) (x : X) → numbers n (xs ++ x ∷ []) ≡ numbers n xs ++ (n + length xs) ∷ []
-numbers-append n [] x = ap (λ m. m ∷ []) (omega arith)
-numbers-append n (y ∷ xs) x = ap (λ rest. n ∷ rest) (numbers-append (n + 1) xs x ∙ ap (λ m. numbers (n + 1) xs ++ m ∷ []) (omega arith))
+answer_value : (v : Value) → IsAnswer v → IsValue v × (refs_in (v ∷ []) ≡ [])
+answer_value Nothing h = (tt, refl)
+answer_value (Int z) h = (tt, refl)
+answer_value (Fault code) h = (h, refl)
+answer_value (Flag b) h = absurd h
+answer_value (Text bytes) h = absurd h
+answer_value (Ref place) h = absurd h
+answer_value (Ints numbers) h = absurd h
 
-answered_own : (s : State) (cont : Option Cont) (v : Value) → numbers 0 s.conts ++ answered (Acts.answers s cont v) ≡ numbers 0 (s.conts ++ listed cont)
-answered_own s None v = append-nil (numbers 0 s.conts) ∙ ap (numbers 0) (sym (append-nil s.conts))
-answered_own s (Some c) v = ap (λ m. numbers 0 s.conts ++ m ∷ []) (omega arith) ∙ sym (numbers-append 0 s.conts c)
-
-length_own : (ids : List Id) (cont : Option Cont) → length (own_slot ids cont) ≡ length (listed cont)
-length_own ids None = refl
-length_own ids (Some c) = refl
-
-length-hand_slots : (s : State) (a : Act) → length (hand_slots s a) ≡ length (s.conts ++ listed a.cont)
-length-hand_slots s a =
-    length-append (map (slot_at s.ids) s.conts) (own_slot a.ids a.cont)
-    ∙ ap (λ m. m + length (own_slot a.ids a.cont)) (length-map s.conts (slot_at s.ids))
-    ∙ ap (λ m. length s.conts + m) (length_own a.ids a.cont) ∙ sym (length-append s.conts (listed a.cont))
-
--- each continuation of the hand is kept or answered, where the kept ones come first
-used_once : (s : State) (a : Act) (v : Value) → UsesEachOnce (length (hand_slots s a)) (numbers 0 s.conts ++ answered (Acts.answers s a.cont v))
-used_once s a v i =
-    ap (λ ns. count_by (λ j. j == i) ns) (answered_own s a.cont v)
-    ∙ count-numbers i 0 (s.conts ++ listed a.cont) (omega arith)
-    ∙ ap (λ m. one_if (nat_lt i m)) (zero-add (length (s.conts ++ listed a.cont)) ∙ sym (length-hand_slots s a))
-
-few_answers : (s : State) (cont : Option Cont) (v : Value) → length (Acts.answers s cont v) ≤ 129
-few_answers s None v = lit≤ tt
-few_answers s (Some c) v = lit≤ tt
-
-answer_refs : (m : ℕ) (v : Value) → IsAnswer v → AllByRecursion (λ place. place < m) (refs_in (v ∷ []))
-answer_refs m Nothing h = tt
-answer_refs m (Int z) h = tt
-answer_refs m (Fault code) h = tt
-answer_refs m (Flag b) h = tt
-answer_refs m (Text bytes) h = tt
-answer_refs m (Ref place) h = absurd h
-answer_refs m (Ints numbers) h = tt
-
-answers_refs : (m : ℕ) (s : State) (cont : Option Cont) (v : Value) → IsAnswer v
-    → AllByRecursion (λ x. AllByRecursion (λ place. place < m) (refs_in (x.value ∷ []))) (Acts.answers s cont v)
-answers_refs m s None v h = tt
-answers_refs m s (Some c) v h = (answer_refs m v h, tt)
-
-answer_message : (hand : List Id) (x : Slot) (v : Value) → IsAnswer v → IsMessage (answer hand x v)
-answer_message hand x Nothing h =
-    record { values = record { few = lit≤ tt; each = (tt, (tt, tt)) }; refs = tt; few_refs = lit≤ tt; cont = tt; ids = refl; short = lit≤ tt }
-answer_message hand x (Int z) h =
-    record { values = record { few = lit≤ tt; each = (tt, (tt, tt)) }; refs = tt; few_refs = lit≤ tt; cont = tt; ids = refl; short = lit≤ tt }
-answer_message hand x (Fault code) h =
-    record { values = record { few = lit≤ tt; each = (tt, (h, tt)) }; refs = tt; few_refs = lit≤ tt; cont = tt; ids = refl; short = lit≤ tt }
-answer_message hand x (Flag b) h = absurd h
-answer_message hand x (Text bytes) h = absurd h
-answer_message hand x (Ref place) h = absurd h
-answer_message hand x (Ints numbers) h = absurd h
-
-answers_messages : (s : State) (a : Act) (cont : Option Cont) (v : Value) → IsAnswer v
-    → AllByRecursion (λ x. IsMessage (replied s a [] x)) (Acts.answers s cont v)
-answers_messages s a None v h = tt
-answers_messages s a (Some c) v h = (answer_message (hand_ids s a []) (hand_slot s a (length s.conts)) v h, tt)
-
--- ---- the laws, for each effect
+named_none : (m : ℕ) → NamesOne m []
+named_none m = record { below = tt; one = lit≤ tt }
 
 no_counts : (make slot : ℕ) → count_by (is_made_slot make slot) [] ≤ 1
 no_counts make slot = lit≤ tt
 
-held_refs : (m : ℕ) (values : List Value) → IsHeld values → AllByRecursion (λ place. place < m) (refs_in values)
-held_refs m [] h = tt
-held_refs m (Int z ∷ []) h = tt
-held_refs m _ h = absurd h
+-- where nobody is to be answered
+unused : (kind : ℕ) (s : State) (a : Act) → IsSpeaking kind s a → UsesEachOnce (length (hand_slots s a)) []
+unused kind s a h i =
+    let none : length (hand_slots s a) ≡ 0 =
+    length-hand_slots s a ∙ ap (λ conts. length (conts ++ listed a.cont)) h.conts ∙ ap (λ cont. length (listed cont)) h.cont in
+    let zero : cond (nat_lt i (length (hand_slots s a))) 1 0 ≡ 0 = ap (λ b. cond b 1 0) (le-ltb i (length (hand_slots s a)) (omega arith)) in
+    sym zero
+
+-- ---- shapes
 
 held_state : (drawn : ℕ) (values : List Value) (hand : List Id) → IsHeld values
     → IsState (record {
@@ -325,13 +225,6 @@ held_state drawn [] hand h =
 held_state drawn (Int z ∷ []) hand h =
     record { values = record { few = lit≤ tt; each = (tt, tt) }; refs = tt; conts = tt; ids = refl; few = lit≤ tt; short = lit≤ tt }
 held_state drawn _ hand h = absurd h
-
--- where nobody is to be answered
-unused : (kind : ℕ) (s : State) (a : Act) → IsSpeaking kind s a → UsesEachOnce (length (hand_slots s a)) []
-unused kind s a h i =
-    let none : length (hand_slots s a) ≡ 0 =
-    length-hand_slots s a ∙ ap (λ conts. length (conts ++ listed a.cont)) h.conts ∙ ap (λ cont. length (listed cont)) h.cont in
-    sym (ap one_if (le-ltb i (length (hand_slots s a)) (omega arith)))
 
 question_message : (hand : List Id) (n drawn code : ℕ) (args : List Value) → IsHeld args
     → IsMessage (addressed hand (bare_id (1 % n) 6 1) code args (Some (record { object = session; number = drawn })))
@@ -355,163 +248,171 @@ shown_few [] h = lit≤ tt
 shown_few (text ∷ []) h = lit≤ tt
 shown_few (text ∷ more ∷ texts) h = absurd h
 
--- the state as it was is well formed
-stays : (s : State) (a : Act) (kept : List Slot) → length kept ≡ length s.conts → IsState s
-    → IsState (record {
-      drawn = s.drawn;
-      values = renumbered 0 s.values;
-      conts = conts_from (length (refs_in s.values)) kept;
-      ids = map (id_at (hand_ids s a [])) (refs_in s.values) ++ map (λ x. x.object) kept;
-    })
-stays s a kept many h =
-    rw (same_values 0 s.values h.refs) (
-    let refs = refs_in s.values in
-    let mentions : length (map (id_at (hand_ids s a [])) refs) ≡ length refs = length-map refs (id_at (hand_ids s a [])) in
-    let objects : length (map (λ (x : Slot). x.object) kept) ≡ length kept = length-map kept (λ (x : Slot). x.object) in
-    let all = length-append (map (id_at (hand_ids s a [])) refs) (map (λ (x : Slot). x.object) kept) in
-    let conts = length-conts_from (length refs) kept in
-    let ids = h.ids in
-    let few = h.few in
-    let short = h.short in
-    record {
-      values = h.values;
-      refs = h.refs;
-      conts = placed (length refs) kept;
-      ids = omega arith;
-      few = omega arith;
-      short = omega arith;
-    })
+-- ---- the laws, for each effect
 
-unlisted_keeps : (n kind : ℕ) (s : State) (a : Act) → IsState s → KeepsLaws n kind s a (Acts.outcome_by n s a Unlisted)
-unlisted_keeps n kind s a h =
-    let m = length s.ids + length a.ids in
-    let ids = h.ids in
-    let kept = map (hand_slot s a) (numbers 0 s.conts) in
-    let many : length kept ≡ length s.conts = length-map (numbers 0 s.conts) (hand_slot s a) ∙ length-numbers 0 s.conts in
+-- a MOVE and a WHERE are answered as they must be
+abbrev Told : ℕ → ℕ → State → Act → Outcome → Type 0
+Told kind here s a out =
+    (a.code ≡ 1 → IsMovable kind → MovesBelow 64 a.args → TellsThePlace here s a out)
+    × (a.code ≡ 2 → IsManaged kind → a.args ≡ [] → TellsThePlace here s a out)
+
+stays_lawful : (n kind here : ℕ) (s : State) (a : Act) (v : Value) → IsState s → IsAct a → IsAnswer v
+    → Told kind here s a (stays s a v) → KeepsLaws n kind here s a (stays s a v)
+stays_lawful n kind here s a v h act good told =
+    let plain = answer_value v good in stays_keeps n kind here s a v h act plain.0 plain.1 told.0 told.1
+
+keeps_lawful : (n kind here : ℕ) (s : State) (a : Act) (values : List Value) (v : Value) → IsAct a → kind ≡ 6 → s.conts ≡ []
+    → IsHeld values → IsAnswer v → Told kind here s a (Acts.outcome_by n s a (Keeps values v))
+    → KeepsLaws n kind here s a (Acts.outcome_by n s a (Keeps values v))
+keeps_lawful n kind here s a values v act k none held good told =
+    let plain = answer_value v good in
+    let out : Outcome = Acts.outcome_by n s a (Keeps values v) in
+    let reply = flat_map (reply_mentions s a) (answers s a.cont v) in
+    let once : UsesEachOnce (length (hand_slots s a)) (answered (answers s a.cont v)) =
+    λ i. ap (λ conts. count_by (λ j. j == i) (numbers 0 conts ++ answered (answers s a.cont v))) (sym none) ∙ used_once s a v i in
+    let is : mentions s a (Acts.outcome_by n s a (Keeps values v)) ≡ reply = ap (λ refs. refs ++ [] ++ reply) (held_refs values held) in
     record {
-      state_refs = counted_below m 0 (refs_in s.values) h.refs (omega arith);
-      targets = tt;
-      send_refs = tt;
-      reply_refs = answers_refs m s a.cont (Fault 11) (lit≤ tt, lit≤ tt);
-      conts = used_once s a (Fault 11);
-      made = tt;
-      made_once = no_counts;
-      here = λ _. refl;
-      drawn = tt;
-      counted = omega arith;
-      prints = λ _. refl;
-      short_prints = tt;
-      few_sends = lit≤ tt;
-      few_replies = few_answers s a.cont (Fault 11);
-      few_prints = lit≤ tt;
-      state = stays s a kept many h;
-      sends = tt;
-      replies = answers_messages s a a.cont (Fault 11) (lit≤ tt, lit≤ tt);
-      codes = tt;
-      plain = λ k values conts. (values, ap (numbers 0) conts);
-      nothing_made = refl;
-      nothing_moves = tt;
+      names = few_named s a (Acts.outcome_by n s a (Keeps values v)) reply is (one_answer s a v act plain.1 a.cont refl) once;
+      conts = once;
+      slots = record { made = tt; made_once = no_counts; session = λ _. refl; drawn = tt; counted = omega arith };
+      few = record { makes = lit≤ tt; sends = lit≤ tt; prints = lit≤ tt; managed = tt; session = λ _. refl; short = tt };
+      shapes = record {
+        state = λ made. held_state s.drawn values (hand_ids s a made) held;
+        births = tt;
+        sends = λ made. tt;
+        replies = λ made. answers_messages s a made a.cont v plain.0 plain.1;
+      };
+      moves = record { codes = tt; moves = tt; moved = told.0; place = told.1 };
+      plain = λ seven. absurd (omega arith);
+      roots = tt;
     }
 
-keeps_keeps : (n kind : ℕ) (s : State) (a : Act) (values : List Value) (v : Value) → kind ≡ 6 → s.conts ≡ [] → IsHeld values → IsAnswer v
-    → KeepsLaws n kind s a (Acts.outcome_by n s a (Keeps values v))
-keeps_keeps n kind s a values v k none held good =
-    let m = length s.ids + length a.ids in
-    record {
-      state_refs = held_refs m values held;
-      targets = tt;
-      send_refs = tt;
-      reply_refs = answers_refs m s a.cont v good;
-      conts = λ i. ap (λ conts. count_by (λ j. j == i) (numbers 0 conts ++ answered (Acts.answers s a.cont v))) (sym none) ∙ used_once s a v i;
-      made = tt;
-      made_once = no_counts;
-      here = λ _. refl;
-      drawn = tt;
-      counted = omega arith;
-      prints = λ _. refl;
-      short_prints = tt;
-      few_sends = lit≤ tt;
-      few_replies = few_answers s a.cont v;
-      few_prints = lit≤ tt;
-      state = held_state s.drawn values (hand_ids s a []) held;
-      sends = tt;
-      replies = answers_messages s a a.cont v good;
-      codes = tt;
-      plain = λ plain. absurd (omega arith);
-      nothing_made = refl;
-      nothing_moves = tt;
-    }
-
-asks_keeps : (n kind : ℕ) (s : State) (a : Act) (drawn code : ℕ) (args : List Value) → IsSpeaking kind s a → IsAsked s drawn code args
-    → KeepsLaws n kind s a (Acts.outcome_by n s a (Asks drawn code args))
-asks_keeps n kind s a drawn code args h q =
-    let m = length s.ids + length a.ids in
+asks_lawful : (n kind here : ℕ) (s : State) (a : Act) (drawn code : ℕ) (args : List Value) → IsSpeaking kind s a → IsAsked s drawn code args
+    → Told kind here s a (Acts.outcome_by n s a (Asks drawn code args))
+    → KeepsLaws n kind here s a (Acts.outcome_by n s a (Asks drawn code args))
+asks_lawful n kind here s a drawn code args h q told =
     let next = q.next in
     let session = h.session in
+    let m = length s.ids + length a.ids + 0 in
+    let is : mentions s a (Acts.outcome_by n s a (Asks drawn code args)) ≡ [] = ap (λ refs. refs ++ [] ++ [] ++ []) (held_refs args q.number) in
     record {
-      state_refs = tt;
-      targets = (inr (inr (refl, refl)), tt);
-      send_refs = (held_refs m args q.number, tt);
-      reply_refs = tt;
+      names = few_named s a (Acts.outcome_by n s a (Asks drawn code args)) [] is (named_none m) (unused kind s a h);
       conts = unused kind s a h;
-      made = tt;
-      made_once = no_counts;
-      here = λ other. absurd (other session);
-      drawn = (refl, tt);
-      counted = next;
-      prints = λ _. refl;
-      short_prints = tt;
-      few_sends = lit≤ tt;
-      few_replies = lit≤ tt;
-      few_prints = lit≤ tt;
-      state = held_state drawn [] (hand_ids s a []) tt;
-      sends = (question_message (hand_ids s a []) n s.drawn code args q.number, tt);
-      replies = tt;
-      codes = ((asks_not 3 code q.asks (lit< tt), asks_not 4 code q.asks (lit< tt)), tt);
-      plain = λ plain. absurd (omega arith);
-      nothing_made = refl;
-      nothing_moves = (asks_not 1 code q.asks (lit< tt), tt);
+      slots = record { made = tt; made_once = no_counts; session = λ other. absurd (other session); drawn = (refl, tt); counted = next };
+      few = record { makes = lit≤ tt; sends = lit≤ tt; prints = lit≤ tt; managed = tt; session = λ _. refl; short = tt };
+      shapes = record {
+        state = λ made. held_state drawn [] (hand_ids s a made) tt;
+        births = tt;
+        sends = λ made. (question_message (hand_ids s a made) n s.drawn code args q.number, tt);
+        replies = λ made. tt;
+      };
+      moves = record {
+        codes = ((asks_not 3 code q.asks (lit< tt), asks_not 4 code q.asks (lit< tt)), tt);
+        moves = ((λ e. absurd (asks_not 1 code q.asks (lit< tt) e)), tt);
+        moved = told.0;
+        place = told.1;
+      };
+      plain = λ seven. absurd (omega arith);
+      roots = (inr (inr (refl, refl)), tt);
     }
 
-prints_keeps : (n kind : ℕ) (s : State) (a : Act) (texts : List (List ℕ)) → IsSpeaking kind s a → IsShown texts
-    → KeepsLaws n kind s a (Acts.outcome_by n s a (Prints texts))
-prints_keeps n kind s a texts h q =
+prints_lawful : (n kind here : ℕ) (s : State) (a : Act) (texts : List (List ℕ)) → IsSpeaking kind s a → IsShown texts
+    → Told kind here s a (Acts.outcome_by n s a (Prints texts))
+    → KeepsLaws n kind here s a (Acts.outcome_by n s a (Prints texts))
+prints_lawful n kind here s a texts h q told =
     let session = h.session in
+    let m = length s.ids + length a.ids + 0 in
     record {
-      state_refs = tt;
-      targets = tt;
-      send_refs = tt;
-      reply_refs = tt;
+      names = few_named s a (Acts.outcome_by n s a (Prints texts)) [] refl (named_none m) (unused kind s a h);
       conts = unused kind s a h;
-      made = tt;
-      made_once = no_counts;
-      here = λ _. refl;
-      drawn = tt;
-      counted = omega arith;
-      prints = λ other. absurd (other session);
-      short_prints = shown_short texts q;
-      few_sends = lit≤ tt;
-      few_replies = lit≤ tt;
-      few_prints = shown_few texts q;
-      state = held_state s.drawn [] (hand_ids s a []) tt;
-      sends = tt;
-      replies = tt;
-      codes = tt;
-      plain = λ plain. absurd (omega arith);
-      nothing_made = refl;
-      nothing_moves = tt;
+      slots = record { made = tt; made_once = no_counts; session = λ _. refl; drawn = tt; counted = omega arith };
+      few = record {
+        makes = lit≤ tt;
+        sends = lit≤ tt;
+        prints = shown_few texts q;
+        managed = tt;
+        session = λ other. absurd (other session);
+        short = shown_short texts q;
+      };
+      shapes = record {
+        state = λ made. held_state s.drawn [] (hand_ids s a made) tt;
+        births = tt;
+        sends = λ made. tt;
+        replies = λ made. tt;
+      };
+      moves = record { codes = tt; moves = tt; moved = told.0; place = told.1 };
+      plain = λ seven. absurd (omega arith);
+      roots = tt;
     }
 
-effect_keeps : (n kind : ℕ) (s : State) (a : Act) → IsState s → (e : Effect) → IsFine kind s a e → KeepsLaws n kind s a (Acts.outcome_by n s a e)
-effect_keeps n kind s a h Unlisted fine = unlisted_keeps n kind s a h
-effect_keeps n kind s a h (Asks drawn code args) fine = asks_keeps n kind s a drawn code args fine.0 fine.1
-effect_keeps n kind s a h (Prints texts) fine = prints_keeps n kind s a texts fine.0 fine.1
-effect_keeps n kind s a h (Keeps values v) fine = keeps_keeps n kind s a values v fine.0 fine.1 fine.2 fine.3
+effect_lawful : (n kind here : ℕ) (s : State) (a : Act) → IsState s → IsAct a → (e : Effect) → IsFine kind s a e
+    → Told kind here s a (Acts.outcome_by n s a e) → KeepsLaws n kind here s a (Acts.outcome_by n s a e)
+effect_lawful n kind here s a h act Unlisted fine told = stays_lawful n kind here s a (Fault 11) h act (lit≤ tt, lit≤ tt) told
+effect_lawful n kind here s a h act (Tells place) fine told = stays_lawful n kind here s a (Int (pos place)) h act tt told
+effect_lawful n kind here s a h act (Asks drawn code args) fine told = asks_lawful n kind here s a drawn code args fine.0 fine.1 told
+effect_lawful n kind here s a h act (Prints texts) fine told = prints_lawful n kind here s a texts fine.0 fine.1 told
+effect_lawful n kind here s a h act (Keeps values v) fine told = keeps_lawful n kind here s a values v act fine.0 fine.1 fine.2 fine.3 told
+
+-- ---- MOVE and WHERE
+
+asks_where : (kind code : ℕ) (args : List Value) → code ≡ 2 → IsManaged kind → args ≡ [] → Acts.asks_place kind code args ≡ true
+asks_where kind code args c k none =
+    rw (c, none, le-leb 16 kind k.0, le-leb kind 63 k.1) refl
+
+asks_move : (kind code : ℕ) (args : List Value) → code ≡ 1 → IsMovable kind → MovesBelow 64 args → Acts.asks_place kind code args ≡ true
+asks_move kind code args c k h =
+    let t = h.0 in
+    let low : nat_lt h.0 64 ≡ true = lt-ltb h.0 64 h.1 in
+    rw (c, h.2, le-leb 16 kind k.0, le-leb kind 31 k.1, low) refl
+
+module _ (n kind here : ℕ) (s : State) (a : Act) (place : here < n) (few : n ≤ 64) (state : IsState s) where
+  tells : 16 ≤ kind → Acts.asks_place kind a.code a.args ≡ true → Acts.effect_of n kind here s a ≡ Tells here
+  tells managed asked =
+      let one : (kind == 1) ≡ false = ne_eqb kind 1 (omega arith) in
+      let six : (kind == 6) ≡ false = ne_eqb kind 6 (omega arith) in
+      rw (lt-ltb here n place, le-leb n 64 few, one, six, asked) refl
+
+  told_where : Acts.effect_of n kind here s a ≡ Tells here → TellsThePlace here s a (Acts.outcome_by n s a (Acts.effect_of n kind here s a))
+  told_where e =
+      let P : Effect → Type 0 = λ x. TellsThePlace here s a (Acts.outcome_by n s a x) in
+      subst P (sym e) (stays_tells here s a state)
+
+  told : Told kind here s a (Acts.outcome_by n s a (Acts.effect_of n kind here s a))
+  told = (
+    λ c k h. told_where (tells k.0 (asks_move kind a.code a.args c k h)),
+    λ c k none. told_where (tells k.0 (asks_where kind a.code a.args c k none)),
+  )
 
 pub keeps_laws : (n kind here : ℕ) (s : State) (a : Act) → 1 ≤ n → n ≤ 64 → here < n → IsState s → IsAct a
-    → KeepsLaws n kind s a (Acts.act_of n kind here s a)
+    → KeepsLaws n kind here s a (Acts.act_of n kind here s a)
 unfolding Acts.act_of
-keeps_laws n kind here s a some few place state act = effect_keeps n kind s a state (Acts.effect_of n kind here s a) (effect_fine n kind here s a)
+keeps_laws n kind here s a some few place state act =
+    effect_lawful n kind here s a state act (Acts.effect_of n kind here s a) (effect_fine n kind here s a) (told n kind here s a place few state)
+
+-- ---- nothing is made, and nothing moves
+
+effect_makes : (n : ℕ) (s : State) (a : Act) (e : Effect) → (Acts.outcome_by n s a e).makes ≡ []
+effect_makes n s a Unlisted = refl
+effect_makes n s a (Tells here) = refl
+effect_makes n s a (Asks drawn code args) = refl
+effect_makes n s a (Prints texts) = refl
+effect_makes n s a (Keeps values v) = refl
+
+pub nothing_made : (n kind here : ℕ) (s : State) (a : Act) → (Acts.act_of n kind here s a).makes ≡ []
+unfolding Acts.act_of
+nothing_made n kind here s a = effect_makes n s a (Acts.effect_of n kind here s a)
+
+effect_moves : (n kind : ℕ) (s : State) (a : Act) (e : Effect) → IsFine kind s a e
+    → AllByRecursion (λ x. x.code ≢ 1) (Acts.outcome_by n s a e).sends
+effect_moves n kind s a Unlisted fine = tt
+effect_moves n kind s a (Tells here) fine = tt
+effect_moves n kind s a (Asks drawn code args) fine = (asks_not 1 code fine.1.asks (lit< tt), tt)
+effect_moves n kind s a (Prints texts) fine = tt
+effect_moves n kind s a (Keeps values v) fine = tt
+
+pub nothing_moves : (n kind here : ℕ) (s : State) (a : Act) → AllByRecursion (λ x. x.code ≢ 1) (Acts.act_of n kind here s a).sends
+unfolding Acts.act_of
+nothing_moves n kind here s a = effect_moves n kind s a (Acts.effect_of n kind here s a) (effect_fine n kind here s a)
 
 -- ---- neither names nor credits matter
 
@@ -528,6 +429,7 @@ is_blind n kind here s a = rw (is_empty-map bare s.ids) refl
 
 effect_silent : (n kind : ℕ) (s : State) (a : Act) → kind ≢ 1 → (e : Effect) → IsFine kind s a e → (Acts.outcome_by n s a e).prints ≡ []
 effect_silent n kind s a other Unlisted fine = refl
+effect_silent n kind s a other (Tells here) fine = refl
 effect_silent n kind s a other (Asks drawn code args) fine = refl
 effect_silent n kind s a other (Prints texts) fine = absurd (other fine.0.session)
 effect_silent n kind s a other (Keeps values v) fine = refl

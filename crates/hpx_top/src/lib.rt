@@ -10,6 +10,7 @@ pub mod locals;
 pub mod node;
 pub mod parts;
 pub mod reader;
+pub mod root_acts;
 pub mod run;
 pub mod session;
 pub mod steps;

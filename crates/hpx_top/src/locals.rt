@@ -15,25 +15,26 @@ ghost use Rattle.hpx_top.specs.Jobs.{IsRunning};
 
 use crate::node::Node;
 use crate::parts::{FinishFault, Finished, TakeFault};
+use crate::root_acts::RootActs;
 use hpx_parcel::write::encode;
 use hpx_ports::fabric::Fabric;
 use hpx_ports::fault::FabricFault;
 use hpx_root_journal::entry::Event;
 use hpx_root_journal::journal::Journal;
-use hpx_value::acts::{Acts, Done, Job};
+use hpx_value::acts::{Done, Job};
 use hpx_value::items::{Bytes, Text};
 use hpx_value::memory::OutOfMemory;
 use std::alloc::Global;
 
 /// All localities, the one journal, and a frame that was delivered and not yet accepted.
 #[derive(Drop)]
-pub struct Locals<A: Acts + Copy> {
+pub struct Locals<A: RootActs + Copy> {
     pub nodes: Vec<Node<A>>,
     pub journal: Journal,
     pub hand: Option<(u32, Bytes)>,
 }
 
-impl<A: Acts + Copy> Locals<A> {
+impl<A: RootActs + Copy> Locals<A> {
     /// All localities at boot.
     #[tactic(auto, using(crate::proofs::Booted::booted_none, crate::proofs::Booted::booted_more))]
     pub fn boot(alloc: Global, acts: A) -> Result<Locals<A>, OutOfMemory>

@@ -21,11 +21,12 @@ use crate::find::{first_free, index_of, place_of, target};
 use crate::hand::Hand;
 use crate::kept::{Fit, Kept};
 use crate::parts::{FinishFault, Finished, Outgoing, TakeFault};
+use crate::root_acts::RootActs;
 use hpx_parcel::parcel::{DecodeFault, Parcel};
 use hpx_parcel::read::decode;
 use hpx_root_journal::entry::{Entry, Event, Name};
 use hpx_root_journal::journal::Journal;
-use hpx_value::acts::{Acts, Done, Job};
+use hpx_value::acts::{Done, Job};
 use hpx_value::codes::{LINE, SESSION};
 use hpx_value::exact::Exact;
 use hpx_value::gid::Gid;
@@ -39,7 +40,7 @@ use std::marker::Model;
 
 /// One locality.
 #[derive(Drop)]
-pub struct Node<A: Acts + Copy> {
+pub struct Node<A: RootActs + Copy> {
     acts: A,
     here: u32,
     localities: u32,
@@ -52,7 +53,7 @@ pub struct Node<A: Acts + Copy> {
     taken: u64,
 }
 
-impl<A: Acts + Copy> Model for Node<A> {
+impl<A: RootActs + Copy> Model for Node<A> {
     ghost use Rattle.std.specs.Prelude.{◌≡◌, ◌≢◌, ◌<◌, ◌≤◌, ◌-◌, min, vec_len, vec_capacity};
     ghost use Rattle.std.specs.List.{All};
     ghost use Rattle.std.specs.VecDeque.{deque_len, deque_capacity};
@@ -78,7 +79,7 @@ impl<A: Acts + Copy> Model for Node<A> {
         × All (λ x. (x.to < n.localities) × (x.to ≢ n.here)) n.outgoing.items };
 }
 
-impl<A: Acts + Copy> Node<A> {
+impl<A: RootActs + Copy> Node<A> {
     /// A locality at boot.
     pub fn boot(alloc: Global, acts: A, here: u32) -> Result<Node<A>, OutOfMemory>
         requires here { here < A.count acts }

@@ -7,14 +7,15 @@ ghost use Rattle.hpx_top.specs.Turns.{IsUnfed};
 
 use crate::locals::Locals;
 use crate::parts::FinishFault;
+use crate::root_acts::RootActs;
 use crate::turns::WorldFault;
 use hpx_ports::fabric::Fabric;
 use hpx_ports::fault::FabricFault;
-use hpx_value::acts::{Acts, Done};
+use hpx_value::acts::Done;
 use hpx_value::memory::OutOfMemory;
 use std::alloc::Global;
 
-impl<A: Acts + Copy> Locals<A> {
+impl<A: RootActs + Copy> Locals<A> {
     /// Why the journal is full.
     pub fn full(&self, undone: Option<Done<A>>) -> WorldFault<A>
         ensures { result ≡ WorldFault.JournalFull (length self.now.journal.entries) (min (2 ^ 64 - 1) (total_weight self.now.journal.entries)) undone }

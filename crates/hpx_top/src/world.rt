@@ -13,12 +13,13 @@ ghost use Rattle.hpx_top.specs.Jobs.{IsRunning};
 
 use crate::locals::Locals;
 use crate::parts::{FinishFault, Finished};
+use crate::root_acts::RootActs;
 use crate::turns::{Choice, Turned, WorldFault};
 use hpx_ports::fabric::Fabric;
 use hpx_ports::fault::FabricFault;
 use hpx_root_journal::entry::Event;
 use hpx_root_journal::journal::Journal;
-use hpx_value::acts::{Acts, Done};
+use hpx_value::acts::Done;
 use hpx_value::items::Text;
 use hpx_value::memory::OutOfMemory;
 use std::alloc::Global;
@@ -26,12 +27,12 @@ use std::marker::Model;
 
 /// All localities.
 #[derive(Drop)]
-pub struct World<A: Acts + Copy> {
+pub struct World<A: RootActs + Copy> {
     acts: A,
     locals: Locals<A>,
 }
 
-impl<A: Acts + Copy> Model for World<A> {
+impl<A: RootActs + Copy> Model for World<A> {
     ghost use Rattle.std.specs.Prelude.{◌≡◌, length};
     ghost use Rattle.hpx_top.specs.Places.{Places};
     ghost use Rattle.hpx_top.specs.Sound.{IsSound};
@@ -44,7 +45,7 @@ impl<A: Acts + Copy> Model for World<A> {
         × IsSound A.act_of w.locals.nodes.items w.locals.journal.entries };
 }
 
-impl<A: Acts + Copy> World<A> {
+impl<A: RootActs + Copy> World<A> {
     /// All localities at boot: the roots stand, and the journal is empty.
     pub fn boot(alloc: Global, acts: A) -> Result<World<A>, OutOfMemory>
         requires some { 1 ≤ A.count acts }

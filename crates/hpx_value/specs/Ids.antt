@@ -35,6 +35,15 @@ bare id = record { home = id.home; kind = id.kind; number = id.number; log = Non
 abbrev pub bare_id : ℕ → ℕ → ℕ → Id
 bare_id home kind number = record { home = home; kind = kind; number = number; log = None }
 
+-- a credit of log l is worth 2^l, and none is worth nothing
+abbrev pub credit_of_log : Option ℕ → ℕ
+credit_of_log None = 0
+credit_of_log (Some log) = 2 ^ log
+
+-- what an id is worth
+abbrev pub credit : Id → ℕ
+credit id = credit_of_log id.log
+
 -- the log that the bits show
 abbrev pub log_in : ℕ → Option ℕ
 log_in msb = cond (msb / 2 ^ 30 % 2 == 1) (Some (msb / 2 ^ 24 % 32)) None

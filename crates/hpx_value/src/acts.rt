@@ -4,13 +4,17 @@ ghost use Rattle.hpx_value.specs.Shapes.{IsAct, IsState};
 ghost use Rattle.hpx_value.specs.Hands.{Outcome};
 ghost use Rattle.hpx_value.specs.Laws.{KeepsLaws};
 
+use crate::items::Items;
 use crate::memory::OutOfMemory;
 use crate::outcome::Outcome;
 use crate::value::{Act, State};
 use std::alloc::Global;
 use std::marker::PhantomData;
 
-/// What actions do.
+/// What actions do, and the laws that they keep, whatever they are.
+///
+/// The laws are in `specs/Laws.antt`: an outcome names its hand alone and nothing too often, uses each continuation once,
+/// makes, sends and prints little, is well formed, moves objects rightly, and leaves a plain object empty.
 pub trait Acts {
     /// The number of localities.
     ghost count: { Self → ℕ };
@@ -34,7 +38,7 @@ pub trait Acts {
         ensures { IfOk result (λ outcome. outcome ≡ act_of (count self.now) kind here state.now action.now) };
 
     ghost keeps_laws: { (n kind here : ℕ) (s : State) (a : Act) → 1 ≤ n → n ≤ 64 → here < n → IsState s → IsAct a
-        → KeepsLaws n kind s a (act_of n kind here s a) };
+        → KeepsLaws n kind here s a (act_of n kind here s a) };
 
     /// Neither the name of the action nor the credits of ids matter.
     ghost is_blind: { (n kind here : ℕ) (s : State) (a : Act)
@@ -49,6 +53,9 @@ pub struct Job {
     pub state: State,
     pub action: Act,
 }
+
+/// Jobs, in order.
+pub type Jobs = Items<Job>;
 
 /// A job with its outcome, which is no other than the acts' own.
 #[derive(Drop)]
@@ -65,6 +72,7 @@ impl<A: Acts> Done<A> {
     pub fn compute(alloc: Global, acts: &A, job: Job) -> Result<Done<A>, Job>
         ensures job { IfOk result (λ done. done.job ≡ job) }
         ensures localities { IfOk result (λ done. done.localities ≡ A.count acts.now) }
+        ensures outcome { IfOk result (λ done. done.outcome ≡ A.act_of (A.count acts.now) job.kind job.at job.state job.action) }
         ensures err { IfErr result (λ back. back ≡ job) }
     {
         let localities = acts.localities();

@@ -1,5 +1,5 @@
 ghost use Rattle.std.specs.Prelude.{◌≡◌, ◌-◌, ◌^◌, ◌<◌, ◌≤◌, ◌↔◌, IsTrue, IfSome, IfNone, Some};
-ghost use Rattle.hpx_value.specs.Ids.{Id, IsId, bare, bare_id, same_object, upper_half};
+ghost use Rattle.hpx_value.specs.Ids.{Id, IsId, bare, bare_id, credit, same_object, upper_half};
 
 use crate::exact::Exact;
 use crate::items::Items;
@@ -139,6 +139,18 @@ impl Gid {
             Some((self.msb / LOG_UNIT % 32) as u8)
         } else {
             None
+        }
+    }
+
+    /// What the id is worth: `2^log`, or 0 without a credit.
+    pub fn credit(self) -> u128
+        ensures value { result ≡ credit self }
+        ensures bound { result ≤ 2 ^ 31 }
+    {
+        let _upper = self.msb;
+        match self.log() {
+            Some(log) => 1u128 << log as u32,
+            None => 0,
         }
     }
 

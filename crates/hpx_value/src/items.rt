@@ -22,6 +22,10 @@ pub type Numbers = Items<u32>;
 pub type Ints = Items<i64>;
 /// Lengths, or counts of calls.
 pub type Lengths = Items<u64>;
+/// Keys of a table.
+pub type Keys = Items<usize>;
+/// Frames, in order.
+pub type Frames = Items<Bytes>;
 /// Texts, as the words of a command line.
 pub type Texts = Items<Text>;
 

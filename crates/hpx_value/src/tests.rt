@@ -273,13 +273,23 @@ fn profiles_have_their_ranges(rt: HostRuntime) {
 }
 
 #[test]
+fn credits_have_worth(rt: HostRuntime) {
+    let id = Gid::new(1, 16, 1);
+    assert_eq!(rt; id.credit(), 0);
+    assert_eq!(rt; id.with_log(0).credit(), 1);
+    assert_eq!(rt; id.with_log(30).credit(), 1_073_741_824);
+    assert_eq!(rt; id.with_log(31).credit(), 2_147_483_648);
+}
+
+#[test]
 fn codes_are_those_of_frames(rt: HostRuntime) {
     let roots = [
         SESSION, SYMBOLS, COMPONENTS, LOCALITIES, SHELF, TALLY, PLAIN,
     ];
     assert_eq!(rt; roots, [1, 2, 3, 4, 5, 6, 7]);
-    assert_eq!(rt; FIRST_MANAGED, 16);
-    assert_eq!(rt; [MOVE, SET, LINE, ADD, QUERY], [1, 3, 4, 16, 17]);
+    assert_eq!(rt; [FIRST_MANAGED, LAST_MOVABLE, LAST_MANAGED], [16, 31, 63]);
+    assert_eq!(rt; [MOVE, WHERE, SET, LINE], [1, 2, 3, 4]);
+    assert_eq!(rt; [ADD, QUERY, RESET], [16, 17, 18]);
     assert_eq!(rt; [OVERFLOW, NO_ACTION], [1, 11]);
 }
 

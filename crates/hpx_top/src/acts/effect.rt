@@ -15,6 +15,8 @@ use std::alloc::Global;
 pub enum Effect {
     /// It is not listed for its object.
     Unlisted,
+    /// The place of its object is answered.
+    Tells(u32),
     /// The tally is asked, under the next slot of the session, of which so many are drawn then.
     Asks { drawn: u32, code: u16, args: Values },
     /// The session prints.
@@ -49,6 +51,10 @@ impl Effect {
             Effect::Unlisted => {
                 outcome.state = kept(alloc, state)?;
                 outcome.replies = answers(alloc, state, action, Value::Fault(NO_ACTION))?;
+            }
+            Effect::Tells(here) => {
+                outcome.state = kept(alloc, state)?;
+                outcome.replies = answers(alloc, state, action, Value::Int(i64::from(here)))?;
             }
             Effect::Asks { drawn, code, args } => {
                 outcome.state.drawn = drawn;

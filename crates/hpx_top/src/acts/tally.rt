@@ -3,7 +3,7 @@ ghost use Rattle.std.specs.Prelude.{◌≡◌, IfOk};
 ghost use Rattle.hpx_top.specs.Acts.{tally_effect, held};
 
 use crate::acts::effect::{Effect, one};
-use hpx_value::codes::{ADD, OVERFLOW, QUERY};
+use hpx_value::codes::{ADD, OVERFLOW, QUERY, RESET};
 use hpx_value::exact::Exact;
 use hpx_value::memory::OutOfMemory;
 use hpx_value::value::{Act, State, Value};
@@ -31,6 +31,10 @@ pub fn tally_effect(alloc: Global, state: &State, action: &Act) -> Result<Effect
         (QUERY, []) => Ok(Effect::Keeps {
             values: state.values.duplicate(alloc)?,
             answer: Value::Int(number),
+        }),
+        (RESET, []) => Ok(Effect::Keeps {
+            values: one(alloc, Value::Int(0))?,
+            answer: Value::Unit,
         }),
         _ => Ok(Effect::Unlisted),
     }

@@ -2,7 +2,9 @@ use crate::acts::AllActs;
 use crate::acts::console::fault_text;
 use crate::acts::lines::{COMMANDS, PROMPT, first_line, is_long, is_quit, line_of, marked};
 use hpx_value::acts::Acts;
-use hpx_value::codes::{ADD, LINE, QUERY, SESSION, SET, TALLY};
+use hpx_value::codes::{
+    ADD, LINE, MOVE, NO_ACTION, QUERY, RESET, SESSION, SET, SHELF, TALLY, WHERE,
+};
 use hpx_value::items::Items;
 use hpx_value::memory::OutOfMemory;
 use hpx_value::outcome::{Outcome, SendCont, Target};
@@ -65,6 +67,28 @@ fn asked(
     let cont = Some(Cont { place: 1, slot: 7 });
     let tally = state(alloc, 0, values);
     ACTS.act(alloc, TALLY, 1, &tally, &action(alloc, code, args, cont))
+}
+
+fn placed(alloc: Global, kind: u32, code: u16, args: &[i64]) -> Result<Outcome, OutOfMemory> {
+    let mut values = Items::new(alloc);
+    for number in args {
+        values.push(Value::Int(*number))?;
+    }
+    let mut held = Items::new(alloc);
+    held.push(Value::Int(9))?;
+    let cont = Some(Cont { place: 1, slot: 7 });
+    let object = state(alloc, 0, held);
+    ACTS.act(alloc, kind, 1, &object, &action(alloc, code, values, cont))
+}
+
+fn answers_place(outcome: &Outcome) -> bool {
+    matches!(outcome.state.values.as_slice(), [Value::Int(9)])
+        && matches!(outcome.replies.as_slice(), [reply] if matches!(&reply.value, Value::Int(1)))
+}
+
+fn refuses(outcome: &Outcome) -> bool {
+    matches!(outcome.state.values.as_slice(), [Value::Int(9)])
+        && matches!(outcome.replies.as_slice(), [reply] if matches!(&reply.value, Value::Fault(NO_ACTION)))
 }
 
 fn prints(outcome: &Outcome, text: &[u8]) -> bool {
@@ -134,10 +158,34 @@ fn the_tally_counts(rt: HostRuntime) -> Result<(), OutOfMemory> {
     assert!(rt;
         matches!(outcome.replies.as_slice(), [reply] if matches!(&reply.value, Value::Int(0)))
     );
+    let mut some = Items::new(alloc);
+    some.push(Value::Int(5))?;
+    let outcome = asked(alloc, some, RESET, None)?;
+    assert!(rt; matches!(outcome.state.values.as_slice(), [Value::Int(0)]));
+    assert!(rt;
+        matches!(outcome.replies.as_slice(), [reply] if matches!(&reply.value, Value::Unit))
+    );
     let outcome = asked(alloc, Items::new(alloc), SET, None)?;
     assert!(rt;
         matches!(outcome.replies.as_slice(), [reply] if matches!(&reply.value, Value::Fault(11)))
     );
+    Ok(())
+}
+
+#[test]
+fn a_managed_object_tells_its_place(rt: HostRuntime) -> Result<(), OutOfMemory> {
+    let alloc = rt.alloc();
+    assert!(rt; answers_place(&placed(alloc, 16, MOVE, &[0])?));
+    assert!(rt; answers_place(&placed(alloc, 31, MOVE, &[63])?));
+    assert!(rt; answers_place(&placed(alloc, 16, WHERE, &[])?));
+    assert!(rt; answers_place(&placed(alloc, 63, WHERE, &[])?));
+    assert!(rt; refuses(&placed(alloc, 32, MOVE, &[0])?));
+    assert!(rt; refuses(&placed(alloc, 16, MOVE, &[64])?));
+    assert!(rt; refuses(&placed(alloc, 16, MOVE, &[-1])?));
+    assert!(rt; refuses(&placed(alloc, 16, MOVE, &[])?));
+    assert!(rt; refuses(&placed(alloc, 16, WHERE, &[0])?));
+    assert!(rt; refuses(&placed(alloc, SHELF, WHERE, &[])?));
+    assert!(rt; refuses(&placed(alloc, SHELF, MOVE, &[0])?));
     Ok(())
 }
 
