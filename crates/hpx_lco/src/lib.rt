@@ -11,3 +11,5 @@ mod channel;
 mod dataflow;
 mod meeting;
 mod promise;
+#[cfg(test)]
+mod tests;
