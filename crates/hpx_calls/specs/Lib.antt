@@ -5,3 +5,4 @@ pub mod Effects
 pub mod Tables
 pub mod Outcomes
 pub mod Sorts
+pub mod Histories

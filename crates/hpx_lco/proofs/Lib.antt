@@ -1,1 +1,4 @@
 pub mod Inputs
+pub mod Still
+pub mod Latches
+pub mod Promises

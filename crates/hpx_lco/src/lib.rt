@@ -9,6 +9,7 @@
 pub mod act;
 mod channel;
 mod dataflow;
+pub mod laws;
 mod meeting;
 mod promise;
 #[cfg(test)]
