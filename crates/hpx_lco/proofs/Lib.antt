@@ -2,3 +2,4 @@ pub mod Inputs
 pub mod Still
 pub mod Latches
 pub mod Promises
+pub mod Channels
