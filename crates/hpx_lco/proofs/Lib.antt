@@ -3,3 +3,4 @@ pub mod Still
 pub mod Latches
 pub mod Promises
 pub mod Channels
+pub mod Barriers

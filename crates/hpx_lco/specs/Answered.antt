@@ -1,8 +1,8 @@
 -- What calls on control objects are answered, as functions of the whole list of calls before, the latest first.
-use Rattle.std.specs.Prelude.{ℕ, zero, suc, Bool, true, false, nat_le, nat_lt, List, [], ◌∷◌, ◌++◌, ◌+◌, ◌==◌, ◌&&◌, Option, Some, None, length, take, drop, if◌then◌else◌}
+use Rattle.std.specs.Prelude.{ℕ, zero, suc, Bool, true, false, nat_le, nat_lt, List, [], ◌∷◌, ◌++◌, ◌+◌, ◌-◌, ◌%◌, ◌==◌, ◌&&◌, Option, Some, None, length, take, drop, if◌then◌else◌}
 use Rattle.hpx_calls.specs.Values.{Sort, is_number_or_text, is_small}
 use Rattle.hpx_calls.specs.declared.request.Request.{Request}
-use Rattle.hpx_calls.specs.declared.request.Request.TheVariants.{Set, Get, Put, Close, Down, Wait}
+use Rattle.hpx_calls.specs.declared.request.Request.TheVariants.{Set, Get, Put, Close, Down, Wait, Arrive}
 use Rattle.hpx_calls.specs.Tables.{is_first}
 use Rattle.hpx_calls.specs.Histories.{Call, Told, own, each, joined}
 
@@ -146,3 +146,18 @@ get_from k is a w =
 abbrev pub close_says : {V W : Type 0} → Sort V → Bool → Accepted V W → Option W → List (Told V W)
 close_says k true a w = own w (k.fault 8)
 close_says k false a w = each (k.fault 8) (drop (length a.puts) a.gets) ++ own w k.nothing
+
+-- ---- barriers
+
+-- the ARRIVEs that had a continuation, the oldest first
+abbrev pub joins_arrive : {V W : Type 0} → Request V → List W → Option W → List W
+joins_arrive Arrive ws w = joined ws w
+joins_arrive _ ws w = ws
+
+abbrev pub arrivals : {V W : Type 0} → List (Call V W) → List W
+arrivals [] = []
+arrivals (c ∷ h) = joins_arrive c.request (arrivals h) c.waiter
+
+-- the ARRIVE whose number is a multiple of n answers itself and the n - 1 before it
+abbrev pub arrive_says : {V W : Type 0} → Sort V → ℕ → List W → Option W → List (Told V W)
+arrive_says k n ws w = if (length ws + 1) % n == 0 then each k.nothing (drop (length ws + 1 - n) ws) ++ own w k.nothing else []
