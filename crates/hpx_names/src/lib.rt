@@ -8,3 +8,5 @@
 pub mod act;
 mod maker;
 mod table;
+#[cfg(test)]
+mod tests;
