@@ -54,11 +54,11 @@ numbers-split n (suc a) b =
     here : n + 1 + a ≡ n + suc a
     here = omega arith
 
-kept_numbers : {X : Type 0} (n : ℕ) (xs : List X) → numbers n (length xs) ≡ Kept.numbers n xs
+pub kept_numbers : {X : Type 0} (n : ℕ) (xs : List X) → numbers n (length xs) ≡ Kept.numbers n xs
 kept_numbers n [] = refl
 kept_numbers n (x ∷ xs) = ap (λ rest. n ∷ rest) (kept_numbers (n + 1) xs)
 
-length-numbers : (n count : ℕ) → length (numbers n count) ≡ count
+pub length-numbers : (n count : ℕ) → length (numbers n count) ≡ count
 length-numbers n zero = refl
 length-numbers n (suc count) = ap suc (length-numbers (n + 1) count)
 
@@ -68,7 +68,7 @@ length-numbers n (suc count) = ap suc (length-numbers (n + 1) count)
 abbrev pub all_of : State → Act → List ℕ
 all_of s a = numbers 0 (length s.conts) ++ answered (own_reply s a.cont Nothing)
 
-own_is : (s : State) (cont : Option Cont) (v : Value) → own_reply s cont v ≡ Kept.answers s cont v
+pub own_is : (s : State) (cont : Option Cont) (v : Value) → own_reply s cont v ≡ Kept.answers s cont v
 own_is s None v = refl
 own_is s (Some c) v = refl
 

@@ -5,3 +5,5 @@ pub mod SortsLemmas
 pub mod Told
 pub mod Keeps
 pub mod Shown
+pub mod Asked
+pub mod Controls
