@@ -39,7 +39,7 @@ pub good_if : (n kind here : ℕ) (s : State) (a : Act) (b : Bool) (x y : Called
 good_if n kind here s a true x y p q = p refl
 good_if n kind here s a false x y p q = q refl
 
-same_stay : (s : State) (a : Act) (vs : List Spelled) (v : Spelled) → vs ≡ s.values
+pub same_stay : (s : State) (a : Act) (vs : List Spelled) (v : Spelled) → vs ≡ s.values
     → outcome s vs (numbers 0 (length s.conts)) [] [] (own_reply s a.cont v) ≡ Kept.stays s a v
 same_stay s a vs v e =
     ap (λ us. outcome s us (numbers 0 (length s.conts)) [] [] (own_reply s a.cont v)) e

@@ -7,3 +7,5 @@ pub mod Keeps
 pub mod Shown
 pub mod Asked
 pub mod Controls
+pub mod Lawful
+pub mod Blind

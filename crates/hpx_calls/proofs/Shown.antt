@@ -49,7 +49,7 @@ abbrev pub IsBound : ℕ → Content Spelled → Type 0
 IsBound w (Contents.Latch left) = (w ≤ 100) × (left ≤ 1000000)
 IsBound w (Contents.Barrier n) = (w < n) × (n ≤ 100)
 IsBound w (Contents.Channel closed kept) = IsChannel w closed kept
-IsBound w _ = Unit {0}
+IsBound w _ = ⊥
 
 -- a content that values show lays out as these values, and is within its bounds
 abbrev pub Shows : ℕ → List Spelled → Option (Content Spelled) → Type 0

@@ -5,5 +5,6 @@ pub mod answer;
 pub mod codes;
 pub mod content;
 pub mod effect;
+pub mod laws;
 pub mod read;
 pub mod request;
