@@ -22,7 +22,7 @@ use Rattle.hpx_calls.specs.Tables.{leaves, refuses, wrong, does, waits, is_first
 use Rattle.hpx_calls.specs.Outcomes.{numbers, cont_count, has_cont, own_reply, freed, outcome, comes_to}
 use Rattle.hpx_calls.proofs.Keeps.{SameCounts, all_of, answers_all, waits_all, frees_all, ArePlain, TellsNoPlace, plain_keeps, kept_numbers, own_is, length-numbers}
 use Rattle.hpx_calls.proofs.Shown.{IsSmall, IsChannel, small_is}
-use Rattle.hpx_calls.proofs.Asked.{IsFair}
+use Rattle.hpx_calls.proofs.Asked.{IsPlaced, IsFair}
 
 -- an action on an object whose state is well formed
 pub record IsCall (kind : ℕ) (s : State) (a : Act) : Type 0 where
@@ -222,7 +222,7 @@ closes_good n kind here s a false kept h e bound =
     (lit≤ tt, lit≤ tt) refl tt refl
 
 pub channel_good : (n kind here : ℕ) (s : State) (a : Act) (b : Bool) (kept : List Spelled) (r : Request Spelled) → IsCall kind s a → layout spelled (Channel b kept) ≡ s.values
-    → IsChannel (length s.conts) b kept → IsFair (has_cont a.cont) r → IsGood n kind here s a (on_channel spelled (length s.conts) b kept r)
+    → IsChannel (length s.conts) b kept → IsFair (IsPlaced (length s.ids) (length s.ids + length a.ids)) (has_cont a.cont) r → IsGood n kind here s a (on_channel spelled (length s.conts) b kept r)
 channel_good n kind here s a b kept (Set slot v) h e bound fair =
     good_if n kind here s a (is_first slot) _ _ (λ f. small_good n kind here s a b kept v h e bound) (λ f. silent_good n kind here s a (Channel b kept) h e fair.1)
 channel_good n kind here s a b kept (Put v) h e bound fair = small_good n kind here s a b kept v h e bound

@@ -133,7 +133,7 @@ frees_all s a count v u low q =
 
 -- ---- what is named
 
-at_below : (limit i : ℕ) (xs : List ℕ) → AllByRecursion (λ p. p < limit) xs → 0 < limit → slice_index_or xs i 0 < limit
+pub at_below : (limit i : ℕ) (xs : List ℕ) → AllByRecursion (λ p. p < limit) xs → 0 < limit → slice_index_or xs i 0 < limit
 at_below limit i [] h some = some
 at_below limit zero (x ∷ xs) h some = h.0
 at_below limit (suc i) (x ∷ xs) h some = at_below limit i xs h.1 some
@@ -146,7 +146,7 @@ all_append : {X : Type 0} (P : X → Type 0) (xs ys : List X) → AllByRecursion
 all_append P [] ys h i = i
 all_append P (x ∷ xs) ys h i = (h.0, all_append P xs ys h.1 i)
 
-length-places : (cs : List Cont) → length (places_of cs) ≡ length cs
+pub length-places : (cs : List Cont) → length (places_of cs) ≡ length cs
 length-places [] = refl
 length-places (c ∷ cs) = ap suc (length-places cs)
 
@@ -194,12 +194,12 @@ map-shift : (f : ℕ → ℕ) (n count : ℕ) → map f (numbers (n + 1) count) 
 map-shift f n zero = refl
 map-shift f n (suc count) = let rest = map-shift f (n + 1) count in let first : f (n + 1) ≡ f (suc n) = ap f (add-one n) in cc
 
-map-front : (xs ys : List ℕ) → map (λ i. slice_index_or (xs ++ ys) i 0) (numbers 0 (length xs)) ≡ xs
+pub map-front : (xs ys : List ℕ) → map (λ i. slice_index_or (xs ++ ys) i 0) (numbers 0 (length xs)) ≡ xs
 map-front [] ys = refl
 map-front (x ∷ xs) ys = ap (λ rest. x ∷ rest) (map-shift (λ i. slice_index_or (x ∷ (xs ++ ys)) i 0) 0 (length xs) ∙ map-front xs ys)
 
 -- a place leads continuations of the hand twice at most
-own_once : (q : ℕ → Bool) (s : State) (cont : Option Cont) → count_by q (answered (own_reply s cont Nothing)) ≤ 1
+pub own_once : (q : ℕ → Bool) (s : State) (cont : Option Cont) → count_by q (answered (own_reply s cont Nothing)) ≤ 1
 own_once q s None = omega arith
 own_once q s (Some c) = let few : count_by q (length s.conts ∷ []) ≤ length (length s.conts ∷ []) = count_by-le-length q (length s.conts ∷ []) in omega arith
 

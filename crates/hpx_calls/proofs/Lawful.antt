@@ -1,5 +1,5 @@
--- Actions on channels, latches and barriers keep the laws, whatever the state.
-use Rattle.std.specs.Prelude.{ℕ, Bool, true, false, nat_le, List, [], ◌∷◌, ◌≤◌, ◌≡◌, ◌≢◌, ◌==◌, ◌⊎◌, Option, Some, None, length, pos, refl, if◌then◌else◌}
+-- Actions on promises, channels, latches and barriers keep the laws, whatever the state.
+use Rattle.std.specs.Prelude.{ℕ, Bool, true, false, nat_le, List, [], ◌∷◌, ◌+◌, ◌≤◌, ◌≡◌, ◌≢◌, ◌==◌, ◌⊎◌, Option, Some, None, length, pos, refl, if◌then◌else◌}
 use Rattle.std.proofs.Common.{ap, sym, ◌∙◌, subst, arith, lit≤, inl, inr, ⊎_elim}
 use Rattle.std.proofs.lemmas.Bool.{le-leb, leb-false}
 use Rattle.hpx_value.specs.Values.{refs_in}
@@ -18,8 +18,9 @@ use Rattle.hpx_calls.specs.Effects.{Answers, Moves, Silent}
 use Rattle.hpx_calls.specs.Tables.{leaves, wrong, on_content, on_object, called, awaits, is_movable}
 use Rattle.hpx_calls.specs.Outcomes.{has_cont, request_in, content_in, outcome_of, numbers, own_reply, outcome}
 use Rattle.hpx_calls.proofs.Keeps.{TellsNoPlace}
-use Rattle.hpx_calls.proofs.Shown.{Shows, IsBound, latch_values, barrier_values, channel_values}
-use Rattle.hpx_calls.proofs.Asked.{IsFair, asked_fair, asks_where}
+use Rattle.hpx_calls.proofs.Shown.{Shows, IsBound, promise_values, latch_values, barrier_values, channel_values}
+use Rattle.hpx_calls.proofs.Asked.{IsPlaced, IsFair, asked_fair, asks_where}
+use Rattle.hpx_calls.proofs.Promised.{empty_good, full_good}
 use Rattle.hpx_calls.proofs.Controls.{IsCall, IsGood, good_if, same_stay, refused_good, silent_good, latch_good, barrier_good, channel_good}
 
 -- it does not ask where
@@ -42,10 +43,10 @@ place_good n kind here s a x h act e =
 
 -- what a content that is shown does with what is asked
 abbrev pub IsServed : ℕ → ℕ → ℕ → State → Act → Content Spelled → Type 0
-IsServed n kind here s a x = (r : Request Spelled) → IsCall kind s a → IsFair (has_cont a.cont) r → IsGood n kind here s a (on_content spelled (length s.conts) x r)
+IsServed n kind here s a x = (r : Request Spelled) → IsCall kind s a → IsFair (IsPlaced (length s.ids) (length s.ids + length a.ids)) (has_cont a.cont) r → IsGood n kind here s a (on_content spelled (length s.conts) x r)
 
 object_good : (n kind here : ℕ) (s : State) (a : Act) (x : Content Spelled) (r : Request Spelled) → 32 ≤ kind → IsState s → IsAct a → layout spelled x ≡ s.values
-    → IsServed n kind here s a x → request_in s a ≡ r → IsFair (has_cont a.cont) r → IsGood n kind here s a (on_object spelled here kind (length s.conts) x r)
+    → IsServed n kind here s a x → request_in s a ≡ r → IsFair (IsPlaced (length s.ids) (length s.ids + length a.ids)) (has_cont a.cont) r → IsGood n kind here s a (on_object spelled here kind (length s.conts) x r)
 object_good n kind here s a x Where high h act e served asked fair =
     good_if n kind here s a (nat_le 16 kind) _ _ (λ f. place_good n kind here s a x h act e) (λ f. absurd (below f))
   where
@@ -75,7 +76,7 @@ object_good n kind here s a x Arrive high h act e served asked fair = served Arr
 object_good n kind here s a x Other high h act e served asked fair = served Other (record { state = h; act = act; other = no_place kind s a Other high asked tt }) fair
 
 called_good : (n kind here : ℕ) (s : State) (a : Act) (x : Content Spelled) (r : Request Spelled) (b : Bool) → 32 ≤ kind → IsState s → IsAct a → layout spelled x ≡ s.values
-    → IsServed n kind here s a x → request_in s a ≡ r → IsFair (has_cont a.cont) r → has_cont a.cont ≡ b
+    → IsServed n kind here s a x → request_in s a ≡ r → IsFair (IsPlaced (length s.ids) (length s.ids + length a.ids)) (has_cont a.cont) r → has_cont a.cont ≡ b
     → IsGood n kind here s a (called spelled here kind (length s.conts) b x r)
 called_good n kind here s a x r true high h act e served asked fair waits = object_good n kind here s a x r high h act e served asked fair
 called_good n kind here s a x r false high h act e served asked fair waits =
@@ -104,24 +105,27 @@ served_by n kind here s a Contents.Maker e bound r call fair = absurd bound
 served_by n kind here s a (Contents.Size m) e bound r call fair = absurd bound
 served_by n kind here s a (Contents.Number z) e bound r call fair = absurd bound
 served_by n kind here s a (Contents.Row zs) e bound r call fair = absurd bound
-served_by n kind here s a (Contents.Promise o) e bound r call fair = absurd bound
+served_by n kind here s a (Contents.Promise None) e bound r call fair = empty_good n kind here s a r call e bound fair
+served_by n kind here s a (Contents.Promise (Some v)) e bound r call fair = full_good n kind here s a v r call e bound fair
 served_by n kind here s a (Contents.Dataflow code inputs given) e bound r call fair = absurd bound
 served_by n kind here s a (Contents.Started code inputs) e bound r call fair = absurd bound
 served_by n kind here s a (Contents.Unreadable vs) e bound r call fair = absurd bound
 
--- kinds 34, 35 and 36
+-- kinds 32, 34, 35 and 36
 abbrev pub IsSimple : ℕ → Type 0
-IsSimple kind = (kind ≡ 34) ⊎ ((kind ≡ 35) ⊎ (kind ≡ 36))
+IsSimple kind = (kind ≡ 32) ⊎ ((kind ≡ 34) ⊎ ((kind ≡ 35) ⊎ (kind ≡ 36)))
 
 reads : (kind w : ℕ) (vs : List Spelled) → IsSimple kind → Shows w vs (Contents.control_in spelled kind w vs)
-reads kind w vs (inl e) = let P : ℕ → Type 0 = λ k. Shows w vs (Contents.control_in spelled k w vs) in subst P (sym e) (channel_values w vs)
-reads kind w vs (inr (inl e)) = let P : ℕ → Type 0 = λ k. Shows w vs (Contents.control_in spelled k w vs) in subst P (sym e) (latch_values w vs)
-reads kind w vs (inr (inr e)) = let P : ℕ → Type 0 = λ k. Shows w vs (Contents.control_in spelled k w vs) in subst P (sym e) (barrier_values w vs)
+reads kind w vs (inl e) = let P : ℕ → Type 0 = λ k. Shows w vs (Contents.control_in spelled k w vs) in subst P (sym e) (promise_values w vs)
+reads kind w vs (inr (inl e)) = let P : ℕ → Type 0 = λ k. Shows w vs (Contents.control_in spelled k w vs) in subst P (sym e) (channel_values w vs)
+reads kind w vs (inr (inr (inl e))) = let P : ℕ → Type 0 = λ k. Shows w vs (Contents.control_in spelled k w vs) in subst P (sym e) (latch_values w vs)
+reads kind w vs (inr (inr (inr e))) = let P : ℕ → Type 0 = λ k. Shows w vs (Contents.control_in spelled k w vs) in subst P (sym e) (barrier_values w vs)
 
 high_kind : (kind : ℕ) → IsSimple kind → 32 ≤ kind
 high_kind kind (inl e) = omega arith
 high_kind kind (inr (inl e)) = omega arith
-high_kind kind (inr (inr e)) = omega arith
+high_kind kind (inr (inr (inl e))) = omega arith
+high_kind kind (inr (inr (inr e))) = omega arith
 
 pub simple_keeps : (n kind here : ℕ) (s : State) (a : Act) → IsSimple kind → IsState s → IsAct a → KeepsLaws n kind here s a (outcome_of n kind here s a)
 unfolding outcome_of

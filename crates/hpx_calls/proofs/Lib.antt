@@ -9,3 +9,4 @@ pub mod Asked
 pub mod Controls
 pub mod Lawful
 pub mod Blind
+pub mod Promised

@@ -49,6 +49,8 @@ abbrev pub IsBound : ℕ → Content Spelled → Type 0
 IsBound w (Contents.Latch left) = (w ≤ 100) × (left ≤ 1000000)
 IsBound w (Contents.Barrier n) = (w < n) × (n ≤ 100)
 IsBound w (Contents.Channel closed kept) = IsChannel w closed kept
+IsBound w (Contents.Promise None) = w ≤ 7
+IsBound w (Contents.Promise (Some v)) = w ≡ 0
 IsBound w _ = ⊥
 
 -- a content that values show lays out as these values, and is within its bounds
@@ -136,3 +138,8 @@ barrier_values w (v ∷ u ∷ vs) = tt
 pub channel_values : (w : ℕ) (vs : List Spelled) → Shows w vs (Contents.of_first spelled (Contents.channel_in spelled w) vs)
 channel_values w [] = tt
 channel_values w (v ∷ vs) = channel_first w v vs
+
+pub promise_values : (w : ℕ) (vs : List Spelled) → Shows w vs (Contents.promise_in w vs)
+promise_values w [] = provided_shows w [] (nat_le w 7) (Contents.Promise None) (λ e. (refl, leb-true w 7 e))
+promise_values w (v ∷ []) = provided_shows w (v ∷ []) (w == 0) (Contents.Promise (Some v)) (λ e. (refl, eqb-true w 0 e))
+promise_values w (v ∷ u ∷ vs) = tt

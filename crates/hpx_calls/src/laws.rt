@@ -14,9 +14,9 @@ pub fn blind_law()
 {
 }
 
-/// Actions on channels, latches and barriers, kinds 34 to 36, keep the laws.
-pub fn channel_latch_barrier_law()
-    ensures { (n kind here : ℕ) (s : State) (a : Act) → (kind ≡ 34) ⊎ ((kind ≡ 35) ⊎ (kind ≡ 36)) → IsState s → IsAct a
+/// Actions on promises, channels, latches and barriers, kinds 32 and 34 to 36, keep the laws.
+pub fn control_law()
+    ensures { (n kind here : ℕ) (s : State) (a : Act) → (kind ≡ 32) ⊎ ((kind ≡ 34) ⊎ ((kind ≡ 35) ⊎ (kind ≡ 36))) → IsState s → IsAct a
         → KeepsLaws n kind here s a (outcome_of n kind here s a) }
 {
 }
