@@ -1,8 +1,7 @@
 -- What a request is like that a well-formed action makes.
-use Rattle.std.specs.Prelude.{ℕ, zero, suc, ℤ, pos, negsuc, Bool, true, false, nat_le, List, [], ◌∷◌, ◌+◌, ◌<◌, ◌≤◌, ◌≡◌, ◌==◌, Option, Some, None, length, map, refl, if◌then◌else◌}
-use Rattle.std.proofs.Common.{ap, sym, ◌∙◌, subst, arith}
+use Rattle.std.specs.Prelude.{ℕ, ℤ, pos, negsuc, Bool, true, false, nat_le, List, [], ◌∷◌, ◌+◌, ◌<◌, ◌≤◌, ◌≡◌, ◌==◌, length, map, refl, if◌then◌else◌}
+use Rattle.std.proofs.Common.{ap, ◌∙◌, arith}
 use Rattle.std.specs.List.{AllByRecursion}
-use Rattle.std.proofs.lemmas.Bool.{cond_both}
 use Rattle.hpx_value.specs.declared.value.Value.{Value as Spelled}
 use Rattle.hpx_value.specs.declared.value.Value.TheVariants.{Unit as SpelledUnit, Flag as SpelledFlag, Int as SpelledInt, Text as SpelledText, Ref as SpelledRef, Fault as SpelledFault, Ints as SpelledInts}
 use Rattle.hpx_value.specs.declared.value.State.{State}
@@ -10,7 +9,7 @@ use Rattle.hpx_value.specs.declared.value.Act.{Act}
 use Rattle.hpx_value.specs.Values.{refs_in}
 use Rattle.hpx_value.specs.Shapes.{IsValue, IsAct, IsCount}
 use Rattle.hpx_calls.specs.Values.{Look, Int, Text, Ref, Flag, Fault, Ints, Nothing, spelled, shifted}
-use Rattle.hpx_calls.specs.Requests.{Request, Move, Where, Set, New, Register, Resolve, Unregister, Keys, Count, Add, Query, Reset, Step, Get, Put, PutAt, Close, Down, Wait, Arrive, Other, asks_bare, asks_move, asks_one, asks_single, asks_two, asks_step, asks_register, asks_many, request_of, is_key}
+use Rattle.hpx_calls.specs.Requests.{Request, Where, Set, Put, PutAt, Other, asks_bare, asks_move, asks_one, asks_two, asks_step, asks_register, asks_many, request_of, is_key}
 use Rattle.hpx_calls.specs.Outcomes.{has_cont, request_in}
 
 -- a value that is given is within its limits; a SET carries no continuation

@@ -11,7 +11,7 @@ use Rattle.hpx_value.specs.declared.value.State.{State}
 use Rattle.hpx_value.specs.declared.value.Act.{Act}
 use Rattle.hpx_calls.specs.declared.effect.Called.{Called}
 use Rattle.hpx_calls.specs.Values.{spelled, shifted}
-use Rattle.hpx_calls.specs.Requests.{Request, request_of}
+use Rattle.hpx_calls.specs.Requests.{request_of}
 use Rattle.hpx_calls.specs.Contents.{layout}
 use Rattle.hpx_calls.specs.Effects.{Effect, Silent, Answers, Waits, Frees, Starts, Hands, Moves, Makes}
 use Rattle.hpx_calls.specs.Tables.{called}

@@ -1,8 +1,8 @@
 -- What calls on channels, latches and barriers come to keeps the laws.
-use Rattle.std.specs.Prelude.{ℕ, zero, suc, ℤ, pos, Bool, true, false, nat_le, List, [], ◌∷◌, ◌++◌, ◌+◌, ◌-◌, ◌*◌, ◌<◌, ◌≤◌, ◌≡◌, ◌≢◌, ◌==◌, ◌⊎◌, Option, Some, None, length, map, refl, if◌then◌else◌}
-use Rattle.std.proofs.Common.{ap, sym, ◌∙◌, subst, arith, lit≤, inl, inr, length-append}
+use Rattle.std.specs.Prelude.{ℕ, zero, suc, ℤ, pos, Bool, true, false, List, [], ◌∷◌, ◌++◌, ◌+◌, ◌-◌, ◌*◌, ◌≤◌, ◌≡◌, ◌≢◌, ◌==◌, Option, Some, None, length, refl, if◌then◌else◌}
+use Rattle.std.proofs.Common.{ap, sym, ◌∙◌, subst, arith, lit≤, length-append}
 use Rattle.std.specs.List.{AllByRecursion}
-use Rattle.std.proofs.lemmas.Bool.{eqb-true, eqb-false}
+use Rattle.std.proofs.lemmas.Bool.{eqb-false}
 use Rattle.hpx_value.specs.Values.{refs_in}
 use Rattle.hpx_value.specs.declared.value.Value.{Value as Spelled}
 use Rattle.hpx_value.specs.declared.value.Value.TheVariants.{Unit as SpelledUnit, Flag as SpelledFlag, Int as SpelledInt, Text as SpelledText, Ref as SpelledRef, Fault as SpelledFault, Ints as SpelledInts}
@@ -10,17 +10,17 @@ use Rattle.hpx_value.specs.declared.value.Cont.{Cont}
 use Rattle.hpx_value.specs.declared.value.State.{State}
 use Rattle.hpx_value.specs.declared.value.Act.{Act}
 use Rattle.hpx_value.specs.declared.outcome.Reply.{Reply}
-use Rattle.hpx_value.specs.Shapes.{IsValue, AreValues, IsState, IsAct, values_size, value_size}
-use Rattle.hpx_value.specs.Laws.{IsMovable, IsManaged, MovesBelow, TellsThePlace, KeepsLaws}
+use Rattle.hpx_value.specs.Shapes.{IsValue, AreValues, IsState, IsAct, values_size}
+use Rattle.hpx_value.specs.Laws.{KeepsLaws}
 use Rattle.hpx_value.specs.Kept
 use Rattle.hpx_value.proofs.Kept as HandLemmas
 use Rattle.hpx_calls.specs.Values.{spelled, is_small}
-use Rattle.hpx_calls.specs.Requests.{Request, Move, Where, Set, New, Register, Resolve, Unregister, Keys, Count, Add, Query, Reset, Step, Get, Put, PutAt, Close, Down, Wait, Arrive, Other}
+use Rattle.hpx_calls.specs.Requests.{Request, Set, Get, Put, Close, Down, Wait, Arrive}
 use Rattle.hpx_calls.specs.Contents.{Content, Channel, Latch, Barrier, layout}
-use Rattle.hpx_calls.specs.Effects.{Effect, Silent, Answers, Waits, Frees, Called}
-use Rattle.hpx_calls.specs.Tables.{leaves, refuses, wrong, does, waits, is_first, downs, on_latch, on_barrier, sends, sends_small, receives, closes, on_channel}
+use Rattle.hpx_calls.specs.Effects.{Silent, Answers, Waits, Frees, Called}
+use Rattle.hpx_calls.specs.Tables.{leaves, refuses, is_first, downs, on_latch, on_barrier, sends, sends_small, receives, closes, on_channel}
 use Rattle.hpx_calls.specs.Outcomes.{numbers, cont_count, has_cont, own_reply, freed, outcome, comes_to}
-use Rattle.hpx_calls.proofs.Keeps.{SameCounts, all_of, answers_all, waits_all, frees_all, ArePlain, TellsNoPlace, plain_keeps, kept_numbers, own_is, length-numbers}
+use Rattle.hpx_calls.proofs.Keeps.{answers_all, waits_all, frees_all, ArePlain, TellsNoPlace, plain_keeps, kept_numbers, own_is, length-numbers}
 use Rattle.hpx_calls.proofs.Shown.{IsSmall, IsChannel, small_is}
 use Rattle.hpx_calls.proofs.Asked.{IsPlaced, IsFair}
 

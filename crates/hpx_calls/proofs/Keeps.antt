@@ -1,5 +1,5 @@
 -- Outcomes without Refs keep the laws.
-use Rattle.std.specs.Prelude.{ℕ, zero, suc, Bool, true, false, cond, List, [], ◌∷◌, ◌++◌, ◌+◌, ◌-◌, ◌*◌, ◌<◌, ◌≤◌, ◌≡◌, ◌≢◌, ◌==◌, Option, Some, None, length, map, flat_map, refl}
+use Rattle.std.specs.Prelude.{ℕ, zero, suc, Bool, true, false, List, [], ◌∷◌, ◌++◌, ◌+◌, ◌-◌, ◌*◌, ◌<◌, ◌≤◌, ◌≡◌, ◌≢◌, ◌==◌, Option, Some, None, length, map, flat_map, refl}
 use Rattle.std.proofs.Common.{ap, sym, ◌∙◌, subst, arith, length-append, lit≤, add-one}
 use Rattle.std.specs.List.{AllByRecursion, count_by, slice_index_or}
 use Rattle.std.proofs.lemmas.Bool.{ne_eqb, eqb-true}
@@ -12,13 +12,12 @@ use Rattle.hpx_value.specs.declared.value.Cont.{Cont}
 use Rattle.hpx_value.specs.declared.value.State.{State}
 use Rattle.hpx_value.specs.declared.value.Act.{Act}
 use Rattle.hpx_value.specs.declared.outcome.Reply.{Reply}
-use Rattle.hpx_value.specs.declared.outcome.Outcome.{Outcome}
 use Rattle.hpx_value.specs.Ids.{Id}
 use Rattle.hpx_value.specs.Shapes.{IsValue, AreValues, IsMessage, IsState, IsAct, IsCount, values_size, places_of, listed}
-use Rattle.hpx_value.specs.Hands.{Slot, hand_ids, hand_slot, hand_slots, id_at, renumbered, conts_from, state_after, replied}
+use Rattle.hpx_value.specs.Hands.{Slot, hand_ids, hand_slot, hand_slots, id_at, renumbered, conts_from, replied}
 use Rattle.hpx_value.specs.Kept
-use Rattle.hpx_value.specs.Mentions.{mentions, cont_place, cont_places, reply_mentions, hand_size}
-use Rattle.hpx_value.specs.Laws.{UsesEachOnce, answered, uses, NamesItsHand, IsMovable, IsManaged, MovesBelow, TellsThePlace, KeepsLaws}
+use Rattle.hpx_value.specs.Mentions.{mentions, cont_place, cont_places, reply_mentions}
+use Rattle.hpx_value.specs.Laws.{UsesEachOnce, answered, uses, IsMovable, KeepsLaws}
 use Rattle.hpx_value.proofs.Uses.{one_if, count-cons, used_below, used_few}
 use Rattle.hpx_value.proofs.Kept as HandLemmas
 use Rattle.hpx_calls.specs.Outcomes.{numbers, cont_count, own_reply, freed, outcome}
@@ -44,6 +43,7 @@ numbers-split n zero b = ap (numbers n) same ∙ ap (λ m. numbers m b) here
   where
     same : zero + b ≡ b
     same = omega arith
+
     here : n ≡ n + zero
     here = omega arith
 numbers-split n (suc a) b =
@@ -51,6 +51,7 @@ numbers-split n (suc a) b =
   where
     same : suc a + b ≡ suc (a + b)
     same = omega arith
+
     here : n + 1 + a ≡ n + suc a
     here = omega arith
 
@@ -99,6 +100,7 @@ waits_all s a q =
   where
     here : 0 + length s.conts ≡ length s.conts
     here = omega arith
+
     none : count_by q (numbers 0 (length s.conts + cont_count a.cont)) + count_by q [] ≡ count_by q (numbers 0 (length s.conts + cont_count a.cont))
     none = omega arith
 
@@ -128,6 +130,7 @@ frees_all s a count v u low q =
   where
     whole : length s.conts ≡ count + (length s.conts - count)
     whole = omega arith
+
     here : 0 + count ≡ count
     here = omega arith
 
@@ -306,6 +309,7 @@ plain_keeps n kind here s a vs conts rs h act other e good few short plain all =
     listed_few : (cont : Option Cont) → length (listed cont) ≤ 1
     listed_few None = omega arith
     listed_few (Some c) = omega arith
+
     few_hands : (s : State) (a : Act) → IsState s → length (conts ++ answered rs) ≤ length (hand_slots s a)
         → length (map (cont_place s a) (conts ++ answered rs)) ≡ length (conts ++ answered rs) → length (map (cont_place s a) (conts ++ answered rs)) ≤ 192
     few_hands s a h used named =

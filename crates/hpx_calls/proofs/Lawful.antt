@@ -1,22 +1,21 @@
 -- Actions on promises, channels, latches and barriers keep the laws, whatever the state.
-use Rattle.std.specs.Prelude.{ℕ, Bool, true, false, nat_le, List, [], ◌∷◌, ◌+◌, ◌≤◌, ◌≡◌, ◌≢◌, ◌==◌, ◌⊎◌, Option, Some, None, length, pos, refl, if◌then◌else◌}
-use Rattle.std.proofs.Common.{ap, sym, ◌∙◌, subst, arith, lit≤, inl, inr, ⊎_elim}
+use Rattle.std.specs.Prelude.{ℕ, Bool, true, false, nat_le, List, ◌+◌, ◌≤◌, ◌≡◌, ◌==◌, ◌⊎◌, Option, Some, None, length, pos, refl, if◌then◌else◌}
+use Rattle.std.proofs.Common.{ap, sym, ◌∙◌, subst, arith, lit≤, inl, inr}
 use Rattle.std.proofs.lemmas.Bool.{le-leb, leb-false}
-use Rattle.hpx_value.specs.Values.{refs_in}
 use Rattle.hpx_value.specs.declared.value.Value.{Value as Spelled}
 use Rattle.hpx_value.specs.declared.value.Value.TheVariants.{Int as SpelledInt}
 use Rattle.hpx_value.specs.declared.value.State.{State}
 use Rattle.hpx_value.specs.declared.value.Act.{Act}
 use Rattle.hpx_value.specs.Shapes.{IsState, IsAct}
-use Rattle.hpx_value.specs.Laws.{IsMovable, KeepsLaws}
+use Rattle.hpx_value.specs.Laws.{KeepsLaws}
 use Rattle.hpx_value.proofs.Kept as HandLemmas
 use Rattle.hpx_calls.specs.Values.{spelled}
 use Rattle.hpx_calls.specs.Requests.{Request, Move, Where, Set, New, Register, Resolve, Unregister, Keys, Count, Add, Query, Reset, Step, Get, Put, PutAt, Close, Down, Wait, Arrive, Other}
 use Rattle.hpx_calls.specs.Contents
 use Rattle.hpx_calls.specs.Contents.{Content, layout, Unreadable, or_unreadable}
-use Rattle.hpx_calls.specs.Effects.{Answers, Moves, Silent}
-use Rattle.hpx_calls.specs.Tables.{leaves, wrong, on_content, on_object, called, awaits, is_movable}
-use Rattle.hpx_calls.specs.Outcomes.{has_cont, request_in, content_in, outcome_of, numbers, own_reply, outcome}
+use Rattle.hpx_calls.specs.Effects.{Answers}
+use Rattle.hpx_calls.specs.Tables.{leaves, on_content, on_object, called, awaits, is_movable}
+use Rattle.hpx_calls.specs.Outcomes.{has_cont, request_in, content_in, outcome_of}
 use Rattle.hpx_calls.proofs.Keeps.{TellsNoPlace}
 use Rattle.hpx_calls.proofs.Shown.{Shows, IsBound, promise_values, latch_values, barrier_values, channel_values}
 use Rattle.hpx_calls.proofs.Asked.{IsPlaced, IsFair, asked_fair, asks_where}

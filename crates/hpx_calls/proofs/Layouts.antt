@@ -1,5 +1,5 @@
 -- How one more pair or input is laid out after the others.
-use Rattle.std.specs.Prelude.{ℕ, pos, List, [], ◌∷◌, ◌++◌, ◌≡◌, refl}
+use Rattle.std.specs.Prelude.{pos, List, [], ◌∷◌, ◌++◌, ◌≡◌, refl}
 use Rattle.std.proofs.Common.{ap}
 use Rattle.hpx_calls.specs.Values.{Sort}
 use Rattle.hpx_calls.specs.Contents.{Pair, Given, pairs_out, given_out}

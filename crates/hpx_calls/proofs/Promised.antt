@@ -1,9 +1,9 @@
 -- Actions on promises keep the laws.
-use Rattle.std.specs.Prelude.{ℕ, zero, suc, Bool, true, false, nat_le, List, [], ◌∷◌, ◌++◌, ◌+◌, ◌-◌, ◌*◌, ◌<◌, ◌≤◌, ◌≡◌, ◌≢◌, ◌==◌, Option, Some, None, length, map, flat_map, refl, if◌then◌else◌}
-use Rattle.std.proofs.Common.{ap, sym, ◌∙◌, subst, arith, lit≤, length-append}
+use Rattle.std.specs.Prelude.{ℕ, zero, suc, Bool, true, false, List, [], ◌∷◌, ◌++◌, ◌+◌, ◌-◌, ◌*◌, ◌<◌, ◌≤◌, ◌≡◌, ◌==◌, Option, Some, None, length, map, flat_map, refl}
+use Rattle.std.proofs.Common.{ap, sym, ◌∙◌, subst, arith, lit≤}
 use Rattle.std.specs.List.{AllByRecursion, count_by}
-use Rattle.std.proofs.lemmas.Bool.{le-leb, leb-true, eqb-true, eqb-false, ne_eqb}
-use Rattle.std.proofs.lemmas.List.{length-map, append-nil}
+use Rattle.std.proofs.lemmas.Bool.{eqb-true, ne_eqb}
+use Rattle.std.proofs.lemmas.List.{append-nil}
 use Rattle.std.proofs.lemmas.List.Sums.{count_by-le-length}
 use Rattle.hpx_value.specs.Values.{refs_in}
 use Rattle.hpx_value.specs.declared.value.Value.{Value as Spelled}
@@ -13,16 +13,16 @@ use Rattle.hpx_value.specs.declared.value.State.{State}
 use Rattle.hpx_value.specs.declared.value.Act.{Act}
 use Rattle.hpx_value.specs.declared.outcome.Reply.{Reply}
 use Rattle.hpx_value.specs.Ids.{Id}
-use Rattle.hpx_value.specs.Shapes.{IsValue, AreValues, IsMessage, IsState, IsAct, IsCount, values_size, places_of, listed}
-use Rattle.hpx_value.specs.Hands.{hand_ids, hand_slot, hand_slots, state_after, replied}
-use Rattle.hpx_value.specs.Mentions.{mentions, cont_place, cont_places, reply_mentions, hand_size}
+use Rattle.hpx_value.specs.Shapes.{IsValue, IsMessage, IsState, IsAct, IsCount, places_of, listed}
+use Rattle.hpx_value.specs.Hands.{hand_slots, state_after, replied}
+use Rattle.hpx_value.specs.Mentions.{mentions, cont_place, cont_places, reply_mentions}
 use Rattle.hpx_value.specs.Laws.{UsesEachOnce, answered, uses, KeepsLaws}
-use Rattle.hpx_value.proofs.Uses.{one_if, count-cons, used_below, used_few}
+use Rattle.hpx_value.proofs.Uses.{one_if, count-cons, used_below}
 use Rattle.hpx_value.proofs.Kept as HandLemmas
 use Rattle.hpx_calls.specs.Outcomes.{numbers, has_cont, own_reply, freed, outcome}
-use Rattle.hpx_calls.proofs.Keeps.{SameCounts, all_of, answers_all, frees_all, once_each, count-append, TellsNoPlace, map-front, length-places, at_below, conts_below, once_counted}
+use Rattle.hpx_calls.proofs.Keeps.{SameCounts, all_of, answers_all, frees_all, once_each, map-front, length-places, at_below, conts_below, once_counted}
 use Rattle.hpx_calls.specs.Values.{spelled, is_number_or_text}
-use Rattle.hpx_calls.specs.Requests.{Request, Move, Where, Set, New, Register, Resolve, Unregister, Keys, Count, Add, Query, Reset, Step, Get, Put, PutAt, Close, Down, Wait, Arrive, Other}
+use Rattle.hpx_calls.specs.Requests.{Request, Set, Get, Put}
 use Rattle.hpx_calls.specs.Contents.{Promise}
 use Rattle.hpx_calls.specs.Effects.{Answers}
 use Rattle.hpx_calls.specs.Tables.{leaves, sets, on_promise, is_first}

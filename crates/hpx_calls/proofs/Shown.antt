@@ -1,12 +1,12 @@
 -- What a content that a state shows is like, and what a request is like that an action makes.
-use Rattle.std.specs.Prelude.{ℕ, zero, suc, ℤ, pos, negsuc, Bool, true, false, nat_le, nat_lt, List, [], ◌∷◌, ◌++◌, ◌+◌, ◌*◌, ◌<◌, ◌≤◌, ◌≡◌, ◌≢◌, ◌==◌, ◌&&◌, ◌||◌, ◌⊎◌, Option, Some, None, length, map, refl, if◌then◌else◌}
-use Rattle.std.proofs.Common.{ap, sym, ◌∙◌, subst, arith, lit≤, inl, inr}
+use Rattle.std.specs.Prelude.{ℕ, ℤ, pos, negsuc, Bool, true, false, nat_le, nat_lt, List, [], ◌∷◌, ◌<◌, ◌≤◌, ◌≡◌, ◌==◌, ◌||◌, ◌⊎◌, Option, Some, None, length, refl, if◌then◌else◌}
+use Rattle.std.proofs.Common.{ap, sym, arith, lit≤, inl, inr}
 use Rattle.std.specs.List.{AllByRecursion, list_all}
-use Rattle.std.proofs.lemmas.Bool.{cond_both, and_parts, leb-true, leb-false, ltb-true, eqb-true, eqb-false}
+use Rattle.std.proofs.lemmas.Bool.{and_parts, leb-true, ltb-true, eqb-true}
 use Rattle.hpx_value.specs.Values.{refs_in}
 use Rattle.hpx_value.specs.declared.value.Value.{Value as Spelled}
 use Rattle.hpx_value.specs.declared.value.Value.TheVariants.{Unit as SpelledUnit, Flag as SpelledFlag, Int as SpelledInt, Text as SpelledText, Ref as SpelledRef, Fault as SpelledFault, Ints as SpelledInts}
-use Rattle.hpx_value.specs.Shapes.{IsValue, values_size, value_size}
+use Rattle.hpx_value.specs.Shapes.{IsValue, value_size}
 use Rattle.hpx_calls.specs.Values.{spelled, is_small}
 use Rattle.hpx_calls.specs.Contents
 use Rattle.hpx_calls.specs.Contents.{Content, layout}

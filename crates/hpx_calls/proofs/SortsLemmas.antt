@@ -1,8 +1,8 @@
 -- What a state shows is of its kind's sort.
-use Rattle.std.specs.Prelude.{ℕ, ℤ, pos, negsuc, Bool, true, false, nat_le, List, [], ◌∷◌, ◌≡◌, ◌≤◌, ◌<◌, ◌==◌, ◌||◌, ◌⊎◌, Option, Some, None, if◌then◌else◌, length}
+use Rattle.std.specs.Prelude.{ℕ, pos, negsuc, Bool, true, false, nat_le, List, [], ◌∷◌, ◌≡◌, ◌≤◌, ◌<◌, ◌==◌, ◌||◌, Option, Some, None, if◌then◌else◌}
 use Rattle.std.proofs.Common.{arith, ap, sym, lit≤}
 use Rattle.std.proofs.lemmas.Bool.{cond_both, eqb-true, leb-true, leb-false}
-use Rattle.hpx_calls.specs.Values.{Value, Nothing, Flag, Int, Text, Ref, Fault, Ints, Look, Sort}
+use Rattle.hpx_calls.specs.Values.{Nothing, Flag, Int, Look, Sort}
 use Rattle.hpx_calls.specs.Contents
 use Rattle.hpx_calls.specs.Contents.{Content, Pair, Given}
 use Rattle.hpx_calls.specs.Sorts.{IsControl, IsNaming}

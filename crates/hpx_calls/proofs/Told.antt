@@ -1,5 +1,5 @@
 -- What the steps of an act come to, put together.
-use Rattle.std.specs.Prelude.{ℕ, Bool, true, false, ◌≡◌, Option, Some, None, is_some, length, refl}
+use Rattle.std.specs.Prelude.{ℕ, Bool, ◌≡◌, Option, Some, None, is_some, length, refl}
 use Rattle.std.proofs.Common.{ap, ◌∙◌}
 use Rattle.hpx_value.specs.declared.value.Value.{Value}
 use Rattle.hpx_value.specs.declared.value.Cont.{Cont}

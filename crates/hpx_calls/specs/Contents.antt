@@ -1,7 +1,7 @@
 -- What objects hold, by kind, and how a state shows it.
-use Rattle.std.specs.Prelude.{ℕ, zero, suc, ℤ, pos, negsuc, Bool, true, false, nat_le, nat_lt, List, [], ◌∷◌, ◌==◌, ◌+◌, ◌*◌, ◌&&◌, ◌||◌, Option, Some, None, length, if◌then◌else◌}
+use Rattle.std.specs.Prelude.{ℕ, ℤ, pos, negsuc, Bool, true, false, nat_le, nat_lt, List, [], ◌∷◌, ◌==◌, ◌+◌, ◌*◌, ◌&&◌, ◌||◌, Option, Some, None, length, if◌then◌else◌}
 use Rattle.std.specs.List.{list_all}
-use Rattle.hpx_calls.specs.Values.{Value, Nothing, Flag, Int, Text, Ref, Ints, Look, Sort, size, is_small}
+use Rattle.hpx_calls.specs.Values.{Nothing, Flag, Int, Text, Ref, Ints, Look, Sort, size, is_small}
 use Rattle.hpx_calls.specs.Requests.{is_key}
 pub use Rattle.hpx_calls.specs.declared.content.Pair.{Pair}
 pub use Rattle.hpx_calls.specs.declared.content.Given.{Given}

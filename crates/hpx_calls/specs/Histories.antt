@@ -1,5 +1,5 @@
 -- Lists of calls on one object from its birth: what it holds after them, and who is told what.
-use Rattle.std.specs.Prelude.{ℕ, zero, suc, pos, Bool, List, [], ◌∷◌, ◌++◌, Option, Some, None, length, take, drop, map, is_some}
+use Rattle.std.specs.Prelude.{ℕ, pos, List, [], ◌∷◌, ◌++◌, Option, Some, None, length, take, drop, is_some}
 use Rattle.hpx_calls.specs.Values.{Sort}
 use Rattle.hpx_calls.specs.Requests.{Request}
 use Rattle.hpx_calls.specs.Contents.{Content}

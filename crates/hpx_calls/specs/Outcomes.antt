@@ -1,19 +1,17 @@
 -- What a call comes to: the outcome on a state, over the continuations that it keeps.
-use Rattle.std.specs.Prelude.{ℕ, zero, suc, pos, Bool, true, false, List, [], ◌∷◌, ◌++◌, ◌+◌, ◌-◌, ◌≡◌, Option, Some, None, length, map}
+use Rattle.std.specs.Prelude.{ℕ, zero, suc, pos, Bool, true, false, List, [], ◌∷◌, ◌++◌, ◌+◌, ◌-◌, Option, Some, None, length, map}
 use Rattle.hpx_value.specs.declared.value.Value.{Value as Spelled}
 use Rattle.hpx_value.specs.declared.value.Value.TheVariants.{Int as SpelledInt, Ref as SpelledRef}
 use Rattle.hpx_value.specs.declared.value.Cont.{Cont}
 use Rattle.hpx_value.specs.declared.value.State.{State}
 use Rattle.hpx_value.specs.declared.value.Act.{Act}
-use Rattle.hpx_value.specs.declared.outcome.Target.{Target}
 use Rattle.hpx_value.specs.declared.outcome.Target.TheVariants.{Root}
-use Rattle.hpx_value.specs.declared.outcome.SendCont.{SendCont}
 use Rattle.hpx_value.specs.declared.outcome.SendCont.TheVariants.{Own}
 use Rattle.hpx_value.specs.declared.outcome.Make.{Make}
 use Rattle.hpx_value.specs.declared.outcome.Sending.{Sending}
 use Rattle.hpx_value.specs.declared.outcome.Reply.{Reply}
 use Rattle.hpx_value.specs.declared.outcome.Outcome.{Outcome}
-use Rattle.hpx_calls.specs.Values.{Sort, spelled, shifted}
+use Rattle.hpx_calls.specs.Values.{spelled, shifted}
 use Rattle.hpx_calls.specs.Requests.{Request, request_of}
 use Rattle.hpx_calls.specs.Contents.{Content, Table, Maker, Size, Number, Row, Promise, Dataflow, Started, Channel, Latch, Barrier, Unreadable, layout, content_of}
 use Rattle.hpx_calls.specs.Effects.{Effect, Silent, Answers, Waits, Frees, Starts, Hands, Moves, Makes, Called}

@@ -1,6 +1,6 @@
 -- What an action asks, by its code and the shape of its arguments.
-use Rattle.std.specs.Prelude.{ℕ, ℤ, pos, negsuc, Bool, true, false, nat_le, List, [], ◌∷◌, ◌==◌, ◌&&◌, length, if◌then◌else◌}
-use Rattle.hpx_calls.specs.Values.{Value, Int, Text, Ref, Look, Sort}
+use Rattle.std.specs.Prelude.{ℕ, ℤ, pos, negsuc, Bool, nat_le, List, [], ◌∷◌, ◌==◌, ◌&&◌, length, if◌then◌else◌}
+use Rattle.hpx_calls.specs.Values.{Int, Text, Ref, Look, Sort}
 pub use Rattle.hpx_calls.specs.declared.request.Request.{Request}
 pub use Rattle.hpx_calls.specs.declared.request.Request.TheVariants.{Move, Where, Set, New, Register, Resolve, Unregister, Keys, Count, Add, Query, Reset, Step, Get, Put, PutAt, Close, Down, Wait, Arrive, Other}
 

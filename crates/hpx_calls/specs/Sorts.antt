@@ -1,5 +1,5 @@
 -- Which contents an object of a kind can have.
-use Rattle.hpx_calls.specs.Contents.{Content, Table, Maker, Size, Number, Row, Promise, Dataflow, Started, Channel, Latch, Barrier, Unreadable}
+use Rattle.hpx_calls.specs.Contents.{Content, Table, Maker, Size, Promise, Dataflow, Started, Channel, Latch, Barrier, Unreadable}
 
 -- those of control objects
 abbrev pub IsControl : {V : Type 0} → Content V → Type 0

@@ -1,5 +1,5 @@
 -- Values over references, and what is read off a value whatever it refers to.
-use Rattle.std.specs.Prelude.{ℕ, ℤ, Bool, true, false, List, [], ◌∷◌, ◌+◌, ◌*◌, nat_le, length}
+use Rattle.std.specs.Prelude.{ℕ, ℤ, Bool, true, false, List, ◌+◌, ◌*◌, nat_le, length}
 use Rattle.hpx_value.specs.declared.value.Value.{Value as Spelled}
 use Rattle.hpx_value.specs.declared.value.Value.TheVariants.{Unit as SpelledUnit, Flag as SpelledFlag, Int as SpelledInt, Text as SpelledText, Ref as SpelledRef, Fault as SpelledFault, Ints as SpelledInts}
 
@@ -90,7 +90,6 @@ size (Text bytes) = 3 + length bytes
 size (Ref to) = 17
 size (Fault code) = 2
 size (Ints numbers) = 3 + length numbers * 8
-
 
 -- a promise takes numbers and texts from PUT
 abbrev pub is_number_or_text : {R : Type 0} → Value R → Bool

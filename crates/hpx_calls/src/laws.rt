@@ -11,12 +11,10 @@ use hpx_value::value::{Act, State};
 pub fn blind_law()
     ensures { (n kind here : ℕ) (s : State) (a : Act)
         → outcome_of n kind here s a ≡ outcome_of n kind here (bare_state s) (named 0 0 (message_of (bare_act a))) }
-{
-}
+{}
 
 /// Actions on promises, channels, latches and barriers, kinds 32 and 34 to 36, keep the laws.
 pub fn control_law()
     ensures { (n kind here : ℕ) (s : State) (a : Act) → (kind ≡ 32) ⊎ ((kind ≡ 34) ⊎ ((kind ≡ 35) ⊎ (kind ≡ 36))) → IsState s → IsAct a
         → KeepsLaws n kind here s a (outcome_of n kind here s a) }
-{
-}
+{}

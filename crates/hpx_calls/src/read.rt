@@ -323,11 +323,7 @@ fn table(alloc: Global, values: &[Value]) -> Result<Option<Content<Value>>, OutO
 }
 
 /// A key and a reference.
-fn pair_of(
-    alloc: Global,
-    first: &Value,
-    second: &Value,
-) -> Result<Option<Pair<Value>>, OutOfMemory>
+fn pair_of(alloc: Global, first: &Value, second: &Value) -> Result<Option<Pair<Value>>, OutOfMemory>
     ensures { IfOk result (λ pair. pair ≡ pair_of spelled first.now second.now) }
 {
     match first {
@@ -438,7 +434,13 @@ fn dataflow(
         return Ok(None);
     };
     match count_in(MOST_INPUTS, *inputs) {
-        Some(inputs) if is_dataflow(code, inputs) => flow(alloc, waiting, code as u16, inputs, rest),
+        Some(inputs) if is_dataflow(code, inputs) => flow(
+            alloc,
+            waiting,
+            code as u16,
+            inputs,
+            rest,
+        ),
         _ => Ok(None),
     }
 }

@@ -48,11 +48,7 @@ const MOST_KEY: usize = 32;
 
 /// What an action asks of an object in this state. No hand has more than 65,536 places.
 #[tactic(auto, using(crate::proofs::Fronts::many_asked))]
-pub fn request_in(
-    alloc: Global,
-    state: &State,
-    action: &Act,
-) -> Result<Request<Value>, OutOfMemory>
+pub fn request_in(alloc: Global, state: &State, action: &Act) -> Result<Request<Value>, OutOfMemory>
     ensures { IfOk result (λ request. request ≡ request_in state.now action.now) }
 {
     let Ok(by) = u16::try_from(state.ids.len()) else {
