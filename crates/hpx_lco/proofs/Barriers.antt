@@ -54,6 +54,7 @@ ends n ws h =
   where
     one_more : length ws + 1 ≡ suc (length ws)
     one_more = omega arith
+
     room_left : (r k : ℕ) → r < n → k ≡ r → k + 1 ≢ n → r + 1 < n
     room_left r k a b d = omega arith
 

@@ -128,7 +128,7 @@ put_open g a v w (u ∷ us) e =
 
 put_case : {V W : Type 0} (g : Setting V) (is : Bool) (a : Accepted V W) (v : V) (w : Option W)
     → object (sends g.sort (length (waiting_at is a)) is (drop (length a.gets) a.puts) v).content
-      (still (sends g.sort (length (waiting_at is a)) is (drop (length a.gets) a.puts) v).effect (waiting_at is a) w)
+    (still (sends g.sort (length (waiting_at is a)) is (drop (length a.gets) a.puts) v).effect (waiting_at is a) w)
     ≡ channel_at is (with_put is a (Some v))
 put_case g true a v w = refl
 put_case g false a v w = put_open g a v w (drop (length a.puts) a.gets) refl

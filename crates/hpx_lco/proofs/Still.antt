@@ -67,6 +67,7 @@ length-take_room (suc k) (y ∷ xs) h = ap suc (length-take_room k xs (omega ari
 pub drop_all : {X : Type 0} (xs : List X) → drop (length xs) xs ≡ []
 drop_all [] = refl
 drop_all (x ∷ xs) = drop_all xs
+
 pub take_all : {X : Type 0} (xs : List X) → take (length xs) xs ≡ xs
 take_all [] = refl
 take_all (x ∷ xs) = ap (λ rest. x ∷ rest) (take_all xs)
@@ -79,6 +80,7 @@ is_full k xs =
   where
     below : nat_le k (length xs) ≡ false → length (take k xs) ≢ k
     below e f = let short : length xs < k = leb-false k (length xs) e in let same = length-take_room k xs short in absurd (omega arith)
+
     as_test : (b : Bool) → cond b true false ≡ b
     as_test true = refl
     as_test false = refl

@@ -16,8 +16,7 @@ pub fn latch_law<V, W>()
         → says g (Content.Latch n) h (record { request = Request.Down; waiter = w }) ≡ down_says g.sort n h w }
     ensures wait { (g : Setting V) (n : ℕ) (h : List (Call V W)) (w : W)
         → says g (Content.Latch n) h (record { request = Request.Wait; waiter = Some w }) ≡ wait_says g.sort n h (Some w) }
-{
-}
+{}
 
 /// A promise that is empty at its birth.
 pub fn promise_law<V, W>()
@@ -27,8 +26,7 @@ pub fn promise_law<V, W>()
         → says g (Content.Promise None) h (record { request = Request.Set slot v; waiter = w }) ≡ set_says g.sort (first_set g.sort h) (gets h) v w }
     ensures get { (g : Setting V) (h : List (Call V W)) (w : W)
         → says g (Content.Promise None) h (record { request = Request.Get; waiter = Some w }) ≡ get_says g.sort (first_set g.sort h) (gets h) (Some w) }
-{
-}
+{}
 
 /// A channel that is open and empty at its birth.
 pub fn channel_law<V, W>()
@@ -38,12 +36,10 @@ pub fn channel_law<V, W>()
         → says g (Content.Channel false []) h (record { request = Request.Get; waiter = Some w }) ≡ get_from g.sort (closed h) (accepted g.sort h) (Some w) }
     ensures close { (g : Setting V) (h : List (Call V W)) (w : Option W)
         → says g (Content.Channel false []) h (record { request = Request.Close; waiter = w }) ≡ close_says g.sort (closed h) (accepted g.sort h) w }
-{
-}
+{}
 
 /// A barrier of n.
 pub fn barrier_law<V, W>()
     ensures { (g : Setting V) (n : ℕ) (h : List (Call V W)) (w : W) → 1 ≤ n
         → says g (Content.Barrier n) h (record { request = Request.Arrive; waiter = Some w }) ≡ arrive_says g.sort n (arrivals h) (Some w) }
-{
-}
+{}

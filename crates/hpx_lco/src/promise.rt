@@ -85,21 +85,14 @@ fn sets(
 }
 
 /// The value, or a wait for it.
-fn gets(
-    alloc: Global,
-    waiting: usize,
-    held: Option<Value>,
-) -> Result<Called<Value>, OutOfMemory>
+fn gets(alloc: Global, waiting: usize, held: Option<Value>) -> Result<Called<Value>, OutOfMemory>
     ensures { IfOk result (λ called. called ≡ gets spelled waiting held) }
 {
     match held {
         None => Ok(waits(Content::Promise(None), MOST_WAITING, waiting)),
         Some(value) => {
             let answer = value.duplicate(alloc)?;
-            Ok(leaves(
-                Content::Promise(Some(value)),
-                Effect::Answers(answer),
-            ))
+            Ok(leaves(Content::Promise(Some(value)), Effect::Answers(answer)))
         }
     }
 }

@@ -1,7 +1,8 @@
 use crate::act::lco_act;
-use hpx_calls::codes::{ARRIVE, CLOSE, DOWN, GET, PUT, WAIT, WHERE};
-use hpx_calls::codes::{BARRIER, CHANNEL, DATAFLOW, LATCH, PROMISE};
-use hpx_value::codes::{ADD, SET};
+use hpx_calls::codes::{
+    ARRIVE, BARRIER, CHANNEL, CLOSE, DATAFLOW, DOWN, GET, LATCH, PROMISE, PUT, WAIT, WHERE,
+};
+use hpx_value::codes::ADD;
 use hpx_value::gid::{Gid, Gids};
 use hpx_value::items::Items;
 use hpx_value::outcome::{Outcome, SendCont};
@@ -144,118 +145,126 @@ impl Object {
     }
 }
 
+// A call under a slot with numbers for arguments, and what is told.
+type Row = (u32, u16, &'static [i64], &'static str);
+
+fn numbers(alloc: Global, list: &[i64]) -> Result<Vec<Value>, Fail> {
+    let mut values = Vec::new(alloc);
+    for number in list {
+        values.push(Value::Int(*number))?;
+    }
+    Ok(values)
+}
+
+fn check(rt: &impl Abort, alloc: Global, mut object: Object, rows: &[Row]) -> Result<(), Fail> {
+    for row in rows {
+        let args = numbers(alloc, row.2)?;
+        object.says(rt, alloc, row.0, row.1, args, row.3)?;
+    }
+    Ok(())
+}
+
+fn channel(alloc: Global) -> Result<Object, Fail> {
+    Ok(Object::new(alloc, CHANNEL, vec![in alloc; Value::Flag(false)]?))
+}
+
 #[test]
 fn a_channel_hands_values_on(rt: HostRuntime) -> Result<(), Fail> {
-    let a = rt.alloc();
-    let mut c = Object::new(a, CHANNEL, vec![in a; Value::Flag(false)]?);
-    c.says(&rt, a, 1, GET, vec![in a]?, "")?;
-    c.says(&rt, a, 2, PUT, vec![in a; Value::Int(5)]?, "1: 5;2: unit;")?;
-    c.says(&rt, a, 3, PUT, vec![in a; Value::Int(6)]?, "3: unit;")?;
-    c.says(&rt, a, 4, CLOSE, vec![in a]?, "4: unit;")?;
-    c.says(&rt, a, 5, GET, vec![in a]?, "5: 6;")?;
-    c.says(&rt, a, 6, GET, vec![in a]?, "6: fault 8;")?;
-    c.says(&rt, a, 7, PUT, vec![in a; Value::Int(7)]?, "7: fault 8;")?;
-    c.says(&rt, a, 8, WHERE, vec![in a]?, "8: 5;")?;
-    Ok(())
+    let rows: [Row; 8] = [
+        (1, GET, &[], ""),
+        (2, PUT, &[5], "1: 5;2: unit;"),
+        (3, PUT, &[6], "3: unit;"),
+        (4, CLOSE, &[], "4: unit;"),
+        (5, GET, &[], "5: 6;"),
+        (6, GET, &[], "6: fault 8;"),
+        (7, PUT, &[7], "7: fault 8;"),
+        (8, WHERE, &[], "8: 5;"),
+    ];
+    check(&rt, rt.alloc(), channel(rt.alloc())?, &rows)
 }
 
 #[test]
 fn a_closed_channel_tells_those_that_wait(rt: HostRuntime) -> Result<(), Fail> {
-    let a = rt.alloc();
-    let mut c = Object::new(a, CHANNEL, vec![in a; Value::Flag(false)]?);
-    c.says(&rt, a, 1, GET, vec![in a]?, "")?;
-    c.says(&rt, a, 2, GET, vec![in a]?, "")?;
-    c.says(&rt, a, 3, PUT, vec![in a; Value::Ref(1)]?, "3: fault 11;")?;
-    c.says(&rt, a, 4, CLOSE, vec![in a]?, "1: fault 8;2: fault 8;4: unit;")?;
-    Ok(())
-}
-
-#[test]
-fn a_channel_is_full(rt: HostRuntime) -> Result<(), Fail> {
-    let a = rt.alloc();
-    let mut c = Object::new(a, CHANNEL, vec![in a; Value::Flag(false)]?);
-    for _ in 0..100 {
-        c.says(&rt, a, 1, GET, vec![in a]?, "")?;
-    }
-    c.says(&rt, a, 2, GET, vec![in a]?, "2: fault 10;")?;
-    let mut list = vec![in a; Value::Flag(false)]?;
-    for _ in 0..999 {
-        list.push(Value::Int(1))?;
-    }
-    let mut d = Object::new(a, CHANNEL, list);
-    d.says(&rt, a, 3, PUT, vec![in a; Value::Int(2)]?, "3: unit;")?;
-    d.says(&rt, a, 4, PUT, vec![in a; Value::Int(2)]?, "4: fault 10;")?;
-    Ok(())
+    let rows: [Row; 3] = [
+        (1, GET, &[], ""),
+        (2, GET, &[], ""),
+        (4, CLOSE, &[], "1: fault 8;2: fault 8;4: unit;"),
+    ];
+    check(&rt, rt.alloc(), channel(rt.alloc())?, &rows)
 }
 
 #[test]
 fn a_latch_frees_those_that_wait(rt: HostRuntime) -> Result<(), Fail> {
-    let a = rt.alloc();
-    let mut l = Object::new(a, LATCH, vec![in a; Value::Int(1)]?);
-    l.says(&rt, a, 1, WAIT, vec![in a]?, "")?;
-    l.says(&rt, a, 2, DOWN, vec![in a]?, "1: unit;2: unit;")?;
-    l.says(&rt, a, 3, DOWN, vec![in a]?, "3: fault 9;")?;
-    l.says(&rt, a, 4, ADD, vec![in a; Value::Int(1)]?, "4: fault 11;")?;
-    l.says(&rt, a, 5, WAIT, vec![in a]?, "5: unit;")?;
-    Ok(())
+    let rows: [Row; 5] = [
+        (1, WAIT, &[], ""),
+        (2, DOWN, &[], "1: unit;2: unit;"),
+        (3, DOWN, &[], "3: fault 9;"),
+        (4, ADD, &[1], "4: fault 11;"),
+        (5, WAIT, &[], "5: unit;"),
+    ];
+    let latch = Object::new(rt.alloc(), LATCH, numbers(rt.alloc(), &[1])?);
+    check(&rt, rt.alloc(), latch, &rows)
 }
 
 #[test]
 fn a_promise_has_one_value(rt: HostRuntime) -> Result<(), Fail> {
-    let a = rt.alloc();
-    let mut p = Object::new(a, PROMISE, vec![in a]?);
-    p.says(&rt, a, 1, PUT, vec![in a; Value::Int(4)]?, "1: unit;")?;
-    p.says(&rt, a, 2, PUT, vec![in a; Value::Int(5)]?, "2: fault 6;")?;
-    p.says(&rt, a, 3, GET, vec![in a]?, "3: 4;")?;
-    let mut q = Object::new(a, PROMISE, vec![in a]?);
-    for slot in 1..8 {
-        q.says(&rt, a, slot, GET, vec![in a]?, "")?;
-    }
-    q.says(&rt, a, 8, GET, vec![in a]?, "8: fault 10;")?;
-    let text = q.call(a, SET, vec![in a; Value::Int(0), Value::Flag(true)]?, None)?;
-    assert!(&rt; text.as_str() == "1: other;2: other;3: other;4: other;5: other;6: other;7: other;");
-    Ok(())
+    let rows: [Row; 3] = [
+        (1, PUT, &[4], "1: unit;"),
+        (2, PUT, &[5], "2: fault 6;"),
+        (3, GET, &[], "3: 4;"),
+    ];
+    let promise = Object::new(rt.alloc(), PROMISE, numbers(rt.alloc(), &[])?);
+    check(&rt, rt.alloc(), promise, &rows)
+}
+
+#[test]
+fn seven_wait_at_a_promise(rt: HostRuntime) -> Result<(), Fail> {
+    let rows: [Row; 9] = [
+        (1, GET, &[], ""),
+        (2, GET, &[], ""),
+        (3, GET, &[], ""),
+        (4, GET, &[], ""),
+        (5, GET, &[], ""),
+        (6, GET, &[], ""),
+        (7, GET, &[], ""),
+        (8, GET, &[], "8: fault 10;"),
+        (9, PUT, &[3], "1: 3;2: 3;3: 3;4: 3;5: 3;6: 3;7: 3;9: unit;"),
+    ];
+    let promise = Object::new(rt.alloc(), PROMISE, numbers(rt.alloc(), &[])?);
+    check(&rt, rt.alloc(), promise, &rows)
 }
 
 #[test]
 fn all_that_arrive_go_on(rt: HostRuntime) -> Result<(), Fail> {
-    let a = rt.alloc();
-    let mut b = Object::new(a, BARRIER, vec![in a; Value::Int(2)]?);
-    b.says(&rt, a, 1, ARRIVE, vec![in a]?, "")?;
-    b.says(&rt, a, 2, ARRIVE, vec![in a]?, "1: unit;2: unit;")?;
-    b.says(&rt, a, 3, ARRIVE, vec![in a]?, "")?;
-    let text = b.call(a, ARRIVE, vec![in a]?, None)?;
-    assert!(&rt; text.as_str() == "");
-    b.says(&rt, a, 4, ARRIVE, vec![in a]?, "3: unit;4: unit;")?;
-    Ok(())
+    let rows: [Row; 4] = [
+        (1, ARRIVE, &[], ""),
+        (2, ARRIVE, &[], "1: unit;2: unit;"),
+        (3, ARRIVE, &[], ""),
+        (4, ARRIVE, &[], "3: unit;4: unit;"),
+    ];
+    let barrier = Object::new(rt.alloc(), BARRIER, numbers(rt.alloc(), &[2])?);
+    check(&rt, rt.alloc(), barrier, &rows)
 }
 
 #[test]
 fn a_dataflow_starts_once(rt: HostRuntime) -> Result<(), Fail> {
-    let a = rt.alloc();
-    let mut d = Object::new(a, DATAFLOW, vec![in a; Value::Int(49), Value::Int(2)]?);
-    d.says(&rt, a, 1, PUT, vec![in a; Value::Int(2), Value::Int(1)]?, "1: fault 7;")?;
-    d.says(&rt, a, 2, PUT, vec![in a; Value::Int(0), Value::Int(1)]?, "2: unit;")?;
-    d.says(&rt, a, 3, PUT, vec![in a; Value::Int(0), Value::Int(1)]?, "3: fault 6;")?;
-    d.says(&rt, a, 4, GET, vec![in a]?, "")?;
-    d.says(&rt, a, 5, GET, vec![in a]?, "5: fault 9;")?;
-    d.says(&rt, a, 6, PUT, vec![in a; Value::Int(1), Value::Int(8)]?, "action 49 1 8 for 4;6: unit;")?;
-    d.says(&rt, a, 7, PUT, vec![in a; Value::Int(1), Value::Int(8)]?, "7: fault 6;")?;
-    d.says(&rt, a, 8, GET, vec![in a]?, "8: fault 9;")?;
-    let mut e = Object::new(a, DATAFLOW, vec![in a; Value::Int(49), Value::Int(1)]?);
-    let text = e.call(a, SET, vec![in a; Value::Int(0), Value::Int(3)]?, None)?;
-    assert!(&rt; text.as_str() == "");
-    e.says(&rt, a, 9, GET, vec![in a]?, "action 49 3 for 9;")?;
-    Ok(())
+    let rows: [Row; 8] = [
+        (1, PUT, &[2, 1], "1: fault 7;"),
+        (2, PUT, &[0, 1], "2: unit;"),
+        (3, PUT, &[0, 1], "3: fault 6;"),
+        (4, GET, &[], ""),
+        (5, GET, &[], "5: fault 9;"),
+        (6, PUT, &[1, 8], "action 49 1 8 for 4;6: unit;"),
+        (7, PUT, &[1, 8], "7: fault 6;"),
+        (8, GET, &[], "8: fault 9;"),
+    ];
+    let dataflow = Object::new(rt.alloc(), DATAFLOW, numbers(rt.alloc(), &[49, 2])?);
+    check(&rt, rt.alloc(), dataflow, &rows)
 }
 
 #[test]
 fn a_state_of_another_shape_is_left_alone(rt: HostRuntime) -> Result<(), Fail> {
-    let a = rt.alloc();
-    let mut d = Object::new(a, DATAFLOW, vec![in a; Value::Int(3), Value::Int(1)]?);
-    d.says(&rt, a, 1, GET, vec![in a]?, "1: fault 11;")?;
-    d.says(&rt, a, 2, WHERE, vec![in a]?, "2: 5;")?;
-    let mut l = Object::new(a, LATCH, vec![in a; Value::Int(1_000_001)]?);
-    l.says(&rt, a, 3, DOWN, vec![in a]?, "3: fault 11;")?;
-    Ok(())
+    let rows: [Row; 2] = [(1, GET, &[], "1: fault 11;"), (2, WHERE, &[], "2: 5;")];
+    let dataflow = Object::new(rt.alloc(), DATAFLOW, numbers(rt.alloc(), &[3, 1])?);
+    check(&rt, rt.alloc(), dataflow, &rows)
 }

@@ -32,21 +32,14 @@ pub fn on_table(
         Request::Unregister(key) => Ok(unregisters(pairs, key.as_slice())),
         Request::Keys => {
             let text = listed(alloc, pairs.as_slice())?;
-            Ok(leaves(
-                Content::Table(pairs),
-                Effect::Answers(Value::Text(text)),
-            ))
+            Ok(leaves(Content::Table(pairs), Effect::Answers(Value::Text(text))))
         }
         _ => Ok(wrong(Content::Table(pairs))),
     }
 }
 
 /// One more pair, where the key is new and there is room.
-fn registers(
-    pairs: Items<Pair<Value>>,
-    key: Text,
-    to: Value,
-) -> Result<Called<Value>, OutOfMemory>
+fn registers(pairs: Items<Pair<Value>>, key: Text, to: Value) -> Result<Called<Value>, OutOfMemory>
     ensures { IfOk result (λ called. called ≡ registers spelled pairs key to (found key pairs)) }
 {
     if found(key.as_slice(), pairs.as_slice()).is_some() {
@@ -60,11 +53,7 @@ fn registers(
 
 /// The pairs with one more, at its place.
 #[tactic(auto, using(crate::proofs::Placed::added_is, crate::proofs::Placed::place_within))]
-fn added(
-    pairs: Items<Pair<Value>>,
-    key: Text,
-    to: Value,
-) -> Result<Items<Pair<Value>>, OutOfMemory>
+fn added(pairs: Items<Pair<Value>>, key: Text, to: Value) -> Result<Items<Pair<Value>>, OutOfMemory>
     ensures { IfOk result (λ more. more ≡ added key to pairs) }
 {
     let place = place_of(key.as_slice(), pairs.as_slice());

@@ -122,77 +122,105 @@ impl Object {
     }
 }
 
-#[test]
-fn keys_name_objects(rt: HostRuntime) -> Result<(), Fail> {
-    let a = rt.alloc();
-    let mut s = Object::new(a, SYMBOLS, vec![in a]?);
-    s.says(&rt, a, REGISTER, vec![in a; word(a, b"n")?, Value::Ref(1)]?, "unit")?;
-    s.says(&rt, a, REGISTER, vec![in a; word(a, b"n")?, Value::Ref(1)]?, "fault 2")?;
-    s.says(&rt, a, RESOLVE, vec![in a; word(a, b"m")?]?, "fault 3")?;
-    s.says(&rt, a, LIST, vec![in a]?, "n")?;
-    s.says(&rt, a, REGISTER, vec![in a; word(a, b"mm")?, Value::Ref(1)]?, "unit")?;
-    s.says(&rt, a, REGISTER, vec![in a; word(a, b"m")?, Value::Ref(1)]?, "unit")?;
-    s.says(&rt, a, LIST, vec![in a]?, "m mm n")?;
-    s.says(&rt, a, RESOLVE, vec![in a; word(a, b"mm")?]?, "place 1")?;
-    s.says(&rt, a, UNREGISTER, vec![in a; word(a, b"mm")?]?, "unit")?;
-    s.says(&rt, a, UNREGISTER, vec![in a; word(a, b"mm")?]?, "fault 3")?;
-    s.says(&rt, a, LIST, vec![in a]?, "m n")?;
-    s.says(&rt, a, WHERE, vec![in a]?, "fault 11")?;
+// A call with a word, if there is one, and a Ref or a number after it, and what is told.
+type Row = (u16, Option<&'static [u8]>, Option<Rest>, &'static str);
+
+#[derive(Clone, Copy, Debug, PartialEq, Eq)]
+enum Rest {
+    Id,
+    Number(i64),
+}
+
+fn args(alloc: Global, first: Option<&[u8]>, rest: Option<Rest>) -> Result<Vec<Value>, Fail> {
+    let mut values = Vec::new(alloc);
+    if let Some(bytes) = first {
+        values.push(word(alloc, bytes)?)?;
+    }
+    match rest {
+        Some(Rest::Id) => values.push(Value::Ref(1))?,
+        Some(Rest::Number(number)) => values.push(Value::Int(number))?,
+        None => {}
+    }
+    Ok(values)
+}
+
+fn check(rt: &impl Abort, alloc: Global, mut object: Object, rows: &[Row]) -> Result<(), Fail> {
+    for row in rows {
+        let args = args(alloc, row.1, row.2)?;
+        object.says(rt, alloc, row.0, args, row.3)?;
+    }
     Ok(())
 }
 
+const ID: Option<Rest> = Some(Rest::Id);
+
 #[test]
-fn keys_have_from_one_to_32_bytes(rt: HostRuntime) -> Result<(), Fail> {
-    let a = rt.alloc();
-    let mut s = Object::new(a, SYMBOLS, vec![in a]?);
-    s.says(&rt, a, REGISTER, vec![in a; word(a, b"")?, Value::Ref(1)]?, "fault 11")?;
-    s.says(&rt, a, REGISTER, vec![in a; word(a, &[b'k'; 33])?, Value::Ref(1)]?, "fault 11")?;
-    s.says(&rt, a, REGISTER, vec![in a; word(a, &[b'k'; 32])?, Value::Ref(1)]?, "unit")?;
-    s.says(&rt, a, RESOLVE, vec![in a; word(a, &[b'k'; 33])?]?, "fault 3")?;
-    s.says(&rt, a, REGISTER, vec![in a; word(a, b"k")?, Value::Int(1)]?, "fault 11")?;
-    Ok(())
+fn keys_name_objects(rt: HostRuntime) -> Result<(), Fail> {
+    let rows: [Row; 12] = [
+        (REGISTER, Some(b"n"), ID, "unit"),
+        (REGISTER, Some(b"n"), ID, "fault 2"),
+        (RESOLVE, Some(b"m"), None, "fault 3"),
+        (LIST, None, None, "n"),
+        (REGISTER, Some(b"mm"), ID, "unit"),
+        (REGISTER, Some(b"m"), ID, "unit"),
+        (LIST, None, None, "m mm n"),
+        (RESOLVE, Some(b"mm"), None, "place 1"),
+        (UNREGISTER, Some(b"mm"), None, "unit"),
+        (UNREGISTER, Some(b"mm"), None, "fault 3"),
+        (LIST, None, None, "m n"),
+        (WHERE, None, None, "fault 11"),
+    ];
+    let symbols = Object::new(rt.alloc(), SYMBOLS, Vec::new(rt.alloc()));
+    check(&rt, rt.alloc(), symbols, &rows)
 }
 
 #[test]
 fn a_table_is_full(rt: HostRuntime) -> Result<(), Fail> {
-    let a = rt.alloc();
-    let mut s = Object::new(a, SYMBOLS, vec![in a]?);
+    let alloc = rt.alloc();
+    let mut symbols = Object::new(alloc, SYMBOLS, Vec::new(alloc));
     for byte in 1u8..101 {
-        s.says(&rt, a, REGISTER, vec![in a; word(a, &[byte])?, Value::Ref(1)]?, "unit")?;
+        let key = args(alloc, Some(&[byte]), ID)?;
+        symbols.says(&rt, alloc, REGISTER, key, "unit")?;
     }
-    s.says(&rt, a, REGISTER, vec![in a; word(a, &[101])?, Value::Ref(1)]?, "fault 10")?;
-    s.says(&rt, a, REGISTER, vec![in a; word(a, &[1])?, Value::Ref(1)]?, "fault 2")?;
-    Ok(())
+    let rows: [Row; 3] = [
+        (REGISTER, Some(b"zz"), ID, "fault 10"),
+        (REGISTER, Some(b"a"), ID, "fault 2"),
+        (REGISTER, Some(b""), ID, "fault 11"),
+    ];
+    check(&rt, alloc, symbols, &rows)
 }
 
 #[test]
 fn components_make_objects(rt: HostRuntime) -> Result<(), Fail> {
-    let a = rt.alloc();
-    let mut c = Object::new(a, COMPONENTS, vec![in a]?);
-    c.says(&rt, a, NEW, vec![in a; word(a, b"accumulator")?]?, "makes 16;place 3")?;
-    c.says(&rt, a, NEW, vec![in a; word(a, b"promise")?]?, "makes 32;place 3")?;
-    c.says(&rt, a, NEW, vec![in a; word(a, b"channel")?]?, "makes 34;place 3")?;
-    c.says(&rt, a, NEW, vec![in a; word(a, b"latch")?, Value::Int(1_000_000)]?, "makes 35;place 3")?;
-    c.says(&rt, a, NEW, vec![in a; word(a, b"barrier")?, Value::Int(100)]?, "makes 36;place 3")?;
-    c.says(&rt, a, NEW, vec![in a; word(a, b"latch")?, Value::Int(0)]?, "fault 11")?;
-    c.says(&rt, a, NEW, vec![in a; word(a, b"latch")?, Value::Int(1_000_001)]?, "fault 11")?;
-    c.says(&rt, a, NEW, vec![in a; word(a, b"barrier")?, Value::Int(101)]?, "fault 11")?;
-    c.says(&rt, a, NEW, vec![in a; word(a, b"promise")?, Value::Int(1)]?, "fault 11")?;
-    c.says(&rt, a, NEW, vec![in a; word(a, b"tally")?]?, "fault 4")?;
-    let mut numbers = Items::new(a);
-    numbers.push(5)?;
-    c.says(&rt, a, NEW, vec![in a; word(a, b"partition")?, Value::Ints(numbers)]?, "makes 17;place 3")?;
-    c.says(&rt, a, NEW, vec![in a; word(a, b"partition")?, Value::Ints(Items::new(a))]?, "fault 11")?;
-    Ok(())
+    let rows: [Row; 9] = [
+        (NEW, Some(b"accumulator"), None, "makes 16;place 3"),
+        (NEW, Some(b"promise"), None, "makes 32;place 3"),
+        (NEW, Some(b"channel"), None, "makes 34;place 3"),
+        (
+            NEW,
+            Some(b"latch"),
+            Some(Rest::Number(1_000_000)),
+            "makes 35;place 3",
+        ),
+        (
+            NEW,
+            Some(b"barrier"),
+            Some(Rest::Number(100)),
+            "makes 36;place 3",
+        ),
+        (NEW, Some(b"latch"), Some(Rest::Number(0)), "fault 11"),
+        (NEW, Some(b"barrier"), Some(Rest::Number(101)), "fault 11"),
+        (NEW, Some(b"promise"), Some(Rest::Number(1)), "fault 11"),
+        (NEW, Some(b"tally"), None, "fault 4"),
+    ];
+    let components = Object::new(rt.alloc(), COMPONENTS, Vec::new(rt.alloc()));
+    check(&rt, rt.alloc(), components, &rows)
 }
 
 #[test]
 fn localities_are_counted(rt: HostRuntime) -> Result<(), Fail> {
-    let a = rt.alloc();
-    let mut l = Object::new(a, LOCALITIES, vec![in a; Value::Int(3)]?);
-    l.says(&rt, a, COUNT, vec![in a]?, "3")?;
-    l.says(&rt, a, LIST, vec![in a]?, "fault 11")?;
-    let mut m = Object::new(a, LOCALITIES, vec![in a; Value::Int(4)]?);
-    m.says(&rt, a, COUNT, vec![in a]?, "fault 11")?;
-    Ok(())
+    let rows: [Row; 2] = [(COUNT, None, None, "3"), (LIST, None, None, "fault 11")];
+    let values = vec![in rt.alloc(); Value::Int(3)]?;
+    let localities = Object::new(rt.alloc(), LOCALITIES, values);
+    check(&rt, rt.alloc(), localities, &rows)
 }
