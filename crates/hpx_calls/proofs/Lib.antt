@@ -1,0 +1,12 @@
+pub mod Layouts
+pub mod Numbers
+pub mod Fronts
+pub mod SortsLemmas
+pub mod Told
+pub mod Keeps
+pub mod Shown
+pub mod Asked
+pub mod Controls
+pub mod Lawful
+pub mod Blind
+pub mod Promised

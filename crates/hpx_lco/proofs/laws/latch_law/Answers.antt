@@ -1,0 +1,5 @@
+use Rattle.hpx_lco.proofs.Latches.{down_tells, wait_tells}
+use Rattle.hpx_lco.proofs.laws.latch_law.Goals as goal
+
+pub returns : goal.returns
+returns g c = record { down = λ x n h w. down_tells x n h w; wait = λ x n h w. wait_tells x n h w }
