@@ -1,11 +1,12 @@
 -- One more action on its way out keeps what holds of each.
-use Rattle.std.proofs.Common.{ℕ, zero, suc, List, [], ◌∷◌, ◌++◌, ◌≢◌, ◌<◌, arith}
+use Rattle.std.proofs.Common.{ℕ, zero, suc, List, [], ◌∷◌, ◌++◌, ◌≡◌, ◌≢◌, ◌<◌, arith}
 use Rattle.std.specs.List.{All}
+use Rattle.hpx_root_journal.specs.Entries.{target_of}
 use Rattle.hpx_top.specs.declared.parts.Outgoing.{Outgoing}
 
--- it goes to another locality of n
+-- it goes to another locality of n, where its object has its home
 abbrev pub GoesAway : ℕ → ℕ → Outgoing → Type 0
-GoesAway n here x = (x.to < n) × (x.to ≢ here)
+GoesAway n here x = (x.to < n) × (x.to ≢ here) × (x.to ≡ (target_of x.act).home)
 
 pub away_posted : (n here : ℕ) (xs : List Outgoing) (x : Outgoing) → All (GoesAway n here) xs → GoesAway n here x
     → All (GoesAway n here) (xs ++ x ∷ [])

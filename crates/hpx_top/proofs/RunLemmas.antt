@@ -69,3 +69,20 @@ ended_within r None input old new (inl s) none h = absurd (let six = no_world r 
 ended_within r None input old new (inr s) none h = absurd (let six = no_world r (none refl) in omega arith)
 ended_within r (Some w) input old new s none h =
     within r (λ f. IsEndedBy f input w.journal.entries old new) (IsBrokenIn input w.journal.entries old new) s (λ e. e) (λ e. e) h
+
+without : {T : Type 0} (r : Result T SessionFault) (P : SessionFault → Type 0) (Q : Type 0) → status_after r ≡ 6 → (P OutOfMemory → Q) → IfErr r P → Q
+without (Ok x) P Q s memory h = absurd (omega arith)
+without (Err Read) P Q s memory h = absurd (omega arith)
+without (Err Write) P Q s memory h = absurd (omega arith)
+without (Err Fabric) P Q s memory h = absurd (omega arith)
+without (Err JournalFull) P Q s memory h = absurd (omega arith)
+without (Err OutOfMemory) P Q s memory h = memory h
+without (Err InputFull) P Q s memory h = absurd (omega arith)
+
+-- status 6 comes before a line, or within it
+pub ended_without : {T : Type 0} (r : Result T SessionFault) (o : Option Places) (input : List ℕ) (old new : Option (List ℕ))
+    → status_after r ≡ 6 → IfSome o (λ w. IfErr r (λ f. IsEndedBy f input w.journal.entries old new))
+    → IfSome o (λ w. IsBrokenOff 1 input w.journal.entries old new)
+ended_without r None input old new s h = tt
+ended_without r (Some w) input old new s h =
+    without r (λ f. IsEndedBy f input w.journal.entries old new) (IsBrokenOff 1 input w.journal.entries old new) s (λ e. e) h

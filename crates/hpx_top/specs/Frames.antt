@@ -1,6 +1,7 @@
 -- Frames that a node sends and takes.
 use Rattle.std.specs.Prelude.{ℕ, List, ◌∷◌, Some, ◌≡◌, ◌≢◌}
 use Rattle.hpx_root_journal.specs.Data.{Parcel, Apply}
+use Rattle.hpx_root_journal.specs.Entries.{target_of}
 use Rattle.hpx_top.specs.Fit.{IsFit}
 use Rattle.hpx_parcel.specs.declared.parcel.DecodeFault.TheVariants as faults
 use Rattle.hpx_parcel.specs.Reading.{parcel_of, Refuses}
@@ -17,6 +18,7 @@ pub record IsNext (t : Tables) (to : ℕ) (parcel : Parcel) : Type 0 where
   pub place : to ≡ first.to
   pub carried : parcel ≡ Apply first.act
   pub fit : IsFit first.act
+  pub home : to ≡ (target_of first.act).home
 
 -- the bytes spell the oldest action for another locality, which goes to `to`
 pub record IsFront (t : Tables) (to : ℕ) (bytes : List ℕ) : Type 0 where

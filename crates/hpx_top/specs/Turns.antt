@@ -1,13 +1,14 @@
 -- What a turn wrote, and which jobs are out after it.
-use Rattle.std.specs.Prelude.{ℕ, List, [], ◌∷◌, ◌++◌, ◌≡◌, ◌⊎◌}
+use Rattle.std.specs.Prelude.{ℕ, List, [], ◌∷◌, ◌++◌, ◌≡◌, ◌⊎◌, Some}
 use Rattle.std.specs.List.{AllByRecursion}
 use Rattle.hpx_value.specs.declared.acts.Job.{Job}
-use Rattle.hpx_root_journal.specs.Data.{Outcome}
-use Rattle.hpx_root_journal.specs.Entries.{name_of}
+use Rattle.hpx_root_journal.specs.Data.{Act, Outcome, Apply}
+use Rattle.hpx_root_journal.specs.Entries.{name_of, target_of}
 use Rattle.hpx_root_journal.specs.declared.entry.Name.{Name}
 use Rattle.hpx_root_journal.specs.declared.entry.Entry.{Entry}
 use Rattle.hpx_root_journal.specs.declared.entry.Event.TheVariants.{Line, Fire, Out, In}
 use Rattle.hpx_root_journal.specs.Whole.{Grows, FeedsNothing}
+use Rattle.hpx_parcel.specs.Reading.{parcel_of}
 use Rattle.hpx_top.specs.declared.turns.Turned.{Turned}
 use Rattle.hpx_top.specs.declared.turns.Turned.TheVariants as turned
 use Rattle.hpx_top.specs.declared.parts.Finished.TheVariants.{Committed, NotRunning}
@@ -20,6 +21,15 @@ abbrev pub MovesFrame : List Entry → List Entry → Type 0
 MovesFrame old new =
     ((k : ℕ) × (to : ℕ) × (bytes : List ℕ) × Grows k (Out to bytes ∷ []) old new)
     ⊎ ((k : ℕ) × (bytes : List ℕ) × Grows k (In bytes ∷ []) old new)
+
+-- a frame went out from k, to the home of the object that its action is for
+pub record SendsHome (k : ℕ) (old new : List Entry) : Type 0 where
+  pub to : ℕ
+  pub bytes : List ℕ
+  pub act : Act
+  pub grows : Grows k (Out to bytes ∷ []) old new
+  pub spelled : parcel_of bytes ≡ Some (Apply act)
+  pub home : to ≡ (target_of act).home
 
 -- a job was committed: the journal grew by its Done, and then by each message and print that it leaves, in order
 pub record Commits (old new : List Entry) : Type 0 where

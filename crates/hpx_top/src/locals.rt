@@ -9,7 +9,7 @@ ghost use Rattle.hpx_ports.specs.Faults.{Rose};
 ghost use Rattle.hpx_top.specs.Tables.{IsPassive};
 ghost use Rattle.hpx_top.specs.Stands.{rules_of};
 ghost use Rattle.hpx_top.specs.Sound.{IsSound, IsSame, IsInside, SendsOne, AcceptsOne, IsCarrying, IsQuiet, IsStuck, NoneRuns, Begins, Stops, running_in, road_of, listed};
-ghost use Rattle.hpx_top.specs.Turns.{IsUnfed};
+ghost use Rattle.hpx_top.specs.Turns.{IsUnfed, SendsHome};
 ghost use Rattle.hpx_top.specs.Changes.{committed};
 ghost use Rattle.hpx_top.specs.Jobs.{IsRunning, Starts};
 
@@ -220,6 +220,7 @@ impl<A: RootActs + Copy> Locals<A> {
         ensures jobs { running_in self.new.nodes.items ≡ running_in self.old.nodes.items }
         ensures some { result ≡ Ok true → (t : _) → slice_get self.old.nodes.items k ≡ Some t → t.outgoing ≢ [] }
         ensures sent { result ≡ Ok true → (to : ℕ) × (bytes : List ℕ) × Grows k (Event.Out to bytes ∷ []) self.old.journal.entries self.new.journal.entries }
+        ensures home { result ≡ Ok true → SendsHome k self.old.journal.entries self.new.journal.entries }
         ensures none { result ≡ Ok false → IsSame self.old.nodes.items self.new.nodes.items self.old.journal.entries self.new.journal.entries
             × ((t : _) → slice_get self.old.nodes.items k ≡ Some t → t.outgoing ≡ []) }
         ensures err { OnErr result (IsSame self.old.nodes.items self.new.nodes.items self.old.journal.entries self.new.journal.entries) }

@@ -57,6 +57,7 @@ impl<A: RootActs + Copy> Model for Node<A> {
     ghost use Rattle.std.specs.Prelude.{◌≡◌, ◌≢◌, ◌<◌, ◌≤◌, ◌-◌, min, vec_len, vec_capacity};
     ghost use Rattle.std.specs.List.{All};
     ghost use Rattle.std.specs.VecDeque.{deque_len, deque_capacity};
+    ghost use Rattle.hpx_root_journal.specs.Entries.{target_of};
     ghost use Rattle.hpx_top.specs.Free.{AreHere};
     ghost use Rattle.hpx_top.specs.Tables.{Tables};
 
@@ -77,7 +78,7 @@ impl<A: RootActs + Copy> Model for Node<A> {
     } };
 
     ghost invariant = { λ n. (A.count n.acts ≡ n.localities) × (n.here < n.localities) × (n.localities ≤ 64)
-        × All (λ x. (x.to < n.localities) × (x.to ≢ n.here)) n.outgoing.items
+        × All (λ x. (x.to < n.localities) × (x.to ≢ n.here) × (x.to ≡ (target_of x.act).home)) n.outgoing.items
         × AreHere n.localities n.here n.accepted.items };
 }
 

@@ -106,6 +106,7 @@ fn serve_all<S: Source, K: Sink, F: Fabric>(
     ensures taken { result.1 ≡ Err SessionFault.InputFull → S.taken source.new ≡ S.taken source.old + 67108864 }
 
     ensures none { result.0 ≡ None → result.1 ≡ Err SessionFault.OutOfMemory }
+    ensures untouched { result.0 ≡ None → (source.new ≡ source.old) × (sink.new ≡ sink.old) × (fabric.new ≡ fabric.old) }
     ensures localities { IfSome result.0 (λ w. length w.nodes ≡ 2) }
     ensures rest { OnOk result.1 (IfSome result.0 (λ w. IsAtRest w)) }
     ensures legal { IfSome result.0 (λ w. IsLegalAt 2 w.journal.entries) }
@@ -153,6 +154,10 @@ pub fn run<S: Source, K: Sink, E: Sink, F: Fabric>(
         IsBrokenOff 0 input (entries_in result.world) (K.held sink.old) (K.held sink.new) }
     ensures in_a_line { (input : _) → S.left source.old ≡ Some input → (result.status ≡ 4) ⊎ (result.status ≡ 5) →
         IsBrokenIn input (entries_in result.world) (K.held sink.old) (K.held sink.new) }
+
+    ensures at_most_a_line { (input : _) → S.left source.old ≡ Some input → result.status ≡ 6 →
+        IfSome result.world (λ w. IsBrokenOff 1 input w.journal.entries (K.held sink.old) (K.held sink.new)) }
+    ensures untouched { result.world ≡ None → (source.new ≡ source.old) × (sink.new ≡ sink.old) × (result.fabric ≡ fabric) }
 
     ensures read_up { (input : _) → S.left source.old ≡ Some input → result.status ≡ 0 → IsReadUp input (S.left source.new) }
     ensures rest { result.status ≡ 0 → IfSome result.world (λ w. IsAtRest w) }

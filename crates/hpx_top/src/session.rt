@@ -98,6 +98,7 @@ fn show<K: Sink>(journal: &Journal, cut: u64, sink: &mut K) -> Result<(), Sessio
 fn fault_of(fault: WorldFault<AllActs>) -> SessionFault
     ensures fabric { result ≡ SessionFault.Fabric → fault ≡ WorldFault.Fabric }
     ensures full { result ≡ SessionFault.JournalFull → (e w : ℕ) × (u : _) × (fault ≡ WorldFault.JournalFull e w u) }
+    ensures memory { result ≡ SessionFault.OutOfMemory → (u : _) × (fault ≡ WorldFault.OutOfMemory u) }
     ensures other { (result ≢ SessionFault.Read) × (result ≢ SessionFault.Write) × (result ≢ SessionFault.InputFull) }
 {
     match fault {

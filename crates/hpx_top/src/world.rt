@@ -1,4 +1,4 @@
-ghost use Rattle.std.specs.Prelude.{◌≡◌, ◌≤◌, ◌<◌, ◌+◌, ◌-◌, ◌^◌, ◌∷◌, [], ℕ, List, true, false, length, min, OnOk, OnErr, IfOk, IfErr, IsTrue, ◌↔◌, Ok, Err, Some, None, option_copied, slice_get, ◌⊎◌};
+ghost use Rattle.std.specs.Prelude.{◌≡◌, ◌≢◌, ◌≤◌, ◌<◌, ◌+◌, ◌-◌, ◌^◌, ◌∷◌, [], ℕ, List, true, false, length, min, OnOk, OnErr, IfOk, IfErr, IsTrue, ◌↔◌, Ok, Err, Some, None, option_copied, slice_get, ◌⊎◌};
 ghost use Rattle.hpx_root_journal.specs.Weights.{HasRoom, IsWithin, AddsATurn, total_weight};
 ghost use Rattle.hpx_root_journal.specs.Roots.{roots};
 ghost use Rattle.hpx_root_journal.specs.Whole.{IsLegal, start, run, Grows};
@@ -7,7 +7,7 @@ ghost use Rattle.hpx_ports.specs.Faults.{Rose};
 ghost use Rattle.hpx_top.specs.Stands.{rules_of};
 ghost use Rattle.hpx_top.specs.Sound.{IsSame, IsInside, IsCarrying, IsQuiet, NothingApplies, NoneRuns, running_in};
 ghost use Rattle.hpx_top.specs.Changes.{committed};
-ghost use Rattle.hpx_top.specs.Turns.{Wrote, Ran, IsUnfed};
+ghost use Rattle.hpx_top.specs.Turns.{Wrote, Ran, IsUnfed, SendsHome};
 ghost use Rattle.hpx_top.specs.Free.{NoneIsFree};
 ghost use Rattle.hpx_top.specs.Jobs.{IsRunning, Starts};
 
@@ -192,6 +192,7 @@ impl<A: RootActs + Copy> World<A> {
         ensures ran { IfOk result (λ t. Ran t self.old.nodes self.new.nodes) }
         ensures answers { IfOk result (λ t. (t ≡ Turned.Empty) ⊎ ((t ≡ Turned.Moved)
             × ((to : ℕ) × (bytes : List ℕ) × Grows k (Event.Out to bytes ∷ []) self.old.journal.entries self.new.journal.entries))) }
+        ensures home { result ≡ Ok Turned.Moved → SendsHome k self.old.journal.entries self.new.journal.entries }
         ensures empty { (t : _) → slice_get self.old.nodes k ≡ Some t → IfOk result (λ turned. (turned ≡ Turned.Empty) ↔ (t.outgoing ≡ [])) }
         ensures err { OnErr result (IsSame self.old.nodes self.new.nodes self.old.journal.entries self.new.journal.entries) }
         ensures which { IfErr result (λ e. (e ≡ WorldFault.Fabric) ⊎ (e ≡ WorldFault.OutOfMemory None)) }
@@ -262,6 +263,7 @@ impl<A: RootActs + Copy> World<A> {
         ensures finishes { (done : _) → choice ≡ Choice.Finish done → IfOk result (λ t. (f : _) × (t ≡ Turned.Finished f)) }
         ensures pumps { (k : _) → choice ≡ Choice.Pump k → IfOk result (λ t. (t ≡ Turned.Empty) ⊎ ((t ≡ Turned.Moved)
             × ((to : ℕ) × (bytes : List ℕ) × Grows k (Event.Out to bytes ∷ []) self.old.journal.entries self.new.journal.entries))) }
+        ensures home { (k : _) → choice ≡ Choice.Pump k → result ≡ Ok Turned.Moved → SendsHome k self.old.journal.entries self.new.journal.entries }
         ensures takes { choice ≡ Choice.Take → IfOk result (λ t. (t ≡ Turned.Empty) ⊎ ((t ≡ Turned.Moved)
             × ((at : ℕ) × (bytes : List ℕ) × Grows at (Event.In bytes ∷ []) self.old.journal.entries self.new.journal.entries))) }
         ensures idle { (k : _) (t : _) → choice ≡ Choice.Fire k → slice_get self.old.nodes k ≡ Some t
@@ -272,6 +274,8 @@ impl<A: RootActs + Copy> World<A> {
             → IfOk result (λ turned. (turned ≡ Turned.Empty) ↔ (t.outgoing ≡ [])) }
         ensures nothing { choice ≡ Choice.Take → IfOk result (λ turned. (turned ≡ Turned.Empty) ↔ ((self.old.hand ≡ None) × (F.flight fabric.old ≡ Some []))) }
 
+        ensures hand { choice ≢ Choice.Take → self.new.hand ≡ self.old.hand }
+        ensures apart { ((k : _) → choice ≢ Choice.Pump k) → choice ≢ Choice.Take → fabric.new ≡ fabric.old }
         ensures err { OnErr result (IsSame self.old.nodes self.new.nodes self.old.journal.entries self.new.journal.entries) }
         ensures full { (HasRoom self.old.journal.entries → ⊥) → (e w : ℕ) × (u : _) × (result ≡ Err (WorldFault.JournalFull e w u)) }
         ensures full_only { (e w : ℕ) (u : _) → result ≡ Err (WorldFault.JournalFull e w u) → HasRoom self.old.journal.entries → ⊥ }

@@ -1,7 +1,7 @@
 use Rattle.std.proofs.Common.{ℕ, [], ◌≡◌, ◌⊎◌, inl, inr, refl, sym, ap, ◌∙◌}
 use Rattle.hpx_top.specs.Statuses.{status_after}
 use Rattle.hpx_top.proofs.EndLemmas.{begun_nothing}
-use Rattle.hpx_top.proofs.RunLemmas.{ended_well, ended_between, ended_within}
+use Rattle.hpx_top.proofs.RunLemmas.{ended_well, ended_between, ended_within, ended_without}
 use Rattle.hpx_top.proofs.run.run.Goals as goal
 use Rattle.hpx_top.proofs.run.run.Goals.{in-Ok, in-Err}
 
@@ -43,3 +43,11 @@ returns-clause-read_up g c =
       | in-Err w ↦ w.status-is ∙ (w.line_of-status.ensures.status ∙ ap status_after (sym w.in-Err.is))
     ] in
     λ input h s. ended_well c.serve_all-world.result.1 _ (sym is ∙ s) (c.serve_all-world.ensures.read_up input h)
+
+pub returns-clause-at_most_a_line : goal.returns-clause-at_most_a_line
+returns-clause-at_most_a_line g c =
+    let is : c.match-served.status ≡ status_after c.serve_all-world.result.1 = elim c.match-served.branch [
+      | in-Ok w ↦ w.status-is ∙ ap status_after (sym w.in-Ok.is)
+      | in-Err w ↦ w.status-is ∙ (w.line_of-status.ensures.status ∙ ap status_after (sym w.in-Err.is))
+    ] in
+    λ input h s. ended_without c.serve_all-world.result.1 c.serve_all-world.result.0 input _ _ (sym is ∙ s) (c.serve_all-world.ensures.ended input h)

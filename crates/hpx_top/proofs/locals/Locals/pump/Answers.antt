@@ -1,4 +1,4 @@
-use Rattle.std.proofs.Common.{subst, ◌≡◌, [], refl, sym, ap, ◌∙◌}
+use Rattle.std.proofs.Common.{subst, ◌≡◌, [], Some, refl, sym, ap, ◌∙◌}
 use Rattle.hpx_top.specs.Tables.{Tables}
 use Rattle.hpx_top.specs.Sound.{SendsOne}
 use Rattle.hpx_top.proofs.SoundLemmas.{stands_own, sound_out, sends_of}
@@ -41,6 +41,17 @@ returns-clause-sent g c = λ same. (
   grows_at _ _ _ c.requires.sound c.args.k c.index_mut-node.result.now c.gone.new.self c.requires.range c.index_mut-node.ensures.value _ _
       (rw c.reserve.ensures.entries at c.gone.ensures.writes),
 )
+
+pub returns-clause-home : goal.returns-clause-home
+returns-clause-home g c = λ same. record {
+  to = c.in-Some.to;
+  bytes = c.in-Ok.bytes;
+  act = c.in-Some.ensures.some.first.act;
+  grows = grows_at _ _ _ c.requires.sound c.args.k c.index_mut-node.result.now c.gone.new.self c.requires.range c.index_mut-node.ensures.value _ _
+      (rw c.reserve.ensures.entries at c.gone.ensures.writes);
+  spelled = (rw c.in-Ok.is at c.encode.ensures.read) ∙ ap Some c.in-Some.ensures.some.carried;
+  home = c.in-Some.ensures.some.home;
+}
 
 pub returns-clause-few : goal.returns-clause-few
 returns-clause-few g c =

@@ -1,5 +1,6 @@
 use Rattle.std.proofs.Common.{arith, ◌∙◌, ap, drop, ◌≡◌, ◌<◌, ◌≢◌}
 use Rattle.std.proofs.lemmas.List.Elements.{All-tail, All-head}
+use Rattle.hpx_root_journal.specs.Entries.{target_of}
 use Rattle.hpx_top.specs.declared.parts.Outgoing.{Outgoing}
 use Rattle.hpx_top.proofs.StandsLemmas.{sent_few}
 use Rattle.hpx_top.proofs.Rows.{stands_out}
@@ -17,7 +18,7 @@ invariant_of-self g c =
       c.self.invariant.0,
       c.self.invariant.1,
       c.self.invariant.2,
-      rw is (All-tail (λ (x : Outgoing). (x.to < c.self.inside.localities) × (x.to ≢ c.self.inside.here)) front.first front.rest (rw front.is at c.self.invariant.3)),
+      rw is (All-tail (λ (x : Outgoing). (x.to < c.self.inside.localities) × (x.to ≢ c.self.inside.here) × (x.to ≡ (target_of x.act).home)) front.first front.rest (rw front.is at c.self.invariant.3)),
       c.self.invariant.4,
     )
 
@@ -26,6 +27,6 @@ returns-clause-stands g c =
     let front = rw (← c.self.view_is) at c.requires.front in
     let stands = rw (← c.self.view_is) at c.requires.stands in
     let is : c.pop_front.new.self.items ≡ front.rest = c.pop_front.ensures.rest ∙ ap (λ xs. drop 1 xs) front.is in
-    let ok = All-head (λ (x : Outgoing). (x.to < c.self.inside.localities) × (x.to ≢ c.self.inside.here)) front.first front.rest (rw front.is at c.self.invariant.3) in
+    let ok = All-head (λ (x : Outgoing). (x.to < c.self.inside.localities) × (x.to ≢ c.self.inside.here) × (x.to ≡ (target_of x.act).home)) front.first front.rest (rw front.is at c.self.invariant.3) in
     rw (← c.self.view_is, c.push.ensures.entries, is, front.place)
     (stands_out _ _ _ front.first front.rest c.args.frame _ stands front.is front.spelled ok.0 ok.1)

@@ -8,7 +8,7 @@ invariant_of-self g c = rw (c.push_back_reserved.ensures.items) (
   c.self.invariant.0,
   c.self.invariant.1,
   c.self.invariant.2,
-  away_posted c.self.inside.localities c.self.inside.here c.self.inside.outgoing.items _ c.self.invariant.3 (omega (arith, c.if-to-self.true), λ e. omega (arith, e, c.if-to-self-2.true)),
+  away_posted c.self.inside.localities c.self.inside.here c.self.inside.outgoing.items _ c.self.invariant.3 (omega (arith, c.if-to-self.true), λ e. omega (arith, e, c.if-to-self-2.true), let a = c.new-act.ensures in cc),
   c.self.invariant.4,
 )
 
