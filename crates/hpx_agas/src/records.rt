@@ -192,8 +192,8 @@ impl<Q> Records<Q> {
         self.table.put(made);
     }
 
-    /// Takes back the credit of an id. A record whose whole credit has come back is gone, and what waits for it
-    /// with it: see to `queued` before. It takes no memory.
+    /// Takes back the credit of an id. A record whose whole credit has come back is gone, and what waits for it can
+    /// no longer be taken: see to `queued` before. It takes no memory.
     pub fn back(&mut self, gid: Gid) -> Result<Left, Strange>
         requires { IsSome gid.log }
         ensures strange { IsErr result ↔ ¬ Covers (record_of self.old gid) gid }

@@ -15,12 +15,13 @@ use hpx_value::memory::OutOfMemory;
 use hpx_value::value::{Act, Cont, Conts, Message, State, Value, Values};
 use std::alloc::Global;
 
+/// The most bytes that an action, or a state, takes in a frame.
 const LONGEST_PART: usize = 65_000;
 
-/// Behind the target and 32 Refs.
+/// The place behind the target and 32 Refs.
 const REFS_END: u16 = 33;
 
-/// Of a state.
+/// The most ids that a state has.
 const MOST_IDS: u16 = 128;
 
 /// Which actions a field takes.
@@ -33,6 +34,7 @@ pub(crate) enum ActRule {
 }
 
 impl ActRule {
+    /// Which targets such an action may have.
     pub(crate) fn target(self) -> IdRule
         ensures { result ≡ target_rule self }
     {
@@ -42,6 +44,7 @@ impl ActRule {
         }
     }
 
+    /// Whether such an action may have this code.
     pub(crate) fn takes_code(self, code: u16) -> bool
         ensures { result ≡ takes_code self code }
     {
@@ -51,6 +54,7 @@ impl ActRule {
         }
     }
 
+    /// Whether such an action may have these arguments.
     pub(crate) fn takes_args(self, args: &[Value]) -> bool
         ensures { result ≡ takes_args self args.now }
     {
@@ -61,6 +65,7 @@ impl ActRule {
     }
 }
 
+/// Whether they are one number, that of a locality.
 fn are_move_args(args: &[Value]) -> bool
     ensures { result ≡ are_move_args args.now }
 {
@@ -77,6 +82,7 @@ struct Link {
     slot: u32,
 }
 
+/// An id and a slot.
 #[tactic(auto, unfolding(crate::specs::Reading::slot_at))]
 fn link_of(bytes: &[u8]) -> Result<(Link, &[u8]), ReadError>
     ensures { Gives (λ x. (x.0.id, x.0.slot, x.1.now)) result (slot_at bytes.now) }
@@ -90,6 +96,7 @@ fn link_of(bytes: &[u8]) -> Result<(Link, &[u8]), ReadError>
     }
 }
 
+/// A continuation, if there is one, whose id comes to stand at this place.
 #[tactic(auto, unfolding(crate::specs::Reading::cont_at))]
 fn cont_of(place: u16, bytes: &[u8]) -> Result<(Option<Cont>, Option<Gid>, &[u8]), ReadError>
     ensures { Gives (λ x. (x.0, x.1, x.2.now)) result (cont_at place bytes.now) }
@@ -133,6 +140,7 @@ fn ended_of(
     }
 }
 
+/// An action without its name, behind its target.
 #[tactic(auto, unfolding(crate::specs::Reading::call_at))]
 fn call_of(
     alloc: Global,
@@ -160,6 +168,7 @@ fn call_of(
     }
 }
 
+/// An action without its name.
 #[tactic(auto, unfolding(crate::specs::Reading::message_at))]
 fn message_of(alloc: Global, rule: ActRule, bytes: &[u8]) -> Result<(Message, &[u8]), ReadError>
     ensures { Gives (λ x. (x.0, x.1.now)) result (message_at rule bytes.now) }
@@ -170,6 +179,7 @@ fn message_of(alloc: Global, rule: ActRule, bytes: &[u8]) -> Result<(Message, &[
     }
 }
 
+/// An action that such a field takes, of at most 65,000 bytes.
 #[tactic(auto, unfolding(crate::specs::Reading::act_at, crate::specs::Reading::long_act_at))]
 pub(crate) fn act_of(alloc: Global, rule: ActRule, bytes: &[u8]) -> Result<(Act, &[u8]), ReadError>
     ensures { Gives (λ x. (x.0, x.1.now)) result (act_at rule bytes.now) }
@@ -203,6 +213,7 @@ pub(crate) fn act_of(alloc: Global, rule: ActRule, bytes: &[u8]) -> Result<(Act,
     }
 }
 
+/// One more continuation and its id.
 fn push_link(conts: &mut Conts, ids: &mut Gids, link: Link) -> Result<(), OutOfMemory>
     requires { length ids.old < 2 ^ 16 }
     ensures conts { OnOk result (conts.new ≡ conts.old ++ record { place = length ids.old; slot = link.slot } ∷ []) }
@@ -265,6 +276,7 @@ fn kept_of(
     }
 }
 
+/// A state, of at most 65,000 bytes.
 #[tactic(auto, unfolding(crate::specs::Reading::state_at, crate::specs::Reading::long_state_at))]
 pub(crate) fn state_of(alloc: Global, bytes: &[u8]) -> Result<(State, &[u8]), ReadError>
     ensures { Gives (λ x. (x.0, x.1.now)) result (state_at bytes.now) }

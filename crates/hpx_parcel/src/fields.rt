@@ -18,6 +18,7 @@ pub(crate) struct Stop {
     pub(crate) why: Why,
 }
 
+/// Why nothing was read.
 #[derive(Drop)]
 pub(crate) enum ReadError {
     Stop(Stop),
@@ -64,6 +65,7 @@ pub(crate) enum IdRule {
 }
 
 impl IdRule {
+    /// Whether such a field takes this id.
     pub(crate) fn allows(self, id: Gid) -> bool
         ensures { result ≡ allows self id }
     {
@@ -79,6 +81,7 @@ impl IdRule {
     }
 }
 
+/// Whether it is the log of the least credit.
 fn is_least(log: Option<u8>) -> bool
     ensures { result ≡ is_least log }
 {
@@ -88,6 +91,7 @@ fn is_least(log: Option<u8>) -> bool
     }
 }
 
+/// Whether there is a credit exactly where the kind is managed.
 fn credit_fits(id: Gid) -> bool
     ensures { result ≡ credit_fits id }
 {
@@ -98,6 +102,7 @@ fn credit_fits(id: Gid) -> bool
     }
 }
 
+/// A fault at the first of these bytes.
 pub(crate) fn stop_at(bytes: &[u8], why: Why) -> ReadError
     ensures { result ≡ Broken (stop_at bytes.now why) }
 {
@@ -107,6 +112,7 @@ pub(crate) fn stop_at(bytes: &[u8], why: Why) -> ReadError
     })
 }
 
+/// The bytes end too early.
 pub(crate) fn cut_off() -> ReadError
     ensures { result ≡ Broken cut_off }
 {
@@ -116,6 +122,7 @@ pub(crate) fn cut_off() -> ReadError
     })
 }
 
+/// A byte.
 pub(crate) fn byte_of(bytes: &[u8]) -> Result<(u8, &[u8]), ReadError>
     ensures { Gives (λ x. (x.0, x.1.now)) result (next_byte bytes.now) }
 {
@@ -125,6 +132,7 @@ pub(crate) fn byte_of(bytes: &[u8]) -> Result<(u8, &[u8]), ReadError>
     }
 }
 
+/// A number of two bytes, the highest first.
 #[tactic(auto, unfolding(crate::specs::Reading::number_at))]
 pub(crate) fn u16_of(bytes: &[u8]) -> Result<(u16, &[u8]), ReadError>
     ensures { Gives (λ x. (x.0, x.1.now)) result (number_at 2 bytes.now) }
@@ -135,6 +143,7 @@ pub(crate) fn u16_of(bytes: &[u8]) -> Result<(u16, &[u8]), ReadError>
     Ok((BigEndian::read_u16(bytes), &bytes[2..]))
 }
 
+/// A number of four bytes, the highest first.
 #[tactic(auto, unfolding(crate::specs::Reading::number_at))]
 pub(crate) fn u32_of(bytes: &[u8]) -> Result<(u32, &[u8]), ReadError>
     ensures { Gives (λ x. (x.0, x.1.now)) result (number_at 4 bytes.now) }
@@ -145,6 +154,7 @@ pub(crate) fn u32_of(bytes: &[u8]) -> Result<(u32, &[u8]), ReadError>
     Ok((BigEndian::read_u32(bytes), &bytes[4..]))
 }
 
+/// A number of eight bytes, the highest first.
 #[tactic(auto, unfolding(crate::specs::Reading::number_at))]
 pub(crate) fn u64_of(bytes: &[u8]) -> Result<(u64, &[u8]), ReadError>
     ensures { Gives (λ x. (x.0, x.1.now)) result (number_at 8 bytes.now) }
@@ -155,6 +165,7 @@ pub(crate) fn u64_of(bytes: &[u8]) -> Result<(u64, &[u8]), ReadError>
     Ok((BigEndian::read_u64(bytes), &bytes[8..]))
 }
 
+/// A number with a sign, in 8 bytes, the highest first.
 #[tactic(auto, unfolding(crate::specs::Reading::number_at, crate::specs::Reading::int_at))]
 pub(crate) fn int_of(bytes: &[u8]) -> Result<(i64, &[u8]), ReadError>
     ensures { Gives (λ x. (x.0, x.1.now)) result (int_at bytes.now) }
@@ -165,6 +176,7 @@ pub(crate) fn int_of(bytes: &[u8]) -> Result<(i64, &[u8]), ReadError>
     Ok((BigEndian::read_i64(bytes), &bytes[8..]))
 }
 
+/// A count of two bytes, at most a limit.
 #[tactic(auto, unfolding(crate::specs::Reading::count_at))]
 pub(crate) fn count_of(limit: u16, bytes: &[u8]) -> Result<(u16, &[u8]), ReadError>
     ensures given { Gives (λ x. (x.0, x.1.now)) result (count_at limit bytes.now) }
@@ -177,12 +189,14 @@ pub(crate) fn count_of(limit: u16, bytes: &[u8]) -> Result<(u16, &[u8]), ReadErr
     Ok((count, rest))
 }
 
+/// The id that two halves are, if they are one.
 fn gid_of(msb: u64, lsb: u64) -> Option<Gid>
     ensures { result ≡ id_of msb lsb }
 {
     Gid::read(msb, lsb)
 }
 
+/// An id that such a field takes.
 #[tactic(auto, unfolding(crate::specs::Reading::id_at))]
 pub(crate) fn id_with(rule: IdRule, bytes: &[u8]) -> Result<(Gid, &[u8]), ReadError>
     ensures { Gives (λ x. (x.0, x.1.now)) result (id_at rule bytes.now) }
@@ -195,6 +209,7 @@ pub(crate) fn id_with(rule: IdRule, bytes: &[u8]) -> Result<(Gid, &[u8]), ReadEr
     }
 }
 
+/// An id and a number of two bytes.
 #[tactic(auto, unfolding(crate::specs::Reading::pair_at))]
 pub(crate) fn id_u16_of(rule: IdRule, bytes: &[u8]) -> Result<(Gid, u16, &[u8]), ReadError>
     ensures { Gives (λ x. (x.0, x.1, x.2.now)) result (pair_at rule 2 bytes.now) }
@@ -208,6 +223,7 @@ pub(crate) fn id_u16_of(rule: IdRule, bytes: &[u8]) -> Result<(Gid, u16, &[u8]),
     }
 }
 
+/// An id and a number of eight bytes.
 #[tactic(auto, unfolding(crate::specs::Reading::pair_at))]
 pub(crate) fn id_u64_of(rule: IdRule, bytes: &[u8]) -> Result<(Gid, u64, &[u8]), ReadError>
     ensures { Gives (λ x. (x.0, x.1, x.2.now)) result (pair_at rule 8 bytes.now) }

@@ -9,10 +9,13 @@ use crate::fields::{IdRule, ReadError, byte_of, id_u16_of, id_u64_of, id_with, s
 use crate::parcel::{DecodeFault, Parcel, Why};
 use std::alloc::Global;
 
+/// The most bytes of a frame.
 const LONGEST_FRAME: usize = 65_536;
 
+/// The first byte of each frame.
 const VERSION: u8 = 1;
 
+/// The fields of an Ask.
 #[tactic(auto, unfolding(crate::specs::Reading::ask_at))]
 fn ask_of(bytes: &[u8]) -> Result<(Parcel, &[u8]), ReadError>
     ensures { Gives (λ x. (x.0, x.1.now)) result (ask_at bytes.now) }
@@ -26,6 +29,7 @@ fn ask_of(bytes: &[u8]) -> Result<(Parcel, &[u8]), ReadError>
     }
 }
 
+/// The fields of an Object.
 #[tactic(auto, unfolding(crate::specs::Reading::object_at))]
 fn object_of(alloc: Global, bytes: &[u8]) -> Result<(Parcel, &[u8]), ReadError>
     ensures { Gives (λ x. (x.0, x.1.now)) result (object_at bytes.now) }
@@ -39,6 +43,7 @@ fn object_of(alloc: Global, bytes: &[u8]) -> Result<(Parcel, &[u8]), ReadError>
     }
 }
 
+/// A parcel of this kind, of its fields; another kind is a fault at the first of `bytes`.
 #[tactic(auto, unfolding(crate::specs::Reading::fields_at))]
 fn fields_of<'a>(
     alloc: Global,
@@ -87,6 +92,7 @@ fn fields_of<'a>(
     }
 }
 
+/// A parcel, and the bytes behind it.
 #[tactic(auto, unfolding(crate::specs::Reading::parcel_at))]
 fn parcel_of(alloc: Global, bytes: &[u8]) -> Result<(Parcel, &[u8]), ReadError>
     ensures { Gives (λ x. (x.0, x.1.now)) result (parcel_at bytes.now) }
@@ -99,6 +105,7 @@ fn parcel_of(alloc: Global, bytes: &[u8]) -> Result<(Parcel, &[u8]), ReadError>
     fields_of(alloc, kind, rest, after)
 }
 
+/// A parcel that takes all of the bytes.
 #[tactic(auto, unfolding(crate::specs::Reading::whole_of))]
 fn whole(alloc: Global, bytes: &[u8]) -> Result<Parcel, ReadError>
     ensures { Gives (λ x. x) result (whole_of bytes.now) }
@@ -110,6 +117,7 @@ fn whole(alloc: Global, bytes: &[u8]) -> Result<Parcel, ReadError>
     Ok(parcel)
 }
 
+/// The parcel, or the first fault with its place from the left.
 #[tactic(auto, unfolding(crate::specs::Reading::reading))]
 fn read(alloc: Global, bytes: &[u8]) -> Result<Parcel, DecodeFault>
     ensures ok { IfOk result (λ p. reading bytes.now ≡ Ok p) }

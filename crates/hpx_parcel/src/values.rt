@@ -11,14 +11,19 @@ use hpx_value::memory::OutOfMemory;
 use hpx_value::value::{Value, Values};
 use std::alloc::Global;
 
+/// The most values of an action, or of a state.
 const MOST_VALUES: u16 = 1_024;
 
+/// The most bytes of a text.
 const LONGEST_TEXT: u16 = 16_384;
 
+/// The most numbers of one value.
 const MOST_INTS: u16 = 4_096;
 
+/// The greatest number of a fault.
 const LAST_FAULT: u8 = 11;
 
+/// A flag, behind its tag.
 #[tactic(auto, unfolding(crate::specs::Reading::flag_at))]
 fn flag_of(bytes: &[u8]) -> Result<(Value, &[u8]), ReadError>
     ensures { Gives (λ x. (x.0, x.1.now)) result (flag_at bytes.now) }
@@ -31,6 +36,7 @@ fn flag_of(bytes: &[u8]) -> Result<(Value, &[u8]), ReadError>
     }
 }
 
+/// A text, behind its tag.
 #[tactic(auto, unfolding(crate::specs::Reading::text_at))]
 fn text_of(alloc: Global, bytes: &[u8]) -> Result<(Text, &[u8]), ReadError>
     ensures { Gives (λ x. (x.0, x.1.now)) result (text_at bytes.now) }
@@ -44,6 +50,7 @@ fn text_of(alloc: Global, bytes: &[u8]) -> Result<(Text, &[u8]), ReadError>
     Ok((Items::from_vec(Vec::from_slice(alloc, text)?), rest))
 }
 
+/// A fault, behind its tag.
 #[tactic(auto, unfolding(crate::specs::Reading::fault_at))]
 fn fault_of(bytes: &[u8]) -> Result<(Value, &[u8]), ReadError>
     ensures { Gives (λ x. (x.0, x.1.now)) result (fault_at bytes.now) }
@@ -56,6 +63,7 @@ fn fault_of(bytes: &[u8]) -> Result<(Value, &[u8]), ReadError>
     }
 }
 
+/// So many numbers with a sign.
 fn numbers_of(alloc: Global, count: u16, bytes: &[u8]) -> Result<(Ints, &[u8]), ReadError>
     ensures { Gives (λ x. (x.0, x.1.now)) result (numbers_at count bytes.now) }
 {
@@ -69,6 +77,7 @@ fn numbers_of(alloc: Global, count: u16, bytes: &[u8]) -> Result<(Ints, &[u8]), 
     Ok((numbers, rest))
 }
 
+/// A count of numbers, and these.
 #[tactic(auto, unfolding(crate::specs::Reading::ints_at))]
 fn ints_of(alloc: Global, bytes: &[u8]) -> Result<(Ints, &[u8]), ReadError>
     ensures { Gives (λ x. (x.0, x.1.now)) result (ints_at bytes.now) }
@@ -77,6 +86,7 @@ fn ints_of(alloc: Global, bytes: &[u8]) -> Result<(Ints, &[u8]), ReadError>
     numbers_of(alloc, count, rest)
 }
 
+/// A value other than a Ref, behind its tag; another tag is a fault at the first of `bytes`.
 #[tactic(auto, unfolding(crate::specs::Reading::plain_at))]
 fn plain_of<'a>(
     alloc: Global,
@@ -106,6 +116,7 @@ fn plain_of<'a>(
     }
 }
 
+/// A value, and its id where it is a Ref, which comes to stand at this place, below the limit.
 #[tactic(auto, unfolding(crate::specs::Reading::value_at))]
 fn value_of(
     alloc: Global,
@@ -130,6 +141,7 @@ fn value_of(
     }
 }
 
+/// One more id, where one was found.
 pub(crate) fn push_found(ids: &mut Gids, id: Option<Gid>) -> Result<(), OutOfMemory>
     ensures { OnOk result (ids.new ≡ ids.old ++ id_list id) }
 {
@@ -165,6 +177,7 @@ fn each_of(
     Ok((values, ids, rest))
 }
 
+/// A count of values, at most 1,024, and these; their ids come after those that there are.
 #[tactic(auto, unfolding(crate::specs::Reading::values_at))]
 pub(crate) fn values_of(
     alloc: Global,

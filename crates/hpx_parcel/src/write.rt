@@ -15,6 +15,7 @@ use hpx_value::memory::OutOfMemory;
 use hpx_value::value::{Act, Cont, State, Value};
 use std::alloc::Global;
 
+/// A number in two bytes, the highest first.
 #[tactic(auto, unfolding(crate::specs::Spelling::number_text))]
 fn put_u16(out: &mut Vec<u8>, n: u16) -> Result<(), OutOfMemory>
     ensures { OnOk result (out.new.items ≡ out.old.items ++ number_text 2 n) }
@@ -25,6 +26,7 @@ fn put_u16(out: &mut Vec<u8>, n: u16) -> Result<(), OutOfMemory>
     Ok(())
 }
 
+/// A number in four bytes.
 #[tactic(auto, unfolding(crate::specs::Spelling::number_text))]
 fn put_u32(out: &mut Vec<u8>, n: u32) -> Result<(), OutOfMemory>
     ensures { OnOk result (out.new.items ≡ out.old.items ++ number_text 4 n) }
@@ -35,6 +37,7 @@ fn put_u32(out: &mut Vec<u8>, n: u32) -> Result<(), OutOfMemory>
     Ok(())
 }
 
+/// A number in eight bytes.
 #[tactic(auto, unfolding(crate::specs::Spelling::number_text))]
 fn put_u64(out: &mut Vec<u8>, n: u64) -> Result<(), OutOfMemory>
     ensures { OnOk result (out.new.items ≡ out.old.items ++ number_text 8 n) }
@@ -45,6 +48,7 @@ fn put_u64(out: &mut Vec<u8>, n: u64) -> Result<(), OutOfMemory>
     Ok(())
 }
 
+/// A number with a sign, in eight bytes.
 #[tactic(auto, unfolding(crate::specs::Spelling::number_text))]
 fn put_i64(out: &mut Vec<u8>, n: i64) -> Result<(), OutOfMemory>
     ensures { OnOk result (out.new.items ≡ out.old.items ++ int_text n) }
@@ -55,6 +59,7 @@ fn put_i64(out: &mut Vec<u8>, n: i64) -> Result<(), OutOfMemory>
     Ok(())
 }
 
+/// The two halves of an id.
 #[tactic(auto, unfolding(crate::specs::Spelling::id_text))]
 fn put_id(out: &mut Vec<u8>, id: &Gid) -> Result<(), OutOfMemory>
     ensures text { OnOk result (out.new.items ≡ out.old.items ++ id_text id.now) }
@@ -80,6 +85,7 @@ fn put_first<'a>(out: &mut Vec<u8>, ids: &'a [Gid]) -> Result<&'a [Gid], OutOfMe
     }
 }
 
+/// Numbers with a sign, one after the other.
 fn put_ints(out: &mut Vec<u8>, numbers: &[i64]) -> Result<(), OutOfMemory>
     ensures text { OnOk result (out.new.items ≡ out.old.items ++ flat_map int_text numbers.now) }
     ensures fits { OnOk result (AllByRecursion (FitsSigned w64) numbers.now) }
@@ -167,6 +173,7 @@ fn put_each<'a>(
     Ok(rest)
 }
 
+/// How many values, and the values. The ids after them are handed back.
 #[tactic(auto, unfolding(crate::specs::Spelling::values_text))]
 fn put_values<'a>(
     out: &mut Vec<u8>,
@@ -196,6 +203,7 @@ fn put_slot<'a>(out: &mut Vec<u8>, cont: &Cont, ids: &'a [Gid]) -> Result<&'a [G
     Ok(rest)
 }
 
+/// A continuation, if there is one, with the next id. The ids after it are handed back.
 #[tactic(auto, unfolding(crate::specs::Spelling::cont_text))]
 fn put_cont<'a>(
     out: &mut Vec<u8>,
@@ -219,6 +227,7 @@ fn put_cont<'a>(
     }
 }
 
+/// An action, its name first.
 #[tactic(auto, unfolding(crate::specs::Spelling::message_text, crate::specs::Spelling::act_text))]
 fn put_act(out: &mut Vec<u8>, act: &Act) -> Result<(), OutOfMemory>
     requires { IsAct act.now }
@@ -252,6 +261,7 @@ fn put_conts<'a>(
     Ok(rest)
 }
 
+/// A state.
 #[tactic(auto, unfolding(crate::specs::Spelling::state_text))]
 fn put_state(out: &mut Vec<u8>, state: &State) -> Result<(), OutOfMemory>
     requires { IsState state.now }
@@ -265,6 +275,7 @@ fn put_state(out: &mut Vec<u8>, state: &State) -> Result<(), OutOfMemory>
     Ok(())
 }
 
+/// Version 1, the kind of the parcel, and its fields.
 #[tactic(auto, unfolding(crate::specs::Spelling::text_of))]
 fn put_parcel(out: &mut Vec<u8>, parcel: &Parcel) -> Result<(), OutOfMemory>
     requires { IsParcel parcel.now }

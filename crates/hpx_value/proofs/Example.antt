@@ -1,5 +1,5 @@
 -- The order in which an outcome names the places of its hand, in one example.
-use Rattle.std.proofs.Common.{List, [], ◌∷◌, ◌≡◌, Some, refl}
+use Rattle.std.proofs.Common.{[], ◌∷◌, ◌≡◌, Some, refl}
 use Rattle.hpx_value.specs.Ids.{bare_id}
 use Rattle.hpx_value.specs.Values.{Ref, State, Act}
 use Rattle.hpx_value.specs.Hands.{Place, Root, Own, Made, Here, Outcome}

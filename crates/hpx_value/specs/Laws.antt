@@ -1,5 +1,5 @@
 -- The laws that every meaning of actions keeps.
-use Rattle.std.specs.Prelude.{ℕ, pos, Bool, cond, nat_lt, List, [], ◌∷◌, ◌++◌, ◌≡◌, ◌≢◌, ◌+◌, ◌%◌, ◌<◌, ◌≤◌, ◌==◌, ◌⊎◌, length}
+use Rattle.std.specs.Prelude.{ℕ, pos, Bool, cond, nat_lt, List, [], ◌∷◌, ◌++◌, ◌≡◌, ◌≢◌, ◌+◌, ◌%◌, ◌<◌, ◌≤◌, ◌==◌, ◌&&◌, ◌⊎◌, length}
 use Rattle.std.specs.List.{AllByRecursion, count_by}
 use Rattle.hpx_value.specs.Ids.{Id}
 use Rattle.hpx_value.specs.Values.{Value, Int, State, Act, refs_in, bare_state}
@@ -52,7 +52,7 @@ made_slots (x ∷ xs) = makes_slot x.cont ++ made_slots xs
 
 -- whether it is this slot of this made object
 abbrev pub is_made_slot : ℕ → ℕ → MadeSlot → Bool
-is_made_slot make slot x = cond (x.make == make) (x.slot == slot) (1 == 0)
+is_made_slot make slot x = (x.make == make) && (x.slot == slot)
 
 -- the slot of the session that a send draws
 abbrev pub draws : SendCont → List ℕ

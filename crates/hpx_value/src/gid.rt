@@ -7,12 +7,16 @@ use crate::memory::OutOfMemory;
 use std::alloc::Global;
 use std::marker::Model;
 
+/// The weight of bit 32, where home + 1 begins.
 const HOME_UNIT: u64 = 0x1_0000_0000;
 
+/// The weight of bit 30, which is set where there is a credit.
 const CREDIT_BIT: u64 = 0x4000_0000;
 
+/// The weight of bit 24, where the log begins.
 const LOG_UNIT: u64 = 0x100_0000;
 
+/// Kinds are below this number.
 const KINDS: u64 = 0x10_0000;
 
 /// The global id of an object, in two halves.

@@ -115,6 +115,7 @@ impl<T: Exact> Exact for Items<T> {
     }
 }
 
+/// Whether two lists are equal, one element after the other.
 fn same_slices<T: Exact>(xs: &[T], ys: &[T]) -> bool
     ensures { IsTrue result ↔ (xs.now ≡ ys.now) }
 {
