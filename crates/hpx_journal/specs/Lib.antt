@@ -1,5 +1,6 @@
 pub mod Data
 pub mod Bags
+pub mod Found
 pub mod Entries
 pub mod Tokens
 pub mod Frames
