@@ -1,6 +1,9 @@
+ghost use Rattle.std.specs.Prelude.{◌≡◌};
+
 use hpx_value::gid::Gid;
 use hpx_value::items::{Bytes, Text};
 use hpx_value::value::State;
+use std::marker::Model;
 
 /// What an action is called: the locality where it was sent or fed, and a number drawn there.
 #[derive(Clone, Copy, Debug, PartialEq, Eq)]
@@ -128,4 +131,66 @@ pub struct Travel {
     pub object: Gid,
     pub state: State,
     pub to: u32,
+}
+
+/// A credit of `2^log` of an object at a locality: held by an id there, or owed to the object's home.
+#[derive(Clone, Copy, Debug, Drop)]
+pub struct Token {
+    pub object: Gid,
+    pub log: u8,
+    pub owed: bool,
+}
+
+/// A number that was written in the record of an object.
+#[derive(Clone, Copy, Debug, Drop)]
+pub struct Recorded {
+    pub object: Gid,
+    pub count: u128,
+}
+
+/// An id of the object came back with no more credit while the action was fired.
+#[derive(Clone, Copy, Debug, Drop)]
+pub struct Refusal {
+    pub action: Name,
+    pub object: Gid,
+}
+
+/// A credit of `2^log` of an object.
+#[derive(Clone, Copy)]
+pub struct Credit {
+    object: Gid,
+    log: u8,
+}
+
+impl Model for Credit {
+    ghost use Rattle.hpx_parcel.specs.Credits.{Credit};
+
+    ghost Value = { Credit };
+
+    ghost view = { λ c. record { object = c.object; log = c.log } };
+
+    ghost inverse = { λ x. record { object = x.object; log = x.log } };
+}
+
+impl Credit {
+    /// A credit of an object.
+    pub fn new(object: Gid, log: u8) -> Credit
+        ensures { result ≡ record { object = object; log = log } }
+    {
+        Credit { object, log }
+    }
+
+    /// The object.
+    pub fn object(self) -> Gid
+        ensures { result ≡ self.object }
+    {
+        self.object
+    }
+
+    /// The log.
+    pub fn log(self) -> u8
+        ensures { result ≡ self.log }
+    {
+        self.log
+    }
 }

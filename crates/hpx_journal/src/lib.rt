@@ -5,3 +5,4 @@ pub mod bag;
 pub mod entry;
 pub mod journal;
 pub mod law;
+pub mod local;
