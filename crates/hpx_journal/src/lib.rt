@@ -3,6 +3,7 @@
 
 pub mod bag;
 pub mod entry;
+pub mod hand;
 pub mod journal;
 pub mod law;
 pub mod local;
