@@ -15,3 +15,4 @@ pub mod Weights
 pub mod Books
 pub mod Keyed
 pub mod Laws
+pub mod Spaces

@@ -4,6 +4,7 @@ ghost use Rattle.std.specs.List.{find, list_any, count_by};
 ghost use Rattle.hpx_journal.specs.Bags.{without, minus, Covers};
 ghost use Rattle.hpx_journal.specs.Found.{IsFirst, IsAbsent};
 
+use hpx_value::items::Items;
 use hpx_value::memory::OutOfMemory;
 use std::alloc::Global;
 use std::collections::VecDeque;
@@ -43,6 +44,15 @@ impl<T> Bag<T> {
         }
     }
 
+    /// The elements of a vector, in its order.
+    pub fn from_vec(items: Vec<T>) -> Bag<T>
+        ensures { result ≡ items.items }
+    {
+        Bag {
+            items: VecDeque::from_vec(items),
+        }
+    }
+
     /// How many there are.
     pub fn len(&self) -> usize
         ensures { result ≡ length self.now }
@@ -75,10 +85,10 @@ impl<T: Drop> Bag<T> {
     }
 
     /// More, in their order.
-    pub fn put_all(&mut self, items: Vec<T>) -> Result<(), OutOfMemory>
-        ensures { OnOk result (self.new ≡ items.items ++ self.old) }
+    pub fn put_all(&mut self, items: Items<T>) -> Result<(), OutOfMemory>
+        ensures { OnOk result (self.new ≡ items ++ self.old) }
     {
-        let mut items = items;
+        let mut items = items.into_vec();
         while let Some(item) = items.pop() {
             self.put(item)?;
         }

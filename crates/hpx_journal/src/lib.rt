@@ -2,6 +2,7 @@
 #![tactic(auto)]
 
 pub mod bag;
+pub mod cargo;
 pub mod entry;
 pub mod hand;
 pub mod journal;
