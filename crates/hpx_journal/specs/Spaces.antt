@@ -11,8 +11,12 @@ use Rattle.hpx_journal.specs.Frames.{acts_in, travels_in, tokens_in, asks_in}
 use Rattle.hpx_journal.specs.Local.{Local, is_act, is_standing, outcome}
 use Rattle.hpx_journal.specs.declared.cargo.Cargo.{Cargo}
 
+-- what actions mean: by the number of localities, a kind, a locality, a state and an action
+abbrev pub Meaning : Type 0
+Meaning = ℕ → ℕ → ℕ → State → Act → Outcome
+
 -- the rules at n localities, by a profile and a meaning of actions
-abbrev pub rules_of : ℕ → Profile → (ℕ → ℕ → ℕ → State → Act → Outcome) → Rules
+abbrev pub rules_of : ℕ → Profile → Meaning → Rules
 rules_of n profile act_of = record {
   localities = n;
   credit_log = profile.credit_log;
@@ -34,3 +38,17 @@ parcel_in _ = None
 -- what a parcel carries
 abbrev pub cargo_of : Option Parcel → Cargo
 cargo_of p = record { acts = acts_in p; travels = travels_in p; tokens = tokens_in p; asks = asks_in p }
+
+-- what an action does where its object stands, if it does
+abbrev pub outcome_at : Rules → Local → Act → Option Standing → Option Outcome
+outcome_at r s act None = None
+outcome_at r s act (Some x) = Some (outcome r s act x)
+
+abbrev pub outcome_by : Rules → Local → Option Act → Option Outcome
+outcome_by r s None = None
+outcome_by r s (Some act) = outcome_at r s act (find (is_standing (target_of act)) s.objects)
+
+-- what a Done that does not fail does, where its action is fired and its object stands
+abbrev pub outcome_in : Rules → Local → Event → Option Outcome
+outcome_in r s (Done a false) = outcome_by r s (find (is_act a) s.fired)
+outcome_in r s _ = None

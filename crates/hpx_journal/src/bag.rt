@@ -1,6 +1,6 @@
 ghost use Rattle.std.specs.Prelude.{◌≡◌, ◌∷◌, ◌++◌, ◌↔◌, [], ℕ, Bool, IsTrue, OnOk, MatchOption, option_copied, option_to_list, length};
 ghost use Rattle.std.specs.Bool.{OnTrue};
-ghost use Rattle.std.specs.List.{find, list_any, count_by};
+ghost use Rattle.std.specs.List.{slice_get, find, list_any, count_by};
 ghost use Rattle.hpx_journal.specs.Bags.{without, minus, Covers};
 ghost use Rattle.hpx_journal.specs.Found.{IsFirst, IsAbsent};
 
@@ -65,6 +65,13 @@ impl<T> Bag<T> {
         ensures { IsTrue result ↔ (self.now ≡ []) }
     {
         self.items.len() == 0
+    }
+
+    /// The newest.
+    pub fn first(&self) -> Option<&T>
+        ensures { option_copied result ≡ slice_get self.now 0 }
+    {
+        self.items.get(0)
     }
 
     /// The newest, which leaves.
