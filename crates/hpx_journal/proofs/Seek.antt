@@ -10,6 +10,9 @@ use Rattle.hpx_journal.specs.Found.{IsFirst}
 pub drop_read : {X : Type 0} (xs : List X) (i : ℕ) (x : X) → i < length xs → x ≡ get_or xs i x → drop i xs ≡ x ∷ drop (suc i) xs
 drop_read xs i x within at = drop-cons xs i x within ∙ ap (λ y. y ∷ drop (suc i) xs) (sym at)
 
+pub drop_next : {X : Type 0} (xs : List X) (i : ℕ) (x : X) → i < length xs → x ≡ get_or xs i x → drop i xs ≡ x ∷ drop (i + 1) xs
+drop_next xs i x within at = rw add-one (drop_read xs i x within at)
+
 -- the next element passes, and those before it don't
 pub first_here : {X : Type 0} (p : X → Bool) (xs : List X) (i : ℕ) (x : X) → i < length xs → x ≡ get_or xs i x → p x ≡ true
     → find p xs ≡ find p (drop i xs) → without p xs ≡ take i xs ++ without p (drop i xs) → IsFirst p xs i
@@ -48,7 +51,7 @@ none_any p (y ∷ ys) h = none_any_at p (p y) y ys (none_any p ys) h
 module _ {K X : Type 0} (test : K → X → Bool) (all xs new : List X) (keys : List K) (i : ℕ) (key : K) (within : i < length keys)
     (at : key ≡ get_or keys i key) where
   at_key : drop i keys ≡ key ∷ drop (i + 1) keys
-  at_key = rw add-one (drop_read keys i key within at)
+  at_key = drop_next keys i key within at
 
   pub covers_more : (x : X) → find (test key) xs ≡ Some x → new ≡ without (test key) xs
       → Covers test all keys ↔ Covers test xs (drop i keys) → Covers test all keys ↔ Covers test new (drop (i + 1) keys)

@@ -1,15 +1,17 @@
 -- How the space of a replay shows the space of the definitions.
-use Rattle.std.specs.Prelude.{ℕ, Bool, true, false, List, [], ◌∷◌, ◌≡◌, ◌<◌, length, Option, Some, None}
-use Rattle.std.specs.List.{find, slice_get}
+use Rattle.std.specs.Prelude.{ℕ, Bool, true, false, List, [], ◌∷◌, ◌≡◌, ◌<◌, length, ◌&&◌, Option, Some, None}
+use Rattle.std.specs.List.{find, list_any, slice_get}
+use Rattle.hpx_value.specs.Ids.{same_object}
 use Rattle.hpx_value.specs.declared.profile.Profile.{Profile}
 use Rattle.hpx_parcel.specs.Credits.{Credit}
 use Rattle.hpx_parcel.specs.Reading.{parcel_of}
 use Rattle.hpx_journal.specs.Data.{Act, State, Outcome, Parcel}
-use Rattle.hpx_journal.specs.Entries.{Event, Done, Out, In, Standing, Rules, target_of}
+use Rattle.hpx_journal.specs.Entries.{Event, Done, Out, In, Standing, Travel, Rules, same_name, target_of}
 use Rattle.hpx_journal.specs.Tokens.{Token}
 use Rattle.hpx_journal.specs.Frames.{acts_in, travels_in, tokens_in, asks_in}
-use Rattle.hpx_journal.specs.Local.{Local, is_act, is_standing, outcome}
+use Rattle.hpx_journal.specs.Local.{Local, Refusal, is_act, is_standing, is_travel, outcome}
 use Rattle.hpx_journal.specs.declared.cargo.Cargo.{Cargo}
+use Rattle.hpx_journal.specs.declared.act_rows.Blame.{Blame}
 
 -- what actions mean: by the number of localities, a kind, a locality, a state and an action
 abbrev pub Meaning : Type 0
@@ -52,3 +54,13 @@ outcome_by r s (Some act) = outcome_at r s act (find (is_standing (target_of act
 abbrev pub outcome_in : Rules → Local → Event → Option Outcome
 outcome_in r s (Done a false) = outcome_by r s (find (is_act a) s.fired)
 outcome_in r s _ = None
+
+-- an id of o came back with no more credit since this action was fired, and o is among these
+abbrev pub is_blamed : Blame → Refusal → Bool
+is_blamed b x = same_name b.action x.action && list_any (same_object x.object) b.ids
+
+-- the one object that is shipped leaves from here to a place
+abbrev pub IsLeaving : Local → ℕ → List Travel → Type 0
+IsLeaving s to [] = ⊥
+IsLeaving s to (x ∷ []) = (x.to ≡ to) × (find (is_travel x.object) s.travels ≡ Some x)
+IsLeaving s to (x ∷ y ∷ xs) = ⊥

@@ -1,11 +1,14 @@
 //! The journal: every change of the world is an entry.
 #![tactic(auto)]
 
+mod act_rows;
 pub mod bag;
 pub mod cargo;
+mod credit_rows;
 pub mod entry;
+mod frame_rows;
 pub mod hand;
 pub mod journal;
 pub mod law;
 pub mod local;
-mod rows;
+mod object_rows;
