@@ -67,6 +67,13 @@ impl<T> Bag<T> {
         self.items.len() == 0
     }
 
+    /// The one at a place, from the newest.
+    pub fn get(&self, i: usize) -> Option<&T>
+        ensures { option_copied result ≡ slice_get self.now i }
+    {
+        self.items.get(i)
+    }
+
     /// The newest.
     pub fn first(&self) -> Option<&T>
         ensures { option_copied result ≡ slice_get self.now 0 }
@@ -180,5 +187,16 @@ impl<T: Drop> Bag<T> {
             }
         }
         true
+    }
+
+    /// Takes out what each key names, one for each; a key that finds nothing takes nothing.
+    pub fn remove_each<K>(&mut self, keys: &[K])
+    where
+        T: Keyed<K>,
+        ensures { self.new ≡ minus T.test self.old keys.now }
+    {
+        for key in keys {
+            let _ = self.take(key);
+        }
     }
 }

@@ -1,8 +1,11 @@
-ghost use Rattle.std.specs.Prelude.{◌≡◌};
+ghost use Rattle.std.specs.Prelude.{◌≡◌, IfOk};
 
+use hpx_value::exact::Exact;
 use hpx_value::gid::Gid;
 use hpx_value::items::{Bytes, Text};
+use hpx_value::memory::OutOfMemory;
 use hpx_value::value::State;
+use std::alloc::Global;
 use std::marker::Model;
 
 /// What an action is called: the locality where it was sent or fed, and a number drawn there.
@@ -109,6 +112,69 @@ pub enum Event {
     In {
         bytes: Bytes,
     },
+}
+
+impl Event {
+    /// The same event once more.
+    pub fn duplicate(&self, alloc: Global) -> Result<Event, OutOfMemory>
+        ensures { IfOk result (λ e. e ≡ self.now) }
+    {
+        match self {
+            Event::Line { action, bytes } => Ok(Event::Line {
+                action: *action,
+                bytes: bytes.duplicate(alloc)?,
+            }),
+            Event::Born { object, state } => Ok(Event::Born {
+                object: *object,
+                state: state.duplicate(alloc)?,
+            }),
+            Event::Print { bytes } => Ok(Event::Print {
+                bytes: bytes.duplicate(alloc)?,
+            }),
+            Event::Out { to, bytes } => Ok(Event::Out {
+                to: *to,
+                bytes: bytes.duplicate(alloc)?,
+            }),
+            Event::In { bytes } => Ok(Event::In {
+                bytes: bytes.duplicate(alloc)?,
+            }),
+            Event::Fire { action } => Ok(Event::Fire { action: *action }),
+            Event::Done { action, failed } => Ok(Event::Done {
+                action: *action,
+                failed: *failed,
+            }),
+            Event::Sent { action } => Ok(Event::Sent { action: *action }),
+            Event::Split { object, log } => Ok(Event::Split {
+                object: *object,
+                log: *log,
+            }),
+            Event::Up { object, log } => Ok(Event::Up {
+                object: *object,
+                log: *log,
+            }),
+            Event::Asked { object } => Ok(Event::Asked { object: *object }),
+            Event::Given { object, log } => Ok(Event::Given {
+                object: *object,
+                log: *log,
+            }),
+            Event::Count { object, count, why } => Ok(Event::Count {
+                object: *object,
+                count: *count,
+                why: *why,
+            }),
+            Event::Freed { object } => Ok(Event::Freed { object: *object }),
+            Event::Left { object, to } => Ok(Event::Left {
+                object: *object,
+                to: *to,
+            }),
+            Event::Landed { object } => Ok(Event::Landed { object: *object }),
+            Event::Looked { object, hit } => Ok(Event::Looked {
+                object: *object,
+                hit: *hit,
+            }),
+            Event::Mail { kind } => Ok(Event::Mail { kind: *kind }),
+        }
+    }
 }
 
 /// What was done, and at which locality.

@@ -4,6 +4,7 @@
 mod act_rows;
 pub mod bag;
 pub mod cargo;
+mod changes;
 mod credit_rows;
 pub mod entry;
 mod frame_rows;
