@@ -1,6 +1,6 @@
-ghost use Rattle.std.specs.Prelude.{◌≡◌, ◌∷◌, ◌++◌, ◌↔◌, [], ℕ, Bool, IsTrue, OnOk, MatchOption, option_copied, option_to_list, length};
+ghost use Rattle.std.specs.Prelude.{◌≡◌, ◌∷◌, ◌++◌, ◌↔◌, [], ℕ, Bool, IsTrue, OnOk, MatchOption, Some, option_copied, length, ◌<◌};
 ghost use Rattle.std.specs.Bool.{OnTrue};
-ghost use Rattle.std.specs.List.{slice_get, find, list_any, count_by};
+ghost use Rattle.std.specs.List.{slice_get, slice_index_or, find, list_any, count_by};
 ghost use Rattle.hpx_journal.specs.Bags.{without, minus, Covers};
 ghost use Rattle.hpx_journal.specs.Found.{IsFirst, IsAbsent};
 
@@ -68,10 +68,11 @@ impl<T> Bag<T> {
     }
 
     /// The one at a place, from the newest.
-    pub fn get(&self, i: usize) -> Option<&T>
-        ensures { option_copied result ≡ slice_get self.now i }
+    pub fn at(&self, i: usize) -> &T
+        requires { i < length self.now }
+        ensures { result.now ≡ slice_index_or self.now i result.now }
     {
-        self.items.get(i)
+        &self.items[i]
     }
 
     /// The newest.
@@ -83,7 +84,7 @@ impl<T> Bag<T> {
 
     /// The newest, which leaves.
     pub fn pop(&mut self) -> Option<T>
-        ensures { self.old ≡ option_to_list result ++ self.new }
+        ensures { MatchOption result ((self.old ≡ []) × (self.new ≡ [])) (λ x. self.old ≡ x ∷ self.new) }
     {
         self.items.pop_front()
     }

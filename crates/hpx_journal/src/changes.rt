@@ -43,13 +43,10 @@ fn refusals_of(alloc: Global, fired: &Bag<Act>, o: Gid) -> Result<Items<Refusal>
 {
     let mut out = Vec::new(alloc);
     for i in 0..fired.len() {
-        match fired.get(i) {
-            Some(act) => out.push(Refusal {
-                action: name_of(act),
-                object: o,
-            })?,
-            None => (),
-        }
+        out.push(Refusal {
+            action: name_of(fired.at(i)),
+            object: o,
+        })?;
     }
     Ok(Items::from_vec(out))
 }
@@ -154,7 +151,8 @@ impl Local {
         })?;
         self.due = Bag::from_vec(due);
         self.fresh = Items::new(alloc);
-        self.done.put(act)
+        self.done.put(act)?;
+        Ok(())
     }
 
     /// The action commits, where it fails for want of credit.
