@@ -1,5 +1,5 @@
 -- How the space of a replay shows the space of the definitions.
-use Rattle.std.specs.Prelude.{ℕ, Bool, true, false, List, [], ◌∷◌, ◌≡◌, ◌<◌, length, ◌&&◌, Option, Some, None}
+use Rattle.std.specs.Prelude.{ℕ, Bool, true, false, List, [], ◌∷◌, ◌≡◌, ◌<◌, length, ◌&&◌, ◌++◌, Option, Some, None}
 use Rattle.std.specs.List.{find, list_any, slice_get}
 use Rattle.hpx_value.specs.Ids.{same_object}
 use Rattle.hpx_value.specs.declared.profile.Profile.{Profile}
@@ -9,9 +9,10 @@ use Rattle.hpx_journal.specs.Data.{Act, State, Outcome, Parcel}
 use Rattle.hpx_journal.specs.Entries.{Event, Done, Out, In, Standing, Travel, Rules, same_name, target_of}
 use Rattle.hpx_journal.specs.Tokens.{Token}
 use Rattle.hpx_journal.specs.Frames.{acts_in, travels_in, tokens_in, asks_in}
-use Rattle.hpx_journal.specs.Local.{Local, Refusal, is_act, is_standing, is_travel, outcome}
+use Rattle.hpx_journal.specs.Local.{Local, Refusal, is_act, is_standing, is_travel, outcome, waiting_after, fired_after, done_after, objects_after, travels_after, fresh_after, due_after, serial_after, number_after, counts_after, asked_by, given_by, asks_come_by, asks_gone_by, refusals_by, failures_after}
 use Rattle.hpx_journal.specs.declared.cargo.Cargo.{Cargo}
 use Rattle.hpx_journal.specs.declared.act_rows.Blame.{Blame}
+use Rattle.hpx_journal.specs.declared.entries.Reading.{Reading}
 
 -- what actions mean: by the number of localities, a kind, a locality, a state and an action
 abbrev pub Meaning : Type 0
@@ -64,3 +65,28 @@ abbrev pub IsLeaving : Local → ℕ → List Travel → Type 0
 IsLeaving s to [] = ⊥
 IsLeaving s to (x ∷ []) = (x.to ≡ to) × (find (is_travel x.object) s.travels ≡ Some x)
 IsLeaving s to (x ∷ y ∷ xs) = ⊥
+
+-- what an entry means where it is written
+abbrev pub reading_of : Rules → Local → Event → Reading
+reading_of r s e = record { parcel = parcel_in e; cargo = cargo_of (parcel_in e); outcome = outcome_in r s e }
+
+-- what an entry leaves, the tokens and the memory of the last entry aside
+abbrev pub besides : Rules → Local → Event → Local
+besides r s e = record s {
+  waiting = waiting_after r s e;
+  fired = fired_after s e;
+  done = done_after s e;
+  objects = objects_after r s e;
+  travels = travels_after r s e;
+  fresh = fresh_after s e;
+  due = due_after r s e;
+  serial = serial_after s e;
+  number = number_after s e;
+  counts = counts_after r s e;
+  asked = asked_by e ++ s.asked;
+  given = given_by e ++ s.given;
+  asks_come = asks_come_by r e ++ s.asks_come;
+  asks_gone = asks_gone_by r e ++ s.asks_gone;
+  refusals = refusals_by s e ++ s.refusals;
+  failures = failures_after s e;
+}

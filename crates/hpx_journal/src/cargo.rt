@@ -70,7 +70,7 @@ pub fn bare_state(alloc: Global, state: &State) -> Result<State, OutOfMemory>
 }
 
 /// One element.
-fn one<T: Drop>(alloc: Global, item: T) -> Result<Items<T>, OutOfMemory>
+pub(crate) fn one<T: Drop>(alloc: Global, item: T) -> Result<Items<T>, OutOfMemory>
     ensures { IfOk result (λ out. out ≡ item ∷ []) }
 {
     let mut out = Items::new(alloc);

@@ -6,7 +6,8 @@ ghost use Rattle.hpx_value.specs.Profiles.{IsValid};
 ghost use Rattle.hpx_journal.specs.Bags.{without, minus};
 ghost use Rattle.hpx_journal.specs.Entries.{Rules, Standing, Travel, name_of, line_act};
 ghost use Rattle.hpx_journal.specs.Local.{Local as Here, listed, is_act, is_standing, is_travel, refusals_by, tail, due_act, fired_after, done_after, due_after, objects_after, failures_after, leaving, stood};
-ghost use Rattle.hpx_journal.specs.Spaces.{outcome_in};
+ghost use Rattle.hpx_journal.specs.Spaces.{outcome_in, besides};
+ghost use Rattle.hpx_journal.specs.Rows.{Row};
 
 use crate::bag::Bag;
 use crate::cargo::{Cargo, failure, line_act, named};
@@ -171,6 +172,23 @@ impl Local {
         self.fresh = Items::new(alloc);
         self.failures = self.failures.checked_add(1).ok_or(OutOfMemory)?;
         self.done.put(act)
+    }
+
+    /// The action commits.
+    pub(crate) fn commit(
+        &mut self,
+        alloc: Global,
+        action: Name,
+        failed: bool,
+        outcome: Option<Outcome>,
+    ) -> Result<(), OutOfMemory>
+        ensures { OnOk result ((r : Rules) → outcome ≡ outcome_in r self.old (Event.Done action failed)
+            → Row r self.old (Event.Done action failed) → self.new ≡ besides r self.old (Event.Done action failed)) }
+    {
+        match outcome {
+            Some(outcome) if !failed => self.finish(alloc, action, &outcome),
+            _ => self.fail(alloc, action),
+        }
     }
 
     pub(crate) fn sent(&mut self, action: Name) -> Result<(), OutOfMemory>
