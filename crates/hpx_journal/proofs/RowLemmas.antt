@@ -1,15 +1,15 @@
 -- Rows of entries where what they look for is found.
-use Rattle.std.proofs.Common.{Bool, true, false, List, [], ◌∷◌, ◌≡◌, ◌↔◌, ◌≤◌, ◌<◌, ◌+◌, ◌^◌, ℕ, Option, length, drop, get_or, map, add-one, arith, Some, None, IsTrue, IfSome, subst, sym, ap, ◌∙◌, refl}
+use Rattle.std.proofs.Common.{Bool, true, false, List, [], ◌∷◌, ◌≡◌, ◌↔◌, ◌≤◌, ◌<◌, ◌+◌, ◌^◌, ℕ, Option, length, drop, get_or, map, add-one, arith, Some, None, IsTrue, IfSome, IfOk, Result, Ok, Err, subst, sym, ap, ◌∙◌, refl}
 use Rattle.std.specs.List.{find, list_any, count_by, slice_get}
 use Rattle.std.proofs.Math.Pow.{pow_mono}
 use Rattle.hpx_value.specs.Ids.{bare}
 use Rattle.hpx_value.specs.Values.{bare_act, bare_state}
 use Rattle.hpx_value.specs.Hands.{id_at}
 use Rattle.hpx_journal.specs.Data.{Act, State, Message, Outcome, Make, Due, MessageDue, PrintDue, Id, Parcel, Shipped}
-use Rattle.hpx_journal.specs.Entries.{Name, Standing, Travel, Rules, target_of, move_to}
+use Rattle.hpx_journal.specs.Entries.{Name, Event, Standing, Travel, Rules, target_of, move_to}
 use Rattle.hpx_journal.specs.Local.{Local, is_act, is_standing, is_travel, is_busy, is_given_none, next_name, made_state, outcome}
 use Rattle.hpx_journal.specs.Frames.{travel_of, travels_in}
-use Rattle.hpx_journal.specs.Rows.{Runs, AreMade, MayGo, is_refused}
+use Rattle.hpx_journal.specs.Rows.{Row, Runs, AreMade, MayGo, is_refused}
 use Rattle.hpx_journal.specs.Spaces.{IsLeaving, outcome_at, outcome_by}
 use Rattle.hpx_journal.proofs.Seek.{drop_next}
 
@@ -161,3 +161,12 @@ leaving_object s to p act state travels b i e h =
       λ t. let w = j.0 (k.0 t) in (bare_move act ∙ w.0, w.1),
       λ w. k.1 (j.1 (sym (bare_move act) ∙ w.0, w.1)),
     )
+
+-- ---- the row of an entry
+
+pub row_is : (r : Rules) (s : Local) (e k : Event) (b : Bool) → e ≡ k → IsTrue b ↔ Row r s k → IsTrue b ↔ Row r s e
+row_is r s e k b i h = let P : Event → Type 0 = λ x. IsTrue b ↔ Row r s x in subst P (sym i) h
+
+pub ok_then : {X E : Type 0} (x : Result X E) (P Q : X → Type 0) → ((y : X) → P y → Q y) → IfOk x P → IfOk x Q
+ok_then (Ok y) P Q h p = h y p
+ok_then (Err e) P Q h p = tt

@@ -1,18 +1,22 @@
 -- How the space of a replay shows the space of the definitions.
-use Rattle.std.specs.Prelude.{ℕ, Bool, true, false, List, [], ◌∷◌, ◌≡◌, ◌<◌, length, ◌&&◌, ◌++◌, Option, Some, None}
-use Rattle.std.specs.List.{find, list_any, slice_get}
+use Rattle.std.specs.Prelude.{ℕ, Bool, true, false, List, [], ◌∷◌, ◌≡◌, ◌<◌, length, ◌&&◌, ◌++◌, take, Option, Some, None}
+use Rattle.std.specs.List.{find, list_any, slice_get, AllByRecursion}
 use Rattle.hpx_value.specs.Ids.{same_object}
 use Rattle.hpx_value.specs.declared.profile.Profile.{Profile}
 use Rattle.hpx_parcel.specs.Credits.{Credit}
 use Rattle.hpx_parcel.specs.Reading.{parcel_of}
 use Rattle.hpx_journal.specs.Data.{Act, State, Outcome, Parcel}
-use Rattle.hpx_journal.specs.Entries.{Event, Done, Out, In, Standing, Travel, Rules, same_name, target_of}
-use Rattle.hpx_journal.specs.Tokens.{Token}
+use Rattle.hpx_journal.specs.Entries.{Event, Entry, Done, Out, In, Standing, Travel, Rules, same_name, target_of}
+use Rattle.hpx_journal.specs.Tokens.{Token, same_token}
 use Rattle.hpx_journal.specs.Frames.{acts_in, travels_in, tokens_in, asks_in}
-use Rattle.hpx_journal.specs.Local.{Local, Refusal, is_act, is_standing, is_travel, outcome, waiting_after, fired_after, done_after, objects_after, travels_after, fresh_after, due_after, serial_after, number_after, counts_after, asked_by, given_by, asks_come_by, asks_gone_by, refusals_by, failures_after}
+use Rattle.hpx_journal.specs.Local.{Local, Refusal, is_act, is_standing, is_travel, outcome, waiting_after, fired_after, done_after, objects_after, travels_after, fresh_after, due_after, serial_after, number_after, counts_after, asked_by, given_by, asks_come_by, asks_gone_by, refusals_by, failures_after, takes}
 use Rattle.hpx_journal.specs.declared.cargo.Cargo.{Cargo}
 use Rattle.hpx_journal.specs.declared.act_rows.Blame.{Blame}
 use Rattle.hpx_journal.specs.declared.entries.Reading.{Reading}
+use Rattle.hpx_journal.specs.declared.space.Space.{Space as Placed}
+use Rattle.hpx_journal.specs.Bags.{Covers}
+use Rattle.hpx_journal.specs.Rows.{TurnAllows, Row, objects_in}
+use Rattle.hpx_journal.specs.Whole.{Space, MayStand, IsLegal, replayed}
 
 -- what actions mean: by the number of localities, a kind, a locality, a state and an action
 abbrev pub Meaning : Type 0
@@ -90,3 +94,27 @@ besides r s e = record s {
   refusals = refusals_by s e ++ s.refusals;
   failures = failures_after s e;
 }
+
+-- an entry is in its turn, names bare objects, and keeps its row
+pub record MayWrite (r : Rules) (s : Local) (e : Event) : Type 0 where
+  pub turn : TurnAllows s e
+  pub bare : AllByRecursion (λ o. o.log ≡ None) (objects_in e)
+  pub row : Row r s e
+
+-- besides, it finds the tokens that it takes
+pub record MayEnter (r : Rules) (s : Local) (e : Event) : Type 0 where
+  pub write : MayWrite r s e
+  pub tokens : Covers same_token s.tokens (takes r e)
+
+-- the localities in order, and the road
+pub record Shows (r : Rules) (s : Placed) (w : Space) : Type 0 where
+  pub count : length s.places ≡ r.localities
+  pub places : (k : ℕ) → k < r.localities → slice_get s.places k ≡ Some (w.places k)
+  pub road : s.road ≡ w.road
+
+-- the first entry that is not allowed is at a place
+pub record IsRefusedAt (r : Rules) (es : List Entry) (at : ℕ) : Type 0 where
+  pub before : IsLegal r (take at es)
+  pub entry : Entry
+  pub there : slice_get es at ≡ Some entry
+  pub refused : MayStand r (replayed r (take at es)) entry → ⊥

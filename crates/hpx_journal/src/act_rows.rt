@@ -145,7 +145,7 @@ impl Local {
         }
     }
 
-    pub(crate) fn done_row(&self, action: Name, outcome: &Option<Outcome>) -> bool
+    fn done_row(&self, action: Name, outcome: &Option<Outcome>) -> bool
         ensures { (r : Rules) → outcome.now ≡ outcome_in r self.now (Event.Done action false)
             → IsTrue result ↔ Row r self.now (Event.Done action false) }
     {
@@ -177,7 +177,7 @@ impl Local {
         Ok(self.refusals.any(&blame))
     }
 
-    pub(crate) fn failed_row(&self, alloc: Global, action: Name) -> Result<bool, OutOfMemory>
+    fn failed_row(&self, alloc: Global, action: Name) -> Result<bool, OutOfMemory>
         ensures { IfOk result (λ b. (r : Rules) → IsTrue b ↔ Row r self.now (Event.Done action true)) }
     {
         let Some(act) = self.fired.find(&action) else {
@@ -191,5 +191,23 @@ impl Local {
         }
         let refused = self.is_refused(alloc, act, &x.state)?;
         Ok(refused)
+    }
+
+    pub(crate) fn commit_row(
+        &self,
+        alloc: Global,
+        action: Name,
+        failed: bool,
+        outcome: &Option<Outcome>,
+    ) -> Result<bool, OutOfMemory>
+        ensures { IfOk result (λ b. (r : Rules) → outcome.now ≡ outcome_in r self.now (Event.Done action failed)
+            → IsTrue b ↔ Row r self.now (Event.Done action failed)) }
+    {
+        if failed {
+            let allowed = self.failed_row(alloc, action)?;
+            Ok(allowed)
+        } else {
+            Ok(self.done_row(action, outcome))
+        }
     }
 }

@@ -1,15 +1,20 @@
 //! One entry, at its locality: whether it is allowed, and what it leaves.
-ghost use Rattle.std.specs.Prelude.{◌≡◌, ◌≤◌, ◌↔◌, ℕ, IsTrue, IfOk, OnOk, None};
+ghost use Rattle.std.specs.Prelude.{◌≡◌, ◌≤◌, ◌↔◌, ◌++◌, ℕ, IsTrue, IfOk, OnOk, None};
 ghost use Rattle.std.specs.List.{AllByRecursion};
 ghost use Rattle.hpx_value.specs.Profiles.{IsValid};
 ghost use Rattle.hpx_journal.specs.Rows.{TurnAllows, Row, objects_in};
-ghost use Rattle.hpx_journal.specs.Spaces.{Meaning, rules_of, cargo_of, parcel_in, outcome_in, reading_of, besides};
+ghost use Rattle.hpx_journal.specs.Spaces.{Meaning, MayWrite, MayEnter, rules_of, cargo_of, parcel_in, outcome_in, reading_of, besides};
+ghost use Rattle.hpx_journal.specs.Bags.{minus, Covers};
+ghost use Rattle.hpx_journal.specs.Tokens.{same_token};
+ghost use Rattle.hpx_journal.specs.Local.{after};
 
 use crate::cargo::{Cargo, cargo_of, parcel_in};
-use crate::entry::{Event, Recorded};
+use crate::entry::{Event, Recorded, Token};
 use crate::local::{Local, target};
+use crate::tokens::{gives, takes};
 use hpx_parcel::parcel::Parcel;
 use hpx_value::acts::Acts;
+use hpx_value::items::Items;
 use hpx_value::memory::OutOfMemory;
 use hpx_value::outcome::Outcome;
 use hpx_value::profile::Profile;
@@ -124,8 +129,9 @@ impl Local {
             Event::Fire { action } => Ok(self.fire_row(*action)),
             Event::Split { log, .. } => Ok(*log >= 1),
             Event::Born { object, state } => Ok(self.born_row(*object, state)),
-            Event::Done { action, failed: true } => self.failed_row(alloc, *action),
-            Event::Done { action, .. } => Ok(self.done_row(*action, &reading.outcome)),
+            Event::Done { action, failed } => {
+                self.commit_row(alloc, *action, *failed, &reading.outcome)
+            }
             Event::Sent { action } => Ok(self.sent_row(*action)),
             Event::Print { bytes } => Ok(self.print_row(bytes)),
             Event::Up { .. } => Ok(true),
@@ -187,5 +193,68 @@ impl Local {
             Event::Looked { .. } => Ok(()),
             Event::Mail { .. } => Ok(()),
         }
+    }
+
+    /// Whether the entry is allowed here, its tokens aside.
+    fn allows(
+        &self,
+        alloc: Global,
+        localities: u32,
+        profile: &Profile,
+        event: &Event,
+        reading: &Reading,
+    ) -> Result<bool, OutOfMemory>
+        requires valid { IsValid profile.now }
+        requires cargo { reading.now.cargo ≡ cargo_of reading.now.parcel }
+        ensures { IfOk result (λ b. (f : Meaning) → reading.now ≡ reading_of (rules_of localities profile.now f) self.now event.now
+            → IsTrue b ↔ MayWrite (rules_of localities profile.now f) self.now event.now) }
+    {
+        if !self.turn_allows(event) || !is_bare(event) {
+            return Ok(false);
+        }
+        let allowed = self.row(alloc, localities, profile, event, reading)?;
+        Ok(allowed)
+    }
+
+    /// Tokens are taken and given; `false` where one that is taken is not there.
+    fn trade(&mut self, taken: &[Token], given: Items<Token>) -> Result<bool, OutOfMemory>
+        ensures covers { IfOk result (λ b. IsTrue b ↔ Covers same_token self.old.tokens taken.now) }
+        ensures tokens { IfOk result (λ b. IsTrue b → self.new ≡ record self.old { tokens = given ++ minus same_token self.old.tokens taken.now }) }
+    {
+        if !self.tokens.take_each(taken) {
+            return Ok(false);
+        }
+        self.tokens.put_all(given)?;
+        Ok(true)
+    }
+
+    /// The entry is written here, if it is allowed; `false` where it is not, and then what is left here has no meaning.
+    pub(crate) fn enter(
+        &mut self,
+        alloc: Global,
+        localities: u32,
+        profile: &Profile,
+        event: &Event,
+        reading: Reading,
+    ) -> Result<bool, OutOfMemory>
+        requires valid { IsValid profile.now }
+        requires cargo { reading.cargo ≡ cargo_of (parcel_in event.now) }
+        requires parcel { reading.parcel ≡ parcel_in event.now }
+        ensures allowed { IfOk result (λ b. (f : Meaning) → reading ≡ reading_of (rules_of localities profile.now f) self.old event.now
+            → IsTrue b ↔ MayEnter (rules_of localities profile.now f) self.old event.now) }
+        ensures after { IfOk result (λ b. (f : Meaning) → reading ≡ reading_of (rules_of localities profile.now f) self.old event.now
+            → IsTrue b → self.new ≡ after (rules_of localities profile.now f) self.old event.now) }
+    {
+        if !self.allows(alloc, localities, profile, event, &reading)? {
+            return Ok(false);
+        }
+        let taken = takes(alloc, event, &reading.cargo)?;
+        let given = gives(alloc, profile, event, &reading.cargo)?;
+        self.change(alloc, profile, event, reading)?;
+        if !self.trade(taken.as_slice(), given)? {
+            return Ok(false);
+        }
+        self.last = Some(event.duplicate(alloc)?);
+        Ok(true)
     }
 }

@@ -14,4 +14,5 @@ pub mod journal;
 pub mod law;
 pub mod local;
 mod object_rows;
+pub mod space;
 mod tokens;
