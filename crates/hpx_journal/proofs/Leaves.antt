@@ -6,10 +6,11 @@ use Rattle.std.proofs.lemmas.Bool.{eqb-true}
 use Rattle.hpx_value.specs.Ids.{Id, same_object}
 use Rattle.hpx_value.specs.Hands.{due_of, state_after}
 use Rattle.hpx_journal.specs.Data.{Act, State, Outcome, Due}
-use Rattle.hpx_journal.specs.Bags.{without}
-use Rattle.hpx_journal.specs.Entries.{Name, Standing, Rules, Done, target_of}
-use Rattle.hpx_journal.specs.Local.{Local, is_act, is_standing, outcome, tail, done_after, due_after, due_at, due_left, objects_after, settled, settled_at}
-use Rattle.hpx_journal.specs.Spaces.{outcome_in, outcome_by, outcome_at}
+use Rattle.hpx_journal.specs.Bags.{without, minus}
+use Rattle.hpx_journal.specs.Entries.{Name, Event, Standing, Rules, Done, target_of}
+use Rattle.hpx_journal.specs.Local.{Local, is_act, is_standing, outcome, tail, done_after, due_after, due_at, due_left, objects_after, settled, settled_at, takes, gives, after}
+use Rattle.hpx_journal.specs.Spaces.{outcome_in, outcome_by, outcome_at, besides}
+use Rattle.hpx_journal.specs.Tokens.{Token, same_token}
 
 pub popped_tail : (r : Option Due) (xs ys : List Due) → MatchOption r ((xs ≡ []) × (ys ≡ [])) (λ x. xs ≡ x ∷ ys) → ys ≡ tail xs
 popped_tail None xs ys h = h.1 ∙ sym (ap tail h.0)
@@ -107,3 +108,15 @@ module _ (r : Rules) (s : Local) (a : Name) (out : Outcome) (act : Act) (x : Sta
           ∙ finished_objects r s a out act x f stands e)) in
       whole_same s fired (without (is_act a) s.fired) done' (done_after s (Done a false)) objects (objects_after r s (Done a false)) left
       (due_after r s (Done a false)) fresh [] e1 (e2 ∙ finished_done r s a out act x f stands e) q d e8
+
+-- ---- the locality after an entry
+
+pub entered : (r : Rules) (s s1 s2 : Local) (e l : Event) (taken given : List Token) → s1 ≡ besides r s e
+    → s2 ≡ record s1 { tokens = given ++ minus same_token s1.tokens taken } → taken ≡ takes r e → given ≡ gives r e → l ≡ e
+    → record s2 { last = Some l } ≡ after r s e
+unfolding after
+entered r s s1 s2 e l taken given i j t g m =
+    let at : List Token → List Token → Local → Local = λ xs ys x. record x { tokens = ys ++ minus same_token x.tokens xs } in
+    let last : Event → Local → Local = λ k x. record x { last = Some k } in
+    ap (λ k. last k s2) m
+    ∙ ap (last e) (j ∙ (ap (at taken given) i ∙ (ap (λ xs. at xs given (besides r s e)) t ∙ ap (λ ys. at (takes r e) ys (besides r s e)) g)))
