@@ -14,6 +14,8 @@ use Rattle.hpx_journal.specs.declared.cargo.Cargo.{Cargo}
 use Rattle.hpx_journal.specs.declared.act_rows.Blame.{Blame}
 use Rattle.hpx_journal.specs.declared.entries.Reading.{Reading}
 use Rattle.hpx_journal.specs.declared.space.Space.{Space as Placed}
+use Rattle.hpx_journal.specs.declared.replay.ReplayFault.{ReplayFault}
+use Rattle.hpx_journal.specs.declared.replay.ReplayFault.TheVariants.{Illegal, OutOfMemory}
 use Rattle.hpx_journal.specs.Bags.{Covers}
 use Rattle.hpx_journal.specs.Rows.{TurnAllows, Row, objects_in}
 use Rattle.hpx_journal.specs.Whole.{Space, MayStand, IsLegal, replayed}
@@ -108,9 +110,14 @@ pub record MayEnter (r : Rules) (s : Local) (e : Event) : Type 0 where
 
 -- the localities in order, and the road
 pub record Shows (r : Rules) (s : Placed) (w : Space) : Type 0 where
-  pub count : length s.places ≡ r.localities
-  pub places : (k : ℕ) → k < r.localities → slice_get s.places k ≡ Some (w.places k)
+  pub count : length s.places.items ≡ r.localities
+  pub places : (k : ℕ) → k < r.localities → slice_get s.places.items k ≡ Some (w.places k)
   pub road : s.road ≡ w.road
+
+-- the journal is legal, and this is the space that it leads to
+pub record Replays (r : Rules) (es : List Entry) (s : Placed) : Type 0 where
+  pub legal : IsLegal r es
+  pub shows : Shows r s (replayed r es)
 
 -- the first entry that is not allowed is at a place
 pub record IsRefusedAt (r : Rules) (es : List Entry) (at : ℕ) : Type 0 where
@@ -118,3 +125,8 @@ pub record IsRefusedAt (r : Rules) (es : List Entry) (at : ℕ) : Type 0 where
   pub entry : Entry
   pub there : slice_get es at ≡ Some entry
   pub refused : MayStand r (replayed r (take at es)) entry → ⊥
+
+-- why a journal is not replayed: an entry is not allowed, or memory is wanting
+abbrev pub IsFault : Rules → List Entry → ReplayFault → Type 0
+IsFault r es (Illegal at) = IsRefusedAt r es at
+IsFault r es OutOfMemory = Unit {0}

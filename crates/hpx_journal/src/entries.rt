@@ -92,7 +92,7 @@ impl Local {
     }
 
     /// What an entry means here.
-    fn read<A: Acts>(
+    pub(crate) fn read<A: Acts>(
         &self,
         alloc: Global,
         acts: &A,

@@ -14,5 +14,6 @@ pub mod journal;
 pub mod law;
 pub mod local;
 mod object_rows;
+pub mod replay;
 pub mod space;
 mod tokens;

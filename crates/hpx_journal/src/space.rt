@@ -4,7 +4,7 @@ ghost use Rattle.std.specs.Prelude.{◌≡◌};
 use crate::bag::{Bag, Keyed};
 use crate::local::Local;
 use hpx_value::exact::Exact;
-use hpx_value::items::{Bytes, Items};
+use hpx_value::items::Bytes;
 use std::marker::Model;
 
 /// A frame on the road: where it goes, and its bytes.
@@ -58,6 +58,6 @@ impl Keyed<Frame> for Frame {
 /// What each locality has, in their order, and the frames that were sent and not yet accepted, the newest first.
 #[derive(Drop)]
 pub struct Space {
-    pub places: Items<Local>,
+    pub places: Vec<Local>,
     pub road: Bag<Frame>,
 }
