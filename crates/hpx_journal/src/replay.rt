@@ -36,12 +36,6 @@ pub enum ReplayFault {
     OutOfMemory,
 }
 
-impl From<OutOfMemory> for ReplayFault {
-    fn from(_error: OutOfMemory) -> ReplayFault {
-        ReplayFault::OutOfMemory
-    }
-}
-
 /// A root of a kind, with these values.
 fn root(alloc: Global, k: u32, kind: u32, values: Values) -> Standing
     requires place { k < 64 }
@@ -127,11 +121,8 @@ fn carry(alloc: Global, road: &mut Bag<Frame>, entry: &Entry) -> Result<bool, Ou
             Ok(true)
         }
         Event::In { bytes } => {
-            let frame = Frame::new(entry.at, bytes.duplicate(alloc)?);
-            match road.take(&frame) {
-                Some(_) => Ok(true),
-                None => Ok(false),
-            }
+            let frame = one(alloc, Frame::new(entry.at, bytes.duplicate(alloc)?))?;
+            Ok(road.take_each(frame.as_slice()))
         }
         _ => Ok(true),
     }
@@ -199,10 +190,15 @@ pub fn replay<A: Acts>(
     ensures ok { IfOk result (λ s. Replays (rules_of n profile A.act_of) journal.now.entries s) }
     ensures illegal { IfErr result (λ e. IsFault (rules_of n profile A.act_of) journal.now.entries e) }
 {
-    let mut space = Space::boot(alloc, n)?;
+    let mut space = match Space::boot(alloc, n) {
+        Ok(space) => space,
+        Err(OutOfMemory) => return Err(ReplayFault::OutOfMemory),
+    };
     for (i, entry) in journal.as_slice().iter().enumerate() {
-        if !space.enter(alloc, acts, &profile, entry)? {
-            return Err(ReplayFault::Illegal { at: i as u64 });
+        match space.enter(alloc, acts, &profile, entry) {
+            Ok(true) => (),
+            Ok(false) => return Err(ReplayFault::Illegal { at: i as u64 }),
+            Err(OutOfMemory) => return Err(ReplayFault::OutOfMemory),
         }
     }
     Ok(space)
