@@ -12,9 +12,9 @@ loop-i-preserved g c =
     let r = rules_of c.args.n c.args.profile g.A.Acts.act_of in
     let es = c.args.journal.now.entries in
     let P : ℕ → Type 0 = λ n. (w : Space) → Shows (rules_of n c.args.profile g.A.Acts.act_of) c.loop-i.space w
-        → IsTrue c.in-Ok-true.field-0 ↔ MayStand (rules_of n c.args.profile g.A.Acts.act_of) w c.entry-item.result in
+    → IsTrue c.in-Ok-true.field-0 ↔ MayStand (rules_of n c.args.profile g.A.Acts.act_of) w c.entry-item.result in
     let Q : ℕ → Type 0 = λ n. (w : Space) → Shows (rules_of n c.args.profile g.A.Acts.act_of) c.loop-i.space w
-        → IsTrue c.in-Ok-true.field-0 → Shows (rules_of n c.args.profile g.A.Acts.act_of) c.enter.new.self (step (rules_of n c.args.profile g.A.Acts.act_of) w c.entry-item.result) in
+    → IsTrue c.in-Ok-true.field-0 → Shows (rules_of n c.args.profile g.A.Acts.act_of) c.enter.new.self (step (rules_of n c.args.profile g.A.Acts.act_of) w c.entry-item.result) in
     let S : List Entry → Type 0 = λ xs. c.loop-i.i < length xs in
     let T : List Entry → Type 0 = λ xs. c.entry-item.result ≡ get_or xs c.loop-i.i c.entry-item.result in
     let within = subst S c.as_slice-entry-items.ensures c.loop-i-test.true in
