@@ -2,6 +2,7 @@
 #![tactic(auto)]
 
 mod act_rows;
+mod acting;
 pub mod bag;
 pub mod cargo;
 mod changes;
