@@ -16,3 +16,4 @@ pub mod Books
 pub mod Keyed
 pub mod Laws
 pub mod Spaces
+pub mod Trial

@@ -17,4 +17,6 @@ pub mod local;
 mod object_rows;
 pub mod replay;
 pub mod space;
+#[cfg(test)]
+mod tests;
 mod tokens;
