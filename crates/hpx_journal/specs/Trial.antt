@@ -1,7 +1,12 @@
 -- Acts for tests: a session that has an object made, calls it, moves it and drops it.
 use Rattle.std.specs.Prelude.{ℕ, pos, cond, List, [], ◌∷◌, ◌==◌, length}
-use Rattle.hpx_value.specs.Hands.{Target, Place, Root, SendCont, NoCont, Here, Sending, Reply, Outcome, Make}
-use Rattle.hpx_journal.specs.Data.{Value, Nothing, Int, Ref, State, Act}
+use Rattle.hpx_value.specs.declared.outcome.Target.{Target}
+use Rattle.hpx_value.specs.declared.outcome.Target.TheVariants.{Place, Root}
+use Rattle.hpx_value.specs.declared.outcome.SendCont.{SendCont}
+use Rattle.hpx_value.specs.declared.outcome.SendCont.TheVariants.{Nothing as NoCont, Here}
+use Rattle.hpx_value.specs.declared.outcome.Sending.{Sending}
+use Rattle.hpx_value.specs.declared.outcome.Reply.{Reply}
+use Rattle.hpx_journal.specs.Data.{Value, Nothing, Int, Ref, State, Act, Outcome, Make}
 
 abbrev pub trial_outcome : ℕ → List Value → List Make → List Sending → List Reply → Outcome
 trial_outcome drawn values makes sends replies = record {

@@ -1,7 +1,6 @@
 //! Journals by hand: one from a birth to the freeing, with a call, an ask and a move, and wrong ones.
 ghost use Rattle.std.specs.Prelude.{◌≡◌, ◌≤◌, ◌<◌, ◌∷◌, [], IfOk};
 ghost use Rattle.hpx_value.specs.Profiles.{IsValid};
-ghost use Rattle.hpx_value.specs.Hands.{Target as Aim, SendCont as Way};
 ghost use Rattle.hpx_journal.specs.Trial.{trial, trial_outcome, trial_send, trial_reply, trial_line, trial_set};
 
 use crate::acting::Acting;
@@ -494,6 +493,35 @@ impl Story {
         self.add(0, Event::Freed { object: object() })
     }
 
+    /// So many ids of this log become two each.
+    fn halve(&mut self, log: u8, times: u32) -> Result<(), OutOfMemory> {
+        for _ in 0..times {
+            self.split(1, log)?;
+        }
+        Ok(())
+    }
+
+    /// 1,024 ids of log 0 are given up, and written back one by one.
+    fn write_back(&mut self) -> Result<(), OutOfMemory> {
+        for _ in 0..1024 {
+            self.up(1, 0)?;
+        }
+        for gone in 0..1024u64 {
+            self.count((1023 - gone) as u128, Reason::Returned(0))?;
+        }
+        Ok(())
+    }
+
+    /// 5,700 lines, from serial 7 on, each of which sends nothing.
+    fn feed(&mut self) -> Result<(), OutOfMemory> {
+        for serial in 7..5707u64 {
+            self.line(serial)?;
+            self.fire(0, 0, serial)?;
+            self.done(0, 0, serial)?;
+        }
+        Ok(())
+    }
+
     fn judged(self) -> Result<Option<u64>, OutOfMemory> {
         let Story { alloc, entries } = self;
         match judged(alloc, 8, entries) {
@@ -731,28 +759,17 @@ fn long_life(alloc: Global) -> Result<Story, OutOfMemory> {
     let _ = story.entries.pop();
     let mut parts = 1u32;
     for log in [10, 9, 8, 7, 6, 5, 4, 3, 2, 1] {
-        for _ in 0..parts {
-            story.split(1, log)?;
-        }
+        story.halve(log, parts)?;
         parts = parts.saturating_mul(2);
     }
-    for _ in 0..parts {
-        story.up(1, 0)?;
-    }
-    for gone in 0..1024u128 {
-        story.count(1023 - gone, Reason::Returned(0))?;
-    }
+    story.write_back()?;
     for serial in [3, 5] {
         story.line(serial)?;
         story.fire(0, 0, serial)?;
         story.done(0, 0, serial)?;
         story.sent(0, 0, serial + 1)?;
     }
-    for serial in 7..5707u64 {
-        story.line(serial)?;
-        story.fire(0, 0, serial)?;
-        story.done(0, 0, serial)?;
-    }
+    story.feed()?;
     Ok(story)
 }
 
