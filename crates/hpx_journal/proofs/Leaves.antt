@@ -59,7 +59,7 @@ module _ (r : Rules) (s : Local) (a : Name) (out : Outcome) (act : Act) (x : Sta
   does : out ≡ outcome r s act x
   does =
       let k : outcome_by r s (find (is_act a) s.fired) ≡ Some (outcome r s act x) =
-          ap (outcome_by r s) (sym f) ∙ ap (outcome_at r s act) (sym g) in
+      ap (outcome_by r s) (sym f) ∙ ap (outcome_at r s act) (sym g) in
       let m : Some out ≡ Some (outcome r s act x) = e ∙ k in cc
 
   pub finished_done : act ∷ s.done ≡ done_after s (Done a false)
@@ -73,7 +73,7 @@ module _ (r : Rules) (s : Local) (a : Name) (out : Outcome) (act : Act) (x : Sta
       ≡ objects_after r s (Done a false)
   finished_objects =
       let h : without (is_standing x.object) s.objects ≡ without (is_standing (target_of act)) s.objects =
-          without_found (target_of act) s.objects x (sym g) in
+      without_found (target_of act) s.objects x (sym g) in
       let at : Outcome → List Standing → List Standing = λ o xs. record { object = x.object; state = state_after x.state act s.fresh o } ∷ xs in
       ap (λ o. at o (without (is_standing (target_of act)) s.objects)) does
       ∙ (ap (at (outcome r s act x)) (sym h) ∙ sym (ap (settled r s) (sym f) ∙ ap (settled_at r s act) (sym g)))
@@ -101,11 +101,11 @@ module _ (r : Rules) (s : Local) (a : Name) (out : Outcome) (act : Act) (x : Sta
   finish_same fired done' objects left fresh e1 e2 e3 e4 e5 e6 e7 e8 =
       let at : State → List Standing → List Standing = λ t xs. record { object = x.object; state = t } ∷ xs in
       let d : left ≡ due_after r s (Done a false) =
-          e7 ∙ (e4 ∙ (ap (λ k. due_of x.state act k out) m ∙ finished_due r s a out act x f stands e)) in
+      e7 ∙ (e4 ∙ (ap (λ k. due_of x.state act k out) m ∙ finished_due r s a out act x f stands e)) in
       let q : objects ≡ objects_after r s (Done a false) =
-          e6 ∙ (ap (λ t. at t others) (e5 ∙ ap (λ k. state_after x.state act k out) m)
-          ∙ (ap (at (state_after x.state act s.fresh out)) (e3 ∙ ap (λ k. without (is_standing k) s.objects) i)
-          ∙ finished_objects r s a out act x f stands e)) in
+      e6 ∙ (ap (λ t. at t others) (e5 ∙ ap (λ k. state_after x.state act k out) m)
+      ∙ (ap (at (state_after x.state act s.fresh out)) (e3 ∙ ap (λ k. without (is_standing k) s.objects) i)
+      ∙ finished_objects r s a out act x f stands e)) in
       whole_same s fired (without (is_act a) s.fired) done' (done_after s (Done a false)) objects (objects_after r s (Done a false)) left
       (due_after r s (Done a false)) fresh [] e1 (e2 ∙ finished_done r s a out act x f stands e) q d e8
 

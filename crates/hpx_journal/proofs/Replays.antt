@@ -58,28 +58,27 @@ module _ (r : Rules) (s : Placed) (w : Space) (e : Entry) (shown : Shows r s w) 
   here_is : p ≡ w.places e.at
   here_is =
       let k : slice_get s.places.items e.at ≡ Some p =
-          slice_get_read s.places.items (length s.places.items) e.at p refl (let n : length s.places.items ≡ r.localities = shown.count in omega arith) at in
+      slice_get_read s.places.items (length s.places.items) e.at p refl (let n : length s.places.items ≡ r.localities = shown.count in omega arith) at in
       let l : slice_get s.places.items e.at ≡ Some (w.places e.at) = shown.places e.at within in
       let m : Some p ≡ Some (w.places e.at) = sym k ∙ l in cc
 
   pub stands_here : (b : Bool) → Covers same_frame s.road (arrives e) → p.here ≡ e.at → IsTrue b ↔ MayEnter r p e.event → IsTrue b ↔ MayStand r w e
   stands_here b road home h =
       let P : Local → Type 0 = λ x. MayEnter r x e.event in
-      let Q : List _ → Type 0 = λ xs. Covers same_frame xs (arrives e) in
-      (
+      let Q : List _ → Type 0 = λ xs. Covers same_frame xs (arrives e) in (
         λ t.
-          let m = subst P here_is (h.0 t) in
-          record {
-            place = within;
-            allowed = record {
-              here = sym home ∙ ap (λ x. x.here) here_is;
-              turn = m.write.turn;
-              tokens = m.tokens;
-              bare = m.write.bare;
-              row = m.write.row;
-            };
-            road = subst Q shown.road road;
-          },
+            let m = subst P here_is (h.0 t) in
+            record {
+              place = within;
+              allowed = record {
+                here = sym home ∙ ap (λ x. x.here) here_is;
+                turn = m.write.turn;
+                tokens = m.tokens;
+                bare = m.write.bare;
+                row = m.write.row;
+              };
+              road = subst Q shown.road road;
+            },
         λ m. h.1 (subst P (sym here_is) (record {
           write = record { turn = m.allowed.turn; bare = m.allowed.bare; row = m.allowed.row };
           tokens = m.allowed.tokens;

@@ -29,9 +29,9 @@ fire_found s a act o x b f i g idle h = (
   λ (w : (act : Act) × (x : Standing) × (find (is_act a) s.waiting ≡ Some act)
       × (find (is_standing (target_of act)) s.objects ≡ Some x)
       × (is_busy (target_of act) s.fired ≡ false) × IfSome (move_to act) (λ t. t ≡ s.here)).
-    let e : w.0 ≡ act = let k : Some w.0 ≡ Some act = sym w.2 ∙ sym f in cc in
-    let P : Act → Type 0 = λ y. IfSome (move_to y) (λ t. t ≡ s.here) in
-    h.1 (subst P e w.5),
+      let e : w.0 ≡ act = let k : Some w.0 ≡ Some act = sym w.2 ∙ sym f in cc in
+      let P : Act → Type 0 = λ y. IfSome (move_to y) (λ t. t ≡ s.here) in
+      h.1 (subst P e w.5),
 )
 
 pub sent_found : (s : Local) (a : Name) (first : Due) (m : Message) (b : Bool) → Some first ≡ slice_get s.due 0 → first ≡ MessageDue m
@@ -45,11 +45,10 @@ pub print_found : (due : List Due) (first : Due) (text bytes : List ℕ) (b : Bo
     → IsTrue b ↔ (text ≡ bytes)
     → IsTrue b ↔ ((rest : List Due) × (due ≡ PrintDue bytes ∷ rest))
 print_found due first text bytes b f i h =
-    let k = head_of due (PrintDue text) (sym f ∙ ap (λ x. Some x) i) in
-    (
+    let k = head_of due (PrintDue text) (sym f ∙ ap (λ x. Some x) i) in (
       λ t. (k.0, let e : text ≡ bytes = h.0 t in let l : due ≡ PrintDue text ∷ k.0 = k.1 in cc),
       λ (w : (rest : List Due) × (due ≡ PrintDue bytes ∷ rest)).
-        let l : due ≡ PrintDue text ∷ k.0 = k.1 in let r : due ≡ PrintDue bytes ∷ w.0 = w.1 in h.1 (let e : text ≡ bytes = cc in e),
+          let l : due ≡ PrintDue text ∷ k.0 = k.1 in let r : due ≡ PrintDue bytes ∷ w.0 = w.1 in h.1 (let e : text ≡ bytes = cc in e),
     )
 
 pub great_power : (log : ℕ) → 128 ≤ log → 2 ^ 128 ≤ 2 ^ log
@@ -66,13 +65,13 @@ failed_found s a act o x b f i g none few e = (
   λ t. (record { act = act; target = x; fired = sym f; stands = rw (← i) (sym g) }, none, sym e ∙ t, few),
   λ (w : (x : Runs s a) × (s.fresh ≡ []) × (list_any (is_refused x.act x.target.state) s.refusals ≡ true)
       × (s.failures + 1 ≤ count_by is_given_none s.given)).
-    let p : w.0.act ≡ act = let k : Some w.0.act ≡ Some act = sym w.0.fired ∙ sym f in cc in
-    let P : Act → Type 0 = λ y. find (is_standing (target_of y)) s.objects ≡ Some w.0.target in
-    let stands : find (is_standing (target_of act)) s.objects ≡ Some w.0.target = subst P p w.0.stands in
-    let q : w.0.target ≡ x = let k : Some w.0.target ≡ Some x = sym stands ∙ sym (rw i at g) in cc in
-    let Q : Act → Type 0 = λ y. list_any (is_refused y w.0.target.state) s.refusals ≡ true in
-    let R : Standing → Type 0 = λ y. list_any (is_refused act y.state) s.refusals ≡ true in
-    e ∙ subst R q (subst Q p w.2),
+      let p : w.0.act ≡ act = let k : Some w.0.act ≡ Some act = sym w.0.fired ∙ sym f in cc in
+      let P : Act → Type 0 = λ y. find (is_standing (target_of y)) s.objects ≡ Some w.0.target in
+      let stands : find (is_standing (target_of act)) s.objects ≡ Some w.0.target = subst P p w.0.stands in
+      let q : w.0.target ≡ x = let k : Some w.0.target ≡ Some x = sym stands ∙ sym (rw i at g) in cc in
+      let Q : Act → Type 0 = λ y. list_any (is_refused y w.0.target.state) s.refusals ≡ true in
+      let R : Standing → Type 0 = λ y. list_any (is_refused act y.state) s.refusals ≡ true in
+      e ∙ subst R q (subst Q p w.2),
 )
 
 -- ---- what is made
@@ -100,13 +99,12 @@ pub done_found : (r : Rules) (s : Local) (a : Name) (given : Option Outcome) (ou
     → IsTrue b ↔ ((x : Runs s a) × AreMade (outcome r s x.act x.target).makes s.fresh s.objects)
 done_found r s a given out b e i h =
     let k = done_runs r s a out (find (is_act a) s.fired) refl (sym e ∙ i) in
-    let P : Outcome → Type 0 = λ o. AreMade o.makes s.fresh s.objects in
-    (
+    let P : Outcome → Type 0 = λ o. AreMade o.makes s.fresh s.objects in (
       λ t. (k.0, subst P (sym k.1) (h.0 t)),
       λ (w : (x : Runs s a) × AreMade (outcome r s x.act x.target).makes s.fresh s.objects).
-        let l : outcome r s w.0.act w.0.target ≡ out =
-            let m : Some (outcome r s w.0.act w.0.target) ≡ Some out = sym (runs_does r s a w.0) ∙ (sym e ∙ i) in cc in
-        h.1 (subst P l w.1),
+          let l : outcome r s w.0.act w.0.target ≡ out =
+          let m : Some (outcome r s w.0.act w.0.target) ≡ Some out = sym (runs_does r s a w.0) ∙ (sym e ∙ i) in cc in
+          h.1 (subst P l w.1),
     )
 
 pub made_more : (makes : List Make) (fresh : List Id) (objects : List Standing) (i : ℕ) (m : Make) (o : Id)
@@ -142,9 +140,8 @@ leaving_at : (s : Local) (to : ℕ) (act : Act) (state : State) (m : Option ℕ)
 leaving_at s to act state None = (λ h. absurd h, λ h. cc)
 leaving_at s to act state (Some v) =
     let f : find (is_travel (target_of (bare_act act))) s.travels ≡ find (is_travel (target_of act)) s.travels =
-        ap (λ o. find (is_travel o) s.travels) (bare_target act) in
-    let at : ℕ → Option Travel = λ t. Some (record { object = target_of (bare_act act); state = bare_state state; to = t }) in
-    (
+    ap (λ o. find (is_travel o) s.travels) (bare_target act) in
+    let at : ℕ → Option Travel = λ t. Some (record { object = target_of (bare_act act); state = bare_state state; to = t }) in (
       λ h. (ap (λ t. Some t) h.0, sym f ∙ (h.1 ∙ ap at h.0)),
       λ h. let e : v ≡ to = let k : Some v ≡ Some to = h.0 in cc in (e, f ∙ (h.1 ∙ ap at (sym e))),
     )
@@ -155,7 +152,7 @@ leaving_object s to p act state travels b i e h =
     let P : Parcel → Type 0 = λ q. IsTrue b ↔ MayGo s to q in
     let Q : List Travel → Type 0 = λ xs. IsTrue b ↔ IsLeaving s to xs in
     let k : IsTrue b ↔ IsLeaving s to (travel_of (bare_act act) (bare_state state) (move_to act)) =
-        subst Q (e ∙ ap (λ q. travels_in (Some q)) i) h in
+    subst Q (e ∙ ap (λ q. travels_in (Some q)) i) h in
     let j = leaving_at s to act state (move_to act) in
     subst P (sym i) (
       λ t. let w = j.0 (k.0 t) in (bare_move act ∙ w.0, w.1),

@@ -17,3 +17,4 @@ pub mod Keyed
 pub mod Laws
 pub mod Pool
 pub mod Spaces
+pub mod Trial

@@ -11,7 +11,6 @@ use Rattle.hpx_journal.specs.Bags.{without, minus}
 use Rattle.hpx_journal.specs.Entries.{Name, Returned, Granted, Refused, Event, Line, Fire, Split, Born, Done, Sent, Print, Up, Asked, Given, Count, Freed, Left, Landed, Out, In, Standing, Travel, Rules, same_name, name_of, target_of, line_act}
 use Rattle.hpx_journal.specs.Tokens.{Token, held_token, owed_token, same_token}
 use Rattle.hpx_journal.specs.Frames.{acts_in, travels_in, tokens_in, asks_in}
-
 -- a number that was written in the record of an object
 pub use Rattle.hpx_journal.specs.declared.entry.Recorded.{Recorded}
 -- an id came back with no more credit while an action was fired

@@ -86,9 +86,7 @@ impl Local {
     fn is_next(&self, action: Name) -> bool
         ensures { IsTrue result ↔ (action ≡ next_name self.now) }
     {
-        action.origin as u32 == self.here
-            && action.serial != 0
-            && action.serial - 1 == self.serial
+        action.origin as u32 == self.here && action.serial != 0 && action.serial - 1 == self.serial
     }
 
     pub(crate) fn line_row(&self, action: Name, bytes: &Text) -> bool
@@ -160,12 +158,7 @@ impl Local {
     }
 
     /// Whether an id came back with no more credit since this action was fired, that it or its target's state names.
-    fn is_refused(
-        &self,
-        alloc: Global,
-        act: &Act,
-        state: &State,
-    ) -> Result<bool, OutOfMemory>
+    fn is_refused(&self, alloc: Global, act: &Act, state: &State) -> Result<bool, OutOfMemory>
         ensures { IfOk result (λ b. b ≡ list_any (is_refused act.now state.now) self.now.refusals) }
     {
         let mut ids = Vec::from_slice(alloc, act.ids.as_slice())?;

@@ -90,8 +90,9 @@ impl Local {
 
     pub(crate) fn fire(&mut self, action: Name) -> Result<(), OutOfMemory>
         ensures { OnOk result (self.new ≡ record self.old {
-            waiting = without (is_act action) self.old.waiting;
-            fired = listed (find (is_act action) self.old.waiting) ++ self.old.fired }) }
+          waiting = without (is_act action) self.old.waiting;
+          fired = listed (find (is_act action) self.old.waiting) ++ self.old.fired;
+        }) }
     {
         match self.waiting.take(&action) {
             Some(act) => self.fired.put(act),
@@ -108,10 +109,11 @@ impl Local {
     ) -> Result<(), OutOfMemory>
         requires { IsValid profile.now }
         ensures { OnOk result (self.new ≡ record self.old {
-            objects = record { object = o; state = state.now } ∷ self.old.objects;
-            fresh = self.old.fresh ++ o ∷ [];
-            number = o.number;
-            counts = record { object = o; count = 2 ^ profile.now.credit_log } ∷ self.old.counts }) }
+          objects = record { object = o; state = state.now } ∷ self.old.objects;
+          fresh = self.old.fresh ++ o ∷ [];
+          number = o.number;
+          counts = record { object = o; count = 2 ^ profile.now.credit_log } ∷ self.old.counts;
+        }) }
     {
         self.objects.put(Standing {
             object: o,
@@ -133,11 +135,12 @@ impl Local {
         outcome: &Outcome,
     ) -> Result<(), OutOfMemory>
         ensures { OnOk result ((r : Rules) → Some outcome.now ≡ outcome_in r self.old (Event.Done action false) → self.new ≡ record self.old {
-            fired = fired_after self.old (Event.Done action false);
-            done = done_after self.old (Event.Done action false);
-            objects = objects_after r self.old (Event.Done action false);
-            due = due_after r self.old (Event.Done action false);
-            fresh = [] }) }
+          fired = fired_after self.old (Event.Done action false);
+          done = done_after self.old (Event.Done action false);
+          objects = objects_after r self.old (Event.Done action false);
+          due = due_after r self.old (Event.Done action false);
+          fresh = [];
+        }) }
     {
         let Some(act) = self.fired.take(&action) else {
             return Ok(());
@@ -159,11 +162,12 @@ impl Local {
     /// The action commits, where it fails for want of credit.
     pub(crate) fn fail(&mut self, alloc: Global, action: Name) -> Result<(), OutOfMemory>
         ensures { OnOk result ((r : Rules) (act : _) → find (is_act action) self.old.fired ≡ Some act → self.new ≡ record self.old {
-            fired = fired_after self.old (Event.Done action true);
-            done = done_after self.old (Event.Done action true);
-            due = due_after r self.old (Event.Done action true);
-            failures = self.old.failures + 1;
-            fresh = [] }) }
+          fired = fired_after self.old (Event.Done action true);
+          done = done_after self.old (Event.Done action true);
+          due = due_after r self.old (Event.Done action true);
+          failures = self.old.failures + 1;
+          fresh = [];
+        }) }
     {
         let Some(act) = self.fired.take(&action) else {
             return Ok(());
@@ -193,9 +197,10 @@ impl Local {
 
     pub(crate) fn sent(&mut self, action: Name) -> Result<(), OutOfMemory>
         ensures { OnOk result (self.new ≡ record self.old {
-            waiting = due_act action self.old.due ++ self.old.waiting;
-            due = tail self.old.due;
-            serial = action.serial }) }
+          waiting = due_act action self.old.due ++ self.old.waiting;
+          due = tail self.old.due;
+          serial = action.serial;
+        }) }
     {
         self.serial = action.serial;
         match self.due.pop() {
@@ -213,8 +218,9 @@ impl Local {
 
     pub(crate) fn given(&mut self, alloc: Global, o: Gid, log: u8) -> Result<(), OutOfMemory>
         ensures { OnOk result (self.new ≡ record self.old {
-            given = record { object = o; log = log } ∷ self.old.given;
-            refusals = refusals_by self.old (Event.Given o log) ++ self.old.refusals }) }
+          given = record { object = o; log = log } ∷ self.old.given;
+          refusals = refusals_by self.old (Event.Given o log) ++ self.old.refusals;
+        }) }
     {
         self.given.put(Credit::new(o, log))?;
         if log == 0 {
@@ -225,8 +231,9 @@ impl Local {
 
     pub(crate) fn left(&mut self, o: Gid, to: u32) -> Result<(), OutOfMemory>
         ensures { OnOk result (self.new ≡ record self.old {
-            objects = without (is_standing o) self.old.objects;
-            travels = map (leaving to) (listed (find (is_standing o) self.old.objects)) ++ self.old.travels }) }
+          objects = without (is_standing o) self.old.objects;
+          travels = map (leaving to) (listed (find (is_standing o) self.old.objects)) ++ self.old.travels;
+        }) }
     {
         match self.objects.take(&o) {
             Some(Standing { object, state }) => self.travels.put(Travel { object, state, to }),
@@ -236,8 +243,9 @@ impl Local {
 
     pub(crate) fn landed(&mut self, o: Gid) -> Result<(), OutOfMemory>
         ensures { OnOk result (self.new ≡ record self.old {
-            travels = without (is_travel o) self.old.travels;
-            objects = map stood (listed (find (is_travel o) self.old.travels)) ++ self.old.objects }) }
+          travels = without (is_travel o) self.old.travels;
+          objects = map stood (listed (find (is_travel o) self.old.travels)) ++ self.old.objects;
+        }) }
     {
         match self.travels.take(&o) {
             Some(Travel { object, state, .. }) => self.objects.put(Standing { object, state }),
@@ -248,9 +256,10 @@ impl Local {
     /// What a frame carries goes.
     pub(crate) fn send(&mut self, alloc: Global, cargo: Cargo) -> Result<(), OutOfMemory>
         ensures { OnOk result (self.new ≡ record self.old {
-            waiting = minus is_act self.old.waiting (map name_of cargo.acts);
-            travels = minus is_travel self.old.travels (map (λ x. x.object) cargo.travels);
-            asks_gone = cargo.asks ++ self.old.asks_gone }) }
+          waiting = minus is_act self.old.waiting (map name_of cargo.acts);
+          travels = minus is_travel self.old.travels (map (λ x. x.object) cargo.travels);
+          asks_gone = cargo.asks ++ self.old.asks_gone;
+        }) }
     {
         let names = names_of(alloc, cargo.acts.as_slice())?;
         self.waiting.remove_each(names.as_slice());
@@ -262,9 +271,10 @@ impl Local {
     /// What a frame carries comes.
     pub(crate) fn accept(&mut self, cargo: Cargo) -> Result<(), OutOfMemory>
         ensures { OnOk result (self.new ≡ record self.old {
-            waiting = cargo.acts ++ self.old.waiting;
-            travels = cargo.travels ++ self.old.travels;
-            asks_come = cargo.asks ++ self.old.asks_come }) }
+          waiting = cargo.acts ++ self.old.waiting;
+          travels = cargo.travels ++ self.old.travels;
+          asks_come = cargo.asks ++ self.old.asks_come;
+        }) }
     {
         self.waiting.put_all(cargo.acts)?;
         self.travels.put_all(cargo.travels)?;

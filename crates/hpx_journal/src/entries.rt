@@ -8,12 +8,12 @@ ghost use Rattle.hpx_journal.specs.Bags.{minus, Covers};
 ghost use Rattle.hpx_journal.specs.Tokens.{same_token};
 ghost use Rattle.hpx_journal.specs.Local.{after};
 
+use crate::acting::Acting;
 use crate::cargo::{Cargo, cargo_of, parcel_in};
 use crate::entry::{Event, Recorded, Token};
 use crate::local::{Local, target};
 use crate::tokens::{gives, takes};
 use hpx_parcel::parcel::Parcel;
-use hpx_value::acts::Acts;
 use hpx_value::items::Items;
 use hpx_value::memory::OutOfMemory;
 use hpx_value::outcome::Outcome;
@@ -67,7 +67,7 @@ impl Local {
     }
 
     /// What a Done that does not fail does, where its action is fired and its object stands.
-    fn outcome_in<A: Acts>(
+    fn outcome_in<A: Acting>(
         &self,
         alloc: Global,
         acts: &A,
@@ -92,7 +92,7 @@ impl Local {
     }
 
     /// What an entry means here.
-    pub(crate) fn read<A: Acts>(
+    pub(crate) fn read<A: Acting>(
         &self,
         alloc: Global,
         acts: &A,

@@ -122,12 +122,7 @@ pub fn own_slot(action: &Act) -> Option<Slot>
     }
 }
 
-fn ids_of(
-    alloc: Global,
-    state: &State,
-    action: &Act,
-    made: &[Gid],
-) -> Result<Vec<Gid>, OutOfMemory>
+fn ids_of(alloc: Global, state: &State, action: &Act, made: &[Gid]) -> Result<Vec<Gid>, OutOfMemory>
     ensures { IfOk result (λ ids. ids.items ≡ hand_ids state.now action.now made.now) }
 {
     let mut ids = Vec::from_slice(alloc, state.ids.as_slice())?;

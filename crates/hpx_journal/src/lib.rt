@@ -2,6 +2,7 @@
 #![tactic(auto)]
 
 mod act_rows;
+mod acting;
 pub mod bag;
 pub mod cargo;
 mod changes;
@@ -16,4 +17,6 @@ pub mod local;
 mod object_rows;
 pub mod replay;
 pub mod space;
+#[cfg(test)]
+mod tests;
 mod tokens;

@@ -9,6 +9,7 @@ ghost use Rattle.hpx_journal.specs.Roots.{root, roots_of_first, roots};
 ghost use Rattle.hpx_journal.specs.Whole.{Space as Plain, MayStand, arrives, road_after, step};
 ghost use Rattle.hpx_journal.specs.Spaces.{Shows, Replays, IsFault, rules_of};
 
+use crate::acting::{Acting, Lawful};
 use crate::bag::Bag;
 use crate::cargo::one;
 use crate::entry::{Entry, Event, Standing};
@@ -147,7 +148,7 @@ impl Space {
     }
 
     /// The entry is written, if it is allowed; `false` where it is not, and then what is left has no meaning.
-    fn enter<A: Acts>(
+    fn enter<A: Acting>(
         &mut self,
         alloc: Global,
         acts: &A,
@@ -175,7 +176,33 @@ impl Space {
     }
 }
 
-/// The space that a journal of n localities leads to, where it is legal.
+/// The space that a journal leads to, where it is legal.
+pub(crate) fn judge<A: Acting>(
+    alloc: Global,
+    acts: &A,
+    profile: &Profile,
+    journal: &Journal,
+) -> Result<Space, ReplayFault>
+    requires few { A.count acts.now ≤ 64 }
+    requires valid { IsValid profile.now }
+    ensures ok { IfOk result (λ s. Replays (rules_of (A.count acts.now) profile.now A.act_of) journal.now.entries s) }
+    ensures illegal { IfErr result (λ e. IsFault (rules_of (A.count acts.now) profile.now A.act_of) journal.now.entries e) }
+{
+    let mut space = match Space::boot(alloc, acts.localities()) {
+        Ok(space) => space,
+        Err(OutOfMemory) => return Err(ReplayFault::OutOfMemory),
+    };
+    for (i, entry) in journal.as_slice().iter().enumerate() {
+        match space.enter(alloc, acts, profile, entry) {
+            Ok(true) => (),
+            Ok(false) => return Err(ReplayFault::Illegal { at: i as u64 }),
+            Err(OutOfMemory) => return Err(ReplayFault::OutOfMemory),
+        }
+    }
+    Ok(space)
+}
+
+/// The space that a journal of n localities leads to, where it is legal; else the first entry that is not allowed.
 pub fn replay<A: Acts>(
     alloc: Global,
     acts: &A,
@@ -190,16 +217,5 @@ pub fn replay<A: Acts>(
     ensures ok { IfOk result (λ s. Replays (rules_of n profile A.act_of) journal.now.entries s) }
     ensures illegal { IfErr result (λ e. IsFault (rules_of n profile A.act_of) journal.now.entries e) }
 {
-    let mut space = match Space::boot(alloc, n) {
-        Ok(space) => space,
-        Err(OutOfMemory) => return Err(ReplayFault::OutOfMemory),
-    };
-    for (i, entry) in journal.as_slice().iter().enumerate() {
-        match space.enter(alloc, acts, &profile, entry) {
-            Ok(true) => (),
-            Ok(false) => return Err(ReplayFault::Illegal { at: i as u64 }),
-            Err(OutOfMemory) => return Err(ReplayFault::OutOfMemory),
-        }
-    }
-    Ok(space)
+    judge(alloc, &Lawful { acts }, &profile, journal)
 }

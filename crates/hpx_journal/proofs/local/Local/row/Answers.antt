@@ -65,20 +65,20 @@ pub returns-in-Done : goal.returns-in-Done
 returns-in-Done c =
     let P : Bool → Type 0 = λ b. (r : Rules) → c.args.reading.now.outcome ≡ outcome_in r c.args.self.now (Done c.in-Done.action c.in-Done.failed) → IsTrue b ↔ Row r c.args.self.now (Done c.in-Done.action c.in-Done.failed) in
     let Q : Bool → Type 0 = λ b. (f : Meaning) → c.args.reading.now ≡ reading_of (rules_of c.args.localities c.args.profile.now f) c.args.self.now c.args.event.now
-        → IsTrue b ↔ Row (rules_of c.args.localities c.args.profile.now f) c.args.self.now c.args.event.now in
+    → IsTrue b ↔ Row (rules_of c.args.localities c.args.profile.now f) c.args.self.now c.args.event.now in
     ok_then c.commit_row.result P Q
     (λ b h f e.
-      let r = rules_of c.args.localities c.args.profile.now f in
-      row_is r c.args.self.now c.args.event.now (Done c.in-Done.action c.in-Done.failed) b c.in-Done.is (h r (ap (λ x. x.outcome) e ∙ ap (outcome_in r c.args.self.now) c.in-Done.is)))
+    let r = rules_of c.args.localities c.args.profile.now f in
+    row_is r c.args.self.now c.args.event.now (Done c.in-Done.action c.in-Done.failed) b c.in-Done.is (h r (ap (λ x. x.outcome) e ∙ ap (outcome_in r c.args.self.now) c.in-Done.is)))
     c.commit_row.ensures
 
 pub returns-in-Freed : goal.returns-in-Freed
 returns-in-Freed c =
     let P : Bool → Type 0 = λ b. (n : ℕ) (p : Profile) (f : Meaning) → IsTrue b ↔ Row (rules_of n p f) c.args.self.now (Freed c.in-Freed.object) in
     let Q : Bool → Type 0 = λ b. (f : Meaning) → c.args.reading.now ≡ reading_of (rules_of c.args.localities c.args.profile.now f) c.args.self.now c.args.event.now
-        → IsTrue b ↔ Row (rules_of c.args.localities c.args.profile.now f) c.args.self.now c.args.event.now in
+    → IsTrue b ↔ Row (rules_of c.args.localities c.args.profile.now f) c.args.self.now c.args.event.now in
     ok_then c.freed_row.result P Q
     (λ b h f e.
-      let r = rules_of c.args.localities c.args.profile.now f in
-      row_is r c.args.self.now c.args.event.now (Freed c.in-Freed.object) b c.in-Freed.is (h c.args.localities c.args.profile.now f))
+    let r = rules_of c.args.localities c.args.profile.now f in
+    row_is r c.args.self.now c.args.event.now (Freed c.in-Freed.object) b c.in-Freed.is (h c.args.localities c.args.profile.now f))
     c.freed_row.ensures
