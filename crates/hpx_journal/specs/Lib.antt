@@ -1,5 +1,6 @@
 pub mod Data
 pub mod Bags
+pub mod Found
 pub mod Entries
 pub mod Tokens
 pub mod Frames
@@ -15,3 +16,5 @@ pub mod Books
 pub mod Keyed
 pub mod Laws
 pub mod Pool
+pub mod Spaces
+pub mod Trial

@@ -11,38 +11,12 @@ use Rattle.hpx_journal.specs.Bags.{without, minus}
 use Rattle.hpx_journal.specs.Entries.{Name, Returned, Granted, Refused, Event, Line, Fire, Split, Born, Done, Sent, Print, Up, Asked, Given, Count, Freed, Left, Landed, Out, In, Standing, Travel, Rules, same_name, name_of, target_of, line_act}
 use Rattle.hpx_journal.specs.Tokens.{Token, held_token, owed_token, same_token}
 use Rattle.hpx_journal.specs.Frames.{acts_in, travels_in, tokens_in, asks_in}
-
 -- a number that was written in the record of an object
-pub record Recorded : Type 0 where
-  pub object : Id
-  pub count : ℕ
-
+pub use Rattle.hpx_journal.specs.declared.entry.Recorded.{Recorded}
 -- an id came back with no more credit while an action was fired
-pub record Refusal : Type 0 where
-  pub action : Name
-  pub object : Id
-
+pub use Rattle.hpx_journal.specs.declared.entry.Refusal.{Refusal}
 -- what one locality has
-pub record Local : Type 0 where
-  pub here : ℕ
-  pub waiting : List Act
-  pub fired : List Act
-  pub done : List Act
-  pub objects : List Standing
-  pub travels : List Travel  -- on the way out or in
-  pub fresh : List Id  -- born since the last Done
-  pub due : List Due  -- left by the last Done, and not yet written
-  pub tokens : List Token
-  pub serial : ℕ  -- the last that was drawn
-  pub number : ℕ  -- the last that was drawn
-  pub counts : List Recorded  -- the newest first
-  pub last : Option Event
-  pub asked : List Id  -- what was asked for here
-  pub given : List Credit  -- what was given here
-  pub asks_come : List Id  -- what came in an Ask or a Give
-  pub asks_gone : List Id  -- what went in one
-  pub refusals : List Refusal
-  pub failures : ℕ  -- the Dones that failed
+pub use Rattle.hpx_journal.specs.declared.local.Local.{Local}
 
 -- ---- tests
 

@@ -2,12 +2,8 @@
 use Rattle.std.specs.Prelude.{ℕ, Bool, true, false, not, cond, ◌==◌, ◌&&◌, ◌^◌}
 use Rattle.hpx_value.specs.Ids.{Id, same_object}
 use Rattle.hpx_parcel.specs.Credits.{Credit}
-
 -- a credit of 2^log of an object at a locality: held by an id there, or owed to the object's home
-pub record Token : Type 0 where
-  pub object : Id
-  pub log : ℕ
-  pub owed : Bool
+pub use Rattle.hpx_journal.specs.declared.entry.Token.{Token}
 
 abbrev pub held : Credit → Token
 held c = record { object = c.object; log = c.log; owed = false }

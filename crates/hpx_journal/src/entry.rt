@@ -1,6 +1,12 @@
+ghost use Rattle.std.specs.Prelude.{◌≡◌, IfOk};
+
+use hpx_value::exact::Exact;
 use hpx_value::gid::Gid;
 use hpx_value::items::{Bytes, Text};
+use hpx_value::memory::OutOfMemory;
 use hpx_value::value::State;
+use std::alloc::Global;
+use std::marker::Model;
 
 /// What an action is called: the locality where it was sent or fed, and a number drawn there.
 #[derive(Clone, Copy, Debug, PartialEq, Eq)]
@@ -108,6 +114,69 @@ pub enum Event {
     },
 }
 
+impl Event {
+    /// The same event once more.
+    pub fn duplicate(&self, alloc: Global) -> Result<Event, OutOfMemory>
+        ensures { IfOk result (λ e. e ≡ self.now) }
+    {
+        match self {
+            Event::Line { action, bytes } => Ok(Event::Line {
+                action: *action,
+                bytes: bytes.duplicate(alloc)?,
+            }),
+            Event::Born { object, state } => Ok(Event::Born {
+                object: *object,
+                state: state.duplicate(alloc)?,
+            }),
+            Event::Print { bytes } => Ok(Event::Print {
+                bytes: bytes.duplicate(alloc)?,
+            }),
+            Event::Out { to, bytes } => Ok(Event::Out {
+                to: *to,
+                bytes: bytes.duplicate(alloc)?,
+            }),
+            Event::In { bytes } => Ok(Event::In {
+                bytes: bytes.duplicate(alloc)?,
+            }),
+            Event::Fire { action } => Ok(Event::Fire { action: *action }),
+            Event::Done { action, failed } => Ok(Event::Done {
+                action: *action,
+                failed: *failed,
+            }),
+            Event::Sent { action } => Ok(Event::Sent { action: *action }),
+            Event::Split { object, log } => Ok(Event::Split {
+                object: *object,
+                log: *log,
+            }),
+            Event::Up { object, log } => Ok(Event::Up {
+                object: *object,
+                log: *log,
+            }),
+            Event::Asked { object } => Ok(Event::Asked { object: *object }),
+            Event::Given { object, log } => Ok(Event::Given {
+                object: *object,
+                log: *log,
+            }),
+            Event::Count { object, count, why } => Ok(Event::Count {
+                object: *object,
+                count: *count,
+                why: *why,
+            }),
+            Event::Freed { object } => Ok(Event::Freed { object: *object }),
+            Event::Left { object, to } => Ok(Event::Left {
+                object: *object,
+                to: *to,
+            }),
+            Event::Landed { object } => Ok(Event::Landed { object: *object }),
+            Event::Looked { object, hit } => Ok(Event::Looked {
+                object: *object,
+                hit: *hit,
+            }),
+            Event::Mail { kind } => Ok(Event::Mail { kind: *kind }),
+        }
+    }
+}
+
 /// What was done, and at which locality.
 #[derive(Drop)]
 pub struct Entry {
@@ -128,4 +197,66 @@ pub struct Travel {
     pub object: Gid,
     pub state: State,
     pub to: u32,
+}
+
+/// A credit of `2^log` of an object at a locality: held by an id there, or owed to the object's home.
+#[derive(Clone, Copy, Debug, Drop)]
+pub struct Token {
+    pub object: Gid,
+    pub log: u8,
+    pub owed: bool,
+}
+
+/// A number that was written in the record of an object.
+#[derive(Clone, Copy, Debug, Drop)]
+pub struct Recorded {
+    pub object: Gid,
+    pub count: u128,
+}
+
+/// An id of the object came back with no more credit while the action was fired.
+#[derive(Clone, Copy, Debug, Drop)]
+pub struct Refusal {
+    pub action: Name,
+    pub object: Gid,
+}
+
+/// A credit of `2^log` of an object.
+#[derive(Clone, Copy)]
+pub struct Credit {
+    object: Gid,
+    log: u8,
+}
+
+impl Model for Credit {
+    ghost use Rattle.hpx_parcel.specs.Credits.{Credit};
+
+    ghost Value = { Credit };
+
+    ghost view = { λ c. record { object = c.object; log = c.log } };
+
+    ghost inverse = { λ x. record { object = x.object; log = x.log } };
+}
+
+impl Credit {
+    /// A credit of an object.
+    pub fn new(object: Gid, log: u8) -> Credit
+        ensures { result ≡ record { object = object; log = log } }
+    {
+        Credit { object, log }
+    }
+
+    /// The object.
+    pub fn object(self) -> Gid
+        ensures { result ≡ self.object }
+    {
+        self.object
+    }
+
+    /// The log.
+    pub fn log(self) -> u8
+        ensures { result ≡ self.log }
+    {
+        self.log
+    }
 }

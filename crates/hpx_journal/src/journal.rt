@@ -89,6 +89,13 @@ impl Journal {
             && self.weight <= MOST_WEIGHT - TURN_WEIGHT
     }
 
+    /// The entries, in order.
+    pub fn as_slice(&self) -> &[Entry]
+        ensures { result.now ≡ self.now.entries }
+    {
+        self.items.as_slice()
+    }
+
     /// The entry at a place, from 0.
     pub fn entry(&self, i: u64) -> Option<&Entry>
         ensures { option_copied result ≡ slice_get self.now.entries i }
