@@ -111,7 +111,8 @@ impl Object {
         let outcome = names_act(alloc, self.kind.min(15), 2, 3, &self.state, &action)?;
         let line = told(alloc, &outcome)?;
         assert!(rt; line.as_str() == expected, "{line}");
-        let (values, count) = renumbered(alloc, outcome.state.values)?;
+        let state = outcome.state;
+        let (values, count) = renumbered(alloc, state.values)?;
         self.state = State {
             drawn: 0,
             values,
