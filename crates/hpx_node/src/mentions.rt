@@ -230,7 +230,11 @@ mod tests {
     #[test]
     fn names_the_state_first_then_sends_then_replies(rt: HostRuntime) -> Result<(), OutOfMemory> {
         let alloc = rt.alloc();
-        let places = mentions(alloc, &state(alloc)?, &action(alloc)?, &outcome(alloc)?)?;
+        let state = state(alloc)?;
+        let action = action(alloc)?;
+        assert!(rt; state.ids.len() == 2);
+        assert!(rt; action.ids.len() == 3);
+        let places = mentions(alloc, &state, &action, &outcome(alloc)?)?;
         assert!(rt; places.as_slice() == [0, 3, 1, 2, 5, 5, 4, 4, 3].as_slice());
         Ok(())
     }
