@@ -123,27 +123,15 @@ made_same (m ∷ makes) (o ∷ fresh) objects h = let e : length makes ≡ lengt
 
 -- ---- an object that is shipped
 
-bare_first : (ids : List Id) → id_at (map bare ids) 0 ≡ bare (id_at ids 0)
-bare_first [] = refl
-bare_first (id ∷ ids) = refl
-
-bare_target : (act : Act) → target_of (bare_act act) ≡ bare (target_of act)
-bare_target act = bare_first act.ids
-
-bare_move : (act : Act) → move_to (bare_act act) ≡ move_to act
-bare_move act = let e : (target_of (bare_act act)).kind ≡ (target_of act).kind = ap (λ o. o.kind) (bare_target act) in rw e refl
-
 leaving_at : (s : Local) (to : ℕ) (act : Act) (state : State) (m : Option ℕ)
     → IsLeaving s to (travel_of (bare_act act) (bare_state state) m)
-    ↔ ((m ≡ Some to) × (find (is_travel (target_of act)) s.travels
+    ↔ ((m ≡ Some to) × (find (is_travel (target_of (bare_act act))) s.travels
     ≡ Some (record { object = target_of (bare_act act); state = bare_state state; to = to })))
 leaving_at s to act state None = (λ h. absurd h, λ h. cc)
 leaving_at s to act state (Some v) =
-    let f : find (is_travel (target_of (bare_act act))) s.travels ≡ find (is_travel (target_of act)) s.travels =
-    ap (λ o. find (is_travel o) s.travels) (bare_target act) in
     let at : ℕ → Option Travel = λ t. Some (record { object = target_of (bare_act act); state = bare_state state; to = t }) in (
-      λ h. (ap (λ t. Some t) h.0, sym f ∙ (h.1 ∙ ap at h.0)),
-      λ h. let e : v ≡ to = let k : Some v ≡ Some to = h.0 in cc in (e, f ∙ (h.1 ∙ ap at (sym e))),
+      λ h. (ap (λ t. Some t) h.0, h.1 ∙ ap at h.0),
+      λ h. let e : v ≡ to = let k : Some v ≡ Some to = h.0 in cc in (e, h.1 ∙ ap at (sym e)),
     )
 
 pub leaving_object : (s : Local) (to : ℕ) (p : Parcel) (act : Act) (state : State) (travels : List Travel) (b : Bool)
@@ -151,13 +139,10 @@ pub leaving_object : (s : Local) (to : ℕ) (p : Parcel) (act : Act) (state : St
 leaving_object s to p act state travels b i e h =
     let P : Parcel → Type 0 = λ q. IsTrue b ↔ MayGo s to q in
     let Q : List Travel → Type 0 = λ xs. IsTrue b ↔ IsLeaving s to xs in
-    let k : IsTrue b ↔ IsLeaving s to (travel_of (bare_act act) (bare_state state) (move_to act)) =
+    let k : IsTrue b ↔ IsLeaving s to (travel_of (bare_act act) (bare_state state) (move_to (bare_act act))) =
     subst Q (e ∙ ap (λ q. travels_in (Some q)) i) h in
-    let j = leaving_at s to act state (move_to act) in
-    subst P (sym i) (
-      λ t. let w = j.0 (k.0 t) in (bare_move act ∙ w.0, w.1),
-      λ w. k.1 (j.1 (sym (bare_move act) ∙ w.0, w.1)),
-    )
+    let j = leaving_at s to act state (move_to (bare_act act)) in
+    subst P (sym i) (λ t. j.0 (k.0 t), λ w. k.1 (j.1 w))
 
 -- ---- the row of an entry
 
