@@ -296,12 +296,13 @@ fn lists_wait_for_a_move(rt: HostRuntime) -> Result<(), Fail> {
         cache: 1,
     };
     let mut records = Records::new(alloc, profile, 5);
-    records.reserve(3)?;
+    records.reserve(1)?;
     let gid = records.born(16);
     records.begin_move(gid, 6);
     for i in 0..2u64 {
         let mut item = Vec::new(alloc);
         item.push(i)?;
+        records.reserve(1)?;
         if records.moving(gid).is_some() {
             records.queue(gid, item);
         }

@@ -1,0 +1,3 @@
+pub mod Leaves
+pub mod Replays
+pub mod RowLemmas
