@@ -4,15 +4,13 @@ use Rattle.std.specs.Prelude.{◌==◌}
 use Rattle.std.specs.List.{slice_get}
 use Rattle.std.proofs.lemmas.Option.{slice_get_read}
 use Rattle.std.proofs.lemmas.List.{length-set, length_push, take_more}
-use Rattle.std.proofs.lemmas.Bool.{cases_Bool, eqb-true, eq-eqb, cases_eq}
+use Rattle.std.proofs.lemmas.Bool.{eqb-true, eq-eqb, cases_eq}
 use Rattle.hpx_replay.specs.declared.space.Space.{Space as Placed}
 use Rattle.hpx_journal.specs.Bags.{Covers}
 use Rattle.hpx_journal.specs.Entries.{Rules, same_frame}
-use Rattle.hpx_journal.specs.declared.entry.Event.{Event}
 use Rattle.hpx_journal.specs.declared.entry.Entry.{Entry}
 use Rattle.hpx_journal.specs.Local.{after}
 use Rattle.hpx_journal.specs.declared.local.Local.{Local}
-use Rattle.hpx_journal.specs.Rows.{Allowed}
 use Rattle.hpx_journal.specs.Whole.{Space, MayStand, IsLegal, IsLegalFrom, arrives, road_after, step, run, replayed, start}
 use Rattle.hpx_journal.specs.Roots.{roots}
 use Rattle.hpx_replay.specs.Spaces.{MayEnter, Shows}

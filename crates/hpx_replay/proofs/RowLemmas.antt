@@ -1,17 +1,16 @@
 -- Rows of entries where what they look for is found.
-use Rattle.std.proofs.Common.{Bool, true, false, List, [], ◌∷◌, ◌≡◌, ◌↔◌, ◌≤◌, ◌<◌, ◌+◌, ◌^◌, ℕ, Option, length, drop, get_or, map, add-one, arith, Some, None, IsTrue, IfSome, IfOk, Result, Ok, Err, subst, sym, ap, ◌∙◌, refl}
+use Rattle.std.proofs.Common.{Bool, true, false, List, [], ◌∷◌, ◌≡◌, ◌↔◌, ◌≤◌, ◌<◌, ◌+◌, ◌^◌, ℕ, Option, length, drop, get_or, arith, Some, None, IsTrue, IfSome, IfOk, Result, Ok, Err, subst, sym, ap, ◌∙◌, refl}
 use Rattle.std.specs.List.{find, list_any, count_by, slice_get}
 use Rattle.std.proofs.Math.Pow.{pow_mono}
-use Rattle.hpx_value.specs.Ids.{bare}
 use Rattle.hpx_value.specs.Values.{bare_act, bare_state}
-use Rattle.hpx_value.specs.Hands.{id_at}
+use Rattle.hpx_value.specs.Laws.{birth_state}
 use Rattle.hpx_journal.specs.Data.{Act, State, Message, Outcome, Make, Due, MessageDue, PrintDue, Id, Parcel, Shipped}
 use Rattle.hpx_journal.specs.Entries.{Rules, target_of, move_to}
 use Rattle.hpx_journal.specs.declared.entry.Name.{Name}
 use Rattle.hpx_journal.specs.declared.entry.Event.{Event}
 use Rattle.hpx_journal.specs.declared.entry.Standing.{Standing}
 use Rattle.hpx_journal.specs.declared.entry.Travel.{Travel}
-use Rattle.hpx_journal.specs.Local.{is_act, is_standing, is_travel, is_busy, is_given_none, next_name, made_state, outcome}
+use Rattle.hpx_journal.specs.Local.{is_act, is_standing, is_travel, is_busy, is_given_none, next_name, outcome}
 use Rattle.hpx_journal.specs.declared.local.Local.{Local}
 use Rattle.hpx_journal.specs.Frames.{travel_of, travels_in}
 use Rattle.hpx_journal.specs.Rows.{Row, Runs, AreMade, MayGo, is_refused}
@@ -116,7 +115,7 @@ pub made_more : (makes : List Make) (fresh : List Id) (objects : List Standing) 
     → i < length makes → i < length fresh → m ≡ get_or makes i m → o ≡ get_or fresh i o
     → AreMade makes fresh objects ↔ AreMade (drop i makes) (drop i fresh) objects
     → AreMade makes fresh objects ↔ ((o.kind ≡ m.kind)
-    × (find (is_standing o) objects ≡ Some (record { object = o; state = made_state m }))
+    × (find (is_standing o) objects ≡ Some (record { object = o; state = birth_state m }))
     × AreMade (drop (i + 1) makes) (drop (i + 1) fresh) objects)
 made_more makes fresh objects i m o a b x y h = rw (drop_next makes i m a x, drop_next fresh i o b y) at h
 

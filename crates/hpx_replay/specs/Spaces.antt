@@ -1,20 +1,17 @@
 -- How the space of a replay shows the space of the definitions.
-use Rattle.std.specs.Prelude.{ℕ, Bool, true, false, List, [], ◌∷◌, ◌≡◌, ◌<◌, length, ◌&&◌, ◌++◌, take, Option, Some, None}
+use Rattle.std.specs.Prelude.{ℕ, Bool, false, List, [], ◌∷◌, ◌≡◌, ◌<◌, length, ◌&&◌, ◌++◌, take, Option, Some, None}
 use Rattle.std.specs.List.{find, list_any, slice_get, AllByRecursion}
 use Rattle.hpx_value.specs.Ids.{same_object}
 use Rattle.hpx_value.specs.declared.profile.Profile.{Profile}
-use Rattle.hpx_parcel.specs.Credits.{Credit}
 use Rattle.hpx_parcel.specs.Reading.{parcel_of}
-use Rattle.hpx_journal.specs.Data.{Act, State, Outcome, Parcel}
+use Rattle.hpx_journal.specs.Data.{Act, State, Outcome}
 use Rattle.hpx_journal.specs.Entries.{Rules, same_name, target_of}
 use Rattle.hpx_journal.specs.declared.entry.Event.{Event}
 use Rattle.hpx_journal.specs.declared.entry.Entry.{Entry}
-use Rattle.hpx_journal.specs.declared.entry.Event.TheVariants.{Done, Out, In}
+use Rattle.hpx_journal.specs.declared.entry.Event.TheVariants.{Done}
 use Rattle.hpx_journal.specs.declared.entry.Standing.{Standing}
 use Rattle.hpx_journal.specs.declared.entry.Travel.{Travel}
 use Rattle.hpx_journal.specs.Tokens.{same_token}
-use Rattle.hpx_journal.specs.declared.entry.Token.{Token}
-use Rattle.hpx_journal.specs.Frames.{acts_in, travels_in, tokens_in, asks_in}
 use Rattle.hpx_journal.specs.Local.{is_act, is_standing, is_travel, outcome, waiting_after, fired_after, done_after, objects_after, travels_after, fresh_after, due_after, serial_after, number_after, counts_after, asked_by, given_by, asks_come_by, asks_gone_by, refusals_by, failures_after, takes}
 use Rattle.hpx_journal.specs.declared.local.Local.{Local}
 use Rattle.hpx_journal.specs.declared.entry.Refusal.{Refusal}
@@ -47,6 +44,7 @@ abbrev pub outcome_at : Rules → Local → Act → Option Standing → Option O
 outcome_at r s act None = None
 outcome_at r s act (Some x) = Some (outcome r s act x)
 
+-- the same for an action that may be fired
 abbrev pub outcome_by : Rules → Local → Option Act → Option Outcome
 outcome_by r s None = None
 outcome_by r s (Some act) = outcome_at r s act (find (is_standing (target_of act)) s.objects)

@@ -8,6 +8,7 @@ use Rattle.hpx_value.specs.declared.outcome.Sending.{Sending}
 use Rattle.hpx_value.specs.declared.outcome.Reply.{Reply}
 use Rattle.hpx_journal.specs.Data.{Value, Nothing, Int, Ref, State, Act, Outcome, Make}
 
+-- an outcome that keeps no continuation and prints nothing
 abbrev pub trial_outcome : ℕ → List Value → List Make → List Sending → List Reply → Outcome
 trial_outcome drawn values makes sends replies = record {
   state = record { drawn = drawn; values = values; conts = [] };
@@ -17,9 +18,11 @@ trial_outcome drawn values makes sends replies = record {
   prints = [];
 }
 
+-- one message
 abbrev pub trial_send : Target → ℕ → List Value → SendCont → List Sending
 trial_send target code args cont = record { target = target; code = code; args = args; cont = cont } ∷ []
 
+-- one answer, to the first continuation
 abbrev pub trial_reply : Value → List Reply
 trial_reply value = record { cont = 0; value = value } ∷ []
 
@@ -35,6 +38,7 @@ trial_line drawn =
 abbrev pub trial_set : ℕ → ℕ → Outcome
 trial_set drawn ids = trial_outcome drawn (cond (ids == 0) (Ref 1) (Ref 0) ∷ []) [] [] []
 
+-- the outcome by the code of an action
 abbrev pub trial : ℕ → ℕ → ℕ → State → Act → Outcome
 trial n kind here s a =
     cond (a.code == 4) (trial_line s.drawn)

@@ -2,8 +2,9 @@
 ghost use Rattle.std.specs.Prelude.{◌≡◌, ◌≤◌, ◌↔◌, ◌++◌, IsTrue, IfOk, IfSome, Some, None, true, false, length};
 ghost use Rattle.std.specs.List.{find, list_any};
 ghost use Rattle.hpx_value.specs.Ids.{same_object};
+ghost use Rattle.hpx_value.specs.Laws.{birth_state};
 ghost use Rattle.hpx_journal.specs.Entries.{Rules, move_to};
-ghost use Rattle.hpx_journal.specs.Local.{is_standing, is_busy, next_name, made_state};
+ghost use Rattle.hpx_journal.specs.Local.{is_standing, is_busy, next_name};
 ghost use Rattle.hpx_journal.specs.Rows.{AreMade, is_refused, Row};
 ghost use Rattle.hpx_replay.specs.Spaces.{outcome_in, is_blamed};
 
@@ -49,7 +50,7 @@ fn is_among(o: Gid, ids: &[Gid]) -> bool
 /// Whether an object stands as it is made.
 fn is_made(make: &Make, o: Gid, objects: &Bag<Standing>) -> bool
     ensures { IsTrue result ↔ ((o.kind ≡ make.now.kind)
-        × (find (is_standing o) objects.now ≡ Some (record { object = o; state = made_state make.now }))) }
+        × (find (is_standing o) objects.now ≡ Some (record { object = o; state = birth_state make.now }))) }
 {
     if o.kind() != make.kind {
         return false;

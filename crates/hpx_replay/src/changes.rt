@@ -226,7 +226,9 @@ pub(crate) fn given(local: &mut Local, alloc: Global, o: Gid, log: u8) -> Result
 {
     local.given.put(Credit::new(o, log))?;
     if log == 0 {
-        local.refusals.put_all(refusals_of(alloc, &local.fired, o)?)?;
+        local
+            .refusals
+            .put_all(refusals_of(alloc, &local.fired, o)?)?;
     }
     Ok(())
 }

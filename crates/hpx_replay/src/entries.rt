@@ -10,15 +10,15 @@ ghost use Rattle.hpx_journal.specs.Tokens.{same_token};
 ghost use Rattle.hpx_journal.specs.Local.{after};
 
 use crate::act_rows::{commit_row, fire_row, line_row, print_row, sent_row};
+use crate::acting::Acting;
 use crate::changes::{accept, born, commit, fire, given, landed, left, line, print, send, sent};
 use crate::credit_rows::{count_row, given_row};
 use crate::frame_rows::{in_row, out_row};
 use crate::object_rows::{born_row, freed_row, landed_row, left_row, looked_row};
-use crate::acting::Acting;
+use crate::tokens::{gives, takes};
 use hpx_journal::cargo::{Cargo, cargo_of, parcel_in};
 use hpx_journal::entry::{Event, Recorded, Token};
 use hpx_journal::local::{Local, target};
-use crate::tokens::{gives, takes};
 use hpx_parcel::parcel::Parcel;
 use hpx_value::items::Items;
 use hpx_value::memory::OutOfMemory;

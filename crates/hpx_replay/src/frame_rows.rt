@@ -6,7 +6,7 @@ ghost use Rattle.hpx_journal.specs.Rows.{MayGo, AreWaiting, Row};
 ghost use Rattle.hpx_replay.specs.Spaces.{IsLeaving};
 ghost use Rattle.hpx_journal.specs.Cargo.{cargo_of};
 
-use crate::object_rows::{is_dead};
+use crate::object_rows::is_dead;
 use hpx_journal::cargo::Cargo;
 use hpx_journal::entry::{Event, Travel};
 use hpx_journal::local::{Local, name_of};

@@ -8,7 +8,7 @@ ghost use Rattle.hpx_journal.specs.Local.{is_standing};
 ghost use Rattle.hpx_journal.specs.Rows.{IsDead, IsManaged, LetsGo, SentTo, Row};
 ghost use Rattle.hpx_replay.specs.Spaces.{Meaning, rules_of};
 
-use crate::act_rows::{is_busy};
+use crate::act_rows::is_busy;
 use hpx_journal::cargo::parcel_of;
 use hpx_journal::entry::Event;
 use hpx_journal::local::{Dead, Local, MoveOf, target};

@@ -9,14 +9,14 @@ ghost use Rattle.hpx_journal.specs.Roots.{root, roots_of_first, roots};
 ghost use Rattle.hpx_journal.specs.Whole.{Space as Plain, MayStand, arrives, road_after, step};
 ghost use Rattle.hpx_replay.specs.Spaces.{Shows, Replays, IsFault, rules_of};
 
-use crate::entries::{enter, read};
 use crate::acting::{Acting, Lawful};
+use crate::entries::{enter, read};
+use crate::space::{Frame, Space};
 use hpx_journal::bag::Bag;
 use hpx_journal::cargo::one;
 use hpx_journal::entry::{Entry, Event, Standing};
 use hpx_journal::journal::Journal;
 use hpx_journal::local::Local;
-use crate::space::{Frame, Space};
 use hpx_value::acts::Acts;
 use hpx_value::codes::{COMPONENTS, LOCALITIES, PLAIN, SESSION, SHELF, SYMBOLS};
 use hpx_value::exact::Exact;

@@ -4,11 +4,11 @@ ghost use Rattle.hpx_value.specs.Profiles.{IsValid};
 ghost use Rattle.hpx_replay.specs.Trial.{trial, trial_outcome, trial_send, trial_reply, trial_line, trial_set};
 
 use crate::acting::Acting;
+use crate::replay::{ReplayFault, judge};
+use crate::space::Space;
 use hpx_journal::cargo::one;
 use hpx_journal::entry::{Entry, Event, Name, Reason};
 use hpx_journal::journal::Journal;
-use crate::replay::{ReplayFault, judge};
-use crate::space::Space;
 use hpx_value::gid::Gid;
 use hpx_value::items::{Bytes, Items, Numbers};
 use hpx_value::memory::OutOfMemory;

@@ -1,4 +1,4 @@
-use Rattle.std.proofs.Common.{◌≡◌, ◌↔◌, drop, length}
+use Rattle.std.proofs.Common.{◌↔◌, drop}
 use Rattle.hpx_journal.specs.Rows.{AreMade}
 use Rattle.hpx_replay.proofs.act_rows.are_made.Given as goal
 

@@ -1,4 +1,4 @@
-use Rattle.std.proofs.Common.{◌≡◌, ◌↔◌, IsTrue, List, subst}
+use Rattle.std.proofs.Common.{◌↔◌, IsTrue, List, subst}
 use Rattle.hpx_journal.specs.Data.{Id, Make}
 use Rattle.hpx_journal.specs.Rows.{AreMade}
 use Rattle.hpx_replay.proofs.RowLemmas.{done_found}

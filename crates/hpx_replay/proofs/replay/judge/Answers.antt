@@ -1,7 +1,7 @@
-use Rattle.std.proofs.Common.{◌≡◌, ◌<◌, ◌↔◌, ℕ, List, IsTrue, length, get_or, take, sym, subst, arith}
+use Rattle.std.proofs.Common.{◌≡◌, ◌<◌, List, length, get_or, take, subst}
 use Rattle.hpx_journal.specs.declared.entry.Entry.{Entry}
-use Rattle.hpx_journal.specs.Whole.{Space, MayStand, replayed, step}
-use Rattle.hpx_replay.specs.Spaces.{Shows, rules_of}
+use Rattle.hpx_journal.specs.Whole.{replayed}
+use Rattle.hpx_replay.specs.Spaces.{rules_of}
 use Rattle.hpx_replay.proofs.Replays.{legal_next, shows_next}
 use Rattle.hpx_replay.proofs.replay.judge.Goals as goal
 

@@ -1,4 +1,4 @@
-use Rattle.std.proofs.Common.{◌≡◌, take}
+use Rattle.std.proofs.Common.{take}
 use Rattle.hpx_journal.specs.Whole.{IsLegal, replayed}
 use Rattle.hpx_replay.specs.Spaces.{Shows, rules_of}
 use Rattle.hpx_replay.proofs.replay.judge.Given as goal
