@@ -1,5 +1,5 @@
 -- Tokens as sums: what is counted is found, and what is traded is the same bag.
-use Rattle.std.proofs.Common.{ℕ, Bool, true, false, cond, not, List, [], ◌∷◌, ◌++◌, ◌≡◌, ◌+◌, ◌≤◌, refl, sym, ap, ◌∙◌, arith, inl, inr}
+use Rattle.std.proofs.Common.{ℕ, Bool, true, false, cond, not, List, [], ◌∷◌, ◌++◌, ◌≡◌, ◌+◌, ◌≤◌, refl, sym, ap, ◌∙◌, subst, arith, inl, inr}
 use Rattle.std.specs.Prelude.{◌&&◌, ◌||◌, ◌==◌}
 use Rattle.std.specs.List.{list_any, sum_by, count_by}
 use Rattle.std.proofs.lemmas.Bool.{cases_Bool, eq-eqb}
@@ -20,6 +20,13 @@ any_counted p [] h = absurd (omega arith)
 any_counted p (x ∷ xs) h = elim (cases_Bool (p x)) [
   | inl t ↦ rw t refl
   | inr t ↦ rw t (any_counted p xs (omega (arith, sum_by-cons (counts_of p) x xs, counts_false p x t)))
+]
+
+pub counted_any : {X : Type 0} (p : X → Bool) (xs : List X) → list_any p xs ≡ true → 1 ≤ count_by p xs
+counted_any p [] h = absurd (cc)
+counted_any p (x ∷ xs) h = elim (cases_Bool (p x)) [
+  | inl t ↦ omega (arith, sum_by-cons (counts_of p) x xs, counts_true p x t)
+  | inr t ↦ omega (arith, sum_by-cons (counts_of p) x xs, counted_any p xs (subst (λ b. (b || list_any p xs) ≡ true) t h))
 ]
 
 -- how often k is among tokens looks at no credit of an id

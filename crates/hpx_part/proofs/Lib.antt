@@ -1,6 +1,11 @@
+pub mod ActRows
 pub mod Boot
 pub mod Covered
 pub mod Credit
+pub mod CreditRows
 pub mod Grown
 pub mod Keyed
 pub mod Keys
+pub mod Lists
+pub mod Stay
+pub mod Weaken

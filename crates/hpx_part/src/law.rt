@@ -33,3 +33,138 @@ pub fn grow_law()
 pub fn chain_law()
     ensures { (r : Rules) (v m w : View) (xs ys : List Event) → Leads r v xs m → Leads r m ys w → Leads r v (xs ++ ys) w }
 {}
+
+/// A line that is fed waits.
+pub fn line_law()
+    ensures { (r : Rules) (v : View) (l m : List Act) (bytes : List ℕ) → v.due ≡ [] → v.fresh ≡ [] →
+        v.here ≡ 0 → length bytes ≤ 1025 → v.waiting ≡ l ++ m →
+        Follows r v (Line (next_in v) bytes)
+        (record v { serial = v.serial + 1; waiting = l ++ line_act (next_in v) bytes ∷ m; last = Some (Line (next_in v) bytes) }) }
+{}
+
+/// A waiting action is fired where its object stands and is not busy.
+pub fn fire_law()
+    ensures { (r : Rules) (v : View) (l m fl fm : List Act) (act : Act) (x : Standing) → v.due ≡ [] → v.fresh ≡ [] →
+        v.waiting ≡ l ++ act ∷ m → v.fired ≡ fl ++ fm → find (is_standing (target_of act)) v.objects ≡ Some x →
+        is_busy (target_of act) v.fired ≡ false → IfSome (move_to act) (λ t. t ≡ v.here) →
+        Follows r v (Fire (name_of act))
+        (record v { waiting = l ++ m; fired = fl ++ act ∷ fm; last = Some (Fire (name_of act)) }) }
+{}
+
+/// An id is halved.
+pub fn split_law()
+    ensures { (r : Rules) (v : View) (o : Id) (log : ℕ) (tokens : List Token) → v.due ≡ [] → o.log ≡ None → 1 ≤ log →
+        1 ≤ count_by (same_token (held_token o log)) v.tokens →
+        Trades v.tokens (held_token o log ∷ []) (held_token o (log - 1) ∷ held_token o (log - 1) ∷ []) tokens →
+        Follows r v (Split o log) (record v { tokens = tokens; last = Some (Split o log) }) }
+{}
+
+/// The first of what is due is sent: it waits under the next name.
+pub fn sent_law()
+    ensures { (r : Rules) (v : View) (message : Message) (rest : List Due) (l m : List Act) → v.fresh ≡ [] →
+        v.due ≡ MessageDue message ∷ rest → v.waiting ≡ l ++ m →
+        Follows r v (Sent (next_in v))
+        (record v { serial = v.serial + 1; waiting = l ++ named v.here (v.serial + 1) message ∷ m; due = rest; last = Some (Sent (next_in v)) }) }
+{}
+
+/// The first of what is due is printed.
+pub fn print_law()
+    ensures { (r : Rules) (v : View) (bytes : List ℕ) (rest : List Due) → v.fresh ≡ [] → v.due ≡ PrintDue bytes ∷ rest →
+        Follows r v (Print bytes) (record v { due = rest; last = Some (Print bytes) }) }
+{}
+
+/// An id is given up: its credit is owed to the home.
+pub fn up_law()
+    ensures { (r : Rules) (v : View) (o : Id) (log : ℕ) (tokens : List Token) → v.due ≡ [] → v.fresh ≡ [] → o.log ≡ None →
+        1 ≤ count_by (same_token (held_token o log)) v.tokens →
+        Trades v.tokens (held_token o log ∷ []) (owed_token o log ∷ []) tokens →
+        (IsCovered v → IsCovered (record v { tokens = tokens; last = Some (Up o log) })) →
+        Follows r v (Up o log) (record v { tokens = tokens; last = Some (Up o log) }) }
+{}
+
+/// An id of log 0 is asked for.
+pub fn asked_law()
+    ensures { (r : Rules) (v : View) (o : Id) (tokens : List Token) (asking asks : List Id) → v.due ≡ [] → v.fresh ≡ [] → o.log ≡ None →
+        1 ≤ count_by (same_token (held_token o 0)) v.tokens →
+        Trades v.tokens (held_token o 0 ∷ []) (owed_token o 0 ∷ []) tokens → Adds o v.asking asking → Adds o v.asks asks →
+        Follows r v (Asked o) (record v { tokens = tokens; asking = asking; asks = asks; last = Some (Asked o) }) }
+{}
+
+/// What was asked for is given. With log 0 it refuses each action that is fired.
+pub fn given_law()
+    ensures { (r : Rules) (v : View) (o : Id) (log : ℕ) (tokens : List Token) (asking asks : List Id) → v.due ≡ [] → v.fresh ≡ [] →
+        o.log ≡ None → (log ≡ 0) ⊎ (log ≡ r.credit_log) → 1 ≤ count_by (same_token (owed_token o log)) v.tokens →
+        Trades v.tokens (owed_token o log ∷ []) (held_token o log ∷ []) tokens → Adds o asking v.asking → Adds o asks v.asks →
+        Follows r v (Given o log)
+        (record v {
+          tokens = tokens;
+          asking = asking;
+          asks = asks;
+          refusals = cond (log == 0) (map (λ act. record { action = name_of act; object = o }) v.fired) [] ++ v.refusals;
+          failing = cond (log == 0) (v.failing + 1) v.failing;
+          last = Some (Given o log);
+        }) }
+{}
+
+/// Credit comes home. An object whose count is 0 then is dead.
+pub fn returned_law()
+    ensures { (r : Rules) (v : View) (o : Id) (log count : ℕ) (tokens : List Token) (live : List Recorded) → v.due ≡ [] → v.fresh ≡ [] →
+        o.log ≡ None → o.home ≡ v.here → count_in (find (is_recorded o) v.live) ≡ count + 2 ^ log →
+        1 ≤ count_by (same_token (owed_token o log)) v.tokens → Trades v.tokens (owed_token o log ∷ []) [] tokens →
+        ((x : Id) → x.home ≡ v.here → count_in (find (is_recorded x) live)
+        ≡ cond (same_object x o) count (count_in (find (is_recorded x) v.live))) →
+        (IsCovered v → IsCovered (record v {
+          tokens = tokens;
+          live = live;
+          dead = cond (count == 0) (o ∷ []) [] ++ v.dead;
+          last = Some (Count o count (Returned log));
+        })) →
+        Follows r v (Count o count (Returned log))
+        (record v { tokens = tokens; live = live; dead = cond (count == 0) (o ∷ []) [] ++ v.dead; last = Some (Count o count (Returned log)) }) }
+{}
+
+/// More credit is granted.
+pub fn granted_law()
+    ensures { (r : Rules) (v : View) (o : Id) (old count : ℕ) (tokens : List Token) (live : List Recorded) → v.due ≡ [] → v.fresh ≡ [] →
+        o.log ≡ None → o.home ≡ v.here → count_in (find (is_recorded o) v.live) ≡ old → 1 ≤ old →
+        count + 1 ≡ old + 2 ^ r.credit_log → count ≤ r.credit_limit →
+        1 ≤ count_by (same_token (owed_token o 0)) v.tokens →
+        Trades v.tokens (owed_token o 0 ∷ []) (owed_token o r.credit_log ∷ []) tokens →
+        ((x : Id) → x.home ≡ v.here → count_in (find (is_recorded x) live)
+        ≡ cond (same_object x o) count (count_in (find (is_recorded x) v.live))) →
+        Follows r v (Count o count Granted) (record v { tokens = tokens; live = live; last = Some (Count o count Granted) }) }
+{}
+
+/// More credit is refused.
+pub fn refused_law()
+    ensures { (r : Rules) (v : View) (o : Id) (count : ℕ) → v.due ≡ [] → v.fresh ≡ [] → o.log ≡ None → o.home ≡ v.here →
+        count_in (find (is_recorded o) v.live) ≡ count → 1 ≤ count → r.credit_limit + 1 < count + 2 ^ r.credit_log →
+        1 ≤ count_by (same_token (owed_token o 0)) v.tokens →
+        Follows r v (Count o count Refused) (record v { last = Some (Count o count Refused) }) }
+{}
+
+/// A message to the own locality is handled.
+pub fn mail_law()
+    ensures { (r : Rules) (v : View) (kind : ℕ) → v.due ≡ [] → v.fresh ≡ [] → 1 ≤ kind → kind ≤ 10 →
+        Follows r v (Mail kind) (record v { last = Some (Mail kind) }) }
+{}
+
+/// What a call does not tell: the last entry, refusals that no longer matter, and the order of tokens and ids.
+pub fn weaken_law()
+    ensures { (r : Rules) (v w : View) → w ≡ record v {
+      tokens = w.tokens;
+      asking = w.asking;
+      asks = w.asks;
+      live = w.live;
+      dead = w.dead;
+      refusals = w.refusals;
+      failing = w.failing;
+      last = None;
+    } →
+        SameTokens v.tokens w.tokens → ((x : Id) → count_by (same_object x) v.asking ≡ count_by (same_object x) w.asking) →
+        ((x : Id) → count_by (same_object x) v.asks ≡ count_by (same_object x) w.asks) →
+        ((x : Id) → x.home ≡ v.here → count_in (find (is_recorded x) v.live) ≡ count_in (find (is_recorded x) w.live)) →
+        ((x : Id) → list_any (same_object x) w.dead ≡ true → list_any (same_object x) v.dead ≡ true) →
+        ((x : Refusal) → list_any (same_refusal x) w.refusals ≡ true → list_any (same_refusal x) v.refusals ≡ true) →
+        w.failing ≤ v.failing → Leads r v [] w }
+{}
