@@ -7,5 +7,6 @@ pub mod Grown
 pub mod Keyed
 pub mod Keys
 pub mod Lists
+pub mod ObjectRows
 pub mod Stay
 pub mod Weaken

@@ -59,6 +59,42 @@ pub fn split_law()
         Follows r v (Split o log) (record v { tokens = tokens; last = Some (Split o log) }) }
 {}
 
+/// An object is made.
+pub fn born_law()
+    ensures { (r : Rules) (v : View) (o : Id) (state : State) (l m : List Standing) (tokens : List Token) (live : List Recorded) →
+        v.due ≡ [] → o.log ≡ None → o.home ≡ v.here → IsManaged o → o.number ≡ v.number + 1 →
+        state.drawn ≡ 0 → state.conts ≡ [] → state.ids ≡ [] → IsState state → v.objects ≡ l ++ m →
+        Trades v.tokens [] (held_token o r.credit_log ∷ []) tokens →
+        ((x : Id) → x.home ≡ v.here → count_in (find (is_recorded x) live)
+        ≡ cond (same_object x o) (2 ^ r.credit_log) (count_in (find (is_recorded x) v.live))) →
+        Follows r v (Born o state)
+        (record v { number = v.number + 1; objects = l ++ record { object = o; state = state } ∷ m; fresh = v.fresh ++ o ∷ [];
+        tokens = tokens; live = live; last = Some (Born o state) }) }
+{}
+
+/// A fired action is committed: its target has the state of the outcome, and what the outcome leaves is due.
+pub fn done_law()
+    ensures { (r : Rules) (v : View) (fl fm : List Act) (l m : List Standing) (act : Act) (x : Standing) (out : Outcome) →
+        v.due ≡ [] → v.fired ≡ fl ++ act ∷ fm → v.objects ≡ l ++ x ∷ m → find (is_standing (target_of act)) v.objects ≡ Some x →
+        out ≡ r.outcome_of x.object.kind v.here x.state act → AreMade out.makes v.fresh v.objects →
+        (IsCovered v → IsCovered (record v { fired = fl ++ fm;
+        objects = l ++ record { object = x.object; state = state_after x.state act v.fresh out } ∷ m;
+        fresh = []; due = due_of x.state act v.fresh out; last = Some (Done (name_of act) false) })) →
+        Follows r v (Done (name_of act) false)
+        (record v { fired = fl ++ fm; objects = l ++ record { object = x.object; state = state_after x.state act v.fresh out } ∷ m;
+        fresh = []; due = due_of x.state act v.fresh out; last = Some (Done (name_of act) false) }) }
+{}
+
+/// A fired action fails: its target stays as it is, and the failure is due.
+pub fn fail_law()
+    ensures { (r : Rules) (v : View) (fl fm : List Act) (act : Act) (x : Standing) (n : ℕ) →
+        v.due ≡ [] → v.fresh ≡ [] → v.fired ≡ fl ++ act ∷ fm → find (is_standing (target_of act)) v.objects ≡ Some x →
+        list_any (is_refused act x.state) v.refusals ≡ true → v.failing ≡ n + 1 →
+        (IsCovered v → IsCovered (record v { fired = fl ++ fm; due = failure act; failing = n; last = Some (Done (name_of act) true) })) →
+        Follows r v (Done (name_of act) true)
+        (record v { fired = fl ++ fm; due = failure act; failing = n; last = Some (Done (name_of act) true) }) }
+{}
+
 /// The first of what is due is sent: it waits under the next name.
 pub fn sent_law()
     ensures { (r : Rules) (v : View) (message : Message) (rest : List Due) (l m : List Act) → v.fresh ≡ [] →
@@ -147,6 +183,20 @@ pub fn refused_law()
 pub fn mail_law()
     ensures { (r : Rules) (v : View) (kind : ℕ) → v.due ≡ [] → v.fresh ≡ [] → 1 ≤ kind → kind ≤ 10 →
         Follows r v (Mail kind) (record v { last = Some (Mail kind) }) }
+{}
+
+/// A dead object is freed, straight after what told so.
+pub fn freed_law()
+    ensures mailed { (r : Rules) (v : View) (o : Id) (x : Standing) (l m : List Standing) → v.due ≡ [] → v.fresh ≡ [] →
+        IsManaged o → o.log ≡ None → v.objects ≡ l ++ x ∷ m → same_object o x.object ≡ true →
+        list_any (acts_on o) v.waiting ≡ false → list_any (acts_on o) v.fired ≡ false →
+        v.last ≡ Some (Mail 10) → o.home ≡ v.here → list_any (same_object o) v.dead ≡ true →
+        Follows r v (Freed o) (record v { objects = l ++ m; last = Some (Freed o) }) }
+    ensures taken { (r : Rules) (v : View) (o : Id) (x : Standing) (l m : List Standing) (bytes : List ℕ) → v.due ≡ [] → v.fresh ≡ [] →
+        IsManaged o → o.log ≡ None → v.objects ≡ l ++ x ∷ m → same_object o x.object ≡ true →
+        list_any (acts_on o) v.waiting ≡ false → list_any (acts_on o) v.fired ≡ false →
+        v.last ≡ Some (In bytes) → r.parcel_of bytes ≡ Some (Free o) →
+        Follows r v (Freed o) (record v { objects = l ++ m; last = Some (Freed o) }) }
 {}
 
 /// What a call does not tell: the last entry, refusals that no longer matter, and the order of tokens and ids.
