@@ -199,6 +199,25 @@ pub fn freed_law()
         Follows r v (Freed o) (record v { objects = l ++ m; last = Some (Freed o) }) }
 {}
 
+/// A frame goes out, with the action and the credits in it.
+pub fn out_law()
+    ensures { (r : Rules) (v : View) (p : Parcel) (to : ℕ) (bytes : List ℕ) (l m : List Act) (tokens : List Token) (asks : List Id) →
+        v.due ≡ [] → v.fresh ≡ [] → to < r.localities → to ≢ v.here → r.parcel_of bytes ≡ Some p → MayLeave v to p →
+        v.waiting ≡ l ++ (acts_in (Some p) ++ m) → Trades v.tokens (tokens_in (Some p)) [] tokens →
+        ((x : Id) → count_by (same_object x) asks + count_by (same_object x) (asks_in (Some p)) ≡ count_by (same_object x) v.asks) →
+        (IsCovered v → IsCovered (record v { waiting = l ++ m; tokens = tokens; asks = asks; last = Some (Out to bytes) })) →
+        Follows r v (Out to bytes) (record v { waiting = l ++ m; tokens = tokens; asks = asks; last = Some (Out to bytes) }) }
+{}
+
+/// A frame comes in, with the action and the credits in it. No object comes.
+pub fn in_law()
+    ensures { (r : Rules) (v : View) (p : Parcel) (bytes : List ℕ) (l m : List Act) (tokens : List Token) (asks : List Id) →
+        v.due ≡ [] → v.fresh ≡ [] → r.parcel_of bytes ≡ Some p → IsParcel p → travels_in (Some p) ≡ [] →
+        v.waiting ≡ l ++ m → Trades v.tokens [] (tokens_in (Some p)) tokens →
+        ((x : Id) → count_by (same_object x) asks ≡ count_by (same_object x) v.asks + count_by (same_object x) (asks_in (Some p))) →
+        Follows r v (In bytes) (record v { waiting = l ++ (acts_in (Some p) ++ m); tokens = tokens; asks = asks; last = Some (In bytes) }) }
+{}
+
 /// What a call does not tell: the last entry, refusals that no longer matter, and the order of tokens and ids.
 pub fn weaken_law()
     ensures { (r : Rules) (v w : View) → w ≡ record v {
