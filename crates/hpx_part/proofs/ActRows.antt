@@ -1,14 +1,12 @@
 -- Rows that change only the actions of a view.
-use Rattle.std.proofs.Common.{◌||◌, ℕ, suc, Bool, true, false, cond, List, [], ◌∷◌, ◌++◌, ◌≡◌, ◌≢◌, ◌+◌, ◌<◌, ◌≤◌, Option, Some, None, IfSome, refl, sym, ap, ◌∙◌, subst, arith, inl, inr, length}
-use Rattle.std.specs.Prelude.{◌==◌, ◌&&◌}
+use Rattle.std.proofs.Common.{ℕ, Bool, true, false, cond, List, [], ◌∷◌, ◌++◌, ◌≡◌, ◌+◌, ◌≤◌, Option, Some, IfSome, refl, sym, ap, ◌∙◌, subst, arith, inr, length}
+use Rattle.std.specs.Prelude.{◌==◌}
 use Rattle.std.specs.List.{list_any, find, count_by, sum_by}
-use Rattle.std.proofs.lemmas.Bool.{ne_eqb}
 use Rattle.std.proofs.lemmas.List.Sums.{sum_by-cons}
 use Rattle.hpx_value.specs.Ids.{Id, same_object}
 use Rattle.hpx_value.specs.Hands.{session}
 use Rattle.hpx_value.specs.Values.{named}
 use Rattle.hpx_journal.specs.Data.{Act, Message, Due, MessageDue, PrintDue}
-use Rattle.hpx_journal.specs.Bags.{without}
 use Rattle.hpx_journal.specs.Keyed.{Agree}
 use Rattle.hpx_journal.specs.Entries.{Rules, name_of, target_of, move_to, line_act}
 use Rattle.hpx_journal.specs.Local.{after, is_act, is_standing, is_busy, acts_on, listed, next_name, due_act, tail}
@@ -16,12 +14,12 @@ use Rattle.hpx_journal.specs.Foreign.{present}
 use Rattle.hpx_journal.proofs.Same.{same_object-true}
 use Rattle.hpx_journal.proofs.Bools.{false_from}
 use Rattle.hpx_journal.proofs.Keys.{one_if}
-use Rattle.hpx_part.specs.Data.{Name, Event, Line, Fire, Sent, Print, Mail, Standing, Local}
-use Rattle.hpx_part.specs.View.{View, IsCovered}
-use Rattle.hpx_part.specs.Shows.{Shows, ShowsActs, IsOnce, Follows}
+use Rattle.hpx_part.specs.Data.{Name, Line, Fire, Sent, Print, Mail, Standing, Local}
+use Rattle.hpx_part.specs.View.{View}
+use Rattle.hpx_part.specs.Shows.{ShowsActs, IsOnce, Follows}
 use Rattle.hpx_part.specs.Parts.{next_in}
 use Rattle.hpx_part.proofs.Keys.{means, own}
-use Rattle.hpx_part.proofs.Keyed.{Agree-put, Agree-take, Agree-found, Agree-idle, counts_true, count_middle}
+use Rattle.hpx_part.proofs.Keyed.{Agree-idle}
 use Rattle.hpx_part.proofs.Covered.{act_names, due_names}
 use Rattle.hpx_part.proofs.Stay.{acts_stay, objects_stay, credit_stays, counts_stay}
 use Rattle.hpx_part.proofs.Lists.{sum_middle, acts_put, acts_taken, acts_found, acts_once}

@@ -1,5 +1,5 @@
 -- The roots at boot.
-use Rattle.std.proofs.Common.{ℕ, Bool, true, false, cond, List, [], ◌∷◌, ◌++◌, ◌≡◌, ◌+◌, ◌<◌, ◌≤◌, refl, arith}
+use Rattle.std.proofs.Common.{ℕ, Bool, true, false, cond, List, [], ◌∷◌, ◌++◌, ◌+◌, ◌≤◌, refl, arith}
 use Rattle.std.specs.Prelude.{◌==◌, ◌&&◌, pos}
 use Rattle.std.specs.List.{count_by}
 use Rattle.std.proofs.lemmas.Bool.Decides.{nat_tests}
@@ -10,8 +10,7 @@ use Rattle.hpx_journal.specs.Local.{is_standing, boot}
 use Rattle.hpx_journal.specs.Roots.{root, roots, roots_of_first}
 use Rattle.hpx_journal.proofs.Keys.{one_if}
 use Rattle.hpx_journal.proofs.Start.{roots_nameless}
-use Rattle.hpx_part.specs.Data.{Standing}
-use Rattle.hpx_part.specs.View.{View, IsCovered}
+use Rattle.hpx_part.specs.View.{IsCovered}
 use Rattle.hpx_part.specs.Shows.{Shows}
 use Rattle.hpx_part.specs.Parts.{StandsFor, view_at_boot}
 

@@ -1,5 +1,5 @@
 -- A covered view shows only what is backed.
-use Rattle.std.proofs.Common.{ℕ, true, cond, List, [], ◌∷◌, ◌++◌, ◌≡◌, ◌+◌, ◌<◌, ◌≤◌, refl, ap, ◌∙◌, arith}
+use Rattle.std.proofs.Common.{ℕ, cond, ap, arith}
 use Rattle.std.specs.List.{sum_by, count_by}
 use Rattle.hpx_value.specs.Ids.{Id, same_object}
 use Rattle.hpx_journal.specs.Data.{Act, Due}

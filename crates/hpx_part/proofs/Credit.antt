@@ -1,6 +1,6 @@
 -- Tokens as sums: what is counted is found, and what is traded is the same bag.
-use Rattle.std.proofs.Common.{ℕ, Bool, true, false, cond, not, List, [], ◌∷◌, ◌++◌, ◌≡◌, ◌+◌, ◌≤◌, refl, sym, ap, ◌∙◌, subst, arith, inl, inr}
-use Rattle.std.specs.Prelude.{◌&&◌, ◌||◌, ◌==◌}
+use Rattle.std.proofs.Common.{ℕ, Bool, true, false, cond, not, List, [], ◌∷◌, ◌++◌, ◌≡◌, ◌≤◌, refl, ap, subst, arith, inl, inr}
+use Rattle.std.specs.Prelude.{◌&&◌, ◌||◌}
 use Rattle.std.specs.List.{list_any, sum_by, count_by}
 use Rattle.std.proofs.lemmas.Bool.{cases_Bool, eq-eqb}
 use Rattle.std.proofs.lemmas.List.Sums.{sum_by-cons, sum_by-append}
@@ -29,16 +29,13 @@ counted_any p (x ∷ xs) h = elim (cases_Bool (p x)) [
   | inr t ↦ omega (arith, sum_by-cons (counts_of p) x xs, counted_any p xs (subst (λ b. (b || list_any p xs) ≡ true) t h))
 ]
 
--- how often k is among tokens looks at no credit of an id
-abbrev pub token_counts : Token → Token → ℕ
-token_counts k t = cond (same_token k t) 1 0
-
 token_from : (k a b : Token) → same_token a b ≡ true → same_token k b ≡ same_token k a
 token_from k a b h =
     let t = same_token-true a b h in
     rw (← same_object-through k.object a.object b.object t.object, t.log, t.owed) refl
 
-pub token_weighs : (k : Token) → IsWeight (token_counts k)
+-- how often k is among tokens looks at no credit of an id
+pub token_weighs : (k : Token) → IsWeight (counts_of (same_token k))
 token_weighs k a b h = ap one_if (token_from k a b h)
 
 flag_own : (b : Bool) → cond b b (not b) ≡ true
@@ -53,9 +50,9 @@ token_own k = rw (same_object-refl k.object, eq-eqb k.log k.log refl, flag_own k
 pub covers_all : (xs ks : List Token) → ((f : Token → ℕ) → IsWeight f → sum_by f ks ≤ sum_by f xs) → Covers same_token xs ks
 covers_all xs [] h = tt
 covers_all xs (k ∷ ks) h =
-    let one : token_counts k k ≡ 1 = ap one_if (token_own k) in
+    let one : counts_of (same_token k) k ≡ 1 = counts_true (same_token k) k (token_own k) in
     let there : list_any (same_token k) xs ≡ true =
-    any_counted (same_token k) xs (omega (arith, h (token_counts k) (token_weighs k), sum_by-cons (token_counts k) k ks)) in (
+    any_counted (same_token k) xs (omega (arith, h (counts_of (same_token k)) (token_weighs k), sum_by-cons (counts_of (same_token k)) k ks)) in (
       there,
       covers_all (without (same_token k) xs) ks
           (λ f weight. omega (arith, h f weight, sum_by-cons f k ks, sum_by-without f (same_token k) (f k) (λ x t. weight k x t) xs there)),
@@ -63,7 +60,7 @@ covers_all xs (k ∷ ks) h =
 
 -- one token that is seen is there
 pub covers_one : (s v : List Token) (k : Token) → SameTokens s v → 1 ≤ count_by (same_token k) v → Covers same_token s (k ∷ [])
-covers_one s v k same h = (any_counted (same_token k) s (omega (arith, h, same (token_counts k) (token_weighs k))), tt)
+covers_one s v k same h = (any_counted (same_token k) s (omega (arith, h, same (counts_of (same_token k)) (token_weighs k))), tt)
 
 -- tokens that are seen to go are there
 pub covers_out : (s before out after : List Token) → SameTokens s before → Trades before out [] after → Covers same_token s out

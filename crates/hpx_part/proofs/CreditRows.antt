@@ -1,8 +1,7 @@
 -- Rows of credits, asks and records.
-use Rattle.std.proofs.Common.{ℕ, Bool, true, false, cond, List, [], ◌∷◌, ◌++◌, ◌≡◌, ◌+◌, ◌-◌, ◌^◌, ◌<◌, ◌≤◌, ◌⊎◌, Option, Some, None, refl, sym, ap, ◌∙◌, subst, arith, inl, inr, map}
-use Rattle.std.specs.Prelude.{◌==◌, ◌&&◌, ◌||◌}
-use Rattle.std.specs.List.{list_any, find, count_by, sum_by, AllByRecursion}
-use Rattle.std.proofs.lemmas.Bool.{eqb-true, eq-eqb}
+use Rattle.std.proofs.Common.{ℕ, Bool, true, false, cond, List, [], ◌∷◌, ◌++◌, ◌≡◌, ◌+◌, ◌-◌, ◌^◌, ◌<◌, ◌≤◌, ◌⊎◌, Option, Some, None, refl, sym, ap, ◌∙◌, arith, inl, inr, map}
+use Rattle.std.specs.Prelude.{◌==◌}
+use Rattle.std.specs.List.{list_any, find, count_by, AllByRecursion}
 use Rattle.std.proofs.lemmas.List.Sums.{sum_by-cons}
 use Rattle.std.proofs.Math.Pow.{pow_pos}
 use Rattle.hpx_value.specs.Ids.{Id, same_object}
@@ -10,32 +9,24 @@ use Rattle.hpx_parcel.specs.Credits.{Credit}
 use Rattle.hpx_journal.specs.Data.{Act}
 use Rattle.hpx_journal.specs.Keyed.{Agree}
 use Rattle.hpx_journal.specs.Entries.{Rules, name_of}
-use Rattle.hpx_journal.specs.Tokens.{held_token, owed_token, same_token, is_held, is_owed}
+use Rattle.hpx_journal.specs.Tokens.{held_token, owed_token, same_token}
 use Rattle.hpx_journal.specs.Local.{after, is_act, is_recorded, is_given, is_given_none, count_in}
 use Rattle.hpx_journal.specs.Rows.{is_dead_record}
 use Rattle.hpx_journal.proofs.Alls.{all-append, all-map}
 use Rattle.hpx_journal.proofs.Bools.{or_cases, or_left, or_right}
 use Rattle.hpx_journal.proofs.Keys.{one_if}
-use Rattle.hpx_journal.proofs.Same.{and_true, same_object-refl, same_object-true, held-Counts, owed-Counts}
-use Rattle.hpx_part.specs.Data.{Split, Up, Asked, Given, Count, Returned, Granted, Refused, Token, Recorded, Refusal, Local}
+use Rattle.hpx_journal.proofs.Same.{same_object-refl, same_object-true, held-Counts, owed-Counts}
+use Rattle.hpx_part.specs.Data.{Split, Up, Asked, Given, Count, Returned, Granted, Refused, Token, Recorded, Refusal}
 use Rattle.hpx_part.specs.View.{View, IsCovered}
 use Rattle.hpx_part.specs.Shows.{Follows, same_refusal}
 use Rattle.hpx_part.specs.Parts.{Trades, Adds}
 use Rattle.hpx_part.proofs.Keys.{own}
+use Rattle.hpx_part.proofs.Keyed.{counts_of}
 use Rattle.hpx_part.proofs.Credit.{any_counted, counted_any, covers_one, traded, held_one, owed_one, held_none, owed_none}
 use Rattle.hpx_part.proofs.Covered.{held_counts, owed_counts}
 use Rattle.hpx_part.proofs.Stay.{acts_stay, objects_stay, asks_stay, counts_stay}
 
 -- ---- ids, and what is given
-
-abbrev id_counts : Id → Id → ℕ
-id_counts o x = cond (same_object o x) 1 0
-
-abbrev given_counts : Id → Credit → ℕ
-given_counts o x = cond (is_given o x) 1 0
-
-abbrev none_counts : Credit → ℕ
-none_counts x = cond (is_given_none x) 1 0
 
 abbrev given_with : Id → ℕ → Credit
 given_with o log = record { object = o; log = log }
@@ -222,8 +213,8 @@ module _ (r : Rules) (v : View) (o : Id) (bare : o.log ≡ None) where
             objects = objects_stay v _ s _ refl refl refl shown.objects;
             credit = record {
               tokens = traded s.tokens v.tokens _ _ tokens shown.credit.tokens covers trades;
-              asking = λ x. omega (arith, shown.credit.asking x, asked x, sum_by-cons (id_counts x) o s.asked);
-              asks = λ x. omega (arith, shown.credit.asks x, pending x, sum_by-cons (id_counts x) o s.asked);
+              asking = λ x. omega (arith, shown.credit.asking x, asked x, sum_by-cons (counts_of (same_object x)) o s.asked);
+              asks = λ x. omega (arith, shown.credit.asks x, pending x, sum_by-cons (counts_of (same_object x)) o s.asked);
             };
             counts = counts_stay v _ s _ refl refl shown.counts;
             last = refl;
@@ -279,8 +270,8 @@ module _ (r : Rules) (v : View) (o : Id) (bare : o.log ≡ None) where
             objects = objects_stay v _ s _ refl refl refl shown.objects;
             credit = record {
               tokens = traded s.tokens v.tokens _ _ tokens shown.credit.tokens covers trades;
-              asking = λ x. omega (arith, shown.credit.asking x, asked x, sum_by-cons (given_counts x) (given_with o log) s.given);
-              asks = λ x. omega (arith, shown.credit.asks x, pending x, sum_by-cons (given_counts x) (given_with o log) s.given);
+              asking = λ x. omega (arith, shown.credit.asking x, asked x, sum_by-cons (counts_of (is_given x)) (given_with o log) s.given);
+              asks = λ x. omega (arith, shown.credit.asks x, pending x, sum_by-cons (counts_of (is_given x)) (given_with o log) s.given);
             };
             counts = record {
               live = shown.counts.live;
@@ -289,7 +280,7 @@ module _ (r : Rules) (v : View) (o : Id) (bare : o.log ≡ None) where
               failing = omega (
                 arith,
                 shown.counts.failing,
-                sum_by-cons none_counts (given_with o log) s.given,
+                sum_by-cons (counts_of is_given_none) (given_with o log) s.given,
                 one_failing (log == 0) v.failing,
               );
             };

@@ -1,6 +1,6 @@
 -- Rows of frames.
-use Rattle.std.proofs.Common.{ℕ, Bool, true, cond, List, [], ◌∷◌, ◌++◌, ◌≡◌, ◌≢◌, ◌+◌, ◌<◌, ◌≤◌, Option, Some, None, refl, sym, ap, ◌∙◌, subst, arith, inl, inr, map}
-use Rattle.std.specs.List.{list_any, find, count_by, sum_by}
+use Rattle.std.proofs.Common.{ℕ, List, [], ◌∷◌, ◌++◌, ◌≡◌, ◌≢◌, ◌+◌, ◌<◌, ◌≤◌, Some, refl, sym, ap, ◌∙◌, subst, arith, inl, map}
+use Rattle.std.specs.List.{count_by, sum_by}
 use Rattle.std.proofs.lemmas.List.Sums.{sum_by-append}
 use Rattle.hpx_value.specs.Ids.{Id, same_object}
 use Rattle.hpx_parcel.specs.Parcels.{IsParcel}
@@ -19,15 +19,13 @@ use Rattle.hpx_part.specs.Data.{In, Out, Travel, Token, Local}
 use Rattle.hpx_part.specs.View.{View, IsCovered}
 use Rattle.hpx_part.specs.Shows.{Shows, Follows, SameTokens}
 use Rattle.hpx_part.specs.Parts.{Trades, MayLeave}
+use Rattle.hpx_part.proofs.Keyed.{counts_of}
 use Rattle.hpx_part.proofs.Lists.{acts_put, acts_taken, acts_found}
 use Rattle.hpx_part.proofs.Credit.{covers_out, traded}
 use Rattle.hpx_part.proofs.Covered.{held_counts, owed_counts, act_names}
-use Rattle.hpx_part.proofs.Stay.{acts_stay, objects_stay, asks_stay, counts_stay}
+use Rattle.hpx_part.proofs.Stay.{objects_stay, counts_stay}
 use Rattle.hpx_part.proofs.Parcels.{acts_named, asks_owed}
 use Rattle.hpx_part.proofs.Weaken.{dead_among}
-
-abbrev id_counts : Id → Id → ℕ
-id_counts o x = cond (same_object o x) 1 0
 
 -- ---- where a parcel goes
 
@@ -106,7 +104,7 @@ module _ (r : Rules) (v : View) (p : Parcel) (bytes : List ℕ) (l m : List Act)
                 shown.credit.asks x,
                 pending x,
                 ap (λ q. count_by (same_object x) (asks_in q)) spelled,
-                sum_by-append (id_counts x) (asks_in (r.parcel_of bytes)) s.asks_gone,
+                sum_by-append (counts_of (same_object x)) (asks_in (r.parcel_of bytes)) s.asks_gone,
               );
             };
             counts = counts_stay v _ s _ refl refl shown.counts;
@@ -154,7 +152,7 @@ module _ (r : Rules) (v : View) (p : Parcel) (bytes : List ℕ) (l m : List Act)
                 shown.credit.asks x,
                 pending x,
                 ap (λ q. count_by (same_object x) (asks_in q)) spelled,
-                sum_by-append (id_counts x) (asks_in (r.parcel_of bytes)) s.asks_come,
+                sum_by-append (counts_of (same_object x)) (asks_in (r.parcel_of bytes)) s.asks_come,
               );
             };
             counts = counts_stay v _ s _ refl refl shown.counts;

@@ -1,5 +1,5 @@
 -- What is put into both, or taken from both.
-use Rattle.std.proofs.Common.{◌||◌, add-one, ℕ, zero, suc, length, get_or, ◌<◌, set, take, drop, Bool, true, false, cond, List, [], ◌∷◌, ◌++◌, ◌≡◌, ◌+◌, Some, None, refl, sym, ap, ◌∙◌, arith, inl, inr, subst}
+use Rattle.std.proofs.Common.{◌||◌, add-one, ℕ, zero, suc, length, get_or, ◌<◌, set, take, drop, Bool, true, false, cond, List, [], ◌∷◌, ◌++◌, ◌≡◌, ◌+◌, Some, refl, sym, ap, ◌∙◌, arith, inl, inr, subst}
 use Rattle.std.specs.List.{find, count_by, sum_by, list_any, slice_get}
 use Rattle.std.proofs.lemmas.List.Sums.{sum_by-cons, sum_by-append}
 use Rattle.std.proofs.lemmas.Bool.{cases_Bool}

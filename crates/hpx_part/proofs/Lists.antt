@@ -1,9 +1,8 @@
 -- The actions and objects of a view, at a place where one is put or taken.
-use Rattle.std.proofs.Common.{ℕ, Bool, true, cond, List, [], ◌∷◌, ◌++◌, ◌≡◌, ◌+◌, ◌≤◌, Some, sym, ap, ◌∙◌, subst, arith}
+use Rattle.std.proofs.Common.{ℕ, List, ◌∷◌, ◌++◌, ◌≡◌, ◌+◌, ◌≤◌, Some, ap, subst, arith}
 use Rattle.std.specs.List.{find, count_by, sum_by}
 use Rattle.std.proofs.lemmas.List.Sums.{sum_by-cons, sum_by-append}
-use Rattle.hpx_value.specs.Ids.{same_object}
-use Rattle.hpx_journal.specs.Data.{Id, Act}
+use Rattle.hpx_journal.specs.Data.{Act}
 use Rattle.hpx_journal.specs.Bags.{without}
 use Rattle.hpx_journal.specs.Keyed.{Agree}
 use Rattle.hpx_journal.specs.Entries.{name_of}

@@ -1,12 +1,10 @@
 -- Rows of objects, and of what is done on them.
-use Rattle.std.proofs.Common.{ℕ, Bool, true, false, cond, List, [], ◌∷◌, ◌++◌, ◌≡◌, ◌+◌, ◌^◌, ◌<◌, ◌≤◌, Option, Some, None, IfSome, refl, sym, ap, ◌∙◌, subst, arith, inl, inr}
-use Rattle.std.specs.Prelude.{◌&&◌, ◌||◌}
+use Rattle.std.proofs.Common.{ℕ, true, false, cond, List, [], ◌∷◌, ◌++◌, ◌≡◌, ◌+◌, ◌^◌, Some, None, IfSome, refl, sym, ap, ◌∙◌, subst, arith, inl, inr}
 use Rattle.std.specs.List.{list_any, find, count_by, sum_by, AllByRecursion}
-use Rattle.std.proofs.lemmas.List.Sums.{sum_by-cons}
 use Rattle.hpx_value.specs.Ids.{Id, same_object}
 use Rattle.hpx_value.specs.Hands.{due_of, state_after}
 use Rattle.hpx_value.specs.Shapes.{IsState}
-use Rattle.hpx_journal.specs.Data.{Act, State, Make, Outcome, Due, Free}
+use Rattle.hpx_journal.specs.Data.{Act, State, Make, Outcome, Free}
 use Rattle.hpx_journal.specs.Bags.{without}
 use Rattle.hpx_journal.specs.Keyed.{Agree}
 use Rattle.hpx_journal.specs.Entries.{Rules, name_of, target_of}
@@ -25,9 +23,9 @@ use Rattle.hpx_part.specs.Parts.{Trades}
 use Rattle.hpx_part.proofs.Keys.{means, own, own_object}
 use Rattle.hpx_part.proofs.Keyed.{Agree-idle, counts_of, counts_true}
 use Rattle.hpx_part.proofs.Lists.{sum_middle, acts_taken, acts_found, objects_put, objects_taken, objects_found}
-use Rattle.hpx_part.proofs.Credit.{traded, held_one, owed_none}
-use Rattle.hpx_part.proofs.Covered.{held_counts, owed_counts, act_names, object_names}
-use Rattle.hpx_part.proofs.Stay.{acts_stay, objects_stay, asks_stay, credit_stays, counts_stay}
+use Rattle.hpx_part.proofs.Credit.{traded, owed_none}
+use Rattle.hpx_part.proofs.Covered.{held_counts, owed_counts, object_names}
+use Rattle.hpx_part.proofs.Stay.{acts_stay, asks_stay, credit_stays, counts_stay}
 use Rattle.hpx_part.proofs.CreditRows.{live_top, dead_under}
 use Rattle.hpx_part.proofs.Weaken.{dead_among}
 

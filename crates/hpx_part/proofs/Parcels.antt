@@ -1,8 +1,8 @@
 -- Each managed name in a parcel has a credit, and so has each Ask and each Give.
 use Rattle.std.proofs.Common.{ℕ, Bool, true, false, cond, List, [], ◌∷◌, ◌++◌, ◌≡◌, ◌+◌, ◌<◌, ◌≤◌, Option, Some, None, refl, ap, arith, map, append-nil, append_assoc}
 use Rattle.std.specs.List.{sum_by, count_by, AllByRecursion}
-use Rattle.std.specs.Prelude.{◌&&◌, MatchOption}
-use Rattle.std.proofs.lemmas.List.Sums.{sum_by-cons, sum_by-append}
+use Rattle.std.specs.Prelude.{MatchOption}
+use Rattle.std.proofs.lemmas.List.Sums.{sum_by-cons}
 use Rattle.hpx_value.specs.Ids.{Id, same_object, bare}
 use Rattle.hpx_parcel.specs.Credits.{Credit, credit_list, credits_of}
 use Rattle.hpx_parcel.specs.Parcels.{IsParcel, HasRightCredit}
@@ -10,6 +10,7 @@ use Rattle.hpx_journal.specs.Data.{Parcel, Apply, Ask, Give, Move, Go, Shipped}
 use Rattle.hpx_journal.specs.Tokens.{held, owing, is_held, is_owed}
 use Rattle.hpx_journal.specs.Frames.{acts_in, tokens_in, asks_in}
 use Rattle.hpx_journal.proofs.Same.{same_object-true}
+use Rattle.hpx_part.proofs.Keyed.{counts_of}
 use Rattle.hpx_part.proofs.Covered.{held_counts, act_names}
 
 one_named_at : (o id : Id) (log : Option ℕ) → 16 ≤ o.kind → MatchOption log (id.kind < 16) (λ x. 16 ≤ id.kind)
@@ -30,9 +31,6 @@ held-append o (x ∷ xs) ys =
       sum_by-cons (held_counts o) (held x) (map held (xs ++ ys)),
     )
 
-abbrev id_counts : Id → Id → ℕ
-id_counts o x = cond (same_object o x) 1 0
-
 ids_named : (o : Id) → 16 ≤ o.kind → (ids : List Id) → AllByRecursion HasRightCredit ids
     → count_by (same_object o) (map bare ids) ≤ count_by (is_held o) (map held (credits_of ids))
 ids_named o managed [] h = omega arith
@@ -41,7 +39,7 @@ ids_named o managed (id ∷ ids) h =
       arith,
       ids_named o managed ids h.1,
       one_named_at o id id.log managed h.0 (same_object o id) refl,
-      sum_by-cons (id_counts o) (bare id) (map bare ids),
+      sum_by-cons (counts_of (same_object o)) (bare id) (map bare ids),
       held-append o (credit_list id id.log) (credits_of ids),
     )
 

@@ -1,5 +1,5 @@
 -- What an entry leaves alone is shown as before.
-use Rattle.std.proofs.Common.{ℕ, List, [], ◌∷◌, ◌≡◌, ◌+◌, ◌≤◌, true, sym, ap, ◌∙◌, subst}
+use Rattle.std.proofs.Common.{ℕ, List, ◌≡◌, ◌+◌, ◌≤◌, true, sym, ap, ◌∙◌, subst}
 use Rattle.std.specs.List.{find, count_by, list_any, AllByRecursion}
 use Rattle.hpx_value.specs.Ids.{same_object}
 use Rattle.hpx_journal.specs.Data.{Id, Act, Due}
@@ -7,7 +7,7 @@ use Rattle.hpx_journal.specs.Local.{is_act, is_standing, is_recorded, is_given, 
 use Rattle.hpx_journal.specs.Rows.{is_dead_record}
 use Rattle.hpx_journal.specs.Keyed.{Agree}
 use Rattle.hpx_parcel.specs.Credits.{Credit}
-use Rattle.hpx_part.specs.Data.{Standing, Travel, Token, Recorded, Refusal, Local}
+use Rattle.hpx_part.specs.Data.{Standing, Recorded, Refusal, Local}
 use Rattle.hpx_part.specs.View.{View}
 use Rattle.hpx_part.specs.Shows.{ShowsActs, ShowsObjects, ShowsCredit, ShowsCounts, SameTokens, same_refusal}
 

@@ -1,6 +1,5 @@
 -- A view that says less shows the same locality.
-use Rattle.std.proofs.Common.{ℕ, Bool, true, false, List, [], ◌∷◌, ◌≡◌, ◌+◌, ◌≤◌, None, refl, sym, ap, ◌∙◌, subst, arith, inl, inr}
-use Rattle.std.specs.Prelude.{◌&&◌, ◌||◌}
+use Rattle.std.proofs.Common.{ℕ, Bool, true, List, [], ◌∷◌, ◌≡◌, ◌≤◌, None, refl, sym, ap, ◌∙◌, arith, inl, inr}
 use Rattle.std.specs.List.{find, list_any, count_by, AllByRecursion}
 use Rattle.hpx_value.specs.Ids.{same_object}
 use Rattle.hpx_journal.specs.Data.{Id}

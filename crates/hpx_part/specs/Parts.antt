@@ -1,6 +1,6 @@
 -- A view stands for a locality's part of a journal.
-use Rattle.std.specs.Prelude.{ℕ, List, [], ◌∷◌, ◌≡◌, ◌+◌, map, Option, None}
-use Rattle.std.specs.List.{sum_by, count_by, AllByRecursion}
+use Rattle.std.specs.Prelude.{ℕ, true, List, [], ◌∷◌, ◌≡◌, ◌+◌, map, None}
+use Rattle.std.specs.List.{sum_by, count_by, list_any, AllByRecursion}
 use Rattle.hpx_value.specs.Ids.{same_object}
 use Rattle.hpx_journal.specs.Data.{Id, Parcel, Apply, Return, Ask, Give, Cached, Move, Go, Shipped, Arrived, Free}
 use Rattle.hpx_journal.specs.Entries.{Rules}
@@ -11,8 +11,6 @@ use Rattle.hpx_journal.specs.Whole.{part, run_local, IsClean}
 use Rattle.hpx_journal.specs.Laws.{entry_at}
 use Rattle.hpx_part.specs.View.{View, IsCovered}
 use Rattle.hpx_part.specs.Shows.{IsWeight, Shows, HasForm}
-use Rattle.std.specs.List.{list_any}
-use Rattle.std.specs.Prelude.{true}
 use Rattle.hpx_part.specs.Data.{Name, Event, Entry, Token, Local}
 
 -- these events at k
@@ -20,14 +18,14 @@ abbrev pub at_all : ℕ → List Event → List Entry
 at_all k events = map (entry_at k) events
 
 -- the locality at boot
-abbrev pub born : Rules → ℕ → Local
-born r k = boot (roots r.localities k) k
+abbrev pub at_boot : Rules → ℕ → Local
+at_boot r k = boot (roots r.localities k) k
 
 -- the locality keeps its part, and up to a foreign arrival the view shows where that leads
 pub record StandsFor (r : Rules) (v : View) (entries : List Entry) : Type 0 where
   pub covered : IsCovered v
-  pub keeps : NodeKeeps r (born r v.here) (part v.here entries)
-  pub shows : IsClean r (born r v.here) (part v.here entries) → Shows v (run_local r (born r v.here) (part v.here entries))
+  pub keeps : NodeKeeps r (at_boot r v.here) (part v.here entries)
+  pub shows : IsClean r (at_boot r v.here) (part v.here entries) → Shows v (run_local r (at_boot r v.here) (part v.here entries))
   pub forms : AllByRecursion (λ e. HasForm r e.event) (part v.here entries)
 
 -- what is seen at boot

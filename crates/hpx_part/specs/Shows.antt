@@ -1,9 +1,9 @@
 -- When a view shows a locality, and which entries lead from one view to another.
-use Rattle.std.specs.Prelude.{ℕ, Bool, true, List, [], ◌∷◌, ◌≡◌, ◌≤◌, ◌<◌, ◌+◌, ◌&&◌, Option, Some, None, IfSome}
+use Rattle.std.specs.Prelude.{ℕ, Bool, true, List, [], ◌∷◌, ◌≡◌, ◌≤◌, ◌<◌, ◌+◌, ◌&&◌, Some, None, IfSome}
 use Rattle.std.specs.List.{sum_by, count_by, find, list_any, AllByRecursion}
 use Rattle.hpx_value.specs.Ids.{same_object}
 use Rattle.hpx_value.specs.Shapes.{IsState}
-use Rattle.hpx_journal.specs.Data.{Id, State}
+use Rattle.hpx_journal.specs.Data.{Id}
 use Rattle.hpx_journal.specs.Entries.{Rules, same_name}
 use Rattle.hpx_journal.specs.Tokens.{same_token}
 use Rattle.hpx_journal.specs.Local.{is_act, is_standing, is_recorded, is_given, is_given_none, recorded, count_in, after}
@@ -11,7 +11,7 @@ use Rattle.hpx_journal.specs.Rows.{Allowed, IsDead, objects_in}
 use Rattle.hpx_journal.specs.Foreign.{present, kept, IsUndrawn, IsForeign}
 use Rattle.hpx_journal.specs.Laws.{TargetsStand, entry_at}
 use Rattle.hpx_journal.specs.Keyed.{Agree}
-use Rattle.hpx_part.specs.Data.{Name, Event, Born, Out, Token, Local, Recorded, Refusal}
+use Rattle.hpx_part.specs.Data.{Name, Event, Born, Out, Token, Local, Refusal}
 use Rattle.hpx_part.specs.View.{View, IsCovered}
 
 -- a weight of tokens that looks at no credit of an id

@@ -68,8 +68,14 @@ pub fn born_law()
         ((x : Id) → x.home ≡ v.here → count_in (find (is_recorded x) live)
         ≡ cond (same_object x o) (2 ^ r.credit_log) (count_in (find (is_recorded x) v.live))) →
         Follows r v (Born o state)
-        (record v { number = v.number + 1; objects = l ++ record { object = o; state = state } ∷ m; fresh = v.fresh ++ o ∷ [];
-        tokens = tokens; live = live; last = Some (Born o state) }) }
+        (record v {
+          number = v.number + 1;
+          objects = l ++ record { object = o; state = state } ∷ m;
+          fresh = v.fresh ++ o ∷ [];
+          tokens = tokens;
+          live = live;
+          last = Some (Born o state);
+        }) }
 {}
 
 /// A fired action is committed: its target has the state of the outcome, and what the outcome leaves is due.
@@ -77,12 +83,21 @@ pub fn done_law()
     ensures { (r : Rules) (v : View) (fl fm : List Act) (l m : List Standing) (act : Act) (x : Standing) (out : Outcome) →
         v.due ≡ [] → v.fired ≡ fl ++ act ∷ fm → v.objects ≡ l ++ x ∷ m → find (is_standing (target_of act)) v.objects ≡ Some x →
         out ≡ r.outcome_of x.object.kind v.here x.state act → AreMade out.makes v.fresh v.objects →
-        (IsCovered v → IsCovered (record v { fired = fl ++ fm;
-        objects = l ++ record { object = x.object; state = state_after x.state act v.fresh out } ∷ m;
-        fresh = []; due = due_of x.state act v.fresh out; last = Some (Done (name_of act) false) })) →
+        (IsCovered v → IsCovered (record v {
+          fired = fl ++ fm;
+          objects = l ++ record { object = x.object; state = state_after x.state act v.fresh out } ∷ m;
+          fresh = [];
+          due = due_of x.state act v.fresh out;
+          last = Some (Done (name_of act) false);
+        })) →
         Follows r v (Done (name_of act) false)
-        (record v { fired = fl ++ fm; objects = l ++ record { object = x.object; state = state_after x.state act v.fresh out } ∷ m;
-        fresh = []; due = due_of x.state act v.fresh out; last = Some (Done (name_of act) false) }) }
+        (record v {
+          fired = fl ++ fm;
+          objects = l ++ record { object = x.object; state = state_after x.state act v.fresh out } ∷ m;
+          fresh = [];
+          due = due_of x.state act v.fresh out;
+          last = Some (Done (name_of act) false);
+        }) }
 {}
 
 /// A fired action fails: its target stays as it is, and the failure is due.
