@@ -1,33 +1,20 @@
 -- Tokens as sums: what is counted is found, and what is traded is the same bag.
-use Rattle.std.proofs.Common.{ℕ, Bool, true, false, cond, not, List, [], ◌∷◌, ◌++◌, ◌≡◌, ◌≤◌, refl, ap, subst, arith, inl, inr}
-use Rattle.std.specs.Prelude.{◌&&◌, ◌||◌}
+use Rattle.std.proofs.Common.{ℕ, Bool, true, false, cond, not, List, [], ◌∷◌, ◌++◌, ◌≡◌, ◌≤◌, refl, ap, arith}
+use Rattle.std.specs.Prelude.{◌&&◌}
 use Rattle.std.specs.List.{list_any, sum_by, count_by}
-use Rattle.std.proofs.lemmas.Bool.{cases_Bool, eq-eqb}
+use Rattle.std.proofs.lemmas.Bool.{eq-eqb}
 use Rattle.std.proofs.lemmas.List.Sums.{sum_by-cons, sum_by-append}
 use Rattle.hpx_value.specs.Ids.{Id, same_object}
 use Rattle.hpx_journal.specs.Bags.{without, minus, Covers}
 use Rattle.hpx_journal.specs.Tokens.{same_token, is_held, is_owed, held_token, owed_token}
 use Rattle.hpx_journal.proofs.Bags.{sum_by-without, sum_by-minus}
+use Rattle.hpx_journal.proofs.Bools.{and_false}
 use Rattle.hpx_journal.proofs.Keys.{one_if}
 use Rattle.hpx_journal.proofs.Same.{same_object-through, same_object-refl, same_token-true}
 use Rattle.hpx_part.specs.Data.{Token}
 use Rattle.hpx_part.specs.Shows.{IsWeight, SameTokens}
 use Rattle.hpx_part.specs.Parts.{Trades}
-use Rattle.hpx_part.proofs.Keyed.{counts_of, counts_true, counts_false}
-
-pub any_counted : {X : Type 0} (p : X → Bool) (xs : List X) → 1 ≤ count_by p xs → list_any p xs ≡ true
-any_counted p [] h = absurd (omega arith)
-any_counted p (x ∷ xs) h = elim (cases_Bool (p x)) [
-  | inl t ↦ rw t refl
-  | inr t ↦ rw t (any_counted p xs (omega (arith, sum_by-cons (counts_of p) x xs, counts_false p x t)))
-]
-
-pub counted_any : {X : Type 0} (p : X → Bool) (xs : List X) → list_any p xs ≡ true → 1 ≤ count_by p xs
-counted_any p [] h = absurd (cc)
-counted_any p (x ∷ xs) h = elim (cases_Bool (p x)) [
-  | inl t ↦ omega (arith, sum_by-cons (counts_of p) x xs, counts_true p x t)
-  | inr t ↦ omega (arith, sum_by-cons (counts_of p) x xs, counted_any p xs (subst (λ b. (b || list_any p xs) ≡ true) t h))
-]
+use Rattle.hpx_part.proofs.Keyed.{counts_of, counts_true, any_counted}
 
 token_from : (k a b : Token) → same_token a b ≡ true → same_token k b ≡ same_token k a
 token_from k a b h =
@@ -81,19 +68,15 @@ traded s before out into after same covers trades f weight =
 
 -- ---- held and owed
 
-and_true : (b : Bool) → (b && true) ≡ b
-and_true true = refl
-and_true false = refl
-
-and_false : (b : Bool) → (b && false) ≡ false
-and_false true = refl
-and_false false = refl
+and_with_true : (b : Bool) → (b && true) ≡ b
+and_with_true true = refl
+and_with_true false = refl
 
 pub held_one : (o x : Id) (log : ℕ) → count_by (is_held o) (held_token x log ∷ []) ≡ one_if (same_object o x)
-held_one o x log = rw (and_true (same_object o x)) (omega arith)
+held_one o x log = rw (and_with_true (same_object o x)) (omega arith)
 
 pub owed_one : (o x : Id) (log : ℕ) → count_by (is_owed o) (owed_token x log ∷ []) ≡ one_if (same_object o x)
-owed_one o x log = rw (and_true (same_object o x)) (omega arith)
+owed_one o x log = rw (and_with_true (same_object o x)) (omega arith)
 
 pub held_none : (o x : Id) (log : ℕ) → count_by (is_held o) (owed_token x log ∷ []) ≡ 0
 held_none o x log = rw (and_false (same_object o x)) refl

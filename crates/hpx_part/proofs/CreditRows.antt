@@ -21,8 +21,8 @@ use Rattle.hpx_part.specs.View.{View, IsCovered}
 use Rattle.hpx_part.specs.Shows.{Follows, same_refusal}
 use Rattle.hpx_part.specs.Parts.{Trades, Adds}
 use Rattle.hpx_part.proofs.Keys.{own}
-use Rattle.hpx_part.proofs.Keyed.{counts_of}
-use Rattle.hpx_part.proofs.Credit.{any_counted, counted_any, covers_one, traded, held_one, owed_one, held_none, owed_none}
+use Rattle.hpx_part.proofs.Keyed.{counts_of, any_counted, counted_any}
+use Rattle.hpx_part.proofs.Credit.{covers_one, traded, held_one, owed_one, held_none, owed_none}
 use Rattle.hpx_part.proofs.Covered.{held_counts, owed_counts}
 use Rattle.hpx_part.proofs.Stay.{acts_stay, objects_stay, asks_stay, counts_stay}
 

@@ -1,5 +1,5 @@
 -- What is put into both, or taken from both.
-use Rattle.std.proofs.Common.{◌||◌, add-one, ℕ, zero, suc, length, get_or, ◌<◌, set, take, drop, Bool, true, false, cond, List, [], ◌∷◌, ◌++◌, ◌≡◌, ◌+◌, Some, refl, sym, ap, ◌∙◌, arith, inl, inr, subst}
+use Rattle.std.proofs.Common.{◌||◌, add-one, ℕ, zero, suc, length, get_or, ◌<◌, ◌≤◌, set, take, drop, Bool, true, false, cond, List, [], ◌∷◌, ◌++◌, ◌≡◌, ◌+◌, Some, refl, sym, ap, ◌∙◌, arith, inl, inr, subst}
 use Rattle.std.specs.List.{find, count_by, sum_by, list_any, slice_get}
 use Rattle.std.proofs.lemmas.List.Sums.{sum_by-cons, sum_by-append}
 use Rattle.std.proofs.lemmas.Bool.{cases_Bool}
@@ -140,6 +140,20 @@ find_at_index p xs i x lt is passes same =
     let e : p (get_or xs i x) ≡ true = subst (λ y. p y ≡ true) is passes in
     let f : find p (drop i xs) ≡ Some (get_or xs i x) = find_step p xs i x lt ∙ rw e refl in
     same ∙ (f ∙ sym (get_slice_get xs i x lt))
+
+pub any_counted : {X : Type 0} (p : X → Bool) (xs : List X) → 1 ≤ count_by p xs → list_any p xs ≡ true
+any_counted p [] h = absurd (omega arith)
+any_counted p (x ∷ xs) h = elim (cases_Bool (p x)) [
+  | inl t ↦ rw t refl
+  | inr t ↦ rw t (any_counted p xs (omega (arith, sum_by-cons (counts_of p) x xs, counts_false p x t)))
+]
+
+pub counted_any : {X : Type 0} (p : X → Bool) (xs : List X) → list_any p xs ≡ true → 1 ≤ count_by p xs
+counted_any p [] h = absurd (cc)
+counted_any p (x ∷ xs) h = elim (cases_Bool (p x)) [
+  | inl t ↦ omega (arith, sum_by-cons (counts_of p) x xs, counts_true p x t)
+  | inr t ↦ omega (arith, sum_by-cons (counts_of p) x xs, counted_any p xs (subst (λ b. (b || list_any p xs) ≡ true) t h))
+]
 
 none_counted : {X : Type 0} (p : X → Bool) (xs : List X) → list_any p xs ≡ false → count_by p xs ≡ 0
 none_counted p [] h = refl
