@@ -11,5 +11,7 @@ mod object_rows;
 pub mod replay;
 pub mod space;
 #[cfg(test)]
+mod still;
+#[cfg(test)]
 mod tests;
 mod tokens;
