@@ -7,6 +7,11 @@ pub mod Keeps
 pub mod Shown
 pub mod Asked
 pub mod Controls
+pub mod Slots
+pub mod Full
+pub mod Named
+pub mod Moved
+pub mod Flows
+pub mod Promised
 pub mod Lawful
 pub mod Blind
-pub mod Promised
