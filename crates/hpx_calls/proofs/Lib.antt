@@ -8,6 +8,8 @@ pub mod Shown
 pub mod Asked
 pub mod Controls
 pub mod Slots
+pub mod Orders
+pub mod Steps
 pub mod Full
 pub mod Named
 pub mod Moved

@@ -293,9 +293,9 @@ abbrev given_told : {V W : Type 0} → Sort V → ℕ → ℕ → List (Given V)
 given_told k code n xs ws (negsuc m) v w = own w (k.fault 7)
 given_told k code n xs ws (pos slot) v w =
     if nat_lt slot n then
-        (if is_some (input_of slot xs) then own w (k.fault 6)
-        else if length (keep_at k n xs (pos slot) v) == n then begun code (inputs_from k (keep_at k n xs (pos slot) v) 0 n) ws ++ own w k.nothing
-        else own w k.nothing)
+    (if is_some (input_of slot xs) then own w (k.fault 6)
+    else if length (keep_at k n xs (pos slot) v) == n then begun code (inputs_from k (keep_at k n xs (pos slot) v) 0 n) ws ++ own w k.nothing
+    else own w k.nothing)
     else own w (k.fault 7)
 
 free_told : {V W : Type 0} (g : Setting V) (code n : ℕ) (xs : List (Given V)) (slot : ℕ) (v : V) (o : Option V) (ws : List W) (w : Option W) → is_ready n xs ws ≡ false → input_of slot xs ≡ o
@@ -327,10 +327,10 @@ puts_told g code n xs (pos slot) v ws w once e = by_test (nat_lt slot n) refl
     by_test : (b : Bool) → nat_lt slot n ≡ b
         → tells g (if b then puts_free g.sort (length (take 1 ws)) code n xs slot v (input_of slot xs) else refuses g.sort (Dataflow code n xs) 7).effect (take 1 ws) w
         ≡ (if b then
-            (if is_some (input_of slot xs) then own w (g.sort.fault 6)
-            else if length (if b then keep_free g.sort xs slot v (input_of slot xs) else xs) == n
-            then begun code (inputs_from g.sort (if b then keep_free g.sort xs slot v (input_of slot xs) else xs) 0 n) ws ++ own w g.sort.nothing
-            else own w g.sort.nothing)
+        (if is_some (input_of slot xs) then own w (g.sort.fault 6)
+        else if length (if b then keep_free g.sort xs slot v (input_of slot xs) else xs) == n
+        then begun code (inputs_from g.sort (if b then keep_free g.sort xs slot v (input_of slot xs) else xs) 0 n) ws ++ own w g.sort.nothing
+        else own w g.sort.nothing)
         else own w (g.sort.fault 7))
     by_test true f = free_told g code n xs slot v (input_of slot xs) ws w e refl once (ltb-true slot n f)
     by_test false f = refl
@@ -347,16 +347,16 @@ late_told g code n xs (pos slot) v ws w once e = by_test (nat_lt slot n) refl
     by_test : (b : Bool) → nat_lt slot n ≡ b
         → own w (g.sort.fault (if b then 6 else 7))
         ≡ (if b then
-            (if is_some (input_of slot xs) then own w (g.sort.fault 6)
-            else if length (if b then keep_free g.sort xs slot v (input_of slot xs) else xs) == n
-            then begun code (inputs_from g.sort (if b then keep_free g.sort xs slot v (input_of slot xs) else xs) 0 n) ws ++ own w g.sort.nothing
-            else own w g.sort.nothing)
+        (if is_some (input_of slot xs) then own w (g.sort.fault 6)
+        else if length (if b then keep_free g.sort xs slot v (input_of slot xs) else xs) == n
+        then begun code (inputs_from g.sort (if b then keep_free g.sort xs slot v (input_of slot xs) else xs) 0 n) ws ++ own w g.sort.nothing
+        else own w g.sort.nothing)
         else own w (g.sort.fault 7))
     by_test true f =
         ap (λ (b : Bool). if b then own w (g.sort.fault 6)
-            else if length (keep_free g.sort xs slot v (input_of slot xs)) == n
-            then begun code (inputs_from g.sort (keep_free g.sort xs slot v (input_of slot xs)) 0 n) ws ++ own w g.sort.nothing
-            else own w g.sort.nothing)
+        else if length (keep_free g.sort xs slot v (input_of slot xs)) == n
+        then begun code (inputs_from g.sort (keep_free g.sort xs slot v (input_of slot xs)) 0 n) ws ++ own w g.sort.nothing
+        else own w g.sort.nothing)
         (sym (full_some n xs slot (input_of slot xs) refl once (ready_full n xs ws e) (ltb-true slot n f)))
     by_test false f = refl
 
@@ -368,31 +368,31 @@ give_told g code n h c (pos slot) v e = by_test (nat_lt slot n) refl
   where
     by_test : (b : Bool) → nat_lt slot n ≡ b
         → (if b then
-            (if is_some (input_of slot (kept g.sort n h)) then own c.waiter (g.sort.fault 6)
-            else if length (keep_at g.sort n (kept g.sort n h) (pos slot) v) == n
-            then begun code (inputs_from g.sort (keep_at g.sort n (kept g.sort n h) (pos slot) v) 0 n) (gets h) ++ own c.waiter g.sort.nothing
-            else own c.waiter g.sort.nothing)
+        (if is_some (input_of slot (kept g.sort n h)) then own c.waiter (g.sort.fault 6)
+        else if length (keep_at g.sort n (kept g.sort n h) (pos slot) v) == n
+        then begun code (inputs_from g.sort (keep_at g.sort n (kept g.sort n h) (pos slot) v) 0 n) (gets h) ++ own c.waiter g.sort.nothing
+        else own c.waiter g.sort.nothing)
         else own c.waiter (g.sort.fault 7))
         ≡ (if b then
-            (if is_some (value_of g.sort n h slot) then own c.waiter (g.sort.fault 6)
-            else if is_full g.sort n (c ∷ h) then begun code (list_from g.sort (value_of g.sort n (c ∷ h)) 0 n) (gets h) ++ own c.waiter g.sort.nothing
-            else own c.waiter g.sort.nothing)
+        (if is_some (value_of g.sort n h slot) then own c.waiter (g.sort.fault 6)
+        else if is_full g.sort n (c ∷ h) then begun code (list_from g.sort (value_of g.sort n (c ∷ h)) 0 n) (gets h) ++ own c.waiter g.sort.nothing
+        else own c.waiter g.sort.nothing)
         else own c.waiter (g.sort.fault 7))
     by_test true f =
         ap (λ o. if is_some o then own c.waiter (g.sort.fault 6)
-            else if length (keep_at g.sort n (kept g.sort n h) (pos slot) v) == n
-            then begun code (inputs_from g.sort (keep_at g.sort n (kept g.sort n h) (pos slot) v) 0 n) (gets h) ++ own c.waiter g.sort.nothing
-            else own c.waiter g.sort.nothing)
+        else if length (keep_at g.sort n (kept g.sort n h) (pos slot) v) == n
+        then begun code (inputs_from g.sort (keep_at g.sort n (kept g.sort n h) (pos slot) v) 0 n) (gets h) ++ own c.waiter g.sort.nothing
+        else own c.waiter g.sort.nothing)
         (sym (value_kept g.sort n h slot (ltb-true slot n f)))
         ∙ ap (λ ys. if is_some (value_of g.sort n h slot) then own c.waiter (g.sort.fault 6)
-            else if length ys == n then begun code (inputs_from g.sort ys 0 n) (gets h) ++ own c.waiter g.sort.nothing
-            else own c.waiter g.sort.nothing) (sym e)
+        else if length ys == n then begun code (inputs_from g.sort ys 0 n) (gets h) ++ own c.waiter g.sort.nothing
+        else own c.waiter g.sort.nothing) (sym e)
         ∙ ap (λ (b : Bool). if is_some (value_of g.sort n h slot) then own c.waiter (g.sort.fault 6)
-            else if b then begun code (inputs_from g.sort (kept g.sort n (c ∷ h)) 0 n) (gets h) ++ own c.waiter g.sort.nothing
-            else own c.waiter g.sort.nothing) (sym (full_kept g.sort n (c ∷ h)))
+        else if b then begun code (inputs_from g.sort (kept g.sort n (c ∷ h)) 0 n) (gets h) ++ own c.waiter g.sort.nothing
+        else own c.waiter g.sort.nothing) (sym (full_kept g.sort n (c ∷ h)))
         ∙ ap (λ vs. if is_some (value_of g.sort n h slot) then own c.waiter (g.sort.fault 6)
-            else if is_full g.sort n (c ∷ h) then begun code vs (gets h) ++ own c.waiter g.sort.nothing
-            else own c.waiter g.sort.nothing) (sym (inputs_kept g.sort n (c ∷ h)))
+        else if is_full g.sort n (c ∷ h) then begun code vs (gets h) ++ own c.waiter g.sort.nothing
+        else own c.waiter g.sort.nothing) (sym (inputs_kept g.sort n (c ∷ h)))
     by_test false f = refl
 
 -- a call on the object, by whether it has started

@@ -62,9 +62,9 @@ abbrev pub give_says : {V W : Type 0} → Sort V → ℕ → ℕ → List (Call 
 give_says k code n h c (negsuc m) = own c.waiter (k.fault 7)
 give_says k code n h c (pos slot) =
     if nat_lt slot n then
-        (if is_some (value_of k n h slot) then own c.waiter (k.fault 6)
-        else if is_full k n (c ∷ h) then begun code (list_from k (value_of k n (c ∷ h)) 0 n) (gets h) ++ own c.waiter k.nothing
-        else own c.waiter k.nothing)
+    (if is_some (value_of k n h slot) then own c.waiter (k.fault 6)
+    else if is_full k n (c ∷ h) then begun code (list_from k (value_of k n (c ∷ h)) 0 n) (gets h) ++ own c.waiter k.nothing
+    else own c.waiter k.nothing)
     else own c.waiter (k.fault 7)
 
 -- the first GET starts the action where all inputs have values, else it waits; the others are Spent
