@@ -119,7 +119,7 @@ shifted_placed m limit (SpelledRef p) h = let low = h.1 in (omega arith, omega a
 shifted_placed m limit (SpelledFault c) h = h.0
 shifted_placed m limit (SpelledInts zs) h = h.0
 
-args_below : (n limit : ℕ) (vs : List Spelled) → AllByRecursion IsValue vs → IsCount n (refs_in vs) → n + length (refs_in vs) ≤ limit → AllByRecursion (λ v. IsValue v × IsBelow limit v) vs
+pub args_below : (n limit : ℕ) (vs : List Spelled) → AllByRecursion IsValue vs → IsCount n (refs_in vs) → n + length (refs_in vs) ≤ limit → AllByRecursion (λ v. IsValue v × IsBelow limit v) vs
 args_below n limit [] h c low = tt
 args_below n limit (SpelledUnit ∷ vs) h c low = ((tt, tt), args_below n limit vs h.1 c low)
 args_below n limit (SpelledFlag b ∷ vs) h c low = ((tt, tt), args_below n limit vs h.1 c low)

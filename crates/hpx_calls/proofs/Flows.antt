@@ -1,8 +1,8 @@
 -- Actions on dataflows keep the laws.
-use Rattle.std.specs.Prelude.{ℕ, zero, suc, ℤ, pos, negsuc, Bool, true, false, nat_le, nat_lt, List, [], ◌∷◌, ◌++◌, ◌+◌, ◌-◌, ◌*◌, ◌<◌, ◌≤◌, ◌≡◌, ◌≢◌, ◌==◌, ◌&&◌, Option, Some, None, length, map, refl, if◌then◌else◌}
+use Rattle.std.specs.Prelude.{ℕ, zero, suc, ℤ, pos, negsuc, Bool, true, false, nat_le, nat_lt, List, [], ◌∷◌, ◌++◌, ◌+◌, ◌-◌, ◌*◌, ◌<◌, ◌≤◌, ◌≡◌, ◌==◌, ◌&&◌, Option, Some, None, length, refl, if◌then◌else◌}
 use Rattle.std.proofs.Common.{ap, sym, ◌∙◌, subst, arith, lit≤, length-append}
 use Rattle.std.specs.List.{AllByRecursion, count_by}
-use Rattle.std.proofs.lemmas.Bool.{cond_both, eqb-true, eqb-false, ne_eqb, leb-true, ltb-true, and_parts}
+use Rattle.std.proofs.lemmas.Bool.{cond_both, eqb-true, ne_eqb, leb-true, ltb-true, and_parts}
 use Rattle.std.proofs.lemmas.List.{append-nil}
 use Rattle.std.proofs.lemmas.List.Sums.{count_by-le-length}
 use Rattle.hpx_value.specs.Values.{refs_in}
@@ -12,22 +12,21 @@ use Rattle.hpx_value.specs.declared.value.Cont.{Cont}
 use Rattle.hpx_value.specs.declared.value.State.{State}
 use Rattle.hpx_value.specs.declared.value.Act.{Act}
 use Rattle.hpx_value.specs.declared.outcome.Reply.{Reply}
-use Rattle.hpx_value.specs.Shapes.{IsValue, AreValues, IsState, IsAct, IsCount, values_size, value_size}
+use Rattle.hpx_value.specs.Shapes.{IsValue, AreValues, IsState, values_size, value_size}
 use Rattle.hpx_value.specs.Laws.{answered, handed_on, KeepsLaws}
-use Rattle.hpx_value.proofs.Uses.{one_if, count-cons}
+use Rattle.hpx_value.proofs.Uses.{count-cons}
 use Rattle.hpx_value.proofs.Kept as HandLemmas
 use Rattle.hpx_calls.specs.Values.{spelled, size}
 use Rattle.hpx_calls.specs.Requests.{Request, Set, PutAt, Get}
-use Rattle.hpx_calls.specs.Contents.{Given, Content, Dataflow, Started, layout, given_out, given_size, input_of}
-use Rattle.hpx_calls.specs.Effects.{Answers, Waits, Starts, Hands, Called}
-use Rattle.hpx_calls.specs.Tables.{leaves, fitted, or_nothing, inputs_from, gives, puts_free, puts, starts, on_dataflow, puts_late, on_started, awaits, refuses}
+use Rattle.hpx_calls.specs.Contents.{Given, Dataflow, Started, layout, given_out, given_size, input_of}
+use Rattle.hpx_calls.specs.Tables.{fitted, or_nothing, inputs_from, gives, puts_free, puts, starts, on_dataflow, puts_late, on_started, awaits, refuses}
 use Rattle.hpx_calls.specs.Outcomes.{numbers, cont_count, own_reply, outcome, has_cont}
-use Rattle.hpx_calls.proofs.Keeps.{SameCounts, all_of, answers_all, waits_all, ArePlain, count-append, once_counted, length-numbers, all_append}
+use Rattle.hpx_calls.proofs.Keeps.{SameCounts, all_of, answers_all, waits_all, ArePlain, once_counted, length-numbers, all_append}
 use Rattle.hpx_calls.proofs.Slots.{room_left}
 use Rattle.hpx_calls.proofs.Shown.{IsSent, IsFlow}
 use Rattle.hpx_calls.proofs.Asked.{IsPlaced, IsFair}
 use Rattle.hpx_calls.proofs.Controls.{IsCall, IsGood, good_if, refused_good, own_plain}
-use Rattle.hpx_calls.proofs.Full.{Start, AreArgs, sends_of, sent_refs, told_refs, IsHeld, full_keeps}
+use Rattle.hpx_calls.proofs.Full.{Start, AreArgs, sends_of, sent_refs, told_refs, full_keeps}
 use Rattle.hpx_calls.proofs.Named.{refs_front, count_front, one_ref}
 
 -- ---- what is kept for inputs, weighed

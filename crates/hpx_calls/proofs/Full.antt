@@ -1,5 +1,5 @@
 -- Outcomes that may make an object or start an action keep the laws, by what they name.
-use Rattle.std.specs.Prelude.{ℕ, zero, suc, Bool, true, false, List, [], ◌∷◌, ◌++◌, ◌+◌, ◌*◌, ◌<◌, ◌≤◌, ◌≡◌, ◌≢◌, ◌==◌, Option, Some, None, length, map, flat_map, refl}
+use Rattle.std.specs.Prelude.{ℕ, suc, Bool, true, List, [], ◌∷◌, ◌++◌, ◌+◌, ◌*◌, ◌<◌, ◌≤◌, ◌≡◌, ◌≢◌, ◌==◌, Option, Some, None, length, map, flat_map, refl}
 use Rattle.std.proofs.Common.{ap, sym, ◌∙◌, subst, arith, lit≤, length-append, inl, inr}
 use Rattle.std.specs.List.{AllByRecursion, count_by}
 use Rattle.std.proofs.lemmas.List.{length-map, map-append}
@@ -14,14 +14,14 @@ use Rattle.hpx_value.specs.declared.outcome.Make.{Make}
 use Rattle.hpx_value.specs.declared.outcome.Sending.{Sending}
 use Rattle.hpx_value.specs.declared.outcome.Reply.{Reply}
 use Rattle.hpx_value.specs.declared.outcome.Outcome.{Outcome}
-use Rattle.hpx_value.specs.Ids.{Id, bare_id}
-use Rattle.hpx_value.specs.Shapes.{IsValue, AreValues, IsMessage, IsState, IsAct, IsCount, values_size, value_size, places_of, listed}
-use Rattle.hpx_value.specs.Hands.{Slot, hand_ids, hand_slot, hand_slots, id_at, renumbered, conts_from, replied, sent, state_after, slots_kept}
+use Rattle.hpx_value.specs.Ids.{Id}
+use Rattle.hpx_value.specs.Shapes.{IsValue, AreValues, IsMessage, IsState, IsCount, values_size, value_size, places_of, listed}
+use Rattle.hpx_value.specs.Hands.{Slot, hand_ids, hand_slot, hand_slots, id_at, renumbered, conts_from, replied, sent}
 use Rattle.hpx_value.specs.Mentions.{mentions, cont_place, cont_places, reply_mentions, send_mentions}
 use Rattle.hpx_value.specs.Laws.{UsesEachOnce, answered, handed_on, uses, made_slots, drawn_slots, birth_state, IsManaged, IsMovable, MovesBelow, IsTarget, NamesSlotsOnce, KeepsLaws, target_kind}
-use Rattle.hpx_value.proofs.Uses.{one_if, count-cons, used_below, used_few}
+use Rattle.hpx_value.proofs.Uses.{count-cons, used_below, used_few}
 use Rattle.hpx_value.proofs.Kept as HandLemmas
-use Rattle.hpx_calls.specs.Outcomes.{numbers, started, outcome}
+use Rattle.hpx_calls.specs.Outcomes.{started, outcome}
 use Rattle.hpx_calls.proofs.Keeps.{SameCounts, all_of, count-append, once_each, named_twice, all_append, at_below, conts_below}
 use Rattle.hpx_calls.proofs.Controls.{IsCall}
 use Rattle.hpx_calls.proofs.Shown.{IsSent}

@@ -1,5 +1,5 @@
 -- Actions keep the laws, whatever the state.
-use Rattle.std.specs.Prelude.{ℕ, Bool, true, false, nat_le, List, ◌+◌, ◌<◌, ◌≤◌, ◌≡◌, ◌≢◌, ◌==◌, ◌&&◌, ◌||◌, [], nat_lt, Option, Some, None, length, pos, refl, if◌then◌else◌}
+use Rattle.std.specs.Prelude.{ℕ, Bool, true, false, nat_le, List, ◌+◌, ◌<◌, ◌≡◌, ◌≢◌, ◌==◌, ◌&&◌, ◌||◌, [], nat_lt, Option, Some, None, length, pos, refl, if◌then◌else◌}
 use Rattle.std.proofs.Common.{ap, sym, ◌∙◌, subst, arith, lit≤}
 use Rattle.std.proofs.lemmas.Bool.{le-leb, leb-false, lt-ltb, eqb-true}
 use Rattle.hpx_value.specs.declared.value.Value.{Value as Spelled}
@@ -7,7 +7,7 @@ use Rattle.hpx_value.specs.declared.value.Value.TheVariants.{Int as SpelledInt}
 use Rattle.hpx_value.specs.declared.value.State.{State}
 use Rattle.hpx_value.specs.declared.value.Act.{Act}
 use Rattle.hpx_value.specs.Shapes.{IsState, IsAct}
-use Rattle.hpx_value.specs.Laws.{IsManaged, IsMovable, MovesBelow, KeepsLaws}
+use Rattle.hpx_value.specs.Laws.{IsMovable, MovesBelow, KeepsLaws}
 use Rattle.hpx_value.proofs.Kept as HandLemmas
 use Rattle.hpx_calls.specs.Values.{spelled}
 use Rattle.hpx_calls.specs.Requests.{Request, Move, Where, Set, New, Register, Resolve, Unregister, Keys, Count, Add, Query, Reset, Step, Get, Put, PutAt, Close, Down, Wait, Arrive, Other}
@@ -15,7 +15,7 @@ use Rattle.hpx_calls.specs.Contents
 use Rattle.hpx_calls.specs.Contents.{Content, layout, Unreadable, or_unreadable}
 use Rattle.hpx_calls.specs.Effects.{Answers}
 use Rattle.hpx_calls.specs.Tables.{leaves, on_content, on_object, called, awaits, is_movable}
-use Rattle.hpx_calls.specs.Outcomes.{has_cont, request_in, content_in, outcome_of}
+use Rattle.hpx_calls.specs.Outcomes.{has_cont, request_in, outcome_of}
 use Rattle.hpx_calls.proofs.Keeps.{TellsNoPlace}
 use Rattle.hpx_calls.proofs.Shown.{Shows, IsBound, promise_values, latch_values, barrier_values, channel_values, dataflow_values, table_values, maker_values, size_values, number_values, row_values}
 use Rattle.hpx_calls.proofs.Asked.{IsPlaced, IsFair, asked_fair, asks_where, asks_moving}
@@ -176,6 +176,19 @@ resting_shown n kind vs =
 at_rest : (n kind w : ℕ) (vs : List Spelled) (b : Bool) → (w == 0) ≡ b → Shows w vs (if b then Contents.resting_in spelled n kind vs else None)
 at_rest n kind w vs true e = let P : ℕ → Type 0 = λ m. Shows m vs (Contents.resting_in spelled n kind vs) in subst P (sym (eqb-true w 0 e)) (resting_shown n kind vs)
 at_rest n kind w vs false e = tt
+
+-- what a state shows lays out as its values
+abbrev LaidOut : List Spelled → Option (Content Spelled) → Type 0
+LaidOut vs o = layout spelled (or_unreadable vs o) ≡ vs
+
+laid_out : (w : ℕ) (vs : List Spelled) (o : Option (Content Spelled)) → Shows w vs o → LaidOut vs o
+laid_out w vs None h = refl
+laid_out w vs (Some x) h = h.0
+
+pub shown_laid : (n kind w : ℕ) (vs : List Spelled) → layout spelled (Contents.content_of spelled n kind w vs) ≡ vs
+shown_laid n kind w vs =
+    laid_out w vs (if nat_le 32 kind then Contents.control_in spelled kind w vs else if w == 0 then Contents.resting_in spelled n kind vs else None)
+    (shows_if w vs (nat_le 32 kind) _ _ (control_shown kind w vs) (at_rest n kind w vs (w == 0) refl))
 
 pub every_keeps : (n kind here : ℕ) (s : State) (a : Act) → here < n → kind ≢ 7 → IsState s → IsAct a → KeepsLaws n kind here s a (outcome_of n kind here s a)
 unfolding outcome_of

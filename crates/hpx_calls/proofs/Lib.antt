@@ -10,6 +10,14 @@ pub mod Controls
 pub mod Slots
 pub mod Orders
 pub mod Steps
+pub mod Natural
+pub mod Alike
+pub mod Rights
+pub mod Seen
+pub mod Fits
+pub mod FitSteps
+pub mod FitReads
+pub mod Lives
 pub mod Full
 pub mod Named
 pub mod Moved

@@ -1,5 +1,5 @@
 -- Actions on accumulators and partitions keep the laws.
-use Rattle.std.specs.Prelude.{ℕ, suc, ℤ, pos, List, [], ◌∷◌, ◌+◌, ◌*◌, ◌≤◌, ◌≡◌, ◌+ℤ◌, length, refl, if◌then◌else◌}
+use Rattle.std.specs.Prelude.{ℕ, suc, ℤ, pos, List, [], ◌∷◌, ◌≤◌, ◌≡◌, ◌+ℤ◌, length, refl}
 use Rattle.std.proofs.Common.{ap, arith, lit≤}
 use Rattle.hpx_value.specs.declared.value.Value.{Value as Spelled}
 use Rattle.hpx_value.specs.declared.value.Value.TheVariants.{Unit as SpelledUnit, Int as SpelledInt, Ints as SpelledInts}
@@ -8,8 +8,8 @@ use Rattle.hpx_value.specs.declared.value.Act.{Act}
 use Rattle.hpx_calls.specs.Values.{spelled}
 use Rattle.hpx_calls.specs.Requests.{Request, Add, Query, Reset, Step}
 use Rattle.hpx_calls.specs.Contents.{Number, Row, layout}
-use Rattle.hpx_calls.specs.Tables.{on_number, on_row, fits, half, stepped}
-use Rattle.hpx_calls.proofs.Controls.{IsCall, IsGood, ArePlainValues, good_if, stay_good, refused_good, answers_good, one_int}
+use Rattle.hpx_calls.specs.Tables.{on_number, on_row, fits, stepped}
+use Rattle.hpx_calls.proofs.Controls.{IsCall, IsGood, good_if, stay_good, refused_good, answers_good, one_int}
 
 pub number_good : (n kind here : ℕ) (s : State) (a : Act) (v : ℤ) (r : Request Spelled) → IsCall kind s a → layout spelled (Number v) ≡ s.values → length s.conts ≡ 0
     → IsGood n kind here s a (on_number spelled v r)

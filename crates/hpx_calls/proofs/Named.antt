@@ -1,10 +1,9 @@
 -- Actions on tables, components and localities keep the laws.
-use Rattle.std.specs.Prelude.{ℕ, zero, suc, ℤ, pos, negsuc, Bool, true, false, nat_le, List, [], ◌∷◌, ◌++◌, ◌+◌, ◌*◌, ◌<◌, ◌≤◌, ◌≡◌, ◌≢◌, ◌==◌, ◌&&◌, Option, Some, None, codes, length, map, refl, if◌then◌else◌}
+use Rattle.std.specs.Prelude.{ℕ, suc, ℤ, pos, Bool, false, nat_le, List, [], ◌∷◌, ◌++◌, ◌+◌, ◌*◌, ◌<◌, ◌≤◌, ◌≡◌, ◌≢◌, ◌==◌, ◌&&◌, Option, Some, None, codes, length, refl}
 use Rattle.std.proofs.Common.{ap, sym, ◌∙◌, subst, arith, lit≤, length-append}
 use Rattle.std.specs.List.{AllByRecursion, count_by}
 use Rattle.std.specs.Str.{bytes_eq}
 use Rattle.std.proofs.lemmas.Bool.{cond_both, eqb-false, leb-true, and_parts}
-use Rattle.std.proofs.lemmas.List.{append-nil}
 use Rattle.std.proofs.lemmas.List.Sums.{count_by-le-length}
 use Rattle.hpx_value.specs.Values.{refs_in}
 use Rattle.hpx_value.specs.declared.value.Value.{Value as Spelled}
@@ -12,22 +11,19 @@ use Rattle.hpx_value.specs.declared.value.Value.TheVariants.{Unit as SpelledUnit
 use Rattle.hpx_value.specs.declared.value.Cont.{Cont}
 use Rattle.hpx_value.specs.declared.value.State.{State}
 use Rattle.hpx_value.specs.declared.value.Act.{Act}
-use Rattle.hpx_value.specs.declared.outcome.Reply.{Reply}
-use Rattle.hpx_value.specs.Shapes.{IsValue, AreValues, IsState, IsAct, IsCount, values_size}
-use Rattle.hpx_value.specs.Laws.{answered, KeepsLaws}
-use Rattle.hpx_value.proofs.Uses.{one_if, count-cons}
+use Rattle.hpx_value.specs.Shapes.{IsValue, IsState, IsCount, values_size}
 use Rattle.hpx_value.proofs.Kept as HandLemmas
-use Rattle.hpx_calls.specs.Values.{spelled, Look, Int, Ints, Nothing, Flag, Text, Ref, Fault}
-use Rattle.hpx_calls.specs.Requests.{Request, Register, Resolve, Unregister, Keys, New, Count, is_key}
+use Rattle.hpx_calls.specs.Values.{spelled}
+use Rattle.hpx_calls.specs.Requests.{Request, Register, Resolve, Unregister, Keys, New, Count}
 use Rattle.hpx_calls.specs.Contents.{Pair, Content, Table, Maker, Size, Number, Row, Promise, Channel, Latch, Barrier, layout, pairs_out, precedes, count_in}
-use Rattle.hpx_calls.specs.Effects.{Answers, Makes, Called}
-use Rattle.hpx_calls.specs.Tables.{leaves, wrong, found, added, removed, listed, registers, resolves, unregisters, on_table, makes, makes_bare, makes_at, makes_counted, makes_row, with_one, on_maker, on_size}
-use Rattle.hpx_calls.specs.Outcomes.{numbers, own_reply, outcome, make_of, made_place, has_cont}
-use Rattle.hpx_calls.proofs.Keeps.{SameCounts, all_of, answers_all, count-append, once_counted, length-numbers, all_append}
+use Rattle.hpx_calls.specs.Effects.{Answers, Makes}
+use Rattle.hpx_calls.specs.Tables.{leaves, found, added, removed, listed, registers, resolves, unregisters, on_table, makes, makes_bare, makes_at, makes_counted, makes_row, with_one, on_maker, on_size}
+use Rattle.hpx_calls.specs.Outcomes.{numbers, own_reply, make_of, made_place, has_cont}
+use Rattle.hpx_calls.proofs.Keeps.{answers_all, count-append, once_counted, length-numbers, all_append}
 use Rattle.hpx_calls.proofs.Shown.{IsRef, IsPair, IsTable}
 use Rattle.hpx_calls.proofs.Asked.{IsPlaced, IsFair}
 use Rattle.hpx_calls.proofs.Controls.{IsCall, IsGood, good_if, stay_good, refused_good}
-use Rattle.hpx_calls.proofs.Full.{told_refs, IsHeld, IsMade, full_keeps}
+use Rattle.hpx_calls.proofs.Full.{told_refs, IsMade, full_keeps}
 
 -- ---- the Refs of one value among others
 

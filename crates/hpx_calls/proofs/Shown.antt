@@ -7,12 +7,12 @@ use Rattle.hpx_value.specs.Values.{refs_in}
 use Rattle.hpx_value.specs.declared.value.Value.{Value as Spelled}
 use Rattle.hpx_value.specs.declared.value.Value.TheVariants.{Unit as SpelledUnit, Flag as SpelledFlag, Int as SpelledInt, Text as SpelledText, Ref as SpelledRef, Fault as SpelledFault, Ints as SpelledInts}
 use Rattle.hpx_value.specs.Shapes.{IsValue, value_size}
-use Rattle.hpx_calls.specs.Values.{spelled, is_small, Look, Int, Text, Ref}
+use Rattle.hpx_calls.specs.Values.{spelled, is_small}
 use Rattle.hpx_calls.specs.Requests.{is_key}
 use Rattle.hpx_calls.specs.Contents
 use Rattle.hpx_calls.specs.Contents.{Content, Pair, Given, layout, pairs_out, given_out, maybe_out}
 
-count_is : (most : ℕ) (z : ℤ) (n : ℕ) → Contents.count_in most z ≡ Some n → (z ≡ pos n) × (n ≤ most)
+pub count_is : (most : ℕ) (z : ℤ) (n : ℕ) → Contents.count_in most z ≡ Some n → (z ≡ pos n) × (n ≤ most)
 count_is most (pos m) n e = by_test (nat_le m most) refl e
   where
     by_test : (b : Bool) → nat_le m most ≡ b → (if b then Some m else None) ≡ Some n → (pos m ≡ pos n) × (n ≤ most)

@@ -1,7 +1,7 @@
 -- Inputs that stand once each: there is room for one that lacks.
 use Rattle.std.specs.Prelude.{ℕ, zero, suc, Bool, true, false, nat_lt, List, [], ◌∷◌, ◌++◌, ◌+◌, ◌<◌, ◌≤◌, ◌≡◌, ◌≢◌, ◌==◌, ◌&&◌, Option, Some, None, length, refl, if◌then◌else◌}
 use Rattle.std.proofs.Common.{ap, sym, ◌∙◌, subst, arith}
-use Rattle.std.proofs.lemmas.Bool.{cond_both, eqb-true, eqb-false, ne_eqb, eq-eqb, ltb-true, lt-ltb, and_parts}
+use Rattle.std.proofs.lemmas.Bool.{cond_both, eqb-true, eqb-false, ne_eqb, ltb-true, lt-ltb, and_parts}
 use Rattle.hpx_calls.specs.Contents.{Given, input_of, is_none, are_inputs}
 
 -- what a value weighs, if there is one

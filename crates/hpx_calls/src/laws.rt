@@ -1,9 +1,16 @@
 //! Laws of the outcomes that calls come to.
-ghost use Rattle.std.specs.Prelude.{◌≡◌, ◌≢◌, ◌<◌, ℕ};
+ghost use Rattle.std.specs.Prelude.{◌≡◌, ◌≢◌, ◌<◌, ℕ, List, []};
+ghost use Rattle.std.specs.List.{AllByRecursion};
+ghost use Rattle.hpx_value.specs.Ids.{Id};
 ghost use Rattle.hpx_value.specs.Values.{bare_act, bare_state, message_of, named};
 ghost use Rattle.hpx_value.specs.Shapes.{IsAct, IsState};
 ghost use Rattle.hpx_value.specs.Laws.{KeepsLaws};
+ghost use Rattle.hpx_calls.specs.Values.{Value};
+ghost use Rattle.hpx_calls.specs.Contents.{Content};
 ghost use Rattle.hpx_calls.specs.Outcomes.{outcome_of};
+ghost use Rattle.hpx_value.specs.Hands.{Slot};
+ghost use Rattle.hpx_calls.specs.Histories.{Object, run, says};
+ghost use Rattle.hpx_calls.specs.Ids.{IsBirth, IsCalled, IsReadable, Turn, object_in, call_of, calls_of, due_for, due_then, lived, setting_of, state_of};
 
 use hpx_value::value::{Act, State};
 
@@ -19,4 +26,25 @@ pub fn blind_law()
 pub fn acts_law()
     ensures { (n kind here : ℕ) (s : State) (a : Act) → here < n → kind ≢ 7 → IsState s → IsAct a
         → KeepsLaws n kind here s a (outcome_of n kind here s a) }
+{}
+
+/// An action on a state is a call on the plain object that the state shows: a well-formed state is that object over ids
+/// (`states`), which shows its content (`shown`), and the outcome of each action is the call's effect on it (`called`).
+pub fn called_law()
+    ensures states { (n kind : ℕ) (s : State) → IsState s → s ≡ state_of s.drawn (object_in n kind s) }
+    ensures shown { (n kind : ℕ) (s : State) → IsState s → IsReadable n kind (object_in n kind s) }
+    ensures called { (n kind here drawn : ℕ) (o : Object (Value Id) Slot) (a : Act) (made : List Id) → IsReadable n kind o → IsAct a
+        → IsCalled n kind here drawn o a made }
+{}
+
+/// The states that outcomes leave from birth on, whatever the actions, are the plain object after their calls (`lives`),
+/// and what the next outcome leaves due is what the next call is told (`tells`). A list of actions has the latest first.
+pub fn life_law()
+    ensures births { (n kind : ℕ) (x : Content (Value Id)) → IsBirth n kind x → IsReadable n kind (record { content = x; waiting = [] }) }
+    ensures lives { (n kind here drawn : ℕ) (x : Content (Value Id)) (made : List Id) (ts : List Turn) → IsReadable n kind (record { content = x; waiting = [] })
+        → AllByRecursion (λ t. IsAct t.act) ts
+        → lived n kind here (state_of drawn (record { content = x; waiting = [] })) ts ≡ state_of drawn (run (setting_of kind here made) x (calls_of ts)) }
+    ensures tells { (n kind here drawn : ℕ) (x : Content (Value Id)) (ts : List Turn) (t : Turn) → IsReadable n kind (record { content = x; waiting = [] })
+        → AllByRecursion (λ t. IsAct t.act) ts → IsAct t.act
+        → due_then n kind here (state_of drawn (record { content = x; waiting = [] })) ts t ≡ due_for here (says (setting_of kind here t.made) x (calls_of ts) (call_of t.act)) }
 {}
