@@ -1,5 +1,5 @@
 //! Laws of the outcomes that calls come to.
-ghost use Rattle.std.specs.Prelude.{◌≡◌, ◌≢◌, ◌<◌, ℕ, List, []};
+ghost use Rattle.std.specs.Prelude.{◌≡◌, ◌≢◌, ◌<◌, ◌≤◌, ◌∷◌, ℕ, List, [], Option, pos};
 ghost use Rattle.std.specs.List.{AllByRecursion};
 ghost use Rattle.hpx_value.specs.Ids.{Id};
 ghost use Rattle.hpx_value.specs.Values.{bare_act, bare_state, message_of, named};
@@ -9,9 +9,10 @@ ghost use Rattle.hpx_calls.specs.Values.{Value};
 ghost use Rattle.hpx_calls.specs.Contents.{Content};
 ghost use Rattle.hpx_calls.specs.Outcomes.{outcome_of};
 ghost use Rattle.hpx_value.specs.Hands.{Slot};
-ghost use Rattle.hpx_calls.specs.Histories.{Object, run, says};
+ghost use Rattle.hpx_calls.specs.Histories.{Call, Object, Setting, own, run, says};
 ghost use Rattle.hpx_calls.specs.Ids.{IsBirth, IsCalled, IsReadable, Turn, object_in, call_of, calls_of, due_for, due_then, lived, setting_of, state_of};
 
+use crate::request::Request;
 use hpx_value::value::{Act, State};
 
 /// Neither the name of an action nor the credits of ids matter.
@@ -47,4 +48,12 @@ pub fn life_law()
     ensures tells { (n kind here drawn : ℕ) (x : Content (Value Id)) (ts : List Turn) (t : Turn) → IsReadable n kind (record { content = x; waiting = [] })
         → AllByRecursion (λ t. IsAct t.act) ts → IsAct t.act
         → due_then n kind here (state_of drawn (record { content = x; waiting = [] })) ts t ≡ due_for here (says (setting_of kind here t.made) x (calls_of ts) (call_of t.act)) }
+{}
+
+/// WHERE tells the place, for each managed kind, whatever the object holds, and is no call: it changes nothing.
+pub fn place_law<V, W>()
+    ensures tells { (g : Setting V) (x : Content V) (h : List (Call V W)) (w : Option W) → 16 ≤ g.kind
+        → says g x h (record { request = Request.Where; waiter = w }) ≡ own w (g.sort.int (pos g.here)) }
+    ensures stays { (g : Setting V) (x : Content V) (h : List (Call V W)) (w : Option W)
+        → run g x (record { request = Request.Where; waiter = w } ∷ h) ≡ run g x h }
 {}

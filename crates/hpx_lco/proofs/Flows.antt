@@ -1,7 +1,7 @@
 -- What a dataflow holds after calls, and what calls on it are told.
 use Rattle.std.specs.Prelude.{ℕ, zero, suc, ℤ, pos, negsuc, Bool, true, false, nat_le, nat_lt, List, [], ◌∷◌, ◌++◌, ◌+◌, ◌≤◌, ◌<◌, ◌≡◌, ◌≢◌, ◌==◌, ◌&&◌, Option, Some, None, is_some, length, take, drop, refl, if◌then◌else◌}
 use Rattle.std.proofs.Common.{ap, sym, ◌∙◌, arith, subst, length-append}
-use Rattle.std.proofs.lemmas.Bool.{cond_both, leb-true, leb-false, le-leb, lt-leb, eq-eqb, ne_eqb, eqb-true, eqb-false, ltb-true, lt-ltb, and_parts}
+use Rattle.std.proofs.lemmas.Bool.{cond_both, leb-true, le-leb, eq-eqb, ne_eqb, eqb-true, eqb-false, ltb-true, lt-ltb, and_parts}
 use Rattle.hpx_calls.specs.Values.{Sort, size}
 use Rattle.hpx_calls.specs.declared.content.Given.{Given}
 use Rattle.hpx_calls.specs.Contents.{input_of, given_size, are_inputs}
@@ -11,7 +11,7 @@ use Rattle.hpx_calls.specs.declared.request.Request.{Request}
 use Rattle.hpx_calls.specs.declared.request.Request.TheVariants.{Move, Where, Set, Get, PutAt}
 use Rattle.hpx_calls.specs.declared.effect.Called.{Called}
 use Rattle.hpx_calls.specs.Tables.{fitted, or_nothing, inputs_from, gives, puts, puts_free, starts, puts_late, refuses, is_movable}
-use Rattle.hpx_calls.specs.Histories.{Setting, Object, Call, Told, own, begun, alone, joined, next, still, tells, called_on, run, says}
+use Rattle.hpx_calls.specs.Histories.{Setting, Object, Call, Told, own, begun, alone, next, still, tells, called_on, run, says}
 use Rattle.hpx_calls.proofs.Slots.{weight, weigh, weigh_all, all_weighed, one_each, present, length_kept, at_most, room_left, still_once}
 use Rattle.hpx_lco.specs.Answered.{or_else, joins_get, gets}
 use Rattle.hpx_lco.specs.Flows.{given_at, giving, size_at, bytes_from, within, value_of, all_from, list_from, is_full, has_get, give_says, ask_says, story, starts as told_starts}

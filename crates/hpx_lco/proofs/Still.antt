@@ -1,13 +1,7 @@
 -- Calls that change nothing, and lists cut at a bound.
-use Rattle.std.specs.Prelude.{ℕ, zero, suc, Bool, true, false, cond, nat_le, List, [], ◌∷◌, ◌++◌, ◌+◌, ◌-◌, ◌≤◌, ◌<◌, ◌≡◌, ◌≢◌, ◌==◌, ◌&&◌, nat_lt, Option, Some, None, length, take, drop, refl, if◌then◌else◌}
-use Rattle.std.proofs.Common.{ap, sym, ◌∙◌, arith, length-append}
+use Rattle.std.specs.Prelude.{ℕ, zero, suc, Bool, true, false, cond, nat_le, List, [], ◌∷◌, ◌++◌, ◌≤◌, ◌<◌, ◌≡◌, ◌≢◌, ◌==◌, length, take, drop, refl, if◌then◌else◌}
+use Rattle.std.proofs.Common.{ap, sym, ◌∙◌, arith}
 use Rattle.std.proofs.lemmas.Bool.{cond_both, eq-eqb, ne_eqb, leb-true, leb-false}
-use Rattle.hpx_calls.specs.declared.content.Content.{Content}
-use Rattle.hpx_calls.specs.declared.request.Request.{Request}
-use Rattle.hpx_calls.specs.declared.request.Request.TheVariants.{Move, Where}
-use Rattle.hpx_calls.specs.declared.effect.Called.{Called}
-use Rattle.hpx_calls.specs.Tables.{is_movable}
-use Rattle.hpx_calls.specs.Histories.{Setting, Object, Call, Told, next, still, tells}
 pub use Rattle.hpx_calls.proofs.Steps.{object, call, either, told_either, same_test, same_where, same_move}
 
 -- one more behind a list that is cut
