@@ -1,0 +1,14 @@
+pub mod ActRows
+pub mod Boot
+pub mod Covered
+pub mod Credit
+pub mod CreditRows
+pub mod FrameRows
+pub mod Grown
+pub mod Keyed
+pub mod Keys
+pub mod Lists
+pub mod ObjectRows
+pub mod Parcels
+pub mod Stay
+pub mod Weaken

@@ -1,0 +1,4 @@
+pub mod Data
+pub mod View
+pub mod Shows
+pub mod Parts
