@@ -2,6 +2,7 @@
 use Rattle.std.specs.Prelude.{ℕ, ℤ, pos, negsuc, Bool, true, false, nat_le, List, [], ◌∷◌, ◌+◌, ◌<◌, ◌≤◌, ◌≡◌, ◌==◌, length, map, refl, if◌then◌else◌}
 use Rattle.std.proofs.Common.{ap, ◌∙◌, arith}
 use Rattle.std.specs.List.{AllByRecursion}
+use Rattle.std.proofs.lemmas.Bool.{and_parts, leb-true, le-leb}
 use Rattle.hpx_value.specs.declared.value.Value.{Value as Spelled}
 use Rattle.hpx_value.specs.declared.value.Value.TheVariants.{Unit as SpelledUnit, Flag as SpelledFlag, Int as SpelledInt, Text as SpelledText, Ref as SpelledRef, Fault as SpelledFault, Ints as SpelledInts}
 use Rattle.hpx_value.specs.declared.value.State.{State}
@@ -9,14 +10,16 @@ use Rattle.hpx_value.specs.declared.value.Act.{Act}
 use Rattle.hpx_value.specs.Values.{refs_in}
 use Rattle.hpx_value.specs.Shapes.{IsValue, IsAct, IsCount}
 use Rattle.hpx_calls.specs.Values.{Look, Int, Text, Ref, Flag, Fault, Ints, Nothing, spelled, shifted}
-use Rattle.hpx_calls.specs.Requests.{Request, Where, Set, Put, PutAt, Other, asks_bare, asks_move, asks_one, asks_two, asks_step, asks_register, asks_many, request_of, is_key}
+use Rattle.hpx_calls.specs.Requests.{Request, Move, Where, Register, Set, Put, PutAt, Other, asks_bare, asks_move, asks_one, asks_two, asks_step, asks_register, asks_many, request_of, is_key}
 use Rattle.hpx_calls.specs.Outcomes.{has_cont, request_in}
+use Rattle.hpx_calls.proofs.Shown.{IsRef}
 
--- a value that is given is within its limits; a SET carries no continuation
+-- a value that is given is within its limits; a SET carries no continuation; under a key stands a reference
 abbrev pub IsFair : (Spelled → Type 0) → Bool → Request Spelled → Type 0
 IsFair P waits (Set slot v) = P v × (waits ≡ false)
 IsFair P waits (Put v) = P v
 IsFair P waits (PutAt slot v) = P v
+IsFair P waits (Register key to) = (length key ≤ 32) × P to × IsRef to
 IsFair P waits _ = Unit {0}
 
 -- a Ref of the arguments points below their number of ids
@@ -61,14 +64,21 @@ step_fair P waits z (Ref r) = tt
 step_fair P waits z (Fault c) = tt
 step_fair P waits z (Ints zs) = tt
 
-register_fair : (P : Spelled → Type 0) (waits : Bool) (key : List ℕ) (v : Spelled) (l : Look) → IsFair P waits (asks_register key v l)
-register_fair P waits key v (Ref r) = fair_if P waits (is_key key) _ _ tt tt
-register_fair P waits key v Nothing = tt
-register_fair P waits key v (Text t) = tt
-register_fair P waits key v (Flag b) = tt
-register_fair P waits key v (Int z) = tt
-register_fair P waits key v (Fault c) = tt
-register_fair P waits key v (Ints zs) = tt
+key_short : (key : List ℕ) → is_key key ≡ true → length key ≤ 32
+key_short key e = leb-true (length key) 32 (and_parts (nat_le 1 (length key)) (nat_le (length key) 32) e).1
+
+keyed_fair : (P : Spelled → Type 0) (waits b : Bool) (key : List ℕ) (v : Spelled) → is_key key ≡ b → P v → IsRef v → IsFair P waits (if b then Register key v else Other)
+keyed_fair P waits true key v e h is = (key_short key e, h, is)
+keyed_fair P waits false key v e h is = tt
+
+register_fair : (P : Spelled → Type 0) (waits : Bool) (key : List ℕ) (v : Spelled) → P v → IsFair P waits (asks_register key v (spelled.look v))
+register_fair P waits key (SpelledRef p) h = keyed_fair P waits (is_key key) key (SpelledRef p) refl h tt
+register_fair P waits key SpelledUnit h = tt
+register_fair P waits key (SpelledText t) h = tt
+register_fair P waits key (SpelledFlag b) h = tt
+register_fair P waits key (SpelledInt z) h = tt
+register_fair P waits key (SpelledFault c) h = tt
+register_fair P waits key (SpelledInts zs) h = tt
 
 set_fair : (P : Spelled → Type 0) (waits : Bool) (z : ℤ) (v : Spelled) → P v → IsFair P waits (if waits then Other else Set z v)
 set_fair P true z v h = tt
@@ -77,7 +87,7 @@ set_fair P false z v h = (h, refl)
 two_fair : (P : Spelled → Type 0) (waits : Bool) (code : ℕ) (l : Look) (v : Spelled) → P v → IsFair P waits (asks_two spelled code waits l v)
 two_fair P waits code (Int z) v h =
     fair_if P waits (code == 3) _ _ (set_fair P waits z v h) (fair_if P waits (code == 19) _ _ (step_fair P waits z (spelled.look v)) (fair_if P waits (code == 33) _ _ h tt))
-two_fair P waits code (Text t) v h = fair_if P waits (code == 5) _ _ tt (fair_if P waits (code == 6) _ _ (register_fair P waits t v (spelled.look v)) tt)
+two_fair P waits code (Text t) v h = fair_if P waits (code == 5) _ _ tt (fair_if P waits (code == 6) _ _ (register_fair P waits t v h) tt)
 two_fair P waits code Nothing v h = tt
 two_fair P waits code (Flag b) v h = tt
 two_fair P waits code (Ref r) v h = tt
@@ -109,7 +119,7 @@ shifted_placed m limit (SpelledRef p) h = let low = h.1 in (omega arith, omega a
 shifted_placed m limit (SpelledFault c) h = h.0
 shifted_placed m limit (SpelledInts zs) h = h.0
 
-args_below : (n limit : ℕ) (vs : List Spelled) → AllByRecursion IsValue vs → IsCount n (refs_in vs) → n + length (refs_in vs) ≤ limit → AllByRecursion (λ v. IsValue v × IsBelow limit v) vs
+pub args_below : (n limit : ℕ) (vs : List Spelled) → AllByRecursion IsValue vs → IsCount n (refs_in vs) → n + length (refs_in vs) ≤ limit → AllByRecursion (λ v. IsValue v × IsBelow limit v) vs
 args_below n limit [] h c low = tt
 args_below n limit (SpelledUnit ∷ vs) h c low = ((tt, tt), args_below n limit vs h.1 c low)
 args_below n limit (SpelledFlag b ∷ vs) h c low = ((tt, tt), args_below n limit vs h.1 c low)
@@ -131,3 +141,10 @@ pub asks_where : (s : State) (a : Act) → a.code ≡ 2 → a.args ≡ [] → re
 asks_where s a code args =
     ap (λ c. request_of spelled c (has_cont a.cont) (map (shifted (length s.ids)) a.args)) code
     ∙ ap (λ vs. request_of spelled 2 (has_cont a.cont) (map (shifted (length s.ids)) vs)) args
+
+-- an action of code 1 with one number of at most 63 asks to move
+pub asks_moving : (s : State) (a : Act) (t : ℕ) → a.code ≡ 1 → t < 64 → a.args ≡ SpelledInt (pos t) ∷ [] → request_in s a ≡ Move t
+asks_moving s a t code low args =
+    ap (λ c. request_of spelled c (has_cont a.cont) (map (shifted (length s.ids)) a.args)) code
+    ∙ ap (λ vs. request_of spelled 1 (has_cont a.cont) (map (shifted (length s.ids)) vs)) args
+    ∙ ap (λ (b : Bool). if b then Move t else Other) (le-leb t 63 (omega arith))

@@ -51,7 +51,7 @@ pub stay_good : (n kind here : ℕ) (s : State) (a : Act) (x : Content Spelled) 
     → IsValue v → refs_in (v ∷ []) ≡ [] → IsGood n kind here s a (leaves x (Answers v))
 stay_good n kind here s a x v h e good plain =
     subst (KeepsLaws n kind here s a) (sym (same_stay s a (layout spelled x) v e))
-    (HandLemmas.stays_keeps n kind here s a v h.state h.act good plain (λ code movable. absurd (h.other.moves movable)) (λ code managed args. absurd (h.other.place code args)))
+    (HandLemmas.stays_keeps n kind here s a v h.state h.act good plain (λ code movable args. absurd (h.other.moves code movable args)) (λ code managed args. absurd (h.other.place code managed args)))
 
 pub refused_good : (n kind here : ℕ) (s : State) (a : Act) (x : Content Spelled) (code : ℕ) → IsCall kind s a → layout spelled x ≡ s.values
     → 1 ≤ code → code ≤ 11 → IsGood n kind here s a (refuses spelled x code)
@@ -68,7 +68,7 @@ silent_good n kind here s a x h e none = by_cont a.cont refl none
         subst P (ap (λ c. own_reply s c SpelledUnit) f) (stay_good n kind here s a x SpelledUnit h e tt refl)
     by_cont (Some c) f g = absurd (cc)
 
-own_plain : (s : State) (cont : Option Cont) (v : Spelled) → IsValue v → refs_in (v ∷ []) ≡ [] → ArePlain (own_reply s cont v)
+pub own_plain : (s : State) (cont : Option Cont) (v : Spelled) → IsValue v → refs_in (v ∷ []) ≡ [] → ArePlain (own_reply s cont v)
 own_plain s None v h e = tt
 own_plain s (Some c) v h e = (h, e, tt)
 
@@ -113,7 +113,7 @@ frees_good n kind here s a x count v u h few low vs good plain fine bare =
     plain_keeps n kind here s a (layout spelled x) (numbers count (length s.conts - count)) (freed v 0 count ++ own_reply s a.cont u) h.state h.act h.other vs.refs vs.values
     (omega arith) (omega arith) (freed_plain s a.cont v u 0 count good plain fine bare) (frees_all s a count v u low)
 
-one_int : (z : ℤ) → ArePlainValues (SpelledInt z ∷ [])
+pub one_int : (z : ℤ) → ArePlainValues (SpelledInt z ∷ [])
 one_int z = record { refs = refl; values = record { few = lit≤ tt; each = (tt, tt) }; short = lit≤ tt }
 
 -- ---- latches

@@ -1,11 +1,10 @@
 -- Lists read from their front, one after the other.
-use Rattle.std.specs.Prelude.{ℕ, Bool, List, [], ◌∷◌, ◌++◌, ◌≡◌, ◌+◌, ◌-◌, ◌≤◌, Option, Some, None, Result, Ok, Err, IfOk, length, map, drop, take, refl}
-use Rattle.std.proofs.Common.{ap, append_assoc, sym, subst, ◌∙◌, arith, get_or}
-use Rattle.std.proofs.lemmas.List.{append-nil, take_rest}
+use Rattle.std.specs.Prelude.{ℕ, Bool, List, [], ◌∷◌, ◌++◌, ◌≡◌, ◌-◌, ◌≤◌, Option, Some, None, Result, Ok, Err, IfOk, length, map, drop, take}
+use Rattle.std.proofs.Common.{ap, sym, subst, ◌∙◌, arith, get_or}
+use Rattle.std.proofs.lemmas.List.{take_rest}
 use Rattle.hpx_value.specs.declared.value.Value.{Value}
-use Rattle.hpx_calls.specs.Values.{spelled, shifted, size}
+use Rattle.hpx_calls.specs.Values.{spelled, shifted}
 use Rattle.hpx_calls.specs.Requests.{Request, request_of, asks_many}
-use Rattle.hpx_calls.specs.Contents.{Pair, Given, both, pair_of, pairs_in, given_of, given_in, given_size}
 
 -- three arguments or more, the first of which is named
 pub many_asked : (code by : ℕ) (waits : Bool) (args : List Value) (first : Value) → 3 ≤ length args → first ≡ get_or args 0 first

@@ -17,7 +17,7 @@ use Rattle.hpx_value.specs.Shapes.{IsValue, AreValues, IsMessage, IsState, IsAct
 use Rattle.hpx_value.specs.Hands.{Slot, hand_ids, hand_slot, hand_slots, id_at, renumbered, conts_from, replied}
 use Rattle.hpx_value.specs.Kept
 use Rattle.hpx_value.specs.Mentions.{mentions, cont_place, cont_places, reply_mentions}
-use Rattle.hpx_value.specs.Laws.{UsesEachOnce, answered, uses, IsMovable, KeepsLaws}
+use Rattle.hpx_value.specs.Laws.{UsesEachOnce, answered, uses, IsManaged, IsMovable, MovesBelow, KeepsLaws}
 use Rattle.hpx_value.proofs.Uses.{one_if, count-cons, used_below, used_few}
 use Rattle.hpx_value.proofs.Kept as HandLemmas
 use Rattle.hpx_calls.specs.Outcomes.{numbers, cont_count, own_reply, freed, outcome}
@@ -145,7 +145,7 @@ all_map : (limit : ℕ) (f : ℕ → ℕ) (xs : List ℕ) → ((i : ℕ) → f i
 all_map limit f [] h = tt
 all_map limit f (x ∷ xs) h = (h x, all_map limit f xs h)
 
-all_append : {X : Type 0} (P : X → Type 0) (xs ys : List X) → AllByRecursion P xs → AllByRecursion P ys → AllByRecursion P (xs ++ ys)
+pub all_append : {X : Type 0} (P : X → Type 0) (xs ys : List X) → AllByRecursion P xs → AllByRecursion P ys → AllByRecursion P (xs ++ ys)
 all_append P [] ys h i = i
 all_append P (x ∷ xs) ys h i = (h.0, all_append P xs ys h.1 i)
 
@@ -262,8 +262,8 @@ state_plain s a made vs slots e good few short =
 
 -- what a call is not that tells no place
 pub record TellsNoPlace (kind : ℕ) (a : Act) : Type 0 where
-  pub moves : IsMovable kind → ⊥
-  pub place : a.code ≡ 2 → a.args ≡ [] → ⊥
+  pub moves : a.code ≡ 1 → IsMovable kind → MovesBelow 64 a.args → ⊥
+  pub place : a.code ≡ 2 → IsManaged kind → a.args ≡ [] → ⊥
   pub plain : kind ≢ 7
 
 pub plain_keeps : (n kind here : ℕ) (s : State) (a : Act) (vs : List Value) (conts : List ℕ) (rs : List Reply) → IsState s → IsAct a → TellsNoPlace kind a
@@ -301,7 +301,7 @@ plain_keeps n kind here s a vs conts rs h act other e good few short plain all =
         sends = λ made. tt;
         replies = λ made. plain_messages s a made rs plain;
       };
-      moves = record { codes = tt; moves = tt; moved = λ code movable. absurd (other.moves movable); place = λ code managed args. absurd (other.place code args) };
+      moves = record { codes = tt; moves = tt; moved = λ code movable args. absurd (other.moves code movable args); place = λ code managed args. absurd (other.place code managed args) };
       plain = λ k. absurd (other.plain k);
       roots = tt;
     }

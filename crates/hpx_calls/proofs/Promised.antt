@@ -47,7 +47,7 @@ general_keeps n kind here s a vs conts rs h all places few many state messages =
       slots = record { made = tt; made_once = λ make slot. lit≤ tt; session = λ _. refl; drawn = tt; counted = omega arith };
       few = record { makes = lit≤ tt; sends = lit≤ tt; prints = lit≤ tt; managed = tt; session = λ _. refl; short = tt };
       shapes = record { state = state; births = tt; sends = λ made. tt; replies = messages };
-      moves = record { codes = tt; moves = tt; moved = λ code movable. absurd (h.other.moves movable); place = λ code managed args. absurd (h.other.place code args) };
+      moves = record { codes = tt; moves = tt; moved = λ code movable args. absurd (h.other.moves code movable args); place = λ code managed args. absurd (h.other.place code managed args) };
       plain = λ k. absurd (h.other.plain k);
       roots = tt;
     }

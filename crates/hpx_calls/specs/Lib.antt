@@ -6,3 +6,4 @@ pub mod Tables
 pub mod Outcomes
 pub mod Sorts
 pub mod Histories
+pub mod Ids

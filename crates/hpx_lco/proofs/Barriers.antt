@@ -1,14 +1,13 @@
 -- What a barrier holds after calls, and what calls on it are told.
-use Rattle.std.specs.Prelude.{ℕ, zero, suc, Bool, true, false, List, [], ◌∷◌, ◌++◌, ◌+◌, ◌-◌, ◌%◌, ◌≤◌, ◌<◌, ◌≡◌, ◌≢◌, ◌==◌, Option, Some, None, length, take, drop, refl, if◌then◌else◌}
+use Rattle.std.specs.Prelude.{ℕ, suc, Bool, true, false, List, [], ◌∷◌, ◌++◌, ◌+◌, ◌-◌, ◌%◌, ◌≤◌, ◌<◌, ◌≡◌, ◌≢◌, ◌==◌, Option, Some, None, length, drop, refl, if◌then◌else◌}
 use Rattle.std.proofs.Common.{ap, sym, ◌∙◌, arith, length-drop}
 use Rattle.std.proofs.Math.Nat.{suc-mod, mod-le, mod_self, mod-eq_of_lt}
 use Rattle.std.proofs.lemmas.Bool.{eq-eqb, ne_eqb, eqb-true, eqb-false}
 use Rattle.std.proofs.lemmas.List.{drop_all, drop-append-le}
-use Rattle.hpx_calls.specs.Values.{Sort}
 use Rattle.hpx_calls.specs.declared.content.Content.TheVariants.{Barrier}
 use Rattle.hpx_calls.specs.declared.request.Request.{Request}
 use Rattle.hpx_calls.specs.declared.request.Request.TheVariants.{Move, Where, Arrive}
-use Rattle.hpx_calls.specs.Histories.{Setting, Object, Call, Told, own, each, next, still, tells, called_on, run, says}
+use Rattle.hpx_calls.specs.Histories.{Setting, Object, Call, own, each, next, tells, called_on, run, says}
 use Rattle.hpx_lco.specs.Answered.{joins_arrive, arrivals, arrive_says}
 use Rattle.hpx_lco.proofs.Still
 use Rattle.hpx_lco.proofs.Still.{object, call, same_where, same_move, either, told_either, same_test}

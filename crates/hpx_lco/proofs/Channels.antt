@@ -1,17 +1,15 @@
 -- What a channel holds after calls, and what calls on it are told.
-use Rattle.std.specs.Prelude.{ℕ, zero, suc, ℤ, Bool, true, false, nat_le, nat_lt, List, [], ◌∷◌, ◌++◌, ◌+◌, ◌-◌, ◌≤◌, ◌<◌, ◌≡◌, ◌≢◌, ◌==◌, Option, Some, None, length, take, drop, refl, if◌then◌else◌}
-use Rattle.std.proofs.Common.{ap, sym, ◌∙◌, arith, length-append, length-drop, add-one}
+use Rattle.std.specs.Prelude.{ℕ, zero, suc, ℤ, Bool, true, false, List, [], ◌∷◌, ◌++◌, ◌+◌, ◌≤◌, ◌<◌, ◌≡◌, ◌==◌, Option, Some, None, length, take, drop, refl, if◌then◌else◌}
+use Rattle.std.proofs.Common.{ap, sym, ◌∙◌, arith, length-drop}
 use Rattle.std.proofs.lemmas.Bool.{eq-eqb, ne_eqb, eqb-true, eqb-false, lt-ltb, le-ltb}
 use Rattle.std.proofs.lemmas.List.{drop_all, drop-append-le}
-use Rattle.hpx_calls.specs.Values.{Sort, is_small}
-use Rattle.hpx_calls.specs.declared.content.Content.{Content}
+use Rattle.hpx_calls.specs.Values.{is_small}
 use Rattle.hpx_calls.specs.declared.content.Content.TheVariants.{Channel}
 use Rattle.hpx_calls.specs.declared.request.Request.{Request}
 use Rattle.hpx_calls.specs.declared.request.Request.TheVariants.{Move, Where, Set, Get, Put, Close}
 use Rattle.hpx_calls.specs.declared.effect.Called.{Called}
-use Rattle.hpx_calls.specs.declared.effect.Effect.TheVariants.{Silent}
-use Rattle.hpx_calls.specs.Tables.{is_first, leaves, sends, wrong}
-use Rattle.hpx_calls.specs.Histories.{Setting, Object, Call, Told, Answered, own, each, next, still, tells, called_on, run, says}
+use Rattle.hpx_calls.specs.Tables.{is_first, sends}
+use Rattle.hpx_calls.specs.Histories.{Setting, Object, Call, Answered, own, each, next, still, tells, called_on, run, says}
 use Rattle.hpx_lco.specs.Answered.{Accepted, is_close, closed, small, putting, getting, takes_put, takes_get, with_put, with_get, accepted, put_says, received, get_from, close_says}
 use Rattle.hpx_lco.proofs.Still
 use Rattle.hpx_lco.proofs.Still.{object, call, same_where, same_move, either, told_either, same_test}

@@ -1,5 +1,5 @@
 -- The values of inputs, one more at the end.
-use Rattle.std.specs.Prelude.{ℕ, zero, suc, List, [], ◌∷◌, ◌++◌, ◌≡◌, ◌+◌, refl}
+use Rattle.std.specs.Prelude.{ℕ, zero, suc, List, [], ◌∷◌, ◌++◌, ◌≡◌, ◌+◌}
 use Rattle.std.proofs.Common.{ap, ◌∙◌, arith, add-one}
 use Rattle.hpx_value.specs.declared.value.Value.{Value}
 use Rattle.hpx_calls.specs.Values.{spelled}

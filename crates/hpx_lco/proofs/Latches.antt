@@ -1,14 +1,12 @@
 -- What a latch holds after calls, and what calls on it are told.
-use Rattle.std.specs.Prelude.{ℕ, zero, suc, Bool, true, false, cond, nat_le, List, [], ◌∷◌, ◌++◌, ◌+◌, ◌-◌, ◌≤◌, ◌<◌, ◌≡◌, ◌≢◌, ◌==◌, Option, Some, None, length, take, drop, refl, if◌then◌else◌}
-use Rattle.std.proofs.Common.{ap, sym, ◌∙◌, arith, subst}
-use Rattle.std.proofs.lemmas.Bool.{cond_both, leb-true, leb-false, le-leb, lt-leb, eq-eqb, ne_eqb, eqb-true, eqb-false}
+use Rattle.std.specs.Prelude.{ℕ, zero, suc, Bool, true, false, nat_le, List, [], ◌∷◌, ◌++◌, ◌+◌, ◌-◌, ◌≡◌, ◌==◌, Option, Some, None, length, take, refl, if◌then◌else◌}
+use Rattle.std.proofs.Common.{ap, ◌∙◌, arith}
+use Rattle.std.proofs.lemmas.Bool.{le-leb, lt-leb, eq-eqb, ne_eqb, eqb-true, eqb-false}
 use Rattle.hpx_calls.specs.Values.{Sort}
-use Rattle.hpx_calls.specs.declared.content.Content.{Content}
 use Rattle.hpx_calls.specs.declared.content.Content.TheVariants.{Latch}
 use Rattle.hpx_calls.specs.declared.request.Request.{Request}
 use Rattle.hpx_calls.specs.declared.request.Request.TheVariants.{Move, Where, Down, Wait}
-use Rattle.hpx_calls.specs.declared.effect.Called.{Called}
-use Rattle.hpx_calls.specs.Histories.{Setting, Object, Call, Told, own, each, joined, next, still, tells, called_on, run, says}
+use Rattle.hpx_calls.specs.Histories.{Setting, Object, Call, Told, own, each, joined, next, tells, called_on, run, says}
 use Rattle.hpx_lco.specs.Answered.{down_count, downs, joins_wait, waits, down_says, wait_says}
 use Rattle.hpx_lco.proofs.Still.{object, call, same_where, same_move, either, told_either, same_test, joins_cut, is_full, drop_all, take_all}
 

@@ -4,3 +4,4 @@ pub mod Latches
 pub mod Promises
 pub mod Channels
 pub mod Barriers
+pub mod Flows

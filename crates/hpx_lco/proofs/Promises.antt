@@ -1,16 +1,14 @@
 -- What a promise holds after calls, and what calls on it are told.
-use Rattle.std.specs.Prelude.{ℕ, zero, suc, ℤ, Bool, true, false, cond, nat_le, List, [], ◌∷◌, ◌++◌, ◌+◌, ◌-◌, ◌≤◌, ◌<◌, ◌≡◌, ◌==◌, Option, Some, None, is_some, length, take, drop, refl, if◌then◌else◌}
-use Rattle.std.proofs.Common.{ap, sym, ◌∙◌, arith, subst}
-use Rattle.std.proofs.lemmas.Bool.{cond_both, leb-true, leb-false, eq-eqb, ne_eqb}
-use Rattle.hpx_calls.specs.Values.{Sort, is_number_or_text}
-use Rattle.hpx_calls.specs.declared.content.Content.{Content}
+use Rattle.std.specs.Prelude.{ℤ, Bool, true, false, List, [], ◌∷◌, ◌++◌, ◌≡◌, ◌==◌, Option, Some, None, is_some, length, take, refl, if◌then◌else◌}
+use Rattle.std.proofs.Common.{ap, ◌∙◌}
+use Rattle.hpx_calls.specs.Values.{is_number_or_text}
 use Rattle.hpx_calls.specs.declared.content.Content.TheVariants.{Promise}
 use Rattle.hpx_calls.specs.declared.request.Request.{Request}
 use Rattle.hpx_calls.specs.declared.request.Request.TheVariants.{Move, Where, Set, Get, Put}
 use Rattle.hpx_calls.specs.declared.effect.Called.{Called}
 use Rattle.hpx_calls.specs.declared.effect.Effect.TheVariants.{Silent}
 use Rattle.hpx_calls.specs.Tables.{is_first, leaves, sets, wrong}
-use Rattle.hpx_calls.specs.Histories.{Setting, Object, Call, Told, own, each, joined, next, still, tells, called_on, run, says}
+use Rattle.hpx_calls.specs.Histories.{Setting, Object, Call, Told, own, each, next, still, tells, called_on, run, says}
 use Rattle.hpx_lco.specs.Answered.{setting, or_else, first_set, joins_get, gets, set_says, get_says}
 use Rattle.hpx_lco.proofs.Still.{object, call, same_where, same_move, either, told_either, joins_cut, is_full, drop_all, take_all}
 

@@ -1,5 +1,5 @@
 -- What calls on control objects are answered, as functions of the whole list of calls before, the latest first.
-use Rattle.std.specs.Prelude.{ℕ, zero, suc, Bool, true, false, nat_le, nat_lt, List, [], ◌∷◌, ◌++◌, ◌+◌, ◌-◌, ◌%◌, ◌==◌, ◌&&◌, Option, Some, None, length, take, drop, if◌then◌else◌}
+use Rattle.std.specs.Prelude.{ℕ, Bool, true, false, nat_le, nat_lt, List, [], ◌∷◌, ◌++◌, ◌+◌, ◌-◌, ◌%◌, ◌==◌, Option, Some, None, length, take, drop, if◌then◌else◌}
 use Rattle.hpx_calls.specs.Values.{Sort, is_number_or_text, is_small}
 use Rattle.hpx_calls.specs.declared.request.Request.{Request}
 use Rattle.hpx_calls.specs.declared.request.Request.TheVariants.{Set, Get, Put, Close, Down, Wait, Arrive}

@@ -1,11 +1,12 @@
 //! What calls on control objects are answered, as functions of the whole list of calls.
 //!
 //! A list of calls has the latest first. Values are of any sort, and waiters are of any type.
-ghost use Rattle.std.specs.Prelude.{◌≡◌, ◌≤◌, ℕ, ℤ, List, [], Option, Some, None, true, false};
+ghost use Rattle.std.specs.Prelude.{◌≡◌, ◌≤◌, ◌&&◌, ℕ, ℤ, List, [], Option, Some, None, true, false, if◌then◌else◌};
 ghost use Rattle.hpx_calls.specs.Values.{is_number_or_text, is_small};
 ghost use Rattle.hpx_calls.specs.Tables.{is_first};
 ghost use Rattle.hpx_calls.specs.Histories.{Call, Setting, says};
 ghost use Rattle.hpx_lco.specs.Answered.{accepted, arrivals, arrive_says, close_says, closed, down_says, first_set, get_from, get_says, gets, put_says, set_says, wait_says};
+ghost use Rattle.hpx_lco.specs.Flows.{ask_says, give_says, has_get, is_full, starts, story};
 
 use hpx_calls::content::Content;
 use hpx_calls::request::Request;
@@ -42,4 +43,18 @@ pub fn channel_law<V, W>()
 pub fn barrier_law<V, W>()
     ensures { (g : Setting V) (n : ℕ) (h : List (Call V W)) (w : W) → 1 ≤ n
         → says g (Content.Barrier n) h (record { request = Request.Arrive; waiter = Some w }) ≡ arrive_says g.sort n (arrivals h) (Some w) }
+{}
+
+/// A dataflow of n inputs that starts an action with a code.
+pub fn dataflow_law<V, W>()
+    ensures put { (g : Setting V) (code n : ℕ) (h : List (Call V W)) (slot : ℤ) (v : V) (w : Option W)
+        → says g (Content.Dataflow code n []) h (record { request = Request.PutAt slot v; waiter = w })
+        ≡ give_says g.sort code n h (record { request = Request.PutAt slot v; waiter = w }) slot }
+    ensures set { (g : Setting V) (code n : ℕ) (h : List (Call V W)) (slot : ℤ) (v : V) (w : Option W)
+        → says g (Content.Dataflow code n []) h (record { request = Request.Set slot v; waiter = w })
+        ≡ give_says g.sort code n h (record { request = Request.Set slot v; waiter = w }) slot }
+    ensures get { (g : Setting V) (code n : ℕ) (h : List (Call V W)) (w : W)
+        → says g (Content.Dataflow code n []) h (record { request = Request.Get; waiter = Some w }) ≡ ask_says g.sort code n h w }
+    ensures once { (g : Setting V) (code n : ℕ) (h : List (Call V W))
+        → starts (story g (Content.Dataflow code n []) h) ≡ (if is_full g.sort n h && has_get h then 1 else 0) }
 {}

@@ -208,10 +208,12 @@ fn a_latch_frees_those_that_wait(rt: HostRuntime) -> Result<(), Fail> {
 
 #[test]
 fn a_promise_has_one_value(rt: HostRuntime) -> Result<(), Fail> {
-    let rows: [Row; 3] = [
+    let rows: [Row; 5] = [
         (1, PUT, &[4], "1: unit;"),
         (2, PUT, &[5], "2: fault 6;"),
         (3, GET, &[], "3: 4;"),
+        (4, PUT, &[0, 5], "4: fault 11;"),
+        (5, CLOSE, &[], "5: fault 11;"),
     ];
     let promise = Object::new(rt.alloc(), PROMISE, numbers(rt.alloc(), &[])?);
     check(&rt, rt.alloc(), promise, &rows)

@@ -6,6 +6,7 @@
 #![tactic(auto)]
 
 pub mod act;
+pub mod laws;
 mod maker;
 mod table;
 #[cfg(test)]

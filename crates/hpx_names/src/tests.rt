@@ -183,10 +183,23 @@ fn a_table_is_full(rt: HostRuntime) -> Result<(), Fail> {
         let key = args(alloc, Some(&[byte]), ID)?;
         symbols.says(&rt, alloc, REGISTER, key, "unit")?;
     }
-    let rows: [Row; 3] = [
+    let rows: [Row; 6] = [
         (REGISTER, Some(b"zz"), ID, "fault 10"),
         (REGISTER, Some(b"a"), ID, "fault 2"),
         (REGISTER, Some(b""), ID, "fault 11"),
+        (
+            REGISTER,
+            Some(b"123456789012345678901234567890123"),
+            ID,
+            "fault 11",
+        ),
+        (
+            RESOLVE,
+            Some(b"123456789012345678901234567890123"),
+            None,
+            "fault 3",
+        ),
+        (REGISTER, Some(b"a"), Some(Rest::Number(1)), "fault 11"),
     ];
     check(&rt, alloc, symbols, &rows)
 }
