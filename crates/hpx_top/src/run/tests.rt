@@ -43,8 +43,12 @@ fn hexadecimal(alloc: Global, bytes: &[u8]) -> Result<Vec<u8>, AllocError> {
     Ok(text)
 }
 
-// Status, text and number of entries of a session over ports in memory of which none fails.
-fn session(alloc: Global, input: &[u8], order: Order) -> Result<(u8, Vec<u8>, u64), AllocError> {
+// Status, text, and how many entries and frames there are, of a session over ports in memory of which none fails.
+fn session(
+    alloc: Global,
+    input: &[u8],
+    order: Order,
+) -> Result<(u8, Vec<u8>, (u64, usize)), AllocError> {
     let mut source = MemSource::new(bytes(alloc, input)?, Lengths::new(alloc));
     let mut sink = MemSink::new(alloc, Lengths::new(alloc));
     let mut err = MemSink::new(alloc, Lengths::new(alloc));
@@ -61,7 +65,10 @@ fn session(alloc: Global, input: &[u8], order: Order) -> Result<(u8, Vec<u8>, u6
         Some(world) => world.journal().entries(),
         None => 0,
     };
-    Ok((end.status, Vec::from_slice(alloc, sink.bytes())?, entries))
+    // Each frame is in the trace where it was sent, and where it was delivered.
+    let frames = end.fabric.trace().len() / 2;
+    let text = Vec::from_slice(alloc, sink.bytes())?;
+    Ok((end.status, text, (entries, frames)))
 }
 
 #[test]
@@ -123,10 +130,23 @@ fn each_command_crosses_the_fabric(rt: HostRuntime) -> Result<(), Fail> {
         }
         _ => assert_eq!(rt; true, false),
     }
-    let (_, _, entries) = session(alloc, b"add 5\nquery\nquit\n", Order::FirstIn)?;
-    assert_eq!(rt; entries, 27);
-    let (_, _, entries) = session(alloc, b"", Order::FirstIn)?;
-    assert_eq!(rt; entries, 0);
+    Ok(())
+}
+
+#[test]
+fn each_session_has_its_entries_and_frames(rt: HostRuntime) -> Result<(), Fail> {
+    let alloc = rt.alloc();
+    for order in ORDERS {
+        for (input, entries, frames) in [
+            (b"add 5\nquery\nquit\n".as_slice(), 27, 4),
+            (b"add 5\n", 13, 2),
+            (b"query\n", 14, 2),
+            (b"add x\n", 4, 0),
+            (b"", 0, 0),
+        ] {
+            assert_eq!(rt; session(alloc, input, order)?.2, (entries, frames));
+        }
+    }
     Ok(())
 }
 
@@ -137,9 +157,9 @@ fn long_lines_are_not_fed(rt: HostRuntime) -> Result<(), Fail> {
     for _ in 0..1025 {
         input.push(b'x')?;
     }
-    let (status, text, entries) = session(alloc, input.as_slice(), Order::FirstIn)?;
+    let (status, text, counts) = session(alloc, input.as_slice(), Order::FirstIn)?;
     assert_eq!(rt; status, 0);
-    assert_eq!(rt; entries, 0);
+    assert_eq!(rt; counts, (0, 0));
     let want: &[u8] = b"commands: reset, add [amount], query, help, quit\n> error: bad command\n> ";
     assert_eq!(rt; text.as_slice(), want);
     Ok(())
