@@ -100,4 +100,11 @@ impl<Q> Queues<Q> {
     {
         up_to(&self.waiting, number) - below(&self.waiting, number)
     }
+
+    /// How many items there are, in all queues.
+    pub(crate) fn total(&self) -> usize
+        ensures { result ≡ length self.now.waiting }
+    {
+        self.waiting.len()
+    }
 }

@@ -139,6 +139,13 @@ impl<Q> Records<Q> {
         self.births
     }
 
+    /// How many items wait, for all objects together.
+    pub fn waiting(&self) -> u64
+        ensures { result ≡ length self.now.waiting }
+    {
+        self.queues.total() as u64
+    }
+
     /// How many live records there are.
     pub fn number(&self) -> u32
         ensures value { result ≡ length self.now.records }

@@ -224,6 +224,11 @@ fn step(
 fn compare(rt: &impl Abort, records: &Records<u64>, plain: &Plain) {
     assert_eq!(rt; records.births() as u64, plain.births);
     assert_eq!(rt; records.number() as usize, plain.lines.len());
+    let mut waiting = 0usize;
+    for line in &plain.lines {
+        waiting = waiting.wrapping_add(line.queue.len());
+    }
+    assert!(rt; records.waiting() as usize >= waiting);
     for number in 0..30 {
         let gid = object(number);
         let stranger = Gid::new(6, gid.kind(), gid.number());
@@ -278,5 +283,39 @@ fn drawn_calls_keep_a_plain_list(rt: HostRuntime) -> Result<(), Fail> {
     }
     assert!(rt; plain.births > 20);
     assert!(rt; plain.lines.len() < 25);
+    Ok(())
+}
+
+// Items need not be copied: here they are lists.
+#[test]
+fn lists_wait_for_a_move(rt: HostRuntime) -> Result<(), Fail> {
+    let alloc = rt.alloc();
+    let profile = Profile {
+        credit_log: 8,
+        credit_limit: 256,
+        cache: 1,
+    };
+    let mut records = Records::new(alloc, profile, 5);
+    records.reserve(1)?;
+    let gid = records.born(16);
+    records.begin_move(gid, 6);
+    for i in 0..2u64 {
+        let mut item = Vec::new(alloc);
+        item.push(i)?;
+        records.reserve(1)?;
+        if records.moving(gid).is_some() {
+            records.queue(gid, item);
+        }
+    }
+    assert_eq!(rt; records.waiting(), 2);
+    assert_eq!(rt; records.landed(gid, 6), Ok(()));
+    for i in 0..2u64 {
+        let Some(item) = records.release(gid) else {
+            panic!(rt; "nothing waits");
+        };
+        assert_eq!(rt; item.as_slice().first().copied(), Some(i));
+    }
+    assert!(rt; records.release(gid).is_none());
+    assert_eq!(rt; records.waiting(), 0);
     Ok(())
 }

@@ -73,7 +73,7 @@ impl Cache {
     }
 
     /// Where an object was last said to be; no entry moves.
-    fn place(&self, gid: Gid) -> Option<u32>
+    pub(crate) fn place(&self, gid: Gid) -> Option<u32>
         ensures { result ≡ lookup (same_object gid) self.now.entries }
     {
         self.items.peek(&key_of(gid)).copied()

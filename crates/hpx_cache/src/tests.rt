@@ -24,6 +24,16 @@ impl Plain {
         None
     }
 
+    // The place in the line of a number.
+    fn place(&self, number: u64) -> Option<u32> {
+        for line in &self.lines {
+            if line.0 == number {
+                return Some(line.1);
+            }
+        }
+        None
+    }
+
     // Puts a line first.
     fn put(&mut self, number: u64, place: u32) -> Result<(), Fail> {
         self.lines.insert(0, (number, place))?;
@@ -62,6 +72,9 @@ fn step(rt: &impl Abort, cache: &mut Cache, plain: &mut Plain, draw: u64) -> Res
     }
     assert_eq!(rt; cache.len(), plain.lines.len());
     assert_eq!(rt; cache.is_empty(), plain.lines.is_empty());
+    for number in 0..7 {
+        assert_eq!(rt; cache.place(object(number, draw)), plain.place(number));
+    }
     Ok(())
 }
 

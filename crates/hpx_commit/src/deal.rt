@@ -21,7 +21,7 @@ pub fn is_managed(id: Gid) -> bool
 }
 
 /// The log of an id's credit, or 0.
-fn log_of(id: Gid) -> u8
+pub fn log_of(id: Gid) -> u8
     ensures log { result ≡ log_of id.log }
     ensures bound { result ≤ 31 }
 {

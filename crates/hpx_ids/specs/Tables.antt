@@ -1,6 +1,6 @@
 -- The ids that are held, by key.
 use Rattle.std.specs.Prelude.{ℕ, Bool, true, false, ◌-◌, ◌≤◌, ◌≡◌, List, sum_by, Option, Some, None, IsSomeAnd, slice_index_or, if◌then◌else◌}
-use Rattle.std.specs.Option.{option_map}
+use Rattle.std.specs.Option.{option_map, option_map_or}
 use Rattle.hpx_value.specs.Ids.{Id, bare, same_object, credit}
 use Rattle.hpx_ids.specs.declared.held.Held.{Held}
 use Rattle.hpx_ids.specs.declared.held.Owner.{Owner}
@@ -17,6 +17,10 @@ entry t e = slice_index_or t.slots e None
 -- an entry that is not asked for
 abbrev pub adopted : Id → Owner → Held
 adopted id owner = record { gid = id; owner = owner; asking = false }
+
+-- the sum of a weight over the entries
+abbrev pub held_sum : (Held → ℕ) → Table → ℕ
+held_sum f t = sum_by (λ slot. option_map_or f slot 0) t.slots
 
 -- what an id is worth to an object
 abbrev pub credit_for : Id → Id → ℕ

@@ -2,7 +2,8 @@ ghost use Rattle.std.specs.Prelude.{◌≡◌, ◌≢◌, ◌≤◌, ◌+◌, �
 ghost use Rattle.std.specs.Option.{option_map};
 ghost use Rattle.std.specs.List.Sorted.{IsStrictlyIncreasing};
 ghost use Rattle.hpx_value.specs.Ids.{Id, bare, same_object};
-ghost use Rattle.hpx_ids.specs.Tables.{entry, adopted, asked, shown, half, CanSplit, IsIdle, IsSplittable, IsSpent, AsksFor, IsKeptBy, credit_for, credit_at, credit_sum};
+ghost use Rattle.hpx_ids.specs.declared.held.Held.{Held};
+ghost use Rattle.hpx_ids.specs.Tables.{entry, adopted, asked, shown, half, CanSplit, IsIdle, IsSplittable, IsSpent, AsksFor, IsKeptBy, credit_for, credit_at, credit_sum, held_sum};
 
 use crate::held::{Held, Owner};
 use hpx_value::exact::Exact;
@@ -74,6 +75,7 @@ impl Ids {
         ensures free { entry self.old result ≡ None }
         ensures entry { entry self.new result ≡ Some (adopted gid owner) }
         ensures others { (k : ℕ) → k ≢ result → entry self.new k ≡ entry self.old k }
+        ensures sums { (f : Held → ℕ) → held_sum f self.new ≡ held_sum f self.old + f (adopted gid owner) }
         ensures credits { (o : Id) → credit_sum o self.new ≡ credit_sum o self.old + credit_for o gid }
         ensures spare { self.old.spare ≤ self.new.spare + 1 }
     {
@@ -90,6 +92,7 @@ impl Ids {
         ensures answer { IfSome (entry self.old e) (λ h. result ≡ half h.gid) }
         ensures entry { IfSome (entry self.old e) (λ h. entry self.new e ≡ Some (record h { gid = result })) }
         ensures others { (k : ℕ) → k ≢ e → entry self.new k ≡ entry self.old k }
+        ensures sums { IfSome (entry self.old e) (λ h. (f : Held → ℕ) → held_sum f self.new + f h ≡ held_sum f self.old + f (record h { gid = result })) }
         ensures credits { (o : Id) → credit_sum o self.new + credit_for o result ≡ credit_sum o self.old }
         ensures spare { self.old.spare ≤ self.new.spare }
     {
@@ -105,6 +108,7 @@ impl Ids {
         ensures answer { IfSome (entry self.old e) (λ h. result ≡ h.gid) }
         ensures entry { entry self.new e ≡ None }
         ensures others { (k : ℕ) → k ≢ e → entry self.new k ≡ entry self.old k }
+        ensures sums { IfSome (entry self.old e) (λ h. (f : Held → ℕ) → held_sum f self.new + f h ≡ held_sum f self.old) }
         ensures credits { (o : Id) → credit_sum o self.new + credit_for o result ≡ credit_sum o self.old }
         ensures spare { self.old.spare ≤ self.new.spare }
     {
@@ -117,6 +121,7 @@ impl Ids {
         ensures answer { IfSome (entry self.old e) (λ h. result ≡ h.gid) }
         ensures entry { entry self.new e ≡ None }
         ensures others { (k : ℕ) → k ≢ e → entry self.new k ≡ entry self.old k }
+        ensures sums { IfSome (entry self.old e) (λ h. (f : Held → ℕ) → held_sum f self.new + f h ≡ held_sum f self.old) }
         ensures credits { (o : Id) → credit_sum o self.new + credit_for o result ≡ credit_sum o self.old }
         ensures spare { self.old.spare ≤ self.new.spare }
     {
@@ -129,6 +134,7 @@ impl Ids {
         ensures answer { IfSome (entry self.old e) (λ h. result ≡ h.gid) }
         ensures entry { IfSome (entry self.old e) (λ h. entry self.new e ≡ Some (asked h)) }
         ensures others { (k : ℕ) → k ≢ e → entry self.new k ≡ entry self.old k }
+        ensures sums { IfSome (entry self.old e) (λ h. (f : Held → ℕ) → held_sum f self.new + f h ≡ held_sum f self.old + f (asked h)) }
         ensures credits { (o : Id) → credit_sum o self.new + credit_for o result ≡ credit_sum o self.old }
         ensures spare { self.old.spare ≤ self.new.spare }
     {
@@ -144,6 +150,7 @@ impl Ids {
         ensures not_asked { IsErr result ↔ ¬ AsksFor (entry self.old e) gid }
         ensures entry { OnOk result (IfSome (entry self.old e) (λ h. entry self.new e ≡ Some (adopted gid h.owner))) }
         ensures others { (k : ℕ) → k ≢ e → entry self.new k ≡ entry self.old k }
+        ensures sums { OnOk result (IfSome (entry self.old e) (λ h. (f : Held → ℕ) → held_sum f self.new + f h ≡ held_sum f self.old + f (adopted gid h.owner))) }
         ensures credits { OnOk result ((o : Id) → credit_sum o self.new ≡ credit_sum o self.old + credit_for o gid) }
         ensures err { OnErr result (self.new ≡ self.old) }
         ensures spare { self.old.spare ≤ self.new.spare }

@@ -1,15 +1,15 @@
 -- Where the greatest count is ample, no more credit is ever refused.
-use Rattle.std.proofs.Common.{ℕ, Bool, true, false, cond, List, [], ◌∷◌, ◌≡◌, ◌+◌, ◌*◌, ◌^◌, ◌≤◌, ◌<◌, length, refl, sym, ap, ◌∙◌, subst, arith, inl, inr}
-use Rattle.std.specs.List.{find, sum_by}
+use Rattle.std.proofs.Common.{ℕ, Bool, true, false, cond, List, [], ◌∷◌, ◌≡◌, ◌+◌, ◌*◌, ◌^◌, ◌≤◌, length, refl, ap, subst, arith, inl, inr}
+use Rattle.std.specs.List.{find}
 use Rattle.std.proofs.Math.Pow.{pow_mono}
 use Rattle.std.proofs.lemmas.List.Sums.{sum_by-cons}
 use Rattle.std.proofs.lemmas.Bool.{cases_Bool, cases_eq}
 use Rattle.hpx_value.specs.Ids.{Id, same_object}
-use Rattle.hpx_journal.specs.Entries.{Reason, Returned, Granted, Refused, Event, Born, Count, Entry, Rules}
+use Rattle.hpx_journal.specs.Entries.{Returned, Granted, Refused, Event, Born, Count, Entry, Rules}
 use Rattle.hpx_journal.specs.Local.{Local, recorded, is_recorded, count_in, after}
 use Rattle.hpx_journal.specs.Rows.{Row}
 use Rattle.hpx_journal.specs.Roots.{roots}
-use Rattle.hpx_journal.specs.Whole.{Space, at_place, step, run, start, MayStand, IsLegalFrom, IsLegal, recorded_in}
+use Rattle.hpx_journal.specs.Whole.{Space, at_place, step, start, MayStand, IsLegalFrom, IsLegal}
 use Rattle.hpx_journal.specs.Laws.{is_refused_count, count_events}
 use Rattle.hpx_journal.proofs.Ledger.{recorded-same}
 use Rattle.hpx_journal.proofs.Wholes.{at_same, at_other}

@@ -9,14 +9,14 @@ use Rattle.hpx_value.specs.Ids.{Id, same_object, bare}
 use Rattle.hpx_value.specs.Values.{bare_act, bare_state, refs_in}
 use Rattle.hpx_value.specs.Shapes.{IsAct, IsMessage, IsState}
 use Rattle.hpx_value.specs.Hands.{session, sent, replied, due_of, answer, own_slot}
-use Rattle.hpx_value.specs.Laws.{KeepsLaws, IsManaged as IsManagedKind}
+use Rattle.hpx_value.specs.Laws.{KeepsLaws, birth_state, IsManaged as IsManagedKind}
 use Rattle.hpx_value.proofs.Kept.{answer_message}
 use Rattle.hpx_parcel.specs.Parcels.{IsParcel}
 use Rattle.hpx_journal.specs.Bags.{without}
 use Rattle.hpx_journal.specs.Data.{State, Act, Fault, Make, Outcome, Due, MessageDue, PrintDue, Parcel, Apply, Move, Go, Shipped}
 use Rattle.hpx_journal.specs.Entries.{Name, Event, Line, Fire, Born, Done, Sent, Print, Freed, Left, Landed, In, Standing, Travel, Rules, target_of, line_act, move_to}
 use Rattle.hpx_journal.specs.Frames.{acts_in, travels_in, travel_of}
-use Rattle.hpx_journal.specs.Local.{Local, after, is_act, is_standing, is_travel, listed, comes, leaves, sets_off, stops, due_act, made_state, failure, outcome, stood, leaving, tail}
+use Rattle.hpx_journal.specs.Local.{Local, after, is_act, is_standing, is_travel, listed, comes, leaves, sets_off, stops, due_act, failure, outcome, stood, leaving, tail}
 use Rattle.hpx_journal.specs.Rows.{Row, TurnAllows, AreMade, Runs}
 use Rattle.hpx_journal.specs.Foreign.{kept}
 use Rattle.hpx_journal.specs.Laws.{HasGrammar, KeepsActLaws, IsFormed, IsFormedOrFresh, IsFormedDue, TargetsStand}
@@ -155,7 +155,7 @@ all_found (y ∷ ys) = (
 -- ---- the made objects
 
 abbrev IsBirth : Make → Type 0
-IsBirth make = (16 ≤ make.kind) × IsState (made_state make)
+IsBirth make = (16 ≤ make.kind) × IsState (birth_state make)
 
 -- what is fresh and stands once is a make
 made_formed : (makes : List Make) (fresh : List Id) (objects : List Standing) → AreMade makes fresh objects
@@ -170,7 +170,7 @@ made_formed (make ∷ makes) (o ∷ fresh) objects h births once x found t =
       | inl e ↦
           let managed : 16 ≤ o.kind = rw h.0 births.0.0 in
           let f : find (is_standing o) objects ≡ Some x = found o (same_object-sym x.object o e) (once o managed) in
-          let g : x ≡ record { object = o; state = made_state make } = cc (h.1) in
+          let g : x ≡ record { object = o; state = birth_state make } = cc (h.1) in
           rw g births.0.1
       | inr e ↦ made_formed makes fresh objects h.2 births.1 once x found e
     ]
@@ -254,7 +254,7 @@ module _ (r : Rules) (grammar : HasGrammar r) (laws : KeepsActLaws r) (s : Local
   all_made a x made =
       let out = outcome r s x.act x.target in
       let births : AllByRecursion IsBirth out.makes =
-      all-zip (λ make. IsManagedKind make.kind × (refs_in make.values ≡ [])) (λ make. IsState (made_state make)) IsBirth
+      all-zip (λ make. IsManagedKind make.kind × (refs_in make.values ≡ [])) (λ make. IsState (birth_state make)) IsBirth
       (λ make h i. (h.0.0, i)) out.makes (keeps a x).few.managed (keeps a x).shapes.births in
       all-zip (IsFound s.objects) (IsFormedOrFresh s.fresh) (λ y. IsState y.state)
       (λ y found h. elim h [

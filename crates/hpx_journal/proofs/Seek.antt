@@ -1,7 +1,7 @@
 -- What is found in a list, and what is left without it.
-use Rattle.std.proofs.Common.{ℕ, suc, length, get_or, take, drop, Bool, true, false, cond, List, [], ◌∷◌, ◌++◌, ◌≡◌, ◌+◌, ◌<◌, ◌↔◌, IsTrue, Some, None, refl, sym, ap, ◌∙◌, add-one}
+use Rattle.std.proofs.Common.{ℕ, suc, length, get_or, take, drop, Bool, true, false, cond, List, [], ◌∷◌, ◌++◌, ◌≡◌, ◌+◌, ◌<◌, ◌↔◌, Some, None, refl, sym, ap, ◌∙◌, add-one}
 use Rattle.std.specs.Prelude.{◌||◌}
-use Rattle.std.specs.List.{find, list_any, remove, slice_get}
+use Rattle.std.specs.List.{find, list_any}
 use Rattle.std.proofs.lemmas.Option.{slice_get_read}
 use Rattle.std.proofs.Math.Seq.{drop-cons}
 use Rattle.hpx_journal.specs.Bags.{without, minus, Covers}

@@ -21,9 +21,11 @@ pub record Rules : Type 0 where
   pub parcel_of : List ℕ → Option Parcel
   pub outcome_of : ℕ → ℕ → State → Act → Outcome
 
+-- two names of one action
 abbrev pub same_name : Name → Name → Bool
 same_name a b = (a.origin == b.origin) && (a.serial == b.serial)
 
+-- the name of an action
 abbrev pub name_of : Act → Name
 name_of act = record { origin = act.origin; serial = act.serial }
 
@@ -47,6 +49,7 @@ abbrev pub place_number : ℤ → Option ℕ
 place_number (pos t) = cond (nat_lt t 64) (Some t) None
 place_number (negsuc n) = None
 
+-- the place in the arguments of a MOVE, if they are those of one
 abbrev pub place_in : List Value → Option ℕ
 place_in (Int z ∷ []) = place_number z
 place_in _ = None
@@ -63,5 +66,6 @@ move_to act = cond ((act.code == 1) && is_movable (target_of act).kind) (place_i
 abbrev pub Frame : Type 0
 Frame = ℕ × List ℕ
 
+-- two frames are the same
 abbrev pub same_frame : Frame → Frame → Bool
 same_frame a b = (a.0 == b.0) && bytes_eq a.1 b.1

@@ -28,14 +28,17 @@ IsForeignAct s act = (1 ≤ present (name_of act) s) ⊎ ((act.origin ≡ s.here
 abbrev pub IsForeignTravel : Local → Travel → Type 0
 IsForeignTravel s x = (x.to ≢ s.here) ⊎ ((1 ≤ kept x.object s) ⊎ ((x.object.home ≡ s.here) × IsUndrawn s.number x.object.number))
 
+-- one of these actions is foreign
 abbrev pub AnyAct : Local → List Act → Type 0
 AnyAct s [] = ⊥
 AnyAct s (act ∷ acts) = IsForeignAct s act ⊎ AnyAct s acts
 
+-- one of these objects is foreign
 abbrev pub AnyTravel : Local → List Travel → Type 0
 AnyTravel s [] = ⊥
 AnyTravel s (x ∷ xs) = IsForeignTravel s x ⊎ AnyTravel s xs
 
+-- what a parcel carries is foreign
 abbrev pub IsForeignIn : Local → Option Parcel → Type 0
 IsForeignIn s p = AnyAct s (acts_in p) ⊎ AnyTravel s (travels_in p)
 

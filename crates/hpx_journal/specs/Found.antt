@@ -1,5 +1,5 @@
 -- The first element of a list that passes a test, and where it is.
-use Rattle.std.specs.Prelude.{ℕ, Bool, List, ◌≡◌, ◌<◌, length, Option, None}
+use Rattle.std.specs.Prelude.{ℕ, Bool, List, ◌≡◌, ◌<◌, length, None}
 use Rattle.std.specs.List.{find, remove, slice_get}
 use Rattle.hpx_journal.specs.Bags.{without}
 

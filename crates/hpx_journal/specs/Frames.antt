@@ -14,6 +14,7 @@ acts_in (Some (Go act)) = bare_act act ∷ []
 acts_in (Some (Shipped act state)) = bare_act act ∷ []
 acts_in _ = []
 
+-- the target of an action on its way, if there is a place where it goes
 abbrev pub travel_of : Act → State → Option ℕ → List Travel
 travel_of act state None = []
 travel_of act state (Some to) = record { object = target_of act; state = state; to = to } ∷ []

@@ -1,11 +1,12 @@
 -- Words of the laws of journals.
-use Rattle.std.specs.Prelude.{◌⊎◌, ◌<◌, ℕ, Bool, true, false, List, [], ◌∷◌, ◌++◌, ◌≡◌, ◌+◌, ◌==◌, ◌&&◌, ◌≤◌, Option, Some, None}
+use Rattle.std.specs.Prelude.{◌⊎◌, ◌<◌, ℕ, Bool, true, false, List, [], ◌∷◌, ◌++◌, ◌≡◌, ◌+◌, ◌==◌, ◌&&◌, ◌≤◌, Option, Some}
 use Rattle.std.specs.List.{list_any, count_by, sum_by, AllByRecursion}
 use Rattle.hpx_value.specs.Ids.{same_object}
 use Rattle.hpx_value.specs.Hands.{due_of, state_after}
 use Rattle.hpx_value.specs.Shapes.{IsAct, IsMessage, IsState}
 use Rattle.hpx_value.specs.Laws.{KeepsLaws}
 use Rattle.hpx_parcel.specs.Parcels.{IsParcel}
+use Rattle.hpx_parcel.specs.Reading.{is_least}
 use Rattle.hpx_journal.specs.Data.{Id, State, Act, Due, MessageDue, PrintDue, Parcel, Ask, Give, Free}
 use Rattle.hpx_journal.specs.Bags.{without, total}
 use Rattle.hpx_journal.specs.Entries.{Standing, Name, Event, Line, Fire, Done, Sent, Given, Count, Refused, Freed, Out, In, Entry, Rules, Frame, same_frame, same_name, target_of}
@@ -32,14 +33,17 @@ is_begun a (Line b bytes) = same_name a b
 is_begun a (Sent b) = same_name a b
 is_begun a _ = false
 
+-- the event that fires an action
 abbrev pub is_fire : Name → Event → Bool
 is_fire a (Fire b) = same_name a b
 is_fire a _ = false
 
+-- the event that ends it
 abbrev pub is_done : Name → Event → Bool
 is_done a (Done b failed) = same_name a b
 is_done a _ = false
 
+-- the event that frees an object
 abbrev pub is_freed : Id → Event → Bool
 is_freed o (Freed x) = same_object o x
 is_freed o _ = false
@@ -52,6 +56,7 @@ begun a es = count_by (λ e. is_begun a e.event) es
 abbrev pub fires : Name → List Entry → ℕ
 fires a es = count_by (λ e. is_fire a e.event) es
 
+-- how often it is fired at k
 abbrev pub fires_at : ℕ → Name → List Entry → ℕ
 fires_at k a es = count_by (λ e. (e.at == k) && is_fire a e.event) es
 
@@ -59,6 +64,7 @@ fires_at k a es = count_by (λ e. (e.at == k) && is_fire a e.event) es
 abbrev pub dones : Name → List Entry → ℕ
 dones a es = count_by (λ e. is_done a e.event) es
 
+-- how often it is done at k
 abbrev pub dones_at : ℕ → Name → List Entry → ℕ
 dones_at k a es = count_by (λ e. (e.at == k) && is_done a e.event) es
 
@@ -71,10 +77,12 @@ abbrev pub outs_by : ℕ → Event → List (ℕ × Frame)
 outs_by k (Out to bytes) = (k, (to, bytes)) ∷ []
 outs_by k _ = []
 
+-- all frames sent, each with where from
 abbrev pub outs : List Entry → List (ℕ × Frame)
 outs [] = []
 outs (e ∷ es) = outs_by e.at e.event ++ outs es
 
+-- all frames accepted
 abbrev pub ins : List Entry → List Frame
 ins [] = []
 ins (e ∷ es) = arrives e ++ ins es
@@ -82,10 +90,6 @@ ins (e ∷ es) = arrives e ++ ins es
 -- ---- refusals
 
 -- a Give of log 0: the id comes back with no more credit
-abbrev pub is_least : Option ℕ → Bool
-is_least None = false
-is_least (Some log) = log == 0
-
 abbrev pub is_refusing : Option Parcel → Bool
 is_refusing (Some (Give id entry)) = is_least id.log
 is_refusing _ = false
@@ -95,10 +99,12 @@ abbrev pub sends_refusal : Rules → Event → Bool
 sends_refusal r (Out to bytes) = is_refusing (r.parcel_of bytes)
 sends_refusal r _ = false
 
+-- the event that takes one in
 abbrev pub takes_refusal : Rules → Event → Bool
 takes_refusal r (In bytes) = is_refusing (r.parcel_of bytes)
 takes_refusal r _ = false
 
+-- the event that hands one over
 abbrev pub hands_refusal : Event → Bool
 hands_refusal (Given o log) = log == 0
 hands_refusal _ = false
@@ -108,10 +114,12 @@ abbrev pub is_refused_count : Event → Bool
 is_refused_count (Count o count Refused) = true
 is_refused_count _ = false
 
+-- a Done that failed
 abbrev pub is_failed : Event → Bool
 is_failed (Done a true) = true
 is_failed _ = false
 
+-- how many entries have such an event
 abbrev pub count_events : (Event → Bool) → List Entry → ℕ
 count_events p es = count_by (λ e. p e.event) es
 
@@ -122,6 +130,7 @@ pub record RefusesForCause (r : Rules) (es : List Entry) : Type 0 where
 
 -- ---- what is freed
 
+-- a Free of o
 abbrev pub is_free_of : Id → Option Parcel → Bool
 is_free_of o (Some (Free x)) = same_object o x
 is_free_of o _ = false
@@ -131,6 +140,7 @@ abbrev pub sends_free : Rules → Id → Event → Bool
 sends_free r o (Out to bytes) = is_free_of o (r.parcel_of bytes)
 sends_free r o _ = false
 
+-- the event that takes in a Free of o
 abbrev pub takes_free : Rules → Id → Event → Bool
 takes_free r o (In bytes) = is_free_of o (r.parcel_of bytes)
 takes_free r o _ = false
@@ -169,6 +179,7 @@ SameBag xs ys = (f : Frame) → count_by (same_frame f) xs ≡ count_by (same_fr
 abbrev pub IsBorn : Id → Local → Type 0
 IsBorn o s = list_any (is_recorded o) s.counts ≡ true
 
+-- a record of o stands in the whole
 abbrev pub IsBornIn : Id → Space → Type 0
 IsBornIn o w = IsBorn o (w.places o.home)
 
@@ -209,11 +220,13 @@ asking_in r o w = sum_by (λ f. count_by (is_owed o) (ask_tokens (r.parcel_of f.
 abbrev pub asked_in : Rules → Id → Space → ℕ
 asked_in r o w = total r.localities (λ k. count_by (same_object o) (w.places k).asked)
 
+-- how often o was given, at all localities
 abbrev pub given_in : Rules → Id → Space → ℕ
 given_in r o w = total r.localities (λ k. count_by (is_given o) (w.places k).given)
 
 -- ----
 
+-- a frame is on the road
 abbrev pub IsOnRoad : Frame → Space → Type 0
 IsOnRoad f w = list_any (same_frame f) w.road ≡ true
 
@@ -246,6 +259,7 @@ pub record Fails (a : Name) (s t : Local) : Type 0 where
 
 -- ---- meanings that keep the laws of actions
 
+-- each outcome keeps the laws of actions, in well formed states
 pub record KeepsActLaws (r : Rules) : Type 0 where
   pub laws : (kind here : ℕ) (s : State) (a : Act) → here < r.localities → IsState s → IsAct a
       → KeepsLaws r.localities kind here s a (r.outcome_of kind here s a)
@@ -254,6 +268,7 @@ pub record KeepsActLaws (r : Rules) : Type 0 where
 abbrev pub IsFormedOrFresh : List Id → Standing → Type 0
 IsFormedOrFresh fresh x = (list_any (same_object x.object) fresh ≡ true) ⊎ IsState x.state
 
+-- a message that is due is well formed
 abbrev pub IsFormedDue : Due → Type 0
 IsFormedDue (MessageDue m) = IsMessage m
 IsFormedDue (PrintDue bytes) = Unit {0}

@@ -16,5 +16,4 @@ pub mod Books
 pub mod Keyed
 pub mod Laws
 pub mod Pool
-pub mod Spaces
-pub mod Trial
+pub mod Cargo

@@ -6,7 +6,7 @@ use Rattle.hpx_value.specs.Ids.{same_object}
 use Rattle.hpx_value.specs.Values.{named}
 use Rattle.hpx_value.specs.Hands.{own_slot, answer, due_of, state_after}
 use Rattle.hpx_parcel.specs.Credits.{Credit}
-use Rattle.hpx_journal.specs.Data.{Id, Fault, Act, Make, Outcome, Due, MessageDue, PrintDue, State}
+use Rattle.hpx_journal.specs.Data.{Id, Fault, Act, Outcome, Due, MessageDue, PrintDue}
 use Rattle.hpx_journal.specs.Bags.{without, minus}
 use Rattle.hpx_journal.specs.Entries.{Name, Returned, Granted, Refused, Event, Line, Fire, Split, Born, Done, Sent, Print, Up, Asked, Given, Count, Freed, Left, Landed, Out, In, Standing, Travel, Rules, same_name, name_of, target_of, line_act}
 use Rattle.hpx_journal.specs.Tokens.{Token, held_token, owed_token, same_token}
@@ -20,24 +20,31 @@ pub use Rattle.hpx_journal.specs.declared.local.Local.{Local}
 
 -- ---- tests
 
+-- an action of this name
 abbrev pub is_act : Name → Act → Bool
 is_act a x = same_name a (name_of x)
 
+-- where an object stands
 abbrev pub is_standing : Id → Standing → Bool
 is_standing o x = same_object o x.object
 
+-- where an object travels
 abbrev pub is_travel : Id → Travel → Bool
 is_travel o x = same_object o x.object
 
+-- a number of an object
 abbrev pub is_recorded : Id → Recorded → Bool
 is_recorded o x = same_object o x.object
 
+-- an id of an object that was given
 abbrev pub is_given : Id → Credit → Bool
 is_given o x = same_object o x.object
 
+-- one that was given with the least credit
 abbrev pub is_given_none : Credit → Bool
 is_given_none x = x.log == 0
 
+-- an action on an object
 abbrev pub acts_on : Id → Act → Bool
 acts_on o x = same_object o (target_of x)
 
@@ -45,9 +52,11 @@ acts_on o x = same_object o (target_of x)
 abbrev pub is_busy : Id → List Act → Bool
 is_busy o fired = cond (o.kind == 7) false (list_any (acts_on o) fired)
 
+-- the name that is drawn next
 abbrev pub next_name : Local → Name
 next_name s = record { origin = s.here; serial = s.serial + 1 }
 
+-- the list of what is there, if anything is
 abbrev pub listed : {X : Type 0} → Option X → List X
 listed None = []
 listed (Some x) = x ∷ []
@@ -79,14 +88,17 @@ gives r (Count o count Refused) = owed_token o 0 ∷ []
 gives r (In bytes) = tokens_in (r.parcel_of bytes)
 gives r _ = []
 
+-- the tokens after an entry
 abbrev pub tokens_after : Rules → Local → Event → List Token
 tokens_after r s e = gives r e ++ minus same_token s.tokens (takes r e)
 
+-- the recorded numbers after it, the newest first
 abbrev pub counts_after : Rules → Local → Event → List Recorded
 counts_after r s (Born o state) = record { object = o; count = 2 ^ r.credit_log } ∷ s.counts
 counts_after r s (Count o count why) = record { object = o; count = count } ∷ s.counts
 counts_after r s _ = s.counts
 
+-- the number, or 0 where there is none
 abbrev pub count_in : Option Recorded → ℕ
 count_in None = 0
 count_in (Some x) = x.count
@@ -116,18 +128,22 @@ leaves r (Fire a) = a ∷ []
 leaves r (Out to bytes) = map name_of (acts_in (r.parcel_of bytes))
 leaves r _ = []
 
+-- the actions that wait after an entry
 abbrev pub waiting_after : Rules → Local → Event → List Act
 waiting_after r s e = comes r s e ++ minus is_act s.waiting (leaves r e)
 
+-- the fired actions after it
 abbrev pub fired_after : Local → Event → List Act
 fired_after s (Fire a) = listed (find (is_act a) s.waiting) ++ s.fired
 fired_after s (Done a failed) = without (is_act a) s.fired
 fired_after s _ = s.fired
 
+-- the done actions after it
 abbrev pub done_after : Local → Event → List Act
 done_after s (Done a failed) = listed (find (is_act a) s.fired) ++ s.done
 done_after s _ = s.done
 
+-- the last serial that was drawn
 abbrev pub serial_after : Local → Event → ℕ
 serial_after s (Line a bytes) = s.serial + 1
 serial_after s (Sent a) = s.serial + 1
@@ -139,41 +155,43 @@ serial_after s _ = s.serial
 abbrev pub outcome : Rules → Local → Act → Standing → Outcome
 outcome r s act x = r.outcome_of x.object.kind s.here x.state act
 
--- the state of an object that is made
-abbrev pub made_state : Make → State
-made_state make = record { drawn = 0; values = make.values; conts = []; ids = [] }
-
 -- what a failed action leaves due: its own continuation is answered Fault 5, and the session prints
 abbrev pub failure : Act → List Due
 failure act =
     map (λ x. MessageDue (answer [] x (Fault 5))) (own_slot act.ids act.cont)
     ++ cond ((target_of act).kind == 1) (PrintDue (codes "error: credit limit\n") ∷ []) []
 
+-- what an action leaves due where its object stands
 abbrev pub due_at : Rules → Local → Act → Option Standing → List Due
 due_at r s act None = []
 due_at r s act (Some x) = due_of x.state act s.fresh (outcome r s act x)
 
+-- what a Done leaves due
 abbrev pub due_left : Rules → Local → Bool → Option Act → List Due
 due_left r s failed None = []
 due_left r s true (Some act) = failure act
 due_left r s false (Some act) = due_at r s act (find (is_standing (target_of act)) s.objects)
 
+-- what is behind the first
 abbrev pub tail : List Due → List Due
 tail [] = []
 tail (x ∷ xs) = xs
 
+-- what is due after an entry
 abbrev pub due_after : Rules → Local → Event → List Due
 due_after r s (Done a failed) = due_left r s failed (find (is_act a) s.fired)
 due_after r s (Sent a) = tail s.due
 due_after r s (Print bytes) = tail s.due
 due_after r s _ = s.due
 
+-- how many actions have failed
 abbrev pub failures_after : Local → Event → ℕ
 failures_after s (Done a true) = s.failures + 1
 failures_after s _ = s.failures
 
 -- ---- objects
 
+-- the target has its new state, where it stands
 abbrev pub settled_at : Rules → Local → Act → Option Standing → List Standing
 settled_at r s act None = s.objects
 settled_at r s act (Some x) =
@@ -184,12 +202,15 @@ abbrev pub settled : Rules → Local → Option Act → List Standing
 settled r s None = s.objects
 settled r s (Some act) = settled_at r s act (find (is_standing (target_of act)) s.objects)
 
+-- what stood here, on its way
 abbrev pub leaving : ℕ → Standing → Travel
 leaving to x = record { object = x.object; state = x.state; to = to }
 
+-- what travelled here, standing
 abbrev pub stood : Travel → Standing
 stood x = record { object = x.object; state = x.state }
 
+-- the objects that stand here after an entry
 abbrev pub objects_after : Rules → Local → Event → List Standing
 objects_after r s (Born o state) = record { object = o; state = state } ∷ s.objects
 objects_after r s (Done a false) = settled r s (find (is_act a) s.fired)
@@ -198,11 +219,13 @@ objects_after r s (Left o to) = without (is_standing o) s.objects
 objects_after r s (Landed o) = map stood (listed (find (is_travel o) s.travels)) ++ s.objects
 objects_after r s _ = s.objects
 
+-- the objects born since the last Done, in order
 abbrev pub fresh_after : Local → Event → List Id
 fresh_after s (Born o state) = s.fresh ++ o ∷ []
 fresh_after s (Done a failed) = []
 fresh_after s _ = s.fresh
 
+-- the last number that was drawn for an object
 abbrev pub number_after : Local → Event → ℕ
 number_after s (Born o state) = s.number + 1
 number_after s _ = s.number
@@ -219,23 +242,28 @@ stops r (Landed o) = o ∷ []
 stops r (Out to bytes) = map (λ x. x.object) (travels_in (r.parcel_of bytes))
 stops r _ = []
 
+-- the objects that travel here after an entry
 abbrev pub travels_after : Rules → Local → Event → List Travel
 travels_after r s e = sets_off r s e ++ minus is_travel s.travels (stops r e)
 
 -- ---- asks
 
+-- what an entry asks for
 abbrev pub asked_by : Event → List Id
 asked_by (Asked o) = o ∷ []
 asked_by _ = []
 
+-- what it gives
 abbrev pub given_by : Event → List Credit
 given_by (Given o log) = record { object = o; log = log } ∷ []
 given_by _ = []
 
+-- what comes by it in an Ask or a Give
 abbrev pub asks_come_by : Rules → Event → List Id
 asks_come_by r (In bytes) = asks_in (r.parcel_of bytes)
 asks_come_by r _ = []
 
+-- what goes by it in one
 abbrev pub asks_gone_by : Rules → Event → List Id
 asks_gone_by r (Out to bytes) = asks_in (r.parcel_of bytes)
 asks_gone_by r _ = []
@@ -247,6 +275,7 @@ refusals_by s _ = []
 
 -- ---- the locality after an entry
 
+-- what an entry leaves at its locality
 unfoldable pub after : Rules → Local → Event → Local
 after r s e = record {
   here = s.here;

@@ -6,6 +6,7 @@ use Rattle.hpx_journal.specs.Data.{Id, Due, MessageDue, PrintDue}
 use Rattle.hpx_journal.specs.Tokens.{is_held, is_owed}
 use Rattle.hpx_journal.specs.Local.{Local, is_given}
 
+-- the ids in what is due
 abbrev pub due_ids : Due → List Id
 due_ids (MessageDue m) = m.ids
 due_ids (PrintDue bytes) = []

@@ -4,12 +4,13 @@ use Rattle.std.specs.Prelude.{ℕ, true, false, cond, List, [], ◌∷◌, ◌++
 use Rattle.std.specs.List.{list_any, find, sum_by, AllByRecursion}
 use Rattle.hpx_value.specs.Ids.{same_object}
 use Rattle.hpx_value.specs.Values.{bare_state, bare_act, message_of, named}
+use Rattle.hpx_value.specs.Laws.{birth_state}
 use Rattle.hpx_value.specs.Hands.{id_at, session, sent, replied, state_after}
 use Rattle.hpx_journal.specs.Bags.{total}
 use Rattle.hpx_journal.specs.Data.{Id, State, Act, Message, Text, Make, Outcome, Due, MessageDue, PrintDue}
 use Rattle.hpx_journal.specs.Entries.{Event, Line, Done, Print, Landed, Entry, Standing, Travel, Rules, Frame, target_of, move_to}
 use Rattle.hpx_journal.specs.Frames.{acts_in, travels_in}
-use Rattle.hpx_journal.specs.Local.{Local, is_standing, made_state}
+use Rattle.hpx_journal.specs.Local.{Local, is_standing}
 use Rattle.hpx_journal.specs.Whole.{Space, run, replayed}
 use Rattle.hpx_journal.specs.Laws.{count_events, is_failed}
 
@@ -40,12 +41,13 @@ outcome_in r here m s = r.outcome_of (target_in m).kind here s (named 0 0 m)
 abbrev pub sent_by : Message → State → List Id → Outcome → List Message
 sent_by m s made out = map (sent s (named 0 0 m) made) out.sends ++ map (replied s (named 0 0 m) made) out.replies
 
+-- a line was fed
 abbrev pub fed : Pool → List ℕ → Pool
 fed p bytes = record p { pending = line_message bytes ∷ p.pending }
 
 -- the objects made are there, with the states that they are made with
 abbrev pub with_made : (Id → Option State) → List Make → List Id → Id → Option State
-with_made states (make ∷ makes) (m ∷ made) o = cond (same_object o m) (Some (made_state make)) (with_made states makes made o)
+with_made states (make ∷ makes) (m ∷ made) o = cond (same_object o m) (Some (birth_state make)) (with_made states makes made o)
 with_made states _ _ o = states o
 
 -- objects for each make: of its kind, at home here, and new
@@ -100,22 +102,27 @@ Goes r p (Done a true) q = ⊥
 Goes r p (Landed o) q = IsMoved o p q
 Goes r p _ q = q ≡ p
 
+-- entries lead from one pool to another
 abbrev pub Runs : Rules → Pool → List Entry → Pool → Type 0
 Runs r p [] q = q ≡ p
 Runs r p (e ∷ es) q = (mid : Pool) × Goes r p e.event mid × Runs r mid es q
 
 -- ---- what the pool shows of the whole
 
+-- the weight of what is due
 abbrev pub due_mass : (Message → ℕ) → Due → ℕ
 due_mass f (MessageDue m) = f m
 due_mass f (PrintDue bytes) = 0
 
+-- the weight of an action
 abbrev pub act_mass : (Message → ℕ) → Act → ℕ
 act_mass f act = f (message_of act)
 
+-- the weight of the actions in a frame
 abbrev pub frame_mass : Rules → (Message → ℕ) → Frame → ℕ
 frame_mass r f x = sum_by (act_mass f) (acts_in (r.parcel_of x.1))
 
+-- the weight of the actions at a locality that are not done
 abbrev pub mass_at : (Message → ℕ) → Local → ℕ
 mass_at f s = sum_by (act_mass f) s.waiting + sum_by (act_mass f) s.fired + sum_by (due_mass f) s.due
 
@@ -129,6 +136,7 @@ prints_due [] = []
 prints_due (MessageDue m ∷ rest) = prints_due rest
 prints_due (PrintDue bytes ∷ rest) = bytes ∷ prints_due rest
 
+-- the state of what stands, if it does
 abbrev pub state_in : Option Standing → Option State
 state_in None = None
 state_in (Some x) = Some x.state
@@ -164,6 +172,7 @@ pub record Shows (r : Rules) (w : Space) (p : Pool) (out : List (List ℕ)) : Ty
   pub alike : IsAlike p
   pub printed : out ++ prints_due (w.places 0).due ≡ p.printed
 
+-- what an event prints
 abbrev pub prints_by : Event → List (List ℕ)
 prints_by (Print bytes) = bytes ∷ []
 prints_by _ = []

@@ -3,12 +3,13 @@ use Rattle.std.specs.Prelude.{ℕ, Bool, true, false, List, [], ◌∷◌, ◌++
 use Rattle.std.specs.List.{list_any, find, count_by, AllByRecursion}
 use Rattle.hpx_value.specs.Ids.{same_object}
 use Rattle.hpx_value.specs.Values.{bare_act, bare_state}
+use Rattle.hpx_value.specs.Laws.{birth_state}
 use Rattle.hpx_journal.specs.Data.{Id, Act, State, Message, Make, Due, MessageDue, PrintDue, Parcel, Apply, Return, Ask, Give, Cached, Move, Go, Shipped, Arrived, Free}
 use Rattle.hpx_journal.specs.Bags.{Covers}
 use Rattle.hpx_journal.specs.Entries.{Name, Returned, Granted, Refused, Event, Line, Fire, Split, Born, Done, Sent, Print, Up, Asked, Given, Count, Freed, Left, Landed, Looked, Mail, Out, In, Entry, Standing, Travel, Rules, same_name, name_of, target_of, move_to}
 use Rattle.hpx_journal.specs.Tokens.{same_token}
 use Rattle.hpx_journal.specs.Frames.{acts_in}
-use Rattle.hpx_journal.specs.Local.{Local, Recorded, Refusal, is_act, is_standing, is_travel, is_given, is_given_none, acts_on, is_busy, next_name, takes, recorded, outcome, made_state}
+use Rattle.hpx_journal.specs.Local.{Local, Recorded, Refusal, is_act, is_standing, is_travel, is_given, is_given_none, acts_on, is_busy, next_name, takes, recorded, outcome}
 
 -- while anything is due only what is due is written, and while anything is fresh only what belongs to its making
 abbrev pub TurnAllows : Local → Event → Type 0
@@ -38,6 +39,7 @@ objects_in _ = []
 abbrev pub is_dead_record : Id → Recorded → Bool
 is_dead_record o x = same_object o x.object && (x.count == 0)
 
+-- o is dead: a number 0 was written for it
 abbrev pub IsDead : Id → Local → Type 0
 IsDead o s = list_any (is_dead_record o) s.counts ≡ true
 
@@ -56,7 +58,7 @@ pub record Runs (s : Local) (a : Name) : Type 0 where
 abbrev pub AreMade : List Make → List Id → List Standing → Type 0
 AreMade [] [] objects = Unit {0}
 AreMade (make ∷ makes) (o ∷ fresh) objects =
-    (o.kind ≡ make.kind) × (find (is_standing o) objects ≡ Some (record { object = o; state = made_state make })) × AreMade makes fresh objects
+    (o.kind ≡ make.kind) × (find (is_standing o) objects ≡ Some (record { object = o; state = birth_state make })) × AreMade makes fresh objects
 AreMade _ _ objects = ⊥
 
 -- an id of o came back with no more credit since this action was fired, for an o that it or its target's state names
@@ -98,6 +100,7 @@ abbrev pub SentTo : Local → Id → Option Event → Type 0
 SentTo s o (Some (Sent a)) = (act : Act) × (find (is_act a) s.waiting ≡ Some act) × (same_object o (target_of act) ≡ true)
 SentTo s o _ = ⊥
 
+-- a place is this one
 abbrev pub is_to : ℕ → Option ℕ → Bool
 is_to to None = false
 is_to to (Some t) = t == to

@@ -11,9 +11,11 @@ use Rattle.hpx_journal.specs.Frames.{acts_in, travels_in}
 use Rattle.hpx_journal.specs.Local.{Local}
 use Rattle.hpx_journal.specs.Whole.{Space}
 
+-- two slots are the same
 abbrev pub same_slot : Slot → Slot → Bool
 same_slot a b = same_object a.object b.object && (a.number == b.number)
 
+-- the first argument is this number
 abbrev pub is_pos : ℕ → List Value → Bool
 is_pos n (Int (pos m) ∷ rest) = n == m
 is_pos n _ = false
@@ -34,6 +36,7 @@ act_claims x act = count_by (same_slot x) (own_slot act.ids act.cont) + answers_
 abbrev pub state_claims : Slot → State → ℕ
 state_claims x s = count_by (same_slot x) (map (slot_at s.ids) s.conts)
 
+-- how often what is due claims a slot
 abbrev pub due_claims : Slot → Due → ℕ
 due_claims x (MessageDue m) = act_claims x (named 0 0 m)
 due_claims x (PrintDue bytes) = 0
@@ -48,6 +51,7 @@ claims x s =
     + sum_by (answers_of x) s.done
     + sum_by (due_claims x) s.due
 
+-- how often what a frame carries claims it
 abbrev pub frame_claims : Rules → Slot → Frame → ℕ
 frame_claims r x f = sum_by (act_claims x) (acts_in (r.parcel_of f.1)) + sum_by (λ y. state_claims x y.state) (travels_in (r.parcel_of f.1))
 

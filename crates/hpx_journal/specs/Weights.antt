@@ -21,6 +21,7 @@ bytes_in _ = 0
 abbrev pub weight_of : Entry → ℕ
 weight_of e = 64 + bytes_in e.event
 
+-- what entries weigh together
 abbrev pub total_weight : List Entry → ℕ
 total_weight es = sum_by weight_of es
 

@@ -28,21 +28,26 @@ abbrev pub arrives_at : ℕ → Event → List Frame
 arrives_at k (In bytes) = (k, bytes) ∷ []
 arrives_at k _ = []
 
+-- the frame that an entry takes from the road
 abbrev pub arrives : Entry → List Frame
 arrives e = arrives_at e.at e.event
 
+-- the road after an entry
 abbrev pub road_after : List Frame → Entry → List Frame
 road_after road e = sends e.event ++ minus same_frame road (arrives e)
 
+-- another locality in the place of k
 abbrev pub at_place : (ℕ → Local) → ℕ → Local → ℕ → Local
 at_place places k s j = cond (k == j) s (places j)
 
+-- the space after an entry
 unfoldable pub step : Rules → Space → Entry → Space
 step r w e = record {
   places = at_place w.places e.at (after r (w.places e.at) e.event);
   road = road_after w.road e;
 }
 
+-- the space after entries
 abbrev pub run : Rules → Space → List Entry → Space
 run r w [] = w
 run r w (e ∷ es) = run r (step r w e) es
@@ -61,6 +66,7 @@ pub record MayStand (r : Rules) (w : Space) (e : Entry) : Type 0 where
   pub allowed : Allowed r (w.places e.at) e
   pub road : Covers same_frame w.road (arrives e)
 
+-- entries that may stand one after another, from a space on
 abbrev pub IsLegalFrom : Rules → Space → List Entry → Type 0
 IsLegalFrom r w [] = Unit {0}
 IsLegalFrom r w (e ∷ es) = MayStand r w e × IsLegalFrom r (step r w e) es
@@ -95,6 +101,7 @@ pub record IsJoinFrom (r : Rules) (w : Space) (es : List Entry) : Type 0 where
   pub parts : (k : ℕ) → k < r.localities → NodeKeeps r (w.places k) (part k es)
   pub carried : IsCarried r w.road es
 
+-- a join from boot on
 abbrev pub IsJoin : Rules → List Entry → Type 0
 IsJoin r es = IsJoinFrom r (start (roots r.localities)) es
 
@@ -113,6 +120,7 @@ recorded_in o w = recorded o (w.places o.home)
 abbrev pub IsDeadIn : Id → Space → Type 0
 IsDeadIn o w = IsDead o (w.places o.home)
 
+-- how often a frame names o
 abbrev pub frame_names : Rules → Id → Frame → ℕ
 frame_names r o f = sum_by (λ act. count_by (same_object o) act.ids) (acts_in (r.parcel_of f.1))
     + sum_by (λ x. count_by (same_object o) x.state.ids) (travels_in (r.parcel_of f.1))

@@ -7,7 +7,7 @@ ghost use Rattle.hpx_parcel.specs.Reading.{parcel_of};
 ghost use Rattle.hpx_journal.specs.Entries.{line_act};
 ghost use Rattle.hpx_journal.specs.Frames.{acts_in, travel_of, travels_in, tokens_in, asks_in};
 ghost use Rattle.hpx_journal.specs.Local.{failure};
-ghost use Rattle.hpx_journal.specs.Spaces.{credited, parcel_in, cargo_of};
+ghost use Rattle.hpx_journal.specs.Cargo.{credited, parcel_in, cargo_of};
 
 use crate::entry::{Event, Name, Token, Travel};
 use crate::hand::{answer, own_slot};
@@ -70,7 +70,7 @@ pub fn bare_state(alloc: Global, state: &State) -> Result<State, OutOfMemory>
 }
 
 /// One element.
-pub(crate) fn one<T: Drop>(alloc: Global, item: T) -> Result<Items<T>, OutOfMemory>
+pub fn one<T: Drop>(alloc: Global, item: T) -> Result<Items<T>, OutOfMemory>
     ensures { IfOk result (λ out. out ≡ item ∷ []) }
 {
     let mut out = Items::new(alloc);

@@ -48,12 +48,12 @@ impl Journal {
     }
 
     /// Makes memory for so many more entries.
-    pub fn reserve(&mut self, n: usize) -> Result<(), OutOfMemory>
+    pub fn reserve(&mut self, n: u32) -> Result<(), OutOfMemory>
         ensures entries { self.new.entries ≡ self.old.entries }
         ensures spare { OnOk result (n ≤ self.new.spare) }
         ensures kept { self.old.spare ≤ self.new.spare }
     {
-        self.items.reserve(n)?;
+        self.items.reserve(n as usize)?;
         Ok(())
     }
 

@@ -38,6 +38,7 @@ pub trait Fabric: Send {
         ensures flight_err { OnErr result (flight self.new ≡ flight self.old) }
         ensures trace_err { OnErr result (trace self.new ≡ trace self.old) }
         ensures cause { IsErrOf result FabricFault.Failed → Rose (faults self.old) (faults self.new) }
+        ensures stands { (IsErrOf result FabricFault.Failed → ⊥) → faults self.new ≡ faults self.old }
         ensures never_falls { faults self.old ≤ faults self.new };
 
     /// Delivers any one of the frames in flight: where it goes, and its bytes. `None` if there
@@ -49,5 +50,6 @@ pub trait Fabric: Send {
         ensures flight_err { OnErr result (flight self.new ≡ flight self.old) }
         ensures trace_err { OnErr result (trace self.new ≡ trace self.old) }
         ensures cause { IsErrOf result FabricFault.Failed → Rose (faults self.old) (faults self.new) }
+        ensures stands { (IsErrOf result FabricFault.Failed → ⊥) → faults self.new ≡ faults self.old }
         ensures never_falls { faults self.old ≤ faults self.new };
 }

@@ -61,7 +61,7 @@ impl Sink for SureSink {
     fn write(&mut self, piece: &[u8]) -> Result<usize, Failed>
         ensures whole { IfOk result (λ n. n ≡ length piece.now) }
         ensures held { OnOk result (self.new.held ≡ self.old.held ++ piece.now) }
-        ensures faults { OnOk result (self.new.faults ≡ self.old.faults) }
+        ensures stands { OnOk result (self.new.faults ≡ self.old.faults) }
         ensures faults_err { OnErr result (self.new.faults ≡ raised self.old.faults) }
 
         ensures ok { IfOk result (λ n. Writes n piece.now (Some self.old.held) (Some self.new.held)) }
@@ -136,7 +136,7 @@ impl Sink for MemSink {
         ensures counted { self.new.writes ≡ after_call self.old.writes }
         ensures whole { IfOk result (λ n. n ≡ length piece.now) }
         ensures held { OnOk result (self.new.held ≡ self.old.held ++ piece.now) }
-        ensures faults { OnOk result (self.new.faults ≡ self.old.faults) }
+        ensures stands { OnOk result (self.new.faults ≡ self.old.faults) }
         ensures faults_err { OnErr result (self.new.faults ≡ raised self.old.faults) }
 
         ensures ok { IfOk result (λ n. Writes n piece.now (Some self.old.held) (Some self.new.held)) }

@@ -114,7 +114,7 @@ impl Source for MemSource {
         ensures behind { IfOk result (λ n. drop n buf.new ≡ drop n buf.old) }
         ensures taken { IfOk result (λ n. self.new.taken ≡ self.old.taken + n) }
         ensures taken_fits { OnOk result (self.new.taken < 2 ^ 64) }
-        ensures same_faults { OnOk result (self.new.faults ≡ self.old.faults) }
+        ensures stands { OnOk result (self.new.faults ≡ self.old.faults) }
 
         ensures left_err { OnErr result (self.new.left ≡ self.old.left) }
         ensures taken_err { OnErr result (self.new.taken ≡ self.old.taken) }

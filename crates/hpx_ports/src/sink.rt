@@ -17,6 +17,7 @@ pub trait Sink {
     /// Takes bytes from the front of a piece, and answers how many: one at least, if there is one.
     fn write(&mut self, piece: &[u8]) -> Result<usize, Failed>
         ensures ok { IfOk result (λ n. Writes n piece.now (held self.old) (held self.new)) }
+        ensures stands { OnOk result (faults self.new ≡ faults self.old) }
         ensures err { OnErr result (held self.new ≡ held self.old) }
         ensures cause { OnErr result (Rose (faults self.old) (faults self.new)) }
         ensures never_falls { faults self.old ≤ faults self.new };
@@ -25,6 +26,7 @@ pub trait Sink {
 /// Writes all the bytes, in as many pieces as it takes. A failure leaves some first ones written.
 pub fn write_all<K: Sink>(sink: &mut K, bytes: &[u8]) -> Result<(), Failed>
     ensures ok { OnOk result (K.held sink.new ≡ followed (K.held sink.old) bytes.now) }
+    ensures stands { OnOk result (K.faults sink.new ≡ K.faults sink.old) }
     ensures err { OnErr result (WritesPart bytes.now (K.held sink.old) (K.held sink.new)) }
     ensures cause { OnErr result (Rose (K.faults sink.old) (K.faults sink.new)) }
     ensures never_falls { K.faults sink.old ≤ K.faults sink.new }

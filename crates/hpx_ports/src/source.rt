@@ -23,6 +23,7 @@ pub trait Source {
         ensures ok { IfOk result (λ n. Reads n buf.new (left self.old) (left self.new)) }
         ensures taken { IfOk result (λ n. taken self.new ≡ taken self.old + n) }
         ensures taken_fits { OnOk result (taken self.new < 2 ^ 64) }
+        ensures stands { OnOk result (faults self.new ≡ faults self.old) }
 
         ensures left_err { OnErr result (left self.new ≡ left self.old) }
         ensures taken_err { OnErr result (taken self.new ≡ taken self.old) }

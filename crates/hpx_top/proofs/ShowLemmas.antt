@@ -34,6 +34,15 @@ pub err_of : {T E : Type 0} (r : Result T E) (e f : E) → IsErrAnd r (λ y. y �
 err_of (Ok x) e f h is = absurd h
 err_of (Err y) e f h is = sym h ∙ (cc)
 
+-- a value is no error
+pub no_err : {T E : Type 0} (x : T) (e : E) → ◌≡◌ {A = Result T E} (Ok x) (Err e) → ⊥
+no_err x e h = cc
+
+-- the error that is handed on is answered
+pub err_back : {T E : Type 0} (r : Result T E) (e : E) → IsErrAnd r (λ y. y ≡ e) → r ≡ Err e
+err_back (Ok x) e h = absurd h
+err_back (Err y) e h = ap (λ z. Err z) h
+
 -- what holds of a value, where there is no error
 pub ok_there : {T E : Type 0} (r : Result T E) (P : Type 0) → ((e : E) → r ≡ Err e → ⊥) → OnOk r P → P
 ok_there (Ok x) P never h = h

@@ -193,7 +193,7 @@ impl<A: RootActs + Copy> Locals<A> {
         ensures some { OnOk result (self.new.hand ≢ None → (self.old.hand ≢ None) ⊎ (F.flight fabric.old ≢ Some [])) }
         ensures err { OnErr result (self.new.hand ≡ self.old.hand) }
         ensures cause { IsErrOf result FabricFault.Failed → Rose (F.faults fabric.old) (F.faults fabric.new) }
-        ensures faults { F.faults fabric.old ≤ F.faults fabric.new }
+        ensures stands { (IsErrOf result FabricFault.Failed → ⊥) → F.faults fabric.new ≡ F.faults fabric.old }
     {
         if let None = self.hand {
             self.hand = fabric.deliver()?;
@@ -225,7 +225,7 @@ impl<A: RootActs + Copy> Locals<A> {
             × ((t : _) → slice_get self.old.nodes.items k ≡ Some t → t.outgoing ≡ []) }
         ensures err { OnErr result (IsSame self.old.nodes.items self.new.nodes.items self.old.journal.entries self.new.journal.entries) }
         ensures cause { IsErrOf result FabricFault.Failed → Rose (F.faults fabric.old) (F.faults fabric.new) }
-        ensures faults { F.faults fabric.old ≤ F.faults fabric.new }
+        ensures stands { (IsErrOf result FabricFault.Failed → ⊥) → F.faults fabric.new ≡ F.faults fabric.old }
     {
         let node = &mut self.nodes[k];
         let (to, bytes) = match node.front() {
@@ -261,7 +261,7 @@ impl<A: RootActs + Copy> Locals<A> {
             × IsSame self.old.nodes.items self.new.nodes.items self.old.journal.entries self.new.journal.entries }
         ensures err { OnErr result (IsSame self.old.nodes.items self.new.nodes.items self.old.journal.entries self.new.journal.entries) }
         ensures cause { IsErrOf result FabricFault.Failed → Rose (F.faults fabric.old) (F.faults fabric.new) }
-        ensures faults { F.faults fabric.old ≤ F.faults fabric.new }
+        ensures stands { (IsErrOf result FabricFault.Failed → ⊥) → F.faults fabric.new ≡ F.faults fabric.old }
     {
         self.fill(fabric)?;
         let frame = match self.hand.take() {

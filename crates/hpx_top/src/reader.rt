@@ -120,7 +120,7 @@ impl LineReader {
         ensures fewer { OnOk result (reads_left self.new < reads_left self.old) }
         ensures kept { bytes_left self.new ≡ bytes_left self.old }
         ensures cause { IsErrOf result ReadFault.Failed → Rose (S.faults source.old) (S.faults source.new) }
-        ensures never_falls { S.faults source.old ≤ S.faults source.new }
+        ensures stands { (IsErrOf result ReadFault.Failed → ⊥) → S.faults source.new ≡ S.faults source.old }
     {
         let count = self
             .pending
@@ -141,7 +141,7 @@ impl LineReader {
         ensures full { self.old.read ≡ 67108864 → self.old.ended ≡ false → IsPiece self.old.pending → result ≡ Ok Found.AtLimit }
         ensures still { wants_more self.old ≡ false → source.new ≡ source.old }
         ensures cause { IsErrOf result ReadFault.Failed → Rose (S.faults source.old) (S.faults source.new) }
-        ensures never_falls { S.faults source.old ≤ S.faults source.new }
+        ensures stands { (IsErrOf result ReadFault.Failed → ⊥) → S.faults source.new ≡ S.faults source.old }
     {
         loop {
             if let Some(n) = self.pending.first_newline() {
@@ -182,7 +182,7 @@ impl LineReader {
         ensures counted { self.new.read + S.taken source.old ≡ self.old.read + S.taken source.new }
         ensures limit { self.new.read ≤ 67108864 }
         ensures cause { IsErrOf result ReadFault.Failed → Rose (S.faults source.old) (S.faults source.new) }
-        ensures never_falls { S.faults source.old ≤ S.faults source.new }
+        ensures stands { (IsErrOf result ReadFault.Failed → ⊥) → S.faults source.new ≡ S.faults source.old }
     {
         match self.find_line(source)? {
             Found::Newline(n) => self.hand_out(alloc, n, n + 1),

@@ -116,6 +116,11 @@ fn serve_all<S: Source, K: Sink, F: Fabric>(
     ensures write { result.1 ≡ Err SessionFault.Write → Rose (K.faults sink.old) (K.faults sink.new) }
     ensures fabric { result.1 ≡ Err SessionFault.Fabric → Rose (F.faults fabric.old) (F.faults fabric.new) }
     ensures full { result.1 ≡ Err SessionFault.JournalFull → IfSome result.0 (λ w. HasRoom w.journal.entries → ⊥) }
+    ensures room { result.1 ≢ Err SessionFault.JournalFull → result.1 ≢ Err SessionFault.OutOfMemory → IfSome result.0 (λ w. HasRoom w.journal.entries) }
+
+    ensures read_only { result.1 ≢ Err SessionFault.Read → S.faults source.new ≡ S.faults source.old }
+    ensures write_only { result.1 ≢ Err SessionFault.Write → K.faults sink.new ≡ K.faults sink.old }
+    ensures fabric_only { result.1 ≢ Err SessionFault.Fabric → F.faults fabric.new ≡ F.faults fabric.old }
 {
     let mut world = match World::boot(alloc, AllActs { localities: 2 }) {
         Ok(world) => world,
@@ -164,7 +169,11 @@ pub fn run<S: Source, K: Sink, E: Sink, F: Fabric>(
     ensures read { result.status ≡ 2 → Rose (S.faults source.old) (S.faults source.new) }
     ensures write { result.status ≡ 3 → Rose (K.faults sink.old) (K.faults sink.new) }
     ensures fabric { result.status ≡ 4 → Rose (F.faults fabric) (F.faults result.fabric) }
+    ensures read_only { result.status ≢ 2 → S.faults source.new ≡ S.faults source.old }
+    ensures write_only { result.status ≢ 3 → K.faults sink.new ≡ K.faults sink.old }
+    ensures fabric_only { result.status ≢ 4 → F.faults result.fabric ≡ F.faults fabric }
     ensures full { result.status ≡ 5 → IfSome result.world (λ w. HasRoom w.journal.entries → ⊥) }
+    ensures room { result.status ≢ 5 → result.status ≢ 6 → IfSome result.world (λ w. HasRoom w.journal.entries) }
     ensures taken { result.status ≡ 9 → S.taken source.new ≡ S.taken source.old + 67108864 }
     ensures input { (input : _) → S.left source.old ≡ Some input → result.status ≡ 9 → IsInputFull input (S.left source.new) }
     ensures world { result.world ≡ None → (result.status ≡ 1) ⊎ (result.status ≡ 6) }

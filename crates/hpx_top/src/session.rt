@@ -48,7 +48,7 @@ fn write<K: Sink>(sink: &mut K, bytes: &[u8]) -> Result<(), SessionFault>
     ensures held { OnOk result (K.held sink.new ≡ followed (K.held sink.old) bytes.now) }
     ensures front { OnErr result (WritesFront bytes.now (K.held sink.old) (K.held sink.new)) }
     ensures cause { IfErr result (λ fault. (fault ≡ SessionFault.Write) × Rose (K.faults sink.old) (K.faults sink.new)) }
-    ensures faults { K.faults sink.old ≤ K.faults sink.new }
+    ensures stands { OnOk result (K.faults sink.new ≡ K.faults sink.old) }
 {
     match write_all(sink, bytes) {
         Ok(()) => Ok(()),
@@ -72,7 +72,7 @@ fn show_entry<K: Sink>(journal: &Journal, i: u64, sink: &mut K) -> Result<(), Se
     ensures held { (entry : _) → slice_get journal.now.entries i ≡ Some entry → OnOk result (K.held sink.new ≡ followed (K.held sink.old) (concat (prints_by entry.event))) }
     ensures front { (entry : _) → slice_get journal.now.entries i ≡ Some entry → OnErr result (WritesFront (concat (prints_by entry.event)) (K.held sink.old) (K.held sink.new)) }
     ensures cause { IfErr result (λ fault. (fault ≡ SessionFault.Write) × Rose (K.faults sink.old) (K.faults sink.new)) }
-    ensures faults { K.faults sink.old ≤ K.faults sink.new }
+    ensures stands { OnOk result (K.faults sink.new ≡ K.faults sink.old) }
 {
     match journal.entry(i) {
         Some(entry) => write(sink, printed_by(entry)),
@@ -86,7 +86,7 @@ fn show<K: Sink>(journal: &Journal, cut: u64, sink: &mut K) -> Result<(), Sessio
     ensures held { OnOk result (K.held sink.new ≡ followed (K.held sink.old) (concat (prints_of (drop cut journal.now.entries)))) }
     ensures front { OnErr result (WritesFront (concat (prints_of (drop cut journal.now.entries))) (K.held sink.old) (K.held sink.new)) }
     ensures cause { IfErr result (λ fault. (fault ≡ SessionFault.Write) × Rose (K.faults sink.old) (K.faults sink.new)) }
-    ensures faults { K.faults sink.old ≤ K.faults sink.new }
+    ensures stands { OnOk result (K.faults sink.new ≡ K.faults sink.old) }
 {
     for i in cut..journal.entries() {
         show_entry(journal, i, sink)?;
@@ -97,6 +97,8 @@ fn show<K: Sink>(journal: &Journal, cut: u64, sink: &mut K) -> Result<(), Sessio
 /// What a refusal of the world is for a session.
 fn fault_of(fault: WorldFault<AllActs>) -> SessionFault
     ensures fabric { result ≡ SessionFault.Fabric → fault ≡ WorldFault.Fabric }
+    ensures fabric_too { fault ≡ WorldFault.Fabric → result ≡ SessionFault.Fabric }
+    ensures full_too { (e w : ℕ) (u : _) → fault ≡ WorldFault.JournalFull e w u → result ≡ SessionFault.JournalFull }
     ensures full { result ≡ SessionFault.JournalFull → (e w : ℕ) × (u : _) × (fault ≡ WorldFault.JournalFull e w u) }
     ensures memory { result ≡ SessionFault.OutOfMemory → (u : _) × (fault ≡ WorldFault.OutOfMemory u) }
     ensures other { (result ≢ SessionFault.Read) × (result ≢ SessionFault.Write) × (result ≢ SessionFault.InputFull) }
@@ -133,8 +135,9 @@ fn feed<F: Fabric>(
 
     ensures fabric { result ≡ Err SessionFault.Fabric → Rose (F.faults fabric.old) (F.faults fabric.new) }
     ensures full { result ≡ Err SessionFault.JournalFull → HasRoom world.new.journal.entries → ⊥ }
+    ensures room { result ≢ Err SessionFault.JournalFull → result ≢ Err SessionFault.OutOfMemory → HasRoom world.new.journal.entries }
     ensures other { (result ≢ Err SessionFault.Read) × (result ≢ Err SessionFault.Write) × (result ≢ Err SessionFault.InputFull) }
-    ensures faults { F.faults fabric.old ≤ F.faults fabric.new }
+    ensures stands { result ≢ Err SessionFault.Fabric → F.faults fabric.new ≡ F.faults fabric.old }
 {
     let marked = match marked(alloc, line.as_slice()) {
         Ok(marked) => marked,
@@ -173,8 +176,9 @@ fn serve_text<K: Sink, F: Fabric>(
     ensures write { result ≡ Err SessionFault.Write → Rose (K.faults sink.old) (K.faults sink.new) }
     ensures fabric { result ≡ Err SessionFault.Fabric → Rose (F.faults fabric.old) (F.faults fabric.new) }
     ensures full { result ≡ Err SessionFault.JournalFull → HasRoom world.new.journal.entries → ⊥ }
-    ensures sink_faults { K.faults sink.old ≤ K.faults sink.new }
-    ensures fabric_faults { F.faults fabric.old ≤ F.faults fabric.new }
+    ensures room { result ≢ Err SessionFault.JournalFull → result ≢ Err SessionFault.OutOfMemory → HasRoom world.new.journal.entries }
+    ensures write_only { result ≢ Err SessionFault.Write → K.faults sink.new ≡ K.faults sink.old }
+    ensures fabric_only { result ≢ Err SessionFault.Fabric → F.faults fabric.new ≡ F.faults fabric.old }
 {
     let cut = world.journal().entries();
     feed(alloc, world, line, fabric)?;
@@ -221,10 +225,11 @@ fn serve_line<S: Source, K: Sink, F: Fabric>(
     ensures write { result ≡ Err SessionFault.Write → Rose (K.faults sink.old) (K.faults sink.new) }
     ensures fabric { result ≡ Err SessionFault.Fabric → Rose (F.faults fabric.old) (F.faults fabric.new) }
     ensures full { result ≡ Err SessionFault.JournalFull → HasRoom world.new.journal.entries → ⊥ }
+    ensures room { HasRoom world.old.journal.entries → result ≢ Err SessionFault.JournalFull → result ≢ Err SessionFault.OutOfMemory → HasRoom world.new.journal.entries }
     ensures full_input { result ≡ Err SessionFault.InputFull → reader.new.read ≡ 67108864 }
-    ensures source_faults { S.faults source.old ≤ S.faults source.new }
-    ensures sink_faults { K.faults sink.old ≤ K.faults sink.new }
-    ensures fabric_faults { F.faults fabric.old ≤ F.faults fabric.new }
+    ensures read_only { result ≢ Err SessionFault.Read → S.faults source.new ≡ S.faults source.old }
+    ensures write_only { result ≢ Err SessionFault.Write → K.faults sink.new ≡ K.faults sink.old }
+    ensures fabric_only { result ≢ Err SessionFault.Fabric → F.faults fabric.new ≡ F.faults fabric.old }
 {
     write(sink, PROMPT)?;
     match reader.next_line(alloc, source) {
@@ -275,9 +280,10 @@ pub fn serve<S: Source, K: Sink, F: Fabric>(
     ensures write { result ≡ Err SessionFault.Write → Rose (K.faults sink.old) (K.faults sink.new) }
     ensures fabric { result ≡ Err SessionFault.Fabric → Rose (F.faults fabric.old) (F.faults fabric.new) }
     ensures full { result ≡ Err SessionFault.JournalFull → HasRoom world.new.journal.entries → ⊥ }
-    ensures source_faults { S.faults source.old ≤ S.faults source.new }
-    ensures sink_faults { K.faults sink.old ≤ K.faults sink.new }
-    ensures fabric_faults { F.faults fabric.old ≤ F.faults fabric.new }
+    ensures room { result ≢ Err SessionFault.JournalFull → result ≢ Err SessionFault.OutOfMemory → HasRoom world.new.journal.entries }
+    ensures read_only { result ≢ Err SessionFault.Read → S.faults source.new ≡ S.faults source.old }
+    ensures write_only { result ≢ Err SessionFault.Write → K.faults sink.new ≡ K.faults sink.old }
+    ensures fabric_only { result ≢ Err SessionFault.Fabric → F.faults fabric.new ≡ F.faults fabric.old }
 {
     write(sink, COMMANDS)?;
     let mut reader = LineReader::new(alloc);

@@ -1,5 +1,5 @@
 //! Turns of all localities, one after another, until nothing can be done.
-ghost use Rattle.std.specs.Prelude.{◌≡◌, ◌≢◌, ◌≤◌, ◌<◌, ◌-◌, ◌^◌, [], ℕ, length, min, true, false, Ok, Err, None, Some, OnOk, slice_get};
+ghost use Rattle.std.specs.Prelude.{◌≡◌, ◌≢◌, ◌≤◌, ◌<◌, ◌-◌, ◌^◌, [], ℕ, length, min, true, false, Ok, Err, None, Some, OnOk, OnErr, slice_get};
 ghost use Rattle.std.specs.List.{AllByRecursion};
 ghost use Rattle.hpx_root_journal.specs.Weights.{HasRoom, IsWithin, AddsATurn, total_weight};
 ghost use Rattle.hpx_ports.specs.Faults.{Rose};
@@ -109,8 +109,9 @@ impl<A: RootActs + Copy> Locals<A> {
         ensures none { result ≡ Ok false → IsSame self.old.nodes.items self.new.nodes.items self.old.journal.entries self.new.journal.entries
             × AllByRecursion SendsNothing self.new.nodes.items }
         ensures same_hand { self.new.hand ≡ self.old.hand }
+        ensures err { OnErr result (self.new.journal.entries ≡ self.old.journal.entries) }
         ensures cause { result ≡ Err FabricFault.Failed → Rose (F.faults fabric.old) (F.faults fabric.new) }
-        ensures faults { F.faults fabric.old ≤ F.faults fabric.new }
+        ensures stands { result ≢ Err FabricFault.Failed → F.faults fabric.new ≡ F.faults fabric.old }
     {
         for k in 0..self.nodes.len() {
             if self.pump(alloc, k, fabric)? {
@@ -134,8 +135,9 @@ impl<A: RootActs + Copy> Locals<A> {
         ensures jobs { running_in self.new.nodes.items ≡ running_in self.old.nodes.items }
         ensures none { result ≡ Ok false → IsSame self.old.nodes.items self.new.nodes.items self.old.journal.entries self.new.journal.entries
             × AllByRecursion SendsNothing self.new.nodes.items × (self.new.hand ≡ None) × (F.flight fabric.new ≡ Some []) }
+        ensures err { OnErr result (self.new.journal.entries ≡ self.old.journal.entries) }
         ensures cause { result ≡ Err FabricFault.Failed → Rose (F.faults fabric.old) (F.faults fabric.new) }
-        ensures faults { F.faults fabric.old ≤ F.faults fabric.new }
+        ensures stands { result ≢ Err FabricFault.Failed → F.faults fabric.new ≡ F.faults fabric.old }
     {
         if self.pump_first(alloc, fabric)? {
             return Ok(true);
@@ -164,9 +166,12 @@ impl<A: RootActs + Copy> Locals<A> {
         ensures jobs { (moved : _) → result ≡ Ok moved → NoneRuns self.old.nodes.items → NoneRuns self.new.nodes.items }
         ensures none { result ≡ Ok false → NothingApplies self.new.nodes.items self.new.hand (F.flight fabric.new) }
         ensures room { result ≡ Ok true → HasRoom self.old.journal.entries }
+        ensures stays { result ≡ Ok false → HasRoom self.new.journal.entries }
+        ensures stays_err { result ≡ Err WorldFault.Fabric → HasRoom self.new.journal.entries }
+        ensures full_at_once { (HasRoom self.old.journal.entries → ⊥) → (e : ℕ) × (w : ℕ) × (u : _) × (result ≡ Err (WorldFault.JournalFull e w u)) }
         ensures full { (e w : ℕ) (u : _) → result ≡ Err (WorldFault.JournalFull e w u) → HasRoom self.new.journal.entries → ⊥ }
         ensures cause { result ≡ Err WorldFault.Fabric → Rose (F.faults fabric.old) (F.faults fabric.new) }
-        ensures faults { F.faults fabric.old ≤ F.faults fabric.new }
+        ensures stands { result ≢ Err WorldFault.Fabric → F.faults fabric.new ≡ F.faults fabric.old }
     {
         if !self.journal.room() {
             return Err(self.full(None));
@@ -200,9 +205,12 @@ impl<A: RootActs + Copy> Locals<A> {
         ensures within { IsWithin self.new.journal.entries }
         ensures jobs { OnOk result (NoneRuns self.old.nodes.items → NoneRuns self.new.nodes.items) }
         ensures idle { OnOk result (NothingApplies self.new.nodes.items self.new.hand (F.flight fabric.new)) }
+        ensures room { OnOk result (HasRoom self.new.journal.entries) }
+        ensures room_err { result ≡ Err WorldFault.Fabric → HasRoom self.new.journal.entries }
+        ensures full_at_once { (HasRoom self.old.journal.entries → ⊥) → (e : ℕ) × (w : ℕ) × (u : _) × (result ≡ Err (WorldFault.JournalFull e w u)) }
         ensures full { (e w : ℕ) (u : _) → result ≡ Err (WorldFault.JournalFull e w u) → HasRoom self.new.journal.entries → ⊥ }
         ensures cause { result ≡ Err WorldFault.Fabric → Rose (F.faults fabric.old) (F.faults fabric.new) }
-        ensures faults { F.faults fabric.old ≤ F.faults fabric.new }
+        ensures stands { result ≢ Err WorldFault.Fabric → F.faults fabric.new ≡ F.faults fabric.old }
     {
         while self.step(alloc, acts, fabric)? {}
         Ok(())

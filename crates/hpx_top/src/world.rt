@@ -197,7 +197,7 @@ impl<A: RootActs + Copy> World<A> {
         ensures err { OnErr result (IsSame self.old.nodes self.new.nodes self.old.journal.entries self.new.journal.entries) }
         ensures which { IfErr result (λ e. (e ≡ WorldFault.Fabric) ⊎ (e ≡ WorldFault.OutOfMemory None)) }
         ensures cause { result ≡ Err WorldFault.Fabric → Rose (F.faults fabric.old) (F.faults fabric.new) }
-        ensures faults { F.faults fabric.old ≤ F.faults fabric.new }
+        ensures stands { result ≢ Err WorldFault.Fabric → F.faults fabric.new ≡ F.faults fabric.old }
     {
         match self.locals.pump(alloc, k, fabric) {
             Ok(true) => Ok(Turned::Moved),
@@ -222,7 +222,7 @@ impl<A: RootActs + Copy> World<A> {
         ensures err { OnErr result (IsSame self.old.nodes self.new.nodes self.old.journal.entries self.new.journal.entries) }
         ensures which { IfErr result (λ e. (e ≡ WorldFault.Fabric) ⊎ (e ≡ WorldFault.OutOfMemory None)) }
         ensures cause { result ≡ Err WorldFault.Fabric → Rose (F.faults fabric.old) (F.faults fabric.new) }
-        ensures faults { F.faults fabric.old ≤ F.faults fabric.new }
+        ensures stands { result ≢ Err WorldFault.Fabric → F.faults fabric.new ≡ F.faults fabric.old }
     {
         match self.locals.take(alloc, fabric) {
             Ok(true) => Ok(Turned::Moved),
@@ -279,10 +279,11 @@ impl<A: RootActs + Copy> World<A> {
         ensures err { OnErr result (IsSame self.old.nodes self.new.nodes self.old.journal.entries self.new.journal.entries) }
         ensures full { (HasRoom self.old.journal.entries → ⊥) → (e w : ℕ) × (u : _) × (result ≡ Err (WorldFault.JournalFull e w u)) }
         ensures full_only { (e w : ℕ) (u : _) → result ≡ Err (WorldFault.JournalFull e w u) → HasRoom self.old.journal.entries → ⊥ }
+        ensures room { ((e w : ℕ) (u : _) → result ≢ Err (WorldFault.JournalFull e w u)) → HasRoom self.old.journal.entries }
         ensures undone_full { (done : _) (e w : ℕ) (u : _) → choice ≡ Choice.Finish done → result ≡ Err (WorldFault.JournalFull e w u) → u ≡ Some done }
         ensures undone { (done : _) (u : _) → choice ≡ Choice.Finish done → result ≡ Err (WorldFault.OutOfMemory u) → u ≡ Some done }
         ensures cause { result ≡ Err WorldFault.Fabric → Rose (F.faults fabric.old) (F.faults fabric.new) }
-        ensures faults { F.faults fabric.old ≤ F.faults fabric.new }
+        ensures stands { result ≢ Err WorldFault.Fabric → F.faults fabric.new ≡ F.faults fabric.old }
     {
         if !self.journal().room() {
             return Err(self.full(choice));
@@ -311,9 +312,12 @@ impl<A: RootActs + Copy> World<A> {
             IsSettled (rules_of A.act_of n) (run (rules_of A.act_of n) (start (roots n)) self.new.journal.entries)) }
         ensures unfed { IsUnfed self.old.journal.entries self.new.journal.entries }
 
+        ensures full { (HasRoom self.old.journal.entries → ⊥) → (e : ℕ) × (w : ℕ) × (u : _) × (result ≡ Err (WorldFault.JournalFull e w u)) }
         ensures full_only { (e w : ℕ) (u : _) → result ≡ Err (WorldFault.JournalFull e w u) → HasRoom self.new.journal.entries → ⊥ }
+        ensures room { OnOk result (HasRoom self.new.journal.entries) }
+        ensures room_err { result ≡ Err WorldFault.Fabric → HasRoom self.new.journal.entries }
         ensures cause { result ≡ Err WorldFault.Fabric → Rose (F.faults fabric.old) (F.faults fabric.new) }
-        ensures faults { F.faults fabric.old ≤ F.faults fabric.new }
+        ensures stands { result ≢ Err WorldFault.Fabric → F.faults fabric.new ≡ F.faults fabric.old }
     {
         let acts = self.acts;
         self.locals.drain(alloc, &acts, fabric)

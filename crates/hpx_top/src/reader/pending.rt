@@ -89,7 +89,7 @@ impl Pending {
         ensures left_err { OnErr result (S.left source.new ≡ S.left source.old) }
         ensures taken_err { OnErr result (S.taken source.new ≡ S.taken source.old) }
         ensures cause { IsErrOf result ReadFault.Failed → Rose (S.faults source.old) (S.faults source.new) }
-        ensures never_falls { S.faults source.old ≤ S.faults source.new }
+        ensures stands { (IsErrOf result ReadFault.Failed → ⊥) → S.faults source.new ≡ S.faults source.old }
     {
         self.compact();
         read_onto(&mut self.bytes, source, most)
@@ -119,7 +119,7 @@ fn read_onto<S: Source>(
     ensures left_err { OnErr result (S.left source.new ≡ S.left source.old) }
     ensures taken_err { OnErr result (S.taken source.new ≡ S.taken source.old) }
     ensures cause { IsErrOf result ReadFault.Failed → Rose (S.faults source.old) (S.faults source.new) }
-    ensures never_falls { S.faults source.old ≤ S.faults source.new }
+    ensures stands { (IsErrOf result ReadFault.Failed → ⊥) → S.faults source.new ≡ S.faults source.old }
 {
     let len = bytes.len();
     bytes.resize(len + most, 0)?;

@@ -8,7 +8,7 @@ invariant-loop-at g l =
     record {
       within : l.at ≤ length l.bytes;
       written : g.K.Sink.held l.sink ≡ followed (g.K.Sink.held l.fn.sink) (take l.at l.bytes);
-      never_falls : g.K.Sink.faults l.fn.sink ≤ g.K.Sink.faults l.sink;
+      stands : g.K.Sink.faults l.sink ≡ g.K.Sink.faults l.fn.sink;
     }
 
 abbrev pub decreases-loop-at : goal.decreases-loop-at

@@ -1,7 +1,8 @@
 use Rattle.std.proofs.Common.{Ok, Err, length, refl, sym, ap, ◌∙◌, arith, subst}
 use Rattle.hpx_top.specs.declared.session.SessionFault.TheVariants.{InputFull}
+use Rattle.hpx_root_journal.specs.Weights.{HasRoom}
 use Rattle.hpx_top.specs.Session.{IsLegalAt}
-use Rattle.hpx_top.proofs.ShowLemmas.{if_err_from, err_of}
+use Rattle.hpx_top.proofs.ShowLemmas.{if_err_from, err_of, no_err}
 use Rattle.hpx_top.proofs.SessionLemmas.{serving_start, under_start}
 use Rattle.hpx_top.proofs.FeedLemmas.{cut_write}
 use Rattle.hpx_top.proofs.EndLemmas.{all_lines, whole_from, begun_over, read_up_from, full_from, ended_from, begun_from, read_none}
@@ -35,9 +36,10 @@ loop-reader-init g c = record {
   legal = subst (λ es. IsLegalAt (length c.args.world.now.nodes) es) (sym c.requires.empty) tt;
   carrying = c.requires.carrying;
   count = refl;
-  source_faults = omega arith;
-  sink_faults = c.write.ensures.faults;
-  fabric_faults = omega arith;
+  source_stands = refl;
+  sink_stands = c.in_ok-write.ensures.stands;
+  fabric_stands = refl;
+  room = subst (λ es. HasRoom es) (sym c.requires.empty) (record { entries = omega arith; weight = omega arith });
 }
 
 pub loop-reader-preserved : goal.loop-reader-preserved
@@ -52,9 +54,10 @@ loop-reader-preserved g c =
       legal = c.serve_line.ensures.legal;
       carrying = c.serve_line.ensures.carrying;
       count = c.serve_line.ensures.count ∙ c.loop-reader.invariant.count;
-      source_faults = omega (arith, c.loop-reader.invariant.source_faults, c.serve_line.ensures.source_faults);
-      sink_faults = omega (arith, c.loop-reader.invariant.sink_faults, c.serve_line.ensures.sink_faults);
-      fabric_faults = omega (arith, c.loop-reader.invariant.fabric_faults, c.serve_line.ensures.fabric_faults);
+      source_stands = c.in_ok-serve_line.ensures.read_only (no_err _ _) ∙ c.loop-reader.invariant.source_stands;
+      sink_stands = c.in_ok-serve_line.ensures.write_only (no_err _ _) ∙ c.loop-reader.invariant.sink_stands;
+      fabric_stands = c.in_ok-serve_line.ensures.fabric_only (no_err _ _) ∙ c.loop-reader.invariant.fabric_stands;
+      room = c.in_ok-serve_line.ensures.room c.loop-reader.invariant.room (no_err _ _) (no_err _ _);
     }
 
 pub returns-in_err-serve_line-clause-ended : goal.returns-in_err-serve_line-clause-ended

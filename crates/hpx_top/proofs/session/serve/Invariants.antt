@@ -1,4 +1,5 @@
-use Rattle.std.proofs.Common.{◌≡◌, ◌+◌, ◌≤◌, [], false, length}
+use Rattle.std.proofs.Common.{◌≡◌, ◌+◌, [], false, length}
+use Rattle.hpx_root_journal.specs.Weights.{HasRoom}
 use Rattle.hpx_top.specs.Sound.{IsCarrying}
 use Rattle.hpx_top.specs.Reader.{HasRead, bytes_left, lines_left}
 use Rattle.hpx_top.specs.Session.{IsAtRest, IsLegalAt, IsServing}
@@ -15,9 +16,10 @@ invariant-loop-reader g l =
       legal : IsLegalAt (length l.world.nodes) l.world.journal.entries;
       carrying : IsCarrying l.world.hand (g.F.Fabric.flight l.fabric) (g.F.Fabric.trace l.fabric) l.world.journal.entries;
       count : length l.world.nodes ≡ length l.fn.world.nodes;
-      source_faults : g.S.Source.faults l.fn.source ≤ g.S.Source.faults l.source;
-      sink_faults : g.K.Sink.faults l.fn.sink ≤ g.K.Sink.faults l.sink;
-      fabric_faults : g.F.Fabric.faults l.fn.fabric ≤ g.F.Fabric.faults l.fabric;
+      source_stands : g.S.Source.faults l.source ≡ g.S.Source.faults l.fn.source;
+      sink_stands : g.K.Sink.faults l.sink ≡ g.K.Sink.faults l.fn.sink;
+      fabric_stands : g.F.Fabric.faults l.fabric ≡ g.F.Fabric.faults l.fn.fabric;
+      room : HasRoom l.world.journal.entries;
     }
 
 abbrev pub decreases-loop-reader : goal.decreases-loop-reader

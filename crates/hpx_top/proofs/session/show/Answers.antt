@@ -1,4 +1,4 @@
-use Rattle.std.proofs.Common.{◌<◌, length, arith}
+use Rattle.std.proofs.Common.{◌<◌, ◌∙◌, length, arith}
 use Rattle.hpx_top.proofs.ShowLemmas.{any_err, up_to_more, up_to_front}
 use Rattle.hpx_top.proofs.session.show.Goals as goal
 
@@ -12,5 +12,5 @@ pub loop-i-preserved : goal.loop-i-preserved
 loop-i-preserved g c =
     let within : c.loop-i.i < length c.args.journal.now.entries = omega arith in (
       up_to_more c.args.journal.now.entries c.loop-i.i _ _ _ _ within c.loop-i.invariant.0 (λ e at. c.in_ok-show_entry.ensures.held e at),
-      omega arith,
+      c.in_ok-show_entry.ensures.stands ∙ c.loop-i.invariant.1,
     )

@@ -1,4 +1,4 @@
-use Rattle.std.proofs.Common.{sym, ◌∙◌, false, true}
+use Rattle.std.proofs.Common.{sym}
 use Rattle.hpx_journal.proofs.Seek.{covers_more, covers_not, minus_more}
 use Rattle.hpx_journal.proofs.bag.Bag.take_each.Goals as goal
 

@@ -1,5 +1,5 @@
-use Rattle.std.proofs.Common.{◌≡◌, ◌≤◌, ◌-◌, length}
-use Rattle.hpx_root_journal.specs.Weights.{IsWithin}
+use Rattle.std.proofs.Common.{◌≡◌, ◌-◌, length}
+use Rattle.hpx_root_journal.specs.Weights.{HasRoom, IsWithin}
 use Rattle.hpx_top.specs.Sound.{IsSound, IsCarrying, NoneRuns}
 use Rattle.hpx_top.specs.Turns.{IsUnfed}
 use Rattle.hpx_top.proofs.locals.Locals.drain.Given as goal
@@ -13,7 +13,8 @@ invariant-loop g l =
     × IsUnfed l.fn.self.journal.entries l.self.journal.entries
     × IsWithin l.self.journal.entries
     × (NoneRuns l.fn.self.nodes.items → NoneRuns l.self.nodes.items)
-    × (g.F.Fabric.faults l.fn.fabric ≤ g.F.Fabric.faults l.fabric)
+    × (g.F.Fabric.faults l.fabric ≡ g.F.Fabric.faults l.fn.fabric)
+    × ((HasRoom l.fn.self.journal.entries → ⊥) → l.self.journal.entries ≡ l.fn.self.journal.entries)
 
 -- how many entries may still come
 abbrev pub decreases-loop : goal.decreases-loop

@@ -1,6 +1,7 @@
 use Rattle.std.proofs.Common.{Ok, ap, ◌∙◌, arith}
 use Rattle.hpx_top.specs.Sound.{SendsNothing}
 use Rattle.hpx_top.proofs.Unfed.{unfed_sent, unfed_then, unfed_none}
+use Rattle.hpx_top.proofs.ShowLemmas.{no_err}
 use Rattle.hpx_top.proofs.IdleLemmas.{silent_more, whole, same_then, running_same}
 use Rattle.hpx_top.proofs.locals.Locals.pump_first.Goals as goal
 
@@ -15,7 +16,7 @@ loop-k-preserved g c =
       same = same_then _ _ _ _ _ _ i.same none.0;
       hand = c.pump.ensures.hand ∙ i.hand;
       carrying = c.pump.ensures.carrying;
-      faults = omega (arith, c.pump.ensures.faults, i.faults);
+      stands = c.in_ok-pump.ensures.stands (no_err _ _) ∙ i.stands;
       silent = silent_more c.loop-k.k _ _ none.0.tables none.1 i.silent;
     }
 

@@ -1,4 +1,4 @@
-use Rattle.std.proofs.Common.{◌≡◌, ◌≤◌, length, take}
+use Rattle.std.proofs.Common.{◌≡◌, length, take}
 use Rattle.std.specs.List.{AllByRecursion}
 use Rattle.hpx_top.specs.Sound.{IsSound, IsSame, IsCarrying, SendsNothing}
 use Rattle.hpx_top.proofs.locals.Locals.pump_first.Given as goal
@@ -12,6 +12,6 @@ invariant-loop-k g l = record {
   same : IsSame l.fn.self.nodes.items l.self.nodes.items l.fn.self.journal.entries l.self.journal.entries;
   hand : l.self.hand ≡ l.fn.self.hand;
   carrying : IsCarrying l.self.hand (g.F.Fabric.flight l.fabric) (g.F.Fabric.trace l.fabric) l.self.journal.entries;
-  faults : g.F.Fabric.faults l.fn.fabric ≤ g.F.Fabric.faults l.fabric;
+  stands : g.F.Fabric.faults l.fabric ≡ g.F.Fabric.faults l.fn.fabric;
   silent : AllByRecursion SendsNothing (take l.k l.self.nodes.items);
 }

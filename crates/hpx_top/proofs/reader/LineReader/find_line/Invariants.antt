@@ -1,4 +1,4 @@
-use Rattle.std.proofs.Common.{ℕ, Option, List, ◌≡◌, ◌+◌, ◌≤◌, false}
+use Rattle.std.proofs.Common.{ℕ, Option, List, ◌≡◌, ◌+◌, false}
 use Rattle.hpx_top.specs.Reader.{input_left, bytes_left, reads_left, wants_more, HasRead}
 use Rattle.hpx_top.proofs.reader.LineReader.find_line.Given as goal
 
@@ -12,7 +12,7 @@ invariant-loop-n g l =
       kept : bytes_left l.self ≡ bytes_left l.fn.self;
       still : wants_more l.fn.self ≡ false → (l.self ≡ l.fn.self) × (l.source ≡ l.fn.source);
       same : l.fn.self.read ≡ 67108864 → l.self ≡ l.fn.self;
-      never_falls : g.S.Source.faults l.fn.source ≤ g.S.Source.faults l.source;
+      stands : g.S.Source.faults l.source ≡ g.S.Source.faults l.fn.source;
     }
 
 abbrev pub decreases-loop-n : goal.decreases-loop-n

@@ -1,4 +1,4 @@
-use Rattle.std.proofs.Common.{◌≡◌, Some, refl, subst}
+use Rattle.std.proofs.Common.{◌≡◌, Some, Err, refl, ap, subst}
 use Rattle.std.specs.Prelude.{◌↔◌, IfOk}
 use Rattle.std.specs.List.{slice_get}
 use Rattle.hpx_value.specs.declared.acts.Done.{Done}
@@ -22,3 +22,7 @@ returns-in-Finish-clause-not_running g c = λ done t is at.
     let same : c.in-Finish.done ≡ done = let i = c.in-Finish.is in cc in
     subst (λ (d : Done g.row.A.Denot g.A.Acts). slice_get c.args.self.now.nodes d.job.at ≡ Some t → IfOk c.finish.result (λ turned.
     (turned ≡ answers.Finished NotRunning) ↔ ((d.localities ≡ t.localities) × IsRunning t d.job → ⊥))) same (c.finish.ensures.not_running t) at
+
+pub returns-then-not-room-clause-room : goal.returns-then-not-room-clause-room
+returns-then-not-room-clause-room g c = λ other.
+    let full = c.full.ensures.is in absurd (other full.0 full.1 full.2 (ap (λ fault. Err fault) full.3))

@@ -1,0 +1,4 @@
+pub mod Leaves
+pub mod Numbering
+pub mod Replays
+pub mod RowLemmas

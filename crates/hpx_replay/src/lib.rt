@@ -1,0 +1,17 @@
+//! Journals, judged: `replay` is the plain program of the definitions.
+#![tactic(auto)]
+
+mod act_rows;
+mod acting;
+mod changes;
+mod credit_rows;
+mod entries;
+mod frame_rows;
+mod object_rows;
+pub mod replay;
+pub mod space;
+#[cfg(test)]
+mod still;
+#[cfg(test)]
+mod tests;
+mod tokens;
