@@ -1,21 +1,20 @@
 -- What a table holds after calls, and what calls on name services are told.
-use Rattle.std.specs.Prelude.{ℕ, suc, ℤ, pos, negsuc, Bool, true, false, nat_le, List, [], ◌∷◌, ◌++◌, ◌+◌, ◌≤◌, ◌≡◌, ◌≢◌, ◌==◌, ◌&&◌, ◌||◌, Option, Some, None, codes, is_some, length, refl, if◌then◌else◌}
-use Rattle.std.proofs.Common.{ap, sym, ◌∙◌, subst, arith}
+use Rattle.std.specs.Prelude.{ℕ, suc, pos, negsuc, Bool, true, false, nat_le, List, [], ◌∷◌, ◌++◌, ◌≡◌, ◌==◌, ◌&&◌, ◌||◌, Option, Some, None, codes, is_some, length, refl, if◌then◌else◌}
+use Rattle.std.proofs.Common.{ap, sym, ◌∙◌}
 use Rattle.std.specs.Str.{bytes_eq}
 use Rattle.std.proofs.lemmas.Bool.{cond_both}
 use Rattle.hpx_calls.specs.Values.{Sort, Look, Nothing, Flag, Int, Text, Ref, Fault, Ints}
 use Rattle.hpx_calls.specs.declared.content.Pair.{Pair}
 use Rattle.hpx_calls.specs.declared.content.Content.{Content}
-use Rattle.hpx_calls.specs.declared.content.Content.TheVariants.{Table, Maker, Size, Number, Row, Promise, Channel, Latch, Barrier}
+use Rattle.hpx_calls.specs.declared.content.Content.TheVariants.{Table, Maker, Size, Number, Promise, Channel, Latch, Barrier}
 use Rattle.hpx_calls.specs.declared.request.Request.{Request}
 use Rattle.hpx_calls.specs.declared.request.Request.TheVariants.{Move, Where, Register, Resolve, Unregister, Keys, New, Count}
 use Rattle.hpx_calls.specs.declared.effect.Called.{Called}
-use Rattle.hpx_calls.specs.declared.effect.Effect.TheVariants.{Answers, Makes}
 use Rattle.hpx_calls.specs.Contents.{precedes, rises_from, count_in}
 use Rattle.hpx_calls.specs.Tables.{found, added, removed, listed, registers, unregisters, resolves, makes, makes_bare, makes_at, makes_counted, makes_row, with_one}
-use Rattle.hpx_calls.specs.Histories.{Setting, Object, Call, Told, own, next, still, tells, called_on, run, says}
+use Rattle.hpx_calls.specs.Histories.{Setting, Call, own, next, still, tells, called_on, run, says}
 use Rattle.hpx_calls.proofs.Steps.{object, call, either, told_either, same_where, same_move}
-use Rattle.hpx_calls.proofs.Orders.{bytes_same, bytes_differ, bytes_itself, not_same, found_added, is_sorted, sorted_added, sorted_removed, sorted_found}
+use Rattle.hpx_calls.proofs.Orders.{bytes_same, bytes_differ, found_added, is_sorted, sorted_added, sorted_removed, sorted_found}
 use Rattle.hpx_names.specs.Maps.{has, with_key, without_key, keys_after, keys, stands_after, stands_for, in_order_from, in_order, spaced, register_answer, resolve_answer, unregister_answer, is_empty, is_within, is_row, is_one, shape_under, new_answer}
 
 -- ---- the pairs after calls

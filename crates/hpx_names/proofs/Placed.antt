@@ -1,7 +1,7 @@
 -- A pair put in at its place, and taken out.
-use Rattle.std.specs.Prelude.{ℕ, Bool, true, false, List, [], ◌∷◌, ◌++◌, ◌+◌, ◌<◌, ◌≤◌, ◌≡◌, Option, Some, None, length, insert, remove, take, drop, refl, if◌then◌else◌}
+use Rattle.std.specs.Prelude.{ℕ, Bool, true, false, List, [], ◌∷◌, ◌++◌, ◌+◌, ◌<◌, ◌≤◌, ◌≡◌, Some, length, insert, remove, refl, if◌then◌else◌}
 use Rattle.std.specs.Str.{bytes_eq}
-use Rattle.std.proofs.Common.{ap, append_assoc, sym, ◌∙◌, arith, add-one}
+use Rattle.std.proofs.Common.{ap, append_assoc, ◌∙◌, arith, add-one}
 use Rattle.std.proofs.lemmas.List.{append-nil}
 use Rattle.hpx_value.specs.declared.value.Value.{Value}
 use Rattle.hpx_calls.specs.declared.content.Pair.{Pair}

@@ -1,5 +1,5 @@
 -- What calls on name services are answered, as functions of the whole list of calls before, the latest first.
-use Rattle.std.specs.Prelude.{ℕ, ℤ, pos, Bool, true, false, nat_le, List, [], ◌∷◌, ◌++◌, ◌+◌, ◌==◌, ◌&&◌, ◌||◌, Option, Some, None, codes, is_some, length, if◌then◌else◌}
+use Rattle.std.specs.Prelude.{ℕ, pos, Bool, true, false, nat_le, List, [], ◌∷◌, ◌++◌, ◌==◌, ◌&&◌, ◌||◌, Option, Some, None, codes, length, if◌then◌else◌}
 use Rattle.std.specs.Str.{bytes_eq}
 use Rattle.hpx_calls.specs.Values.{Sort, Look, Int, Ints}
 use Rattle.hpx_calls.specs.declared.request.Request.{Request}

@@ -1,5 +1,5 @@
 -- Where keys stand in a table.
-use Rattle.std.specs.Prelude.{ℕ, List, [], ◌∷◌, ◌++◌, ◌+◌, if◌then◌else◌}
+use Rattle.std.specs.Prelude.{ℕ, List, [], ◌∷◌, ◌+◌, if◌then◌else◌}
 use Rattle.std.specs.Str.{bytes_eq}
 use Rattle.hpx_calls.specs.declared.content.Pair.{Pair}
 use Rattle.hpx_calls.specs.Contents.{precedes}
