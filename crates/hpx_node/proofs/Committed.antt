@@ -1,0 +1,61 @@
+-- A prepared commit, written step by step, leaves what one step would leave.
+use Rattle.std.proofs.Common.{ℕ, false, List, [], ◌∷◌, ◌++◌, ◌≡◌, ◌+◌, ◌≤◌, ◌<◌, set, length, map, append_assoc, append-nil, refl, sym, ap, ◌∙◌, arith, subst}
+use Rattle.std.specs.List.{remove}
+use Rattle.hpx_value.specs.Values.{bare_act, bare_state, message_of, named}
+use Rattle.hpx_value.specs.Laws.{KeepsLaws}
+use Rattle.hpx_value.specs.Hands.{due_of}
+use Rattle.hpx_value.specs.declared.acts.Job.{Job}
+use Rattle.hpx_journal.specs.Data.{Id, Act, State, Outcome, Due}
+use Rattle.hpx_journal.specs.Entries.{name_of}
+use Rattle.hpx_part.specs.Data.{Event, Entry, Done, Standing}
+use Rattle.hpx_part.specs.Parts.{at_all}
+use Rattle.hpx_node.specs.declared.node.settle.Birth.{Birth}
+use Rattle.hpx_node.specs.declared.node.finish.Prepared.{Prepared}
+use Rattle.hpx_node.specs.Births.{Makes, birth_of, births_of, objects_of, records_of}
+use Rattle.hpx_node.specs.Commits.{splits_from, written, ups, hand_of, places_in_hand, made_of, committed, IsPrepared}
+use Rattle.hpx_node.specs.Jobs.{IsAt, IsFitJob}
+use Rattle.hpx_node.specs.Stands.{IsTidy, StandsWith, rules_of}
+use Rattle.hpx_node.specs.Tables.{Tables}
+use Rattle.hpx_node.proofs.Cutting.{at_all_append}
+use Rattle.hpx_node.proofs.PreparedPlan.{prepared_stands}
+use Rattle.hpx_node.proofs.PlanWeights.{written_same}
+
+-- the tables once what is made is made and the job is done
+module _ (t t1 t2 : Tables) (xs : List Birth) (i j : ℕ) (new : Standing) (made : Makes xs [] t t1) (running : t2.running ≡ remove t1.running i)
+    (objects : t2.objects ≡ set t1.objects j new)
+    (rest : t2 ≡ record t1 { running = t2.running; objects = t2.objects; spare = t2.spare }) where
+  births_then : t1.births ≡ t.births + length xs
+  births_then = omega (arith, made.births)
+
+  records_then : t1.records ≡ t.records ++ records_of t.here t.births t.profile.credit_log xs
+  records_then = sym (append-nil t1.records) ∙ made.records
+
+  objects_then : t2.objects ≡ set (t.objects ++ objects_of t.here t.births xs) j new
+  objects_then = objects ∙ ap (λ ys. set ys j new) (sym (append-nil t1.objects) ∙ made.objects)
+
+  running_then : t2.running ≡ remove t.running i
+  running_then = running ∙ ap (λ (x : Tables). remove x.running i) made.rest
+
+  pub settled_is : t2 ≡ record t {
+    births = t.births + length xs;
+    records = t.records ++ records_of t.here t.births t.profile.credit_log xs;
+    objects = set (t.objects ++ objects_of t.here t.births xs) j new;
+    running = remove t.running i;
+    spare = t2.spare;
+  }
+  settled_is =
+      rest
+      ∙ (ap (λ (x : Tables). record x { running = t2.running; objects = t2.objects; spare = t2.spare }) made.rest
+      ∙ (ap (λ n. record t { births = n; records = t1.records; objects = t2.objects; running = t2.running; spare = t2.spare }) births_then
+      ∙ (ap (λ rs. record t { births = t.births + length xs; records = rs; objects = t2.objects; running = t2.running; spare = t2.spare }) records_then
+      ∙ (ap (λ os. record t { births = t.births + length xs; records = t.records ++ records_of t.here t.births t.profile.credit_log xs; objects = os; running = t2.running; spare = t2.spare }) objects_then
+      ∙ ap (λ rest. record t { births = t.births + length xs; records = t.records ++ records_of t.here t.births t.profile.credit_log xs; objects = set (t.objects ++ objects_of t.here t.births xs) j new; running = rest; spare = t2.spare }) running_then))))
+
+-- entries that are written one list after another
+pub written_on : (k : ℕ) (a b c d : List Entry) (xs ys zs : List Event) → b ≡ a ++ at_all k xs → c ≡ b ++ at_all k ys → d ≡ c ++ at_all k zs
+    → d ≡ a ++ at_all k (xs ++ (ys ++ zs))
+written_on k a b c d xs ys zs e f g =
+    g ∙ (ap (λ es. es ++ at_all k zs) (f ∙ ap (λ es. es ++ at_all k ys) e)
+    ∙ (append_assoc (a ++ at_all k xs) (at_all k ys) (at_all k zs)
+    ∙ (append_assoc a (at_all k xs) (at_all k ys ++ at_all k zs)
+    ∙ ap (λ es. a ++ es) (sym (at_all_append k xs (ys ++ zs) ∙ ap (λ es. at_all k xs ++ es) (at_all_append k ys zs))))))

@@ -1,0 +1,52 @@
+-- A line is fed.
+use Rattle.std.proofs.Common.{ℕ, List, [], ◌∷◌, ◌++◌, ◌≡◌, ◌+◌, ◌≤◌, Some, length, refl, sym, ap, ◌∙◌, arith}
+use Rattle.std.specs.List.{sum_by}
+use Rattle.hpx_journal.specs.Entries.{Rules, line_act}
+use Rattle.hpx_part.specs.Data.{Name, Entry, Line}
+use Rattle.hpx_part.specs.Shows.{Leads}
+use Rattle.hpx_part.specs.Parts.{at_all}
+use Rattle.hpx_part.proofs.ActRows.{follows_line}
+use Rattle.hpx_node.specs.Tables.{Tables}
+use Rattle.hpx_node.specs.Seen.{view}
+use Rattle.hpx_node.specs.Stands.{StandsWith}
+use Rattle.hpx_node.specs.Changes.{Posts}
+use Rattle.hpx_node.proofs.Posted.{seen_posted, tells_posted}
+use Rattle.hpx_node.proofs.Steps.{tells_leads, stands_then}
+
+module _ (r : Rules) (t t' : Tables) (entries : List Entry) (bytes : List ℕ) where
+  abbrev name : Name
+  name = record { origin = t.here; serial = t.serial + 1 }
+
+  abbrev drawn : Tables
+  drawn = record t { serial = t.serial + 1 }
+
+  pub stands_line : t.here ≡ 0 → length bytes ≤ 1025 → Posts (line_act name bytes) drawn t' → StandsWith r t [] [] entries
+      → StandsWith r t' [] [] (entries ++ at_all t.here (Line name bytes ∷ []))
+  stands_line here short posts h =
+      let seen = seen_posted (line_act name bytes) drawn t' [] [] posts (view t [] []).tokens (Some (Line name bytes)) in
+      let leads : Leads r (view t [] []) (Line name bytes ∷ []) (view t' [] []) = (
+        seen_posted (line_act name bytes) drawn t' [] [] posts (view t [] []).tokens (Some (Line name bytes)),
+        follows_line r (view t [] []) posts.front posts.back bytes refl refl here short posts.before,
+        tells_leads r seen (view t' [] [])
+            (tells_posted (line_act name bytes) drawn t' [] [] posts (view t [] []).tokens (Some (Line name bytes)) (λ f weight. omega arith)),
+      ) in
+      stands_then r t t' [] [] [] [] entries (Line name bytes ∷ []) h
+      (posts.tidy [] (record {
+        accepted = h.tidy.accepted;
+        running = h.tidy.running;
+        objects = h.tidy.objects;
+        messages = h.tidy.messages;
+        fit = tt;
+        moves = h.tidy.moves;
+        drawn = h.tidy.drawn;
+        unborn = h.tidy.unborn;
+        ways = h.tidy.ways;
+      }))
+      (record {
+        here = ap (λ (x : Tables). x.here) posts.rest;
+        born = omega (arith, ap (λ (x : Tables). x.births) posts.rest);
+        few = omega (arith, ap (λ (x : Tables). x.serial) posts.rest);
+        sent = omega (arith, ap (λ (x : Tables). x.sent) posts.rest);
+        taken = omega (arith, ap (λ (x : Tables). x.taken) posts.rest);
+      })
+      leads

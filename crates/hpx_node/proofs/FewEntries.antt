@@ -1,0 +1,77 @@
+-- A message that is dealt with writes few entries.
+use Rattle.std.proofs.Common.{ℕ, suc, Bool, true, false, List, [], ◌∷◌, ◌++◌, ◌≡◌, ◌+◌, ◌≤◌, Option, Some, None, length, length-append, refl, sym, ap, ◌∙◌, arith, inl, inr, subst}
+use Rattle.std.specs.Prelude.{nat_lt, if◌then◌else◌}
+use Rattle.std.specs.List.{find, AllByRecursion}
+use Rattle.std.proofs.lemmas.Bool.{cases_Bool}
+use Rattle.hpx_value.specs.Ids.{bare}
+use Rattle.hpx_journal.specs.Data.{Id, Parcel, Apply, Return, Ask, Give, Cached, Move, Go, Shipped, Arrived, Free}
+use Rattle.hpx_journal.specs.Local.{is_standing}
+use Rattle.hpx_part.specs.Data.{Entry, Event, Standing, Count, Granted, Refused}
+use Rattle.hpx_part.specs.Parts.{at_all}
+use Rattle.hpx_node.specs.Fit.{IsKept}
+use Rattle.hpx_node.specs.Tables.{Tables}
+use Rattle.hpx_node.specs.Stands.{IsTidy}
+use Rattle.hpx_node.specs.Kept.{count_here}
+use Rattle.hpx_node.specs.Handled.{effects, up_of, ups, returned, answered, more_here, freed, with_first}
+
+up_few : (id : Id) (log : Option ℕ) → length (up_of id log) ≤ 1
+up_few id None = omega arith
+up_few id (Some log) = omega arith
+
+ups_few : (ids : List Id) → length (ups ids) ≤ length ids
+ups_few [] = omega arith
+ups_few (id ∷ ids) = omega (arith, length-append (up_of id id.log) (ups ids), up_few id id.log, ups_few ids)
+
+returned_few : (t : Tables) (id : Id) (log : Option ℕ) → length (returned t id log) ≤ 1
+returned_few t id None = omega arith
+returned_few t id (Some log) = omega arith
+
+kept_found : (o : Id) (xs : List Standing) (x : Standing) → AllByRecursion IsKept xs → find (is_standing o) xs ≡ Some x → IsKept x
+kept_found o [] x all h = cc
+kept_found o (y ∷ ys) x all h = elim (cases_Bool (is_standing o y)) [
+  | inl t ↦ let e : Some y ≡ Some x = rw t at h in subst IsKept (same_of y x e) all.0
+  | inr t ↦ kept_found o ys x all.1 (rw t at h)
+]
+  where
+    same_of : (y x : Standing) → Some y ≡ Some x → y ≡ x
+    same_of y x e = cc
+
+freed_few : (t : Tables) (o : Id) → IsTidy t [] → (u : Option Standing) → find (is_standing o) t.objects ≡ u → length (freed o u) ≤ 129
+freed_few t o tidy None e = omega arith
+freed_few t o tidy (Some x) e =
+    let kept : IsKept x = kept_found o t.objects x tidy.objects e in omega (arith, ups_few x.state.ids, kept.state.few)
+
+effects_few : (t : Tables) (p : Parcel) → IsTidy t [] → length (effects t p) ≤ 129
+effects_few t (Return id) tidy = omega (arith, returned_few t id id.log)
+effects_few t (Ask id asker entry) tidy = omega arith
+effects_few t (Free o) tidy = freed_few t o tidy (find (is_standing o) t.objects) refl
+effects_few t _ tidy = omega arith
+
+at_all_length : (k : ℕ) (events : List Event) → length (at_all k events) ≡ length events
+at_all_length k [] = refl
+at_all_length k (e ∷ es) = ap suc (at_all_length k es)
+
+pub grows_few : (k : ℕ) (e : Entry) (t : Tables) (p : Parcel) (before now after : List Entry) → IsTidy t [] → now ≡ before ++ e ∷ []
+    → after ≡ now ++ at_all k (effects t p) → length after ≤ length before + 130
+grows_few k e t p before now after tidy one grows = omega (
+  arith,
+  ap length one,
+  ap length grows,
+  length-append before (e ∷ []),
+  length-append now (at_all k (effects t p)),
+  at_all_length k (effects t p),
+  effects_few t p tidy,
+)
+
+pub popped_tidy : (p : Parcel) (t : Tables) → IsTidy (with_first p t) [] → IsTidy t []
+popped_tidy p t tidy = record {
+  accepted = tidy.accepted;
+  running = tidy.running;
+  objects = tidy.objects;
+  messages = tidy.messages.1;
+  fit = tidy.fit;
+  moves = tidy.moves;
+  ways = tidy.ways;
+  drawn = tidy.drawn;
+  unborn = tidy.unborn;
+}

@@ -1,0 +1,266 @@
+-- A dead object is freed.
+use Rattle.std.proofs.Common.{ℕ, suc, Bool, true, false, cond, List, [], ◌∷◌, ◌++◌, ◌≡◌, ◌+◌, ◌^◌, ◌≤◌, Option, Some, None, map, take, drop, append-nil, append_assoc, refl, sym, ap, ◌∙◌, arith, inl, inr, subst}
+use Rattle.std.specs.Prelude.{flat_map}
+use Rattle.std.specs.List.{sum_by, count_by, find, list_any, slice_get, remove, AllByRecursion}
+use Rattle.std.proofs.lemmas.Bool.{cases_Bool}
+use Rattle.std.proofs.lemmas.List.{map-append}
+use Rattle.std.proofs.lemmas.List.Sums.{sum_by-cons, sum_by-append}
+use Rattle.std.proofs.Math.Pow.{pow_pos}
+use Rattle.hpx_value.specs.Ids.{bare, same_object, credit}
+use Rattle.hpx_value.specs.Values.{bare_act}
+use Rattle.hpx_value.specs.Hands.{session}
+use Rattle.hpx_parcel.specs.Credits.{Credit, credit_list, credits_of}
+use Rattle.hpx_parcel.specs.Parcels.{IsParcel, IsBare}
+use Rattle.hpx_journal.specs.Data.{Id, Act, Parcel, Apply, Return, Ask, Give, Cached, Move, Go, Shipped, Arrived, Free}
+use Rattle.hpx_journal.specs.Entries.{Rules, target_of}
+use Rattle.hpx_journal.specs.Tokens.{held, owing, is_held, held_token}
+use Rattle.hpx_journal.specs.Local.{is_standing, acts_on, is_recorded, count_in}
+use Rattle.hpx_journal.specs.Rows.{IsManaged}
+use Rattle.hpx_journal.proofs.Same.{same_object-true}
+use Rattle.hpx_journal.proofs.Bools.{and_false}
+use Rattle.hpx_part.specs.Parts.{at_all}
+use Rattle.hpx_part.specs.Data.{Entry, Event, Standing, Token, In, Mail, Freed}
+use Rattle.hpx_part.specs.View.{View, IsCovered}
+use Rattle.hpx_part.specs.Shows.{Leads, Follows}
+use Rattle.hpx_part.proofs.ObjectRows.{follows_freed_mailed, follows_freed_taken}
+use Rattle.hpx_part.proofs.Covered.{act_names, object_names}
+use Rattle.hpx_part.proofs.Grown.{chain}
+use Rattle.hpx_part.proofs.Keyed.{split_get}
+use Rattle.hpx_node.specs.Fit.{IsFit, IsKept}
+use Rattle.hpx_node.specs.Tables.{Tables, messages}
+use Rattle.hpx_node.specs.Seen.{bare_standing, counted, parcel_tokens, tokens, waiting, asks, frees, view}
+use Rattle.hpx_node.specs.Stands.{IsTidy}
+use Rattle.hpx_node.specs.Kept.{credit_in, ids_held, held_here}
+use Rattle.hpx_node.specs.Handled.{LetsFree, ups, freed, in_hand, TakesUp, Handles, GivesUp}
+use Rattle.hpx_node.proofs.Alls.{all_at, all_remove}
+use Rattle.hpx_node.proofs.Sums.{weigh, weigh_append, weigh_remove, tokens_sum, view_sum}
+use Rattle.hpx_node.proofs.Steps.{Tells, tells_leads}
+use Rattle.hpx_node.proofs.InHand.{hand_sum}
+use Rattle.hpx_node.proofs.GivenUp.{weigh_some}
+use Rattle.hpx_node.proofs.Cover.{tidy_covers}
+
+-- ---- where no credit is held, there is no name
+
+module _ (o : Id) where
+  abbrev holds : Token → ℕ
+  holds t = cond (is_held o t) 1 0
+
+  one_worth : (id : Id) (log : Option ℕ) → id.log ≡ log → (b : Bool) → same_object o id ≡ b
+      → sum_by holds (map held (credit_list id log ++ [])) ≤ cond b (credit id) 0
+  one_worth id None e b same = omega arith
+  one_worth id (Some log) e true same = rw (same, e) (omega (arith, pow_pos log))
+  one_worth id (Some log) e false same = rw same (omega arith)
+
+  held_worth : (ids : List Id) → weigh holds ids ≤ credit_in o ids
+  held_worth [] = omega arith
+  held_worth (id ∷ ids) = omega (
+    arith,
+    weigh_append holds (id ∷ []) ids,
+    one_worth id id.log refl (same_object o id) refl,
+    held_worth ids,
+    sum_by-cons (λ (x : Id). cond (same_object o x) (credit x) 0) id ids,
+  )
+
+  held_each : {X : Type 0} (g : X → List Id) (xs : List X) → weigh holds (flat_map g xs) ≤ sum_by (λ x. credit_in o (g x)) xs
+  held_each g [] = omega arith
+  held_each g (x ∷ xs) = omega (
+    arith,
+    weigh_append holds (g x) (flat_map g xs),
+    held_worth (g x),
+    held_each g xs,
+    sum_by-cons (λ y. credit_in o (g y)) x xs,
+  )
+
+  owing_holds : (cs : List Credit) → sum_by holds (map owing cs) ≡ 0
+  owing_holds [] = refl
+  owing_holds (c ∷ cs) = omega (
+    arith,
+    sum_by-cons holds (owing c) (map owing cs),
+    owing_holds cs,
+    ap {B = ℕ} (λ b. cond b 1 0) (and_false (same_object o c.object)),
+  )
+
+  bare_holds : (id : Id) → id.log ≡ None → sum_by holds (map held (credit_list id id.log ++ [])) ≡ 0
+  bare_holds id none = ap (λ l. sum_by holds (map held (credit_list id l ++ []))) none
+
+  parcel_worth : (p : Parcel) → IsParcel p → sum_by holds (parcel_tokens p) ≤ credit_in o (ids_held p)
+  parcel_worth (Apply act) h = held_worth act.ids
+  parcel_worth (Move act) h = held_worth act.ids
+  parcel_worth (Go act) h = held_worth act.ids
+  parcel_worth (Shipped act state) h = held_worth (act.ids ++ state.ids)
+  parcel_worth (Return id) h = omega (arith, owing_holds (credits_of (id ∷ [])))
+  parcel_worth (Ask id asker entry) h = omega (arith, owing_holds (credits_of (id ∷ [])))
+  parcel_worth (Give id entry) h = omega (arith, owing_holds (credits_of (id ∷ [])))
+  parcel_worth (Arrived id place) h = omega (arith, owing_holds (credits_of (id ∷ [])))
+  parcel_worth (Cached id place) h = omega (arith, bare_holds id h.0)
+  parcel_worth (Free id) h = omega (arith, bare_holds id h.0)
+
+  messages_worth : (ps : List Parcel) → AllByRecursion IsParcel ps
+      → sum_by holds (flat_map parcel_tokens ps) ≤ sum_by (λ p. credit_in o (ids_held p)) ps
+  messages_worth [] h = omega arith
+  messages_worth (p ∷ ps) h = omega (
+    arith,
+    sum_by-append holds (parcel_tokens p) (flat_map parcel_tokens ps),
+    parcel_worth p h.0,
+    messages_worth ps h.1,
+    sum_by-cons (λ q. credit_in o (ids_held q)) p ps,
+  )
+
+  none_held : (t : Tables) → IsTidy t [] → held_here t o ≡ 0 → sum_by holds (tokens t) ≡ 0
+  none_held t tidy none = omega (
+    arith,
+    none,
+    tokens_sum holds t,
+    held_each (λ (x : Standing). x.state.ids) t.objects,
+    held_each (λ (a : Act). a.ids) t.accepted,
+    held_each (λ (a : Act). a.ids) t.running,
+    messages_worth (messages t) tidy.messages,
+  )
+
+  one_name : 16 ≤ o.kind → (act : Act) (ids : List Id) → act.ids ≡ ids → acts_on o act ≡ true → 1 ≤ act_names o act
+  one_name managed act [] e h =
+      let k : same_object o session ≡ true = rw e at h in
+      absurd (let kind : o.kind ≡ 1 = ap (λ (x : Id). x.kind) (same_object-true o session k) in omega (arith, managed, kind))
+  one_name managed act (id ∷ ids) e h =
+      let k : same_object o id ≡ true = rw e at h in
+      rw e (omega (arith, sum_by-cons (λ x. cond (same_object o x) 1 0) id ids, ap {B = ℕ} (λ b. cond b 1 0) k))
+
+  no_acts : 16 ≤ o.kind → (xs : List Act) → sum_by (act_names o) xs ≡ 0 → list_any (acts_on o) xs ≡ false
+  no_acts managed [] h = refl
+  no_acts managed (x ∷ xs) h = elim (cases_Bool (acts_on o x)) [
+    | inl t ↦ absurd (omega (arith, h, sum_by-cons (act_names o) x xs, one_name managed x x.ids refl t))
+    | inr t ↦ rw t (no_acts managed xs (omega (arith, h, sum_by-cons (act_names o) x xs)))
+  ]
+
+-- ---- the object goes
+
+found_passes : (o : Id) (xs : List Standing) (x : Standing) → find (is_standing o) xs ≡ Some x → same_object o x.object ≡ true
+found_passes o [] x h = cc
+found_passes o (y ∷ ys) x h = elim (cases_Bool (is_standing o y)) [
+  | inl t ↦ let e : Some y ≡ Some x = rw t at h in subst (λ (z : Standing). same_object o z.object ≡ true) (same_of y x e) t
+  | inr t ↦ found_passes o ys x (rw t at h)
+]
+  where
+    same_of : (y x : Standing) → Some y ≡ Some x → y ≡ x
+    same_of y x e = cc
+
+module _ (r : Rules) (t t' : Tables) (o : Id) (x : Standing) (i spare : ℕ) (is_bare : IsBare o) (tidy : IsTidy t []) (none : held_here t o ≡ 0)
+    (there : slice_get t.objects i ≡ Some x) (found : find (is_standing o) t.objects ≡ Some x)
+    (gives : GivesUp r x.state.ids (record t { objects = remove t.objects i; spare = spare }) t') where
+  abbrev without_it : Tables
+  without_it = record t { objects = remove t.objects i; spare = spare }
+
+  same : same_object o x.object ≡ true
+  same = found_passes o t.objects x found
+
+  managed : IsManaged o
+  managed =
+      let kept : IsKept x = all_at IsKept t.objects i x tidy.objects there in
+      let kind : o.kind ≡ x.object.kind = ap (λ (y : Id). y.kind) (same_object-true o x.object same) in
+      (is_bare.1, omega (arith, kind, kept.kind))
+
+  names_none : sum_by (act_names o) (waiting t) + sum_by (act_names o) (map bare_act t.running) ≡ 0
+  names_none = omega (
+    arith,
+    (tidy_covers t [] [] tidy o is_bare.1).named,
+    none_held o t tidy none,
+    view_sum (λ y. cond (is_held o y) 1 0) t [] [],
+  )
+
+  abbrev l : List Standing
+  l = map bare_standing (take i t.objects)
+
+  abbrev m : List Standing
+  m = map bare_standing (drop (suc i) t.objects)
+
+  split : map bare_standing t.objects ≡ l ++ bare_standing x ∷ m
+  split = ap (map bare_standing) (split_get t.objects i x there) ∙ map-append bare_standing (take i t.objects) (x ∷ drop (suc i) t.objects)
+
+  goes : (dead : List Id) (e : Event) → LetsFree r t.here o dead e
+      → Follows r (in_hand (Free o) t dead e) (Freed o) (record (in_hand (Free o) t dead e) { objects = l ++ m; last = Some (Freed o) })
+  goes dead (Mail kind) h =
+      follows_freed_mailed r (in_hand (Free o) t dead (Mail kind)) o (bare_standing x) l m refl refl managed is_bare.0 split same
+      (no_acts o is_bare.1 (waiting t) (omega (arith, names_none))) (no_acts o is_bare.1 (map bare_act t.running) (omega (arith, names_none)))
+      (ap (λ k. Some (Mail k)) h.0) h.1 h.2
+  goes dead (In bytes) h =
+      follows_freed_taken r (in_hand (Free o) t dead (In bytes)) o (bare_standing x) l m refl refl managed is_bare.0 split same
+      (no_acts o is_bare.1 (waiting t) (omega (arith, names_none))) (no_acts o is_bare.1 (map bare_act t.running) (omega (arith, names_none)))
+      bytes refl h
+  goes dead _ h = absurd h
+
+  tells : (dead : List Id) (e : Event) → TakesUp r t (Free o) dead e
+      → Tells (record (in_hand (Free o) t dead e) { objects = l ++ m; last = Some (Freed o) }) (view without_it [] x.state.ids)
+  tells dead e takes = record {
+    here = refl;
+    serial = refl;
+    number = refl;
+    waiting = refl;
+    fired = refl;
+    objects = sym (map-append bare_standing (take i t.objects) (drop (suc i) t.objects));
+    fresh = refl;
+    due = refl;
+    tokens = λ f weight. omega (
+      arith,
+      hand_sum f (Free o) t,
+      ap (λ lg. sum_by f (map held (credit_list o lg ++ []))) is_bare.0,
+      view_sum f without_it [] x.state.ids,
+      tokens_sum f t,
+      tokens_sum f without_it,
+      weigh_remove f (λ (y : Standing). y.state.ids) t.objects i x there,
+    );
+    asking = λ y. refl;
+    asks = λ y. refl;
+    live = λ y home. refl;
+    dead = λ y h. takes.among y h;
+    refusals = refl;
+    failing = refl;
+    last = refl;
+  }
+
+  leads : (dead : List Id) (e : Event) → TakesUp r t (Free o) dead e
+      → Leads r (in_hand (Free o) t dead e) (Freed o ∷ ups x.state.ids) (view t' [] [])
+  leads dead e takes =
+      let n : View = record (in_hand (Free o) t dead e) { objects = l ++ m; last = Some (Freed o) } in
+      let on : Leads r (view without_it [] x.state.ids) (ups x.state.ids) (view t' [] []) =
+      subst (λ ids. Leads r (view without_it [] ids) (ups x.state.ids) (view t' [] [])) (append-nil x.state.ids) (gives.leads []) in (
+        n,
+        goes dead e takes.lets,
+        chain r n (view without_it [] x.state.ids) (view t' [] []) [] (ups x.state.ids)
+            (tells_leads r n (view without_it [] x.state.ids) (tells dead e takes)) on,
+      )
+
+  pub freed_handles : (u : Option Standing) → u ≡ Some x → Handles r (Free o) t t' (freed o u)
+  freed_handles u is =
+      let rest = gives.rest in record {
+        here = ap (λ (y : Tables). y.here) rest;
+        localities = ap (λ (y : Tables). y.localities) rest;
+        profile = ap (λ (y : Tables). y.profile) rest;
+        serial = ap (λ (y : Tables). y.serial) rest;
+        births = ap (λ (y : Tables). y.births) rest;
+        sent = ap (λ (y : Tables). y.sent) rest;
+        taken = ap (λ (y : Tables). y.taken) rest;
+        running = ap (λ (y : Tables). y.running) rest;
+        tidy = gives.tidy;
+        leads = λ dead e takes. subst (λ es. Leads r (in_hand (Free o) t dead e) es (view t' [] [])) (sym (ap (freed o) is)) (leads dead e takes);
+      }
+
+pub without_tidy : (t : Tables) (i spare : ℕ) → IsTidy t [] → IsTidy (record t { objects = remove t.objects i; spare = spare }) []
+without_tidy t i spare tidy = record {
+  accepted = tidy.accepted;
+  running = tidy.running;
+  objects = all_remove IsKept t.objects i tidy.objects;
+  messages = tidy.messages;
+  fit = tidy.fit;
+  moves = tidy.moves;
+  ways = tidy.ways;
+  drawn = all_remove (λ (x : Standing). 16 ≤ x.object.kind → x.object.home ≡ t.here → x.object.number ≤ t.births) t.objects i tidy.drawn;
+  unborn = tidy.unborn;
+}
+
+pub freed_grows : (k : ℕ) (o : Id) (x : Standing) (ids : List Id) (u : Option Standing) (before now after : List Entry) → u ≡ Some x → ids ≡ x.state.ids
+    → now ≡ before ++ record { at = k; event = Freed o } ∷ [] → after ≡ now ++ at_all k (ups ids) → after ≡ before ++ at_all k (freed o u)
+freed_grows k o x ids u before now after is same one grows =
+    grows
+    ∙ (ap (λ xs. xs ++ at_all k (ups ids)) one
+    ∙ (append_assoc before (record { at = k; event = Freed o } ∷ []) (at_all k (ups ids))
+    ∙ (ap (λ xs. before ++ record { at = k; event = Freed o } ∷ at_all k (ups xs)) same ∙ sym (ap (λ z. before ++ at_all k (freed o z)) is))))

@@ -1,0 +1,16 @@
+-- Objects are made one after another.
+use Rattle.std.proofs.Common.{ℕ, List, [], ◌∷◌, ◌++◌, ◌≡◌, ◌+◌, refl, sym, ap, ◌∙◌, arith}
+use Rattle.hpx_node.specs.declared.node.settle.Birth.{Birth}
+use Rattle.hpx_node.specs.Births.{Makes}
+use Rattle.hpx_node.specs.Tables.{Tables}
+
+pub makes_none : (xs : List Birth) (t : Tables) → Makes xs xs t t
+makes_none xs t = record { rest = refl; objects = refl; records = refl; births = refl }
+
+pub makes_then : (xs ys zs : List Birth) (t u v : Tables) → Makes xs ys t u → Makes ys zs u v → Makes xs zs t v
+makes_then xs ys zs t u v a b = record {
+  rest = b.rest ∙ ap (λ (x : Tables). record x { births = v.births; records = v.records; objects = v.objects; spare = v.spare }) a.rest;
+  objects = b.objects ∙ a.objects;
+  records = b.records ∙ a.records;
+  births = b.births ∙ a.births;
+}

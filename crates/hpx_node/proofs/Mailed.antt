@@ -1,0 +1,67 @@
+-- A message is put among those to others, or on the own desk, and all stays well formed.
+use Rattle.std.proofs.Common.{◌≢◌, ℕ, List, [], ◌∷◌, ◌++◌, ◌≡◌, ◌<◌, map, append_assoc, append-nil, refl, sym, ap, ◌∙◌, subst}
+use Rattle.std.specs.List.{AllByRecursion}
+use Rattle.std.proofs.lemmas.List.{map-append}
+use Rattle.hpx_value.specs.declared.outcome.Due.{Due}
+use Rattle.hpx_parcel.specs.Parcels.{IsParcel}
+use Rattle.hpx_journal.specs.Data.{Parcel}
+use Rattle.hpx_node.specs.declared.parts.Outgoing.{Outgoing}
+use Rattle.hpx_node.specs.Frames.{MayGoTo, IsOnItsWay}
+use Rattle.hpx_node.specs.Tables.{Tables, messages}
+use Rattle.hpx_node.specs.Stands.{IsTidy}
+use Rattle.hpx_node.specs.Changes.{Mails}
+use Rattle.hpx_node.proofs.Alls.{all_append, all_parts}
+use Rattle.std.proofs.Common.{◌≤◌, ◌+◌}
+
+module _ (t : Tables) (p : Parcel) (spare : ℕ) (fit : IsParcel p) (enough : t.spare ≤ spare + 1) where
+  -- among those to others
+  pub mails_out : (to : ℕ) → to < t.localities → to ≢ t.here → MayGoTo t.here to p
+      → Mails p t (record t { outgoing = t.outgoing ++ record { to = to; parcel = p } ∷ []; spare = spare })
+  mails_out to range away may =
+      let outs = map (λ (x : Outgoing). x.parcel) t.outgoing in record {
+        rest = refl;
+        spare = enough;
+        front = messages t;
+        back = [];
+        before = sym (append-nil (messages t));
+        after = ap (λ xs. t.desk ++ xs) (map-append (λ (x : Outgoing). x.parcel) t.outgoing (record { to = to; parcel = p } ∷ []))
+            ∙ sym (append_assoc t.desk (map (λ (x : Outgoing). x.parcel) t.outgoing) (p ∷ []));
+        tidy = λ due h. record {
+          accepted = h.accepted;
+          running = h.running;
+          objects = h.objects;
+          messages = subst (AllByRecursion IsParcel)
+              (append_assoc t.desk outs (p ∷ []) ∙ ap (λ xs. t.desk ++ xs) (sym (map-append (λ (x : Outgoing). x.parcel) t.outgoing (record { to = to; parcel = p } ∷ []))))
+              (all_append IsParcel (messages t) (p ∷ []) h.messages (fit, tt));
+          fit = h.fit;
+          moves = h.moves;
+          drawn = h.drawn;
+          unborn = h.unborn;
+          ways = all_append (IsOnItsWay t.localities t.here) t.outgoing (record { to = to; parcel = p } ∷ []) h.ways
+              (record { somewhere = range; away = away; may = may }, tt);
+        };
+      }
+
+  -- on the own desk
+  pub mails_desk : Mails p t (record t { desk = t.desk ++ p ∷ []; spare = spare })
+  mails_desk =
+      let outs = map (λ (x : Outgoing). x.parcel) t.outgoing in record {
+        rest = refl;
+        spare = enough;
+        front = t.desk;
+        back = map (λ (x : Outgoing). x.parcel) t.outgoing;
+        before = refl;
+        after = append_assoc t.desk (p ∷ []) (map (λ (x : Outgoing). x.parcel) t.outgoing);
+        tidy = λ due h. record {
+          accepted = h.accepted;
+          running = h.running;
+          objects = h.objects;
+          messages = let parts = all_parts IsParcel t.desk outs h.messages in
+              all_append IsParcel (t.desk ++ p ∷ []) outs (all_append IsParcel t.desk (p ∷ []) parts.0 (fit, tt)) parts.1;
+          fit = h.fit;
+          moves = h.moves;
+          drawn = h.drawn;
+          unborn = h.unborn;
+          ways = h.ways;
+        };
+      }

@@ -1,0 +1,72 @@
+-- A whole commit is short and light.
+use Rattle.std.proofs.Common.{ℕ, false, List, ◌∷◌, ◌++◌, ◌≤◌, length, length-append, map, arith}
+use Rattle.std.proofs.lemmas.List.{length-map}
+use Rattle.hpx_value.specs.Ids.{bare}
+use Rattle.hpx_value.specs.Laws.{KeepsLaws}
+use Rattle.hpx_value.specs.declared.acts.Job.{Job}
+use Rattle.hpx_journal.specs.Data.{Id, Outcome}
+use Rattle.hpx_journal.specs.Entries.{name_of}
+use Rattle.hpx_part.specs.Data.{Event, Done, Up}
+use Rattle.hpx_commit.specs.Deals.{log_of, unnamed}
+use Rattle.hpx_node.specs.Births.{birth_of, births_of}
+use Rattle.hpx_node.specs.Commits.{splits_from, written, ups}
+use Rattle.hpx_node.specs.Jobs.{IsFitJob}
+use Rattle.hpx_node.specs.Tables.{Tables}
+use Rattle.hpx_node.proofs.Planned.{made, hand, places, outcome_due, made_fit}
+use Rattle.hpx_node.proofs.PlanLimits.{makes_few, replies_few, ups_few, cuts_limit, few_due}
+use Rattle.hpx_node.proofs.PlanWeights.{written_few, weighs, weighs_append, weighs_cons, births_light, splits_light, ups_light, written_light}
+use Rattle.hpx_node.proofs.Stays.{births_long}
+
+module _ (t : Tables) (job : Job) (out : Outcome) (fit : IsFitJob job) (few : t.localities ≤ 64)
+    (laws : KeepsLaws t.localities job.kind job.at job.state job.action out) where
+  abbrev all : List Id
+  all = hand t job out fit few laws
+
+  abbrev named : List ℕ
+  named = places t job out fit few laws
+
+  abbrev first : List Event
+  first = births_of t.here t.births (map birth_of out.makes)
+
+  abbrev halvings : List Event
+  halvings = splits_from 0 all named
+
+  abbrev due : List Event
+  due = written t.here t.serial (outcome_due t job out fit few laws)
+
+  abbrev last : List Event
+  last = ups (unnamed all named)
+
+  abbrev done : Event
+  done = Done (name_of job.action) false
+
+  pub commit_few : length (first ++ (halvings ++ (done ∷ (due ++ last)))) ≤ 596
+  commit_few = omega (
+    arith,
+    length-append first (halvings ++ (done ∷ (due ++ last))),
+    length-append halvings (done ∷ (due ++ last)),
+    length-append due last,
+    births_long t.here t.births (map birth_of out.makes),
+    makes_few t job out fit few laws,
+    cuts_limit t job out fit few laws,
+    written_few t.here t.serial (outcome_due t job out fit few laws),
+    few_due job.state job.action (made t job out fit few laws) out laws.few.sends (replies_few t job out fit few laws) laws.few.prints,
+    length-map (unnamed all named) (λ id. Up (bare id) (log_of id.log)),
+    ups_few t job out fit few laws,
+  )
+
+  pub commit_light : (k : ℕ) → weighs k (first ++ (halvings ++ (done ∷ (due ++ last)))) ≤ 2380288
+  commit_light k = omega (
+    arith,
+    weighs_append k first (halvings ++ (done ∷ (due ++ last))),
+    weighs_append k halvings (done ∷ (due ++ last)),
+    weighs_cons k done (due ++ last),
+    weighs_append k due last,
+    births_light k t.here t.births (map birth_of out.makes) (made_fit t job out fit few laws),
+    makes_few t job out fit few laws,
+    splits_light k 0 all named,
+    cuts_limit t job out fit few laws,
+    written_light k t.here t.serial job.state job.action (made t job out fit few laws) out laws.few.sends (replies_few t job out fit few laws) laws.few.prints laws.few.short,
+    ups_light k (unnamed all named),
+    ups_few t job out fit few laws,
+  )

@@ -1,0 +1,118 @@
+-- What the entries of a commit weigh.
+use Rattle.std.proofs.Common.{ℕ, zero, suc, List, [], ◌∷◌, ◌++◌, ◌≡◌, ◌+◌, ◌≤◌, length, length-append, map, refl, ap, ◌∙◌, arith}
+use Rattle.std.specs.Prelude.{◌*◌}
+use Rattle.std.specs.List.{sum_by, AllByRecursion}
+use Rattle.std.proofs.lemmas.List.Sums.{sum_by-cons, sum_by-append}
+use Rattle.hpx_value.specs.Hands.{sent, replied, due_of}
+use Rattle.hpx_value.specs.Ids.{bare, bare_id}
+use Rattle.hpx_journal.specs.Data.{Id, State, Act, Message, Outcome, Due, MessageDue, PrintDue}
+use Rattle.hpx_journal.specs.Weights.{weight_of, total_weight, state_size}
+use Rattle.hpx_part.specs.Data.{Event, Born, Split, Sent, Print, Up}
+use Rattle.hpx_part.specs.Parts.{at_all}
+use Rattle.hpx_commit.specs.Deals.{half, log_of, named, filled_due, unused}
+use Rattle.hpx_node.specs.declared.node.settle.Birth.{Birth}
+use Rattle.hpx_node.specs.Births.{IsBirth, births_of}
+use Rattle.hpx_node.specs.Commits.{cuts, splits_from, written, ups}
+use Rattle.hpx_node.proofs.Cutting.{at_all_append}
+
+-- what is due, in the weight of its entries
+abbrev pub due_weight : Due → ℕ
+due_weight (MessageDue m) = 64
+due_weight (PrintDue bytes) = 64 + length bytes
+
+-- nothing that was dealt is written
+pub written_same : (here serial : ℕ) (due : List Due) (ds : List Id) → written here serial (filled_due due ds) ≡ written here serial due
+written_same here serial [] ds = refl
+written_same here serial (MessageDue m ∷ rest) ds =
+    ap (λ es. Sent (record { origin = here; serial = serial + 1 }) ∷ es) (written_same here (serial + 1) rest (unused m.ids ds))
+written_same here serial (PrintDue bytes ∷ rest) ds = ap (λ es. Print bytes ∷ es) (written_same here serial rest ds)
+
+pub written_few : (here serial : ℕ) (due : List Due) → length (written here serial due) ≡ length due
+written_few here serial [] = refl
+written_few here serial (MessageDue m ∷ rest) = ap suc (written_few here (serial + 1) rest)
+written_few here serial (PrintDue bytes ∷ rest) = ap suc (written_few here serial rest)
+
+messages_light : {X : Type 0} (make : X → Message) (xs : List X) → sum_by due_weight (map (λ x. MessageDue (make x)) xs) ≡ 64 * length xs
+messages_light make [] = refl
+messages_light make (x ∷ xs) =
+    omega (arith, sum_by-cons due_weight (MessageDue (make x)) (map (λ y. MessageDue (make y)) xs), messages_light make xs)
+
+prints_light : (xs : List (List ℕ)) → AllByRecursion (λ bytes. length bytes ≤ 16384) xs → sum_by due_weight (map PrintDue xs) ≤ 16448 * length xs
+prints_light [] h = omega arith
+prints_light (x ∷ xs) h = omega (arith, sum_by-cons due_weight (PrintDue x) (map PrintDue xs), prints_light xs h.1, h.0)
+
+light_due : (s : State) (a : Act) (made : List Id) (out : Outcome) → length out.sends ≤ 32 → length out.replies ≤ 129 → length out.prints ≤ 16
+    → AllByRecursion (λ bytes. length bytes ≤ 16384) out.prints → sum_by due_weight (due_of s a made out) ≤ 273472
+light_due s a made out h i j short =
+    omega (
+      arith,
+      sum_by-append due_weight (map (λ x. MessageDue (sent s a made x)) out.sends) (map (λ x. MessageDue (replied s a made x)) out.replies ++ map PrintDue out.prints),
+      sum_by-append due_weight (map (λ x. MessageDue (replied s a made x)) out.replies) (map PrintDue out.prints),
+      messages_light (sent s a made) out.sends,
+      messages_light (replied s a made) out.replies,
+      prints_light out.prints short,
+    )
+
+module _ (k : ℕ) where
+  abbrev pub weighs : List Event → ℕ
+  weighs es = total_weight (at_all k es)
+
+  pub weighs_append : (xs ys : List Event) → weighs (xs ++ ys) ≡ weighs xs + weighs ys
+  weighs_append xs ys = ap total_weight (at_all_append k xs ys) ∙ sum_by-append weight_of (at_all k xs) (at_all k ys)
+
+  pub weighs_cons : (e : Event) (es : List Event) → weighs (e ∷ es) ≡ weight_of (record { at = k; event = e }) + weighs es
+  weighs_cons e es = sum_by-cons weight_of (record { at = k; event = e }) (at_all k es)
+
+  pub births_light : (here n : ℕ) (xs : List Birth) → AllByRecursion IsBirth xs → weighs (births_of here n xs) ≤ 65064 * length xs
+  births_light here n [] h = omega arith
+  births_light here n (x ∷ xs) h =
+      let same : state_size x.entry ≡ state_size x.state = ap state_size h.0.same in
+      let short : state_size x.state ≤ 65000 = h.0.state.short in
+      omega (
+        arith,
+        same,
+        short,
+        weighs_cons (Born (bare_id here x.kind (n + 1)) x.entry) (births_of here (n + 1) xs),
+        births_light here (n + 1) xs h.1,
+      )
+
+  cuts_light : (id : Id) (n : ℕ) → weighs (cuts id n) ≡ 64 * length (cuts id n)
+  cuts_light id zero = refl
+  cuts_light id (suc zero) = refl
+  cuts_light id (suc (suc n)) = omega (arith, weighs_cons (Split (bare id) (log_of id.log)) (cuts (half id) (suc n)), cuts_light (half id) (suc n))
+
+  pub splits_light : (p : ℕ) (ids : List Id) (ps : List ℕ) → weighs (splits_from p ids ps) ≡ 64 * length (splits_from p ids ps)
+  splits_light p [] ps = refl
+  splits_light p (id ∷ ids) ps = omega (
+    arith,
+    weighs_append (cuts id (named ps p)) (splits_from (p + 1) ids ps),
+    cuts_light id (named ps p),
+    splits_light (p + 1) ids ps,
+    length-append (cuts id (named ps p)) (splits_from (p + 1) ids ps),
+  )
+
+  pub ups_light : (ids : List Id) → weighs (ups ids) ≡ 64 * length ids
+  ups_light [] = refl
+  ups_light (id ∷ ids) = omega (arith, weighs_cons (Up (bare id) (log_of id.log)) (ups ids), ups_light ids)
+
+  weighs_due : (here serial : ℕ) (due : List Due) → weighs (written here serial due) ≡ sum_by due_weight due
+  weighs_due here serial [] = refl
+  weighs_due here serial (MessageDue m ∷ rest) = omega (
+    arith,
+    weighs_cons (Sent (record { origin = here; serial = serial + 1 })) (written here (serial + 1) rest),
+    sum_by-cons due_weight (MessageDue m) rest,
+    weighs_due here (serial + 1) rest,
+  )
+  weighs_due here serial (PrintDue bytes ∷ rest) = omega (
+    arith,
+    weighs_cons (Print bytes) (written here serial rest),
+    sum_by-cons due_weight (PrintDue bytes) rest,
+    weighs_due here serial rest,
+  )
+
+  -- what is due is not heavy
+  pub written_light : (here serial : ℕ) (s : State) (a : Act) (made : List Id) (out : Outcome)
+      → length out.sends ≤ 32 → length out.replies ≤ 129 → length out.prints ≤ 16
+      → AllByRecursion (λ bytes. length bytes ≤ 16384) out.prints → weighs (written here serial (due_of s a made out)) ≤ 273472
+  written_light here serial s a made out h i j short =
+      omega (arith, weighs_due here serial (due_of s a made out), light_due s a made out h i j short)

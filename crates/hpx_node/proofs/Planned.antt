@@ -1,0 +1,200 @@
+-- A commit that is planned keeps what a plan promises.
+use Rattle.std.proofs.Common.{ℕ, suc, List, [], ◌∷◌, ◌≡◌, ◌+◌, ◌≤◌, length, map, append-nil, refl, sym, ap, ◌∙◌, arith}
+use Rattle.std.specs.Prelude.{flat_map}
+use Rattle.std.specs.List.{sum_by, AllByRecursion}
+use Rattle.hpx_value.specs.Ids.{bare}
+use Rattle.hpx_value.specs.Values.{bare_act, bare_state, message_of, named, refs_in}
+use Rattle.hpx_value.specs.Shapes.{IsState}
+use Rattle.hpx_value.specs.Hands.{hand_ids, hand_slots, due_of, state_after}
+use Rattle.hpx_value.specs.Laws.{KeepsLaws, IsManaged, birth_state, uses}
+use Rattle.hpx_value.specs.Mentions.{mentions}
+use Rattle.hpx_value.proofs.Uses.{used_below}
+use Rattle.hpx_value.specs.declared.acts.Job.{Job}
+use Rattle.hpx_value.specs.declared.outcome.Make.{Make}
+use Rattle.hpx_parcel.specs.Parcels.{HasRightCredit, HasCredit}
+use Rattle.hpx_journal.specs.Data.{Id, Act, State, Outcome, Due}
+use Rattle.hpx_journal.specs.Names.{due_ids}
+use Rattle.hpx_part.specs.Data.{Token}
+use Rattle.hpx_commit.specs.Deals.{dealt, filled, unused, filled_due, ids_due, places_named, shared_from, unnamed, AllLast, AreWithin}
+use Rattle.hpx_commit.proofs.Naming.{managed, names_match, places_within}
+use Rattle.hpx_commit.proofs.Fills.{Fits, filled_same, unused_rest, filled_sums, due_filled, filled_all, unused_all}
+use Rattle.hpx_commit.proofs.Deals.{names_dealt, sums_dealt}
+use Rattle.hpx_node.specs.declared.node.settle.Birth.{Birth}
+use Rattle.hpx_node.specs.Births.{IsBirth, birth_of, ids_of}
+use Rattle.hpx_node.specs.Fit.{IsFitDue}
+use Rattle.hpx_node.specs.Jobs.{IsFitJob}
+use Rattle.hpx_node.specs.Seen.{bare_due}
+use Rattle.hpx_node.specs.Stands.{rules_of}
+use Rattle.hpx_node.specs.Tables.{Tables}
+use Rattle.hpx_node.proofs.BareHands.{due-bare, state-bare, blind_of}
+use Rattle.hpx_node.proofs.FilledDue.{managed_append, due_same, length-filled, state_filled, due_fit, due_credit, same_ids, dealt_credit, unnamed_credit, plain_named, weigh_one, each_weighs, weigh_managed}
+use Rattle.hpx_node.proofs.HandFit.{hand_credit, fit_due, state_credit}
+use Rattle.hpx_node.proofs.Settled.{Plans}
+use Rattle.hpx_node.proofs.Sums.{weigh}
+
+-- ---- what is made
+
+births_fit : (makes : List Make) → AllByRecursion (λ make. IsManaged make.kind × (refs_in make.values ≡ [])) makes
+    → AllByRecursion (λ make. IsState (birth_state make)) makes → AllByRecursion IsBirth (map birth_of makes)
+births_fit [] h i = tt
+births_fit (make ∷ makes) h i = (
+  record { least = h.0.0.0; most = h.0.0.1; state = i.0; same = refl; drawn = refl; alone = refl; none = refl },
+  births_fit makes h.1 i.1,
+)
+
+ids_credit : (here n log : ℕ) (xs : List Birth) → AllByRecursion IsBirth xs → AllByRecursion HasRightCredit (ids_of here n log xs)
+ids_credit here n log [] h = tt
+ids_credit here n log (x ∷ xs) h = (h.0.least, ids_credit here (n + 1) log xs h.1)
+
+ids_kinds : (here n log : ℕ) (makes : List Make) → map (λ (id : Id). id.kind) (ids_of here n log (map birth_of makes)) ≡ map (λ (x : Make). x.kind) makes
+ids_kinds here n log [] = refl
+ids_kinds here n log (make ∷ makes) = ap (λ ks. make.kind ∷ ks) (ids_kinds here (n + 1) log makes)
+
+pub ids_long : (here n log : ℕ) (makes : List Make) → length (ids_of here n log (map birth_of makes)) ≡ length makes
+ids_long here n log [] = refl
+ids_long here n log (make ∷ makes) = ap suc (ids_long here (n + 1) log makes)
+
+none_weighs : (w : Id → ℕ) (ids : List Id) → map bare ids ≡ [] → sum_by w ids ≡ 0
+none_weighs w [] e = refl
+none_weighs w (id ∷ ids) e = absurd (some_not (bare id) (map bare ids) e)
+  where
+    some_not : (x : Id) (xs : List Id) → x ∷ xs ≡ [] → ⊥
+    some_not x xs e = cc
+
+-- ---- what is planned
+
+module _ (t : Tables) (job : Job) (out : Outcome) (fit : IsFitJob job) (few : t.localities ≤ 64)
+    (laws : KeepsLaws t.localities job.kind job.at job.state job.action out) where
+  abbrev pub made : List Id
+  made = ids_of t.here t.births t.profile.credit_log (map birth_of out.makes)
+
+  abbrev pub hand : List Id
+  hand = hand_ids job.state job.action made
+
+  abbrev pub places : List ℕ
+  places = places_named job.state job.action made out
+
+  abbrev pub deals : List Id
+  deals = dealt hand places
+
+  -- the new state and what is due before anything is dealt
+  abbrev pub outcome_state : State
+  outcome_state = state_after job.state job.action made out
+
+  abbrev pub outcome_due : List Due
+  outcome_due = due_of job.state job.action made out
+
+  abbrev pub planned_state : State
+  planned_state = record outcome_state { ids = filled outcome_state.ids deals }
+
+  abbrev pub planned_due : List Due
+  planned_due = filled_due outcome_due (unused outcome_state.ids deals)
+
+  pub made_fit : AllByRecursion IsBirth (map birth_of out.makes)
+  made_fit = births_fit out.makes laws.few.managed laws.shapes.births
+
+  made_kinds : map (λ (id : Id). id.kind) made ≡ map (λ (x : Make). x.kind) out.makes
+  made_kinds = ids_kinds t.here t.births t.profile.credit_log out.makes
+
+  made_credit : AllByRecursion HasRightCredit made
+  made_credit = ids_credit t.here t.births t.profile.credit_log (map birth_of out.makes) made_fit
+
+  pub hand_has : AllByRecursion HasRightCredit hand
+  hand_has = hand_credit t.localities job.kind job.at job.state job.action out laws few made made_kinds fit.credit fit.action.sent.credit made_credit
+
+  due_has : AllByRecursion IsFitDue outcome_due
+  due_has = fit_due t.localities job.kind job.at job.state job.action out laws few made made_kinds fit.credit fit.action.sent.credit made_credit
+
+  state_has : AllByRecursion HasRightCredit outcome_state.ids
+  state_has = state_credit t.localities job.kind job.at job.state job.action out laws few made made_kinds fit.credit fit.action.sent.credit made_credit
+
+  deals_have : AllByRecursion HasRightCredit deals
+  deals_have = dealt_credit hand places hand_has
+
+  pub within : AreWithin hand places
+  within = places_within job.state job.action made out (ids_long t.here t.births t.profile.credit_log out.makes) laws.names.places
+
+  -- what is dealt names the managed ids of the new state, and then those of what is due
+  names : Fits outcome_state.ids deals (managed (map bare (flat_map ids_due outcome_due)))
+  names =
+      names_dealt hand places
+      ∙ (sym (names_match job.state job.action made fit.state fit.action.sent.shape t.localities out
+      (used_below (length (hand_slots job.state job.action)) (uses out) laws.conts) laws.roots)
+      ∙ managed_append outcome_state.ids (flat_map ids_due outcome_due))
+
+  names_due : Fits (flat_map ids_due outcome_due) (unused outcome_state.ids deals) []
+  names_due =
+      unused_rest outcome_state.ids deals (managed (map bare (flat_map ids_due outcome_due))) names
+      ∙ sym (append-nil (managed (map bare (flat_map ids_due outcome_due))))
+
+  -- ---- what is left
+
+  state_left : bare_state planned_state ≡ state_after (bare_state job.state) (bare_act job.action) (map bare made) out
+  state_left =
+      ap (λ ids. record { drawn = outcome_state.drawn; values = outcome_state.values; conts = outcome_state.conts; ids = ids })
+      (filled_same outcome_state.ids deals (managed (map bare (flat_map ids_due outcome_due))) names)
+      ∙ sym (state-bare job.state job.action made out)
+
+  due_left : map bare_due planned_due ≡ due_of (bare_state job.state) (bare_act job.action) (map bare made) out
+  due_left = due_same outcome_due (unused outcome_state.ids deals) [] names_due ∙ sym (due-bare job.state job.action made out)
+
+  pub state_fit : IsState planned_state
+  state_fit = state_filled outcome_state (filled outcome_state.ids deals) (length-filled outcome_state.ids deals) (laws.shapes.state made)
+
+  pub state_paid : AllByRecursion HasRightCredit planned_state.ids
+  state_paid = filled_all HasRightCredit outcome_state.ids deals state_has deals_have
+
+  unused_have : AllByRecursion HasRightCredit (unused outcome_state.ids deals)
+  unused_have = unused_all HasRightCredit outcome_state.ids deals deals_have
+
+  pub due_may : AllByRecursion IsFitDue planned_due
+  due_may = due_fit outcome_due (unused outcome_state.ids deals) [] names_due unused_have due_has
+
+  pub ups_credit : AllByRecursion HasCredit (unnamed hand places)
+  ups_credit = unnamed_credit 0 hand places hand_has
+
+  -- ---- what it weighs
+
+  module _ (f : Token → ℕ) where
+    state_weighs : weigh f planned_state.ids ≡ sum_by (weigh_one f) (managed (filled outcome_state.ids deals))
+    state_weighs = weigh_managed f (filled outcome_state.ids deals) state_paid
+
+    due_weighs : weigh f (flat_map due_ids planned_due)
+        ≡ sum_by (weigh_one f) (managed (filled (flat_map ids_due outcome_due) (unused outcome_state.ids deals)))
+    due_weighs =
+        ap (weigh f) (same_ids planned_due ∙ due_filled outcome_due (unused outcome_state.ids deals))
+        ∙ weigh_managed f (filled (flat_map ids_due outcome_due) (unused outcome_state.ids deals))
+        (filled_all HasRightCredit (flat_map ids_due outcome_due) (unused outcome_state.ids deals) (due_credit outcome_due due_has) unused_have)
+
+    shared : weigh f planned_state.ids + weigh f (flat_map due_ids planned_due) ≡ weigh f (shared_from 0 hand places)
+    shared = omega (
+      arith,
+      state_weighs,
+      due_weighs,
+      filled_sums (weigh_one f) outcome_state.ids deals (managed (map bare (flat_map ids_due outcome_due))) names,
+      filled_sums (weigh_one f) (flat_map ids_due outcome_due) (unused outcome_state.ids deals) [] names_due,
+      none_weighs (weigh_one f) (unused (flat_map ids_due outcome_due) (unused outcome_state.ids deals))
+          (unused_rest (flat_map ids_due outcome_due) (unused outcome_state.ids deals) [] names_due),
+      sums_dealt (weigh_one f) hand places within,
+      each_weighs f (shared_from 0 hand places),
+    )
+
+  -- ---- a plan
+
+  module _ (act_of : ℕ → ℕ → ℕ → State → Act → Outcome)
+      (blind : (n kind here : ℕ) (s : State) (a : Act) → act_of n kind here s a ≡ act_of n kind here (bare_state s) (named 0 0 (message_of (bare_act a))))
+      (right : out ≡ act_of t.localities job.kind job.at job.state job.action) (lasts : AllLast hand places) where
+    pub planned : Plans (rules_of act_of t.localities t.profile) t job out (map birth_of out.makes) places planned_state planned_due (unnamed hand places)
+    planned = record {
+      births = refl;
+      fit = made_fit;
+      right = right
+          ∙ sym (blind_of (act_of t.localities job.kind job.at) (blind t.localities job.kind job.at) job.state job.action);
+      credit = hand_has;
+      lasts = lasts;
+      plain = λ p un. plain_named hand (mentions job.state job.action out) p un;
+      state_left = state_left;
+      due_left = due_left;
+      shared = shared;
+      ups_left = refl;
+    }

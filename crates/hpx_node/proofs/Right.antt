@@ -1,0 +1,81 @@
+-- What a message is that breaks no rule.
+use Rattle.std.proofs.Common.{ℕ, Bool, true, false, List, [], ◌∷◌, ◌≡◌, ◌≢◌, ◌+◌, ◌≤◌, ◌<◌, Option, Some, None, refl, sym, ap, ◌∙◌, arith, inl, inr, subst}
+use Rattle.std.specs.Prelude.{◌&&◌, ◌==◌, ◌-◌, ◌^◌, min, not, nat_lt, if◌then◌else◌, length}
+use Rattle.std.specs.List.{sum_by}
+use Rattle.std.proofs.lemmas.Bool.{cases_Bool, eqb-true}
+use Rattle.std.proofs.lemmas.List.Sums.{sum_by-cons, sum_by-append}
+use Rattle.hpx_value.specs.Ids.{credit}
+use Rattle.hpx_parcel.specs.Parcels.{IsParcel}
+use Rattle.hpx_journal.specs.Data.{Id, Act, State, Parcel, Apply, Return, Ask, Give, Cached, Move, Go, Shipped, Arrived, Free}
+use Rattle.hpx_journal.specs.Entries.{target_of}
+use Rattle.hpx_journal.specs.Frames.{travels_in}
+use Rattle.hpx_journal.proofs.Same.{and_true}
+use Rattle.hpx_node.specs.Fit.{IsFit}
+use Rattle.hpx_node.specs.Tables.{Tables, messages}
+use Rattle.hpx_node.specs.Kept.{stands_here, held_here, count_here, credit_in, ids_held}
+use Rattle.hpx_node.specs.Strange.{Broken, breaks, is_far, is_live, is_lost, is_to_here, broken_return, broken_act, broken_move, broken_go, broken_object, broken_landed, broken_free, broken_near, broken}
+use Rattle.hpx_node.specs.Handled.{with_first}
+
+pub applied_fit : (act : Act) → IsParcel (Apply act) → IsFit act
+applied_fit act h = record { sent = h.sent; moves = λ e. absurd (h.code e) }
+
+pub move_fit : (act : Act) → IsParcel (Move act) → IsFit act
+move_fit act h = record { sent = h.sent; moves = λ e. (h.target, h.args) }
+
+pub not_broken : {X : Type 0} (x : X) → Some x ≡ None → ⊥
+not_broken x e = cc
+
+-- an id that comes home, and breaks nothing
+pub return_right : (t : Tables) (p : Parcel) (id : Id) (other : Option Broken) → broken_return t p id other ≡ None
+    → (is_live t id ≡ true) × (credit id ≤ count_here t id) × (other ≡ None)
+return_right t p id other h = elim (cases_Bool (is_live t id)) [
+  | inr l ↦ absurd (let e : breaks 1 p (length t.records) ≡ None = rw l at h in not_broken _ e)
+  | inl l ↦
+      let e : (if nat_lt (count_here t id) (credit id) then breaks 2 p (count_here t id) else other) ≡ None = rw l at h in
+      elim (cases_Bool (nat_lt (count_here t id) (credit id))) [
+        | inl b ↦ absurd (let f : breaks 2 p (count_here t id) ≡ None = rw b at e in not_broken _ f)
+        | inr b ↦ (l, search (arith, b), rw b at e)
+      ]
+]
+
+pub free_right : (t : Tables) (p : Parcel) (o : Id) → broken_free t p o ≡ None → (stands_here t o ≡ true) × (held_here t o ≡ 0)
+free_right t p o h = elim (cases_Bool (stands_here t o && (held_here t o == 0))) [
+  | inl b ↦
+      let parts = and_true (stands_here t o) (held_here t o == 0) b in (parts.0, eqb-true (held_here t o) 0 parts.1)
+  | inr b ↦ absurd (not_broken _ (rw b at h))
+]
+
+pub go_wrong : (t : Tables) (p : Parcel) (act : Act) → broken_go t p act ≡ None → ⊥
+go_wrong t p act h = elim (cases_Bool (stands_here t (target_of act) && not (is_to_here t act))) [
+  | inl b ↦ not_broken _ (rw b at h)
+  | inr b ↦ not_broken _ (rw b at h)
+]
+
+pub object_wrong : (t : Tables) (p : Parcel) (act : Act) → broken_object t p act ≡ None → ⊥
+object_wrong t p act h = elim (cases_Bool (stands_here t (target_of act))) [
+  | inl b ↦ not_broken _ (rw b at h)
+  | inr b ↦ not_broken _ (rw b at h)
+]
+
+pub landed_wrong : (t : Tables) (p : Parcel) (id : Id) → broken_landed t p id ≡ None → ⊥
+landed_wrong t p id h = not_broken _ (return_right t p id _ h).2
+
+-- all that it names is near
+pub near_right : (t : Tables) (p : Parcel) → broken t p ≡ None → broken_near t p ≡ None
+near_right t p h = elim (cases_Bool (is_far t.localities p)) [
+  | inl b ↦ absurd (let e : breaks 9 p t.localities ≡ None = rw b at h in not_broken _ e)
+  | inr b ↦ rw b at h
+]
+
+-- no object is in it
+pub no_travel : (t : Tables) (p : Parcel) → broken_near t p ≡ None → travels_in (Some p) ≡ []
+no_travel t (Shipped act state) h = absurd (object_wrong t (Shipped act state) act h)
+no_travel t _ h = refl
+
+-- what is the first on the desk breaks a rule there, or once it is taken from it
+pub near_popped : (t : Tables) (p : Parcel) → broken_near (with_first p t) p ≡ None → broken_near t p ≡ None
+near_popped t (Free o) h =
+    let e : held_here (with_first (Free o) t) o ≡ held_here t o =
+    omega (arith, sum_by-cons (λ q. credit_in o (ids_held q)) (Free o) (messages t)) in
+    subst (λ n. (if stands_here t o && (n == 0) then None else breaks 7 (Free o) (min (2 ^ 128 - 1) n)) ≡ None) e h
+near_popped t _ h = h

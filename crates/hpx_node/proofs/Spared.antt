@@ -1,0 +1,148 @@
+-- Memory is made, and nothing else changes.
+use Rattle.std.proofs.Common.{ℕ, true, get_or, List, [], ◌∷◌, ◌++◌, ◌≡◌, ◌+◌, ◌<◌, ◌≤◌, ◌^◌, Option, Some, None, length, refl, sym, ap, ◌∙◌, arith, subst, inl, inr}
+use Rattle.std.specs.Prelude.{if◌then◌else◌, ◌==◌, min, ◌-◌}
+use Rattle.std.proofs.lemmas.Bool.{cases_Bool}
+use Rattle.hpx_journal.specs.Data.{State, Act, Outcome, Parcel, Apply, Return, Ask, Give, Cached, Move, Go, Shipped, Arrived, Free}
+use Rattle.hpx_journal.specs.Books.{Book}
+use Rattle.hpx_journal.specs.Weights.{HasRoom}
+use Rattle.hpx_part.specs.Data.{Entry, Mail}
+use Rattle.hpx_part.specs.Parts.{at_all}
+use Rattle.hpx_node.specs.Tables.{Tables}
+use Rattle.hpx_node.specs.Changes.{OnlySpare, Writes}
+use Rattle.hpx_node.specs.Stands.{IsTidy, StandsWith, rules_of}
+use Rattle.hpx_node.specs.Strange.{Broken, breaks, broken, broken_near, object_of}
+use Rattle.hpx_node.specs.Kept.{held_here}
+use Rattle.hpx_node.specs.Handled.{is_own, broken_here, with_first, effects, kind_of, Clears}
+use Rattle.hpx_node.proofs.Right.{not_broken, near_right, near_popped}
+use Rattle.hpx_node.proofs.Taken.{taken_few}
+
+pub spare_stands : (act_of : ℕ → ℕ → ℕ → State → Act → Outcome) (t t' : Tables) (b b' : Book) → OnlySpare t t' b b'
+    → StandsWith (rules_of act_of t.localities t.profile) t [] [] b.entries → StandsWith (rules_of act_of t'.localities t'.profile) t' [] [] b'.entries
+spare_stands act_of t t' b b' same h =
+    subst (λ (u : Tables). StandsWith (rules_of act_of u.localities u.profile) u [] [] b'.entries) (sym same.tables)
+    (subst (λ es. StandsWith (rules_of act_of t.localities t.profile) (record t { spare = t'.spare }) [] [] es) (sym same.entries)
+    (record {
+      keeps = h.keeps;
+      tidy = record {
+        accepted = h.tidy.accepted;
+        running = h.tidy.running;
+        objects = h.tidy.objects;
+        messages = h.tidy.messages;
+        fit = h.tidy.fit;
+        moves = h.tidy.moves;
+        ways = h.tidy.ways;
+        drawn = h.tidy.drawn;
+        unborn = h.tidy.unborn;
+      };
+      few = h.few;
+      born = h.born;
+      sent = h.sent;
+      taken = h.taken;
+    }))
+
+pub spare_few : (act_of : ℕ → ℕ → ℕ → State → Act → Outcome) (t t' : Tables) (b b' : Book) → OnlySpare t t' b b' → HasRoom b.entries
+    → StandsWith (rules_of act_of t.localities t.profile) t [] [] b.entries → t'.taken + 1 < 2 ^ 64
+spare_few act_of t t' b b' same room h = omega (
+  arith,
+  room.entries,
+  ap (λ (u : Tables). u.taken) same.tables,
+  taken_few (rules_of act_of t.localities t.profile) t b.entries h,
+)
+
+-- what is the first on the desk, and breaks no rule
+pub here_right : (t : Tables) (p : Parcel) → broken_here t p ≡ None → (is_own t.here p ≡ true) × (broken t p ≡ None)
+here_right t p h = elim (cases_Bool (is_own t.here p)) [
+  | inl b ↦ (b, rw b at h)
+  | inr b ↦ absurd (let e : breaks 7 p (min (2 ^ 128 - 1) (held_here t (object_of p))) ≡ None = rw b at h in not_broken _ e)
+]
+
+near_spare : (t : Tables) (s : ℕ) (p : Parcel) → broken_near (record t { spare = s }) p ≡ broken_near t p
+near_spare t s (Apply act) = refl
+near_spare t s (Return id) = refl
+near_spare t s (Ask id asker entry) = refl
+near_spare t s (Give id entry) = refl
+near_spare t s (Cached id place) = refl
+near_spare t s (Move act) = refl
+near_spare t s (Go act) = refl
+near_spare t s (Shipped act state) = refl
+near_spare t s (Arrived id place) = refl
+near_spare t s (Free o) = refl
+
+effects_spare : (t : Tables) (desk : List Parcel) (s : ℕ) (p : Parcel) → effects (record t { desk = desk; spare = s }) p ≡ effects t p
+effects_spare t desk s (Return id) = refl
+effects_spare t desk s (Ask id asker entry) = refl
+effects_spare t desk s (Free o) = refl
+effects_spare t desk s _ = refl
+
+module _ (t m : Tables) (p q : Parcel) (rest : List Parcel) (x : Option Broken) (same : m ≡ record t { spare = m.spare }) (first : m.desk ≡ p ∷ rest)
+    (is : q ≡ get_or t.desk 0 q) (told : x ≡ broken_here t q) (none : x ≡ None) where
+  pub first_there : t.desk ≡ p ∷ rest
+  first_there = sym (ap (λ (u : Tables). u.desk) same) ∙ first
+
+  one : q ≡ p
+  one = is ∙ ap (λ (d : List Parcel). get_or d 0 q) first_there
+
+  pub none_here : broken_here t p ≡ None
+  none_here = subst (λ (y : Parcel). broken_here t y ≡ None) one (sym told ∙ none)
+
+  pub mail_right : (s : ℕ) → broken_near (record m { desk = rest; spare = s }) p ≡ None
+  mail_right s =
+      let near : broken_near t p ≡ None = near_right t p (here_right t p none_here).1 in
+      let at : broken_near (record t { desk = p ∷ rest }) p ≡ None =
+      subst (λ (d : List Parcel). broken_near (record t { desk = d }) p ≡ None) first_there near in
+      let u : Tables = record t { desk = rest; spare = s } in
+      subst (λ (y : Tables). broken_near (record y { desk = rest; spare = s }) p ≡ None) (sym same)
+      (near_popped (record t { desk = rest; spare = s }) p (near_spare (record t { desk = p ∷ rest }) s p ∙ at))
+
+pub first_stands : (act_of : ℕ → ℕ → ℕ → State → Act → Outcome) (t : Tables) (p : Parcel) (rest : List Parcel) (s : ℕ) (entries : List Entry) → t.desk ≡ p ∷ rest
+    → StandsWith (rules_of act_of t.localities t.profile) t [] [] entries
+    → StandsWith (rules_of act_of t.localities t.profile) (record t { desk = p ∷ rest; spare = s }) [] [] entries
+first_stands act_of t p rest s entries first h =
+    subst (λ (d : List Parcel). StandsWith (rules_of act_of t.localities t.profile) (record t { desk = d; spare = s }) [] [] entries) first
+    (record {
+      keeps = h.keeps;
+      tidy = record {
+        accepted = h.tidy.accepted;
+        running = h.tidy.running;
+        objects = h.tidy.objects;
+        messages = h.tidy.messages;
+        fit = h.tidy.fit;
+        moves = h.tidy.moves;
+        ways = h.tidy.ways;
+        drawn = h.tidy.drawn;
+        unborn = h.tidy.unborn;
+      };
+      few = h.few;
+      born = h.born;
+      sent = h.sent;
+      taken = h.taken;
+    })
+
+pub cleared : (t m t' : Tables) (b n : Book) (p q : Parcel) (rest : List Parcel) (s : ℕ) (x : Option Broken) (entries : List Entry) → OnlySpare t m b n
+    → m.desk ≡ p ∷ rest → q ≡ get_or t.desk 0 q → x ≡ broken_here t q → x ≡ None
+    → Writes (Mail (kind_of p) ∷ effects (record m { desk = rest; spare = s }) p) (record m { desk = rest; spare = s }) t' n.entries entries
+    → t'.taken ≡ m.taken → t'.sent ≡ m.sent → Clears t t' b.entries entries
+cleared t m t' b n p q rest s x entries same first is told none writes taken sent =
+    let events : effects (record m { desk = rest; spare = s }) p ≡ effects t p =
+    effects_spare m rest s p ∙ (ap (λ (y : Tables). effects y p) same.tables ∙ effects_spare t t.desk m.spare p) in
+    let here : m.here ≡ t.here = ap (λ (u : Tables). u.here) same.tables in record {
+      parcel = p;
+      rest = rest;
+      first = first_there t m p q rest x same.tables first is told none;
+      right = none_here t m p q rest x same.tables first is told none;
+      writes = record {
+        here = writes.here ∙ here;
+        localities = writes.localities ∙ ap (λ (u : Tables). u.localities) same.tables;
+        profile = writes.profile ∙ ap (λ (u : Tables). u.profile) same.tables;
+        grows = writes.grows
+            ∙ (ap (λ es. es ++ at_all m.here (Mail (kind_of p) ∷ effects (record m { desk = rest; spare = s }) p)) same.entries
+            ∙ (ap (λ k. b.entries ++ at_all k (Mail (kind_of p) ∷ effects (record m { desk = rest; spare = s }) p)) here
+            ∙ ap (λ es. b.entries ++ at_all t.here (Mail (kind_of p) ∷ es)) events));
+      };
+      taken = taken ∙ ap (λ (u : Tables). u.taken) same.tables;
+      sent = sent ∙ ap (λ (u : Tables). u.sent) same.tables;
+    }
+
+pub mail_by : (t m : Tables) (b n : Book) (p q : Parcel) (rest : List Parcel) (s : ℕ) (x : Option Broken) → OnlySpare t m b n
+    → m.desk ≡ p ∷ rest → q ≡ get_or t.desk 0 q → x ≡ broken_here t q → x ≡ None → broken_near (record m { desk = rest; spare = s }) p ≡ None
+mail_by t m b n p q rest s x same first is told none = mail_right t m p q rest x same.tables first is told none s

@@ -1,0 +1,20 @@
+use Rattle.std.proofs.Common.{◌≡◌, ◌≤◌, ◌<◌, ◌+◌, ◌++◌, ◌^◌, length}
+use Rattle.std.specs.List.{AllByRecursion}
+use Rattle.hpx_part.specs.Parts.{at_all}
+use Rattle.hpx_node.specs.Births.{IsBirth, Makes, births_of}
+use Rattle.hpx_node.proofs.node.Node.bear_all.Given as goal
+
+abbrev pub decreases-loop-self : goal.decreases-loop-self
+decreases-loop-self g l = length l.births.items
+
+abbrev pub invariant-loop-self : goal.invariant-loop-self
+invariant-loop-self g l = record {
+  fit : AllByRecursion IsBirth l.births.items;
+  few : l.self.births + length l.births.items < 2 ^ 32;
+  spare : l.fn.self.spare + length l.births.items ≤ l.self.spare + length l.fn.births.items;
+  enough : length l.fn.births.items ≤ l.fn.self.spare;
+  page : l.book.spare + length l.fn.births.items ≡ l.fn.book.spare + length l.births.items;
+  made : Makes l.fn.births.items l.births.items l.fn.self l.self;
+  entries : l.book.entries ++ at_all l.self.here (births_of l.self.here l.self.births l.births.items)
+      ≡ l.fn.book.entries ++ at_all l.fn.self.here (births_of l.fn.self.here l.fn.self.births l.fn.births.items);
+}

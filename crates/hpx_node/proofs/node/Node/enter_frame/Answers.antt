@@ -1,0 +1,19 @@
+use Rattle.std.proofs.Common.{◌+◌}
+use Rattle.hpx_node.proofs.Taken.{taken_by, taken_tidy}
+use Rattle.hpx_node.proofs.FewEntries.{grows_few}
+use Rattle.hpx_node.proofs.node.Node.enter_frame.Goals as goal
+
+pub handle-requires-clause-tidy : goal.handle-requires-clause-tidy
+handle-requires-clause-tidy g c = let stands = rw (← c.self.view_is) at c.requires.stands in taken_tidy _ _ stands.tidy
+
+pub returns-clause-stands : goal.returns-clause-stands
+returns-clause-stands g c =
+    let stands = rw (← c.self.view_is) at c.requires.stands in
+    let right = rw (← c.self.view_is) at c.requires.right in
+    taken_by g.A.Acts.act_of _ _ c.args.parcel c.args.bytes _ _ _ stands c.requires.fit c.requires.spelled right
+    c.handle.ensures.handles c.push.ensures.entries c.handle.ensures.grows
+
+pub returns-clause-few : goal.returns-clause-few
+returns-clause-few g c =
+    let stands = rw (← c.self.view_is) at c.requires.stands in
+    grows_few c.self.inside.here _ _ c.args.parcel _ _ _ (taken_tidy _ (c.self.inside.taken + 1) stands.tidy) c.push.ensures.entries c.handle.ensures.grows

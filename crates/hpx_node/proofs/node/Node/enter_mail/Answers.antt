@@ -1,0 +1,14 @@
+use Rattle.hpx_node.proofs.Taken.{mailed_by}
+use Rattle.hpx_node.proofs.FewEntries.{grows_few, popped_tidy}
+use Rattle.hpx_node.proofs.node.Node.enter_mail.Goals as goal
+
+pub returns-clause-stands : goal.returns-clause-stands
+returns-clause-stands g c =
+    let stands = rw (← c.self.view_is) at c.requires.stands in
+    let own = rw (← c.self.view_is) at c.requires.own in
+    let handles = rw (← c.self.view_is) at c.handle.ensures.handles in
+    let grows = rw (← c.self.view_is) at c.handle.ensures.grows in
+    mailed_by g.A.Acts.act_of _ _ c.args.parcel _ _ _ _ c.kind_of-kind.ensures stands own handles c.push.ensures.entries grows
+
+pub returns-clause-few : goal.returns-clause-few
+returns-clause-few g c = grows_few _ _ _ c.args.parcel _ _ _ (popped_tidy c.args.parcel _ c.requires.stands.tidy) c.push.ensures.entries c.handle.ensures.grows

@@ -1,0 +1,15 @@
+use Rattle.std.proofs.Common.{refl}
+use Rattle.hpx_node.proofs.Same.{stands_same}
+use Rattle.hpx_node.proofs.node.Node.feed.Goals as goal
+
+pub returns-in_err-reserve-clause-stands : goal.returns-in_err-reserve-clause-stands
+returns-in_err-reserve-clause-stands g c =
+    stands_same g.A.Acts.act_of c.args.self.now _ _ _ c.requires.stands c.in_err-reserve.ensures.same refl
+
+pub returns-in_err-reserve-2-clause-stands : goal.returns-in_err-reserve-2-clause-stands
+returns-in_err-reserve-2-clause-stands g c =
+    stands_same g.A.Acts.act_of c.args.self.now _ _ _ c.requires.stands c.in_ok-reserve.ensures.same c.in_err-reserve-2.ensures.entries
+
+pub enter_line-requires-clause-stands : goal.enter_line-requires-clause-stands
+enter_line-requires-clause-stands g c =
+    stands_same g.A.Acts.act_of c.args.self.now _ _ _ c.requires.stands c.in_ok-reserve.ensures.same c.in_ok-reserve-2.ensures.entries

@@ -1,0 +1,26 @@
+use Rattle.std.proofs.Common.{◌≡◌, refl, ap, ◌∙◌}
+use Rattle.hpx_journal.specs.Books.{Book}
+use Rattle.hpx_node.proofs.Same.{stands_same}
+use Rattle.hpx_node.proofs.SameCommit.{prepared_same, ends_from}
+use Rattle.hpx_node.proofs.node.Node.finish.Goals.{then-is_err-via-then-is_err, then-is_err-via-else-is_err+then-is_err-2}
+use Rattle.hpx_node.proofs.node.Node.finish.Goals as goal
+
+pub returns-then-is_err-clause-stands : goal.returns-then-is_err-clause-stands
+returns-then-is_err-clause-stands g c = elim c.then-is_err.branch [
+  | then-is_err-via-then-is_err w ↦
+      stands_same g.A.Acts.act_of c.args.self.now _ _ _ c.requires.stands c.reserve.ensures.same (ap (λ (b : Book). b.entries) w.book-is)
+  | then-is_err-via-else-is_err+then-is_err-2 w ↦
+      stands_same g.A.Acts.act_of c.args.self.now _ _ _ c.requires.stands c.reserve.ensures.same
+      (ap (λ (b : Book). b.entries) w.book-is ∙ w.reserve-else-is_err.ensures.entries)
+]
+
+pub commit-requires-clause-prepared : goal.commit-requires-clause-prepared
+commit-requires-clause-prepared g c = prepared_same c.args.self.now _ _ _ _ c.reserve.ensures.same
+    (rw c.in-Ok-Some.field-0-is at c.in-Ok-Some.ensures.some)
+
+pub commit-requires-clause-stands : goal.commit-requires-clause-stands
+commit-requires-clause-stands g c =
+    stands_same g.A.Acts.act_of c.args.self.now _ _ _ c.requires.stands c.reserve.ensures.same c.reserve-else-is_err.ensures.entries
+
+pub returns-clause-ends : goal.returns-clause-ends
+returns-clause-ends g c = λ done. ends_from c.args.self.now _ _ _ c.reserve.ensures.same c.commit.ensures.ends

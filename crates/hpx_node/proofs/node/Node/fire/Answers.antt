@@ -1,0 +1,51 @@
+use Rattle.std.proofs.Common.{◌≡◌, Some, refl, sym, ◌∙◌}
+use Rattle.std.specs.List.{slice_get}
+use Rattle.hpx_node.specs.Free.{IsFree}
+use Rattle.hpx_node.proofs.FreeLemmas.{started_runs}
+use Rattle.hpx_node.proofs.Same.{writes_from, stands_same}
+use Rattle.hpx_node.proofs.node.Node.fire.Goals as goal
+
+pub returns-clause-fired : goal.returns-clause-fired
+returns-clause-fired g c =
+    writes_from _ _ _ _ _ _ _ c.in_ok-reserve.ensures.same c.in_ok-reserve-2.ensures.entries
+    (c.start.ensures.fired c.in_ok-job.job.action (rw c.in_ok-reserve.ensures.same c.in_ok-job.ensures.action))
+
+pub returns-clause-job : goal.returns-clause-job
+returns-clause-job g c =
+    let at = rw (← c.self.view_is) at c.in_ok-job.ensures.action in
+    let free : IsFree c.self.inside.running.items c.self.inside.objects.items c.in_ok-job.job.action =
+    rw (← c.as_slice.ensures.value, ← c.as_slice-2.ensures.value) (c.in-Some.ensures.free c.in_ok-job.job.action at) in
+    let found = rw c.as_slice-2.ensures.value at (c.in-Some.ensures.found c.in_ok-job.job.action at) in
+    let stands : slice_get c.self.inside.objects.items c.in-Some.spot.1 ≡ Some free.standing = sym found ∙ free.found in
+    let job = (rw (← c.self.view_is) at c.in_ok-job.ensures.object) free.standing stands in
+    rw (← c.self.view_is) (record {
+      i = c.in-Some.spot.0;
+      standing = free.standing;
+      action = at;
+      first = rw (← c.as_slice.ensures.value, ← c.as_slice-2.ensures.value) c.in-Some.ensures.first;
+      free = free;
+      found = free.found;
+      here = rw (← c.self.view_is) at c.in_ok-job.ensures.here;
+      kind = job.0;
+      state = job.1;
+      accepted = c.start.ensures.accepted ∙ rw (c.in_ok-reserve.ensures.same, ← c.self.view_is);
+      running = c.start.ensures.running c.in_ok-job.job.action (rw (c.in_ok-reserve.ensures.same, ← c.self.view_is) at) ∙ rw (c.in_ok-reserve.ensures.same, ← c.self.view_is);
+      runs = started_runs c.self.inside.here c.self.inside.running.items c.self.inside.objects.items c.start.new.self c.in_ok-job.job
+          c.in-Some.spot.1 free.standing
+          ((c.start.ensures.fired c.in_ok-job.job.action (rw (c.in_ok-reserve.ensures.same, ← c.self.view_is) at)).here ∙ rw (c.in_ok-reserve.ensures.same, ← c.self.view_is))
+          (c.start.ensures.running c.in_ok-job.job.action (rw (c.in_ok-reserve.ensures.same, ← c.self.view_is) at) ∙ rw (c.in_ok-reserve.ensures.same, ← c.self.view_is))
+          (c.start.ensures.objects ∙ rw (c.in_ok-reserve.ensures.same, ← c.self.view_is))
+          (rw (← c.self.view_is) at c.in_ok-job.ensures.here) stands free.found job.0 job.1;
+    })
+
+pub returns-in_err-reserve-clause-stands : goal.returns-in_err-reserve-clause-stands
+returns-in_err-reserve-clause-stands g c =
+    stands_same g.A.Acts.act_of c.args.self.now _ _ _ c.requires.stands c.in_err-reserve.ensures.same refl
+
+pub returns-in_err-reserve-2-clause-stands : goal.returns-in_err-reserve-2-clause-stands
+returns-in_err-reserve-2-clause-stands g c =
+    stands_same g.A.Acts.act_of c.args.self.now _ _ _ c.requires.stands c.in_ok-reserve.ensures.same c.in_err-reserve-2.ensures.entries
+
+pub start-requires-clause-stands : goal.start-requires-clause-stands
+start-requires-clause-stands g c =
+    stands_same g.A.Acts.act_of c.args.self.now _ _ _ c.requires.stands c.in_ok-reserve.ensures.same c.in_ok-reserve-2.ensures.entries

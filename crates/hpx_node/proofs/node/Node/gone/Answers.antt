@@ -1,0 +1,20 @@
+use Rattle.std.proofs.Common.{arith, ◌∙◌, ◌≡◌, Some, sym, ap, drop, refl}
+use Rattle.hpx_parcel.specs.Reading.{parcel_of}
+use Rattle.hpx_node.proofs.Few.{sent_few}
+use Rattle.hpx_node.proofs.Gone.{stands_gone}
+use Rattle.hpx_node.proofs.node.Node.gone.Goals as goal
+
+pub overflow_add-self : goal.overflow_add-self
+overflow_add-self g c =
+    let stands = rw (← c.self.view_is) at c.requires.stands in
+    omega (arith, sent_few _ _ _ _ _ stands, c.requires.room.entries)
+
+pub returns-clause-stands : goal.returns-clause-stands
+returns-clause-stands g c =
+    let spelled = rw (← c.self.view_is) at c.requires.front in
+    let stands = rw (← c.self.view_is) at c.requires.stands in
+    let front = spelled.front in
+    let is : c.pop_front.new.self.items ≡ front.rest = c.pop_front.ensures.rest ∙ ap (λ xs. drop 1 xs) front.is in
+    let bytes : parcel_of c.args.frame ≡ Some front.first.parcel = spelled.spelled ∙ ap (λ p. Some p) front.carried in
+    rw (c.push.ensures.entries, is, front.place)
+    (stands_gone _ _ _ front.first front.rest c.args.frame _ front.is bytes refl stands)

@@ -1,0 +1,49 @@
+use Rattle.std.proofs.Common.{false, ◌≡◌, ◌∙◌, ◌<◌, ◌≤◌, arith, sym, ap, refl, length}
+use Rattle.hpx_value.specs.Hands.{hand_ids}
+use Rattle.hpx_commit.specs.Deals.{AreWithin, AllLast}
+use Rattle.hpx_node.proofs.Prepared.{makes_managed, hand_few, hand_within}
+use Rattle.hpx_node.proofs.node.Node.prepare.Goals as goal
+
+pub made-requires-clause-managed : goal.made-requires-clause-managed
+made-requires-clause-managed g c =
+    let d = c.args.done.now in
+    rw (c.as_slice.ensures, c.outcome-outcome.ensures) (makes_managed d.localities d.job d.outcome c.lawful.ensures c.requires.fit)
+
+pub made-requires-clause-few : goal.made-requires-clause-few
+made-requires-clause-few g c =
+    rw (c.as_slice.ensures, c.outcome-outcome.ensures) (omega (arith, c.lawful.ensures.few.makes, c.requires.few))
+
+pub all_last-requires-clause-few : goal.all_last-requires-clause-few
+all_last-requires-clause-few g c =
+    let d = c.args.done.now in
+    let t = c.args.self.now in
+    let few = hand_few d.localities d.job d.outcome c.lawful.ensures c.requires.fit t.here t.births t.profile.credit_log in
+    rw (c.ids.ensures, c.in_ok-hand.ensures.0, c.in_ok-hand.ensures.1, c.in_ok-hand.ensures.2, c.as_slice-2.ensures.value, c.in_ok-made.ensures, c.as_slice.ensures, c.job-job.ensures, c.outcome-outcome.ensures)
+    (omega (arith, few))
+
+pub all_last-requires-clause-within : goal.all_last-requires-clause-within
+all_last-requires-clause-within g c =
+    let d = c.args.done.now in
+    let t = c.args.self.now in
+    rw (c.as_slice-3.ensures.value, c.in_ok-places.ensures, c.ids.ensures, c.in_ok-hand.ensures.0, c.in_ok-hand.ensures.1, c.in_ok-hand.ensures.2, c.as_slice-2.ensures.value, c.in_ok-made.ensures, c.as_slice.ensures, c.job-job.ensures, c.outcome-outcome.ensures)
+    (hand_within d.localities d.job d.outcome c.lawful.ensures c.requires.fit t.here t.births t.profile.credit_log)
+
+pub returns-then-not-all_last-clause-none : goal.returns-then-not-all_last-clause-none
+returns-then-not-all_last-clause-none g c =
+    let test = rw (c.as_slice-3.ensures.value, c.in_ok-places.ensures, c.ids.ensures, c.in_ok-hand.ensures.0, c.in_ok-hand.ensures.1, c.in_ok-hand.ensures.2, c.as_slice-2.ensures.value, c.in_ok-made.ensures, c.as_slice.ensures, c.job-job.ensures, c.outcome-outcome.ensures) at c.all_last.ensures in
+    λ last. let yes = test.1 last in let no : c.all_last.result ≡ false = c.if-not-all_last.true in cc
+
+pub plan_commit-requires-clause-few : goal.plan_commit-requires-clause-few
+plan_commit-requires-clause-few g c =
+    let d = c.args.done.now in
+    let t = c.args.self.now in
+    let few = hand_few d.localities d.job d.outcome c.lawful.ensures c.requires.fit t.here t.births t.profile.credit_log in
+    rw (c.in_ok-hand.ensures.0, c.in_ok-hand.ensures.1, c.in_ok-hand.ensures.2, c.as_slice-2.ensures.value, c.in_ok-made.ensures, c.as_slice.ensures, c.job-job.ensures, c.outcome-outcome.ensures)
+    (omega (arith, few))
+
+pub plan_commit-requires-clause-within : goal.plan_commit-requires-clause-within
+plan_commit-requires-clause-within g c =
+    let d = c.args.done.now in
+    let t = c.args.self.now in
+    rw (c.as_slice-4.ensures.value, c.in_ok-places.ensures, c.in_ok-hand.ensures.0, c.in_ok-hand.ensures.1, c.in_ok-hand.ensures.2, c.as_slice-2.ensures.value, c.in_ok-made.ensures, c.as_slice.ensures, c.job-job.ensures, c.outcome-outcome.ensures)
+    (hand_within d.localities d.job d.outcome c.lawful.ensures c.requires.fit t.here t.births t.profile.credit_log)

@@ -1,0 +1,32 @@
+use Rattle.std.proofs.Common.{refl, sym, ap, ◌∙◌}
+use Rattle.hpx_agas.specs.Registries.{Registry}
+use Rattle.hpx_journal.specs.Data.{Parcel}
+use Rattle.hpx_node.proofs.Returned.{alive_by, dead_by, live_covers, recounted}
+use Rattle.hpx_node.proofs.node.Node.take_back.Goals as goal
+
+pub returns-in_default-back-clause-handles : goal.returns-in_default-back-clause-handles
+returns-in_default-back-clause-handles g c =
+    let live = rw (← c.self.view_is) at c.requires.live in
+    let enough = rw (← c.self.view_is) at c.requires.enough in
+    absurd (c.in_default-back.ensures.strange.0 refl (live_covers c.self.inside.here c.self.inside.records.records c.args.id live enough))
+
+pub returns-in-Dead-clause-handles : goal.returns-in-Dead-clause-handles
+returns-in-Dead-clause-handles g c =
+    let live = rw (← c.self.view_is) at c.requires.live in
+    let enough = rw (← c.self.view_is) at c.requires.enough in
+    let tidy = rw (← c.self.view_is) at c.requires.tidy in
+    let mails = rw (c.new.ensures, c.bare-object.ensures) at c.mail.ensures in
+    rw (← c.self.view_is)
+    (dead_by _ _ _ _ c.args.self.now c.args.id c.in-Some.log c.in-Dead.place c.self.view_is tidy mails (sym c.log.ensures ∙ c.in-Some.is) live enough
+    (recounted _ _ _ _ tidy (ap (λ (x : Registry Parcel). x.births) c.in-Ok.ensures.rest))
+    c.in-Ok.ensures.record c.in-Ok.ensures.others (rw c.in-Dead.is at c.in-Ok.ensures.left))
+
+pub returns-in_default-left-clause-handles : goal.returns-in_default-left-clause-handles
+returns-in_default-left-clause-handles g c =
+    let live = rw (← c.self.view_is) at c.requires.live in
+    let enough = rw (← c.self.view_is) at c.requires.enough in
+    let tidy = rw (← c.self.view_is) at c.requires.tidy in
+    rw (← c.self.view_is)
+    (alive_by _ _ _ c.args.self.now c.args.id c.in-Some.log c.self.view_is tidy (sym c.log.ensures ∙ c.in-Some.is) live enough
+    (recounted _ _ _ _ tidy (ap (λ (x : Registry Parcel). x.births) c.in-Ok.ensures.rest))
+    c.in-Ok.ensures.record c.in-Ok.ensures.others)

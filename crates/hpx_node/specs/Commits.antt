@@ -1,0 +1,71 @@
+-- What a commit writes.
+use Rattle.std.specs.Prelude.{ℕ, zero, suc, false, List, [], ◌∷◌, ◌++◌, ◌+◌, ◌≡◌, map}
+use Rattle.hpx_value.specs.Ids.{bare}
+use Rattle.hpx_value.specs.Hands.{hand_ids, due_of, state_after}
+use Rattle.hpx_value.specs.declared.acts.Job.{Job}
+use Rattle.hpx_journal.specs.Data.{Id, Outcome, Due, MessageDue, PrintDue}
+use Rattle.hpx_journal.specs.Entries.{name_of}
+use Rattle.hpx_part.specs.Data.{Event, Split, Done, Sent, Print, Up}
+use Rattle.hpx_node.specs.Births.{birth_of, births_of, ids_of}
+use Rattle.hpx_commit.specs.Deals.{half, log_of, named, places_named, dealt, AllLast, unnamed, filled, unused, filled_due}
+use Rattle.hpx_node.specs.declared.node.finish.Prepared.{Prepared}
+use Rattle.hpx_node.specs.Tables.{Tables}
+
+-- ---- splits: an id that n name is halved n - 1 times
+
+abbrev pub cuts : Id → ℕ → List Event
+cuts id zero = []
+cuts id (suc zero) = []
+cuts id (suc (suc n)) = Split (bare id) (log_of id.log) ∷ cuts (half id) (suc n)
+
+-- those of the hand, from place p on
+abbrev pub splits_from : ℕ → List Id → List ℕ → List Event
+splits_from p [] places = []
+splits_from p (id ∷ ids) places = cuts id (named places p) ++ splits_from (p + 1) ids places
+
+-- ---- what is due, and what is given up
+
+-- each message under the next number
+abbrev pub written : ℕ → ℕ → List Due → List Event
+written here serial [] = []
+written here serial (MessageDue m ∷ rest) = Sent (record { origin = here; serial = serial + 1 }) ∷ written here (serial + 1) rest
+written here serial (PrintDue bytes ∷ rest) = Print bytes ∷ written here serial rest
+
+abbrev pub ups : List Id → List Event
+ups ids = map (λ id. Up (bare id) (log_of id.log)) ids
+
+-- ---- a commit
+
+-- the ids of the objects that are made
+abbrev pub made_of : Tables → Outcome → List Id
+made_of t out = ids_of t.here t.births t.profile.credit_log (map birth_of out.makes)
+
+-- the ids of the hand, those of made objects with it
+abbrev pub hand_of : Tables → Job → Outcome → List Id
+hand_of t job out = hand_ids job.state job.action (made_of t out)
+
+-- the places of managed objects that the outcome names
+abbrev pub places_in_hand : Tables → Job → Outcome → List ℕ
+places_in_hand t job out = places_named job.state job.action (made_of t out) out
+
+-- births, splits, the Done, what is due, and what nobody names
+abbrev pub committed : Tables → Job → Outcome → List Event
+committed t job out =
+    births_of t.here t.births (map birth_of out.makes)
+    ++ (splits_from 0 (hand_of t job out) (places_in_hand t job out)
+    ++ (Done (name_of job.action) false
+    ∷ (written t.here t.serial (due_of job.state job.action (made_of t out) out)
+    ++ ups (unnamed (hand_of t job out) (places_in_hand t job out)))))
+
+-- a commit, before its first change: what it makes, its hand, the places that it names, the new state, what is due, and what nobody names
+pub record IsPrepared (t : Tables) (job : Job) (out : Outcome) (p : Prepared) : Type 0 where
+  pub births : p.births.items ≡ map birth_of out.makes
+  pub hand : p.hand.items ≡ hand_of t job out
+  pub places : p.places.items ≡ places_in_hand t job out
+  pub lasts : AllLast (hand_of t job out) (places_in_hand t job out)
+  pub state_left : p.plan.state ≡ record (state_after job.state job.action (made_of t out) out) {
+    ids = filled (state_after job.state job.action (made_of t out) out).ids (dealt (hand_of t job out) (places_in_hand t job out));
+  }
+  pub due_left : p.plan.due.items ≡ filled_due (due_of job.state job.action (made_of t out) out)
+      (unused (state_after job.state job.action (made_of t out) out).ids (dealt (hand_of t job out) (places_in_hand t job out)))
+  pub ups_left : p.plan.ups.items ≡ unnamed (hand_of t job out) (places_in_hand t job out)

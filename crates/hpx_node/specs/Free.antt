@@ -1,0 +1,26 @@
+-- An action that may be fired.
+use Rattle.std.specs.Prelude.{ℕ, false, List, [], ◌∷◌, Some, ◌≡◌, ◌≤◌, ◌⊎◌}
+use Rattle.std.specs.List.{find, AllByRecursion}
+use Rattle.hpx_journal.specs.Data.{Act}
+use Rattle.hpx_journal.specs.Entries.{target_of}
+use Rattle.hpx_part.specs.Data.{Standing}
+use Rattle.hpx_journal.specs.Local.{is_standing, is_busy}
+
+-- its object stands here and is not busy
+pub record IsFree (running : List Act) (objects : List Standing) (act : Act) : Type 0 where
+  pub standing : Standing
+  pub found : find (is_standing (target_of act)) objects ≡ Some standing
+  pub idle : is_busy (target_of act) running ≡ false
+
+-- none of them may be fired
+abbrev pub NoneIsFree : List Act → List Standing → List Act → Type 0
+NoneIsFree running objects [] = Unit {0}
+NoneIsFree running objects (act ∷ acts) = (IsFree running objects act → ⊥) × NoneIsFree running objects acts
+
+-- its object has its home here, or at no locality
+abbrev pub IsHere : ℕ → ℕ → Act → Type 0
+IsHere n here act = ((target_of act).home ≡ here) ⊎ (n ≤ (target_of act).home)
+
+-- so it is with each of them
+abbrev pub AreHere : ℕ → ℕ → List Act → Type 0
+AreHere n here acts = AllByRecursion (IsHere n here) acts

@@ -1,0 +1,162 @@
+-- What a node does with a message that it takes up.
+use Rattle.std.specs.Prelude.{ℕ, Bool, true, List, [], ◌∷◌, ◌++◌, ◌≡◌, ◌≤◌, ◌<◌, ◌-◌, ◌+◌, ◌^◌, ◌⊎◌, ◌==◌, min, nat_lt, if◌then◌else◌, flat_map, length, Option, Some, None}
+use Rattle.std.specs.List.{list_any, find}
+use Rattle.hpx_value.specs.Ids.{bare, same_object}
+use Rattle.hpx_journal.specs.Data.{Id, Parcel, Apply, Return, Ask, Give, Cached, Move, Go, Shipped, Arrived, Free}
+use Rattle.hpx_journal.specs.Entries.{Rules}
+use Rattle.hpx_journal.specs.Local.{is_standing}
+use Rattle.hpx_part.specs.Data.{Entry, Event, In, Mail, Count, Returned, Granted, Refused, Freed, Up, Standing}
+use Rattle.hpx_part.specs.View.{View}
+use Rattle.hpx_part.specs.Shows.{Leads}
+use Rattle.hpx_node.specs.Tables.{Tables}
+use Rattle.hpx_node.specs.Seen.{view, frees}
+use Rattle.hpx_parcel.specs.Reading.{parcel_of, IsRefused}
+use Rattle.hpx_node.specs.declared.parts.TakeFault.{TakeFault}
+use Rattle.hpx_node.specs.declared.parts.TakeFault.TheVariants as take_faults
+use Rattle.hpx_node.specs.declared.parts.DeskFault.{DeskFault}
+use Rattle.hpx_node.specs.declared.parts.DeskFault.TheVariants as desk_faults
+use Rattle.hpx_node.specs.Changes.{Writes}
+use Rattle.hpx_node.specs.Strange.{Broken, breaks, broken, object_of}
+use Rattle.hpx_node.specs.Kept.{count_here, held_here}
+use Rattle.hpx_node.specs.Stands.{IsTidy}
+
+-- ---- what it writes
+
+-- an id is given up, if it has a credit
+abbrev pub up_of : Id → Option ℕ → List Event
+up_of id None = []
+up_of id (Some log) = Up (bare id) log ∷ []
+
+-- these ids are given up
+abbrev pub ups : List Id → List Event
+ups ids = flat_map (λ id. up_of id id.log) ids
+
+-- an id came home
+abbrev pub returned : Tables → Id → Option ℕ → List Event
+returned t id None = []
+returned t id (Some log) = Count (bare id) (count_here t id - 2 ^ log) (Returned log) ∷ []
+
+-- the count with the credit of a new object in place of the least
+abbrev pub more_here : Tables → Id → ℕ
+more_here t id = count_here t id + 2 ^ t.profile.credit_log - 1
+
+-- more credit was asked for
+abbrev pub answered : Tables → Id → List Event
+answered t id =
+    (if nat_lt t.profile.credit_limit (more_here t id)
+    then Count (bare id) (count_here t id) Refused
+    else Count (bare id) (more_here t id) Granted) ∷ []
+
+-- a dead object is freed, and the ids of its state are given up
+abbrev pub freed : Id → Option Standing → List Event
+freed o None = []
+freed o (Some x) = Freed o ∷ ups x.state.ids
+
+-- what is written behind the entry that takes up the message
+abbrev pub effects : Tables → Parcel → List Event
+effects t (Return id) = returned t id id.log
+effects t (Ask id asker entry) = answered t id
+effects t (Free o) = freed o (find (is_standing o) t.objects)
+effects t _ = []
+
+-- ---- what is seen meanwhile
+
+-- a message is the first on the desk
+abbrev pub with_first : Parcel → Tables → Tables
+with_first p t = record t { desk = p ∷ t.desk }
+
+-- a message is in hand: the last entry took it up, and these are dead
+abbrev pub in_hand : Parcel → Tables → List Id → Event → View
+in_hand p t dead e = record (view (with_first p t) [] []) { dead = dead; last = Some e }
+
+-- this entry says that o is to be freed, where these are dead
+abbrev pub LetsFree : Rules → ℕ → Id → List Id → Event → Type 0
+LetsFree r k o dead (Mail kind) = (kind ≡ 10) × (o.home ≡ k) × (list_any (same_object o) dead ≡ true)
+LetsFree r k o dead (In bytes) = r.parcel_of bytes ≡ Some (Free o)
+LetsFree r k o dead _ = ⊥
+
+-- where the message says so
+abbrev pub LetsGo : Rules → ℕ → Parcel → List Id → Event → Type 0
+LetsGo r k (Free o) dead e = LetsFree r k o dead e
+LetsGo r k _ dead e = Unit {0}
+
+-- the entry takes up the message; among the dead are those that other messages say are to be freed
+pub record TakesUp (r : Rules) (t : Tables) (p : Parcel) (dead : List Id) (e : Event) : Type 0 where
+  pub among : (x : Id) → list_any (same_object x) (frees t) ≡ true → list_any (same_object x) dead ≡ true
+  pub lets : LetsGo r t.here p dead e
+
+-- the message, which was in hand, is dealt with, and these events are written
+pub record Handles (r : Rules) (p : Parcel) (t t' : Tables) (events : List Event) : Type 0 where
+  pub here : t'.here ≡ t.here
+  pub localities : t'.localities ≡ t.localities
+  pub profile : t'.profile ≡ t.profile
+  pub serial : t'.serial ≡ t.serial
+  pub births : t'.births ≡ t.births
+  pub sent : t'.sent ≡ t.sent
+  pub taken : t'.taken ≡ t.taken
+  pub running : t'.running ≡ t.running
+  pub tidy : IsTidy t' []
+  pub leads : (dead : List Id) (e : Event) → TakesUp r t p dead e → Leads r (in_hand p t dead e) events (view t' [] [])
+
+-- these ids, which were named nowhere, are given up: each is in a message to its home
+pub record GivesUp (r : Rules) (ids : List Id) (t t' : Tables) : Type 0 where
+  pub rest : t' ≡ record t { desk = t'.desk; outgoing = t'.outgoing; spare = t'.spare }
+  pub spare : t.spare ≤ t'.spare + length ids
+  pub tidy : IsTidy t' []
+  pub leads : (loose : List Id) → Leads r (view t [] (ids ++ loose)) (ups ids) (view t' [] loose)
+
+-- ---- frames and messages to the own locality
+
+-- the kind of a message, as in its frame
+abbrev pub kind_of : Parcel → ℕ
+kind_of (Apply act) = 1
+kind_of (Return id) = 2
+kind_of (Ask id asker entry) = 3
+kind_of (Give id entry) = 4
+kind_of (Cached id place) = 5
+kind_of (Move act) = 6
+kind_of (Go act) = 7
+kind_of (Shipped act state) = 8
+kind_of (Arrived id place) = 9
+kind_of (Free o) = 10
+
+-- an object that is to be freed is of this home, if a message to the own locality says so
+abbrev pub is_own : ℕ → Parcel → Bool
+is_own k (Free o) = o.home == k
+is_own k _ = true
+
+-- the rule that the first message on the desk breaks: none is put there that would free an object of another home
+abbrev pub broken_here : Tables → Parcel → Option Broken
+broken_here t p = if is_own t.here p then broken t p else breaks 7 p (min (2 ^ 128 - 1) (held_here t (object_of p)))
+
+-- a frame is accepted: it spells a message that breaks no rule
+pub record Takes (bytes : List ℕ) (t t' : Tables) (entries entries' : List Entry) : Type 0 where
+  pub parcel : Parcel
+  pub spelled : parcel_of bytes ≡ Some parcel
+  pub right : broken t parcel ≡ None
+  pub writes : Writes (In bytes ∷ effects t parcel) t t' entries entries'
+  pub taken : t'.taken ≡ t.taken + 1
+  pub sent : t'.sent ≡ t.sent
+
+-- the first message on the desk breaks no rule, and is dealt with
+pub record Clears (t t' : Tables) (entries entries' : List Entry) : Type 0 where
+  pub parcel : Parcel
+  pub rest : List Parcel
+  pub first : t.desk ≡ parcel ∷ rest
+  pub right : broken_here t parcel ≡ None
+  pub writes : Writes (Mail (kind_of parcel) ∷ effects t parcel) t t' entries entries'
+  pub taken : t'.taken ≡ t.taken
+  pub sent : t'.sent ≡ t.sent
+
+-- why a frame is not accepted
+abbrev pub NotTaken : Tables → List ℕ → TakeFault → Type 0
+NotTaken t bytes (take_faults.BadFrame at why) = IsRefused bytes (record { at = at; why = why })
+NotTaken t bytes (take_faults.Strange rule object kept) =
+    (p : Parcel) × (parcel_of bytes ≡ Some p) × (broken t p ≡ Some (record { rule = rule; object = object; kept = kept }))
+NotTaken t bytes take_faults.OutOfMemory = Unit {0}
+
+-- why the first message on the desk is not dealt with
+abbrev pub NotCleared : Tables → DeskFault → Type 0
+NotCleared t (desk_faults.Strange rule object kept) =
+    (p : Parcel) × (rest : List Parcel) × (t.desk ≡ p ∷ rest) × (broken_here t p ≡ Some (record { rule = rule; object = object; kept = kept }))
+NotCleared t desk_faults.OutOfMemory = Unit {0}

@@ -1,0 +1,59 @@
+-- What stands at a node, and the credit that is held and owed there.
+use Rattle.std.specs.Prelude.{ℕ, Bool, List, [], ◌∷◌, ◌++◌, ◌+◌, if◌then◌else◌, is_some, option_map, Option}
+use Rattle.std.specs.Option.{option_map_or}
+use Rattle.std.specs.List.{find, sum_by}
+use Rattle.hpx_value.specs.Ids.{credit, same_object}
+use Rattle.hpx_agas.specs.Records.{find_record}
+use Rattle.hpx_agas.specs.declared.record.Record.{Record}
+use Rattle.hpx_journal.specs.Data.{Id, Act, Parcel, Apply, Return, Ask, Give, Cached, Move, Go, Shipped, Arrived, Free}
+use Rattle.hpx_journal.specs.Local.{is_standing}
+use Rattle.hpx_part.specs.Data.{Standing}
+use Rattle.hpx_node.specs.Tables.{Tables, messages}
+
+-- whether an object stands here
+abbrev pub stands_here : Tables → Id → Bool
+stands_here t o = is_some (find (is_standing o) t.objects)
+
+-- the credit of an object in ids
+abbrev pub credit_in : Id → List Id → ℕ
+credit_in o ids = sum_by (λ id. if same_object o id then credit id else 0) ids
+
+-- the ids of a message that holds its credits: one of an action, or of an object
+abbrev pub ids_held : Parcel → List Id
+ids_held (Apply act) = act.ids
+ids_held (Move act) = act.ids
+ids_held (Go act) = act.ids
+ids_held (Shipped act state) = act.ids ++ state.ids
+ids_held _ = []
+
+-- the id of a message that owes its credit
+abbrev pub credit_owed : Id → Parcel → ℕ
+credit_owed o (Return id) = credit_in o (id ∷ [])
+credit_owed o (Ask id asker entry) = credit_in o (id ∷ [])
+credit_owed o (Give id entry) = credit_in o (id ∷ [])
+credit_owed o (Arrived id place) = credit_in o (id ∷ [])
+credit_owed o _ = 0
+
+-- the credit of an object in states, in actions, and in messages of these
+abbrev pub held_here : Tables → Id → ℕ
+held_here t o =
+    sum_by (λ x. credit_in o x.state.ids) t.objects
+    + sum_by (λ act. credit_in o act.ids) t.accepted
+    + sum_by (λ act. credit_in o act.ids) t.running
+    + sum_by (λ p. credit_in o (ids_held p)) (messages t)
+
+-- the credit of an object in messages that bring it home, or ask for more
+abbrev pub owed_here : Tables → Id → ℕ
+owed_here t o = sum_by (credit_owed o) (messages t)
+
+-- the live record of an object
+abbrev pub record_here : Tables → Id → Option Record
+record_here t o = find_record o t.records
+
+-- the credit that is out, 0 without a live record
+abbrev pub count_here : Tables → Id → ℕ
+count_here t o = option_map_or (λ (r : Record). r.count) (record_here t o) 0
+
+-- where it was last said to be
+abbrev pub place_here : Tables → Id → Option ℕ
+place_here t o = option_map (λ (r : Record). r.place) (record_here t o)

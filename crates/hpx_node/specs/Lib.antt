@@ -1,0 +1,13 @@
+pub mod Fit
+pub mod Tables
+pub mod Seen
+pub mod Frames
+pub mod Stands
+pub mod Changes
+pub mod Free
+pub mod Jobs
+pub mod Births
+pub mod Commits
+pub mod Kept
+pub mod Strange
+pub mod Handled

@@ -1,0 +1,55 @@
+-- How a node's tables stand for its part of the journal.
+use Rattle.std.specs.Prelude.{ℕ, List, [], ◌≡◌, ◌≤◌, length}
+use Rattle.hpx_value.specs.declared.profile.Profile.{Profile}
+use Rattle.std.specs.List.{AllByRecursion, find}
+use Rattle.hpx_value.specs.Ids.{same_object}
+use Rattle.std.specs.Prelude.{IfSome, None, ◌<◌}
+use Rattle.hpx_value.specs.Values.{bare_act}
+use Rattle.hpx_parcel.specs.Parcels.{IsParcel}
+use Rattle.hpx_parcel.specs.Reading.{parcel_of}
+use Rattle.hpx_journal.specs.Data.{Id, State, Act, Outcome, Due}
+use Rattle.hpx_journal.specs.Entries.{Rules, move_to}
+use Rattle.hpx_journal.specs.Whole.{part}
+use Rattle.hpx_journal.specs.Laws.{outs, ins}
+use Rattle.hpx_part.specs.Data.{Entry}
+use Rattle.hpx_part.specs.Parts.{StandsFor}
+use Rattle.hpx_node.specs.Fit.{IsFit, IsKept, IsFitDue}
+use Rattle.hpx_node.specs.Frames.{IsOnItsWay}
+use Rattle.hpx_node.specs.Tables.{Tables, messages}
+use Rattle.hpx_node.specs.Seen.{view}
+
+-- what a journal is judged by, over these acts at n localities
+abbrev pub rules_of : (ℕ → ℕ → ℕ → State → Act → Outcome) → ℕ → Profile → Rules
+rules_of act_of n profile = record {
+  localities = n;
+  credit_log = profile.credit_log;
+  credit_limit = profile.credit_limit;
+  parcel_of = parcel_of;
+  outcome_of = act_of n;
+}
+
+-- all that is kept, due or on its way is well formed; a MOVE is accepted only to here, what was
+-- born here has a number that was drawn, and messages go to others that there are
+pub record IsTidy (t : Tables) (due : List Due) : Type 0 where
+  pub accepted : AllByRecursion IsFit t.accepted
+  pub running : AllByRecursion IsFit t.running
+  pub objects : AllByRecursion IsKept t.objects
+  pub messages : AllByRecursion IsParcel (messages t)
+  pub fit : AllByRecursion IsFitDue due
+  pub moves : AllByRecursion (λ act. IfSome (move_to (bare_act act)) (λ to. to ≡ t.here)) t.accepted
+  pub drawn : AllByRecursion (λ x. 16 ≤ x.object.kind → x.object.home ≡ t.here → x.object.number ≤ t.births) t.objects
+  pub unborn : (o : Id) → t.births < o.number → find (λ x. same_object o x.gid) t.records ≡ None
+  pub ways : AllByRecursion (IsOnItsWay t.localities t.here) t.outgoing
+
+-- the node keeps its part, and its tables show where that leads, with this due and these ids named nowhere
+pub record StandsWith (r : Rules) (t : Tables) (due : List Due) (loose : List Id) (entries : List Entry) : Type 0 where
+  pub keeps : StandsFor r (view t due loose) entries
+  pub tidy : IsTidy t due
+  pub born : t.births ≤ length entries
+  pub few : t.serial ≤ length entries
+  pub sent : t.sent ≡ length (outs (part t.here entries))
+  pub taken : t.taken ≡ length (ins (part t.here entries))
+
+-- nothing is due and each id is named, by the rules of these tables
+abbrev pub Stands : (ℕ → ℕ → ℕ → State → Act → Outcome) → Tables → List Entry → Type 0
+Stands act_of t entries = StandsWith (rules_of act_of t.localities t.profile) t [] [] entries

@@ -1,0 +1,34 @@
+-- A node as clauses see it: what it keeps, and for how much more it has memory.
+use Rattle.std.specs.Prelude.{ℕ, List, [], ◌++◌, ◌≡◌, map}
+use Rattle.hpx_value.specs.declared.profile.Profile.{Profile}
+use Rattle.hpx_journal.specs.Data.{Act, Parcel}
+use Rattle.hpx_part.specs.Data.{Standing}
+use Rattle.hpx_agas.specs.declared.record.Record.{Record}
+use Rattle.hpx_node.specs.declared.parts.Outgoing.{Outgoing}
+
+pub record Tables : Type 0 where
+  pub here : ℕ
+  pub localities : ℕ
+  pub profile : Profile
+  pub serial : ℕ  -- the last number drawn for an action
+  pub accepted : List Act  -- in order of acceptance
+  pub running : List Act
+  pub desk : List Parcel  -- to this locality, the oldest first
+  pub outgoing : List Outgoing  -- to others, the oldest first
+  pub objects : List Standing
+  pub births : ℕ
+  pub records : List Record  -- of the live objects of this home, by rising number
+  pub sent : ℕ  -- frames gone
+  pub taken : ℕ  -- frames accepted
+  pub spare : ℕ
+
+-- the messages that are on their way, to here or to others
+abbrev pub messages : Tables → List Parcel
+messages t = t.desk ++ map (λ x. x.parcel) t.outgoing
+
+-- nothing is to be done here
+pub record IsPassive (t : Tables) : Type 0 where
+  pub accepted : t.accepted ≡ []
+  pub running : t.running ≡ []
+  pub desk : t.desk ≡ []
+  pub outgoing : t.outgoing ≡ []

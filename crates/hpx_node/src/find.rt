@@ -1,0 +1,107 @@
+//! Where things are in a node's lists.
+ghost use Rattle.std.specs.Prelude.{◌≡◌, ◌<◌, ◌+◌, ℕ, true, false, Some, None, List, IfSome, IfNone, IsTrue, ◌↔◌, length, slice_get, drop, take, find};
+ghost use Rattle.std.specs.List.{list_any};
+ghost use Rattle.std.specs.VecDeque.{deque_len};
+ghost use Rattle.hpx_value.specs.Hands.{id_at};
+ghost use Rattle.hpx_journal.specs.Entries.{target_of};
+ghost use Rattle.hpx_journal.specs.Local.{is_standing, acts_on, is_busy};
+ghost use Rattle.hpx_node.specs.Free.{NoneIsFree, IsFree};
+
+use crate::kept::{Fit, Kept};
+use hpx_value::codes::{PLAIN, SESSION};
+use hpx_value::exact::Exact;
+use hpx_value::gid::Gid;
+use hpx_value::value::Act;
+use std::collections::VecDeque;
+
+/// The object that an action is for.
+pub fn target(act: &Act) -> Gid
+    ensures { result ≡ target_of act.now }
+{
+    match act.ids.as_slice().first() {
+        Some(id) => *id,
+        None => Gid::new(0, SESSION, 1),
+    }
+}
+
+/// Where an object stands, if it does.
+#[tactic(auto, using(hpx_part::proofs::Keyed::find_step, hpx_part::proofs::Keyed::find_at_index))]
+pub fn place_of(objects: &[Kept], o: Gid) -> Option<usize>
+    ensures inside { IfSome result (λ j. j < length objects.now) }
+    ensures found { IfSome result (λ j. find (is_standing o) objects.now ≡ slice_get objects.now j) }
+    ensures none { IfNone result (find (is_standing o) objects.now ≡ None) }
+{
+    for (j, x) in objects.iter().enumerate() {
+        if o.names_same(x.object()) {
+            return Some(j);
+        }
+    }
+    None
+}
+
+/// Whether an action on the object runs.
+fn runs_on(running: &[Fit], o: Gid) -> bool
+    ensures { result ≡ list_any (acts_on o) running.now }
+{
+    running.iter().any(|a| o.names_same(target(a.act())))
+}
+
+/// Whether an action on the object runs and keeps it busy; one of kind Plain is never busy.
+pub fn is_busy(running: &[Fit], o: Gid) -> bool
+    ensures { result ≡ is_busy o running.now }
+{
+    if o.kind() == PLAIN {
+        false
+    } else {
+        runs_on(running, o)
+    }
+}
+
+/// Where the object of an action stands, if it is free.
+fn free_at(running: &[Fit], objects: &[Kept], act: &Act) -> Option<usize>
+    ensures inside { IfSome result (λ j. j < length objects.now) }
+    ensures free { IfSome result (λ j. IsFree running.now objects.now act.now) }
+    ensures found { IfSome result (λ j. find (is_standing (target_of act.now)) objects.now ≡ slice_get objects.now j) }
+    ensures none { IfNone result (IsFree running.now objects.now act.now → ⊥) }
+{
+    let o = target(act);
+    match place_of(objects, o) {
+        Some(j) if !is_busy(running, o) => Some(j),
+        _ => None,
+    }
+}
+
+/// The first accepted action whose object is free, and where that object stands.
+pub fn first_free(
+    accepted: &VecDeque<Fit>,
+    running: &[Fit],
+    objects: &[Kept],
+) -> Option<(usize, usize)>
+    ensures inside { IfSome result (λ p. (p.0 < deque_len accepted.now) × (p.1 < length objects.now)) }
+    ensures free { IfSome result (λ p. (act : _) → slice_get accepted.now.items p.0 ≡ Some act → IsFree running.now objects.now act) }
+    ensures found { IfSome result (λ p. (act : _) → slice_get accepted.now.items p.0 ≡ Some act
+        → find (is_standing (target_of act)) objects.now ≡ slice_get objects.now p.1) }
+    ensures first { IfSome result (λ p. NoneIsFree running.now objects.now (take p.0 accepted.now.items)) }
+    ensures none { IfNone result (NoneIsFree running.now objects.now accepted.now.items) }
+{
+    for i in 0..accepted.len() {
+        match free_at(running, objects, accepted[i].act()) {
+            Some(j) => return Some((i, j)),
+            None => (),
+        }
+    }
+    None
+}
+
+/// Where an action runs, if it does.
+pub fn index_of(running: &[Fit], act: &Act) -> Option<usize>
+    ensures some { IfSome result (λ i. slice_get running.now i ≡ Some act.now) }
+    ensures none { IfNone result ((i : ℕ) → i < length running.now → slice_get running.now i ≡ Some act.now → ⊥) }
+{
+    for (i, x) in running.iter().enumerate() {
+        if x.act().same(act) {
+            return Some(i);
+        }
+    }
+    None
+}

@@ -1,0 +1,200 @@
+//! One locality: its tables, and what each call on them begins with.
+ghost use Rattle.std.specs.Prelude.{◌≡◌, ◌≢◌, ◌≤◌, ◌<◌, ◌+◌, ◌-◌, ◌∷◌, ◌++◌, ◌↔◌, [], ℕ, List, Some, None, IsTrue, OnOk, OnErr, IfOk, IfSome, IfNone, length};
+ghost use Rattle.hpx_value.specs.Profiles.{IsValid};
+ghost use Rattle.hpx_value.specs.Values.{bare_act};
+ghost use Rattle.hpx_journal.specs.Entries.{move_to};
+ghost use Rattle.hpx_parcel.specs.Parcels.{IsParcel};
+ghost use Rattle.hpx_node.specs.Fit.{IsFit};
+ghost use Rattle.hpx_node.specs.Tables.{IsPassive};
+ghost use Rattle.hpx_node.specs.Stands.{Stands};
+ghost use Rattle.hpx_node.specs.Changes.{OnlySpare, Mails, Posts};
+ghost use Rattle.hpx_node.specs.Frames.{MayGoTo};
+
+use crate::boot::roots;
+use crate::find::{place_of, target};
+use crate::kept::{Fit, Kept, Letter};
+use crate::parts::Outgoing;
+use hpx_agas::records::Records;
+use hpx_journal::local::move_to;
+use hpx_parcel::parcel::Parcel;
+use hpx_value::acts::Acts;
+use hpx_value::codes::MOVE;
+use hpx_value::gid::Gid;
+use hpx_value::memory::OutOfMemory;
+use hpx_value::profile::Profile;
+use hpx_value::value::Act;
+use std::alloc::Global;
+use std::collections::VecDeque;
+use std::marker::Model;
+
+mod desk;
+mod feed;
+mod finish;
+mod fire;
+mod frames;
+mod getters;
+mod pay;
+mod rules;
+mod settle;
+
+/// One locality.
+#[derive(Drop)]
+pub struct Node<A: Acts + Copy> {
+    acts: A,
+    here: u32,
+    localities: u32,
+    profile: Profile,
+    serial: u64,
+    accepted: VecDeque<Fit>,
+    running: Vec<Fit>,
+    desk: VecDeque<Letter>,
+    outgoing: VecDeque<Outgoing>,
+    objects: Vec<Kept>,
+    records: Records<Parcel>,
+    sent: u64,
+    taken: u64,
+}
+
+impl<A: Acts + Copy> Model for Node<A> {
+    ghost use Rattle.std.specs.Prelude.{◌≡◌, ◌<◌, ◌≤◌, ◌-◌, [], min, vec_len, vec_capacity};
+    ghost use Rattle.std.specs.VecDeque.{deque_len, deque_capacity};
+    ghost use Rattle.hpx_value.specs.Profiles.{IsValid};
+    ghost use Rattle.hpx_node.specs.Tables.{Tables};
+
+    ghost Value = { Tables };
+
+    ghost view = { λ n. record {
+      here = n.here;
+      localities = n.localities;
+      profile = n.profile;
+      serial = n.serial;
+      accepted = n.accepted.items;
+      running = n.running.items;
+      desk = n.desk.items;
+      outgoing = n.outgoing.items;
+      objects = n.objects.items;
+      births = n.records.births;
+      records = n.records.records;
+      sent = n.sent;
+      taken = n.taken;
+      spare = min (min (deque_capacity n.accepted - deque_len n.accepted) (deque_capacity n.desk - deque_len n.desk))
+          (min (deque_capacity n.outgoing - deque_len n.outgoing) (min (vec_capacity n.running - vec_len n.running)
+          (min (vec_capacity n.objects - vec_len n.objects) n.records.spare)));
+    } };
+
+    ghost invariant = { λ n. (A.count n.acts ≡ n.localities) × (n.here < n.localities) × (n.localities ≤ 64) × IsValid n.profile
+        × (n.records.here ≡ n.here) × (n.records.profile ≡ n.profile) × (n.records.waiting ≡ []) };
+}
+
+impl<A: Acts + Copy> Node<A> {
+    /// A locality at boot.
+    pub fn boot(alloc: Global, acts: A, here: u32, profile: Profile) -> Result<Node<A>, OutOfMemory>
+        requires here { here < A.count acts }
+        requires few { A.count acts ≤ 64 }
+        requires profile { IsValid profile }
+        ensures here { IfOk result (λ n. n.here ≡ here) }
+        ensures localities { IfOk result (λ n. n.localities ≡ A.count acts) }
+        ensures profile { IfOk result (λ n. n.profile ≡ profile) }
+        ensures passive { IfOk result IsPassive }
+        ensures frames { IfOk result (λ n. (n.sent ≡ 0) × (n.taken ≡ 0)) }
+        ensures stands { IfOk result (λ n. Stands A.act_of n []) }
+    {
+        let localities = acts.localities();
+        let objects = roots(alloc, localities, here)?;
+        Ok(Node {
+            acts,
+            here,
+            localities,
+            profile,
+            serial: 0,
+            accepted: VecDeque::new(alloc),
+            running: Vec::new(alloc),
+            desk: VecDeque::new(alloc),
+            outgoing: VecDeque::new(alloc),
+            objects,
+            records: Records::new(alloc, profile, here),
+            sent: 0,
+            taken: 0,
+        })
+    }
+
+    /// Makes memory for so many more of each.
+    fn reserve(&mut self, n: u32) -> Result<(), OutOfMemory>
+        ensures same { self.new ≡ record self.old { spare = self.new.spare } }
+        ensures ok { OnOk result (n ≤ self.new.spare) }
+    {
+        let more = n as usize;
+        self.accepted.reserve(more)?;
+        self.desk.reserve(more)?;
+        self.outgoing.reserve(more)?;
+        self.running.reserve(more)?;
+        self.objects.reserve(more)?;
+        self.records.reserve(n)?;
+        Ok(())
+    }
+
+    /// Sends a message: to another locality if there is one of this number, else to the own desk.
+    fn mail(&mut self, to: u32, letter: Letter)
+        requires fit { IsParcel letter }
+        requires may { MayGoTo self.old.here to letter }
+        requires spare { 1 ≤ self.old.spare }
+        ensures { Mails letter self.old self.new }
+    {
+        if to < self.localities && to != self.here {
+            self.outgoing
+                .push_back_reserved(Outgoing { to, parcel: letter });
+        } else {
+            self.desk.push_back_reserved(letter);
+        }
+    }
+
+    /// Whether an action may be accepted: its object stands here, and a MOVE is to here.
+    fn stays(&self, act: &Act) -> bool
+        ensures moves { IsTrue result → IfSome (move_to (bare_act act.now)) (λ t. t ≡ self.now.here) }
+    {
+        match move_to(act) {
+            Some(to) if to != self.here => false,
+            _ => place_of(self.objects.as_slice(), target(act)).is_some(),
+        }
+    }
+
+    /// Puts an action where it waits: for its object here, or on the way to its home.
+    fn post(&mut self, act: Act)
+        requires fit { IsFit act }
+        requires spare { 1 ≤ self.old.spare }
+        ensures { Posts act self.old self.new }
+    {
+        let home = target(&act).home();
+        let stays = self.stays(&act);
+        let act = Fit::new(act);
+        if stays {
+            self.accepted.push_back_reserved(act);
+            return;
+        }
+        self.mail(home, act.into_letter());
+    }
+
+    /// Whether nothing is to be done here: no action waits or runs, and no message is on its way.
+    pub fn is_passive(&self) -> bool
+        ensures { IsTrue result ↔ IsPassive self.now }
+    {
+        self.accepted.is_empty()
+            && self.running.is_empty()
+            && self.desk.is_empty()
+            && self.outgoing.is_empty()
+    }
+
+    /// How many frames have gone.
+    pub fn sent(&self) -> u64
+        ensures { result ≡ self.now.sent }
+    {
+        self.sent
+    }
+
+    /// How many frames were accepted.
+    pub fn taken(&self) -> u64
+        ensures { result ≡ self.now.taken }
+    {
+        self.taken
+    }
+}

@@ -1,0 +1,351 @@
+//! Messages that are taken up: frames that come, and messages to the own locality.
+ghost use Rattle.std.specs.Prelude.{◌≡◌, ◌≤◌, ◌<◌, ◌+◌, ◌-◌, ◌^◌, ◌∷◌, ◌++◌, [], ℕ, true, false, Some, None, IsSome, OnOk, OnErr, IfOk, IfErr, Ok, length};
+ghost use Rattle.std.specs.List.{AllByRecursion};
+ghost use Rattle.hpx_value.specs.Ids.{bare, credit};
+ghost use Rattle.hpx_parcel.specs.Parcels.{IsParcel, HasRightCredit, HasCredit, HasLeastCredit, IsBare};
+ghost use Rattle.hpx_journal.specs.Data.{Return, Ask, Free};
+ghost use Rattle.hpx_parcel.specs.Reading.{parcel_of};
+ghost use Rattle.hpx_journal.specs.Weights.{HasRoom};
+ghost use Rattle.hpx_part.specs.Data.{In, Mail};
+ghost use Rattle.hpx_node.specs.Changes.{OnlySpare, Writes};
+ghost use Rattle.hpx_part.specs.Parts.{at_all};
+ghost use Rattle.hpx_node.specs.Stands.{IsTidy, Stands, rules_of};
+ghost use Rattle.hpx_node.specs.Kept.{stands_here, held_here, count_here};
+ghost use Rattle.hpx_node.specs.Strange.{is_live, broken_near};
+ghost use Rattle.hpx_node.specs.Handled.{ups, effects, with_first, kind_of, is_own, broken_here, Handles, GivesUp, Takes, Clears, NotTaken, NotCleared};
+
+use crate::find::place_of;
+use crate::kept::Letter;
+use crate::node::Node;
+use crate::parts::{DeskFault, TakeFault};
+use crate::strange::Broken;
+use hpx_agas::records::{Granted, Left};
+use hpx_journal::entry::{Entry, Event, Reason};
+use hpx_journal::journal::Journal;
+use hpx_parcel::parcel::{DecodeFault, Parcel};
+use hpx_parcel::read::decode;
+use hpx_value::acts::Acts;
+use hpx_value::exact::Exact;
+use hpx_value::gid::{Gid, Gids};
+use hpx_value::items::Bytes;
+use hpx_value::memory::OutOfMemory;
+use std::alloc::Global;
+
+/// The kind of a message, as in its frame.
+fn kind_of(parcel: &Parcel) -> u8
+    ensures { result ≡ kind_of parcel.now }
+{
+    match parcel {
+        Parcel::Apply(_) => 1,
+        Parcel::Return(_) => 2,
+        Parcel::Ask {
+            id: _,
+            asker: _,
+            entry: _,
+        } => 3,
+        Parcel::Give { id: _, entry: _ } => 4,
+        Parcel::Cached { id: _, place: _ } => 5,
+        Parcel::Move(_) => 6,
+        Parcel::Go(_) => 7,
+        Parcel::Object {
+            action: _,
+            state: _,
+        } => 8,
+        Parcel::Landed { id: _, place: _ } => 9,
+        Parcel::Free(_) => 10,
+    }
+}
+
+impl<A: Acts + Copy> Node<A> {
+    /// Gives an id up: its credit goes home.
+    fn let_go(&mut self, book: &mut Journal, id: Gid)
+        requires right { HasRightCredit id }
+        requires tidy { IsTidy self.old [] }
+        requires spare { 1 ≤ self.old.spare }
+        requires page { 1 ≤ book.old.spare }
+        ensures gives { GivesUp (rules_of A.act_of self.old.localities self.old.profile) (id ∷ []) self.old self.new }
+        ensures grows { book.new.entries ≡ book.old.entries ++ at_all self.old.here (ups (id ∷ [])) }
+        ensures page { book.old.spare ≤ book.new.spare + 1 }
+    {
+        let at = self.here;
+        if let Some(log) = id.log() {
+            book.push(Entry {
+                at,
+                event: Event::Up {
+                    object: id.bare(),
+                    log,
+                },
+            });
+            self.mail(id.home(), Letter::new(Parcel::Return(id)));
+        }
+    }
+
+    /// Gives ids up, one after the other.
+    fn let_go_all(&mut self, book: &mut Journal, ids: &Gids)
+        requires right { AllByRecursion HasRightCredit ids.now }
+        requires tidy { IsTidy self.old [] }
+        requires spare { length ids.now ≤ self.old.spare }
+        requires page { length ids.now ≤ book.old.spare }
+        ensures gives { GivesUp (rules_of A.act_of self.old.localities self.old.profile) ids.now self.old self.new }
+        ensures grows { book.new.entries ≡ book.old.entries ++ at_all self.old.here (ups ids.now) }
+    {
+        for i in 0..ids.len() {
+            self.let_go(book, ids.as_slice()[i]);
+        }
+    }
+
+    /// Takes the credit of an id back. An object that has none left is to be freed.
+    fn take_back(&mut self, book: &mut Journal, id: Gid)
+        requires credit { HasCredit id }
+        requires live { is_live self.old id ≡ true }
+        requires enough { credit id ≤ count_here self.old id }
+        requires tidy { IsTidy self.old [] }
+        requires spare { 1 ≤ self.old.spare }
+        requires page { 1 ≤ book.old.spare }
+        ensures handles { Handles (rules_of A.act_of self.old.localities self.old.profile) (Return id) self.old self.new (effects self.old (Return id)) }
+        ensures grows { book.new.entries ≡ book.old.entries ++ at_all self.old.here (effects self.old (Return id)) }
+    {
+        let at = self.here;
+        let object = id.bare();
+        let count = self.records.count(id);
+        let Some(log) = id.log() else {
+            return;
+        };
+        let Ok(left) = self.records.back(id) else {
+            return;
+        };
+        book.push(Entry {
+            at,
+            event: Event::Count {
+                object,
+                count: count - id.credit(),
+                why: Reason::Returned(log),
+            },
+        });
+        if let Left::Dead(place) = left {
+            self.mail(place, Letter::new(Parcel::Free(object)));
+        }
+    }
+
+    /// Answers an ask for more credit.
+    fn answer(&mut self, book: &mut Journal, id: Gid, asker: u16, entry: u64)
+        requires credit { HasLeastCredit id }
+        requires live { is_live self.old id ≡ true }
+        requires enough { credit id ≤ count_here self.old id }
+        requires tidy { IsTidy self.old [] }
+        requires spare { 1 ≤ self.old.spare }
+        requires page { 1 ≤ book.old.spare }
+        ensures handles { Handles (rules_of A.act_of self.old.localities self.old.profile) (Ask id asker entry) self.old self.new (effects self.old (Ask id asker entry)) }
+        ensures grows { book.new.entries ≡ book.old.entries ++ at_all self.old.here (effects self.old (Ask id asker entry)) }
+    {
+        let at = self.here;
+        let object = id.bare();
+        let Ok(granted) = self.records.ask(id) else {
+            return;
+        };
+        let count = self.records.count(id);
+        let (why, given) = match granted {
+            Granted::Limit => (Reason::Refused, id),
+            Granted::Yes(more) => (Reason::Granted, more),
+        };
+        book.push(Entry {
+            at,
+            event: Event::Count { object, count, why },
+        });
+        self.mail(asker as u32, Letter::new(Parcel::Give { id: given, entry }));
+    }
+
+    /// Frees a dead object: the ids of its state are given up.
+    fn free(&mut self, book: &mut Journal, o: Gid)
+        requires bare { IsBare o }
+        requires stands { stands_here self.old o ≡ true }
+        requires none { held_here self.old o ≡ 0 }
+        requires tidy { IsTidy self.old [] }
+        requires spare { 128 ≤ self.old.spare }
+        requires page { 129 ≤ book.old.spare }
+        ensures handles { Handles (rules_of A.act_of self.old.localities self.old.profile) (Free o) self.old self.new (effects self.old (Free o)) }
+        ensures grows { book.new.entries ≡ book.old.entries ++ at_all self.old.here (effects self.old (Free o)) }
+    {
+        let at = self.here;
+        let Some(i) = place_of(self.objects.as_slice(), o) else {
+            return;
+        };
+        let kept = self.objects.remove(i);
+        book.push(Entry {
+            at,
+            event: Event::Freed { object: o },
+        });
+        self.let_go_all(book, &kept.state().ids);
+    }
+
+    /// Does what a message says that breaks no rule.
+    fn handle(&mut self, book: &mut Journal, parcel: Parcel)
+        requires fit { IsParcel parcel }
+        requires right { broken_near self.old parcel ≡ None }
+        requires tidy { IsTidy self.old [] }
+        requires spare { 128 ≤ self.old.spare }
+        requires page { 129 ≤ book.old.spare }
+        ensures handles { Handles (rules_of A.act_of self.old.localities self.old.profile) parcel self.old self.new (effects self.old parcel) }
+        ensures grows { book.new.entries ≡ book.old.entries ++ at_all self.old.here (effects self.old parcel) }
+    {
+        match parcel {
+            Parcel::Apply(act) => self.post(act),
+            Parcel::Move(act) => self.post(act),
+            Parcel::Return(id) => self.take_back(book, id),
+            Parcel::Ask { id, asker, entry } => self.answer(book, id, asker, entry),
+            Parcel::Free(o) => self.free(book, o),
+            Parcel::Give { id: _, entry: _ } => (),
+            Parcel::Cached { id: _, place: _ } => (),
+            Parcel::Go(_) => (),
+            Parcel::Object {
+                action: _,
+                state: _,
+            } => (),
+            Parcel::Landed { id: _, place: _ } => (),
+        }
+    }
+
+    /// Writes that a frame came, and does what it says.
+    fn enter_frame(&mut self, book: &mut Journal, bytes: Bytes, parcel: Parcel)
+        requires fit { IsParcel parcel }
+        requires spelled { parcel_of bytes ≡ Some parcel }
+        requires right { broken_near self.old parcel ≡ None }
+        requires few { self.old.taken + 1 < 2 ^ 64 }
+        requires spare { 128 ≤ self.old.spare }
+        requires page { 130 ≤ book.old.spare }
+        requires stands { Stands A.act_of self.old book.old.entries }
+        ensures stands { Stands A.act_of self.new book.new.entries }
+        ensures writes { Writes (In bytes ∷ effects self.old parcel) self.old self.new book.old.entries book.new.entries }
+        ensures running { self.new.running ≡ self.old.running }
+        ensures taken { self.new.taken ≡ self.old.taken + 1 }
+        ensures sent { self.new.sent ≡ self.old.sent }
+        ensures few { length book.new.entries ≤ length book.old.entries + 130 }
+    {
+        let at = self.here;
+        self.taken += 1;
+        book.push(Entry {
+            at,
+            event: Event::In { bytes },
+        });
+        self.handle(book, parcel);
+    }
+
+    /// Writes that a message to the own locality is taken up, and does what it says.
+    fn enter_mail(&mut self, book: &mut Journal, parcel: Parcel)
+        requires fit { IsParcel parcel }
+        requires own { is_own self.old.here parcel ≡ true }
+        requires right { broken_near self.old parcel ≡ None }
+        requires spare { 128 ≤ self.old.spare }
+        requires page { 130 ≤ book.old.spare }
+        requires stands { Stands A.act_of (with_first parcel self.old) book.old.entries }
+        ensures stands { Stands A.act_of self.new book.new.entries }
+        ensures writes { Writes (Mail (kind_of parcel) ∷ effects self.old parcel) self.old self.new book.old.entries book.new.entries }
+        ensures running { self.new.running ≡ self.old.running }
+        ensures taken { self.new.taken ≡ self.old.taken }
+        ensures sent { self.new.sent ≡ self.old.sent }
+        ensures few { length book.new.entries ≤ length book.old.entries + 130 }
+    {
+        let at = self.here;
+        let kind = kind_of(&parcel);
+        book.push(Entry {
+            at,
+            event: Event::Mail { kind },
+        });
+        self.handle(book, parcel);
+    }
+
+    /// Makes memory for a message that is dealt with.
+    fn reserve_turn(&mut self, book: &mut Journal) -> Result<(), OutOfMemory>
+        ensures same { OnlySpare self.old self.new book.old book.new }
+        ensures spare { OnOk result (128 ≤ self.new.spare) }
+        ensures page { OnOk result (130 ≤ book.new.spare) }
+    {
+        self.reserve(128)?;
+        book.reserve(130)?;
+        Ok(())
+    }
+
+    /// Accepts a frame, or refuses it; nothing changes at a refusal.
+    pub fn take(
+        &mut self,
+        alloc: Global,
+        book: &mut Journal,
+        frame: &Bytes,
+    ) -> Result<(), TakeFault>
+        requires room { HasRoom book.old.entries }
+        requires stands { Stands A.act_of self.old book.old.entries }
+        ensures stands { Stands A.act_of self.new book.new.entries }
+        ensures running { self.new.running ≡ self.old.running }
+        ensures few { length book.new.entries ≤ length book.old.entries + 1024 }
+        ensures ok { OnOk result (Takes frame.now self.old self.new book.old.entries book.new.entries) }
+        ensures err { OnErr result (OnlySpare self.old self.new book.old book.new) }
+        ensures cause { IfErr result (NotTaken self.old frame.now) }
+    {
+        let parcel = match decode(alloc, frame.as_slice()) {
+            Ok(parcel) => parcel,
+            Err(DecodeFault::BadFrame { at, why }) => return Err(TakeFault::BadFrame { at, why }),
+            Err(DecodeFault::OutOfMemory) => return Err(TakeFault::OutOfMemory),
+        };
+        if let Some(x) = self.broken(&parcel) {
+            return Err(TakeFault::Strange {
+                rule: x.rule,
+                object: x.object,
+                kept: x.kept,
+            });
+        }
+        let bytes = match frame.duplicate(alloc) {
+            Ok(bytes) => bytes,
+            Err(_) => return Err(TakeFault::OutOfMemory),
+        };
+        if self.reserve_turn(book).is_err() {
+            return Err(TakeFault::OutOfMemory);
+        }
+        self.enter_frame(book, bytes, parcel);
+        Ok(())
+    }
+
+    /// The rule that the first message on the desk breaks, if it breaks one.
+    fn broken_here(&self, parcel: &Parcel) -> Option<Broken>
+        ensures { result ≡ broken_here self.now parcel.now }
+    {
+        match parcel {
+            Parcel::Free(o) if o.home() != self.here => Some(Broken {
+                rule: 7,
+                object: o.bare(),
+                kept: self.held(o.bare()),
+            }),
+            _ => self.broken(parcel),
+        }
+    }
+
+    /// Deals with the oldest message to the own locality, if there is one; nothing changes at a refusal.
+    pub fn desk(&mut self, book: &mut Journal) -> Result<bool, DeskFault>
+        requires room { HasRoom book.old.entries }
+        requires stands { Stands A.act_of self.old book.old.entries }
+        ensures stands { Stands A.act_of self.new book.new.entries }
+        ensures running { self.new.running ≡ self.old.running }
+        ensures few { length book.new.entries ≤ length book.old.entries + 1024 }
+        ensures cleared { result ≡ Ok true → Clears self.old self.new book.old.entries book.new.entries }
+        ensures empty { result ≡ Ok false → (self.old.desk ≡ []) × (OnlySpare self.old self.new book.old book.new) }
+        ensures err { OnErr result (OnlySpare self.old self.new book.old book.new) }
+        ensures cause { IfErr result (NotCleared self.old) }
+    {
+        if self.desk.len() == 0 {
+            return Ok(false);
+        }
+        if let Some(x) = self.broken_here(self.desk[0].parcel()) {
+            return Err(DeskFault::Strange {
+                rule: x.rule,
+                object: x.object,
+                kept: x.kept,
+            });
+        }
+        if self.reserve_turn(book).is_err() {
+            return Err(DeskFault::OutOfMemory);
+        }
+        if let Some(letter) = self.desk.pop_front() {
+            self.enter_mail(book, letter.into_parcel());
+        }
+        Ok(true)
+    }
+}

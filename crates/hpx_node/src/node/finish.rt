@@ -1,0 +1,185 @@
+//! Committing a job that is done: what its outcome makes, what it leaves due, and what nobody names.
+ghost use Rattle.std.specs.Prelude.{◌≡◌, ◌≤◌, ◌<◌, ◌+◌, ◌^◌, ◌∷◌, ◌++◌, [], ℕ, Some, None, IfOk, IfErr, IfSome, IfNone, length, map};
+ghost use Rattle.std.specs.List.{AllByRecursion};
+ghost use Rattle.hpx_value.specs.Laws.{IsManaged, KeepsLaws};
+ghost use Rattle.hpx_journal.specs.Weights.{HasRoom};
+ghost use Rattle.hpx_commit.specs.Deals.{AllLast};
+ghost use Rattle.hpx_node.specs.Births.{birth_of, ids_of};
+ghost use Rattle.hpx_node.specs.Commits.{committed, hand_of, places_in_hand, IsPrepared};
+ghost use Rattle.hpx_node.specs.Jobs.{IsAt, IsRunning, IsFitJob, Ends};
+ghost use Rattle.hpx_node.specs.Stands.{Stands};
+ghost use Rattle.hpx_node.specs.Changes.{OnlySpare, Writes};
+
+use crate::find::{index_of, place_of, target};
+use crate::node::Node;
+use crate::node::settle::{Birth, births, push_splits};
+use crate::parts::{FinishFault, Finished};
+use hpx_commit::deal::all_last;
+use hpx_commit::hand::Hand;
+use hpx_commit::plan::{Plan, places_named, plan_commit};
+use hpx_journal::journal::Journal;
+use hpx_value::acts::{Acts, Done};
+use hpx_value::exact::Exact;
+use hpx_value::gid::Gid;
+use hpx_value::memory::OutOfMemory;
+use hpx_value::outcome::Make;
+use std::alloc::Global;
+use std::collections::VecDeque;
+
+/// How many entries a commit may write, and how many messages it may send.
+const MOST_ENTRIES: u32 = 1024;
+
+/// A commit, before its first change.
+#[derive(Drop)]
+struct Prepared {
+    births: VecDeque<Birth>,
+    hand: Vec<Gid>,
+    places: Vec<u32>,
+    plan: Plan,
+}
+
+/// The outcome of a job keeps the laws of actions.
+fn lawful<A: Acts>(done: &Done<A>)
+    requires localities { done.now.localities ≤ 64 }
+    requires at { done.now.job.at < done.now.localities }
+    requires fit { IsFitJob done.now.job }
+    ensures { KeepsLaws done.now.localities done.now.job.kind done.now.job.at done.now.job.state done.now.job.action done.now.outcome }
+{
+    let _at = done.job().at;
+}
+
+impl<A: Acts + Copy> Node<A> {
+    /// Where the action of a job runs, and where its object stands.
+    fn spot(&self, done: &Done<A>) -> Option<(usize, usize)>
+        ensures found { IfSome result (λ p. (done.now.localities ≡ self.now.localities) × IsAt self.now p.0 p.1 done.now.job) }
+        ensures fit { IfSome result (λ p. IsFitJob done.now.job) }
+        ensures few { IfSome result (λ p. done.now.localities ≤ 64) }
+        ensures here { IfSome result (λ p. done.now.job.at < done.now.localities) }
+        ensures none { IfNone result (done.now.localities ≡ self.now.localities → IsRunning self.now done.now.job → ⊥) }
+    {
+        let job = done.job();
+        if job.at != self.here || done.localities() != self.localities {
+            return None;
+        }
+        let i = index_of(self.running.as_slice(), &job.action)?;
+        let j = place_of(self.objects.as_slice(), target(&job.action))?;
+        let running = &self.running[i];
+        let kept = &self.objects[j];
+        if kept.object().kind() != job.kind
+            || !kept.state().same(&job.state)
+            || !running.act().same(&job.action)
+        {
+            return None;
+        }
+        Some((i, j))
+    }
+
+    /// The ids of the objects that an outcome makes.
+    fn made(&self, alloc: Global, makes: &[Make]) -> Result<Vec<Gid>, OutOfMemory>
+        requires managed { AllByRecursion (λ make. IsManaged make.kind) makes.now }
+        requires few { self.now.births + length makes.now < 2 ^ 32 }
+        ensures { IfOk result (λ ids. ids.items ≡ ids_of self.now.here self.now.births self.now.profile.credit_log (map birth_of makes.now)) }
+    {
+        let mut number = self.records.births() as u64;
+        let mut ids = Vec::new(alloc);
+        for make in makes {
+            number += 1;
+            ids.push(Gid::new(self.here, make.kind, number).with_log(self.profile.credit_log))?;
+        }
+        Ok(ids)
+    }
+
+    /// Plans a commit. There is none where some id of the hand does not last for all who name it.
+    fn prepare(&self, alloc: Global, done: &Done<A>) -> Result<Option<Prepared>, OutOfMemory>
+        requires localities { done.now.localities ≤ 64 }
+        requires at { done.now.job.at < done.now.localities }
+        requires fit { IsFitJob done.now.job }
+        requires few { self.now.births + 1024 < 2 ^ 32 }
+        ensures laws { KeepsLaws done.now.localities done.now.job.kind done.now.job.at done.now.job.state done.now.job.action done.now.outcome }
+        ensures some { IfOk result (λ o. IfSome o (λ p. IsPrepared self.now done.now.job done.now.outcome p)) }
+        ensures none { IfOk result (λ o. IfNone o (AllLast (hand_of self.now done.now.job done.now.outcome) (places_in_hand self.now done.now.job done.now.outcome) → ⊥)) }
+    {
+        lawful(done);
+        let job = done.job();
+        let outcome = done.outcome();
+        let made = self.made(alloc, outcome.makes.as_slice())?;
+        let hand = Hand::of(alloc, &job.state, &job.action, made.as_slice())?;
+        let places = places_named(alloc, &hand, outcome)?;
+        if !all_last(hand.ids(), places.as_slice()) {
+            return Ok(None);
+        }
+        let plan = plan_commit(alloc, &hand, outcome, places.as_slice())?;
+        Ok(Some(Prepared {
+            births: births(alloc, outcome.makes.as_slice())?,
+            hand: Vec::from_slice(alloc, hand.ids())?,
+            places,
+            plan,
+        }))
+    }
+
+    /// Writes a commit that is prepared. It takes no memory.
+    fn commit(&mut self, book: &mut Journal, i: usize, j: usize, done: &Done<A>, prepared: Prepared)
+        requires at { IsAt self.old i j done.now.job }
+        requires localities { done.now.localities ≡ self.old.localities }
+        requires few { self.old.localities ≤ 64 }
+        requires fit { IsFitJob done.now.job }
+        requires laws { KeepsLaws done.now.localities done.now.job.kind done.now.job.at done.now.job.state done.now.job.action done.now.outcome }
+        requires prepared { IsPrepared self.old done.now.job done.now.outcome prepared }
+        requires room { HasRoom book.old.entries }
+        requires spare { 1024 ≤ self.old.spare }
+        requires page { 1024 ≤ book.old.spare }
+        requires stands { Stands A.act_of self.old book.old.entries }
+        ensures stands { Stands A.act_of self.new book.new.entries }
+        ensures committed { Writes (committed self.old done.now.job done.now.outcome) self.old self.new book.old.entries book.new.entries }
+        ensures ends { Ends self.old self.new done.now.job }
+    {
+        let Prepared {
+            births,
+            hand,
+            places,
+            plan: Plan { state, due, ups },
+        } = prepared;
+        self.bear_all(book, births);
+        push_splits(book, self.here, hand.as_slice(), places.as_slice());
+        self.settle(book, i, j, state);
+        self.pay_all(book, due, ups.as_slice());
+        self.give_up_all(book, VecDeque::from_vec(ups));
+    }
+
+    /// Commits a job that is done. Nothing changes where it is not one that runs here, where some id of its hand has too
+    /// little credit for all who name it, or without memory; in the last case the job is handed back.
+    pub fn finish(
+        &mut self,
+        alloc: Global,
+        book: &mut Journal,
+        done: Done<A>,
+    ) -> Result<Finished, FinishFault<A>>
+        requires room { HasRoom book.old.entries }
+        requires stands { Stands A.act_of self.old book.old.entries }
+        ensures stands { Stands A.act_of self.new book.new.entries }
+        ensures committed { IfOk result (λ f. f ≡ Finished.Committed →
+            Writes (committed self.old done.job done.outcome) self.old self.new book.old.entries book.new.entries) }
+        ensures short { IfOk result (λ f. f ≡ Finished.Short →
+            (AllLast (hand_of self.old done.job done.outcome) (places_in_hand self.old done.job done.outcome) → ⊥) × OnlySpare self.old self.new book.old book.new) }
+        ensures not_running { IfOk result (λ f. f ≡ Finished.NotRunning →
+            (done.localities ≡ self.old.localities → IsRunning self.old done.job → ⊥) × OnlySpare self.old self.new book.old book.new) }
+        ensures running { IfOk result (λ f. f ≡ Finished.Committed → (done.localities ≡ self.old.localities) × IsRunning self.old done.job) }
+        ensures ends { IfOk result (λ f. f ≡ Finished.Committed → Ends self.old self.new done.job) }
+        ensures err { IfErr result (λ e. (e.undone ≡ done) × OnlySpare self.old self.new book.old book.new) }
+    {
+        let (i, j) = match self.spot(&done) {
+            Some(spot) => spot,
+            None => return Ok(Finished::NotRunning),
+        };
+        let prepared = match self.prepare(alloc, &done) {
+            Ok(Some(prepared)) => prepared,
+            Ok(None) => return Ok(Finished::Short),
+            Err(_) => return Err(FinishFault { undone: done }),
+        };
+        if self.reserve(MOST_ENTRIES).is_err() || book.reserve(MOST_ENTRIES).is_err() {
+            return Err(FinishFault { undone: done });
+        }
+        self.commit(book, i, j, &done, prepared);
+        Ok(Finished::Committed)
+    }
+}

@@ -1,0 +1,85 @@
+//! Firing: a job is handed out.
+ghost use Rattle.std.specs.Prelude.{◌≡◌, ◌≤◌, ◌<◌, ◌∷◌, ◌++◌, [], Some, OnErr, IfOk, IfSome, IfNone, length, slice_get};
+ghost use Rattle.std.specs.List.{remove};
+ghost use Rattle.hpx_journal.specs.Entries.{name_of};
+ghost use Rattle.hpx_journal.specs.Weights.{HasRoom};
+ghost use Rattle.hpx_part.specs.Data.{Fire};
+ghost use Rattle.hpx_node.specs.Free.{NoneIsFree, IsFree};
+ghost use Rattle.hpx_node.specs.Jobs.{Starts};
+ghost use Rattle.hpx_node.specs.Stands.{Stands};
+ghost use Rattle.hpx_node.specs.Changes.{OnlySpare, Writes};
+
+use crate::find::first_free;
+use crate::node::Node;
+use hpx_journal::entry::{Entry, Event};
+use hpx_journal::journal::Journal;
+use hpx_value::acts::{Acts, Job};
+use hpx_value::exact::Exact;
+use hpx_value::memory::OutOfMemory;
+use std::alloc::Global;
+
+impl<A: Acts + Copy> Node<A> {
+    fn job(&self, alloc: Global, i: usize, j: usize) -> Result<Job, OutOfMemory>
+        requires action { i < length self.now.accepted }
+        requires object { j < length self.now.objects }
+        ensures here { IfOk result (λ job. job.at ≡ self.now.here) }
+        ensures action { IfOk result (λ job. slice_get self.now.accepted i ≡ Some job.action) }
+        ensures object { IfOk result (λ job. (x : _) → slice_get self.now.objects j ≡ Some x → (job.kind ≡ x.object.kind) × (job.state ≡ x.state)) }
+    {
+        let kept = &self.objects[j];
+        let accepted = &self.accepted[i];
+        Ok(Job {
+            at: self.here,
+            kind: kept.object().kind(),
+            state: kept.state().duplicate(alloc)?,
+            action: accepted.act().duplicate(alloc)?,
+        })
+    }
+
+    fn start(&mut self, book: &mut Journal, i: usize)
+        requires inside { i < length self.old.accepted }
+        requires free { (act : _) → slice_get self.old.accepted i ≡ Some act → IsFree self.old.running self.old.objects act }
+        requires spare { 1 ≤ self.old.spare }
+        requires page { 1 ≤ book.old.spare }
+        requires stands { Stands A.act_of self.old book.old.entries }
+        ensures stands { Stands A.act_of self.new book.new.entries }
+        ensures fired { (act : _) → slice_get self.old.accepted i ≡ Some act → Writes (Fire (name_of act) ∷ []) self.old self.new book.old.entries book.new.entries }
+        ensures objects { self.new.objects ≡ self.old.objects }
+        ensures accepted { self.new.accepted ≡ remove self.old.accepted i }
+        ensures running { (act : _) → slice_get self.old.accepted i ≡ Some act → self.new.running ≡ self.old.running ++ act ∷ [] }
+    {
+        if let Some(act) = self.accepted.remove(i) {
+            let action = act.name();
+            self.running.push_reserved(act);
+            book.push(Entry {
+                at: self.here,
+                event: Event::Fire { action },
+            });
+        }
+    }
+
+    /// Takes the first accepted action whose object is free, to be run. Nothing changes without memory.
+    pub fn fire(&mut self, alloc: Global, book: &mut Journal) -> Result<Option<Job>, OutOfMemory>
+        requires room { HasRoom book.old.entries }
+        requires stands { Stands A.act_of self.old book.old.entries }
+        ensures stands { Stands A.act_of self.new book.new.entries }
+        ensures fired { IfOk result (λ o. IfSome o (λ job. Writes (Fire (name_of job.action) ∷ []) self.old self.new book.old.entries book.new.entries)) }
+        ensures job { IfOk result (λ o. IfSome o (Starts self.old self.new)) }
+        ensures none { IfOk result (λ o. IfNone o (NoneIsFree self.old.running self.old.objects self.old.accepted × OnlySpare self.old self.new book.old book.new)) }
+        ensures err { OnErr result (OnlySpare self.old self.new book.old book.new) }
+    {
+        let (i, j) = match first_free(
+            &self.accepted,
+            self.running.as_slice(),
+            self.objects.as_slice(),
+        ) {
+            Some(spot) => spot,
+            None => return Ok(None),
+        };
+        let job = self.job(alloc, i, j)?;
+        self.reserve(1)?;
+        book.reserve(1)?;
+        self.start(book, i);
+        Ok(Some(job))
+    }
+}

@@ -1,0 +1,143 @@
+//! Paying what a commit leaves: messages are sent, prints are printed, and ids that nobody names are given up.
+ghost use Rattle.std.specs.Prelude.{◌≡◌, ◌≤◌, ◌<◌, ◌+◌, ◌^◌, ◌∷◌, ◌++◌, [], length};
+ghost use Rattle.std.specs.List.{AllByRecursion};
+ghost use Rattle.hpx_parcel.specs.Parcels.{HasCredit};
+ghost use Rattle.hpx_part.specs.Parts.{at_all};
+ghost use Rattle.hpx_node.specs.Commits.{written, ups};
+ghost use Rattle.hpx_node.specs.Fit.{IsFitDue};
+ghost use Rattle.hpx_node.specs.Stands.{Stands, StandsWith, rules_of};
+ghost use Rattle.hpx_value.specs.Values.{named};
+
+use crate::kept::Letter;
+use crate::node::Node;
+use hpx_commit::deal::log_of;
+use hpx_journal::entry::{Entry, Event, Name};
+use hpx_journal::journal::Journal;
+use hpx_parcel::parcel::Parcel;
+use hpx_value::acts::Acts;
+use hpx_value::gid::Gid;
+use hpx_value::outcome::Due;
+use hpx_value::value::{Act, Message};
+use std::collections::VecDeque;
+
+/// A message under a name.
+fn named(name: Name, message: Message) -> Act
+    ensures { result ≡ named name.origin name.serial message }
+{
+    Act {
+        origin: name.origin,
+        serial: name.serial,
+        code: message.code,
+        args: message.args,
+        cont: message.cont,
+        ids: message.ids,
+    }
+}
+
+impl<A: Acts + Copy> Node<A> {
+    /// Writes the first of what is due.
+    fn pay(&mut self, book: &mut Journal, due: &mut VecDeque<Due>, loose: &[Gid])
+        requires some { 0 < length due.old.items }
+        requires fit { AllByRecursion IsFitDue due.old.items }
+        requires spare { length due.old.items ≤ self.old.spare }
+        requires page { length due.old.items ≤ book.old.spare }
+        requires few { self.old.serial + 1 < 2 ^ 64 }
+        requires stands { StandsWith (rules_of A.act_of self.old.localities self.old.profile) self.old due.old.items loose.now book.old.entries }
+        ensures stands { StandsWith (rules_of A.act_of self.new.localities self.new.profile) self.new due.new.items loose.now book.new.entries }
+        ensures fewer { length due.new.items + 1 ≡ length due.old.items }
+        ensures fit { AllByRecursion IsFitDue due.new.items }
+        ensures spare { self.old.spare ≤ self.new.spare + 1 }
+        ensures page { book.new.spare + 1 ≡ book.old.spare }
+        ensures serial { self.new.serial ≤ self.old.serial + 1 }
+        ensures here { (self.new.here ≡ self.old.here) × (self.new.localities ≡ self.old.localities) × (self.new.profile ≡ self.old.profile) }
+        ensures running { self.new.running ≡ self.old.running }
+        ensures writes { book.new.entries ++ at_all self.new.here (written self.new.here self.new.serial due.new.items)
+            ≡ book.old.entries ++ at_all self.old.here (written self.old.here self.old.serial due.old.items) }
+    {
+        let at = self.here;
+        match due.pop_front() {
+            Some(Due::Message(message)) => {
+                let action = Name {
+                    origin: at as u16,
+                    serial: self.serial + 1,
+                };
+                self.serial += 1;
+                self.post(named(action, message));
+                book.push(Entry {
+                    at,
+                    event: Event::Sent { action },
+                });
+            }
+            Some(Due::Print(bytes)) => book.push(Entry {
+                at,
+                event: Event::Print { bytes },
+            }),
+            None => (),
+        }
+    }
+
+    /// Gives up the first of these ids.
+    fn give_up(&mut self, book: &mut Journal, loose: &mut VecDeque<Gid>)
+        requires some { 0 < length loose.old.items }
+        requires credit { AllByRecursion HasCredit loose.old.items }
+        requires spare { length loose.old.items ≤ self.old.spare }
+        requires page { length loose.old.items ≤ book.old.spare }
+        requires stands { StandsWith (rules_of A.act_of self.old.localities self.old.profile) self.old [] loose.old.items book.old.entries }
+        ensures stands { StandsWith (rules_of A.act_of self.new.localities self.new.profile) self.new [] loose.new.items book.new.entries }
+        ensures fewer { length loose.new.items + 1 ≡ length loose.old.items }
+        ensures credit { AllByRecursion HasCredit loose.new.items }
+        ensures spare { self.old.spare ≤ self.new.spare + 1 }
+        ensures page { book.new.spare + 1 ≡ book.old.spare }
+        ensures here { (self.new.here ≡ self.old.here) × (self.new.localities ≡ self.old.localities) × (self.new.profile ≡ self.old.profile) }
+        ensures running { self.new.running ≡ self.old.running }
+        ensures writes { book.new.entries ++ at_all self.new.here (ups loose.new.items) ≡ book.old.entries ++ at_all self.old.here (ups loose.old.items) }
+    {
+        let at = self.here;
+        if let Some(id) = loose.pop_front() {
+            let log = log_of(id);
+            self.mail(id.home(), Letter::new(Parcel::Return(id)));
+            book.push(Entry {
+                at,
+                event: Event::Up {
+                    object: id.bare(),
+                    log,
+                },
+            });
+        }
+    }
+
+    /// Writes all that is due.
+    pub fn pay_all(&mut self, book: &mut Journal, mut due: VecDeque<Due>, loose: &[Gid])
+        requires fit { AllByRecursion IsFitDue due.items }
+        requires spare { length due.items ≤ self.old.spare }
+        requires page { length due.items ≤ book.old.spare }
+        requires few { self.old.serial + length due.items < 2 ^ 64 }
+        requires stands { StandsWith (rules_of A.act_of self.old.localities self.old.profile) self.old due.items loose.now book.old.entries }
+        ensures stands { StandsWith (rules_of A.act_of self.new.localities self.new.profile) self.new [] loose.now book.new.entries }
+        ensures spare { self.old.spare ≤ self.new.spare + length due.items }
+        ensures page { book.new.spare + length due.items ≡ book.old.spare }
+        ensures here { (self.new.here ≡ self.old.here) × (self.new.localities ≡ self.old.localities) × (self.new.profile ≡ self.old.profile) }
+        ensures running { self.new.running ≡ self.old.running }
+        ensures writes { book.new.entries ≡ book.old.entries ++ at_all self.old.here (written self.old.here self.old.serial due.items) }
+    {
+        while !due.is_empty() {
+            self.pay(book, &mut due, loose);
+        }
+    }
+
+    /// Gives up all of these ids.
+    pub fn give_up_all(&mut self, book: &mut Journal, mut loose: VecDeque<Gid>)
+        requires credit { AllByRecursion HasCredit loose.items }
+        requires spare { length loose.items ≤ self.old.spare }
+        requires page { length loose.items ≤ book.old.spare }
+        requires stands { StandsWith (rules_of A.act_of self.old.localities self.old.profile) self.old [] loose.items book.old.entries }
+        ensures stands { Stands A.act_of self.new book.new.entries }
+        ensures here { (self.new.here ≡ self.old.here) × (self.new.localities ≡ self.old.localities) × (self.new.profile ≡ self.old.profile) }
+        ensures running { self.new.running ≡ self.old.running }
+        ensures writes { book.new.entries ≡ book.old.entries ++ at_all self.old.here (ups loose.items) }
+    {
+        while !loose.is_empty() {
+            self.give_up(book, &mut loose);
+        }
+    }
+}
