@@ -1,21 +1,21 @@
 -- Tables that differ by what waits in no message: what is seen of them.
-use Rattle.std.proofs.Common.{ℕ, true, List, [], ◌∷◌, ◌++◌, ◌≡◌, ◌+◌, ◌≤◌, Option, Some, None, map, append-nil, append_assoc, refl, sym, ap, ◌∙◌, arith, subst, cond}
+use Rattle.std.proofs.Common.{true, List, [], ◌++◌, ◌≡◌, Option, Some, map, refl, sym, ap, ◌∙◌, arith}
 use Rattle.std.specs.Prelude.{flat_map}
-use Rattle.std.specs.List.{sum_by, count_by, find, list_any}
+use Rattle.std.specs.List.{count_by, find, list_any}
 use Rattle.std.proofs.lemmas.List.Sums.{sum_by-append}
 use Rattle.hpx_value.specs.Ids.{same_object}
 use Rattle.hpx_value.specs.Values.{bare_act}
-use Rattle.hpx_journal.specs.Data.{Id, Act, Parcel}
-use Rattle.hpx_journal.specs.Frames.{acts_in, asks_in}
+use Rattle.hpx_journal.specs.Data.{Id, Parcel}
+use Rattle.hpx_journal.specs.Frames.{acts_in}
 use Rattle.hpx_journal.specs.Local.{is_recorded, count_in}
 use Rattle.hpx_part.specs.Data.{Event, Token, Recorded}
 use Rattle.hpx_part.specs.View.{View}
 use Rattle.hpx_part.specs.Shows.{SameTokens}
 use Rattle.hpx_part.proofs.Keyed.{counts_of, any_counted, counted_any}
-use Rattle.hpx_node.specs.Tables.{Tables, messages}
+use Rattle.hpx_node.specs.Tables.{Tables}
 use Rattle.hpx_node.specs.Seen.{bare_standing, counted, waiting, asks, frees, frees_in, view}
 use Rattle.hpx_node.specs.Changes.{Mails}
-use Rattle.hpx_node.proofs.Messages.{mails_asks, mails_front, mails_back, mails_before, mails_after, middle_sum}
+use Rattle.hpx_node.proofs.Messages.{mails_front, mails_back, mails_before, mails_after, middle_sum}
 use Rattle.hpx_node.proofs.Steps.{Tells}
 
 -- all stays that is seen but tokens, asks and what is to be freed

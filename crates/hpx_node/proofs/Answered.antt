@@ -1,5 +1,5 @@
 -- An ask for more credit is answered.
-use Rattle.std.proofs.Common.{ℕ, Bool, true, false, cond, List, [], ◌∷◌, ◌++◌, ◌≡◌, ◌+◌, ◌-◌, ◌^◌, ◌≤◌, ◌<◌, Option, Some, None, map, refl, sym, ap, ◌∙◌, arith, inl, inr, subst}
+use Rattle.std.proofs.Common.{ℕ, Bool, true, false, cond, List, [], ◌∷◌, ◌≡◌, ◌+◌, ◌-◌, ◌^◌, ◌≤◌, ◌<◌, Option, Some, map, refl, sym, ap, ◌∙◌, arith, inl, inr, subst}
 use Rattle.std.specs.Prelude.{if◌then◌else◌, IfSome, nat_lt}
 use Rattle.std.specs.Option.{option_map_or}
 use Rattle.std.specs.List.{sum_by, count_by, find, list_any}
@@ -12,7 +12,7 @@ use Rattle.hpx_agas.specs.Records.{find_record}
 use Rattle.hpx_agas.specs.Registries.{asked, granted_of, grown}
 use Rattle.hpx_agas.specs.declared.records.Granted.TheVariants.{Limit, Yes}
 use Rattle.hpx_agas.specs.declared.record.Record.{Record}
-use Rattle.hpx_journal.specs.Data.{Id, State, Act, Outcome, Parcel, Ask, Give}
+use Rattle.hpx_journal.specs.Data.{Id, State, Act, Outcome, Ask, Give}
 use Rattle.hpx_journal.specs.Entries.{Rules}
 use Rattle.hpx_journal.specs.Tokens.{owed_token, same_token}
 use Rattle.hpx_journal.specs.Local.{is_recorded, count_in}
@@ -20,7 +20,6 @@ use Rattle.hpx_journal.proofs.Same.{same_object-true}
 use Rattle.hpx_part.specs.Data.{Event, Count, Granted, Refused, Token, Recorded}
 use Rattle.hpx_part.specs.View.{View}
 use Rattle.hpx_part.specs.Shows.{Leads, SameTokens}
-use Rattle.hpx_part.specs.Parts.{Trades}
 use Rattle.hpx_part.proofs.CreditRows.{follows_granted, follows_refused}
 use Rattle.hpx_part.proofs.Credit.{token_own}
 use Rattle.hpx_part.proofs.Keyed.{counts_of, counts_true}
@@ -34,7 +33,7 @@ use Rattle.hpx_node.specs.Handled.{answered, more_here, in_hand, TakesUp, Handle
 use Rattle.hpx_node.proofs.Messages.{mails_tokens, mails_asks}
 use Rattle.hpx_node.proofs.Sums.{view_sum}
 use Rattle.hpx_node.proofs.Steps.{Tells, tells_leads}
-use Rattle.hpx_node.proofs.Alike.{Stays, stays_mailed, frees_mailed}
+use Rattle.hpx_node.proofs.Alike.{stays_mailed, frees_mailed}
 use Rattle.hpx_node.proofs.InHand.{hand_sum}
 use Rattle.hpx_node.proofs.GivenUp.{owed_some}
 use Rattle.hpx_node.proofs.Returned.{found_counted, one_recounted, none_unborn, live_home, live_record}

@@ -1,5 +1,5 @@
 -- What is found in a node's lists is found in them without credits.
-use Rattle.std.proofs.Common.{ℕ, zero, suc, false, cond, List, [], ◌∷◌, ◌++◌, ◌≡◌, ◌==◌, Option, Some, None, map, refl, sym, ap, ◌∙◌, inl, inr}
+use Rattle.std.proofs.Common.{ℕ, zero, suc, false, cond, List, [], ◌∷◌, ◌++◌, ◌≡◌, ◌==◌, Option, Some, None, map, refl, ap, inl, inr}
 use Rattle.std.specs.List.{find, list_any}
 use Rattle.std.proofs.lemmas.Bool.{cases_Bool}
 use Rattle.std.proofs.lemmas.List.{map-append}

@@ -1,5 +1,5 @@
 -- Objects are made, as it is seen.
-use Rattle.std.proofs.Common.{ℕ, Bool, true, false, cond, List, [], ◌∷◌, ◌++◌, ◌≡◌, ◌+◌, ◌^◌, ◌<◌, ◌≤◌, Option, Some, None, length, map, append_assoc, append-nil, refl, sym, ap, ◌∙◌, arith, inl, inr, subst}
+use Rattle.std.proofs.Common.{ℕ, Bool, true, cond, List, [], ◌∷◌, ◌++◌, ◌≡◌, ◌+◌, ◌^◌, ◌<◌, Some, None, length, map, append_assoc, append-nil, refl, sym, ap, ◌∙◌, arith, inl, inr, subst}
 use Rattle.std.specs.List.{sum_by, find, AllByRecursion}
 use Rattle.std.proofs.lemmas.Bool.{cases_Bool}
 use Rattle.std.proofs.lemmas.List.Sums.{sum_by-cons}
@@ -10,10 +10,9 @@ use Rattle.hpx_journal.specs.Entries.{Rules}
 use Rattle.hpx_journal.specs.Tokens.{held_token}
 use Rattle.hpx_journal.specs.Local.{is_recorded, count_in}
 use Rattle.hpx_journal.proofs.Same.{same_object-true}
-use Rattle.hpx_part.specs.Data.{Event, Born, Standing, Token, Recorded}
+use Rattle.hpx_part.specs.Data.{Born, Standing, Token, Recorded}
 use Rattle.hpx_part.specs.View.{View}
 use Rattle.hpx_part.specs.Shows.{IsWeight, Leads}
-use Rattle.hpx_part.specs.Parts.{Trades}
 use Rattle.hpx_part.proofs.Keyed.{find_miss}
 use Rattle.hpx_part.proofs.ObjectRows.{follows_born}
 use Rattle.hpx_node.specs.declared.node.settle.Birth.{Birth}

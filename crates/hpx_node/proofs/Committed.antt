@@ -1,24 +1,12 @@
 -- A prepared commit, written step by step, leaves what one step would leave.
-use Rattle.std.proofs.Common.{ℕ, false, List, [], ◌∷◌, ◌++◌, ◌≡◌, ◌+◌, ◌≤◌, ◌<◌, set, length, map, append_assoc, append-nil, refl, sym, ap, ◌∙◌, arith, subst}
+use Rattle.std.proofs.Common.{ℕ, List, [], ◌++◌, ◌≡◌, ◌+◌, set, length, append_assoc, append-nil, sym, ap, ◌∙◌, arith}
 use Rattle.std.specs.List.{remove}
-use Rattle.hpx_value.specs.Values.{bare_act, bare_state, message_of, named}
-use Rattle.hpx_value.specs.Laws.{KeepsLaws}
-use Rattle.hpx_value.specs.Hands.{due_of}
-use Rattle.hpx_value.specs.declared.acts.Job.{Job}
-use Rattle.hpx_journal.specs.Data.{Id, Act, State, Outcome, Due}
-use Rattle.hpx_journal.specs.Entries.{name_of}
-use Rattle.hpx_part.specs.Data.{Event, Entry, Done, Standing}
+use Rattle.hpx_part.specs.Data.{Event, Entry, Standing}
 use Rattle.hpx_part.specs.Parts.{at_all}
 use Rattle.hpx_node.specs.declared.node.settle.Birth.{Birth}
-use Rattle.hpx_node.specs.declared.node.finish.Prepared.{Prepared}
-use Rattle.hpx_node.specs.Births.{Makes, birth_of, births_of, objects_of, records_of}
-use Rattle.hpx_node.specs.Commits.{splits_from, written, ups, hand_of, places_in_hand, made_of, committed, IsPrepared}
-use Rattle.hpx_node.specs.Jobs.{IsAt, IsFitJob}
-use Rattle.hpx_node.specs.Stands.{IsTidy, StandsWith, rules_of}
+use Rattle.hpx_node.specs.Births.{Makes, objects_of, records_of}
 use Rattle.hpx_node.specs.Tables.{Tables}
 use Rattle.hpx_node.proofs.Cutting.{at_all_append}
-use Rattle.hpx_node.proofs.PreparedPlan.{prepared_stands}
-use Rattle.hpx_node.proofs.PlanWeights.{written_same}
 
 -- the tables once what is made is made and the job is done
 module _ (t t1 t2 : Tables) (xs : List Birth) (i j : ℕ) (new : Standing) (made : Makes xs [] t t1) (running : t2.running ≡ remove t1.running i)

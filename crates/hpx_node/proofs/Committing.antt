@@ -1,5 +1,5 @@
 -- A prepared commit, once its job is settled, stands with what is due and what nobody names.
-use Rattle.std.proofs.Common.{ℕ, zero, suc, false, Some, List, [], ◌∷◌, ◌++◌, ◌≡◌, ◌+◌, ◌≤◌, ◌<◌, set, length, map, append_assoc, append-nil, sym, ap, ◌∙◌, arith, subst}
+use Rattle.std.proofs.Common.{ℕ, zero, suc, false, Some, List, [], ◌∷◌, ◌++◌, ◌≡◌, ◌≤◌, ◌<◌, set, length, append_assoc, append-nil, sym, ap, ◌∙◌, subst}
 use Rattle.std.specs.List.{remove, slice_get}
 use Rattle.hpx_value.specs.Values.{bare_act, bare_state, message_of, named}
 use Rattle.hpx_value.specs.Laws.{KeepsLaws}

@@ -1,29 +1,28 @@
 -- Where all that is kept is well formed, each name has its token.
-use Rattle.std.proofs.Common.{ℕ, Bool, true, false, cond, not, List, [], ◌∷◌, ◌++◌, ◌≡◌, ◌+◌, ◌≤◌, ◌<◌, ◌&&◌, Option, Some, None, map, refl, sym, ap, ◌∙◌, arith, inl, inr, subst}
+use Rattle.std.proofs.Common.{ℕ, Bool, true, false, cond, List, [], ◌∷◌, ◌++◌, ◌≡◌, ◌≤◌, ◌<◌, Option, Some, None, map, refl, ap, arith}
 use Rattle.std.specs.Prelude.{flat_map, MatchOption}
 use Rattle.std.specs.List.{sum_by, count_by, AllByRecursion}
-use Rattle.std.proofs.lemmas.Bool.{cases_Bool}
 use Rattle.std.proofs.lemmas.List.Sums.{sum_by-cons, sum_by-append}
 use Rattle.hpx_value.specs.Ids.{bare, same_object}
-use Rattle.hpx_value.specs.Values.{bare_act, bare_state}
+use Rattle.hpx_value.specs.Values.{bare_act}
 use Rattle.hpx_value.specs.declared.outcome.Due.{Due}
 use Rattle.hpx_value.specs.declared.outcome.Due.TheVariants.{Message as MessageDue, Print as PrintDue}
-use Rattle.hpx_parcel.specs.Credits.{credit_list, credits_of}
+use Rattle.hpx_parcel.specs.Credits.{credit_list}
 use Rattle.hpx_parcel.specs.Parcels.{IsParcel, HasRightCredit}
 use Rattle.hpx_journal.specs.Data.{Id, Act, Parcel}
-use Rattle.hpx_journal.specs.Tokens.{held, is_held, is_owed}
-use Rattle.hpx_journal.specs.Frames.{acts_in, tokens_in, asks_in}
+use Rattle.hpx_journal.specs.Tokens.{held, is_held}
+use Rattle.hpx_journal.specs.Frames.{acts_in, asks_in}
 use Rattle.hpx_journal.specs.Names.{due_ids}
 use Rattle.hpx_journal.proofs.Same.{same_object-true}
 use Rattle.hpx_part.specs.Data.{Standing, Token}
-use Rattle.hpx_part.specs.View.{View, IsCovered, IsCoveredFor, names_in_view}
+use Rattle.hpx_part.specs.View.{IsCovered}
 use Rattle.hpx_part.proofs.Parcels.{acts_named, asks_owed}
-use Rattle.hpx_part.proofs.Covered.{held_counts, owed_counts, act_names, object_names, due_names}
+use Rattle.hpx_part.proofs.Covered.{owed_counts, act_names}
 use Rattle.hpx_node.specs.Fit.{IsFit, IsKept, IsFitDue}
 use Rattle.hpx_node.specs.Tables.{Tables, messages}
-use Rattle.hpx_node.specs.Seen.{bare_standing, bare_due, tokens_of, parcel_tokens, tokens, waiting, asks, view}
+use Rattle.hpx_node.specs.Seen.{bare_standing, bare_due, parcel_tokens, view}
 use Rattle.hpx_node.specs.Stands.{IsTidy}
-use Rattle.hpx_node.proofs.Sums.{weigh, weigh_append, weigh_flat, tokens_sum, view_sum}
+use Rattle.hpx_node.proofs.Sums.{weigh, weigh_append, tokens_sum, view_sum}
 
 module _ (o : Id) (managed : 16 ≤ o.kind) where
   -- a held token of o, as a number

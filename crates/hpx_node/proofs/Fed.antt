@@ -1,6 +1,5 @@
 -- A line is fed.
-use Rattle.std.proofs.Common.{ℕ, List, [], ◌∷◌, ◌++◌, ◌≡◌, ◌+◌, ◌≤◌, Some, length, refl, sym, ap, ◌∙◌, arith}
-use Rattle.std.specs.List.{sum_by}
+use Rattle.std.proofs.Common.{ℕ, List, [], ◌∷◌, ◌++◌, ◌≡◌, ◌+◌, ◌≤◌, Some, length, refl, ap, arith}
 use Rattle.hpx_journal.specs.Entries.{Rules, line_act}
 use Rattle.hpx_part.specs.Data.{Name, Entry, Line}
 use Rattle.hpx_part.specs.Shows.{Leads}

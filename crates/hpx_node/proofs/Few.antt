@@ -1,5 +1,5 @@
 -- Numbers of frames stay small.
-use Rattle.std.proofs.Common.{ℕ, List, [], ◌∷◌, ◌≡◌, ◌≤◌, ◌+◌, length, length-append, refl, arith, inl, inr}
+use Rattle.std.proofs.Common.{ℕ, List, [], ◌∷◌, ◌≤◌, length, length-append, arith, inl, inr}
 use Rattle.std.proofs.lemmas.Bool.{eq-eqb, ne_eqb, cases_eq}
 use Rattle.hpx_journal.specs.Data.{Id, Due}
 use Rattle.hpx_journal.specs.Entries.{Rules}

@@ -1,18 +1,15 @@
 -- A message that is dealt with writes few entries.
-use Rattle.std.proofs.Common.{ℕ, suc, Bool, true, false, List, [], ◌∷◌, ◌++◌, ◌≡◌, ◌+◌, ◌≤◌, Option, Some, None, length, length-append, refl, sym, ap, ◌∙◌, arith, inl, inr, subst}
-use Rattle.std.specs.Prelude.{nat_lt, if◌then◌else◌}
+use Rattle.std.proofs.Common.{ℕ, suc, List, [], ◌∷◌, ◌++◌, ◌≡◌, ◌+◌, ◌≤◌, Option, Some, None, length, length-append, refl, ap, arith, inl, inr, subst}
 use Rattle.std.specs.List.{find, AllByRecursion}
 use Rattle.std.proofs.lemmas.Bool.{cases_Bool}
-use Rattle.hpx_value.specs.Ids.{bare}
-use Rattle.hpx_journal.specs.Data.{Id, Parcel, Apply, Return, Ask, Give, Cached, Move, Go, Shipped, Arrived, Free}
+use Rattle.hpx_journal.specs.Data.{Id, Parcel, Return, Ask, Free}
 use Rattle.hpx_journal.specs.Local.{is_standing}
-use Rattle.hpx_part.specs.Data.{Entry, Event, Standing, Count, Granted, Refused}
+use Rattle.hpx_part.specs.Data.{Entry, Event, Standing}
 use Rattle.hpx_part.specs.Parts.{at_all}
 use Rattle.hpx_node.specs.Fit.{IsKept}
 use Rattle.hpx_node.specs.Tables.{Tables}
 use Rattle.hpx_node.specs.Stands.{IsTidy}
-use Rattle.hpx_node.specs.Kept.{count_here}
-use Rattle.hpx_node.specs.Handled.{effects, up_of, ups, returned, answered, more_here, freed, with_first}
+use Rattle.hpx_node.specs.Handled.{effects, up_of, ups, returned, freed, with_first}
 
 up_few : (id : Id) (log : Option ℕ) → length (up_of id log) ≤ 1
 up_few id None = omega arith

@@ -1,28 +1,28 @@
 -- An action is fired.
-use Rattle.std.proofs.Common.{ℕ, suc, List, [], ◌∷◌, ◌++◌, ◌≡◌, ◌+◌, Some, None, take, drop, map, append_assoc, append-nil, refl, sym, ap, ◌∙◌, arith}
+use Rattle.std.proofs.Common.{ℕ, suc, List, [], ◌∷◌, ◌++◌, ◌≡◌, Some, take, drop, map, append_assoc, append-nil, refl, sym, ap, ◌∙◌, arith}
 use Rattle.std.specs.Prelude.{flat_map, IfSome}
-use Rattle.std.specs.List.{slice_get, remove, sum_by, find}
+use Rattle.std.specs.List.{slice_get, remove, find}
 use Rattle.std.proofs.lemmas.List.{map-append}
 use Rattle.hpx_value.specs.Values.{bare_act}
 use Rattle.hpx_journal.specs.Data.{Act}
 use Rattle.hpx_journal.specs.Entries.{Rules, name_of, target_of, move_to}
 use Rattle.hpx_journal.specs.Frames.{acts_in}
 use Rattle.hpx_journal.specs.Local.{is_standing, is_busy}
-use Rattle.hpx_part.specs.Data.{Standing, Entry, Fire, Token}
+use Rattle.hpx_part.specs.Data.{Entry, Fire}
 use Rattle.hpx_part.specs.View.{View}
 use Rattle.hpx_part.specs.Shows.{Leads}
 use Rattle.hpx_part.specs.Parts.{at_all}
 use Rattle.hpx_part.proofs.ActRows.{follows_fire}
 use Rattle.hpx_part.proofs.Keyed.{split_get}
 use Rattle.hpx_node.specs.Tables.{Tables, messages}
-use Rattle.hpx_node.specs.Seen.{bare_standing, waiting, tokens, view}
+use Rattle.hpx_node.specs.Seen.{bare_standing, waiting, view}
 use Rattle.hpx_node.specs.Free.{IsFree}
 use Rattle.hpx_node.specs.Stands.{IsTidy, StandsWith}
 use Rattle.hpx_node.proofs.Bare.{target-bare, found-bare, busy-bare, bare_middle}
-use Rattle.hpx_node.proofs.Sums.{weigh, weigh_remove, weigh_last, tokens_sum, view_sum}
+use Rattle.hpx_node.proofs.Sums.{weigh_remove, weigh_last, tokens_sum, view_sum}
 use Rattle.hpx_node.specs.Fit.{IsFit}
 use Rattle.hpx_node.proofs.Alls.{all_append, all_remove, all_at}
-use Rattle.hpx_node.proofs.Steps.{Tells, tells_leads, Counts, stands_then}
+use Rattle.hpx_node.proofs.Steps.{Tells, tells_leads, stands_then}
 
 module _ (r : Rules) (t : Tables) (entries : List Entry) (i : ℕ) (act : Act) (spare : ℕ) (is : slice_get t.accepted i ≡ Some act)
     (free : IsFree t.running t.objects act) (tidy : IsTidy t []) where

@@ -1,34 +1,34 @@
 -- A dead object is freed.
-use Rattle.std.proofs.Common.{ℕ, suc, Bool, true, false, cond, List, [], ◌∷◌, ◌++◌, ◌≡◌, ◌+◌, ◌^◌, ◌≤◌, Option, Some, None, map, take, drop, append-nil, append_assoc, refl, sym, ap, ◌∙◌, arith, inl, inr, subst}
+use Rattle.std.proofs.Common.{ℕ, suc, Bool, true, false, cond, List, [], ◌∷◌, ◌++◌, ◌≡◌, ◌+◌, ◌≤◌, Option, Some, None, map, take, drop, append-nil, append_assoc, refl, sym, ap, ◌∙◌, arith, inl, inr, subst}
 use Rattle.std.specs.Prelude.{flat_map}
-use Rattle.std.specs.List.{sum_by, count_by, find, list_any, slice_get, remove, AllByRecursion}
+use Rattle.std.specs.List.{sum_by, find, list_any, slice_get, remove, AllByRecursion}
 use Rattle.std.proofs.lemmas.Bool.{cases_Bool}
 use Rattle.std.proofs.lemmas.List.{map-append}
 use Rattle.std.proofs.lemmas.List.Sums.{sum_by-cons, sum_by-append}
 use Rattle.std.proofs.Math.Pow.{pow_pos}
-use Rattle.hpx_value.specs.Ids.{bare, same_object, credit}
+use Rattle.hpx_value.specs.Ids.{same_object, credit}
 use Rattle.hpx_value.specs.Values.{bare_act}
 use Rattle.hpx_value.specs.Hands.{session}
 use Rattle.hpx_parcel.specs.Credits.{Credit, credit_list, credits_of}
 use Rattle.hpx_parcel.specs.Parcels.{IsParcel, IsBare}
 use Rattle.hpx_journal.specs.Data.{Id, Act, Parcel, Apply, Return, Ask, Give, Cached, Move, Go, Shipped, Arrived, Free}
-use Rattle.hpx_journal.specs.Entries.{Rules, target_of}
-use Rattle.hpx_journal.specs.Tokens.{held, owing, is_held, held_token}
-use Rattle.hpx_journal.specs.Local.{is_standing, acts_on, is_recorded, count_in}
+use Rattle.hpx_journal.specs.Entries.{Rules}
+use Rattle.hpx_journal.specs.Tokens.{held, owing, is_held}
+use Rattle.hpx_journal.specs.Local.{is_standing, acts_on}
 use Rattle.hpx_journal.specs.Rows.{IsManaged}
 use Rattle.hpx_journal.proofs.Same.{same_object-true}
 use Rattle.hpx_journal.proofs.Bools.{and_false}
 use Rattle.hpx_part.specs.Parts.{at_all}
 use Rattle.hpx_part.specs.Data.{Entry, Event, Standing, Token, In, Mail, Freed}
-use Rattle.hpx_part.specs.View.{View, IsCovered}
+use Rattle.hpx_part.specs.View.{View}
 use Rattle.hpx_part.specs.Shows.{Leads, Follows}
 use Rattle.hpx_part.proofs.ObjectRows.{follows_freed_mailed, follows_freed_taken}
-use Rattle.hpx_part.proofs.Covered.{act_names, object_names}
+use Rattle.hpx_part.proofs.Covered.{act_names}
 use Rattle.hpx_part.proofs.Grown.{chain}
 use Rattle.hpx_part.proofs.Keyed.{split_get}
-use Rattle.hpx_node.specs.Fit.{IsFit, IsKept}
+use Rattle.hpx_node.specs.Fit.{IsKept}
 use Rattle.hpx_node.specs.Tables.{Tables, messages}
-use Rattle.hpx_node.specs.Seen.{bare_standing, counted, parcel_tokens, tokens, waiting, asks, frees, view}
+use Rattle.hpx_node.specs.Seen.{bare_standing, parcel_tokens, tokens, waiting, view}
 use Rattle.hpx_node.specs.Stands.{IsTidy}
 use Rattle.hpx_node.specs.Kept.{credit_in, ids_held, held_here}
 use Rattle.hpx_node.specs.Handled.{LetsFree, ups, freed, in_hand, TakesUp, Handles, GivesUp}
@@ -36,7 +36,6 @@ use Rattle.hpx_node.proofs.Alls.{all_at, all_remove}
 use Rattle.hpx_node.proofs.Sums.{weigh, weigh_append, weigh_remove, tokens_sum, view_sum}
 use Rattle.hpx_node.proofs.Steps.{Tells, tells_leads}
 use Rattle.hpx_node.proofs.InHand.{hand_sum}
-use Rattle.hpx_node.proofs.GivenUp.{weigh_some}
 use Rattle.hpx_node.proofs.Cover.{tidy_covers}
 
 -- ---- where no credit is held, there is no name

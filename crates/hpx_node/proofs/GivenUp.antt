@@ -1,9 +1,8 @@
 -- Ids are given up.
-use Rattle.std.proofs.Common.{ℕ, suc, List, [], ◌∷◌, ◌++◌, ◌≡◌, ◌+◌, ◌≤◌, ◌<◌, Option, Some, None, map, length, take, get_or, length-append, append-nil, append_assoc, refl, sym, ap, ◌∙◌, arith, subst}
-use Rattle.std.specs.Prelude.{flat_map}
-use Rattle.std.specs.List.{sum_by, count_by, find}
+use Rattle.std.proofs.Common.{ℕ, List, [], ◌∷◌, ◌++◌, ◌≡◌, ◌+◌, ◌<◌, Some, None, map, length, take, get_or, length-append, append_assoc, refl, sym, ap, ◌∙◌, arith, subst}
+use Rattle.std.specs.List.{sum_by, find}
 use Rattle.std.proofs.lemmas.List.Sums.{sum_by-cons}
-use Rattle.hpx_value.specs.Ids.{bare, same_object}
+use Rattle.hpx_value.specs.Ids.{bare}
 use Rattle.hpx_parcel.specs.Credits.{credit_list}
 use Rattle.std.proofs.lemmas.List.{map-append, take_more}
 use Rattle.hpx_journal.specs.Data.{Id, State, Act, Outcome, Return}
@@ -12,22 +11,21 @@ use Rattle.hpx_journal.specs.Entries.{Rules}
 use Rattle.hpx_journal.specs.Tokens.{held, owing, held_token, owed_token, same_token}
 use Rattle.hpx_journal.specs.Local.{is_recorded, count_in}
 use Rattle.hpx_part.specs.Data.{Entry, Up, Token}
-use Rattle.hpx_part.specs.View.{View}
 use Rattle.hpx_part.specs.Shows.{Leads}
-use Rattle.hpx_part.specs.Parts.{Trades, at_all}
+use Rattle.hpx_part.specs.Parts.{at_all}
 use Rattle.hpx_part.proofs.CreditRows.{follows_up}
 use Rattle.hpx_part.proofs.Grown.{chain}
 use Rattle.hpx_part.proofs.Credit.{token_own}
 use Rattle.hpx_part.proofs.Keyed.{counts_of, counts_true}
-use Rattle.hpx_node.specs.Tables.{Tables, messages}
-use Rattle.hpx_node.specs.Seen.{counted, parcel_tokens, tokens, asks, frees, view}
+use Rattle.hpx_node.specs.Tables.{Tables}
+use Rattle.hpx_node.specs.Seen.{counted, asks, frees, view}
 use Rattle.hpx_node.specs.Stands.{IsTidy, rules_of}
 use Rattle.hpx_node.specs.Changes.{Mails}
 use Rattle.hpx_node.specs.Handled.{up_of, ups, GivesUp}
 use Rattle.hpx_node.proofs.Messages.{flat_append, mails_tokens, mails_asks}
 use Rattle.hpx_node.proofs.Sums.{weigh, weigh_append, view_sum}
 use Rattle.hpx_node.proofs.Steps.{Tells, tells_leads, tells_covered}
-use Rattle.hpx_node.proofs.Alike.{Stays, stays_same, stays_mailed, frees_mailed, seen_so, tells_stays}
+use Rattle.hpx_node.proofs.Alike.{stays_same, stays_mailed, frees_mailed, seen_so, tells_stays}
 use Rattle.hpx_node.proofs.Cover.{tidy_covers}
 
 weigh_none : (f : Token → ℕ) (id : Id) → id.log ≡ None → weigh f (id ∷ []) ≡ 0

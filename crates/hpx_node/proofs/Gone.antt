@@ -1,7 +1,7 @@
 -- A frame has gone out.
-use Rattle.std.proofs.Common.{◌≢◌, ℕ, true, cond, inl, inr, List, [], ◌∷◌, ◌++◌, ◌≡◌, ◌+◌, Some, map, length, append_assoc, refl, sym, ap, ◌∙◌, arith, subst}
+use Rattle.std.proofs.Common.{ℕ, true, cond, inl, inr, List, [], ◌∷◌, ◌++◌, ◌≡◌, ◌+◌, Some, map, append_assoc, refl, sym, ap, ◌∙◌, arith, subst}
 use Rattle.std.specs.Prelude.{flat_map}
-use Rattle.std.specs.List.{sum_by, count_by, list_any, AllByRecursion}
+use Rattle.std.specs.List.{sum_by, list_any, AllByRecursion}
 use Rattle.hpx_parcel.specs.Parcels.{IsParcel}
 use Rattle.std.proofs.lemmas.List.Sums.{sum_by-append}
 use Rattle.hpx_value.specs.Ids.{same_object}

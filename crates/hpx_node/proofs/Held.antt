@@ -1,12 +1,11 @@
 -- Credit that is held at a node: by its tables, and by its tokens.
-use Rattle.std.proofs.Common.{ℕ, List, [], ◌∷◌, ◌++◌, ◌≡◌, ◌+◌, min, map, refl, sym, ap, ◌∙◌, arith}
+use Rattle.std.proofs.Common.{ℕ, List, [], ◌∷◌, ◌++◌, ◌≡◌, ◌+◌, min, map, refl, ap, ◌∙◌, arith}
 use Rattle.std.specs.List.{sum_by}
 use Rattle.std.proofs.lemmas.List.Sums.{sum_by-cons, sum_by-append}
 use Rattle.hpx_journal.specs.Data.{Id, Act, Parcel}
 use Rattle.hpx_part.specs.Data.{Standing}
-use Rattle.hpx_node.specs.Kept.{credit_in, ids_held, held_here}
+use Rattle.hpx_node.specs.Kept.{credit_in, ids_held}
 use Rattle.hpx_node.specs.declared.parts.Outgoing.{Outgoing}
-use Rattle.hpx_node.specs.Tables.{Tables, messages}
 
 sum_outgoing : (f : Parcel → ℕ) (xs : List Outgoing) → sum_by f (map (λ (x : Outgoing). x.parcel) xs) ≡ sum_by (λ (x : Outgoing). f x.parcel) xs
 sum_outgoing f [] = refl

@@ -1,30 +1,29 @@
 -- A message in hand: what is seen of it, and an action that comes to wait.
-use Rattle.std.proofs.Common.{ℕ, Bool, true, false, cond, List, [], ◌∷◌, ◌++◌, ◌≡◌, ◌+◌, ◌≤◌, ◌≢◌, Option, Some, None, map, append-nil, append_assoc, refl, sym, ap, ◌∙◌, arith, inl, inr, subst}
-use Rattle.std.specs.Prelude.{flat_map, IfSome}
-use Rattle.std.specs.List.{sum_by, count_by, find, list_any, AllByRecursion}
+use Rattle.std.proofs.Common.{ℕ, Bool, true, List, [], ◌∷◌, ◌++◌, ◌≡◌, ◌+◌, Some, map, refl, sym, ap, ◌∙◌, arith, inl, inr, subst}
+use Rattle.std.specs.Prelude.{flat_map}
+use Rattle.std.specs.List.{sum_by, count_by, find, list_any}
 use Rattle.std.proofs.lemmas.Bool.{cases_Bool}
-use Rattle.std.proofs.lemmas.List.Sums.{sum_by-cons, sum_by-append}
+use Rattle.std.proofs.lemmas.List.Sums.{sum_by-append}
 use Rattle.hpx_value.specs.Ids.{same_object}
 use Rattle.hpx_value.specs.Values.{bare_act}
-use Rattle.hpx_journal.specs.Data.{Id, Act, Parcel, Apply, Move}
+use Rattle.hpx_journal.specs.Data.{Act, Parcel, Apply, Move}
 use Rattle.hpx_journal.specs.Keyed.{Agree}
 use Rattle.hpx_journal.specs.Entries.{Rules}
 use Rattle.hpx_journal.specs.Frames.{acts_in, asks_in}
 use Rattle.hpx_journal.specs.Local.{is_act, is_recorded, count_in}
-use Rattle.hpx_part.specs.Data.{Event, Token, Local}
+use Rattle.hpx_part.specs.Data.{Token, Local}
 use Rattle.hpx_part.specs.View.{View, IsCovered}
 use Rattle.hpx_part.specs.Shows.{Shows, Leads}
 use Rattle.hpx_part.proofs.Covered.{act_names}
 use Rattle.hpx_part.proofs.Lists.{sum_middle}
 use Rattle.hpx_part.proofs.Keyed.{counts_of, counts_true, count_middle, find_hit, find_miss}
-use Rattle.hpx_node.specs.Fit.{IsFit}
 use Rattle.hpx_node.specs.Tables.{Tables, messages}
-use Rattle.hpx_node.specs.Seen.{bare_standing, counted, parcel_tokens, tokens, waiting, asks, frees, view}
+use Rattle.hpx_node.specs.Seen.{bare_standing, counted, parcel_tokens, tokens, asks, view}
 use Rattle.hpx_node.specs.Stands.{IsTidy}
 use Rattle.hpx_node.specs.Changes.{Posts}
-use Rattle.hpx_node.specs.Handled.{with_first, in_hand, TakesUp, Handles}
+use Rattle.hpx_node.specs.Handled.{with_first, in_hand, Handles}
 use Rattle.hpx_node.proofs.Sums.{weigh, tokens_sum, view_sum}
-use Rattle.hpx_node.proofs.Steps.{Tells, tells_leads}
+use Rattle.hpx_node.proofs.Steps.{tells_leads}
 
 -- what is in one place of the list may be in another
 agree_moved : {K X : Type 0} (test : K → X → Bool) (xs l m l' m' : List X) (x : X) → l ++ m ≡ l' ++ m' → Agree test xs (l ++ x ∷ m)

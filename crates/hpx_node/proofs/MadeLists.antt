@@ -1,8 +1,8 @@
 -- Lists of objects that are made.
-use Rattle.std.proofs.Common.{ℕ, zero, suc, Bool, true, false, cond, List, [], ◌∷◌, ◌++◌, ◌≡◌, ◌≢◌, ◌+◌, ◌<◌, ◌≤◌, ◌==◌, ◌&&◌, Option, Some, None, set, length, map, append_assoc, refl, sym, ap, ◌∙◌, arith, inl, inr, subst}
+use Rattle.std.proofs.Common.{ℕ, zero, suc, Bool, true, false, List, [], ◌∷◌, ◌++◌, ◌≡◌, ◌+◌, ◌<◌, ◌≤◌, Some, set, map, append_assoc, refl, sym, ap, ◌∙◌, arith, inl, inr, subst}
 use Rattle.std.specs.List.{find, slice_get, AllByRecursion}
 use Rattle.std.proofs.lemmas.Bool.{cases_Bool}
-use Rattle.hpx_value.specs.Ids.{bare, bare_id, same_object}
+use Rattle.hpx_value.specs.Ids.{bare, bare_id}
 use Rattle.hpx_value.specs.Values.{bare_state}
 use Rattle.hpx_value.specs.Laws.{birth_state}
 use Rattle.hpx_value.specs.declared.outcome.Make.{Make}

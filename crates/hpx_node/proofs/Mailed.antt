@@ -1,14 +1,12 @@
 -- A message is put among those to others, or on the own desk, and all stays well formed.
-use Rattle.std.proofs.Common.{◌≢◌, ℕ, List, [], ◌∷◌, ◌++◌, ◌≡◌, ◌<◌, map, append_assoc, append-nil, refl, sym, ap, ◌∙◌, subst}
+use Rattle.std.proofs.Common.{◌≢◌, ℕ, [], ◌∷◌, ◌++◌, ◌<◌, map, append_assoc, append-nil, refl, sym, ap, ◌∙◌, subst}
 use Rattle.std.specs.List.{AllByRecursion}
 use Rattle.std.proofs.lemmas.List.{map-append}
-use Rattle.hpx_value.specs.declared.outcome.Due.{Due}
 use Rattle.hpx_parcel.specs.Parcels.{IsParcel}
 use Rattle.hpx_journal.specs.Data.{Parcel}
 use Rattle.hpx_node.specs.declared.parts.Outgoing.{Outgoing}
 use Rattle.hpx_node.specs.Frames.{MayGoTo, IsOnItsWay}
 use Rattle.hpx_node.specs.Tables.{Tables, messages}
-use Rattle.hpx_node.specs.Stands.{IsTidy}
 use Rattle.hpx_node.specs.Changes.{Mails}
 use Rattle.hpx_node.proofs.Alls.{all_append, all_parts}
 use Rattle.std.proofs.Common.{◌≤◌, ◌+◌}

@@ -1,20 +1,20 @@
 -- One more message on its way, as it is seen.
-use Rattle.std.proofs.Common.{ℕ, Bool, true, false, cond, List, [], ◌∷◌, ◌++◌, ◌≡◌, ◌+◌, ◌==◌, Option, Some, None, map, append_assoc, append-nil, refl, sym, ap, ◌∙◌, arith, inl, inr, subst}
+use Rattle.std.proofs.Common.{ℕ, Bool, cond, List, [], ◌∷◌, ◌++◌, ◌≡◌, ◌+◌, ◌==◌, Some, map, append_assoc, refl, sym, ap, ◌∙◌, arith, inl, inr, subst}
 use Rattle.std.specs.Prelude.{flat_map}
 use Rattle.std.specs.List.{sum_by, count_by}
 use Rattle.std.proofs.lemmas.Bool.{cases_Bool}
 use Rattle.std.proofs.lemmas.List.{map-append}
-use Rattle.std.proofs.lemmas.List.Sums.{sum_by-cons, sum_by-append}
+use Rattle.std.proofs.lemmas.List.Sums.{sum_by-append}
 use Rattle.hpx_value.specs.Ids.{same_object}
 use Rattle.hpx_value.specs.Values.{bare_act}
 use Rattle.hpx_parcel.specs.Credits.{credit_list, credits_of}
 use Rattle.hpx_journal.specs.Data.{Id, Act, Parcel, Apply, Move}
 use Rattle.hpx_journal.specs.Tokens.{held}
-use Rattle.hpx_journal.specs.Frames.{acts_in, tokens_in, asks_in}
+use Rattle.hpx_journal.specs.Frames.{acts_in, asks_in}
 use Rattle.hpx_part.specs.Data.{Token}
 use Rattle.hpx_node.specs.Fit.{parcel_for}
 use Rattle.hpx_node.specs.Tables.{Tables, messages}
-use Rattle.hpx_node.specs.Seen.{tokens_of, parcel_tokens, kept_ids, tokens, waiting, asks, frees, frees_in}
+use Rattle.hpx_node.specs.Seen.{tokens_of, parcel_tokens, kept_ids, tokens, waiting, asks, frees_in}
 use Rattle.hpx_node.specs.Changes.{Mails, Posts}
 
 pub flat_append : {X Y : Type 0} (f : X → List Y) (xs ys : List X) → flat_map f (xs ++ ys) ≡ flat_map f xs ++ flat_map f ys

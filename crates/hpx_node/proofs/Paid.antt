@@ -1,34 +1,33 @@
 -- What is due is sent or printed, and what nobody names is given up.
-use Rattle.std.proofs.Common.{ℕ, true, cond, List, [], ◌∷◌, ◌++◌, ◌≡◌, ◌+◌, ◌≤◌, Option, Some, None, map, length, append_assoc, refl, sym, ap, ◌∙◌, arith, subst}
+use Rattle.std.proofs.Common.{ℕ, true, List, [], ◌∷◌, ◌++◌, ◌≡◌, ◌+◌, ◌≤◌, Option, Some, None, map, refl, sym, ap, ◌∙◌, arith, subst}
 use Rattle.std.specs.Prelude.{flat_map, MatchOption}
 use Rattle.std.specs.List.{sum_by, count_by, find, list_any}
 use Rattle.std.proofs.lemmas.List.Sums.{sum_by-cons}
 use Rattle.hpx_value.specs.Ids.{bare, same_object}
 use Rattle.hpx_value.specs.Values.{bare_act, bare_message, named}
 use Rattle.hpx_parcel.specs.Parcels.{HasCredit}
-use Rattle.hpx_journal.specs.Data.{Id, Act, Message, Due, MessageDue, PrintDue, Parcel, Return}
+use Rattle.hpx_journal.specs.Data.{Id, Message, Due, MessageDue, PrintDue, Return}
 use Rattle.hpx_journal.specs.Entries.{Rules}
 use Rattle.hpx_journal.specs.Tokens.{held_token, owed_token, same_token}
-use Rattle.hpx_journal.specs.Frames.{acts_in, asks_in}
 use Rattle.hpx_journal.specs.Local.{is_recorded, count_in}
 use Rattle.hpx_journal.specs.Names.{due_ids}
-use Rattle.hpx_part.specs.Data.{Name, Token, Event, Entry, Sent, Print, Up}
+use Rattle.hpx_part.specs.Data.{Name, Entry, Sent, Print, Up}
 use Rattle.hpx_part.specs.View.{View}
-use Rattle.hpx_part.specs.Shows.{IsWeight, Leads}
+use Rattle.hpx_part.specs.Shows.{Leads}
 use Rattle.hpx_part.specs.Parts.{at_all, Trades}
 use Rattle.hpx_part.proofs.ActRows.{follows_sent, follows_print}
 use Rattle.hpx_part.proofs.CreditRows.{follows_up}
-use Rattle.hpx_part.proofs.Credit.{token_weighs, token_own}
+use Rattle.hpx_part.proofs.Credit.{token_own}
 use Rattle.hpx_part.proofs.Keyed.{counts_of, counts_true}
 use Rattle.hpx_commit.specs.Deals.{log_of}
-use Rattle.hpx_node.specs.Tables.{Tables, messages}
-use Rattle.hpx_node.specs.Seen.{bare_standing, bare_due, counted, parcel_tokens, tokens, waiting, asks, frees, frees_in, tokens_of, view}
+use Rattle.hpx_node.specs.Tables.{Tables}
+use Rattle.hpx_node.specs.Seen.{bare_standing, bare_due, counted, parcel_tokens, waiting, frees, frees_in, tokens_of, view}
 use Rattle.hpx_node.specs.Stands.{IsTidy, StandsWith}
 use Rattle.hpx_node.specs.Changes.{Mails, Posts}
 use Rattle.hpx_node.proofs.Cover.{tidy_covers}
-use Rattle.hpx_node.proofs.Messages.{flat_append, mails_tokens, mails_asks, mails_front, mails_back, mails_before, mails_after}
+use Rattle.hpx_node.proofs.Messages.{flat_append, mails_tokens, mails_asks, mails_before, mails_after}
 use Rattle.hpx_node.proofs.Posted.{seen_posted, tells_posted}
-use Rattle.hpx_node.proofs.Sums.{weigh, weigh_append, view_sum}
+use Rattle.hpx_node.proofs.Sums.{weigh_append, view_sum}
 use Rattle.hpx_node.proofs.Steps.{Tells, tells_leads, tells_covered, stands_then}
 
 -- due without its first

@@ -1,5 +1,5 @@
 -- What the laws of actions say of a commit before its first change.
-use Rattle.std.proofs.Common.{ℕ, suc, List, [], ◌∷◌, ◌++◌, ◌≡◌, ◌+◌, ◌<◌, ◌≤◌, Option, Some, None, length, map, length-append, refl, sym, ap, ◌∙◌, arith, subst}
+use Rattle.std.proofs.Common.{ℕ, suc, List, [], ◌∷◌, ◌++◌, ◌≡◌, ◌+◌, ◌<◌, ◌≤◌, Option, Some, None, length, map, length-append, refl, ap, arith}
 use Rattle.std.specs.List.{AllByRecursion}
 use Rattle.hpx_value.specs.Hands.{hand_ids}
 use Rattle.hpx_value.specs.Laws.{KeepsLaws, IsManaged}
@@ -7,7 +7,7 @@ use Rattle.hpx_value.specs.Shapes.{IsAct, listed}
 use Rattle.hpx_value.specs.Values.{refs_in}
 use Rattle.hpx_value.specs.declared.acts.Job.{Job}
 use Rattle.hpx_value.specs.declared.outcome.Make.{Make}
-use Rattle.hpx_journal.specs.Data.{Id, Act, Outcome, Cont}
+use Rattle.hpx_journal.specs.Data.{Act, Outcome, Cont}
 use Rattle.hpx_commit.specs.Deals.{AreWithin, places_named}
 use Rattle.hpx_commit.proofs.Naming.{places_within}
 use Rattle.hpx_node.specs.Births.{birth_of, ids_of}

@@ -1,28 +1,27 @@
 -- Credit comes home.
-use Rattle.std.proofs.Common.{ℕ, Bool, true, false, cond, List, [], ◌∷◌, ◌++◌, ◌≡◌, ◌+◌, ◌-◌, ◌^◌, ◌≤◌, ◌<◌, ◌==◌, Option, Some, None, map, append-nil, refl, sym, ap, ◌∙◌, arith, inl, inr, subst}
-use Rattle.std.specs.Prelude.{flat_map, if◌then◌else◌, is_some, ◌&&◌, IfSome, IsSomeAnd}
+use Rattle.std.proofs.Common.{ℕ, Bool, true, false, cond, List, [], ◌∷◌, ◌++◌, ◌≡◌, ◌-◌, ◌^◌, ◌≤◌, ◌<◌, ◌==◌, Option, Some, None, map, refl, sym, ap, ◌∙◌, arith, inl, inr, subst}
+use Rattle.std.specs.Prelude.{is_some, ◌&&◌, IfSome, IsSomeAnd}
 use Rattle.std.specs.Option.{option_map_or}
 use Rattle.std.specs.List.{sum_by, count_by, find, list_any}
-use Rattle.std.proofs.lemmas.Bool.{cases_Bool, eq-eqb, eqb-true}
+use Rattle.std.proofs.lemmas.Bool.{cases_Bool, eqb-true}
 use Rattle.std.proofs.lemmas.List.Sums.{sum_by-cons, sum_by-append}
 use Rattle.hpx_value.specs.Ids.{bare, same_object, credit, credit_of_log}
 use Rattle.hpx_agas.specs.Records.{find_record}
 use Rattle.hpx_agas.specs.Registries.{lowered, left_of}
 use Rattle.hpx_agas.specs.declared.records.Left.TheVariants.{Alive, Dead}
 use Rattle.hpx_agas.specs.declared.record.Record.{Record}
-use Rattle.hpx_journal.specs.Data.{Id, Parcel, Return, Free}
+use Rattle.hpx_journal.specs.Data.{Id, Return, Free}
 use Rattle.hpx_journal.specs.Entries.{Rules}
 use Rattle.hpx_journal.specs.Tokens.{owed_token, same_token}
 use Rattle.hpx_journal.specs.Local.{is_recorded, count_in}
 use Rattle.hpx_journal.proofs.Same.{and_true, same_object-true, same_object-sym}
-use Rattle.hpx_part.specs.Data.{Event, Count, Returned, Token, Recorded}
+use Rattle.hpx_part.specs.Data.{Event, Count, Returned, Token}
 use Rattle.hpx_part.specs.View.{View}
 use Rattle.hpx_part.specs.Shows.{Leads}
-use Rattle.hpx_part.specs.Parts.{Trades}
 use Rattle.hpx_part.proofs.CreditRows.{follows_returned}
 use Rattle.hpx_part.proofs.Credit.{token_own}
 use Rattle.hpx_part.proofs.Keyed.{counts_of, counts_true, any_counted, counted_any}
-use Rattle.hpx_node.specs.Tables.{Tables, messages}
+use Rattle.hpx_node.specs.Tables.{Tables}
 use Rattle.hpx_node.specs.Seen.{counted, parcel_tokens, tokens, asks, frees, view}
 use Rattle.hpx_node.specs.Stands.{IsTidy}
 use Rattle.hpx_node.specs.Changes.{Mails}

@@ -1,19 +1,18 @@
 -- What a message is that breaks no rule.
-use Rattle.std.proofs.Common.{ℕ, Bool, true, false, List, [], ◌∷◌, ◌≡◌, ◌≢◌, ◌+◌, ◌≤◌, ◌<◌, Option, Some, None, refl, sym, ap, ◌∙◌, arith, inl, inr, subst}
+use Rattle.std.proofs.Common.{true, [], ◌≡◌, ◌≤◌, Option, Some, None, refl, arith, inl, inr, subst}
 use Rattle.std.specs.Prelude.{◌&&◌, ◌==◌, ◌-◌, ◌^◌, min, not, nat_lt, if◌then◌else◌, length}
-use Rattle.std.specs.List.{sum_by}
 use Rattle.std.proofs.lemmas.Bool.{cases_Bool, eqb-true}
-use Rattle.std.proofs.lemmas.List.Sums.{sum_by-cons, sum_by-append}
+use Rattle.std.proofs.lemmas.List.Sums.{sum_by-cons}
 use Rattle.hpx_value.specs.Ids.{credit}
 use Rattle.hpx_parcel.specs.Parcels.{IsParcel}
-use Rattle.hpx_journal.specs.Data.{Id, Act, State, Parcel, Apply, Return, Ask, Give, Cached, Move, Go, Shipped, Arrived, Free}
+use Rattle.hpx_journal.specs.Data.{Id, Act, Parcel, Apply, Move, Shipped, Free}
 use Rattle.hpx_journal.specs.Entries.{target_of}
 use Rattle.hpx_journal.specs.Frames.{travels_in}
 use Rattle.hpx_journal.proofs.Same.{and_true}
 use Rattle.hpx_node.specs.Fit.{IsFit}
 use Rattle.hpx_node.specs.Tables.{Tables, messages}
 use Rattle.hpx_node.specs.Kept.{stands_here, held_here, count_here, credit_in, ids_held}
-use Rattle.hpx_node.specs.Strange.{Broken, breaks, is_far, is_live, is_lost, is_to_here, broken_return, broken_act, broken_move, broken_go, broken_object, broken_landed, broken_free, broken_near, broken}
+use Rattle.hpx_node.specs.Strange.{Broken, breaks, is_far, is_live, is_to_here, broken_return, broken_go, broken_object, broken_landed, broken_free, broken_near, broken}
 use Rattle.hpx_node.specs.Handled.{with_first}
 
 pub applied_fit : (act : Act) → IsParcel (Apply act) → IsFit act

@@ -1,5 +1,5 @@
 -- Memory is no part of what a node stands for, nor of what it wrote.
-use Rattle.std.proofs.Common.{ℕ, List, [], ◌∷◌, ◌++◌, ◌≡◌, refl, sym, ap, ◌∙◌, subst, append-nil, append_assoc}
+use Rattle.std.proofs.Common.{ℕ, List, [], ◌++◌, ◌≡◌, sym, ap, ◌∙◌, subst, append_assoc}
 use Rattle.std.proofs.lemmas.List.{map-append}
 use Rattle.hpx_journal.specs.Data.{Id, Due, State, Act, Outcome}
 use Rattle.hpx_journal.specs.Entries.{Rules}

@@ -1,10 +1,10 @@
 -- A job is settled: what it makes is made, ids are halved, and it is done.
-use Rattle.std.proofs.Common.{ℕ, suc, Bool, true, false, List, [], ◌∷◌, ◌++◌, ◌≡◌, ◌+◌, ◌≤◌, ◌<◌, Option, Some, None, set, take, drop, length, map, append_assoc, append-nil, length-append, refl, sym, ap, ◌∙◌, arith, subst}
+use Rattle.std.proofs.Common.{ℕ, suc, true, false, List, [], ◌∷◌, ◌++◌, ◌≡◌, ◌+◌, ◌≤◌, Some, None, set, take, drop, length, map, append_assoc, length-append, refl, sym, ap, ◌∙◌, arith, subst}
 use Rattle.std.specs.Prelude.{flat_map}
 use Rattle.std.proofs.Common.{inl, inr}
 use Rattle.std.proofs.lemmas.Bool.{cases_Bool}
 use Rattle.hpx_agas.specs.declared.record.Record.{Record}
-use Rattle.std.specs.List.{sum_by, count_by, list_any, find, remove, slice_get, AllByRecursion}
+use Rattle.std.specs.List.{sum_by, count_by, list_any, find, remove, AllByRecursion}
 use Rattle.std.proofs.lemmas.List.{map-append}
 use Rattle.hpx_value.specs.Ids.{bare, same_object}
 use Rattle.hpx_value.specs.Values.{bare_act, bare_state}
@@ -16,17 +16,17 @@ use Rattle.hpx_journal.specs.Entries.{Rules, name_of, target_of}
 use Rattle.hpx_journal.specs.Local.{is_standing, is_recorded, count_in}
 use Rattle.hpx_journal.specs.Names.{due_ids}
 use Rattle.hpx_journal.specs.Rows.{AreMade}
-use Rattle.hpx_part.specs.Data.{Event, Done, Entry, Standing, Token}
+use Rattle.hpx_part.specs.Data.{Done, Entry, Standing, Token}
 use Rattle.hpx_part.specs.View.{View}
 use Rattle.hpx_part.specs.Shows.{IsWeight, Leads}
 use Rattle.hpx_part.specs.Parts.{at_all}
 use Rattle.hpx_part.proofs.Grown.{chain}
 use Rattle.hpx_part.proofs.ObjectRows.{follows_done}
-use Rattle.hpx_part.proofs.Keyed.{split_get, split_set, slice_get_less}
+use Rattle.hpx_part.proofs.Keyed.{split_get, split_set}
 use Rattle.hpx_commit.specs.Deals.{is_managed, named, shared_from, unnamed_from, Lasts}
 use Rattle.hpx_node.specs.declared.node.settle.Birth.{Birth}
-use Rattle.hpx_node.specs.Tables.{Tables, messages}
-use Rattle.hpx_node.specs.Seen.{bare_standing, bare_due, counted, parcel_tokens, tokens, waiting, view}
+use Rattle.hpx_node.specs.Tables.{Tables}
+use Rattle.hpx_node.specs.Seen.{bare_standing, bare_due, counted, view}
 use Rattle.hpx_node.specs.Jobs.{IsAt}
 use Rattle.hpx_node.specs.Stands.{IsTidy, StandsWith}
 use Rattle.hpx_node.specs.Commits.{splits_from}
@@ -38,7 +38,7 @@ use Rattle.hpx_node.proofs.MadeLists.{object_of, fresh_ids, bare_made, find_fron
 use Rattle.hpx_node.proofs.Splits.{Has, Halves, splits_lead}
 use Rattle.hpx_node.proofs.Alls.{all_append}
 use Rattle.hpx_node.proofs.Stays.{Stays, births_stay, births_long, splits_stay, stays_out, stays_in}
-use Rattle.hpx_node.proofs.Steps.{Tells, tells_leads, tells_covered, Counts, stands_then}
+use Rattle.hpx_node.proofs.Steps.{Tells, tells_leads, tells_covered, stands_then}
 use Rattle.hpx_node.proofs.Sums.{weigh, weigh_append, weigh_flat, weigh_remove, weigh_set, tokens_sum, view_sum}
 
 -- what a plan of a commit promises, over lists

@@ -1,6 +1,6 @@
 -- Memory is made, and nothing else changes.
-use Rattle.std.proofs.Common.{ℕ, true, get_or, List, [], ◌∷◌, ◌++◌, ◌≡◌, ◌+◌, ◌<◌, ◌≤◌, ◌^◌, Option, Some, None, length, refl, sym, ap, ◌∙◌, arith, subst, inl, inr}
-use Rattle.std.specs.Prelude.{if◌then◌else◌, ◌==◌, min, ◌-◌}
+use Rattle.std.proofs.Common.{ℕ, true, get_or, List, [], ◌∷◌, ◌++◌, ◌≡◌, ◌+◌, ◌<◌, ◌^◌, Option, None, refl, sym, ap, ◌∙◌, arith, subst, inl, inr}
+use Rattle.std.specs.Prelude.{min, ◌-◌}
 use Rattle.std.proofs.lemmas.Bool.{cases_Bool}
 use Rattle.hpx_journal.specs.Data.{State, Act, Outcome, Parcel, Apply, Return, Ask, Give, Cached, Move, Go, Shipped, Arrived, Free}
 use Rattle.hpx_journal.specs.Books.{Book}
@@ -9,10 +9,10 @@ use Rattle.hpx_part.specs.Data.{Entry, Mail}
 use Rattle.hpx_part.specs.Parts.{at_all}
 use Rattle.hpx_node.specs.Tables.{Tables}
 use Rattle.hpx_node.specs.Changes.{OnlySpare, Writes}
-use Rattle.hpx_node.specs.Stands.{IsTidy, StandsWith, rules_of}
+use Rattle.hpx_node.specs.Stands.{StandsWith, rules_of}
 use Rattle.hpx_node.specs.Strange.{Broken, breaks, broken, broken_near, object_of}
 use Rattle.hpx_node.specs.Kept.{held_here}
-use Rattle.hpx_node.specs.Handled.{is_own, broken_here, with_first, effects, kind_of, Clears}
+use Rattle.hpx_node.specs.Handled.{is_own, broken_here, effects, kind_of, Clears}
 use Rattle.hpx_node.proofs.Right.{not_broken, near_right, near_popped}
 use Rattle.hpx_node.proofs.Taken.{taken_few}
 

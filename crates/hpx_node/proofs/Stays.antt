@@ -1,5 +1,5 @@
 -- Events that move no frame.
-use Rattle.std.proofs.Common.{ℕ, zero, suc, List, [], ◌∷◌, ◌++◌, ◌≡◌, ◌+◌, length, length-append, refl, ap, arith}
+use Rattle.std.proofs.Common.{ℕ, zero, suc, List, [], ◌∷◌, ◌≡◌, ◌+◌, length, length-append, refl, ap, arith}
 use Rattle.std.specs.List.{AllByRecursion}
 use Rattle.hpx_journal.specs.Data.{Id}
 use Rattle.hpx_journal.specs.Whole.{arrives_at}

@@ -1,7 +1,6 @@
 -- A step of the tables is a step of what is seen, and so of the locality.
-use Rattle.std.proofs.Common.{ℕ, true, cond, List, [], ◌∷◌, ◌++◌, ◌≡◌, ◌+◌, ◌≤◌, Option, Some, None, suc, refl, sym, ap, ◌∙◌, arith, subst, length, length-append}
-use Rattle.std.specs.Prelude.{IfSome}
-use Rattle.std.specs.List.{sum_by, count_by, find, list_any, AllByRecursion}
+use Rattle.std.proofs.Common.{ℕ, true, cond, List, [], ◌∷◌, ◌++◌, ◌≡◌, ◌+◌, ◌≤◌, None, suc, refl, sym, ap, ◌∙◌, arith, subst, length, length-append}
+use Rattle.std.specs.List.{sum_by, count_by, find, list_any}
 use Rattle.hpx_value.specs.Ids.{same_object}
 use Rattle.hpx_value.specs.declared.profile.Profile.{Profile}
 use Rattle.hpx_journal.specs.Data.{Id, Due, State, Act, Outcome}

@@ -1,13 +1,12 @@
 -- What tokens weigh: of ids, of lists of what has ids, and of all that a node keeps.
-use Rattle.std.proofs.Common.{ℕ, suc, List, [], ◌∷◌, ◌++◌, ◌≡◌, ◌+◌, Option, Some, None, take, drop, set, refl, sym, ap, ◌∙◌, arith}
+use Rattle.std.proofs.Common.{ℕ, suc, List, [], ◌∷◌, ◌++◌, ◌≡◌, ◌+◌, Some, take, drop, set, ap, ◌∙◌, arith}
 use Rattle.std.specs.Prelude.{flat_map}
 use Rattle.std.specs.List.{sum_by, remove, slice_get}
-use Rattle.std.proofs.lemmas.List.Sums.{sum_by-cons, sum_by-append}
+use Rattle.std.proofs.lemmas.List.Sums.{sum_by-append}
 use Rattle.hpx_value.specs.declared.outcome.Due.{Due}
 use Rattle.hpx_journal.specs.Data.{Id, Act}
 use Rattle.hpx_journal.specs.Names.{due_ids}
 use Rattle.hpx_part.specs.Data.{Standing, Token}
-use Rattle.hpx_part.specs.View.{View}
 use Rattle.hpx_part.proofs.Keyed.{split_get, split_set}
 use Rattle.hpx_node.specs.Tables.{Tables, messages}
 use Rattle.hpx_node.specs.Seen.{tokens_of, parcel_tokens, kept_ids, tokens, view}

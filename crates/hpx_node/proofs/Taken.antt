@@ -1,33 +1,32 @@
 -- A message is taken up: from a frame, or from the desk.
-use Rattle.std.proofs.Common.{ℕ, Bool, true, false, cond, List, [], ◌∷◌, ◌++◌, ◌≡◌, ◌+◌, ◌≤◌, Option, Some, None, map, length, length-append, append_assoc, refl, sym, ap, ◌∙◌, arith, inl, inr, subst}
+use Rattle.std.proofs.Common.{ℕ, Bool, true, false, List, [], ◌∷◌, ◌++◌, ◌≡◌, ◌+◌, ◌≤◌, Option, Some, None, map, length, length-append, append_assoc, refl, sym, ap, ◌∙◌, arith, inl, inr, subst}
 use Rattle.std.specs.Prelude.{flat_map, ◌==◌, nat_lt, if◌then◌else◌}
-use Rattle.std.specs.List.{sum_by, count_by, find, list_any, filter}
+use Rattle.std.specs.List.{find}
 use Rattle.std.proofs.lemmas.Bool.{cases_Bool, eqb-true}
-use Rattle.std.proofs.lemmas.List.Sums.{sum_by-cons, sum_by-append}
+use Rattle.std.proofs.lemmas.List.Sums.{sum_by-append}
 use Rattle.hpx_value.specs.Ids.{bare, same_object}
 use Rattle.hpx_value.specs.Values.{bare_act}
 use Rattle.hpx_parcel.specs.Parcels.{IsParcel}
 use Rattle.hpx_journal.specs.Data.{Id, Act, State, Outcome, Parcel, Apply, Return, Ask, Give, Cached, Move, Go, Shipped, Arrived, Free}
 use Rattle.hpx_journal.specs.Entries.{Rules}
 use Rattle.hpx_journal.specs.Frames.{acts_in, travels_in, asks_in}
-use Rattle.hpx_journal.specs.Laws.{outs, ins, outs_by}
+use Rattle.hpx_journal.specs.Laws.{outs, ins}
 use Rattle.hpx_journal.specs.Local.{is_standing}
 use Rattle.hpx_journal.specs.Whole.{part, arrives, arrives_at}
 use Rattle.hpx_journal.proofs.Same.{same_object-refl}
-use Rattle.hpx_part.specs.Data.{Entry, Event, Standing, Token, In, Mail, Count, Granted, Refused}
-use Rattle.hpx_part.specs.View.{View}
+use Rattle.hpx_part.specs.Data.{Entry, Event, Standing, In, Mail, Count, Granted, Refused}
 use Rattle.hpx_part.specs.Shows.{Leads}
 use Rattle.hpx_part.specs.Parts.{at_all}
 use Rattle.hpx_part.proofs.FrameRows.{follows_in}
 use Rattle.hpx_part.proofs.ActRows.{follows_mail}
 use Rattle.hpx_part.proofs.Keyed.{counts_of}
 use Rattle.hpx_node.specs.Tables.{Tables, messages}
-use Rattle.hpx_node.specs.Seen.{parcel_tokens, tokens, asks, frees, frees_in, view}
+use Rattle.hpx_node.specs.Seen.{asks, frees, frees_in, view}
 use Rattle.hpx_node.specs.Stands.{IsTidy, StandsWith, rules_of}
-use Rattle.hpx_node.specs.Handled.{LetsGo, TakesUp, Handles, with_first, in_hand, effects, up_of, ups, returned, answered, more_here, freed, kind_of, is_own}
+use Rattle.hpx_node.specs.Handled.{LetsGo, Handles, with_first, in_hand, effects, up_of, ups, returned, more_here, freed, kind_of, is_own}
 use Rattle.hpx_node.specs.Kept.{count_here}
 use Rattle.hpx_node.proofs.Sums.{view_sum}
-use Rattle.hpx_node.proofs.Steps.{Counts, stands_then, stands_by}
+use Rattle.hpx_node.proofs.Steps.{stands_then, stands_by}
 use Rattle.hpx_node.proofs.Right.{no_travel}
 use Rattle.hpx_node.specs.Strange.{broken_near}
 use Rattle.hpx_parcel.specs.Reading.{parcel_of}

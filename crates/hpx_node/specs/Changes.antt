@@ -1,5 +1,5 @@
 -- What a call of a node changes.
-use Rattle.std.specs.Prelude.{ℕ, List, [], ◌∷◌, ◌++◌, ◌≡◌, ◌≤◌, ◌+◌}
+use Rattle.std.specs.Prelude.{ℕ, List, ◌∷◌, ◌++◌, ◌≡◌, ◌≤◌, ◌+◌}
 use Rattle.std.specs.List.{sum_by}
 use Rattle.hpx_value.specs.Values.{bare_act}
 use Rattle.hpx_journal.specs.Data.{Act, Parcel}

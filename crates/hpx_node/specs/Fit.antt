@@ -1,11 +1,11 @@
 -- What a node keeps is well formed.
-use Rattle.std.specs.Prelude.{ℕ, ◌≡◌, ◌≢◌, ◌≤◌, cond, ◌==◌}
+use Rattle.std.specs.Prelude.{◌≡◌, ◌≤◌, cond, ◌==◌}
 use Rattle.std.specs.List.{AllByRecursion}
 use Rattle.hpx_value.specs.Shapes.{IsState}
 use Rattle.hpx_value.specs.Values.{named}
 use Rattle.hpx_value.specs.declared.outcome.Due.{Due}
 use Rattle.hpx_value.specs.declared.outcome.Due.TheVariants.{Message as MessageDue, Print as PrintDue}
-use Rattle.hpx_parcel.specs.Parcels.{IsParcel, IsSent, HasRightCredit, IsMovable, IsPlace}
+use Rattle.hpx_parcel.specs.Parcels.{IsSent, HasRightCredit, IsMovable, IsPlace}
 use Rattle.hpx_journal.specs.Data.{Act, Parcel, Apply, Move}
 use Rattle.hpx_part.specs.Data.{Standing}
 

@@ -1,5 +1,5 @@
 -- What a node does with a message that it takes up.
-use Rattle.std.specs.Prelude.{ℕ, Bool, true, List, [], ◌∷◌, ◌++◌, ◌≡◌, ◌≤◌, ◌<◌, ◌-◌, ◌+◌, ◌^◌, ◌⊎◌, ◌==◌, min, nat_lt, if◌then◌else◌, flat_map, length, Option, Some, None}
+use Rattle.std.specs.Prelude.{ℕ, Bool, true, List, [], ◌∷◌, ◌++◌, ◌≡◌, ◌≤◌, ◌-◌, ◌+◌, ◌^◌, ◌==◌, min, nat_lt, if◌then◌else◌, flat_map, length, Option, Some, None}
 use Rattle.std.specs.List.{list_any, find}
 use Rattle.hpx_value.specs.Ids.{bare, same_object}
 use Rattle.hpx_journal.specs.Data.{Id, Parcel, Apply, Return, Ask, Give, Cached, Move, Go, Shipped, Arrived, Free}

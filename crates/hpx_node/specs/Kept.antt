@@ -5,9 +5,8 @@ use Rattle.std.specs.List.{find, sum_by}
 use Rattle.hpx_value.specs.Ids.{credit, same_object}
 use Rattle.hpx_agas.specs.Records.{find_record}
 use Rattle.hpx_agas.specs.declared.record.Record.{Record}
-use Rattle.hpx_journal.specs.Data.{Id, Act, Parcel, Apply, Return, Ask, Give, Cached, Move, Go, Shipped, Arrived, Free}
+use Rattle.hpx_journal.specs.Data.{Id, Parcel, Apply, Return, Ask, Give, Move, Go, Shipped, Arrived}
 use Rattle.hpx_journal.specs.Local.{is_standing}
-use Rattle.hpx_part.specs.Data.{Standing}
 use Rattle.hpx_node.specs.Tables.{Tables, messages}
 
 -- whether an object stands here

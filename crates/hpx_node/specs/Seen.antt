@@ -1,5 +1,5 @@
 -- What is seen of a node's tables: a view, with bare ids and with credits apart.
-use Rattle.std.specs.Prelude.{ℕ, List, [], ◌∷◌, ◌++◌, map, flat_map, Option, Some, None}
+use Rattle.std.specs.Prelude.{List, [], ◌∷◌, ◌++◌, map, flat_map, Some, None}
 use Rattle.hpx_value.specs.Ids.{bare}
 use Rattle.hpx_value.specs.Values.{bare_act, bare_state, bare_message}
 use Rattle.hpx_value.specs.declared.outcome.Due.{Due}

@@ -1,5 +1,5 @@
 -- Which rule a message breaks first. They are tried in the order 9, 1, 2, 3, 4, 5, 6, 7, 8.
-use Rattle.std.specs.Prelude.{ℕ, Bool, true, false, not, List, [], ◌∷◌, ◌||◌, ◌&&◌, ◌==◌, ◌-◌, ◌^◌, min, nat_lt, nat_le, if◌then◌else◌, is_some, length, Option, Some, None}
+use Rattle.std.specs.Prelude.{ℕ, Bool, false, not, List, ◌||◌, ◌&&◌, ◌==◌, ◌-◌, ◌^◌, min, nat_lt, nat_le, if◌then◌else◌, is_some, length, Option, Some, None}
 use Rattle.std.specs.Option.{option_map_or}
 use Rattle.std.specs.List.{list_any}
 use Rattle.hpx_value.specs.Ids.{bare, credit}

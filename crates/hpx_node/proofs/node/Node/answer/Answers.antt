@@ -1,4 +1,4 @@
-use Rattle.std.proofs.Common.{refl, sym, ap, ◌∙◌}
+use Rattle.std.proofs.Common.{refl, ap}
 use Rattle.hpx_agas.specs.Registries.{Registry}
 use Rattle.hpx_value.specs.Ids.{Id}
 use Rattle.hpx_part.specs.Data.{Reason}

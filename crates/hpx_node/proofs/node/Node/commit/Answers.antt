@@ -1,8 +1,6 @@
-use Rattle.std.proofs.Common.{◌≡◌, ◌≤◌, ◌<◌, ◌+◌, ◌++◌, ◌∙◌, subst, sym, ap, arith, length}
-use Rattle.std.specs.List.{AllByRecursion}
+use Rattle.std.proofs.Common.{◌≡◌, ◌≤◌, ◌++◌, ◌∙◌, subst, sym, ap, arith, length}
 use Rattle.hpx_value.specs.Laws.{KeepsLaws}
-use Rattle.hpx_parcel.specs.Parcels.{HasCredit}
-use Rattle.hpx_node.specs.Commits.{splits_from, written, ups}
+use Rattle.hpx_node.specs.Commits.{splits_from}
 use Rattle.hpx_part.specs.Parts.{at_all}
 use Rattle.hpx_part.specs.Data.{Standing}
 use Rattle.hpx_node.specs.Fit.{IsKept}

@@ -1,4 +1,4 @@
-use Rattle.std.proofs.Common.{◌∷◌, ◌≡◌, ◌<◌, ◌∙◌, length, deque_len, get_or, Some, None, arith, sym, ap}
+use Rattle.std.proofs.Common.{◌∷◌, ◌≡◌, ◌<◌, ◌∙◌, length, deque_len, get_or, arith, sym, ap}
 use Rattle.hpx_journal.specs.Data.{Parcel}
 use Rattle.hpx_node.specs.Tables.{Tables}
 use Rattle.hpx_node.proofs.Spared.{spare_stands, mail_by, first_stands, cleared}

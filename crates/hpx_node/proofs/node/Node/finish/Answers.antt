@@ -1,4 +1,4 @@
-use Rattle.std.proofs.Common.{◌≡◌, refl, ap, ◌∙◌}
+use Rattle.std.proofs.Common.{ap, ◌∙◌}
 use Rattle.hpx_journal.specs.Books.{Book}
 use Rattle.hpx_node.proofs.Same.{stands_same}
 use Rattle.hpx_node.proofs.SameCommit.{prepared_same, ends_from}

@@ -1,4 +1,4 @@
-use Rattle.std.proofs.Common.{◌<◌, ◌≡◌, ◌∙◌, Some, length, refl, sym, ap}
+use Rattle.std.proofs.Common.{◌<◌, ◌≡◌, ◌∙◌, Some, length, sym, ap}
 use Rattle.std.specs.List.{find, slice_get}
 use Rattle.hpx_journal.specs.Local.{is_standing}
 use Rattle.hpx_part.proofs.Keyed.{slice_get_is}

@@ -1,4 +1,4 @@
-use Rattle.std.proofs.Common.{◌≡◌, ◌∷◌, Some, sym, ap, refl}
+use Rattle.std.proofs.Common.{◌≡◌, ◌∷◌, sym, ap}
 use Rattle.hpx_node.specs.Tables.{Tables}
 use Rattle.hpx_node.proofs.Steps.{stands_by}
 use Rattle.hpx_node.proofs.Paid.{stands_up, credit_log_is}

@@ -1,4 +1,4 @@
-use Rattle.std.proofs.Common.{arith, ◌∙◌, ◌≡◌, Some, sym, ap, drop, refl}
+use Rattle.std.proofs.Common.{arith, ◌∙◌, ◌≡◌, Some, ap, drop, refl}
 use Rattle.hpx_parcel.specs.Reading.{parcel_of}
 use Rattle.hpx_node.proofs.Few.{sent_few}
 use Rattle.hpx_node.proofs.Gone.{stands_gone}

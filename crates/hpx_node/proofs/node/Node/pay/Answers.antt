@@ -1,7 +1,6 @@
-use Rattle.std.proofs.Common.{◌≡◌, ◌∷◌, sym, ap, refl, subst}
+use Rattle.std.proofs.Common.{◌≡◌, ◌∷◌, sym, ap}
 use Rattle.hpx_journal.specs.Data.{MessageDue, PrintDue}
 use Rattle.hpx_node.specs.Tables.{Tables}
-use Rattle.hpx_node.specs.Stands.{StandsWith, rules_of}
 use Rattle.hpx_node.proofs.Steps.{stands_by}
 use Rattle.hpx_node.proofs.Paid.{stands_sent, stands_print}
 use Rattle.hpx_node.proofs.node.Node.pay.Goals as goal

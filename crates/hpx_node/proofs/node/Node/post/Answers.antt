@@ -1,4 +1,4 @@
-use Rattle.std.proofs.Common.{arith, ◌∙◌, sym, refl, ap}
+use Rattle.std.proofs.Common.{arith}
 use Rattle.hpx_node.proofs.Messages.{mailed_posts}
 use Rattle.hpx_node.proofs.Posted.{accepted_posts}
 use Rattle.hpx_node.proofs.node.Node.post.Goals as goal

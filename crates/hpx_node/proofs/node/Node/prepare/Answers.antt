@@ -1,6 +1,4 @@
-use Rattle.std.proofs.Common.{false, ◌≡◌, ◌∙◌, ◌<◌, ◌≤◌, arith, sym, ap, refl, length}
-use Rattle.hpx_value.specs.Hands.{hand_ids}
-use Rattle.hpx_commit.specs.Deals.{AreWithin, AllLast}
+use Rattle.std.proofs.Common.{false, ◌≡◌, arith}
 use Rattle.hpx_node.proofs.Prepared.{makes_managed, hand_few, hand_within}
 use Rattle.hpx_node.proofs.node.Node.prepare.Goals as goal
 

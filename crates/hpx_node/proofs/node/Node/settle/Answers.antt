@@ -1,4 +1,4 @@
-use Rattle.std.proofs.Common.{◌≡◌, ◌++◌, ◌∷◌, ◌∙◌, [], false, Some, set, sym, ap, refl}
+use Rattle.std.proofs.Common.{◌≡◌, ◌++◌, ◌∷◌, ◌∙◌, [], false, Some, set, sym, ap}
 use Rattle.std.specs.List.{slice_get}
 use Rattle.hpx_journal.specs.Entries.{name_of}
 use Rattle.hpx_part.specs.Data.{Done}

@@ -1,8 +1,6 @@
 use Rattle.std.proofs.Common.{◌≡◌, ◌-◌, ◌^◌, min, take}
 use Rattle.std.specs.List.{sum_by}
-use Rattle.hpx_journal.specs.Data.{Act, Parcel}
-use Rattle.hpx_part.specs.Data.{Standing}
-use Rattle.hpx_node.specs.declared.parts.Outgoing.{Outgoing}
+use Rattle.hpx_journal.specs.Data.{Parcel}
 use Rattle.hpx_node.specs.Kept.{credit_in, ids_held}
 use Rattle.hpx_node.proofs.node.getters.held_on_desk.Given as goal
 

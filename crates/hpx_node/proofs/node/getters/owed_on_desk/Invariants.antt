@@ -1,6 +1,5 @@
 use Rattle.std.proofs.Common.{◌≡◌, ◌-◌, ◌^◌, min, take}
 use Rattle.std.specs.List.{sum_by}
-use Rattle.hpx_node.specs.declared.parts.Outgoing.{Outgoing}
 use Rattle.hpx_node.specs.Kept.{credit_owed}
 use Rattle.hpx_node.proofs.node.getters.owed_on_desk.Given as goal
 
