@@ -1,11 +1,11 @@
 -- A content that values show fits its kind.
-use Rattle.std.specs.Prelude.{ℕ, ℤ, pos, negsuc, Bool, true, false, nat_le, nat_lt, List, [], ◌∷◌, ◌+◌, ◌*◌, ◌≤◌, ◌≡◌, ◌==◌, ◌&&◌, ◌||◌, ◌⊎◌, Option, Some, None, length, refl, if◌then◌else◌}
+use Rattle.std.specs.Prelude.{ℕ, ℤ, pos, negsuc, Bool, true, false, nat_le, nat_lt, List, [], ◌∷◌, ◌≤◌, ◌≡◌, ◌==◌, ◌&&◌, ◌||◌, ◌⊎◌, Option, Some, None, length, refl, if◌then◌else◌}
 use Rattle.std.proofs.Common.{ap, subst, inl, inr}
 use Rattle.std.specs.List.{AllByRecursion, list_all}
 use Rattle.std.proofs.lemmas.Bool.{and_parts, leb-true, ltb-true, eqb-true}
 use Rattle.hpx_calls.specs.Values.{Value, Nothing, Flag, Int, Text, Ref, Fault, Ints, Look, plain, is_small}
 use Rattle.hpx_calls.specs.Requests.{is_key}
-use Rattle.hpx_calls.specs.Contents.{Pair, Given, Content, Table, Size, Row, Promise, Dataflow, Started, Channel, Latch, Barrier, layout, is_table, given_size, are_inputs, is_given, is_channel, is_latch, is_dataflow, provided, both, pair_of, pairs_in, given_in, count_in, table_in, size_in, number_in, row_in, latch_at, latch_in, barrier_at, barrier_in, channel_in, inputs_in, started_in, flow_in, dataflow_at, dataflow_in, of_one, of_first, of_two, promise_in, maker_in, resting_in, control_in, or_unreadable, content_of}
+use Rattle.hpx_calls.specs.Contents.{Pair, Given, Content, Table, Size, Row, Promise, Dataflow, Started, Channel, Latch, Barrier, layout, is_table, are_fitted, are_inputs, is_given, is_channel, is_latch, is_dataflow, provided, both, pair_of, pairs_in, given_in, count_in, table_in, size_in, number_in, row_in, latch_at, latch_in, barrier_at, barrier_in, channel_in, inputs_in, started_in, flow_in, dataflow_at, dataflow_in, of_one, of_first, of_two, promise_in, maker_in, resting_in, control_in, or_unreadable, content_of}
 use Rattle.hpx_calls.proofs.Shown.{count_is}
 use Rattle.hpx_calls.proofs.Fits.{IsReference, Fits}
 
@@ -129,7 +129,7 @@ module _ (R : Type 0) (n kind w : ℕ) where
   inputs_fits k code inputs (Some xs) e low most =
       may_provide (is_given (plain R) w inputs xs) (Dataflow code inputs xs) (λ f.
       let one = and_parts (are_inputs inputs xs) _ f in
-      let two = and_parts (nat_le (given_size (plain R) xs) (64000 + 2 * length xs)) _ one.1 in
+      let two = and_parts (are_fitted (plain R) (Some 64000) xs) _ one.1 in
       let three = and_parts (nat_le (length xs) inputs) _ two.1 in
       let four = and_parts (nat_le w 1) _ three.1 in
       record {
@@ -138,7 +138,7 @@ module _ (R : Type 0) (n kind w : ℕ) where
         codes = low;
         most = most;
         once = one.0;
-        short = leb-true (given_size (plain R) xs) (64000 + 2 * length xs) two.0;
+        short = two.0;
         few = leb-true (length xs) inputs three.0;
         waiting = leb-true w 1 four.0;
         lacks = zero_or w (nat_lt (length xs) inputs) four.1 (ltb-true (length xs) inputs);

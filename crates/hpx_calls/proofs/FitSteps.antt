@@ -1,17 +1,18 @@
 -- Calls leave contents that fit their kind.
-use Rattle.std.specs.Prelude.{ℕ, zero, suc, ℤ, pos, negsuc, Bool, true, false, nat_le, nat_lt, List, [], ◌∷◌, ◌++◌, ◌+◌, ◌-◌, ◌*◌, ◌+ℤ◌, ◌<◌, ◌≤◌, ◌≡◌, ◌≢◌, ◌==◌, ◌&&◌, ◌⊎◌, Option, Some, None, is_some, codes, length, refl, if◌then◌else◌}
+use Rattle.std.specs.Prelude.{ℕ, zero, suc, ℤ, pos, negsuc, Bool, true, false, nat_le, nat_lt, List, [], ◌∷◌, ◌++◌, ◌+◌, ◌-◌, ◌+ℤ◌, ◌<◌, ◌≤◌, ◌≡◌, ◌≢◌, ◌==◌, ◌&&◌, ◌⊎◌, Option, Some, None, is_some, codes, length, refl, if◌then◌else◌}
 use Rattle.std.proofs.Common.{ap, arith, lit≤, inl, inr, length-append, length-drop}
 use Rattle.std.specs.List.{AllByRecursion, list_all}
 use Rattle.std.specs.Str.{bytes_eq}
-use Rattle.std.proofs.lemmas.Bool.{cond_both, and_parts, and_from, leb-true, leb-false, ltb-true, eqb-false}
+use Rattle.std.proofs.lemmas.Bool.{cond_both, and_parts, and_from, leb-false, ltb-true, eqb-false}
 use Rattle.hpx_calls.specs.Values.{Value, Int, Ints, Look, plain, size, is_small, is_number_or_text}
 use Rattle.hpx_calls.specs.Requests.{Request, Move, Where, Set, New, Register, Resolve, Unregister, Keys, Count, Add, Query, Reset, Step, Get, Put, PutAt, Close, Down, Wait, Arrive, Other, is_key}
-use Rattle.hpx_calls.specs.Contents.{Pair, Given, Content, Table, Maker, Size, Number, Row, Promise, Dataflow, Started, Channel, Latch, Barrier, Unreadable, precedes, given_size, input_of, are_inputs, count_in}
+use Rattle.hpx_calls.specs.Contents.{Pair, Given, Content, Table, Maker, Size, Number, Row, Promise, Dataflow, Started, Channel, Latch, Barrier, Unreadable, precedes, given_size, input_of, are_fitted, are_inputs, count_in}
 use Rattle.hpx_calls.specs.Effects.{Effect, Silent, Answers, Waits, Frees, Starts, Hands, Moves, Makes, Called}
 use Rattle.hpx_calls.specs.Tables.{found, added, removed, registers, resolves, unregisters, on_table, makes, makes_bare, makes_at, makes_counted, makes_row, with_one, on_maker, on_size, fits, on_number, stepped, on_row, is_first, sets, gets, on_promise, fitted, gives, puts_free, puts, starts, on_dataflow, puts_late, on_started, sends, receives, closes, on_channel, downs, on_latch, on_barrier, on_content, is_movable, on_object, awaits, called}
 use Rattle.hpx_calls.specs.Histories.{still}
 use Rattle.hpx_calls.proofs.Orders.{rises_added, rises_removed}
 use Rattle.hpx_calls.proofs.Slots.{room_left, still_once}
+use Rattle.hpx_calls.proofs.Fitted.{fitted_more, fitted_fits}
 use Rattle.hpx_calls.proofs.Fits.{IsReference, FitsTable, FitsFlow, FitsStarted, FitsChannel, FitsLatch, Fits}
 
 -- how many wait after a call
@@ -206,18 +207,8 @@ module _ (R : Type 0) (n kind w : ℕ) (b : Bool) where
 
   -- ---- dataflows
 
-  size_more : (xs : List (Given (Value R))) (x : Given (Value R)) → given_size (plain R) (xs ++ x ∷ []) ≡ given_size (plain R) xs + size ((plain R).look x.value)
-  size_more [] x = omega arith
-  size_more (y ∷ xs) x = let rest = size_more xs x in omega arith
-
-  fit_size : (xs : List (Given (Value R))) (v : Value R) → given_size (plain R) xs ≤ 64000 + 2 * length xs
-      → given_size (plain R) xs + size ((plain R).look (fitted (plain R) xs v)) ≤ 64000 + 2 * (length xs + 1)
-  fit_size xs v short =
-      cond_both (nat_le (given_size (plain R) xs + size ((plain R).look v)) 64000) _ _ (λ u. given_size (plain R) xs + size ((plain R).look u) ≤ 64000 + 2 * (length xs + 1))
-      (λ e. let fits = leb-true (given_size (plain R) xs + size ((plain R).look v)) 64000 e in omega arith) (λ e. omega arith)
-
   gives_leaves : (code inputs : ℕ) (ys : List (Given (Value R))) → kind ≡ 33 → (is_starting : FitsStarted kind 0 code inputs) → are_inputs inputs ys ≡ true
-      → given_size (plain R) ys ≤ 64000 + 2 * length ys → length ys ≤ inputs → w ≤ 1 → Leaves (gives (plain R) w code inputs ys)
+      → are_fitted (plain R) (Some 64000) ys ≡ true → length ys ≤ inputs → w ≤ 1 → Leaves (gives (plain R) w code inputs ys)
   gives_leaves code inputs ys e f once short few waiting =
       leaves_if ((length ys == inputs) && nat_le 1 w) _ _
       (λ g. record { kinds = e; starts = f.starts; codes = f.codes; most = f.most; waiting = omega arith })
@@ -247,9 +238,8 @@ module _ (R : Type 0) (n kind w : ℕ) (b : Bool) where
       let x : Given (Value R) = record { slot = slot; value = fitted (plain R) xs v } in
       let room = room_left inputs slot xs h.once low e in
       let long = more_length (Given (Value R)) xs x in
-      let size = size_more xs x in
-      let fits = fit_size xs v h.short in
-      gives_leaves code inputs (xs ++ x ∷ []) h.kinds (started_of code inputs xs h) (still_once inputs xs x h.once low e) (omega arith) (omega arith) h.waiting
+      let short = fitted_more (plain R) 64000 xs x (64000 - given_size (plain R) xs - size ((plain R).look x.value)) h.short (fitted_fits (plain R) xs v refl) in
+      gives_leaves code inputs (xs ++ x ∷ []) h.kinds (started_of code inputs xs h) (still_once inputs xs x h.once low e) short (omega arith) h.waiting
 
   puts_leaves : (code inputs : ℕ) (xs : List (Given (Value R))) (z : ℤ) (v : Value R) → FitsFlow kind w code inputs xs → Leaves (puts (plain R) w code inputs xs z v)
   puts_leaves code inputs xs (negsuc m) v h = h

@@ -1,11 +1,11 @@
 -- Contents that fit their kind: laid out as values they are read again, and calls leave them so.
-use Rattle.std.specs.Prelude.{ℕ, ℤ, pos, Bool, true, false, nat_le, nat_lt, List, [], ◌∷◌, ◌+◌, ◌*◌, ◌<◌, ◌≤◌, ◌≡◌, ◌==◌, ◌||◌, ◌⊎◌, Some, None, length, refl, if◌then◌else◌}
+use Rattle.std.specs.Prelude.{ℕ, ℤ, pos, Bool, true, false, nat_le, nat_lt, List, [], ◌∷◌, ◌<◌, ◌≤◌, ◌≡◌, ◌==◌, ◌||◌, ◌⊎◌, Some, None, length, refl, if◌then◌else◌}
 use Rattle.std.proofs.Common.{ap, sym, ◌∙◌, subst, arith, inl, inr}
 use Rattle.std.specs.List.{AllByRecursion, list_all}
 use Rattle.std.proofs.lemmas.Bool.{and_parts, and_from, le-leb, ltb-true, lt-ltb, eq-eqb}
 use Rattle.hpx_calls.specs.Values.{Value, Nothing, Flag, Int, Text, Ref, Fault, Ints, plain, is_small}
 use Rattle.hpx_calls.specs.Requests.{is_key}
-use Rattle.hpx_calls.specs.Contents.{Pair, Given, Content, Table, Maker, Size, Number, Row, Promise, Dataflow, Started, Channel, Latch, Barrier, Unreadable, layout, pairs_out, given_out, rises, is_table, given_size, are_inputs, is_given, is_dataflow, provided, both, pairs_in, given_in, given_at, count_in, table_in, flow_in, inputs_in, dataflow_at, latch_at, barrier_at, content_of, or_unreadable}
+use Rattle.hpx_calls.specs.Contents.{Pair, Given, Content, Table, Maker, Size, Number, Row, Promise, Dataflow, Started, Channel, Latch, Barrier, Unreadable, layout, pairs_out, given_out, rises, is_table, are_fitted, are_inputs, is_given, is_dataflow, provided, both, pairs_in, given_in, given_at, count_in, table_in, flow_in, inputs_in, dataflow_at, latch_at, barrier_at, content_of, or_unreadable}
 
 -- a reference
 abbrev pub IsReference : {R : Type 0} → Value R → Type 0
@@ -26,7 +26,7 @@ pub record FitsFlow {R : Type 0} (kind w code inputs : ℕ) (xs : List (Given (V
   pub codes : code ≤ 65535
   pub most : inputs ≤ 16
   pub once : are_inputs inputs xs ≡ true
-  pub short : given_size (plain R) xs ≤ 64000 + 2 * length xs
+  pub short : are_fitted (plain R) (Some 64000) xs ≡ true
   pub few : length xs ≤ inputs
   pub waiting : w ≤ 1
   pub lacks : (w ≡ 0) ⊎ (length xs < inputs)
@@ -158,7 +158,7 @@ module _ (R : Type 0) (n : ℕ) where
 
   is_given_true : (kind w code inputs : ℕ) (xs : List (Given (Value R))) → FitsFlow kind w code inputs xs → is_given (plain R) w inputs xs ≡ true
   is_given_true kind w code inputs xs h =
-      and_from _ _ h.once (and_from _ _ (le-leb (given_size (plain R) xs) (64000 + 2 * length xs) h.short) (and_from _ _ (le-leb (length xs) inputs h.few)
+      and_from _ _ h.once (and_from _ _ h.short (and_from _ _ (le-leb (length xs) inputs h.few)
       (and_from _ _ (le-leb w 1 h.waiting) (none_or h.lacks))))
     where
       none_or : (w ≡ 0) ⊎ (length xs < inputs) → ((w == 0) || nat_lt (length xs) inputs) ≡ true

@@ -8,6 +8,7 @@ pub mod Shown
 pub mod Asked
 pub mod Controls
 pub mod Slots
+pub mod Fitted
 pub mod Orders
 pub mod Steps
 pub mod Natural

@@ -12,6 +12,7 @@ use Rattle.hpx_value.specs.Values.{refs_in}
 use Rattle.hpx_value.specs.declared.outcome.Make.{Make}
 use Rattle.hpx_value.proofs.Kept as HandLemmas
 use Rattle.hpx_value.specs.Shapes.{IsValue, IsAct, IsState, IsCount, places_of}
+use Rattle.hpx_value.specs.Laws.{birth_state}
 use Rattle.hpx_value.specs.Hands.{Slot, session, id_at, slot_at, conts_from, state_after, due_of}
 use Rattle.hpx_calls.specs.Values.{is_small, Value, Nothing, Flag, Int, Text, Ref, Fault, Ints, Look, plain, spelled, seen, shifted}
 use Rattle.hpx_calls.specs.Requests.{Request, is_key, asks_bare, asks_move, asks_one, asks_register, asks_step, asks_two, asks_many, request_of}
@@ -247,7 +248,7 @@ born_readable n kind x h = reads_again Id n kind 0 x (born_fits x h)
     born_fits (Dataflow code inputs given) h =
         let P : List (Given (Value Id)) → Type 0 = λ xs. FitsFlow kind 0 code inputs xs in
         subst P (sym h.4)
-        (record { kinds = h.0; starts = h.1; codes = h.2; most = h.3; once = refl; short = lit≤ tt; few = omega arith; waiting = lit≤ tt; lacks = inl refl })
+        (record { kinds = h.0; starts = h.1; codes = h.2; most = h.3; once = refl; short = refl; few = omega arith; waiting = lit≤ tt; lacks = inl refl })
     born_fits (Started code inputs) h = absurd h
     born_fits (Channel closed kept) h =
         let P : List (Value Id) → Type 0 = λ vs. FitsChannel kind 0 closed vs in
@@ -255,6 +256,27 @@ born_readable n kind x h = reads_again Id n kind 0 x (born_fits x h)
     born_fits (Latch left) h = record { kinds = h.0; waiting = lit≤ tt; most = h.1; either = inl refl }
     born_fits (Barrier m) h = let some = h.1 in (h.0, omega arith, h.2)
     born_fits (Unreadable vs) h = absurd h
+
+-- nothing that an object holds at its birth names another
+no_ids : (n kind : ℕ) (x : Content (Value Id)) → IsBirth n kind x → ids_in (layout (plain Id) x) ≡ []
+no_ids n kind (Table pairs) h = ap (λ (xs : List (Pair (Value Id))). ids_in (layout (plain Id) (Table xs))) h.1
+no_ids n kind Maker h = refl
+no_ids n kind (Size m) h = refl
+no_ids n kind (Number z) h = refl
+no_ids n kind (Row zs) h = refl
+no_ids n kind (Promise None) h = refl
+no_ids n kind (Promise (Some v)) h = absurd (cc (h.1))
+no_ids n kind (Dataflow code inputs given) h = ap (λ (xs : List (Given (Value Id))). ids_in (layout (plain Id) (Dataflow code inputs xs))) h.4
+no_ids n kind (Started code inputs) h = absurd h
+no_ids n kind (Channel closed kept) h = ap ids_in h.2
+no_ids n kind (Latch left) h = refl
+no_ids n kind (Barrier m) h = refl
+no_ids n kind (Unreadable vs) h = absurd h
+
+pub born_is : (n kind : ℕ) (x : Content (Value Id)) → IsBirth n kind x
+    → birth_state (record { kind = kind; values = numbered 0 (layout (plain Id) x) }) ≡ state_of 0 (record { content = x; waiting = [] })
+born_is n kind x h =
+    ap (λ (is : List Id). record { drawn = 0; values = numbered 0 (layout (plain Id) x); conts = []; ids = is ++ [] }) (sym (no_ids n kind x h))
 
 -- ---- well-formed states
 

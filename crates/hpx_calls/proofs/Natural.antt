@@ -1,5 +1,5 @@
 -- The tables do not look at what values refer to: seen in their stead, they do the same.
-use Rattle.std.specs.Prelude.{ℕ, suc, pos, negsuc, Bool, true, false, nat_le, nat_lt, List, [], ◌∷◌, ◌+◌, ◌*◌, ◌≡◌, ◌==◌, ◌&&◌, ◌||◌, Option, Some, None, length, map, refl, if◌then◌else◌}
+use Rattle.std.specs.Prelude.{ℕ, suc, pos, negsuc, Bool, true, false, nat_le, nat_lt, List, [], ◌∷◌, ◌+◌, ◌≡◌, ◌==◌, ◌&&◌, ◌||◌, Option, Some, None, length, map, refl, if◌then◌else◌}
 use Rattle.std.proofs.Common.{ap, ◌∙◌}
 use Rattle.std.specs.List.{list_all}
 use Rattle.std.proofs.lemmas.List.{length-map}
@@ -7,7 +7,7 @@ use Rattle.hpx_value.specs.declared.value.Value.{Value as Spelled}
 use Rattle.hpx_value.specs.declared.value.Value.TheVariants.{Unit as SpelledUnit, Flag as SpelledFlag, Int as SpelledInt, Text as SpelledText, Ref as SpelledRef, Fault as SpelledFault, Ints as SpelledInts}
 use Rattle.hpx_calls.specs.Values.{Value, Nothing, Flag, Int, Text, Ref, Ints, Look, plain, spelled, seen, size, is_small}
 use Rattle.hpx_calls.specs.Requests.{Request, Move, Where, Set, New, Register, Resolve, Unregister, Keys, Count, Add, Query, Reset, Step, Get, Put, PutAt, Close, Down, Wait, Arrive, Other, is_key}
-use Rattle.hpx_calls.specs.Contents.{Pair, Given, Content, Table, Maker, Size, Number, Row, Promise, Dataflow, Started, Channel, Latch, Barrier, Unreadable, layout, pairs_out, given_out, precedes, rises_from, rises, is_table, given_size, input_of, is_none, are_inputs, is_given, is_channel, is_latch, is_dataflow, provided, both, pair_by, pair_of, pairs_in, count_in, given_at, given_by, given_of, given_in, table_in, size_in, number_in, row_in, latch_at, latch_in, barrier_at, barrier_in, channel_in, inputs_in, started_in, flow_in, dataflow_at, dataflow_in, of_one, of_first, of_two, promise_in, maker_in, resting_in, control_in, or_unreadable, content_of}
+use Rattle.hpx_calls.specs.Contents.{Pair, Given, Content, Table, Maker, Size, Number, Row, Promise, Dataflow, Started, Channel, Latch, Barrier, Unreadable, layout, pairs_out, given_out, precedes, rises_from, rises, is_table, given_size, input_of, is_none, room_after, are_fitted, are_inputs, is_given, is_channel, is_latch, is_dataflow, provided, both, pair_by, pair_of, pairs_in, count_in, given_at, given_by, given_of, given_in, table_in, size_in, number_in, row_in, latch_at, latch_in, barrier_at, barrier_in, channel_in, inputs_in, started_in, flow_in, dataflow_at, dataflow_in, of_one, of_first, of_two, promise_in, maker_in, resting_in, control_in, or_unreadable, content_of}
 use Rattle.hpx_calls.specs.Effects.{Effect, Silent, Answers, Waits, Frees, Starts, Hands, Moves, Makes, Called}
 
 module _ {R : Type 0} (see : ℕ → R) where
@@ -213,11 +213,17 @@ module _ {R : Type 0} (see : ℕ → R) where
       ∙ ap (λ b. nat_lt x.slot n && (b && are_inputs n (givens_seen xs))) (none_seen (input_of x.slot xs))
       ∙ ap (λ b. nat_lt x.slot n && (is_none (input_of x.slot xs) && b)) (inputs_seen n xs)
 
+  pub fitted_seen : (o : Option ℕ) (xs : List (Given Spelled)) → are_fitted (plain R) o (givens_seen xs) ≡ are_fitted spelled o xs
+  fitted_seen None xs = refl
+  fitted_seen (Some room) [] = refl
+  fitted_seen (Some room) (x ∷ xs) =
+      ap (λ l. are_fitted (plain R) (room_after room l) (givens_seen xs)) (look_seen x.value) ∙ fitted_seen (room_after room (spelled.look x.value)) xs
+
   pub is_given_seen : (w n : ℕ) (xs : List (Given Spelled)) → is_given (plain R) w n (givens_seen xs) ≡ is_given spelled w n xs
   is_given_seen w n xs =
-      ap (λ m. are_inputs n (givens_seen xs) && (nat_le (given_size (plain R) (givens_seen xs)) (64000 + 2 * m) && (nat_le m n && (nat_le w 1 && ((w == 0) || nat_lt m n))))) (length_givens xs)
-      ∙ ap (λ b. b && (nat_le (given_size (plain R) (givens_seen xs)) (64000 + 2 * length xs) && (nat_le (length xs) n && (nat_le w 1 && ((w == 0) || nat_lt (length xs) n))))) (inputs_seen n xs)
-      ∙ ap (λ m. are_inputs n xs && (nat_le m (64000 + 2 * length xs) && (nat_le (length xs) n && (nat_le w 1 && ((w == 0) || nat_lt (length xs) n))))) (size_seen xs)
+      ap (λ m. are_inputs n (givens_seen xs) && (are_fitted (plain R) (Some 64000) (givens_seen xs) && (nat_le m n && (nat_le w 1 && ((w == 0) || nat_lt m n))))) (length_givens xs)
+      ∙ ap (λ b. b && (are_fitted (plain R) (Some 64000) (givens_seen xs) && (nat_le (length xs) n && (nat_le w 1 && ((w == 0) || nat_lt (length xs) n))))) (inputs_seen n xs)
+      ∙ ap (λ b. are_inputs n xs && (b && (nat_le (length xs) n && (nat_le w 1 && ((w == 0) || nat_lt (length xs) n))))) (fitted_seen (Some 64000) xs)
 
   abbrev pub maybe_given : Option (Given Spelled) → Option (Given (Value R))
   maybe_given None = None

@@ -10,6 +10,7 @@ use Rattle.hpx_value.specs.Shapes.{IsValue, value_size}
 use Rattle.hpx_calls.specs.Values.{spelled, is_small}
 use Rattle.hpx_calls.specs.Requests.{is_key}
 use Rattle.hpx_calls.specs.Contents
+use Rattle.hpx_calls.proofs.Fitted.{fitted_short}
 use Rattle.hpx_calls.specs.Contents.{Content, Pair, Given, layout, pairs_out, given_out, maybe_out}
 
 pub count_is : (most : ℕ) (z : ℤ) (n : ℕ) → Contents.count_in most z ≡ Some n → (z ≡ pos n) × (n ≤ most)
@@ -319,7 +320,7 @@ inputs_shown w code inputs vs None sent most h = tt
 inputs_shown w code inputs vs (Some given) sent most h =
     provided_shows w (SpelledInt (pos code) ∷ SpelledInt (pos inputs) ∷ vs) (Contents.is_given spelled w inputs given) (Contents.Dataflow code inputs given) (λ e.
     let one = and_parts (Contents.are_inputs inputs given) _ e in
-    let two = and_parts (nat_le (Contents.given_size spelled given) (64000 + 2 * length given)) _ one.1 in
+    let two = and_parts (Contents.are_fitted spelled (Some 64000) given) _ one.1 in
     let three = and_parts (nat_le (length given) inputs) _ two.1 in
     let four = and_parts (nat_le w 1) _ three.1 in (
       ap (λ rest. SpelledInt (pos code) ∷ SpelledInt (pos inputs) ∷ rest) h,
@@ -328,7 +329,7 @@ inputs_shown w code inputs vs (Some given) sent most h =
         most = most;
         few = leb-true (length given) inputs three.0;
         once = one.0;
-        short = leb-true (Contents.given_size spelled given) (64000 + 2 * length given) two.0;
+        short = fitted_short spelled 64000 given two.0;
         waiting = leb-true w 1 four.0;
       },
     ))

@@ -1,7 +1,7 @@
 -- What objects hold, by kind, and how a state shows it.
-use Rattle.std.specs.Prelude.{ℕ, ℤ, pos, negsuc, Bool, true, false, nat_le, nat_lt, List, [], ◌∷◌, ◌==◌, ◌+◌, ◌*◌, ◌&&◌, ◌||◌, Option, Some, None, length, if◌then◌else◌}
+use Rattle.std.specs.Prelude.{ℕ, ℤ, pos, negsuc, Bool, true, false, nat_le, nat_lt, List, [], ◌∷◌, ◌==◌, ◌+◌, ◌-◌, ◌&&◌, ◌||◌, Option, Some, None, length, if◌then◌else◌}
 use Rattle.std.specs.List.{list_all}
-use Rattle.hpx_calls.specs.Values.{Nothing, Flag, Int, Text, Ref, Ints, Look, Sort, size, is_small}
+use Rattle.hpx_calls.specs.Values.{Nothing, Flag, Int, Text, Ref, Fault, Ints, Look, Sort, size, is_small}
 use Rattle.hpx_calls.specs.Requests.{is_key}
 pub use Rattle.hpx_calls.specs.declared.content.Pair.{Pair}
 pub use Rattle.hpx_calls.specs.declared.content.Given.{Given}
@@ -89,10 +89,25 @@ abbrev pub is_dataflow : ℕ → ℕ → Bool
 is_dataflow code inputs =
     nat_le 1 inputs && (if code == 1 then false else if code == 3 then false else if code == 4 then false else true)
 
--- each value that was too long takes 2 bytes as a fault; a waiting answer is there only while an input lacks
+-- the fault Full, which is kept in the stead of a value that was too long
+abbrev pub is_full : Look → Bool
+is_full (Fault code) = code == 10
+is_full _ = false
+
+-- how many of so many bytes are left with one value more, which fits or is the fault Full
+abbrev pub room_after : ℕ → Look → Option ℕ
+room_after room l = if is_full l then Some (room - 2) else if nat_le (size l) room then Some (room - size l) else None
+
+-- each value, in the order in which they came, fits into the bytes that are left or is the fault Full
+abbrev pub are_fitted : {V : Type 0} → Sort V → Option ℕ → List (Given V) → Bool
+are_fitted k None xs = false
+are_fitted k (Some room) [] = true
+are_fitted k (Some room) (x ∷ xs) = are_fitted k (room_after room (k.look x.value)) xs
+
+-- values for inputs within 64,000 bytes; a waiting answer is there only while an input lacks
 abbrev pub is_given : {V : Type 0} → Sort V → ℕ → ℕ → List (Given V) → Bool
 is_given k waiting inputs given =
-    are_inputs inputs given && (nat_le (given_size k given) (64000 + 2 * length given)
+    are_inputs inputs given && (are_fitted k (Some 64000) given
     && (nat_le (length given) inputs && (nat_le waiting 1 && ((waiting == 0) || nat_lt (length given) inputs))))
 
 -- a channel where somebody waits is open and empty
@@ -122,6 +137,7 @@ abbrev pub pair_by : {V : Type 0} → Look → Look → V → Option (Pair V)
 pair_by (Text key) (Ref r) to = Some (record { key = key; to = to })
 pair_by a b to = None
 
+-- a key and its reference, as two values show them
 abbrev pub pair_of : {V : Type 0} → Sort V → V → V → Option (Pair V)
 pair_of k v w = pair_by (k.look v) (k.look w) w
 
@@ -141,10 +157,12 @@ abbrev pub given_at : {V : Type 0} → Option ℕ → V → Option (Given V)
 given_at (Some slot) value = Some (record { slot = slot; value = value })
 given_at None value = None
 
+-- the number of an input as a value shows it, and what is kept for it
 abbrev pub given_by : {V : Type 0} → Look → V → Option (Given V)
 given_by (Int z) value = given_at (count_in 15 z) value
 given_by a value = None
 
+-- the number of an input and what is kept for it, as two values show them
 abbrev pub given_of : {V : Type 0} → Sort V → V → V → Option (Given V)
 given_of k v w = given_by (k.look v) w
 
@@ -154,26 +172,32 @@ given_in k [] = Some []
 given_in k (v ∷ []) = None
 given_in k (v ∷ w ∷ vs) = both (given_of k v w) (given_in k vs)
 
+-- a map of keys, within the bounds of a table
 abbrev pub table_in : {V : Type 0} → Option (List (Pair V)) → Option (Content V)
 table_in None = None
 table_in (Some xs) = provided (is_table xs) (Table xs)
 
+-- the number of localities, which is this one
 abbrev pub size_in : {V : Type 0} → ℕ → Look → Option (Content V)
 size_in n (Int (pos m)) = provided (m == n) (Size m)
 size_in n _ = None
 
+-- any number
 abbrev pub number_in : {V : Type 0} → Look → Option (Content V)
 number_in (Int z) = Some (Number z)
 number_in _ = None
 
+-- from 1 to 1,024 numbers
 abbrev pub row_in : {V : Type 0} → Look → Option (Content V)
 row_in (Ints numbers) = provided (nat_le 1 (length numbers) && nat_le (length numbers) 1024) (Row numbers)
 row_in _ = None
 
+-- how many DOWNs are left, where as many can wait
 abbrev pub latch_at : {V : Type 0} → ℕ → Option ℕ → Option (Content V)
 latch_at waiting (Some left) = provided (is_latch waiting left) (Latch left)
 latch_at waiting None = None
 
+-- a latch is no higher than 1,000,000
 abbrev pub latch_in : {V : Type 0} → ℕ → Look → Option (Content V)
 latch_in waiting (Int z) = latch_at waiting (count_in 1000000 z)
 latch_in waiting _ = None
@@ -183,14 +207,17 @@ abbrev pub barrier_at : {V : Type 0} → ℕ → Option ℕ → Option (Content 
 barrier_at waiting (Some n) = provided (nat_lt waiting n) (Barrier n)
 barrier_at waiting None = None
 
+-- at most 100 meet at a barrier
 abbrev pub barrier_in : {V : Type 0} → ℕ → Look → Option (Content V)
 barrier_in waiting (Int z) = barrier_at waiting (count_in 100 z)
 barrier_in waiting _ = None
 
+-- whether it is closed, and then its values
 abbrev pub channel_in : {V : Type 0} → Sort V → ℕ → Look → List V → Option (Content V)
 channel_in k waiting (Flag closed) vs = provided (is_channel k waiting closed vs) (Channel closed vs)
 channel_in k waiting _ vs = None
 
+-- what is kept for the inputs of a dataflow
 abbrev pub inputs_in : {V : Type 0} → Sort V → ℕ → ℕ → ℕ → Option (List (Given V)) → Option (Content V)
 inputs_in k waiting code inputs None = None
 inputs_in k waiting code inputs (Some given) = provided (is_given k waiting inputs given) (Dataflow code inputs given)
@@ -200,14 +227,17 @@ abbrev pub started_in : {V : Type 0} → ℕ → ℕ → ℕ → Look → Option
 started_in waiting code inputs Nothing = provided (waiting == 0) (Started code inputs)
 started_in waiting code inputs _ = None
 
+-- what follows the code and the number of inputs: the one mark that it has started, or what is kept for the inputs
 abbrev pub flow_in : {V : Type 0} → Sort V → ℕ → ℕ → ℕ → List V → Option (Content V)
 flow_in k waiting code inputs (v ∷ []) = started_in waiting code inputs (k.look v)
 flow_in k waiting code inputs vs = inputs_in k waiting code inputs (given_in k vs)
 
+-- a dataflow with a code and a number of inputs that it can have
 abbrev pub dataflow_at : {V : Type 0} → Sort V → ℕ → Option ℕ → Option ℕ → List V → Option (Content V)
 dataflow_at k waiting (Some code) (Some inputs) vs = if is_dataflow code inputs then flow_in k waiting code inputs vs else None
 dataflow_at k waiting _ _ vs = None
 
+-- a code of 16 bits, at most 16 inputs, and what follows
 abbrev pub dataflow_in : {V : Type 0} → Sort V → ℕ → Look → Look → List V → Option (Content V)
 dataflow_in k waiting (Int code) (Int inputs) vs = dataflow_at k waiting (count_in 65535 code) (count_in 16 inputs) vs
 dataflow_in k waiting a b vs = None
@@ -217,19 +247,23 @@ abbrev pub of_one : {V : Type 0} → Sort V → (Look → Option (Content V)) �
 of_one k f (v ∷ []) = f (k.look v)
 of_one k f _ = None
 
+-- values that begin with one that is looked at
 abbrev pub of_first : {V : Type 0} → Sort V → (Look → List V → Option (Content V)) → List V → Option (Content V)
 of_first k f (v ∷ vs) = f (k.look v) vs
 of_first k f [] = None
 
+-- values that begin with two that are looked at
 abbrev pub of_two : {V : Type 0} → Sort V → (Look → Look → List V → Option (Content V)) → List V → Option (Content V)
 of_two k f (v ∷ w ∷ vs) = f (k.look v) (k.look w) vs
 of_two k f _ = None
 
+-- no value where at most 7 wait, or one value where nobody waits
 abbrev pub promise_in : {V : Type 0} → ℕ → List V → Option (Content V)
 promise_in waiting [] = provided (nat_le waiting 7) (Promise None)
 promise_in waiting (v ∷ []) = provided (waiting == 0) (Promise (Some v))
 promise_in waiting _ = None
 
+-- components keep no values
 abbrev pub maker_in : {V : Type 0} → List V → Option (Content V)
 maker_in [] = Some Maker
 maker_in _ = None

@@ -48,6 +48,7 @@ abbrev pub joined : {W : Type 0} → List W → Option W → List W
 joined ws None = ws
 joined ws (Some w) = ws ++ w ∷ []
 
+-- the caller alone, if it waits
 abbrev pub alone : {W : Type 0} → Option W → List W
 alone None = []
 alone (Some w) = w ∷ []
@@ -78,6 +79,7 @@ tells g (Makes x) ws w = own w g.made
 abbrev pub called_on : {V W : Type 0} → Setting V → Object V W → Call V W → Called V
 called_on g o c = called g.sort g.here g.kind (length o.waiting) (is_some c.waiter) o.content c.request
 
+-- the object after a call
 abbrev pub next : {V W : Type 0} → Setting V → Object V W → Call V W → Object V W
 next g o c = record { content = (called_on g o c).content; waiting = still (called_on g o c).effect o.waiting c.waiter }
 

@@ -133,6 +133,7 @@ lived n kind here s (t ∷ ts) = state_after (lived n kind here s ts) t.act t.ma
 abbrev pub due_then : ℕ → ℕ → ℕ → State → List Turn → Turn → List Due
 due_then n kind here s ts t = due_of (lived n kind here s ts) t.act t.made (outcome_of n kind here (lived n kind here s ts) t.act)
 
+-- the calls that actions are
 abbrev pub calls_of : List Turn → List (Call (Value Id) Slot)
 calls_of [] = []
 calls_of (t ∷ ts) = call_of t.act ∷ calls_of ts

@@ -22,11 +22,12 @@ abbrev pub numbers : ℕ → ℕ → List ℕ
 numbers n zero = []
 numbers n (suc count) = n ∷ numbers (n + 1) count
 
--- whether there is a continuation, and how many there are
+-- whether an action has a continuation of its own
 abbrev pub has_cont : Option Cont → Bool
 has_cont None = false
 has_cont (Some c) = true
 
+-- how many continuations an action has of its own
 abbrev pub cont_count : Option Cont → ℕ
 cont_count None = 0
 cont_count (Some c) = 1

@@ -49,18 +49,22 @@ listed [] = []
 listed (x ∷ []) = x.key
 listed (x ∷ y ∷ xs) = x.key ++ 32 ∷ listed (y ∷ xs)
 
+-- REGISTER: Taken where the key is there, else Full where 100 are, else one pair more
 abbrev pub registers : {V : Type 0} → Sort V → List (Pair V) → List ℕ → V → Option V → Called V
 registers k xs key to (Some old) = refuses k (Table xs) 2
 registers k xs key to None = if length xs == 100 then refuses k (Table xs) 10 else does k (Table (added key to xs))
 
+-- RESOLVE: the object under the key, which stays, or NoName
 abbrev pub resolves : {V : Type 0} → Sort V → List (Pair V) → Option V → Called V
 resolves k xs None = refuses k (Table xs) 3
 resolves k xs (Some to) = leaves (Table xs) (Answers to)
 
+-- UNREGISTER: the pair is gone, or NoName
 abbrev pub unregisters : {V : Type 0} → Sort V → List (Pair V) → List ℕ → Option V → Called V
 unregisters k xs key None = refuses k (Table xs) 3
 unregisters k xs key (Some to) = does k (Table (removed key xs))
 
+-- the calls on a table
 abbrev pub on_table : {V : Type 0} → Sort V → List (Pair V) → Request V → Called V
 on_table k xs (Register key to) = registers k xs key to (found key xs)
 on_table k xs (Resolve key) = resolves k xs (found key xs)
@@ -70,6 +74,7 @@ on_table k xs _ = wrong k (Table xs)
 
 -- ---- the namespace of components, and that of localities
 
+-- NEW of a kind that takes no values
 abbrev pub makes_bare : {V : Type 0} → Sort V → Content V → List V → Called V
 makes_bare k x [] = leaves Maker (Makes x)
 makes_bare k x _ = wrong k Maker
@@ -79,6 +84,7 @@ abbrev pub makes_at : {V : Type 0} → Sort V → (ℕ → Content V) → Option
 makes_at k f (Some n) = if nat_le 1 n then leaves Maker (Makes (f n)) else wrong k Maker
 makes_at k f None = wrong k Maker
 
+-- NEW of a kind that takes one such number
 abbrev pub makes_counted : {V : Type 0} → Sort V → ℕ → (ℕ → Content V) → Look → Called V
 makes_counted k most f (Int z) = makes_at k f (count_in most z)
 makes_counted k most f _ = wrong k Maker
@@ -89,10 +95,12 @@ makes_row k (Ints numbers) =
     if nat_le 1 (length numbers) && nat_le (length numbers) 1024 then leaves Maker (Makes (Row numbers)) else wrong k Maker
 makes_row k _ = wrong k Maker
 
+-- NEW of a kind that takes one value
 abbrev pub with_one : {V : Type 0} → Sort V → (Look → Called V) → List V → Called V
 with_one k f (v ∷ []) = f (k.look v)
 with_one k f _ = wrong k Maker
 
+-- NEW by its name; another name is NoKind
 abbrev pub makes : {V : Type 0} → Sort V → List ℕ → List V → Called V
 makes k name vs =
     if bytes_eq name (codes "accumulator") then makes_bare k (Number (pos 0)) vs
@@ -103,10 +111,12 @@ makes k name vs =
     else if bytes_eq name (codes "barrier") then with_one k (makes_counted k 100 Barrier) vs
     else refuses k Maker 4
 
+-- the calls on the namespace of components
 abbrev pub on_maker : {V : Type 0} → Sort V → Request V → Called V
 on_maker k (New name vs) = makes k name vs
 on_maker k _ = wrong k Maker
 
+-- the calls on that of localities
 abbrev pub on_size : {V : Type 0} → Sort V → ℕ → Request V → Called V
 on_size k n Count = leaves (Size n) (Answers (k.int (pos n)))
 on_size k n _ = wrong k (Size n)
@@ -118,6 +128,7 @@ abbrev pub fits : ℤ → Bool
 fits (pos n) = nat_lt n (2 ^ 63)
 fits (negsuc n) = nat_lt n (2 ^ 63)
 
+-- the calls on an accumulator: a sum that is no such number is an Overflow and changes nothing
 abbrev pub on_number : {V : Type 0} → Sort V → ℤ → Request V → Called V
 on_number k v (Add z) = if fits (v +ℤ z) then does k (Number (v +ℤ z)) else refuses k (Number v) 1
 on_number k v Query = leaves (Number v) (Answers (k.int v))
@@ -135,6 +146,7 @@ stepped left [] right = []
 stepped left (x ∷ []) right = half (left +ℤ right) ∷ []
 stepped left (x ∷ y ∷ xs) right = half (left +ℤ y) ∷ stepped x (y ∷ xs) right
 
+-- the calls on a partition
 abbrev pub on_row : {V : Type 0} → Sort V → List ℤ → Request V → Called V
 on_row k xs (Step left right) = leaves (Row (stepped left xs right)) (Answers (k.ints (stepped left xs right)))
 on_row k xs _ = wrong k (Row xs)
@@ -151,6 +163,7 @@ abbrev pub sets : {V : Type 0} → Sort V → ℕ → Option V → V → Called 
 sets k waiting None v = leaves (Promise (Some v)) (Frees waiting v k.nothing)
 sets k waiting (Some old) v = refuses k (Promise (Some old)) 6
 
+-- GET: the value, or a wait for it; at most 7 wait
 abbrev pub gets : {V : Type 0} → Sort V → ℕ → Option V → Called V
 gets k waiting None = waits k (Promise None) 7 waiting
 gets k waiting (Some v) = leaves (Promise (Some v)) (Answers v)
@@ -168,6 +181,7 @@ on_promise k waiting value _ = wrong k (Promise value)
 abbrev pub fitted : {V : Type 0} → Sort V → List (Given V) → V → V
 fitted k given v = if nat_le (given_size k given + size (k.look v)) 64000 then v else k.fault 10
 
+-- a value, or Unit where there is none
 abbrev pub or_nothing : {V : Type 0} → Sort V → Option V → V
 or_nothing k None = k.nothing
 or_nothing k (Some v) = v
@@ -184,10 +198,12 @@ gives k waiting code inputs given =
     then leaves (Started code inputs) (Hands code (inputs_from k given 0 inputs) k.nothing)
     else does k (Dataflow code inputs given)
 
+-- a value for an input: kept as the last that came, or AlreadySet
 abbrev pub puts_free : {V : Type 0} → Sort V → ℕ → ℕ → ℕ → List (Given V) → ℕ → V → Option V → Called V
 puts_free k waiting code inputs given slot v None = gives k waiting code inputs (given ++ record { slot = slot; value = fitted k given v } ∷ [])
 puts_free k waiting code inputs given slot v (Some old) = refuses k (Dataflow code inputs given) 6
 
+-- a value for an input by its number, or NoSlot
 abbrev pub puts : {V : Type 0} → Sort V → ℕ → ℕ → ℕ → List (Given V) → ℤ → V → Called V
 puts k waiting code inputs given (pos slot) v =
     if nat_lt slot inputs then puts_free k waiting code inputs given slot v (input_of slot given)
@@ -201,6 +217,7 @@ starts k waiting code inputs given =
     else if length given == inputs then leaves (Started code inputs) (Starts code (inputs_from k given 0 inputs))
     else leaves (Dataflow code inputs given) Waits
 
+-- the calls on a dataflow that has not started
 abbrev pub on_dataflow : {V : Type 0} → Sort V → ℕ → ℕ → ℕ → List (Given V) → Request V → Called V
 on_dataflow k waiting code inputs given (Set slot v) = puts k waiting code inputs given slot v
 on_dataflow k waiting code inputs given (PutAt slot v) = puts k waiting code inputs given slot v
@@ -212,6 +229,7 @@ abbrev pub puts_late : {V : Type 0} → Sort V → ℕ → ℕ → ℤ → Calle
 puts_late k code inputs (pos slot) = refuses k (Started code inputs) (if nat_lt slot inputs then 6 else 7)
 puts_late k code inputs (negsuc n) = refuses k (Started code inputs) 7
 
+-- the calls on one that has started
 abbrev pub on_started : {V : Type 0} → Sort V → ℕ → ℕ → Request V → Called V
 on_started k code inputs (Set slot v) = puts_late k code inputs slot
 on_started k code inputs (PutAt slot v) = puts_late k code inputs slot
@@ -227,18 +245,22 @@ sends k zero false kept v =
     if length kept == 1000 then refuses k (Channel false kept) 10 else does k (Channel false (kept ++ v ∷ []))
 sends k (suc n) false kept v = leaves (Channel false kept) (Frees 1 v k.nothing)
 
+-- a value that a channel does not take is wrong, also where it is closed or full
 abbrev pub sends_small : {V : Type 0} → Sort V → ℕ → Bool → List V → V → Called V
 sends_small k waiting closed kept v = if is_small (k.look v) then sends k waiting closed kept v else wrong k (Channel closed kept)
 
+-- GET: the oldest value, which goes; else Closed, or a wait for the next, where at most 100 wait
 abbrev pub receives : {V : Type 0} → Sort V → ℕ → Bool → List V → Called V
 receives k waiting closed (v ∷ kept) = leaves (Channel closed kept) (Answers v)
 receives k waiting true [] = refuses k (Channel true []) 8
 receives k waiting false [] = waits k (Channel false []) 100 waiting
 
+-- CLOSE: all that wait are Closed; a second one is Closed itself
 abbrev pub closes : {V : Type 0} → Sort V → ℕ → Bool → List V → Called V
 closes k waiting true kept = refuses k (Channel true kept) 8
 closes k waiting false kept = leaves (Channel true kept) (Frees waiting (k.fault 8) k.nothing)
 
+-- the calls on a channel; a SET of slot 0 is a PUT that is not answered
 abbrev pub on_channel : {V : Type 0} → Sort V → ℕ → Bool → List V → Request V → Called V
 on_channel k waiting closed kept (Set slot v) =
     if is_first slot then sends_small k waiting closed kept v else leaves (Channel closed kept) Silent
@@ -249,12 +271,14 @@ on_channel k waiting closed kept _ = wrong k (Channel closed kept)
 
 -- ---- latches and barriers
 
+-- DOWN: Spent at 0; the last one frees all that wait
 abbrev pub downs : {V : Type 0} → Sort V → ℕ → ℕ → Called V
 downs k waiting left =
     if left == 0 then refuses k (Latch left) 9
     else if left == 1 then leaves (Latch 0) (Frees waiting k.nothing k.nothing)
     else does k (Latch (left - 1))
 
+-- the calls on a latch; at most 100 wait
 abbrev pub on_latch : {V : Type 0} → Sort V → ℕ → ℕ → Request V → Called V
 on_latch k waiting left Down = downs k waiting left
 on_latch k waiting left Wait = if left == 0 then does k (Latch left) else waits k (Latch left) 100 waiting
@@ -267,6 +291,7 @@ on_barrier k waiting n _ = wrong k (Barrier n)
 
 -- ---- every content
 
+-- what a request does to a content where so many wait
 abbrev pub on_content : {V : Type 0} → Sort V → ℕ → Content V → Request V → Called V
 on_content k waiting (Table pairs) r = on_table k pairs r
 on_content k waiting Maker r = on_maker k r

@@ -4,13 +4,13 @@ ghost use Rattle.std.specs.List.{AllByRecursion};
 ghost use Rattle.hpx_value.specs.Ids.{Id};
 ghost use Rattle.hpx_value.specs.Values.{bare_act, bare_state, message_of, named};
 ghost use Rattle.hpx_value.specs.Shapes.{IsAct, IsState};
-ghost use Rattle.hpx_value.specs.Laws.{KeepsLaws};
-ghost use Rattle.hpx_calls.specs.Values.{Value};
-ghost use Rattle.hpx_calls.specs.Contents.{Content};
+ghost use Rattle.hpx_value.specs.Laws.{KeepsLaws, birth_state};
+ghost use Rattle.hpx_calls.specs.Values.{Value, plain};
+ghost use Rattle.hpx_calls.specs.Contents.{Content, layout};
 ghost use Rattle.hpx_calls.specs.Outcomes.{outcome_of};
 ghost use Rattle.hpx_value.specs.Hands.{Slot};
 ghost use Rattle.hpx_calls.specs.Histories.{Call, Object, Setting, own, run, says};
-ghost use Rattle.hpx_calls.specs.Ids.{IsBirth, IsCalled, IsReadable, Turn, object_in, call_of, calls_of, due_for, due_then, lived, setting_of, state_of};
+ghost use Rattle.hpx_calls.specs.Ids.{IsBirth, IsCalled, IsReadable, Turn, object_in, call_of, calls_of, due_for, due_then, lived, numbered, setting_of, state_of};
 
 use crate::request::Request;
 use hpx_value::value::{Act, State};
@@ -38,9 +38,12 @@ pub fn called_law()
         → IsCalled n kind here drawn o a made }
 {}
 
-/// The states that outcomes leave from birth on, whatever the actions, are the plain object after their calls (`lives`),
-/// and what the next outcome leaves due is what the next call is told (`tells`). A list of actions has the latest first.
+/// What is made at its birth is a plain object (`born`) that shows its content (`births`). The states that outcomes leave
+/// from birth on, whatever the actions, are the plain object after their calls (`lives`), and what the next outcome leaves
+/// due is what the next call is told (`tells`). A list of actions has the latest first.
 pub fn life_law()
+    ensures born { (n kind : ℕ) (x : Content (Value Id)) → IsBirth n kind x
+        → birth_state (record { kind = kind; values = numbered 0 (layout (plain Id) x) }) ≡ state_of 0 (record { content = x; waiting = [] }) }
     ensures births { (n kind : ℕ) (x : Content (Value Id)) → IsBirth n kind x → IsReadable n kind (record { content = x; waiting = [] }) }
     ensures lives { (n kind here drawn : ℕ) (x : Content (Value Id)) (made : List Id) (ts : List Turn) → IsReadable n kind (record { content = x; waiting = [] })
         → AllByRecursion (λ t. IsAct t.act) ts

@@ -1,13 +1,13 @@
 //! What states show.
-ghost use Rattle.std.specs.Prelude.{◌≡◌, ◌≤◌, ◌+◌, ◌*◌, ◌^◌, ℕ, IfOk, MatchOption, length, nat_le, option_copied};
+ghost use Rattle.std.specs.Prelude.{◌≡◌, ◌≤◌, ◌+◌, ◌*◌, ◌^◌, ℕ, IfOk, MatchOption, Some, option_copied};
 ghost use Rattle.std.specs.List.{list_all};
 ghost use Rattle.hpx_calls.specs.Requests.{is_key};
 ghost use Rattle.hpx_calls.specs.Values.{is_small, size, spelled};
-ghost use Rattle.hpx_calls.specs.Contents.{are_inputs, barrier_in, channel_in, control_in, count_in, dataflow_in, flow_in, given_in, given_of, given_size, input_of, is_channel, is_dataflow, is_given, is_table, latch_in, of_first, of_one, of_two, pair_of, pairs_in, precedes, promise_in, resting_in, rises, row_in, size_in, table_in};
+ghost use Rattle.hpx_calls.specs.Contents.{are_fitted, are_inputs, barrier_in, channel_in, control_in, count_in, dataflow_in, flow_in, given_in, given_of, given_size, input_of, inputs_in, is_channel, is_dataflow, is_full, is_given, is_table, latch_in, of_first, of_one, of_two, pair_of, pairs_in, precedes, promise_in, resting_in, rises, room_after, row_in, size_in, table_in};
 ghost use Rattle.hpx_calls.specs.Outcomes.{content_in};
 ghost use Rattle.hpx_calls.specs.Sorts.{IsControl, IsNaming};
 
-use crate::codes::{ACCUMULATOR, BARRIER, CHANNEL, DATAFLOW, LATCH, PARTITION, PROMISE};
+use crate::codes::{ACCUMULATOR, BARRIER, CHANNEL, DATAFLOW, FULL, LATCH, PARTITION, PROMISE};
 use crate::content::{Content, Given, Pair};
 use crate::request::is_key;
 use hpx_value::codes::{COMPONENTS, LINE, LOCALITIES, MOVE, SET, SHELF, SYMBOLS};
@@ -31,6 +31,8 @@ const MOST_INPUTS: u32 = 16;
 
 /// The most bytes of the values that are kept for inputs.
 pub const MOST_BYTES: u64 = 64_000;
+
+const FULL_BYTES: u64 = 2;
 
 const MOST_TEXT: usize = 32;
 
@@ -465,15 +467,28 @@ fn flow(
     match values {
         [Value::Unit] if waiting == 0 => Ok(Some(Content::Started { code, inputs })),
         [_] => Ok(None),
-        _ => Ok(match given_in(alloc, values)? {
-            Some(given) if is_given(waiting, inputs, given.as_slice()) => Some(Content::Dataflow {
-                code,
-                inputs,
-                given,
-            }),
-            _ => None,
-        }),
+        _ => not_started(alloc, waiting, code, inputs, values),
     }
+}
+
+/// A dataflow that has not started, with what is kept for its inputs.
+fn not_started(
+    alloc: Global,
+    waiting: usize,
+    code: u16,
+    inputs: u32,
+    values: &[Value],
+) -> Result<Option<Content<Value>>, OutOfMemory>
+    ensures { IfOk result (λ read. read ≡ inputs_in spelled waiting code inputs (given_in spelled values.now)) }
+{
+    Ok(match given_in(alloc, values)? {
+        Some(given) if is_given(waiting, inputs, given.as_slice()) => Some(Content::Dataflow {
+            code,
+            inputs,
+            given,
+        }),
+        _ => None,
+    })
 }
 
 /// The number of an input and a value.
@@ -520,19 +535,55 @@ fn is_given(waiting: usize, inputs: u32, given: &[Given<Value>]) -> bool
     ensures { result ≡ is_given spelled waiting inputs given.now }
 {
     are_inputs(inputs, given)
-        && has_size(given)
+        && are_fitted(given)
         && given.len() <= inputs as usize
         && waiting <= 1
         && (waiting == 0 || given.len() < inputs as usize)
 }
 
-/// Whether what is kept is short enough; a value that was too long takes 2 bytes.
-fn has_size(given: &[Given<Value>]) -> bool
-    ensures { result ≡ nat_le (given_size spelled given.now) (64000 + 2 * length given.now) }
+/// Whether each value fits into the bytes that are left, in the order in which they came, or is the fault Full.
+fn are_fitted(given: &[Given<Value>]) -> bool
+    ensures { result ≡ are_fitted spelled (Some 64000) given.now }
 {
-    match given_size(given) {
-        Some(size) => size as u128 <= MOST_BYTES as u128 + 2 * given.len() as u128,
-        None => false,
+    let mut room = MOST_BYTES;
+    let mut left = given;
+    'inputs: while let Some((first, rest)) = left.split_first() {
+        let Some(less) = room_after(room, &first.value) else {
+            return false;
+        };
+        room = less;
+        left = rest;
+    }
+    true
+}
+
+/// How many bytes are left with one value more. None where it does not fit and is not the fault Full.
+fn room_after(room: u64, value: &Value) -> Option<u64>
+    ensures { result ≡ room_after room (spelled.look value.now) }
+{
+    if is_full(value) {
+        return Some(room.saturating_sub(FULL_BYTES));
+    }
+    let size = size_of(value)?;
+    if size <= room {
+        Some(room - size)
+    } else {
+        None
+    }
+}
+
+/// Whether a value is the fault Full.
+fn is_full(value: &Value) -> bool
+    ensures { result ≡ is_full (spelled.look value.now) }
+{
+    match value {
+        Value::Unit => false,
+        Value::Flag(_) => false,
+        Value::Int(_) => false,
+        Value::Text(_) => false,
+        Value::Ref(_) => false,
+        Value::Fault(code) => *code == FULL,
+        Value::Ints(_) => false,
     }
 }
 
