@@ -8,6 +8,8 @@ use Rattle.hpx_calls.specs.declared.content.Content.TheVariants.{Barrier}
 use Rattle.hpx_calls.specs.declared.request.Request.{Request}
 use Rattle.hpx_calls.specs.declared.request.Request.TheVariants.{Move, Where, Arrive}
 use Rattle.hpx_calls.specs.Histories.{Setting, Object, Call, own, each, next, tells, called_on, run, says}
+use Rattle.hpx_lco.specs.Every.{barrier_says}
+use Rattle.hpx_calls.proofs.Steps.{told_on, where_told, move_told, managed_high, fixed_high}
 use Rattle.hpx_lco.specs.Answered.{joins_arrive, arrivals, arrive_says}
 use Rattle.hpx_lco.proofs.Still
 use Rattle.hpx_lco.proofs.Still.{object, call, same_where, same_move, either, told_either, same_test}
@@ -120,3 +122,20 @@ pub arrive_tells : {V W : Type 0} (g : Setting V) (n : ℕ) (h : List (Call V W)
 arrive_tells g n h w e =
     ap (λ o. tells g (called_on g o (call Arrive (Some w))).effect o.waiting (Some w)) (barrier_run g n h e)
     ∙ told_by g n (arrivals h) w ((length (arrivals h) + 1) % n == 0) (ends n (arrivals h) e)
+
+-- ---- every call
+
+pub barrier_tells : {V W : Type 0} (g : Setting V) (n : ℕ) (h : List (Call V W)) (r : Request V) (w : Option W) → 1 ≤ n → 32 ≤ g.kind
+    → says g (Barrier n) h (call r w) ≡ barrier_says g n h r w
+barrier_tells {V} {W} g n h r w some high = ap (λ o. told_on g o (call r w)) (barrier_run g n h some) ∙ by_request r w
+  where
+    ws : List W
+    ws = arrivals h
+
+    by_request : (r : Request V) (w : Option W) → told_on g (barrier_at n ws) (call r w) ≡ barrier_says g n h r w
+    by_request Where w = where_told g (Barrier n) (round n ws) w true (managed_high g.kind high)
+    by_request (Move to) w = move_told g (Barrier n) to (round n ws) w (fixed_high g.kind high)
+    by_request Arrive None = refl
+    by_request Arrive (Some w) = told_by g n ws w ((length ws + 1) % n == 0) (ends n ws some)
+    by_request _ None = refl
+    by_request _ (Some w) = refl

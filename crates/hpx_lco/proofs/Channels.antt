@@ -8,8 +8,10 @@ use Rattle.hpx_calls.specs.declared.content.Content.TheVariants.{Channel}
 use Rattle.hpx_calls.specs.declared.request.Request.{Request}
 use Rattle.hpx_calls.specs.declared.request.Request.TheVariants.{Move, Where, Set, Get, Put, Close}
 use Rattle.hpx_calls.specs.declared.effect.Called.{Called}
-use Rattle.hpx_calls.specs.Tables.{is_first, sends}
+use Rattle.hpx_calls.specs.Tables.{is_first, sends, sends_small}
 use Rattle.hpx_calls.specs.Histories.{Setting, Object, Call, Answered, own, each, next, still, tells, called_on, run, says}
+use Rattle.hpx_lco.specs.Every.{wrong_says, channel_says}
+use Rattle.hpx_calls.proofs.Steps.{told_on, where_told, move_told, managed_high, fixed_high}
 use Rattle.hpx_lco.specs.Answered.{Accepted, is_close, closed, small, putting, getting, takes_put, takes_get, with_put, with_get, accepted, put_says, received, get_from, close_says}
 use Rattle.hpx_lco.proofs.Still
 use Rattle.hpx_lco.proofs.Still.{object, call, same_where, same_move, either, told_either, same_test}
@@ -229,3 +231,43 @@ pub close_tells : {V W : Type 0} (g : Setting V) (h : List (Call V W)) (w : Opti
     → says g (Channel false []) h (call Close w) ≡ close_says g.sort (closed h) (accepted g.sort h) w
 close_tells g h w =
     ap (λ o. tells g (called_on g o (call Close w)).effect o.waiting w) (channel_run g h) ∙ close_by g (closed h) (accepted g.sort h) w
+
+-- ---- every call
+
+sends_told : {V W : Type 0} (g : Setting V) (is : Bool) (a : Accepted V W) (v : V) (w : Option W)
+    → tells g (sends g.sort (length (waiting_at is a)) is (drop (length a.gets) a.puts) v).effect (waiting_at is a) w ≡ put_says g.sort is a v w
+sends_told g true a v w = refl
+sends_told g false a v w = put_told g a v w (drop (length a.puts) a.gets) refl
+
+small_told : {V W : Type 0} (g : Setting V) (is : Bool) (a : Accepted V W) (v : V) (w : Option W)
+    → tells g (sends_small g.sort (length (waiting_at is a)) is (drop (length a.gets) a.puts) v).effect (waiting_at is a) w
+    ≡ (if is_small (g.sort.look v) then put_says g.sort is a v w else wrong_says g w)
+small_told g is a v w =
+    told_either g (is_small (g.sort.look v)) _ _ (waiting_at is a) w (λ b. if b then put_says g.sort is a v w else wrong_says g w) (sends_told g is a v w) refl
+
+pub channel_tells : {V W : Type 0} (g : Setting V) (h : List (Call V W)) (r : Request V) (w : Option W) → 32 ≤ g.kind
+    → says g (Channel false []) h (call r w) ≡ channel_says g h r w
+channel_tells {V} {W} g h r w high = ap (λ o. told_on g o (call r w)) (channel_run g h) ∙ by_request r w
+  where
+    is : Bool
+    is = closed h
+
+    a : Accepted V W
+    a = accepted g.sort h
+
+    by_request : (r : Request V) (w : Option W) → told_on g (channel_at is a) (call r w) ≡ channel_says g h r w
+    by_request Where w = where_told g (Channel is (drop (length a.gets) a.puts)) (waiting_at is a) w true (managed_high g.kind high)
+    by_request (Move to) w = move_told g (Channel is (drop (length a.gets) a.puts)) to (waiting_at is a) w (fixed_high g.kind high)
+    by_request Get None = refl
+    by_request Get (Some w) = get_told g is a w (drop (length a.gets) a.puts) refl
+    by_request (Put v) None = small_told g is a v None
+    by_request (Put v) (Some w) = small_told g is a v (Some w)
+    by_request (Set slot v) None =
+        told_either g (is_first slot) _ _ (waiting_at is a) None (λ b. if b then (if is_small (g.sort.look v) then put_says g.sort is a v None else wrong_says g None) else [])
+        (small_told g is a v None) refl
+    by_request (Set slot v) (Some w) =
+        told_either g (is_first slot) _ _ (waiting_at is a) (Some w) (λ b. if b then (if is_small (g.sort.look v) then put_says g.sort is a v (Some w) else wrong_says g (Some w)) else [])
+        (small_told g is a v (Some w)) refl
+    by_request Close w = close_by g is a w
+    by_request _ None = refl
+    by_request _ (Some w) = refl

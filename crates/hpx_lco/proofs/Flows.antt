@@ -13,6 +13,8 @@ use Rattle.hpx_calls.specs.declared.effect.Called.{Called}
 use Rattle.hpx_calls.specs.Tables.{fitted, or_nothing, inputs_from, gives, puts, puts_free, starts, puts_late, refuses, is_movable}
 use Rattle.hpx_calls.specs.Histories.{Setting, Object, Call, Told, own, begun, alone, next, still, tells, called_on, run, says}
 use Rattle.hpx_calls.proofs.Slots.{weight, weigh, weigh_all, all_weighed, one_each, present, length_kept, at_most, room_left, still_once}
+use Rattle.hpx_lco.specs.Every.{place_says, wrong_says, dataflow_says}
+use Rattle.hpx_calls.proofs.Steps.{told_on, where_told, move_told, managed_high, fixed_high}
 use Rattle.hpx_lco.specs.Answered.{or_else, joins_get, gets}
 use Rattle.hpx_lco.specs.Flows.{given_at, giving, size_at, bytes_from, within, value_of, all_from, list_from, is_full, has_get, give_says, ask_says, story, starts as told_starts}
 use Rattle.hpx_lco.proofs.Still.{object, call, same_where, same_move, either, told_either, same_test}
@@ -573,3 +575,51 @@ starts_once g code n h =
     by_test : (b : Bool) → started (flow_by code n (kept g.sort n h) (gets h) b).content ≡ (if b then 1 else 0)
     by_test true = refl
     by_test false = refl
+
+-- ---- every call
+
+-- what a dataflow lists
+abbrev is_flow : {V : Type 0} → Request V → Bool
+is_flow (Set z v) = true
+is_flow (PutAt z v) = true
+is_flow Get = true
+is_flow Where = true
+is_flow _ = false
+
+pub dataflow_tells : {V W : Type 0} (g : Setting V) (code n : ℕ) (h : List (Call V W)) (r : Request V) (w : Option W) → 32 ≤ g.kind
+    → says g (Dataflow code n []) h (call r w) ≡ dataflow_says g code n h r w
+dataflow_tells {V} {W} g code n h r w high = ap (λ o. told_on g o (call r w)) (flow_run g code n h) ∙ by_request r w
+  where
+    xs : List (Given V)
+    xs = kept g.sort n h
+
+    back : (c : Call V W) → told_on g (flow_at code n xs (gets h)) c ≡ says g (Dataflow code n []) h c
+    back c = sym (ap (λ o. told_on g o c) (flow_run g code n h))
+
+    rest : (b : Bool) (r : Request V) (w : Option W) → is_flow r ≡ false → told_on g (flow_by code n xs (gets h) b) (call r w) ≡ wrong_says g w
+    rest true (Set z v) w e = absurd (cc)
+    rest false (Set z v) w e = absurd (cc)
+    rest true (PutAt z v) w e = absurd (cc)
+    rest false (PutAt z v) w e = absurd (cc)
+    rest true Get w e = absurd (cc)
+    rest false Get w e = absurd (cc)
+    rest true Where w e = absurd (cc)
+    rest false Where w e = absurd (cc)
+    rest true (Move to) w e = move_told g (Started code n) to [] w (fixed_high g.kind high)
+    rest false (Move to) w e = move_told g (Dataflow code n xs) to (take 1 (gets h)) w (fixed_high g.kind high)
+    rest true _ None e = refl
+    rest true _ (Some w) e = refl
+    rest false _ None e = refl
+    rest false _ (Some w) e = refl
+
+    place : (b : Bool) (w : Option W) → told_on g (flow_by code n xs (gets h) b) (call Where w) ≡ place_says g w
+    place true w = where_told g (Started code n) [] w true (managed_high g.kind high)
+    place false w = where_told g (Dataflow code n xs) (take 1 (gets h)) w true (managed_high g.kind high)
+
+    by_request : (r : Request V) (w : Option W) → told_on g (flow_at code n xs (gets h)) (call r w) ≡ dataflow_says g code n h r w
+    by_request (Set z v) w = back (call (Set z v) w) ∙ set_tells g code n h z v w
+    by_request (PutAt z v) w = back (call (PutAt z v) w) ∙ put_tells g code n h z v w
+    by_request Get None = refl
+    by_request Get (Some w) = back (call Get (Some w)) ∙ get_tells g code n h w
+    by_request Where w = place (is_ready n xs (gets h)) w
+    by_request r w = rest (is_ready n xs (gets h)) r w refl

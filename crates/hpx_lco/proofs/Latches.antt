@@ -1,5 +1,5 @@
 -- What a latch holds after calls, and what calls on it are told.
-use Rattle.std.specs.Prelude.{ℕ, zero, suc, Bool, true, false, nat_le, List, [], ◌∷◌, ◌++◌, ◌+◌, ◌-◌, ◌≡◌, ◌==◌, Option, Some, None, length, take, refl, if◌then◌else◌}
+use Rattle.std.specs.Prelude.{ℕ, zero, suc, Bool, true, false, nat_le, List, [], ◌∷◌, ◌++◌, ◌+◌, ◌-◌, ◌≡◌, ◌≤◌, ◌==◌, Option, Some, None, length, take, refl, if◌then◌else◌}
 use Rattle.std.proofs.Common.{ap, ◌∙◌, arith}
 use Rattle.std.proofs.lemmas.Bool.{le-leb, lt-leb, eq-eqb, ne_eqb, eqb-true, eqb-false}
 use Rattle.hpx_calls.specs.Values.{Sort}
@@ -7,6 +7,8 @@ use Rattle.hpx_calls.specs.declared.content.Content.TheVariants.{Latch}
 use Rattle.hpx_calls.specs.declared.request.Request.{Request}
 use Rattle.hpx_calls.specs.declared.request.Request.TheVariants.{Move, Where, Down, Wait}
 use Rattle.hpx_calls.specs.Histories.{Setting, Object, Call, Told, own, each, joined, next, tells, called_on, run, says}
+use Rattle.hpx_lco.specs.Every.{latch_says}
+use Rattle.hpx_calls.proofs.Steps.{told_on, where_told, move_told, managed_high, fixed_high}
 use Rattle.hpx_lco.specs.Answered.{down_count, downs, joins_wait, waits, down_says, wait_says}
 use Rattle.hpx_lco.proofs.Still.{object, call, same_where, same_move, either, told_either, same_test, joins_cut, is_full, drop_all, take_all}
 
@@ -104,3 +106,21 @@ pub wait_tells : {V W : Type 0} (g : Setting V) (n : ℕ) (h : List (Call V W)) 
 wait_tells g n h w =
     ap (λ o. tells g (called_on g o (call Wait (Some w))).effect o.waiting (Some w)) (latch_run g n h)
     ∙ wait_by g (n - downs h) (waits h) w _ (no_more_left n (downs h))
+
+-- ---- every call
+
+pub latch_tells : {V W : Type 0} (g : Setting V) (n : ℕ) (h : List (Call V W)) (r : Request V) (w : Option W) → 32 ≤ g.kind
+    → says g (Latch n) h (call r w) ≡ latch_says g n h r w
+latch_tells {V} {W} g n h r w high = ap (λ o. told_on g o (call r w)) (latch_run g n h) ∙ by_request r w
+  where
+    left : ℕ
+    left = n - downs h
+
+    by_request : (r : Request V) (w : Option W) → told_on g (latch_at left (waits h)) (call r w) ≡ latch_says g n h r w
+    by_request Where w = where_told g (Latch left) (held_back left (waits h)) w true (managed_high g.kind high)
+    by_request (Move to) w = move_told g (Latch left) to (held_back left (waits h)) w (fixed_high g.kind high)
+    by_request Down w = down_by g left (waits h) w _ _ (no_more_left n (downs h)) (one_left n (downs h))
+    by_request Wait None = refl
+    by_request Wait (Some w) = wait_by g left (waits h) w _ (no_more_left n (downs h))
+    by_request _ None = refl
+    by_request _ (Some w) = refl

@@ -1,5 +1,5 @@
 -- What a promise holds after calls, and what calls on it are told.
-use Rattle.std.specs.Prelude.{ℤ, Bool, true, false, List, [], ◌∷◌, ◌++◌, ◌≡◌, ◌==◌, Option, Some, None, is_some, length, take, refl, if◌then◌else◌}
+use Rattle.std.specs.Prelude.{ℤ, ◌≤◌, Bool, true, false, List, [], ◌∷◌, ◌++◌, ◌≡◌, ◌==◌, Option, Some, None, is_some, length, take, refl, if◌then◌else◌}
 use Rattle.std.proofs.Common.{ap, ◌∙◌}
 use Rattle.hpx_calls.specs.Values.{is_number_or_text}
 use Rattle.hpx_calls.specs.declared.content.Content.TheVariants.{Promise}
@@ -9,6 +9,8 @@ use Rattle.hpx_calls.specs.declared.effect.Called.{Called}
 use Rattle.hpx_calls.specs.declared.effect.Effect.TheVariants.{Silent}
 use Rattle.hpx_calls.specs.Tables.{is_first, leaves, sets, wrong}
 use Rattle.hpx_calls.specs.Histories.{Setting, Object, Call, Told, own, each, next, still, tells, called_on, run, says}
+use Rattle.hpx_lco.specs.Every.{wrong_says, promise_says}
+use Rattle.hpx_calls.proofs.Steps.{told_on, where_told, move_told, managed_high, fixed_high}
 use Rattle.hpx_lco.specs.Answered.{setting, or_else, first_set, joins_get, gets, set_says, get_says}
 use Rattle.hpx_lco.proofs.Still.{object, call, same_where, same_move, either, told_either, joins_cut, is_full, drop_all, take_all}
 
@@ -106,3 +108,36 @@ pub get_tells : {V W : Type 0} (g : Setting V) (h : List (Call V W)) (w : W)
     → says g (Promise None) h (call Get (Some w)) ≡ get_says g.sort (first_set g.sort h) (gets h) (Some w)
 get_tells g h w =
     ap (λ o. tells g (called_on g o (call Get (Some w))).effect o.waiting (Some w)) (promise_run g h) ∙ get_by g (first_set g.sort h) (gets h) w
+
+-- ---- every call
+
+sets_told : {V W : Type 0} (g : Setting V) (o : Option V) (ws : List W) (v : V) (w : Option W)
+    → tells g (sets g.sort (length (held_back o ws)) o v).effect (held_back o ws) w ≡ set_says g.sort o ws v w
+sets_told g None ws v w = ap (λ us. freed v us w g.sort.nothing) (take_all (take 7 ws))
+sets_told g (Some u) ws v w = refl
+
+pub promise_tells : {V W : Type 0} (g : Setting V) (h : List (Call V W)) (r : Request V) (w : Option W) → 32 ≤ g.kind
+    → says g (Promise None) h (call r w) ≡ promise_says g h r w
+promise_tells {V} {W} g h r w high = ap (λ o. told_on g o (call r w)) (promise_run g h) ∙ by_request r w
+  where
+    o : Option V
+    o = first_set g.sort h
+
+    ws : List W
+    ws = gets h
+
+    by_request : (r : Request V) (w : Option W) → told_on g (promise_at o ws) (call r w) ≡ promise_says g h r w
+    by_request Where w = where_told g (Promise o) (held_back o ws) w true (managed_high g.kind high)
+    by_request (Move to) w = move_told g (Promise o) to (held_back o ws) w (fixed_high g.kind high)
+    by_request Get None = refl
+    by_request Get (Some w) = get_by g o ws w
+    by_request (Put v) None =
+        told_either g (is_number_or_text (g.sort.look v)) _ _ (held_back o ws) None (λ b. if b then set_says g.sort o ws v None else wrong_says g None) (sets_told g o ws v None) refl
+    by_request (Put v) (Some w) =
+        told_either g (is_number_or_text (g.sort.look v)) _ _ (held_back o ws) (Some w) (λ b. if b then set_says g.sort o ws v (Some w) else wrong_says g (Some w)) (sets_told g o ws v (Some w)) refl
+    by_request (Set slot v) None =
+        told_either g (is_first slot) _ _ (held_back o ws) None (λ b. if b then set_says g.sort o ws v None else []) (sets_told g o ws v None) refl
+    by_request (Set slot v) (Some w) =
+        told_either g (is_first slot) _ _ (held_back o ws) (Some w) (λ b. if b then set_says g.sort o ws v (Some w) else []) (sets_told g o ws v (Some w)) refl
+    by_request _ None = refl
+    by_request _ (Some w) = refl

@@ -8,20 +8,22 @@ use Rattle.hpx_calls.specs.Histories.{Call, Told, own, each, joined}
 
 -- ---- latches
 
--- how many DOWNs there were
+-- one DOWN, or none
 abbrev pub down_count : {V : Type 0} → Request V → ℕ
 down_count Down = 1
 down_count _ = 0
 
+-- how many DOWNs there were in all
 abbrev pub downs : {V W : Type 0} → List (Call V W) → ℕ
 downs [] = 0
 downs (c ∷ h) = downs h + down_count c.request
 
--- the WAITs that had a continuation, the oldest first
+-- a WAIT that has a continuation comes behind those before
 abbrev pub joins_wait : {V W : Type 0} → Request V → List W → Option W → List W
 joins_wait Wait ws w = joined ws w
 joins_wait _ ws w = ws
 
+-- the WAITs of all calls that had a continuation, the oldest first
 abbrev pub waits : {V W : Type 0} → List (Call V W) → List W
 waits [] = []
 waits (c ∷ h) = joins_wait c.request (waits h) c.waiter
@@ -45,6 +47,7 @@ setting k (Set slot v) = if is_first slot then Some v else None
 setting k (Put v) = if is_number_or_text (k.look v) then Some v else None
 setting k _ = None
 
+-- the first of two, if it is there, else the second
 abbrev pub or_else : {X : Type 0} → Option X → Option X → Option X
 or_else (Some x) o = Some x
 or_else None o = o
@@ -54,11 +57,12 @@ abbrev pub first_set : {V W : Type 0} → Sort V → List (Call V W) → Option 
 first_set k [] = None
 first_set k (c ∷ h) = or_else (first_set k h) (setting k c.request)
 
--- the GETs that had a continuation, the oldest first
+-- a GET that has a continuation comes behind those before
 abbrev pub joins_get : {V W : Type 0} → Request V → List W → Option W → List W
 joins_get Get ws w = joined ws w
 joins_get _ ws w = ws
 
+-- the GETs of all calls that had a continuation, the oldest first
 abbrev pub gets : {V W : Type 0} → List (Call V W) → List W
 gets [] = []
 gets (c ∷ h) = joins_get c.request (gets h) c.waiter
@@ -75,19 +79,21 @@ get_says k None ws w = if nat_le 7 (length ws) then own w (k.fault 10) else []
 
 -- ---- channels
 
--- whether there was a CLOSE
+-- whether a call is a CLOSE
 abbrev pub is_close : {V : Type 0} → Request V → Bool
 is_close Close = true
 is_close _ = false
 
+-- whether there was a CLOSE in all calls
 abbrev pub closed : {V W : Type 0} → List (Call V W) → Bool
 closed [] = false
 closed (c ∷ h) = if is_close c.request then true else closed h
 
--- the value that a call puts, if a channel takes it
+-- a value, if a channel takes it
 abbrev pub small : {V : Type 0} → Sort V → V → Option V
 small k v = if is_small (k.look v) then Some v else None
 
+-- the value that a call puts: PUT, or SET of slot 0
 abbrev pub putting : {V : Type 0} → Sort V → Request V → Option V
 putting k (Set slot v) = if is_first slot then small k v else None
 putting k (Put v) = small k v
@@ -113,14 +119,17 @@ abbrev pub takes_get : {V W : Type 0} → Bool → Accepted V W → Bool
 takes_get true a = nat_lt (length a.gets) (length a.puts)
 takes_get false a = if length a.gets == length a.puts + 100 then false else true
 
+-- what is accepted with one more put, if the call puts one
 abbrev pub with_put : {V W : Type 0} → Bool → Accepted V W → Option V → Accepted V W
 with_put is a None = a
 with_put is a (Some v) = if takes_put is a then record { puts = a.puts ++ v ∷ []; gets = a.gets } else a
 
+-- what is accepted with one more get, if the call is one
 abbrev pub with_get : {V W : Type 0} → Bool → Accepted V W → Option W → Accepted V W
 with_get is a None = a
 with_get is a (Some w) = if takes_get is a then record { puts = a.puts; gets = a.gets ++ w ∷ [] } else a
 
+-- what was accepted in all calls
 abbrev pub accepted : {V W : Type 0} → Sort V → List (Call V W) → Accepted V W
 accepted k [] = record { puts = []; gets = [] }
 accepted k (c ∷ h) = with_get (closed h) (with_put (closed h) (accepted k h) (putting k c.request)) (getting c.request c.waiter)
@@ -137,6 +146,7 @@ abbrev pub received : {V W : Type 0} → List V → Option W → List (Told V W)
 received [] w = []
 received (v ∷ vs) w = own w v
 
+-- a get that is not accepted is Closed or Full
 abbrev pub get_from : {V W : Type 0} → Sort V → Bool → Accepted V W → Option W → List (Told V W)
 get_from k is a w =
     if takes_get is a then received (drop (length a.gets) a.puts) w
@@ -149,11 +159,12 @@ close_says k false a w = each (k.fault 8) (drop (length a.puts) a.gets) ++ own w
 
 -- ---- barriers
 
--- the ARRIVEs that had a continuation, the oldest first
+-- an ARRIVE that has a continuation comes behind those before
 abbrev pub joins_arrive : {V W : Type 0} → Request V → List W → Option W → List W
 joins_arrive Arrive ws w = joined ws w
 joins_arrive _ ws w = ws
 
+-- the ARRIVEs of all calls that had a continuation, the oldest first
 abbrev pub arrivals : {V W : Type 0} → List (Call V W) → List W
 arrivals [] = []
 arrivals (c ∷ h) = joins_arrive c.request (arrivals h) c.waiter

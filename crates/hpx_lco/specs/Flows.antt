@@ -10,21 +10,23 @@ use Rattle.hpx_lco.specs.Answered.{or_else, gets}
 
 -- ---- the values of the inputs
 
--- the value that a call gives an input, if it gives it one
+-- a value for an input, if the number is the one of the input
 abbrev pub given_at : {V : Type 0} → ℕ → ℤ → V → Option V
 given_at slot (pos n) v = if n == slot then Some v else None
 given_at slot (negsuc n) v = None
 
+-- the value that a call gives an input: SET or PUT with its number
 abbrev pub giving : {V : Type 0} → ℕ → Request V → Option V
 giving slot (Set z v) = given_at slot z v
 giving slot (PutAt z v) = given_at slot z v
 giving slot _ = None
 
--- how many bytes there are at so many inputs from one on
+-- how many bytes the value of an input takes, if there is one
 abbrev pub size_at : {V : Type 0} → Sort V → Option V → ℕ
 size_at k None = 0
 size_at k (Some v) = size (k.look v)
 
+-- how many bytes the values of so many inputs take, from one on
 abbrev pub bytes_from : {V : Type 0} → Sort V → (ℕ → Option V) → ℕ → ℕ → ℕ
 bytes_from k f slot zero = 0
 bytes_from k f slot (suc n) = size_at k (f slot) + bytes_from k f (slot + 1) n
@@ -39,19 +41,21 @@ abbrev pub value_of : {V W : Type 0} → Sort V → ℕ → List (Call V W) → 
 value_of k n [] slot = None
 value_of k n (c ∷ h) slot = or_else (value_of k n h slot) (within k (bytes_from k (value_of k n h) 0 n) (giving slot c.request))
 
--- whether so many inputs from one on have values, and these
+-- whether so many inputs from one on have values
 abbrev pub all_from : {V : Type 0} → (ℕ → Option V) → ℕ → ℕ → Bool
 all_from f slot zero = true
 all_from f slot (suc n) = is_some (f slot) && all_from f (slot + 1) n
 
+-- the values of so many inputs from one on
 abbrev pub list_from : {V : Type 0} → Sort V → (ℕ → Option V) → ℕ → ℕ → List V
 list_from k f slot zero = []
 list_from k f slot (suc n) = or_nothing k (f slot) ∷ list_from k f (slot + 1) n
 
--- whether all n inputs have values, and there was a GET that had a continuation
+-- whether all n inputs have values
 abbrev pub is_full : {V W : Type 0} → Sort V → ℕ → List (Call V W) → Bool
 is_full k n h = all_from (value_of k n h) 0 n
 
+-- whether there was a GET that had a continuation
 abbrev pub has_get : {V W : Type 0} → List (Call V W) → Bool
 has_get h = nat_le 1 (length (gets h))
 
@@ -81,11 +85,12 @@ abbrev pub story : {V W : Type 0} → Setting V → Content V → List (Call V W
 story g x [] = []
 story g x (c ∷ h) = story g x h ++ says g x h c
 
--- how many actions start
+-- one action that starts, or none
 abbrev pub start : {V W : Type 0} → Told V W → ℕ
 start (Answered w v) = 0
 start (Begun w code args) = 1
 
+-- how many actions start in all
 abbrev pub starts : {V W : Type 0} → List (Told V W) → ℕ
 starts [] = 0
 starts (t ∷ ts) = start t + starts ts
