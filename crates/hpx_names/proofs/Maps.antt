@@ -1,5 +1,5 @@
 -- What a table holds after calls, and what calls on name services are told.
-use Rattle.std.specs.Prelude.{ℕ, suc, pos, negsuc, Bool, true, false, nat_le, List, [], ◌∷◌, ◌++◌, ◌≡◌, ◌==◌, ◌&&◌, ◌||◌, Option, Some, None, codes, is_some, length, refl, if◌then◌else◌}
+use Rattle.std.specs.Prelude.{ℕ, suc, pos, negsuc, Bool, true, false, nat_le, List, [], ◌∷◌, ◌++◌, ◌≡◌, ◌≤◌, ◌==◌, ◌&&◌, ◌||◌, Option, Some, None, codes, is_some, length, refl, if◌then◌else◌}
 use Rattle.std.proofs.Common.{ap, sym, ◌∙◌}
 use Rattle.std.specs.Str.{bytes_eq}
 use Rattle.std.proofs.lemmas.Bool.{cond_both}
@@ -13,8 +13,9 @@ use Rattle.hpx_calls.specs.declared.effect.Called.{Called}
 use Rattle.hpx_calls.specs.Contents.{precedes, rises_from, count_in}
 use Rattle.hpx_calls.specs.Tables.{found, added, removed, listed, registers, unregisters, resolves, makes, makes_bare, makes_at, makes_counted, makes_row, with_one}
 use Rattle.hpx_calls.specs.Histories.{Setting, Call, own, next, still, tells, called_on, run, says}
-use Rattle.hpx_calls.proofs.Steps.{object, call, either, told_either, same_where, same_move}
+use Rattle.hpx_calls.proofs.Steps.{object, call, either, told_either, same_where, same_move, told_on, where_told, move_told, root_low, fixed_low}
 use Rattle.hpx_calls.proofs.Orders.{bytes_same, bytes_differ, found_added, is_sorted, sorted_added, sorted_removed, sorted_found}
+use Rattle.hpx_names.specs.Every.{table_says, maker_says, size_says}
 use Rattle.hpx_names.specs.Maps.{has, with_key, without_key, keys_after, keys, stands_after, stands_for, in_order_from, in_order, spaced, register_answer, resolve_answer, unregister_answer, is_empty, is_within, is_row, is_one, shape_under, new_answer}
 
 -- ---- the pairs after calls
@@ -396,7 +397,7 @@ maker_step g (New name vs) (Some w) = makes_stays g.sort name vs (Some w)
 maker_step g _ None = refl
 maker_step g _ (Some w) = refl
 
-maker_run : {V W : Type 0} (g : Setting V) (h : List (Call V W)) → run g Maker h ≡ object Maker []
+pub maker_run : {V W : Type 0} (g : Setting V) (h : List (Call V W)) → run g Maker h ≡ object Maker []
 maker_run g [] = refl
 maker_run g (c ∷ h) = ap (λ o. next g o c) (maker_run g h) ∙ maker_step g c.request c.waiter
 
@@ -426,3 +427,45 @@ count_tells {V} {W} g n h w = ap (λ o. tells g (called_on g o (call Count w)).e
     by_waiter : (w : Option W) → tells g (called_on g (object (Size n) []) (call Count w)).effect [] w ≡ own w (g.sort.int (pos n))
     by_waiter None = refl
     by_waiter (Some w) = refl
+
+-- ---- every call
+
+pub table_tells : {V W : Type 0} (g : Setting V) (h : List (Call V W)) (r : Request V) (w : Option W) → g.kind ≤ 15
+    → says g (Table []) h (call r w) ≡ table_says g h r w
+table_tells {V} {W} g h r w low = ap (λ o. told_on g o (call r w)) (table_run g h) ∙ by_request r w
+  where
+    back : (c : Call V W) → told_on g (object (Table (pairs_of h)) []) c ≡ says g (Table []) h c
+    back c = sym (ap (λ o. told_on g o c) (table_run g h))
+
+    by_request : (r : Request V) (w : Option W) → told_on g (object (Table (pairs_of h)) []) (call r w) ≡ table_says g h r w
+    by_request (Register key to) w = back (call (Register key to) w) ∙ register_tells g h key to w
+    by_request (Resolve key) w = back (call (Resolve key) w) ∙ resolve_tells g h key w
+    by_request (Unregister key) w = back (call (Unregister key) w) ∙ unregister_tells g h key w
+    by_request Keys w = back (call Keys w) ∙ list_tells g h w
+    by_request Where w = where_told g (Table (pairs_of h)) [] w false (root_low g.kind low)
+    by_request (Move to) w = move_told g (Table (pairs_of h)) to [] w (fixed_low g.kind low)
+    by_request _ None = refl
+    by_request _ (Some w) = refl
+
+pub maker_tells : {V W : Type 0} (g : Setting V) (h : List (Call V W)) (r : Request V) (w : Option W) → g.kind ≤ 15
+    → says g Maker h (call r w) ≡ maker_says g r w
+maker_tells {V} {W} g h r w low = ap (λ o. told_on g o (call r w)) (maker_run g h) ∙ by_request r w
+  where
+    by_request : (r : Request V) (w : Option W) → told_on g (object Maker []) (call r w) ≡ maker_says g r w
+    by_request (New name vs) w = sym (ap (λ o. told_on g o (call (New name vs) w)) (maker_run g h)) ∙ new_tells g h name vs w
+    by_request Where w = where_told g Maker [] w false (root_low g.kind low)
+    by_request (Move to) w = move_told g Maker to [] w (fixed_low g.kind low)
+    by_request _ None = refl
+    by_request _ (Some w) = refl
+
+pub size_tells : {V W : Type 0} (g : Setting V) (n : ℕ) (h : List (Call V W)) (r : Request V) (w : Option W) → g.kind ≤ 15
+    → says g (Size n) h (call r w) ≡ size_says g n r w
+size_tells {V} {W} g n h r w low = ap (λ o. told_on g o (call r w)) (size_run g n h) ∙ by_request r w
+  where
+    by_request : (r : Request V) (w : Option W) → told_on g (object (Size n) []) (call r w) ≡ size_says g n r w
+    by_request Count None = refl
+    by_request Count (Some w) = refl
+    by_request Where w = where_told g (Size n) [] w false (root_low g.kind low)
+    by_request (Move to) w = move_told g (Size n) to [] w (fixed_low g.kind low)
+    by_request _ None = refl
+    by_request _ (Some w) = refl

@@ -19,6 +19,7 @@ abbrev pub with_key : List ℕ → List (List ℕ) → List (List ℕ)
 with_key key [] = key ∷ []
 with_key key (k ∷ ks) = if precedes key k then key ∷ k ∷ ks else k ∷ with_key key ks
 
+-- the keys without one
 abbrev pub without_key : List ℕ → List (List ℕ) → List (List ℕ)
 without_key key [] = []
 without_key key (k ∷ ks) = if bytes_eq key k then ks else k ∷ without_key key ks
@@ -46,11 +47,12 @@ abbrev pub stands_for : {V W : Type 0} → List (Call V W) → List ℕ → Opti
 stands_for [] at = None
 stands_for (c ∷ h) at = stands_after c.request at (length (keys h)) (stands_for h at)
 
--- each key comes before the next
+-- whether each key comes before the next, and after this one
 abbrev pub in_order_from : List ℕ → List (List ℕ) → Bool
 in_order_from key [] = true
 in_order_from key (k ∷ ks) = precedes key k && in_order_from k ks
 
+-- whether the keys stand in order, none twice
 abbrev pub in_order : List (List ℕ) → Bool
 in_order [] = true
 in_order (k ∷ ks) = in_order_from k ks
@@ -66,29 +68,34 @@ abbrev pub register_answer : {V : Type 0} → Sort V → Option V → ℕ → V
 register_answer k (Some old) many = k.fault 2
 register_answer k None many = if many == 100 then k.fault 10 else k.nothing
 
+-- RESOLVE: the object, or NoName
 abbrev pub resolve_answer : {V : Type 0} → Sort V → Option V → V
 resolve_answer k None = k.fault 3
 resolve_answer k (Some to) = to
 
+-- UNREGISTER: Unit, or NoName
 abbrev pub unregister_answer : {V : Type 0} → Sort V → Option V → V
 unregister_answer k None = k.fault 3
 unregister_answer k (Some to) = k.nothing
 
 -- ---- the namespace of components
 
--- the values that a kind takes: none, a number from 1 to so many, or from 1 to 1,024 numbers
+-- no values
 abbrev pub is_empty : {V : Type 0} → List V → Bool
 is_empty [] = true
 is_empty (v ∷ vs) = false
 
+-- a number from 1 to so many
 abbrev pub is_within : ℕ → Look → Bool
 is_within most (Int (pos n)) = nat_le 1 n && nat_le n most
 is_within most _ = false
 
+-- from 1 to 1,024 numbers
 abbrev pub is_row : Look → Bool
 is_row (Ints numbers) = nat_le 1 (length numbers) && nat_le (length numbers) 1024
 is_row _ = false
 
+-- one value that is such
 abbrev pub is_one : {V : Type 0} → Sort V → (Look → Bool) → List V → Bool
 is_one k f (v ∷ []) = f (k.look v)
 is_one k f _ = false

@@ -1,5 +1,8 @@
 use crate::act::names_act;
-use hpx_calls::codes::{COUNT, LIST, NEW, REGISTER, RESOLVE, UNREGISTER, WHERE};
+use hpx_calls::codes::{
+    ACCUMULATOR, COUNT, LIST, NEW, PARTITION, REGISTER, RESOLVE, UNREGISTER, WHERE,
+};
+use hpx_calls::read::content_in;
 use hpx_value::codes::{COMPONENTS, LOCALITIES, SYMBOLS};
 use hpx_value::gid::{Gid, Gids};
 use hpx_value::items::{Items, Text};
@@ -123,6 +126,11 @@ impl Object {
     }
 }
 
+// Three numbers.
+fn row(alloc: Global) -> Result<Value, Fail> {
+    Ok(Value::Ints(Items::from_vec(vec![in alloc; 4, 5, 6]?)))
+}
+
 // A call with a word, if there is one, and a Ref or a number after it, and what is told.
 type Row = (u16, Option<&'static [u8]>, Option<Rest>, &'static str);
 
@@ -130,6 +138,7 @@ type Row = (u16, Option<&'static [u8]>, Option<Rest>, &'static str);
 enum Rest {
     Id,
     Number(i64),
+    Row,
 }
 
 fn args(alloc: Global, first: Option<&[u8]>, rest: Option<Rest>) -> Result<Vec<Value>, Fail> {
@@ -140,6 +149,7 @@ fn args(alloc: Global, first: Option<&[u8]>, rest: Option<Rest>) -> Result<Vec<V
     match rest {
         Some(Rest::Id) => values.push(Value::Ref(1))?,
         Some(Rest::Number(number)) => values.push(Value::Int(number))?,
+        Some(Rest::Row) => values.push(row(alloc)?)?,
         None => {}
     }
     Ok(values)
@@ -206,8 +216,9 @@ fn a_table_is_full(rt: HostRuntime) -> Result<(), Fail> {
 
 #[test]
 fn components_make_objects(rt: HostRuntime) -> Result<(), Fail> {
-    let rows: [Row; 9] = [
+    let rows: [Row; 11] = [
         (NEW, Some(b"accumulator"), None, "makes 16;place 3"),
+        (NEW, Some(b"partition"), Some(Rest::Row), "makes 17;place 3"),
         (NEW, Some(b"promise"), None, "makes 32;place 3"),
         (NEW, Some(b"channel"), None, "makes 34;place 3"),
         (
@@ -225,6 +236,7 @@ fn components_make_objects(rt: HostRuntime) -> Result<(), Fail> {
         (NEW, Some(b"latch"), Some(Rest::Number(0)), "fault 11"),
         (NEW, Some(b"barrier"), Some(Rest::Number(101)), "fault 11"),
         (NEW, Some(b"promise"), Some(Rest::Number(1)), "fault 11"),
+        (NEW, Some(b"partition"), Some(Rest::Number(1)), "fault 11"),
         (NEW, Some(b"tally"), None, "fault 4"),
     ];
     let components = Object::new(rt.alloc(), COMPONENTS, Vec::new(rt.alloc()));
@@ -237,4 +249,27 @@ fn localities_are_counted(rt: HostRuntime) -> Result<(), Fail> {
     let values = vec![in rt.alloc(); Value::Int(3)]?;
     let localities = Object::new(rt.alloc(), LOCALITIES, values);
     check(&rt, rt.alloc(), localities, &rows)
+}
+
+// What the values of a kind's state show, written again as values.
+fn shown(alloc: Global, kind: u32, value: Value) -> Result<Values, Fail> {
+    let object = Object::new(alloc, kind, vec![in alloc; value]?);
+    Ok(content_in(alloc, 3, kind, &object.state)?.into_values(alloc)?)
+}
+
+#[test]
+fn numbers_are_shown(rt: HostRuntime) -> Result<(), Fail> {
+    let alloc = rt.alloc();
+    let number = shown(alloc, ACCUMULATOR, Value::Int(-7))?;
+    assert!(&rt;
+        matches!(number.as_slice(), [Value::Int(-7)]),
+        "an accumulator"
+    );
+    let numbers = shown(alloc, PARTITION, row(alloc)?)?;
+    let are_shown = match numbers.as_slice() {
+        [Value::Ints(list)] => list.as_slice() == [4, 5, 6].as_slice(),
+        _ => false,
+    };
+    assert!(&rt; are_shown, "a partition");
+    Ok(())
 }
