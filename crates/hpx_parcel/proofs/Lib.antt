@@ -10,3 +10,4 @@ pub mod Bytes
 pub mod StateLaws
 pub mod Rules
 pub mod Frames
+pub mod Standing

@@ -1,7 +1,8 @@
 -- The credits of a frame.
-use Rattle.std.specs.Prelude.{ℕ, List, [], ◌∷◌, ◌++◌, Option, Some, None}
+use Rattle.std.specs.Prelude.{ℕ, List, [], ◌∷◌, ◌++◌, ◌≡◌, Option, Some, None}
 use Rattle.hpx_value.specs.Ids.{bare}
 use Rattle.hpx_parcel.specs.Types.{Id, Parcel, Apply, Return, Ask, Give, Cached, Move, Go, Object, Landed, Free}
+use Rattle.hpx_parcel.specs.Spelling.{id_text}
 use Rattle.hpx_parcel.specs.Reading.{parcel_of}
 
 -- a credit of 2^log of an object, which its bare id names
@@ -40,3 +41,8 @@ parcel_credits (Some p) = credits_of (ids_in p)
 -- the credits in bytes: none where they spell no parcel
 abbrev pub credits_in : List ℕ → List Credit
 credits_in bytes = parcel_credits (parcel_of bytes)
+
+-- the texts of ids stand in bytes, one behind the other
+abbrev pub StandIn : List Id → List ℕ → Type 0
+StandIn [] bytes = Unit {0}
+StandIn (id ∷ ids) bytes = (before : List ℕ) × (after : List ℕ) × (bytes ≡ before ++ (id_text id ++ after)) × StandIn ids after

@@ -5,7 +5,7 @@ ghost use Rattle.std.specs.List.{AllByRecursion};
 ghost use Rattle.hpx_parcel.specs.Types.{Parcel};
 ghost use Rattle.hpx_parcel.specs.Parcels.{Spells};
 ghost use Rattle.hpx_parcel.specs.Reading.{parcel_of};
-ghost use Rattle.hpx_parcel.specs.Credits.{credits_of, credits_in, ids_in};
+ghost use Rattle.hpx_parcel.specs.Credits.{StandIn, credits_of, credits_in, ids_in};
 
 /// No bytes spell two parcels.
 #[tactic(auto, using(crate::proofs::Frames::one_parcel))]
@@ -29,6 +29,12 @@ pub fn reading_law()
 /// The credits of a frame are those of the ids in its parcel.
 pub fn credits_law()
     ensures { (bytes : List ℕ) (p : Parcel) → Spells bytes p → credits_in bytes ≡ credits_of (ids_in p) }
+{}
+
+/// The ids of a parcel stand in its spelling, each behind the one before it.
+#[tactic(auto, using(crate::proofs::Standing::ids_stand))]
+pub fn standing_law()
+    ensures { (bytes : List ℕ) (p : Parcel) → Spells bytes p → StandIn (ids_in p) bytes }
 {}
 
 /// A spelling is short, and has bytes alone.

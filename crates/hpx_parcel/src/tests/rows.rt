@@ -1,7 +1,7 @@
-//! The worked frames, and their refusals.
+//! The worked frames, one of each kind, and their refusals.
 use crate::parcel::Parcel;
 use hpx_value::gid::Gid;
-use hpx_value::value::{Act, Cont, Value};
+use hpx_value::value::{Act, Cont, State, Value};
 
 /// Frames, behind their lengths and the parcels that they spell.
 pub fn spelled() -> &'static str {
@@ -10,7 +10,11 @@ pub fn spelled() -> &'static str {
 28 Ask 0103 0000000240000021 0000000000000001 0000 0000000000000000
 26 Give 0104 000000025f000021 0000000000000001 0000000000000000
 18 Free 010a 0000000200000021 0000000000000001
-20 Cached 0105 0000000200000021 0000000000000001 0002"
+20 Cached 0105 0000000200000021 0000000000000001 0002
+42 Move 0106 0001 0000000000000007 000000025e000021 0000000000000001 0001 0001 02 0000000000000003 00
+42 Go 0107 0001 0000000000000007 000000025e000021 0000000000000001 0001 0001 02 0000000000000003 00
+59 Object 0108 0001 0000000000000007 000000025e000021 0000000000000001 0001 0001 02 0000000000000003 00 00000000 0001 02 0000000000000005 0000
+20 Landed 0109 000000025e000021 0000000000000001 0003"
 }
 
 /// The object of these frames: home 1, kind 16, number 1.
@@ -29,6 +33,24 @@ fn is_add(act: &Act) -> bool {
         && act.ids.as_slice() == ids.as_slice()
 }
 
+/// Whether it is the seventh action of locality 1, a MOVE to locality 3 that answers nobody.
+fn is_move(act: &Act) -> bool {
+    act.origin == 1
+        && act.serial == 7
+        && act.code == 1
+        && matches!(act.args.as_slice(), [Value::Int(3)])
+        && act.cont.is_none()
+        && act.ids.as_slice() == [object().with_log(30)].as_slice()
+}
+
+/// Whether nothing is kept but the number 5.
+fn is_five(state: &State) -> bool {
+    state.drawn == 0
+        && matches!(state.values.as_slice(), [Value::Int(5)])
+        && state.conts.is_empty()
+        && state.ids.is_empty()
+}
+
 /// Whether it is the parcel of a row.
 pub fn is_named(name: &str, parcel: &Parcel) -> bool {
     match parcel {
@@ -42,7 +64,14 @@ pub fn is_named(name: &str, parcel: &Parcel) -> bool {
         }
         Parcel::Free(id) => name == "Free" && *id == object(),
         Parcel::Cached { id, place } => name == "Cached" && *id == object() && *place == 2,
-        _ => false,
+        Parcel::Move(act) => name == "Move" && is_move(act),
+        Parcel::Go(act) => name == "Go" && is_move(act),
+        Parcel::Object { action, state } => {
+            name == "Object" && is_move(action) && is_five(state)
+        }
+        Parcel::Landed { id, place } => {
+            name == "Landed" && *id == object().with_log(30) && *place == 3
+        }
     }
 }
 
