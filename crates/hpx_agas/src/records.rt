@@ -7,7 +7,6 @@ ghost use Rattle.hpx_agas.specs.declared.record.Waiting.{Waiting};
 ghost use Rattle.hpx_agas.specs.Queues.{waits};
 ghost use Rattle.hpx_agas.specs.Registries.{record_of, queue_of, newborn, left_of, lowered, granted_of, asked, count_of, move_of, Covers, IsFree, IsMovingTo, IsSound};
 
-use crate::queues::Queues;
 use crate::record::Record;
 use crate::table::Table;
 use hpx_value::gid::Gid;
@@ -42,21 +41,16 @@ pub enum Granted {
 
 /// The records that a home keeps of its live objects.
 ///
-/// Records stand in a vector by rising number, and are found by binary search; what waits for them stands in a
-/// second one, by rising number too. Memory for births and for items that wait is taken by `reserve` alone.
+/// Records are found by number in a tree, and each has the queue of what waits for it. Memory for births and for items
+/// that wait is taken by `reserve` alone.
 #[derive(Drop)]
 pub struct Records<Q> {
     here: u32,
     profile: Profile,
-    births: u32,
-    table: Table,
-    queues: Queues<Q>,
+    table: Table<Q>,
 }
 
 impl<Q> Model for Records<Q> {
-    ghost use Rattle.std.specs.Prelude.{min};
-    ghost use Rattle.hpx_agas.specs.declared.record.Waiting.{Waiting};
-    ghost use Rattle.hpx_agas.specs.Queues.{waits};
     ghost use Rattle.hpx_agas.specs.Registries.{Registry, registry_code, IsKept};
 
     ghost Value = { Registry Q };
@@ -66,13 +60,13 @@ impl<Q> Model for Records<Q> {
     ghost view = { λ r. record {
       here = r.here;
       profile = r.profile;
-      births = r.births;
+      births = r.table.births;
       records = r.table.records;
-      waiting = r.queues.waiting;
-      spare = min r.table.spare r.queues.spare;
+      waiting = r.table.waiting;
+      spare = r.table.spare;
     } };
 
-    ghost invariant = { λ r. IsKept r.here r.profile r.births r.table.records r.queues.waiting };
+    ghost invariant = { λ r. IsKept r.here r.profile r.table.births r.table.records r.table.waiting };
 }
 
 impl<Q> Records<Q> {
@@ -89,9 +83,7 @@ impl<Q> Records<Q> {
         Records {
             here,
             profile,
-            births: 0,
             table: Table::new(alloc),
-            queues: Queues::new(alloc),
         }
     }
 
@@ -101,8 +93,7 @@ impl<Q> Records<Q> {
         ensures spare { OnOk result (n ≤ self.new.spare) }
         ensures kept { self.old.spare ≤ self.new.spare }
     {
-        self.table.reserve(n as usize)?;
-        self.queues.reserve(n as usize)?;
+        self.table.reserve(n)?;
         Ok(())
     }
 
@@ -121,9 +112,9 @@ impl<Q> Records<Q> {
         ensures rest { self.new ≡ record self.old { births = self.old.births + 1; records = self.new.records; spare = self.new.spare } }
         ensures spare { self.old.spare ≤ self.new.spare + 1 }
     {
-        self.births += 1;
-        let gid = Gid::new(self.here, kind, self.births as u64);
-        self.table.push(Record {
+        let number = self.table.births() + 1;
+        let gid = Gid::new(self.here, kind, number as u64);
+        self.table.born(Record {
             gid,
             count: 1u128 << self.profile.credit_log as u32,
             place: self.here,
@@ -136,14 +127,14 @@ impl<Q> Records<Q> {
     pub fn births(&self) -> u32
         ensures { result ≡ self.now.births }
     {
-        self.births
+        self.table.births()
     }
 
     /// How many items wait, for all objects together.
     pub fn waiting(&self) -> u64
         ensures { result ≡ length self.now.waiting }
     {
-        self.queues.total() as u64
+        self.table.waiting()
     }
 
     /// How many live records there are.
@@ -158,7 +149,7 @@ impl<Q> Records<Q> {
     pub fn live(&self, i: u32) -> Option<Gid>
         ensures { result ≡ option_map (λ (r : Record). r.gid) (slice_get self.now.records i) }
     {
-        self.table.id_at(i as usize)
+        self.table.id_at(i as u64)
     }
 
     /// The recorded place.
@@ -312,7 +303,7 @@ impl<Q> Records<Q> {
         ensures rest { self.new ≡ record self.old { waiting = self.new.waiting; spare = self.new.spare } }
         ensures spare { self.old.spare ≤ self.new.spare + 1 }
     {
-        self.queues.push(gid.number(), item);
+        self.table.push(gid, item);
     }
 
     /// Takes the oldest item that waits for an object. It takes no memory.
@@ -325,7 +316,7 @@ impl<Q> Records<Q> {
         ensures spare { self.old.spare ≤ self.new.spare }
     {
         self.table.find(gid)?;
-        self.queues.pop(gid.number())
+        self.table.pop(gid)
     }
 
     /// How many items wait for an object, 0 without a live record.
@@ -333,8 +324,14 @@ impl<Q> Records<Q> {
         ensures { result ≡ length (queue_of self.now gid) }
     {
         match self.table.find(gid) {
-            Some(_) => self.queues.len(gid.number()) as u64,
+            Some(_) => self.table.queued(gid.number()),
             None => 0,
         }
+    }
+
+    /// How many forks a search passes at most.
+    #[cfg(test)]
+    pub(crate) fn depth(&self) -> u64 {
+        self.table.depth()
     }
 }

@@ -1,58 +1,111 @@
-ghost use Rattle.std.specs.Prelude.{if◌then◌else◌, option_map, ◌≡◌, ◌≤◌, ◌<◌, ◌+◌, ◌-◌, ◌∷◌, ◌++◌, [], Some, None, true, false, nat_lt, IsSome, IfSome, OnOk, MatchOption, length, slice_get, option_copied};
+ghost use Rattle.std.specs.Prelude.{if◌then◌else◌, option_map, ◌≡◌, ◌≢◌, ◌≤◌, ◌<◌, ◌+◌, ◌-◌, ◌^◌, ◌∷◌, ◌++◌, [], ℕ, Some, None, true, false, IsSome, IfSome, IfNone, OnOk, MatchOption, length, sum_by, slice_get, vec_len};
 ghost use Rattle.hpx_value.specs.Ids.{Id, same_object};
 ghost use Rattle.hpx_agas.specs.declared.record.Record.{Record};
-ghost use Rattle.hpx_agas.specs.Records.{find_record, Rises, IsFirstFrom};
+ghost use Rattle.hpx_agas.specs.declared.record.Waiting.{Waiting};
+ghost use Rattle.hpx_agas.specs.Records.{find_record, Rises};
+ghost use Rattle.hpx_agas.specs.Queues.{items_of, waits};
 
+use crate::line::Line;
+use crate::queue::{Queue, Room};
 use crate::record::Record;
+use crate::tree::{Pair, Tree};
 use hpx_value::gid::Gid;
 use std::alloc::{AllocError, Global};
 use std::marker::Model;
 
-/// Records by rising number.
+/// No more items than this wait while memory is made for others.
+const MOST_WAITING: u64 = 0x2000_0000_0000_0000;
+
+/// What is kept of the numbers that were drawn: records of live objects, and what waits.
+///
+/// Births and items take their memory from what `reserve` made.
 #[derive(Drop)]
-pub(crate) struct Table {
-    records: Vec<Record>,
+pub(crate) struct Table<Q> {
+    births: u32,
+    live: u64,
+    waiting: u64,
+    lines: Tree<Q>,
+    pairs: Vec<Pair<Q>>,
+    room: Room<Q>,
+    alloc: Global,
 }
 
-impl Model for Table {
-    ghost use Rattle.std.specs.Prelude.{if◌then◌else◌, option_map, ◌-◌, vec_capacity, length};
-    ghost use Rattle.hpx_agas.specs.declared.record.Record.{Record};
-    ghost use Rattle.hpx_agas.specs.Records.{Sorted, Rises};
+impl<Q> Model for Table<Q> {
+    ghost use Rattle.std.specs.Prelude.{min, length};
+    ghost use Rattle.hpx_agas.specs.Tables.{Kept, kept_code, IsTable};
+    ghost use Rattle.hpx_agas.specs.Lines.{records_of, waiting_of};
 
-    ghost Value = { Sorted };
+    ghost Value = { Kept Q };
 
-    ghost view = { λ t. record { records = t.records.items; spare = vec_capacity t.records - length t.records.items } };
+    ghost coded = { kept_code Q.code };
 
-    ghost invariant = { λ t. Rises 0 t.records.items };
+    ghost view = { λ t. record {
+      births = t.births;
+      records = records_of t.lines;
+      waiting = waiting_of t.lines;
+      spare = min (length t.pairs.items) t.room;
+    } };
+
+    ghost invariant = { λ t. IsTable t.births t.live t.waiting t.lines t.room };
 }
 
-/// The place of the first record with this number or one above it.
-fn first_from(records: &[Record], number: u64) -> usize
-    requires { Rises 0 records.now }
-    ensures { IsFirstFrom records.now number result }
-{
-    records.partition_point(
-        |record: &Record| -> bool
-            ensures { result ≡ nat_lt record.now.gid.number number }
-        { record.gid.number() < number },
-    )
-}
-
-impl Table {
-    pub(crate) fn new(alloc: Global) -> Table
-        ensures { result.records ≡ [] }
+impl<Q> Table<Q> {
+    pub(crate) fn new(alloc: Global) -> Table<Q>
+        ensures births { result.births ≡ 0 }
+        ensures records { result.records ≡ [] }
+        ensures waiting { result.waiting ≡ [] }
     {
         Table {
-            records: Vec::new(alloc),
+            births: 0,
+            live: 0,
+            waiting: 0,
+            lines: Tree::new(),
+            pairs: Vec::new(alloc),
+            room: Room::new(alloc),
+            alloc,
         }
     }
 
-    pub(crate) fn reserve(&mut self, n: usize) -> Result<(), AllocError>
-        ensures records { self.new.records ≡ self.old.records }
+    /// Makes memory for so many births and items together.
+    pub(crate) fn reserve(&mut self, n: u32) -> Result<(), AllocError>
+        ensures rest { self.new ≡ record self.old { spare = self.new.spare } }
         ensures spare { OnOk result (n ≤ self.new.spare) }
         ensures kept { self.old.spare ≤ self.new.spare }
     {
-        self.records.reserve(n)
+        if self.waiting > MOST_WAITING {
+            return Err(AllocError);
+        }
+        make_pairs(self.alloc, &mut self.pairs, n as usize)?;
+        self.room.reserve(n as usize)
+    }
+
+    /// How many numbers were drawn.
+    pub(crate) fn births(&self) -> u32
+        ensures { result ≡ self.now.births }
+    {
+        self.births
+    }
+
+    /// How many items wait, for all objects together.
+    pub(crate) fn waiting(&self) -> u64
+        ensures { result ≡ length self.now.waiting }
+    {
+        self.waiting
+    }
+
+    /// How many records there are.
+    pub(crate) fn len(&self) -> u64
+        ensures value { result ≡ length self.now.records }
+        ensures rising { Rises 0 self.now.records }
+    {
+        self.live
+    }
+
+    /// The id of the record at a place.
+    pub(crate) fn id_at(&self, i: u64) -> Option<Gid>
+        ensures { result ≡ option_map (λ (r : Record). r.gid) (slice_get self.now.records i) }
+    {
+        self.lines.nth(i)
     }
 
     /// The record of an object.
@@ -60,7 +113,7 @@ impl Table {
         ensures value { result ≡ find_record gid self.now.records }
         ensures rising { Rises 0 self.now.records }
     {
-        let record = *self.records.get(first_from(&self.records, gid.number()))?;
+        let record = self.lines.find(gid.number())?.live?;
         if gid.names_same(record.gid) {
             Some(record)
         } else {
@@ -68,17 +121,26 @@ impl Table {
         }
     }
 
-    /// One more record, above all others.
-    pub(crate) fn push(&mut self, made: Record)
+    /// One more record, of the next number.
+    pub(crate) fn born(&mut self, made: Record)
         requires room { 1 ≤ self.old.spare }
-        requires above { (o : Id) (r : Record) → find_record o self.old.records ≡ Some r → r.gid.number < made.gid.number }
-        requires number { 1 ≤ made.gid.number }
+        requires few { self.old.births < 2 ^ 32 - 1 }
+        requires next { made.gid.number ≡ self.old.births + 1 }
         ensures records { self.new.records ≡ self.old.records ++ made ∷ [] }
         ensures found { (o : Id) → find_record o self.new.records ≡ (if same_object o made.gid then Some made else find_record o self.old.records) }
         ensures rising { Rises 0 self.new.records }
+        ensures rest { self.new ≡ record self.old { births = self.old.births + 1; records = self.new.records; spare = self.new.spare } }
         ensures spare { self.old.spare ≤ self.new.spare + 1 }
     {
-        self.records.push_reserved(made);
+        self.births += 1;
+        let line = Line {
+            number: self.births as u64,
+            live: Some(made),
+            queue: Queue::new(self.alloc),
+        };
+        let pair = self.pairs.pop().unwrap();
+        self.lines.append(line, self.live, pair);
+        self.live += 1;
     }
 
     /// Another record in place of that of the same object.
@@ -87,10 +149,9 @@ impl Table {
         ensures found { (o : Id) → find_record o self.new.records ≡ (if same_object o made.gid then Some made else find_record o self.old.records) }
         ensures rising { Rises 0 self.new.records }
         ensures length { length self.new.records ≡ length self.old.records }
-        ensures spare { self.old.spare ≤ self.new.spare }
+        ensures rest { self.new ≡ record self.old { records = self.new.records } }
     {
-        let i = first_from(&self.records, made.gid.number());
-        self.records[i] = made;
+        self.lines.set(self.alloc, made.gid.number(), made);
     }
 
     /// Takes the record of an object out.
@@ -99,23 +160,79 @@ impl Table {
         ensures found { (o : Id) → find_record o self.new.records ≡ (if same_object o gid then None else find_record o self.old.records) }
         ensures rising { Rises 0 self.new.records }
         ensures length { length self.new.records + 1 ≡ length self.old.records }
-        ensures spare { self.old.spare ≤ self.new.spare }
+        ensures rest { self.new ≡ record self.old { records = self.new.records } }
     {
-        self.records.remove(first_from(&self.records, gid.number()));
+        self.lines.kill(gid.number());
+        self.live -= 1;
     }
 
-    /// How many records there are.
-    pub(crate) fn len(&self) -> usize
-        ensures value { result ≡ length self.now.records }
-        ensures rising { Rises 0 self.now.records }
+    /// One more item at the end of the queue of an object.
+    pub(crate) fn push(&mut self, gid: Gid, item: Q)
+        requires room { 1 ≤ self.old.spare }
+        requires there { IsSome (find_record gid self.old.records) }
+        ensures here { items_of gid.number self.new.waiting ≡ items_of gid.number self.old.waiting ++ item ∷ [] }
+        ensures others { (n : ℕ) → n ≢ gid.number → items_of n self.new.waiting ≡ items_of n self.old.waiting }
+        ensures sums { (f : Waiting Q → ℕ) → sum_by f self.new.waiting ≡ sum_by f self.old.waiting + f (waits gid.number item) }
+        ensures rest { self.new ≡ record self.old { waiting = self.new.waiting; spare = self.new.spare } }
+        ensures spare { self.old.spare ≤ self.new.spare + 1 }
     {
-        self.records.len()
+        let more = self.room.fill(item);
+        self.lines.push(self.alloc, gid.number(), more);
+        self.waiting += 1;
     }
 
-    /// The id of the record at a place.
-    pub(crate) fn id_at(&self, i: usize) -> Option<Gid>
-        ensures { result ≡ option_map (λ (r : Record). r.gid) (slice_get self.now.records i) }
+    /// Takes the oldest item of the queue of an object.
+    pub(crate) fn pop(&mut self, gid: Gid) -> Option<Q>
+        requires { IsSome (find_record gid self.old.records) }
+        ensures item { MatchOption result (items_of gid.number self.old.waiting ≡ []) (λ item. items_of gid.number self.old.waiting ≡ item ∷ items_of gid.number self.new.waiting) }
+        ensures none { IfNone result (self.new ≡ self.old) }
+        ensures others { (n : ℕ) → n ≢ gid.number → items_of n self.new.waiting ≡ items_of n self.old.waiting }
+        ensures sums { IfSome result (λ item. (f : Waiting Q → ℕ) → sum_by f self.new.waiting + f (waits gid.number item) ≡ sum_by f self.old.waiting) }
+        ensures rest { self.new ≡ record self.old { waiting = self.new.waiting } }
     {
-        Some(self.records.get(i)?.gid)
+        let item = self.lines.pop(self.alloc, gid.number())?;
+        self.waiting -= 1;
+        Some(item)
+    }
+
+    /// How many items are in the queue of a number.
+    pub(crate) fn queued(&self, number: u64) -> u64
+        ensures { result ≡ length (items_of number self.now.waiting) }
+    {
+        match self.lines.find(number) {
+            Some(line) => line.queue.len() as u64,
+            None => 0,
+        }
+    }
+
+    /// How many forks a search passes at most.
+    #[cfg(test)]
+    pub(crate) fn depth(&self) -> u64 {
+        self.lines.depth()
+    }
+}
+
+/// Makes memory for so many forks.
+fn make_pairs<Q>(alloc: Global, pairs: &mut Vec<Pair<Q>>, n: usize) -> Result<(), AllocError>
+    ensures enough { OnOk result (n ≤ vec_len pairs.new) }
+    ensures kept { vec_len pairs.old ≤ vec_len pairs.new }
+{
+    for _ in pairs.len()..n {
+        add_pair(alloc, pairs)?;
+    }
+    Ok(())
+}
+
+/// Makes memory for one more fork.
+fn add_pair<Q>(alloc: Global, pairs: &mut Vec<Pair<Q>>) -> Result<(), AllocError>
+    ensures more { OnOk result (vec_len pairs.new ≡ vec_len pairs.old + 1) }
+    ensures kept { vec_len pairs.old ≤ vec_len pairs.new }
+{
+    match pairs.push(Pair::new(alloc)?) {
+        Ok(()) => Ok(()),
+        Err(failed) => {
+            failed.value.end();
+            Err(AllocError)
+        }
     }
 }

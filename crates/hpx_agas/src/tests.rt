@@ -319,3 +319,66 @@ fn lists_wait_for_a_move(rt: HostRuntime) -> Result<(), Fail> {
     assert_eq!(rt; records.waiting(), 0);
     Ok(())
 }
+
+// One more object. All its credit comes back at once, where it is to die.
+fn one_more(rt: &impl Abort, records: &mut Records<u64>, dies: bool) -> Result<(), Fail>
+    requires { records.old.births < 2 ^ 32 - 1 }
+    ensures { records.new.births ≤ records.old.births + 1 }
+{
+    records.reserve(1)?;
+    let gid = records.born(16);
+    if dies {
+        assert!(rt; records.back(gid).is_ok());
+    }
+    Ok(())
+}
+
+// Numbers that are far apart, and numbers side by side, are found in few steps.
+#[test]
+fn a_search_passes_few_forks(rt: HostRuntime) -> Result<(), Fail> {
+    let profile = Profile {
+        credit_log: 8,
+        credit_limit: 256,
+        cache: 1,
+    };
+    let mut records: Records<u64> = Records::new(rt.alloc(), profile, 5);
+    for i in 0..2000u64 {
+        one_more(&rt, &mut records, i % 100 >= 5)?;
+    }
+    assert_eq!(rt; records.number(), 100);
+    assert!(rt; records.depth() <= 11);
+    assert_eq!(rt; records.count(Gid::new(5, 16, 1901)), 256);
+    assert_eq!(rt; records.count(Gid::new(5, 16, 1906)), 0);
+    let last = records.live(99);
+    assert!(rt; last == Some(Gid::new(5, 16, 1905)));
+    Ok(())
+}
+
+// What waited for an object that died is counted still, and no other object gets it.
+#[test]
+fn what_waited_for_the_dead_stays(rt: HostRuntime) -> Result<(), Fail> {
+    let profile = Profile {
+        credit_log: 8,
+        credit_limit: 256,
+        cache: 1,
+    };
+    let mut records: Records<u64> = Records::new(rt.alloc(), profile, 5);
+    records.reserve(1)?;
+    let gid = records.born(16);
+    records.begin_move(gid, 6);
+    records.reserve(1)?;
+    if records.moving(gid).is_some() {
+        records.queue(gid, 70);
+    }
+    assert_eq!(rt; records.back(gid), Ok(Left::Dead(5)));
+    assert_eq!(rt; records.number(), 0);
+    assert_eq!(rt; records.queued(gid), 0);
+    assert!(rt; records.release(gid).is_none());
+    assert_eq!(rt; records.waiting(), 1);
+    records.reserve(1)?;
+    let next = records.born(16);
+    assert!(rt; records.live(0) == Some(next.bare()));
+    assert!(rt; records.live(1).is_none());
+    assert_eq!(rt; records.queued(next), 0);
+    Ok(())
+}

@@ -5,7 +5,7 @@ use Rattle.hpx_agas.proofs.records.Records.number.Goals as goal
 pub overflow_cast-result : goal.overflow_cast-result
 overflow_cast-result g c =
     let kept = c.self.invariant in
-    omega (arith, kept.few, few_records c.self.inside.here c.self.inside.births c.self.inside.profile c.self.inside.table.records kept.rises kept.good)
+    omega (arith, kept.few, few_records c.self.inside.here c.self.inside.table.births c.self.inside.profile c.self.inside.table.records kept.rises kept.good)
 
 pub returns-clause-sound : goal.returns-clause-sound
 returns-clause-sound g c =
@@ -14,5 +14,5 @@ returns-clause-sound g c =
     (record {
       rises = kept.rises;
       good = kept.good;
-      few = few_records c.self.inside.here c.self.inside.births c.self.inside.profile c.self.inside.table.records kept.rises kept.good;
+      few = few_records c.self.inside.here c.self.inside.table.births c.self.inside.profile c.self.inside.table.records kept.rises kept.good;
     })

@@ -1,21 +1,58 @@
-use Rattle.std.proofs.Common.{get_or, arith}
-use Rattle.hpx_agas.proofs.RecordsLemmas.{each_found, find_pushed, rises_pushed}
+use Rattle.std.proofs.Common.{◌≡◌, ◌∙◌, ◌++◌, ◌∷◌, [], length, sym, ap, refl, arith, sum_by, length-append}
+use Rattle.std.proofs.lemmas.List.Sums.{sum_by-append, sum_by-cons}
+use Rattle.hpx_agas.specs.Queues.{waits}
+use Rattle.hpx_agas.specs.Lines.{in_place}
+use Rattle.hpx_agas.proofs.SeenLemmas.{there, requeued, weight_last}
 use Rattle.hpx_agas.proofs.table.Table.push.Goals as goal
 
+pub push-requires-clause-there : goal.push-requires-clause-there
+push-requires-clause-there g c =
+    let t = there c.args.gid 0 c.self.inside.births c.self.inside.lines c.self.invariant.lines (rw (← c.self.view_is) at c.requires.there) in
+    rw (c.number.ensures, t.found) refl
+
 pub invariant_of-self : goal.invariant_of-self
-invariant_of-self c =
-    let above = rw (← c.self.view_is) at c.requires.above in
-    rw c.push_reserved.ensures.items
-    (rises_pushed 0 c.self.inside.records.items c.args.made c.self.invariant (omega arith) (λ k d within. above (get_or c.self.inside.records.items k d).gid (get_or c.self.inside.records.items k d) (each_found 0 c.self.inside.records.items k d c.self.invariant within)))
+invariant_of-self g c =
+    let t = there c.args.gid 0 c.self.inside.births c.self.inside.lines c.self.invariant.lines (rw (← c.self.view_is) at c.requires.there) in
+    let is : c.push.new.self ≡ in_place c.args.gid.number (λ l. record l { queue = l.queue ++ c.args.item ∷ [] } ∷ []) c.self.inside.lines = rw (c.number.ensures, c.fill-more.ensures.queue) at c.push.ensures in
+    let r = requeued c.self.inside.births c.args.gid.number (λ q. q ++ c.args.item ∷ []) t.line c.self.inside.lines c.push.new.self c.self.invariant.lines t.found is in
+    let one = r.weights (λ ws. length ws) (λ xs ys. length-append xs ys) in
+    let two = weight_last (λ ws. length ws) (λ xs ys. length-append xs ys) c.args.gid.number t.line.queue c.args.item in
+    record {
+      lines = r.kept;
+      live = c.self.invariant.live ∙ sym (ap length r.records);
+      waiting = omega (arith, c.self.invariant.waiting, one, two);
+      most = omega (arith, c.self.invariant.most, c.fill-more.ensures.room);
+    }
 
-pub returns-clause-found : goal.returns-clause-found
-returns-clause-found c =
-    let above = rw (← c.self.view_is) at c.requires.above in
-    rw (← c.self.view_is, c.push_reserved.ensures.items)
-    (λ o. find_pushed o c.self.inside.records.items c.args.made (λ k d within. above (get_or c.self.inside.records.items k d).gid (get_or c.self.inside.records.items k d) (each_found 0 c.self.inside.records.items k d c.self.invariant within)))
+pub returns-clause-here : goal.returns-clause-here
+returns-clause-here g c =
+    let t = there c.args.gid 0 c.self.inside.births c.self.inside.lines c.self.invariant.lines (rw (← c.self.view_is) at c.requires.there) in
+    let is : c.push.new.self ≡ in_place c.args.gid.number (λ l. record l { queue = l.queue ++ c.args.item ∷ [] } ∷ []) c.self.inside.lines = rw (c.number.ensures, c.fill-more.ensures.queue) at c.push.ensures in
+    let r = requeued c.self.inside.births c.args.gid.number (λ q. q ++ c.args.item ∷ []) t.line c.self.inside.lines c.push.new.self c.self.invariant.lines t.found is in
+    rw (← c.self.view_is)
+    (r.here ∙ ap (λ q. q ++ c.args.item ∷ []) (sym r.old))
 
-pub returns-clause-rising : goal.returns-clause-rising
-returns-clause-rising c =
-    let above = rw (← c.self.view_is) at c.requires.above in
-    rw c.push_reserved.ensures.items
-    (rises_pushed 0 c.self.inside.records.items c.args.made c.self.invariant (omega arith) (λ k d within. above (get_or c.self.inside.records.items k d).gid (get_or c.self.inside.records.items k d) (each_found 0 c.self.inside.records.items k d c.self.invariant within)))
+pub returns-clause-others : goal.returns-clause-others
+returns-clause-others g c =
+    let t = there c.args.gid 0 c.self.inside.births c.self.inside.lines c.self.invariant.lines (rw (← c.self.view_is) at c.requires.there) in
+    let is : c.push.new.self ≡ in_place c.args.gid.number (λ l. record l { queue = l.queue ++ c.args.item ∷ [] } ∷ []) c.self.inside.lines = rw (c.number.ensures, c.fill-more.ensures.queue) at c.push.ensures in
+    let r = requeued c.self.inside.births c.args.gid.number (λ q. q ++ c.args.item ∷ []) t.line c.self.inside.lines c.push.new.self c.self.invariant.lines t.found is in
+    rw (← c.self.view_is) r.others
+
+pub returns-clause-sums : goal.returns-clause-sums
+returns-clause-sums g c =
+    let t = there c.args.gid 0 c.self.inside.births c.self.inside.lines c.self.invariant.lines (rw (← c.self.view_is) at c.requires.there) in
+    let is : c.push.new.self ≡ in_place c.args.gid.number (λ l. record l { queue = l.queue ++ c.args.item ∷ [] } ∷ []) c.self.inside.lines = rw (c.number.ensures, c.fill-more.ensures.queue) at c.push.ensures in
+    let r = requeued c.self.inside.births c.args.gid.number (λ q. q ++ c.args.item ∷ []) t.line c.self.inside.lines c.push.new.self c.self.invariant.lines t.found is in
+    rw (← c.self.view_is)
+    (λ f.
+    let one = r.weights (λ ws. sum_by f ws) (λ xs ys. sum_by-append f xs ys) in
+    let two = weight_last (λ ws. sum_by f ws) (λ xs ys. sum_by-append f xs ys) c.args.gid.number t.line.queue c.args.item in
+    omega (arith, one, two, sum_by-cons f (waits c.args.gid.number c.args.item) []))
+
+pub returns-clause-rest : goal.returns-clause-rest
+returns-clause-rest g c =
+    let t = there c.args.gid 0 c.self.inside.births c.self.inside.lines c.self.invariant.lines (rw (← c.self.view_is) at c.requires.there) in
+    let is : c.push.new.self ≡ in_place c.args.gid.number (λ l. record l { queue = l.queue ++ c.args.item ∷ [] } ∷ []) c.self.inside.lines = rw (c.number.ensures, c.fill-more.ensures.queue) at c.push.ensures in
+    let r = requeued c.self.inside.births c.args.gid.number (λ q. q ++ c.args.item ∷ []) t.line c.self.inside.lines c.push.new.self c.self.invariant.lines t.found is in
+    rw (← c.self.view_is, r.records) refl

@@ -1,33 +1,45 @@
-use Rattle.std.proofs.Common.{length, arith, ap, get_or, IsSome}
-use Rattle.hpx_agas.specs.Records.{find_record, IsFirstFrom}
-use Rattle.hpx_agas.proofs.RecordsLemmas.{there, find_set, rises_set, same_parts}
+use Rattle.std.proofs.Common.{◌≡◌, ◌∙◌, ◌∷◌, [], Some, length, sym, ap, refl, is_some}
+use Rattle.hpx_agas.specs.Lines.{in_place}
+use Rattle.hpx_agas.proofs.TablesLemmas.{kept_rises}
+use Rattle.hpx_agas.proofs.SeenLemmas.{there, put_kept, put_found, put_waiting, put_length}
 use Rattle.hpx_agas.proofs.table.Table.put.Goals as goal
 
-pub index_mut-requires : goal.index_mut-requires
-index_mut-requires c =
-    let first : IsFirstFrom c.self.inside.records.items c.args.made.gid.number c.first_from-i.result = rw (c.deref.ensures.value, c.number.ensures) at c.first_from-i.ensures in
-    let some : IsSome (find_record c.args.made.gid c.self.inside.records.items) = rw (← c.self.view_is) at c.requires in
-    let here = there c.args.made.gid c.self.inside.records.items c.first_from-i.result c.args.made c.self.invariant first some in
-    omega (arith, here.0, ap length c.deref.ensures.value, c.deref.ensures.len)
+pub set-requires : goal.set-requires
+set-requires g c =
+    let t = there c.args.made.gid 0 c.self.inside.births c.self.inside.lines c.self.invariant.lines (rw (← c.self.view_is) at c.requires) in
+    rw (c.number.ensures, t.found) (ap (λ slot. is_some slot) t.live)
 
 pub invariant_of-self : goal.invariant_of-self
-invariant_of-self c =
-    let first : IsFirstFrom c.self.inside.records.items c.args.made.gid.number c.first_from-i.result = rw (c.deref.ensures.value, c.number.ensures) at c.first_from-i.ensures in
-    let some : IsSome (find_record c.args.made.gid c.self.inside.records.items) = rw (← c.self.view_is) at c.requires in
-    let here = there c.args.made.gid c.self.inside.records.items c.first_from-i.result c.args.made c.self.invariant first some in
-    rises_set 0 c.self.inside.records.items c.first_from-i.result c.args.made c.args.made c.self.invariant here.0 (same_parts c.args.made.gid (get_or c.self.inside.records.items c.first_from-i.result c.args.made).gid here.1).2
+invariant_of-self g c =
+    let t = there c.args.made.gid 0 c.self.inside.births c.self.inside.lines c.self.invariant.lines (rw (← c.self.view_is) at c.requires) in
+    let is : c.set.new.self ≡ in_place c.args.made.gid.number (λ l. record l { live = Some c.args.made } ∷ []) c.self.inside.lines = rw c.number.ensures at c.set.ensures in
+    record {
+      lines = put_kept c.self.inside.births c.args.made c.self.inside.lines c.set.new.self c.self.invariant.lines is;
+      live = c.self.invariant.live ∙ sym (put_length c.args.made c.self.inside.lines c.set.new.self t is);
+      waiting = c.self.invariant.waiting ∙ sym (ap length (put_waiting c.args.made c.self.inside.lines c.set.new.self is));
+      most = c.self.invariant.most;
+    }
 
 pub returns-clause-found : goal.returns-clause-found
-returns-clause-found c =
-    let first : IsFirstFrom c.self.inside.records.items c.args.made.gid.number c.first_from-i.result = rw (c.deref.ensures.value, c.number.ensures) at c.first_from-i.ensures in
-    let some : IsSome (find_record c.args.made.gid c.self.inside.records.items) = rw (← c.self.view_is) at c.requires in
-    let here = there c.args.made.gid c.self.inside.records.items c.first_from-i.result c.args.made c.self.invariant first some in
+returns-clause-found g c =
+    let t = there c.args.made.gid 0 c.self.inside.births c.self.inside.lines c.self.invariant.lines (rw (← c.self.view_is) at c.requires) in
+    let is : c.set.new.self ≡ in_place c.args.made.gid.number (λ l. record l { live = Some c.args.made } ∷ []) c.self.inside.lines = rw c.number.ensures at c.set.ensures in
     rw (← c.self.view_is)
-    (λ o. find_set o 0 c.self.inside.records.items c.first_from-i.result c.args.made c.args.made c.self.invariant here.0 here.1)
+    (put_found c.self.inside.births c.args.made c.self.inside.lines c.set.new.self c.self.invariant.lines t is)
 
 pub returns-clause-rising : goal.returns-clause-rising
-returns-clause-rising c =
-    let first : IsFirstFrom c.self.inside.records.items c.args.made.gid.number c.first_from-i.result = rw (c.deref.ensures.value, c.number.ensures) at c.first_from-i.ensures in
-    let some : IsSome (find_record c.args.made.gid c.self.inside.records.items) = rw (← c.self.view_is) at c.requires in
-    let here = there c.args.made.gid c.self.inside.records.items c.first_from-i.result c.args.made c.self.invariant first some in
-    rises_set 0 c.self.inside.records.items c.first_from-i.result c.args.made c.args.made c.self.invariant here.0 (same_parts c.args.made.gid (get_or c.self.inside.records.items c.first_from-i.result c.args.made).gid here.1).2
+returns-clause-rising g c =
+    let is : c.set.new.self ≡ in_place c.args.made.gid.number (λ l. record l { live = Some c.args.made } ∷ []) c.self.inside.lines = rw c.number.ensures at c.set.ensures in
+    kept_rises 0 c.self.inside.births c.set.new.self (put_kept c.self.inside.births c.args.made c.self.inside.lines c.set.new.self c.self.invariant.lines is)
+
+pub returns-clause-length : goal.returns-clause-length
+returns-clause-length g c =
+    let t = there c.args.made.gid 0 c.self.inside.births c.self.inside.lines c.self.invariant.lines (rw (← c.self.view_is) at c.requires) in
+    let is : c.set.new.self ≡ in_place c.args.made.gid.number (λ l. record l { live = Some c.args.made } ∷ []) c.self.inside.lines = rw c.number.ensures at c.set.ensures in
+    rw (← c.self.view_is)
+    (put_length c.args.made c.self.inside.lines c.set.new.self t is)
+
+pub returns-clause-rest : goal.returns-clause-rest
+returns-clause-rest g c =
+    let is : c.set.new.self ≡ in_place c.args.made.gid.number (λ l. record l { live = Some c.args.made } ∷ []) c.self.inside.lines = rw c.number.ensures at c.set.ensures in
+    rw (← c.self.view_is, put_waiting c.args.made c.self.inside.lines c.set.new.self is) refl
