@@ -28,3 +28,4 @@ pub mod EndLemmas
 pub mod ShowLemmas
 pub mod FeedLemmas
 pub mod RunLemmas
+pub mod OutLemmas

@@ -1,5 +1,5 @@
 -- A job that is done, against what a node keeps.
-use Rattle.std.specs.Prelude.{ℕ, [], ◌∷◌, ◌++◌, Some, ◌≡◌, take}
+use Rattle.std.specs.Prelude.{ℕ, List, [], ◌∷◌, ◌++◌, Some, ◌≡◌, take}
 use Rattle.std.specs.List.{find, slice_get, remove, AllByRecursion}
 use Rattle.hpx_value.specs.Shapes.{IsState}
 use Rattle.hpx_parcel.specs.Parcels.{HasRightCredit}
@@ -53,3 +53,10 @@ pub record Ends (t t' : Tables) (job : Job) : Type 0 where
   pub i : ℕ
   pub action : slice_get t.running i ≡ Some job.action
   pub running : t'.running ≡ remove t.running i
+
+-- a job, run at n localities, is one that runs where it was handed out
+pub record IsOut (nodes : List Tables) (n : ℕ) (job : Job) : Type 0 where
+  pub t : Tables
+  pub there : slice_get nodes job.at ≡ Some t
+  pub localities : n ≡ t.localities
+  pub runs : IsRunning t job

@@ -5,6 +5,7 @@ ghost use Rattle.hpx_root_journal.specs.Weights.{HasRoom, IsWithin, AddsATurn, t
 ghost use Rattle.hpx_ports.specs.Faults.{Rose};
 ghost use Rattle.hpx_top.specs.Sound.{IsSound, IsSame, IsInside, IsCarrying, IsStuck, SendsNothing, NothingApplies, NoneRuns, running_in};
 ghost use Rattle.hpx_top.specs.Turns.{IsUnfed};
+ghost use Rattle.hpx_top.specs.Jobs.{IsOut};
 
 use crate::locals::Locals;
 use crate::parts::FinishFault;
@@ -46,6 +47,11 @@ impl<A: RootActs + Copy> Locals<A> {
         ensures none { result ≡ Ok false → IsSame self.old.nodes.items self.new.nodes.items self.old.journal.entries self.new.journal.entries
             × ((t : _) → slice_get self.old.nodes.items k ≡ Some t → IsStuck t) }
         ensures full { (e w : ℕ) (u : _) → result ≡ Err (WorldFault.JournalFull e w u) → HasRoom self.new.journal.entries → ⊥ }
+        ensures counted { (e w : ℕ) (u : _) → result ≡ Err (WorldFault.JournalFull e w u) →
+            (e ≡ length self.new.journal.entries) × (w ≡ min (2 ^ 64 - 1) (total_weight self.new.journal.entries)) }
+        ensures undone_full { (e w : ℕ) (done : _) → result ≡ Err (WorldFault.JournalFull e w (Some done)) → IsOut self.new.nodes.items done.localities done.job }
+        ensures undone { (done : _) → result ≡ Err (WorldFault.OutOfMemory (Some done)) → IsOut self.new.nodes.items done.localities done.job }
+        ensures handed { (e w : ℕ) → result ≢ Err (WorldFault.JournalFull e w None) }
         ensures no_fabric { result ≢ Err WorldFault.Fabric }
     {
         let job = match self.fire(alloc, k) {
@@ -84,6 +90,11 @@ impl<A: RootActs + Copy> Locals<A> {
         ensures none { result ≡ Ok false → IsSame self.old.nodes.items self.new.nodes.items self.old.journal.entries self.new.journal.entries
             × AllByRecursion IsStuck self.new.nodes.items }
         ensures full { (e w : ℕ) (u : _) → result ≡ Err (WorldFault.JournalFull e w u) → HasRoom self.new.journal.entries → ⊥ }
+        ensures counted { (e w : ℕ) (u : _) → result ≡ Err (WorldFault.JournalFull e w u) →
+            (e ≡ length self.new.journal.entries) × (w ≡ min (2 ^ 64 - 1) (total_weight self.new.journal.entries)) }
+        ensures undone_full { (e w : ℕ) (done : _) → result ≡ Err (WorldFault.JournalFull e w (Some done)) → IsOut self.new.nodes.items done.localities done.job }
+        ensures undone { (done : _) → result ≡ Err (WorldFault.OutOfMemory (Some done)) → IsOut self.new.nodes.items done.localities done.job }
+        ensures handed { (e w : ℕ) → result ≢ Err (WorldFault.JournalFull e w None) }
         ensures no_fabric { result ≢ Err WorldFault.Fabric }
     {
         for k in 0..self.nodes.len() {
@@ -170,6 +181,12 @@ impl<A: RootActs + Copy> Locals<A> {
         ensures stays_err { result ≡ Err WorldFault.Fabric → HasRoom self.new.journal.entries }
         ensures full_at_once { (HasRoom self.old.journal.entries → ⊥) → (e : ℕ) × (w : ℕ) × (u : _) × (result ≡ Err (WorldFault.JournalFull e w u)) }
         ensures full { (e w : ℕ) (u : _) → result ≡ Err (WorldFault.JournalFull e w u) → HasRoom self.new.journal.entries → ⊥ }
+        ensures counted { (e w : ℕ) (u : _) → result ≡ Err (WorldFault.JournalFull e w u) →
+            (e ≡ length self.new.journal.entries) × (w ≡ min (2 ^ 64 - 1) (total_weight self.new.journal.entries)) }
+        ensures undone_full { (e w : ℕ) (done : _) → result ≡ Err (WorldFault.JournalFull e w (Some done)) → IsOut self.new.nodes.items done.localities done.job }
+        ensures undone { (done : _) → result ≡ Err (WorldFault.OutOfMemory (Some done)) → IsOut self.new.nodes.items done.localities done.job }
+        ensures jobs_full { (e w : ℕ) → result ≡ Err (WorldFault.JournalFull e w None) → NoneRuns self.old.nodes.items → NoneRuns self.new.nodes.items }
+        ensures jobs_fabric { result ≡ Err WorldFault.Fabric → NoneRuns self.old.nodes.items → NoneRuns self.new.nodes.items }
         ensures cause { result ≡ Err WorldFault.Fabric → Rose (F.faults fabric.old) (F.faults fabric.new) }
         ensures stands { result ≢ Err WorldFault.Fabric → F.faults fabric.new ≡ F.faults fabric.old }
     {
@@ -209,6 +226,12 @@ impl<A: RootActs + Copy> Locals<A> {
         ensures room_err { result ≡ Err WorldFault.Fabric → HasRoom self.new.journal.entries }
         ensures full_at_once { (HasRoom self.old.journal.entries → ⊥) → (e : ℕ) × (w : ℕ) × (u : _) × (result ≡ Err (WorldFault.JournalFull e w u)) }
         ensures full { (e w : ℕ) (u : _) → result ≡ Err (WorldFault.JournalFull e w u) → HasRoom self.new.journal.entries → ⊥ }
+        ensures counted { (e w : ℕ) (u : _) → result ≡ Err (WorldFault.JournalFull e w u) →
+            (e ≡ length self.new.journal.entries) × (w ≡ min (2 ^ 64 - 1) (total_weight self.new.journal.entries)) }
+        ensures undone_full { (e w : ℕ) (done : _) → result ≡ Err (WorldFault.JournalFull e w (Some done)) → IsOut self.new.nodes.items done.localities done.job }
+        ensures undone { (done : _) → result ≡ Err (WorldFault.OutOfMemory (Some done)) → IsOut self.new.nodes.items done.localities done.job }
+        ensures jobs_full { (e w : ℕ) → result ≡ Err (WorldFault.JournalFull e w None) → NoneRuns self.old.nodes.items → NoneRuns self.new.nodes.items }
+        ensures jobs_fabric { result ≡ Err WorldFault.Fabric → NoneRuns self.old.nodes.items → NoneRuns self.new.nodes.items }
         ensures cause { result ≡ Err WorldFault.Fabric → Rose (F.faults fabric.old) (F.faults fabric.new) }
         ensures stands { result ≢ Err WorldFault.Fabric → F.faults fabric.new ≡ F.faults fabric.old }
     {

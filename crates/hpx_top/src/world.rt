@@ -9,7 +9,7 @@ ghost use Rattle.hpx_top.specs.Sound.{IsSame, IsInside, IsCarrying, IsQuiet, Not
 ghost use Rattle.hpx_top.specs.Changes.{committed};
 ghost use Rattle.hpx_top.specs.Turns.{Wrote, Ran, IsUnfed, SendsHome};
 ghost use Rattle.hpx_top.specs.Free.{NoneIsFree};
-ghost use Rattle.hpx_top.specs.Jobs.{IsRunning, Starts};
+ghost use Rattle.hpx_top.specs.Jobs.{IsRunning, Starts, IsOut};
 
 use crate::locals::Locals;
 use crate::parts::{FinishFault, Finished};
@@ -94,11 +94,15 @@ impl<A: RootActs + Copy> World<A> {
             result ≡ WorldFault.JournalFull (length self.now.journal.entries) (min (2 ^ 64 - 1) (total_weight self.now.journal.entries)) (Some done) }
         ensures other { (e w : ℕ) (u : _) → result ≡ WorldFault.JournalFull e w u →
             (e ≡ length self.now.journal.entries) × (w ≡ min (2 ^ 64 - 1) (total_weight self.now.journal.entries)) }
+        ensures no_job { ((done : _) → choice ≢ Choice.Finish done) → (e w : ℕ) (u : _) → result ≡ WorldFault.JournalFull e w u → u ≡ None }
         ensures is { (e : ℕ) × (w : ℕ) × (u : _) × (result ≡ WorldFault.JournalFull e w u) }
     {
         let undone = match choice {
             Choice::Finish(done) => Some(done),
-            _ => None,
+            Choice::Feed(_) => None,
+            Choice::Fire(_) => None,
+            Choice::Pump(_) => None,
+            Choice::Take => None,
         };
         self.locals.full(undone)
     }
@@ -280,8 +284,12 @@ impl<A: RootActs + Copy> World<A> {
         ensures full { (HasRoom self.old.journal.entries → ⊥) → (e w : ℕ) × (u : _) × (result ≡ Err (WorldFault.JournalFull e w u)) }
         ensures full_only { (e w : ℕ) (u : _) → result ≡ Err (WorldFault.JournalFull e w u) → HasRoom self.old.journal.entries → ⊥ }
         ensures room { ((e w : ℕ) (u : _) → result ≢ Err (WorldFault.JournalFull e w u)) → HasRoom self.old.journal.entries }
+        ensures counted { (e w : ℕ) (u : _) → result ≡ Err (WorldFault.JournalFull e w u) →
+            (e ≡ length self.new.journal.entries) × (w ≡ min (2 ^ 64 - 1) (total_weight self.new.journal.entries)) }
         ensures undone_full { (done : _) (e w : ℕ) (u : _) → choice ≡ Choice.Finish done → result ≡ Err (WorldFault.JournalFull e w u) → u ≡ Some done }
         ensures undone { (done : _) (u : _) → choice ≡ Choice.Finish done → result ≡ Err (WorldFault.OutOfMemory u) → u ≡ Some done }
+        ensures no_job_full { ((done : _) → choice ≢ Choice.Finish done) → (e w : ℕ) (u : _) → result ≡ Err (WorldFault.JournalFull e w u) → u ≡ None }
+        ensures no_job { ((done : _) → choice ≢ Choice.Finish done) → (u : _) → result ≡ Err (WorldFault.OutOfMemory u) → u ≡ None }
         ensures cause { result ≡ Err WorldFault.Fabric → Rose (F.faults fabric.old) (F.faults fabric.new) }
         ensures stands { result ≢ Err WorldFault.Fabric → F.faults fabric.new ≡ F.faults fabric.old }
     {
@@ -314,6 +322,12 @@ impl<A: RootActs + Copy> World<A> {
 
         ensures full { (HasRoom self.old.journal.entries → ⊥) → (e : ℕ) × (w : ℕ) × (u : _) × (result ≡ Err (WorldFault.JournalFull e w u)) }
         ensures full_only { (e w : ℕ) (u : _) → result ≡ Err (WorldFault.JournalFull e w u) → HasRoom self.new.journal.entries → ⊥ }
+        ensures counted { (e w : ℕ) (u : _) → result ≡ Err (WorldFault.JournalFull e w u) →
+            (e ≡ length self.new.journal.entries) × (w ≡ min (2 ^ 64 - 1) (total_weight self.new.journal.entries)) }
+        ensures undone_full { (e w : ℕ) (done : _) → result ≡ Err (WorldFault.JournalFull e w (Some done)) → IsOut self.new.nodes done.localities done.job }
+        ensures undone { (done : _) → result ≡ Err (WorldFault.OutOfMemory (Some done)) → IsOut self.new.nodes done.localities done.job }
+        ensures jobs_full { (e w : ℕ) → result ≡ Err (WorldFault.JournalFull e w None) → NoneRuns self.old.nodes → NoneRuns self.new.nodes }
+        ensures jobs_fabric { result ≡ Err WorldFault.Fabric → NoneRuns self.old.nodes → NoneRuns self.new.nodes }
         ensures room { OnOk result (HasRoom self.new.journal.entries) }
         ensures room_err { result ≡ Err WorldFault.Fabric → HasRoom self.new.journal.entries }
         ensures cause { result ≡ Err WorldFault.Fabric → Rose (F.faults fabric.old) (F.faults fabric.new) }

@@ -1,5 +1,7 @@
-use Rattle.std.proofs.Common.{◌≡◌, false, Ok, ap}
+use Rattle.std.proofs.Common.{◌≡◌, false, Ok, Err, Some, ap}
 use Rattle.hpx_top.proofs.IdleLemmas.{stuck_same}
+use Rattle.hpx_top.specs.declared.turns.WorldFault.TheVariants.{JournalFull}
+use Rattle.hpx_top.proofs.ShowLemmas.{err_of}
 use Rattle.hpx_top.proofs.locals.Locals.step.Goals as goal
 
 pub returns-in-Ok-clause-none : goal.returns-in-Ok-clause-none
@@ -13,3 +15,8 @@ returns-in-Ok-clause-none g c = λ e.
       hand = carried.2;
       flight = carried.3;
     }
+
+pub returns-in_err-work_first-clause-undone_full : goal.returns-in_err-work_first-clause-undone_full
+returns-in_err-work_first-clause-undone_full g c = λ e w done is.
+    c.in_err-work_first.ensures.undone_full e w done
+    (ap (λ fault. Err fault) (err_of c.from_residual.result c.in_err-work_first.field-0.0 (JournalFull e w (Some done)) c.from_residual.ensures.1 is))

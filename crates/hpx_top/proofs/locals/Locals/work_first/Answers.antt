@@ -1,6 +1,8 @@
-use Rattle.std.proofs.Common.{Ok, refl, ap, ◌∙◌, arith}
+use Rattle.std.proofs.Common.{Ok, Err, Some, refl, ap, ◌∙◌, arith}
 use Rattle.hpx_top.specs.Sound.{IsStuck}
 use Rattle.hpx_top.proofs.IdleLemmas.{stuck_more, whole, same_then, none_at}
+use Rattle.hpx_top.specs.declared.turns.WorldFault.TheVariants.{JournalFull}
+use Rattle.hpx_top.proofs.ShowLemmas.{err_of}
 use Rattle.hpx_top.proofs.locals.Locals.work_first.Goals as goal
 
 pub loop-k-preserved : goal.loop-k-preserved
@@ -29,3 +31,8 @@ returns-clause-none g c = λ same. (
   whole IsStuck c.loop-k.k c.loop-k.self.nodes.items
       (omega (arith, c.loop-k-test.false, c.loop-k.auto.k-end, c.loop-k.invariant.count, c.loop-k.invariant.end)) c.loop-k.invariant.stuck,
 )
+
+pub returns-in_err-work-clause-undone_full : goal.returns-in_err-work-clause-undone_full
+returns-in_err-work-clause-undone_full g c = λ e w done is.
+    c.in_err-work.ensures.undone_full e w done
+    (ap (λ fault. Err fault) (err_of c.from_residual.result c.in_err-work.field-0.0 (JournalFull e w (Some done)) c.from_residual.ensures.1 is))

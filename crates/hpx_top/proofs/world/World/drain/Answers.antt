@@ -23,3 +23,9 @@ returns-clause-settled g c =
     (laws_root g.A.Acts.act_of _ (λ kind here s a h state act. g.met.A.Acts.keeps_laws _ kind here s a sound.some sound.few h state act))
     _ _ _ c.drain.ensures.carrying idle (jobs none)))
     c.drain.ensures.idle c.drain.ensures.jobs)
+
+pub returns-clause-jobs_full : goal.returns-clause-jobs_full
+returns-clause-jobs_full g c = rw (← c.self.view_is) c.drain.ensures.jobs_full
+
+pub returns-clause-jobs_fabric : goal.returns-clause-jobs_fabric
+returns-clause-jobs_fabric g c = rw (← c.self.view_is) c.drain.ensures.jobs_fabric
