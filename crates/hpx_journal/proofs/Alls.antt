@@ -2,7 +2,7 @@
 use Rattle.std.proofs.Common.{Bool, true, false, cond, List, [], ◌∷◌, ◌++◌, ◌≡◌, Option, Some, None, refl, subst}
 use Rattle.std.specs.List.{AllByRecursion, find}
 use Rattle.hpx_journal.specs.Bags.{without, minus}
-use Rattle.hpx_journal.specs.Local.{listed}
+use Rattle.std.specs.Option.{option_to_list}
 
 module _ {X : Type 0} (P : X → Type 0) where
   pub all-append : (xs ys : List X) → AllByRecursion P xs → AllByRecursion P ys → AllByRecursion P (xs ++ ys)
@@ -47,9 +47,9 @@ all-find P p [] x h e = cc
 all-find P p (y ∷ ys) x h e = all-find_at P (p y) p y ys x (all-find P p ys x h.1) h.0 e
 
 listed-all : {X : Type 0} (P : X → Type 0) (p : X → Bool) (xs : List X) → AllByRecursion P xs → (o : Option X) → find p xs ≡ o
-    → AllByRecursion P (listed o)
+    → AllByRecursion P (option_to_list o)
 listed-all P p xs h None e = tt
 listed-all P p xs h (Some x) e = (all-find P p xs x h e, tt)
 
-pub all-listed : {X : Type 0} (P : X → Type 0) (p : X → Bool) (xs : List X) → AllByRecursion P xs → AllByRecursion P (listed (find p xs))
+pub all-listed : {X : Type 0} (P : X → Type 0) (p : X → Bool) (xs : List X) → AllByRecursion P xs → AllByRecursion P (option_to_list (find p xs))
 all-listed P p xs h = listed-all P p xs h (find p xs) refl

@@ -12,7 +12,8 @@ use Rattle.hpx_journal.specs.Bags.{without}
 use Rattle.hpx_journal.specs.Data.{State, Act, Fault, Message, Due, MessageDue, PrintDue}
 use Rattle.hpx_journal.specs.Entries.{Name, Event, Line, Fire, Born, Done, Sent, Print, Freed, Left, Landed, Out, In, Standing, Travel, Rules, target_of}
 use Rattle.hpx_journal.specs.Frames.{acts_in, travels_in}
-use Rattle.hpx_journal.specs.Local.{Local, after, is_act, is_standing, is_travel, due_act, due_left, listed, outcome, failure, tail, stood, leaving}
+use Rattle.std.specs.Option.{option_to_list}
+use Rattle.hpx_journal.specs.Local.{Local, after, is_act, is_standing, is_travel, due_act, due_left, outcome, failure, tail, stood, leaving}
 use Rattle.hpx_journal.specs.Rows.{Row, Runs, TurnAllows}
 use Rattle.hpx_journal.specs.Slots.{same_slot, answers_of, act_claims, state_claims, due_claims, claims, frame_claims}
 use Rattle.hpx_journal.specs.Whole.{sends, arrives_at}
@@ -40,14 +41,14 @@ claimed x s = claims x s + count_by (same_object x.object) s.fresh
 -- ---- acts
 
 acts_done : (x : Slot) (act : Act) (fired done : List Act) (a : Name) → find (is_act a) fired ≡ Some act
-    → sum_by (act_claims x) (without (is_act a) fired) + sum_by (answers_of x) (listed (find (is_act a) fired) ++ done)
+    → sum_by (act_claims x) (without (is_act a) fired) + sum_by (answers_of x) (option_to_list (find (is_act a) fired) ++ done)
     + count_by (same_slot x) (own_slot act.ids act.cont) ≡ sum_by (act_claims x) fired + sum_by (answers_of x) done
 acts_done x act fired done a h =
     let e = sum_by-without-find (act_claims x) (is_act a) fired act h in
     rw (h, sum_by-cons (answers_of x) act done) (omega arith)
 
 acts_fire : (x : Slot) (act : Act) (waiting fired : List Act) (a : Name) → find (is_act a) waiting ≡ Some act
-    → sum_by (act_claims x) (without (is_act a) waiting) + sum_by (act_claims x) (listed (find (is_act a) waiting) ++ fired)
+    → sum_by (act_claims x) (without (is_act a) waiting) + sum_by (act_claims x) (option_to_list (find (is_act a) waiting) ++ fired)
     ≡ sum_by (act_claims x) waiting + sum_by (act_claims x) fired
 acts_fire x act waiting fired a h =
     let e = sum_by-without-find (act_claims x) (is_act a) waiting act h in
@@ -80,7 +81,7 @@ freed_session o objects h =
     (λ y t. let e = same_kinds o y.object t in kinds_differ session y.object (omega arith) (omega arith))
 
 landed_session : (s : Local) (o : Id) (y : Travel) → find (is_travel o) s.travels ≡ Some y → 16 ≤ o.kind
-    → find (is_standing session) (map stood (listed (find (is_travel o) s.travels)) ++ s.objects) ≡ find (is_standing session) s.objects
+    → find (is_standing session) (map stood (option_to_list (find (is_travel o) s.travels)) ++ s.objects) ≡ find (is_standing session) s.objects
 landed_session s o y h managed =
     let e = same_kinds o y.object (find-passes (is_travel o) s.travels y h) in
     rw (h, kinds_differ session y.object (omega arith) (omega arith)) refl
@@ -256,7 +257,7 @@ unfolding after
 landed_moves r s o k x row =
     let y = row.1.0 in
     let g = sum_by-without-find (λ z. state_claims x z.state) (is_travel o) s.travels y row.1.1 in
-    let f : find (is_standing session) (map stood (listed (find (is_travel o) s.travels)) ++ s.objects) ≡ find (is_standing session) s.objects =
+    let f : find (is_standing session) (map stood (option_to_list (find (is_travel o) s.travels)) ++ s.objects) ≡ find (is_standing session) s.objects =
     landed_session s o y row.1.1 row.0.0 in
     rw (f, row.1.1, sum_by-cons (λ z. state_claims x z.state) (stood y) s.objects) (omega arith)
 

@@ -9,7 +9,7 @@ use Rattle.hpx_journal.specs.Local.{boot}
 use Rattle.hpx_journal.specs.Rows.{IsDead}
 use Rattle.hpx_journal.specs.Roots.{roots}
 use Rattle.hpx_journal.specs.Whole.{IsLegal, IsCarried, IsDeadIn, part, replayed, run_local, arrives_at, sends, road_after}
-use Rattle.hpx_journal.specs.Laws.{is_freed, freeds, is_free_of, sends_free, takes_free, FreesTheDead, count_events, road_run}
+use Rattle.hpx_journal.specs.Laws.{is_freed, freeds, is_free_of, sends_such, takes_such, FreesTheDead, count_events, road_run}
 use Rattle.hpx_journal.proofs.Bags.{total-le, total-term}
 use Rattle.hpx_journal.proofs.Keys.{one_if}
 use Rattle.hpx_journal.proofs.Wholes.{road_moves}
@@ -20,18 +20,18 @@ use Rattle.hpx_journal.proofs.Start.{first}
 abbrev frame_free : Rules → Id → Frame → ℕ
 frame_free r o f = one_if (is_free_of o (r.parcel_of f.1))
 
-sends_counts : (r : Rules) (o : Id) (e : Event) → sum_by (frame_free r o) (sends e) ≡ one_if (sends_free r o e)
+sends_counts : (r : Rules) (o : Id) (e : Event) → sum_by (frame_free r o) (sends e) ≡ one_if (sends_such (is_free_of o) r e)
 sends_counts r o (Out to bytes) = omega arith
 sends_counts r o _ = refl
 
-takes_counts : (r : Rules) (o : Id) (k : ℕ) (e : Event) → sum_by (frame_free r o) (arrives_at k e) ≡ one_if (takes_free r o e)
+takes_counts : (r : Rules) (o : Id) (k : ℕ) (e : Event) → sum_by (frame_free r o) (arrives_at k e) ≡ one_if (takes_such (is_free_of o) r e)
 takes_counts r o k (In bytes) = omega arith
 takes_counts r o k _ = refl
 
 -- each Free that was sent is on the road or was taken in
 frees_carried : (r : Rules) (o : Id) (road : List Frame) (es : List Entry) → IsCarried r road es
-    → sum_by (frame_free r o) (road_run road es) + count_events (takes_free r o) es
-    ≡ sum_by (frame_free r o) road + count_events (sends_free r o) es
+    → sum_by (frame_free r o) (road_run road es) + count_events (takes_such (is_free_of o) r) es
+    ≡ sum_by (frame_free r o) road + count_events (sends_such (is_free_of o) r) es
 frees_carried r o road [] h = refl
 frees_carried r o road (e ∷ es) h =
     omega (
@@ -40,8 +40,8 @@ frees_carried r o road (e ∷ es) h =
       road_moves (frame_free r o) road e h.1,
       sends_counts r o e.event,
       takes_counts r o e.at e.event,
-      sum_by-cons (λ x. one_if (takes_free r o x.event)) e es,
-      sum_by-cons (λ x. one_if (sends_free r o x.event)) e es,
+      sum_by-cons (λ x. one_if (takes_such (is_free_of o) r x.event)) e es,
+      sum_by-cons (λ x. one_if (sends_such (is_free_of o) r x.event)) e es,
     )
 
 -- beyond the last locality nothing was written
@@ -78,7 +78,7 @@ module _ (r : Rules) (es : List Entry) (legal : IsLegal r es) (road : (replayed 
   legal_all_freed =
       let n = r.localities in
       let freed : ℕ → ℕ = λ k. freeds o (part k es) in
-      let sent : ℕ → ℕ = λ k. count_events (sends_free r o) (part k es) in
+      let sent : ℕ → ℕ = λ k. count_events (sends_such (is_free_of o) r) (part k es) in
       let none : sum_by (frame_free r o) (road_run [] es) ≡ 0 = ap (sum_by (frame_free r o)) (sym (run_road r (first r) es) ∙ road) in
       omega (
         arith,
@@ -86,8 +86,8 @@ module _ (r : Rules) (es : List Entry) (legal : IsLegal r es) (road : (replayed 
         total-term n freed o.home home_below,
         total-term n sent o.home home_below,
         frees_carried r o [] es carried,
-        total-le n (λ k. count_events (takes_free r o) (part k es)) freed (λ k h. (frees k h).freed o),
+        total-le n (λ k. count_events (takes_such (is_free_of o) r) (part k es)) freed (λ k h. (frees k h).freed o),
         count_parts (is_freed o) n es below,
-        count_parts (sends_free r o) n es below,
-        count_parts (takes_free r o) n es below,
+        count_parts (sends_such (is_free_of o) r) n es below,
+        count_parts (takes_such (is_free_of o) r) n es below,
       )

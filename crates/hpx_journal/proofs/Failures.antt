@@ -7,7 +7,7 @@ use Rattle.hpx_journal.specs.Entries.{Event, Given, Done, Out, In, Entry, Frame,
 use Rattle.hpx_journal.specs.Local.{Local, after, is_given_none, given_by}
 use Rattle.hpx_journal.specs.Rows.{Row}
 use Rattle.hpx_journal.specs.Whole.{IsLegal, IsCarried, part, arrives_at, sends, road_after}
-use Rattle.hpx_journal.specs.Laws.{IsLegalLocal, is_refusing, sends_refusal, takes_refusal, hands_refusal, is_refused_count, is_failed, count_events, RefusesForCause}
+use Rattle.hpx_journal.specs.Laws.{IsLegalLocal, is_refusing, sends_such, takes_such, hands_refusal, is_refused_count, is_failed, count_events, RefusesForCause}
 use Rattle.hpx_journal.proofs.Bags.{total-zero, total-change, total-le, total-add}
 use Rattle.hpx_journal.proofs.Keys.{one_if}
 use Rattle.hpx_journal.proofs.Wholes.{road_moves}
@@ -88,17 +88,17 @@ count_parts p n (e ∷ es) h =
 abbrev frame_refusals : Rules → Frame → ℕ
 frame_refusals r f = one_if (is_refusing (r.parcel_of f.1))
 
-sends_counts : (r : Rules) (e : Event) → sum_by (frame_refusals r) (sends e) ≡ one_if (sends_refusal r e)
+sends_counts : (r : Rules) (e : Event) → sum_by (frame_refusals r) (sends e) ≡ one_if (sends_such is_refusing r e)
 sends_counts r (Out to bytes) = omega arith
 sends_counts r _ = refl
 
-takes_counts : (r : Rules) (k : ℕ) (e : Event) → sum_by (frame_refusals r) (arrives_at k e) ≡ one_if (takes_refusal r e)
+takes_counts : (r : Rules) (k : ℕ) (e : Event) → sum_by (frame_refusals r) (arrives_at k e) ≡ one_if (takes_such is_refusing r e)
 takes_counts r k (In bytes) = omega arith
 takes_counts r k _ = refl
 
 -- what was taken in was sent
 refusals_carried : (r : Rules) (road : List Frame) (es : List Entry) → IsCarried r road es
-    → count_events (takes_refusal r) es ≤ sum_by (frame_refusals r) road + count_events (sends_refusal r) es
+    → count_events (takes_such is_refusing r) es ≤ sum_by (frame_refusals r) road + count_events (sends_such is_refusing r) es
 refusals_carried r road [] h = omega arith
 refusals_carried r road (e ∷ es) h =
     omega (
@@ -107,8 +107,8 @@ refusals_carried r road (e ∷ es) h =
       road_moves (frame_refusals r) road e h.1,
       sends_counts r e.event,
       takes_counts r e.at e.event,
-      sum_by-cons (event_counts (takes_refusal r)) e es,
-      sum_by-cons (event_counts (sends_refusal r)) e es,
+      sum_by-cons (event_counts (takes_such is_refusing r)) e es,
+      sum_by-cons (event_counts (sends_such is_refusing r)) e es,
     )
 
 module _ (r : Rules) (es : List Entry) (legal : IsLegal r es) where
@@ -122,9 +122,9 @@ module _ (r : Rules) (es : List Entry) (legal : IsLegal r es) where
       let n = r.localities in
       let carried = legal_carried r (first r) es legal in
       let below = below_all r [] es carried in
-      let sent : ℕ → ℕ = λ k. count_events (sends_refusal r) (part k es) in
+      let sent : ℕ → ℕ = λ k. count_events (sends_such is_refusing r) (part k es) in
       let handed : ℕ → ℕ = λ k. count_events hands_refusal (part k es) in
-      let taken : ℕ → ℕ = λ k. count_events (takes_refusal r) (part k es) in
+      let taken : ℕ → ℕ = λ k. count_events (takes_such is_refusing r) (part k es) in
       let refused : ℕ → ℕ = λ k. count_events is_refused_count (part k es) in
       omega (
         arith,
@@ -135,7 +135,7 @@ module _ (r : Rules) (es : List Entry) (legal : IsLegal r es) where
         total-add n taken refused,
         count_parts is_failed n es below,
         count_parts hands_refusal n es below,
-        count_parts (sends_refusal r) n es below,
-        count_parts (takes_refusal r) n es below,
+        count_parts (sends_such is_refusing r) n es below,
+        count_parts (takes_such is_refusing r) n es below,
         count_parts is_refused_count n es below,
       )

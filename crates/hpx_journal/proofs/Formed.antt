@@ -16,7 +16,8 @@ use Rattle.hpx_journal.specs.Bags.{without}
 use Rattle.hpx_journal.specs.Data.{State, Act, Fault, Make, Outcome, Due, MessageDue, PrintDue, Parcel, Apply, Move, Go, Shipped}
 use Rattle.hpx_journal.specs.Entries.{Name, Event, Line, Fire, Born, Done, Sent, Print, Freed, Left, Landed, In, Standing, Travel, Rules, target_of, line_act, move_to}
 use Rattle.hpx_journal.specs.Frames.{acts_in, travels_in, travel_of}
-use Rattle.hpx_journal.specs.Local.{Local, after, is_act, is_standing, is_travel, listed, comes, leaves, sets_off, stops, due_act, failure, outcome, stood, leaving, tail}
+use Rattle.std.specs.Option.{option_to_list}
+use Rattle.hpx_journal.specs.Local.{Local, after, is_act, is_standing, is_travel, comes, leaves, sets_off, stops, due_act, failure, outcome, stood, leaving, tail}
 use Rattle.hpx_journal.specs.Rows.{Row, TurnAllows, AreMade, Runs}
 use Rattle.hpx_journal.specs.Foreign.{kept}
 use Rattle.hpx_journal.specs.Laws.{HasGrammar, KeepsActLaws, IsFormed, IsFormedOrFresh, IsFormedDue, TargetsStand}
@@ -294,9 +295,9 @@ module _ (r : Rules) (grammar : HasGrammar r) (laws : KeepsActLaws r) (s : Local
   objects_after (Freed o) turn row = all-without (IsFormedOrFresh s.fresh) (is_standing o) s.objects formed.objects
   objects_after (Left o to) turn row = all-without (IsFormedOrFresh s.fresh) (is_standing o) s.objects formed.objects
   objects_after (Landed o) turn row =
-      all-append (IsFormedOrFresh s.fresh) (map stood (listed (find (is_travel o) s.travels))) s.objects
-      (all-image (IsFormedOrFresh s.fresh) stood (listed (find (is_travel o) s.travels))
-      (all-map IsFormedTravel (λ y. IsFormedOrFresh s.fresh (stood y)) (λ y h. inr h) (listed (find (is_travel o) s.travels))
+      all-append (IsFormedOrFresh s.fresh) (map stood (option_to_list (find (is_travel o) s.travels))) s.objects
+      (all-image (IsFormedOrFresh s.fresh) stood (option_to_list (find (is_travel o) s.travels))
+      (all-map IsFormedTravel (λ y. IsFormedOrFresh s.fresh (stood y)) (λ y h. inr h) (option_to_list (find (is_travel o) s.travels))
       (all-listed IsFormedTravel (is_travel o) s.travels formed.travels))) formed.objects
   objects_after _ turn row = formed.objects
 
@@ -304,7 +305,7 @@ module _ (r : Rules) (grammar : HasGrammar r) (laws : KeepsActLaws r) (s : Local
 
   travels_come : (e : Event) → TurnAllows s e → Row r s e → AllByRecursion IsFormedTravel (sets_off r s e)
   travels_come (Left o to) turn row =
-      all-image IsFormedTravel (leaving to) (listed (find (is_standing o) s.objects))
+      all-image IsFormedTravel (leaving to) (option_to_list (find (is_standing o) s.objects))
       (all-listed (λ y. IsState y.state) (is_standing o) s.objects (old_formed turn.1))
   travels_come (In bytes) turn row = spelled_travels r grammar bytes
   travels_come _ turn row = tt
@@ -327,14 +328,14 @@ module _ (r : Rules) (grammar : HasGrammar r) (laws : KeepsActLaws r) (s : Local
   fired_after : (e : Event) → AllByRecursion IsAct (after r s e).fired
   unfolding after
   fired_after (Fire a) =
-      all-append IsAct (listed (find (is_act a) s.waiting)) s.fired (all-listed IsAct (is_act a) s.waiting formed.waiting) formed.fired
+      all-append IsAct (option_to_list (find (is_act a) s.waiting)) s.fired (all-listed IsAct (is_act a) s.waiting formed.waiting) formed.fired
   fired_after (Done a failed) = all-without IsAct (is_act a) s.fired formed.fired
   fired_after _ = formed.fired
 
   done_after : (e : Event) → AllByRecursion IsAct (after r s e).done
   unfolding after
   done_after (Done a failed) =
-      all-append IsAct (listed (find (is_act a) s.fired)) s.done (all-listed IsAct (is_act a) s.fired formed.fired) formed.done
+      all-append IsAct (option_to_list (find (is_act a) s.fired)) s.done (all-listed IsAct (is_act a) s.fired formed.fired) formed.done
   done_after _ = formed.done
 
   due_after : (e : Event) → Row r s e → AllByRecursion IsFormedDue (after r s e).due
@@ -362,7 +363,7 @@ module _ (r : Rules) (grammar : HasGrammar r) (laws : KeepsActLaws r) (s : Local
 
   old_after : (e : Event) → TurnAllows s e → Row r s e → AllByRecursion (IsOld (after r s e).fresh) (after r s e).fired
   unfolding after
-  old_after (Fire a) turn row = rw turn.1 (all-any (IsOld []) (λ act. refl) (listed (find (is_act a) s.waiting) ++ s.fired))
+  old_after (Fire a) turn row = rw turn.1 (all-any (IsOld []) (λ act. refl) (option_to_list (find (is_act a) s.waiting) ++ s.fired))
   old_after (Born o state) turn row =
       all-zip (λ act. list_any (is_standing (target_of act)) s.objects ≡ true) (IsOld s.fresh) (IsOld (s.fresh ++ o ∷ []))
       (λ act stands old. new_for o act row.1.0 row.0 row.2 stands old) s.fired place.stand settled.old

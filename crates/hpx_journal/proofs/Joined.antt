@@ -8,14 +8,14 @@ use Rattle.std.proofs.lemmas.Bool.{eq-eqb, ne_eqb, cases_eq}
 use Rattle.hpx_value.specs.Ids.{Id}
 use Rattle.hpx_value.specs.Values.{bare_act, bare_state}
 use Rattle.hpx_parcel.specs.Parcels.{IsParcel, IsMovable}
-use Rattle.hpx_journal.specs.Bags.{Covers, total}
+use Rattle.hpx_journal.specs.Bags.{Covers, AnyOf, total}
 use Rattle.hpx_journal.specs.Data.{State, Act, Parcel, Shipped}
 use Rattle.hpx_journal.specs.Entries.{Name, Event, In, Entry, Travel, Frame, Rules, same_frame, name_of, target_of, move_to}
 use Rattle.hpx_journal.specs.Frames.{acts_in, travels_in, travel_of}
 use Rattle.hpx_journal.specs.Local.{is_travel, after}
 use Rattle.hpx_journal.specs.Rows.{Allowed}
 use Rattle.hpx_journal.specs.Names.{IsBacked}
-use Rattle.hpx_journal.specs.Foreign.{present, kept, IsUndrawn, AnyAct, AnyTravel, IsForeign, IsForeignAct, IsForeignTravel, NodeKeeps}
+use Rattle.hpx_journal.specs.Foreign.{present, kept, IsUndrawn, IsForeign, IsForeignAct, IsForeignTravel, NodeKeeps}
 use Rattle.hpx_journal.specs.Whole.{Space, arrives_at, at_place, step, run, MayStand, IsLegalFrom, IsCarried, IsJoinFrom, part}
 use Rattle.hpx_journal.specs.Laws.{HasGrammar}
 use Rattle.hpx_journal.proofs.Bags.{sum_by-without, total-term, total-single}
@@ -115,7 +115,7 @@ module _ (r : Rules) (w : Space) (whole : IsWhole r w) where
 
   not_foreign_acts : (k : ℕ) → k < r.localities → (acts : List Act)
       → ((a : Name) → sum_by (act_counts a) acts ≤ sum_by (frame_acts r a) w.road)
-      → AnyAct (w.places k) acts → ⊥
+      → AnyOf (IsForeignAct (w.places k)) acts → ⊥
   not_foreign_acts k h [] road f = f
   not_foreign_acts k h (act ∷ acts) road (inl f) =
       not_foreign_act k h act
@@ -149,7 +149,7 @@ module _ (r : Rules) (w : Space) (whole : IsWhole r w) where
   not_foreign_objects : (k : ℕ) → k < r.localities → (xs : List Travel) → AllByRecursion (λ x. 16 ≤ x.object.kind) xs
       → ((o : Id) → count_by (is_travel o) xs ≤ sum_by (frame_objects r o) w.road)
       → count_by (λ x. not (x.to == k)) xs ≡ 0
-      → AnyTravel (w.places k) xs → ⊥
+      → AnyOf (IsForeignTravel (w.places k)) xs → ⊥
   not_foreign_objects k h [] managed road straight f = f
   not_foreign_objects k h (x ∷ xs) managed road straight (inl f) =
       not_foreign_object k h x managed.0

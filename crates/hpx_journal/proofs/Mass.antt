@@ -6,11 +6,11 @@ use Rattle.hpx_value.specs.Values.{bare_act, message_of, named}
 use Rattle.hpx_value.specs.Hands.{due_of, sent, replied}
 use Rattle.hpx_journal.specs.Bags.{minus}
 use Rattle.hpx_journal.specs.Data.{Id, State, Act, Message, Outcome, Parcel, Apply, Move, Go, Shipped, Due, MessageDue, PrintDue}
-use Rattle.hpx_journal.specs.Entries.{Event, Line, Fire, Done, Sent, Print, Out, In, Rules, name_of, line_act}
+use Rattle.hpx_journal.specs.Entries.{Event, Line, Fire, Done, Sent, Print, Out, In, Rules, name_of, line_message, line_act}
 use Rattle.hpx_journal.specs.Frames.{acts_in}
 use Rattle.hpx_journal.specs.Local.{Local, after, is_act, due_left}
 use Rattle.hpx_journal.specs.Rows.{Row, TurnAllows, AreWaiting}
-use Rattle.hpx_journal.specs.Pool.{act_mass, due_mass, mass_at, line_message, sent_by, prints_due}
+use Rattle.hpx_journal.specs.Pool.{act_mass, due_mass, mass_at, sent_by, prints_due}
 use Rattle.hpx_journal.proofs.Bags.{sum_by-without-find}
 
 abbrev pub DoesNotFail : Event → Type 0

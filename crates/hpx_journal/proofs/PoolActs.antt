@@ -9,9 +9,9 @@ use Rattle.hpx_journal.specs.Data.{Act, State, Message, Make, Outcome}
 use Rattle.hpx_journal.specs.Entries.{Name, Standing, Travel, Rules, target_of}
 use Rattle.hpx_journal.specs.Local.{Local, is_standing, is_act}
 use Rattle.hpx_journal.specs.Rows.{AreMade}
-use Rattle.hpx_journal.specs.Pool.{Pool, HasTravel, ShowsAt, IsAlike, state_in, with_made, acted}
+use Rattle.hpx_journal.specs.Pool.{Pool, HasTravel, ShowsAt, IsAlike, with_made, acted}
 use Rattle.hpx_journal.proofs.Bags.{list_any-find}
-use Rattle.hpx_journal.proofs.PoolLists.{find-all, any-all, same-left, same-sym, same-trans, find-same, any-same_id, true_or}
+use Rattle.hpx_journal.proofs.PoolLists.{state_in, find-all, any-all, same-left, same-sym, same-trans, find-same, any-same_id, true_or}
 
 some_none : (x y : Option State) → x ≡ y → y ≡ None → is_some x ≡ true → ⊥
 some_none x y p q h = let e : x ≡ None = p ∙ q in let f : is_some x ≡ false = ap is_some e in cc

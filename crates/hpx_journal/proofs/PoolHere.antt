@@ -12,9 +12,9 @@ use Rattle.hpx_journal.specs.Frames.{travels_in}
 use Rattle.hpx_journal.specs.Local.{Local, after, is_standing, is_travel}
 use Rattle.hpx_journal.specs.Rows.{Row, TurnAllows}
 use Rattle.hpx_journal.specs.Foreign.{kept}
-use Rattle.hpx_journal.specs.Pool.{Pool, HasTravel, ShowsAt, state_in}
+use Rattle.hpx_journal.specs.Pool.{Pool, HasTravel, ShowsAt}
 use Rattle.hpx_journal.proofs.Bags.{list_any-find, find-passes, find-without, sum_by-without-find}
-use Rattle.hpx_journal.proofs.PoolLists.{all-minus, all-append, any-without, found, one-any, same-right, same-sym, same-trans, find-same, any-same, true_or}
+use Rattle.hpx_journal.proofs.PoolLists.{state_in, all-minus, all-append, any-without, found, one-any, same-right, same-sym, same-trans, find-same, any-same, true_or}
 
 -- entries that move no object and fire nothing
 abbrev pub IsStill : Event → Type 0

@@ -1,14 +1,20 @@
 -- Lists from which elements are taken, and tests of sameness.
-use Rattle.std.proofs.Common.{Bool, true, false, cond, List, [], ◌∷◌, ◌++◌, ◌≡◌, ◌≤◌, Some, refl, sym, ap, ◌∙◌, subst, arith, inl, inr}
+use Rattle.std.proofs.Common.{Bool, true, false, cond, List, [], ◌∷◌, ◌++◌, ◌≡◌, ◌≤◌, Option, Some, refl, sym, ap, ◌∙◌, subst, arith, inl, inr}
 use Rattle.std.specs.Prelude.{◌||◌, is_some}
 use Rattle.std.specs.List.{list_any, find, count_by, AllByRecursion}
+use Rattle.std.specs.Option.{option_map}
 use Rattle.std.proofs.lemmas.List.Sums.{sum_by-cons}
 use Rattle.std.proofs.lemmas.Bool.{cases_Bool}
 use Rattle.hpx_value.specs.Ids.{Id, same_object}
 use Rattle.hpx_journal.specs.Bags.{without, minus}
+use Rattle.hpx_journal.specs.Data.{State}
 use Rattle.hpx_journal.specs.Entries.{Standing}
 use Rattle.hpx_journal.specs.Local.{is_standing}
 use Rattle.hpx_journal.proofs.Same.{same_object-true, same_object-refl}
+
+-- the state of what stands, if it does
+abbrev pub state_in : Option Standing → Option State
+state_in o = option_map (λ x. x.state) o
 
 -- ---- what all elements keep
 

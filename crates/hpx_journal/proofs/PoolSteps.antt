@@ -11,10 +11,10 @@ use Rattle.hpx_journal.specs.Data.{Act, Message, Outcome}
 use Rattle.hpx_journal.specs.Entries.{Name, Done, Landed, Standing, Travel, Rules, target_of}
 use Rattle.hpx_journal.specs.Local.{Local, after, is_standing, is_travel, is_act, outcome, stood}
 use Rattle.hpx_journal.specs.Rows.{AreMade}
-use Rattle.hpx_journal.specs.Pool.{Pool, HasTravel, ShowsAt, IsAlike, state_in, acted, carried}
+use Rattle.hpx_journal.specs.Pool.{Pool, HasTravel, ShowsAt, IsAlike, acted, carried}
 use Rattle.hpx_journal.proofs.Bags.{find-passes}
 use Rattle.hpx_journal.proofs.Same.{same_object-true}
-use Rattle.hpx_journal.proofs.PoolLists.{all-without, find-all, any-all, all-map, all-both, any-without, same-right, same-sym, same-trans}
+use Rattle.hpx_journal.proofs.PoolLists.{state_in, all-without, find-all, any-all, all-map, all-both, any-without, same-right, same-sym, same-trans}
 use Rattle.hpx_journal.proofs.PoolHere.{is_known, taken_find}
 use Rattle.hpx_journal.proofs.PoolActs.{made_known, not_fresh, unknown_apart, others_stay, known_stays, travel_stays, target_there, either_place}
 

@@ -8,7 +8,8 @@ use Rattle.hpx_journal.specs.Bags.{without}
 use Rattle.hpx_journal.specs.Data.{Act, Message, Due, MessageDue}
 use Rattle.hpx_journal.specs.Entries.{Name, Event, Line, Fire, Done, Sent, Out, In, Rules, Frame, name_of, line_act}
 use Rattle.hpx_journal.specs.Frames.{acts_in}
-use Rattle.hpx_journal.specs.Local.{Local, after, leaves, comes, is_act, listed, due_act}
+use Rattle.std.specs.Option.{option_to_list}
+use Rattle.hpx_journal.specs.Local.{Local, after, leaves, comes, is_act, due_act}
 use Rattle.hpx_journal.specs.Rows.{Row}
 use Rattle.hpx_journal.specs.Foreign.{present}
 use Rattle.hpx_journal.specs.Whole.{sends, arrives_at}
@@ -42,7 +43,7 @@ done_names (Done a failed) = a ∷ []
 done_names _ = []
 
 fired_fire : (b a : Name) (waiting fired : List Act) (act : Act) → find (is_act a) waiting ≡ Some act
-    → count_by (is_act b) (listed (find (is_act a) waiting) ++ fired) + 0 ≡ count_by (is_act b) fired + (0 + name_counts b a)
+    → count_by (is_act b) (option_to_list (find (is_act a) waiting) ++ fired) + 0 ≡ count_by (is_act b) fired + (0 + name_counts b a)
 fired_fire b a waiting fired act h =
     let e : a ≡ name_of act = same_name-true a (name_of act) (find-passes (is_act a) waiting act h) in
     rw (h, sum_by-cons (act_counts b) act fired, e) (omega arith)

@@ -9,18 +9,18 @@ use Rattle.std.proofs.lemmas.List.Sums.{sum_by-cons, sum_by-append}
 use Rattle.std.proofs.lemmas.Bool.{eqb-true}
 use Rattle.hpx_value.specs.Ids.{Id, same_object}
 use Rattle.hpx_journal.specs.Data.{Message}
-use Rattle.hpx_journal.specs.Entries.{Name, Event, Line, Fire, Split, Born, Done, Sent, Print, Up, Asked, Given, Count, Freed, Left, Landed, Looked, Mail, Out, In, Entry, Standing, Travel, Rules}
+use Rattle.hpx_journal.specs.Entries.{Name, Event, Line, Fire, Split, Born, Done, Sent, Print, Up, Asked, Given, Count, Freed, Left, Landed, Looked, Mail, Out, In, Entry, Standing, Travel, Rules, line_message}
 use Rattle.hpx_journal.specs.Frames.{travels_in}
 use Rattle.hpx_journal.specs.Local.{is_standing, is_travel, boot}
 use Rattle.hpx_journal.specs.Rows.{is_to}
 use Rattle.hpx_journal.specs.Roots.{root, roots, roots_of_first}
 use Rattle.hpx_journal.specs.Whole.{Space, step, run, start, replayed, MayStand, IsLegalFrom, IsLegal}
 use Rattle.hpx_journal.specs.Laws.{HasGrammar, KeepsActLaws, is_failed}
-use Rattle.hpx_journal.specs.Pool.{Pool, target_in, moves_to, line_message, fed, carried, IsMoved, Goes, mass_at, HasTravel, Shows, prints_due, prints_by, prints_of, IsBlind, NoneFails, IsPlainRun, boot_pool, state_in, state_at}
+use Rattle.hpx_journal.specs.Pool.{Pool, target_in, moves_to, fed, carried, IsMoved, Goes, mass_at, HasTravel, Shows, prints_due, prints_by, prints_of, IsBlind, NoneFails, IsPlainRun, boot_pool, state_at}
 use Rattle.hpx_journal.proofs.Bags.{find-passes, find-none, total-zero}
 use Rattle.hpx_journal.proofs.Fronts.{legal_front, legal_rest}
 use Rattle.hpx_journal.proofs.Start.{roots_unmanaged, start_whole}
-use Rattle.hpx_journal.proofs.PoolLists.{all-map, no-any, find-all, any-all, same-left, same-right, same-trans, find-same}
+use Rattle.hpx_journal.proofs.PoolLists.{state_in, all-map, no-any, find-all, any-all, same-left, same-right, same-trans, find-same}
 use Rattle.hpx_journal.proofs.PoolHere.{IsStill, shows_still, shows_fire, shows_born, shows_freed, shows_left, shows_out, shows_in}
 use Rattle.hpx_journal.proofs.PoolSteps.{same_home, landed_here, landed_there}
 use Rattle.hpx_journal.proofs.PoolSound.{IsQuietly, prints_stay}

@@ -4,8 +4,7 @@ use Rattle.std.specs.Prelude.{◌||◌}
 use Rattle.std.specs.List.{find, list_any}
 use Rattle.std.proofs.lemmas.Option.{slice_get_read}
 use Rattle.std.proofs.Math.Seq.{drop-cons}
-use Rattle.hpx_journal.specs.Bags.{without, minus, Covers}
-use Rattle.hpx_journal.specs.Found.{IsFirst}
+use Rattle.hpx_journal.specs.Bags.{without, minus, Covers, IsFirst}
 
 pub drop_read : {X : Type 0} (xs : List X) (i : ℕ) (x : X) → i < length xs → x ≡ get_or xs i x → drop i xs ≡ x ∷ drop (suc i) xs
 drop_read xs i x within at = drop-cons xs i x within ∙ ap (λ y. y ∷ drop (suc i) xs) (sym at)

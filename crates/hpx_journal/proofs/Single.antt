@@ -13,7 +13,8 @@ use Rattle.hpx_journal.specs.Frames.{acts_in, travels_in, travel_of}
 use Rattle.hpx_journal.specs.Local.{Local, after, boot, is_travel, recorded}
 use Rattle.hpx_journal.specs.Rows.{Row, IsDead}
 use Rattle.hpx_journal.specs.Names.{IsBacked}
-use Rattle.hpx_journal.specs.Foreign.{present, kept, IsUndrawn, IsForeign, IsForeignAct, IsForeignTravel, AnyAct, AnyTravel, NodeKeeps}
+use Rattle.hpx_journal.specs.Bags.{AnyOf}
+use Rattle.hpx_journal.specs.Foreign.{present, kept, IsUndrawn, IsForeign, IsForeignAct, IsForeignTravel, NodeKeeps}
 use Rattle.hpx_journal.specs.Roots.{roots}
 use Rattle.hpx_journal.specs.Whole.{run_local, IsClean, arrives_at}
 use Rattle.hpx_journal.specs.Laws.{IsLegalLocal, TargetsStand}
@@ -71,11 +72,11 @@ act_once s act a single native = elim (cases_Bool (same_name a (name_of act))) [
   | inr t ↦ let none : act_counts a act ≡ 0 = ap one_if t in omega (arith, single.acts a)
 ]
 
-acts_once : (s : Local) (p : Option Parcel) (a : Name) → IsSingle s → (AnyAct s (acts_in p) → ⊥)
+acts_once : (s : Local) (p : Option Parcel) (a : Name) → IsSingle s → (AnyOf (IsForeignAct s) (acts_in p) → ⊥)
     → present a s + undrawn_at a.origin a.serial s.here s.serial + sum_by (act_counts a) (acts_in p) ≤ 1
 acts_once s p a single native = short_once (acts_in p) (acts_short p) native
   where
-    short_once : (acts : List Act) → IsShort acts → (AnyAct s acts → ⊥)
+    short_once : (acts : List Act) → IsShort acts → (AnyOf (IsForeignAct s) acts → ⊥)
         → present a s + undrawn_at a.origin a.serial s.here s.serial + sum_by (act_counts a) acts ≤ 1
     short_once [] short native = omega (arith, single.acts a)
     short_once (act ∷ []) short native = omega (arith, act_once s act a single (λ f. native (inl f)))
@@ -121,11 +122,11 @@ travels_short (Some (Shipped act state)) = short_at (move_to (bare_act act))
     short_at (Some to) = tt
 travels_short _ = tt
 
-travels_once : (s : Local) (p : Option Parcel) (o : Id) → IsSingle s → 16 ≤ o.kind → (AnyTravel s (travels_in p) → ⊥)
+travels_once : (s : Local) (p : Option Parcel) (o : Id) → IsSingle s → 16 ≤ o.kind → (AnyOf (IsForeignTravel s) (travels_in p) → ⊥)
     → kept o s + undrawn_at o.home o.number s.here s.number + count_by (is_travel o) (travels_in p) ≤ 1
 travels_once s p o single managed native = short_once (travels_in p) (travels_short p) native
   where
-    short_once : (xs : List Travel) → IsShort xs → (AnyTravel s xs → ⊥)
+    short_once : (xs : List Travel) → IsShort xs → (AnyOf (IsForeignTravel s) xs → ⊥)
         → kept o s + undrawn_at o.home o.number s.here s.number + count_by (is_travel o) xs ≤ 1
     short_once [] short native = omega (arith, single.objects o managed)
     short_once (x ∷ []) short native = omega (arith, travel_once s x o single managed (λ f. native (inl f)))

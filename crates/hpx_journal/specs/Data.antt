@@ -1,11 +1,5 @@
 -- The types of the code, by one name each.
-pub use Rattle.hpx_value.specs.Ids.{Id}
-pub use Rattle.hpx_value.specs.declared.value.Value.{Value}
-pub use Rattle.hpx_value.specs.declared.value.Value.TheVariants.{Unit as Nothing, Flag, Int, Text, Ref, Fault, Ints}
-pub use Rattle.hpx_value.specs.declared.value.Cont.{Cont}
-pub use Rattle.hpx_value.specs.declared.value.State.{State}
-pub use Rattle.hpx_value.specs.declared.value.Act.{Act}
-pub use Rattle.hpx_value.specs.declared.value.Message.{Message}
+pub use Rattle.hpx_parcel.specs.Types.{Id, Value, Nothing, Flag, Int, Text, Ref, Fault, Ints, Cont, State, Act, Message}
 pub use Rattle.hpx_value.specs.declared.outcome.Make.{Make}
 pub use Rattle.hpx_value.specs.declared.outcome.Outcome.{Outcome}
 pub use Rattle.hpx_value.specs.declared.outcome.Due.{Due}

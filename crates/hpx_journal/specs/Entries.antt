@@ -1,8 +1,9 @@
 -- Entries, and what a journal is judged by.
-use Rattle.std.specs.Prelude.{ℕ, ℤ, pos, negsuc, Bool, nat_le, nat_lt, cond, List, [], ◌∷◌, ◌==◌, ◌&&◌, Option, Some, None}
+use Rattle.std.specs.Prelude.{ℕ, pos, Bool, nat_le, nat_lt, cond, List, [], ◌∷◌, ◌==◌, ◌&&◌, Option, Some, None}
 use Rattle.std.specs.Str.{bytes_eq}
+use Rattle.hpx_value.specs.Values.{named}
 use Rattle.hpx_value.specs.Hands.{session, id_at}
-use Rattle.hpx_journal.specs.Data.{Id, Value, Int, Text, State, Act, Outcome, Parcel}
+use Rattle.hpx_journal.specs.Data.{Id, Value, Int, Text, State, Act, Message, Outcome, Parcel}
 pub use Rattle.hpx_journal.specs.declared.entry.Name.{Name}
 pub use Rattle.hpx_journal.specs.declared.entry.Reason.{Reason}
 pub use Rattle.hpx_journal.specs.declared.entry.Reason.TheVariants.{Returned, Granted, Refused}
@@ -33,25 +34,17 @@ name_of act = record { origin = act.origin; serial = act.serial }
 abbrev pub target_of : Act → Id
 target_of act = id_at act.ids 0
 
--- the action that a line is: code 4, LINE, on the session
+-- the message that a line is: code 4, LINE, to the session
+abbrev pub line_message : List ℕ → Message
+line_message bytes = record { code = 4; args = Text bytes ∷ []; cont = None; ids = session ∷ [] }
+
+-- the action that it is
 abbrev pub line_act : Name → List ℕ → Act
-line_act a bytes = record {
-  origin = a.origin;
-  serial = a.serial;
-  code = 4;
-  args = Text bytes ∷ [];
-  cont = None;
-  ids = session ∷ [];
-}
+line_act a bytes = named a.origin a.serial (line_message bytes)
 
--- the one argument of a MOVE: a locality
-abbrev pub place_number : ℤ → Option ℕ
-place_number (pos t) = cond (nat_lt t 64) (Some t) None
-place_number (negsuc n) = None
-
--- the place in the arguments of a MOVE, if they are those of one
+-- the place in the arguments of a MOVE, if they are those of one: one number below 64
 abbrev pub place_in : List Value → Option ℕ
-place_in (Int z ∷ []) = place_number z
+place_in (Int (pos t) ∷ []) = cond (nat_lt t 64) (Some t) None
 place_in _ = None
 
 -- whether a kind is movable

@@ -2,6 +2,7 @@
 use Rattle.std.specs.Prelude.{ℕ, List, [], ◌∷◌, ◌≡◌, ◌≢◌, ◌<◌, ◌≤◌, ◌+◌, ◌⊎◌, Option}
 use Rattle.std.specs.List.{count_by}
 use Rattle.hpx_journal.specs.Data.{Id, Act, Parcel}
+use Rattle.hpx_journal.specs.Bags.{AnyOf}
 use Rattle.hpx_journal.specs.Entries.{Name, Event, In, Entry, Travel, Rules, name_of}
 use Rattle.hpx_journal.specs.Frames.{acts_in, travels_in}
 use Rattle.hpx_journal.specs.Local.{Local, is_act, is_standing, is_travel, after}
@@ -28,19 +29,9 @@ IsForeignAct s act = (1 ≤ present (name_of act) s) ⊎ ((act.origin ≡ s.here
 abbrev pub IsForeignTravel : Local → Travel → Type 0
 IsForeignTravel s x = (x.to ≢ s.here) ⊎ ((1 ≤ kept x.object s) ⊎ ((x.object.home ≡ s.here) × IsUndrawn s.number x.object.number))
 
--- one of these actions is foreign
-abbrev pub AnyAct : Local → List Act → Type 0
-AnyAct s [] = ⊥
-AnyAct s (act ∷ acts) = IsForeignAct s act ⊎ AnyAct s acts
-
--- one of these objects is foreign
-abbrev pub AnyTravel : Local → List Travel → Type 0
-AnyTravel s [] = ⊥
-AnyTravel s (x ∷ xs) = IsForeignTravel s x ⊎ AnyTravel s xs
-
 -- what a parcel carries is foreign
 abbrev pub IsForeignIn : Local → Option Parcel → Type 0
-IsForeignIn s p = AnyAct s (acts_in p) ⊎ AnyTravel s (travels_in p)
+IsForeignIn s p = AnyOf (IsForeignAct s) (acts_in p) ⊎ AnyOf (IsForeignTravel s) (travels_in p)
 
 -- a frame that no other locality can have sent
 abbrev pub IsForeign : Rules → Local → Event → Type 0

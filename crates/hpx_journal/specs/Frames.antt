@@ -1,10 +1,12 @@
 -- What a parcel carries: actions and an object with bare ids, and credits.
-use Rattle.std.specs.Prelude.{ℕ, List, [], ◌∷◌, Option, Some, None, map}
+use Rattle.std.specs.Prelude.{ℕ, Bool, List, [], ◌∷◌, Option, Some, None, map}
 use Rattle.hpx_value.specs.Values.{bare_act, bare_state}
 use Rattle.hpx_parcel.specs.Credits.{Credit, credits_of, ids_in}
+use Rattle.hpx_parcel.specs.Reading.{parcel_of}
 use Rattle.hpx_journal.specs.Data.{Id, State, Act, Parcel, Apply, Return, Ask, Give, Move, Go, Shipped, Arrived}
-use Rattle.hpx_journal.specs.Entries.{Travel, target_of, move_to}
+use Rattle.hpx_journal.specs.Entries.{Event, Out, In, Travel, target_of, move_to}
 use Rattle.hpx_journal.specs.Tokens.{Token, held, owing}
+use Rattle.hpx_journal.specs.declared.cargo.Cargo.{Cargo}
 
 -- the actions in a parcel
 abbrev pub acts_in : Option Parcel → List Act
@@ -42,3 +44,19 @@ abbrev pub asks_in : Option Parcel → List Id
 asks_in (Some (Ask id asker entry)) = id ∷ []
 asks_in (Some (Give id entry)) = id ∷ []
 asks_in _ = []
+
+-- ---- in one record
+
+-- a credit as a token, owed or held
+abbrev pub credited : Bool → Credit → Token
+credited owed c = record { object = c.object; log = c.log; owed = owed }
+
+-- the parcel of the frame that an event sends or accepts
+abbrev pub parcel_in : Event → Option Parcel
+parcel_in (Out to bytes) = parcel_of bytes
+parcel_in (In bytes) = parcel_of bytes
+parcel_in _ = None
+
+-- what a parcel carries
+abbrev pub cargo_of : Option Parcel → Cargo
+cargo_of p = record { acts = acts_in p; travels = travels_in p; tokens = tokens_in p; asks = asks_in p }

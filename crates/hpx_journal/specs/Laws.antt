@@ -1,6 +1,6 @@
 -- Words of the laws of journals.
-use Rattle.std.specs.Prelude.{◌⊎◌, ◌<◌, ℕ, Bool, true, false, List, [], ◌∷◌, ◌++◌, ◌≡◌, ◌+◌, ◌==◌, ◌&&◌, ◌≤◌, Option, Some}
-use Rattle.std.specs.List.{list_any, count_by, sum_by, AllByRecursion}
+use Rattle.std.specs.Prelude.{◌⊎◌, ◌<◌, ℕ, Bool, true, false, List, [], ◌∷◌, ◌≡◌, ◌+◌, ◌==◌, ◌&&◌, ◌≤◌, Option, Some}
+use Rattle.std.specs.List.{list_any, count_by, sum_by, flat_map, AllByRecursion}
 use Rattle.hpx_value.specs.Ids.{same_object}
 use Rattle.hpx_value.specs.Hands.{due_of, state_after}
 use Rattle.hpx_value.specs.Shapes.{IsAct, IsMessage, IsState}
@@ -79,13 +79,21 @@ outs_by k _ = []
 
 -- all frames sent, each with where from
 abbrev pub outs : List Entry → List (ℕ × Frame)
-outs [] = []
-outs (e ∷ es) = outs_by e.at e.event ++ outs es
+outs es = flat_map (λ e. outs_by e.at e.event) es
 
 -- all frames accepted
 abbrev pub ins : List Entry → List Frame
-ins [] = []
-ins (e ∷ es) = arrives e ++ ins es
+ins es = flat_map arrives es
+
+-- an event that sends a parcel that passes a test
+abbrev pub sends_such : (Option Parcel → Bool) → Rules → Event → Bool
+sends_such test r (Out to bytes) = test (r.parcel_of bytes)
+sends_such test r _ = false
+
+-- an event that takes one in
+abbrev pub takes_such : (Option Parcel → Bool) → Rules → Event → Bool
+takes_such test r (In bytes) = test (r.parcel_of bytes)
+takes_such test r _ = false
 
 -- ---- refusals
 
@@ -94,17 +102,7 @@ abbrev pub is_refusing : Option Parcel → Bool
 is_refusing (Some (Give id entry)) = is_least id.log
 is_refusing _ = false
 
--- the events that send one, take one in, and hand one over
-abbrev pub sends_refusal : Rules → Event → Bool
-sends_refusal r (Out to bytes) = is_refusing (r.parcel_of bytes)
-sends_refusal r _ = false
-
--- the event that takes one in
-abbrev pub takes_refusal : Rules → Event → Bool
-takes_refusal r (In bytes) = is_refusing (r.parcel_of bytes)
-takes_refusal r _ = false
-
--- the event that hands one over
+-- an event that hands such an id over
 abbrev pub hands_refusal : Event → Bool
 hands_refusal (Given o log) = log == 0
 hands_refusal _ = false
@@ -125,8 +123,8 @@ count_events p es = count_by (λ e. p e.event) es
 
 -- at a locality, what is sent or handed over with log 0 came so, or was refused there
 pub record RefusesForCause (r : Rules) (es : List Entry) : Type 0 where
-  pub few : count_events (sends_refusal r) es + count_events hands_refusal es
-      ≤ count_events (takes_refusal r) es + count_events is_refused_count es
+  pub few : count_events (sends_such is_refusing r) es + count_events hands_refusal es
+      ≤ count_events (takes_such is_refusing r) es + count_events is_refused_count es
 
 -- ---- what is freed
 
@@ -135,22 +133,12 @@ abbrev pub is_free_of : Id → Option Parcel → Bool
 is_free_of o (Some (Free x)) = same_object o x
 is_free_of o _ = false
 
--- the events that send a Free of o, and take one in
-abbrev pub sends_free : Rules → Id → Event → Bool
-sends_free r o (Out to bytes) = is_free_of o (r.parcel_of bytes)
-sends_free r o _ = false
-
--- the event that takes in a Free of o
-abbrev pub takes_free : Rules → Id → Event → Bool
-takes_free r o (In bytes) = is_free_of o (r.parcel_of bytes)
-takes_free r o _ = false
-
 -- a part of k that frees the dead: each dead object of k was freed here, or a Free of it was sent; and each Free that came
 -- was followed by a Freed
 pub record FreesTheDead (r : Rules) (k : ℕ) (es : List Entry) : Type 0 where
   pub sent : (o : Id) → o.home ≡ k → IsDead o (run_local r (boot (roots r.localities k) k) es)
-      → 1 ≤ count_events (sends_free r o) es + freeds o es
-  pub freed : (o : Id) → count_events (takes_free r o) es ≤ freeds o es
+      → 1 ≤ count_events (sends_such (is_free_of o) r) es + freeds o es
+  pub freed : (o : Id) → count_events (takes_such (is_free_of o) r) es ≤ freeds o es
 
 -- ---- parts and the road
 
@@ -166,8 +154,7 @@ IsLegalLocal r s (e ∷ es) = Allowed r s e × IsLegalLocal r (after r s e.event
 
 -- all entries are at k
 abbrev pub AreAt : ℕ → List Entry → Type 0
-AreAt k [] = Unit {0}
-AreAt k (e ∷ es) = (e.at ≡ k) × AreAt k es
+AreAt k es = AllByRecursion (λ e. e.at ≡ k) es
 
 -- the same frames, each as often
 abbrev pub SameBag : List Frame → List Frame → Type 0

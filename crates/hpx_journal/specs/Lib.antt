@@ -1,6 +1,5 @@
 pub mod Data
 pub mod Bags
-pub mod Found
 pub mod Entries
 pub mod Tokens
 pub mod Frames
@@ -12,8 +11,5 @@ pub mod Roots
 pub mod Whole
 pub mod Slots
 pub mod Weights
-pub mod Books
-pub mod Keyed
 pub mod Laws
 pub mod Pool
-pub mod Cargo

@@ -2,6 +2,7 @@
 use Rattle.std.specs.Prelude.{ℕ, Bool, true, false, cond, List, [], ◌∷◌, ◌++◌, ◌+◌, ◌-◌, ◌^◌, ◌==◌, Option, Some, None, map}
 use Rattle.std.specs.Prelude.{codes}
 use Rattle.std.specs.List.{list_any, find}
+use Rattle.std.specs.Option.{option_to_list}
 use Rattle.hpx_value.specs.Ids.{same_object}
 use Rattle.hpx_value.specs.Values.{named}
 use Rattle.hpx_value.specs.Hands.{own_slot, answer, due_of, state_after}
@@ -56,11 +57,6 @@ is_busy o fired = cond (o.kind == 7) false (list_any (acts_on o) fired)
 abbrev pub next_name : Local → Name
 next_name s = record { origin = s.here; serial = s.serial + 1 }
 
--- the list of what is there, if anything is
-abbrev pub listed : {X : Type 0} → Option X → List X
-listed None = []
-listed (Some x) = x ∷ []
-
 -- ---- credit
 
 -- the tokens that an entry takes
@@ -70,8 +66,7 @@ takes r (Up o log) = held_token o log ∷ []
 takes r (Asked o) = held_token o 0 ∷ []
 takes r (Given o log) = owed_token o log ∷ []
 takes r (Count o count (Returned log)) = owed_token o log ∷ []
-takes r (Count o count Granted) = owed_token o 0 ∷ []
-takes r (Count o count Refused) = owed_token o 0 ∷ []
+takes r (Count o count why) = owed_token o 0 ∷ []
 takes r (Out to bytes) = tokens_in (r.parcel_of bytes)
 takes r _ = []
 
@@ -82,7 +77,6 @@ gives r (Born o state) = held_token o r.credit_log ∷ []
 gives r (Up o log) = owed_token o log ∷ []
 gives r (Asked o) = owed_token o 0 ∷ []
 gives r (Given o log) = held_token o log ∷ []
-gives r (Count o count (Returned log)) = []
 gives r (Count o count Granted) = owed_token o r.credit_log ∷ []
 gives r (Count o count Refused) = owed_token o 0 ∷ []
 gives r (In bytes) = tokens_in (r.parcel_of bytes)
@@ -111,9 +105,8 @@ recorded o s = count_in (find (is_recorded o) s.counts)
 
 -- the action that the first of what is due becomes
 abbrev pub due_act : Name → List Due → List Act
-due_act a [] = []
-due_act a (PrintDue bytes ∷ rest) = []
 due_act a (MessageDue m ∷ rest) = named a.origin a.serial m ∷ []
+due_act a _ = []
 
 -- the actions that an entry makes Waiting here
 abbrev pub comes : Rules → Local → Event → List Act
@@ -134,13 +127,13 @@ waiting_after r s e = comes r s e ++ minus is_act s.waiting (leaves r e)
 
 -- the fired actions after it
 abbrev pub fired_after : Local → Event → List Act
-fired_after s (Fire a) = listed (find (is_act a) s.waiting) ++ s.fired
+fired_after s (Fire a) = option_to_list (find (is_act a) s.waiting) ++ s.fired
 fired_after s (Done a failed) = without (is_act a) s.fired
 fired_after s _ = s.fired
 
 -- the done actions after it
 abbrev pub done_after : Local → Event → List Act
-done_after s (Done a failed) = listed (find (is_act a) s.fired) ++ s.done
+done_after s (Done a failed) = option_to_list (find (is_act a) s.fired) ++ s.done
 done_after s _ = s.done
 
 -- the last serial that was drawn
@@ -216,7 +209,7 @@ objects_after r s (Born o state) = record { object = o; state = state } ∷ s.ob
 objects_after r s (Done a false) = settled r s (find (is_act a) s.fired)
 objects_after r s (Freed o) = without (is_standing o) s.objects
 objects_after r s (Left o to) = without (is_standing o) s.objects
-objects_after r s (Landed o) = map stood (listed (find (is_travel o) s.travels)) ++ s.objects
+objects_after r s (Landed o) = map stood (option_to_list (find (is_travel o) s.travels)) ++ s.objects
 objects_after r s _ = s.objects
 
 -- the objects born since the last Done, in order
@@ -232,7 +225,7 @@ number_after s _ = s.number
 
 -- the objects that begin to travel here
 abbrev pub sets_off : Rules → Local → Event → List Travel
-sets_off r s (Left o to) = map (leaving to) (listed (find (is_standing o) s.objects))
+sets_off r s (Left o to) = map (leaving to) (option_to_list (find (is_standing o) s.objects))
 sets_off r s (In bytes) = travels_in (r.parcel_of bytes)
 sets_off r s _ = []
 

@@ -1,14 +1,15 @@
 -- The plain pool: objects with their states and places, and a bag of messages of which any may be acted on next. It has no
 -- road, no names, no credits and no death, and an action is one step.
 use Rattle.std.specs.Prelude.{ℕ, true, false, cond, List, [], ◌∷◌, ◌++◌, ◌≡◌, ◌<◌, ◌≤◌, ◌+◌, Option, Some, None, IfSome, is_some, map}
-use Rattle.std.specs.List.{list_any, find, sum_by, AllByRecursion}
+use Rattle.std.specs.List.{list_any, find, sum_by, flat_map, AllByRecursion}
+use Rattle.std.specs.Option.{option_map}
 use Rattle.hpx_value.specs.Ids.{same_object}
 use Rattle.hpx_value.specs.Values.{bare_state, bare_act, message_of, named}
 use Rattle.hpx_value.specs.Laws.{birth_state}
-use Rattle.hpx_value.specs.Hands.{id_at, session, sent, replied, state_after}
+use Rattle.hpx_value.specs.Hands.{id_at, sent, replied, state_after}
 use Rattle.hpx_journal.specs.Bags.{total}
-use Rattle.hpx_journal.specs.Data.{Id, State, Act, Message, Text, Make, Outcome, Due, MessageDue, PrintDue}
-use Rattle.hpx_journal.specs.Entries.{Event, Line, Done, Print, Landed, Entry, Standing, Travel, Rules, Frame, target_of, move_to}
+use Rattle.hpx_journal.specs.Data.{Id, State, Act, Message, Make, Outcome, Due, MessageDue, PrintDue}
+use Rattle.hpx_journal.specs.Entries.{Event, Line, Done, Print, Landed, Entry, Travel, Rules, Frame, target_of, line_message, move_to}
 use Rattle.hpx_journal.specs.Frames.{acts_in, travels_in}
 use Rattle.hpx_journal.specs.Local.{Local, is_standing}
 use Rattle.hpx_journal.specs.Whole.{Space, run, replayed}
@@ -28,10 +29,6 @@ target_in m = id_at m.ids 0
 -- where a message moves its target, if it is a MOVE
 abbrev pub moves_to : Message → Option ℕ
 moves_to m = move_to (named 0 0 m)
-
--- the message that a line is: code 4, LINE, to the session
-abbrev pub line_message : List ℕ → Message
-line_message bytes = record { code = 4; args = Text bytes ∷ []; cont = None; ids = session ∷ [] }
 
 -- what acting on a message does at a place, in a state of its target
 abbrev pub outcome_in : Rules → ℕ → Message → State → Outcome
@@ -136,14 +133,9 @@ prints_due [] = []
 prints_due (MessageDue m ∷ rest) = prints_due rest
 prints_due (PrintDue bytes ∷ rest) = bytes ∷ prints_due rest
 
--- the state of what stands, if it does
-abbrev pub state_in : Option Standing → Option State
-state_in None = None
-state_in (Some x) = Some x.state
-
 -- the state of an object that stands here
 abbrev pub state_at : Local → Id → Option State
-state_at s o = state_in (find (is_standing o) s.objects)
+state_at s o = option_map (λ x. x.state) (find (is_standing o) s.objects)
 
 -- the pool has a travelling object with its state
 abbrev pub HasTravel : Pool → Travel → Type 0
@@ -179,8 +171,7 @@ prints_by _ = []
 
 -- what a journal prints, in order
 abbrev pub prints_of : List Entry → List (List ℕ)
-prints_of [] = []
-prints_of (e ∷ es) = prints_by e.event ++ prints_of es
+prints_of es = flat_map (λ e. prints_by e.event) es
 
 -- ---- premises
 

@@ -4,7 +4,7 @@ use Rattle.std.specs.List.{list_any, find, count_by, AllByRecursion}
 use Rattle.hpx_value.specs.Ids.{same_object}
 use Rattle.hpx_value.specs.Values.{bare_act, bare_state}
 use Rattle.hpx_value.specs.Laws.{birth_state}
-use Rattle.hpx_journal.specs.Data.{Id, Act, State, Message, Make, Due, MessageDue, PrintDue, Parcel, Apply, Return, Ask, Give, Cached, Move, Go, Shipped, Arrived, Free}
+use Rattle.hpx_journal.specs.Data.{Id, Act, State, Message, Make, Due, MessageDue, PrintDue, Parcel, Return, Ask, Give, Shipped, Arrived, Free}
 use Rattle.hpx_journal.specs.Bags.{Covers}
 use Rattle.hpx_journal.specs.Entries.{Name, Returned, Granted, Refused, Event, Line, Fire, Split, Born, Done, Sent, Print, Up, Asked, Given, Count, Freed, Left, Landed, Looked, Mail, Out, In, Entry, Standing, Travel, Rules, same_name, name_of, target_of, move_to}
 use Rattle.hpx_journal.specs.Tokens.{same_token}
@@ -67,11 +67,8 @@ is_refused act state x = same_name (name_of act) x.action && list_any (same_obje
 
 -- ---- frames
 
--- where a parcel may go, its actions aside
+-- where a parcel may go, its actions aside: an Apply, a Move, a Go and a Cached anywhere
 abbrev pub MayGo : Local → ℕ → Parcel → Type 0
-MayGo s to (Apply act) = Unit {0}
-MayGo s to (Move act) = Unit {0}
-MayGo s to (Go act) = Unit {0}
 MayGo s to (Shipped act state) =
     (move_to (bare_act act) ≡ Some to)
     × (find (is_travel (target_of (bare_act act))) s.travels ≡ Some (record { object = target_of (bare_act act); state = bare_state state; to = to }))
@@ -80,12 +77,11 @@ MayGo s to (Ask id asker entry) = to ≡ id.home
 MayGo s to (Arrived id place) = to ≡ id.home
 MayGo s to (Give id entry) = s.here ≡ id.home
 MayGo s to (Free o) = (s.here ≡ o.home) × IsDead o s
-MayGo s to (Cached o place) = Unit {0}
+MayGo s to _ = Unit {0}
 
 -- each of these actions, with its bare ids, waits here
 abbrev pub AreWaiting : Local → List Act → Type 0
-AreWaiting s [] = Unit {0}
-AreWaiting s (act ∷ acts) = (find (is_act (name_of act)) s.waiting ≡ Some act) × AreWaiting s acts
+AreWaiting s acts = AllByRecursion (λ act. find (is_act (name_of act)) s.waiting ≡ Some act) acts
 
 -- ---- freeing
 

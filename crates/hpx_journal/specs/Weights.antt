@@ -1,8 +1,13 @@
--- What entries weigh, and the room that a journal has.
+-- A journal as clauses see it, what its entries weigh, and the room that it has.
 use Rattle.std.specs.Prelude.{ℕ, List, ◌+◌, ◌*◌, ◌^◌, ◌≤◌, length, sum_by}
 use Rattle.hpx_value.specs.Shapes.{values_size}
 use Rattle.hpx_journal.specs.Data.{State}
 use Rattle.hpx_journal.specs.Entries.{Event, Line, Born, Print, Out, In, Entry}
+
+-- the entries, and for how many more there is memory
+pub record Book : Type 0 where
+  pub entries : List Entry
+  pub spare : ℕ
 
 -- how many bytes a state takes as it is spelled
 abbrev pub state_size : State → ℕ

@@ -1,8 +1,7 @@
 ghost use Rattle.std.specs.Prelude.{◌≡◌, ◌∷◌, ◌++◌, ◌↔◌, [], ℕ, Bool, IsTrue, OnOk, MatchOption, Some, option_copied, length, ◌<◌};
 ghost use Rattle.std.specs.Bool.{OnTrue};
 ghost use Rattle.std.specs.List.{slice_get, slice_index_or, find, list_any, count_by};
-ghost use Rattle.hpx_journal.specs.Bags.{without, minus, Covers};
-ghost use Rattle.hpx_journal.specs.Found.{IsFirst, IsAbsent};
+ghost use Rattle.hpx_journal.specs.Bags.{without, minus, Covers, IsFirst, IsAbsent};
 
 use hpx_value::items::Items;
 use hpx_value::memory::OutOfMemory;

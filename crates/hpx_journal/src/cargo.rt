@@ -5,9 +5,8 @@ ghost use Rattle.hpx_value.specs.Values.{bare_act, bare_state, named};
 ghost use Rattle.hpx_parcel.specs.Credits.{credits_of};
 ghost use Rattle.hpx_parcel.specs.Reading.{parcel_of};
 ghost use Rattle.hpx_journal.specs.Entries.{line_act};
-ghost use Rattle.hpx_journal.specs.Frames.{acts_in, travel_of, travels_in, tokens_in, asks_in};
+ghost use Rattle.hpx_journal.specs.Frames.{acts_in, travel_of, travels_in, tokens_in, asks_in, credited, parcel_in, cargo_of};
 ghost use Rattle.hpx_journal.specs.Local.{failure};
-ghost use Rattle.hpx_journal.specs.Cargo.{credited, parcel_in, cargo_of};
 
 use crate::entry::{Event, Name, Token, Travel};
 use crate::hand::{answer, own_slot};

@@ -17,8 +17,7 @@ pub struct Journal {
 
 impl Model for Journal {
     ghost use Rattle.std.specs.Prelude.{◌≡◌, ◌-◌, ◌^◌, min, length, vec_capacity};
-    ghost use Rattle.hpx_journal.specs.Books.{Book};
-    ghost use Rattle.hpx_journal.specs.Weights.{total_weight};
+    ghost use Rattle.hpx_journal.specs.Weights.{Book, total_weight};
 
     ghost Value = { Book };
 

@@ -7,7 +7,7 @@ use Rattle.std.proofs.lemmas.List.Sums.{sum_by-append}
 use Rattle.hpx_value.specs.Ids.{same_object}
 use Rattle.hpx_value.specs.Values.{bare_act}
 use Rattle.hpx_journal.specs.Data.{Act, Parcel, Apply, Move}
-use Rattle.hpx_journal.specs.Keyed.{Agree}
+use Rattle.hpx_part.specs.Keyed.{Agree}
 use Rattle.hpx_journal.specs.Entries.{Rules}
 use Rattle.hpx_journal.specs.Frames.{acts_in, asks_in}
 use Rattle.hpx_journal.specs.Local.{is_act, is_recorded, count_in}

@@ -3,7 +3,7 @@ use Rattle.std.proofs.Common.{ℕ, true, get_or, List, [], ◌∷◌, ◌++◌, 
 use Rattle.std.specs.Prelude.{min, ◌-◌}
 use Rattle.std.proofs.lemmas.Bool.{cases_Bool}
 use Rattle.hpx_journal.specs.Data.{State, Act, Outcome, Parcel, Apply, Return, Ask, Give, Cached, Move, Go, Shipped, Arrived, Free}
-use Rattle.hpx_journal.specs.Books.{Book}
+use Rattle.hpx_journal.specs.Weights.{Book}
 use Rattle.hpx_journal.specs.Weights.{HasRoom}
 use Rattle.hpx_part.specs.Data.{Entry, Mail}
 use Rattle.hpx_part.specs.Parts.{at_all}

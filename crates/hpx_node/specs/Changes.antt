@@ -3,7 +3,7 @@ use Rattle.std.specs.Prelude.{ℕ, List, ◌∷◌, ◌++◌, ◌≡◌, ◌≤�
 use Rattle.std.specs.List.{sum_by}
 use Rattle.hpx_value.specs.Values.{bare_act}
 use Rattle.hpx_journal.specs.Data.{Act, Parcel}
-use Rattle.hpx_journal.specs.Books.{Book}
+use Rattle.hpx_journal.specs.Weights.{Book}
 use Rattle.hpx_part.specs.Data.{Event, Entry, Token}
 use Rattle.hpx_part.specs.Parts.{at_all}
 use Rattle.hpx_node.specs.Tables.{Tables, messages}

@@ -7,9 +7,10 @@ use Rattle.hpx_value.specs.Ids.{Id, same_object}
 use Rattle.hpx_value.specs.Hands.{session}
 use Rattle.hpx_value.specs.Values.{named}
 use Rattle.hpx_journal.specs.Data.{Act, Message, Due, MessageDue, PrintDue}
-use Rattle.hpx_journal.specs.Keyed.{Agree}
+use Rattle.hpx_part.specs.Keyed.{Agree}
 use Rattle.hpx_journal.specs.Entries.{Rules, name_of, target_of, move_to, line_act}
-use Rattle.hpx_journal.specs.Local.{after, is_act, is_standing, is_busy, acts_on, listed, next_name, due_act, tail}
+use Rattle.std.specs.Option.{option_to_list}
+use Rattle.hpx_journal.specs.Local.{after, is_act, is_standing, is_busy, acts_on, next_name, due_act, tail}
 use Rattle.hpx_journal.specs.Foreign.{present}
 use Rattle.hpx_journal.proofs.Same.{same_object-true}
 use Rattle.hpx_journal.proofs.Bools.{false_from}
@@ -115,7 +116,7 @@ module _ (r : Rules) (v : View) where
               here = shown.acts.here;
               serial = shown.acts.serial;
               waiting = acts_taken s.waiting v.waiting l m act shown.acts.waiting waits;
-              fired = subst (λ o. Agree is_act (listed o ++ s.fired) (fl ++ act ∷ fm)) (sym found)
+              fired = subst (λ o. Agree is_act (option_to_list o ++ s.fired) (fl ++ act ∷ fm)) (sym found)
                   (acts_put s.fired v.fired fl fm act shown.acts.fired fires none);
               due = shown.acts.due;
             };

@@ -7,7 +7,7 @@ use Rattle.std.proofs.Math.Pow.{pow_pos}
 use Rattle.hpx_value.specs.Ids.{Id, same_object}
 use Rattle.hpx_parcel.specs.Credits.{Credit}
 use Rattle.hpx_journal.specs.Data.{Act}
-use Rattle.hpx_journal.specs.Keyed.{Agree}
+use Rattle.hpx_part.specs.Keyed.{Agree}
 use Rattle.hpx_journal.specs.Entries.{Rules, name_of}
 use Rattle.hpx_journal.specs.Tokens.{held_token, owed_token, same_token}
 use Rattle.hpx_journal.specs.Local.{after, is_act, is_recorded, is_given, is_given_none, count_in}

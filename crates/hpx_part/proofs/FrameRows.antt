@@ -4,12 +4,12 @@ use Rattle.std.specs.List.{count_by, sum_by}
 use Rattle.std.proofs.lemmas.List.Sums.{sum_by-append}
 use Rattle.hpx_value.specs.Ids.{Id, same_object}
 use Rattle.hpx_parcel.specs.Parcels.{IsParcel}
-use Rattle.hpx_journal.specs.Bags.{minus, Covers}
+use Rattle.hpx_journal.specs.Bags.{minus, Covers, AnyOf}
 use Rattle.hpx_journal.specs.Data.{Act, Parcel, Apply, Return, Ask, Give, Cached, Move, Go, Shipped, Arrived, Free}
 use Rattle.hpx_journal.specs.Entries.{Rules, name_of}
 use Rattle.hpx_journal.specs.Frames.{acts_in, travels_in, tokens_in, asks_in}
-use Rattle.hpx_journal.specs.Foreign.{present, AnyAct, IsForeignIn}
-use Rattle.hpx_journal.specs.Keyed.{Agree}
+use Rattle.hpx_journal.specs.Foreign.{present, IsForeignAct, IsForeignIn}
+use Rattle.hpx_part.specs.Keyed.{Agree}
 use Rattle.hpx_journal.specs.Local.{after, is_act, is_travel}
 use Rattle.hpx_journal.specs.Rows.{AreWaiting, MayGo}
 use Rattle.hpx_journal.specs.Tokens.{same_token}
@@ -55,7 +55,7 @@ acts_wait s ys l m (act ∷ []) short agree is =
     ((acts_found s.waiting ys l m act agree is, tt), acts_taken s.waiting ys l m act agree is)
 acts_wait s ys l m (act ∷ x ∷ acts) short agree is = absurd short
 
-acts_come : (s : Local) (ys l m acts : List Act) → IsShort acts → (AnyAct s acts → ⊥) → Agree is_act s.waiting ys → ys ≡ l ++ m
+acts_come : (s : Local) (ys l m acts : List Act) → IsShort acts → (AnyOf (IsForeignAct s) acts → ⊥) → Agree is_act s.waiting ys → ys ≡ l ++ m
     → Agree is_act (acts ++ s.waiting) (l ++ (acts ++ m))
 acts_come s ys l m [] short native agree is = subst (Agree is_act s.waiting) is agree
 acts_come s ys l m (act ∷ []) short native agree is =
@@ -123,7 +123,7 @@ module _ (r : Rules) (v : View) (p : Parcel) (bytes : List ℕ) (l m : List Act)
   unfolding after
   follows_in parcel none waits trades pending = record {
     step = λ s once shown native.
-        let here : AnyAct s (acts_in (Some p)) → ⊥ = λ f. native (subst (IsForeignIn s) (sym spelled) (inl f)) in
+        let here : AnyOf (IsForeignAct s) (acts_in (Some p)) → ⊥ = λ f. native (subst (IsForeignIn s) (sym spelled) (inl f)) in
         let acts = acts_come s v.waiting l m (acts_in (Some p)) (acts_short (Some p)) here shown.acts.waiting waits in
         let still : travels_in (r.parcel_of bytes) ++ s.travels ≡ s.travels =
         ap (λ q. travels_in q ++ s.travels) spelled ∙ ap (λ xs. xs ++ s.travels) none in (

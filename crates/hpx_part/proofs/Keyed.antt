@@ -4,7 +4,7 @@ use Rattle.std.specs.List.{find, count_by, sum_by, list_any, slice_get}
 use Rattle.std.proofs.lemmas.List.Sums.{sum_by-cons, sum_by-append}
 use Rattle.std.proofs.lemmas.Bool.{cases_Bool}
 use Rattle.hpx_journal.specs.Bags.{without}
-use Rattle.hpx_journal.specs.Keyed.{Agree}
+use Rattle.hpx_part.specs.Keyed.{Agree}
 use Rattle.hpx_journal.proofs.Bags.{sum_by-without-find, find-without, find-nothing}
 
 abbrev pub counts_of : {X : Type 0} → (X → Bool) → X → ℕ

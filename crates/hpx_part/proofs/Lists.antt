@@ -4,7 +4,7 @@ use Rattle.std.specs.List.{find, count_by, sum_by}
 use Rattle.std.proofs.lemmas.List.Sums.{sum_by-cons, sum_by-append}
 use Rattle.hpx_journal.specs.Data.{Act}
 use Rattle.hpx_journal.specs.Bags.{without}
-use Rattle.hpx_journal.specs.Keyed.{Agree}
+use Rattle.hpx_part.specs.Keyed.{Agree}
 use Rattle.hpx_journal.specs.Entries.{name_of}
 use Rattle.hpx_journal.specs.Local.{is_act, is_standing}
 use Rattle.hpx_part.specs.Data.{Standing}

@@ -6,7 +6,7 @@ use Rattle.hpx_value.specs.Hands.{due_of, state_after}
 use Rattle.hpx_value.specs.Shapes.{IsState}
 use Rattle.hpx_journal.specs.Data.{Act, State, Make, Outcome, Free}
 use Rattle.hpx_journal.specs.Bags.{without}
-use Rattle.hpx_journal.specs.Keyed.{Agree}
+use Rattle.hpx_part.specs.Keyed.{Agree}
 use Rattle.hpx_journal.specs.Entries.{Rules, name_of, target_of}
 use Rattle.hpx_journal.specs.Tokens.{held_token}
 use Rattle.hpx_journal.specs.Local.{after, is_act, is_standing, is_recorded, acts_on, count_in, outcome, objects_after, due_left, failure}

@@ -5,7 +5,7 @@ use Rattle.hpx_value.specs.Ids.{same_object}
 use Rattle.hpx_journal.specs.Data.{Id, Act, Due}
 use Rattle.hpx_journal.specs.Local.{is_act, is_standing, is_recorded, is_given, is_given_none, count_in}
 use Rattle.hpx_journal.specs.Rows.{is_dead_record}
-use Rattle.hpx_journal.specs.Keyed.{Agree}
+use Rattle.hpx_part.specs.Keyed.{Agree}
 use Rattle.hpx_parcel.specs.Credits.{Credit}
 use Rattle.hpx_part.specs.Data.{Standing, Recorded, Refusal, Local}
 use Rattle.hpx_part.specs.View.{View}

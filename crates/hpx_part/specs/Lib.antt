@@ -1,4 +1,5 @@
 pub mod Data
+pub mod Keyed
 pub mod View
 pub mod Shows
 pub mod Parts

@@ -10,7 +10,7 @@ use Rattle.hpx_journal.specs.Local.{is_act, is_standing, is_recorded, is_given, 
 use Rattle.hpx_journal.specs.Rows.{Allowed, IsDead, objects_in}
 use Rattle.hpx_journal.specs.Foreign.{present, kept, IsUndrawn, IsForeign}
 use Rattle.hpx_journal.specs.Laws.{TargetsStand, entry_at}
-use Rattle.hpx_journal.specs.Keyed.{Agree}
+use Rattle.hpx_part.specs.Keyed.{Agree}
 use Rattle.hpx_part.specs.Data.{Name, Event, Born, Out, Token, Local, Refusal}
 use Rattle.hpx_part.specs.View.{View, IsCovered}
 

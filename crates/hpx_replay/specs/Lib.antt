@@ -1,3 +1,4 @@
 pub mod Spaces
 pub mod Still
 pub mod Trial
+pub mod TrialLaws

@@ -15,7 +15,7 @@ use Rattle.hpx_journal.specs.Tokens.{same_token}
 use Rattle.hpx_journal.specs.Local.{is_act, is_standing, is_travel, outcome, waiting_after, fired_after, done_after, objects_after, travels_after, fresh_after, due_after, serial_after, number_after, counts_after, asked_by, given_by, asks_come_by, asks_gone_by, refusals_by, failures_after, takes}
 use Rattle.hpx_journal.specs.declared.local.Local.{Local}
 use Rattle.hpx_journal.specs.declared.entry.Refusal.{Refusal}
-use Rattle.hpx_journal.specs.Cargo.{cargo_of, parcel_in}
+use Rattle.hpx_journal.specs.Frames.{cargo_of, parcel_in}
 use Rattle.hpx_replay.specs.declared.act_rows.Blame.{Blame}
 use Rattle.hpx_replay.specs.declared.entries.Reading.{Reading}
 use Rattle.hpx_replay.specs.declared.space.Space.{Space as Placed}

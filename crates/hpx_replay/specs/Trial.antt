@@ -1,48 +1,99 @@
--- Acts for tests: a session that has an object made, calls it, moves it and drops it.
-use Rattle.std.specs.Prelude.{ℕ, pos, cond, List, [], ◌∷◌, ◌==◌, length}
+-- Acts for tests that keep the laws of actions: a session that has an object made, calls it, moves it and drops it. Every
+-- other action keeps the state, and is answered the place.
+use Rattle.std.specs.Prelude.{ℕ, pos, Bool, false, cond, nat_lt, List, [], ◌∷◌, ◌+◌, ◌-◌, ◌==◌, ◌&&◌, Option, Some, None}
+use Rattle.hpx_value.specs.Kept.{stays}
+use Rattle.hpx_value.specs.declared.value.Cont.{Cont}
 use Rattle.hpx_value.specs.declared.outcome.Target.{Target}
 use Rattle.hpx_value.specs.declared.outcome.Target.TheVariants.{Place, Root}
 use Rattle.hpx_value.specs.declared.outcome.SendCont.{SendCont}
 use Rattle.hpx_value.specs.declared.outcome.SendCont.TheVariants.{Nothing as NoCont, Here}
 use Rattle.hpx_value.specs.declared.outcome.Sending.{Sending}
-use Rattle.hpx_value.specs.declared.outcome.Reply.{Reply}
-use Rattle.hpx_journal.specs.Data.{Value, Nothing, Int, Ref, State, Act, Outcome, Make}
+use Rattle.hpx_journal.specs.Data.{Id, Value, Nothing, Int, Text, Ref, State, Act, Outcome, Make}
 
--- an outcome that keeps no continuation and prints nothing
-abbrev pub trial_outcome : ℕ → List Value → List Make → List Sending → List Reply → Outcome
-trial_outcome drawn values makes sends replies = record {
+-- the session keeps these values, and sends this
+abbrev pub said : ℕ → List Value → List Sending → Outcome
+said drawn values sends =
+    record { state = record { drawn = drawn; values = values; conts = [] }; makes = []; sends = sends; replies = []; prints = [] }
+
+-- an object keeps these values, makes this, and answers
+abbrev pub told : ℕ → List Value → List Make → Value → Outcome
+told drawn values makes value = record {
   state = record { drawn = drawn; values = values; conts = [] };
   makes = makes;
-  sends = sends;
-  replies = replies;
+  sends = [];
+  replies = record { cont = 0; value = value } ∷ [];
   prints = [];
 }
 
 -- one message
-abbrev pub trial_send : Target → ℕ → List Value → SendCont → List Sending
-trial_send target code args cont = record { target = target; code = code; args = args; cont = cont } ∷ []
+abbrev pub one_send : Target → ℕ → List Value → SendCont → List Sending
+one_send target code args cont = record { target = target; code = code; args = args; cont = cont } ∷ []
 
--- one answer, to the first continuation
-abbrev pub trial_reply : Value → List Reply
-trial_reply value = record { cont = 0; value = value } ∷ []
+-- n: an object is to be made at the last locality
+abbrev pub first_line : ℕ → ℕ → ℕ → Option Outcome
+first_line n drawn byte = cond (byte == 110) (Some (said (drawn + 1) [] (one_send (Root 3 (n - 1)) 5 [] (Here drawn)))) None
 
--- the first line has an object made, the second adds, the third moves, and the fourth drops
-abbrev pub trial_line : ℕ → Outcome
-trial_line drawn =
-    cond (drawn == 0) (trial_outcome 1 [] [] (trial_send (Root 3 1) 5 [] (Here 1)) [])
-    (cond (drawn == 1) (trial_outcome 2 (Ref 0 ∷ []) [] (trial_send (Place 0) 16 (Int (pos 5) ∷ []) (Here 2)) [])
-    (cond (drawn == 2) (trial_outcome 3 (Ref 0 ∷ []) [] (trial_send (Place 0) 1 (Int (pos 0) ∷ []) NoCont) [])
-    (trial_outcome 4 [] [] [] [])))
+-- a: it is called; m: it is moved to locality 0; d: it is dropped
+abbrev pub later_line : ℕ → Bool → ℕ → Option Outcome
+later_line drawn movable byte =
+    cond (byte == 97) (Some (said (drawn + 1) (Ref 0 ∷ []) (one_send (Place 0) 16 (Int (pos 5) ∷ []) (Here drawn))))
+    (cond ((byte == 109) && movable) (Some (said drawn (Ref 0 ∷ []) (one_send (Place 0) 1 (Int (pos 0) ∷ []) NoCont)))
+    (cond (byte == 100) (Some (said drawn [] [])) None))
 
--- an answer that names an object is kept
-abbrev pub trial_set : ℕ → ℕ → Outcome
-trial_set drawn ids = trial_outcome drawn (cond (ids == 0) (Ref 1) (Ref 0) ∷ []) [] [] []
+-- a line, where the session keeps nothing, or one id
+abbrev pub line_outcome : ℕ → ℕ → Bool → List Value → ℕ → Option Outcome
+line_outcome n drawn movable [] byte = first_line n drawn byte
+line_outcome n drawn movable (Ref place ∷ []) byte = later_line drawn movable byte
+line_outcome n drawn movable _ byte = None
 
--- the outcome by the code of an action
+-- the byte of a line of one byte
+abbrev pub byte_in : List Value → ℕ
+byte_in (Text (byte ∷ []) ∷ []) = byte
+byte_in _ = 0
+
+-- an answer that is an id is kept, where nothing is
+abbrev pub set_outcome : ℕ → List Value → List Value → Option Outcome
+set_outcome drawn [] (Int slot ∷ Ref place ∷ []) = Some (said drawn (Ref 1 ∷ []) [])
+set_outcome drawn _ _ = None
+
+-- what the session does; code 4 is a LINE, code 3 a SET
+abbrev pub session_outcome : ℕ → Bool → State → Act → Option Outcome
+session_outcome n movable s a =
+    cond (a.code == 4) (line_outcome n s.drawn movable s.values (byte_in a.args))
+    (cond (a.code == 3) (set_outcome s.drawn s.values a.args) None)
+
+-- a number is made, 0 at first
+abbrev pub made_outcome : ℕ → List Value → List Value → Option Outcome
+made_outcome drawn [] [] = Some (told drawn [] (record { kind = 16; values = Int (pos 0) ∷ [] } ∷ []) (Ref 2))
+made_outcome drawn _ _ = None
+
+-- the number is the one that it is told
+abbrev pub number_outcome : ℕ → List Value → List Value → Option Outcome
+number_outcome drawn (Int held ∷ []) (Int new ∷ []) = Some (told drawn (Int new ∷ []) [] Nothing)
+number_outcome drawn _ _ = None
+
+-- what is done where the state keeps no continuation, by the action's own
+abbrev pub free_outcome : ℕ → Bool → ℕ → State → Act → Option Cont → Option Outcome
+free_outcome n movable kind s a None = cond ((kind == 1) && nat_lt s.drawn 100) (session_outcome n movable s a) None
+free_outcome n movable kind s a (Some cont) =
+    cond ((kind == 3) && (a.code == 5)) (made_outcome s.drawn s.values a.args)
+    (cond ((kind == 16) && (a.code == 16)) (number_outcome s.drawn s.values a.args) None)
+
+-- what is done, by the continuations that the state keeps
+abbrev pub some_outcome : ℕ → Bool → ℕ → State → Act → List Cont → Option Outcome
+some_outcome n movable kind s a [] = free_outcome n movable kind s a a.cont
+some_outcome n movable kind s a (cont ∷ conts) = None
+
+-- the one id is that of a number
+abbrev pub is_number : List Id → Bool
+is_number (id ∷ []) = id.kind == 16
+is_number _ = false
+
+-- that, or the state stays and the place is answered
+abbrev pub or_stays : ℕ → State → Act → Option Outcome → Outcome
+or_stays here s a None = stays s a (Int (pos here))
+or_stays here s a (Some out) = out
+
+-- what an action does
 abbrev pub trial : ℕ → ℕ → ℕ → State → Act → Outcome
-trial n kind here s a =
-    cond (a.code == 4) (trial_line s.drawn)
-    (cond (a.code == 3) (trial_set s.drawn (length s.ids))
-    (cond (a.code == 5) (trial_outcome 0 [] (record { kind = 16; values = Int (pos 0) ∷ [] } ∷ []) [] (trial_reply (Ref 2)))
-    (cond (a.code == 16) (trial_outcome 0 (Int (pos 5) ∷ []) [] [] (trial_reply Nothing))
-    (trial_outcome 0 (Int (pos 5) ∷ []) [] [] []))))
+trial n kind here s a = or_stays here s a (some_outcome n (is_number s.ids) kind s a s.conts)

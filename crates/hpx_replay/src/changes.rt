@@ -7,7 +7,8 @@ ghost use Rattle.hpx_journal.specs.Bags.{without, minus};
 ghost use Rattle.hpx_journal.specs.Entries.{Rules, name_of, line_act};
 ghost use Rattle.hpx_journal.specs.declared.entry.Standing.{Standing};
 ghost use Rattle.hpx_journal.specs.declared.entry.Travel.{Travel};
-ghost use Rattle.hpx_journal.specs.Local.{listed, is_act, is_standing, is_travel, refusals_by, tail, due_act, fired_after, done_after, due_after, objects_after, failures_after, leaving, stood};
+ghost use Rattle.std.specs.Option.{option_to_list};
+ghost use Rattle.hpx_journal.specs.Local.{is_act, is_standing, is_travel, refusals_by, tail, due_act, fired_after, done_after, due_after, objects_after, failures_after, leaving, stood};
 ghost use Rattle.hpx_journal.specs.declared.local.Local.{Local as Here};
 ghost use Rattle.hpx_replay.specs.Spaces.{outcome_in, besides};
 ghost use Rattle.hpx_journal.specs.Rows.{Row};
@@ -93,7 +94,7 @@ pub(crate) fn line(
 pub(crate) fn fire(local: &mut Local, action: Name) -> Result<(), OutOfMemory>
     ensures { OnOk result (local.new ≡ record local.old {
       waiting = without (is_act action) local.old.waiting;
-      fired = listed (find (is_act action) local.old.waiting) ++ local.old.fired;
+      fired = option_to_list (find (is_act action) local.old.waiting) ++ local.old.fired;
     }) }
 {
     match local.waiting.take(&action) {
@@ -236,7 +237,7 @@ pub(crate) fn given(local: &mut Local, alloc: Global, o: Gid, log: u8) -> Result
 pub(crate) fn left(local: &mut Local, o: Gid, to: u32) -> Result<(), OutOfMemory>
     ensures { OnOk result (local.new ≡ record local.old {
       objects = without (is_standing o) local.old.objects;
-      travels = map (leaving to) (listed (find (is_standing o) local.old.objects)) ++ local.old.travels;
+      travels = map (leaving to) (option_to_list (find (is_standing o) local.old.objects)) ++ local.old.travels;
     }) }
 {
     match local.objects.take(&o) {
@@ -248,7 +249,7 @@ pub(crate) fn left(local: &mut Local, o: Gid, to: u32) -> Result<(), OutOfMemory
 pub(crate) fn landed(local: &mut Local, o: Gid) -> Result<(), OutOfMemory>
     ensures { OnOk result (local.new ≡ record local.old {
       travels = without (is_travel o) local.old.travels;
-      objects = map stood (listed (find (is_travel o) local.old.travels)) ++ local.old.objects;
+      objects = map stood (option_to_list (find (is_travel o) local.old.travels)) ++ local.old.objects;
     }) }
 {
     match local.travels.take(&o) {

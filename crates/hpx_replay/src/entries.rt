@@ -4,13 +4,12 @@ ghost use Rattle.std.specs.List.{AllByRecursion};
 ghost use Rattle.hpx_value.specs.Profiles.{IsValid};
 ghost use Rattle.hpx_journal.specs.Rows.{TurnAllows, Row, objects_in};
 ghost use Rattle.hpx_replay.specs.Spaces.{Meaning, MayWrite, MayEnter, rules_of, outcome_in, reading_of, besides};
-ghost use Rattle.hpx_journal.specs.Cargo.{cargo_of, parcel_in};
+ghost use Rattle.hpx_journal.specs.Frames.{cargo_of, parcel_in};
 ghost use Rattle.hpx_journal.specs.Bags.{minus, Covers};
 ghost use Rattle.hpx_journal.specs.Tokens.{same_token};
 ghost use Rattle.hpx_journal.specs.Local.{after};
 
 use crate::act_rows::{commit_row, fire_row, line_row, print_row, sent_row};
-use crate::acting::Acting;
 use crate::changes::{accept, born, commit, fire, given, landed, left, line, print, send, sent};
 use crate::credit_rows::{count_row, given_row};
 use crate::frame_rows::{in_row, out_row};
@@ -20,6 +19,7 @@ use hpx_journal::cargo::{Cargo, cargo_of, parcel_in};
 use hpx_journal::entry::{Event, Recorded, Token};
 use hpx_journal::local::{Local, target};
 use hpx_parcel::parcel::Parcel;
+use hpx_value::acts::Acts;
 use hpx_value::items::Items;
 use hpx_value::memory::OutOfMemory;
 use hpx_value::outcome::Outcome;
@@ -72,7 +72,7 @@ fn turn_allows(local: &Local, event: &Event) -> bool
 }
 
 /// What a Done that does not fail does, where its action is fired and its object stands.
-fn outcome_in<A: Acting>(
+fn outcome_in<A: Acts>(
     local: &Local,
     alloc: Global,
     acts: &A,
@@ -97,7 +97,7 @@ fn outcome_in<A: Acting>(
 }
 
 /// What an entry means here.
-pub(crate) fn read<A: Acting>(
+pub(crate) fn read<A: Acts>(
     local: &Local,
     alloc: Global,
     acts: &A,

@@ -1,10 +1,9 @@
 //! Where an entry of a frame is allowed.
 ghost use Rattle.std.specs.Prelude.{◌≡◌, ◌↔◌, ℕ, List, IsTrue, Some};
 ghost use Rattle.hpx_journal.specs.Entries.{Rules};
-ghost use Rattle.hpx_journal.specs.Frames.{travels_in};
+ghost use Rattle.hpx_journal.specs.Frames.{travels_in, cargo_of};
 ghost use Rattle.hpx_journal.specs.Rows.{MayGo, AreWaiting, Row};
 ghost use Rattle.hpx_replay.specs.Spaces.{IsLeaving};
-ghost use Rattle.hpx_journal.specs.Cargo.{cargo_of};
 
 use crate::object_rows::is_dead;
 use hpx_journal::cargo::Cargo;

@@ -2,7 +2,6 @@
 #![tactic(auto)]
 
 mod act_rows;
-mod acting;
 mod changes;
 mod credit_rows;
 mod entries;
@@ -15,3 +14,5 @@ mod still;
 #[cfg(test)]
 mod tests;
 mod tokens;
+#[cfg(test)]
+mod trial;

@@ -9,7 +9,6 @@ ghost use Rattle.hpx_journal.specs.Roots.{root, roots_of_first, roots};
 ghost use Rattle.hpx_journal.specs.Whole.{Space as Plain, MayStand, arrives, road_after, step};
 ghost use Rattle.hpx_replay.specs.Spaces.{Shows, Replays, IsFault, rules_of};
 
-use crate::acting::{Acting, Lawful};
 use crate::entries::{enter, read};
 use crate::space::{Frame, Space};
 use hpx_journal::bag::Bag;
@@ -147,7 +146,7 @@ impl Space {
     }
 
     /// The entry is written, if it is allowed; `false` where it is not, and then what is left has no meaning.
-    fn enter<A: Acting>(
+    fn enter<A: Acts>(
         &mut self,
         alloc: Global,
         acts: &A,
@@ -176,7 +175,7 @@ impl Space {
 }
 
 /// The space that a journal leads to, where it is legal.
-pub(crate) fn judge<A: Acting>(
+fn judge<A: Acts>(
     alloc: Global,
     acts: &A,
     profile: &Profile,
@@ -216,5 +215,5 @@ pub fn replay<A: Acts>(
     ensures ok { IfOk result (λ s. Replays (rules_of n profile A.act_of) journal.now.entries s) }
     ensures illegal { IfErr result (λ e. IsFault (rules_of n profile A.act_of) journal.now.entries e) }
 {
-    judge(alloc, &Lawful { acts }, &profile, journal)
+    judge(alloc, acts, &profile, journal)
 }

@@ -1,6 +1,6 @@
 //! `replay` at acts that keep the laws of actions: every state stays, and the place is answered.
 ghost use Rattle.std.specs.Prelude.{◌≡◌, ◌<◌, ◌≤◌, ℕ, pos, length, IfOk};
-ghost use Rattle.hpx_value.specs.Kept.{kept, answers};
+ghost use Rattle.hpx_value.specs.Kept.{kept, answers, stays};
 ghost use Rattle.hpx_journal.specs.Data.{Int};
 
 use crate::replay::{ReplayFault, replay};
@@ -56,6 +56,24 @@ fn answers(alloc: Global, here: u32, state: &State, action: &Act) -> Result<Repl
     one(alloc, Reply { cont, value })
 }
 
+/// The state stays, and the place is answered.
+pub(crate) fn stays(
+    alloc: Global,
+    here: u32,
+    state: &State,
+    action: &Act,
+) -> Result<Outcome, OutOfMemory>
+    ensures { IfOk result (λ out. out ≡ stays state.now action.now (Int (pos here))) }
+{
+    Ok(Outcome {
+        state: kept(alloc, state)?,
+        makes: Items::new(alloc),
+        sends: Items::new(alloc),
+        replies: answers(alloc, here, state, action)?,
+        prints: Items::new(alloc),
+    })
+}
+
 impl Acts for Still {
     ghost use Rattle.hpx_replay.specs.Still.{still, still_keeps, still_blind};
 
@@ -75,13 +93,7 @@ impl Acts for Still {
         state: &State,
         action: &Act,
     ) -> Result<Outcome, OutOfMemory> {
-        Ok(Outcome {
-            state: kept(alloc, state)?,
-            makes: Items::new(alloc),
-            sends: Items::new(alloc),
-            replies: answers(alloc, here, state, action)?,
-            prints: Items::new(alloc),
-        })
+        stays(alloc, here, state, action)
     }
 
     ghost keeps_laws = { still_keeps };

@@ -3,7 +3,7 @@ ghost use Rattle.std.specs.Prelude.{◌≡◌, ◌-◌, ◌∷◌, [], ℕ, IfOk
 ghost use Rattle.hpx_value.specs.declared.profile.Profile.{Profile as Settings};
 ghost use Rattle.hpx_journal.specs.Local.{takes, gives};
 ghost use Rattle.hpx_replay.specs.Spaces.{Meaning, rules_of};
-ghost use Rattle.hpx_journal.specs.Cargo.{cargo_of, parcel_in};
+ghost use Rattle.hpx_journal.specs.Frames.{cargo_of, parcel_in};
 
 use hpx_journal::cargo::{Cargo, one};
 use hpx_journal::entry::{Event, Reason, Token};

@@ -1,6 +1,6 @@
 use Rattle.std.proofs.Common.{◌≡◌, ◌++◌, drop, map}
 use Rattle.hpx_parcel.specs.Credits.{credits_of}
-use Rattle.hpx_journal.specs.Cargo.{credited}
+use Rattle.hpx_journal.specs.Frames.{credited}
 use Rattle.hpx_journal.proofs.cargo.tokens_of.Given as goal
 
 abbrev pub invariant-loop-id : goal.invariant-loop-id

@@ -4,7 +4,7 @@ use Rattle.hpx_journal.specs.declared.entry.Event.TheVariants.{Fire, Born, Done,
 use Rattle.hpx_value.specs.declared.profile.Profile.{Profile}
 use Rattle.hpx_journal.specs.Rows.{Row}
 use Rattle.hpx_replay.specs.Spaces.{Meaning, rules_of, reading_of, outcome_in}
-use Rattle.hpx_journal.specs.Cargo.{parcel_in}
+use Rattle.hpx_journal.specs.Frames.{parcel_in}
 use Rattle.hpx_replay.proofs.RowLemmas.{row_is, ok_then}
 use Rattle.hpx_replay.proofs.entries.row.Goals as goal
 

@@ -7,9 +7,9 @@ use Rattle.hpx_replay.proofs.replay.judge.Goals as goal
 
 pub loop-i-preserved : goal.loop-i-preserved
 loop-i-preserved g c =
-    let f = g.A.Acting.act_of in
+    let f = g.A.Acts.act_of in
     let p = c.args.profile.now in
-    let r = rules_of (g.A.Acting.count c.args.acts.now) c.args.profile.now g.A.Acting.act_of in
+    let r = rules_of (g.A.Acts.count c.args.acts.now) c.args.profile.now g.A.Acts.act_of in
     let es = c.args.journal.now.entries in
     let S : List Entry → Type 0 = λ xs. c.loop-i.i < length xs in
     let T : List Entry → Type 0 = λ xs. c.entry-item.result ≡ get_or xs c.loop-i.i c.entry-item.result in

@@ -1,5 +1,5 @@
 use Rattle.std.proofs.Common.{rules, sym, subst, ◌∙◌, length, ◌<◌, List}
-use Rattle.hpx_journal.specs.Found.{IsFirst}
+use Rattle.hpx_journal.specs.Bags.{IsFirst}
 use Rattle.hpx_journal.proofs.Seek.{first_here}
 use Rattle.hpx_journal.proofs.bag.Bag.place.Goals as goal
 

@@ -1,5 +1,5 @@
 use Rattle.std.proofs.Common.{ap, ◌∙◌}
-use Rattle.hpx_journal.specs.Books.{Book}
+use Rattle.hpx_journal.specs.Weights.{Book}
 use Rattle.hpx_node.proofs.Same.{stands_same}
 use Rattle.hpx_node.proofs.SameCommit.{prepared_same, ends_from}
 use Rattle.hpx_node.proofs.node.Node.finish.Goals.{then-is_err-via-then-is_err, then-is_err-via-else-is_err+then-is_err-2}
