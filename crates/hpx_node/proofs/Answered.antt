@@ -1,5 +1,5 @@
 -- An ask for more credit is answered.
-use Rattle.std.proofs.Common.{ℕ, Bool, true, false, cond, List, [], ◌∷◌, ◌≡◌, ◌+◌, ◌-◌, ◌^◌, ◌≤◌, ◌<◌, Option, Some, map, refl, sym, ap, ◌∙◌, arith, inl, inr, subst}
+use Rattle.std.proofs.Common.{ℕ, Bool, true, false, cond, List, [], ◌∷◌, ◌++◌, ◌≡◌, ◌+◌, ◌-◌, ◌^◌, ◌≤◌, ◌<◌, Option, Some, map, length, refl, sym, ap, ◌∙◌, arith, inl, inr, subst}
 use Rattle.std.specs.Prelude.{if◌then◌else◌, IfSome, nat_lt}
 use Rattle.std.specs.Option.{option_map_or}
 use Rattle.std.specs.List.{sum_by, count_by, find, list_any}
@@ -17,12 +17,14 @@ use Rattle.hpx_journal.specs.Entries.{Rules}
 use Rattle.hpx_journal.specs.Tokens.{owed_token, same_token}
 use Rattle.hpx_journal.specs.Local.{is_recorded, count_in}
 use Rattle.hpx_journal.proofs.Same.{same_object-true}
-use Rattle.hpx_part.specs.Data.{Event, Count, Granted, Refused, Token, Recorded}
+use Rattle.hpx_part.specs.Data.{Entry, Event, Reason, Count, Granted, Refused, Token, Recorded}
+use Rattle.hpx_part.specs.Parts.{at_all}
 use Rattle.hpx_part.specs.View.{View}
 use Rattle.hpx_part.specs.Shows.{Leads, SameTokens}
 use Rattle.hpx_part.proofs.CreditRows.{follows_granted, follows_refused}
 use Rattle.hpx_part.proofs.Credit.{token_own}
 use Rattle.hpx_part.proofs.Keyed.{counts_of, counts_true}
+use Rattle.hpx_node.specs.Pending.{asking_of, refusals_of}
 use Rattle.hpx_node.specs.Tables.{Tables}
 use Rattle.hpx_node.specs.Seen.{counted, parcel_tokens, tokens, asks, frees, view}
 use Rattle.hpx_node.specs.Stands.{IsTidy, rules_of}
@@ -32,8 +34,8 @@ use Rattle.hpx_node.specs.Strange.{is_live}
 use Rattle.hpx_node.specs.Handled.{answered, more_here, in_hand, TakesUp, Handles}
 use Rattle.hpx_node.proofs.Messages.{mails_tokens, mails_asks}
 use Rattle.hpx_node.proofs.Sums.{view_sum}
-use Rattle.hpx_node.proofs.Steps.{Tells, tells_leads}
-use Rattle.hpx_node.proofs.Alike.{stays_mailed, frees_mailed}
+use Rattle.hpx_node.proofs.Steps.{Tells, same_refusals, tells_leads}
+use Rattle.hpx_node.proofs.Alike.{fired_stay, stays_mailed, frees_mailed}
 use Rattle.hpx_node.proofs.InHand.{hand_sum}
 use Rattle.hpx_node.proofs.GivenUp.{owed_some}
 use Rattle.hpx_node.proofs.Returned.{found_counted, one_recounted, none_unborn, live_home, live_record}
@@ -72,12 +74,12 @@ module _ (act_of : ℕ → ℕ → ℕ → State → Act → Outcome) (t m t' : 
         serial = ap (λ (x : Tables). x.serial) (sym rest) ∙ stays.serial;
         number = ap (λ (x : Tables). x.births) (sym rest) ∙ stays.births;
         waiting = ap (λ (x : Tables). (view x [] []).waiting) (sym rest) ∙ stays.waiting;
-        fired = ap (λ (x : Tables). (view x [] []).fired) (sym rest) ∙ ap (map _) stays.running;
+        fired = ap (λ (x : Tables). (view x [] []).fired) (sym rest) ∙ fired_stay m t' stays;
         objects = ap (λ (x : Tables). (view x [] []).objects) (sym rest) ∙ ap (map _) stays.objects;
         fresh = refl;
         due = refl;
         tokens = tokens;
-        asking = λ x. refl;
+        asking = λ x. ap (λ (y : Tables). count_by (same_object x) (asking_of y.pending)) (sym rest) ∙ ap (λ ws. count_by (same_object x) (asking_of ws)) stays.pending;
         asks = λ x. omega (
           arith,
           sum_by-cons (counts_of (same_object x)) id (asks t),
@@ -88,8 +90,8 @@ module _ (act_of : ℕ → ℕ → ℕ → State → Act → Outcome) (t m t' : 
         );
         live = λ x at. counts x at ∙ ap (λ rs. count_in (find (is_recorded x) (map counted rs))) stays.records;
         dead = λ x h. takes.among x (subst (λ (y : Tables). list_any (same_object x) (frees y) ≡ true) rest (frees_mailed (Give given entry) m t' mails x h));
-        refusals = refl;
-        failing = refl;
+        refusals = same_refusals (refusals_of t.pending) (refusals_of t'.pending) (ap (λ (y : Tables). refusals_of y.pending) (sym rest) ∙ ap refusals_of stays.pending);
+        failing = omega (arith, ap (λ (y : Tables). length (refusals_of y.pending)) rest, ap (λ ws. length (refusals_of ws)) stays.pending);
         last = refl;
       }
 
@@ -108,6 +110,7 @@ module _ (act_of : ℕ → ℕ → ℕ → State → Act → Outcome) (t m t' : 
   still_tidy = subst (λ x. IsTidy x []) (sym rest) (record {
     accepted = tidy.accepted;
     running = tidy.running;
+    paused = tidy.paused;
     objects = tidy.objects;
     messages = tidy.messages;
     fit = tidy.fit;
@@ -129,6 +132,7 @@ module _ (act_of : ℕ → ℕ → ℕ → State → Act → Outcome) (t m t' : 
     sent = ap (λ (x : Tables). x.sent) mails.rest ∙ ap (λ (x : Tables). x.sent) rest;
     taken = ap (λ (x : Tables). x.taken) mails.rest ∙ ap (λ (x : Tables). x.taken) rest;
     running = ap (λ (x : Tables). x.running) mails.rest ∙ ap (λ (x : Tables). x.running) rest;
+    asked = ap (λ (x : Tables). x.asked) mails.rest ∙ ap (λ (x : Tables). x.asked) rest;
     tidy = mails.tidy [] still_tidy;
     leads = leads;
   }
@@ -282,3 +286,55 @@ granted_by act_of t m t' u p id given more asker entry seen_as tidy mails profil
     (answer_granted act_of t m t' id given asker entry least live enough rest tidy
     (subst (λ q. IfSome (find_record id t.records) (λ x. find_record id m.records ≡ Some (asked q x))) profile now) others mails more is
     (subst (λ q. IfSome (find_record id t.records) (λ x. Yes more ≡ granted_of q x id)) profile granted))
+
+-- ---- what is written
+
+module _ (t u : Tables) (p : Profile) (id : Id) (records : List Record) (seen_as : t ≡ u) (profile : p ≡ t.profile) (live : is_live t id ≡ true)
+    (now : IfSome (find_record id t.records) (λ x. find_record id records ≡ Some (asked p x))) (count here : ℕ)
+    (counted : count ≡ option_map_or (λ (x : Record). x.count) (find_record id records) 0) (at : here ≡ u.here) where
+  there : (rec : Record) × (find_record id t.records ≡ Some rec)
+  there = live_record t.here t.records id live
+
+  had : count_here t id ≡ there.0.count
+  had = ap (λ (o : Option Record). option_map_or (λ (x : Record). x.count) o 0) there.1
+
+  count_is : count ≡ (asked t.profile there.0).count
+  count_is =
+      counted
+      ∙ ap (λ (o : Option Record). option_map_or (λ (x : Record). x.count) o 0)
+      (subst (λ (o : Option Record). IfSome o (λ x. find_record id records ≡ Some (asked t.profile x))) there.1
+      (subst (λ q. IfSome (find_record id t.records) (λ x. find_record id records ≡ Some (asked q x))) profile now))
+
+  flag : nat_lt t.profile.credit_limit (more_here t id) ≡ nat_lt t.profile.credit_limit (grown t.profile there.0)
+  flag = ap (λ n. nat_lt t.profile.credit_limit (n + 2 ^ t.profile.credit_log - 1)) had
+
+  pub refused_grows : (why : Reason) (before after : List Entry) → why ≡ Refused → IfSome (find_record id t.records) (λ x. Limit ≡ granted_of p x id)
+      → after ≡ before ++ record { at = here; event = Count (bare id) count why } ∷ [] → after ≡ before ++ at_all u.here (answered u id)
+  refused_grows why before after is limit grows =
+      let full : nat_lt t.profile.credit_limit (grown t.profile there.0) ≡ true =
+      limit_full t there.0 id (subst (λ (o : Option Record). IfSome o (λ x. Limit ≡ granted_of t.profile x id)) there.1
+      (subst (λ q. IfSome (find_record id t.records) (λ x. Limit ≡ granted_of q x id)) profile limit)) in
+      let same : count ≡ count_here t id = count_is ∙ rw full (sym had) in
+      let events : answered t id ≡ Count (bare id) (count_here t id) Refused ∷ [] =
+      ap (λ b. (if b then Count (bare id) (count_here t id) Refused else Count (bare id) (more_here t id) Granted) ∷ []) (flag ∙ full) in
+      grows
+      ∙ (ap (λ k. before ++ record { at = k; event = Count (bare id) count why } ∷ []) at
+      ∙ (ap (λ w. before ++ record { at = u.here; event = Count (bare id) count w } ∷ []) is
+      ∙ (ap (λ n. before ++ record { at = u.here; event = Count (bare id) n Refused } ∷ []) same
+      ∙ (ap (λ es. before ++ at_all u.here es) (sym events) ∙ ap (λ y. before ++ at_all u.here (answered y id)) seen_as))))
+
+  pub granted_grows : (why : Reason) (more : Id) (before after : List Entry) → why ≡ Granted
+      → IfSome (find_record id t.records) (λ x. Yes more ≡ granted_of p x id)
+      → after ≡ before ++ record { at = here; event = Count (bare id) count why } ∷ [] → after ≡ before ++ at_all u.here (answered u id)
+  granted_grows why more before after is given grows =
+      let free : nat_lt t.profile.credit_limit (grown t.profile there.0) ≡ false =
+      (yes_free t there.0 id more (subst (λ (o : Option Record). IfSome o (λ x. Yes more ≡ granted_of t.profile x id)) there.1
+      (subst (λ q. IfSome (find_record id t.records) (λ x. Yes more ≡ granted_of q x id)) profile given))).0 in
+      let same : count ≡ more_here t id = count_is ∙ rw free (ap (λ n. n + 2 ^ t.profile.credit_log - 1) (sym had)) in
+      let events : answered t id ≡ Count (bare id) (more_here t id) Granted ∷ [] =
+      ap (λ b. (if b then Count (bare id) (count_here t id) Refused else Count (bare id) (more_here t id) Granted) ∷ []) (flag ∙ free) in
+      grows
+      ∙ (ap (λ k. before ++ record { at = k; event = Count (bare id) count why } ∷ []) at
+      ∙ (ap (λ w. before ++ record { at = u.here; event = Count (bare id) count w } ∷ []) is
+      ∙ (ap (λ n. before ++ record { at = u.here; event = Count (bare id) n Granted } ∷ []) same
+      ∙ (ap (λ es. before ++ at_all u.here es) (sym events) ∙ ap (λ y. before ++ at_all u.here (answered y id)) seen_as))))

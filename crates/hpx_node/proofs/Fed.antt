@@ -33,6 +33,7 @@ module _ (r : Rules) (t t' : Tables) (entries : List Entry) (bytes : List ℕ) w
       (posts.tidy [] (record {
         accepted = h.tidy.accepted;
         running = h.tidy.running;
+        paused = h.tidy.paused;
         objects = h.tidy.objects;
         messages = h.tidy.messages;
         fit = tt;
@@ -45,6 +46,7 @@ module _ (r : Rules) (t t' : Tables) (entries : List Entry) (bytes : List ℕ) w
         here = ap (λ (x : Tables). x.here) posts.rest;
         born = omega (arith, ap (λ (x : Tables). x.births) posts.rest);
         few = omega (arith, ap (λ (x : Tables). x.serial) posts.rest);
+        asked = omega (arith, ap (λ (x : Tables). x.asked) posts.rest);
         sent = omega (arith, ap (λ (x : Tables). x.sent) posts.rest);
         taken = omega (arith, ap (λ (x : Tables). x.taken) posts.rest);
       })

@@ -136,8 +136,8 @@ module _ (r : Rules) (t : Tables) (entries : List Entry) (x : Outgoing) (rest : 
     asks = λ y. refl;
     live = λ y home. refl;
     dead = fewer_dead;
-    refusals = refl;
-    failing = refl;
+    refusals = λ y h. h;
+    failing = omega arith;
     last = refl;
   }
 
@@ -147,6 +147,7 @@ module _ (r : Rules) (t : Tables) (entries : List Entry) (x : Outgoing) (rest : 
       let ways : AllByRecursion (IsOnItsWay t.localities t.here) (x ∷ rest) = subst (AllByRecursion (IsOnItsWay t.localities t.here)) is h.ways in record {
         accepted = h.accepted;
         running = h.running;
+        paused = h.paused;
         objects = h.objects;
         messages = all_append IsParcel t.desk others parts.0 parts.1.1;
         fit = tt;
@@ -169,4 +170,4 @@ module _ (r : Rules) (t : Tables) (entries : List Entry) (x : Outgoing) (rest : 
         tells_leads r then (view went [] []) tells,
       ) in
       stands_then r t went [] [] [] [] entries (Out x.to bytes ∷ []) h tidy
-      (record { here = refl; born = omega arith; few = omega arith; sent = omega arith; taken = omega arith }) leads
+      (record { here = refl; born = omega arith; few = omega arith; asked = omega arith; sent = omega arith; taken = omega arith }) leads

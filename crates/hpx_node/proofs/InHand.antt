@@ -1,5 +1,5 @@
 -- A message in hand: what is seen of it, and an action that comes to wait.
-use Rattle.std.proofs.Common.{ℕ, Bool, true, List, [], ◌∷◌, ◌++◌, ◌≡◌, ◌+◌, Some, map, refl, sym, ap, ◌∙◌, arith, inl, inr, subst}
+use Rattle.std.proofs.Common.{ℕ, Bool, true, List, [], ◌∷◌, ◌++◌, ◌≡◌, ◌+◌, Some, map, length, refl, sym, ap, ◌∙◌, arith, inl, inr, subst}
 use Rattle.std.specs.Prelude.{flat_map}
 use Rattle.std.specs.List.{sum_by, count_by, find, list_any}
 use Rattle.std.proofs.lemmas.Bool.{cases_Bool}
@@ -17,13 +17,14 @@ use Rattle.hpx_part.specs.Shows.{Shows, Leads}
 use Rattle.hpx_part.proofs.Covered.{act_names}
 use Rattle.hpx_part.proofs.Lists.{sum_middle}
 use Rattle.hpx_part.proofs.Keyed.{counts_of, counts_true, count_middle, find_hit, find_miss}
-use Rattle.hpx_node.specs.Tables.{Tables, messages}
+use Rattle.hpx_node.specs.Pending.{asking_of, refusals_of}
+use Rattle.hpx_node.specs.Tables.{Tables, messages, fired_acts}
 use Rattle.hpx_node.specs.Seen.{bare_standing, counted, parcel_tokens, tokens, asks, view}
 use Rattle.hpx_node.specs.Stands.{IsTidy}
 use Rattle.hpx_node.specs.Changes.{Posts}
 use Rattle.hpx_node.specs.Handled.{with_first, in_hand, Handles}
 use Rattle.hpx_node.proofs.Sums.{weigh, tokens_sum, view_sum}
-use Rattle.hpx_node.proofs.Steps.{tells_leads}
+use Rattle.hpx_node.proofs.Steps.{same_refusals, tells_leads}
 
 -- what is in one place of the list may be in another
 agree_moved : {K X : Type 0} (test : K → X → Bool) (xs l m l' m' : List X) (x : X) → l ++ m ≡ l' ++ m' → Agree test xs (l ++ x ∷ m)
@@ -118,6 +119,7 @@ posted_handles r act p t t' tidy posts one none toks =
       sent = ap (λ (x : Tables). x.sent) rest;
       taken = ap (λ (x : Tables). x.taken) rest;
       running = ap (λ (x : Tables). x.running) rest;
+      asked = ap (λ (x : Tables). x.asked) rest;
       tidy = posts.tidy [] tidy;
       leads = λ dead e takes.
           let v = in_hand p t dead e in
@@ -132,17 +134,17 @@ posted_handles r act p t t' tidy posts one none toks =
             serial = sym (ap (λ (x : Tables). x.serial) rest);
             number = sym (ap (λ (x : Tables). x.births) rest);
             waiting = sym posts.after;
-            fired = sym (ap (λ (x : Tables). map bare_act x.running) rest);
+            fired = sym (ap (λ (x : Tables). map bare_act (fired_acts x)) rest);
             objects = sym (ap (λ (x : Tables). map bare_standing x.objects) rest);
             fresh = refl;
             due = refl;
             tokens = λ f weight. omega (arith, hand_sum f p t, view_sum f t' [] [], posts.tokens f, toks f);
-            asking = λ x. refl;
+            asking = λ x. ap (λ (y : Tables). count_by (same_object x) (asking_of y.pending)) (sym rest);
             asks = λ x. ap (λ xs. count_by (same_object x) (xs ++ asks t)) none ∙ ap (λ xs. count_by (same_object x) xs) (sym posts.asks);
             live = λ x home. ap (λ (y : Tables). count_in (find (is_recorded x) (map counted y.records))) (sym rest);
             dead = λ x h. takes.among x (subst (λ xs. list_any (same_object x) xs ≡ true) posts.frees h);
-            refusals = refl;
-            failing = refl;
+            refusals = same_refusals (refusals_of t.pending) (refusals_of t'.pending) (ap (λ (y : Tables). refusals_of y.pending) (sym rest));
+            failing = omega (arith, ap (λ (y : Tables). length (refusals_of y.pending)) rest);
             last = refl;
           }));
     }

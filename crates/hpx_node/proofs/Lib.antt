@@ -12,6 +12,7 @@ pub mod Stays
 pub mod Steps
 pub mod Paid
 pub mod Posted
+pub mod Pausing
 pub mod Prepared
 pub mod Same
 pub mod Sums
@@ -24,6 +25,7 @@ pub mod Fired
 pub mod BareHands
 pub mod HandFit
 pub mod FilledDue
+pub mod Plain
 pub mod Planned
 pub mod TidyPlan
 pub mod PreparedPlan

@@ -27,6 +27,7 @@ module _ (t : Tables) (p : Parcel) (spare : ℕ) (fit : IsParcel p) (enough : t.
         tidy = λ due h. record {
           accepted = h.accepted;
           running = h.running;
+          paused = h.paused;
           objects = h.objects;
           messages = subst (AllByRecursion IsParcel)
               (append_assoc t.desk outs (p ∷ []) ∙ ap (λ xs. t.desk ++ xs) (sym (map-append (λ (x : Outgoing). x.parcel) t.outgoing (record { to = to; parcel = p } ∷ []))))
@@ -53,6 +54,7 @@ module _ (t : Tables) (p : Parcel) (spare : ℕ) (fit : IsParcel p) (enough : t.
         tidy = λ due h. record {
           accepted = h.accepted;
           running = h.running;
+          paused = h.paused;
           objects = h.objects;
           messages = let parts = all_parts IsParcel t.desk outs h.messages in
               all_append IsParcel (t.desk ++ p ∷ []) outs (all_append IsParcel t.desk (p ∷ []) parts.0 (fit, tt)) parts.1;

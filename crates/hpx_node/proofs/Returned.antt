@@ -1,5 +1,5 @@
 -- Credit comes home.
-use Rattle.std.proofs.Common.{ℕ, Bool, true, false, cond, List, [], ◌∷◌, ◌++◌, ◌≡◌, ◌-◌, ◌^◌, ◌≤◌, ◌<◌, ◌==◌, Option, Some, None, map, refl, sym, ap, ◌∙◌, arith, inl, inr, subst}
+use Rattle.std.proofs.Common.{ℕ, Bool, true, false, cond, List, [], ◌∷◌, ◌++◌, ◌≡◌, ◌-◌, ◌^◌, ◌≤◌, ◌<◌, ◌==◌, Option, Some, None, map, length, refl, sym, ap, ◌∙◌, arith, inl, inr, subst}
 use Rattle.std.specs.Prelude.{is_some, ◌&&◌, IfSome, IsSomeAnd}
 use Rattle.std.specs.Option.{option_map_or}
 use Rattle.std.specs.List.{sum_by, count_by, find, list_any}
@@ -21,6 +21,7 @@ use Rattle.hpx_part.specs.Shows.{Leads}
 use Rattle.hpx_part.proofs.CreditRows.{follows_returned}
 use Rattle.hpx_part.proofs.Credit.{token_own}
 use Rattle.hpx_part.proofs.Keyed.{counts_of, counts_true, any_counted, counted_any}
+use Rattle.hpx_node.specs.Pending.{asking_of, refusals_of}
 use Rattle.hpx_node.specs.Tables.{Tables}
 use Rattle.hpx_node.specs.Seen.{counted, parcel_tokens, tokens, asks, frees, view}
 use Rattle.hpx_node.specs.Stands.{IsTidy}
@@ -30,8 +31,8 @@ use Rattle.hpx_node.specs.Strange.{is_live}
 use Rattle.hpx_node.specs.Handled.{returned, in_hand, TakesUp, Handles}
 use Rattle.hpx_node.proofs.Messages.{mails_tokens, mails_asks}
 use Rattle.hpx_node.proofs.Sums.{view_sum}
-use Rattle.hpx_node.proofs.Steps.{Tells, tells_leads, tells_covered}
-use Rattle.hpx_node.proofs.Alike.{Stays, stays_same, stays_mailed, frees_mailed}
+use Rattle.hpx_node.proofs.Steps.{Tells, same_refusals, tells_leads, tells_covered}
+use Rattle.hpx_node.proofs.Alike.{Stays, fired_stay, stays_same, stays_mailed, frees_mailed}
 use Rattle.hpx_node.proofs.InHand.{hand_sum}
 use Rattle.hpx_node.proofs.GivenUp.{owed_some}
 use Rattle.hpx_node.proofs.Cover.{tidy_covers}
@@ -137,17 +138,17 @@ module _ (r : Rules) (t m : Tables) (id : Id) (log : ℕ) (rec : Record) (some :
         serial = ap (λ (x : Tables). x.serial) (sym rest) ∙ stays.serial;
         number = ap (λ (x : Tables). x.births) (sym rest) ∙ stays.births;
         waiting = ap (λ (x : Tables). (view x [] []).waiting) (sym rest) ∙ stays.waiting;
-        fired = ap (λ (x : Tables). (view x [] []).fired) (sym rest) ∙ ap (map _) stays.running;
+        fired = ap (λ (x : Tables). (view x [] []).fired) (sym rest) ∙ fired_stay m t' stays;
         objects = ap (λ (x : Tables). (view x [] []).objects) (sym rest) ∙ ap (map _) stays.objects;
         fresh = refl;
         due = refl;
         tokens = λ f weight. refl;
-        asking = λ x. refl;
+        asking = λ x. ap (λ (y : Tables). count_by (same_object x) (asking_of y.pending)) (sym rest) ∙ ap (λ ws. count_by (same_object x) (asking_of ws)) stays.pending;
         asks = pending;
         live = λ x at. ap (λ rs. count_in (find (is_recorded x) (map counted rs))) stays.records;
         dead = among;
-        refusals = refl;
-        failing = refl;
+        refusals = same_refusals (refusals_of t.pending) (refusals_of t'.pending) (ap (λ (y : Tables). refusals_of y.pending) (sym rest) ∙ ap refusals_of stays.pending);
+        failing = omega (arith, ap (λ (y : Tables). length (refusals_of y.pending)) rest, ap (λ ws. length (refusals_of ws)) stays.pending);
         last = refl;
       } in
       let events : returned t id id.log ≡ Count (bare id) count (Returned log) ∷ [] = ap (returned t id) some in
@@ -178,10 +179,10 @@ module _ (r : Rules) (t m : Tables) (id : Id) (log : ℕ) (rec : Record) (some :
       )
 
   handles_at : (t' : Tables) → t'.here ≡ m.here → t'.localities ≡ m.localities → t'.profile ≡ m.profile → t'.serial ≡ m.serial → t'.births ≡ m.births → t'.sent ≡ m.sent
-      → t'.taken ≡ m.taken → t'.running ≡ m.running → IsTidy t' []
+      → t'.taken ≡ m.taken → t'.running ≡ m.running → t'.asked ≡ m.asked → IsTidy t' []
       → ((dead : List Id) (e : Event) → TakesUp r t (Return id) dead e → Leads r (in_hand (Return id) t dead e) (returned t id id.log) (view t' [] []))
       → Handles r (Return id) t t' (returned t id id.log)
-  handles_at t' here localities profile serial births sent taken running tidy leads = record {
+  handles_at t' here localities profile serial births sent taken running asked tidy leads = record {
     here = here ∙ ap (λ (x : Tables). x.here) rest;
     localities = localities ∙ ap (λ (x : Tables). x.localities) rest;
     profile = profile ∙ ap (λ (x : Tables). x.profile) rest;
@@ -190,6 +191,7 @@ module _ (r : Rules) (t m : Tables) (id : Id) (log : ℕ) (rec : Record) (some :
     sent = sent ∙ ap (λ (x : Tables). x.sent) rest;
     taken = taken ∙ ap (λ (x : Tables). x.taken) rest;
     running = running ∙ ap (λ (x : Tables). x.running) rest;
+    asked = asked ∙ ap (λ (x : Tables). x.asked) rest;
     tidy = tidy;
     leads = leads;
   }
@@ -198,6 +200,7 @@ module _ (r : Rules) (t m : Tables) (id : Id) (log : ℕ) (rec : Record) (some :
   still_tidy tidy = subst (λ x. IsTidy x []) (sym rest) (record {
     accepted = tidy.accepted;
     running = tidy.running;
+    paused = tidy.paused;
     objects = tidy.objects;
     messages = tidy.messages;
     fit = tidy.fit;
@@ -212,7 +215,7 @@ module _ (r : Rules) (t m : Tables) (id : Id) (log : ℕ) (rec : Record) (some :
 
   -- and there is more out
   pub returned_alive : IsTidy t [] → Handles r (Return id) t m (returned t id id.log)
-  returned_alive tidy = handles_at m refl refl refl refl refl refl refl refl (still_tidy tidy)
+  returned_alive tidy = handles_at m refl refl refl refl refl refl refl refl refl (still_tidy tidy)
       (λ dead e takes. returned_leads m dead e (stays_same m) (still_tidy tidy) (λ f. refl) asks_stay
       (λ x h. any_behind (same_object x) (cond (count == 0) (bare id ∷ []) []) dead
       (takes.among x (subst (λ (y : Tables). list_any (same_object x) (frees y) ≡ true) rest h))))
@@ -224,6 +227,7 @@ module _ (r : Rules) (t m : Tables) (id : Id) (log : ℕ) (rec : Record) (some :
       let on = mails.rest in
       handles_at t' (ap (λ (x : Tables). x.here) on) (ap (λ (x : Tables). x.localities) on) (ap (λ (x : Tables). x.profile) on)
       (ap (λ (x : Tables). x.serial) on) (ap (λ (x : Tables). x.births) on) (ap (λ (x : Tables). x.sent) on) (ap (λ (x : Tables). x.taken) on) (ap (λ (x : Tables). x.running) on)
+      (ap (λ (x : Tables). x.asked) on)
       (mails.tidy [] (still_tidy tidy))
       (λ dead e takes. returned_leads t' dead e (stays_mailed (Free (bare id)) m t' mails refl) (mails.tidy [] (still_tidy tidy))
       (λ f. omega (arith, mails_tokens (Free (bare id)) m t' mails f)) (λ x. omega (arith, asks_stay x, mails_asks (Free (bare id)) m t' mails x))

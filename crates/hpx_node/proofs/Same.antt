@@ -14,6 +14,7 @@ tidy_spare : (t : Tables) (due : List Due) (spare : ℕ) → IsTidy t due → Is
 tidy_spare t due spare h = record {
   accepted = h.accepted;
   running = h.running;
+  paused = h.paused;
   objects = h.objects;
   messages = h.messages;
   fit = h.fit;
@@ -30,6 +31,7 @@ stands_spare r t due loose es spare h = record {
   tidy = tidy_spare t due spare h.tidy;
   born = h.born;
   few = h.few;
+  asked = h.asked;
   sent = h.sent;
   taken = h.taken;
 }

@@ -90,6 +90,7 @@ taken_stands r t t' p bytes entries events h fit spelled none quiet handles =
     (record {
       here = handles.here;
       few = omega (arith, handles.serial);
+      asked = omega (arith, handles.asked);
       born = omega (arith, handles.births);
       sent = omega (arith, handles.sent, ap length quiet.out);
       taken = omega (arith, handles.taken, ap length quiet.come);
@@ -128,6 +129,7 @@ mailed_stands r t t' p entries events h own quiet handles =
     (record {
       here = handles.here;
       few = omega (arith, handles.serial);
+      asked = omega (arith, handles.asked);
       born = omega (arith, handles.births);
       sent = omega (arith, handles.sent, ap length quiet.out);
       taken = omega (arith, handles.taken, ap length quiet.come);
@@ -165,6 +167,7 @@ pub taken_tidy : (t : Tables) (n : ℕ) → IsTidy t [] → IsTidy (record t { t
 taken_tidy t n tidy = record {
   accepted = tidy.accepted;
   running = tidy.running;
+  paused = tidy.paused;
   objects = tidy.objects;
   messages = tidy.messages;
   fit = tidy.fit;

@@ -95,6 +95,7 @@ pub record Handles (r : Rules) (p : Parcel) (t t' : Tables) (events : List Event
   pub sent : t'.sent ≡ t.sent
   pub taken : t'.taken ≡ t.taken
   pub running : t'.running ≡ t.running
+  pub asked : t'.asked ≡ t.asked
   pub tidy : IsTidy t' []
   pub leads : (dead : List Id) (e : Event) → TakesUp r t p dead e → Leads r (in_hand p t dead e) events (view t' [] [])
 

@@ -15,6 +15,7 @@ use Rattle.hpx_part.specs.Data.{Entry}
 use Rattle.hpx_part.specs.Parts.{StandsFor}
 use Rattle.hpx_node.specs.Fit.{IsFit, IsKept, IsFitDue}
 use Rattle.hpx_node.specs.Frames.{IsOnItsWay}
+use Rattle.hpx_node.specs.Paused.{ArePaused}
 use Rattle.hpx_node.specs.Tables.{Tables, messages}
 use Rattle.hpx_node.specs.Seen.{view}
 
@@ -40,6 +41,7 @@ pub record IsTidy (t : Tables) (due : List Due) : Type 0 where
   pub drawn : AllByRecursion (λ x. 16 ≤ x.object.kind → x.object.home ≡ t.here → x.object.number ≤ t.births) t.objects
   pub unborn : (o : Id) → t.births < o.number → find (λ x. same_object o x.gid) t.records ≡ None
   pub ways : AllByRecursion (IsOnItsWay t.localities t.here) t.outgoing
+  pub paused : ArePaused t.here t.objects t.running t.pending
 
 -- the node keeps its part, and its tables show where that leads, with this due and these ids named nowhere
 pub record StandsWith (r : Rules) (t : Tables) (due : List Due) (loose : List Id) (entries : List Entry) : Type 0 where
@@ -47,6 +49,7 @@ pub record StandsWith (r : Rules) (t : Tables) (due : List Due) (loose : List Id
   pub tidy : IsTidy t due
   pub born : t.births ≤ length entries
   pub few : t.serial ≤ length entries
+  pub asked : t.asked ≤ length entries
   pub sent : t.sent ≡ length (outs (part t.here entries))
   pub taken : t.taken ≡ length (ins (part t.here entries))
 

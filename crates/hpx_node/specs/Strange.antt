@@ -9,7 +9,7 @@ use Rattle.hpx_journal.specs.Rows.{is_to}
 use Rattle.hpx_agas.specs.declared.record.Record.{Record}
 pub use Rattle.hpx_node.specs.declared.strange.Broken.{Broken}
 use Rattle.hpx_node.specs.Tables.{Tables}
-use Rattle.hpx_node.specs.Kept.{stands_here, record_here, count_here, held_here}
+use Rattle.hpx_node.specs.Kept.{stands_here, waits_here, record_here, count_here, held_here}
 
 -- the object that a message is about
 abbrev pub object_of : Parcel → Id
@@ -97,9 +97,10 @@ broken_object t p act = if stands_here t (target_of act) then breaks 4 p t.here 
 abbrev pub broken_landed : Tables → Parcel → Id → Option Broken
 broken_landed t p id = broken_return t p id (breaks 5 p (option_map_or (λ (r : Record). r.place) (record_here t id) 0))
 
--- an object that is to be freed; an action on it holds an id of it. No more than 2^128 - 1 is told
+-- an object that is to be freed; an action on it holds an id of it, unless its commit waits. No more than 2^128 - 1 is told
 abbrev pub broken_free : Tables → Parcel → Id → Option Broken
-broken_free t p o = if stands_here t o && (held_here t o == 0) then None else breaks 7 p (min (2 ^ 128 - 1) (held_here t o))
+broken_free t p o =
+    if stands_here t o && (not (waits_here t o) && (held_here t o == 0)) then None else breaks 7 p (min (2 ^ 128 - 1) (held_here t o))
 
 -- where all that it names is below the number of localities. Nothing was asked for here, and no object moves: a message
 -- that is for either breaks rule 8 if it breaks none before

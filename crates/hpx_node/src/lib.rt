@@ -1,4 +1,4 @@
-//! One locality: the objects that stand there, the actions that wait and run, the messages on their way, and the records of
+//! One locality: the objects that stand there, the actions that wait and run, the commits that wait, the messages on their way, and the records of
 //! the objects that were born there.
 #![tactic(auto)]
 
@@ -7,4 +7,5 @@ pub mod find;
 pub mod kept;
 pub mod node;
 pub mod parts;
+pub mod pending;
 pub mod strange;

@@ -14,6 +14,7 @@ use crate::boot::roots;
 use crate::find::{place_of, target};
 use crate::kept::{Fit, Kept, Letter};
 use crate::parts::Outgoing;
+use crate::pending::Pending;
 use hpx_agas::records::Records;
 use hpx_journal::local::move_to;
 use hpx_parcel::parcel::Parcel;
@@ -47,6 +48,8 @@ pub struct Node<A: Acts + Copy> {
     serial: u64,
     accepted: VecDeque<Fit>,
     running: Vec<Fit>,
+    pending: Vec<Pending<A>>,
+    asked: u64,
     desk: VecDeque<Letter>,
     outgoing: VecDeque<Outgoing>,
     objects: Vec<Kept>,
@@ -70,6 +73,8 @@ impl<A: Acts + Copy> Model for Node<A> {
       serial = n.serial;
       accepted = n.accepted.items;
       running = n.running.items;
+      pending = n.pending.items;
+      asked = n.asked;
       desk = n.desk.items;
       outgoing = n.outgoing.items;
       objects = n.objects.items;
@@ -79,7 +84,7 @@ impl<A: Acts + Copy> Model for Node<A> {
       taken = n.taken;
       spare = min (min (deque_capacity n.accepted - deque_len n.accepted) (deque_capacity n.desk - deque_len n.desk))
           (min (deque_capacity n.outgoing - deque_len n.outgoing) (min (vec_capacity n.running - vec_len n.running)
-          (min (vec_capacity n.objects - vec_len n.objects) n.records.spare)));
+          (min (vec_capacity n.pending - vec_len n.pending) (min (vec_capacity n.objects - vec_len n.objects) n.records.spare))));
     } };
 
     ghost invariant = { λ n. (A.count n.acts ≡ n.localities) × (n.here < n.localities) × (n.localities ≤ 64) × IsValid n.profile
@@ -109,6 +114,8 @@ impl<A: Acts + Copy> Node<A> {
             serial: 0,
             accepted: VecDeque::new(alloc),
             running: Vec::new(alloc),
+            pending: Vec::new(alloc),
+            asked: 0,
             desk: VecDeque::new(alloc),
             outgoing: VecDeque::new(alloc),
             objects,
@@ -128,6 +135,7 @@ impl<A: Acts + Copy> Node<A> {
         self.desk.reserve(more)?;
         self.outgoing.reserve(more)?;
         self.running.reserve(more)?;
+        self.pending.reserve(more)?;
         self.objects.reserve(more)?;
         self.records.reserve(n)?;
         Ok(())
@@ -174,12 +182,13 @@ impl<A: Acts + Copy> Node<A> {
         self.mail(home, act.into_letter());
     }
 
-    /// Whether nothing is to be done here: no action waits or runs, and no message is on its way.
+    /// Whether nothing is to be done here: no action waits or runs, no commit waits, and no message is on its way.
     pub fn is_passive(&self) -> bool
         ensures { IsTrue result ↔ IsPassive self.now }
     {
         self.accepted.is_empty()
             && self.running.is_empty()
+            && self.pending.is_empty()
             && self.desk.is_empty()
             && self.outgoing.is_empty()
     }

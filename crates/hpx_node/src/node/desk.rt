@@ -10,7 +10,7 @@ ghost use Rattle.hpx_part.specs.Data.{In, Mail};
 ghost use Rattle.hpx_node.specs.Changes.{OnlySpare, Writes};
 ghost use Rattle.hpx_part.specs.Parts.{at_all};
 ghost use Rattle.hpx_node.specs.Stands.{IsTidy, Stands, rules_of};
-ghost use Rattle.hpx_node.specs.Kept.{stands_here, held_here, count_here};
+ghost use Rattle.hpx_node.specs.Kept.{stands_here, waits_here, held_here, count_here};
 ghost use Rattle.hpx_node.specs.Strange.{is_live, broken_near};
 ghost use Rattle.hpx_node.specs.Handled.{ups, effects, with_first, kind_of, is_own, broken_here, Handles, GivesUp, Takes, Clears, NotTaken, NotCleared};
 
@@ -159,6 +159,7 @@ impl<A: Acts + Copy> Node<A> {
     fn free(&mut self, book: &mut Journal, o: Gid)
         requires bare { IsBare o }
         requires stands { stands_here self.old o ≡ true }
+        requires idle { waits_here self.old o ≡ false }
         requires none { held_here self.old o ≡ 0 }
         requires tidy { IsTidy self.old [] }
         requires spare { 128 ≤ self.old.spare }

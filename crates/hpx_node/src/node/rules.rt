@@ -6,7 +6,7 @@ ghost use Rattle.hpx_journal.specs.Entries.{move_to};
 ghost use Rattle.hpx_node.specs.Kept.{record_here};
 ghost use Rattle.hpx_node.specs.Strange.{object_of, are_far, moves_far, is_far_act, is_far, is_live, is_lost, is_to_here, breaks, broken_return, broken_act, broken_move, broken_go, broken_object, broken_landed, broken_free, broken_near, broken};
 
-use crate::find::target;
+use crate::find::{target, waits_on};
 use crate::node::Node;
 use crate::strange::Broken;
 use hpx_journal::local::move_to;
@@ -186,7 +186,8 @@ impl<A: Acts + Copy> Node<A> {
         ensures { result ≡ broken_free self.now parcel.now o }
     {
         let held = self.held(o);
-        if self.holds(o) && held == 0 {
+        let waits = waits_on(self.pending.as_slice(), o);
+        if self.holds(o) && !waits && held == 0 {
             return None;
         }
         breaks(7, parcel, held)
