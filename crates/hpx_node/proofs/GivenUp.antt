@@ -28,7 +28,7 @@ use Rattle.hpx_node.proofs.Steps.{Tells, tells_leads, tells_covered}
 use Rattle.hpx_node.proofs.Alike.{stays_same, stays_mailed, frees_mailed, seen_so, tells_stays}
 use Rattle.hpx_node.proofs.Cover.{tidy_covers}
 
-weigh_none : (f : Token → ℕ) (id : Id) → id.log ≡ None → weigh f (id ∷ []) ≡ 0
+pub weigh_none : (f : Token → ℕ) (id : Id) → id.log ≡ None → weigh f (id ∷ []) ≡ 0
 weigh_none f id none = ap (λ l. sum_by f (map held (credit_list id l ++ []))) none
 
 pub weigh_some : (f : Token → ℕ) (id : Id) (log : ℕ) → id.log ≡ Some log → weigh f (id ∷ []) ≡ f (held_token (bare id) log)

@@ -41,6 +41,7 @@ pub mod Taken
 pub mod Right
 pub mod Freed
 pub mod Answered
+pub mod Refilled
 pub mod Returned
 pub mod GivenUp
 pub mod Alike

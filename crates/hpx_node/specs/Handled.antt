@@ -1,13 +1,15 @@
 -- What a node does with a message that it takes up.
-use Rattle.std.specs.Prelude.{ℕ, Bool, true, List, [], ◌∷◌, ◌++◌, ◌≡◌, ◌≤◌, ◌-◌, ◌+◌, ◌^◌, ◌==◌, min, nat_lt, if◌then◌else◌, flat_map, length, Option, Some, None}
-use Rattle.std.specs.List.{list_any, find}
+use Rattle.std.specs.Prelude.{ℕ, Bool, true, List, [], ◌∷◌, ◌++◌, ◌≡◌, ◌≤◌, ◌-◌, ◌+◌, ◌^◌, ◌==◌, min, nat_lt, if◌then◌else◌, flat_map, length, set, Option, Some, None}
+use Rattle.std.specs.List.{list_any, find, slice_get}
 use Rattle.hpx_value.specs.Ids.{bare, same_object}
 use Rattle.hpx_journal.specs.Data.{Id, Parcel, Apply, Return, Ask, Give, Cached, Move, Go, Shipped, Arrived, Free}
 use Rattle.hpx_journal.specs.Entries.{Rules}
 use Rattle.hpx_journal.specs.Local.{is_standing}
-use Rattle.hpx_part.specs.Data.{Entry, Event, In, Mail, Count, Returned, Granted, Refused, Freed, Up, Standing}
+use Rattle.hpx_part.specs.Data.{Entry, Event, In, Mail, Count, Returned, Granted, Refused, Given, Freed, Up, Standing}
 use Rattle.hpx_part.specs.View.{View}
 use Rattle.hpx_part.specs.Shows.{Leads}
+use Rattle.hpx_commit.specs.Deals.{log_of}
+use Rattle.hpx_node.specs.Pending.{Waits, Refills}
 use Rattle.hpx_node.specs.Tables.{Tables}
 use Rattle.hpx_node.specs.Seen.{view, frees}
 use Rattle.hpx_parcel.specs.Reading.{parcel_of, IsRefused}
@@ -56,6 +58,7 @@ freed o (Some x) = Freed o ∷ ups x.state.ids
 abbrev pub effects : Tables → Parcel → List Event
 effects t (Return id) = returned t id id.log
 effects t (Ask id asker entry) = answered t id
+effects t (Give id entry) = Given (bare id) (log_of id.log) ∷ []
 effects t (Free o) = freed o (find (is_standing o) t.objects)
 effects t _ = []
 
@@ -105,6 +108,15 @@ pub record GivesUp (r : Rules) (ids : List Id) (t t' : Tables) : Type 0 where
   pub spare : t.spare ≤ t'.spare + length ids
   pub tidy : IsTidy t' []
   pub leads : (loose : List Id) → Leads r (view t [] (ids ++ loose)) (ups ids) (view t' [] loose)
+
+-- credit that was asked for is given to a commit that waits for it
+pub record Gives (id : Id) (entry : ℕ) (t t' : Tables) : Type 0 where
+  pub i : ℕ
+  pub before : Waits
+  pub after : Waits
+  pub there : slice_get t.pending i ≡ Some before
+  pub refills : Refills id entry before after
+  pub rest : t' ≡ record t { pending = set t.pending i after; spare = t'.spare }
 
 -- ---- frames and messages to the own locality
 

@@ -6,7 +6,7 @@ ghost use Rattle.hpx_value.specs.Hands.{id_at};
 ghost use Rattle.hpx_journal.specs.Entries.{target_of};
 ghost use Rattle.hpx_journal.specs.Local.{is_standing, acts_on, is_busy};
 ghost use Rattle.hpx_node.specs.Free.{NoneIsFree, IsFree};
-ghost use Rattle.hpx_node.specs.Pending.{fired_of};
+ghost use Rattle.hpx_node.specs.Pending.{fired_of, awaits};
 
 use crate::kept::{Fit, Kept};
 use crate::pending::Pending;
@@ -104,6 +104,21 @@ pub fn first_free<A: Acts>(
         match free_at(running, pending, objects, accepted[i].act()) {
             Some(j) => return Some((i, j)),
             None => (),
+        }
+    }
+    None
+}
+
+/// Where a commit waits for an id of the object, asked for under a number.
+#[tactic(auto, using(hpx_part::proofs::Keyed::find_step, hpx_part::proofs::Keyed::find_at_index))]
+pub fn waiting_at<A: Acts>(pending: &[Pending<A>], o: Gid, entry: u64) -> Option<usize>
+    ensures inside { IfSome result (λ i. i < length pending.now) }
+    ensures found { IfSome result (λ i. find (awaits o entry) pending.now ≡ slice_get pending.now i) }
+    ensures none { IfNone result (find (awaits o entry) pending.now ≡ None) }
+{
+    for (i, w) in pending.iter().enumerate() {
+        if w.awaits(o, entry) {
+            return Some(i);
         }
     }
     None

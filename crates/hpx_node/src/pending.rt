@@ -1,6 +1,10 @@
 //! Commits that wait for credit that was asked for.
-ghost use Rattle.std.specs.Prelude.{◌≡◌};
+ghost use Rattle.std.specs.Prelude.{◌≡◌, ◌<◌, true, None, IfSome, IfNone, length, find};
+ghost use Rattle.std.specs.List.{AllByRecursion, slice_get};
+ghost use Rattle.hpx_node.specs.Pending.{is_asked_for, awaits, Refills};
 
+use hpx_commit::deal::log_of;
+use hpx_commit::hand::id_at;
 use hpx_value::acts::{Acts, Done};
 use hpx_value::gid::Gid;
 use hpx_value::value::Act;
@@ -56,5 +60,50 @@ impl<A: Acts> Pending<A> {
         ensures { result.now ≡ self.now.hand }
     {
         self.hand.as_slice()
+    }
+
+    /// Whether this was asked for under a number, of the object of an id.
+    fn is_for(&self, ask: Asked, o: Gid, entry: u64) -> bool
+        ensures { result ≡ is_asked_for self.now o entry ask }
+    {
+        ask.entry == entry && o.names_same(id_at(self.hand.as_slice(), ask.place as usize))
+    }
+
+    /// Where what is asked for under a number, of the object of an id, stands among what was asked for.
+    #[tactic(auto, using(hpx_part::proofs::Keyed::find_step, hpx_part::proofs::Keyed::find_at_index))]
+    fn ask_at(&self, o: Gid, entry: u64) -> Option<usize>
+        ensures inside { IfSome result (λ k. k < length self.now.asked) }
+        ensures found { IfSome result (λ k. find (is_asked_for self.now o entry) self.now.asked ≡ slice_get self.now.asked k) }
+        ensures none { IfNone result (find (is_asked_for self.now o entry) self.now.asked ≡ None) }
+    {
+        for (k, x) in self.asked.iter().enumerate() {
+            if self.is_for(*x, o, entry) {
+                return Some(k);
+            }
+        }
+        None
+    }
+
+    /// Whether it waits for this.
+    pub fn awaits(&self, o: Gid, entry: u64) -> bool
+        ensures { result ≡ awaits o entry self.now }
+    {
+        self.asked.iter().any(|x| self.is_for(*x, o, entry))
+    }
+
+    /// Takes an id that it waits for into its hand.
+    pub fn refill(&mut self, id: Gid, entry: u64)
+        requires waits { awaits id entry self.old ≡ true }
+        requires within { AllByRecursion (λ x. x.place < length self.old.hand) self.old.asked }
+        ensures { Refills id entry self.old self.new }
+    {
+        let Some(k) = self.ask_at(id, entry) else {
+            return;
+        };
+        let place = self.asked.remove(k).place;
+        self.hand[place as usize] = id;
+        if log_of(id) == 0 {
+            self.refused = Some(id.bare());
+        }
     }
 }
