@@ -7,3 +7,4 @@ pub mod hand;
 pub mod law;
 pub mod mentions;
 pub mod plan;
+pub mod stock;
