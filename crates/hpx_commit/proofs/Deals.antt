@@ -219,7 +219,7 @@ read_suc [] i x h e = absurd (omega arith)
 read_suc (y ∷ xs) zero x h e = ap (λ z. z ∷ xs) (sym e)
 read_suc (y ∷ xs) (suc i) x h e = read_suc xs i x (omega arith) e
 
-read_at : {X : Type 0} (xs : List X) (i : ℕ) (x : X) → i < length xs → x ≡ get_or xs i x → drop i xs ≡ x ∷ drop (i + 1) xs
+pub read_at : {X : Type 0} (xs : List X) (i : ℕ) (x : X) → i < length xs → x ≡ get_or xs i x → drop i xs ≡ x ∷ drop (i + 1) xs
 read_at xs i x h e = rw add-one (read_suc xs i x h e)
 
 -- what a loop over the places keeps, once the one at i got its share

@@ -6,3 +6,5 @@ pub mod Ahead
 pub mod AheadSums
 pub mod Short
 pub mod StockLoops
+pub mod Failed
+pub mod Later

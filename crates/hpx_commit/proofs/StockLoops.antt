@@ -68,7 +68,7 @@ pub record IsSplitting (n i : ℕ) (s0 s : Stock) : Type 0 where
   pub fits : n ≤ length s.hand
   pub all : ahead_from (n - i) i s ≡ ahead_from n 0 s0
 
-halves_longer : (k p : ℕ) (s : Stock) → p < length s.hand → length s.hand ≤ length (take_halves k p s).hand
+pub halves_longer : (k p : ℕ) (s : Stock) → p < length s.hand → length s.hand ≤ length (take_halves k p s).hand
 halves_longer zero p s h = omega arith
 halves_longer (suc k) p s h =
     omega (arith, half_size s p h, halves_longer k p (take_half p s) (omega (arith, h, half_size s p h)))

@@ -73,6 +73,11 @@ others p ps = filter (λ q. not (q == p)) ps
 abbrev pub replaced : ℕ → Id → Stock → Stock
 replaced p id s = record { hand = set s.hand p id; places = s.places }
 
+-- other ids at the places from p on
+abbrev pub replaced_from : ℕ → List Id → Stock → Stock
+replaced_from p [] s = s
+replaced_from p (id ∷ ids) s = replaced_from (p + 1) ids (replaced p id s)
+
 -- whether the id at a place lasts for those who name it
 abbrev pub Lasting : Stock → ℕ → Type 0
 Lasting s p = Lasts (id_at s.hand p) (named s.places p)

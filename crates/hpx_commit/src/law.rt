@@ -10,7 +10,8 @@ ghost use Rattle.hpx_value.specs.declared.outcome.Outcome.{Outcome};
 ghost use Rattle.hpx_value.specs.declared.value.State.{State};
 ghost use Rattle.hpx_value.specs.declared.value.Act.{Act};
 ghost use Rattle.hpx_commit.specs.Deals.{is_managed, log_of, half, named, places_named, dealt, shared_from, Lasts, AllLast, AreWithin, filled, unused, filled_due, ids_due, ids_named};
-ghost use Rattle.hpx_commit.specs.Stocks.{Stock, take_half, ahead, halved, parts_from, short_places, others, replaced, Lasting, SameNames, SameDeal, IsAhead};
+ghost use Rattle.hpx_commit.specs.Failures.{action_ids, ids_had, state_failed, due_failed, ups_failed};
+ghost use Rattle.hpx_commit.specs.Stocks.{Stock, take_half, ahead, halved, parts_from, short_places, others, replaced, replaced_from, Lasting, SameNames, SameDeal, IsAhead};
 
 /// Each who names a place gets an id of its object. What is dealt are the shares of all places.
 pub fn deal_law()
@@ -63,6 +64,14 @@ pub fn ahead_law()
         (p < length s.hand → Lasting s p) → Lasting (ahead n s) p }
 {}
 
+/// What is split ahead does not depend on the ids behind the first places: those of made objects may be others later.
+pub fn later_law()
+    ensures one { (n q : ℕ) (id : Id) (s : Stock) → n ≤ q → q < length s.hand → ahead n (replaced q id s) ≡ replaced q id (ahead n s) }
+    ensures made { (n : ℕ) (front old new : List Id) (places : List ℕ) → n ≤ length front → length new ≡ length old →
+        ahead n (record { hand = front ++ new; places = places })
+        ≡ replaced_from (length front) new (ahead n (record { hand = front ++ old; places = places })) }
+{}
+
 /// An id of a stock that is halved so often.
 pub fn halved_law()
     ensures object { (k : ℕ) (id : Id) → bare (halved k id) ≡ bare id }
@@ -81,4 +90,17 @@ pub fn replaced_law()
     ensures refilled { (log n : ℕ) (s : Stock) (hand : List Id) → ((p : ℕ) → n ≤ p → Lasting s p) → ((p : ℕ) → named s.places p ≤ log + 1) →
         ((p : ℕ) → Lasting s p → id_at hand p ≡ id_at s.hand p) →
         ((p : ℕ) → p < n → (Lasting s p → ⊥) → (id_at hand p).log ≡ Some log) → AllLast hand s.places }
+{}
+
+/// An action that fails: the state and the action keep their objects, and the new state, what is due and what is given up
+/// weigh together what the action had.
+pub fn failure_law()
+    ensures state { (s : State) (a : Act) (made ids : List Id) → map bare (take (length (hand_ids s a made)) ids) ≡ map bare (hand_ids s a made) →
+        map bare (state_failed s ids).ids ≡ map bare s.ids }
+    ensures action { (s : State) (a : Act) (made ids : List Id) → map bare (take (length (hand_ids s a made)) ids) ≡ map bare (hand_ids s a made) →
+        map bare (action_ids s a ids) ≡ map bare a.ids }
+    ensures sums { (f : Id → ℕ) (s : State) (a : Act) (makes : ℕ) (ids : List Id) →
+        sum_by f (filter is_managed (state_failed s ids).ids)
+        + (sum_by f (filter is_managed (flat_map ids_due (due_failed (action_ids s a ids) a.cont))) + sum_by f (ups_failed s a makes ids))
+        ≡ sum_by f (filter is_managed (ids_had s a makes ids)) }
 {}

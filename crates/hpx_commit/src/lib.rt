@@ -3,6 +3,7 @@
 #![tactic(auto)]
 
 pub mod deal;
+pub mod failure;
 pub mod hand;
 pub mod law;
 pub mod mentions;
