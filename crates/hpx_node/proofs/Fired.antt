@@ -23,6 +23,7 @@ use Rattle.hpx_node.proofs.Sums.{weigh_remove, weigh_last, tokens_sum, view_sum}
 use Rattle.hpx_node.specs.Fit.{IsFit}
 use Rattle.hpx_node.proofs.Alls.{all_append, all_remove, all_at}
 use Rattle.hpx_node.proofs.Steps.{Tells, tells_leads, stands_then}
+use Rattle.hpx_node.proofs.IdleSteps.{pays_fire}
 
 module _ (r : Rules) (t : Tables) (entries : List Entry) (i : ℕ) (act : Act) (spare : ℕ) (is : slice_get t.accepted i ≡ Some act)
     (free : IsFree t.running t.objects act) (tidy : IsTidy t []) where
@@ -101,4 +102,4 @@ module _ (r : Rules) (t : Tables) (entries : List Entry) (i : ℕ) (act : Act) (
         unborn = h.tidy.unborn;
         ways = h.tidy.ways;
       })
-      (record { here = refl; born = omega arith; few = omega arith; sent = omega arith; taken = omega arith }) leads
+      (record { here = refl; born = omega arith; few = omega arith; sent = omega arith; taken = omega arith; pays = pays_fire r t fired i act (name_of act) is refl refl }) leads
