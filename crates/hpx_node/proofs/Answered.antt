@@ -36,6 +36,12 @@ use Rattle.hpx_node.proofs.Messages.{mails_tokens, mails_asks}
 use Rattle.hpx_node.proofs.Sums.{view_sum}
 use Rattle.hpx_node.proofs.Steps.{Tells, same_refusals, tells_leads}
 use Rattle.hpx_node.proofs.Alike.{fired_stay, stays_mailed, frees_mailed}
+use Rattle.hpx_node.specs.Idle.{Row, weight, unpaid, PaysFor}
+use Rattle.hpx_node.specs.Routes.{with_mail, given_here}
+use Rattle.hpx_node.proofs.Spareless.{mail_records}
+use Rattle.hpx_node.proofs.IdleSteps.{mails_pending}
+use Rattle.hpx_node.proofs.IdleCounts.{pays_refused, pays_granted}
+use Rattle.hpx_value.specs.Profiles.{IsValid}
 use Rattle.hpx_node.proofs.InHand.{hand_sum}
 use Rattle.hpx_node.proofs.GivenUp.{owed_some}
 use Rattle.hpx_node.proofs.Returned.{found_counted, one_recounted, none_unborn, live_home, live_record}
@@ -48,7 +54,8 @@ module _ (act_of : ℕ → ℕ → ℕ → State → Act → Outcome) (t m t' : 
     (home : id.home ≡ t.here) (there : find_record id t.records ≡ Some rec) (enough : credit id ≤ rec.count)
     (rest : m ≡ record t { records = m.records; spare = m.spare }) (tidy : IsTidy t []) (now : find_record id m.records ≡ Some (asked t.profile rec))
     (others : (o : Id) → same_object id o ≡ false → find_record o m.records ≡ find_record o t.records)
-    (same : (x : Id) → same_object x given ≡ same_object x id) (mails : Mails (Give given entry) m t') where
+    (same : (x : Id) → same_object x given ≡ same_object x id) (mails : Mails (Give given entry) m t')
+    (goes : t' ≡ record (with_mail asker (Give given entry) m) { spare = t'.spare }) where
   abbrev rules : Rules
   rules = rules_of act_of t.localities t.profile
 
@@ -122,8 +129,8 @@ module _ (act_of : ℕ → ℕ → ℕ → State → Act → Outcome) (t m t' : 
 
   handled : ((dead : List Id) (e : Event) → TakesUp rules t (Ask id asker entry) dead e
       → Leads rules (in_hand (Ask id asker entry) t dead e) (answered t id) (view t' [] []))
-      → Handles rules (Ask id asker entry) t t' (answered t id)
-  handled leads = record {
+      → given ≡ given_here t id → PaysFor rules (Ask id asker entry) t t' (answered t id) → Handles rules (Ask id asker entry) t t' (answered t id)
+  handled leads is pays = record {
     here = ap (λ (x : Tables). x.here) mails.rest ∙ ap (λ (x : Tables). x.here) rest;
     localities = ap (λ (x : Tables). x.localities) mails.rest ∙ ap (λ (x : Tables). x.localities) rest;
     profile = ap (λ (x : Tables). x.profile) mails.rest ∙ ap (λ (x : Tables). x.profile) rest;
@@ -135,7 +142,16 @@ module _ (act_of : ℕ → ℕ → ℕ → State → Act → Outcome) (t m t' : 
     asked = ap (λ (x : Tables). x.asked) mails.rest ∙ ap (λ (x : Tables). x.asked) rest;
     tidy = mails.tidy [] still_tidy;
     leads = leads;
+    pays = pays;
+    deals = mail_records asker (Give given entry) t m t' rest goes
+        ∙ ap (λ o. record (with_mail asker (Give o entry) t) { records = t'.records; spare = t'.spare }) is;
   }
+
+  one_more : (row : Row) → unpaid row t' ≡ unpaid row t + weight row (Give given entry)
+  one_more row = omega (arith, mails_pending (Give given entry) m t' mails row, ap (λ (y : Tables). unpaid row y) rest)
+
+  stays : t'.accepted ≡ t.accepted
+  stays = ap (λ (x : Tables). x.accepted) mails.rest ∙ ap (λ (x : Tables). x.accepted) rest
 
   more_is : nat_lt t.profile.credit_limit (more_here t id) ≡ nat_lt t.profile.credit_limit (grown t.profile rec)
   more_is = ap (λ n. nat_lt t.profile.credit_limit (n + 2 ^ t.profile.credit_log - 1)) was
@@ -147,9 +163,11 @@ module _ (act_of : ℕ → ℕ → ℕ → State → Act → Outcome) (t m t' : 
       (ap (λ (o : Option Record). option_map_or (λ (y : Record). y.count) o 0) now) others x
 
   -- the count would pass the limit
-  pub refused_handles : nat_lt t.profile.credit_limit (grown t.profile rec) ≡ true
+  pub refused_handles : given ≡ id → nat_lt t.profile.credit_limit (grown t.profile rec) ≡ true
       → ((f : Token → ℕ) → sum_by f (parcel_tokens (Give given entry)) ≡ f (owed_token (bare id) 0)) → Handles rules (Ask id asker entry) t t' (answered t id)
-  refused_handles full gives =
+  refused_handles is full gives =
+      let events : answered t id ≡ Count (bare id) (count_here t id) Refused ∷ [] =
+      ap (λ b. (if b then Count (bare id) (count_here t id) Refused else Count (bare id) (more_here t id) Granted) ∷ []) (more_is ∙ full) in
       handled
       (λ dead e takes.
       let last = Count (bare id) (count_here t id) Refused in
@@ -171,12 +189,17 @@ module _ (act_of : ℕ → ℕ → ℕ → State → Act → Outcome) (t m t' : 
             (tells dead e (in_hand (Ask id asker entry) t dead e).tokens (map counted t.records) last takes
             (λ f weight. omega (arith, hand_sum f (Ask id asker entry) t, hand f, view_sum f t' [] [], sums f, gives f)) (λ x at. same_live x)),
       ))
+      (is ∙ ap (λ b. cond b id (record id { log = Some t.profile.credit_log })) (sym (more_is ∙ full)))
+      (subst (PaysFor rules (Ask id asker entry) t t') (sym events)
+      (pays_refused rules t t' id given (bare id) asker entry (count_here t id) (omega (arith, was, some)) (ap (λ (x : Id). x.log) is ∙ least) one_more stays))
 
   -- more credit is granted
-  pub granted_handles : nat_lt t.profile.credit_limit (grown t.profile rec) ≡ false
+  pub granted_handles : given ≡ record id { log = Some t.profile.credit_log } → 1 ≤ t.profile.credit_log → nat_lt t.profile.credit_limit (grown t.profile rec) ≡ false
       → ((f : Token → ℕ) → sum_by f (parcel_tokens (Give given entry)) ≡ f (owed_token (bare id) t.profile.credit_log))
       → Handles rules (Ask id asker entry) t t' (answered t id)
-  granted_handles free gives =
+  granted_handles is big free gives =
+      let events : answered t id ≡ Count (bare id) (more_here t id) Granted ∷ [] =
+      ap (λ b. (if b then Count (bare id) (count_here t id) Refused else Count (bare id) (more_here t id) Granted) ∷ []) (more_is ∙ free) in
       handled
       (λ dead e takes.
       let last = Count (bare id) (more_here t id) Granted in
@@ -214,16 +237,20 @@ module _ (act_of : ℕ → ℕ → ℕ → State → Act → Outcome) (t m t' : 
         tells_leads rules n (view t' [] [])
             (tells dead e (view t' [] []).tokens (map counted m.records) last takes (λ f weight. refl) (λ x at. refl)),
       ))
+      (is ∙ ap (λ b. cond b id (record id { log = Some t.profile.credit_log })) (sym (more_is ∙ free)))
+      (subst (PaysFor rules (Ask id asker entry) t t') (sym events)
+      (pays_granted rules t t' id given (bare id) asker entry (more_here t id) t.profile.credit_log
+      (omega (arith, was, some, pow_pos t.profile.credit_log)) (ap (λ (x : Id). x.log) is) big one_more stays))
 
 -- ---- by what the records tell
 
-limit_full : (t : Tables) (rec : Record) (id : Id) → Limit ≡ granted_of t.profile rec id → nat_lt t.profile.credit_limit (grown t.profile rec) ≡ true
+pub limit_full : (t : Tables) (rec : Record) (id : Id) → Limit ≡ granted_of t.profile rec id → nat_lt t.profile.credit_limit (grown t.profile rec) ≡ true
 limit_full t rec id h = elim (cases_Bool (nat_lt t.profile.credit_limit (grown t.profile rec))) [
   | inl b ↦ b
   | inr b ↦ absurd (let e : Limit ≡ Yes (record id { log = Some t.profile.credit_log }) = rw b at h in cc)
 ]
 
-yes_free : (t : Tables) (rec : Record) (id more : Id) → Yes more ≡ granted_of t.profile rec id
+pub yes_free : (t : Tables) (rec : Record) (id more : Id) → Yes more ≡ granted_of t.profile rec id
     → (nat_lt t.profile.credit_limit (grown t.profile rec) ≡ false) × (more ≡ record id { log = Some t.profile.credit_log })
 yes_free t rec id more h = elim (cases_Bool (nat_lt t.profile.credit_limit (grown t.profile rec))) [
   | inl b ↦ absurd (let e : Yes more ≡ Limit = rw b at h in cc)
@@ -233,7 +260,8 @@ yes_free t rec id more h = elim (cases_Bool (nat_lt t.profile.credit_limit (grow
 module _ (act_of : ℕ → ℕ → ℕ → State → Act → Outcome) (t m t' : Tables) (id given : Id) (asker entry : ℕ) (least : id.log ≡ Some 0)
     (live : is_live t id ≡ true) (enough : credit id ≤ count_here t id) (rest : m ≡ record t { records = m.records; spare = m.spare }) (tidy : IsTidy t [])
     (now : IfSome (find_record id t.records) (λ x. find_record id m.records ≡ Some (asked t.profile x)))
-    (others : (o : Id) → same_object id o ≡ false → find_record o m.records ≡ find_record o t.records) (mails : Mails (Give given entry) m t') where
+    (others : (o : Id) → same_object id o ≡ false → find_record o m.records ≡ find_record o t.records) (mails : Mails (Give given entry) m t')
+    (goes : t' ≡ record (with_mail asker (Give given entry) m) { spare = t'.spare }) where
   found : (rec : Record) × (find_record id t.records ≡ Some rec)
   found = live_record t.here t.records id live
 
@@ -247,94 +275,42 @@ module _ (act_of : ℕ → ℕ → ℕ → State → Act → Outcome) (t m t' : 
       → Handles (rules_of act_of t.localities t.profile) (Ask id asker entry) t t' (answered t id)
   answer_refused is limit =
       refused_handles act_of t m t' id given asker entry found.0 least (live_home t.here t.records id live) found.1 covered rest tidy asked_is others
-      (λ x. ap (same_object x) is) mails
+      (λ x. ap (same_object x) is) mails goes is
       (limit_full t found.0 id (subst (λ (o : Option Record). IfSome o (λ x. Limit ≡ granted_of t.profile x id)) found.1 limit))
       (λ f. ap (λ (i : Id). sum_by f (parcel_tokens (Give i entry))) is ∙ owed_some f id 0 least)
 
-  answer_granted : (more : Id) → given ≡ more → IfSome (find_record id t.records) (λ x. Yes more ≡ granted_of t.profile x id)
+  answer_granted : (more : Id) → 1 ≤ t.profile.credit_log → given ≡ more → IfSome (find_record id t.records) (λ x. Yes more ≡ granted_of t.profile x id)
       → Handles (rules_of act_of t.localities t.profile) (Ask id asker entry) t t' (answered t id)
-  answer_granted more is given_more =
+  answer_granted more big is given_more =
       let free = yes_free t found.0 id more (subst (λ (o : Option Record). IfSome o (λ x. Yes more ≡ granted_of t.profile x id)) found.1 given_more) in
       let e : given ≡ record id { log = Some t.profile.credit_log } = is ∙ free.1 in
       granted_handles act_of t m t' id given asker entry found.0 least (live_home t.here t.records id live) found.1 covered rest tidy asked_is others
-      (λ x. ap (same_object x) e) mails free.0
+      (λ x. ap (same_object x) e) mails goes e big free.0
       (λ f. ap (λ (i : Id). sum_by f (parcel_tokens (Give i entry))) e
       ∙ owed_some f (record id { log = Some t.profile.credit_log }) t.profile.credit_log refl)
 
 pub refused_by : (act_of : ℕ → ℕ → ℕ → State → Act → Outcome) (t m t' u : Tables) (p : Profile) (id given : Id) (asker entry : ℕ) → t ≡ u → IsTidy t []
-    → Mails (Give given entry) m t' → p ≡ t.profile → id.log ≡ Some 0 → is_live t id ≡ true → credit id ≤ count_here t id
+    → Mails (Give given entry) m t' → t' ≡ record (with_mail asker (Give given entry) m) { spare = t'.spare } → p ≡ t.profile → id.log ≡ Some 0 → is_live t id ≡ true → credit id ≤ count_here t id
     → m ≡ record t { records = m.records; spare = m.spare }
     → IfSome (find_record id t.records) (λ x. find_record id m.records ≡ Some (asked p x))
     → ((o : Id) → same_object id o ≡ false → find_record o m.records ≡ find_record o t.records)
     → given ≡ id → IfSome (find_record id t.records) (λ x. Limit ≡ granted_of p x id)
     → Handles (rules_of act_of t.localities t.profile) (Ask id asker entry) t t' (answered u id)
-refused_by act_of t m t' u p id given asker entry seen_as tidy mails profile least live enough rest now others is limit =
+refused_by act_of t m t' u p id given asker entry seen_as tidy mails goes profile least live enough rest now others is limit =
     subst (λ y. Handles (rules_of act_of t.localities t.profile) (Ask id asker entry) t t' (answered y id)) seen_as
     (answer_refused act_of t m t' id given asker entry least live enough rest tidy
-    (subst (λ q. IfSome (find_record id t.records) (λ x. find_record id m.records ≡ Some (asked q x))) profile now) others mails is
+    (subst (λ q. IfSome (find_record id t.records) (λ x. find_record id m.records ≡ Some (asked q x))) profile now) others mails goes is
     (subst (λ q. IfSome (find_record id t.records) (λ x. Limit ≡ granted_of q x id)) profile limit))
 
 pub granted_by : (act_of : ℕ → ℕ → ℕ → State → Act → Outcome) (t m t' u : Tables) (p : Profile) (id given more : Id) (asker entry : ℕ) → t ≡ u → IsTidy t []
-    → Mails (Give given entry) m t' → p ≡ t.profile → id.log ≡ Some 0 → is_live t id ≡ true → credit id ≤ count_here t id
+    → Mails (Give given entry) m t' → t' ≡ record (with_mail asker (Give given entry) m) { spare = t'.spare } → p ≡ t.profile → IsValid t.profile → id.log ≡ Some 0 → is_live t id ≡ true → credit id ≤ count_here t id
     → m ≡ record t { records = m.records; spare = m.spare }
     → IfSome (find_record id t.records) (λ x. find_record id m.records ≡ Some (asked p x))
     → ((o : Id) → same_object id o ≡ false → find_record o m.records ≡ find_record o t.records)
     → given ≡ more → IfSome (find_record id t.records) (λ x. Yes more ≡ granted_of p x id)
     → Handles (rules_of act_of t.localities t.profile) (Ask id asker entry) t t' (answered u id)
-granted_by act_of t m t' u p id given more asker entry seen_as tidy mails profile least live enough rest now others is granted =
+granted_by act_of t m t' u p id given more asker entry seen_as tidy mails goes profile valid least live enough rest now others is granted =
     subst (λ y. Handles (rules_of act_of t.localities t.profile) (Ask id asker entry) t t' (answered y id)) seen_as
     (answer_granted act_of t m t' id given asker entry least live enough rest tidy
-    (subst (λ q. IfSome (find_record id t.records) (λ x. find_record id m.records ≡ Some (asked q x))) profile now) others mails more is
-    (subst (λ q. IfSome (find_record id t.records) (λ x. Yes more ≡ granted_of q x id)) profile granted))
-
--- ---- what is written
-
-module _ (t u : Tables) (p : Profile) (id : Id) (records : List Record) (seen_as : t ≡ u) (profile : p ≡ t.profile) (live : is_live t id ≡ true)
-    (now : IfSome (find_record id t.records) (λ x. find_record id records ≡ Some (asked p x))) (count here : ℕ)
-    (counted : count ≡ option_map_or (λ (x : Record). x.count) (find_record id records) 0) (at : here ≡ u.here) where
-  there : (rec : Record) × (find_record id t.records ≡ Some rec)
-  there = live_record t.here t.records id live
-
-  had : count_here t id ≡ there.0.count
-  had = ap (λ (o : Option Record). option_map_or (λ (x : Record). x.count) o 0) there.1
-
-  count_is : count ≡ (asked t.profile there.0).count
-  count_is =
-      counted
-      ∙ ap (λ (o : Option Record). option_map_or (λ (x : Record). x.count) o 0)
-      (subst (λ (o : Option Record). IfSome o (λ x. find_record id records ≡ Some (asked t.profile x))) there.1
-      (subst (λ q. IfSome (find_record id t.records) (λ x. find_record id records ≡ Some (asked q x))) profile now))
-
-  flag : nat_lt t.profile.credit_limit (more_here t id) ≡ nat_lt t.profile.credit_limit (grown t.profile there.0)
-  flag = ap (λ n. nat_lt t.profile.credit_limit (n + 2 ^ t.profile.credit_log - 1)) had
-
-  pub refused_grows : (why : Reason) (before after : List Entry) → why ≡ Refused → IfSome (find_record id t.records) (λ x. Limit ≡ granted_of p x id)
-      → after ≡ before ++ record { at = here; event = Count (bare id) count why } ∷ [] → after ≡ before ++ at_all u.here (answered u id)
-  refused_grows why before after is limit grows =
-      let full : nat_lt t.profile.credit_limit (grown t.profile there.0) ≡ true =
-      limit_full t there.0 id (subst (λ (o : Option Record). IfSome o (λ x. Limit ≡ granted_of t.profile x id)) there.1
-      (subst (λ q. IfSome (find_record id t.records) (λ x. Limit ≡ granted_of q x id)) profile limit)) in
-      let same : count ≡ count_here t id = count_is ∙ rw full (sym had) in
-      let events : answered t id ≡ Count (bare id) (count_here t id) Refused ∷ [] =
-      ap (λ b. (if b then Count (bare id) (count_here t id) Refused else Count (bare id) (more_here t id) Granted) ∷ []) (flag ∙ full) in
-      grows
-      ∙ (ap (λ k. before ++ record { at = k; event = Count (bare id) count why } ∷ []) at
-      ∙ (ap (λ w. before ++ record { at = u.here; event = Count (bare id) count w } ∷ []) is
-      ∙ (ap (λ n. before ++ record { at = u.here; event = Count (bare id) n Refused } ∷ []) same
-      ∙ (ap (λ es. before ++ at_all u.here es) (sym events) ∙ ap (λ y. before ++ at_all u.here (answered y id)) seen_as))))
-
-  pub granted_grows : (why : Reason) (more : Id) (before after : List Entry) → why ≡ Granted
-      → IfSome (find_record id t.records) (λ x. Yes more ≡ granted_of p x id)
-      → after ≡ before ++ record { at = here; event = Count (bare id) count why } ∷ [] → after ≡ before ++ at_all u.here (answered u id)
-  granted_grows why more before after is given grows =
-      let free : nat_lt t.profile.credit_limit (grown t.profile there.0) ≡ false =
-      (yes_free t there.0 id more (subst (λ (o : Option Record). IfSome o (λ x. Yes more ≡ granted_of t.profile x id)) there.1
-      (subst (λ q. IfSome (find_record id t.records) (λ x. Yes more ≡ granted_of q x id)) profile given))).0 in
-      let same : count ≡ more_here t id = count_is ∙ rw free (ap (λ n. n + 2 ^ t.profile.credit_log - 1) (sym had)) in
-      let events : answered t id ≡ Count (bare id) (more_here t id) Granted ∷ [] =
-      ap (λ b. (if b then Count (bare id) (count_here t id) Refused else Count (bare id) (more_here t id) Granted) ∷ []) (flag ∙ free) in
-      grows
-      ∙ (ap (λ k. before ++ record { at = k; event = Count (bare id) count why } ∷ []) at
-      ∙ (ap (λ w. before ++ record { at = u.here; event = Count (bare id) count w } ∷ []) is
-      ∙ (ap (λ n. before ++ record { at = u.here; event = Count (bare id) n Granted } ∷ []) same
-      ∙ (ap (λ es. before ++ at_all u.here es) (sym events) ∙ ap (λ y. before ++ at_all u.here (answered y id)) seen_as))))
+    (subst (λ q. IfSome (find_record id t.records) (λ x. find_record id m.records ≡ Some (asked q x))) profile now) others mails goes more
+    (omega (arith, valid.log_least)) is (subst (λ q. IfSome (find_record id t.records) (λ x. Yes more ≡ granted_of q x id)) profile granted))

@@ -39,8 +39,12 @@ use Rattle.hpx_node.proofs.Sums.{weigh, weigh_append, weigh_remove, tokens_sum, 
 use Rattle.hpx_node.proofs.Steps.{Tells, tells_leads}
 use Rattle.hpx_node.proofs.InHand.{hand_sum}
 use Rattle.hpx_node.proofs.Bare.{target-bare}
-use Rattle.hpx_node.proofs.Cover.{held_acts, held_messages}
+use Rattle.hpx_node.proofs.Cover.{held_acts, held_messages, tidy_covers}
 use Rattle.hpx_node.proofs.Pausing.{none_of, or_false, found_passes, freed_whole, freed_paused}
+use Rattle.hpx_node.specs.Idle.{PaysFor}
+use Rattle.hpx_node.specs.Routes.{with_returns, ids_in}
+use Rattle.hpx_node.proofs.Spareless.{returns_freed}
+use Rattle.hpx_node.proofs.IdleSteps.{pays_freed}
 
 -- ---- where no credit is held, there is no name
 
@@ -256,6 +260,9 @@ module _ (r : Rules) (t t' : Tables) (o : Id) (x : Standing) (i spare : ℕ) (is
         running = ap (λ (y : Tables). y.running) rest;
         asked = ap (λ (y : Tables). y.asked) rest;
         tidy = gives.tidy;
+        pays = subst (PaysFor r (Free o) t t') (sym (ap (freed o) is)) (pays_freed r t without_it t' o (ups x.state.ids) (λ row. refl) refl gives.pays);
+        deals = subst (λ (z : Option Standing). t' ≡ record (with_returns (ids_in z) t) { objects = t'.objects; spare = t'.spare }) (sym found)
+            (returns_freed x.state.ids t t' (remove t.objects i) spare (ap (λ (y : Tables). y.objects) rest) gives.goes);
         leads = λ dead e takes. subst (λ es. Leads r (in_hand (Free o) t dead e) es (view t' [] [])) (sym (ap (freed o) is)) (leads dead e takes);
       }
 

@@ -25,6 +25,11 @@ use Rattle.hpx_node.specs.Changes.{Posts}
 use Rattle.hpx_node.specs.Handled.{with_first, in_hand, Handles}
 use Rattle.hpx_node.proofs.Sums.{weigh, tokens_sum, view_sum}
 use Rattle.hpx_node.proofs.Steps.{same_refusals, tells_leads}
+use Rattle.hpx_node.specs.Idle.{Row, owes, of_act}
+use Rattle.hpx_node.specs.Routes.{DealsWith}
+use Rattle.hpx_node.proofs.IdleRows.{apply_owes, move_owes}
+use Rattle.hpx_node.proofs.IdleSteps.{pays_for_act}
+use Rattle.hpx_node.proofs.Routed.{act_kept}
 
 -- what is in one place of the list may be in another
 agree_moved : {K X : Type 0} (test : K → X → Bool) (xs l m l' m' : List X) (x : X) → l ++ m ≡ l' ++ m' → Agree test xs (l ++ x ∷ m)
@@ -108,8 +113,9 @@ hand_sum f p t = omega (
 -- ---- an action comes to wait
 
 posted_handles : (r : Rules) (act : Act) (p : Parcel) (t t' : Tables) → IsTidy t [] → Posts act t t' → acts_in (Some p) ≡ bare_act act ∷ []
-    → asks_in (Some p) ≡ [] → ((f : Token → ℕ) → sum_by f (parcel_tokens p) ≡ weigh f act.ids) → Handles r p t t' []
-posted_handles r act p t t' tidy posts one none toks =
+    → asks_in (Some p) ≡ [] → ((f : Token → ℕ) → sum_by f (parcel_tokens p) ≡ weigh f act.ids)
+    → ((row : Row) → owes row p ≡ of_act row) → DealsWith p t t' → Handles r p t t' []
+posted_handles r act p t t' tidy posts one none toks owed waits =
     let rest = posts.rest in record {
       here = ap (λ (x : Tables). x.here) rest;
       localities = ap (λ (x : Tables). x.localities) rest;
@@ -121,6 +127,8 @@ posted_handles r act p t t' tidy posts one none toks =
       running = ap (λ (x : Tables). x.running) rest;
       asked = ap (λ (x : Tables). x.asked) rest;
       tidy = posts.tidy [] tidy;
+      pays = pays_for_act r t t' p owed posts.more (act_kept act t t' posts.goes);
+      deals = waits;
       leads = λ dead e takes.
           let v = in_hand p t dead e in
           let l = map bare_act t.accepted in
@@ -150,7 +158,7 @@ posted_handles r act p t t' tidy posts one none toks =
     }
 
 pub applied_handles : (r : Rules) (act : Act) (t t' : Tables) → IsTidy t [] → Posts act t t' → Handles r (Apply act) t t' []
-applied_handles r act t t' tidy posts = posted_handles r act (Apply act) t t' tidy posts refl refl (λ f. refl)
+applied_handles r act t t' tidy posts = posted_handles r act (Apply act) t t' tidy posts refl refl (λ f. refl) (apply_owes act) posts.goes
 
 pub move_handles : (r : Rules) (act : Act) (t t' : Tables) → IsTidy t [] → Posts act t t' → Handles r (Move act) t t' []
-move_handles r act t t' tidy posts = posted_handles r act (Move act) t t' tidy posts refl refl (λ f. refl)
+move_handles r act t t' tidy posts = posted_handles r act (Move act) t t' tidy posts refl refl (λ f. refl) (move_owes act) posts.goes

@@ -48,3 +48,11 @@ pub mod Alike
 pub mod InHand
 pub mod Held
 pub mod SameCommit
+pub mod IdleRows
+pub mod IdleSteps
+pub mod IdleCounts
+pub mod IdleEffects
+pub mod IdleSince
+pub mod Routed
+pub mod Spareless
+pub mod AnsweredEntry

@@ -30,6 +30,9 @@ use Rattle.hpx_node.proofs.Messages.{flat_append, mails_tokens, mails_asks, mail
 use Rattle.hpx_node.proofs.Posted.{seen_posted, tells_posted}
 use Rattle.hpx_node.proofs.Sums.{weigh_append, view_sum}
 use Rattle.hpx_node.proofs.Steps.{Tells, same_refusals, tells_leads, tells_covered, stands_then}
+use Rattle.hpx_node.proofs.Routed.{act_kept}
+use Rattle.hpx_node.proofs.IdleRows.{print_idle}
+use Rattle.hpx_node.proofs.IdleSteps.{pays_idle, pays_sent, pays_up}
 
 -- due without its first
 tidy_rest : (t : Tables) (x : Due) (due : List Due) (serial : ℕ) → IsTidy t (x ∷ due) → IsTidy (record t { serial = serial }) due
@@ -78,6 +81,7 @@ module _ (r : Rules) (t t' : Tables) (entries : List Entry) (loose : List Id) wh
         asked = omega (arith, ap (λ (x : Tables). x.asked) posts.rest);
         sent = omega (arith, ap (λ (x : Tables). x.sent) posts.rest);
         taken = omega (arith, ap (λ (x : Tables). x.taken) posts.rest);
+        pays = pays_sent r t t' name posts.more (act_kept (named t.here (t.serial + 1) m) drawn t' posts.goes);
       })
       leads
 
@@ -110,7 +114,8 @@ module _ (r : Rules) (t : Tables) (entries : List Entry) (loose : List Id) where
       ) in
       let tidy = tidy_rest t (PrintDue bytes) rest t.serial h.tidy in
       stands_then r t t (PrintDue bytes ∷ rest) rest loose loose entries (Print bytes ∷ []) h tidy
-      (record { here = refl; born = omega arith; few = omega arith; asked = omega arith; sent = omega arith; taken = omega arith }) leads
+      (record { here = refl; born = omega arith; few = omega arith; asked = omega arith; sent = omega arith; taken = omega arith; pays = pays_idle r t t (Print bytes ∷ []) (print_idle r bytes, tt) (λ row. refl) refl })
+      leads
 
 module _ (r : Rules) (t t' : Tables) (entries : List Entry) (id : Id) (log : ℕ) (e : id.log ≡ Some log) (rest : List Id)
     (mails : Mails (Return id) t t') where
@@ -195,6 +200,7 @@ module _ (r : Rules) (t t' : Tables) (entries : List Entry) (id : Id) (log : ℕ
         asked = omega (arith, ap (λ (x : Tables). x.asked) mails.rest);
         sent = omega (arith, ap (λ (x : Tables). x.sent) mails.rest);
         taken = omega (arith, ap (λ (x : Tables). x.taken) mails.rest);
+        pays = pays_up r t t' id (bare id) log mails;
       })
       leads)
 

@@ -20,11 +20,14 @@ use Rattle.hpx_node.specs.Changes.{Posts}
 use Rattle.hpx_node.proofs.Alls.{all_append}
 use Rattle.hpx_node.proofs.Sums.{weigh, tokens_sum, weigh_last, view_sum}
 use Rattle.hpx_node.proofs.Steps.{Tells, same_refusals}
+use Rattle.hpx_node.specs.Routes.{may_stay}
+use Rattle.hpx_node.proofs.IdleSteps.{accepted_pending}
+use Rattle.hpx_node.proofs.Routed.{accepted_waits, stay_moves}
 
 -- an action that is accepted
-pub accepted_posts : (act : Act) (t : Tables) (spare : ℕ) → t.spare ≤ spare + 1 → IsFit act → IfSome (move_to (bare_act act)) (λ to. to ≡ t.here)
+pub accepted_posts : (act : Act) (t : Tables) (spare : ℕ) → t.spare ≤ spare + 1 → IsFit act → may_stay t act ≡ true
     → Posts act t (record t { accepted = t.accepted ++ act ∷ []; spare = spare })
-accepted_posts act t spare enough fit moves =
+accepted_posts act t spare enough fit stay =
     let rest = flat_map (λ q. acts_in (Some q)) (messages t) in record {
       rest = refl;
       spare = enough;
@@ -41,7 +44,7 @@ accepted_posts act t spare enough fit moves =
         objects = h.objects;
         messages = h.messages;
         fit = h.fit;
-        moves = all_append (λ a. IfSome (move_to (bare_act a)) (λ to. to ≡ t.here)) t.accepted (act ∷ []) h.moves (moves, tt);
+        moves = all_append (λ a. IfSome (move_to (bare_act a)) (λ to. to ≡ t.here)) t.accepted (act ∷ []) h.moves (stay_moves t act stay, tt);
         drawn = h.drawn;
         unborn = h.unborn;
         ways = h.ways;
@@ -52,6 +55,8 @@ accepted_posts act t spare enough fit moves =
         tokens_sum f (record t { accepted = t.accepted ++ act ∷ []; spare = spare }),
         weigh_last f (λ (a : Act). a.ids) t.accepted act,
       );
+      more = accepted_pending act t spare;
+      goes = accepted_waits act t spare stay;
     }
 
 -- what is seen once it waits

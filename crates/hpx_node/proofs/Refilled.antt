@@ -33,6 +33,7 @@ use Rattle.hpx_node.specs.Handled.{in_hand, TakesUp, Handles}
 use Rattle.hpx_node.proofs.Alls.{some_same, all_at, all_remove, all_set}
 use Rattle.hpx_node.proofs.GivenUp.{weigh_none, weigh_some, owed_some}
 use Rattle.hpx_node.proofs.InHand.{hand_sum}
+use Rattle.hpx_node.proofs.IdleCounts.{pays_given}
 use Rattle.hpx_node.proofs.Steps.{Tells, tells_leads}
 use Rattle.hpx_node.proofs.Sums.{weigh, weigh_append, weigh_set, tokens_sum, view_sum}
 
@@ -473,6 +474,8 @@ module _ (r : Rules) (t : Tables) (id : Id) (entry i n spare : ℕ) (w : Waits) 
     asked = refl;
     tidy = given_tidy;
     leads = leads;
+    pays = pays_given r t given id (bare id) entry (log_of id.log) some (λ row. refl) refl;
+    deals = record { i = i; before = w; after = refilled n ask.place id w; there = there; refills = record { k = n; ask = ask; there = asked; for = for; now = refl }; rest = refl };
   }
 
 -- ---- as the call does it

@@ -34,6 +34,7 @@ stands_spare r t due loose es spare h = record {
   asked = h.asked;
   sent = h.sent;
   taken = h.taken;
+  paid = record { rows = h.paid.rows; once = h.paid.once };
 }
 
 pub stands_same : (act_of : ℕ → ℕ → ℕ → State → Act → Outcome) (t t' : Tables) (es es' : List Entry) → Stands act_of t es

@@ -40,6 +40,8 @@ use Rattle.hpx_node.proofs.Splits.{Has, Halves, splits_lead}
 use Rattle.hpx_node.proofs.Alls.{all_append}
 use Rattle.hpx_node.proofs.Stays.{Stays, births_stay, births_long, splits_stay, stays_out, stays_in}
 use Rattle.hpx_node.proofs.Steps.{Tells, same_refusals, tells_leads, tells_covered, stands_then}
+use Rattle.hpx_node.proofs.IdleRows.{IsIdle, births_idle, splits_idle, done_idle}
+use Rattle.hpx_node.proofs.IdleSteps.{pays_idle}
 use Rattle.hpx_node.proofs.Sums.{weigh, weigh_append, weigh_flat, weigh_remove, weigh_set, tokens_sum, view_sum}
 
 -- what a plan of a commit promises, over lists
@@ -282,6 +284,11 @@ module _ (r : Rules) (t : Tables) (entries : List Entry) (i j : ℕ) (job : Job)
         (births_stay t.here t.births xs)
         (all_append Stays (splits_from 0 hand places) (Done (name_of job.action) false ∷ []) (splits_stay 0 hand places) ((λ k. refl, λ k. refl), tt))
 
+    idle : AllByRecursion (IsIdle r) (births_of t.here t.births xs ++ (splits_from 0 hand places ++ Done (name_of job.action) false ∷ []))
+    idle = all_append (IsIdle r) (births_of t.here t.births xs) (splits_from 0 hand places ++ Done (name_of job.action) false ∷ [])
+        (births_idle r t.here t.births xs)
+        (all_append (IsIdle r) (splits_from 0 hand places) (Done (name_of job.action) false ∷ []) (splits_idle r 0 hand places) (done_idle r _, tt))
+
     pub stands_settled : StandsWith r settled due ups
         (entries ++ at_all t.here (births_of t.here t.births xs ++ (splits_from 0 hand places ++ Done (name_of job.action) false ∷ [])))
     stands_settled = stands_then r t settled [] due [] ups entries
@@ -292,6 +299,7 @@ module _ (r : Rules) (t : Tables) (entries : List Entry) (i j : ℕ) (job : Job)
           few = omega arith;
           asked = omega arith;
           sent = omega (arith, stays_out t.here (births_of t.here t.births xs ++ (splits_from 0 hand places ++ Done (name_of job.action) false ∷ [])) stay);
+          pays = pays_idle r t settled (births_of t.here t.births xs ++ (splits_from 0 hand places ++ Done (name_of job.action) false ∷ [])) idle (λ row. refl) refl;
           taken = omega (arith, stays_in t.here (births_of t.here t.births xs ++ (splits_from 0 hand places ++ Done (name_of job.action) false ∷ [])) stay);
         })
         leads

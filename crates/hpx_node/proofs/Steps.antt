@@ -21,6 +21,8 @@ use Rattle.hpx_part.proofs.Grown.{grow}
 use Rattle.hpx_part.proofs.Weaken.{weaker_leads}
 use Rattle.hpx_node.specs.Tables.{Tables}
 use Rattle.hpx_node.specs.Seen.{view}
+use Rattle.hpx_node.specs.Idle.{Pays, IsPaid}
+use Rattle.hpx_node.proofs.IdleSteps.{paid_more}
 use Rattle.hpx_node.specs.Stands.{IsTidy, StandsWith, rules_of}
 
 -- w says no more than v: the same lists, the same tokens and asks as bags, the same counts, and no more that are dead, refusals and failures
@@ -113,16 +115,17 @@ ins_append (x ∷ xs) ys =
     omega (arith, length-append (arrives x) (ins (xs ++ ys)), length-append (arrives x) (ins xs), ins_append xs ys)
 
 -- what a call does to the numbers of a node
-pub record Counts (t t' : Tables) (events : List Event) : Type 0 where
+pub record Counts (r : Rules) (t t' : Tables) (events : List Event) : Type 0 where
   pub here : t'.here ≡ t.here
   pub born : t'.births ≤ t.births + length events
   pub few : t'.serial ≤ t.serial + length events
   pub asked : t'.asked ≤ t.asked + length events
   pub sent : t'.sent ≡ t.sent + length (outs (at_all t.here events))
   pub taken : t'.taken ≡ t.taken + length (ins (at_all t.here events))
+  pub pays : Pays r t t' events
 
 pub stands_then : (r : Rules) (t t' : Tables) (due due' : List Due) (loose loose' : List Id) (entries : List Entry) (events : List Event)
-    → StandsWith r t due loose entries → IsTidy t' due' → Counts t t' events → Leads r (view t due loose) events (view t' due' loose')
+    → StandsWith r t due loose entries → IsTidy t' due' → Counts r t t' events → Leads r (view t due loose) events (view t' due' loose')
     → StandsWith r t' due' loose' (entries ++ at_all t.here events)
 stands_then r t t' due due' loose loose' entries events h tidy counts leads =
     let grown : part t.here (entries ++ at_all t.here events) ≡ part t.here entries ++ at_all t.here events =
@@ -137,6 +140,7 @@ stands_then r t t' due due' loose loose' entries events h tidy counts leads =
       asked = omega (arith, h.asked, counts.asked, length-append entries (at_all t.here events), at_all_length t.here events);
       sent = omega (arith, counts.sent, h.sent, ap (λ zs. length (outs zs)) there, outs_append (part t.here entries) (at_all t.here events));
       taken = omega (arith, counts.taken, h.taken, ap (λ zs. length (ins zs)) there, ins_append (part t.here entries) (at_all t.here events));
+      paid = subst (IsPaid r t') (sym there) (paid_more r t t' t.here (part t.here entries) events h.paid counts.pays);
     }
 
 -- rules that are the same

@@ -13,3 +13,5 @@ pub mod Commits
 pub mod Kept
 pub mod Strange
 pub mod Handled
+pub mod Idle
+pub mod Routes

@@ -5,6 +5,7 @@
 pub mod boot;
 pub mod find;
 pub mod kept;
+pub mod law;
 pub mod node;
 pub mod parts;
 pub mod pending;

@@ -12,14 +12,14 @@ ghost use Rattle.hpx_part.specs.Parts.{at_all};
 ghost use Rattle.hpx_node.specs.Stands.{IsTidy, Stands, rules_of};
 ghost use Rattle.hpx_node.specs.Kept.{stands_here, waits_here, held_here, count_here};
 ghost use Rattle.hpx_node.specs.Pending.{awaits};
-ghost use Rattle.hpx_node.specs.Strange.{is_live, brings_right, broken_near};
-ghost use Rattle.hpx_node.specs.Handled.{ups, effects, with_first, kind_of, is_own, broken_here, Handles, Gives, GivesUp, Takes, Clears, NotTaken, NotCleared};
+ghost use Rattle.hpx_node.specs.Strange.{is_live, brings_right, broken_near, is_far};
+ghost use Rattle.hpx_node.specs.Handled.{ups, effects, with_first, kind_of, is_own, Handles, GivesUp, Takes, Clears, NotTaken, NotCleared};
+ghost use Rattle.hpx_node.specs.Routes.{Gives, DealsWith, Accepts};
 
 use crate::find::{place_of, waiting_at};
 use crate::kept::Letter;
 use crate::node::Node;
 use crate::parts::{DeskFault, TakeFault};
-use crate::strange::Broken;
 use hpx_agas::records::{Granted, Left};
 use hpx_commit::deal::log_of;
 use hpx_journal::entry::{Entry, Event, Reason};
@@ -244,6 +244,7 @@ impl<A: Acts + Copy> Node<A> {
         requires stands { Stands A.act_of self.old book.old.entries }
         ensures stands { Stands A.act_of self.new book.new.entries }
         ensures writes { Writes (In bytes ∷ effects self.old parcel) self.old self.new book.old.entries book.new.entries }
+        ensures deals { DealsWith parcel (record self.old { taken = self.old.taken + 1 }) self.new }
         ensures running { self.new.running ≡ self.old.running }
         ensures taken { self.new.taken ≡ self.old.taken + 1 }
         ensures sent { self.new.sent ≡ self.old.sent }
@@ -262,12 +263,14 @@ impl<A: Acts + Copy> Node<A> {
     fn enter_mail(&mut self, book: &mut Journal, parcel: Parcel)
         requires fit { IsParcel parcel }
         requires own { is_own self.old.here parcel ≡ true }
+        requires near { is_far self.old.localities parcel ≡ false }
         requires right { broken_near self.old parcel ≡ None }
         requires spare { 128 ≤ self.old.spare }
         requires page { 130 ≤ book.old.spare }
         requires stands { Stands A.act_of (with_first parcel self.old) book.old.entries }
         ensures stands { Stands A.act_of self.new book.new.entries }
         ensures writes { Writes (Mail (kind_of parcel) ∷ effects self.old parcel) self.old self.new book.old.entries book.new.entries }
+        ensures accepts { Accepts parcel self.old self.new }
         ensures running { self.new.running ≡ self.old.running }
         ensures taken { self.new.taken ≡ self.old.taken }
         ensures sent { self.new.sent ≡ self.old.sent }
@@ -332,20 +335,6 @@ impl<A: Acts + Copy> Node<A> {
         Ok(())
     }
 
-    /// The rule that the first message on the desk breaks, if it breaks one.
-    fn broken_here(&self, parcel: &Parcel) -> Option<Broken>
-        ensures { result ≡ broken_here self.now parcel.now }
-    {
-        match parcel {
-            Parcel::Free(o) if o.home() != self.here => Some(Broken {
-                rule: 7,
-                object: o.bare(),
-                kept: self.held(o.bare()),
-            }),
-            _ => self.broken(parcel),
-        }
-    }
-
     /// Deals with the oldest message to the own locality, if there is one; nothing changes at a refusal.
     pub fn desk(&mut self, book: &mut Journal) -> Result<bool, DeskFault>
         requires room { HasRoom book.old.entries }
@@ -361,7 +350,7 @@ impl<A: Acts + Copy> Node<A> {
         if self.desk.len() == 0 {
             return Ok(false);
         }
-        if let Some(x) = self.broken_here(self.desk[0].parcel()) {
+        if let Some(x) = self.broken(self.desk[0].parcel()) {
             return Err(DeskFault::Strange {
                 rule: x.rule,
                 object: x.object,
