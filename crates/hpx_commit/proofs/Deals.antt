@@ -22,7 +22,7 @@ bare_set (id ∷ ids) zero (suc q) x h = refl
 bare_set (id ∷ ids) (suc p) zero x h = refl
 bare_set (id ∷ ids) (suc p) (suc q) x h = bare_set ids p q x h
 
-names_set : (hand : List Id) (p : ℕ) (x : Id) (ps : List ℕ) → bare x ≡ bare (id_at hand p)
+pub names_set : (hand : List Id) (p : ℕ) (x : Id) (ps : List ℕ) → bare x ≡ bare (id_at hand p)
     → map (λ q. bare (id_at (set hand p x) q)) ps ≡ map (λ q. bare (id_at hand q)) ps
 names_set hand p x [] h = refl
 names_set hand p x (q ∷ qs) h =
@@ -40,13 +40,13 @@ names_dealt hand (p ∷ ps) =
 
 -- ---- counts
 
-named_cons : (q : ℕ) (ps : List ℕ) (p : ℕ) → named (q ∷ ps) p ≡ cond (q == p) 1 0 + named ps p
+pub named_cons : (q : ℕ) (ps : List ℕ) (p : ℕ) → named (q ∷ ps) p ≡ cond (q == p) 1 0 + named ps p
 named_cons q ps p = sum_by-cons (λ r. cond (r == p) 1 0) q ps
 
-named_hit : (ps : List ℕ) (p : ℕ) → named (p ∷ ps) p ≡ suc (named ps p)
+pub named_hit : (ps : List ℕ) (p : ℕ) → named (p ∷ ps) p ≡ suc (named ps p)
 named_hit ps p = let e : (p == p) ≡ true = eq-eqb p p refl in rw (named_cons p ps p, e) (omega arith)
 
-named_miss : (q : ℕ) (ps : List ℕ) (p : ℕ) → q ≢ p → named (q ∷ ps) p ≡ named ps p
+pub named_miss : (q : ℕ) (ps : List ℕ) (p : ℕ) → q ≢ p → named (q ∷ ps) p ≡ named ps p
 named_miss q ps p d = let e : (q == p) ≡ false = ne_eqb q p d in rw (named_cons q ps p, e) (omega arith)
 
 -- a place before the first of these is none of them
@@ -58,7 +58,7 @@ shared_before q p (id ∷ ids) ps h =
 
 -- ---- within
 
-length_set : (ids : List Id) (p : ℕ) (x : Id) → length (set ids p x) ≡ length ids
+pub length_set : (ids : List Id) (p : ℕ) (x : Id) → length (set ids p x) ≡ length ids
 length_set [] p x = refl
 length_set (id ∷ ids) zero x = refl
 length_set (id ∷ ids) (suc p) x = ap suc (length_set ids p x)
@@ -69,19 +69,19 @@ within_set hand p x (q ∷ qs) h = (omega (arith, length_set hand p x, h.0), wit
 
 -- ---- ids that last
 
-at_set : (hand : List Id) (p : ℕ) (x : Id) → p < length hand → id_at (set hand p x) p ≡ x
+pub at_set : (hand : List Id) (p : ℕ) (x : Id) → p < length hand → id_at (set hand p x) p ≡ x
 at_set [] p x h = absurd (omega arith)
 at_set (id ∷ ids) zero x h = refl
 at_set (id ∷ ids) (suc p) x h = at_set ids p x (omega arith)
 
-off_set : (hand : List Id) (p q : ℕ) (x : Id) → p ≢ q → id_at (set hand p x) q ≡ id_at hand q
+pub off_set : (hand : List Id) (p q : ℕ) (x : Id) → p ≢ q → id_at (set hand p x) q ≡ id_at hand q
 off_set [] p q x d = refl
 off_set (id ∷ ids) zero zero x d = absurd (d refl)
 off_set (id ∷ ids) zero (suc q) x d = refl
 off_set (id ∷ ids) (suc p) zero x d = refl
 off_set (id ∷ ids) (suc p) (suc q) x d = off_set ids p q x (λ e. d (ap suc e))
 
-log_half : (log : Option ℕ) → log_of (option_map (λ l. l - 1) log) ≡ log_of log - 1
+pub log_half : (log : Option ℕ) → log_of (option_map (λ l. l - 1) log) ≡ log_of log - 1
 log_half None = refl
 log_half (Some l) = refl
 
@@ -211,7 +211,7 @@ drop_suc [] i d h = absurd (omega arith)
 drop_suc (x ∷ xs) zero d h = refl
 drop_suc (x ∷ xs) (suc i) d h = drop_suc xs i d (omega arith)
 
-drop_at : {X : Type 0} (xs : List X) (i : ℕ) (d : X) → i < length xs → drop i xs ≡ slice_index_or xs i d ∷ drop (i + 1) xs
+pub drop_at : {X : Type 0} (xs : List X) (i : ℕ) (d : X) → i < length xs → drop i xs ≡ slice_index_or xs i d ∷ drop (i + 1) xs
 drop_at xs i d h = rw add-one (drop_suc xs i d h)
 
 read_suc : {X : Type 0} (xs : List X) (i : ℕ) (x : X) → i < length xs → x ≡ get_or xs i x → drop i xs ≡ x ∷ drop (suc i) xs
@@ -219,7 +219,7 @@ read_suc [] i x h e = absurd (omega arith)
 read_suc (y ∷ xs) zero x h e = ap (λ z. z ∷ xs) (sym e)
 read_suc (y ∷ xs) (suc i) x h e = read_suc xs i x (omega arith) e
 
-read_at : {X : Type 0} (xs : List X) (i : ℕ) (x : X) → i < length xs → x ≡ get_or xs i x → drop i xs ≡ x ∷ drop (i + 1) xs
+pub read_at : {X : Type 0} (xs : List X) (i : ℕ) (x : X) → i < length xs → x ≡ get_or xs i x → drop i xs ≡ x ∷ drop (i + 1) xs
 read_at xs i x h e = rw add-one (read_suc xs i x h e)
 
 -- what a loop over the places keeps, once the one at i got its share

@@ -22,13 +22,13 @@ fits_managed id ids ds rest t h = h ∙ (rw t refl)
 fits_other : (id : Id) (ids ds rest : List Id) → is_managed id ≡ false → Fits (id ∷ ids) ds rest → Fits ids ds rest
 fits_other id ids ds rest t h = h ∙ (rw t refl)
 
-head_is : (a b : Id) (xs ys : List Id) → a ∷ xs ≡ b ∷ ys → a ≡ b
+pub head_is : (a b : Id) (xs ys : List Id) → a ∷ xs ≡ b ∷ ys → a ≡ b
 head_is a b xs ys h = cc
 
-tail_is : (a b : Id) (xs ys : List Id) → a ∷ xs ≡ b ∷ ys → xs ≡ ys
+pub tail_is : (a b : Id) (xs ys : List Id) → a ∷ xs ≡ b ∷ ys → xs ≡ ys
 tail_is a b xs ys h = cc
 
-none_is : (b : Id) (ys : List Id) → [] ≡ b ∷ ys → ⊥
+pub none_is : (b : Id) (ys : List Id) → [] ≡ b ∷ ys → ⊥
 none_is b ys h = cc
 
 same_managed : (a b : Id) → bare a ≡ bare b → is_managed a ≡ is_managed b

@@ -1,3 +1,10 @@
 pub mod Deals
 pub mod Naming
 pub mod Fills
+pub mod Moved
+pub mod Ahead
+pub mod AheadSums
+pub mod Short
+pub mod StockLoops
+pub mod Failed
+pub mod Later

@@ -53,7 +53,7 @@ unmanaged kind h = grind (arith, nat_tests)
 abbrev pub managed : List Id → List Id
 managed ids = filter is_managed ids
 
-filter_append : {X : Type 0} (p : X → Bool) (xs ys : List X) → filter p (xs ++ ys) ≡ filter p xs ++ filter p ys
+pub filter_append : {X : Type 0} (p : X → Bool) (xs ys : List X) → filter p (xs ++ ys) ≡ filter p xs ++ filter p ys
 filter_append p [] ys = refl
 filter_append p (x ∷ xs) ys = elim (cases_Bool (p x)) [
   | inl t ↦ rw t (ap (λ zs. x ∷ zs) (filter_append p xs ys))

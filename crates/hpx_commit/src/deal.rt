@@ -46,15 +46,23 @@ pub fn named(places: &[u32], place: u32) -> usize
     n
 }
 
+/// Half of an id.
+pub fn half(id: Gid) -> Gid
+    requires { 1 ≤ log_of id.log }
+    ensures { result ≡ half id }
+{
+    match id.log() {
+        Some(log) => id.with_log(log - 1),
+        None => id,
+    }
+}
+
 /// What one who names an id gets while so many others are still to get of it.
 fn share(id: Gid, others: usize) -> Gid
     requires { Lasts id (others + 1) }
     ensures { result ≡ share id others }
 {
-    match id.log() {
-        Some(log) if others > 0 => id.with_log(log - 1),
-        _ => id,
-    }
+    if others > 0 { half(id) } else { id }
 }
 
 /// The named places of managed objects.
@@ -71,7 +79,7 @@ pub fn managed_places(alloc: Global, hand: &[Gid], places: &[u32]) -> Result<Vec
 }
 
 /// Whether an id lasts for so many who name it.
-fn lasts(id: Gid, n: usize) -> bool
+pub fn lasts(id: Gid, n: usize) -> bool
     ensures { IsTrue result ↔ Lasts id n }
 {
     n <= log_of(id) as usize + 1

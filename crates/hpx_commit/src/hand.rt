@@ -117,15 +117,22 @@ pub fn answer(
     addressed(alloc, hand, slot.object, SET, args.as_slice(), None)
 }
 
+/// Where a continuation among these ids leads.
+pub fn slot_at(ids: &[Gid], cont: Cont) -> Slot
+    ensures { result ≡ slot_at ids.now cont }
+{
+    Slot {
+        object: id_at(ids, cont.place as usize),
+        number: cont.slot,
+    }
+}
+
 /// Where the continuation of an action leads, if it has one.
 pub fn own_slot(action: &Act) -> Option<Slot>
     ensures { own_slot action.now.ids action.now.cont ≡ option_to_list result }
 {
     match action.cont {
-        Some(cont) => Some(Slot {
-            object: id_at(action.ids.as_slice(), cont.place as usize),
-            number: cont.slot,
-        }),
+        Some(cont) => Some(slot_at(action.ids.as_slice(), cont)),
         None => None,
     }
 }
@@ -144,10 +151,7 @@ fn slots_of(alloc: Global, state: &State, action: &Act) -> Result<Vec<Slot>, Out
 {
     let mut slots = Vec::new(alloc);
     for cont in state.conts.as_slice() {
-        slots.push(Slot {
-            object: id_at(state.ids.as_slice(), cont.place as usize),
-            number: cont.slot,
-        })?;
+        slots.push(slot_at(state.ids.as_slice(), *cont))?;
     }
     if let Some(slot) = own_slot(action) {
         slots.push(slot)?;

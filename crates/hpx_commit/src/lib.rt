@@ -3,7 +3,9 @@
 #![tactic(auto)]
 
 pub mod deal;
+pub mod failure;
 pub mod hand;
 pub mod law;
 pub mod mentions;
 pub mod plan;
+pub mod stock;

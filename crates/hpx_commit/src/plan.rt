@@ -92,6 +92,45 @@ pub fn places_named(alloc: Global, hand: &Hand, outcome: &Outcome) -> Result<Vec
     managed_places(alloc, hand.ids(), all.as_slice())
 }
 
+/// Plans a commit from a stock of the hand, where each of its ids lasts for those who name it.
+pub fn plan_stock(
+    alloc: Global,
+    hand: &Hand,
+    outcome: &Outcome,
+    ids: &[Gid],
+    places: &[u32],
+) -> Result<Plan, OutOfMemory>
+    requires few { length ids.now < 2 ^ 32 }
+    requires within { AreWithin ids.now places.now }
+    requires lasts { AllLast ids.now places.now }
+    ensures state { IfOk result (λ plan. plan.state ≡ record (state_after hand.now.state.now hand.now.action.now hand.now.made.now outcome.now) {
+      ids = filled (state_after hand.now.state.now hand.now.action.now hand.now.made.now outcome.now).ids (dealt ids.now places.now);
+    }) }
+    ensures due { IfOk result (λ plan. plan.due.items ≡ filled_due (due_of hand.now.state.now hand.now.action.now hand.now.made.now outcome.now)
+        (unused (state_after hand.now.state.now hand.now.action.now hand.now.made.now outcome.now).ids (dealt ids.now places.now))) }
+    ensures ups { IfOk result (λ plan. plan.ups.items ≡ unnamed ids.now places.now) }
+{
+    let mut dealt = deal(alloc, ids, places)?;
+    let State {
+        drawn,
+        values,
+        conts,
+        ids: named,
+    } = hand.state_left(alloc, outcome)?;
+    let kept = fill(alloc, named.as_slice(), &mut dealt)?;
+    let due = fill_due(alloc, hand.due(alloc, outcome)?, &mut dealt)?;
+    Ok(Plan {
+        state: State {
+            drawn,
+            values,
+            conts,
+            ids: kept,
+        },
+        due,
+        ups: unnamed(alloc, ids, places)?,
+    })
+}
+
 /// Plans a commit, where each id of the hand lasts for those who name it.
 pub fn plan_commit(
     alloc: Global,
@@ -111,23 +150,5 @@ pub fn plan_commit(
         (dealt (hand_ids hand.now.state.now hand.now.action.now hand.now.made.now) places.now))) }
     ensures ups { IfOk result (λ plan. plan.ups.items ≡ unnamed (hand_ids hand.now.state.now hand.now.action.now hand.now.made.now) places.now) }
 {
-    let mut dealt = deal(alloc, hand.ids(), places)?;
-    let State {
-        drawn,
-        values,
-        conts,
-        ids,
-    } = hand.state_left(alloc, outcome)?;
-    let ids = fill(alloc, ids.as_slice(), &mut dealt)?;
-    let due = fill_due(alloc, hand.due(alloc, outcome)?, &mut dealt)?;
-    Ok(Plan {
-        state: State {
-            drawn,
-            values,
-            conts,
-            ids,
-        },
-        due,
-        ups: unnamed(alloc, hand.ids(), places)?,
-    })
+    plan_stock(alloc, hand, outcome, hand.ids(), places)
 }

@@ -1,5 +1,5 @@
 -- Tables that differ by what waits in no message: what is seen of them.
-use Rattle.std.proofs.Common.{true, List, [], ◌++◌, ◌≡◌, Option, Some, map, refl, sym, ap, ◌∙◌, arith}
+use Rattle.std.proofs.Common.{true, List, [], ◌++◌, ◌≡◌, Option, Some, map, length, refl, sym, ap, ◌∙◌, arith}
 use Rattle.std.specs.Prelude.{flat_map}
 use Rattle.std.specs.List.{count_by, find, list_any}
 use Rattle.std.proofs.lemmas.List.Sums.{sum_by-append}
@@ -12,11 +12,12 @@ use Rattle.hpx_part.specs.Data.{Event, Token, Recorded}
 use Rattle.hpx_part.specs.View.{View}
 use Rattle.hpx_part.specs.Shows.{SameTokens}
 use Rattle.hpx_part.proofs.Keyed.{counts_of, any_counted, counted_any}
-use Rattle.hpx_node.specs.Tables.{Tables}
+use Rattle.hpx_node.specs.Pending.{fired_of, asking_of, refusals_of}
+use Rattle.hpx_node.specs.Tables.{Tables, fired_acts}
 use Rattle.hpx_node.specs.Seen.{bare_standing, counted, waiting, asks, frees, frees_in, view}
 use Rattle.hpx_node.specs.Changes.{Mails}
 use Rattle.hpx_node.proofs.Messages.{mails_front, mails_back, mails_before, mails_after, middle_sum}
-use Rattle.hpx_node.proofs.Steps.{Tells}
+use Rattle.hpx_node.proofs.Steps.{Tells, same_refusals}
 
 -- all stays that is seen but tokens, asks and what is to be freed
 pub record Stays (t t' : Tables) : Type 0 where
@@ -25,11 +26,17 @@ pub record Stays (t t' : Tables) : Type 0 where
   pub births : t.births ≡ t'.births
   pub waiting : waiting t ≡ waiting t'
   pub running : t.running ≡ t'.running
+  pub pending : t.pending ≡ t'.pending
   pub objects : t.objects ≡ t'.objects
   pub records : t.records ≡ t'.records
 
 pub stays_same : (t : Tables) → Stays t t
-stays_same t = record { here = refl; serial = refl; births = refl; waiting = refl; running = refl; objects = refl; records = refl }
+stays_same t = record { here = refl; serial = refl; births = refl; waiting = refl; running = refl; pending = refl; objects = refl; records = refl }
+
+-- so do the fired actions
+pub fired_stay : (t t' : Tables) → Stays t t' → map bare_act (fired_acts t) ≡ map bare_act (fired_acts t')
+fired_stay t t' stays =
+    ap (λ xs. map bare_act (fired_of xs t.pending)) stays.running ∙ ap (λ ws. map bare_act (fired_of t'.running ws)) stays.pending
 
 pub stays_mailed : (p : Parcel) (t t' : Tables) → Mails p t t' → acts_in (Some p) ≡ [] → Stays t t'
 stays_mailed p t t' mails quiet =
@@ -40,6 +47,7 @@ stays_mailed p t t' mails quiet =
       waiting = mails_before p t t' mails
           ∙ sym (mails_after p t t' mails ∙ ap (λ xs. mails_front p t t' mails ++ (xs ++ mails_back p t t' mails)) quiet);
       running = sym (ap (λ (x : Tables). x.running) rest);
+      pending = sym (ap (λ (x : Tables). x.pending) rest);
       objects = sym (ap (λ (x : Tables). x.objects) rest);
       records = sym (ap (λ (x : Tables). x.records) rest);
     }
@@ -71,16 +79,16 @@ module _ (t t' : Tables) (stays : Stays t t') (loose loose' : List Id) (toks : L
     serial = stays.serial;
     number = stays.births;
     waiting = stays.waiting;
-    fired = ap (map bare_act) stays.running;
+    fired = fired_stay t t' stays;
     objects = ap (map bare_standing) stays.objects;
     fresh = refl;
     due = refl;
     tokens = tokens;
-    asking = λ x. refl;
+    asking = λ x. ap (λ ws. count_by (same_object x) (asking_of ws)) stays.pending;
     asks = pending;
     live = live;
     dead = dead;
-    refusals = refl;
-    failing = refl;
+    refusals = same_refusals (refusals_of t.pending) (refusals_of t'.pending) (ap refusals_of stays.pending);
+    failing = omega (arith, ap (λ ws. length (refusals_of ws)) stays.pending);
     last = refl;
   }

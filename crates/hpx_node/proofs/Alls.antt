@@ -28,3 +28,8 @@ pub all_set : {X : Type 0} (P : X → Type 0) (xs : List X) (i : ℕ) (y : X) �
 all_set P [] i y h p = tt
 all_set P (x ∷ xs) zero y h p = (p, h.1)
 all_set P (x ∷ xs) (suc i) y h p = (h.0, all_set P xs i y h.1 p)
+
+pub get_before : {X : Type 0} (xs ys : List X) (i : ℕ) (x : X) → slice_get xs i ≡ Some x → slice_get (xs ++ ys) i ≡ Some x
+get_before [] ys i x h = cc
+get_before (z ∷ xs) ys zero x h = h
+get_before (z ∷ xs) ys (suc i) x h = get_before xs ys i x h

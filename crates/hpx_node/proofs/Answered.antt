@@ -1,5 +1,5 @@
 -- An ask for more credit is answered.
-use Rattle.std.proofs.Common.{ℕ, Bool, true, false, cond, List, [], ◌∷◌, ◌≡◌, ◌+◌, ◌-◌, ◌^◌, ◌≤◌, ◌<◌, Option, Some, map, refl, sym, ap, ◌∙◌, arith, inl, inr, subst}
+use Rattle.std.proofs.Common.{ℕ, Bool, true, false, cond, List, [], ◌∷◌, ◌++◌, ◌≡◌, ◌+◌, ◌-◌, ◌^◌, ◌≤◌, ◌<◌, Option, Some, map, length, refl, sym, ap, ◌∙◌, arith, inl, inr, subst}
 use Rattle.std.specs.Prelude.{if◌then◌else◌, IfSome, nat_lt}
 use Rattle.std.specs.Option.{option_map_or}
 use Rattle.std.specs.List.{sum_by, count_by, find, list_any}
@@ -17,12 +17,14 @@ use Rattle.hpx_journal.specs.Entries.{Rules}
 use Rattle.hpx_journal.specs.Tokens.{owed_token, same_token}
 use Rattle.hpx_journal.specs.Local.{is_recorded, count_in}
 use Rattle.hpx_journal.proofs.Same.{same_object-true}
-use Rattle.hpx_part.specs.Data.{Event, Count, Granted, Refused, Token, Recorded}
+use Rattle.hpx_part.specs.Data.{Entry, Event, Reason, Count, Granted, Refused, Token, Recorded}
+use Rattle.hpx_part.specs.Parts.{at_all}
 use Rattle.hpx_part.specs.View.{View}
 use Rattle.hpx_part.specs.Shows.{Leads, SameTokens}
 use Rattle.hpx_part.proofs.CreditRows.{follows_granted, follows_refused}
 use Rattle.hpx_part.proofs.Credit.{token_own}
 use Rattle.hpx_part.proofs.Keyed.{counts_of, counts_true}
+use Rattle.hpx_node.specs.Pending.{asking_of, refusals_of}
 use Rattle.hpx_node.specs.Tables.{Tables}
 use Rattle.hpx_node.specs.Seen.{counted, parcel_tokens, tokens, asks, frees, view}
 use Rattle.hpx_node.specs.Stands.{IsTidy, rules_of}
@@ -32,8 +34,14 @@ use Rattle.hpx_node.specs.Strange.{is_live}
 use Rattle.hpx_node.specs.Handled.{answered, more_here, in_hand, TakesUp, Handles}
 use Rattle.hpx_node.proofs.Messages.{mails_tokens, mails_asks}
 use Rattle.hpx_node.proofs.Sums.{view_sum}
-use Rattle.hpx_node.proofs.Steps.{Tells, tells_leads}
-use Rattle.hpx_node.proofs.Alike.{stays_mailed, frees_mailed}
+use Rattle.hpx_node.proofs.Steps.{Tells, same_refusals, tells_leads}
+use Rattle.hpx_node.proofs.Alike.{fired_stay, stays_mailed, frees_mailed}
+use Rattle.hpx_node.specs.Idle.{Row, weight, unpaid, PaysFor}
+use Rattle.hpx_node.specs.Routes.{with_mail, given_here}
+use Rattle.hpx_node.proofs.Spareless.{mail_records}
+use Rattle.hpx_node.proofs.IdleSteps.{mails_pending}
+use Rattle.hpx_node.proofs.IdleCounts.{pays_refused, pays_granted}
+use Rattle.hpx_value.specs.Profiles.{IsValid}
 use Rattle.hpx_node.proofs.InHand.{hand_sum}
 use Rattle.hpx_node.proofs.GivenUp.{owed_some}
 use Rattle.hpx_node.proofs.Returned.{found_counted, one_recounted, none_unborn, live_home, live_record}
@@ -46,7 +54,8 @@ module _ (act_of : ℕ → ℕ → ℕ → State → Act → Outcome) (t m t' : 
     (home : id.home ≡ t.here) (there : find_record id t.records ≡ Some rec) (enough : credit id ≤ rec.count)
     (rest : m ≡ record t { records = m.records; spare = m.spare }) (tidy : IsTidy t []) (now : find_record id m.records ≡ Some (asked t.profile rec))
     (others : (o : Id) → same_object id o ≡ false → find_record o m.records ≡ find_record o t.records)
-    (same : (x : Id) → same_object x given ≡ same_object x id) (mails : Mails (Give given entry) m t') where
+    (same : (x : Id) → same_object x given ≡ same_object x id) (mails : Mails (Give given entry) m t')
+    (goes : t' ≡ record (with_mail asker (Give given entry) m) { spare = t'.spare }) where
   abbrev rules : Rules
   rules = rules_of act_of t.localities t.profile
 
@@ -72,12 +81,12 @@ module _ (act_of : ℕ → ℕ → ℕ → State → Act → Outcome) (t m t' : 
         serial = ap (λ (x : Tables). x.serial) (sym rest) ∙ stays.serial;
         number = ap (λ (x : Tables). x.births) (sym rest) ∙ stays.births;
         waiting = ap (λ (x : Tables). (view x [] []).waiting) (sym rest) ∙ stays.waiting;
-        fired = ap (λ (x : Tables). (view x [] []).fired) (sym rest) ∙ ap (map _) stays.running;
+        fired = ap (λ (x : Tables). (view x [] []).fired) (sym rest) ∙ fired_stay m t' stays;
         objects = ap (λ (x : Tables). (view x [] []).objects) (sym rest) ∙ ap (map _) stays.objects;
         fresh = refl;
         due = refl;
         tokens = tokens;
-        asking = λ x. refl;
+        asking = λ x. ap (λ (y : Tables). count_by (same_object x) (asking_of y.pending)) (sym rest) ∙ ap (λ ws. count_by (same_object x) (asking_of ws)) stays.pending;
         asks = λ x. omega (
           arith,
           sum_by-cons (counts_of (same_object x)) id (asks t),
@@ -88,8 +97,8 @@ module _ (act_of : ℕ → ℕ → ℕ → State → Act → Outcome) (t m t' : 
         );
         live = λ x at. counts x at ∙ ap (λ rs. count_in (find (is_recorded x) (map counted rs))) stays.records;
         dead = λ x h. takes.among x (subst (λ (y : Tables). list_any (same_object x) (frees y) ≡ true) rest (frees_mailed (Give given entry) m t' mails x h));
-        refusals = refl;
-        failing = refl;
+        refusals = same_refusals (refusals_of t.pending) (refusals_of t'.pending) (ap (λ (y : Tables). refusals_of y.pending) (sym rest) ∙ ap refusals_of stays.pending);
+        failing = omega (arith, ap (λ (y : Tables). length (refusals_of y.pending)) rest, ap (λ ws. length (refusals_of ws)) stays.pending);
         last = refl;
       }
 
@@ -108,6 +117,7 @@ module _ (act_of : ℕ → ℕ → ℕ → State → Act → Outcome) (t m t' : 
   still_tidy = subst (λ x. IsTidy x []) (sym rest) (record {
     accepted = tidy.accepted;
     running = tidy.running;
+    paused = tidy.paused;
     objects = tidy.objects;
     messages = tidy.messages;
     fit = tidy.fit;
@@ -119,8 +129,8 @@ module _ (act_of : ℕ → ℕ → ℕ → State → Act → Outcome) (t m t' : 
 
   handled : ((dead : List Id) (e : Event) → TakesUp rules t (Ask id asker entry) dead e
       → Leads rules (in_hand (Ask id asker entry) t dead e) (answered t id) (view t' [] []))
-      → Handles rules (Ask id asker entry) t t' (answered t id)
-  handled leads = record {
+      → given ≡ given_here t id → PaysFor rules (Ask id asker entry) t t' (answered t id) → Handles rules (Ask id asker entry) t t' (answered t id)
+  handled leads is pays = record {
     here = ap (λ (x : Tables). x.here) mails.rest ∙ ap (λ (x : Tables). x.here) rest;
     localities = ap (λ (x : Tables). x.localities) mails.rest ∙ ap (λ (x : Tables). x.localities) rest;
     profile = ap (λ (x : Tables). x.profile) mails.rest ∙ ap (λ (x : Tables). x.profile) rest;
@@ -129,9 +139,19 @@ module _ (act_of : ℕ → ℕ → ℕ → State → Act → Outcome) (t m t' : 
     sent = ap (λ (x : Tables). x.sent) mails.rest ∙ ap (λ (x : Tables). x.sent) rest;
     taken = ap (λ (x : Tables). x.taken) mails.rest ∙ ap (λ (x : Tables). x.taken) rest;
     running = ap (λ (x : Tables). x.running) mails.rest ∙ ap (λ (x : Tables). x.running) rest;
+    asked = ap (λ (x : Tables). x.asked) mails.rest ∙ ap (λ (x : Tables). x.asked) rest;
     tidy = mails.tidy [] still_tidy;
     leads = leads;
+    pays = pays;
+    deals = mail_records asker (Give given entry) t m t' rest goes
+        ∙ ap (λ o. record (with_mail asker (Give o entry) t) { records = t'.records; spare = t'.spare }) is;
   }
+
+  one_more : (row : Row) → unpaid row t' ≡ unpaid row t + weight row (Give given entry)
+  one_more row = omega (arith, mails_pending (Give given entry) m t' mails row, ap (λ (y : Tables). unpaid row y) rest)
+
+  stays : t'.accepted ≡ t.accepted
+  stays = ap (λ (x : Tables). x.accepted) mails.rest ∙ ap (λ (x : Tables). x.accepted) rest
 
   more_is : nat_lt t.profile.credit_limit (more_here t id) ≡ nat_lt t.profile.credit_limit (grown t.profile rec)
   more_is = ap (λ n. nat_lt t.profile.credit_limit (n + 2 ^ t.profile.credit_log - 1)) was
@@ -143,9 +163,11 @@ module _ (act_of : ℕ → ℕ → ℕ → State → Act → Outcome) (t m t' : 
       (ap (λ (o : Option Record). option_map_or (λ (y : Record). y.count) o 0) now) others x
 
   -- the count would pass the limit
-  pub refused_handles : nat_lt t.profile.credit_limit (grown t.profile rec) ≡ true
+  pub refused_handles : given ≡ id → nat_lt t.profile.credit_limit (grown t.profile rec) ≡ true
       → ((f : Token → ℕ) → sum_by f (parcel_tokens (Give given entry)) ≡ f (owed_token (bare id) 0)) → Handles rules (Ask id asker entry) t t' (answered t id)
-  refused_handles full gives =
+  refused_handles is full gives =
+      let events : answered t id ≡ Count (bare id) (count_here t id) Refused ∷ [] =
+      ap (λ b. (if b then Count (bare id) (count_here t id) Refused else Count (bare id) (more_here t id) Granted) ∷ []) (more_is ∙ full) in
       handled
       (λ dead e takes.
       let last = Count (bare id) (count_here t id) Refused in
@@ -167,12 +189,17 @@ module _ (act_of : ℕ → ℕ → ℕ → State → Act → Outcome) (t m t' : 
             (tells dead e (in_hand (Ask id asker entry) t dead e).tokens (map counted t.records) last takes
             (λ f weight. omega (arith, hand_sum f (Ask id asker entry) t, hand f, view_sum f t' [] [], sums f, gives f)) (λ x at. same_live x)),
       ))
+      (is ∙ ap (λ b. cond b id (record id { log = Some t.profile.credit_log })) (sym (more_is ∙ full)))
+      (subst (PaysFor rules (Ask id asker entry) t t') (sym events)
+      (pays_refused rules t t' id given (bare id) asker entry (count_here t id) (omega (arith, was, some)) (ap (λ (x : Id). x.log) is ∙ least) one_more stays))
 
   -- more credit is granted
-  pub granted_handles : nat_lt t.profile.credit_limit (grown t.profile rec) ≡ false
+  pub granted_handles : given ≡ record id { log = Some t.profile.credit_log } → 1 ≤ t.profile.credit_log → nat_lt t.profile.credit_limit (grown t.profile rec) ≡ false
       → ((f : Token → ℕ) → sum_by f (parcel_tokens (Give given entry)) ≡ f (owed_token (bare id) t.profile.credit_log))
       → Handles rules (Ask id asker entry) t t' (answered t id)
-  granted_handles free gives =
+  granted_handles is big free gives =
+      let events : answered t id ≡ Count (bare id) (more_here t id) Granted ∷ [] =
+      ap (λ b. (if b then Count (bare id) (count_here t id) Refused else Count (bare id) (more_here t id) Granted) ∷ []) (more_is ∙ free) in
       handled
       (λ dead e takes.
       let last = Count (bare id) (more_here t id) Granted in
@@ -210,16 +237,20 @@ module _ (act_of : ℕ → ℕ → ℕ → State → Act → Outcome) (t m t' : 
         tells_leads rules n (view t' [] [])
             (tells dead e (view t' [] []).tokens (map counted m.records) last takes (λ f weight. refl) (λ x at. refl)),
       ))
+      (is ∙ ap (λ b. cond b id (record id { log = Some t.profile.credit_log })) (sym (more_is ∙ free)))
+      (subst (PaysFor rules (Ask id asker entry) t t') (sym events)
+      (pays_granted rules t t' id given (bare id) asker entry (more_here t id) t.profile.credit_log
+      (omega (arith, was, some, pow_pos t.profile.credit_log)) (ap (λ (x : Id). x.log) is) big one_more stays))
 
 -- ---- by what the records tell
 
-limit_full : (t : Tables) (rec : Record) (id : Id) → Limit ≡ granted_of t.profile rec id → nat_lt t.profile.credit_limit (grown t.profile rec) ≡ true
+pub limit_full : (t : Tables) (rec : Record) (id : Id) → Limit ≡ granted_of t.profile rec id → nat_lt t.profile.credit_limit (grown t.profile rec) ≡ true
 limit_full t rec id h = elim (cases_Bool (nat_lt t.profile.credit_limit (grown t.profile rec))) [
   | inl b ↦ b
   | inr b ↦ absurd (let e : Limit ≡ Yes (record id { log = Some t.profile.credit_log }) = rw b at h in cc)
 ]
 
-yes_free : (t : Tables) (rec : Record) (id more : Id) → Yes more ≡ granted_of t.profile rec id
+pub yes_free : (t : Tables) (rec : Record) (id more : Id) → Yes more ≡ granted_of t.profile rec id
     → (nat_lt t.profile.credit_limit (grown t.profile rec) ≡ false) × (more ≡ record id { log = Some t.profile.credit_log })
 yes_free t rec id more h = elim (cases_Bool (nat_lt t.profile.credit_limit (grown t.profile rec))) [
   | inl b ↦ absurd (let e : Yes more ≡ Limit = rw b at h in cc)
@@ -229,7 +260,8 @@ yes_free t rec id more h = elim (cases_Bool (nat_lt t.profile.credit_limit (grow
 module _ (act_of : ℕ → ℕ → ℕ → State → Act → Outcome) (t m t' : Tables) (id given : Id) (asker entry : ℕ) (least : id.log ≡ Some 0)
     (live : is_live t id ≡ true) (enough : credit id ≤ count_here t id) (rest : m ≡ record t { records = m.records; spare = m.spare }) (tidy : IsTidy t [])
     (now : IfSome (find_record id t.records) (λ x. find_record id m.records ≡ Some (asked t.profile x)))
-    (others : (o : Id) → same_object id o ≡ false → find_record o m.records ≡ find_record o t.records) (mails : Mails (Give given entry) m t') where
+    (others : (o : Id) → same_object id o ≡ false → find_record o m.records ≡ find_record o t.records) (mails : Mails (Give given entry) m t')
+    (goes : t' ≡ record (with_mail asker (Give given entry) m) { spare = t'.spare }) where
   found : (rec : Record) × (find_record id t.records ≡ Some rec)
   found = live_record t.here t.records id live
 
@@ -243,42 +275,42 @@ module _ (act_of : ℕ → ℕ → ℕ → State → Act → Outcome) (t m t' : 
       → Handles (rules_of act_of t.localities t.profile) (Ask id asker entry) t t' (answered t id)
   answer_refused is limit =
       refused_handles act_of t m t' id given asker entry found.0 least (live_home t.here t.records id live) found.1 covered rest tidy asked_is others
-      (λ x. ap (same_object x) is) mails
+      (λ x. ap (same_object x) is) mails goes is
       (limit_full t found.0 id (subst (λ (o : Option Record). IfSome o (λ x. Limit ≡ granted_of t.profile x id)) found.1 limit))
       (λ f. ap (λ (i : Id). sum_by f (parcel_tokens (Give i entry))) is ∙ owed_some f id 0 least)
 
-  answer_granted : (more : Id) → given ≡ more → IfSome (find_record id t.records) (λ x. Yes more ≡ granted_of t.profile x id)
+  answer_granted : (more : Id) → 1 ≤ t.profile.credit_log → given ≡ more → IfSome (find_record id t.records) (λ x. Yes more ≡ granted_of t.profile x id)
       → Handles (rules_of act_of t.localities t.profile) (Ask id asker entry) t t' (answered t id)
-  answer_granted more is given_more =
+  answer_granted more big is given_more =
       let free = yes_free t found.0 id more (subst (λ (o : Option Record). IfSome o (λ x. Yes more ≡ granted_of t.profile x id)) found.1 given_more) in
       let e : given ≡ record id { log = Some t.profile.credit_log } = is ∙ free.1 in
       granted_handles act_of t m t' id given asker entry found.0 least (live_home t.here t.records id live) found.1 covered rest tidy asked_is others
-      (λ x. ap (same_object x) e) mails free.0
+      (λ x. ap (same_object x) e) mails goes e big free.0
       (λ f. ap (λ (i : Id). sum_by f (parcel_tokens (Give i entry))) e
       ∙ owed_some f (record id { log = Some t.profile.credit_log }) t.profile.credit_log refl)
 
 pub refused_by : (act_of : ℕ → ℕ → ℕ → State → Act → Outcome) (t m t' u : Tables) (p : Profile) (id given : Id) (asker entry : ℕ) → t ≡ u → IsTidy t []
-    → Mails (Give given entry) m t' → p ≡ t.profile → id.log ≡ Some 0 → is_live t id ≡ true → credit id ≤ count_here t id
+    → Mails (Give given entry) m t' → t' ≡ record (with_mail asker (Give given entry) m) { spare = t'.spare } → p ≡ t.profile → id.log ≡ Some 0 → is_live t id ≡ true → credit id ≤ count_here t id
     → m ≡ record t { records = m.records; spare = m.spare }
     → IfSome (find_record id t.records) (λ x. find_record id m.records ≡ Some (asked p x))
     → ((o : Id) → same_object id o ≡ false → find_record o m.records ≡ find_record o t.records)
     → given ≡ id → IfSome (find_record id t.records) (λ x. Limit ≡ granted_of p x id)
     → Handles (rules_of act_of t.localities t.profile) (Ask id asker entry) t t' (answered u id)
-refused_by act_of t m t' u p id given asker entry seen_as tidy mails profile least live enough rest now others is limit =
+refused_by act_of t m t' u p id given asker entry seen_as tidy mails goes profile least live enough rest now others is limit =
     subst (λ y. Handles (rules_of act_of t.localities t.profile) (Ask id asker entry) t t' (answered y id)) seen_as
     (answer_refused act_of t m t' id given asker entry least live enough rest tidy
-    (subst (λ q. IfSome (find_record id t.records) (λ x. find_record id m.records ≡ Some (asked q x))) profile now) others mails is
+    (subst (λ q. IfSome (find_record id t.records) (λ x. find_record id m.records ≡ Some (asked q x))) profile now) others mails goes is
     (subst (λ q. IfSome (find_record id t.records) (λ x. Limit ≡ granted_of q x id)) profile limit))
 
 pub granted_by : (act_of : ℕ → ℕ → ℕ → State → Act → Outcome) (t m t' u : Tables) (p : Profile) (id given more : Id) (asker entry : ℕ) → t ≡ u → IsTidy t []
-    → Mails (Give given entry) m t' → p ≡ t.profile → id.log ≡ Some 0 → is_live t id ≡ true → credit id ≤ count_here t id
+    → Mails (Give given entry) m t' → t' ≡ record (with_mail asker (Give given entry) m) { spare = t'.spare } → p ≡ t.profile → IsValid t.profile → id.log ≡ Some 0 → is_live t id ≡ true → credit id ≤ count_here t id
     → m ≡ record t { records = m.records; spare = m.spare }
     → IfSome (find_record id t.records) (λ x. find_record id m.records ≡ Some (asked p x))
     → ((o : Id) → same_object id o ≡ false → find_record o m.records ≡ find_record o t.records)
     → given ≡ more → IfSome (find_record id t.records) (λ x. Yes more ≡ granted_of p x id)
     → Handles (rules_of act_of t.localities t.profile) (Ask id asker entry) t t' (answered u id)
-granted_by act_of t m t' u p id given more asker entry seen_as tidy mails profile least live enough rest now others is granted =
+granted_by act_of t m t' u p id given more asker entry seen_as tidy mails goes profile valid least live enough rest now others is granted =
     subst (λ y. Handles (rules_of act_of t.localities t.profile) (Ask id asker entry) t t' (answered y id)) seen_as
     (answer_granted act_of t m t' id given asker entry least live enough rest tidy
-    (subst (λ q. IfSome (find_record id t.records) (λ x. find_record id m.records ≡ Some (asked q x))) profile now) others mails more is
-    (subst (λ q. IfSome (find_record id t.records) (λ x. Yes more ≡ granted_of q x id)) profile granted))
+    (subst (λ q. IfSome (find_record id t.records) (λ x. find_record id m.records ≡ Some (asked q x))) profile now) others mails goes more
+    (omega (arith, valid.log_least)) is (subst (λ q. IfSome (find_record id t.records) (λ x. Yes more ≡ granted_of q x id)) profile granted))

@@ -68,6 +68,8 @@ pub record Bears (r : Rules) (v : View) (xs : List Birth) : Type 0 where
   pub asks : then.asks ≡ v.asks
   pub live : then.live ≡ v.live ++ map counted (records_of v.here v.number r.credit_log xs)
   pub dead : then.dead ≡ v.dead
+  pub refusals : then.refusals ≡ v.refusals
+  pub failing : then.failing ≡ v.failing
   pub sums : (f : Token → ℕ) → IsWeight f → sum_by f then.tokens ≡ sum_by f v.tokens + weigh f (ids_of v.here v.number r.credit_log xs)
 
 pub bears : (r : Rules) (xs : List Birth) (v : View) → v.due ≡ [] → AllByRecursion IsBirth xs → Unborn v.number v.live → Bears r v xs
@@ -86,6 +88,8 @@ bears r [] v due fit unborn = record {
   asks = refl;
   live = sym (append-nil v.live);
   dead = refl;
+  refusals = refl;
+  failing = refl;
   sums = λ f weight. omega arith;
 }
 bears r (x ∷ xs) v due fit unborn =
@@ -126,6 +130,8 @@ bears r (x ∷ xs) v due fit unborn =
       asks = rest.asks;
       live = rest.live ∙ append_assoc v.live (newest ∷ []) (map counted (records_of v.here (v.number + 1) r.credit_log xs));
       dead = rest.dead;
+      refusals = rest.refusals;
+      failing = rest.failing;
       sums = λ f weight. omega (
         arith,
         rest.sums f weight,

@@ -1,5 +1,5 @@
 -- A prepared commit, once its job is settled, stands with what is due and what nobody names.
-use Rattle.std.proofs.Common.{ℕ, zero, suc, false, Some, List, [], ◌∷◌, ◌++◌, ◌≡◌, ◌≤◌, ◌<◌, set, length, append_assoc, append-nil, sym, ap, ◌∙◌, subst}
+use Rattle.std.proofs.Common.{ℕ, false, Some, List, [], ◌∷◌, ◌++◌, ◌≡◌, ◌≤◌, ◌<◌, set, length, append_assoc, append-nil, sym, ap, ◌∙◌, subst}
 use Rattle.std.specs.List.{remove, slice_get}
 use Rattle.hpx_value.specs.Values.{bare_act, bare_state, message_of, named}
 use Rattle.hpx_value.specs.Laws.{KeepsLaws}
@@ -15,13 +15,9 @@ use Rattle.hpx_node.specs.Commits.{splits_from, written, ups, committed, IsPrepa
 use Rattle.hpx_node.specs.Jobs.{IsAt, IsFitJob}
 use Rattle.hpx_node.specs.Stands.{StandsWith, rules_of}
 use Rattle.hpx_node.specs.Tables.{Tables}
+use Rattle.hpx_node.proofs.Alls.{get_before}
 use Rattle.hpx_node.proofs.Committed.{settled_is, written_on}
 use Rattle.hpx_node.proofs.OfPrepared.{tables_settled, stands_of, committed_is}
-
-get_before : {X : Type 0} (xs ys : List X) (i : ℕ) (x : X) → slice_get xs i ≡ Some x → slice_get (xs ++ ys) i ≡ Some x
-get_before [] ys i x h = cc
-get_before (z ∷ xs) ys zero x h = h
-get_before (z ∷ xs) ys (suc i) x h = get_before xs ys i x h
 
 -- once what is made is made
 module _ (t : Tables) (job : Job) (p : Prepared) (i j : ℕ) (at : IsAt t i j job) (t1 : Tables) (made : Makes p.births.items [] t t1) where

@@ -1,7 +1,11 @@
 -- Where all that is kept is well formed, each name has its token.
-use Rattle.std.proofs.Common.{ℕ, Bool, true, false, cond, List, [], ◌∷◌, ◌++◌, ◌≡◌, ◌≤◌, ◌<◌, Option, Some, None, map, refl, ap, arith}
-use Rattle.std.specs.Prelude.{flat_map, MatchOption}
-use Rattle.std.specs.List.{sum_by, count_by, AllByRecursion}
+use Rattle.std.proofs.Common.{ℕ, Bool, true, false, cond, List, [], ◌∷◌, ◌++◌, ◌≡◌, ◌+◌, ◌≤◌, ◌<◌, Option, Some, None, map, length, take, drop, refl, sym, ap, ◌∙◌, arith, inl, inr}
+use Rattle.std.specs.Prelude.{flat_map, MatchOption, ◌&&◌, not, is_some, nat_le}
+use Rattle.std.specs.List.{sum_by, count_by, filter, AllByRecursion}
+use Rattle.std.proofs.lemmas.Bool.{cases_Bool}
+use Rattle.std.proofs.lemmas.Bool.Decides.{nat_tests}
+use Rattle.std.proofs.Math.Bool.{and-true}
+use Rattle.std.proofs.lemmas.List.{take-append-drop}
 use Rattle.std.proofs.lemmas.List.Sums.{sum_by-cons, sum_by-append}
 use Rattle.hpx_value.specs.Ids.{bare, same_object}
 use Rattle.hpx_value.specs.Values.{bare_act}
@@ -18,11 +22,18 @@ use Rattle.hpx_part.specs.Data.{Standing, Token}
 use Rattle.hpx_part.specs.View.{IsCovered}
 use Rattle.hpx_part.proofs.Parcels.{acts_named, asks_owed}
 use Rattle.hpx_part.proofs.Covered.{owed_counts, act_names}
-use Rattle.hpx_node.specs.Fit.{IsFit, IsKept, IsFitDue}
+use Rattle.hpx_commit.specs.Deals.{is_managed}
+use Rattle.hpx_node.specs.Fit.{IsFit, IsFitDue}
+use Rattle.hpx_node.specs.Paused.{bare_names, IsPaused}
+use Rattle.hpx_node.specs.Pending.{Waits, action_of, fired_of, ids_named, own_ids, is_asked, asking_of}
 use Rattle.hpx_node.specs.Tables.{Tables, messages}
 use Rattle.hpx_node.specs.Seen.{bare_standing, bare_due, parcel_tokens, view}
 use Rattle.hpx_node.specs.Stands.{IsTidy}
 use Rattle.hpx_node.proofs.Sums.{weigh, weigh_append, tokens_sum, view_sum}
+
+-- a held token of o, as a number
+abbrev pub held_counts : Id → Token → ℕ
+held_counts o t = cond (is_held o t) 1 0
 
 module _ (o : Id) (managed : 16 ≤ o.kind) where
   -- a held token of o, as a number
@@ -91,13 +102,15 @@ owed_messages o (p ∷ ps) h = omega (
   owed_messages o ps h.1,
 )
 
-all_kept : (xs : List Standing) → AllByRecursion IsKept xs → AllByRecursion (λ (x : Standing). AllByRecursion HasRightCredit x.state.ids) xs
-all_kept [] h = tt
-all_kept (x ∷ xs) h = (h.0.credit, all_kept xs h.1)
-
 all_fit : (xs : List Act) → AllByRecursion IsFit xs → AllByRecursion (λ (a : Act). AllByRecursion HasRightCredit a.ids) xs
 all_fit [] h = tt
 all_fit (x ∷ xs) h = (h.0.sent.credit, all_fit xs h.1)
+
+-- so has each name in actions
+pub held_acts : (o : Id) → 16 ≤ o.kind → (xs : List Act) → AllByRecursion IsFit xs
+    → sum_by (act_names o) (map bare_act xs) ≡ weigh (held_counts o) (flat_map (λ (a : Act). a.ids) xs)
+held_acts o managed xs h =
+    held_each o managed bare_act (λ (a : Act). a.ids) (λ (a : Act). a.ids) (λ x. refl) xs (all_fit xs h)
 
 all_due : (xs : List Due) → AllByRecursion IsFitDue xs → AllByRecursion (λ x. AllByRecursion HasRightCredit (due_ids x)) xs
 all_due [] h = tt
@@ -108,15 +121,146 @@ due_bare : (x : Due) → due_ids (bare_due x) ≡ map bare (due_ids x)
 due_bare (MessageDue m) = refl
 due_bare (PrintDue bytes) = refl
 
+-- ids that name o have held tokens, or no credit
+held_or_bare : (o : Id) (ids : List Id) → count_by (same_object o) (map bare ids) ≡ weigh (held_counts o) ids + bare_names o ids
+held_or_bare o [] = refl
+held_or_bare o (id ∷ ids) = omega (
+  arith,
+  weigh_append (held_counts o) (id ∷ []) ids,
+  one id.log (same_object o id) refl,
+  held_or_bare o ids,
+  sum_by-cons (λ x. cond (same_object o x) 1 0) (bare id) (map bare ids),
+  sum_by-cons (λ (x : Id). cond (same_object o x && not (is_some x.log)) 1 0) id ids,
+)
+  where
+    one : (log : Option ℕ) (b : Bool) → same_object o id ≡ b
+        → cond b 1 0 ≡ sum_by (held_counts o) (map held (credit_list id log ++ [])) + cond (b && not (is_some log)) 1 0
+    one None true e = refl
+    one None false e = refl
+    one (Some log) true e = rw e refl
+    one (Some log) false e = rw e refl
+
+held_states : (o : Id) → 16 ≤ o.kind → (xs : List Standing)
+    → sum_by (λ (y : Standing). count_by (same_object o) y.state.ids) (map bare_standing xs)
+    ≡ weigh (held_counts o) (flat_map (λ (x : Standing). x.state.ids) xs) + sum_by (λ (x : Standing). bare_names o x.state.ids) xs
+held_states o managed [] = refl
+held_states o managed (x ∷ xs) = omega (
+  arith,
+  sum_by-cons (λ (y : Standing). count_by (same_object o) y.state.ids) (bare_standing x) (map bare_standing xs),
+  sum_by-cons (λ (y : Standing). bare_names o y.state.ids) x xs,
+  weigh_append (held_counts o) x.state.ids (flat_map (λ (y : Standing). y.state.ids) xs),
+  held_or_bare o x.state.ids,
+  held_states o managed xs,
+)
+
+-- the same names, with or without credits
+names_bare : (o : Id) (ids : List Id) → count_by (same_object o) (map bare ids) ≡ count_by (same_object o) ids
+names_bare o [] = refl
+names_bare o (id ∷ ids) = omega (
+  arith,
+  sum_by-cons (λ x. cond (same_object o x) 1 0) (bare id) (map bare ids),
+  sum_by-cons (λ x. cond (same_object o x) 1 0) id ids,
+  names_bare o ids,
+)
+
+is_below : (kind : ℕ) → nat_le 16 kind ≡ false → kind < 16
+is_below kind e = grind (arith, nat_tests)
+
+-- managed ids without credit were asked for
+bare_asked : (o : Id) → 16 ≤ o.kind → (ids : List Id) → bare_names o ids ≤ count_by (same_object o) (filter is_asked ids)
+bare_asked o managed [] = omega arith
+bare_asked o managed (id ∷ ids) = elim (cases_Bool (is_asked id)) [
+  | inl t ↦ rw t
+      (omega (
+        arith,
+        bare_asked o managed ids,
+        sum_by-cons (λ (x : Id). cond (same_object o x && not (is_some x.log)) 1 0) id ids,
+        sum_by-cons (λ x. cond (same_object o x) 1 0) id (filter is_asked ids),
+        no_more (same_object o id) (not (is_some id.log)),
+      ))
+  | inr f ↦ rw f
+      (omega (
+        arith,
+        bare_asked o managed ids,
+        sum_by-cons (λ (x : Id). cond (same_object o x && not (is_some x.log)) 1 0) id ids,
+        none (same_object o id) (not (is_some id.log)) refl f,
+      ))
+]
+  where
+    no_more : (a b : Bool) → cond (a && b) 1 0 ≤ cond a 1 0
+    no_more true true = omega arith
+    no_more true false = omega arith
+    no_more false b = omega arith
+
+    none : (a b : Bool) → same_object o id ≡ a → (is_managed id && b) ≡ false → ◌≡◌ {A = ℕ} (cond (a && b) 1 0) 0
+    none true true e g =
+        let k : o.kind ≡ id.kind = ap (λ (x : Id). x.kind) (same_object-true o id e) in
+        let low : id.kind < 16 = is_below id.kind (sym (and-true (nat_le 16 id.kind)) ∙ g) in
+        absurd (omega (arith, k, managed, low))
+    none true false e g = refl
+    none false b e g = refl
+
+-- what the object and the action of a commit that waits name is in its hand, or was asked for
+in_hand : (o : Id) → 16 ≤ o.kind → (here : ℕ) (objects : List Standing) (w : Waits) → IsPaused here objects w
+    → count_by (same_object o) w.job.state.ids + count_by (same_object o) w.job.action.ids
+    ≤ weigh (held_counts o) w.hand + count_by (same_object o) (filter is_asked (own_ids w))
+in_hand o managed here objects w h =
+    omega (
+      arith,
+      sum_by-append (λ x. cond (same_object o x) 1 0) w.job.state.ids w.job.action.ids,
+      names_bare o (ids_named w),
+      ap (count_by (same_object o)) h.hand,
+      held_or_bare o (own_ids w),
+      bare_asked o managed (own_ids w),
+      weigh_append (held_counts o) (take (length (ids_named w)) w.hand) (drop (length (ids_named w)) w.hand),
+      ap (weigh (held_counts o)) (take-append-drop (length (ids_named w)) w.hand),
+    )
+
+in_hands : (o : Id) → 16 ≤ o.kind → (here : ℕ) (objects : List Standing) (ws : List Waits) → AllByRecursion (IsPaused here objects) ws
+    → sum_by (λ (w : Waits). count_by (same_object o) w.job.state.ids) ws + sum_by (λ (w : Waits). count_by (same_object o) w.job.action.ids) ws
+    ≤ weigh (held_counts o) (flat_map (λ (w : Waits). w.hand) ws) + count_by (same_object o) (asking_of ws)
+in_hands o managed here objects [] h = omega arith
+in_hands o managed here objects (w ∷ ws) h = omega (
+  arith,
+  in_hand o managed here objects w h.0,
+  in_hands o managed here objects ws h.1,
+  sum_by-cons (λ (y : Waits). count_by (same_object o) y.job.state.ids) w ws,
+  sum_by-cons (λ (y : Waits). count_by (same_object o) y.job.action.ids) w ws,
+  weigh_append (held_counts o) w.hand (flat_map (λ (y : Waits). y.hand) ws),
+  sum_by-append (λ x. cond (same_object o x) 1 0) (filter is_asked (own_ids w)) (asking_of ws),
+)
+
+-- the names in fired actions
+fired_names : (o : Id) (running : List Act) (ws : List Waits)
+    → sum_by (act_names o) (map bare_act (fired_of running ws))
+    ≡ sum_by (act_names o) (map bare_act running) + sum_by (λ (w : Waits). count_by (same_object o) w.job.action.ids) ws
+fired_names o [] [] = refl
+fired_names o [] (w ∷ ws) = omega (
+  arith,
+  fired_names o [] ws,
+  sum_by-cons (act_names o) (bare_act w.job.action) (map bare_act (map action_of ws)),
+  sum_by-cons (λ (y : Waits). count_by (same_object o) y.job.action.ids) w ws,
+  names_bare o w.job.action.ids,
+)
+fired_names o (a ∷ running) ws = omega (
+  arith,
+  fired_names o running ws,
+  sum_by-cons (act_names o) (bare_act a) (map bare_act (fired_of running ws)),
+  sum_by-cons (act_names o) (bare_act a) (map bare_act running),
+)
+
 pub tidy_covers : (t : Tables) (due : List Due) (loose : List Id) → IsTidy t due → IsCovered (view t due loose)
 tidy_covers t due loose tidy o managed = record {
   named = omega (
     arith,
     view_sum (holds o managed) t due loose,
     tokens_sum (holds o managed) t,
-    held_each o managed bare_standing (λ (x : Standing). x.state.ids) (λ (x : Standing). x.state.ids) (λ x. refl) t.objects (all_kept t.objects tidy.objects),
-    held_each o managed bare_act (λ (a : Act). a.ids) (λ (a : Act). a.ids) (λ x. refl) t.accepted (all_fit t.accepted tidy.accepted),
-    held_each o managed bare_act (λ (a : Act). a.ids) (λ (a : Act). a.ids) (λ x. refl) t.running (all_fit t.running tidy.running),
+    held_states o managed t.objects,
+    tidy.paused.lent o managed,
+    in_hands o managed t.here t.objects t.pending tidy.paused.each,
+    held_acts o managed t.accepted tidy.accepted,
+    held_acts o managed t.running tidy.running,
+    fired_names o t.running t.pending,
     held_each o managed bare_due due_ids due_ids due_bare due (all_due due tidy.fit),
     held_messages o managed (messages t) tidy.messages,
     sum_by-append (act_names o) (map bare_act t.accepted) (flat_map (λ p. acts_in (Some p)) (messages t)),

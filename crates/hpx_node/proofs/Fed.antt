@@ -11,6 +11,8 @@ use Rattle.hpx_node.specs.Stands.{StandsWith}
 use Rattle.hpx_node.specs.Changes.{Posts}
 use Rattle.hpx_node.proofs.Posted.{seen_posted, tells_posted}
 use Rattle.hpx_node.proofs.Steps.{tells_leads, stands_then}
+use Rattle.hpx_node.proofs.Routed.{act_kept}
+use Rattle.hpx_node.proofs.IdleSteps.{pays_line}
 
 module _ (r : Rules) (t t' : Tables) (entries : List Entry) (bytes : List ℕ) where
   abbrev name : Name
@@ -33,6 +35,7 @@ module _ (r : Rules) (t t' : Tables) (entries : List Entry) (bytes : List ℕ) w
       (posts.tidy [] (record {
         accepted = h.tidy.accepted;
         running = h.tidy.running;
+        paused = h.tidy.paused;
         objects = h.tidy.objects;
         messages = h.tidy.messages;
         fit = tt;
@@ -45,7 +48,9 @@ module _ (r : Rules) (t t' : Tables) (entries : List Entry) (bytes : List ℕ) w
         here = ap (λ (x : Tables). x.here) posts.rest;
         born = omega (arith, ap (λ (x : Tables). x.births) posts.rest);
         few = omega (arith, ap (λ (x : Tables). x.serial) posts.rest);
+        asked = omega (arith, ap (λ (x : Tables). x.asked) posts.rest);
         sent = omega (arith, ap (λ (x : Tables). x.sent) posts.rest);
         taken = omega (arith, ap (λ (x : Tables). x.taken) posts.rest);
+        pays = pays_line r t t' name bytes posts.more (act_kept (line_act name bytes) drawn t' posts.goes);
       })
       leads

@@ -64,11 +64,12 @@ pub popped_tidy : (p : Parcel) (t : Tables) → IsTidy (with_first p t) [] → I
 popped_tidy p t tidy = record {
   accepted = tidy.accepted;
   running = tidy.running;
+  paused = tidy.paused;
   objects = tidy.objects;
   messages = tidy.messages.1;
   fit = tidy.fit;
   moves = tidy.moves;
-  ways = tidy.ways;
+  ways = (tidy.ways.0, tidy.ways.1.1);
   drawn = tidy.drawn;
   unborn = tidy.unborn;
 }

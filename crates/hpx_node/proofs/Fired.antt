@@ -1,5 +1,5 @@
 -- An action is fired.
-use Rattle.std.proofs.Common.{ℕ, suc, List, [], ◌∷◌, ◌++◌, ◌≡◌, Some, take, drop, map, append_assoc, append-nil, refl, sym, ap, ◌∙◌, arith}
+use Rattle.std.proofs.Common.{ℕ, suc, List, [], ◌∷◌, ◌++◌, ◌≡◌, Some, take, drop, map, append_assoc, refl, sym, ap, ◌∙◌, arith}
 use Rattle.std.specs.Prelude.{flat_map, IfSome}
 use Rattle.std.specs.List.{slice_get, remove, find}
 use Rattle.std.proofs.lemmas.List.{map-append}
@@ -14,7 +14,8 @@ use Rattle.hpx_part.specs.Shows.{Leads}
 use Rattle.hpx_part.specs.Parts.{at_all}
 use Rattle.hpx_part.proofs.ActRows.{follows_fire}
 use Rattle.hpx_part.proofs.Keyed.{split_get}
-use Rattle.hpx_node.specs.Tables.{Tables, messages}
+use Rattle.hpx_node.specs.Pending.{action_of}
+use Rattle.hpx_node.specs.Tables.{Tables, messages, fired_acts}
 use Rattle.hpx_node.specs.Seen.{bare_standing, waiting, view}
 use Rattle.hpx_node.specs.Free.{IsFree}
 use Rattle.hpx_node.specs.Stands.{IsTidy, StandsWith}
@@ -22,10 +23,12 @@ use Rattle.hpx_node.proofs.Bare.{target-bare, found-bare, busy-bare, bare_middle
 use Rattle.hpx_node.proofs.Sums.{weigh_remove, weigh_last, tokens_sum, view_sum}
 use Rattle.hpx_node.specs.Fit.{IsFit}
 use Rattle.hpx_node.proofs.Alls.{all_append, all_remove, all_at}
+use Rattle.hpx_node.proofs.Pausing.{fired_paused}
 use Rattle.hpx_node.proofs.Steps.{Tells, tells_leads, stands_then}
+use Rattle.hpx_node.proofs.IdleSteps.{pays_fire}
 
 module _ (r : Rules) (t : Tables) (entries : List Entry) (i : ℕ) (act : Act) (spare : ℕ) (is : slice_get t.accepted i ≡ Some act)
-    (free : IsFree t.running t.objects act) (tidy : IsTidy t []) where
+    (free : IsFree (fired_acts t) t.objects act) (tidy : IsTidy t []) where
   abbrev pub fired : Tables
   fired = record t { accepted = remove t.accepted i; running = t.running ++ act ∷ []; spare = spare }
 
@@ -44,7 +47,7 @@ module _ (r : Rules) (t : Tables) (entries : List Entry) (i : ℕ) (act : Act) (
   abbrev then : View
   then = record (view t [] []) {
     waiting = front ++ back;
-    fired = map bare_act t.running ++ bare_act act ∷ [];
+    fired = map bare_act t.running ++ bare_act act ∷ map bare_act (map action_of t.pending);
     last = Some (Fire (name_of act));
   }
 
@@ -55,7 +58,7 @@ module _ (r : Rules) (t : Tables) (entries : List Entry) (i : ℕ) (act : Act) (
     number = refl;
     waiting = sym (append_assoc front (map bare_act (drop (suc i) t.accepted)) (flat_map (λ p. acts_in (Some p)) (messages t)))
         ∙ ap (λ xs. xs ++ flat_map (λ p. acts_in (Some p)) (messages t)) (sym (map-append bare_act (take i t.accepted) (drop (suc i) t.accepted)));
-    fired = sym (bare_middle t.running act []);
+    fired = sym (ap (map bare_act) (append_assoc t.running (act ∷ []) (map action_of t.pending)) ∙ bare_middle t.running act (map action_of t.pending));
     objects = refl;
     fresh = refl;
     due = refl;
@@ -72,18 +75,18 @@ module _ (r : Rules) (t : Tables) (entries : List Entry) (i : ℕ) (act : Act) (
     asks = λ x. refl;
     live = λ x home. refl;
     dead = λ x h. h;
-    refusals = refl;
-    failing = refl;
+    refusals = λ y h. h;
+    failing = omega arith;
     last = refl;
   }
 
   leads : Leads r (view t [] []) (Fire (name_of act) ∷ []) (view fired [] [])
   leads = (
     then,
-    follows_fire r (view t [] []) front back (map bare_act t.running) [] (bare_act act) (bare_standing free.standing) refl refl waits
-        (sym (append-nil (map bare_act t.running)))
+    follows_fire r (view t [] []) front back (map bare_act t.running) (map bare_act (map action_of t.pending)) (bare_act act) (bare_standing free.standing) refl refl waits
+        (map-append bare_act t.running (map action_of t.pending))
         (ap (λ o. find (is_standing o) (map bare_standing t.objects)) (target-bare act) ∙ found-bare (target_of act) t.objects free.standing free.found)
-        (ap (λ o. is_busy o (map bare_act t.running)) (target-bare act) ∙ (busy-bare (target_of act) t.running ∙ free.idle))
+        (ap (λ o. is_busy o (map bare_act (fired_acts t))) (target-bare act) ∙ (busy-bare (target_of act) (fired_acts t) ∙ free.idle))
         (all_at (λ a. IfSome (move_to (bare_act a)) (λ k. k ≡ t.here)) t.accepted i act tidy.moves is),
     tells_leads r then (view fired [] []) tells,
   )
@@ -100,5 +103,6 @@ module _ (r : Rules) (t : Tables) (entries : List Entry) (i : ℕ) (act : Act) (
         drawn = h.tidy.drawn;
         unborn = h.tidy.unborn;
         ways = h.tidy.ways;
+        paused = fired_paused t.here t.objects t.running t.pending act free.idle h.tidy.paused;
       })
-      (record { here = refl; born = omega arith; few = omega arith; sent = omega arith; taken = omega arith }) leads
+      (record { here = refl; born = omega arith; few = omega arith; asked = omega arith; sent = omega arith; taken = omega arith; pays = pays_fire r t fired i act (name_of act) is refl refl }) leads

@@ -1,13 +1,16 @@
 -- Actions that wait: one more that may not be fired, the one that is taken, and where their objects have their homes.
-use Rattle.std.proofs.Common.{ℕ, zero, suc, List, [], ◌∷◌, ◌++◌, ◌≡◌, Some, length, refl, sym, ap, ◌∙◌}
-use Rattle.std.specs.List.{slice_get, find, remove, AllByRecursion}
+use Rattle.std.proofs.Common.{ℕ, zero, suc, Bool, false, cond, List, [], ◌∷◌, ◌++◌, ◌≡◌, ◌==◌, Some, map, length, refl, sym, ap, ◌∙◌, inl, inr}
+use Rattle.std.specs.Prelude.{◌||◌}
+use Rattle.std.proofs.lemmas.Bool.{cases_Bool}
+use Rattle.std.specs.List.{slice_get, find, remove, list_any, AllByRecursion}
 use Rattle.hpx_value.specs.declared.acts.Job.{Job}
-use Rattle.hpx_journal.specs.Data.{Act}
+use Rattle.hpx_journal.specs.Data.{Id, Act}
 use Rattle.hpx_journal.specs.Entries.{target_of}
-use Rattle.hpx_journal.specs.Local.{is_standing}
+use Rattle.hpx_journal.specs.Local.{is_standing, acts_on, is_busy}
 use Rattle.hpx_part.specs.Data.{Standing}
 use Rattle.hpx_node.specs.Tables.{Tables}
 use Rattle.hpx_node.specs.Jobs.{IsRunning}
+use Rattle.hpx_node.specs.Pending.{Waits, action_of, fired_of}
 use Rattle.hpx_node.specs.Free.{IsFree, NoneIsFree}
 
 pub NoneIsFree-push : (running : List Act) (objects : List Standing) (acts : List Act) (act : Act) → NoneIsFree running objects acts
@@ -36,6 +39,21 @@ started_runs here running objects t' job j x at runs same from stands found kind
     state = sym state;
   };
 }
+
+-- ---- fired actions
+
+pub any_over : {X Y : Type 0} (p : Y → Bool) (g : X → Y) (xs : List Y) (ys : List X) → list_any p (xs ++ map g ys) ≡ (list_any p xs || list_any (λ y. p (g y)) ys)
+any_over p g [] [] = refl
+any_over p g [] (y ∷ ys) = ap (λ b. p (g y) || b) (any_over p g [] ys)
+any_over p g (x ∷ xs) ys = elim (cases_Bool (p x)) [
+  | inl t ↦ rw t refl
+  | inr t ↦ rw t (any_over p g xs ys)
+]
+
+-- an object is kept busy by an action that runs, or by one whose commit waits
+pub busy_fired : (o : Id) (running : List Act) (pending : List Waits)
+    → is_busy o (fired_of running pending) ≡ cond (o.kind == 7) false (list_any (acts_on o) running || list_any (λ (w : Waits). acts_on o w.job.action) pending)
+busy_fired o running pending = ap (λ b. cond (o.kind == 7) false b) (any_over (acts_on o) action_of running pending)
 
 -- ---- where their objects have their homes
 

@@ -10,10 +10,11 @@ use Rattle.hpx_value.specs.Ids.{same_object, credit}
 use Rattle.hpx_value.specs.Values.{bare_act}
 use Rattle.hpx_value.specs.Hands.{session}
 use Rattle.hpx_parcel.specs.Credits.{Credit, credit_list, credits_of}
-use Rattle.hpx_parcel.specs.Parcels.{IsParcel, IsBare}
+use Rattle.hpx_parcel.specs.Parcels.{IsParcel, IsBare, HasRightCredit}
 use Rattle.hpx_journal.specs.Data.{Id, Act, Parcel, Apply, Return, Ask, Give, Cached, Move, Go, Shipped, Arrived, Free}
 use Rattle.hpx_journal.specs.Entries.{Rules}
 use Rattle.hpx_journal.specs.Tokens.{held, owing, is_held}
+use Rattle.hpx_journal.specs.Frames.{acts_in}
 use Rattle.hpx_journal.specs.Local.{is_standing, acts_on}
 use Rattle.hpx_journal.specs.Rows.{IsManaged}
 use Rattle.hpx_journal.proofs.Same.{same_object-true}
@@ -26,17 +27,24 @@ use Rattle.hpx_part.proofs.ObjectRows.{follows_freed_mailed, follows_freed_taken
 use Rattle.hpx_part.proofs.Covered.{act_names}
 use Rattle.hpx_part.proofs.Grown.{chain}
 use Rattle.hpx_part.proofs.Keyed.{split_get}
-use Rattle.hpx_node.specs.Fit.{IsKept}
-use Rattle.hpx_node.specs.Tables.{Tables, messages}
+use Rattle.hpx_node.specs.Fit.{IsFit, IsKept}
+use Rattle.hpx_node.specs.Pending.{Waits, action_of, fired_of}
+use Rattle.hpx_node.specs.Tables.{Tables, messages, fired_acts}
 use Rattle.hpx_node.specs.Seen.{bare_standing, parcel_tokens, tokens, waiting, view}
 use Rattle.hpx_node.specs.Stands.{IsTidy}
-use Rattle.hpx_node.specs.Kept.{credit_in, ids_held, held_here}
+use Rattle.hpx_node.specs.Kept.{waits_here, credit_in, ids_held, held_here}
 use Rattle.hpx_node.specs.Handled.{LetsFree, ups, freed, in_hand, TakesUp, Handles, GivesUp}
 use Rattle.hpx_node.proofs.Alls.{all_at, all_remove}
 use Rattle.hpx_node.proofs.Sums.{weigh, weigh_append, weigh_remove, tokens_sum, view_sum}
 use Rattle.hpx_node.proofs.Steps.{Tells, tells_leads}
 use Rattle.hpx_node.proofs.InHand.{hand_sum}
-use Rattle.hpx_node.proofs.Cover.{tidy_covers}
+use Rattle.hpx_node.proofs.Bare.{target-bare}
+use Rattle.hpx_node.proofs.Cover.{held_acts, held_messages, tidy_covers}
+use Rattle.hpx_node.proofs.Pausing.{none_of, or_false, found_passes, freed_whole, freed_paused}
+use Rattle.hpx_node.specs.Idle.{PaysFor}
+use Rattle.hpx_node.specs.Routes.{with_returns, ids_in}
+use Rattle.hpx_node.proofs.Spareless.{returns_freed}
+use Rattle.hpx_node.proofs.IdleSteps.{pays_freed}
 
 -- ---- where no credit is held, there is no name
 
@@ -113,6 +121,7 @@ module _ (o : Id) where
     held_each (λ (x : Standing). x.state.ids) t.objects,
     held_each (λ (a : Act). a.ids) t.accepted,
     held_each (λ (a : Act). a.ids) t.running,
+    held_each (λ (w : Waits). w.hand) t.pending,
     messages_worth (messages t) tidy.messages,
   )
 
@@ -131,19 +140,23 @@ module _ (o : Id) where
     | inr t ↦ rw t (no_acts managed xs (omega (arith, h, sum_by-cons (act_names o) x xs)))
   ]
 
+acts_held : (o : Id) → 16 ≤ o.kind → (xs : List Act) → AllByRecursion IsFit xs → sum_by (act_names o) (map bare_act xs) ≤ weigh (holds o) (flat_map (λ (a : Act). a.ids) xs)
+acts_held o managed xs h = omega (arith, held_acts o managed xs h)
+
+fired_none : (o : Id) (running : List Act) (ws : List Waits) → list_any (acts_on o) (map bare_act running) ≡ false
+    → list_any (λ (w : Waits). acts_on o w.job.action) ws ≡ false → list_any (acts_on o) (map bare_act (fired_of running ws)) ≡ false
+fired_none o [] [] h i = refl
+fired_none o [] (w ∷ ws) h i =
+    let parts = none_of (acts_on o w.job.action) (list_any (λ (y : Waits). acts_on o y.job.action) ws) i in
+    or_false (acts_on o (bare_act w.job.action)) (list_any (acts_on o) (map bare_act (map action_of ws)))
+    (ap (same_object o) (target-bare w.job.action) ∙ parts.0) (fired_none o [] ws refl parts.1)
+fired_none o (a ∷ running) ws h i =
+    let parts = none_of (acts_on o (bare_act a)) (list_any (acts_on o) (map bare_act running)) h in
+    or_false (acts_on o (bare_act a)) (list_any (acts_on o) (map bare_act (fired_of running ws))) parts.0 (fired_none o running ws parts.1 i)
+
 -- ---- the object goes
 
-found_passes : (o : Id) (xs : List Standing) (x : Standing) → find (is_standing o) xs ≡ Some x → same_object o x.object ≡ true
-found_passes o [] x h = cc
-found_passes o (y ∷ ys) x h = elim (cases_Bool (is_standing o y)) [
-  | inl t ↦ let e : Some y ≡ Some x = rw t at h in subst (λ (z : Standing). same_object o z.object ≡ true) (same_of y x e) t
-  | inr t ↦ found_passes o ys x (rw t at h)
-]
-  where
-    same_of : (y x : Standing) → Some y ≡ Some x → y ≡ x
-    same_of y x e = cc
-
-module _ (r : Rules) (t t' : Tables) (o : Id) (x : Standing) (i spare : ℕ) (is_bare : IsBare o) (tidy : IsTidy t []) (none : held_here t o ≡ 0)
+module _ (r : Rules) (t t' : Tables) (o : Id) (x : Standing) (i spare : ℕ) (is_bare : IsBare o) (tidy : IsTidy t []) (idle : waits_here t o ≡ false) (none : held_here t o ≡ 0)
     (there : slice_get t.objects i ≡ Some x) (found : find (is_standing o) t.objects ≡ Some x)
     (gives : GivesUp r x.state.ids (record t { objects = remove t.objects i; spare = spare }) t') where
   abbrev without_it : Tables
@@ -161,10 +174,16 @@ module _ (r : Rules) (t t' : Tables) (o : Id) (x : Standing) (i spare : ℕ) (is
   names_none : sum_by (act_names o) (waiting t) + sum_by (act_names o) (map bare_act t.running) ≡ 0
   names_none = omega (
     arith,
-    (tidy_covers t [] [] tidy o is_bare.1).named,
     none_held o t tidy none,
-    view_sum (λ y. cond (is_held o y) 1 0) t [] [],
+    tokens_sum (λ y. cond (is_held o y) 1 0) t,
+    acts_held o is_bare.1 t.accepted tidy.accepted,
+    acts_held o is_bare.1 t.running tidy.running,
+    held_messages o is_bare.1 (messages t) tidy.messages,
+    sum_by-append (act_names o) (map bare_act t.accepted) (flat_map (λ p. acts_in (Some p)) (messages t)),
   )
+
+  none_fired : list_any (acts_on o) (map bare_act (fired_acts t)) ≡ false
+  none_fired = fired_none o t.running t.pending (no_acts o is_bare.1 (map bare_act t.running) (omega (arith, names_none))) idle
 
   abbrev l : List Standing
   l = map bare_standing (take i t.objects)
@@ -179,11 +198,11 @@ module _ (r : Rules) (t t' : Tables) (o : Id) (x : Standing) (i spare : ℕ) (is
       → Follows r (in_hand (Free o) t dead e) (Freed o) (record (in_hand (Free o) t dead e) { objects = l ++ m; last = Some (Freed o) })
   goes dead (Mail kind) h =
       follows_freed_mailed r (in_hand (Free o) t dead (Mail kind)) o (bare_standing x) l m refl refl managed is_bare.0 split same
-      (no_acts o is_bare.1 (waiting t) (omega (arith, names_none))) (no_acts o is_bare.1 (map bare_act t.running) (omega (arith, names_none)))
+      (no_acts o is_bare.1 (waiting t) (omega (arith, names_none))) none_fired
       (ap (λ k. Some (Mail k)) h.0) h.1 h.2
   goes dead (In bytes) h =
       follows_freed_taken r (in_hand (Free o) t dead (In bytes)) o (bare_standing x) l m refl refl managed is_bare.0 split same
-      (no_acts o is_bare.1 (waiting t) (omega (arith, names_none))) (no_acts o is_bare.1 (map bare_act t.running) (omega (arith, names_none)))
+      (no_acts o is_bare.1 (waiting t) (omega (arith, names_none))) none_fired
       bytes refl h
   goes dead _ h = absurd h
 
@@ -211,8 +230,8 @@ module _ (r : Rules) (t t' : Tables) (o : Id) (x : Standing) (i spare : ℕ) (is
     asks = λ y. refl;
     live = λ y home. refl;
     dead = λ y h. takes.among y h;
-    refusals = refl;
-    failing = refl;
+    refusals = λ y h. h;
+    failing = omega arith;
     last = refl;
   }
 
@@ -239,12 +258,24 @@ module _ (r : Rules) (t t' : Tables) (o : Id) (x : Standing) (i spare : ℕ) (is
         sent = ap (λ (y : Tables). y.sent) rest;
         taken = ap (λ (y : Tables). y.taken) rest;
         running = ap (λ (y : Tables). y.running) rest;
+        asked = ap (λ (y : Tables). y.asked) rest;
         tidy = gives.tidy;
+        pays = subst (PaysFor r (Free o) t t') (sym (ap (freed o) is)) (pays_freed r t without_it t' o (ups x.state.ids) (λ row. refl) refl gives.pays);
+        deals = subst (λ (z : Option Standing). t' ≡ record (with_returns (ids_in z) t) { objects = t'.objects; spare = t'.spare }) (sym found)
+            (returns_freed x.state.ids t t' (remove t.objects i) spare (ap (λ (y : Tables). y.objects) rest) gives.goes);
         leads = λ dead e takes. subst (λ es. Leads r (in_hand (Free o) t dead e) es (view t' [] [])) (sym (ap (freed o) is)) (leads dead e takes);
       }
 
-pub without_tidy : (t : Tables) (i spare : ℕ) → IsTidy t [] → IsTidy (record t { objects = remove t.objects i; spare = spare }) []
-without_tidy t i spare tidy = record {
+-- what goes has its credits, and what is left stands as before
+pub without_whole : (t : Tables) (o : Id) (x : Standing) (i : ℕ) → slice_get t.objects i ≡ Some x → find (is_standing o) t.objects ≡ Some x
+    → waits_here t o ≡ false → IsTidy t [] → AllByRecursion HasRightCredit x.state.ids
+without_whole t o x i there found idle tidy =
+    freed_whole t.here t.objects t.running t.pending i x there o (found_passes o t.objects x found) idle tidy.paused
+
+pub without_tidy : (t : Tables) (o : Id) (x : Standing) (i spare : ℕ) → slice_get t.objects i ≡ Some x → find (is_standing o) t.objects ≡ Some x
+    → waits_here t o ≡ false → IsTidy t [] → IsTidy (record t { objects = remove t.objects i; spare = spare }) []
+without_tidy t o x i spare there found idle tidy = record {
+  paused = freed_paused t.here t.objects t.running t.pending i x there o (found_passes o t.objects x found) idle tidy.paused;
   accepted = tidy.accepted;
   running = tidy.running;
   objects = all_remove IsKept t.objects i tidy.objects;

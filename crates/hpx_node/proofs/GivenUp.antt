@@ -27,8 +27,12 @@ use Rattle.hpx_node.proofs.Sums.{weigh, weigh_append, view_sum}
 use Rattle.hpx_node.proofs.Steps.{Tells, tells_leads, tells_covered}
 use Rattle.hpx_node.proofs.Alike.{stays_same, stays_mailed, frees_mailed, seen_so, tells_stays}
 use Rattle.hpx_node.proofs.Cover.{tidy_covers}
+use Rattle.hpx_node.specs.Idle.{Pays}
+use Rattle.hpx_node.specs.Routes.{with_mail, with_return}
+use Rattle.hpx_node.proofs.Spareless.{returns_on}
+use Rattle.hpx_node.proofs.IdleSteps.{pays_idle, pays_up, pays_on}
 
-weigh_none : (f : Token → ℕ) (id : Id) → id.log ≡ None → weigh f (id ∷ []) ≡ 0
+pub weigh_none : (f : Token → ℕ) (id : Id) → id.log ≡ None → weigh f (id ∷ []) ≡ 0
 weigh_none f id none = ap (λ l. sum_by f (map held (credit_list id l ++ []))) none
 
 pub weigh_some : (f : Token → ℕ) (id : Id) (log : ℕ) → id.log ≡ Some log → weigh f (id ∷ []) ≡ f (held_token (bare id) log)
@@ -46,6 +50,8 @@ gives_none r t id none tidy = record {
   rest = refl;
   spare = omega arith;
   tidy = tidy;
+  pays = subst (Pays r t t) (sym (ap (λ l. up_of id l ++ []) none)) (pays_idle r t t [] tt (λ row. refl) refl);
+  goes = ap (λ l. record (with_return id l t) { spare = t.spare }) (sym none);
   leads = λ loose. subst (λ es. Leads r (view t [] (id ∷ loose)) es (view t [] loose)) (sym (ap (λ l. up_of id l ++ []) none))
       (tells_leads r (view t [] (id ∷ loose)) (view t [] loose)
       (tells_stays t t (stays_same t) (id ∷ loose) loose (view t [] (id ∷ loose)).tokens (asks t) (map counted t.records) (frees t) None
@@ -54,7 +60,8 @@ gives_none r t id none tidy = record {
 }
 
 -- an id with a credit, which goes home in a message
-module _ (r : Rules) (t t' : Tables) (id : Id) (log : ℕ) (some : id.log ≡ Some log) (tidy : IsTidy t []) (mails : Mails (Return id) t t') where
+module _ (r : Rules) (t t' : Tables) (id : Id) (log : ℕ) (some : id.log ≡ Some log) (tidy : IsTidy t []) (mails : Mails (Return id) t t')
+    (goes : t' ≡ record (with_mail id.home (Return id) t) { spare = t'.spare }) where
   one_up : (loose : List Id) → Leads r (view t [] (id ∷ loose)) (Up (bare id) log ∷ []) (view t' [] loose)
   one_up loose =
       let v = view t [] (id ∷ loose) in
@@ -102,6 +109,8 @@ module _ (r : Rules) (t t' : Tables) (id : Id) (log : ℕ) (some : id.log ≡ So
     rest = mails.rest;
     spare = omega (arith, mails.spare);
     tidy = mails.tidy [] tidy;
+    pays = subst (Pays r t t') (sym (ap (λ l. up_of id l ++ []) some)) (pays_up r t t' id (bare id) log mails);
+    goes = goes ∙ ap (λ l. record (with_return id l t) { spare = t'.spare }) (sym some);
     leads = λ loose. subst (λ es. Leads r (view t [] (id ∷ loose)) es (view t' [] loose)) (sym (ap (λ l. up_of id l ++ []) some)) (one_up loose);
   }
 
@@ -113,6 +122,8 @@ gives_nothing r t tidy = record {
   rest = refl;
   spare = omega arith;
   tidy = tidy;
+  pays = pays_idle r t t [] tt (λ row. refl) refl;
+  goes = refl;
   leads = λ loose. (refl, λ c. c, λ s h. h);
 }
 
@@ -122,6 +133,8 @@ gives_on r xs ys t m t' a b = record {
   rest = b.rest ∙ ap (λ (x : Tables). record x { desk = t'.desk; outgoing = t'.outgoing; spare = t'.spare }) a.rest;
   spare = omega (arith, a.spare, b.spare, length-append xs ys);
   tidy = b.tidy;
+  pays = subst (Pays r t t') (sym (ups_append xs ys)) (pays_on r t m t' (ups xs) (ups ys) a.pays b.pays);
+  goes = returns_on xs ys t m t' a.goes b.goes;
   leads = λ loose.
       subst (λ es. Leads r (view t [] ((xs ++ ys) ++ loose)) es (view t' [] loose)) (sym (ups_append xs ys))
       (subst (λ ids. Leads r (view t [] ids) (ups xs ++ ups ys) (view t' [] loose)) (sym (append_assoc xs ys loose))

@@ -26,6 +26,7 @@ use Rattle.hpx_node.proofs.Cover.{tidy_covers}
 use Rattle.hpx_node.proofs.Messages.{flat_append}
 use Rattle.hpx_node.proofs.Sums.{tokens_sum, view_sum}
 use Rattle.hpx_node.proofs.Steps.{Tells, tells_leads, tells_covered, stands_then}
+use Rattle.hpx_node.proofs.IdleSteps.{pays_out}
 
 any_later : (o : Id) (xs ys : List Id) → list_any (same_object o) ys ≡ true → list_any (same_object o) (xs ++ ys) ≡ true
 any_later o [] ys h = h
@@ -136,29 +137,30 @@ module _ (r : Rules) (t : Tables) (entries : List Entry) (x : Outgoing) (rest : 
     asks = λ y. refl;
     live = λ y home. refl;
     dead = fewer_dead;
-    refusals = refl;
-    failing = refl;
+    refusals = λ y h. h;
+    failing = omega arith;
     last = refl;
   }
 
   tidy_then : IsTidy t [] → IsTidy went []
   tidy_then h =
       let parts = all_parts IsParcel t.desk (x.parcel ∷ others) (subst (AllByRecursion IsParcel) before h.messages) in
-      let ways : AllByRecursion (IsOnItsWay t.localities t.here) (x ∷ rest) = subst (AllByRecursion (IsOnItsWay t.localities t.here)) is h.ways in record {
+      let ways : AllByRecursion (IsOnItsWay t.localities t.here) (x ∷ rest) = subst (AllByRecursion (IsOnItsWay t.localities t.here)) is h.ways.0 in record {
         accepted = h.accepted;
         running = h.running;
+        paused = h.paused;
         objects = h.objects;
         messages = all_append IsParcel t.desk others parts.0 parts.1.1;
         fit = tt;
         moves = h.moves;
         drawn = h.drawn;
         unborn = h.unborn;
-        ways = ways.1;
+        ways = (ways.1, h.ways.1);
       }
 
   pub stands_gone : StandsWith r t [] [] entries → StandsWith r went [] [] (entries ++ at_all t.here (Out x.to bytes ∷ []))
   stands_gone h =
-      let way : IsOnItsWay t.localities t.here x = (subst (AllByRecursion (IsOnItsWay t.localities t.here)) is h.tidy.ways).0 in
+      let way : IsOnItsWay t.localities t.here x = (subst (AllByRecursion (IsOnItsWay t.localities t.here)) is h.tidy.ways.0).0 in
       let tidy = tidy_then h.tidy in
       let leads : Leads r (view t [] []) (Out x.to bytes ∷ []) (view went [] []) = (
         then,
@@ -169,4 +171,13 @@ module _ (r : Rules) (t : Tables) (entries : List Entry) (x : Outgoing) (rest : 
         tells_leads r then (view went [] []) tells,
       ) in
       stands_then r t went [] [] [] [] entries (Out x.to bytes ∷ []) h tidy
-      (record { here = refl; born = omega arith; few = omega arith; sent = omega arith; taken = omega arith }) leads
+      (record {
+        here = refl;
+        born = omega arith;
+        few = omega arith;
+        asked = omega arith;
+        sent = omega arith;
+        taken = omega arith;
+        pays = pays_out r t went x.to bytes x.parcel t.desk others spelled before refl refl;
+      })
+      leads

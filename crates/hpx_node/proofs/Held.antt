@@ -5,6 +5,7 @@ use Rattle.std.proofs.lemmas.List.Sums.{sum_by-cons, sum_by-append}
 use Rattle.hpx_journal.specs.Data.{Id, Act, Parcel}
 use Rattle.hpx_part.specs.Data.{Standing}
 use Rattle.hpx_node.specs.Kept.{credit_in, ids_held}
+use Rattle.hpx_node.specs.Pending.{Waits}
 use Rattle.hpx_node.specs.declared.parts.Outgoing.{Outgoing}
 
 sum_outgoing : (f : Parcel → ℕ) (xs : List Outgoing) → sum_by f (map (λ (x : Outgoing). x.parcel) xs) ≡ sum_by (λ (x : Outgoing). f x.parcel) xs
@@ -27,22 +28,24 @@ sum_messages f desk outgoing = omega (
 capped : (cap a b : ℕ) → min cap (min cap a + min cap b) ≡ min cap (a + b)
 capped cap a b = omega arith
 
-pub capped_sum : (cap a b c d e s1 s2 s3 s4 : ℕ) → s1 ≡ min cap (min cap a + min cap b) → s2 ≡ min cap (s1 + min cap c) → s3 ≡ min cap (s2 + min cap d)
-    → s4 ≡ min cap (s3 + min cap e) → s4 ≡ min cap (a + b + c + (d + e))
-capped_sum cap a b c d e s1 s2 s3 s4 h1 h2 h3 h4 =
+pub capped_sum : (cap a b c d e h s1 s2 s3 s4 s5 : ℕ) → s1 ≡ min cap (min cap a + min cap b) → s2 ≡ min cap (s1 + min cap c) → s3 ≡ min cap (s2 + min cap d)
+    → s4 ≡ min cap (s3 + min cap e) → s5 ≡ min cap (s4 + min cap h) → s5 ≡ min cap (a + b + c + d + (e + h))
+capped_sum cap a b c d e h s1 s2 s3 s4 s5 h1 h2 h3 h4 h5 =
     let i1 : s1 ≡ min cap (a + b) = h1 ∙ capped cap a b in
     let i2 : s2 ≡ min cap (a + b + c) = h2 ∙ (ap (λ s. min cap (s + min cap c)) i1 ∙ capped cap (a + b) c) in
     let i3 : s3 ≡ min cap (a + b + c + d) = h3 ∙ (ap (λ s. min cap (s + min cap d)) i2 ∙ capped cap (a + b + c) d) in
     let i4 : s4 ≡ min cap (a + b + c + d + e) = h4 ∙ (ap (λ s. min cap (s + min cap e)) i3 ∙ capped cap (a + b + c + d) e) in
-    i4 ∙ ap (min cap) (omega arith)
+    let i5 : s5 ≡ min cap (a + b + c + d + e + h) = h5 ∙ (ap (λ s. min cap (s + min cap h)) i4 ∙ capped cap (a + b + c + d + e) h) in
+    i5 ∙ ap (min cap) (omega arith)
 
-pub held_sum : (o : Id) (objects : List Standing) (accepted running : List Act) (desk : List Parcel) (outgoing : List Outgoing) (cap s1 s2 s3 s4 : ℕ)
+pub held_sum : (o : Id) (objects : List Standing) (accepted running : List Act) (pending : List Waits) (desk : List Parcel) (outgoing : List Outgoing) (cap s1 s2 s3 s4 s5 : ℕ)
     → s1 ≡ min cap (min cap (sum_by (λ (x : Standing). credit_in o x.state.ids) objects) + min cap (sum_by (λ (a : Act). credit_in o a.ids) accepted))
     → s2 ≡ min cap (s1 + min cap (sum_by (λ (a : Act). credit_in o a.ids) running))
-    → s3 ≡ min cap (s2 + min cap (sum_by (λ p. credit_in o (ids_held p)) desk))
-    → s4 ≡ min cap (s3 + min cap (sum_by (λ (x : Outgoing). credit_in o (ids_held x.parcel)) outgoing))
-    → s4 ≡ min cap (sum_by (λ (x : Standing). credit_in o x.state.ids) objects + sum_by (λ (a : Act). credit_in o a.ids) accepted
-    + sum_by (λ (a : Act). credit_in o a.ids) running + sum_by (λ p. credit_in o (ids_held p)) (desk ++ map (λ (x : Outgoing). x.parcel) outgoing))
-held_sum o objects accepted running desk outgoing cap s1 s2 s3 s4 h1 h2 h3 h4 =
-    capped_sum cap _ _ _ _ _ s1 s2 s3 s4 h1 h2 h3 h4
+    → s3 ≡ min cap (s2 + min cap (sum_by (λ (w : Waits). credit_in o w.hand) pending))
+    → s4 ≡ min cap (s3 + min cap (sum_by (λ p. credit_in o (ids_held p)) desk))
+    → s5 ≡ min cap (s4 + min cap (sum_by (λ (x : Outgoing). credit_in o (ids_held x.parcel)) outgoing))
+    → s5 ≡ min cap (sum_by (λ (x : Standing). credit_in o x.state.ids) objects + sum_by (λ (a : Act). credit_in o a.ids) accepted
+    + sum_by (λ (a : Act). credit_in o a.ids) running + sum_by (λ (w : Waits). credit_in o w.hand) pending + sum_by (λ p. credit_in o (ids_held p)) (desk ++ map (λ (x : Outgoing). x.parcel) outgoing))
+held_sum o objects accepted running pending desk outgoing cap s1 s2 s3 s4 s5 h1 h2 h3 h4 h5 =
+    capped_sum cap _ _ _ _ _ _ s1 s2 s3 s4 s5 h1 h2 h3 h4 h5
     ∙ ap (min cap) (omega (arith, sum_messages (λ p. credit_in o (ids_held p)) desk outgoing))

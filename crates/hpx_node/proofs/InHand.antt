@@ -1,5 +1,5 @@
 -- A message in hand: what is seen of it, and an action that comes to wait.
-use Rattle.std.proofs.Common.{ℕ, Bool, true, List, [], ◌∷◌, ◌++◌, ◌≡◌, ◌+◌, Some, map, refl, sym, ap, ◌∙◌, arith, inl, inr, subst}
+use Rattle.std.proofs.Common.{ℕ, Bool, true, List, [], ◌∷◌, ◌++◌, ◌≡◌, ◌+◌, Some, map, length, refl, sym, ap, ◌∙◌, arith, inl, inr, subst}
 use Rattle.std.specs.Prelude.{flat_map}
 use Rattle.std.specs.List.{sum_by, count_by, find, list_any}
 use Rattle.std.proofs.lemmas.Bool.{cases_Bool}
@@ -17,13 +17,19 @@ use Rattle.hpx_part.specs.Shows.{Shows, Leads}
 use Rattle.hpx_part.proofs.Covered.{act_names}
 use Rattle.hpx_part.proofs.Lists.{sum_middle}
 use Rattle.hpx_part.proofs.Keyed.{counts_of, counts_true, count_middle, find_hit, find_miss}
-use Rattle.hpx_node.specs.Tables.{Tables, messages}
+use Rattle.hpx_node.specs.Pending.{asking_of, refusals_of}
+use Rattle.hpx_node.specs.Tables.{Tables, messages, fired_acts}
 use Rattle.hpx_node.specs.Seen.{bare_standing, counted, parcel_tokens, tokens, asks, view}
 use Rattle.hpx_node.specs.Stands.{IsTidy}
 use Rattle.hpx_node.specs.Changes.{Posts}
 use Rattle.hpx_node.specs.Handled.{with_first, in_hand, Handles}
 use Rattle.hpx_node.proofs.Sums.{weigh, tokens_sum, view_sum}
-use Rattle.hpx_node.proofs.Steps.{tells_leads}
+use Rattle.hpx_node.proofs.Steps.{same_refusals, tells_leads}
+use Rattle.hpx_node.specs.Idle.{Row, owes, of_act}
+use Rattle.hpx_node.specs.Routes.{DealsWith}
+use Rattle.hpx_node.proofs.IdleRows.{apply_owes, move_owes}
+use Rattle.hpx_node.proofs.IdleSteps.{pays_for_act}
+use Rattle.hpx_node.proofs.Routed.{act_kept}
 
 -- what is in one place of the list may be in another
 agree_moved : {K X : Type 0} (test : K → X → Bool) (xs l m l' m' : List X) (x : X) → l ++ m ≡ l' ++ m' → Agree test xs (l ++ x ∷ m)
@@ -107,8 +113,9 @@ hand_sum f p t = omega (
 -- ---- an action comes to wait
 
 posted_handles : (r : Rules) (act : Act) (p : Parcel) (t t' : Tables) → IsTidy t [] → Posts act t t' → acts_in (Some p) ≡ bare_act act ∷ []
-    → asks_in (Some p) ≡ [] → ((f : Token → ℕ) → sum_by f (parcel_tokens p) ≡ weigh f act.ids) → Handles r p t t' []
-posted_handles r act p t t' tidy posts one none toks =
+    → asks_in (Some p) ≡ [] → ((f : Token → ℕ) → sum_by f (parcel_tokens p) ≡ weigh f act.ids)
+    → ((row : Row) → owes row p ≡ of_act row) → DealsWith p t t' → Handles r p t t' []
+posted_handles r act p t t' tidy posts one none toks owed waits =
     let rest = posts.rest in record {
       here = ap (λ (x : Tables). x.here) rest;
       localities = ap (λ (x : Tables). x.localities) rest;
@@ -118,7 +125,10 @@ posted_handles r act p t t' tidy posts one none toks =
       sent = ap (λ (x : Tables). x.sent) rest;
       taken = ap (λ (x : Tables). x.taken) rest;
       running = ap (λ (x : Tables). x.running) rest;
+      asked = ap (λ (x : Tables). x.asked) rest;
       tidy = posts.tidy [] tidy;
+      pays = pays_for_act r t t' p owed posts.more (act_kept act t t' posts.goes);
+      deals = waits;
       leads = λ dead e takes.
           let v = in_hand p t dead e in
           let l = map bare_act t.accepted in
@@ -132,23 +142,23 @@ posted_handles r act p t t' tidy posts one none toks =
             serial = sym (ap (λ (x : Tables). x.serial) rest);
             number = sym (ap (λ (x : Tables). x.births) rest);
             waiting = sym posts.after;
-            fired = sym (ap (λ (x : Tables). map bare_act x.running) rest);
+            fired = sym (ap (λ (x : Tables). map bare_act (fired_acts x)) rest);
             objects = sym (ap (λ (x : Tables). map bare_standing x.objects) rest);
             fresh = refl;
             due = refl;
             tokens = λ f weight. omega (arith, hand_sum f p t, view_sum f t' [] [], posts.tokens f, toks f);
-            asking = λ x. refl;
+            asking = λ x. ap (λ (y : Tables). count_by (same_object x) (asking_of y.pending)) (sym rest);
             asks = λ x. ap (λ xs. count_by (same_object x) (xs ++ asks t)) none ∙ ap (λ xs. count_by (same_object x) xs) (sym posts.asks);
             live = λ x home. ap (λ (y : Tables). count_in (find (is_recorded x) (map counted y.records))) (sym rest);
             dead = λ x h. takes.among x (subst (λ xs. list_any (same_object x) xs ≡ true) posts.frees h);
-            refusals = refl;
-            failing = refl;
+            refusals = same_refusals (refusals_of t.pending) (refusals_of t'.pending) (ap (λ (y : Tables). refusals_of y.pending) (sym rest));
+            failing = omega (arith, ap (λ (y : Tables). length (refusals_of y.pending)) rest);
             last = refl;
           }));
     }
 
 pub applied_handles : (r : Rules) (act : Act) (t t' : Tables) → IsTidy t [] → Posts act t t' → Handles r (Apply act) t t' []
-applied_handles r act t t' tidy posts = posted_handles r act (Apply act) t t' tidy posts refl refl (λ f. refl)
+applied_handles r act t t' tidy posts = posted_handles r act (Apply act) t t' tidy posts refl refl (λ f. refl) (apply_owes act) posts.goes
 
 pub move_handles : (r : Rules) (act : Act) (t t' : Tables) → IsTidy t [] → Posts act t t' → Handles r (Move act) t t' []
-move_handles r act t t' tidy posts = posted_handles r act (Move act) t t' tidy posts refl refl (λ f. refl)
+move_handles r act t t' tidy posts = posted_handles r act (Move act) t t' tidy posts refl refl (λ f. refl) (move_owes act) posts.goes

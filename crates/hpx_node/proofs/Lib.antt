@@ -12,6 +12,7 @@ pub mod Stays
 pub mod Steps
 pub mod Paid
 pub mod Posted
+pub mod Pausing
 pub mod Prepared
 pub mod Same
 pub mod Sums
@@ -24,6 +25,7 @@ pub mod Fired
 pub mod BareHands
 pub mod HandFit
 pub mod FilledDue
+pub mod Plain
 pub mod Planned
 pub mod TidyPlan
 pub mod PreparedPlan
@@ -39,9 +41,18 @@ pub mod Taken
 pub mod Right
 pub mod Freed
 pub mod Answered
+pub mod Refilled
 pub mod Returned
 pub mod GivenUp
 pub mod Alike
 pub mod InHand
 pub mod Held
 pub mod SameCommit
+pub mod IdleRows
+pub mod IdleSteps
+pub mod IdleCounts
+pub mod IdleEffects
+pub mod IdleSince
+pub mod Routed
+pub mod Spareless
+pub mod AnsweredEntry

@@ -1,21 +1,24 @@
 -- A message is put among those to others, or on the own desk, and all stays well formed.
-use Rattle.std.proofs.Common.{◌≢◌, ℕ, [], ◌∷◌, ◌++◌, ◌<◌, map, append_assoc, append-nil, refl, sym, ap, ◌∙◌, subst}
+use Rattle.std.proofs.Common.{◌≡◌, ◌≢◌, ℕ, true, false, [], ◌∷◌, ◌++◌, ◌<◌, map, append_assoc, append-nil, refl, sym, ap, ◌∙◌, subst}
 use Rattle.std.specs.List.{AllByRecursion}
 use Rattle.std.proofs.lemmas.List.{map-append}
 use Rattle.hpx_parcel.specs.Parcels.{IsParcel}
 use Rattle.hpx_journal.specs.Data.{Parcel}
 use Rattle.hpx_node.specs.declared.parts.Outgoing.{Outgoing}
-use Rattle.hpx_node.specs.Frames.{MayGoTo, IsOnItsWay}
+use Rattle.hpx_node.specs.Frames.{MayGoTo, IsOnItsWay, IsForHere}
 use Rattle.hpx_node.specs.Tables.{Tables, messages}
 use Rattle.hpx_node.specs.Changes.{Mails}
 use Rattle.hpx_node.proofs.Alls.{all_append, all_parts}
+use Rattle.hpx_node.specs.Routes.{is_other}
+use Rattle.hpx_node.proofs.Routed.{other_is, own_is}
 use Rattle.std.proofs.Common.{◌≤◌, ◌+◌}
 
 module _ (t : Tables) (p : Parcel) (spare : ℕ) (fit : IsParcel p) (enough : t.spare ≤ spare + 1) where
   -- among those to others
-  pub mails_out : (to : ℕ) → to < t.localities → to ≢ t.here → MayGoTo t.here to p
+  pub mails_out : (to : ℕ) → is_other t to ≡ true → MayGoTo t.here to p
       → Mails p t (record t { outgoing = t.outgoing ++ record { to = to; parcel = p } ∷ []; spare = spare })
-  mails_out to range away may =
+  mails_out to other may =
+      let parts : (to < t.localities) × (to ≢ t.here) = other_is t to other in
       let outs = map (λ (x : Outgoing). x.parcel) t.outgoing in record {
         rest = refl;
         spare = enough;
@@ -27,6 +30,7 @@ module _ (t : Tables) (p : Parcel) (spare : ℕ) (fit : IsParcel p) (enough : t.
         tidy = λ due h. record {
           accepted = h.accepted;
           running = h.running;
+          paused = h.paused;
           objects = h.objects;
           messages = subst (AllByRecursion IsParcel)
               (append_assoc t.desk outs (p ∷ []) ∙ ap (λ xs. t.desk ++ xs) (sym (map-append (λ (x : Outgoing). x.parcel) t.outgoing (record { to = to; parcel = p } ∷ []))))
@@ -35,14 +39,17 @@ module _ (t : Tables) (p : Parcel) (spare : ℕ) (fit : IsParcel p) (enough : t.
           moves = h.moves;
           drawn = h.drawn;
           unborn = h.unborn;
-          ways = all_append (IsOnItsWay t.localities t.here) t.outgoing (record { to = to; parcel = p } ∷ []) h.ways
-              (record { somewhere = range; away = away; may = may }, tt);
+          ways = (
+            all_append (IsOnItsWay t.localities t.here) t.outgoing (record { to = to; parcel = p } ∷ []) h.ways.0
+                (record { somewhere = parts.0; away = parts.1; may = may }, tt),
+            h.ways.1,
+          );
         };
       }
 
   -- on the own desk
-  pub mails_desk : Mails p t (record t { desk = t.desk ++ p ∷ []; spare = spare })
-  mails_desk =
+  pub mails_desk : (to : ℕ) → is_other t to ≡ false → MayGoTo t.here to p → Mails p t (record t { desk = t.desk ++ p ∷ []; spare = spare })
+  mails_desk to own may =
       let outs = map (λ (x : Outgoing). x.parcel) t.outgoing in record {
         rest = refl;
         spare = enough;
@@ -53,6 +60,7 @@ module _ (t : Tables) (p : Parcel) (spare : ℕ) (fit : IsParcel p) (enough : t.
         tidy = λ due h. record {
           accepted = h.accepted;
           running = h.running;
+          paused = h.paused;
           objects = h.objects;
           messages = let parts = all_parts IsParcel t.desk outs h.messages in
               all_append IsParcel (t.desk ++ p ∷ []) outs (all_append IsParcel t.desk (p ∷ []) parts.0 (fit, tt)) parts.1;
@@ -60,6 +68,6 @@ module _ (t : Tables) (p : Parcel) (spare : ℕ) (fit : IsParcel p) (enough : t.
           moves = h.moves;
           drawn = h.drawn;
           unborn = h.unborn;
-          ways = h.ways;
+          ways = (h.ways.0, all_append (IsForHere t.localities t.here) t.desk (p ∷ []) h.ways.1 (record { to = to; may = may; here = own_is t to own }, tt));
         };
       }

@@ -16,6 +16,10 @@ use Rattle.hpx_node.specs.Fit.{parcel_for}
 use Rattle.hpx_node.specs.Tables.{Tables, messages}
 use Rattle.hpx_node.specs.Seen.{tokens_of, parcel_tokens, kept_ids, tokens, waiting, asks, frees_in}
 use Rattle.hpx_node.specs.Changes.{Mails, Posts}
+use Rattle.hpx_node.specs.Idle.{Row, weight, of_act}
+use Rattle.hpx_node.specs.Routes.{with_act}
+use Rattle.hpx_node.proofs.IdleRows.{apply_weight, move_weight}
+use Rattle.hpx_node.proofs.IdleSteps.{mails_pending}
 
 pub flat_append : {X Y : Type 0} (f : X → List Y) (xs ys : List X) → flat_map f (xs ++ ys) ≡ flat_map f xs ++ flat_map f ys
 flat_append f [] ys = refl
@@ -89,8 +93,9 @@ module _ (p : Parcel) (t t' : Tables) (mails : Mails p t t') where
 
 -- an action that is mailed
 posted : (act : Act) (t t' : Tables) (p : Parcel) → Mails p t t' → acts_in (Some p) ≡ bare_act act ∷ [] → asks_in (Some p) ≡ []
-    → frees_in p ≡ [] → parcel_tokens p ≡ tokens_of act.ids → Posts act t t'
-posted act t t' p mails one no_asks no_frees toks = record {
+    → frees_in p ≡ [] → parcel_tokens p ≡ tokens_of act.ids → ((row : Row) → weight row p ≡ of_act row)
+    → t' ≡ record (with_act act t) { spare = t'.spare } → Posts act t t'
+posted act t t' p mails one no_asks no_frees toks weighs waits = record {
   rest = mails.rest ∙ ap (λ xs. record t { accepted = xs; desk = t'.desk; outgoing = t'.outgoing; spare = t'.spare }) (sym (ap (λ (x : Tables). x.accepted) mails.rest));
   spare = mails.spare;
   front = mails_front p t t' mails;
@@ -101,6 +106,8 @@ posted act t t' p mails one no_asks no_frees toks = record {
   asks = same_without (λ q. asks_in (Some q)) no_asks;
   frees = same_without frees_in no_frees;
   tokens = λ f. mails_tokens p t t' mails f ∙ ap (λ xs. sum_by f (tokens t) + sum_by f xs) toks;
+  more = λ row. omega (arith, mails_pending p t t' mails row, weighs row);
+  goes = waits;
 }
   where
     same_without : (f : Parcel → List Id) → f p ≡ [] → flat_map f (messages t') ≡ flat_map f (messages t)
@@ -110,8 +117,10 @@ posted act t t' p mails one no_asks no_frees toks = record {
         ∙ (ap (λ xs. flat_map f mails.front ++ (xs ++ flat_map f mails.back)) none
         ∙ (sym (flat_append f mails.front mails.back) ∙ ap (flat_map f) (sym mails.before))))
 
-pub mailed_posts : (act : Act) (t t' : Tables) → Mails (parcel_for act) t t' → Posts act t t'
-mailed_posts act t t' mails = elim (cases_Bool (act.code == 1)) [
-  | inl e ↦ posted act t t' (Move act) (subst (λ (b : Bool). Mails (cond b (Move act) (Apply act)) t t') e mails) refl refl refl refl
-  | inr e ↦ posted act t t' (Apply act) (subst (λ (b : Bool). Mails (cond b (Move act) (Apply act)) t t') e mails) refl refl refl refl
+pub mailed_posts : (act : Act) (t t' : Tables) → Mails (parcel_for act) t t' → t' ≡ record (with_act act t) { spare = t'.spare } → Posts act t t'
+mailed_posts act t t' mails waits = elim (cases_Bool (act.code == 1)) [
+  | inl e ↦
+      posted act t t' (Move act) (subst (λ (b : Bool). Mails (cond b (Move act) (Apply act)) t t') e mails) refl refl refl refl (move_weight act) waits
+  | inr e ↦
+      posted act t t' (Apply act) (subst (λ (b : Bool). Mails (cond b (Move act) (Apply act)) t t') e mails) refl refl refl refl (apply_weight act) waits
 ]

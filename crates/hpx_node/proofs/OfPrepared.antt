@@ -8,7 +8,7 @@ use Rattle.hpx_value.specs.declared.acts.Job.{Job}
 use Rattle.hpx_parcel.specs.Parcels.{HasCredit}
 use Rattle.hpx_journal.specs.Data.{Id, Act, State, Outcome, Due}
 use Rattle.hpx_journal.specs.Entries.{name_of}
-use Rattle.hpx_part.specs.Data.{Event, Entry, Done}
+use Rattle.hpx_part.specs.Data.{Event, Entry, Done, Standing}
 use Rattle.hpx_part.specs.Parts.{at_all}
 use Rattle.hpx_commit.specs.Deals.{dealt, unused, unnamed}
 use Rattle.hpx_node.specs.declared.node.finish.Prepared.{Prepared}
@@ -19,7 +19,8 @@ use Rattle.hpx_node.specs.Fit.{IsKept, IsFitDue}
 use Rattle.hpx_node.specs.Jobs.{IsAt, IsFitJob}
 use Rattle.hpx_node.specs.Stands.{IsTidy, StandsWith, rules_of}
 use Rattle.hpx_node.specs.Tables.{Tables}
-use Rattle.hpx_node.proofs.Planned.{made_fit, state_fit, state_paid, due_may, ups_credit}
+use Rattle.hpx_node.proofs.Plain.{plain_values, plain_conts}
+use Rattle.hpx_node.proofs.Planned.{made_fit, state_fit, due_may, ups_credit}
 use Rattle.hpx_node.proofs.PlanLimits.{makes_few, due_few, ups_few, cuts_limit}
 use Rattle.hpx_node.proofs.PlanRoom.{commit_few, commit_light}
 use Rattle.hpx_node.proofs.PlanWeights.{written_same, weighs}
@@ -37,9 +38,18 @@ module _ (t : Tables) (job : Job) (out : Outcome) (fit : IsFitJob job) (few : t.
   pub births_few : length p.births.items ≤ 32
   births_few = subst (λ (ys : List Birth). length ys ≤ 32) (sym is.births) (makes_few t job out fit few laws)
 
-  pub state_kept : (o : Id) → o.kind ≤ 63 → IsKept (record { object = o; state = p.plan.state })
-  state_kept o kind = subst (λ s. IsKept (record { object = o; state = s })) (sym is.state_left)
-      (record { kind = kind; state = state_fit t job out fit few laws; credit = state_paid t job out fit few laws })
+  pub state_kept : (x : Standing) → IsKept x → x.object.kind ≡ job.kind → x.state ≡ job.state → IsKept (record { object = x.object; state = p.plan.state })
+  state_kept x kept kind state = subst (λ s. IsKept (record { object = x.object; state = s })) (sym is.state_left)
+      (record {
+        kind = kept.kind;
+        state = state_fit t job out fit few laws;
+        plain = λ e.
+            let values = ap (λ (s : State). s.values) (sym state) ∙ (kept.plain e).0 in
+            let conts = ap (λ (s : State). s.conts) (sym state) ∙ (kept.plain e).1 in (
+              plain_values t job out fit few laws (sym kind ∙ e) values conts,
+              plain_conts t job out fit few laws (sym kind ∙ e) values conts,
+            );
+      })
 
   pub due_fits : AllByRecursion IsFitDue p.plan.due.items
   due_fits = subst (AllByRecursion IsFitDue) (sym is.due_left) (due_may t job out fit few laws)

@@ -1,5 +1,5 @@
 -- What is due is sent or printed, and what nobody names is given up.
-use Rattle.std.proofs.Common.{ℕ, true, List, [], ◌∷◌, ◌++◌, ◌≡◌, ◌+◌, ◌≤◌, Option, Some, None, map, refl, sym, ap, ◌∙◌, arith, subst}
+use Rattle.std.proofs.Common.{ℕ, true, List, [], ◌∷◌, ◌++◌, ◌≡◌, ◌+◌, ◌≤◌, Option, Some, None, map, length, refl, sym, ap, ◌∙◌, arith, subst}
 use Rattle.std.specs.Prelude.{flat_map, MatchOption}
 use Rattle.std.specs.List.{sum_by, count_by, find, list_any}
 use Rattle.std.proofs.lemmas.List.Sums.{sum_by-cons}
@@ -20,7 +20,8 @@ use Rattle.hpx_part.proofs.CreditRows.{follows_up}
 use Rattle.hpx_part.proofs.Credit.{token_own}
 use Rattle.hpx_part.proofs.Keyed.{counts_of, counts_true}
 use Rattle.hpx_commit.specs.Deals.{log_of}
-use Rattle.hpx_node.specs.Tables.{Tables}
+use Rattle.hpx_node.specs.Pending.{asking_of, refusals_of}
+use Rattle.hpx_node.specs.Tables.{Tables, fired_acts}
 use Rattle.hpx_node.specs.Seen.{bare_standing, bare_due, counted, parcel_tokens, waiting, frees, frees_in, tokens_of, view}
 use Rattle.hpx_node.specs.Stands.{IsTidy, StandsWith}
 use Rattle.hpx_node.specs.Changes.{Mails, Posts}
@@ -28,13 +29,17 @@ use Rattle.hpx_node.proofs.Cover.{tidy_covers}
 use Rattle.hpx_node.proofs.Messages.{flat_append, mails_tokens, mails_asks, mails_before, mails_after}
 use Rattle.hpx_node.proofs.Posted.{seen_posted, tells_posted}
 use Rattle.hpx_node.proofs.Sums.{weigh_append, view_sum}
-use Rattle.hpx_node.proofs.Steps.{Tells, tells_leads, tells_covered, stands_then}
+use Rattle.hpx_node.proofs.Steps.{Tells, same_refusals, tells_leads, tells_covered, stands_then}
+use Rattle.hpx_node.proofs.Routed.{act_kept}
+use Rattle.hpx_node.proofs.IdleRows.{print_idle}
+use Rattle.hpx_node.proofs.IdleSteps.{pays_idle, pays_sent, pays_up}
 
 -- due without its first
 tidy_rest : (t : Tables) (x : Due) (due : List Due) (serial : ℕ) → IsTidy t (x ∷ due) → IsTidy (record t { serial = serial }) due
 tidy_rest t x due serial h = record {
   accepted = h.accepted;
   running = h.running;
+  paused = h.paused;
   objects = h.objects;
   messages = h.messages;
   fit = h.fit.1;
@@ -73,8 +78,10 @@ module _ (r : Rules) (t t' : Tables) (entries : List Entry) (loose : List Id) wh
         here = ap (λ (x : Tables). x.here) posts.rest;
         born = omega (arith, ap (λ (x : Tables). x.births) posts.rest);
         few = omega (arith, ap (λ (x : Tables). x.serial) posts.rest);
+        asked = omega (arith, ap (λ (x : Tables). x.asked) posts.rest);
         sent = omega (arith, ap (λ (x : Tables). x.sent) posts.rest);
         taken = omega (arith, ap (λ (x : Tables). x.taken) posts.rest);
+        pays = pays_sent r t t' name posts.more (act_kept (named t.here (t.serial + 1) m) drawn t' posts.goes);
       })
       leads
 
@@ -100,14 +107,15 @@ module _ (r : Rules) (t : Tables) (entries : List Entry) (loose : List Id) where
           asks = λ x. refl;
           live = λ x home. refl;
           dead = λ x d. d;
-          refusals = refl;
-          failing = refl;
+          refusals = λ y h. h;
+          failing = omega arith;
           last = refl;
         }),
       ) in
       let tidy = tidy_rest t (PrintDue bytes) rest t.serial h.tidy in
       stands_then r t t (PrintDue bytes ∷ rest) rest loose loose entries (Print bytes ∷ []) h tidy
-      (record { here = refl; born = omega arith; few = omega arith; sent = omega arith; taken = omega arith }) leads
+      (record { here = refl; born = omega arith; few = omega arith; asked = omega arith; sent = omega arith; taken = omega arith; pays = pays_idle r t t (Print bytes ∷ []) (print_idle r bytes, tt) (λ row. refl) refl })
+      leads
 
 module _ (r : Rules) (t t' : Tables) (entries : List Entry) (id : Id) (log : ℕ) (e : id.log ≡ Some log) (rest : List Id)
     (mails : Mails (Return id) t t') where
@@ -160,17 +168,17 @@ module _ (r : Rules) (t t' : Tables) (entries : List Entry) (id : Id) (log : ℕ
     serial = sym (ap (λ (x : Tables). x.serial) mails.rest);
     number = sym (ap (λ (x : Tables). x.births) mails.rest);
     waiting = up_waiting;
-    fired = sym (ap (λ (x : Tables). map bare_act x.running) mails.rest);
+    fired = sym (ap (λ (x : Tables). map bare_act (fired_acts x)) mails.rest);
     objects = sym (ap (λ (x : Tables). map bare_standing x.objects) mails.rest);
     fresh = refl;
     due = refl;
     tokens = λ f weight. refl;
-    asking = λ x. refl;
+    asking = λ x. ap (λ (y : Tables). count_by (same_object x) (asking_of y.pending)) (sym mails.rest);
     asks = λ x. omega (arith, mails_asks (Return id) t t' mails x);
     live = λ x home. ap (λ (y : Tables). count_in (find (is_recorded x) (map counted y.records))) (sym mails.rest);
     dead = λ x d. subst (λ xs. list_any (same_object x) xs ≡ true) up_frees d;
-    refusals = refl;
-    failing = refl;
+    refusals = same_refusals (refusals_of t.pending) (refusals_of t'.pending) (ap (λ (y : Tables). refusals_of y.pending) (sym mails.rest));
+    failing = omega (arith, ap (λ (y : Tables). length (refusals_of y.pending)) mails.rest);
     last = refl;
   }
 
@@ -189,8 +197,10 @@ module _ (r : Rules) (t t' : Tables) (entries : List Entry) (id : Id) (log : ℕ
         here = ap (λ (x : Tables). x.here) mails.rest;
         born = omega (arith, ap (λ (x : Tables). x.births) mails.rest);
         few = omega (arith, ap (λ (x : Tables). x.serial) mails.rest);
+        asked = omega (arith, ap (λ (x : Tables). x.asked) mails.rest);
         sent = omega (arith, ap (λ (x : Tables). x.sent) mails.rest);
         taken = omega (arith, ap (λ (x : Tables). x.taken) mails.rest);
+        pays = pays_up r t t' id (bare id) log mails;
       })
       leads)
 

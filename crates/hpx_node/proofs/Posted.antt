@@ -1,5 +1,5 @@
 -- An action waits, here or on its way.
-use Rattle.std.proofs.Common.{ℕ, true, List, [], ◌∷◌, ◌++◌, ◌≡◌, ◌+◌, ◌≤◌, Option, Some, subst, map, append_assoc, refl, sym, ap, ◌∙◌, arith}
+use Rattle.std.proofs.Common.{ℕ, true, List, [], ◌∷◌, ◌++◌, ◌≡◌, ◌+◌, ◌≤◌, Option, Some, subst, map, length, append_assoc, refl, sym, ap, ◌∙◌, arith}
 use Rattle.std.specs.Prelude.{flat_map, IfSome}
 use Rattle.std.proofs.lemmas.List.{map-append}
 use Rattle.hpx_value.specs.Values.{bare_act}
@@ -13,17 +13,21 @@ use Rattle.hpx_part.specs.Shows.{IsWeight}
 use Rattle.hpx_journal.specs.Entries.{move_to}
 use Rattle.hpx_journal.specs.Frames.{acts_in}
 use Rattle.hpx_node.specs.Fit.{IsFit}
-use Rattle.hpx_node.specs.Tables.{Tables, messages}
+use Rattle.hpx_node.specs.Pending.{asking_of, refusals_of}
+use Rattle.hpx_node.specs.Tables.{Tables, messages, fired_acts}
 use Rattle.hpx_node.specs.Seen.{bare_standing, counted, view}
 use Rattle.hpx_node.specs.Changes.{Posts}
 use Rattle.hpx_node.proofs.Alls.{all_append}
 use Rattle.hpx_node.proofs.Sums.{weigh, tokens_sum, weigh_last, view_sum}
-use Rattle.hpx_node.proofs.Steps.{Tells}
+use Rattle.hpx_node.proofs.Steps.{Tells, same_refusals}
+use Rattle.hpx_node.specs.Routes.{may_stay}
+use Rattle.hpx_node.proofs.IdleSteps.{accepted_pending}
+use Rattle.hpx_node.proofs.Routed.{accepted_waits, stay_moves}
 
 -- an action that is accepted
-pub accepted_posts : (act : Act) (t : Tables) (spare : ℕ) → t.spare ≤ spare + 1 → IsFit act → IfSome (move_to (bare_act act)) (λ to. to ≡ t.here)
+pub accepted_posts : (act : Act) (t : Tables) (spare : ℕ) → t.spare ≤ spare + 1 → IsFit act → may_stay t act ≡ true
     → Posts act t (record t { accepted = t.accepted ++ act ∷ []; spare = spare })
-accepted_posts act t spare enough fit moves =
+accepted_posts act t spare enough fit stay =
     let rest = flat_map (λ q. acts_in (Some q)) (messages t) in record {
       rest = refl;
       spare = enough;
@@ -36,10 +40,11 @@ accepted_posts act t spare enough fit moves =
       tidy = λ due h. record {
         accepted = all_append IsFit t.accepted (act ∷ []) h.accepted (fit, tt);
         running = h.running;
+        paused = h.paused;
         objects = h.objects;
         messages = h.messages;
         fit = h.fit;
-        moves = all_append (λ a. IfSome (move_to (bare_act a)) (λ to. to ≡ t.here)) t.accepted (act ∷ []) h.moves (moves, tt);
+        moves = all_append (λ a. IfSome (move_to (bare_act a)) (λ to. to ≡ t.here)) t.accepted (act ∷ []) h.moves (stay_moves t act stay, tt);
         drawn = h.drawn;
         unborn = h.unborn;
         ways = h.ways;
@@ -50,6 +55,8 @@ accepted_posts act t spare enough fit moves =
         tokens_sum f (record t { accepted = t.accepted ++ act ∷ []; spare = spare }),
         weigh_last f (λ (a : Act). a.ids) t.accepted act,
       );
+      more = accepted_pending act t spare;
+      goes = accepted_waits act t spare stay;
     }
 
 -- what is seen once it waits
@@ -65,16 +72,16 @@ module _ (act : Act) (t t' : Tables) (due : List Due) (loose : List Id) (posts :
         serial = sym (ap (λ (x : Tables). x.serial) rest);
         number = sym (ap (λ (x : Tables). x.births) rest);
         waiting = sym posts.after;
-        fired = sym (ap (λ (x : Tables). map bare_act x.running) rest);
+        fired = sym (ap (λ (x : Tables). map bare_act (fired_acts x)) rest);
         objects = sym (ap (λ (x : Tables). map bare_standing x.objects) rest);
         fresh = refl;
         due = refl;
         tokens = λ f weight. omega (arith, sums f weight, view_sum f t due loose, view_sum f t' due loose, posts.tokens f);
-        asking = λ x. refl;
+        asking = λ x. ap (λ (y : Tables). count_by (same_object x) (asking_of y.pending)) (sym rest);
         asks = λ x. ap (λ xs. count_by (same_object x) xs) (sym posts.asks);
         live = λ x home. ap (λ (y : Tables). count_in (find (is_recorded x) (map counted y.records))) (sym rest);
         dead = λ x h. subst (λ xs. list_any (same_object x) xs ≡ true) posts.frees h;
-        refusals = refl;
-        failing = refl;
+        refusals = same_refusals (refusals_of t.pending) (refusals_of t'.pending) (ap (λ (y : Tables). refusals_of y.pending) (sym rest));
+        failing = omega (arith, ap (λ (y : Tables). length (refusals_of y.pending)) rest);
         last = refl;
       }

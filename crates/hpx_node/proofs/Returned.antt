@@ -1,9 +1,9 @@
 -- Credit comes home.
-use Rattle.std.proofs.Common.{ℕ, Bool, true, false, cond, List, [], ◌∷◌, ◌++◌, ◌≡◌, ◌-◌, ◌^◌, ◌≤◌, ◌<◌, ◌==◌, Option, Some, None, map, refl, sym, ap, ◌∙◌, arith, inl, inr, subst}
+use Rattle.std.proofs.Common.{ℕ, Bool, true, false, cond, List, [], ◌∷◌, ◌++◌, ◌≡◌, ◌-◌, ◌^◌, ◌≤◌, ◌<◌, ◌==◌, Option, Some, None, map, length, refl, sym, ap, ◌∙◌, arith, inl, inr, subst}
 use Rattle.std.specs.Prelude.{is_some, ◌&&◌, IfSome, IsSomeAnd}
 use Rattle.std.specs.Option.{option_map_or}
 use Rattle.std.specs.List.{sum_by, count_by, find, list_any}
-use Rattle.std.proofs.lemmas.Bool.{cases_Bool, eqb-true}
+use Rattle.std.proofs.lemmas.Bool.{cases_Bool, eqb-true, eqb-false}
 use Rattle.std.proofs.lemmas.List.Sums.{sum_by-cons, sum_by-append}
 use Rattle.hpx_value.specs.Ids.{bare, same_object, credit, credit_of_log}
 use Rattle.hpx_agas.specs.Records.{find_record}
@@ -21,6 +21,7 @@ use Rattle.hpx_part.specs.Shows.{Leads}
 use Rattle.hpx_part.proofs.CreditRows.{follows_returned}
 use Rattle.hpx_part.proofs.Credit.{token_own}
 use Rattle.hpx_part.proofs.Keyed.{counts_of, counts_true, any_counted, counted_any}
+use Rattle.hpx_node.specs.Pending.{asking_of, refusals_of}
 use Rattle.hpx_node.specs.Tables.{Tables}
 use Rattle.hpx_node.specs.Seen.{counted, parcel_tokens, tokens, asks, frees, view}
 use Rattle.hpx_node.specs.Stands.{IsTidy}
@@ -30,11 +31,16 @@ use Rattle.hpx_node.specs.Strange.{is_live}
 use Rattle.hpx_node.specs.Handled.{returned, in_hand, TakesUp, Handles}
 use Rattle.hpx_node.proofs.Messages.{mails_tokens, mails_asks}
 use Rattle.hpx_node.proofs.Sums.{view_sum}
-use Rattle.hpx_node.proofs.Steps.{Tells, tells_leads, tells_covered}
-use Rattle.hpx_node.proofs.Alike.{Stays, stays_same, stays_mailed, frees_mailed}
+use Rattle.hpx_node.proofs.Steps.{Tells, same_refusals, tells_leads, tells_covered}
+use Rattle.hpx_node.proofs.Alike.{Stays, fired_stay, stays_same, stays_mailed, frees_mailed}
 use Rattle.hpx_node.proofs.InHand.{hand_sum}
 use Rattle.hpx_node.proofs.GivenUp.{owed_some}
 use Rattle.hpx_node.proofs.Cover.{tidy_covers}
+use Rattle.hpx_node.specs.Idle.{Row, unpaid, PaysFor}
+use Rattle.hpx_node.specs.Routes.{place_or_0, with_mail, DealsWith}
+use Rattle.hpx_node.proofs.Spareless.{mail_records}
+use Rattle.hpx_node.proofs.IdleSteps.{mails_pending}
+use Rattle.hpx_node.proofs.IdleCounts.{pays_returned, pays_last}
 
 -- ---- records, as they are seen
 
@@ -137,17 +143,17 @@ module _ (r : Rules) (t m : Tables) (id : Id) (log : ℕ) (rec : Record) (some :
         serial = ap (λ (x : Tables). x.serial) (sym rest) ∙ stays.serial;
         number = ap (λ (x : Tables). x.births) (sym rest) ∙ stays.births;
         waiting = ap (λ (x : Tables). (view x [] []).waiting) (sym rest) ∙ stays.waiting;
-        fired = ap (λ (x : Tables). (view x [] []).fired) (sym rest) ∙ ap (map _) stays.running;
+        fired = ap (λ (x : Tables). (view x [] []).fired) (sym rest) ∙ fired_stay m t' stays;
         objects = ap (λ (x : Tables). (view x [] []).objects) (sym rest) ∙ ap (map _) stays.objects;
         fresh = refl;
         due = refl;
         tokens = λ f weight. refl;
-        asking = λ x. refl;
+        asking = λ x. ap (λ (y : Tables). count_by (same_object x) (asking_of y.pending)) (sym rest) ∙ ap (λ ws. count_by (same_object x) (asking_of ws)) stays.pending;
         asks = pending;
         live = λ x at. ap (λ rs. count_in (find (is_recorded x) (map counted rs))) stays.records;
         dead = among;
-        refusals = refl;
-        failing = refl;
+        refusals = same_refusals (refusals_of t.pending) (refusals_of t'.pending) (ap (λ (y : Tables). refusals_of y.pending) (sym rest) ∙ ap refusals_of stays.pending);
+        failing = omega (arith, ap (λ (y : Tables). length (refusals_of y.pending)) rest, ap (λ ws. length (refusals_of ws)) stays.pending);
         last = refl;
       } in
       let events : returned t id id.log ≡ Count (bare id) count (Returned log) ∷ [] = ap (returned t id) some in
@@ -178,10 +184,11 @@ module _ (r : Rules) (t m : Tables) (id : Id) (log : ℕ) (rec : Record) (some :
       )
 
   handles_at : (t' : Tables) → t'.here ≡ m.here → t'.localities ≡ m.localities → t'.profile ≡ m.profile → t'.serial ≡ m.serial → t'.births ≡ m.births → t'.sent ≡ m.sent
-      → t'.taken ≡ m.taken → t'.running ≡ m.running → IsTidy t' []
+      → t'.taken ≡ m.taken → t'.running ≡ m.running → t'.asked ≡ m.asked → DealsWith (Return id) t t' → IsTidy t' []
+      → PaysFor r (Return id) t t' (returned t id id.log)
       → ((dead : List Id) (e : Event) → TakesUp r t (Return id) dead e → Leads r (in_hand (Return id) t dead e) (returned t id id.log) (view t' [] []))
       → Handles r (Return id) t t' (returned t id id.log)
-  handles_at t' here localities profile serial births sent taken running tidy leads = record {
+  handles_at t' here localities profile serial births sent taken running asked waits tidy pays leads = record {
     here = here ∙ ap (λ (x : Tables). x.here) rest;
     localities = localities ∙ ap (λ (x : Tables). x.localities) rest;
     profile = profile ∙ ap (λ (x : Tables). x.profile) rest;
@@ -190,14 +197,18 @@ module _ (r : Rules) (t m : Tables) (id : Id) (log : ℕ) (rec : Record) (some :
     sent = sent ∙ ap (λ (x : Tables). x.sent) rest;
     taken = taken ∙ ap (λ (x : Tables). x.taken) rest;
     running = running ∙ ap (λ (x : Tables). x.running) rest;
+    asked = asked ∙ ap (λ (x : Tables). x.asked) rest;
     tidy = tidy;
     leads = leads;
+    pays = pays;
+    deals = waits;
   }
 
   still_tidy : IsTidy t [] → IsTidy m []
   still_tidy tidy = subst (λ x. IsTidy x []) (sym rest) (record {
     accepted = tidy.accepted;
     running = tidy.running;
+    paused = tidy.paused;
     objects = tidy.objects;
     messages = tidy.messages;
     fit = tidy.fit;
@@ -210,21 +221,42 @@ module _ (r : Rules) (t m : Tables) (id : Id) (log : ℕ) (rec : Record) (some :
   asks_stay : (x : Id) → count_by (same_object x) (asks t) ≡ count_by (same_object x) (asks m)
   asks_stay x = ap (λ (y : Tables). count_by (same_object x) (asks y)) (sym rest)
 
+  events : returned t id id.log ≡ Count (bare id) count (Returned log) ∷ []
+  events = ap (returned t id) some
+
+  place_is : place_or_0 t id ≡ rec.place
+  place_is = ap (λ (o : Option Record). option_map_or (λ (x : Record). x.place) o 0) there
+
+  pending_stays : (row : Row) → unpaid row m ≡ unpaid row t
+  pending_stays row = ap (λ (y : Tables). unpaid row y) rest
+
   -- and there is more out
-  pub returned_alive : IsTidy t [] → Handles r (Return id) t m (returned t id id.log)
-  returned_alive tidy = handles_at m refl refl refl refl refl refl refl refl (still_tidy tidy)
+  pub returned_alive : (rec.count == credit id) ≡ false → IsTidy t [] → Handles r (Return id) t m (returned t id id.log)
+  returned_alive more tidy = handles_at m refl refl refl refl refl refl refl refl refl
+      (rest ∙ ap (λ b. record (cond b (with_mail (place_or_0 t id) (Free (bare id)) t) t) { records = m.records; spare = m.spare })
+      (sym (ap (λ n. n == credit id) was ∙ more))) (still_tidy tidy)
+      (subst (PaysFor r (Return id) t m) (sym events)
+      (pays_returned r t m id (bare id) count log (let d = eqb-false rec.count (credit id) more in omega (arith, was, worth, enough, d)) pending_stays (ap (λ (x : Tables). x.accepted) rest)))
       (λ dead e takes. returned_leads m dead e (stays_same m) (still_tidy tidy) (λ f. refl) asks_stay
       (λ x h. any_behind (same_object x) (cond (count == 0) (bare id ∷ []) []) dead
       (takes.among x (subst (λ (y : Tables). list_any (same_object x) (frees y) ≡ true) rest h))))
 
   -- and that was all: the object is to be freed
-  pub returned_dead : (t' : Tables) → (rec.count == credit id) ≡ true → Mails (Free (bare id)) m t' → IsTidy t [] → Handles r (Return id) t t' (returned t id id.log)
-  returned_dead t' all mails tidy =
+  pub returned_dead : (t' : Tables) → (rec.count == credit id) ≡ true → Mails (Free (bare id)) m t'
+      → t' ≡ record (with_mail rec.place (Free (bare id)) m) { spare = t'.spare } → IsTidy t [] → Handles r (Return id) t t' (returned t id id.log)
+  returned_dead t' all mails goes tidy =
       let zero : count ≡ 0 = let e = eqb-true rec.count (credit id) all in omega (arith, was, worth, e) in
       let on = mails.rest in
       handles_at t' (ap (λ (x : Tables). x.here) on) (ap (λ (x : Tables). x.localities) on) (ap (λ (x : Tables). x.profile) on)
       (ap (λ (x : Tables). x.serial) on) (ap (λ (x : Tables). x.births) on) (ap (λ (x : Tables). x.sent) on) (ap (λ (x : Tables). x.taken) on) (ap (λ (x : Tables). x.running) on)
-      (mails.tidy [] (still_tidy tidy))
+      (ap (λ (x : Tables). x.asked) on)
+      (mail_records rec.place (Free (bare id)) t m t' rest goes
+      ∙ (ap (λ n. record (with_mail n (Free (bare id)) t) { records = t'.records; spare = t'.spare }) (sym place_is)
+      ∙ ap (λ b. record (cond b (with_mail (place_or_0 t id) (Free (bare id)) t) t) { records = t'.records; spare = t'.spare })
+      (sym (ap (λ n. n == credit id) was ∙ all)))) (mails.tidy [] (still_tidy tidy))
+      (subst (PaysFor r (Return id) t t') (sym events)
+      (pays_last r t t' id (bare id) count log zero (λ row. omega (arith, mails_pending (Free (bare id)) m t' mails row, pending_stays row))
+      (ap (λ (x : Tables). x.accepted) on ∙ ap (λ (x : Tables). x.accepted) rest)))
       (λ dead e takes. returned_leads t' dead e (stays_mailed (Free (bare id)) m t' mails refl) (mails.tidy [] (still_tidy tidy))
       (λ f. omega (arith, mails_tokens (Free (bare id)) m t' mails f)) (λ x. omega (arith, asks_stay x, mails_asks (Free (bare id)) m t' mails x))
       (λ x h. subst (λ n. list_any (same_object x) (cond (n == 0) (bare id ∷ []) [] ++ dead) ≡ true) (sym zero)
@@ -253,9 +285,15 @@ live_covers here records id live enough =
     subst (λ (o : Option Record). IsSomeAnd o (λ r. credit id ≤ r.count)) (sym found.1)
     (subst (λ (o : Option Record). credit id ≤ option_map_or (λ (r : Record). r.count) o 0) found.1 enough)
 
-dead_all : (place : ℕ) (rec : Record) (id : Id) → Dead place ≡ left_of rec id → (rec.count == credit id) ≡ true
+alive_some : (rec : Record) (id : Id) → Alive ≡ left_of rec id → (rec.count == credit id) ≡ false
+alive_some rec id h = elim (cases_Bool (rec.count == credit id)) [
+  | inl t ↦ absurd (let e : Alive ≡ Dead rec.place = rw t at h in cc)
+  | inr t ↦ t
+]
+
+dead_all : (place : ℕ) (rec : Record) (id : Id) → Dead place ≡ left_of rec id → ((rec.count == credit id) ≡ true) × (place ≡ rec.place)
 dead_all place rec id h = elim (cases_Bool (rec.count == credit id)) [
-  | inl t ↦ t
+  | inl t ↦ (t, let e : Dead place ≡ Dead rec.place = rw t at h in cc)
   | inr t ↦ absurd (let e : Dead place ≡ Alive = rw t at h in cc)
 ]
 
@@ -276,27 +314,32 @@ module _ (r : Rules) (t m : Tables) (id : Id) (log : ℕ) (some : id.log ≡ Som
   lowered_is : find_record id m.records ≡ lowered found.0 id
   lowered_is = subst (λ (o : Option Record). IfSome o (λ x. find_record id m.records ≡ lowered x id)) found.1 left
 
-  alive_handles : Handles r (Return id) t m (returned t id id.log)
-  alive_handles = returned_alive r t m id log found.0 some (live_home t.here t.records id live) found.1 covered rest lowered_is others tidy
+  alive_handles : IfSome (find_record id t.records) (λ x. Alive ≡ left_of x id) → Handles r (Return id) t m (returned t id id.log)
+  alive_handles alive =
+      returned_alive r t m id log found.0 some (live_home t.here t.records id live) found.1 covered rest lowered_is others
+      (alive_some found.0 id (subst (λ (o : Option Record). IfSome o (λ x. Alive ≡ left_of x id)) found.1 alive)) tidy
 
   dead_handles : (t' : Tables) (place : ℕ) → IfSome (find_record id t.records) (λ x. Dead place ≡ left_of x id) → Mails (Free (bare id)) m t'
-      → Handles r (Return id) t t' (returned t id id.log)
-  dead_handles t' place dead mails =
-      returned_dead r t m id log found.0 some (live_home t.here t.records id live) found.1 covered rest lowered_is others t'
-      (dead_all place found.0 id (subst (λ (o : Option Record). IfSome o (λ x. Dead place ≡ left_of x id)) found.1 dead)) mails tidy
+      → t' ≡ record (with_mail place (Free (bare id)) m) { spare = t'.spare } → Handles r (Return id) t t' (returned t id id.log)
+  dead_handles t' place dead mails goes =
+      let last = dead_all place found.0 id (subst (λ (o : Option Record). IfSome o (λ x. Dead place ≡ left_of x id)) found.1 dead) in
+      returned_dead r t m id log found.0 some (live_home t.here t.records id live) found.1 covered rest lowered_is others t' last.0 mails
+      (goes ∙ ap (λ n. record (with_mail n (Free (bare id)) m) { spare = t'.spare }) last.1) tidy
 
 pub alive_by : (r : Rules) (t m u : Tables) (id : Id) (log : ℕ) → t ≡ u → IsTidy t [] → id.log ≡ Some log → is_live t id ≡ true
     → credit id ≤ count_here t id → m ≡ record t { records = m.records; spare = m.spare }
     → IfSome (find_record id t.records) (λ x. find_record id m.records ≡ lowered x id)
-    → ((o : Id) → same_object id o ≡ false → find_record o m.records ≡ find_record o t.records) → Handles r (Return id) t m (returned u id id.log)
-alive_by r t m u id log seen_as tidy some live enough rest left others =
-    subst (λ y. Handles r (Return id) t m (returned y id id.log)) seen_as (alive_handles r t m id log some live enough tidy rest left others)
+    → ((o : Id) → same_object id o ≡ false → find_record o m.records ≡ find_record o t.records)
+    → IfSome (find_record id t.records) (λ x. Alive ≡ left_of x id) → Handles r (Return id) t m (returned u id id.log)
+alive_by r t m u id log seen_as tidy some live enough rest left others alive =
+    subst (λ y. Handles r (Return id) t m (returned y id id.log)) seen_as (alive_handles r t m id log some live enough tidy rest left others alive)
 
-pub dead_by : (r : Rules) (t m t' u : Tables) (id : Id) (log place : ℕ) → t ≡ u → IsTidy t [] → Mails (Free (bare id)) m t' → id.log ≡ Some log
+pub dead_by : (r : Rules) (t m t' u : Tables) (id : Id) (log place : ℕ) → t ≡ u → IsTidy t [] → Mails (Free (bare id)) m t'
+    → t' ≡ record (with_mail place (Free (bare id)) m) { spare = t'.spare } → id.log ≡ Some log
     → is_live t id ≡ true → credit id ≤ count_here t id → m ≡ record t { records = m.records; spare = m.spare }
     → IfSome (find_record id t.records) (λ x. find_record id m.records ≡ lowered x id)
     → ((o : Id) → same_object id o ≡ false → find_record o m.records ≡ find_record o t.records)
     → IfSome (find_record id t.records) (λ x. Dead place ≡ left_of x id) → Handles r (Return id) t t' (returned u id id.log)
-dead_by r t m t' u id log place seen_as tidy mails some live enough rest left others dead =
+dead_by r t m t' u id log place seen_as tidy mails goes some live enough rest left others dead =
     subst (λ y. Handles r (Return id) t t' (returned y id id.log)) seen_as
-    (dead_handles r t m id log some live enough tidy rest left others t' place dead mails)
+    (dead_handles r t m id log some live enough tidy rest left others t' place dead mails goes)

@@ -1,5 +1,6 @@
 -- What a message is that breaks no rule.
-use Rattle.std.proofs.Common.{true, [], ◌≡◌, ◌≤◌, Option, Some, None, refl, arith, inl, inr, subst}
+use Rattle.std.specs.List.{list_any}
+use Rattle.std.proofs.Common.{ℕ, Bool, true, false, [], ◌≡◌, ◌≤◌, Option, Some, None, refl, arith, inl, inr, subst}
 use Rattle.std.specs.Prelude.{◌&&◌, ◌==◌, ◌-◌, ◌^◌, min, not, nat_lt, if◌then◌else◌, length}
 use Rattle.std.proofs.lemmas.Bool.{cases_Bool, eqb-true}
 use Rattle.std.proofs.lemmas.List.Sums.{sum_by-cons}
@@ -10,9 +11,10 @@ use Rattle.hpx_journal.specs.Entries.{target_of}
 use Rattle.hpx_journal.specs.Frames.{travels_in}
 use Rattle.hpx_journal.proofs.Same.{and_true}
 use Rattle.hpx_node.specs.Fit.{IsFit}
+use Rattle.hpx_node.specs.Pending.{awaits}
 use Rattle.hpx_node.specs.Tables.{Tables, messages}
-use Rattle.hpx_node.specs.Kept.{stands_here, held_here, count_here, credit_in, ids_held}
-use Rattle.hpx_node.specs.Strange.{Broken, breaks, is_far, is_live, is_to_here, broken_return, broken_go, broken_object, broken_landed, broken_free, broken_near, broken}
+use Rattle.hpx_node.specs.Kept.{stands_here, waits_here, held_here, count_here, credit_in, ids_held}
+use Rattle.hpx_node.specs.Strange.{Broken, breaks, is_far, is_live, is_to_here, brings_right, broken_return, broken_give, broken_go, broken_object, broken_landed, broken_free, broken_near, broken}
 use Rattle.hpx_node.specs.Handled.{with_first}
 
 pub applied_fit : (act : Act) → IsParcel (Apply act) → IsFit act
@@ -37,10 +39,22 @@ return_right t p id other h = elim (cases_Bool (is_live t id)) [
       ]
 ]
 
-pub free_right : (t : Tables) (p : Parcel) (o : Id) → broken_free t p o ≡ None → (stands_here t o ≡ true) × (held_here t o ≡ 0)
-free_right t p o h = elim (cases_Bool (stands_here t o && (held_here t o == 0))) [
+not_true : (b : Bool) → not b ≡ true → b ≡ false
+not_true true h = absurd (cc)
+not_true false h = refl
+
+pub free_right : (t : Tables) (p : Parcel) (o : Id) → broken_free t p o ≡ None → (stands_here t o ≡ true) × (waits_here t o ≡ false) × (held_here t o ≡ 0)
+free_right t p o h = elim (cases_Bool (stands_here t o && (not (waits_here t o) && (held_here t o == 0)))) [
   | inl b ↦
-      let parts = and_true (stands_here t o) (held_here t o == 0) b in (parts.0, eqb-true (held_here t o) 0 parts.1)
+      let parts = and_true (stands_here t o) (not (waits_here t o) && (held_here t o == 0)) b in
+      let more = and_true (not (waits_here t o)) (held_here t o == 0) parts.1 in (parts.0, not_true (waits_here t o) more.0, eqb-true (held_here t o) 0 more.1)
+  | inr b ↦ absurd (not_broken _ (rw b at h))
+]
+
+pub give_right : (t : Tables) (p : Parcel) (id : Id) (entry : ℕ) → broken_give t p id entry ≡ None
+    → (list_any (awaits id entry) t.pending ≡ true) × (brings_right t id ≡ true)
+give_right t p id entry h = elim (cases_Bool (list_any (awaits id entry) t.pending && brings_right t id)) [
+  | inl b ↦ and_true (list_any (awaits id entry) t.pending) (brings_right t id) b
   | inr b ↦ absurd (not_broken _ (rw b at h))
 ]
 
@@ -76,5 +90,5 @@ pub near_popped : (t : Tables) (p : Parcel) → broken_near (with_first p t) p �
 near_popped t (Free o) h =
     let e : held_here (with_first (Free o) t) o ≡ held_here t o =
     omega (arith, sum_by-cons (λ q. credit_in o (ids_held q)) (Free o) (messages t)) in
-    subst (λ n. (if stands_here t o && (n == 0) then None else breaks 7 (Free o) (min (2 ^ 128 - 1) n)) ≡ None) e h
+    subst (λ n. (if stands_here t o && (not (waits_here t o) && (n == 0)) then None else breaks 7 (Free o) (min (2 ^ 128 - 1) n)) ≡ None) e h
 near_popped t _ h = h

@@ -14,6 +14,7 @@ tidy_spare : (t : Tables) (due : List Due) (spare : ℕ) → IsTidy t due → Is
 tidy_spare t due spare h = record {
   accepted = h.accepted;
   running = h.running;
+  paused = h.paused;
   objects = h.objects;
   messages = h.messages;
   fit = h.fit;
@@ -30,8 +31,10 @@ stands_spare r t due loose es spare h = record {
   tidy = tidy_spare t due spare h.tidy;
   born = h.born;
   few = h.few;
+  asked = h.asked;
   sent = h.sent;
   taken = h.taken;
+  paid = record { rows = h.paid.rows; once = h.paid.once };
 }
 
 pub stands_same : (act_of : ℕ → ℕ → ℕ → State → Act → Outcome) (t t' : Tables) (es es' : List Entry) → Stands act_of t es

@@ -25,6 +25,7 @@ use Rattle.hpx_part.proofs.ObjectRows.{follows_done}
 use Rattle.hpx_part.proofs.Keyed.{split_get, split_set}
 use Rattle.hpx_commit.specs.Deals.{is_managed, named, shared_from, unnamed_from, Lasts}
 use Rattle.hpx_node.specs.declared.node.settle.Birth.{Birth}
+use Rattle.hpx_node.specs.Pending.{action_of, refusals_of}
 use Rattle.hpx_node.specs.Tables.{Tables}
 use Rattle.hpx_node.specs.Seen.{bare_standing, bare_due, counted, view}
 use Rattle.hpx_node.specs.Jobs.{IsAt}
@@ -38,7 +39,9 @@ use Rattle.hpx_node.proofs.MadeLists.{object_of, fresh_ids, bare_made, find_fron
 use Rattle.hpx_node.proofs.Splits.{Has, Halves, splits_lead}
 use Rattle.hpx_node.proofs.Alls.{all_append}
 use Rattle.hpx_node.proofs.Stays.{Stays, births_stay, births_long, splits_stay, stays_out, stays_in}
-use Rattle.hpx_node.proofs.Steps.{Tells, tells_leads, tells_covered, stands_then}
+use Rattle.hpx_node.proofs.Steps.{Tells, same_refusals, tells_leads, tells_covered, stands_then}
+use Rattle.hpx_node.proofs.IdleRows.{IsIdle, births_idle, splits_idle, done_idle}
+use Rattle.hpx_node.proofs.IdleSteps.{pays_idle}
 use Rattle.hpx_node.proofs.Sums.{weigh, weigh_append, weigh_flat, weigh_remove, weigh_set, tokens_sum, view_sum}
 
 -- what a plan of a commit promises, over lists
@@ -144,10 +147,14 @@ module _ (r : Rules) (t : Tables) (entries : List Entry) (i j : ℕ) (job : Job)
   fired_front = map bare_act (take i t.running)
 
   abbrev fired_back : List Act
-  fired_back = map bare_act (drop (suc i) t.running)
+  fired_back = map bare_act (drop (suc i) t.running ++ map action_of t.pending)
 
   fires : b.then.fired ≡ fired_front ++ bare_act job.action ∷ fired_back
-  fires = b.fired ∙ (ap (map bare_act) (split_get t.running i job.action at.runs) ∙ bare_middle (take i t.running) job.action (drop (suc i) t.running))
+  fires =
+      b.fired
+      ∙ (ap (λ xs. map bare_act (xs ++ map action_of t.pending)) (split_get t.running i job.action at.runs)
+      ∙ (ap (map bare_act) (append_assoc (take i t.running) (job.action ∷ drop (suc i) t.running) (map action_of t.pending))
+      ∙ bare_middle (take i t.running) job.action (drop (suc i) t.running ++ map action_of t.pending)))
 
   stands : find (is_standing (target_of (bare_act job.action))) b.then.objects ≡ Some (bare_standing at.standing)
   stands =
@@ -244,7 +251,8 @@ module _ (r : Rules) (t : Tables) (entries : List Entry) (i j : ℕ) (job : Job)
     serial = b.serial;
     number = b.number;
     waiting = b.waiting;
-    fired = sym (map-append bare_act (take i t.running) (drop (suc i) t.running));
+    fired = sym (ap (map bare_act) (append_assoc (take i t.running) (drop (suc i) t.running) (map action_of t.pending))
+        ∙ map-append bare_act (take i t.running) (drop (suc i) t.running ++ map action_of t.pending));
     objects = objects_then;
     fresh = refl;
     due = due_is;
@@ -253,8 +261,8 @@ module _ (r : Rules) (t : Tables) (entries : List Entry) (i j : ℕ) (job : Job)
     asks = λ x. ap (λ ys. count_by (same_object x) ys) b.asks;
     live = λ x home. ap (λ ys. count_in (find (is_recorded x) ys)) (b.live ∙ sym (map-append counted t.records (records_of t.here t.births r.credit_log xs)));
     dead = λ x d. subst (λ ys. list_any (same_object x) ys ≡ true) (sym b.dead) d;
-    refusals = refl;
-    failing = refl;
+    refusals = same_refusals b.then.refusals (refusals_of t.pending) b.refusals;
+    failing = omega (arith, b.failing);
     last = refl;
   }
 
@@ -276,6 +284,11 @@ module _ (r : Rules) (t : Tables) (entries : List Entry) (i j : ℕ) (job : Job)
         (births_stay t.here t.births xs)
         (all_append Stays (splits_from 0 hand places) (Done (name_of job.action) false ∷ []) (splits_stay 0 hand places) ((λ k. refl, λ k. refl), tt))
 
+    idle : AllByRecursion (IsIdle r) (births_of t.here t.births xs ++ (splits_from 0 hand places ++ Done (name_of job.action) false ∷ []))
+    idle = all_append (IsIdle r) (births_of t.here t.births xs) (splits_from 0 hand places ++ Done (name_of job.action) false ∷ [])
+        (births_idle r t.here t.births xs)
+        (all_append (IsIdle r) (splits_from 0 hand places) (Done (name_of job.action) false ∷ []) (splits_idle r 0 hand places) (done_idle r _, tt))
+
     pub stands_settled : StandsWith r settled due ups
         (entries ++ at_all t.here (births_of t.here t.births xs ++ (splits_from 0 hand places ++ Done (name_of job.action) false ∷ [])))
     stands_settled = stands_then r t settled [] due [] ups entries
@@ -284,7 +297,9 @@ module _ (r : Rules) (t : Tables) (entries : List Entry) (i j : ℕ) (job : Job)
           here = refl;
           born = omega (arith, length-append (births_of t.here t.births xs) (splits_from 0 hand places ++ Done (name_of job.action) false ∷ []), births_long t.here t.births xs);
           few = omega arith;
+          asked = omega arith;
           sent = omega (arith, stays_out t.here (births_of t.here t.births xs ++ (splits_from 0 hand places ++ Done (name_of job.action) false ∷ [])) stay);
+          pays = pays_idle r t settled (births_of t.here t.births xs ++ (splits_from 0 hand places ++ Done (name_of job.action) false ∷ [])) idle (λ row. refl) refl;
           taken = omega (arith, stays_in t.here (births_of t.here t.births xs ++ (splits_from 0 hand places ++ Done (name_of job.action) false ∷ [])) stay);
         })
         leads

@@ -1,20 +1,23 @@
 -- Memory is made, and nothing else changes.
-use Rattle.std.proofs.Common.{ℕ, true, get_or, List, [], ◌∷◌, ◌++◌, ◌≡◌, ◌+◌, ◌<◌, ◌^◌, Option, None, refl, sym, ap, ◌∙◌, arith, subst, inl, inr}
-use Rattle.std.specs.Prelude.{min, ◌-◌}
+use Rattle.std.proofs.Common.{ℕ, true, false, get_or, List, [], ◌∷◌, ◌++◌, ◌≡◌, ◌+◌, ◌<◌, ◌^◌, Option, Some, None, refl, sym, ap, ◌∙◌, arith, subst, inl, inr}
 use Rattle.std.proofs.lemmas.Bool.{cases_Bool}
 use Rattle.hpx_journal.specs.Data.{State, Act, Outcome, Parcel, Apply, Return, Ask, Give, Cached, Move, Go, Shipped, Arrived, Free}
 use Rattle.hpx_journal.specs.Weights.{Book}
 use Rattle.hpx_journal.specs.Weights.{HasRoom}
-use Rattle.hpx_part.specs.Data.{Entry, Mail}
+use Rattle.hpx_part.specs.Data.{Entry, Mail, In}
 use Rattle.hpx_part.specs.Parts.{at_all}
+use Rattle.hpx_parcel.specs.Reading.{parcel_of}
+use Rattle.std.specs.List.{AllByRecursion}
+use Rattle.hpx_node.specs.Frames.{IsForHere}
 use Rattle.hpx_node.specs.Tables.{Tables}
 use Rattle.hpx_node.specs.Changes.{OnlySpare, Writes}
 use Rattle.hpx_node.specs.Stands.{StandsWith, rules_of}
-use Rattle.hpx_node.specs.Strange.{Broken, breaks, broken, broken_near, object_of}
-use Rattle.hpx_node.specs.Kept.{held_here}
-use Rattle.hpx_node.specs.Handled.{is_own, broken_here, effects, kind_of, Clears}
+use Rattle.hpx_node.specs.Strange.{Broken, breaks, is_far, broken, broken_near}
+use Rattle.hpx_node.specs.Handled.{is_own, effects, kind_of, Takes, Clears}
 use Rattle.hpx_node.proofs.Right.{not_broken, near_right, near_popped}
 use Rattle.hpx_node.proofs.Taken.{taken_few}
+use Rattle.hpx_node.specs.Routes.{DealsWith, Accepts}
+use Rattle.hpx_node.proofs.Spareless.{waits_from, accepts_from}
 
 pub spare_stands : (act_of : ℕ → ℕ → ℕ → State → Act → Outcome) (t t' : Tables) (b b' : Book) → OnlySpare t t' b b'
     → StandsWith (rules_of act_of t.localities t.profile) t [] [] b.entries → StandsWith (rules_of act_of t'.localities t'.profile) t' [] [] b'.entries
@@ -26,6 +29,7 @@ spare_stands act_of t t' b b' same h =
       tidy = record {
         accepted = h.tidy.accepted;
         running = h.tidy.running;
+        paused = h.tidy.paused;
         objects = h.tidy.objects;
         messages = h.tidy.messages;
         fit = h.tidy.fit;
@@ -35,9 +39,11 @@ spare_stands act_of t t' b b' same h =
         unborn = h.tidy.unborn;
       };
       few = h.few;
+      asked = h.asked;
       born = h.born;
       sent = h.sent;
       taken = h.taken;
+      paid = record { rows = h.paid.rows; once = h.paid.once };
     }))
 
 pub spare_few : (act_of : ℕ → ℕ → ℕ → State → Act → Outcome) (t t' : Tables) (b b' : Book) → OnlySpare t t' b b' → HasRoom b.entries
@@ -49,12 +55,29 @@ spare_few act_of t t' b b' same room h = omega (
   taken_few (rules_of act_of t.localities t.profile) t b.entries h,
 )
 
--- what is the first on the desk, and breaks no rule
-pub here_right : (t : Tables) (p : Parcel) → broken_here t p ≡ None → (is_own t.here p ≡ true) × (broken t p ≡ None)
-here_right t p h = elim (cases_Bool (is_own t.here p)) [
-  | inl b ↦ (b, rw b at h)
-  | inr b ↦ absurd (let e : breaks 7 p (min (2 ^ 128 - 1) (held_here t (object_of p))) ≡ None = rw b at h in not_broken _ e)
+-- what breaks no rule is near
+pub right_near : (t : Tables) (p : Parcel) → broken t p ≡ None → is_far t.localities p ≡ false
+right_near t p h = elim (cases_Bool (is_far t.localities p)) [
+  | inl b ↦ absurd (let e : breaks 9 p t.localities ≡ None = rw b at h in not_broken _ e)
+  | inr b ↦ b
 ]
+
+-- what stands first on the desk would free an object of this home
+pub first_own : (n k : ℕ) (desk : List Parcel) (p : Parcel) (rest : List Parcel) → desk ≡ p ∷ rest → AllByRecursion (IsForHere n k) desk
+    → is_own k p ≡ true
+first_own n k desk p rest first ways = own n k p (subst (λ (d : List Parcel). AllByRecursion (IsForHere n k) d) first ways).0
+  where
+    own : (n k : ℕ) (p : Parcel) → IsForHere n k p → is_own k p ≡ true
+    own n k (Free o) way = let same = way.may in search (arith, same)
+    own n k (Apply act) way = refl
+    own n k (Return id) way = refl
+    own n k (Ask id asker entry) way = refl
+    own n k (Give id entry) way = refl
+    own n k (Cached id place) way = refl
+    own n k (Move act) way = refl
+    own n k (Go act) way = refl
+    own n k (Shipped act state) way = refl
+    own n k (Arrived id place) way = refl
 
 near_spare : (t : Tables) (s : ℕ) (p : Parcel) → broken_near (record t { spare = s }) p ≡ broken_near t p
 near_spare t s (Apply act) = refl
@@ -75,19 +98,19 @@ effects_spare t desk s (Free o) = refl
 effects_spare t desk s _ = refl
 
 module _ (t m : Tables) (p q : Parcel) (rest : List Parcel) (x : Option Broken) (same : m ≡ record t { spare = m.spare }) (first : m.desk ≡ p ∷ rest)
-    (is : q ≡ get_or t.desk 0 q) (told : x ≡ broken_here t q) (none : x ≡ None) where
+    (is : q ≡ get_or t.desk 0 q) (told : x ≡ broken t q) (none : x ≡ None) where
   pub first_there : t.desk ≡ p ∷ rest
   first_there = sym (ap (λ (u : Tables). u.desk) same) ∙ first
 
   one : q ≡ p
   one = is ∙ ap (λ (d : List Parcel). get_or d 0 q) first_there
 
-  pub none_here : broken_here t p ≡ None
-  none_here = subst (λ (y : Parcel). broken_here t y ≡ None) one (sym told ∙ none)
+  pub none_here : broken t p ≡ None
+  none_here = subst (λ (y : Parcel). broken t y ≡ None) one (sym told ∙ none)
 
   pub mail_right : (s : ℕ) → broken_near (record m { desk = rest; spare = s }) p ≡ None
   mail_right s =
-      let near : broken_near t p ≡ None = near_right t p (here_right t p none_here).1 in
+      let near : broken_near t p ≡ None = near_right t p none_here in
       let at : broken_near (record t { desk = p ∷ rest }) p ≡ None =
       subst (λ (d : List Parcel). broken_near (record t { desk = d }) p ≡ None) first_there near in
       let u : Tables = record t { desk = rest; spare = s } in
@@ -104,6 +127,7 @@ first_stands act_of t p rest s entries first h =
       tidy = record {
         accepted = h.tidy.accepted;
         running = h.tidy.running;
+        paused = h.tidy.paused;
         objects = h.tidy.objects;
         messages = h.tidy.messages;
         fit = h.tidy.fit;
@@ -113,16 +137,18 @@ first_stands act_of t p rest s entries first h =
         unborn = h.tidy.unborn;
       };
       few = h.few;
+      asked = h.asked;
       born = h.born;
       sent = h.sent;
       taken = h.taken;
+      paid = record { rows = h.paid.rows; once = h.paid.once };
     })
 
 pub cleared : (t m t' : Tables) (b n : Book) (p q : Parcel) (rest : List Parcel) (s : ℕ) (x : Option Broken) (entries : List Entry) → OnlySpare t m b n
-    → m.desk ≡ p ∷ rest → q ≡ get_or t.desk 0 q → x ≡ broken_here t q → x ≡ None
+    → m.desk ≡ p ∷ rest → q ≡ get_or t.desk 0 q → x ≡ broken t q → x ≡ None
     → Writes (Mail (kind_of p) ∷ effects (record m { desk = rest; spare = s }) p) (record m { desk = rest; spare = s }) t' n.entries entries
-    → t'.taken ≡ m.taken → t'.sent ≡ m.sent → Clears t t' b.entries entries
-cleared t m t' b n p q rest s x entries same first is told none writes taken sent =
+    → Accepts p (record m { desk = rest; spare = s }) t' → t'.taken ≡ m.taken → t'.sent ≡ m.sent → Clears t t' b.entries entries
+cleared t m t' b n p q rest s x entries same first is told none writes accepts taken sent =
     let events : effects (record m { desk = rest; spare = s }) p ≡ effects t p =
     effects_spare m rest s p ∙ (ap (λ (y : Tables). effects y p) same.tables ∙ effects_spare t t.desk m.spare p) in
     let here : m.here ≡ t.here = ap (λ (u : Tables). u.here) same.tables in record {
@@ -139,10 +165,43 @@ cleared t m t' b n p q rest s x entries same first is told none writes taken sen
             ∙ (ap (λ k. b.entries ++ at_all k (Mail (kind_of p) ∷ effects (record m { desk = rest; spare = s }) p)) here
             ∙ ap (λ es. b.entries ++ at_all t.here (Mail (kind_of p) ∷ es)) events));
       };
+      accepts = accepts_from p t m t' rest s same.tables accepts;
       taken = taken ∙ ap (λ (u : Tables). u.taken) same.tables;
       sent = sent ∙ ap (λ (u : Tables). u.sent) same.tables;
     }
 
 pub mail_by : (t m : Tables) (b n : Book) (p q : Parcel) (rest : List Parcel) (s : ℕ) (x : Option Broken) → OnlySpare t m b n
-    → m.desk ≡ p ∷ rest → q ≡ get_or t.desk 0 q → x ≡ broken_here t q → x ≡ None → broken_near (record m { desk = rest; spare = s }) p ≡ None
+    → m.desk ≡ p ∷ rest → q ≡ get_or t.desk 0 q → x ≡ broken t q → x ≡ None → broken_near (record m { desk = rest; spare = s }) p ≡ None
 mail_by t m b n p q rest s x same first is told none = mail_right t m p q rest x same.tables first is told none s
+
+pub mail_near : (t m : Tables) (b n : Book) (p q : Parcel) (rest : List Parcel) (x : Option Broken) → OnlySpare t m b n
+    → m.desk ≡ p ∷ rest → q ≡ get_or t.desk 0 q → x ≡ broken t q → x ≡ None → is_far m.localities p ≡ false
+mail_near t m b n p q rest x same first is told none =
+    ap (λ (y : Tables). is_far y.localities p) same.tables
+    ∙ right_near t p (none_here t m p q rest x same.tables first is told none)
+
+-- a frame is accepted after memory was made
+pub took : (t m t' : Tables) (b n : Book) (p : Parcel) (bytes frame : List ℕ) (entries : List Entry) → OnlySpare t m b n → bytes ≡ frame
+    → parcel_of frame ≡ Some p → broken t p ≡ None → Writes (In bytes ∷ effects m p) m t' n.entries entries
+    → DealsWith p (record m { taken = m.taken + 1 }) t' → t'.taken ≡ m.taken + 1 → t'.sent ≡ m.sent → Takes frame t t' b.entries entries
+took t m t' b n p bytes frame entries same copy spelled right writes deals taken sent =
+    let events : effects m p ≡ effects t p =
+    ap (λ (y : Tables). effects y p) same.tables ∙ effects_spare t t.desk m.spare p in
+    let here : m.here ≡ t.here = ap (λ (u : Tables). u.here) same.tables in record {
+      parcel = p;
+      spelled = spelled;
+      right = right;
+      writes = record {
+        here = writes.here ∙ here;
+        localities = writes.localities ∙ ap (λ (u : Tables). u.localities) same.tables;
+        profile = writes.profile ∙ ap (λ (u : Tables). u.profile) same.tables;
+        grows = writes.grows
+            ∙ (ap (λ es. es ++ at_all m.here (In bytes ∷ effects m p)) same.entries
+            ∙ (ap (λ k. b.entries ++ at_all k (In bytes ∷ effects m p)) here
+            ∙ (ap (λ es. b.entries ++ at_all t.here (In bytes ∷ es)) events
+            ∙ ap (λ (bs : List ℕ). b.entries ++ at_all t.here (In bs ∷ effects t p)) copy)));
+      };
+      deals = waits_from p t m t' same.tables deals;
+      taken = taken ∙ ap (λ (u : Tables). u.taken + 1) same.tables;
+      sent = sent ∙ ap (λ (u : Tables). u.sent) same.tables;
+    }

@@ -21,9 +21,11 @@ use Rattle.hpx_part.proofs.Grown.{grow}
 use Rattle.hpx_part.proofs.Weaken.{weaker_leads}
 use Rattle.hpx_node.specs.Tables.{Tables}
 use Rattle.hpx_node.specs.Seen.{view}
+use Rattle.hpx_node.specs.Idle.{Pays, IsPaid}
+use Rattle.hpx_node.proofs.IdleSteps.{paid_more}
 use Rattle.hpx_node.specs.Stands.{IsTidy, StandsWith, rules_of}
 
--- w says no more than v: the same lists, the same tokens and asks as bags, the same counts, and fewer that are dead
+-- w says no more than v: the same lists, the same tokens and asks as bags, the same counts, and no more that are dead, refusals and failures
 pub record Tells (v w : View) : Type 0 where
   pub here : v.here ≡ w.here
   pub serial : v.serial ≡ w.serial
@@ -38,8 +40,8 @@ pub record Tells (v w : View) : Type 0 where
   pub asks : (x : Id) → count_by (same_object x) v.asks ≡ count_by (same_object x) w.asks
   pub live : (x : Id) → x.home ≡ v.here → count_in (find (is_recorded x) v.live) ≡ count_in (find (is_recorded x) w.live)
   pub dead : (x : Id) → list_any (same_object x) w.dead ≡ true → list_any (same_object x) v.dead ≡ true
-  pub refusals : w.refusals ≡ []
-  pub failing : w.failing ≡ 0
+  pub refusals : (x : Refusal) → list_any (same_refusal x) w.refusals ≡ true → list_any (same_refusal x) v.refusals ≡ true
+  pub failing : w.failing ≤ v.failing
   pub last : w.last ≡ None
 
 -- w with the fields of v where they are the same
@@ -56,9 +58,6 @@ told v w = record v {
 }
 
 module _ (r : Rules) (v w : View) (tells : Tells v w) where
-  none_there : (x : Refusal) → list_any (same_refusal x) [] ≡ true → ⊥
-  none_there x h = cc
-
   rebuilt : told v w ≡ w
   rebuilt =
       ap (λ x. record w { here = x; serial = v.serial; number = v.number; waiting = v.waiting; fired = v.fired; objects = v.objects; fresh = v.fresh; due = v.due; last = None }) tells.here
@@ -74,8 +73,11 @@ module _ (r : Rules) (v w : View) (tells : Tells v w) where
   pub tells_leads : Leads r v [] w
   tells_leads = subst (Leads r v []) rebuilt
       (weaker_leads r v w.tokens w.asking w.asks w.live w.dead w.refusals w.failing tells.tokens tells.asking tells.asks tells.live tells.dead
-      (λ x h. absurd (none_there x (subst (λ xs. list_any (same_refusal x) xs ≡ true) tells.refusals h)))
-      (omega (arith, tells.failing)))
+      tells.refusals tells.failing)
+
+-- the same refusals
+pub same_refusals : (xs ys : List Refusal) → xs ≡ ys → (x : Refusal) → list_any (same_refusal x) ys ≡ true → list_any (same_refusal x) xs ≡ true
+same_refusals xs ys e x h = subst (λ zs. list_any (same_refusal x) zs ≡ true) (sym e) h
 
 -- what w covers v covers
 pub tells_covered : (v w : View) → Tells v w → IsCovered w → IsCovered v
@@ -113,15 +115,17 @@ ins_append (x ∷ xs) ys =
     omega (arith, length-append (arrives x) (ins (xs ++ ys)), length-append (arrives x) (ins xs), ins_append xs ys)
 
 -- what a call does to the numbers of a node
-pub record Counts (t t' : Tables) (events : List Event) : Type 0 where
+pub record Counts (r : Rules) (t t' : Tables) (events : List Event) : Type 0 where
   pub here : t'.here ≡ t.here
   pub born : t'.births ≤ t.births + length events
   pub few : t'.serial ≤ t.serial + length events
+  pub asked : t'.asked ≤ t.asked + length events
   pub sent : t'.sent ≡ t.sent + length (outs (at_all t.here events))
   pub taken : t'.taken ≡ t.taken + length (ins (at_all t.here events))
+  pub pays : Pays r t t' events
 
 pub stands_then : (r : Rules) (t t' : Tables) (due due' : List Due) (loose loose' : List Id) (entries : List Entry) (events : List Event)
-    → StandsWith r t due loose entries → IsTidy t' due' → Counts t t' events → Leads r (view t due loose) events (view t' due' loose')
+    → StandsWith r t due loose entries → IsTidy t' due' → Counts r t t' events → Leads r (view t due loose) events (view t' due' loose')
     → StandsWith r t' due' loose' (entries ++ at_all t.here events)
 stands_then r t t' due due' loose loose' entries events h tidy counts leads =
     let grown : part t.here (entries ++ at_all t.here events) ≡ part t.here entries ++ at_all t.here events =
@@ -133,8 +137,10 @@ stands_then r t t' due due' loose loose' entries events h tidy counts leads =
       tidy = tidy;
       born = omega (arith, h.born, counts.born, length-append entries (at_all t.here events), at_all_length t.here events);
       few = omega (arith, h.few, counts.few, length-append entries (at_all t.here events), at_all_length t.here events);
+      asked = omega (arith, h.asked, counts.asked, length-append entries (at_all t.here events), at_all_length t.here events);
       sent = omega (arith, counts.sent, h.sent, ap (λ zs. length (outs zs)) there, outs_append (part t.here entries) (at_all t.here events));
       taken = omega (arith, counts.taken, h.taken, ap (λ zs. length (ins zs)) there, ins_append (part t.here entries) (at_all t.here events));
+      paid = subst (IsPaid r t') (sym there) (paid_more r t t' t.here (part t.here entries) events h.paid counts.pays);
     }
 
 -- rules that are the same

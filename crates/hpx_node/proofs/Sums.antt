@@ -8,6 +8,7 @@ use Rattle.hpx_journal.specs.Data.{Id, Act}
 use Rattle.hpx_journal.specs.Names.{due_ids}
 use Rattle.hpx_part.specs.Data.{Standing, Token}
 use Rattle.hpx_part.proofs.Keyed.{split_get, split_set}
+use Rattle.hpx_node.specs.Pending.{Waits}
 use Rattle.hpx_node.specs.Tables.{Tables, messages}
 use Rattle.hpx_node.specs.Seen.{tokens_of, parcel_tokens, kept_ids, tokens, view}
 use Rattle.hpx_node.proofs.Messages.{flat_append, tokens_append}
@@ -51,13 +52,14 @@ module _ (f : Token → ℕ) where
 
   pub tokens_sum : (t : Tables) → sum_by f (tokens t)
       ≡ weigh (flat_map (λ (x : Standing). x.state.ids) t.objects) + weigh (flat_map (λ (a : Act). a.ids) t.accepted)
-      + weigh (flat_map (λ (a : Act). a.ids) t.running) + sum_by f (flat_map parcel_tokens (messages t))
+      + weigh (flat_map (λ (a : Act). a.ids) t.running) + weigh (flat_map (λ (w : Waits). w.hand) t.pending) + sum_by f (flat_map parcel_tokens (messages t))
   tokens_sum t = omega (
     arith,
     sum_by-append f (tokens_of (kept_ids t)) (flat_map parcel_tokens (messages t)),
     weigh_append (flat_map (λ (x : Standing). x.state.ids) t.objects)
-        (flat_map (λ (a : Act). a.ids) t.accepted ++ flat_map (λ (a : Act). a.ids) t.running),
-    weigh_append (flat_map (λ (a : Act). a.ids) t.accepted) (flat_map (λ (a : Act). a.ids) t.running),
+        (flat_map (λ (a : Act). a.ids) t.accepted ++ (flat_map (λ (a : Act). a.ids) t.running ++ flat_map (λ (w : Waits). w.hand) t.pending)),
+    weigh_append (flat_map (λ (a : Act). a.ids) t.accepted) (flat_map (λ (a : Act). a.ids) t.running ++ flat_map (λ (w : Waits). w.hand) t.pending),
+    weigh_append (flat_map (λ (a : Act). a.ids) t.running) (flat_map (λ (w : Waits). w.hand) t.pending),
   )
 
   pub view_sum : (t : Tables) (due : List Due) (loose : List Id)

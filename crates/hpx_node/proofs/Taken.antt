@@ -1,7 +1,7 @@
 -- A message is taken up: from a frame, or from the desk.
 use Rattle.std.proofs.Common.{ℕ, Bool, true, false, List, [], ◌∷◌, ◌++◌, ◌≡◌, ◌+◌, ◌≤◌, Option, Some, None, map, length, length-append, append_assoc, refl, sym, ap, ◌∙◌, arith, inl, inr, subst}
 use Rattle.std.specs.Prelude.{flat_map, ◌==◌, nat_lt, if◌then◌else◌}
-use Rattle.std.specs.List.{find}
+use Rattle.std.specs.List.{find, sum_by}
 use Rattle.std.proofs.lemmas.Bool.{cases_Bool, eqb-true}
 use Rattle.std.proofs.lemmas.List.Sums.{sum_by-append}
 use Rattle.hpx_value.specs.Ids.{bare, same_object}
@@ -32,6 +32,11 @@ use Rattle.hpx_node.specs.Strange.{broken_near}
 use Rattle.hpx_parcel.specs.Reading.{parcel_of}
 use Rattle.hpx_node.proofs.InHand.{hand_sum}
 use Rattle.hpx_node.proofs.Returned.{any_behind}
+use Rattle.hpx_node.specs.Idle.{hops}
+use Rattle.hpx_node.specs.Routes.{Accepts}
+use Rattle.hpx_node.proofs.Routed.{accepts_kept}
+use Rattle.hpx_node.proofs.IdleSteps.{pays_in, pays_mail}
+use Rattle.hpx_node.proofs.IdleEffects.{effects_hops}
 
 -- ---- what is written behind the first entry is no frame
 
@@ -90,9 +95,11 @@ taken_stands r t t' p bytes entries events h fit spelled none quiet handles =
     (record {
       here = handles.here;
       few = omega (arith, handles.serial);
+      asked = omega (arith, handles.asked);
       born = omega (arith, handles.births);
       sent = omega (arith, handles.sent, ap length quiet.out);
       taken = omega (arith, handles.taken, ap length quiet.come);
+      pays = pays_in r t (record t { taken = t.taken + 1 }) t' p bytes events spelled (λ row. refl) refl handles.pays;
     })
     leads
 
@@ -115,9 +122,9 @@ lets_mail r k (Free o) dead own = (refl, eqb-true o.home k own, rw (same_object-
 lets_mail r k _ dead own = tt
 
 pub mailed_stands : (r : Rules) (t t' : Tables) (p : Parcel) (entries : List Entry) (events : List Event) → StandsWith r (with_first p t) [] [] entries
-    → is_own t.here p ≡ true → NoFrame t.here events → Handles r p t t' events
+    → is_own t.here p ≡ true → NoFrame t.here events → sum_by (hops r) events ≡ 0 → Accepts p t t' → Handles r p t t' events
     → StandsWith r t' [] [] (entries ++ at_all t.here (Mail (kind_of p) ∷ events))
-mailed_stands r t t' p entries events h own quiet handles =
+mailed_stands r t t' p entries events h own quiet none accepts handles =
     let leads : Leads r (view (with_first p t) [] []) (Mail (kind_of p) ∷ events) (view t' [] []) = (
       in_hand p t (frees (with_first p t)) (Mail (kind_of p)),
       follows_mail r (view (with_first p t) [] []) (kind_of p) refl refl (kinds p).0 (kinds p).1,
@@ -128,9 +135,11 @@ mailed_stands r t t' p entries events h own quiet handles =
     (record {
       here = handles.here;
       few = omega (arith, handles.serial);
+      asked = omega (arith, handles.asked);
       born = omega (arith, handles.births);
       sent = omega (arith, handles.sent, ap length quiet.out);
       taken = omega (arith, handles.taken, ap length quiet.come);
+      pays = pays_mail r t t' p events (accepts_kept p t t' accepts) none handles.pays;
     })
     leads
 
@@ -165,6 +174,7 @@ pub taken_tidy : (t : Tables) (n : ℕ) → IsTidy t [] → IsTidy (record t { t
 taken_tidy t n tidy = record {
   accepted = tidy.accepted;
   running = tidy.running;
+  paused = tidy.paused;
   objects = tidy.objects;
   messages = tidy.messages;
   fit = tidy.fit;
@@ -191,16 +201,39 @@ taken_by act_of t t' p bytes before now after h fit spelled right handles one gr
 
 pub mailed_by : (act_of : ℕ → ℕ → ℕ → State → Act → Outcome) (t t' : Tables) (p : Parcel) (kind : ℕ) (before now after : List Entry) → kind ≡ kind_of p
     → StandsWith (rules_of act_of t.localities t.profile) (with_first p t) [] [] before → is_own t.here p ≡ true
-    → Handles (rules_of act_of t.localities t.profile) p t t' (effects t p)
+    → Accepts p t t' → Handles (rules_of act_of t.localities t.profile) p t t' (effects t p)
     → now ≡ before ++ record { at = t.here; event = Mail kind } ∷ [] → after ≡ now ++ at_all t.here (effects t p)
     → StandsWith (rules_of act_of t'.localities t'.profile) t' [] [] after
-mailed_by act_of t t' p kind before now after is h own handles one grows =
+mailed_by act_of t t' p kind before now after is h own accepts handles one grows =
     let e : after ≡ before ++ at_all t.here (Mail (kind_of p) ∷ effects t p) =
     entries_join t.here (Mail (kind_of p)) (effects t p) before now after
     (one ∙ ap (λ k. before ++ record { at = t.here; event = Mail k } ∷ []) is) grows in
     subst (λ es. StandsWith (rules_of act_of t'.localities t'.profile) t' [] [] es) (sym e)
     (stands_by act_of t.localities t'.localities t.profile t'.profile t' [] [] _ (sym handles.localities) (sym handles.profile)
-    (mailed_stands (rules_of act_of t.localities t.profile) t t' p before (effects t p) h own (effects_quiet t.here t p) handles))
+    (mailed_stands (rules_of act_of t.localities t.profile) t t' p before (effects t p) h own (effects_quiet t.here t p)
+    (effects_hops (rules_of act_of t.localities t.profile) t p) accepts handles))
+
+-- what a message does is the same after the frame was counted
+pub effects_taken : (t : Tables) (n : ℕ) (p : Parcel) → effects (record t { taken = n }) p ≡ effects t p
+effects_taken t n (Apply act) = refl
+effects_taken t n (Return id) = refl
+effects_taken t n (Ask id asker entry) = refl
+effects_taken t n (Give id entry) = refl
+effects_taken t n (Cached id place) = refl
+effects_taken t n (Move act) = refl
+effects_taken t n (Go act) = refl
+effects_taken t n (Shipped act state) = refl
+effects_taken t n (Arrived id place) = refl
+effects_taken t n (Free o) = refl
+
+-- so the entries are those that the frame asks for
+pub taken_writes : (t u : Tables) (n : ℕ) (p : Parcel) (bytes : List ℕ) (before now after : List Entry) → t ≡ u
+    → now ≡ before ++ record { at = t.here; event = In bytes } ∷ [] → after ≡ now ++ at_all t.here (effects (record t { taken = n }) p)
+    → after ≡ before ++ at_all u.here (In bytes ∷ effects u p)
+taken_writes t u n p bytes before now after seen one grows =
+    entries_join t.here (In bytes) (effects (record t { taken = n }) p) before now after one grows
+    ∙ (ap (λ es. before ++ at_all t.here (In bytes ∷ es)) (effects_taken t n p)
+    ∙ ap (λ (x : Tables). before ++ at_all x.here (In bytes ∷ effects x p)) seen)
 
 -- the number of frames that came is small
 pub taken_few : (r : Rules) (t : Tables) (entries : List Entry) → StandsWith r t [] [] entries

@@ -1,13 +1,13 @@
 -- A commit that is planned leaves all that is kept well formed.
-use Rattle.std.proofs.Common.{ℕ, Bool, true, false, List, [], ◌∷◌, ◌++◌, ◌≡◌, ◌+◌, ◌<◌, ◌≤◌, Some, None, set, length, map, refl, sym, ap, arith, inl, inr, subst}
+use Rattle.std.proofs.Common.{ℕ, Bool, true, false, List, [], ◌∷◌, ◌++◌, ◌≡◌, ◌+◌, ◌<◌, ◌≤◌, Some, None, set, length, map, refl, sym, ap, ◌∙◌, arith, inl, inr}
 use Rattle.std.specs.List.{find, remove, AllByRecursion}
 use Rattle.std.proofs.lemmas.Bool.{cases_Bool}
 use Rattle.hpx_value.specs.Ids.{bare_id, same_object}
 use Rattle.hpx_value.specs.Laws.{KeepsLaws}
 use Rattle.hpx_value.specs.declared.acts.Job.{Job}
-use Rattle.hpx_parcel.specs.Parcels.{HasRightCredit}
 use Rattle.hpx_agas.specs.declared.record.Record.{Record}
-use Rattle.hpx_journal.specs.Data.{Id, Outcome}
+use Rattle.hpx_journal.specs.Data.{Id, State, Outcome}
+use Rattle.hpx_journal.specs.Entries.{target_of}
 use Rattle.hpx_journal.proofs.Same.{same_object-true}
 use Rattle.hpx_part.specs.Data.{Standing}
 use Rattle.hpx_node.specs.declared.node.settle.Birth.{Birth}
@@ -17,6 +17,8 @@ use Rattle.hpx_node.specs.Jobs.{IsAt, IsFitJob}
 use Rattle.hpx_node.specs.Stands.{IsTidy}
 use Rattle.hpx_node.specs.Tables.{Tables}
 use Rattle.hpx_node.proofs.Alls.{all_append, all_at, all_remove, all_set}
+use Rattle.hpx_node.proofs.Pausing.{found_passes, done_paused}
+use Rattle.hpx_node.proofs.Plain.{plain_values, plain_conts, plain_same}
 use Rattle.hpx_node.proofs.Planned.{made_fit, planned_state, planned_due, state_fit, state_paid, due_may}
 
 -- ---- what is made
@@ -24,9 +26,13 @@ use Rattle.hpx_node.proofs.Planned.{made_fit, planned_state, planned_due, state_
 objects_kept : (here n : ℕ) (xs : List Birth) → AllByRecursion IsBirth xs → AllByRecursion IsKept (objects_of here n xs)
 objects_kept here n [] h = tt
 objects_kept here n (x ∷ xs) h = (
-  record { kind = h.0.most; state = h.0.state; credit = subst (AllByRecursion HasRightCredit) (sym h.0.none) tt },
+  record { kind = h.0.most; state = h.0.state; plain = λ e. absurd (let least = h.0.least in omega (arith, e, least)) },
   objects_kept here (n + 1) xs h.1,
 )
+
+objects_alone : (here n : ℕ) (xs : List Birth) → AllByRecursion IsBirth xs → AllByRecursion (λ (x : Standing). x.state.ids ≡ []) (objects_of here n xs)
+objects_alone here n [] h = tt
+objects_alone here n (x ∷ xs) h = (h.0.none, objects_alone here (n + 1) xs h.1)
 
 -- of a number that was drawn, if it was born here
 abbrev pub Drawn : ℕ → ℕ → Standing → Type 0
@@ -86,6 +92,20 @@ module _ (t : Tables) (i j : ℕ) (job : Job) (out : Outcome) (at : IsAt t i j j
       (drawn_later t.here t.births (t.births + length xs) (omega arith) t.objects tidy.drawn)
       (objects_drawn t.here t.births (t.births + length xs) xs (omega arith))
 
+  -- a plain object keeps nothing, and so it stays
+  plain_kept : at.standing.object.kind ≡ 7 → (job.state.values ≡ []) × (job.state.conts ≡ [])
+  plain_kept e =
+      let kept = (all_at IsKept t.objects j at.standing tidy.objects at.stands).plain e in (
+        ap (λ (s : State). s.values) (sym at.state) ∙ kept.0,
+        ap (λ (s : State). s.conts) (sym at.state) ∙ kept.1,
+      )
+
+  plain_new : at.standing.object.kind ≡ 7 → new ≡ at.standing
+  plain_new e =
+      let kept = plain_kept e in
+      ap (λ s. record { object = at.standing.object; state = s })
+      (plain_same t job out fit few laws (sym at.kind ∙ e) kept.0 kept.1 ∙ sym at.state)
+
   pub tidy_settled : IsTidy settled (planned_due t job out fit few laws)
   tidy_settled = record {
     accepted = tidy.accepted;
@@ -95,7 +115,7 @@ module _ (t : Tables) (i j : ℕ) (job : Job) (out : Outcome) (at : IsAt t i j j
         (record {
           kind = (all_at IsKept t.objects j at.standing tidy.objects at.stands).kind;
           state = state_fit t job out fit few laws;
-          credit = state_paid t job out fit few laws;
+          plain = λ e. let kept = plain_kept e in (plain_values t job out fit few laws (sym at.kind ∙ e) kept.0 kept.1, plain_conts t job out fit few laws (sym at.kind ∙ e) kept.0 kept.1);
         });
     messages = tidy.messages;
     fit = due_may t job out fit few laws;
@@ -105,4 +125,7 @@ module _ (t : Tables) (i j : ℕ) (job : Job) (out : Outcome) (at : IsAt t i j j
     unborn = λ o late. find_none (λ (x : Record). same_object o x.gid) t.records (records_of t.here t.births t.profile.credit_log xs)
         (tidy.unborn o (omega (arith, late))) (records_past t.here t.births t.profile.credit_log xs o late);
     ways = tidy.ways;
+    paused = done_paused t.here t.objects t.running t.pending i j job.action at.standing new (objects_of t.here t.births xs) at.runs at.stands
+        (found_passes (target_of job.action) t.objects at.standing at.found) refl plain_new (state_paid t job out fit few laws)
+        (objects_alone t.here t.births (map birth_of out.makes) births_made) tidy.paused;
   }

@@ -9,6 +9,8 @@ use Rattle.hpx_part.specs.Parts.{at_all}
 use Rattle.hpx_node.specs.Tables.{Tables, messages}
 use Rattle.hpx_value.specs.declared.outcome.Due.{Due}
 use Rattle.hpx_node.specs.Stands.{IsTidy}
+use Rattle.hpx_node.specs.Idle.{Row, unpaid, of_act}
+use Rattle.hpx_node.specs.Routes.{with_act}
 use Rattle.hpx_node.specs.Seen.{tokens_of, tokens, waiting, asks, frees}
 
 -- nothing but for how much more there is memory
@@ -38,6 +40,8 @@ pub record Posts (act : Act) (t t' : Tables) : Type 0 where
   pub frees : frees t' ≡ frees t
   pub tidy : (due : List Due) → IsTidy t due → IsTidy t' due
   pub tokens : (f : Token → ℕ) → sum_by f (tokens t') ≡ sum_by f (tokens t) + sum_by f (tokens_of act.ids)
+  pub more : (row : Row) → unpaid row t' ≡ unpaid row t + of_act row
+  pub goes : t' ≡ record (with_act act t) { spare = t'.spare }
 
 -- the journal is longer by these events of this node, and by nothing else
 pub record Writes (events : List Event) (t t' : Tables) (entries entries' : List Entry) : Type 0 where

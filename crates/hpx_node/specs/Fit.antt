@@ -1,11 +1,10 @@
 -- What a node keeps is well formed.
-use Rattle.std.specs.Prelude.{◌≡◌, ◌≤◌, cond, ◌==◌}
-use Rattle.std.specs.List.{AllByRecursion}
+use Rattle.std.specs.Prelude.{[], ◌≡◌, ◌≤◌, cond, ◌==◌}
 use Rattle.hpx_value.specs.Shapes.{IsState}
 use Rattle.hpx_value.specs.Values.{named}
 use Rattle.hpx_value.specs.declared.outcome.Due.{Due}
 use Rattle.hpx_value.specs.declared.outcome.Due.TheVariants.{Message as MessageDue, Print as PrintDue}
-use Rattle.hpx_parcel.specs.Parcels.{IsSent, HasRightCredit, IsMovable, IsPlace}
+use Rattle.hpx_parcel.specs.Parcels.{IsSent, IsMovable, IsPlace}
 use Rattle.hpx_journal.specs.Data.{Act, Parcel, Apply, Move}
 use Rattle.hpx_part.specs.Data.{Standing}
 
@@ -18,11 +17,11 @@ pub record IsFit (act : Act) : Type 0 where
 abbrev pub parcel_for : Act → Parcel
 parcel_for act = cond (act.code == 1) (Move act) (Apply act)
 
--- an object of a kind that there is, with a well-formed state, whose ids have their credits
+-- an object of a kind that there is, with a well-formed state; one of kind Plain keeps nothing
 pub record IsKept (x : Standing) : Type 0 where
   pub kind : x.object.kind ≤ 63
   pub state : IsState x.state
-  pub credit : AllByRecursion HasRightCredit x.state.ids
+  pub plain : x.object.kind ≡ 7 → (x.state.values ≡ []) × (x.state.conts ≡ [])
 
 -- what is due may be sent
 abbrev pub IsFitDue : Due → Type 0

@@ -7,15 +7,15 @@ use Rattle.hpx_part.specs.Data.{Standing}
 use Rattle.hpx_journal.specs.Local.{is_standing, is_busy}
 
 -- its object stands here and is not busy
-pub record IsFree (running : List Act) (objects : List Standing) (act : Act) : Type 0 where
+pub record IsFree (fired : List Act) (objects : List Standing) (act : Act) : Type 0 where
   pub standing : Standing
   pub found : find (is_standing (target_of act)) objects ≡ Some standing
-  pub idle : is_busy (target_of act) running ≡ false
+  pub idle : is_busy (target_of act) fired ≡ false
 
 -- none of them may be fired
 abbrev pub NoneIsFree : List Act → List Standing → List Act → Type 0
-NoneIsFree running objects [] = Unit {0}
-NoneIsFree running objects (act ∷ acts) = (IsFree running objects act → ⊥) × NoneIsFree running objects acts
+NoneIsFree fired objects [] = Unit {0}
+NoneIsFree fired objects (act ∷ acts) = (IsFree fired objects act → ⊥) × NoneIsFree fired objects acts
 
 -- its object has its home here, or at no locality
 abbrev pub IsHere : ℕ → ℕ → Act → Type 0

@@ -1,13 +1,14 @@
 -- What a node does with a message that it takes up.
-use Rattle.std.specs.Prelude.{ℕ, Bool, true, List, [], ◌∷◌, ◌++◌, ◌≡◌, ◌≤◌, ◌-◌, ◌+◌, ◌^◌, ◌==◌, min, nat_lt, if◌then◌else◌, flat_map, length, Option, Some, None}
+use Rattle.std.specs.Prelude.{ℕ, Bool, true, List, [], ◌∷◌, ◌++◌, ◌≡◌, ◌≤◌, ◌-◌, ◌+◌, ◌^◌, ◌==◌, nat_lt, if◌then◌else◌, flat_map, length, Option, Some, None}
 use Rattle.std.specs.List.{list_any, find}
 use Rattle.hpx_value.specs.Ids.{bare, same_object}
-use Rattle.hpx_journal.specs.Data.{Id, Parcel, Apply, Return, Ask, Give, Cached, Move, Go, Shipped, Arrived, Free}
+use Rattle.hpx_journal.specs.Data.{Id, Parcel, Return, Ask, Give, Free}
 use Rattle.hpx_journal.specs.Entries.{Rules}
 use Rattle.hpx_journal.specs.Local.{is_standing}
-use Rattle.hpx_part.specs.Data.{Entry, Event, In, Mail, Count, Returned, Granted, Refused, Freed, Up, Standing}
+use Rattle.hpx_part.specs.Data.{Entry, Event, In, Mail, Count, Returned, Granted, Refused, Given, Freed, Up, Standing}
 use Rattle.hpx_part.specs.View.{View}
 use Rattle.hpx_part.specs.Shows.{Leads}
+use Rattle.hpx_commit.specs.Deals.{log_of}
 use Rattle.hpx_node.specs.Tables.{Tables}
 use Rattle.hpx_node.specs.Seen.{view, frees}
 use Rattle.hpx_parcel.specs.Reading.{parcel_of, IsRefused}
@@ -16,9 +17,13 @@ use Rattle.hpx_node.specs.declared.parts.TakeFault.TheVariants as take_faults
 use Rattle.hpx_node.specs.declared.parts.DeskFault.{DeskFault}
 use Rattle.hpx_node.specs.declared.parts.DeskFault.TheVariants as desk_faults
 use Rattle.hpx_node.specs.Changes.{Writes}
-use Rattle.hpx_node.specs.Strange.{Broken, breaks, broken, object_of}
-use Rattle.hpx_node.specs.Kept.{count_here, held_here}
+use Rattle.hpx_node.specs.Strange.{broken}
+use Rattle.hpx_node.specs.Kept.{count_here}
 use Rattle.hpx_node.specs.Stands.{IsTidy}
+pub use Rattle.hpx_node.specs.Idle.{kind_of}
+use Rattle.hpx_node.specs.Idle.{Pays, PaysFor}
+pub use Rattle.hpx_node.specs.Routes.{more_here}
+use Rattle.hpx_node.specs.Routes.{with_returns, DealsWith, Accepts}
 
 -- ---- what it writes
 
@@ -36,10 +41,6 @@ abbrev pub returned : Tables → Id → Option ℕ → List Event
 returned t id None = []
 returned t id (Some log) = Count (bare id) (count_here t id - 2 ^ log) (Returned log) ∷ []
 
--- the count with the credit of a new object in place of the least
-abbrev pub more_here : Tables → Id → ℕ
-more_here t id = count_here t id + 2 ^ t.profile.credit_log - 1
-
 -- more credit was asked for
 abbrev pub answered : Tables → Id → List Event
 answered t id =
@@ -56,6 +57,7 @@ freed o (Some x) = Freed o ∷ ups x.state.ids
 abbrev pub effects : Tables → Parcel → List Event
 effects t (Return id) = returned t id id.log
 effects t (Ask id asker entry) = answered t id
+effects t (Give id entry) = Given (bare id) (log_of id.log) ∷ []
 effects t (Free o) = freed o (find (is_standing o) t.objects)
 effects t _ = []
 
@@ -95,8 +97,11 @@ pub record Handles (r : Rules) (p : Parcel) (t t' : Tables) (events : List Event
   pub sent : t'.sent ≡ t.sent
   pub taken : t'.taken ≡ t.taken
   pub running : t'.running ≡ t.running
+  pub asked : t'.asked ≡ t.asked
   pub tidy : IsTidy t' []
   pub leads : (dead : List Id) (e : Event) → TakesUp r t p dead e → Leads r (in_hand p t dead e) events (view t' [] [])
+  pub pays : PaysFor r p t t' events
+  pub deals : DealsWith p t t'
 
 -- these ids, which were named nowhere, are given up: each is in a message to its home
 pub record GivesUp (r : Rules) (ids : List Id) (t t' : Tables) : Type 0 where
@@ -104,47 +109,34 @@ pub record GivesUp (r : Rules) (ids : List Id) (t t' : Tables) : Type 0 where
   pub spare : t.spare ≤ t'.spare + length ids
   pub tidy : IsTidy t' []
   pub leads : (loose : List Id) → Leads r (view t [] (ids ++ loose)) (ups ids) (view t' [] loose)
+  pub pays : Pays r t t' (ups ids)
+  pub goes : t' ≡ record (with_returns ids t) { spare = t'.spare }
 
 -- ---- frames and messages to the own locality
 
--- the kind of a message, as in its frame
-abbrev pub kind_of : Parcel → ℕ
-kind_of (Apply act) = 1
-kind_of (Return id) = 2
-kind_of (Ask id asker entry) = 3
-kind_of (Give id entry) = 4
-kind_of (Cached id place) = 5
-kind_of (Move act) = 6
-kind_of (Go act) = 7
-kind_of (Shipped act state) = 8
-kind_of (Arrived id place) = 9
-kind_of (Free o) = 10
-
--- an object that is to be freed is of this home, if a message to the own locality says so
+-- an object that is to be freed is of the home k
 abbrev pub is_own : ℕ → Parcel → Bool
 is_own k (Free o) = o.home == k
 is_own k _ = true
 
--- the rule that the first message on the desk breaks: none is put there that would free an object of another home
-abbrev pub broken_here : Tables → Parcel → Option Broken
-broken_here t p = if is_own t.here p then broken t p else breaks 7 p (min (2 ^ 128 - 1) (held_here t (object_of p)))
-
--- a frame is accepted: it spells a message that breaks no rule
+-- a frame is accepted: it spells a message that breaks no rule, whose action, if it has one, waits
 pub record Takes (bytes : List ℕ) (t t' : Tables) (entries entries' : List Entry) : Type 0 where
   pub parcel : Parcel
   pub spelled : parcel_of bytes ≡ Some parcel
   pub right : broken t parcel ≡ None
   pub writes : Writes (In bytes ∷ effects t parcel) t t' entries entries'
+  pub deals : DealsWith parcel (record t { taken = t.taken + 1 }) t'
   pub taken : t'.taken ≡ t.taken + 1
   pub sent : t'.sent ≡ t.sent
 
--- the first message on the desk breaks no rule, and is dealt with
+-- the first message on the desk breaks no rule, and is dealt with: its action, if it has one, is accepted
 pub record Clears (t t' : Tables) (entries entries' : List Entry) : Type 0 where
   pub parcel : Parcel
   pub rest : List Parcel
   pub first : t.desk ≡ parcel ∷ rest
-  pub right : broken_here t parcel ≡ None
+  pub right : broken t parcel ≡ None
   pub writes : Writes (Mail (kind_of parcel) ∷ effects t parcel) t t' entries entries'
+  pub accepts : Accepts parcel (record t { desk = rest }) t'
   pub taken : t'.taken ≡ t.taken
   pub sent : t'.sent ≡ t.sent
 
@@ -158,5 +150,5 @@ NotTaken t bytes take_faults.OutOfMemory = Unit {0}
 -- why the first message on the desk is not dealt with
 abbrev pub NotCleared : Tables → DeskFault → Type 0
 NotCleared t (desk_faults.Strange rule object kept) =
-    (p : Parcel) × (rest : List Parcel) × (t.desk ≡ p ∷ rest) × (broken_here t p ≡ Some (record { rule = rule; object = object; kept = kept }))
+    (p : Parcel) × (rest : List Parcel) × (t.desk ≡ p ∷ rest) × (broken t p ≡ Some (record { rule = rule; object = object; kept = kept }))
 NotCleared t desk_faults.OutOfMemory = Unit {0}

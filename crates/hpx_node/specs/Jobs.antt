@@ -7,7 +7,7 @@ use Rattle.hpx_value.specs.declared.acts.Job.{Job}
 use Rattle.hpx_journal.specs.Entries.{target_of}
 use Rattle.hpx_part.specs.Data.{Standing}
 use Rattle.hpx_journal.specs.Local.{is_standing}
-use Rattle.hpx_node.specs.Tables.{Tables}
+use Rattle.hpx_node.specs.Tables.{Tables, fired_acts}
 use Rattle.hpx_node.specs.Fit.{IsFit}
 use Rattle.hpx_node.specs.Free.{IsFree, NoneIsFree}
 
@@ -38,8 +38,8 @@ pub record Starts (t t' : Tables) (job : Job) : Type 0 where
   pub i : ℕ
   pub standing : Standing
   pub action : slice_get t.accepted i ≡ Some job.action
-  pub first : NoneIsFree t.running t.objects (take i t.accepted)
-  pub free : IsFree t.running t.objects job.action
+  pub first : NoneIsFree (fired_acts t) t.objects (take i t.accepted)
+  pub free : IsFree (fired_acts t) t.objects job.action
   pub found : find (is_standing (target_of job.action)) t.objects ≡ Some standing
   pub here : job.at ≡ t.here
   pub kind : job.kind ≡ standing.object.kind

@@ -1,17 +1,21 @@
 -- What stands at a node, and the credit that is held and owed there.
 use Rattle.std.specs.Prelude.{ℕ, Bool, List, [], ◌∷◌, ◌++◌, ◌+◌, if◌then◌else◌, is_some, option_map, Option}
 use Rattle.std.specs.Option.{option_map_or}
-use Rattle.std.specs.List.{find, sum_by}
+use Rattle.std.specs.List.{find, sum_by, list_any}
 use Rattle.hpx_value.specs.Ids.{credit, same_object}
 use Rattle.hpx_agas.specs.Records.{find_record}
 use Rattle.hpx_agas.specs.declared.record.Record.{Record}
 use Rattle.hpx_journal.specs.Data.{Id, Parcel, Apply, Return, Ask, Give, Move, Go, Shipped, Arrived}
-use Rattle.hpx_journal.specs.Local.{is_standing}
+use Rattle.hpx_journal.specs.Local.{is_standing, acts_on}
 use Rattle.hpx_node.specs.Tables.{Tables, messages}
 
 -- whether an object stands here
 abbrev pub stands_here : Tables → Id → Bool
 stands_here t o = is_some (find (is_standing o) t.objects)
+
+-- whether a commit of an action on an object waits here
+abbrev pub waits_here : Tables → Id → Bool
+waits_here t o = list_any (λ w. acts_on o w.job.action) t.pending
 
 -- the credit of an object in ids
 abbrev pub credit_in : Id → List Id → ℕ
@@ -33,12 +37,13 @@ credit_owed o (Give id entry) = credit_in o (id ∷ [])
 credit_owed o (Arrived id place) = credit_in o (id ∷ [])
 credit_owed o _ = 0
 
--- the credit of an object in states, in actions, and in messages of these
+-- the credit of an object in states, in actions, in the hands of commits that wait, and in messages of these
 abbrev pub held_here : Tables → Id → ℕ
 held_here t o =
     sum_by (λ x. credit_in o x.state.ids) t.objects
     + sum_by (λ act. credit_in o act.ids) t.accepted
     + sum_by (λ act. credit_in o act.ids) t.running
+    + sum_by (λ w. credit_in o w.hand) t.pending
     + sum_by (λ p. credit_in o (ids_held p)) (messages t)
 
 -- the credit of an object in messages that bring it home, or ask for more

@@ -1,4 +1,5 @@
 pub mod Fit
+pub mod Pending
 pub mod Tables
 pub mod Seen
 pub mod Frames
@@ -6,8 +7,11 @@ pub mod Stands
 pub mod Changes
 pub mod Free
 pub mod Jobs
+pub mod Paused
 pub mod Births
 pub mod Commits
 pub mod Kept
 pub mod Strange
 pub mod Handled
+pub mod Idle
+pub mod Routes

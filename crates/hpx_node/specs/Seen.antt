@@ -1,5 +1,5 @@
 -- What is seen of a node's tables: a view, with bare ids and with credits apart.
-use Rattle.std.specs.Prelude.{List, [], ◌∷◌, ◌++◌, map, flat_map, Some, None}
+use Rattle.std.specs.Prelude.{List, [], ◌∷◌, ◌++◌, map, flat_map, length, Some, None}
 use Rattle.hpx_value.specs.Ids.{bare}
 use Rattle.hpx_value.specs.Values.{bare_act, bare_state, bare_message}
 use Rattle.hpx_value.specs.declared.outcome.Due.{Due}
@@ -12,7 +12,8 @@ use Rattle.hpx_journal.specs.Names.{due_ids}
 use Rattle.hpx_part.specs.Data.{Standing, Token, Recorded}
 use Rattle.hpx_part.specs.View.{View}
 use Rattle.hpx_agas.specs.declared.record.Record.{Record}
-use Rattle.hpx_node.specs.Tables.{Tables, messages}
+use Rattle.hpx_node.specs.Pending.{asking_of, refusals_of}
+use Rattle.hpx_node.specs.Tables.{Tables, messages, fired_acts}
 
 abbrev pub bare_standing : Standing → Standing
 bare_standing x = record { object = bare x.object; state = bare_state x.state }
@@ -29,9 +30,11 @@ tokens_of ids = map held (credits_of ids)
 abbrev pub parcel_tokens : Parcel → List Token
 parcel_tokens p = tokens_in (Some p)
 
--- the ids that are kept: in states, in actions that were accepted, and in those that run
+-- the ids that are kept: in states, in actions that were accepted, in those that run, and in the hands of commits that wait
 abbrev pub kept_ids : Tables → List Id
-kept_ids t = flat_map (λ x. x.state.ids) t.objects ++ (flat_map (λ act. act.ids) t.accepted ++ flat_map (λ act. act.ids) t.running)
+kept_ids t =
+    flat_map (λ x. x.state.ids) t.objects
+    ++ (flat_map (λ act. act.ids) t.accepted ++ (flat_map (λ act. act.ids) t.running ++ flat_map (λ w. w.hand) t.pending))
 
 -- all tokens: of what is kept, and of messages
 abbrev pub tokens : Tables → List Token
@@ -65,16 +68,16 @@ view t due loose = record {
   serial = t.serial;
   number = t.births;
   waiting = waiting t;
-  fired = map bare_act t.running;
+  fired = map bare_act (fired_acts t);
   objects = map bare_standing t.objects;
   fresh = [];
   due = map bare_due due;
   tokens = tokens t ++ (tokens_of (flat_map due_ids due) ++ tokens_of loose);
-  asking = [];
+  asking = asking_of t.pending;
   asks = asks t;
   live = map counted t.records;
   dead = frees t;
-  refusals = [];
-  failing = 0;
+  refusals = refusals_of t.pending;
+  failing = length (refusals_of t.pending);
   last = None;
 }

@@ -14,7 +14,9 @@ use Rattle.hpx_journal.specs.Laws.{outs, ins}
 use Rattle.hpx_part.specs.Data.{Entry}
 use Rattle.hpx_part.specs.Parts.{StandsFor}
 use Rattle.hpx_node.specs.Fit.{IsFit, IsKept, IsFitDue}
-use Rattle.hpx_node.specs.Frames.{IsOnItsWay}
+use Rattle.hpx_node.specs.Frames.{AreOnTheirWay}
+use Rattle.hpx_node.specs.Paused.{ArePaused}
+use Rattle.hpx_node.specs.Idle.{IsPaid}
 use Rattle.hpx_node.specs.Tables.{Tables, messages}
 use Rattle.hpx_node.specs.Seen.{view}
 
@@ -29,7 +31,7 @@ rules_of act_of n profile = record {
 }
 
 -- all that is kept, due or on its way is well formed; a MOVE is accepted only to here, what was
--- born here has a number that was drawn, and messages go to others that there are
+-- born here has a number that was drawn, and messages are where they may be
 pub record IsTidy (t : Tables) (due : List Due) : Type 0 where
   pub accepted : AllByRecursion IsFit t.accepted
   pub running : AllByRecursion IsFit t.running
@@ -39,7 +41,8 @@ pub record IsTidy (t : Tables) (due : List Due) : Type 0 where
   pub moves : AllByRecursion (λ act. IfSome (move_to (bare_act act)) (λ to. to ≡ t.here)) t.accepted
   pub drawn : AllByRecursion (λ x. 16 ≤ x.object.kind → x.object.home ≡ t.here → x.object.number ≤ t.births) t.objects
   pub unborn : (o : Id) → t.births < o.number → find (λ x. same_object o x.gid) t.records ≡ None
-  pub ways : AllByRecursion (IsOnItsWay t.localities t.here) t.outgoing
+  pub ways : AreOnTheirWay t
+  pub paused : ArePaused t.here t.objects t.running t.pending
 
 -- the node keeps its part, and its tables show where that leads, with this due and these ids named nowhere
 pub record StandsWith (r : Rules) (t : Tables) (due : List Due) (loose : List Id) (entries : List Entry) : Type 0 where
@@ -47,8 +50,10 @@ pub record StandsWith (r : Rules) (t : Tables) (due : List Due) (loose : List Id
   pub tidy : IsTidy t due
   pub born : t.births ≤ length entries
   pub few : t.serial ≤ length entries
+  pub asked : t.asked ≤ length entries
   pub sent : t.sent ≡ length (outs (part t.here entries))
   pub taken : t.taken ≡ length (ins (part t.here entries))
+  pub paid : IsPaid r t (part t.here entries)
 
 -- nothing is due and each id is named, by the rules of these tables
 abbrev pub Stands : (ℕ → ℕ → ℕ → State → Act → Outcome) → Tables → List Entry → Type 0

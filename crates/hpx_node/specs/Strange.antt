@@ -6,10 +6,12 @@ use Rattle.hpx_value.specs.Ids.{bare, credit}
 use Rattle.hpx_journal.specs.Data.{Id, Act, Parcel, Apply, Return, Ask, Give, Cached, Move, Go, Shipped, Arrived, Free}
 use Rattle.hpx_journal.specs.Entries.{target_of, move_to}
 use Rattle.hpx_journal.specs.Rows.{is_to}
+use Rattle.hpx_commit.specs.Deals.{log_of}
 use Rattle.hpx_agas.specs.declared.record.Record.{Record}
 pub use Rattle.hpx_node.specs.declared.strange.Broken.{Broken}
+use Rattle.hpx_node.specs.Pending.{awaits}
 use Rattle.hpx_node.specs.Tables.{Tables}
-use Rattle.hpx_node.specs.Kept.{stands_here, record_here, count_here, held_here}
+use Rattle.hpx_node.specs.Kept.{stands_here, waits_here, record_here, count_here, held_here}
 
 -- the object that a message is about
 abbrev pub object_of : Parcel → Id
@@ -97,17 +99,26 @@ broken_object t p act = if stands_here t (target_of act) then breaks 4 p t.here 
 abbrev pub broken_landed : Tables → Parcel → Id → Option Broken
 broken_landed t p id = broken_return t p id (breaks 5 p (option_map_or (λ (r : Record). r.place) (record_here t id) 0))
 
--- an object that is to be freed; an action on it holds an id of it. No more than 2^128 - 1 is told
-abbrev pub broken_free : Tables → Parcel → Id → Option Broken
-broken_free t p o = if stands_here t o && (held_here t o == 0) then None else breaks 7 p (min (2 ^ 128 - 1) (held_here t o))
+-- a Give brings no more credit, or that of a new object
+abbrev pub brings_right : Tables → Id → Bool
+brings_right t id = (log_of id.log == 0) || (log_of id.log == t.profile.credit_log)
 
--- where all that it names is below the number of localities. Nothing was asked for here, and no object moves: a message
--- that is for either breaks rule 8 if it breaks none before
+-- what was asked for
+abbrev pub broken_give : Tables → Parcel → Id → ℕ → Option Broken
+broken_give t p id entry = if list_any (awaits id entry) t.pending && brings_right t id then None else breaks 3 p entry
+
+-- an object that is to be freed; an action on it holds an id of it, unless its commit waits. No more than 2^128 - 1 is told
+abbrev pub broken_free : Tables → Parcel → Id → Option Broken
+broken_free t p o =
+    if stands_here t o && (not (waits_here t o) && (held_here t o == 0)) then None else breaks 7 p (min (2 ^ 128 - 1) (held_here t o))
+
+-- where all that it names is below the number of localities. No object moves: a message that is for that breaks rule 8 if it
+-- breaks none before
 abbrev pub broken_near : Tables → Parcel → Option Broken
 broken_near t (Apply act) = broken_act t (Apply act) act
 broken_near t (Return id) = broken_return t (Return id) id None
 broken_near t (Ask id asker entry) = broken_return t (Ask id asker entry) id None
-broken_near t (Give id entry) = breaks 3 (Give id entry) entry
+broken_near t (Give id entry) = broken_give t (Give id entry) id entry
 broken_near t (Cached id place) = breaks 8 (Cached id place) (length t.records)
 broken_near t (Move act) = broken_move t (Move act) act
 broken_near t (Go act) = broken_go t (Go act) act

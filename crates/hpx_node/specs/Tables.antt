@@ -5,6 +5,7 @@ use Rattle.hpx_journal.specs.Data.{Act, Parcel}
 use Rattle.hpx_part.specs.Data.{Standing}
 use Rattle.hpx_agas.specs.declared.record.Record.{Record}
 use Rattle.hpx_node.specs.declared.parts.Outgoing.{Outgoing}
+use Rattle.hpx_node.specs.Pending.{Waits, fired_of}
 
 pub record Tables : Type 0 where
   pub here : ℕ
@@ -13,6 +14,8 @@ pub record Tables : Type 0 where
   pub serial : ℕ  -- the last number drawn for an action
   pub accepted : List Act  -- in order of acceptance
   pub running : List Act
+  pub pending : List Waits  -- commits that wait for credit
+  pub asked : ℕ  -- how often credit was asked for
   pub desk : List Parcel  -- to this locality, the oldest first
   pub outgoing : List Outgoing  -- to others, the oldest first
   pub objects : List Standing
@@ -26,9 +29,14 @@ pub record Tables : Type 0 where
 abbrev pub messages : Tables → List Parcel
 messages t = t.desk ++ map (λ x. x.parcel) t.outgoing
 
+-- the fired actions
+abbrev pub fired_acts : Tables → List Act
+fired_acts t = fired_of t.running t.pending
+
 -- nothing is to be done here
 pub record IsPassive (t : Tables) : Type 0 where
   pub accepted : t.accepted ≡ []
   pub running : t.running ≡ []
+  pub pending : t.pending ≡ []
   pub desk : t.desk ≡ []
   pub outgoing : t.outgoing ≡ []

@@ -6,8 +6,11 @@ ghost use Rattle.hpx_value.specs.Hands.{id_at};
 ghost use Rattle.hpx_journal.specs.Entries.{target_of};
 ghost use Rattle.hpx_journal.specs.Local.{is_standing, acts_on, is_busy};
 ghost use Rattle.hpx_node.specs.Free.{NoneIsFree, IsFree};
+ghost use Rattle.hpx_node.specs.Pending.{fired_of, awaits};
 
 use crate::kept::{Fit, Kept};
+use crate::pending::Pending;
+use hpx_value::acts::Acts;
 use hpx_value::codes::{PLAIN, SESSION};
 use hpx_value::exact::Exact;
 use hpx_value::gid::Gid;
@@ -46,48 +49,76 @@ fn runs_on(running: &[Fit], o: Gid) -> bool
     running.iter().any(|a| o.names_same(target(a.act())))
 }
 
-/// Whether an action on the object runs and keeps it busy; one of kind Plain is never busy.
-pub fn is_busy(running: &[Fit], o: Gid) -> bool
-    ensures { result ≡ is_busy o running.now }
+/// Whether a commit of an action on the object waits.
+pub fn waits_on<A: Acts>(pending: &[Pending<A>], o: Gid) -> bool
+    ensures { result ≡ list_any (λ w. acts_on o w.job.action) pending.now }
+{
+    pending.iter().any(|w| o.names_same(target(w.action())))
+}
+
+/// Whether a fired action on the object keeps it busy: one that runs, or one whose commit waits. One of kind Plain is never busy.
+#[tactic(auto, using(crate::proofs::FreeLemmas::busy_fired))]
+pub fn is_busy<A: Acts>(running: &[Fit], pending: &[Pending<A>], o: Gid) -> bool
+    ensures { result ≡ is_busy o (fired_of running.now pending.now) }
 {
     if o.kind() == PLAIN {
-        false
-    } else {
-        runs_on(running, o)
+        return false;
     }
+    runs_on(running, o) || waits_on(pending, o)
 }
 
 /// Where the object of an action stands, if it is free.
-fn free_at(running: &[Fit], objects: &[Kept], act: &Act) -> Option<usize>
+fn free_at<A: Acts>(
+    running: &[Fit],
+    pending: &[Pending<A>],
+    objects: &[Kept],
+    act: &Act,
+) -> Option<usize>
     ensures inside { IfSome result (λ j. j < length objects.now) }
-    ensures free { IfSome result (λ j. IsFree running.now objects.now act.now) }
+    ensures free { IfSome result (λ j. IsFree (fired_of running.now pending.now) objects.now act.now) }
     ensures found { IfSome result (λ j. find (is_standing (target_of act.now)) objects.now ≡ slice_get objects.now j) }
-    ensures none { IfNone result (IsFree running.now objects.now act.now → ⊥) }
+    ensures none { IfNone result (IsFree (fired_of running.now pending.now) objects.now act.now → ⊥) }
 {
     let o = target(act);
     match place_of(objects, o) {
-        Some(j) if !is_busy(running, o) => Some(j),
+        Some(j) if !is_busy(running, pending, o) => Some(j),
         _ => None,
     }
 }
 
 /// The first accepted action whose object is free, and where that object stands.
-pub fn first_free(
+pub fn first_free<A: Acts>(
     accepted: &VecDeque<Fit>,
     running: &[Fit],
+    pending: &[Pending<A>],
     objects: &[Kept],
 ) -> Option<(usize, usize)>
     ensures inside { IfSome result (λ p. (p.0 < deque_len accepted.now) × (p.1 < length objects.now)) }
-    ensures free { IfSome result (λ p. (act : _) → slice_get accepted.now.items p.0 ≡ Some act → IsFree running.now objects.now act) }
+    ensures free { IfSome result (λ p. (act : _) → slice_get accepted.now.items p.0 ≡ Some act → IsFree (fired_of running.now pending.now) objects.now act) }
     ensures found { IfSome result (λ p. (act : _) → slice_get accepted.now.items p.0 ≡ Some act
         → find (is_standing (target_of act)) objects.now ≡ slice_get objects.now p.1) }
-    ensures first { IfSome result (λ p. NoneIsFree running.now objects.now (take p.0 accepted.now.items)) }
-    ensures none { IfNone result (NoneIsFree running.now objects.now accepted.now.items) }
+    ensures first { IfSome result (λ p. NoneIsFree (fired_of running.now pending.now) objects.now (take p.0 accepted.now.items)) }
+    ensures none { IfNone result (NoneIsFree (fired_of running.now pending.now) objects.now accepted.now.items) }
 {
     for i in 0..accepted.len() {
-        match free_at(running, objects, accepted[i].act()) {
+        match free_at(running, pending, objects, accepted[i].act()) {
             Some(j) => return Some((i, j)),
             None => (),
+        }
+    }
+    None
+}
+
+/// Where a commit waits for an id of the object, asked for under a number.
+#[tactic(auto, using(hpx_part::proofs::Keyed::find_step, hpx_part::proofs::Keyed::find_at_index))]
+pub fn waiting_at<A: Acts>(pending: &[Pending<A>], o: Gid, entry: u64) -> Option<usize>
+    ensures inside { IfSome result (λ i. i < length pending.now) }
+    ensures found { IfSome result (λ i. find (awaits o entry) pending.now ≡ slice_get pending.now i) }
+    ensures none { IfNone result (find (awaits o entry) pending.now ≡ None) }
+{
+    for (i, w) in pending.iter().enumerate() {
+        if w.awaits(o, entry) {
+            return Some(i);
         }
     }
     None

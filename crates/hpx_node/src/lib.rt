@@ -1,10 +1,12 @@
-//! One locality: the objects that stand there, the actions that wait and run, the messages on their way, and the records of
+//! One locality: the objects that stand there, the actions that wait and run, the commits that wait, the messages on their way, and the records of
 //! the objects that were born there.
 #![tactic(auto)]
 
 pub mod boot;
 pub mod find;
 pub mod kept;
+pub mod law;
 pub mod node;
 pub mod parts;
+pub mod pending;
 pub mod strange;

@@ -1,7 +1,6 @@
 //! One locality: its tables, and what each call on them begins with.
 ghost use Rattle.std.specs.Prelude.{◌≡◌, ◌≢◌, ◌≤◌, ◌<◌, ◌+◌, ◌-◌, ◌∷◌, ◌++◌, ◌↔◌, [], ℕ, List, Some, None, IsTrue, OnOk, OnErr, IfOk, IfSome, IfNone, length};
 ghost use Rattle.hpx_value.specs.Profiles.{IsValid};
-ghost use Rattle.hpx_value.specs.Values.{bare_act};
 ghost use Rattle.hpx_journal.specs.Entries.{move_to};
 ghost use Rattle.hpx_parcel.specs.Parcels.{IsParcel};
 ghost use Rattle.hpx_node.specs.Fit.{IsFit};
@@ -9,11 +8,13 @@ ghost use Rattle.hpx_node.specs.Tables.{IsPassive};
 ghost use Rattle.hpx_node.specs.Stands.{Stands};
 ghost use Rattle.hpx_node.specs.Changes.{OnlySpare, Mails, Posts};
 ghost use Rattle.hpx_node.specs.Frames.{MayGoTo};
+ghost use Rattle.hpx_node.specs.Routes.{is_other, moves_on, may_stay, with_mail};
 
 use crate::boot::roots;
-use crate::find::{place_of, target};
+use crate::find::target;
 use crate::kept::{Fit, Kept, Letter};
 use crate::parts::Outgoing;
+use crate::pending::Pending;
 use hpx_agas::records::Records;
 use hpx_journal::local::move_to;
 use hpx_parcel::parcel::Parcel;
@@ -47,6 +48,8 @@ pub struct Node<A: Acts + Copy> {
     serial: u64,
     accepted: VecDeque<Fit>,
     running: Vec<Fit>,
+    pending: Vec<Pending<A>>,
+    asked: u64,
     desk: VecDeque<Letter>,
     outgoing: VecDeque<Outgoing>,
     objects: Vec<Kept>,
@@ -70,6 +73,8 @@ impl<A: Acts + Copy> Model for Node<A> {
       serial = n.serial;
       accepted = n.accepted.items;
       running = n.running.items;
+      pending = n.pending.items;
+      asked = n.asked;
       desk = n.desk.items;
       outgoing = n.outgoing.items;
       objects = n.objects.items;
@@ -79,7 +84,7 @@ impl<A: Acts + Copy> Model for Node<A> {
       taken = n.taken;
       spare = min (min (deque_capacity n.accepted - deque_len n.accepted) (deque_capacity n.desk - deque_len n.desk))
           (min (deque_capacity n.outgoing - deque_len n.outgoing) (min (vec_capacity n.running - vec_len n.running)
-          (min (vec_capacity n.objects - vec_len n.objects) n.records.spare)));
+          (min (vec_capacity n.pending - vec_len n.pending) (min (vec_capacity n.objects - vec_len n.objects) n.records.spare))));
     } };
 
     ghost invariant = { λ n. (A.count n.acts ≡ n.localities) × (n.here < n.localities) × (n.localities ≤ 64) × IsValid n.profile
@@ -109,6 +114,8 @@ impl<A: Acts + Copy> Node<A> {
             serial: 0,
             accepted: VecDeque::new(alloc),
             running: Vec::new(alloc),
+            pending: Vec::new(alloc),
+            asked: 0,
             desk: VecDeque::new(alloc),
             outgoing: VecDeque::new(alloc),
             objects,
@@ -128,9 +135,17 @@ impl<A: Acts + Copy> Node<A> {
         self.desk.reserve(more)?;
         self.outgoing.reserve(more)?;
         self.running.reserve(more)?;
+        self.pending.reserve(more)?;
         self.objects.reserve(more)?;
         self.records.reserve(n)?;
         Ok(())
+    }
+
+    /// Whether there is another locality of this number.
+    fn is_other(&self, to: u32) -> bool
+        ensures { result ≡ is_other self.now to }
+    {
+        to < self.localities && to != self.here
     }
 
     /// Sends a message: to another locality if there is one of this number, else to the own desk.
@@ -138,9 +153,10 @@ impl<A: Acts + Copy> Node<A> {
         requires fit { IsParcel letter }
         requires may { MayGoTo self.old.here to letter }
         requires spare { 1 ≤ self.old.spare }
-        ensures { Mails letter self.old self.new }
+        ensures mails { Mails letter self.old self.new }
+        ensures goes { self.new ≡ record (with_mail to letter self.old) { spare = self.new.spare } }
     {
-        if to < self.localities && to != self.here {
+        if self.is_other(to) {
             self.outgoing
                 .push_back_reserved(Outgoing { to, parcel: letter });
         } else {
@@ -148,14 +164,21 @@ impl<A: Acts + Copy> Node<A> {
         }
     }
 
-    /// Whether an action may be accepted: its object stands here, and a MOVE is to here.
-    fn stays(&self, act: &Act) -> bool
-        ensures moves { IsTrue result → IfSome (move_to (bare_act act.now)) (λ t. t ≡ self.now.here) }
+    /// Whether an action is a MOVE to elsewhere.
+    fn moves_on(&self, act: &Act) -> bool
+        ensures { result ≡ moves_on self.now.here (move_to act.now) }
     {
         match move_to(act) {
-            Some(to) if to != self.here => false,
-            _ => place_of(self.objects.as_slice(), target(act)).is_some(),
+            Some(to) => to != self.here,
+            None => false,
         }
+    }
+
+    /// Whether an action may be accepted: its object stands here, and a MOVE is to here.
+    fn may_stay(&self, act: &Act) -> bool
+        ensures { result ≡ may_stay self.now act.now }
+    {
+        !self.moves_on(act) && self.holds(target(act))
     }
 
     /// Puts an action where it waits: for its object here, or on the way to its home.
@@ -165,7 +188,7 @@ impl<A: Acts + Copy> Node<A> {
         ensures { Posts act self.old self.new }
     {
         let home = target(&act).home();
-        let stays = self.stays(&act);
+        let stays = self.may_stay(&act);
         let act = Fit::new(act);
         if stays {
             self.accepted.push_back_reserved(act);
@@ -174,12 +197,13 @@ impl<A: Acts + Copy> Node<A> {
         self.mail(home, act.into_letter());
     }
 
-    /// Whether nothing is to be done here: no action waits or runs, and no message is on its way.
+    /// Whether nothing is to be done here: no action waits or runs, no commit waits, and no message is on its way.
     pub fn is_passive(&self) -> bool
         ensures { IsTrue result ↔ IsPassive self.now }
     {
         self.accepted.is_empty()
             && self.running.is_empty()
+            && self.pending.is_empty()
             && self.desk.is_empty()
             && self.outgoing.is_empty()
     }

@@ -1,25 +1,27 @@
 //! Messages that are taken up: frames that come, and messages to the own locality.
 ghost use Rattle.std.specs.Prelude.{◌≡◌, ◌≤◌, ◌<◌, ◌+◌, ◌-◌, ◌^◌, ◌∷◌, ◌++◌, [], ℕ, true, false, Some, None, IsSome, OnOk, OnErr, IfOk, IfErr, Ok, length};
-ghost use Rattle.std.specs.List.{AllByRecursion};
+ghost use Rattle.std.specs.List.{AllByRecursion, list_any};
 ghost use Rattle.hpx_value.specs.Ids.{bare, credit};
 ghost use Rattle.hpx_parcel.specs.Parcels.{IsParcel, HasRightCredit, HasCredit, HasLeastCredit, IsBare};
-ghost use Rattle.hpx_journal.specs.Data.{Return, Ask, Free};
+ghost use Rattle.hpx_journal.specs.Data.{Return, Ask, Give, Free};
 ghost use Rattle.hpx_parcel.specs.Reading.{parcel_of};
 ghost use Rattle.hpx_journal.specs.Weights.{HasRoom};
 ghost use Rattle.hpx_part.specs.Data.{In, Mail};
 ghost use Rattle.hpx_node.specs.Changes.{OnlySpare, Writes};
 ghost use Rattle.hpx_part.specs.Parts.{at_all};
 ghost use Rattle.hpx_node.specs.Stands.{IsTidy, Stands, rules_of};
-ghost use Rattle.hpx_node.specs.Kept.{stands_here, held_here, count_here};
-ghost use Rattle.hpx_node.specs.Strange.{is_live, broken_near};
-ghost use Rattle.hpx_node.specs.Handled.{ups, effects, with_first, kind_of, is_own, broken_here, Handles, GivesUp, Takes, Clears, NotTaken, NotCleared};
+ghost use Rattle.hpx_node.specs.Kept.{stands_here, waits_here, held_here, count_here};
+ghost use Rattle.hpx_node.specs.Pending.{awaits};
+ghost use Rattle.hpx_node.specs.Strange.{is_live, brings_right, broken_near, is_far};
+ghost use Rattle.hpx_node.specs.Handled.{ups, effects, with_first, kind_of, is_own, Handles, GivesUp, Takes, Clears, NotTaken, NotCleared};
+ghost use Rattle.hpx_node.specs.Routes.{Gives, DealsWith, Accepts};
 
-use crate::find::place_of;
+use crate::find::{place_of, waiting_at};
 use crate::kept::Letter;
 use crate::node::Node;
 use crate::parts::{DeskFault, TakeFault};
-use crate::strange::Broken;
 use hpx_agas::records::{Granted, Left};
+use hpx_commit::deal::log_of;
 use hpx_journal::entry::{Entry, Event, Reason};
 use hpx_journal::journal::Journal;
 use hpx_parcel::parcel::{DecodeFault, Parcel};
@@ -159,6 +161,7 @@ impl<A: Acts + Copy> Node<A> {
     fn free(&mut self, book: &mut Journal, o: Gid)
         requires bare { IsBare o }
         requires stands { stands_here self.old o ≡ true }
+        requires idle { waits_here self.old o ≡ false }
         requires none { held_here self.old o ≡ 0 }
         requires tidy { IsTidy self.old [] }
         requires spare { 128 ≤ self.old.spare }
@@ -178,6 +181,31 @@ impl<A: Acts + Copy> Node<A> {
         self.let_go_all(book, &kept.state().ids);
     }
 
+    /// Gives credit that was asked for to the commit that waits for it.
+    fn give(&mut self, book: &mut Journal, id: Gid, entry: u64)
+        requires credit { HasCredit id }
+        requires waits { list_any (awaits id entry) self.old.pending ≡ true }
+        requires brings { brings_right self.old id ≡ true }
+        requires tidy { IsTidy self.old [] }
+        requires page { 1 ≤ book.old.spare }
+        ensures gives { Gives id entry self.old self.new }
+        ensures handles { Handles (rules_of A.act_of self.old.localities self.old.profile) (Give id entry) self.old self.new (effects self.old (Give id entry)) }
+        ensures grows { book.new.entries ≡ book.old.entries ++ at_all self.old.here (effects self.old (Give id entry)) }
+    {
+        let at = self.here;
+        let Some(i) = waiting_at(self.pending.as_slice(), id, entry) else {
+            return;
+        };
+        self.pending[i].refill(id, entry);
+        book.push(Entry {
+            at,
+            event: Event::Given {
+                object: id.bare(),
+                log: log_of(id),
+            },
+        });
+    }
+
     /// Does what a message says that breaks no rule.
     fn handle(&mut self, book: &mut Journal, parcel: Parcel)
         requires fit { IsParcel parcel }
@@ -194,7 +222,7 @@ impl<A: Acts + Copy> Node<A> {
             Parcel::Return(id) => self.take_back(book, id),
             Parcel::Ask { id, asker, entry } => self.answer(book, id, asker, entry),
             Parcel::Free(o) => self.free(book, o),
-            Parcel::Give { id: _, entry: _ } => (),
+            Parcel::Give { id, entry } => self.give(book, id, entry),
             Parcel::Cached { id: _, place: _ } => (),
             Parcel::Go(_) => (),
             Parcel::Object {
@@ -216,6 +244,7 @@ impl<A: Acts + Copy> Node<A> {
         requires stands { Stands A.act_of self.old book.old.entries }
         ensures stands { Stands A.act_of self.new book.new.entries }
         ensures writes { Writes (In bytes ∷ effects self.old parcel) self.old self.new book.old.entries book.new.entries }
+        ensures deals { DealsWith parcel (record self.old { taken = self.old.taken + 1 }) self.new }
         ensures running { self.new.running ≡ self.old.running }
         ensures taken { self.new.taken ≡ self.old.taken + 1 }
         ensures sent { self.new.sent ≡ self.old.sent }
@@ -234,12 +263,14 @@ impl<A: Acts + Copy> Node<A> {
     fn enter_mail(&mut self, book: &mut Journal, parcel: Parcel)
         requires fit { IsParcel parcel }
         requires own { is_own self.old.here parcel ≡ true }
+        requires near { is_far self.old.localities parcel ≡ false }
         requires right { broken_near self.old parcel ≡ None }
         requires spare { 128 ≤ self.old.spare }
         requires page { 130 ≤ book.old.spare }
         requires stands { Stands A.act_of (with_first parcel self.old) book.old.entries }
         ensures stands { Stands A.act_of self.new book.new.entries }
         ensures writes { Writes (Mail (kind_of parcel) ∷ effects self.old parcel) self.old self.new book.old.entries book.new.entries }
+        ensures accepts { Accepts parcel self.old self.new }
         ensures running { self.new.running ≡ self.old.running }
         ensures taken { self.new.taken ≡ self.old.taken }
         ensures sent { self.new.sent ≡ self.old.sent }
@@ -304,20 +335,6 @@ impl<A: Acts + Copy> Node<A> {
         Ok(())
     }
 
-    /// The rule that the first message on the desk breaks, if it breaks one.
-    fn broken_here(&self, parcel: &Parcel) -> Option<Broken>
-        ensures { result ≡ broken_here self.now parcel.now }
-    {
-        match parcel {
-            Parcel::Free(o) if o.home() != self.here => Some(Broken {
-                rule: 7,
-                object: o.bare(),
-                kept: self.held(o.bare()),
-            }),
-            _ => self.broken(parcel),
-        }
-    }
-
     /// Deals with the oldest message to the own locality, if there is one; nothing changes at a refusal.
     pub fn desk(&mut self, book: &mut Journal) -> Result<bool, DeskFault>
         requires room { HasRoom book.old.entries }
@@ -333,7 +350,7 @@ impl<A: Acts + Copy> Node<A> {
         if self.desk.len() == 0 {
             return Ok(false);
         }
-        if let Some(x) = self.broken_here(self.desk[0].parcel()) {
+        if let Some(x) = self.broken(self.desk[0].parcel()) {
             return Err(DeskFault::Strange {
                 rule: x.rule,
                 object: x.object,

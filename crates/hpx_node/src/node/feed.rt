@@ -6,6 +6,7 @@ ghost use Rattle.hpx_part.specs.Data.{Line};
 ghost use Rattle.hpx_node.specs.Fit.{IsFit};
 ghost use Rattle.hpx_node.specs.Stands.{Stands};
 ghost use Rattle.hpx_node.specs.Changes.{OnlySpare, Writes};
+ghost use Rattle.hpx_node.specs.Routes.{with_act};
 
 use crate::node::Node;
 use hpx_journal::entry::{Entry, Event, Name};
@@ -52,6 +53,7 @@ impl<A: Acts + Copy> Node<A> {
         requires stands { Stands A.act_of self.old book.old.entries }
         ensures stands { Stands A.act_of self.new book.new.entries }
         ensures line { Writes (Line action bytes ∷ []) self.old self.new book.old.entries book.new.entries }
+        ensures waits { self.new ≡ record (with_act act (record self.old { serial = self.old.serial + 1 })) { spare = self.new.spare } }
         ensures running { self.new.running ≡ self.old.running }
     {
         let at = self.here;
@@ -63,7 +65,8 @@ impl<A: Acts + Copy> Node<A> {
         });
     }
 
-    /// Accepts a line, as an action on the session. Nothing changes without memory.
+    /// Accepts a line, as an action on the session: it waits here exactly where the session stands here. Nothing changes
+    /// without memory.
     pub fn feed(&mut self, alloc: Global, book: &mut Journal, line: Text) -> Result<(), OutOfMemory>
         requires here { self.old.here ≡ 0 }
         requires short { length line ≤ 1025 }
@@ -71,6 +74,8 @@ impl<A: Acts + Copy> Node<A> {
         requires stands { Stands A.act_of self.old book.old.entries }
         ensures stands { Stands A.act_of self.new book.new.entries }
         ensures running { self.new.running ≡ self.old.running }
+        ensures waits { OnOk result (self.new ≡ record (with_act (line_act (record { origin = self.old.here; serial = self.old.serial + 1 }) line)
+            (record self.old { serial = self.old.serial + 1 })) { spare = self.new.spare }) }
         ensures line { OnOk result (Writes (Line (record { origin = self.old.here; serial = self.old.serial + 1 }) line ∷ []) self.old self.new book.old.entries book.new.entries) }
         ensures err { OnErr result (OnlySpare self.old self.new book.old book.new) }
     {

@@ -7,7 +7,7 @@ ghost use Rattle.hpx_commit.specs.Deals.{AllLast};
 ghost use Rattle.hpx_node.specs.Births.{birth_of, ids_of};
 ghost use Rattle.hpx_node.specs.Commits.{committed, hand_of, places_in_hand, IsPrepared};
 ghost use Rattle.hpx_node.specs.Jobs.{IsAt, IsRunning, IsFitJob, Ends};
-ghost use Rattle.hpx_node.specs.Stands.{Stands};
+ghost use Rattle.hpx_node.specs.Stands.{IsTidy, Stands};
 ghost use Rattle.hpx_node.specs.Changes.{OnlySpare, Writes};
 
 use crate::find::{index_of, place_of, target};
@@ -51,6 +51,7 @@ fn lawful<A: Acts>(done: &Done<A>)
 impl<A: Acts + Copy> Node<A> {
     /// Where the action of a job runs, and where its object stands.
     fn spot(&self, done: &Done<A>) -> Option<(usize, usize)>
+        requires tidy { IsTidy self.now [] }
         ensures found { IfSome result (λ p. (done.now.localities ≡ self.now.localities) × IsAt self.now p.0 p.1 done.now.job) }
         ensures fit { IfSome result (λ p. IsFitJob done.now.job) }
         ensures few { IfSome result (λ p. done.now.localities ≤ 64) }

@@ -6,6 +6,7 @@ ghost use Rattle.hpx_journal.specs.Weights.{HasRoom};
 ghost use Rattle.hpx_part.specs.Data.{Fire};
 ghost use Rattle.hpx_node.specs.Free.{NoneIsFree, IsFree};
 ghost use Rattle.hpx_node.specs.Jobs.{Starts};
+ghost use Rattle.hpx_node.specs.Tables.{fired_acts};
 ghost use Rattle.hpx_node.specs.Stands.{Stands};
 ghost use Rattle.hpx_node.specs.Changes.{OnlySpare, Writes};
 
@@ -38,7 +39,7 @@ impl<A: Acts + Copy> Node<A> {
 
     fn start(&mut self, book: &mut Journal, i: usize)
         requires inside { i < length self.old.accepted }
-        requires free { (act : _) → slice_get self.old.accepted i ≡ Some act → IsFree self.old.running self.old.objects act }
+        requires free { (act : _) → slice_get self.old.accepted i ≡ Some act → IsFree (fired_acts self.old) self.old.objects act }
         requires spare { 1 ≤ self.old.spare }
         requires page { 1 ≤ book.old.spare }
         requires stands { Stands A.act_of self.old book.old.entries }
@@ -65,12 +66,13 @@ impl<A: Acts + Copy> Node<A> {
         ensures stands { Stands A.act_of self.new book.new.entries }
         ensures fired { IfOk result (λ o. IfSome o (λ job. Writes (Fire (name_of job.action) ∷ []) self.old self.new book.old.entries book.new.entries)) }
         ensures job { IfOk result (λ o. IfSome o (Starts self.old self.new)) }
-        ensures none { IfOk result (λ o. IfNone o (NoneIsFree self.old.running self.old.objects self.old.accepted × OnlySpare self.old self.new book.old book.new)) }
+        ensures none { IfOk result (λ o. IfNone o (NoneIsFree (fired_acts self.old) self.old.objects self.old.accepted × OnlySpare self.old self.new book.old book.new)) }
         ensures err { OnErr result (OnlySpare self.old self.new book.old book.new) }
     {
         let (i, j) = match first_free(
             &self.accepted,
             self.running.as_slice(),
+            self.pending.as_slice(),
             self.objects.as_slice(),
         ) {
             Some(spot) => spot,

@@ -9,6 +9,7 @@ use crate::find::place_of;
 use crate::kept::{Fit, Kept, Letter};
 use crate::node::Node;
 use crate::parts::Outgoing;
+use crate::pending::Pending;
 use hpx_parcel::parcel::Parcel;
 use hpx_value::acts::Acts;
 use hpx_value::gid::Gid;
@@ -46,6 +47,17 @@ fn held_in_running(running: &[Fit], o: Gid) -> u128
     let mut sum = 0u128;
     for i in 0..running.len() {
         sum = sum.saturating_add(credit_in(running[i].act().ids.as_slice(), o));
+    }
+    sum
+}
+
+/// The same in the hands of commits that wait.
+fn held_in_hands<A: Acts>(pending: &[Pending<A>], o: Gid) -> u128
+    ensures { result ≡ min (2 ^ 128 - 1) (sum_by (λ w. credit_in o w.hand) pending.now) }
+{
+    let mut sum = 0u128;
+    for i in 0..pending.len() {
+        sum = sum.saturating_add(credit_in(pending[i].hand(), o));
     }
     sum
 }
@@ -165,13 +177,14 @@ impl<A: Acts + Copy> Node<A> {
         self.records.live(i)
     }
 
-    /// The credit of an object in states and actions here, those in messages included.
+    /// The credit of an object in states, actions and the hands of commits here, what is in messages included.
     pub fn held(&self, o: Gid) -> u128
         ensures { result ≡ min (2 ^ 128 - 1) (held_here self.now o) }
     {
         held_in_states(self.objects.as_slice(), o)
             .saturating_add(held_in_accepted(&self.accepted, o))
             .saturating_add(held_in_running(self.running.as_slice(), o))
+            .saturating_add(held_in_hands(self.pending.as_slice(), o))
             .saturating_add(held_on_desk(&self.desk, o))
             .saturating_add(held_on_the_way(&self.outgoing, o))
     }

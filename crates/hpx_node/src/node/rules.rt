@@ -4,11 +4,13 @@ ghost use Rattle.std.specs.List.{list_any};
 ghost use Rattle.hpx_value.specs.Ids.{bare};
 ghost use Rattle.hpx_journal.specs.Entries.{move_to};
 ghost use Rattle.hpx_node.specs.Kept.{record_here};
-ghost use Rattle.hpx_node.specs.Strange.{object_of, are_far, moves_far, is_far_act, is_far, is_live, is_lost, is_to_here, breaks, broken_return, broken_act, broken_move, broken_go, broken_object, broken_landed, broken_free, broken_near, broken};
+ghost use Rattle.hpx_node.specs.Pending.{awaits};
+ghost use Rattle.hpx_node.specs.Strange.{object_of, are_far, moves_far, is_far_act, is_far, is_live, is_lost, is_to_here, breaks, brings_right, broken_return, broken_act, broken_move, broken_go, broken_object, broken_landed, broken_give, broken_free, broken_near, broken};
 
-use crate::find::target;
+use crate::find::{target, waits_on};
 use crate::node::Node;
 use crate::strange::Broken;
+use hpx_commit::deal::log_of;
 use hpx_journal::local::move_to;
 use hpx_parcel::parcel::Parcel;
 use hpx_value::acts::Acts;
@@ -181,12 +183,38 @@ impl<A: Acts + Copy> Node<A> {
         breaks(8, parcel, self.records.number() as u128)
     }
 
+    /// Whether a commit waits for an id of the object, asked for under a number.
+    fn awaits(&self, o: Gid, entry: u64) -> bool
+        ensures { result ≡ list_any (awaits o entry) self.now.pending }
+    {
+        self.pending.iter().any(|w| w.awaits(o, entry))
+    }
+
+    /// Whether an id brings no more credit, or that of a new object.
+    fn brings(&self, id: Gid) -> bool
+        ensures { result ≡ brings_right self.now id }
+    {
+        let log = log_of(id);
+        log == 0 || log == self.profile.credit_log
+    }
+
+    /// What credit breaks that is given.
+    fn broken_give(&self, parcel: &Parcel, id: Gid, entry: u64) -> Option<Broken>
+        ensures { result ≡ broken_give self.now parcel.now id entry }
+    {
+        if self.awaits(id, entry) && self.brings(id) {
+            return None;
+        }
+        breaks(3, parcel, entry as u128)
+    }
+
     /// What an object that is to be freed breaks.
     fn broken_free(&self, parcel: &Parcel, o: Gid) -> Option<Broken>
         ensures { result ≡ broken_free self.now parcel.now o }
     {
         let held = self.held(o);
-        if self.holds(o) && held == 0 {
+        let waits = waits_on(self.pending.as_slice(), o);
+        if self.holds(o) && !waits && held == 0 {
             return None;
         }
         breaks(7, parcel, held)
@@ -219,7 +247,7 @@ impl<A: Acts + Copy> Node<A> {
                 asker: _,
                 entry: _,
             } => self.broken_return(parcel, *id, None),
-            Parcel::Give { id: _, entry } => breaks(3, parcel, *entry as u128),
+            Parcel::Give { id, entry } => self.broken_give(parcel, *id, *entry),
             Parcel::Cached { id: _, place: _ } => {
                 breaks(8, parcel, self.records.number() as u128)
             }

@@ -51,7 +51,8 @@ settle-requires-clause-kept g c =
     let there = stands_then t d.job c.args.prepared c.args.i c.args.j at c.bear_all.new.self c.bear_all.ensures.made in
     let kept = all_at IsKept t.objects c.args.j at.standing c.requires.stands.tidy.objects at.stands in
     λ x h. let e : at.standing ≡ x = some_same at.standing x (sym there ∙ h) in
-    state_kept t d.job d.outcome c.requires.fit c.requires.few laws c.args.prepared c.requires.prepared x.object (subst (λ (y : Standing). y.object.kind ≤ 63) e kept.kind)
+    subst (λ (y : Standing). IsKept (record { object = y.object; state = c.args.prepared.plan.state })) e
+    (state_kept t d.job d.outcome c.requires.fit c.requires.few laws c.args.prepared c.requires.prepared at.standing kept at.kind at.state)
 
 pub settle-requires-clause-page : goal.settle-requires-clause-page
 settle-requires-clause-page g c =

@@ -1,5 +1,6 @@
-use Rattle.std.proofs.Common.{◌+◌}
-use Rattle.hpx_node.proofs.Taken.{taken_by, taken_tidy}
+use Rattle.std.proofs.Common.{◌+◌, ◌∙◌, ap}
+use Rattle.hpx_node.specs.Tables.{Tables}
+use Rattle.hpx_node.proofs.Taken.{taken_by, taken_tidy, taken_writes}
 use Rattle.hpx_node.proofs.FewEntries.{grows_few}
 use Rattle.hpx_node.proofs.node.Node.enter_frame.Goals as goal
 
@@ -17,3 +18,13 @@ pub returns-clause-few : goal.returns-clause-few
 returns-clause-few g c =
     let stands = rw (← c.self.view_is) at c.requires.stands in
     grows_few c.self.inside.here _ _ c.args.parcel _ _ _ (taken_tidy _ (c.self.inside.taken + 1) stands.tidy) c.push.ensures.entries c.handle.ensures.grows
+
+pub returns-clause-writes : goal.returns-clause-writes
+returns-clause-writes g c =
+    let h = c.handle.ensures.handles in
+    record {
+      here = h.here ∙ ap (λ (t : Tables). t.here) c.self.view_is;
+      localities = h.localities ∙ ap (λ (t : Tables). t.localities) c.self.view_is;
+      profile = h.profile ∙ ap (λ (t : Tables). t.profile) c.self.view_is;
+      grows = taken_writes _ c.args.self.now (c.self.inside.taken + 1) c.args.parcel c.args.bytes _ _ _ c.self.view_is c.push.ensures.entries c.handle.ensures.grows;
+    }

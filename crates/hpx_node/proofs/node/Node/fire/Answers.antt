@@ -1,6 +1,7 @@
 use Rattle.std.proofs.Common.{◌≡◌, Some, refl, sym, ◌∙◌}
 use Rattle.std.specs.List.{slice_get}
 use Rattle.hpx_node.specs.Free.{IsFree}
+use Rattle.hpx_node.specs.Pending.{fired_of}
 use Rattle.hpx_node.proofs.FreeLemmas.{started_runs}
 use Rattle.hpx_node.proofs.Same.{writes_from, stands_same}
 use Rattle.hpx_node.proofs.node.Node.fire.Goals as goal
@@ -13,16 +14,16 @@ returns-clause-fired g c =
 pub returns-clause-job : goal.returns-clause-job
 returns-clause-job g c =
     let at = rw (← c.self.view_is) at c.in_ok-job.ensures.action in
-    let free : IsFree c.self.inside.running.items c.self.inside.objects.items c.in_ok-job.job.action =
-    rw (← c.as_slice.ensures.value, ← c.as_slice-2.ensures.value) (c.in-Some.ensures.free c.in_ok-job.job.action at) in
-    let found = rw c.as_slice-2.ensures.value at (c.in-Some.ensures.found c.in_ok-job.job.action at) in
+    let free : IsFree (fired_of c.self.inside.running.items c.self.inside.pending.items) c.self.inside.objects.items c.in_ok-job.job.action =
+    rw (← c.as_slice.ensures.value, ← c.as_slice-2.ensures.value, ← c.as_slice-3.ensures.value) (c.in-Some.ensures.free c.in_ok-job.job.action at) in
+    let found = rw c.as_slice-3.ensures.value at (c.in-Some.ensures.found c.in_ok-job.job.action at) in
     let stands : slice_get c.self.inside.objects.items c.in-Some.spot.1 ≡ Some free.standing = sym found ∙ free.found in
     let job = (rw (← c.self.view_is) at c.in_ok-job.ensures.object) free.standing stands in
     rw (← c.self.view_is) (record {
       i = c.in-Some.spot.0;
       standing = free.standing;
       action = at;
-      first = rw (← c.as_slice.ensures.value, ← c.as_slice-2.ensures.value) c.in-Some.ensures.first;
+      first = rw (← c.as_slice.ensures.value, ← c.as_slice-2.ensures.value, ← c.as_slice-3.ensures.value) c.in-Some.ensures.first;
       free = free;
       found = free.found;
       here = rw (← c.self.view_is) at c.in_ok-job.ensures.here;

@@ -3,18 +3,36 @@ use Rattle.std.specs.List.{find, slice_get}
 use Rattle.hpx_journal.specs.Local.{is_standing}
 use Rattle.hpx_part.proofs.Keyed.{slice_get_is}
 use Rattle.hpx_node.specs.Tables.{Tables}
-use Rattle.hpx_node.proofs.Freed.{freed_handles, freed_grows, without_tidy}
+use Rattle.hpx_node.proofs.Freed.{freed_handles, freed_grows, without_tidy, without_whole}
 use Rattle.hpx_node.proofs.node.Node.free.Goals as goal
 
 pub let_go_all-requires-clause-tidy : goal.let_go_all-requires-clause-tidy
 let_go_all-requires-clause-tidy g c =
     let tidy = rw (← c.self.view_is) at c.requires.tidy in
-    rw (c.remove-kept.ensures.items) (without_tidy _ c.in-Some.i _ tidy)
+    let idle = rw (← c.self.view_is) at c.requires.idle in
+    let inside : c.in-Some.i < length c.self.inside.objects.items = rw (c.as_slice.ensures.value) at c.in-Some.ensures.inside in
+    let there : slice_get c.self.inside.objects.items c.in-Some.i ≡ Some c.remove-kept.result =
+    slice_get_is c.self.inside.objects.items c.in-Some.i c.remove-kept.result inside c.remove-kept.ensures.value in
+    let found : find (is_standing c.args.o) c.self.inside.objects.items ≡ Some c.remove-kept.result =
+    (rw (c.as_slice.ensures.value) at c.in-Some.ensures.found) ∙ there in
+    rw (c.remove-kept.ensures.items) (without_tidy _ c.args.o c.remove-kept.result c.in-Some.i _ there found idle tidy)
+
+pub let_go_all-requires-clause-right : goal.let_go_all-requires-clause-right
+let_go_all-requires-clause-right g c =
+    let tidy = rw (← c.self.view_is) at c.requires.tidy in
+    let idle = rw (← c.self.view_is) at c.requires.idle in
+    let inside : c.in-Some.i < length c.self.inside.objects.items = rw (c.as_slice.ensures.value) at c.in-Some.ensures.inside in
+    let there : slice_get c.self.inside.objects.items c.in-Some.i ≡ Some c.remove-kept.result =
+    slice_get_is c.self.inside.objects.items c.in-Some.i c.remove-kept.result inside c.remove-kept.ensures.value in
+    let found : find (is_standing c.args.o) c.self.inside.objects.items ≡ Some c.remove-kept.result =
+    (rw (c.as_slice.ensures.value) at c.in-Some.ensures.found) ∙ there in
+    rw (c.state.ensures.state) (without_whole _ c.args.o c.remove-kept.result c.in-Some.i there found idle tidy)
 
 pub returns-clause-handles : goal.returns-clause-handles
 returns-clause-handles g c =
     let tidy = rw (← c.self.view_is) at c.requires.tidy in
     let none = rw (← c.self.view_is) at c.requires.none in
+    let idle = rw (← c.self.view_is) at c.requires.idle in
     let inside : c.in-Some.i < length c.self.inside.objects.items = rw (c.as_slice.ensures.value) at c.in-Some.ensures.inside in
     let there : slice_get c.self.inside.objects.items c.in-Some.i ≡ Some c.remove-kept.result =
     slice_get_is c.self.inside.objects.items c.in-Some.i c.remove-kept.result inside c.remove-kept.ensures.value in
@@ -22,7 +40,7 @@ returns-clause-handles g c =
     (rw (c.as_slice.ensures.value) at c.in-Some.ensures.found) ∙ there in
     let gives = rw (c.state.ensures.state, c.remove-kept.ensures.items) at c.let_go_all.ensures.gives in
     rw (← c.self.view_is)
-    (freed_handles _ _ _ c.args.o c.remove-kept.result c.in-Some.i _ c.requires.bare tidy none there found gives _ found)
+    (freed_handles _ _ _ c.args.o c.remove-kept.result c.in-Some.i _ c.requires.bare tidy idle none there found gives _ found)
 
 pub returns-clause-grows : goal.returns-clause-grows
 returns-clause-grows g c =

@@ -7,7 +7,7 @@ use Rattle.hpx_node.proofs.node.Node.give_up.Goals as goal
 pub returns-in-Some-clause-stands : goal.returns-in-Some-clause-stands
 returns-in-Some-clause-stands g c =
     let is : c.args.loose.now.items ≡ c.in-Some.id ∷ c.pop_front.new.self.items = c.in-Some.ensures.items in
-    let mails = rw (c.new.ensures) at c.mail.ensures in
+    let mails = rw (c.new.ensures) at c.mail.ensures.mails in
     let credit = credit_log_is c.in-Some.id (rw is at c.requires.credit).0 in
     let here : c.self.inside.here ≡ c.args.self.now.here = ap (λ (x : Tables). x.here) c.self.view_is in
     rw (c.push.ensures.entries, c.log_of-log.ensures.log, c.bare.ensures, here)

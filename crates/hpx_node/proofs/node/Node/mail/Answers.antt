@@ -1,14 +1,20 @@
-use Rattle.std.proofs.Common.{arith}
+use Rattle.std.proofs.Common.{◌≡◌, ◌∙◌, true, false, sym, arith}
+use Rattle.hpx_node.specs.Routes.{is_other}
 use Rattle.hpx_node.proofs.Mailed.{mails_out, mails_desk}
 use Rattle.hpx_node.proofs.node.Node.mail.Goals as goal
 
-pub returns-then-to-self-2 : goal.returns-then-to-self-2
-returns-then-to-self-2 g c =
+pub returns-then-is_other-clause-mails : goal.returns-then-is_other-clause-mails
+returns-then-is_other-clause-mails g c =
     let may = rw (← c.self.view_is) at c.requires.may in
+    let told : is_other c.args.self.now c.args.to ≡ true = sym c.is_other.ensures ∙ c.if-is_other.true in
+    let other = rw (← c.self.view_is) at told in
     rw (← c.self.view_is, c.push_back_reserved.ensures.items)
-    (mails_out _ c.args.letter _ c.requires.fit (omega arith) c.args.to c.if-to-self.true c.if-to-self-2.true may)
+    (mails_out _ c.args.letter _ c.requires.fit (omega arith) c.args.to other may)
 
-pub returns-else-to-self : goal.returns-else-to-self
-returns-else-to-self g c =
-    rw (← c.self.view_is, c.push_back_reserved-else-to-self.ensures.items)
-    (mails_desk _ c.args.letter _ c.requires.fit (omega arith))
+pub returns-else-is_other-clause-mails : goal.returns-else-is_other-clause-mails
+returns-else-is_other-clause-mails g c =
+    let may = rw (← c.self.view_is) at c.requires.may in
+    let told : is_other c.args.self.now c.args.to ≡ false = sym c.is_other.ensures ∙ c.if-is_other.false in
+    let own = rw (← c.self.view_is) at told in
+    rw (← c.self.view_is, c.push_back_reserved-else-is_other.ensures.items)
+    (mails_desk _ c.args.letter _ c.requires.fit (omega arith) c.args.to own may)

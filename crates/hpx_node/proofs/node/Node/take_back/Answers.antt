@@ -15,9 +15,10 @@ returns-in-Dead-clause-handles g c =
     let live = rw (← c.self.view_is) at c.requires.live in
     let enough = rw (← c.self.view_is) at c.requires.enough in
     let tidy = rw (← c.self.view_is) at c.requires.tidy in
-    let mails = rw (c.new.ensures, c.bare-object.ensures) at c.mail.ensures in
+    let mails = rw (c.new.ensures, c.bare-object.ensures) at c.mail.ensures.mails in
+    let goes = rw (c.new.ensures, c.bare-object.ensures) at c.mail.ensures.goes in
     rw (← c.self.view_is)
-    (dead_by _ _ _ _ c.args.self.now c.args.id c.in-Some.log c.in-Dead.place c.self.view_is tidy mails (sym c.log.ensures ∙ c.in-Some.is) live enough
+    (dead_by _ _ _ _ c.args.self.now c.args.id c.in-Some.log c.in-Dead.place c.self.view_is tidy mails goes (sym c.log.ensures ∙ c.in-Some.is) live enough
     (recounted _ _ _ _ tidy (ap (λ (x : Registry Parcel). x.births) c.in-Ok.ensures.rest))
     c.in-Ok.ensures.record c.in-Ok.ensures.others (rw c.in-Dead.is at c.in-Ok.ensures.left))
 
@@ -29,4 +30,4 @@ returns-in_default-left-clause-handles g c =
     rw (← c.self.view_is)
     (alive_by _ _ _ c.args.self.now c.args.id c.in-Some.log c.self.view_is tidy (sym c.log.ensures ∙ c.in-Some.is) live enough
     (recounted _ _ _ _ tidy (ap (λ (x : Registry Parcel). x.births) c.in-Ok.ensures.rest))
-    c.in-Ok.ensures.record c.in-Ok.ensures.others)
+    c.in-Ok.ensures.record c.in-Ok.ensures.others (rw c.in_default-left.is at c.in-Ok.ensures.left))

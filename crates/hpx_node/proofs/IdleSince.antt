@@ -1,0 +1,48 @@
+-- From a passive moment on, the entries alone pay.
+use Rattle.std.proofs.Common.{List, [], ◌++◌, ◌≡◌, ◌≤◌, ◌+◌, map, refl, ap, ◌∙◌, arith}
+use Rattle.std.specs.List.{sum_by}
+use Rattle.std.proofs.lemmas.List.Sums.{sum_by-append}
+use Rattle.hpx_journal.specs.Data.{Parcel}
+use Rattle.hpx_journal.specs.Entries.{Rules}
+use Rattle.hpx_journal.specs.Whole.{part}
+use Rattle.hpx_journal.proofs.Grow.{part_append}
+use Rattle.hpx_part.specs.Data.{Entry}
+use Rattle.hpx_node.specs.declared.parts.Outgoing.{Outgoing}
+use Rattle.hpx_node.specs.Tables.{Tables, IsPassive, messages}
+use Rattle.hpx_node.specs.Idle.{Row, Actions, weight, goes, causes, hops, queued, unpaid}
+use Rattle.hpx_node.specs.Stands.{StandsWith}
+use Rattle.hpx_node.proofs.IdleRows.{by_rows}
+
+none_queued : (row : Row) → queued row [] ≡ 0
+none_queued = by_rows (λ row. queued row [] ≡ 0) refl refl refl refl refl refl refl
+
+passive_unpaid : (t : Tables) → IsPassive t → (row : Row) → unpaid row t ≡ 0
+passive_unpaid t passive row =
+    let none : messages t ≡ [] =
+    ap (λ (d : List Parcel). d ++ map (λ (x : Outgoing). x.parcel) t.outgoing) passive.desk
+    ∙ ap (λ (xs : List Outgoing). map (λ (x : Outgoing). x.parcel) xs) passive.outgoing in
+    omega (arith, ap (sum_by (weight row)) none, ap (queued row) passive.accepted, none_queued row)
+
+pub paid_since : (r : Rules) (t t' : Tables) (entries later : List Entry) → StandsWith r t [] [] entries → IsPassive t
+    → StandsWith r t' [] [] (entries ++ later) → t'.here ≡ t.here → (row : Row)
+    → sum_by (λ (e : Entry). goes r row e.event) (part t.here later) + unpaid row t'
+    ≡ sum_by (λ (e : Entry). causes r row e.event) (part t.here later)
+paid_since r t t' entries later h passive h' here row =
+    let g = λ (e : Entry). goes r row e.event in
+    let c = λ (e : Entry). causes r row e.event in
+    let split : part t'.here (entries ++ later) ≡ part t.here entries ++ part t.here later =
+    ap (λ k. part k (entries ++ later)) here ∙ part_append t.here entries later in
+    omega (
+      arith,
+      h.paid.rows row,
+      h'.paid.rows row,
+      passive_unpaid t passive row,
+      ap (sum_by (λ (e : Entry). goes r row e.event)) split,
+      ap (sum_by (λ (e : Entry). causes r row e.event)) split,
+      sum_by-append (λ (e : Entry). goes r row e.event) (part t.here entries) (part t.here later),
+      sum_by-append (λ (e : Entry). causes r row e.event) (part t.here entries) (part t.here later),
+    )
+
+pub hops_once : (r : Rules) (t : Tables) (entries : List Entry) → StandsWith r t [] [] entries
+    → sum_by (λ (e : Entry). hops r e.event) (part t.here entries) ≤ sum_by (λ (e : Entry). causes r Actions e.event) (part t.here entries)
+hops_once r t entries h = omega (arith, h.paid.once)

@@ -1,0 +1,250 @@
+-- Each step pays for what it does.
+use Rattle.std.proofs.Common.{ℕ, suc, List, [], ◌∷◌, ◌++◌, ◌≡◌, ◌+◌, ◌≤◌, Some, length, length-append, take, drop, refl, ap, arith}
+use Rattle.std.specs.List.{sum_by, slice_get, remove, AllByRecursion}
+use Rattle.std.proofs.lemmas.List.Sums.{sum_by-cons, sum_by-append}
+use Rattle.hpx_journal.specs.Data.{Id, Act, Parcel, Return, Free}
+use Rattle.hpx_journal.specs.Entries.{Rules}
+use Rattle.hpx_part.specs.Data.{Name, Entry, Event, Line, Fire, Sent, Up, Freed, Mail, Out, In}
+use Rattle.hpx_part.specs.Parts.{at_all}
+use Rattle.hpx_part.proofs.Keyed.{split_get}
+use Rattle.hpx_node.specs.Fit.{parcel_for}
+use Rattle.hpx_node.specs.Tables.{Tables, messages}
+use Rattle.hpx_node.specs.Idle.{Row, Returns, Asks, Gives, Frees, Counts, Refusals, Actions, kind_of, brings, weight, owes, goes, causes, hops, of_act, queued, unpaid, Pays, PaysFor, IsPaid}
+use Rattle.hpx_node.specs.Changes.{Mails}
+use Rattle.hpx_node.specs.Handled.{with_first}
+use Rattle.hpx_node.proofs.IdleRows.{Costs, nothing, IsIdle, none_sums, none_hops, act_weight, line_costs, sent_costs, fire_costs, up_costs, out_costs, in_costs, mail_costs, mail_hops, free_owes, freed_idle}
+
+-- ---- what is unpaid
+
+-- one more message
+pub mails_pending : (p : Parcel) (t t' : Tables) → Mails p t t' → (row : Row) → unpaid row t' ≡ unpaid row t + weight row p
+mails_pending p t t' mails row = omega (
+  arith,
+  ap (sum_by (weight row)) mails.before,
+  ap (sum_by (weight row)) mails.after,
+  sum_by-append (weight row) mails.front mails.back,
+  sum_by-append (weight row) mails.front (p ∷ mails.back),
+  sum_by-cons (weight row) p mails.back,
+  ap (λ (x : Tables). queued row x.accepted) mails.rest,
+)
+
+queued_more : (row : Row) (l : List Act) (act : Act) (m : List Act) → queued row (l ++ act ∷ m) ≡ queued row (l ++ m) + of_act row
+queued_more Actions l act m = omega (arith, length-append l (act ∷ m), length-append l m)
+queued_more Returns l act m = refl
+queued_more Asks l act m = refl
+queued_more Gives l act m = refl
+queued_more Frees l act m = refl
+queued_more Counts l act m = refl
+queued_more Refusals l act m = refl
+
+queued_last : (row : Row) (l : List Act) (act : Act) → queued row (l ++ act ∷ []) ≡ queued row l + of_act row
+queued_last Actions l act = omega (arith, length-append l (act ∷ []))
+queued_last Returns l act = refl
+queued_last Asks l act = refl
+queued_last Gives l act = refl
+queued_last Frees l act = refl
+queued_last Counts l act = refl
+queued_last Refusals l act = refl
+
+-- one more accepted action
+pub accepted_pending : (act : Act) (t : Tables) (spare : ℕ) (row : Row)
+    → unpaid row (record t { accepted = t.accepted ++ act ∷ []; spare = spare }) ≡ unpaid row t + of_act row
+accepted_pending act t spare row = omega (arith, queued_last row t.accepted act)
+
+-- one more action in a message
+pub mailed_pending : (act : Act) (t t' : Tables) → Mails (parcel_for act) t t' → (row : Row) → unpaid row t' ≡ unpaid row t + of_act row
+mailed_pending act t t' mails row = omega (arith, mails_pending (parcel_for act) t t' mails row, act_weight act row)
+
+-- ---- a journal that grows
+
+one_sum : (f : Event → ℕ) (e : Event) → sum_by f (e ∷ []) ≡ f e
+one_sum f e = omega (arith, sum_by-cons f e [])
+
+pub sum_at : (f : Event → ℕ) (k : ℕ) (es : List Event) → sum_by (λ (e : Entry). f e.event) (at_all k es) ≡ sum_by f es
+sum_at f k [] = refl
+sum_at f k (e ∷ es) = omega (
+  arith,
+  sum_by-cons (λ (x : Entry). f x.event) (record { at = k; event = e }) (at_all k es),
+  sum_by-cons f e es,
+  sum_at f k es,
+)
+
+pub paid_more : (r : Rules) (t t' : Tables) (k : ℕ) (es : List Entry) (events : List Event) → IsPaid r t es → Pays r t t' events
+    → IsPaid r t' (es ++ at_all k events)
+paid_more r t t' k es events paid pays = record {
+  rows = λ row. omega (
+    arith,
+    paid.rows row,
+    pays.rows row,
+    sum_by-append (λ (e : Entry). goes r row e.event) es (at_all k events),
+    sum_by-append (λ (e : Entry). causes r row e.event) es (at_all k events),
+    sum_at (goes r row) k events,
+    sum_at (causes r row) k events,
+  );
+  once = omega (
+    arith,
+    paid.once,
+    pays.kept,
+    pays.rows Actions,
+    sum_by-append (λ (e : Entry). hops r e.event) es (at_all k events),
+    sum_by-append (λ (e : Entry). causes r Actions e.event) es (at_all k events),
+    sum_at (hops r) k events,
+    sum_at (causes r Actions) k events,
+  );
+}
+
+-- ---- steps
+
+pub pays_one : (r : Rules) (t t' : Tables) (e : Event) (g c : Row → ℕ) → Costs r e g c
+    → ((row : Row) → g row + unpaid row t' ≡ unpaid row t + c row) → hops r e + length t.accepted ≤ g Actions + length t'.accepted
+    → Pays r t t' (e ∷ [])
+pays_one r t t' e g c costs h few = record {
+  rows = λ row. omega (arith, h row, costs.goes row, costs.causes row, one_sum (goes r row) e, one_sum (causes r row) e);
+  kept = omega (arith, few, costs.goes Actions, one_sum (goes r Actions) e, one_sum (hops r) e);
+}
+
+-- entries that count nothing
+pub pays_idle : (r : Rules) (t t' : Tables) (es : List Event) → AllByRecursion (IsIdle r) es → ((row : Row) → unpaid row t' ≡ unpaid row t)
+    → t'.accepted ≡ t.accepted → Pays r t t' es
+pays_idle r t t' es idle h same = record {
+  rows = λ row. let sums = none_sums r es idle row in omega (arith, h row, sums.0, sums.1);
+  kept = omega (arith, none_hops r es idle, ap (λ (xs : List Act). length xs) same);
+}
+
+pub pays_line : (r : Rules) (t t' : Tables) (a : Name) (bytes : List ℕ) → ((row : Row) → unpaid row t' ≡ unpaid row t + of_act row)
+    → length t.accepted ≤ length t'.accepted → Pays r t t' (Line a bytes ∷ [])
+pays_line r t t' a bytes more kept =
+    pays_one r t t' (Line a bytes) nothing of_act (line_costs r a bytes) (λ row. omega (arith, more row)) (omega (arith, kept))
+
+pub pays_sent : (r : Rules) (t t' : Tables) (a : Name) → ((row : Row) → unpaid row t' ≡ unpaid row t + of_act row)
+    → length t.accepted ≤ length t'.accepted → Pays r t t' (Sent a ∷ [])
+pays_sent r t t' a more kept = pays_one r t t' (Sent a) nothing of_act (sent_costs r a) (λ row. omega (arith, more row)) (omega (arith, kept))
+
+pub pays_up : (r : Rules) (t t' : Tables) (id o : Id) (log : ℕ) → Mails (Return id) t t' → Pays r t t' (Up o log ∷ [])
+pays_up r t t' id o log mails =
+    pays_one r t t' (Up o log) nothing (λ row. weight row (Return id)) (up_costs r o id log)
+    (λ row. omega (arith, mails_pending (Return id) t t' mails row)) (omega (arith, ap (λ (x : Tables). length x.accepted) mails.rest))
+
+pub pays_fire : (r : Rules) (t t' : Tables) (i : ℕ) (act : Act) (a : Name) → slice_get t.accepted i ≡ Some act → messages t' ≡ messages t
+    → t'.accepted ≡ remove t.accepted i → Pays r t t' (Fire a ∷ [])
+pays_fire r t t' i act a is same gone =
+    pays_one r t t' (Fire a) of_act nothing (fire_costs r a)
+    (λ row. omega (
+      arith,
+      ap (sum_by (weight row)) same,
+      ap (queued row) gone,
+      ap (queued row) (split_get t.accepted i act is),
+      queued_more row (take i t.accepted) act (drop (suc i) t.accepted),
+    ))
+    (omega (
+      arith,
+      ap (λ (xs : List Act). length xs) gone,
+      ap (λ (xs : List Act). length xs) (split_get t.accepted i act is),
+      length-append (take i t.accepted) (act ∷ drop (suc i) t.accepted),
+      length-append (take i t.accepted) (drop (suc i) t.accepted),
+    ))
+
+pub pays_out : (r : Rules) (t t' : Tables) (to : ℕ) (bytes : List ℕ) (p : Parcel) (front back : List Parcel) → r.parcel_of bytes ≡ Some p
+    → messages t ≡ front ++ p ∷ back → messages t' ≡ front ++ back → t'.accepted ≡ t.accepted → Pays r t t' (Out to bytes ∷ [])
+pays_out r t t' to bytes p front back spelled before after same =
+    let costs = out_costs r to bytes p spelled in
+    pays_one r t t' (Out to bytes) (λ row. weight row p) nothing costs
+    (λ row. omega (
+      arith,
+      ap (sum_by (weight row)) before,
+      ap (sum_by (weight row)) after,
+      ap (queued row) same,
+      sum_by-append (weight row) front (p ∷ back),
+      sum_by-append (weight row) front back,
+      sum_by-cons (weight row) p back,
+    ))
+    (omega (arith, costs.hops, costs.goes Actions, ap (λ (xs : List Act). length xs) same))
+
+-- ---- a message is taken up
+
+pub pays_in : (r : Rules) (t u t' : Tables) (p : Parcel) (bytes : List ℕ) (events : List Event) → r.parcel_of bytes ≡ Some p
+    → ((row : Row) → unpaid row u ≡ unpaid row t) → u.accepted ≡ t.accepted → PaysFor r p u t' events → Pays r t t' (In bytes ∷ events)
+pays_in r t u t' p bytes events spelled same queue pays =
+    let costs = in_costs r bytes p spelled in record {
+      rows = λ row. omega (
+        arith,
+        pays.rows row,
+        same row,
+        costs.goes row,
+        costs.causes row,
+        sum_by-cons (goes r row) (In bytes) events,
+        sum_by-cons (causes r row) (In bytes) events,
+      );
+      kept = omega (
+        arith,
+        pays.kept,
+        costs.goes Actions,
+        ap (λ (xs : List Act). length xs) queue,
+        sum_by-cons (goes r Actions) (In bytes) events,
+        sum_by-cons (hops r) (In bytes) events,
+      );
+    }
+
+-- from the desk, where an action is accepted
+pub pays_mail : (r : Rules) (t t' : Tables) (p : Parcel) (events : List Event) → brings p + length t.accepted ≤ length t'.accepted
+    → sum_by (hops r) events ≡ 0 → PaysFor r p t t' events → Pays r (with_first p t) t' (Mail (kind_of p) ∷ events)
+pays_mail r t t' p events kept none pays = record {
+  rows = λ row. omega (
+    arith,
+    pays.rows row,
+    mail_costs r p row,
+    sum_by-cons (weight row) p (messages t),
+    sum_by-cons (goes r row) (Mail (kind_of p)) events,
+    sum_by-cons (causes r row) (Mail (kind_of p)) events,
+  );
+  kept = omega (arith, kept, none, mail_hops r p, sum_by-cons (hops r) (Mail (kind_of p)) events);
+}
+
+-- ---- what a message does that was taken up
+
+-- its action waits
+pub pays_for_act : (r : Rules) (t t' : Tables) (p : Parcel) → ((row : Row) → owes row p ≡ of_act row)
+    → ((row : Row) → unpaid row t' ≡ unpaid row t + of_act row) → length t.accepted ≤ length t'.accepted → PaysFor r p t t' []
+pays_for_act r t t' p owed more kept = record {
+  rows = λ row. omega (arith, owed row, more row);
+  kept = omega (arith, kept);
+}
+
+-- one list of entries after the other
+pub pays_on : (r : Rules) (t m t' : Tables) (es fs : List Event) → Pays r t m es → Pays r m t' fs → Pays r t t' (es ++ fs)
+pays_on r t m t' es fs a b = record {
+  rows = λ row. omega (
+    arith,
+    a.rows row,
+    b.rows row,
+    sum_by-append (goes r row) es fs,
+    sum_by-append (causes r row) es fs,
+  );
+  kept = omega (arith, a.kept, b.kept, sum_by-append (goes r Actions) es fs, sum_by-append (hops r) es fs);
+}
+
+-- an object is freed
+pub pays_freed : (r : Rules) (t m t' : Tables) (o : Id) (events : List Event) → ((row : Row) → unpaid row m ≡ unpaid row t)
+    → m.accepted ≡ t.accepted → Pays r m t' events → PaysFor r (Free o) t t' (Freed o ∷ events)
+pays_freed r t m t' o events same queue pays =
+    let idle = freed_idle r o in record {
+      rows = λ row. omega (
+        arith,
+        pays.rows row,
+        same row,
+        free_owes o row,
+        idle.goes row,
+        idle.causes row,
+        sum_by-cons (goes r row) (Freed o) events,
+        sum_by-cons (causes r row) (Freed o) events,
+      );
+      kept = omega (
+        arith,
+        pays.kept,
+        idle.goes Actions,
+        idle.hops,
+        ap (λ (xs : List Act). length xs) queue,
+        sum_by-cons (goes r Actions) (Freed o) events,
+        sum_by-cons (hops r) (Freed o) events,
+      );
+    }

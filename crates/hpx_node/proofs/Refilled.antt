@@ -1,0 +1,540 @@
+-- Credit that was asked for is given to a commit that waits for it.
+use Rattle.std.proofs.Common.{ℕ, zero, suc, Bool, true, false, cond, List, [], ◌∷◌, ◌++◌, ◌≡◌, ◌+◌, ◌≤◌, ◌<◌, ◌==◌, Option, Some, None, map, set, take, drop, length, length-append, get_or, refl, sym, ap, ◌∙◌, arith, inl, inr, subst}
+use Rattle.std.specs.Prelude.{flat_map, ◌&&◌, ◌⊎◌, not, is_some, MatchOption}
+use Rattle.std.specs.List.{sum_by, count_by, filter, find, list_any, slice_get, remove, AllByRecursion}
+use Rattle.std.proofs.lemmas.Bool.{cases_Bool, eqb-true, eq-eqb}
+use Rattle.std.proofs.lemmas.List.Sums.{sum_by-cons, sum_by-append}
+use Rattle.hpx_value.specs.Ids.{bare, same_object}
+use Rattle.hpx_value.specs.Values.{bare_act}
+use Rattle.hpx_value.specs.Hands.{id_at}
+use Rattle.hpx_parcel.specs.Parcels.{HasCredit, HasRightCredit}
+use Rattle.hpx_value.specs.declared.acts.Job.{Job}
+use Rattle.hpx_journal.specs.Data.{Id, Act, State, Outcome, Give}
+use Rattle.hpx_journal.specs.Entries.{Rules, name_of}
+use Rattle.hpx_journal.specs.Local.{is_busy}
+use Rattle.hpx_journal.specs.Tokens.{held_token, owed_token, same_token}
+use Rattle.hpx_journal.proofs.Same.{and_true, same_object-true}
+use Rattle.hpx_journal.proofs.Bools.{or_cases}
+use Rattle.hpx_part.specs.Data.{Event, Given, Standing, Token, Refusal}
+use Rattle.hpx_part.specs.View.{View}
+use Rattle.hpx_part.specs.Shows.{Leads, same_refusal}
+use Rattle.hpx_part.proofs.CreditRows.{follows_given}
+use Rattle.hpx_part.proofs.Credit.{token_own}
+use Rattle.hpx_part.proofs.Lists.{sum_middle}
+use Rattle.hpx_part.proofs.Keyed.{counts_of, counts_true, any_counted, counted_any, split_get, find_step, get_slice_get}
+use Rattle.hpx_commit.specs.Deals.{is_managed, log_of}
+use Rattle.hpx_node.specs.Pending.{Asked, Waits, action_of, fired_of, ids_named, own_ids, is_asked, asking_of, refusal_of, refusals_of, is_asked_for, refilled, Refills}
+use Rattle.hpx_node.specs.Paused.{Apart, IsPaused, ArePaused}
+use Rattle.hpx_node.specs.Tables.{Tables, fired_acts}
+use Rattle.hpx_node.specs.Seen.{tokens, asks, view}
+use Rattle.hpx_node.specs.Stands.{IsTidy, rules_of}
+use Rattle.hpx_node.specs.Strange.{brings_right}
+use Rattle.hpx_node.specs.Handled.{in_hand, TakesUp, Handles}
+use Rattle.hpx_node.proofs.Alls.{some_same, all_at, all_remove, all_set}
+use Rattle.hpx_node.proofs.GivenUp.{weigh_none, weigh_some, owed_some}
+use Rattle.hpx_node.proofs.InHand.{hand_sum}
+use Rattle.hpx_node.proofs.IdleCounts.{pays_given}
+use Rattle.hpx_node.proofs.Steps.{Tells, tells_leads}
+use Rattle.hpx_node.proofs.Sums.{weigh, weigh_append, weigh_set, tokens_sum, view_sum}
+
+-- ---- an id that is put at a place
+
+at_place : (ids : List Id) (p : ℕ) → p < length ids → slice_get ids p ≡ Some (id_at ids p)
+at_place [] p lt = absurd (omega (arith, lt))
+at_place (x ∷ xs) zero lt = refl
+at_place (x ∷ xs) (suc p) lt = at_place xs p (omega (arith, lt))
+
+put_there : (ids : List Id) (p : ℕ) (y : Id) → p < length ids → id_at (set ids p y) p ≡ y
+put_there [] p y lt = absurd (omega (arith, lt))
+put_there (x ∷ xs) zero y lt = refl
+put_there (x ∷ xs) (suc p) y lt = put_there xs p y (omega (arith, lt))
+
+put_elsewhere : (ids : List Id) (p q : ℕ) (y : Id) → (q ≡ p → ⊥) → id_at (set ids p y) q ≡ id_at ids q
+put_elsewhere [] p q y ne = refl
+put_elsewhere (x ∷ xs) zero zero y ne = absurd (ne refl)
+put_elsewhere (x ∷ xs) zero (suc q) y ne = refl
+put_elsewhere (x ∷ xs) (suc p) zero y ne = refl
+put_elsewhere (x ∷ xs) (suc p) (suc q) y ne = put_elsewhere xs p q y (λ e. ne (ap suc e))
+
+put_names : (n : ℕ) (ids : List Id) (p : ℕ) (y : Id) → p < length ids → bare y ≡ bare (id_at ids p) → map bare (take n (set ids p y)) ≡ map bare (take n ids)
+put_names zero ids p y lt e = refl
+put_names (suc n) [] p y lt e = refl
+put_names (suc n) (x ∷ xs) zero y lt e = ap (λ z. z ∷ map bare (take n xs)) e
+put_names (suc n) (x ∷ xs) (suc p) y lt e = ap (λ zs. bare x ∷ zs) (put_names n xs p y (omega (arith, lt)) e)
+
+put_weighs : (f : Token → ℕ) (ids : List Id) (p : ℕ) (y : Id) → p < length ids
+    → weigh f (set ids p y) + weigh f (id_at ids p ∷ []) ≡ weigh f ids + weigh f (y ∷ [])
+put_weighs f [] p y lt = absurd (omega (arith, lt))
+put_weighs f (x ∷ xs) zero y lt = omega (arith, weigh_append f (x ∷ []) xs, weigh_append f (y ∷ []) xs)
+put_weighs f (x ∷ xs) (suc p) y lt =
+    omega (arith, weigh_append f (x ∷ []) (set xs p y), weigh_append f (x ∷ []) xs, put_weighs f xs p y (omega (arith, lt)))
+
+-- one less was asked for
+put_asked : (o : Id) (n : ℕ) (ids : List Id) (p : ℕ) (y : Id) → p < n → p < length ids → is_asked (id_at ids p) ≡ true → is_asked y ≡ false
+    → count_by (same_object o) (filter is_asked (take n ids))
+    ≡ count_by (same_object o) (filter is_asked (take n (set ids p y))) + cond (same_object o (id_at ids p)) 1 0
+put_asked o zero ids p y lt inside was now = absurd (omega (arith, lt))
+put_asked o (suc n) [] p y lt inside was now = absurd (omega (arith, inside))
+put_asked o (suc n) (x ∷ xs) zero y lt inside was now =
+    rw (was, now) (omega (arith, sum_by-cons (λ z. cond (same_object o z) 1 0) x (filter is_asked (take n xs))))
+put_asked o (suc n) (x ∷ xs) (suc p) y lt inside was now = elim (cases_Bool (is_asked x)) [
+  | inl t ↦ rw t
+      (omega (
+        arith,
+        put_asked o n xs p y (omega (arith, lt)) (omega (arith, inside)) was now,
+        sum_by-cons (λ z. cond (same_object o z) 1 0) x (filter is_asked (take n xs)),
+        sum_by-cons (λ z. cond (same_object o z) 1 0) x (filter is_asked (take n (set xs p y))),
+      ))
+  | inr f ↦ rw f (put_asked o n xs p y (omega (arith, lt)) (omega (arith, inside)) was now)
+]
+
+-- ---- lists with one other element
+
+module _ {X Y : Type 0} where
+  flat_set : (f : Y → ℕ) (g : X → List Y) (xs : List X) (i : ℕ) (x y : X) → slice_get xs i ≡ Some x
+      → sum_by f (flat_map g (set xs i y)) + sum_by f (g x) ≡ sum_by f (flat_map g xs) + sum_by f (g y)
+  flat_set f g [] i x y h = cc
+  flat_set f g (z ∷ xs) zero x y h = omega (
+    arith,
+    ap (λ v. sum_by f (g v)) (some_same z x h),
+    sum_by-append f (g y) (flat_map g xs),
+    sum_by-append f (g z) (flat_map g xs),
+  )
+  flat_set f g (z ∷ xs) (suc i) x y h = omega (
+    arith,
+    flat_set f g xs i x y h,
+    sum_by-append f (g z) (flat_map g (set xs i y)),
+    sum_by-append f (g z) (flat_map g xs),
+  )
+
+  flat_long : (g : X → List Y) (xs : List X) (i : ℕ) (x y : X) → slice_get xs i ≡ Some x
+      → length (flat_map g (set xs i y)) + length (g x) ≡ length (flat_map g xs) + length (g y)
+  flat_long g [] i x y h = cc
+  flat_long g (z ∷ xs) zero x y h = omega (
+    arith,
+    ap (λ v. length (g v)) (some_same z x h),
+    length-append (g y) (flat_map g xs),
+    length-append (g z) (flat_map g xs),
+  )
+  flat_long g (z ∷ xs) (suc i) x y h = omega (
+    arith,
+    flat_long g xs i x y h,
+    length-append (g z) (flat_map g (set xs i y)),
+    length-append (g z) (flat_map g xs),
+  )
+
+  map_same : (g : X → Y) (xs : List X) (i : ℕ) (x y : X) → slice_get xs i ≡ Some x → g y ≡ g x → map g (set xs i y) ≡ map g xs
+  map_same g [] i x y h e = refl
+  map_same g (z ∷ xs) zero x y h e = ap (λ v. v ∷ map g xs) (e ∙ ap g (sym (some_same z x h)))
+  map_same g (z ∷ xs) (suc i) x y h e = ap (λ vs. g z ∷ vs) (map_same g xs i x y h e)
+
+sum_same : {X : Type 0} (f : X → ℕ) (xs : List X) (i : ℕ) (x y : X) → slice_get xs i ≡ Some x → f y ≡ f x → sum_by f (set xs i y) ≡ sum_by f xs
+sum_same f [] i x y h e = refl
+sum_same f (z ∷ xs) zero x y h e =
+    omega (arith, sum_by-cons f z xs, sum_by-cons f y xs, e, ap f (some_same z x h))
+sum_same f (z ∷ xs) (suc i) x y h e = omega (arith, sum_by-cons f z xs, sum_by-cons f z (set xs i y), sum_same f xs i x y h e)
+
+sum_less : {X : Type 0} (f : X → ℕ) (xs : List X) (i : ℕ) (x : X) → slice_get xs i ≡ Some x → sum_by f (remove xs i) + f x ≡ sum_by f xs
+sum_less f xs i x h = omega (arith, ap (sum_by f) (split_get xs i x h), sum_middle f (take i xs) x (drop (suc i) xs))
+
+-- an action whose commit waits is among the fired
+among_fired : {Y : Type 0} (f : Y → ℕ) (g : Act → Y) (running : List Act) (pending : List Waits) (i : ℕ) (w : Waits) → slice_get pending i ≡ Some w
+    → f (g (bare_act w.job.action)) ≤ sum_by f (map g (map bare_act (fired_of running pending)))
+among_fired f g [] [] i w h = cc
+among_fired f g [] (z ∷ ws) zero w h = omega (
+  arith,
+  ap (λ (v : Waits). f (g (bare_act v.job.action))) (some_same z w h),
+  sum_by-cons f (g (bare_act z.job.action)) (map g (map bare_act (map action_of ws))),
+)
+among_fired f g [] (z ∷ ws) (suc i) w h = omega (
+  arith,
+  among_fired f g [] ws i w h,
+  sum_by-cons f (g (bare_act z.job.action)) (map g (map bare_act (map action_of ws))),
+)
+among_fired f g (a ∷ running) pending i w h = omega (
+  arith,
+  among_fired f g running pending i w h,
+  sum_by-cons f (g (bare_act a)) (map g (map bare_act (fired_of running pending))),
+)
+
+long_names : (ids : List Id) → length (map bare ids) ≡ length ids
+long_names [] = refl
+long_names (x ∷ xs) = ap suc (long_names xs)
+
+short_take : (n : ℕ) (ids : List Id) → length (take n ids) ≤ length ids
+short_take zero ids = omega arith
+short_take (suc n) [] = omega arith
+short_take (suc n) (x ∷ xs) = omega (arith, short_take n xs)
+
+-- the hand has all that its object and its action name
+pub hand_long : (k : ℕ) (objects : List Standing) (w : Waits) → IsPaused k objects w → length (ids_named w) ≤ length w.hand
+hand_long k objects w h = omega (
+  arith,
+  ap (λ (ids : List Id). length ids) h.hand,
+  long_names (own_ids w),
+  long_names (ids_named w),
+  short_take (length (ids_named w)) w.hand,
+)
+
+lower_all : (n m : ℕ) → n ≤ m → (xs : List Asked) → AllByRecursion (λ (x : Asked). x.place < n) xs → AllByRecursion (λ (x : Asked). x.place < m) xs
+lower_all n m le [] h = tt
+lower_all n m le (x ∷ xs) h = (let lt = h.0 in omega (arith, lt, le), lower_all n m le xs h.1)
+
+-- so what was asked for is in it
+pub asked_within : (k : ℕ) (objects : List Standing) (w : Waits) → IsPaused k objects w → AllByRecursion (λ (x : Asked). x.place < length w.hand) w.asked
+asked_within k objects w h = lower_all (length (ids_named w)) (length w.hand) (hand_long k objects w h) w.asked h.within
+
+credit_asks_none : (id : Id) → HasCredit id → is_asked id ≡ false
+credit_asks_none id h = at id.log h
+  where
+    no : (b : Bool) → (b && false) ≡ false
+    no true = refl
+    no false = refl
+
+    at : (log : Option ℕ) → MatchOption log ⊥ (λ l. 16 ≤ id.kind) → (is_managed id && not (is_some log)) ≡ false
+    at None e = absurd e
+    at (Some l) e = no (is_managed id)
+
+asked_bare : (id : Id) → is_asked id ≡ true → id.log ≡ None
+asked_bare id h = at id.log refl (and_true (is_managed id) (not (is_some id.log)) h).1
+  where
+    at : (log : Option ℕ) → id.log ≡ log → not (is_some log) ≡ true → id.log ≡ None
+    at None e n = e
+    at (Some l) e n = absurd (cc)
+
+-- ---- the commit that gets it
+
+module _ (k : ℕ) (objects : List Standing) (w : Waits) (n : ℕ) (ask : Asked) (id : Id) (entry : ℕ) (paused : IsPaused k objects w)
+    (there : slice_get w.asked n ≡ Some ask) (for : is_asked_for w id entry ask ≡ true) (credit : HasCredit id) where
+  abbrev pub then : Waits
+  then = refilled n ask.place id w
+
+  low : ask.place < length (ids_named w)
+  low = all_at (λ (x : Asked). x.place < length (ids_named w)) w.asked n ask paused.within there
+
+  pub inside : ask.place < length w.hand
+  inside = omega (arith, low, hand_long k objects w paused)
+
+  pub same : bare id ≡ bare (id_at w.hand ask.place)
+  same = same_object-true id (id_at w.hand ask.place) (and_true (ask.entry == entry) (same_object id (id_at w.hand ask.place)) for).1
+
+  left : (q : ℕ) → count_by (λ (x : Asked). x.place == q) (remove w.asked n) + cond (ask.place == q) 1 0 ≡ count_by (λ (x : Asked). x.place == q) w.asked
+  left q = sum_less (λ (x : Asked). cond (x.place == q) 1 0) w.asked n ask there
+
+  one : ◌≡◌ {A = ℕ} (cond (ask.place == ask.place) 1 0) 1
+  one = ap {B = ℕ} (λ b. cond b 1 0) (eq-eqb ask.place ask.place refl)
+
+  pub was_asked : is_asked (id_at w.hand ask.place) ≡ true
+  was_asked = elim (cases_Bool (is_asked (id_at w.hand ask.place))) [
+    | inl t ↦ t
+    | inr f ↦ absurd (omega (arith, left ask.place, one, paused.once ask.place low, ap {B = ℕ} (λ b. cond b 1 0) f))
+  ]
+
+  pub asked_no_more : is_asked id ≡ false
+  asked_no_more = credit_asks_none id credit
+
+  once_then : (q : ℕ) → q < length (ids_named w)
+      → count_by (λ (x : Asked). x.place == q) (remove w.asked n) ≡ cond (is_asked (id_at (set w.hand ask.place id) q)) 1 0
+  once_then q lt = elim (cases_Bool (ask.place == q)) [
+    | inl t ↦
+        let e : ask.place ≡ q = eqb-true ask.place q t in
+        let now : is_asked (id_at (set w.hand ask.place id) q) ≡ false =
+        subst (λ r. is_asked (id_at (set w.hand ask.place id) r) ≡ false) e (ap is_asked (put_there w.hand ask.place id inside) ∙ asked_no_more) in
+        let was : is_asked (id_at w.hand q) ≡ true = subst (λ r. is_asked (id_at w.hand r) ≡ true) e was_asked in
+        omega (
+          arith,
+          left q,
+          ap {B = ℕ} (λ b. cond b 1 0) t,
+          paused.once q lt,
+          ap {B = ℕ} (λ b. cond b 1 0) was,
+          ap {B = ℕ} (λ b. cond b 1 0) now,
+        )
+    | inr f ↦
+        let other : id_at (set w.hand ask.place id) q ≡ id_at w.hand q =
+        put_elsewhere w.hand ask.place q id (λ e. let t : true ≡ false = sym (eq-eqb ask.place q (sym e)) ∙ f in cc) in
+        omega (
+          arith,
+          left q,
+          ap {B = ℕ} (λ b. cond b 1 0) f,
+          paused.once q lt,
+          ap {B = ℕ} (λ (x : Id). cond (is_asked x) 1 0) other,
+        )
+  ]
+
+  pub still_paused : IsPaused k objects (refilled n ask.place id w)
+  still_paused = record {
+    job = paused.job;
+    here = paused.here;
+    standing = paused.standing;
+    found = paused.found;
+    kind = paused.kind;
+    state = paused.state;
+    hand = put_names (length (ids_named w)) w.hand ask.place id inside same ∙ paused.hand;
+    within = all_remove (λ (x : Asked). x.place < length (ids_named w)) w.asked n paused.within;
+    once = once_then;
+  }
+
+-- ---- beside all that is kept
+
+module _ (k : ℕ) (objects : List Standing) (running : List Act) (pending : List Waits) (i : ℕ) (w w' : Waits) (there : slice_get pending i ≡ Some w)
+    (job : w'.job ≡ w.job) (paused : IsPaused k objects w') (h : ArePaused k objects running pending) where
+  pub acts_same : map action_of (set pending i w') ≡ map action_of pending
+  acts_same = map_same action_of pending i w w' there (ap (λ (j : Job). j.action) job)
+
+  pub refilled_paused : ArePaused k objects running (set pending i w')
+  refilled_paused = record {
+    each = all_set (IsPaused k objects) pending i w' h.each paused;
+    apart = subst (λ acts. Apart (running ++ acts)) (sym acts_same) h.apart;
+    whole = subst (λ acts. AllByRecursion (λ (x : Standing). is_busy x.object acts ≡ false → AllByRecursion HasRightCredit x.state.ids) objects)
+        (sym acts_same) h.whole;
+    lent = λ o managed.
+        let more = h.lent o managed in
+        omega (
+          arith,
+          more,
+          sum_same (λ (v : Waits). count_by (same_object o) v.job.state.ids) pending i w w' there
+              (ap (λ (j : Job). count_by (same_object o) j.state.ids) job),
+        );
+  }
+
+own_log : (id : Id) → HasCredit id → id.log ≡ Some (log_of id.log)
+own_log id h = at id.log refl h
+  where
+    at : (log : Option ℕ) → id.log ≡ log → MatchOption log ⊥ (λ l. 16 ≤ id.kind) → id.log ≡ Some (log_of id.log)
+    at None e n = absurd n
+    at (Some l) e n = e ∙ ap (λ o. Some (log_of o)) (sym e)
+
+module _ (r : Rules) (t : Tables) (id : Id) (entry i n spare : ℕ) (w : Waits) (ask : Asked) (tidy : IsTidy t []) (there : slice_get t.pending i ≡ Some w)
+    (asked : slice_get w.asked n ≡ Some ask) (for : is_asked_for w id entry ask ≡ true) (credit : HasCredit id)
+    (brings : (log_of id.log ≡ 0) ⊎ (log_of id.log ≡ r.credit_log)) where
+  abbrev log : ℕ
+  log = log_of id.log
+
+  abbrev now : Waits
+  now = refilled n ask.place id w
+
+  abbrev pub given : Tables
+  given = record t { pending = set t.pending i (refilled n ask.place id w); spare = spare }
+
+  was : IsPaused t.here t.objects w
+  was = all_at (IsPaused t.here t.objects) t.pending i w tidy.paused.each there
+
+  some : id.log ≡ Some (log_of id.log)
+  some = own_log id credit
+
+  fits : ask.place < length w.hand
+  fits = inside t.here t.objects w n ask id entry was asked for credit
+
+  gave : is_asked (id_at w.hand ask.place) ≡ true
+  gave = was_asked t.here t.objects w n ask id entry was asked for credit
+
+  still : IsPaused t.here t.objects (refilled n ask.place id w)
+  still = still_paused t.here t.objects w n ask id entry was asked for credit
+
+  acts : map action_of (set t.pending i (refilled n ask.place id w)) ≡ map action_of t.pending
+  acts = acts_same t.here t.objects t.running t.pending i w now there refl still tidy.paused
+
+  given_tidy : IsTidy given []
+  given_tidy = record {
+    accepted = tidy.accepted;
+    running = tidy.running;
+    objects = tidy.objects;
+    messages = tidy.messages;
+    fit = tidy.fit;
+    moves = tidy.moves;
+    drawn = tidy.drawn;
+    unborn = tidy.unborn;
+    ways = tidy.ways;
+    paused = refilled_paused t.here t.objects t.running t.pending i w now there refl still tidy.paused;
+  }
+
+  gains : (f : Token → ℕ) → sum_by f (tokens given) ≡ sum_by f (tokens t) + f (held_token (bare id) (log_of id.log))
+  gains f = omega (
+    arith,
+    tokens_sum f t,
+    tokens_sum f given,
+    weigh_set f (λ (v : Waits). v.hand) t.pending i w now there,
+    put_weighs f w.hand ask.place id fits,
+    weigh_none f (id_at w.hand ask.place) (asked_bare (id_at w.hand ask.place) gave),
+    weigh_some f id log some,
+  )
+
+  asking_less : (o : Id) → count_by (same_object o) (asking_of t.pending)
+      ≡ count_by (same_object o) (asking_of (set t.pending i (refilled n ask.place id w))) + count_by (same_object o) (bare id ∷ [])
+  asking_less o = omega (
+    arith,
+    flat_set (λ z. cond (same_object o z) 1 0) (λ (v : Waits). filter is_asked (own_ids v)) t.pending i w now there,
+    put_asked o (length (ids_named w)) w.hand ask.place id (all_at (λ (x : Asked). x.place < length (ids_named w)) w.asked n ask was.within asked)
+        fits gave (credit_asks_none id credit),
+    ap {B = ℕ} (λ (z : Id). cond (same_object o z) 1 0) (same t.here t.objects w n ask id entry was asked for credit),
+    sum_by-cons (λ z. cond (same_object o z) 1 0) (bare id) [],
+  )
+
+  refused_more : (q : Refusal → Bool) (b : Bool)
+      → sum_by (counts_of q) (refusal_of w.job.action (cond b (Some (bare id)) w.refused))
+      ≤ sum_by (counts_of q) (refusal_of w.job.action w.refused)
+      + sum_by (counts_of q) (cond b (map (λ (act : Act). record { action = name_of act; object = bare id }) (map bare_act (fired_acts t))) [])
+  refused_more q true = omega (
+    arith,
+    sum_by-cons (counts_of q) (record { action = name_of w.job.action; object = bare id }) [],
+    among_fired (counts_of q) (λ (act : Act). record { action = name_of act; object = bare id }) t.running t.pending i w there,
+  )
+  refused_more q false = omega arith
+
+  failing_more : (b : Bool) → length (refusal_of w.job.action (cond b (Some (bare id)) w.refused)) ≤ length (refusal_of w.job.action w.refused) + cond b 1 0
+  failing_more true = omega arith
+  failing_more false = omega arith
+
+  one_more : (b : Bool) (m : ℕ) → m + cond b 1 0 ≡ cond b (m + 1) m
+  one_more true m = refl
+  one_more false m = omega arith
+
+  abbrev seen : (dead : List Id) (e : Event) → View
+  seen dead e = record (in_hand (Give id entry) t dead e) {
+    tokens = (view given [] []).tokens;
+    asking = asking_of (set t.pending i (refilled n ask.place id w));
+    asks = asks t;
+    refusals = cond (log_of id.log == 0) (map (λ (act : Act). record { action = name_of act; object = bare id }) (map bare_act (fired_acts t))) []
+        ++ refusals_of t.pending;
+    failing = cond (log_of id.log == 0) (length (refusals_of t.pending) + 1) (length (refusals_of t.pending));
+    last = Some (Given (bare id) (log_of id.log));
+  }
+
+  tells : (dead : List Id) (e : Event) → TakesUp r t (Give id entry) dead e → Tells (seen dead e) (view given [] [])
+  tells dead e takes = record {
+    here = refl;
+    serial = refl;
+    number = refl;
+    waiting = refl;
+    fired = ap (λ xs. map bare_act (t.running ++ xs)) (sym acts);
+    objects = refl;
+    fresh = refl;
+    due = refl;
+    tokens = λ f weight. refl;
+    asking = λ x. refl;
+    asks = λ x. refl;
+    live = λ x home. refl;
+    dead = λ x h. takes.among x h;
+    refusals = λ x h. any_counted (same_refusal x) (seen dead e).refusals (omega (
+      arith,
+      counted_any (same_refusal x) (refusals_of (set t.pending i now)) h,
+      flat_set (counts_of (same_refusal x)) (λ (v : Waits). refusal_of v.job.action v.refused) t.pending i w now there,
+      refused_more (same_refusal x) (log == 0),
+      sum_by-append (counts_of (same_refusal x))
+          (cond (log == 0) (map (λ (act : Act). record { action = name_of act; object = bare id }) (map bare_act (fired_acts t))) []) (refusals_of t.pending),
+    ));
+    failing = omega (
+      arith,
+      flat_long (λ (v : Waits). refusal_of v.job.action v.refused) t.pending i w now there,
+      failing_more (log == 0),
+      one_more (log == 0) (length (refusals_of t.pending)),
+    );
+    last = refl;
+  }
+
+  leads : (dead : List Id) (e : Event) → TakesUp r t (Give id entry) dead e
+      → Leads r (in_hand (Give id entry) t dead e) (Given (bare id) (log_of id.log) ∷ []) (view given [] [])
+  leads dead e takes =
+      let v = in_hand (Give id entry) t dead e in
+      let key = owed_token (bare id) log in (
+        seen dead e,
+        follows_given r v (bare id) refl log (view given [] []).tokens (asking_of (set t.pending i now)) (asks t) refl refl brings
+            (omega (
+              arith,
+              hand_sum (counts_of (same_token (owed_token (bare id) (log_of id.log)))) (Give id entry) t,
+              owed_some (counts_of (same_token (owed_token (bare id) (log_of id.log)))) id log some,
+              counts_true (same_token (owed_token (bare id) (log_of id.log))) (owed_token (bare id) (log_of id.log)) (token_own (owed_token (bare id) (log_of id.log))),
+            ))
+            (record {
+              sums = λ f weight. omega (
+                arith,
+                hand_sum f (Give id entry) t,
+                owed_some f id log some,
+                view_sum f given [] [],
+                gains f,
+                sum_by-cons f (owed_token (bare id) (log_of id.log)) [],
+                sum_by-cons f (held_token (bare id) (log_of id.log)) [],
+              );
+            })
+            asking_less
+            (λ x. omega (arith, sum_by-cons (counts_of (same_object x)) id (asks t), sum_by-cons (counts_of (same_object x)) (bare id) [])),
+        tells_leads r (seen dead e) (view given [] []) (tells dead e takes),
+      )
+
+  pub given_handles : Handles r (Give id entry) t given (Given (bare id) (log_of id.log) ∷ [])
+  given_handles = record {
+    here = refl;
+    localities = refl;
+    profile = refl;
+    serial = refl;
+    births = refl;
+    sent = refl;
+    taken = refl;
+    running = refl;
+    asked = refl;
+    tidy = given_tidy;
+    leads = leads;
+    pays = pays_given r t given id (bare id) entry (log_of id.log) some (λ row. refl) refl;
+    deals = record { i = i; before = w; after = refilled n ask.place id w; there = there; refills = record { k = n; ask = ask; there = asked; for = for; now = refl }; rest = refl };
+  }
+
+-- ---- as the call does it
+
+pub gives_handles : (act_of : ℕ → ℕ → ℕ → State → Act → Outcome) (t : Tables) (id : Id) (entry i spare : ℕ) (w w' : Waits) → IsTidy t [] → HasCredit id
+    → brings_right t id ≡ true → slice_get t.pending i ≡ Some w → Refills id entry w w'
+    → Handles (rules_of act_of t.localities t.profile) (Give id entry) t (record t { pending = set t.pending i w'; spare = spare })
+    (Given (bare id) (log_of id.log) ∷ [])
+gives_handles act_of t id entry i spare w w' tidy credit brings there refills =
+    subst (λ v. Handles (rules_of act_of t.localities t.profile) (Give id entry) t (record t { pending = set t.pending i v; spare = spare }) (Given (bare id) (log_of id.log) ∷ []))
+    (sym refills.now)
+    (given_handles (rules_of act_of t.localities t.profile) t id entry i refills.k spare w refills.ask tidy there refills.there refills.for credit
+    (elim (or_cases (log_of id.log == 0) (log_of id.log == t.profile.credit_log) brings) [
+      | inl a ↦ inl (eqb-true (log_of id.log) 0 a)
+      | inr b ↦ inr (eqb-true (log_of id.log) t.profile.credit_log b)
+    ]))
+
+-- what is found passes
+pub find_passes : {X : Type 0} (p : X → Bool) (xs : List X) (x : X) → find p xs ≡ Some x → p x ≡ true
+find_passes p [] x h = cc
+find_passes p (z ∷ xs) x h = elim (cases_Bool (p z)) [
+  | inl t ↦ let e : Some z ≡ Some x = rw t at h in subst (λ y. p y ≡ true) (some_same z x e) t
+  | inr f ↦ find_passes p xs x (rw f at h)
+]
+
+-- what passes is found
+pub any_found : {X : Type 0} (p : X → Bool) (xs : List X) → list_any p xs ≡ true → find p xs ≡ None → ⊥
+any_found p [] h none = cc
+any_found p (z ∷ xs) h none = elim (cases_Bool (p z)) [
+  | inl t ↦ let e : Some z ≡ None = rw t at none in cc
+  | inr f ↦ any_found p xs (rw f at h) (rw f at none)
+]
+
+pub refills_by : (w w' : Waits) (id : Id) (entry k : ℕ) (ask : Asked) → slice_get w.asked k ≡ Some ask → find (is_asked_for w id entry) w.asked ≡ Some ask
+    → w' ≡ record w { hand = set w.hand ask.place id; asked = remove w.asked k; refused = w'.refused }
+    → w'.refused ≡ cond (log_of id.log == 0) (Some (bare id)) w.refused → Refills id entry w w'
+refills_by w w' id entry k ask there found rest refused = record {
+  k = k;
+  ask = ask;
+  there = there;
+  for = find_passes (is_asked_for w id entry) w.asked ask found;
+  now = rest ∙ ap (λ o. record w { hand = set w.hand ask.place id; asked = remove w.asked k; refused = o }) refused;
+}
+
+pub refused_is : (id : Id) (o : Option Id) → log_of id.log ≡ 0 → Some (bare id) ≡ cond (log_of id.log == 0) (Some (bare id)) o
+refused_is id o e = sym (ap (λ b. cond b (Some (bare id)) o) (eq-eqb (log_of id.log) 0 e))
+
+pub refused_not : (id : Id) (o : Option Id) → (log_of id.log ≡ 0 → ⊥) → o ≡ cond (log_of id.log == 0) (Some (bare id)) o
+refused_not id o ne = elim (cases_Bool (log_of id.log == 0)) [
+  | inl t ↦ absurd (ne (eqb-true (log_of id.log) 0 t))
+  | inr f ↦ sym (ap (λ b. cond b (Some (bare id)) o) f)
+]
+
+-- the first that passes, behind those that do not
+pub found_on : {X : Type 0} (p : X → Bool) (xs ys : List X) (k : ℕ) (d : X) → ys ≡ xs → k < length ys → p (get_or ys k d) ≡ true
+    → find p xs ≡ find p (drop k xs) → find p xs ≡ slice_get xs k
+found_on p xs ys k d same lt passes past =
+    let less : k < length xs = subst (λ (zs : List _). k < length zs) same lt in
+    let is : p (get_or xs k d) ≡ true = subst (λ (zs : List _). p (get_or zs k d) ≡ true) same passes in
+    past
+    ∙ (find_step p xs k d less
+    ∙ (ap (λ b. cond b (Some (get_or xs k d)) (find p (drop (k + 1) xs))) is ∙ sym (get_slice_get xs k d less)))

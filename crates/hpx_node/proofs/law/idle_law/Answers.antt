@@ -1,0 +1,11 @@
+use Rattle.hpx_node.proofs.IdleSince.{paid_since, hops_once}
+use Rattle.hpx_node.proofs.law.idle_law.Goals as goal
+
+pub returns-clause-boot : goal.returns-clause-boot
+returns-clause-boot c = λ r t entries stands row. stands.paid.rows row
+
+pub returns-clause-since : goal.returns-clause-since
+returns-clause-since c = λ r t t' entries later stands passive then here row. paid_since r t t' entries later stands passive then here row
+
+pub returns-clause-once : goal.returns-clause-once
+returns-clause-once c = λ r t entries stands. hops_once r t entries stands

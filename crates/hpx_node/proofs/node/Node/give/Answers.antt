@@ -1,0 +1,64 @@
+use Rattle.std.proofs.Common.{◌<◌, ◌∙◌, length, refl}
+use Rattle.hpx_part.proofs.Keyed.{slice_get_is}
+use Rattle.hpx_node.specs.Paused.{IsPaused}
+use Rattle.hpx_node.specs.Pending.{awaits}
+use Rattle.hpx_node.proofs.Alls.{all_at}
+use Rattle.hpx_node.proofs.Refilled.{any_found, find_passes, asked_within, gives_handles}
+use Rattle.hpx_node.proofs.node.Node.give.Goals as goal
+
+pub returns-in_default-clause-gives : goal.returns-in_default-clause-gives
+returns-in_default-clause-gives g c =
+    let waits = rw (← c.self.view_is) at c.requires.waits in
+    let none = rw (c.as_slice.ensures.value) at c.in_default.ensures.none in
+    absurd (any_found (awaits c.args.id c.args.entry) c.self.inside.pending.items waits none)
+
+pub returns-in_default-clause-handles : goal.returns-in_default-clause-handles
+returns-in_default-clause-handles g c =
+    let waits = rw (← c.self.view_is) at c.requires.waits in
+    let none = rw (c.as_slice.ensures.value) at c.in_default.ensures.none in
+    absurd (any_found (awaits c.args.id c.args.entry) c.self.inside.pending.items waits none)
+
+pub returns-in_default-clause-grows : goal.returns-in_default-clause-grows
+returns-in_default-clause-grows g c =
+    let waits = rw (← c.self.view_is) at c.requires.waits in
+    let none = rw (c.as_slice.ensures.value) at c.in_default.ensures.none in
+    absurd (any_found (awaits c.args.id c.args.entry) c.self.inside.pending.items waits none)
+
+pub refill-requires-clause-waits : goal.refill-requires-clause-waits
+refill-requires-clause-waits g c =
+    let ps = c.self.inside.pending.items in
+    let inside : c.in-Some.i < length c.self.inside.pending.items = rw (c.as_slice.ensures.value) at c.in-Some.ensures.inside in
+    let there = slice_get_is ps c.in-Some.i c.index_mut.result.now inside c.index_mut.ensures.value in
+    let found = rw (c.as_slice.ensures.value) at c.in-Some.ensures.found in
+    find_passes (awaits c.args.id c.args.entry) ps c.index_mut.result.now (found ∙ there)
+
+pub refill-requires-clause-within : goal.refill-requires-clause-within
+refill-requires-clause-within g c =
+    let n = c.self.inside in
+    let tidy = rw (← c.self.view_is) at c.requires.tidy in
+    let inside : c.in-Some.i < length c.self.inside.pending.items = rw (c.as_slice.ensures.value) at c.in-Some.ensures.inside in
+    let there = slice_get_is n.pending.items c.in-Some.i c.index_mut.result.now inside c.index_mut.ensures.value in
+    asked_within n.here n.objects.items c.index_mut.result.now
+    (all_at (IsPaused n.here n.objects.items) n.pending.items c.in-Some.i c.index_mut.result.now tidy.paused.each there)
+
+pub returns-clause-gives : goal.returns-clause-gives
+returns-clause-gives g c =
+    let inside : c.in-Some.i < length c.self.inside.pending.items = rw (c.as_slice.ensures.value) at c.in-Some.ensures.inside in
+    let there = slice_get_is c.self.inside.pending.items c.in-Some.i c.index_mut.result.now inside c.index_mut.ensures.value in
+    rw (← c.self.view_is) (record {
+      i = c.in-Some.i;
+      before = c.index_mut.result.now;
+      after = c.refill.new.self;
+      there = there;
+      refills = c.refill.ensures;
+      rest = refl;
+    })
+
+pub returns-clause-handles : goal.returns-clause-handles
+returns-clause-handles g c =
+    let tidy = rw (← c.self.view_is) at c.requires.tidy in
+    let brings = rw (← c.self.view_is) at c.requires.brings in
+    let inside : c.in-Some.i < length c.self.inside.pending.items = rw (c.as_slice.ensures.value) at c.in-Some.ensures.inside in
+    let there = slice_get_is c.self.inside.pending.items c.in-Some.i c.index_mut.result.now inside c.index_mut.ensures.value in
+    rw (← c.self.view_is)
+    (gives_handles g.A.Acts.act_of _ c.args.id c.args.entry c.in-Some.i _ c.index_mut.result.now c.refill.new.self tidy c.requires.credit brings there c.refill.ensures)

@@ -1,0 +1,151 @@
+-- Nothing idle: each message has its cause, and what was caused and has not gone yet is still here.
+use Rattle.std.specs.Prelude.{ℕ, Bool, true, false, cond, List, ◌≡◌, ◌≤◌, ◌+◌, ◌==◌, ◌||◌, length, Option, Some, None}
+use Rattle.std.specs.List.{sum_by}
+use Rattle.hpx_journal.specs.Data.{Act, Parcel, Apply, Return, Ask, Give, Cached, Move, Go, Shipped, Arrived, Free}
+use Rattle.hpx_journal.specs.Entries.{Rules}
+use Rattle.hpx_part.specs.Data.{Entry, Event, Line, Fire, Sent, Up, Asked, Given, Count, Refused, Reason, Mail, Out, In}
+use Rattle.hpx_node.specs.Tables.{Tables, messages}
+
+-- what is counted: messages of a kind, counts of objects, refusals of credit, and actions
+pub data Row : Type 0 where
+  Returns : Row
+  Asks : Row
+  Gives : Row
+  Frees : Row
+  Counts : Row
+  Refusals : Row
+  Actions : Row
+
+-- 1 where it is so
+abbrev pub one_if : Bool → ℕ
+one_if b = cond b 1 0
+
+-- ---- messages
+
+-- the kind of a message, as in its frame
+abbrev pub kind_of : Parcel → ℕ
+kind_of (Apply act) = 1
+kind_of (Return id) = 2
+kind_of (Ask id asker entry) = 3
+kind_of (Give id entry) = 4
+kind_of (Cached id place) = 5
+kind_of (Move act) = 6
+kind_of (Go act) = 7
+kind_of (Shipped act state) = 8
+kind_of (Arrived id place) = 9
+kind_of (Free o) = 10
+
+-- it is of this kind
+abbrev pub is_kind : ℕ → Parcel → ℕ
+is_kind kind p = one_if (kind_of p == kind)
+
+-- the credit is the least
+abbrev pub is_least : Option ℕ → Bool
+is_least None = false
+is_least (Some log) = log == 0
+
+-- it gives no more credit than was sent with the ask
+abbrev pub is_refusal : Parcel → ℕ
+is_refusal (Give id entry) = one_if (is_least id.log)
+is_refusal _ = 0
+
+-- it brings an action to its object
+abbrev pub brings : Parcel → ℕ
+brings p = one_if ((kind_of p == 1) || (kind_of p == 6))
+
+-- what a message counts that goes
+abbrev pub weight : Row → Parcel → ℕ
+weight Returns p = is_kind 2 p
+weight Asks p = is_kind 3 p
+weight Gives p = is_kind 4 p
+weight Frees p = is_kind 10 p
+weight Counts p = 0
+weight Refusals p = is_refusal p
+weight Actions p = brings p
+
+-- what a message counts that comes, as a cause: an Ask is answered, a Return and an Ask change a count, a refusal is
+-- handed on, and an action is run or goes on
+abbrev pub owes : Row → Parcel → ℕ
+owes Gives p = is_kind 3 p
+owes Counts p = is_kind 2 p + is_kind 3 p
+owes Refusals p = is_refusal p
+owes Actions p = brings p
+owes _ p = 0
+
+-- so it is with the message that bytes spell
+abbrev pub weighed : (Parcel → ℕ) → Option Parcel → ℕ
+weighed w None = 0
+weighed w (Some p) = w p
+
+-- ---- entries
+
+-- more credit was refused
+abbrev pub is_refused : Reason → Bool
+is_refused Refused = true
+is_refused _ = false
+
+-- what goes in a row, entry by entry
+abbrev pub goes : Rules → Row → Event → ℕ
+goes r row (Out to bytes) = weighed (weight row) (r.parcel_of bytes)
+goes r Returns (Mail kind) = one_if (kind == 2)
+goes r Asks (Mail kind) = one_if (kind == 3)
+goes r Gives (Mail kind) = one_if (kind == 4)
+goes r Frees (Mail kind) = one_if (kind == 10)
+goes r Counts (Count o count why) = 1
+goes r Refusals (Given o log) = one_if (log == 0)
+goes r Actions (Fire action) = 1
+goes r _ _ = 0
+
+-- what causes it, entry by entry
+abbrev pub causes : Rules → Row → Event → ℕ
+causes r row (In bytes) = weighed (owes row) (r.parcel_of bytes)
+causes r Returns (Up o log) = 1
+causes r Asks (Asked o) = 1
+causes r Gives (Mail kind) = one_if (kind == 3)
+causes r Frees (Count o count why) = one_if (count == 0)
+causes r Counts (Mail kind) = one_if (kind == 2) + one_if (kind == 3)
+causes r Refusals (Count o count why) = one_if (is_refused why)
+causes r Actions (Line action bytes) = 1
+causes r Actions (Sent action) = 1
+causes r _ _ = 0
+
+-- how often an action goes through a message: out of here, or from the desk
+abbrev pub hops : Rules → Event → ℕ
+hops r (Out to bytes) = weighed brings (r.parcel_of bytes)
+hops r (Mail kind) = one_if ((kind == 1) || (kind == 6))
+hops r _ = 0
+
+-- ---- tables
+
+-- what an action counts that waits or goes
+abbrev pub of_act : Row → ℕ
+of_act Actions = 1
+of_act _ = 0
+
+-- what accepted actions count
+abbrev pub queued : Row → List Act → ℕ
+queued Actions acts = length acts
+queued _ acts = 0
+
+-- what was caused and is still here: in a message, or accepted
+abbrev pub unpaid : Row → Tables → ℕ
+unpaid row t = sum_by (weight row) (messages t) + queued row t.accepted
+
+-- a step: what goes with these entries, and what is unpaid then, is what was unpaid and what they cause; and an action
+-- that was accepted is run, and goes into no message again, as one from the desk is accepted
+pub record Pays (r : Rules) (t t' : Tables) (events : List Event) : Type 0 where
+  pub rows : (row : Row) → sum_by (goes r row) events + unpaid row t' ≡ unpaid row t + sum_by (causes r row) events
+  pub kept : sum_by (hops r) events + length t.accepted ≤ sum_by (goes r Actions) events + length t'.accepted
+
+-- the same behind the entry that takes a message up: with what this message causes
+pub record PaysFor (r : Rules) (p : Parcel) (t t' : Tables) (events : List Event) : Type 0 where
+  pub rows : (row : Row) → sum_by (goes r row) events + unpaid row t' ≡ unpaid row t + owes row p + sum_by (causes r row) events
+  pub kept : sum_by (hops r) events + length t.accepted ≤ sum_by (goes r Actions) events + length t'.accepted
+
+-- the entries of a part are paid for: in each row what has gone with them, and what is unpaid, is what they caused; and
+-- each line, each action that is sent and each that comes goes through one message at most
+pub record IsPaid (r : Rules) (t : Tables) (entries : List Entry) : Type 0 where
+  pub rows : (row : Row)
+      → sum_by (λ (e : Entry). goes r row e.event) entries + unpaid row t ≡ sum_by (λ (e : Entry). causes r row e.event) entries
+  pub once : sum_by (λ (e : Entry). hops r e.event) entries + sum_by (weight Actions) (messages t)
+      ≤ sum_by (λ (e : Entry). causes r Actions e.event) entries

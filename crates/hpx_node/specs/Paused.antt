@@ -1,0 +1,44 @@
+-- Commits that wait for credit, against what else a node keeps.
+use Rattle.std.specs.Prelude.{ℕ, false, List, [], ◌∷◌, ◌≡◌, ◌≤◌, ◌<◌, ◌&&◌, ◌==◌, cond, not, is_some, map, length, Some}
+use Rattle.std.specs.List.{find, sum_by, count_by, AllByRecursion}
+use Rattle.hpx_value.specs.Ids.{bare, same_object}
+use Rattle.hpx_value.specs.Values.{bare_state}
+use Rattle.hpx_value.specs.Hands.{id_at}
+use Rattle.hpx_parcel.specs.Parcels.{HasRightCredit}
+use Rattle.hpx_journal.specs.Data.{Id, Act}
+use Rattle.hpx_journal.specs.Entries.{target_of}
+use Rattle.hpx_journal.specs.Local.{is_standing, is_busy}
+use Rattle.hpx_part.specs.Data.{Standing}
+use Rattle.hpx_node.specs.Pending.{Waits, action_of, fired_of, ids_named, own_ids, is_asked}
+use Rattle.hpx_node.specs.Jobs.{IsFitJob}
+
+-- how many of these ids name o and have no credit
+abbrev pub bare_names : Id → List Id → ℕ
+bare_names o ids = count_by (λ id. same_object o id && not (is_some id.log)) ids
+
+-- no two of these actions keep one object busy
+abbrev pub Apart : List Act → Type 0
+Apart [] = Unit {0}
+Apart (act ∷ acts) = (is_busy (target_of act) acts ≡ false) × Apart acts
+
+-- a commit that waits: its object stands here as the job found it, but without credits, and the hand names what its object and
+-- its action name; of these each managed id without credit is asked for once
+pub record IsPaused (k : ℕ) (objects : List Standing) (w : Waits) : Type 0 where
+  pub job : IsFitJob w.job
+  pub here : w.job.at ≡ k
+  pub standing : Standing
+  pub found : find (is_standing (target_of w.job.action)) objects ≡ Some standing
+  pub kind : standing.object.kind ≡ w.job.kind
+  pub state : standing.state ≡ bare_state w.job.state
+  pub hand : map bare (own_ids w) ≡ map bare (ids_named w)
+  pub within : AllByRecursion (λ x. x.place < length (ids_named w)) w.asked
+  pub once : (p : ℕ) → p < length (ids_named w) → count_by (λ x. x.place == p) w.asked ≡ cond (is_asked (id_at w.hand p)) 1 0
+
+-- the commits that wait, beside these objects and actions that run: no two fired actions keep one object busy; the ids of an
+-- object that no such commit keeps busy have their credits, and no more ids of states are without than those in their hands
+pub record ArePaused (here : ℕ) (objects : List Standing) (running : List Act) (pending : List Waits) : Type 0 where
+  pub each : AllByRecursion (IsPaused here objects) pending
+  pub apart : Apart (fired_of running pending)
+  pub whole : AllByRecursion (λ x. is_busy x.object (map action_of pending) ≡ false → AllByRecursion HasRightCredit x.state.ids) objects
+  pub lent : (o : Id) → 16 ≤ o.kind
+      → sum_by (λ x. bare_names o x.state.ids) objects ≤ sum_by (λ w. count_by (same_object o) w.job.state.ids) pending

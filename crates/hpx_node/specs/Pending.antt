@@ -1,0 +1,81 @@
+-- Commits that wait for credit: what is in their hands meanwhile, and what was asked for.
+use Rattle.std.specs.Prelude.{ℕ, Bool, true, List, [], ◌∷◌, ◌++◌, ◌≡◌, ◌==◌, ◌&&◌, not, cond, is_some, Option, Some, None, map, flat_map, length, take, set}
+use Rattle.std.specs.List.{filter, list_any, slice_get, remove}
+use Rattle.hpx_value.specs.Ids.{bare, same_object}
+use Rattle.hpx_value.specs.Hands.{id_at}
+use Rattle.hpx_value.specs.declared.acts.Job.{Job}
+use Rattle.hpx_journal.specs.Data.{Id, Act, Outcome}
+use Rattle.hpx_journal.specs.Entries.{name_of}
+use Rattle.hpx_part.specs.Data.{Refusal}
+use Rattle.hpx_commit.specs.Deals.{is_managed, log_of}
+pub use Rattle.hpx_node.specs.declared.pending.Asked.{Asked}
+
+-- a commit that waits: its job and outcome, the ids in its hand, the places that are named there, what was asked for, and an
+-- object of which there was no more
+pub record Waits : Type 0 where
+  pub job : Job
+  pub outcome : Outcome
+  pub localities : ℕ
+  pub hand : List Id
+  pub places : List ℕ
+  pub asked : List Asked
+  pub refused : Option Id
+
+-- its action, which is still fired
+abbrev pub action_of : Waits → Act
+action_of w = w.job.action
+
+-- the fired actions: those that run, and those whose commits wait
+abbrev pub fired_of : List Act → List Waits → List Act
+fired_of running pending = running ++ map action_of pending
+
+-- the ids that its object and its action name
+abbrev pub ids_named : Waits → List Id
+ids_named w = w.job.state.ids ++ w.job.action.ids
+
+-- those of its hand: behind them come what it makes, and what was split off
+abbrev pub own_ids : Waits → List Id
+own_ids w = take (length (ids_named w)) w.hand
+
+-- an id of a managed object without credit, which was asked for
+abbrev pub is_asked : Id → Bool
+is_asked id = is_managed id && not (is_some id.log)
+
+-- the ids that were asked for
+abbrev pub asking_of : List Waits → List Id
+asking_of pending = flat_map (λ w. filter is_asked (own_ids w)) pending
+
+-- an action of which an id was refused
+abbrev pub refusal_of : Act → Option Id → List Refusal
+refusal_of act None = []
+refusal_of act (Some o) = record { action = name_of act; object = o } ∷ []
+
+-- the refused ids
+abbrev pub refusals_of : List Waits → List Refusal
+refusals_of pending = flat_map (λ w. refusal_of w.job.action w.refused) pending
+
+-- ---- what was asked for is given
+
+-- what was asked for under this number, of the object of an id
+abbrev pub is_asked_for : Waits → Id → ℕ → Asked → Bool
+is_asked_for w o entry x = (x.entry == entry) && same_object o (id_at w.hand x.place)
+
+-- a commit waits for it
+abbrev pub awaits : Id → ℕ → Waits → Bool
+awaits o entry w = list_any (is_asked_for w o entry) w.asked
+
+-- the id stands at its place in the hand, and was asked for no more; one without more credit is refused
+abbrev pub refilled : ℕ → ℕ → Id → Waits → Waits
+refilled k place id w = record w {
+  hand = set w.hand place id;
+  asked = remove w.asked k;
+  refused = cond (log_of id.log == 0) (Some (bare id)) w.refused;
+}
+
+-- it is given to a commit that waits for it
+pub record Refills (id : Id) (entry : ℕ) (w w' : Waits) : Type 0 where
+  pub k : ℕ
+  pub ask : Asked
+  pub there : slice_get w.asked k ≡ Some ask
+  pub for : is_asked_for w id entry ask ≡ true
+  pub now : w' ≡ refilled k ask.place id w

@@ -1,0 +1,109 @@
+//! Commits that wait for credit that was asked for.
+ghost use Rattle.std.specs.Prelude.{◌≡◌, ◌<◌, true, None, IfSome, IfNone, length, find};
+ghost use Rattle.std.specs.List.{AllByRecursion, slice_get};
+ghost use Rattle.hpx_node.specs.Pending.{is_asked_for, awaits, Refills};
+
+use hpx_commit::deal::log_of;
+use hpx_commit::hand::id_at;
+use hpx_value::acts::{Acts, Done};
+use hpx_value::gid::Gid;
+use hpx_value::value::Act;
+use std::marker::Model;
+
+/// What was asked for: the number of the ask, and the place in the hand.
+#[derive(Clone, Copy, Debug, PartialEq, Eq)]
+pub struct Asked {
+    pub entry: u64,
+    pub place: u32,
+}
+
+/// A job that is done and waits for credit to be committed. Its hand has the ids of its object and of its action, bare ids for
+/// what it makes, and what was split off; what was asked for stands there without credit.
+#[derive(Drop)]
+pub struct Pending<A: Acts> {
+    done: Done<A>,
+    hand: Vec<Gid>,
+    places: Vec<u32>,
+    asked: Vec<Asked>,
+    refused: Option<Gid>,
+}
+
+impl<A: Acts> Model for Pending<A> {
+    ghost use Rattle.hpx_node.specs.Jobs.{IsFitJob};
+    ghost use Rattle.hpx_node.specs.Pending.{Waits};
+
+    ghost Value = { Waits };
+
+    ghost view = { λ w. record {
+      job = w.done.job;
+      outcome = w.done.outcome;
+      localities = w.done.localities;
+      hand = w.hand.items;
+      places = w.places.items;
+      asked = w.asked.items;
+      refused = w.refused;
+    } };
+
+    ghost invariant = { λ w. IsFitJob w.done.job };
+}
+
+impl<A: Acts> Pending<A> {
+    /// The action, which is still fired.
+    pub fn action(&self) -> &Act
+        ensures { result.now ≡ self.now.job.action }
+    {
+        &self.done.job().action
+    }
+
+    /// The ids in its hand.
+    pub fn hand(&self) -> &[Gid]
+        ensures { result.now ≡ self.now.hand }
+    {
+        self.hand.as_slice()
+    }
+
+    /// Whether this was asked for under a number, of the object of an id.
+    fn is_for(&self, ask: Asked, o: Gid, entry: u64) -> bool
+        ensures { result ≡ is_asked_for self.now o entry ask }
+    {
+        ask.entry == entry && o.names_same(id_at(self.hand.as_slice(), ask.place as usize))
+    }
+
+    /// Where what is asked for under a number, of the object of an id, stands among what was asked for.
+    #[tactic(auto, using(hpx_part::proofs::Keyed::find_step, hpx_part::proofs::Keyed::find_at_index))]
+    fn ask_at(&self, o: Gid, entry: u64) -> Option<usize>
+        ensures inside { IfSome result (λ k. k < length self.now.asked) }
+        ensures found { IfSome result (λ k. find (is_asked_for self.now o entry) self.now.asked ≡ slice_get self.now.asked k) }
+        ensures none { IfNone result (find (is_asked_for self.now o entry) self.now.asked ≡ None) }
+    {
+        for (k, x) in self.asked.iter().enumerate() {
+            if self.is_for(*x, o, entry) {
+                return Some(k);
+            }
+        }
+        None
+    }
+
+    /// Whether it waits for this.
+    pub fn awaits(&self, o: Gid, entry: u64) -> bool
+        ensures { result ≡ awaits o entry self.now }
+    {
+        self.asked.iter().any(|x| self.is_for(*x, o, entry))
+    }
+
+    /// Takes an id that it waits for into its hand.
+    pub fn refill(&mut self, id: Gid, entry: u64)
+        requires waits { awaits id entry self.old ≡ true }
+        requires within { AllByRecursion (λ x. x.place < length self.old.hand) self.old.asked }
+        ensures { Refills id entry self.old self.new }
+    {
+        let Some(k) = self.ask_at(id, entry) else {
+            return;
+        };
+        let place = self.asked.remove(k).place;
+        self.hand[place as usize] = id;
+        if log_of(id) == 0 {
+            self.refused = Some(id.bare());
+        }
+    }
+}
