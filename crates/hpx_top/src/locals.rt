@@ -185,7 +185,7 @@ impl<A: RootActs + Copy> Locals<A> {
     }
 
     /// Takes a frame into the hand, where none is.
-    fn fill<F: Fabric>(&mut self, fabric: &mut F) -> Result<(), FabricFault>
+    pub(crate) fn fill<F: Fabric>(&mut self, fabric: &mut F) -> Result<(), FabricFault>
         requires carrying { IsCarrying self.old.hand (F.flight fabric.old) (F.trace fabric.old) self.old.journal.entries }
         ensures same { self.new ≡ record self.old { hand = self.new.hand } }
         ensures carrying { IsCarrying self.new.hand (F.flight fabric.new) (F.trace fabric.new) self.new.journal.entries }

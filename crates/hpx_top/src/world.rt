@@ -11,6 +11,9 @@ ghost use Rattle.hpx_top.specs.Turns.{Wrote, Ran, IsUnfed, SendsHome};
 ghost use Rattle.hpx_top.specs.Free.{NoneIsFree};
 ghost use Rattle.hpx_top.specs.Jobs.{IsRunning, Starts, IsOut};
 
+#[cfg(test)]
+mod tests;
+
 use crate::locals::Locals;
 use crate::parts::{FinishFault, Finished};
 use crate::root_acts::RootActs;
