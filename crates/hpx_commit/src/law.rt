@@ -98,8 +98,8 @@ pub fn replaced_law()
         ((p : ℕ) → p < n → (Lasting s p → ⊥) → (id_at hand p).log ≡ Some log) → AllLast hand s.places }
 {}
 
-/// An action that fails: the state, the action and what is due name their objects, and the new state, what is due and what is given up
-/// weigh together what the action had.
+/// An action that fails: the state, the action and what is due name the objects that they named, and the new state, what is
+/// due and what is given up weigh together what the action had.
 pub fn failure_law()
     ensures state { (s : State) (a : Act) (made ids : List Id) → map bare (take (length (hand_ids s a made)) ids) ≡ map bare (hand_ids s a made) →
         map bare (state_failed s ids).ids ≡ map bare s.ids }
