@@ -1,14 +1,19 @@
 -- What an action leaves that fails, named and counted.
-use Rattle.std.proofs.Common.{ℕ, zero, suc, Bool, true, false, cond, codes, List, [], ◌∷◌, ◌++◌, ◌≡◌, ◌+◌, ◌==◌, Option, Some, None, length, map, take, drop, refl, ap, ◌∙◌, arith}
+use Rattle.std.proofs.Common.{ℕ, zero, suc, Bool, true, false, cond, codes, List, [], ◌∷◌, ◌++◌, ◌≡◌, ◌+◌, ◌==◌, Option, Some, None, length, map, take, drop, refl, sym, ap, ◌∙◌, arith, inl, inr}
 use Rattle.std.specs.Prelude.{flat_map}
-use Rattle.std.specs.List.{sum_by, remove}
+use Rattle.std.specs.List.{sum_by, remove, AllByRecursion}
+use Rattle.std.proofs.lemmas.Bool.{cases_Bool}
 use Rattle.std.proofs.lemmas.List.Sums.{sum_by-append}
 use Rattle.hpx_value.specs.Ids.{Id, bare}
-use Rattle.hpx_value.specs.Hands.{id_at, hand_ids}
+use Rattle.hpx_value.specs.Hands.{id_at, hand_ids, slot_at, answer}
+use Rattle.hpx_value.specs.Values.{bare_message}
+use Rattle.hpx_value.specs.declared.value.Value.TheVariants.{Fault}
+use Rattle.hpx_value.specs.declared.value.Message.{Message}
 use Rattle.hpx_value.specs.declared.value.Cont.{Cont}
 use Rattle.hpx_value.specs.declared.value.State.{State}
 use Rattle.hpx_value.specs.declared.value.Act.{Act}
-use Rattle.hpx_value.specs.declared.outcome.Due.TheVariants.{Print as PrintDue}
+use Rattle.hpx_value.specs.declared.outcome.Due.{Due}
+use Rattle.hpx_value.specs.declared.outcome.Due.TheVariants.{Message as MessageDue, Print as PrintDue}
 use Rattle.hpx_commit.specs.Deals.{is_managed, ids_due}
 use Rattle.hpx_commit.specs.Failures.{action_ids, halves_ahead, ids_had, state_failed, due_failed, unanswered, ups_failed}
 use Rattle.hpx_commit.proofs.Naming.{managed, filter_append}
@@ -32,6 +37,80 @@ module _ (s : State) (a : Act) (made ids : List Id) (same : map bare (take (leng
 
   pub action_same : map bare (action_ids s a ids) ≡ map bare a.ids
   action_same = (front_parts a.ids made (drop (length s.ids) ids) (front_parts s.ids (a.ids ++ made) ids same).1).0
+
+at_bare : (ids : List Id) (i : ℕ) → id_at (map bare ids) i ≡ bare (id_at ids i)
+at_bare [] i = none i
+  where
+    none : (i : ℕ) → id_at [] i ≡ bare (id_at [] i)
+    none zero = refl
+    none (suc i) = refl
+at_bare (id ∷ ids) zero = refl
+at_bare (id ∷ ids) (suc i) = at_bare ids i
+
+-- what is due of bare ids is that of the ids, made bare
+module _ (g : Due → Due) (message : (m : Message) → g (MessageDue m) ≡ MessageDue (bare_message m)) (print : (bytes : List ℕ) → g (PrintDue bytes) ≡ PrintDue bytes) where
+  print_bare : (b : Bool) → map g (cond b (PrintDue (codes "error: credit limit\n") ∷ []) []) ≡ cond b (PrintDue (codes "error: credit limit\n") ∷ []) []
+  print_bare true = ap (λ x. x ∷ []) (print (codes "error: credit limit\n"))
+  print_bare false = refl
+
+  printed : (ids : List Id) → map g (cond ((id_at ids 0).kind == 1) (PrintDue (codes "error: credit limit\n") ∷ []) [])
+      ≡ cond ((id_at (map bare ids) 0).kind == 1) (PrintDue (codes "error: credit limit\n") ∷ []) []
+  printed ids =
+      print_bare ((id_at ids 0).kind == 1)
+      ∙ ap (λ (x : Id). cond (x.kind == 1) (PrintDue (codes "error: credit limit\n") ∷ []) []) (sym (at_bare ids 0))
+
+  pub due_bare : (ids : List Id) (cont : Option Cont) → map g (due_failed ids cont) ≡ due_failed (map bare ids) cont
+  due_bare ids None = printed ids
+  due_bare ids (Some c) =
+      ap (λ y. y ∷ map g (cond ((id_at ids 0).kind == 1) (PrintDue (codes "error: credit limit\n") ∷ []) [])) (message (answer [] (slot_at ids c) (Fault 5)))
+      ∙ (ap (λ x. MessageDue (answer [] (record { object = x; number = c.slot }) (Fault 5))
+      ∷ map g (cond ((id_at ids 0).kind == 1) (PrintDue (codes "error: credit limit\n") ∷ []) [])) (sym (at_bare ids c.place))
+      ∙ ap (λ ds. MessageDue (answer [] (slot_at (map bare ids) c) (Fault 5)) ∷ ds) (printed ids))
+
+-- ---- what each id has
+
+module _ (P : Id → Type 0) where
+  all_take : (n : ℕ) (ids : List Id) → AllByRecursion P ids → AllByRecursion P (take n ids)
+  all_take zero [] h = tt
+  all_take zero (id ∷ ids) h = tt
+  all_take (suc n) [] h = tt
+  all_take (suc n) (id ∷ ids) h = (h.0, all_take n ids h.1)
+
+  all_drop : (n : ℕ) (ids : List Id) → AllByRecursion P ids → AllByRecursion P (drop n ids)
+  all_drop zero [] h = tt
+  all_drop zero (id ∷ ids) h = h
+  all_drop (suc n) [] h = tt
+  all_drop (suc n) (id ∷ ids) h = all_drop n ids h.1
+
+  all_append : (xs ys : List Id) → AllByRecursion P xs → AllByRecursion P ys → AllByRecursion P (xs ++ ys)
+  all_append [] ys h i = i
+  all_append (x ∷ xs) ys h i = (h.0, all_append xs ys h.1 i)
+
+  all_managed : (ids : List Id) → AllByRecursion P ids → AllByRecursion P (managed ids)
+  all_managed [] h = tt
+  all_managed (id ∷ ids) h = elim (cases_Bool (is_managed id)) [
+    | inl t ↦ rw t (h.0, all_managed ids h.1)
+    | inr t ↦ rw t (all_managed ids h.1)
+  ]
+
+  all_unanswered : (ids : List Id) (cont : Option Cont) → AllByRecursion P ids → AllByRecursion P (unanswered ids cont)
+  all_unanswered ids None h = h
+  all_unanswered ids (Some c) h =
+      all_append (take c.place ids) (drop (suc c.place) ids) (all_take c.place ids h) (all_drop (suc c.place) ids h)
+
+  -- the new state, the action and what is given up have what each id of the stock has
+  pub state_all : (s : State) (ids : List Id) → AllByRecursion P ids → AllByRecursion P (state_failed s ids).ids
+  state_all s ids h = all_take (length s.ids) ids h
+
+  pub action_all : (s : State) (a : Act) (ids : List Id) → AllByRecursion P ids → AllByRecursion P (action_ids s a ids)
+  action_all s a ids h = all_take (length a.ids) (drop (length s.ids) ids) (all_drop (length s.ids) ids h)
+
+  pub ups_all : (s : State) (a : Act) (makes : ℕ) (ids : List Id) → AllByRecursion P ids → AllByRecursion P (ups_failed s a makes ids)
+  ups_all s a makes ids h =
+      all_managed (unanswered (action_ids s a ids) a.cont ++ halves_ahead s a makes ids)
+      (all_append (unanswered (action_ids s a ids) a.cont) (halves_ahead s a makes ids)
+      (all_unanswered (action_ids s a ids) a.cont (action_all s a ids h))
+      (all_drop (length s.ids + length a.ids + makes) ids h))
 
 -- ---- sums
 

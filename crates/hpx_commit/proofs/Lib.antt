@@ -8,3 +8,4 @@ pub mod Short
 pub mod StockLoops
 pub mod Failed
 pub mod Later
+pub mod AheadMore

@@ -21,14 +21,28 @@ use std::collections::VecDeque;
 /// The fault of an action that could get no credit.
 const CREDIT_LIMIT: u8 = 5;
 
-/// The state of an object as it was, with these ids.
-fn state_failed(alloc: Global, state: &State, ids: &[Gid]) -> Result<State, OutOfMemory>
+/// A state with other ids.
+pub fn state_with(alloc: Global, state: &State, ids: &[Gid]) -> Result<State, OutOfMemory>
     ensures { IfOk result (λ new. new ≡ record state.now { ids = ids.now }) }
 {
     Ok(State {
         drawn: state.drawn,
         values: state.values.duplicate(alloc)?,
         conts: state.conts.duplicate(alloc)?,
+        ids: Items::from_vec(Vec::from_slice(alloc, ids)?),
+    })
+}
+
+/// An action with other ids.
+pub fn action_with(alloc: Global, action: &Act, ids: &[Gid]) -> Result<Act, OutOfMemory>
+    ensures { IfOk result (λ new. new ≡ record action.now { ids = ids.now }) }
+{
+    Ok(Act {
+        origin: action.origin,
+        serial: action.serial,
+        code: action.code,
+        args: action.args.duplicate(alloc)?,
+        cont: action.cont,
         ids: Items::from_vec(Vec::from_slice(alloc, ids)?),
     })
 }
@@ -107,7 +121,7 @@ pub fn plan_failure(
     let last = first + action.ids.len();
     let own = &ids[first..last];
     let halves = &ids[last + makes..];
-    let state = state_failed(alloc, state, &ids[..first])?;
+    let state = state_with(alloc, state, &ids[..first])?;
     let due = due_failed(alloc, own, action.cont)?;
     let ups = ups_failed(alloc, own, action.cont, halves)?;
     Ok(Plan { state, due, ups })

@@ -1,12 +1,16 @@
 //! What dealing keeps: objects, and credits.
-ghost use Rattle.std.specs.Prelude.{◌≡◌, ◌<◌, ◌≤◌, ◌+◌, ◌-◌, ◌*◌, ◌++◌, [], ℕ, List, is_some, length, map, flat_map, take};
+ghost use Rattle.std.specs.Prelude.{◌≡◌, ◌<◌, ◌≤◌, ◌+◌, ◌-◌, ◌*◌, ◌++◌, [], ℕ, List, Option, is_some, length, map, flat_map, take};
 ghost use Rattle.std.specs.List.{sum_by, filter};
 ghost use Rattle.hpx_value.specs.Ids.{Id, bare};
 ghost use Rattle.hpx_value.specs.Hands.{id_at, hand_ids};
 ghost use Rattle.hpx_value.specs.Shapes.{IsState, IsAct};
 ghost use Rattle.hpx_value.specs.Laws.{KeepsLaws};
+ghost use Rattle.hpx_value.specs.Values.{bare_message};
 ghost use Rattle.hpx_value.specs.declared.outcome.Due.{Due};
+ghost use Rattle.hpx_value.specs.declared.outcome.Due.TheVariants.{Message as MessageDue, Print as PrintDue};
 ghost use Rattle.hpx_value.specs.declared.outcome.Outcome.{Outcome};
+ghost use Rattle.hpx_value.specs.declared.value.Cont.{Cont};
+ghost use Rattle.hpx_value.specs.declared.value.Message.{Message};
 ghost use Rattle.hpx_value.specs.declared.value.State.{State};
 ghost use Rattle.hpx_value.specs.declared.value.Act.{Act};
 ghost use Rattle.hpx_commit.specs.Deals.{is_managed, log_of, half, named, places_named, dealt, shared_from, Lasts, AllLast, AreWithin, filled, unused, filled_due, ids_due, ids_named};
@@ -62,6 +66,8 @@ pub fn ahead_law()
         (log_of (id_at (ahead n s).hand p).log ≡ 0) × (2 ≤ named (ahead n s).places p) }
     ensures lasts { (n : ℕ) (s : Stock) → n ≤ length s.hand → AreWithin s.hand s.places → (p : ℕ) →
         (p < length s.hand → Lasting s p) → Lasting (ahead n s) p }
+    ensures few { (n : ℕ) (s : Stock) → n ≤ length s.hand → AreWithin s.hand s.places →
+        length (ahead n s).hand ≤ length s.hand + length s.places }
 {}
 
 /// What is split ahead does not depend on the ids behind the first places: those of made objects may be others later.
@@ -92,13 +98,16 @@ pub fn replaced_law()
         ((p : ℕ) → p < n → (Lasting s p → ⊥) → (id_at hand p).log ≡ Some log) → AllLast hand s.places }
 {}
 
-/// An action that fails: the state and the action keep their objects, and the new state, what is due and what is given up
-/// weigh together what the action had.
+/// An action that fails: the state, the action and what is due name the objects that they named, and the new state, what is
+/// due and what is given up weigh together what the action had.
 pub fn failure_law()
     ensures state { (s : State) (a : Act) (made ids : List Id) → map bare (take (length (hand_ids s a made)) ids) ≡ map bare (hand_ids s a made) →
         map bare (state_failed s ids).ids ≡ map bare s.ids }
     ensures action { (s : State) (a : Act) (made ids : List Id) → map bare (take (length (hand_ids s a made)) ids) ≡ map bare (hand_ids s a made) →
         map bare (action_ids s a ids) ≡ map bare a.ids }
+    ensures due { (g : Due → Due) → ((m : Message) → g (MessageDue m) ≡ MessageDue (bare_message m)) →
+        ((bytes : List ℕ) → g (PrintDue bytes) ≡ PrintDue bytes) → (ids : List Id) (cont : Option Cont) →
+        map g (due_failed ids cont) ≡ due_failed (map bare ids) cont }
     ensures sums { (f : Id → ℕ) (s : State) (a : Act) (makes : ℕ) (ids : List Id) →
         sum_by f (filter is_managed (state_failed s ids).ids)
         + (sum_by f (filter is_managed (flat_map ids_due (due_failed (action_ids s a ids) a.cont))) + sum_by f (ups_failed s a makes ids))

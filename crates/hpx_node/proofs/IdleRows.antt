@@ -10,6 +10,8 @@ use Rattle.hpx_part.specs.Data.{Name, Event, Line, Fire, Split, Born, Done, Sent
 use Rattle.hpx_commit.specs.Deals.{half, named}
 use Rattle.hpx_node.specs.declared.node.settle.Birth.{Birth}
 use Rattle.hpx_node.specs.Births.{births_of}
+use Rattle.hpx_commit.specs.Stocks.{halvings}
+use Rattle.hpx_node.specs.Asks.{first_cuts}
 use Rattle.hpx_node.specs.Commits.{cuts, splits_from}
 use Rattle.hpx_node.specs.Fit.{parcel_for}
 use Rattle.hpx_node.specs.Idle.{Row, Returns, Asks, Gives, Frees, Counts, Refusals, Actions, kind_of, brings, weight, owes, goes, causes, hops, of_act}
@@ -177,3 +179,10 @@ pub splits_idle : (r : Rules) (p : ℕ) (ids : List Id) (places : List ℕ) → 
 splits_idle r p [] places = tt
 splits_idle r p (id ∷ ids) places =
     all_append (IsIdle r) (cuts id (named places p)) (splits_from (p + 1) ids places) (cuts_idle r id (named places p)) (splits_idle r (p + 1) ids places)
+
+pub first_idle : (r : Rules) (k p : ℕ) (ids : List Id) (places : List ℕ) → AllByRecursion (IsIdle r) (first_cuts k p ids places)
+first_idle r zero p ids places = tt
+first_idle r (suc k) p [] places = tt
+first_idle r (suc k) p (id ∷ ids) places =
+    all_append (IsIdle r) (cuts id (suc (halvings id (named places p)))) (first_cuts k (p + 1) ids places)
+    (cuts_idle r id (suc (halvings id (named places p)))) (first_idle r k (p + 1) ids places)

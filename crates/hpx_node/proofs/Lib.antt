@@ -1,5 +1,6 @@
 pub mod FreeLemmas
 pub mod Few
+pub mod FirstCuts
 pub mod Gone
 pub mod Made
 pub mod MadeLists
@@ -18,6 +19,7 @@ pub mod Same
 pub mod Sums
 pub mod Bare
 pub mod Bearing
+pub mod Begun
 pub mod Alls
 pub mod Cover
 pub mod Fed

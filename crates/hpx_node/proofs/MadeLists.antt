@@ -24,7 +24,7 @@ pub fresh_ids : (here n log : ℕ) (xs : List Birth) → map object_of (objects_
 fresh_ids here n log [] = refl
 fresh_ids here n log (x ∷ xs) = ap (λ ys. bare_id here x.kind (n + 1) ∷ ys) (fresh_ids here (n + 1) log xs)
 
-bare_alone : (s : State) → s.ids ≡ [] → bare_state s ≡ s
+pub bare_alone : (s : State) → s.ids ≡ [] → bare_state s ≡ s
 bare_alone s none = ap (λ ids. record { drawn = s.drawn; values = s.values; conts = s.conts; ids = ids }) (ap (map bare) none ∙ sym none)
 
 -- they show no credit

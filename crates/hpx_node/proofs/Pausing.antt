@@ -1,5 +1,5 @@
 -- What stands beside commits that wait for credit: where actions are fired and done, and objects come and go.
-use Rattle.std.proofs.Common.{ℕ, zero, suc, Bool, true, false, cond, List, [], ◌∷◌, ◌++◌, ◌≡◌, ◌≤◌, ◌<◌, ◌==◌, Some, None, map, set, take, drop, append_assoc, refl, sym, ap, ◌∙◌, arith, inl, inr, subst}
+use Rattle.std.proofs.Common.{ℕ, zero, suc, Bool, true, false, cond, List, [], ◌∷◌, ◌++◌, ◌≡◌, ◌≤◌, ◌<◌, ◌==◌, Some, None, map, set, take, drop, append_assoc, append-nil, refl, sym, ap, ◌∙◌, arith, inl, inr, subst}
 use Rattle.std.specs.Prelude.{◌||◌, ◌&&◌, not, is_some, MatchOption, Option}
 use Rattle.std.specs.List.{sum_by, find, list_any, slice_get, remove, AllByRecursion}
 use Rattle.std.proofs.lemmas.Bool.{cases_Bool, eqb-true}
@@ -41,10 +41,10 @@ busy_first o act acts = elim (cases_Bool (o.kind == 7)) [
   | inr t ↦ rw t refl
 ]
 
-busy_none : (o : Id) (act : Act) (acts : List Act) → is_busy o (act ∷ acts) ≡ false → (keeps o act ≡ false) × (is_busy o acts ≡ false)
+pub busy_none : (o : Id) (act : Act) (acts : List Act) → is_busy o (act ∷ acts) ≡ false → (keeps o act ≡ false) × (is_busy o acts ≡ false)
 busy_none o act acts h = none_of (keeps o act) (is_busy o acts) (sym (busy_first o act acts) ∙ h)
 
-none_busy : (o : Id) (act : Act) (acts : List Act) → keeps o act ≡ false → is_busy o acts ≡ false → is_busy o (act ∷ acts) ≡ false
+pub none_busy : (o : Id) (act : Act) (acts : List Act) → keeps o act ≡ false → is_busy o acts ≡ false → is_busy o (act ∷ acts) ≡ false
 none_busy o act acts h i = busy_first o act acts ∙ or_false (keeps o act) (is_busy o acts) h i
 
 -- the same object is as busy
@@ -52,7 +52,7 @@ pub busy_same : (a b : Id) (acts : List Act) → same_object a b ≡ true → is
 busy_same a b acts h = ap (λ (o : Id). is_busy o acts) (same_object-true a b h)
 
 -- two actions keep each other's objects busy, or neither does
-keeps_both : (a b : Act) → keeps (target_of a) b ≡ false → keeps (target_of b) a ≡ false
+pub keeps_both : (a b : Act) → keeps (target_of a) b ≡ false → keeps (target_of b) a ≡ false
 keeps_both a b h = elim (cases_Bool (same_object (target_of b) (target_of a))) [
   | inl t ↦
       let same : same_object (target_of a) (target_of b) ≡ true = same_object-sym (target_of b) (target_of a) t in
@@ -66,7 +66,7 @@ keeps_both a b h = elim (cases_Bool (same_object (target_of b) (target_of a))) [
     either true = refl
     either false = refl
 
-busy_parts : (o : Id) (l m : List Act) → is_busy o (l ++ m) ≡ false → (is_busy o l ≡ false) × (is_busy o m ≡ false)
+pub busy_parts : (o : Id) (l m : List Act) → is_busy o (l ++ m) ≡ false → (is_busy o l ≡ false) × (is_busy o m ≡ false)
 busy_parts o [] m h = (none_at (o.kind == 7), h)
   where
     none_at : (b : Bool) → cond b false false ≡ false
@@ -81,14 +81,14 @@ busy_middle o [] act m h k = none_busy o act m k h
 busy_middle o (x ∷ l) act m h k =
     let first = busy_none o x (l ++ m) h in none_busy o x (l ++ act ∷ m) first.0 (busy_middle o l act m first.1 k)
 
-busy_less : (o : Id) (l : List Act) (act : Act) (m : List Act) → is_busy o (l ++ act ∷ m) ≡ false → (keeps o act ≡ false) × (is_busy o (l ++ m) ≡ false)
+pub busy_less : (o : Id) (l : List Act) (act : Act) (m : List Act) → is_busy o (l ++ act ∷ m) ≡ false → (keeps o act ≡ false) × (is_busy o (l ++ m) ≡ false)
 busy_less o [] act m h = busy_none o act m h
 busy_less o (x ∷ l) act m h =
     let first = busy_none o x (l ++ act ∷ m) h in
     let rest = busy_less o l act m first.1 in (rest.0, none_busy o x (l ++ m) first.0 rest.1)
 
 -- one more action whose object is free
-apart_more : (l : List Act) (act : Act) (m : List Act) → Apart (l ++ m) → is_busy (target_of act) (l ++ m) ≡ false → Apart (l ++ act ∷ m)
+pub apart_more : (l : List Act) (act : Act) (m : List Act) → Apart (l ++ m) → is_busy (target_of act) (l ++ m) ≡ false → Apart (l ++ act ∷ m)
 apart_more [] act m h free = (free, h)
 apart_more (x ∷ l) act m h free =
     let first = busy_none (target_of act) x (l ++ m) free in (
@@ -97,7 +97,7 @@ apart_more (x ∷ l) act m h free =
     )
 
 -- one action less
-apart_less : (l : List Act) (act : Act) (m : List Act) → Apart (l ++ act ∷ m) → Apart (l ++ m)
+pub apart_less : (l : List Act) (act : Act) (m : List Act) → Apart (l ++ act ∷ m) → Apart (l ++ m)
 apart_less [] act m h = h.1
 apart_less (x ∷ l) act m h = ((busy_less (target_of x) l act m h.0).1, apart_less l act m h.1)
 
@@ -133,7 +133,7 @@ found_passes o (y ∷ ys) x h = elim (cases_Bool (is_standing o y)) [
 
 module _ (here : ℕ) (objects : List Standing) (running : List Act) (pending : List Waits) (i : ℕ) (act : Act) (runs : slice_get running i ≡ Some act)
     (h : ArePaused here objects running pending) where
-  split : fired_of running pending ≡ take i running ++ act ∷ (drop (suc i) running ++ map action_of pending)
+  pub split : fired_of running pending ≡ take i running ++ act ∷ (drop (suc i) running ++ map action_of pending)
   split = ap (λ xs. xs ++ map action_of pending) (split_get running i act runs)
       ∙ append_assoc (take i running) (act ∷ drop (suc i) running) (map action_of pending)
 
@@ -166,7 +166,7 @@ fit_job here objects running pending job i j x fit paused runs found stands kept
 
 -- ---- ids without credit
 
-right_names : (o : Id) → 16 ≤ o.kind → (ids : List Id) → AllByRecursion HasRightCredit ids → bare_names o ids ≡ 0
+pub right_names : (o : Id) → 16 ≤ o.kind → (ids : List Id) → AllByRecursion HasRightCredit ids → bare_names o ids ≡ 0
 right_names o managed [] h = refl
 right_names o managed (id ∷ ids) h = omega (
   arith,
@@ -288,8 +288,7 @@ none_bare o (x ∷ xs) h = omega (arith, sum_by-cons (λ (y : Standing). bare_na
 
 module _ (here : ℕ) (objects : List Standing) (running : List Act) (pending : List Waits) (i j : ℕ) (act : Act) (old new : Standing) (made : List Standing)
     (runs : slice_get running i ≡ Some act) (stands : slice_get objects j ≡ Some old) (same : same_object (target_of act) old.object ≡ true)
-    (name : new.object ≡ old.object) (plain : old.object.kind ≡ 7 → new ≡ old) (paid : AllByRecursion HasRightCredit new.state.ids)
-    (alone : AllByRecursion (λ (x : Standing). x.state.ids ≡ []) made) (h : ArePaused here objects running pending) where
+    (name : new.object ≡ old.object) (plain : old.object.kind ≡ 7 → new ≡ old) (h : ArePaused here objects running pending) where
   abbrev then : List Standing
   then = set (objects ++ made) j new
 
@@ -328,6 +327,21 @@ module _ (here : ℕ) (objects : List Standing) (running : List Act) (pending : 
         each_then ws rest.1 all.1,
       )
 
+  pub paused_among : AllByRecursion (IsPaused here (set (objects ++ made) j new)) pending
+  paused_among = each_then pending (runs_alone here objects running pending i act runs h) h.each
+
+-- another state of an object that has no commit that waits
+pub paused_set : (here : ℕ) (objects : List Standing) (running : List Act) (pending : List Waits) (i j : ℕ) (act : Act) (old new : Standing)
+    → slice_get running i ≡ Some act → slice_get objects j ≡ Some old → same_object (target_of act) old.object ≡ true → new.object ≡ old.object
+    → (old.object.kind ≡ 7 → new ≡ old) → ArePaused here objects running pending → AllByRecursion (IsPaused here (set objects j new)) pending
+paused_set here objects running pending i j act old new runs stands same name plain h =
+    subst (λ xs. AllByRecursion (IsPaused here (set xs j new)) pending) (append-nil objects)
+    (paused_among here objects running pending i j act old new [] runs stands same name plain h)
+
+module _ (here : ℕ) (objects : List Standing) (running : List Act) (pending : List Waits) (i j : ℕ) (act : Act) (old new : Standing) (made : List Standing)
+    (runs : slice_get running i ≡ Some act) (stands : slice_get objects j ≡ Some old) (same : same_object (target_of act) old.object ≡ true)
+    (name : new.object ≡ old.object) (plain : old.object.kind ≡ 7 → new ≡ old) (paid : AllByRecursion HasRightCredit new.state.ids)
+    (alone : AllByRecursion (λ (x : Standing). x.state.ids ≡ []) made) (h : ArePaused here objects running pending) where
   made_whole : (xs : List Standing) → AllByRecursion (λ (x : Standing). x.state.ids ≡ []) xs
       → AllByRecursion (λ (x : Standing). is_busy x.object (map action_of pending) ≡ false → AllByRecursion HasRightCredit x.state.ids) xs
   made_whole [] none = tt
@@ -335,7 +349,7 @@ module _ (here : ℕ) (objects : List Standing) (running : List Act) (pending : 
 
   pub done_paused : ArePaused here (set (objects ++ made) j new) (remove running i) pending
   done_paused = record {
-    each = each_then pending (runs_alone here objects running pending i act runs h) h.each;
+    each = paused_among here objects running pending i j act old new made runs stands same name plain h;
     apart = apart_then here objects running pending i act runs h;
     whole = all_set (λ (x : Standing). is_busy x.object (map action_of pending) ≡ false → AllByRecursion HasRightCredit x.state.ids) (objects ++ made) j new
         (all_append (λ (x : Standing). is_busy x.object (map action_of pending) ≡ false → AllByRecursion HasRightCredit x.state.ids) objects made h.whole (made_whole made alone))

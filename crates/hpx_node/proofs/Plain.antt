@@ -14,7 +14,7 @@ none_long : {X : Type 0} (xs : List X) → length xs ≡ 0 → xs ≡ []
 none_long [] h = refl
 none_long (x ∷ xs) h = absurd (omega (arith, h))
 
-no_ids : (s : State) → IsState s → s.values ≡ [] → s.conts ≡ [] → s.ids ≡ []
+pub no_ids : (s : State) → IsState s → s.values ≡ [] → s.conts ≡ [] → s.ids ≡ []
 no_ids s fit values conts = none_long s.ids (omega (arith, fit.ids, ap (λ vs. length (refs_in vs)) values, ap (λ cs. length cs) conts))
 
 same_state : (s u : State) → s.drawn ≡ u.drawn → s.values ≡ u.values → s.conts ≡ u.conts → s.ids ≡ u.ids → s ≡ u

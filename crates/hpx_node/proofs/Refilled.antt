@@ -123,7 +123,7 @@ module _ {X Y : Type 0} where
     length-append (g z) (flat_map g xs),
   )
 
-  map_same : (g : X → Y) (xs : List X) (i : ℕ) (x y : X) → slice_get xs i ≡ Some x → g y ≡ g x → map g (set xs i y) ≡ map g xs
+  pub map_same : (g : X → Y) (xs : List X) (i : ℕ) (x y : X) → slice_get xs i ≡ Some x → g y ≡ g x → map g (set xs i y) ≡ map g xs
   map_same g [] i x y h e = refl
   map_same g (z ∷ xs) zero x y h e = ap (λ v. v ∷ map g xs) (e ∙ ap g (sym (some_same z x h)))
   map_same g (z ∷ xs) (suc i) x y h e = ap (λ vs. g z ∷ vs) (map_same g xs i x y h e)
@@ -157,7 +157,7 @@ among_fired f g (a ∷ running) pending i w h = omega (
   sum_by-cons f (g (bare_act a)) (map g (map bare_act (fired_of running pending))),
 )
 
-long_names : (ids : List Id) → length (map bare ids) ≡ length ids
+pub long_names : (ids : List Id) → length (map bare ids) ≡ length ids
 long_names [] = refl
 long_names (x ∷ xs) = ap suc (long_names xs)
 

@@ -42,7 +42,7 @@ pub births_long : (here n : ℕ) (xs : List Birth) → length (births_of here n 
 births_long here n [] = refl
 births_long here n (x ∷ xs) = ap suc (births_long here (n + 1) xs)
 
-cuts_stay : (id : Id) (n : ℕ) → AllByRecursion Stays (cuts id n)
+pub cuts_stay : (id : Id) (n : ℕ) → AllByRecursion Stays (cuts id n)
 cuts_stay id zero = tt
 cuts_stay id (suc zero) = tt
 cuts_stay id (suc (suc n)) = ((λ k. refl, λ k. refl), cuts_stay (half id) (suc n))

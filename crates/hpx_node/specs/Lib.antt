@@ -10,6 +10,7 @@ pub mod Jobs
 pub mod Paused
 pub mod Births
 pub mod Commits
+pub mod Asks
 pub mod Kept
 pub mod Strange
 pub mod Handled

@@ -28,10 +28,11 @@ pub fn target(act: &Act) -> Gid
 }
 
 /// Where an object stands, if it does.
-#[tactic(auto, using(hpx_part::proofs::Keyed::find_step, hpx_part::proofs::Keyed::find_at_index))]
+#[tactic(auto, using(hpx_part::proofs::Keyed::find_step, hpx_part::proofs::Keyed::find_at_index, crate::proofs::FreeLemmas::find_none_more))]
 pub fn place_of(objects: &[Kept], o: Gid) -> Option<usize>
     ensures inside { IfSome result (λ j. j < length objects.now) }
     ensures found { IfSome result (λ j. find (is_standing o) objects.now ≡ slice_get objects.now j) }
+    ensures first { IfSome result (λ j. find (is_standing o) (take j objects.now) ≡ None) }
     ensures none { IfNone result (find (is_standing o) objects.now ≡ None) }
 {
     for (j, x) in objects.iter().enumerate() {

@@ -1,13 +1,17 @@
 //! Commits that wait for credit that was asked for.
 ghost use Rattle.std.specs.Prelude.{◌≡◌, ◌<◌, true, None, IfSome, IfNone, length, find};
 ghost use Rattle.std.specs.List.{AllByRecursion, slice_get};
+ghost use Rattle.hpx_node.specs.Asks.{waits_with};
+ghost use Rattle.hpx_node.specs.Jobs.{IsFitJob};
 ghost use Rattle.hpx_node.specs.Pending.{is_asked_for, awaits, Refills};
 
 use hpx_commit::deal::log_of;
 use hpx_commit::hand::id_at;
+use hpx_commit::stock::Stock;
 use hpx_value::acts::{Acts, Done};
 use hpx_value::gid::Gid;
 use hpx_value::value::Act;
+use std::alloc::Global;
 use std::marker::Model;
 
 /// What was asked for: the number of the ask, and the place in the hand.
@@ -22,8 +26,7 @@ pub struct Asked {
 #[derive(Drop)]
 pub struct Pending<A: Acts> {
     done: Done<A>,
-    hand: Vec<Gid>,
-    places: Vec<u32>,
+    stock: Stock,
     asked: Vec<Asked>,
     refused: Option<Gid>,
 }
@@ -38,8 +41,8 @@ impl<A: Acts> Model for Pending<A> {
       job = w.done.job;
       outcome = w.done.outcome;
       localities = w.done.localities;
-      hand = w.hand.items;
-      places = w.places.items;
+      hand = w.stock.hand;
+      places = w.stock.places;
       asked = w.asked.items;
       refused = w.refused;
     } };
@@ -48,6 +51,19 @@ impl<A: Acts> Model for Pending<A> {
 }
 
 impl<A: Acts> Pending<A> {
+    /// A job that is done, with its stock. It has asked for nothing yet.
+    pub fn new(alloc: Global, done: Done<A>, stock: Stock) -> Pending<A>
+        requires { IsFitJob done.job }
+        ensures { result ≡ waits_with done.job done.outcome done.localities stock }
+    {
+        Pending {
+            done,
+            stock,
+            asked: Vec::new(alloc),
+            refused: None,
+        }
+    }
+
     /// The action, which is still fired.
     pub fn action(&self) -> &Act
         ensures { result.now ≡ self.now.job.action }
@@ -59,14 +75,14 @@ impl<A: Acts> Pending<A> {
     pub fn hand(&self) -> &[Gid]
         ensures { result.now ≡ self.now.hand }
     {
-        self.hand.as_slice()
+        self.stock.hand()
     }
 
     /// Whether this was asked for under a number, of the object of an id.
     fn is_for(&self, ask: Asked, o: Gid, entry: u64) -> bool
         ensures { result ≡ is_asked_for self.now o entry ask }
     {
-        ask.entry == entry && o.names_same(id_at(self.hand.as_slice(), ask.place as usize))
+        ask.entry == entry && o.names_same(id_at(self.stock.hand(), ask.place as usize))
     }
 
     /// Where what is asked for under a number, of the object of an id, stands among what was asked for.
@@ -101,7 +117,7 @@ impl<A: Acts> Pending<A> {
             return;
         };
         let place = self.asked.remove(k).place;
-        self.hand[place as usize] = id;
+        self.stock.replace(place as usize, id);
         if log_of(id) == 0 {
             self.refused = Some(id.bare());
         }

@@ -7,13 +7,15 @@ ghost use Rattle.hpx_journal.specs.Entries.{name_of};
 ghost use Rattle.hpx_part.specs.Parts.{at_all};
 ghost use Rattle.hpx_part.specs.Data.{Done};
 ghost use Rattle.hpx_commit.specs.Deals.{Lasts, half, named};
+ghost use Rattle.hpx_commit.specs.Stocks.{halvings};
 ghost use Rattle.hpx_node.specs.Births.{IsBirth, Makes, birth_of, births_of};
+ghost use Rattle.hpx_node.specs.Asks.{first_cuts};
 ghost use Rattle.hpx_node.specs.Commits.{cuts, splits_from};
 ghost use Rattle.hpx_node.specs.Fit.{IsKept};
 
 use crate::kept::Kept;
 use crate::node::Node;
-use hpx_commit::deal::named;
+use hpx_commit::deal::{log_of, named};
 use hpx_journal::entry::{Entry, Event};
 use hpx_journal::journal::Journal;
 use hpx_value::acts::Acts;
@@ -73,6 +75,26 @@ pub fn push_splits(book: &mut Journal, here: u32, hand: &[Gid], places: &[u32])
 {
     for (p, id) in hand.iter().enumerate() {
         push_cuts(book, here, *id, named(places, p as u32));
+    }
+}
+
+/// How often an id is halved where so many name it, as far as its log goes.
+fn halvings(id: Gid, names: usize) -> usize
+    ensures { result ≡ halvings id names }
+{
+    names.saturating_sub(1).min(log_of(id) as usize)
+}
+
+/// Writes the splits of the first so many of a hand, as far as their logs go.
+pub fn push_first_splits(book: &mut Journal, here: u32, hand: &[Gid], places: &[u32], own: u32)
+    requires own { own ≤ length hand.now }
+    requires page { length (first_cuts own 0 hand.now places.now) ≤ book.old.spare }
+    ensures entries { book.new.entries ≡ book.old.entries ++ at_all here (first_cuts own 0 hand.now places.now) }
+{
+    for p in 0..own {
+        let id = hand[p as usize];
+        let times = halvings(id, named(places, p));
+        push_cuts(book, here, id, times + 1);
     }
 }
 

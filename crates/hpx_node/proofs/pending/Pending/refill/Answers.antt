@@ -15,7 +15,7 @@ returns-then-log_of-eq0 g c =
     let there : slice_get c.self.inside.asked.items c.in-Some.k ≡ Some c.remove-place.result =
     slice_get_is c.self.inside.asked.items c.in-Some.k c.remove-place.result inside c.remove-place.ensures.value in
     let found = (rw (← c.self.view_is) at c.in-Some.ensures.found) ∙ there in
-    rw (← c.self.view_is, c.remove-place.ensures.items, c.bare.ensures)
+    rw (← c.self.view_is, c.replace.ensures, c.remove-place.ensures.items, c.bare.ensures)
     (refills_by _ _ c.args.id c.args.entry c.in-Some.k c.remove-place.result there found refl
     (refused_is c.args.id c.self.inside.refused (sym c.log_of.ensures.log ∙ c.if-log_of-eq0.true)))
 
@@ -25,6 +25,6 @@ returns-else-log_of-eq0 g c =
     let there : slice_get c.self.inside.asked.items c.in-Some.k ≡ Some c.remove-place.result =
     slice_get_is c.self.inside.asked.items c.in-Some.k c.remove-place.result inside c.remove-place.ensures.value in
     let found = (rw (← c.self.view_is) at c.in-Some.ensures.found) ∙ there in
-    rw (← c.self.view_is, c.remove-place.ensures.items)
+    rw (← c.self.view_is, c.replace.ensures, c.remove-place.ensures.items)
     (refills_by _ _ c.args.id c.args.entry c.in-Some.k c.remove-place.result there found refl
     (refused_not c.args.id c.self.inside.refused (λ e. c.if-log_of-eq0.false (c.log_of.ensures.log ∙ e))))

@@ -1,0 +1,49 @@
+use Rattle.std.proofs.Common.{◌≤◌, ◌∙◌, length, refl, ap, subst, arith}
+use Rattle.hpx_value.specs.Laws.{KeepsLaws}
+use Rattle.hpx_part.proofs.Keyed.{slice_get_less}
+use Rattle.hpx_node.specs.Asks.{first_cuts}
+use Rattle.hpx_node.specs.Tables.{Tables}
+use Rattle.hpx_node.proofs.Begun.{before_short, before_own, kept_before, begins_by}
+use Rattle.hpx_node.proofs.node.Node.begin.Goals as goal
+
+pub push_first_splits-requires-clause-own : goal.push_first_splits-requires-clause-own
+push_first_splits-requires-clause-own g c =
+    rw c.as_slice.ensures.value (before_own c.args.self.now c.args.done.job c.args.done.outcome c.args.before c.requires.before)
+
+pub push_first_splits-requires-clause-page : goal.push_first_splits-requires-clause-page
+push_first_splits-requires-clause-page g c =
+    let d = c.args.done in
+    let t = c.args.self.now in
+    let laws = subst (λ n. KeepsLaws n d.job.kind d.job.at d.job.state d.job.action d.outcome) c.requires.localities c.requires.laws in
+    let short : length (first_cuts c.args.before.own 0 c.as_slice.result.now c.as_slice-2.result.now) ≤ 192 =
+    rw (c.as_slice.ensures.value, c.as_slice-2.ensures.value) (before_short t d.job d.outcome c.args.before c.requires.before c.requires.fit c.requires.few laws) in
+    omega (arith, short, c.requires.page)
+
+pub pause-requires-clause-object : goal.pause-requires-clause-object
+pause-requires-clause-object g c = slice_get_less c.args.self.now.objects c.args.j c.requires.at.standing c.requires.at.stands
+
+pub pause-requires-clause-kept : goal.pause-requires-clause-kept
+pause-requires-clause-kept g c =
+    kept_before c.args.self.now c.args.done.job c.args.done.outcome c.args.before c.requires.before c.args.i c.args.j c.requires.at c.requires.fit c.requires.stands.tidy
+
+pub returns-clause-stands : goal.returns-clause-stands
+returns-clause-stands g c =
+    let d = c.args.done in
+    let t = c.args.self.now in
+    let laws = subst (λ n. KeepsLaws n d.job.kind d.job.at d.job.state d.job.action d.outcome) c.requires.localities c.requires.laws in
+    let pauses = rw c.new.ensures at c.pause.ensures in
+    let cut = c.push_first_splits.ensures.entries ∙ rw (c.as_slice.ensures.value, c.as_slice-2.ensures.value, ap (λ (x : Tables). x.here) c.self.view_is) in
+    (begins_by g.A.Acts.act_of t c.pause.new.self d.job d.outcome d.localities c.args.before c.args.i c.args.j _ c.args.book.now.entries
+    c.push_first_splits.new.book.entries c.requires.fit c.requires.few laws c.requires.before c.requires.localities refl pauses
+    c.requires.first cut c.requires.stands).0
+
+pub returns-clause-begins : goal.returns-clause-begins
+returns-clause-begins g c =
+    let d = c.args.done in
+    let t = c.args.self.now in
+    let laws = subst (λ n. KeepsLaws n d.job.kind d.job.at d.job.state d.job.action d.outcome) c.requires.localities c.requires.laws in
+    let pauses = rw c.new.ensures at c.pause.ensures in
+    let cut = c.push_first_splits.ensures.entries ∙ rw (c.as_slice.ensures.value, c.as_slice-2.ensures.value, ap (λ (x : Tables). x.here) c.self.view_is) in
+    (begins_by g.A.Acts.act_of t c.pause.new.self d.job d.outcome d.localities c.args.before c.args.i c.args.j _ c.args.book.now.entries
+    c.push_first_splits.new.book.entries c.requires.fit c.requires.few laws c.requires.before c.requires.localities refl pauses
+    c.requires.first cut c.requires.stands).1

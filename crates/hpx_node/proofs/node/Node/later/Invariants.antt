@@ -1,0 +1,14 @@
+use Rattle.std.proofs.Common.{◌≡◌, ◌+◌, ◌++◌, drop, map}
+use Rattle.std.specs.List.{AllByRecursion}
+use Rattle.hpx_value.specs.Ids.{bare}
+use Rattle.hpx_value.specs.Laws.{IsManaged}
+use Rattle.hpx_node.specs.Births.{birth_of, ids_of}
+use Rattle.hpx_node.proofs.node.Node.later.Given as goal
+
+abbrev pub invariant-loop-make : goal.invariant-loop-make
+invariant-loop-make g l = record {
+  managed : AllByRecursion (λ make. IsManaged make.kind) (drop l.make-index l.makes);
+  last : l.last ≡ l.fn.self.births + l.make-index;
+  ids : l.ids.items ++ map bare (ids_of l.self.here l.last l.self.profile.credit_log (map birth_of (drop l.make-index l.makes)))
+      ≡ map bare (ids_of l.self.here l.self.births l.self.profile.credit_log (map birth_of l.makes));
+}

@@ -1,0 +1,26 @@
+use Rattle.std.proofs.Common.{ap, refl, ◌∙◌}
+use Rattle.hpx_journal.specs.Weights.{Book}
+use Rattle.hpx_node.proofs.Begun.{before_same, begins_from}
+use Rattle.hpx_node.proofs.Same.{stands_same}
+use Rattle.hpx_node.proofs.node.Node.wait.Goals.{then-is_err-via-then-is_err, then-is_err-via-else-is_err+then-is_err-2}
+use Rattle.hpx_node.proofs.node.Node.wait.Goals as goal
+
+pub returns-then-is_err-clause-stands : goal.returns-then-is_err-clause-stands
+returns-then-is_err-clause-stands g c = elim c.then-is_err.branch [
+  | then-is_err-via-then-is_err w ↦
+      stands_same g.A.Acts.act_of c.args.self.now _ _ _ c.requires.stands c.reserve.ensures.same (ap (λ (b : Book). b.entries) w.book-is)
+  | then-is_err-via-else-is_err+then-is_err-2 w ↦
+      stands_same g.A.Acts.act_of c.args.self.now _ _ _ c.requires.stands c.reserve.ensures.same
+      (ap (λ (b : Book). b.entries) w.book-is ∙ w.reserve-else-is_err.ensures.entries)
+]
+
+pub begin-requires-clause-stands : goal.begin-requires-clause-stands
+begin-requires-clause-stands g c =
+    stands_same g.A.Acts.act_of c.args.self.now _ _ _ c.requires.stands c.reserve.ensures.same c.reserve-else-is_err.ensures.entries
+
+pub begin-requires-clause-before : goal.begin-requires-clause-before
+begin-requires-clause-before g c = before_same c.args.self.now _ _ _ _ c.reserve.ensures.same c.in-Ok.ensures
+
+pub returns-clause-waits : goal.returns-clause-waits
+returns-clause-waits g c =
+    (refl, begins_from c.args.self.now _ _ _ _ _ _ _ c.reserve.ensures.same c.reserve-else-is_err.ensures.entries c.begin.ensures.begins)
