@@ -1,4 +1,4 @@
-ghost use Rattle.std.specs.Prelude.{◌≡◌, ◌∷◌, ◌++◌, ◌↔◌, [], ℕ, Bool, IsTrue, OnOk, MatchOption, Some, option_copied, length, ◌<◌};
+ghost use Rattle.std.specs.Prelude.{◌≡◌, ◌∷◌, ◌++◌, ◌↔◌, [], ℕ, Bool, IsTrue, OnOk, OnErr, MatchOption, Some, option_copied, length, ◌<◌};
 ghost use Rattle.std.specs.Bool.{OnTrue};
 ghost use Rattle.std.specs.List.{slice_get, slice_index_or, find, list_any, count_by};
 ghost use Rattle.hpx_journal.specs.Bags.{without, minus, Covers, IsFirst, IsAbsent};
@@ -92,7 +92,8 @@ impl<T> Bag<T> {
 impl<T: Drop> Bag<T> {
     /// One more. Without memory nothing changes.
     pub fn put(&mut self, item: T) -> Result<(), OutOfMemory>
-        ensures { OnOk result (self.new ≡ item ∷ self.old) }
+        ensures ok { OnOk result (self.new ≡ item ∷ self.old) }
+        ensures err { OnErr result (self.new ≡ self.old) }
     {
         self.items.push_front(item)?;
         Ok(())
