@@ -9,7 +9,7 @@ use Rattle.hpx_top.specs.Reader.{Reading, HasRead, lines_left}
 use Rattle.hpx_top.specs.declared.session.SessionFault.{SessionFault}
 use Rattle.hpx_top.specs.declared.session.SessionFault.TheVariants.{Read, Write, Fabric, JournalFull, OutOfMemory, InputFull}
 use Rattle.hpx_top.specs.Session.{lines_fed, IsCut, IsCutIn, IsCutBy, IsOver, IsUnderWay, IsStopped}
-use Rattle.hpx_top.specs.Ends.{IsWhole, IsBrokenOff, IsBrokenIn, IsBegun, IsEndedBy, IsReadUp, IsInputFull}
+use Rattle.hpx_top.specs.Ends.{IsWhole, IsBrokenOff, IsBrokenIn, IsBegun, IsEndedBy, IsReadUp, IsReadOn}
 use Rattle.hpx_top.proofs.LineLemmas.{told_rest, before_quit_append, text_front, front_then, followed_nothing}
 use Rattle.hpx_top.proofs.SessionLemmas.{under_cut, under_in, under_over}
 
@@ -98,9 +98,9 @@ read_up_at ended input reading left entries old new o h same = up o.read_up
         let count : length input ≡ length h.front + length read.0 = ap length read.2 ∙ length-append h.front read.0 in
         inr (read.1 ∙ ap (λ xs. Some xs) none, omega (arith, count, ap length none, h.count, h.below (same ∙ e)))
 
-pub full_at : (input : List ℕ) (reading : Reading) (left : Option (List ℕ)) → IsStopped (Some (lines_in (slice_split is_newline input))) reading left
-    → HasRead (Some input) reading left → reading.read ≡ 67108864 → IsInputFull input left
-full_at input reading left s h all =
+pub read_on_at : (n : ℕ) (input : List ℕ) (reading : Reading) (left : Option (List ℕ)) → IsStopped (Some (lines_in (slice_split is_newline input))) reading left
+    → HasRead (Some input) reading left → reading.read ≡ n → IsReadOn n input left
+read_on_at n input reading left s h all =
     let read = told_rest input h.front left h.next in
     let still : lines_left reading left ≡ Some (lines_in (slice_split is_newline (reading.pending ++ read.0)))
     = ap (λ b. lines_left (record reading { ended = b }) left) s.goes_on
@@ -174,10 +174,10 @@ read_up_from ended input left rest reading entries old new h o read same =
     read_up_at ended input reading rest entries old new (subst (λ all. IsOver ended all old entries new) (told input left h) o)
     (subst (λ all. HasRead all reading rest) h read) same
 
-pub full_from : (input : List ℕ) (left rest : Option (List ℕ)) (reading : Reading) → left ≡ Some input → IsStopped (all_lines left) reading rest
-    → HasRead left reading rest → reading.read ≡ 67108864 → IsInputFull input rest
-full_from input left rest reading h stopped read count =
-    full_at input reading rest (subst (λ all. IsStopped all reading rest) (told input left h) stopped) (subst (λ all. HasRead all reading rest) h read) count
+pub read_on_from : (n : ℕ) (input : List ℕ) (left rest : Option (List ℕ)) (reading : Reading) → left ≡ Some input → IsStopped (all_lines left) reading rest
+    → HasRead left reading rest → reading.read ≡ n → IsReadOn n input rest
+read_on_from n input left rest reading h stopped read count =
+    read_on_at n input reading rest (subst (λ all. IsStopped all reading rest) (told input left h) stopped) (subst (λ all. HasRead all reading rest) h read) count
 
 pub ended_from : (f : SessionFault) (input : List ℕ) (left : Option (List ℕ)) (entries : List Entry) (old new : Option (List ℕ)) → left ≡ Some input
     → IsCutBy f (all_lines left) old entries new → IsEndedBy f input entries old new

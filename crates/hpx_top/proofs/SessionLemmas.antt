@@ -16,7 +16,7 @@ use Rattle.hpx_parcel.specs.Reading.{parcel_of}
 use Rattle.hpx_ports.specs.Told.{preceded, followed}
 use Rattle.hpx_top.specs.Acts.{act_of}
 use Rattle.hpx_top.specs.Stands.{rules_of}
-use Rattle.hpx_top.specs.PlainText.{is_long, is_quit, is_newline, lines_in, before_quit, fed, after_lines, lines_text, text_of, prompt, commands, written}
+use Rattle.hpx_top.specs.PlainText.{IsPiece, is_long, is_quit, is_newline, lines_in, before_quit, fed, after_lines, lines_text, text_of, prompt, commands, written}
 use Rattle.hpx_top.specs.Console.{bad_command}
 use Rattle.hpx_top.specs.Reader.{Reading, lines_left, input_left, bytes_left, TakesLine, TakesLong, TakesQuit, IsAtEnd, IsFull}
 use Rattle.hpx_top.specs.Session.{lines_fed, FeedsAtMost, WritesFront, FeedsLine, IsJournalOf, HandsOut, IsServing, IsCut, IsCutIn, IsOver, IsUnderWay, IsStopped}
@@ -262,14 +262,20 @@ over_quit n ended all later before now mid reading left entries s prompted takes
   held = held_prompt before now mid commands (lines_text (pos 0) s.lines) prompt s.held prompted;
 }
 
-pub stopped_full : (n : ℕ) (all : Option (List (List ℕ))) (before now : Option (List ℕ)) (reading next : Reading) (left rest : Option (List ℕ)) (entries : List Entry)
-    → IsServing n all before reading left entries now → IsFull next → input_left next rest ≡ input_left reading left → IsStopped all next rest
-stopped_full n all before now reading next left rest entries s full same = record {
+pub stopped_read : (n : ℕ) (all : Option (List (List ℕ))) (before now : Option (List ℕ)) (reading next : Reading) (left rest : Option (List ℕ)) (entries : List Entry)
+    → IsServing n all before reading left entries now → IsPiece next.pending → next.ended ≡ false → input_left next rest ≡ input_left reading left
+    → IsStopped all next rest
+stopped_read n all before now reading next left rest entries s no_line goes_on same = record {
   lines = s.lines;
   handled = subst (λ o. HandsOut all o s.lines) (ap (option_map (λ input. lines_in (slice_split is_newline input))) (sym same)) s.handled;
-  no_line = full.no_line;
-  goes_on = full.goes_on;
+  no_line = no_line;
+  goes_on = goes_on;
 }
+
+pub stopped_full : (n : ℕ) (all : Option (List (List ℕ))) (before now : Option (List ℕ)) (reading next : Reading) (left rest : Option (List ℕ)) (entries : List Entry)
+    → IsServing n all before reading left entries now → IsFull next → input_left next rest ≡ input_left reading left → IsStopped all next rest
+stopped_full n all before now reading next left rest entries s full same =
+    stopped_read n all before now reading next left rest entries s full.no_line full.goes_on same
 
 -- ---- what a failed write leaves
 

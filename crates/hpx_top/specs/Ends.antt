@@ -50,18 +50,22 @@ pub record IsBegun (input : List ℕ) (entries : List Entry) (old new : Option (
 abbrev pub IsReadUp : List ℕ → Option (List ℕ) → Type 0
 IsReadUp input left = (quits input ≡ true) ⊎ ((left ≡ Some []) × (length input < 67108864))
 
--- 67,108,864 bytes of the input were read. Behind lines of which none is a `quit`, they end in a piece without a newline.
-pub record IsInputFull (input : List ℕ) (left : Option (List ℕ)) : Type 0 where
+-- So many bytes of the input were read. Behind lines of which none is a `quit`, they end in a piece without a newline.
+pub record IsReadOn (n : ℕ) (input : List ℕ) (left : Option (List ℕ)) : Type 0 where
   pub front : List ℕ
   pub rest : List ℕ
   pub input_is : input ≡ front ++ rest
   pub left_is : left ≡ Some rest
-  pub count : length front ≡ 67108864
+  pub count : length front ≡ n
   pub lines : List (List ℕ)
   pub piece : List ℕ
   pub goes_on : list_any is_quit lines ≡ false
   pub no_line : IsPiece piece
   pub lines_are : lines_in (slice_split is_newline input) ≡ lines ++ lines_in (slice_split is_newline (piece ++ rest))
+
+-- 67,108,864 bytes of the input were read, and no `quit` among them
+abbrev pub IsInputFull : List ℕ → Option (List ℕ) → Type 0
+IsInputFull input left = IsReadOn 67108864 input left
 
 -- how a session was broken off: at a write anywhere, otherwise behind a prompt, or in the line behind it
 abbrev pub IsEndedBy : SessionFault → List ℕ → List Entry → Option (List ℕ) → Option (List ℕ) → Type 0

@@ -118,6 +118,7 @@ impl LineReader {
         ensures counted { self.new.read + S.taken source.old ≡ self.old.read + S.taken source.new }
         ensures limit { self.new.read ≤ 67108864 }
         ensures fewer { OnOk result (reads_left self.new < reads_left self.old) }
+        ensures err { OnErr result (self.new ≡ self.old) }
         ensures kept { bytes_left self.new ≡ bytes_left self.old }
         ensures cause { IsErrOf result ReadFault.Failed → Rose (S.faults source.old) (S.faults source.new) }
         ensures stands { (IsErrOf result ReadFault.Failed → ⊥) → S.faults source.new ≡ S.faults source.old }
@@ -139,6 +140,8 @@ impl LineReader {
         ensures limit { self.new.read ≤ 67108864 }
         ensures kept { bytes_left self.new ≡ bytes_left self.old }
         ensures full { self.old.read ≡ 67108864 → self.old.ended ≡ false → IsPiece self.old.pending → result ≡ Ok Found.AtLimit }
+        ensures no_line { IsErrOf result ReadFault.Failed → IsPiece self.new.pending }
+        ensures goes_on { IsErrOf result ReadFault.Failed → self.new.ended ≡ false }
         ensures still { wants_more self.old ≡ false → source.new ≡ source.old }
         ensures cause { IsErrOf result ReadFault.Failed → Rose (S.faults source.old) (S.faults source.new) }
         ensures stands { (IsErrOf result ReadFault.Failed → ⊥) → S.faults source.new ≡ S.faults source.old }
@@ -177,6 +180,8 @@ impl LineReader {
         ensures err { OnErr result (input_left self.new (S.left source.new) ≡ input_left self.old (S.left source.old)) }
         ensures fewer { IfOk result (λ next. LeavesFewer next self.old self.new) }
         ensures full { self.old.read ≡ 67108864 → self.old.ended ≡ false → IsPiece self.old.pending → result ≡ Ok Next.Full }
+        ensures no_line { IsErrOf result ReadFault.Failed → IsPiece self.new.pending }
+        ensures goes_on { IsErrOf result ReadFault.Failed → self.new.ended ≡ false }
         ensures still { wants_more self.old ≡ false → source.new ≡ source.old }
         ensures reads { (all : _) → HasRead all self.old (S.left source.old) → HasRead all self.new (S.left source.new) }
         ensures counted { self.new.read + S.taken source.old ≡ self.old.read + S.taken source.new }

@@ -3,7 +3,7 @@ ghost use Rattle.std.specs.Prelude.{◌≡◌, ◌≢◌, ◌≤◌, ◌<◌, �
 ghost use Rattle.hpx_root_journal.specs.Weights.{HasRoom};
 ghost use Rattle.hpx_ports.specs.Faults.{Rose};
 ghost use Rattle.hpx_ports.specs.Told.{followed};
-ghost use Rattle.hpx_top.specs.Ends.{IsWhole, IsBrokenOff, IsBrokenIn, IsBegun, IsEndedBy, IsReadUp, IsInputFull};
+ghost use Rattle.hpx_top.specs.Ends.{IsWhole, IsBrokenOff, IsBrokenIn, IsBegun, IsEndedBy, IsReadUp, IsReadOn, IsInputFull};
 ghost use Rattle.hpx_top.specs.Session.{IsAtRest, IsLegalAt, entries_in};
 ghost use Rattle.hpx_top.specs.Sound.{IsCarrying};
 ghost use Rattle.hpx_top.specs.Statuses.{IsStatus, status_of, status_line, word_line};
@@ -103,6 +103,7 @@ fn serve_all<S: Source, K: Sink, F: Fabric>(
         IfErr result.1 (λ fault. IsEndedBy fault input w.journal.entries (K.held sink.old) (K.held sink.new))) }
     ensures begun { (input : _) → S.left source.old ≡ Some input → IsBegun input (entries_in result.0) (K.held sink.old) (K.held sink.new) }
     ensures input { (input : _) → S.left source.old ≡ Some input → result.1 ≡ Err SessionFault.InputFull → IsInputFull input (S.left source.new) }
+    ensures read_on { (input : _) → S.left source.old ≡ Some input → result.1 ≡ Err SessionFault.Read → (n : ℕ) × IsReadOn n input (S.left source.new) }
     ensures taken { result.1 ≡ Err SessionFault.InputFull → S.taken source.new ≡ S.taken source.old + 67108864 }
 
     ensures none { result.0 ≡ None → result.1 ≡ Err SessionFault.OutOfMemory }
@@ -176,6 +177,7 @@ pub fn run<S: Source, K: Sink, E: Sink, F: Fabric>(
     ensures room { result.status ≢ 5 → result.status ≢ 6 → IfSome result.world (λ w. HasRoom w.journal.entries) }
     ensures taken { result.status ≡ 9 → S.taken source.new ≡ S.taken source.old + 67108864 }
     ensures input { (input : _) → S.left source.old ≡ Some input → result.status ≡ 9 → IsInputFull input (S.left source.new) }
+    ensures read_on { (input : _) → S.left source.old ≡ Some input → result.status ≡ 2 → (n : ℕ) × IsReadOn n input (S.left source.new) }
     ensures world { result.world ≡ None → (result.status ≡ 1) ⊎ (result.status ≡ 6) }
 
     ensures localities { IfSome result.world (λ w. length w.nodes ≡ 2) }

@@ -9,7 +9,7 @@ ghost use Rattle.hpx_top.specs.Sound.{IsCarrying};
 ghost use Rattle.hpx_top.specs.PlainText.{is_long, text_of};
 ghost use Rattle.hpx_top.specs.Reader.{HasRead, bytes_left};
 ghost use Rattle.hpx_top.specs.Session.{IsAtRest, IsLegalAt, FeedsAtMost, FeedsLine, IsLineEndedBy, WritesFront, IsServing, IsOver, IsCutBy, IsStopped};
-ghost use Rattle.hpx_top.specs.Ends.{IsWhole, IsEndedBy, IsBegun, IsReadUp, IsInputFull};
+ghost use Rattle.hpx_top.specs.Ends.{IsWhole, IsEndedBy, IsBegun, IsReadUp, IsReadOn, IsInputFull};
 
 use crate::acts::AllActs;
 use crate::acts::console::BAD_COMMAND;
@@ -212,6 +212,9 @@ fn serve_line<S: Source, K: Sink, F: Fabric>(
     ensures input { result ≡ Err SessionFault.InputFull → (all : _) (before : _) →
         IsServing (length world.old.nodes) all before reader.old (S.left source.old) world.old.journal.entries (K.held sink.old) →
         IsStopped all reader.new (S.left source.new) }
+    ensures read_on { result ≡ Err SessionFault.Read → (all : _) (before : _) →
+        IsServing (length world.old.nodes) all before reader.old (S.left source.old) world.old.journal.entries (K.held sink.old) →
+        IsStopped all reader.new (S.left source.new) }
     ensures reads { (all : _) → HasRead all reader.old (S.left source.old) → HasRead all reader.new (S.left source.new) }
     ensures counted { reader.new.read + S.taken source.old ≡ reader.old.read + S.taken source.new }
 
@@ -269,6 +272,7 @@ pub fn serve<S: Source, K: Sink, F: Fabric>(
         IfErr result (λ fault. IsEndedBy fault input world.new.journal.entries (K.held sink.old) (K.held sink.new)) }
     ensures begun { (input : _) → S.left source.old ≡ Some input → IsBegun input world.new.journal.entries (K.held sink.old) (K.held sink.new) }
     ensures input { (input : _) → S.left source.old ≡ Some input → result ≡ Err SessionFault.InputFull → IsInputFull input (S.left source.new) }
+    ensures read_on { (input : _) → S.left source.old ≡ Some input → result ≡ Err SessionFault.Read → (n : ℕ) × IsReadOn n input (S.left source.new) }
     ensures taken { result ≡ Err SessionFault.InputFull → S.taken source.new ≡ S.taken source.old + 67108864 }
 
     ensures rest { OnOk result (IsAtRest world.new) }

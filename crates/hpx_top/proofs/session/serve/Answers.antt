@@ -1,11 +1,11 @@
 use Rattle.std.proofs.Common.{Ok, Err, length, refl, sym, ap, ◌∙◌, arith, subst}
-use Rattle.hpx_top.specs.declared.session.SessionFault.TheVariants.{InputFull}
+use Rattle.hpx_top.specs.declared.session.SessionFault.TheVariants.{Read, InputFull}
 use Rattle.hpx_root_journal.specs.Weights.{HasRoom}
 use Rattle.hpx_top.specs.Session.{IsLegalAt}
 use Rattle.hpx_top.proofs.ShowLemmas.{if_err_from, err_of, no_err}
 use Rattle.hpx_top.proofs.SessionLemmas.{serving_start, under_start}
 use Rattle.hpx_top.proofs.FeedLemmas.{cut_write}
-use Rattle.hpx_top.proofs.EndLemmas.{all_lines, whole_from, begun_over, read_up_from, full_from, ended_from, begun_from, read_none}
+use Rattle.hpx_top.proofs.EndLemmas.{all_lines, whole_from, begun_over, read_up_from, read_on_from, ended_from, begun_from, read_none}
 use Rattle.hpx_top.proofs.session.serve.Goals as goal
 
 pub returns-in_err-write-clause-ended : goal.returns-in_err-write-clause-ended
@@ -78,8 +78,19 @@ returns-in_err-serve_line-clause-input g c =
     let serving = rw (← c.loop-reader.invariant.count) at c.loop-reader.invariant.serving in
     λ input h e.
     let is = ap (λ f. Err f) (err_of c.from_residual-in_err-serve_line.result c.in_err-serve_line.field-0.0 InputFull c.from_residual-in_err-serve_line.ensures.1 e) in
-    full_from input (g.S.Source.left c.args.source.now) (g.S.Source.left c.serve_line.new.source) c.serve_line.new.reader h
+    read_on_from 67108864 input (g.S.Source.left c.args.source.now) (g.S.Source.left c.serve_line.new.source) c.serve_line.new.reader h
     (c.in_err-serve_line.ensures.input is _ _ serving) (c.serve_line.ensures.reads _ c.loop-reader.invariant.reads) (c.in_err-serve_line.ensures.full_input is)
+
+pub returns-in_err-serve_line-clause-read_on : goal.returns-in_err-serve_line-clause-read_on
+returns-in_err-serve_line-clause-read_on g c =
+    let serving = rw (← c.loop-reader.invariant.count) at c.loop-reader.invariant.serving in
+    λ input h e.
+    let is = ap (λ f. Err f) (err_of c.from_residual-in_err-serve_line.result c.in_err-serve_line.field-0.0 Read c.from_residual-in_err-serve_line.ensures.1 e) in (
+      c.serve_line.new.reader.read,
+      read_on_from c.serve_line.new.reader.read input (g.S.Source.left c.args.source.now)
+          (g.S.Source.left c.serve_line.new.source) c.serve_line.new.reader h
+          (c.in_err-serve_line.ensures.read_on is _ _ serving) (c.serve_line.ensures.reads _ c.loop-reader.invariant.reads) refl,
+    )
 
 pub returns-in_err-serve_line-clause-taken : goal.returns-in_err-serve_line-clause-taken
 returns-in_err-serve_line-clause-taken g c =

@@ -1,7 +1,7 @@
-use Rattle.std.proofs.Common.{length, refl}
+use Rattle.std.proofs.Common.{length, refl, Err, ap, ◌∙◌}
 use Rattle.hpx_top.specs.Reader.{lines_left}
 use Rattle.hpx_top.proofs.ShowLemmas.{if_err_from}
-use Rattle.hpx_top.proofs.SessionLemmas.{serving_line, serving_long, cut_here, over_end, over_quit, under_prompt, under_long, stopped_full}
+use Rattle.hpx_top.proofs.SessionLemmas.{serving_line, serving_long, cut_here, over_end, over_quit, under_prompt, under_long, stopped_full, stopped_read}
 use Rattle.hpx_top.proofs.FeedLemmas.{cut_write, cut_text}
 use Rattle.hpx_top.proofs.session.serve_line.Goals as goal
 
@@ -79,6 +79,14 @@ pub returns-in-Err-Failed-clause-err : goal.returns-in-Err-Failed-clause-err
 returns-in-Err-Failed-clause-err g c = λ all before s.
     cut_here 0 (length c.args.world.now.nodes) all before (g.K.Sink.held c.args.sink.now) (g.K.Sink.held c.write.new.sink) c.args.reader.now
     (g.S.Source.left c.args.source.now) c.args.world.now.journal.entries c.args.world.now.journal.entries s c.in_ok-write.ensures.held refl
+
+pub returns-in-Err-Failed-clause-read_on : goal.returns-in-Err-Failed-clause-read_on
+returns-in-Err-Failed-clause-read_on g c =
+    let failed = c.in-Err-Failed.is ∙ ap (λ f. Err f) c.in-Err-Failed.field-0-is in
+    λ h all before s.
+    stopped_read (length c.args.world.now.nodes) all before (g.K.Sink.held c.args.sink.now) c.args.reader.now c.next_line.new.self
+    (g.S.Source.left c.args.source.now) (g.S.Source.left c.next_line.new.source) c.args.world.now.journal.entries s
+    (c.next_line.ensures.no_line failed) (c.next_line.ensures.goes_on failed) c.in-Err-Failed.ensures.err
 
 pub returns-in-Err-OutOfMemory-clause-err : goal.returns-in-Err-OutOfMemory-clause-err
 returns-in-Err-OutOfMemory-clause-err g c = λ all before s.
