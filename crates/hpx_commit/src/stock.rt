@@ -35,7 +35,7 @@ fn move_first(places: &mut [u32], from: u32, to: u32)
 }
 
 /// How often an id is halved ahead where so many name it.
-fn halvings(id: Gid, names: usize) -> usize
+pub fn halvings(id: Gid, names: usize) -> usize
     ensures { result ≡ halvings id names }
 {
     names.saturating_sub(1).min(log_of(id) as usize)

@@ -1,9 +1,18 @@
 -- What holds of each element of a list.
-use Rattle.std.proofs.Common.{ℕ, zero, suc, List, [], ◌∷◌, ◌++◌, ◌≡◌, Some, set, subst}
-use Rattle.std.specs.List.{remove, slice_get, AllByRecursion}
+use Rattle.std.proofs.Common.{ℕ, zero, suc, Bool, true, List, [], ◌∷◌, ◌++◌, ◌≡◌, Some, set, inl, inr, subst}
+use Rattle.std.specs.List.{find, remove, slice_get, AllByRecursion}
+use Rattle.std.proofs.lemmas.Bool.{cases_Bool}
 
 pub some_same : {X : Type 0} (x y : X) → Some x ≡ Some y → x ≡ y
 some_same x y e = cc
+
+-- what is found passes
+pub find_passes : {X : Type 0} (p : X → Bool) (xs : List X) (x : X) → find p xs ≡ Some x → p x ≡ true
+find_passes p [] x h = cc
+find_passes p (z ∷ xs) x h = elim (cases_Bool (p z)) [
+  | inl t ↦ let e : Some z ≡ Some x = rw t at h in subst (λ y. p y ≡ true) (some_same z x e) t
+  | inr f ↦ find_passes p xs x (rw f at h)
+]
 
 pub all_append : {X : Type 0} (P : X → Type 0) (xs ys : List X) → AllByRecursion P xs → AllByRecursion P ys → AllByRecursion P (xs ++ ys)
 all_append P [] ys h i = i

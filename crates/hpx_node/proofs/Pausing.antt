@@ -18,7 +18,7 @@ use Rattle.hpx_node.specs.Fit.{IsFit, IsKept}
 use Rattle.hpx_node.specs.Jobs.{IsFitJob}
 use Rattle.hpx_node.specs.Pending.{Waits, action_of, fired_of}
 use Rattle.hpx_node.specs.Paused.{bare_names, Apart, IsPaused, ArePaused}
-use Rattle.hpx_node.proofs.Alls.{all_append, all_remove, all_set, all_at, get_before}
+use Rattle.hpx_node.proofs.Alls.{some_same, find_passes, all_append, all_remove, all_set, all_at, get_before}
 use Rattle.hpx_node.proofs.FreeLemmas.{any_over}
 use Rattle.hpx_node.proofs.MadeLists.{find_front}
 
@@ -120,14 +120,7 @@ fired_paused here objects running pending act free h = record {
 
 -- what is found is of the object
 pub found_passes : (o : Id) (xs : List Standing) (x : Standing) → find (is_standing o) xs ≡ Some x → same_object o x.object ≡ true
-found_passes o [] x h = cc
-found_passes o (y ∷ ys) x h = elim (cases_Bool (is_standing o y)) [
-  | inl t ↦ let e : Some y ≡ Some x = rw t at h in subst (λ (z : Standing). same_object o z.object ≡ true) (same_of y x e) t
-  | inr t ↦ found_passes o ys x (rw t at h)
-]
-  where
-    same_of : (y x : Standing) → Some y ≡ Some x → y ≡ x
-    same_of y x e = cc
+found_passes o xs x h = find_passes (is_standing o) xs x h
 
 -- ---- an action that runs
 
@@ -200,26 +193,17 @@ module _ (f : Standing → ℕ) where
 find_removed : (p : Standing → Bool) (xs : List Standing) (i : ℕ) (x : Standing) → slice_get xs i ≡ Some x → p x ≡ false → find p (remove xs i) ≡ find p xs
 find_removed p [] zero x h other = refl
 find_removed p [] (suc i) x h other = refl
-find_removed p (y ∷ xs) zero x h other = let e : y ≡ x = same_of y x h in rw (e, other) refl
-  where
-    same_of : (y x : Standing) → Some y ≡ Some x → y ≡ x
-    same_of y x e = cc
+find_removed p (y ∷ xs) zero x h other = let e : y ≡ x = some_same y x h in rw (e, other) refl
 find_removed p (y ∷ xs) (suc i) x h other = ap (λ o. cond (p y) (Some y) o) (find_removed p xs i x h other)
 
 find_set : (p : Standing → Bool) (xs : List Standing) (i : ℕ) (x y : Standing) → slice_get xs i ≡ Some x → p x ≡ false → p y ≡ false → find p (set xs i y) ≡ find p xs
 find_set p [] i x y h other new = refl
-find_set p (z ∷ xs) zero x y h other new = let e : z ≡ x = same_of z x h in rw (e, other, new) refl
-  where
-    same_of : (y x : Standing) → Some y ≡ Some x → y ≡ x
-    same_of y x e = cc
+find_set p (z ∷ xs) zero x y h other new = let e : z ≡ x = some_same z x h in rw (e, other, new) refl
 find_set p (z ∷ xs) (suc i) x y h other new = ap (λ o. cond (p z) (Some z) o) (find_set p xs i x y h other new)
 
 set_same : (xs : List Standing) (i : ℕ) (x : Standing) → slice_get xs i ≡ Some x → set xs i x ≡ xs
 set_same [] i x h = refl
-set_same (z ∷ xs) zero x h = let e : z ≡ x = same_of z x h in rw e refl
-  where
-    same_of : (y x : Standing) → Some y ≡ Some x → y ≡ x
-    same_of y x e = cc
+set_same (z ∷ xs) zero x h = let e : z ≡ x = some_same z x h in rw e refl
 set_same (z ∷ xs) (suc i) x h = ap (λ zs. z ∷ zs) (set_same xs i x h)
 
 -- its object is found as well among other objects

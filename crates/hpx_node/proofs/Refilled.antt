@@ -30,7 +30,7 @@ use Rattle.hpx_node.specs.Seen.{tokens, asks, view}
 use Rattle.hpx_node.specs.Stands.{IsTidy, rules_of}
 use Rattle.hpx_node.specs.Strange.{brings_right}
 use Rattle.hpx_node.specs.Handled.{in_hand, TakesUp, Handles}
-use Rattle.hpx_node.proofs.Alls.{some_same, all_at, all_remove, all_set}
+use Rattle.hpx_node.proofs.Alls.{some_same, find_passes, all_at, all_remove, all_set}
 use Rattle.hpx_node.proofs.GivenUp.{weigh_none, weigh_some, owed_some}
 use Rattle.hpx_node.proofs.InHand.{hand_sum}
 use Rattle.hpx_node.proofs.IdleCounts.{pays_given}
@@ -492,14 +492,6 @@ gives_handles act_of t id entry i spare w w' tidy credit brings there refills =
       | inl a ↦ inl (eqb-true (log_of id.log) 0 a)
       | inr b ↦ inr (eqb-true (log_of id.log) t.profile.credit_log b)
     ]))
-
--- what is found passes
-pub find_passes : {X : Type 0} (p : X → Bool) (xs : List X) (x : X) → find p xs ≡ Some x → p x ≡ true
-find_passes p [] x h = cc
-find_passes p (z ∷ xs) x h = elim (cases_Bool (p z)) [
-  | inl t ↦ let e : Some z ≡ Some x = rw t at h in subst (λ y. p y ≡ true) (some_same z x e) t
-  | inr f ↦ find_passes p xs x (rw f at h)
-]
 
 -- what passes is found
 pub any_found : {X : Type 0} (p : X → Bool) (xs : List X) → list_any p xs ≡ true → find p xs ≡ None → ⊥

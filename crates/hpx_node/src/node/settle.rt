@@ -7,7 +7,6 @@ ghost use Rattle.hpx_journal.specs.Entries.{name_of};
 ghost use Rattle.hpx_part.specs.Parts.{at_all};
 ghost use Rattle.hpx_part.specs.Data.{Done};
 ghost use Rattle.hpx_commit.specs.Deals.{Lasts, half, named};
-ghost use Rattle.hpx_commit.specs.Stocks.{halvings};
 ghost use Rattle.hpx_node.specs.Births.{IsBirth, Makes, birth_of, births_of};
 ghost use Rattle.hpx_node.specs.Asks.{first_cuts};
 ghost use Rattle.hpx_node.specs.Commits.{cuts, splits_from};
@@ -15,7 +14,8 @@ ghost use Rattle.hpx_node.specs.Fit.{IsKept};
 
 use crate::kept::Kept;
 use crate::node::Node;
-use hpx_commit::deal::{log_of, named};
+use hpx_commit::deal::named;
+use hpx_commit::stock::halvings;
 use hpx_journal::entry::{Entry, Event};
 use hpx_journal::journal::Journal;
 use hpx_value::acts::Acts;
@@ -76,13 +76,6 @@ pub fn push_splits(book: &mut Journal, here: u32, hand: &[Gid], places: &[u32])
     for (p, id) in hand.iter().enumerate() {
         push_cuts(book, here, *id, named(places, p as u32));
     }
-}
-
-/// How often an id is halved where so many name it, as far as its log goes.
-fn halvings(id: Gid, names: usize) -> usize
-    ensures { result ≡ halvings id names }
-{
-    names.saturating_sub(1).min(log_of(id) as usize)
 }
 
 /// Writes the splits of the first so many of a hand, as far as their logs go.
