@@ -31,7 +31,7 @@ use Rattle.hpx_commit.proofs.Ahead.{halvings_have}
 use Rattle.hpx_commit.proofs.AheadSums.{ahead_sums}
 use Rattle.hpx_commit.proofs.Short.{place_bare, place_some, ahead_front}
 use Rattle.hpx_value.specs.Laws.{KeepsLaws}
-use Rattle.hpx_node.specs.declared.node.finish.Before.{Before}
+use Rattle.hpx_node.specs.declared.node.wait.Before.{Before}
 use Rattle.hpx_node.specs.Asks.{first_cuts, own_many, hand_before, splits_before, stock_before, waits_with, Pauses, IsBefore, Begins}
 use Rattle.hpx_node.specs.Commits.{cuts, made_of, places_in_hand}
 use Rattle.hpx_node.specs.Fit.{IsFit, IsKept}

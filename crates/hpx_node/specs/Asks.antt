@@ -14,7 +14,7 @@ use Rattle.hpx_node.specs.Jobs.{IsAt}
 use Rattle.hpx_node.specs.Pending.{Waits}
 use Rattle.hpx_node.specs.Tables.{Tables}
 use Rattle.hpx_node.specs.Changes.{Writes}
-use Rattle.hpx_node.specs.declared.node.finish.Before.{Before}
+use Rattle.hpx_node.specs.declared.node.wait.Before.{Before}
 
 -- the splits of so many places of a hand, from place p on: each id is halved for those who name it, as far as its log goes
 abbrev pub first_cuts : ℕ → ℕ → List Id → List ℕ → List Event

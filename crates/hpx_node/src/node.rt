@@ -37,6 +37,7 @@ mod getters;
 mod pay;
 mod rules;
 mod settle;
+mod wait;
 
 /// One locality.
 #[derive(Drop)]

@@ -1,0 +1,187 @@
+//! A commit whose ids do not last: what it has is split ahead, and it waits for credit.
+ghost use Rattle.std.specs.Prelude.{◌≡◌, ◌≤◌, ◌<◌, ◌+◌, ◌^◌, Some, None, IfOk, IfErr, length, map, take, find, slice_get};
+ghost use Rattle.std.specs.List.{AllByRecursion};
+ghost use Rattle.hpx_value.specs.Laws.{IsManaged, KeepsLaws};
+ghost use Rattle.hpx_journal.specs.Weights.{HasRoom};
+ghost use Rattle.hpx_value.specs.Ids.{bare};
+ghost use Rattle.hpx_value.specs.Values.{bare_state};
+ghost use Rattle.hpx_journal.specs.Entries.{target_of};
+ghost use Rattle.hpx_journal.specs.Local.{is_standing};
+ghost use Rattle.hpx_node.specs.Asks.{IsBefore, Pauses, Begins};
+ghost use Rattle.hpx_node.specs.Fit.{IsKept};
+ghost use Rattle.hpx_node.specs.Births.{birth_of, ids_of};
+ghost use Rattle.hpx_node.specs.Jobs.{IsAt, IsFitJob};
+ghost use Rattle.hpx_node.specs.Stands.{Stands};
+ghost use Rattle.hpx_node.specs.Changes.{OnlySpare};
+
+use crate::kept::Kept;
+use crate::node::Node;
+use crate::node::finish::{MOST_ENTRIES, lawful};
+use crate::node::settle::push_first_splits;
+use crate::parts::{FinishFault, Finished};
+use crate::pending::Pending;
+use hpx_commit::hand::Hand;
+use hpx_commit::plan::places_named;
+use hpx_commit::stock::{Stock, split_ahead};
+use hpx_journal::journal::Journal;
+use hpx_value::acts::{Acts, Done};
+use hpx_value::exact::Exact;
+use hpx_value::gid::Gid;
+use hpx_value::items::Items;
+use hpx_value::memory::OutOfMemory;
+use hpx_value::outcome::Make;
+use hpx_value::value::State;
+use std::alloc::Global;
+
+/// What a commit has that waits: its hand and the places that are named there, of which so many first are its own, the stock that
+/// is split ahead, and the state of its object without credits.
+#[derive(Drop)]
+struct Before {
+    hand: Vec<Gid>,
+    places: Vec<u32>,
+    own: u32,
+    stock: Stock,
+    state: State,
+}
+
+/// A state without credits.
+fn bare_state(alloc: Global, state: &State) -> Result<State, OutOfMemory>
+    ensures { IfOk result (λ bare. bare ≡ bare_state state.now) }
+{
+    let mut ids = Vec::new(alloc);
+    for id in state.ids.as_slice() {
+        ids.push(id.bare())?;
+    }
+    Ok(State {
+        drawn: state.drawn,
+        values: state.values.duplicate(alloc)?,
+        conts: state.conts.duplicate(alloc)?,
+        ids: Items::from_vec(ids),
+    })
+}
+
+impl<A: Acts + Copy> Node<A> {
+    /// The ids of the objects that an outcome makes, without credit.
+    fn later(&self, alloc: Global, makes: &[Make]) -> Result<Vec<Gid>, OutOfMemory>
+        requires managed { AllByRecursion (λ make. IsManaged make.kind) makes.now }
+        requires few { self.now.births + length makes.now < 2 ^ 32 }
+        ensures { IfOk result (λ ids. ids.items ≡ map bare (ids_of self.now.here self.now.births self.now.profile.credit_log (map birth_of makes.now))) }
+    {
+        let mut last = self.records.births() as u64;
+        let mut ids = Vec::new(alloc);
+        for make in makes {
+            last += 1;
+            ids.push(Gid::new(self.here, make.kind, last))?;
+        }
+        Ok(ids)
+    }
+
+    /// What a commit has that waits: its hand, and its stock.
+    fn before(&self, alloc: Global, done: &Done<A>) -> Result<Before, OutOfMemory>
+        requires localities { done.now.localities ≤ 64 }
+        requires at { done.now.job.at < done.now.localities }
+        requires fit { IsFitJob done.now.job }
+        requires few { self.now.births + 1024 < 2 ^ 32 }
+        ensures { IfOk result (IsBefore self.now done.now.job done.now.outcome) }
+    {
+        lawful(done);
+        let job = done.job();
+        let outcome = done.outcome();
+        let made = self.made(alloc, outcome.makes.as_slice())?;
+        let hand = Hand::of(alloc, &job.state, &job.action, made.as_slice())?;
+        let places = places_named(alloc, &hand, outcome)?;
+        let later = self.later(alloc, outcome.makes.as_slice())?;
+        let own = job.state.ids.len() + job.action.ids.len();
+        let hand = Hand::of(alloc, &job.state, &job.action, later.as_slice())?;
+        let stock = split_ahead(alloc, hand.ids(), places.as_slice(), own as u32)?;
+        Ok(Before {
+            hand: Vec::from_slice(alloc, hand.ids())?,
+            places,
+            own: own as u32,
+            stock,
+            state: bare_state(alloc, &job.state)?,
+        })
+    }
+
+    /// Lets the action at i wait for credit; its object, at j, keeps its state without credits.
+    fn pause(&mut self, i: usize, j: usize, state: State, waits: Pending<A>)
+        requires at { IsAt self.old i j waits.job }
+        requires object { j < length self.old.objects }
+        requires kept { (x : _) → slice_get self.old.objects j ≡ Some x → IsKept (record { object = x.object; state = state }) }
+        requires state { state ≡ bare_state waits.job.state }
+        requires spare { 1 ≤ self.old.spare }
+        ensures { Pauses i j waits.job waits self.old self.new }
+    {
+        let _ = self.running.remove(i);
+        let object = self.objects[j].object();
+        self.objects[j] = Kept::new(object, state);
+        self.pending.push_reserved(waits);
+    }
+
+    /// Splits what a commit has, and lets it wait. It takes no memory.
+    fn begin(
+        &mut self,
+        alloc: Global,
+        book: &mut Journal,
+        i: usize,
+        j: usize,
+        done: Done<A>,
+        before: Before,
+    )
+        requires at { IsAt self.old i j done.job }
+        requires first { find (is_standing (target_of done.job.action)) (take j self.old.objects) ≡ None }
+        requires localities { done.localities ≡ self.old.localities }
+        requires few { self.old.localities ≤ 64 }
+        requires fit { IsFitJob done.job }
+        requires laws { KeepsLaws done.localities done.job.kind done.job.at done.job.state done.job.action done.outcome }
+        requires before { IsBefore self.old done.job done.outcome before }
+        requires spare { 1 ≤ self.old.spare }
+        requires page { 1024 ≤ book.old.spare }
+        requires stands { Stands A.act_of self.old book.old.entries }
+        ensures stands { Stands A.act_of self.new book.new.entries }
+        ensures begins { Begins self.old self.new done.job done.outcome book.old.entries book.new.entries }
+    {
+        let Before {
+            hand,
+            places,
+            own,
+            stock,
+            state,
+        } = before;
+        push_first_splits(book, self.here, hand.as_slice(), places.as_slice(), own);
+        self.pause(i, j, state, Pending::new(alloc, done, stock));
+    }
+
+    /// Lets a commit wait: what it has is split ahead. The job is handed back without memory.
+    pub fn wait(
+        &mut self,
+        alloc: Global,
+        book: &mut Journal,
+        i: usize,
+        j: usize,
+        done: Done<A>,
+    ) -> Result<Finished, FinishFault<A>>
+        requires at { IsAt self.old i j done.job }
+        requires first { find (is_standing (target_of done.job.action)) (take j self.old.objects) ≡ None }
+        requires localities { done.localities ≡ self.old.localities }
+        requires few { self.old.localities ≤ 64 }
+        requires fit { IsFitJob done.job }
+        requires here { done.job.at < done.localities }
+        requires room { HasRoom book.old.entries }
+        requires stands { Stands A.act_of self.old book.old.entries }
+        ensures stands { Stands A.act_of self.new book.new.entries }
+        ensures waits { IfOk result (λ f. (f ≡ Finished.Waiting) × Begins self.old self.new done.job done.outcome book.old.entries book.new.entries) }
+        ensures err { IfErr result (λ e. (e.undone ≡ done) × OnlySpare self.old self.new book.old book.new) }
+    {
+        lawful(&done);
+        let before = match self.before(alloc, &done) {
+            Ok(before) => before,
+            Err(_) => return Err(FinishFault { undone: done }),
+        };
+        if self.reserve(1).is_err() || book.reserve(MOST_ENTRIES).is_err() {
+            return Err(FinishFault { undone: done });
+        }
+        self.begin(alloc, book, i, j, done, before);
+        Ok(Finished::Waiting)
+    }
+}
