@@ -17,7 +17,7 @@ use Rattle.hpx_value.specs.declared.outcome.Outcome.{Outcome}
 use Rattle.hpx_value.specs.Ids.{Id}
 use Rattle.hpx_value.specs.Shapes.{IsValue, AreValues, IsMessage, IsState, IsCount, values_size, value_size, places_of, listed}
 use Rattle.hpx_value.specs.Hands.{Slot, hand_ids, hand_slot, hand_slots, id_at, renumbered, conts_from, replied, sent}
-use Rattle.hpx_value.specs.Mentions.{mentions, cont_place, cont_places, reply_mentions, send_mentions}
+use Rattle.hpx_value.specs.Mentions.{mentions, root_mentions, cont_place, cont_places, reply_mentions, send_mentions}
 use Rattle.hpx_value.specs.Laws.{UsesEachOnce, answered, handed_on, uses, made_slots, drawn_slots, birth_state, IsManaged, IsMovable, MovesBelow, IsTarget, NamesSlotsOnce, KeepsLaws, target_kind}
 use Rattle.hpx_value.proofs.Uses.{count-cons, used_below, used_few}
 use Rattle.hpx_value.proofs.Kept as HandLemmas
@@ -372,6 +372,8 @@ full_keeps n kind here s a vs conts makes xs rs low h few all held room short on
             let most = held.few in
             let sent = held.sent_few in
             let told = held.told_once in
+            let roots : root_mentions (outcome s vs conts makes (sends_of here xs) rs).sends ≤ length (sends_of here xs) + length (sends_of here xs) =
+            HandLemmas.few_roots (sends_of here xs) in
             omega arith;
       };
       conts = once;

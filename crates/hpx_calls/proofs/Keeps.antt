@@ -290,7 +290,7 @@ plain_keeps n kind here s a vs conts rs h act other e good few short plain all =
         conts = used_below (length (hand_slots s a)) (uses out) once;
         each = λ place _. let twice = named_twice s a (conts ++ answered rs) place h all in
             let P : List ℕ → Type 0 = λ ms. count_by (λ p. p == place) ms ≤ 8 in subst P (sym is) (omega arith);
-        all = let P : List ℕ → Type 0 = λ ms. length ms ≤ 192 in subst P (sym is) (few_hands s a h used named);
+        all = let P : List ℕ → Type 0 = λ ms. length ms + 0 ≤ 192 in subst P (sym is) (omega (arith, few_hands s a h used named));
       };
       conts = once;
       slots = record { made = tt; made_once = λ make slot. lit≤ tt; session = λ _. refl; drawn = tt; counted = omega arith };

@@ -42,7 +42,7 @@ general_keeps n kind here s a vs conts rs h all places few many state messages =
     let out = outcome s vs conts [] [] rs in
     let once : UsesEachOnce (length (hand_slots s a)) (uses out) = once_each s a (conts ++ answered rs) all in
     record {
-      names = record { places = places; conts = used_below (length (hand_slots s a)) (uses out) once; each = λ place _. few place; all = many };
+      names = record { places = places; conts = used_below (length (hand_slots s a)) (uses out) once; each = λ place _. few place; all = omega (arith, many) };
       conts = once;
       slots = record { made = tt; made_once = λ make slot. lit≤ tt; session = λ _. refl; drawn = tt; counted = omega arith };
       few = record { makes = lit≤ tt; sends = lit≤ tt; prints = lit≤ tt; managed = tt; session = λ _. refl; short = tt };

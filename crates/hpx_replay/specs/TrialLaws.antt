@@ -10,7 +10,7 @@ use Rattle.hpx_value.specs.Hands.{hand_slots, hand_ids, id_at, sent, state_after
 use Rattle.hpx_value.specs.Kept.{numbers, answers}
 use Rattle.hpx_value.specs.Mentions.{mentions, cont_place}
 use Rattle.hpx_value.specs.Laws.{KeepsLaws, NamesItsHand, UsesEachOnce, IsMovable, IsTarget, MovesBelow, answered, handed_on, made_slots, drawn_slots, is_made_slot, target_kind, uses}
-use Rattle.hpx_value.proofs.Kept.{length-hand_slots, used_once, stays_keeps, stays_tells}
+use Rattle.hpx_value.proofs.Kept.{length-hand_slots, few_roots, used_once, stays_keeps, stays_tells}
 use Rattle.hpx_value.proofs.Uses.{used_below}
 use Rattle.hpx_value.specs.declared.value.Cont.{Cont}
 use Rattle.hpx_value.specs.declared.outcome.Target.TheVariants.{Place, Root}
@@ -22,12 +22,12 @@ use Rattle.hpx_replay.specs.Trial.{said, told, one_send, line_outcome, byte_in, 
 -- few places are named, and each is one of the hand
 few_places : (s : State) (a : Act) (out : Outcome) (m : ℕ) → m ≡ length s.ids + length a.ids + length out.makes
     → AllByRecursion (λ place. place < m) (mentions s a out) → length (mentions s a out) ≤ 8
-    → UsesEachOnce (length (hand_slots s a)) (uses out) → NamesItsHand s a out
-few_places s a out m is low few once = record {
+    → length out.sends ≤ 32 → UsesEachOnce (length (hand_slots s a)) (uses out) → NamesItsHand s a out
+few_places s a out m is low few sends once = record {
   places = let P : ℕ → Type 0 = λ k. AllByRecursion (λ place. place < k) (mentions s a out) in subst P is low;
   conts = used_below (length (hand_slots s a)) (uses out) once;
   each = λ place _. omega (arith, count_by-le-length (λ p. p == place) (mentions s a out));
-  all = omega arith;
+  all = let roots = few_roots out.sends in omega arith;
 }
 
 no_counts : (make slot : ℕ) → count_by (is_made_slot make slot) [] ≤ 1
@@ -70,7 +70,7 @@ said_keeps n kind here s a drawn values sends h fine =
     let once : UsesEachOnce (length (hand_slots s a)) (uses (said drawn values sends)) =
     let P : List ℕ → Type 0 = λ xs. UsesEachOnce (length (hand_slots s a)) (xs ++ []) in subst P (sym fine.unused) (unused kind s a h) in
     record {
-      names = few_places s a (said drawn values sends) (length s.ids + length a.ids + 0) refl fine.places fine.few once;
+      names = few_places s a (said drawn values sends) (length s.ids + length a.ids + 0) refl fine.places fine.few fine.one once;
       conts = once;
       slots = record {
         made =
@@ -264,7 +264,7 @@ module _ (n kind here : ℕ) (s : State) (a : Act) (some : 1 ≤ n) (state : IsS
       act.ids ∙ ap (λ args. 1 + length (refs_in args) + length (listed a.cont)) no_args ∙ ap (λ cont. 1 + length (listed cont)) e in
       let used = once c none e in
       record {
-        names = few_places s a out (length s.ids + length a.ids + 1) refl (omega arith, (omega arith, tt)) (lit≤ tt) used;
+        names = few_places s a out (length s.ids + length a.ids + 1) refl (omega arith, (omega arith, tt)) (lit≤ tt) (lit≤ tt) used;
         conts = used;
         slots = record { made = tt; made_once = no_counts; session = λ _. refl; drawn = tt; counted = omega arith };
         few = record {
@@ -312,7 +312,7 @@ module _ (n kind here : ℕ) (s : State) (a : Act) (some : 1 ≤ n) (state : IsS
       let last = own_last c e in
       let used = once c none e in
       record {
-        names = few_places s a out (length s.ids + length a.ids + 0) refl (omega arith, tt) (lit≤ tt) used;
+        names = few_places s a out (length s.ids + length a.ids + 0) refl (omega arith, tt) (lit≤ tt) (lit≤ tt) used;
         conts = used;
         slots = record { made = tt; made_once = no_counts; session = λ _. refl; drawn = tt; counted = omega arith };
         few = record { makes = lit≤ tt; sends = lit≤ tt; prints = lit≤ tt; managed = tt; session = λ _. refl; short = tt };

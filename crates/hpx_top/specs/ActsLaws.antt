@@ -272,7 +272,7 @@ keeps_lawful n kind here s a values v act k none held good told =
     λ i. ap (λ conts. count_by (λ j. j == i) (numbers 0 conts ++ answered (answers s a.cont v))) (sym none) ∙ used_once s a v i in
     let is : mentions s a (Acts.outcome_by n s a (Keeps values v)) ≡ reply = ap (λ refs. refs ++ [] ++ reply) (held_refs values held) in
     record {
-      names = few_named s a (Acts.outcome_by n s a (Keeps values v)) reply is (one_answer s a v act plain.1 a.cont refl) once;
+      names = few_named s a (Acts.outcome_by n s a (Keeps values v)) reply is (lit≤ tt) (one_answer s a v act plain.1 a.cont refl) once;
       conts = once;
       slots = record { made = tt; made_once = no_counts; session = λ _. refl; drawn = tt; counted = omega arith };
       few = record { makes = lit≤ tt; sends = lit≤ tt; prints = lit≤ tt; managed = tt; session = λ _. refl; short = tt };
@@ -296,7 +296,7 @@ asks_lawful n kind here s a drawn code args h q told =
     let m = length s.ids + length a.ids + 0 in
     let is : mentions s a (Acts.outcome_by n s a (Asks drawn code args)) ≡ [] = ap (λ refs. refs ++ [] ++ [] ++ []) (held_refs args q.number) in
     record {
-      names = few_named s a (Acts.outcome_by n s a (Asks drawn code args)) [] is (named_none m) (unused kind s a h);
+      names = few_named s a (Acts.outcome_by n s a (Asks drawn code args)) [] is (lit≤ tt) (named_none m) (unused kind s a h);
       conts = unused kind s a h;
       slots = record { made = tt; made_once = no_counts; session = λ other. absurd (other session); drawn = (refl, tt); counted = next };
       few = record { makes = lit≤ tt; sends = lit≤ tt; prints = lit≤ tt; managed = tt; session = λ _. refl; short = tt };
@@ -323,7 +323,7 @@ prints_lawful n kind here s a texts h q told =
     let session = h.session in
     let m = length s.ids + length a.ids + 0 in
     record {
-      names = few_named s a (Acts.outcome_by n s a (Prints texts)) [] refl (named_none m) (unused kind s a h);
+      names = few_named s a (Acts.outcome_by n s a (Prints texts)) [] refl (lit≤ tt) (named_none m) (unused kind s a h);
       conts = unused kind s a h;
       slots = record { made = tt; made_once = no_counts; session = λ _. refl; drawn = tt; counted = omega arith };
       few = record {

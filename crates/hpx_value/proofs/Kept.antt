@@ -8,9 +8,9 @@ use Rattle.std.proofs.lemmas.List.Sums.{sum_by-append, count_by-le-length}
 use Rattle.hpx_value.specs.Ids.{Id}
 use Rattle.hpx_value.specs.Values.{Value, Nothing, Flag, Int, Text, Ref, Fault, Ints, Cont, State, Act, refs_in, bare_state}
 use Rattle.hpx_value.specs.Shapes.{IsValue, IsMessage, IsState, IsAct, IsCount, places_of, listed}
-use Rattle.hpx_value.specs.Hands.{Slot, session, id_at, slot_at, own_slot, hand_ids, hand_slots, hand_slot, renumbered, conts_from, slots_kept, state_after, answer, replied, Outcome}
+use Rattle.hpx_value.specs.Hands.{Slot, session, id_at, slot_at, own_slot, hand_ids, hand_slots, hand_slot, renumbered, conts_from, slots_kept, state_after, answer, replied, Outcome, Target, Place, Root, SendCont, NoCont, Own, Made, Here, Sending}
 use Rattle.hpx_value.specs.Kept.{numbers, kept, answers, stays}
-use Rattle.hpx_value.specs.Mentions.{mentions, reply_mentions, cont_place, hand_size}
+use Rattle.hpx_value.specs.Mentions.{mentions, reply_mentions, cont_place, hand_size, target_roots, handed_roots, root_mentions}
 use Rattle.hpx_value.specs.Laws.{UsesEachOnce, answered, uses, NamesItsHand, IsMovable, IsManaged, MovesBelow, TellsThePlace, KeepsLaws}
 use Rattle.hpx_value.proofs.Uses.{one_if, count-cons, used_below}
 
@@ -238,11 +238,27 @@ kept_mentions s a v =
     (ap (map (cont_place s a)) (numbers_by_length 0 s.conts places (sym (length-places s.conts)))
     ∙ map_front places (map (λ place. length s.ids + place) (places_of (listed a.cont))) 0)
 
+few_target : (x : Target) → target_roots x ≤ 1
+few_target (Place place) = lit≤ tt
+few_target (Root kind at) = lit≤ tt
+
+few_handed : (x : SendCont) → handed_roots x ≤ 1
+few_handed NoCont = lit≤ tt
+few_handed (Own number) = lit≤ tt
+few_handed (Made make slot) = lit≤ tt
+few_handed (Here slot) = lit≤ tt
+
+-- a send names two roots at most
+pub few_roots : (xs : List Sending) → root_mentions xs ≤ length xs + length xs
+few_roots [] = lit≤ tt
+few_roots (x ∷ xs) = omega (arith, few_target x.target, few_handed x.cont, few_roots xs)
+
 -- an outcome that names one place at most
-pub few_named : (s : State) (a : Act) (out : Outcome) (places : List ℕ) → mentions s a out ≡ places
+pub few_named : (s : State) (a : Act) (out : Outcome) (places : List ℕ) → mentions s a out ≡ places → length out.sends ≤ 32
     → NamesOne (hand_size s a out) places → UsesEachOnce (length (hand_slots s a)) (uses out) → NamesItsHand s a out
-few_named s a out places is h once =
+few_named s a out places is few h once =
     let one = h.one in
+    let roots = few_roots out.sends in
     record {
       places = let P : List ℕ → Type 0 = AllByRecursion (λ place. place < hand_size s a out) in subst P (sym is) h.below;
       conts = used_below (length (hand_slots s a)) (uses out) once;
@@ -286,7 +302,7 @@ names_hand s a v h act plain =
           subst P (sym is) (omega arith);
       all =
           let both : length (refs ++ places ++ reply) ≡ length (refs ++ places) + length reply = length-append (refs ++ places) reply in
-          let P : List ℕ → Type 0 = λ xs. length xs ≤ 192 in
+          let P : List ℕ → Type 0 = λ xs. length xs + 0 ≤ 192 in
           subst P (sym is) (omega arith);
     }
 

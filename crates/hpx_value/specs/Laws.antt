@@ -6,7 +6,7 @@ use Rattle.hpx_value.specs.Values.{Value, Int, State, Act, refs_in, bare_state}
 use Rattle.hpx_value.specs.Shapes.{IsMessage, IsState, IsCount}
 use Rattle.hpx_value.specs.Hands.{Target, Place, Root, SendCont, NoCont, Own, Made, Here, Make, Sending, Reply, Outcome, hand_slots, state_after, sent, replied}
 use Rattle.hpx_value.specs.Kept.{answers}
-use Rattle.hpx_value.specs.Mentions.{mentions, hand_size, kind_at}
+use Rattle.hpx_value.specs.Mentions.{mentions, root_mentions, hand_size, kind_at}
 
 -- the continuation that a send hands on
 abbrev pub owns : SendCont → List ℕ
@@ -98,12 +98,12 @@ target_kind s a out (Root kind at) = kind
 abbrev pub birth_state : Make → State
 birth_state make = record { drawn = 0; values = make.values; conts = []; ids = [] }
 
--- 1. an outcome names places and continuations of its hand alone, and no managed object too often
+-- 1. an outcome names places and continuations of its hand alone, no managed object too often, and few in all, roots too
 pub record NamesItsHand (s : State) (a : Act) (out : Outcome) : Type 0 where
   pub places : AllByRecursion (λ place. place < hand_size s a out) (mentions s a out)
   pub conts : AllByRecursion (λ number. number < length (hand_slots s a)) (uses out)
   pub each : (place : ℕ) → 16 ≤ kind_at s a out place → count_by (λ p. p == place) (mentions s a out) ≤ 8
-  pub all : length (mentions s a out) ≤ 192
+  pub all : length (mentions s a out) + root_mentions out.sends ≤ 192
 
 -- 3. slots of made objects are named once each; only a session draws slots of its own, in order
 pub record NamesSlotsOnce (kind : ℕ) (s : State) (out : Outcome) : Type 0 where

@@ -57,3 +57,20 @@ reply_mentions s a x = cont_place s a x.cont ∷ refs_in (x.value ∷ [])
 abbrev pub mentions : State → Act → Outcome → List ℕ
 mentions s a out =
     state_mentions s a out.state ++ (flat_map (send_mentions s a) out.sends ++ flat_map (reply_mentions s a) out.replies)
+
+-- how often a target names a root
+abbrev pub target_roots : Target → ℕ
+target_roots (Place place) = 0
+target_roots (Root kind at) = 1
+
+-- how often the continuation of a send names a root: the session, where it is to be answered
+abbrev pub handed_roots : SendCont → ℕ
+handed_roots NoCont = 0
+handed_roots (Own number) = 0
+handed_roots (Made make slot) = 0
+handed_roots (Here slot) = 1
+
+-- how often sends name roots, which have no place in the hand
+abbrev pub root_mentions : List Sending → ℕ
+root_mentions [] = 0
+root_mentions (x ∷ xs) = target_roots x.target + handed_roots x.cont + root_mentions xs
