@@ -1,4 +1,3 @@
 pub mod Leaves
-pub mod Numbering
 pub mod Replays
 pub mod RowLemmas

@@ -1,4 +1,1 @@
 pub mod Spaces
-pub mod Still
-pub mod Trial
-pub mod TrialLaws

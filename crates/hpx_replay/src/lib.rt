@@ -10,9 +10,7 @@ mod object_rows;
 pub mod replay;
 pub mod space;
 #[cfg(test)]
-mod still;
+mod still_tests;
 #[cfg(test)]
 mod tests;
 mod tokens;
-#[cfg(test)]
-mod trial;

@@ -1,9 +1,8 @@
-//! Acts for tests that keep the laws of actions: a session that has an object made, calls it, moves it and drops it.
+//! Acts that keep the laws of actions: a session that has an object made, calls it, moves it and drops it.
 ghost use Rattle.std.specs.Prelude.{◌≡◌, ◌<◌, ℕ, IfOk};
-ghost use Rattle.hpx_replay.specs.Trial.{said, told, one_send, first_line, later_line, line_outcome, byte_in, set_outcome, session_outcome, made_outcome, number_outcome, free_outcome, some_outcome, is_number};
+ghost use Rattle.hpx_trial.specs.Trial.{said, told, one_send, first_line, later_line, line_outcome, byte_in, set_outcome, session_outcome, made_outcome, number_outcome, free_outcome, some_outcome, is_number};
 
-use crate::still::stays;
-use hpx_journal::cargo::one;
+use crate::still::{one, stays};
 use hpx_value::acts::Acts;
 use hpx_value::codes::{COMPONENTS, LINE, SESSION, SET};
 use hpx_value::gid::Gid;
@@ -26,7 +25,8 @@ const NUMBER: u32 = 16;
 const MOST_SLOTS: u32 = 100;
 
 /// Acts of two localities.
-pub(crate) struct Trial;
+#[derive(Clone, Copy)]
+pub struct Trial;
 
 /// The session keeps values, and sends.
 fn said(alloc: Global, drawn: u32, values: Values, sends: Sends) -> Outcome
@@ -291,8 +291,8 @@ fn some(
 }
 
 impl Acts for Trial {
-    ghost use Rattle.hpx_replay.specs.Trial.{trial};
-    ghost use Rattle.hpx_replay.specs.TrialLaws.{trial_keeps, trial_blind};
+    ghost use Rattle.hpx_trial.specs.Trial.{trial};
+    ghost use Rattle.hpx_trial.specs.TrialLaws.{trial_keeps, trial_blind};
 
     ghost count = { λ _. 2 };
 

@@ -1,23 +1,28 @@
-//! `replay` at acts that keep the laws of actions: every state stays, and the place is answered.
-ghost use Rattle.std.specs.Prelude.{◌≡◌, ◌<◌, ◌≤◌, ℕ, pos, length, IfOk};
+//! Acts that keep the laws of actions: every state stays, and the place is answered.
+ghost use Rattle.std.specs.Prelude.{◌≡◌, ◌∷◌, [], pos, length, IfOk};
 ghost use Rattle.hpx_value.specs.Kept.{kept, answers, stays};
-ghost use Rattle.hpx_journal.specs.Data.{Int};
+ghost use Rattle.hpx_trial.specs.Data.{Int};
 
-use crate::replay::{ReplayFault, replay};
-use hpx_journal::cargo::one;
-use hpx_journal::entry::{Entry, Event, Name};
-use hpx_journal::journal::Journal;
 use hpx_value::acts::Acts;
 use hpx_value::exact::Exact;
 use hpx_value::items::Items;
 use hpx_value::memory::OutOfMemory;
 use hpx_value::outcome::{NewState, Outcome, Replies, Reply};
-use hpx_value::profile::Profile;
 use hpx_value::value::{Act, State, Value};
 use std::alloc::Global;
 
 /// Acts of two localities.
-struct Still;
+#[derive(Clone, Copy)]
+pub struct Still;
+
+/// A list of one.
+pub(crate) fn one<T: Drop>(alloc: Global, item: T) -> Result<Items<T>, OutOfMemory>
+    ensures { IfOk result (λ out. out ≡ item ∷ []) }
+{
+    let mut out = Items::new(alloc);
+    out.push(item)?;
+    Ok(out)
+}
 
 /// How many continuations a state keeps. No outcome can number more than 65,535.
 fn cont_count(state: &State) -> Result<u16, OutOfMemory>
@@ -75,7 +80,7 @@ pub(crate) fn stays(
 }
 
 impl Acts for Still {
-    ghost use Rattle.hpx_replay.specs.Still.{still, still_keeps, still_blind};
+    ghost use Rattle.hpx_trial.specs.Still.{still, still_keeps, still_blind};
 
     ghost count = { λ _. 2 };
 
@@ -99,67 +104,4 @@ impl Acts for Still {
     ghost keeps_laws = { still_keeps };
 
     ghost is_blind = { still_blind };
-}
-
-/// A line is fed, fired and done, so many times.
-fn lines(alloc: Global, times: u64) -> Result<Journal, OutOfMemory> {
-    let mut journal = Journal::new(alloc);
-    for serial in 0..times {
-        let action = Name {
-            origin: 0,
-            serial: serial.wrapping_add(1),
-        };
-        let bytes = Items::new(alloc);
-        journal.reserve(1)?;
-        journal.push(Entry {
-            at: 0,
-            event: Event::Line { action, bytes },
-        });
-        journal.reserve(1)?;
-        journal.push(Entry {
-            at: 0,
-            event: Event::Fire { action },
-        });
-        let failed = false;
-        journal.reserve(1)?;
-        journal.push(Entry {
-            at: 0,
-            event: Event::Done { action, failed },
-        });
-    }
-    Ok(journal)
-}
-
-#[test]
-fn lines_are_replayed_until_one_is_done_twice(rt: HostRuntime) -> Result<(), OutOfMemory> {
-    let alloc = rt.alloc();
-    let profile = Profile {
-        credit_log: 8,
-        credit_limit: 256,
-        cache: 1,
-    };
-    assert!(rt; profile.is_valid());
-    let mut journal = lines(alloc, 3)?;
-    match replay(alloc, &Still, 2, profile, &journal) {
-        Ok(space) => {
-            assert_eq!(rt; space.places.len(), 2);
-            assert_eq!(rt; space.places.first().map(|place| place.done.len()), Some(3));
-        }
-        Err(_) => assert!(rt; false, "the lines are refused"),
-    }
-    let action = Name {
-        origin: 0,
-        serial: 3,
-    };
-    let failed = false;
-    journal.reserve(1)?;
-    journal.push(Entry {
-        at: 0,
-        event: Event::Done { action, failed },
-    });
-    match replay(alloc, &Still, 2, profile, &journal) {
-        Ok(_) => assert!(rt; false, "an action is done twice"),
-        Err(fault) => assert_eq!(rt; fault, ReplayFault::Illegal { at: 9 }),
-    }
-    Ok(())
 }

@@ -16,8 +16,8 @@ use Rattle.hpx_value.specs.declared.value.Cont.{Cont}
 use Rattle.hpx_value.specs.declared.outcome.Target.TheVariants.{Place, Root}
 use Rattle.hpx_value.specs.declared.outcome.SendCont.TheVariants.{Nothing as NoCont, Here}
 use Rattle.hpx_value.specs.declared.outcome.Sending.{Sending}
-use Rattle.hpx_journal.specs.Data.{Id, Value, Nothing, Int, Ref, State, Act, Outcome}
-use Rattle.hpx_replay.specs.Trial.{said, told, one_send, line_outcome, byte_in, set_outcome, session_outcome, made_outcome, number_outcome, free_outcome, some_outcome, is_number, or_stays, trial}
+use Rattle.hpx_trial.specs.Data.{Id, Value, Nothing, Int, Ref, State, Act, Outcome}
+use Rattle.hpx_trial.specs.Trial.{said, told, one_send, line_outcome, byte_in, set_outcome, session_outcome, made_outcome, number_outcome, free_outcome, some_outcome, is_number, or_stays, trial}
 
 -- few places are named, and each is one of the hand
 few_places : (s : State) (a : Act) (out : Outcome) (m : ℕ) → m ≡ length s.ids + length a.ids + length out.makes

@@ -5,7 +5,7 @@ use Rattle.hpx_value.specs.Shapes.{IsAct, IsState}
 use Rattle.hpx_value.specs.Laws.{KeepsLaws}
 use Rattle.hpx_value.specs.Kept.{stays}
 use Rattle.hpx_value.proofs.Kept.{stays_keeps, stays_tells}
-use Rattle.hpx_journal.specs.Data.{Int, State, Act, Outcome}
+use Rattle.hpx_trial.specs.Data.{Int, State, Act, Outcome}
 
 -- the state stays, and the locality is answered
 abbrev pub still : ℕ → ℕ → ℕ → State → Act → Outcome

@@ -8,7 +8,7 @@ use Rattle.hpx_value.specs.declared.outcome.Target.TheVariants.{Place, Root}
 use Rattle.hpx_value.specs.declared.outcome.SendCont.{SendCont}
 use Rattle.hpx_value.specs.declared.outcome.SendCont.TheVariants.{Nothing as NoCont, Here}
 use Rattle.hpx_value.specs.declared.outcome.Sending.{Sending}
-use Rattle.hpx_journal.specs.Data.{Id, Value, Nothing, Int, Text, Ref, State, Act, Outcome, Make}
+use Rattle.hpx_trial.specs.Data.{Id, Value, Nothing, Int, Text, Ref, State, Act, Outcome, Make}
 
 -- the session keeps these values, and sends this
 abbrev pub said : ℕ → List Value → List Sending → Outcome

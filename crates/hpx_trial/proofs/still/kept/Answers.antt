@@ -1,6 +1,6 @@
 use Rattle.std.proofs.Common.{arith}
-use Rattle.hpx_replay.proofs.Numbering.{numbers-take}
-use Rattle.hpx_replay.proofs.still.kept.Goals as goal
+use Rattle.hpx_trial.proofs.Numbering.{numbers-take}
+use Rattle.hpx_trial.proofs.still.kept.Goals as goal
 
 pub loop-number-preserved : goal.loop-number-preserved
 loop-number-preserved c =

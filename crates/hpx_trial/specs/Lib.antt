@@ -1,0 +1,4 @@
+pub mod Data
+pub mod Still
+pub mod Trial
+pub mod TrialLaws

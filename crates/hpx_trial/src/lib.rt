@@ -1,0 +1,7 @@
+//! Acts for the tests of other crates, which keep the laws of actions: `Still` changes nothing, and `Trial` has a session that
+//! has an object made, calls it, moves it and drops it.
+#![tactic(auto)]
+
+pub mod hex;
+pub mod still;
+pub mod trial;
