@@ -1,5 +1,6 @@
 pub mod FreeLemmas
 pub mod Few
+pub mod Numbers
 pub mod FirstCuts
 pub mod Gone
 pub mod Made

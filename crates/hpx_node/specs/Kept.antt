@@ -1,5 +1,5 @@
 -- What stands at a node, and the credit that is held and owed there.
-use Rattle.std.specs.Prelude.{ℕ, Bool, List, [], ◌∷◌, ◌++◌, ◌+◌, if◌then◌else◌, is_some, option_map, Option}
+use Rattle.std.specs.Prelude.{ℕ, Bool, List, [], ◌∷◌, ◌++◌, ◌+◌, ◌^◌, cond, if◌then◌else◌, is_some, option_map, Option}
 use Rattle.std.specs.Option.{option_map_or}
 use Rattle.std.specs.List.{find, sum_by, list_any}
 use Rattle.hpx_value.specs.Ids.{credit, same_object}
@@ -7,6 +7,8 @@ use Rattle.hpx_agas.specs.Records.{find_record}
 use Rattle.hpx_agas.specs.declared.record.Record.{Record}
 use Rattle.hpx_journal.specs.Data.{Id, Parcel, Apply, Return, Ask, Give, Move, Go, Shipped, Arrived}
 use Rattle.hpx_journal.specs.Local.{is_standing, acts_on}
+use Rattle.hpx_journal.specs.Tokens.{is_held, is_owed}
+use Rattle.hpx_part.specs.Data.{Token}
 use Rattle.hpx_node.specs.Tables.{Tables, messages}
 
 -- whether an object stands here
@@ -61,3 +63,13 @@ count_here t o = option_map_or (λ (r : Record). r.count) (record_here t o) 0
 -- where it was last said to be
 abbrev pub place_here : Tables → Id → Option ℕ
 place_here t o = option_map (λ (r : Record). r.place) (record_here t o)
+
+-- ---- the same by the tokens of a locality
+
+-- what a token that is held is worth to o
+abbrev pub held_worth : Id → Token → ℕ
+held_worth o k = cond (is_held o k) (2 ^ k.log) 0
+
+-- what one that is owed is worth
+abbrev pub owed_worth : Id → Token → ℕ
+owed_worth o k = cond (is_owed o k) (2 ^ k.log) 0

@@ -1,12 +1,18 @@
 //! What it says of a locality's part that its tables stand for it.
-ghost use Rattle.std.specs.Prelude.{◌≡◌, ◌≤◌, ◌+◌, ◌++◌, [], List};
-ghost use Rattle.std.specs.List.{sum_by};
+ghost use Rattle.std.specs.Prelude.{◌≡◌, ◌≤◌, ◌+◌, ◌++◌, [], List, is_some, length};
+ghost use Rattle.std.specs.List.{sum_by, count_by, find};
+ghost use Rattle.hpx_journal.specs.Data.{Id};
 ghost use Rattle.hpx_journal.specs.Entries.{Rules};
+ghost use Rattle.hpx_journal.specs.Laws.{outs, ins};
+ghost use Rattle.hpx_journal.specs.Local.{is_standing};
+ghost use Rattle.hpx_journal.specs.Names.{names};
+ghost use Rattle.hpx_journal.specs.Tokens.{is_held};
 ghost use Rattle.hpx_journal.specs.Whole.{part, run_local, IsClean};
 ghost use Rattle.hpx_part.specs.Data.{Entry};
 ghost use Rattle.hpx_part.specs.Parts.{at_boot};
 ghost use Rattle.hpx_node.specs.Tables.{Tables, IsPassive};
 ghost use Rattle.hpx_node.specs.Idle.{Row, Actions, goes, causes, hops, unpaid};
+ghost use Rattle.hpx_node.specs.Kept.{stands_here, held_here, owed_here, held_worth, owed_worth};
 ghost use Rattle.hpx_node.specs.Stands.{StandsWith};
 
 /// Between calls nothing of the part is fresh, and nothing is due, up to a foreign arrival.
@@ -29,4 +35,24 @@ pub fn idle_law()
         ≡ sum_by (λ (e : Entry). causes r row e.event) (part t.here later) }
     ensures once { (r : Rules) (t : Tables) (entries : List Entry) → StandsWith r t [] [] entries →
         sum_by (λ (e : Entry). hops r e.event) (part t.here entries) ≤ sum_by (λ (e : Entry). causes r Actions e.event) (part t.here entries) }
+{}
+
+/// What calls tell of a node is so at its locality, where its part leads, up to a foreign arrival: which objects stand there, the
+/// credit that is held and owed there, and of a passive one that as many credits are held as objects are named.
+pub fn numbers_law()
+    ensures holds { (r : Rules) (t : Tables) (entries : List Entry) (o : Id) → StandsWith r t [] [] entries →
+        IsClean r (at_boot r t.here) (part t.here entries) →
+        stands_here t o ≡ is_some (find (is_standing o) (run_local r (at_boot r t.here) (part t.here entries)).objects) }
+    ensures held { (r : Rules) (t : Tables) (entries : List Entry) (o : Id) → StandsWith r t [] [] entries →
+        IsClean r (at_boot r t.here) (part t.here entries) →
+        sum_by (held_worth o) (run_local r (at_boot r t.here) (part t.here entries)).tokens ≡ held_here t o }
+    ensures owed { (r : Rules) (t : Tables) (entries : List Entry) (o : Id) → StandsWith r t [] [] entries →
+        IsClean r (at_boot r t.here) (part t.here entries) →
+        sum_by (owed_worth o) (run_local r (at_boot r t.here) (part t.here entries)).tokens ≡ owed_here t o }
+    ensures frames { (r : Rules) (t : Tables) (entries : List Entry) → StandsWith r t [] [] entries →
+        (t.sent ≡ length (outs (part t.here entries))) × (t.taken ≡ length (ins (part t.here entries))) }
+    ensures rest { (r : Rules) (t : Tables) (entries : List Entry) (o : Id) → StandsWith r t [] [] entries → IsPassive t → 16 ≤ o.kind →
+        IsClean r (at_boot r t.here) (part t.here entries) →
+        count_by (is_held o) (run_local r (at_boot r t.here) (part t.here entries)).tokens
+        ≡ names o (run_local r (at_boot r t.here) (part t.here entries)) }
 {}
