@@ -1,14 +1,13 @@
 -- A commit waits: what its ids are split into, and what is seen of it then.
-use Rattle.std.proofs.Common.{ℕ, zero, suc, Bool, true, false, cond, List, [], ◌∷◌, ◌++◌, ◌≡◌, ◌+◌, ◌≤◌, ◌<◌, ◌==◌, Option, Some, None, map, set, take, drop, length, length-append, append_assoc, append-nil, refl, sym, ap, ◌∙◌, arith, inl, inr, subst}
-use Rattle.std.specs.Prelude.{flat_map, MatchOption, ◌&&◌, not, is_some, nat_le, Result, Ok, Err, IfOk}
+use Rattle.std.proofs.Common.{ℕ, zero, suc, Bool, true, false, cond, List, [], ◌∷◌, ◌++◌, ◌≡◌, ◌+◌, ◌≤◌, ◌<◌, ◌==◌, Some, None, map, set, take, drop, length, length-append, append_assoc, append-nil, refl, sym, ap, ◌∙◌, arith, inl, inr, subst}
+use Rattle.std.specs.Prelude.{flat_map, ◌&&◌, not, is_some, Result, Ok, Err, IfOk}
 use Rattle.std.specs.List.{sum_by, count_by, find, filter, slice_get, remove, AllByRecursion}
 use Rattle.std.proofs.lemmas.Bool.{cases_Bool, eqb-true}
-use Rattle.std.proofs.lemmas.Bool.Decides.{nat_tests}
 use Rattle.std.proofs.lemmas.List.{map-append}
 use Rattle.std.proofs.lemmas.List.Sums.{sum_by-cons, sum_by-append}
 use Rattle.hpx_value.specs.Ids.{bare, same_object}
 use Rattle.hpx_value.specs.Values.{bare_act, bare_state}
-use Rattle.hpx_value.specs.Hands.{id_at, hand_ids}
+use Rattle.hpx_value.specs.Hands.{hand_ids}
 use Rattle.hpx_value.specs.Shapes.{IsState}
 use Rattle.hpx_value.specs.declared.acts.Job.{Job}
 use Rattle.hpx_parcel.specs.Parcels.{HasRightCredit}
@@ -25,11 +24,9 @@ use Rattle.hpx_part.proofs.Covered.{act_names}
 use Rattle.hpx_part.proofs.Grown.{chain}
 use Rattle.hpx_part.proofs.Lists.{sum_middle}
 use Rattle.hpx_part.proofs.Keyed.{split_get, split_set}
-use Rattle.hpx_commit.specs.Deals.{is_managed, named, shares, Lasts, AreWithin}
-use Rattle.hpx_commit.specs.Stocks.{Stock, halvings, ahead, parts_from}
+use Rattle.hpx_commit.specs.Deals.{named, shares, Lasts, AreWithin}
+use Rattle.hpx_commit.specs.Stocks.{halvings, ahead, parts_from}
 use Rattle.hpx_commit.proofs.Ahead.{halvings_have}
-use Rattle.hpx_commit.proofs.AheadSums.{ahead_sums}
-use Rattle.hpx_commit.proofs.Short.{place_bare, place_some, ahead_front}
 use Rattle.hpx_value.specs.Laws.{KeepsLaws}
 use Rattle.hpx_node.specs.declared.node.wait.Before.{Before}
 use Rattle.hpx_node.specs.Asks.{first_cuts, own_many, hand_before, splits_before, stock_before, waits_with, Pauses, IsBefore, Begins}
@@ -43,17 +40,17 @@ use Rattle.hpx_node.specs.Seen.{bare_standing, view}
 use Rattle.hpx_node.specs.Stands.{IsTidy, StandsWith, rules_of}
 use Rattle.hpx_node.proofs.Alls.{all_append, all_remove, all_set, all_at, some_same}
 use Rattle.hpx_node.proofs.Bare.{bare_middle}
-use Rattle.hpx_node.proofs.FilledDue.{weigh_one, each_weighs}
 use Rattle.hpx_node.proofs.FirstCuts.{first_few}
 use Rattle.hpx_node.proofs.PlanLimits.{cuts_limit}
 use Rattle.hpx_node.proofs.Prepared.{hand_within}
-use Rattle.hpx_node.proofs.GivenUp.{weigh_none}
 use Rattle.hpx_node.proofs.InHand.{agree_moved}
 use Rattle.hpx_node.proofs.MadeLists.{bare_alone}
 use Rattle.hpx_node.proofs.Messages.{flat_append}
 use Rattle.hpx_node.proofs.Pausing.{keeps, busy_none, none_busy, busy_parts, busy_less, keeps_both, apart_more, apart_less, found_passes, split, paused_set}
 use Rattle.hpx_node.proofs.Plain.{no_ids}
-use Rattle.hpx_node.proofs.Refilled.{map_same, long_names}
+use Rattle.hpx_node.proofs.LaterIds.{IsLater, bare_none, long_names, within_long, hands_long, later_is}
+use Rattle.hpx_node.proofs.Refilled.{map_same}
+use Rattle.hpx_node.proofs.SplitHand.{weigh_bare, stock_weighs, hand_weighs, asks_none, fresh_paused}
 use Rattle.hpx_node.proofs.Splits.{Has, Halves, halves_none, cut_many}
 use Rattle.hpx_node.proofs.Stays.{Stays, cuts_stay, stays_out, stays_in}
 use Rattle.hpx_node.proofs.Steps.{Tells, tells_leads, same_refusals, stands_then}
@@ -161,61 +158,6 @@ find_put p (z ∷ xs) (suc j) x y h first passes = elim (cases_Bool (p z)) [
   | inr f ↦ rw f (find_put p xs j x y h (rw f at first) passes)
 ]
 
-take_less : (n m : ℕ) (ids : List Id) → n ≤ m → map bare (take n (take m ids)) ≡ map bare (take n ids)
-take_less zero m ids le = refl
-take_less (suc n) zero ids le = absurd (omega (arith, le))
-take_less (suc n) (suc m) [] le = refl
-take_less (suc n) (suc m) (x ∷ xs) le = ap (λ ys. bare x ∷ ys) (take_less n m xs (omega (arith, le)))
-
-take_bare : (n : ℕ) (xs ys : List Id) → map bare xs ≡ map bare ys → map bare (take n xs) ≡ map bare (take n ys)
-take_bare n xs ys e = take_map n xs ∙ (ap (take n) e ∙ sym (take_map n ys))
-  where
-    take_map : (n : ℕ) (zs : List Id) → map bare (take n zs) ≡ take n (map bare zs)
-    take_map zero zs = refl
-    take_map (suc n) [] = refl
-    take_map (suc n) (z ∷ zs) = ap (λ ys. bare z ∷ ys) (take_map n zs)
-
-take_front : (xs ys : List Id) → take (length xs) (xs ++ ys) ≡ xs
-take_front [] ys = none ys
-  where
-    none : (zs : List Id) → take 0 zs ≡ []
-    none zs = refl
-take_front (x ∷ xs) ys = ap (λ zs. x ∷ zs) (take_front xs ys)
-
-front_at : (P : Id → Type 0) (xs ys : List Id) (p : ℕ) → AllByRecursion P xs → p < length xs → P (id_at (xs ++ ys) p)
-front_at P [] ys p h lt = absurd (omega (arith, lt))
-front_at P (x ∷ xs) ys zero h lt = h.0
-front_at P (x ∷ xs) ys (suc p) h lt = front_at P xs ys p h.1 (omega (arith, lt))
-
-none_asked : (n : ℕ) (ids : List Id) → ((p : ℕ) → p < n → is_asked (id_at ids p) ≡ false) → filter is_asked (take n ids) ≡ []
-none_asked zero ids h = refl
-none_asked (suc n) [] h = refl
-none_asked (suc n) (x ∷ xs) h =
-    let first : is_asked x ≡ false = h 0 (omega arith) in
-    rw first (none_asked n xs (λ p lt. h (suc p) (omega (arith, lt))))
-
-unmanaged : (kind : ℕ) → kind < 16 → nat_le 16 kind ≡ false
-unmanaged kind h = grind (arith, nat_tests)
-
-right_asks_none : (id : Id) → HasRightCredit id → is_asked id ≡ false
-right_asks_none id h = at id.log h
-  where
-    no : (b : Bool) → (b && false) ≡ false
-    no true = refl
-    no false = refl
-
-    at : (log : Option ℕ) → MatchOption log (id.kind < 16) (λ l. 16 ≤ id.kind) → (is_managed id && not (is_some log)) ≡ false
-    at None e = ap (λ b. b && true) (unmanaged id.kind e)
-    at (Some l) e = no (is_managed id)
-
-weigh_bare : (f : Token → ℕ) (ids : List Id) → AllByRecursion (λ (id : Id). id.log ≡ None) ids → weigh f ids ≡ 0
-weigh_bare f [] h = refl
-weigh_bare f (id ∷ ids) h = omega (arith, weigh_append f (id ∷ []) ids, weigh_none f id h.0, weigh_bare f ids h.1)
-
-bare_none : (ids : List Id) → AllByRecursion (λ (id : Id). id.log ≡ None) (map bare ids)
-bare_none [] = tt
-bare_none (id ∷ ids) = (refl, bare_none ids)
-
 bare_counts : (o : Id) (ids : List Id) → bare_names o (map bare ids) ≡ count_by (same_object o) ids
 bare_counts o [] = refl
 bare_counts o (id ∷ ids) = omega (
@@ -252,76 +194,6 @@ lent_kept x s kept same fit = record {
   plain = λ e. (ap (λ (y : State). y.values) (sym same) ∙ (kept.plain e).0, ap (λ (y : State). y.conts) (sym same) ∙ (kept.plain e).1);
 }
 
--- ---- the hand of a commit that waits
-
-module _ (job : Job) (out : Outcome) (localities : ℕ) (later : List Id) (places : List ℕ) (fit : IsFitJob job)
-    (within : AreWithin (hand_ids job.state job.action later) places) where
-  abbrev own : List Id
-  own = job.state.ids ++ job.action.ids
-
-  abbrev start : Stock
-  start = record { hand = hand_ids job.state job.action later; places = places }
-
-  abbrev pub stock : Stock
-  stock = ahead (own_many job) (record { hand = hand_ids job.state job.action later; places = places })
-
-  hand_is : hand_ids job.state job.action later ≡ own ++ later
-  hand_is = sym (append_assoc job.state.ids job.action.ids later)
-
-  fits : own_many job ≤ length (hand_ids job.state job.action later)
-  fits = omega (arith, length-append own later, ap (λ (xs : List Id). length xs) hand_is)
-
-  own_right : AllByRecursion HasRightCredit own
-  own_right = all_append HasRightCredit job.state.ids job.action.ids fit.credit fit.action.sent.credit
-
-  not_asked : (p : ℕ) → p < own_many job → is_asked (id_at stock.hand p) ≡ false
-  not_asked p lt =
-      let inside : p < length (hand_ids job.state job.action later) = omega (arith, lt, fits) in
-      let right : HasRightCredit (id_at (hand_ids job.state job.action later) p) =
-      subst (λ (xs : List Id). HasRightCredit (id_at xs p)) (sym hand_is) (front_at HasRightCredit own later p own_right lt) in
-      let kind : (id_at stock.hand p).kind ≡ (id_at start.hand p).kind =
-      ap (λ (x : Id). x.kind) (place_bare (own_many job) start fits within p inside) in
-      ap (λ k. nat_le 16 k && not (is_some (id_at stock.hand p).log)) kind
-      ∙ (ap (λ b. nat_le 16 (id_at start.hand p).kind && not b) (place_some (own_many job) start fits within p inside)
-      ∙ right_asks_none (id_at start.hand p) right)
-
-  hand_names : map bare (take (own_many job) stock.hand) ≡ map bare own
-  hand_names =
-      sym (take_less (own_many job) (length start.hand) stock.hand fits)
-      ∙ (take_bare (own_many job) (take (length start.hand) stock.hand) start.hand (ahead_front (own_many job) start fits within)
-      ∙ (ap (λ (xs : List Id). map bare (take (own_many job) xs)) hand_is ∙ ap (map bare) (take_front own later)))
-
-  pub fresh_paused : (k : ℕ) (objects : List Standing) (x : Standing) → job.at ≡ k → find (is_standing (target_of job.action)) objects ≡ Some x
-      → x.object.kind ≡ job.kind → x.state ≡ bare_state job.state → IsPaused k objects (waits_with job out localities stock)
-  fresh_paused k objects x at found kind state = record {
-    job = fit;
-    here = at;
-    standing = x;
-    found = found;
-    kind = kind;
-    state = state;
-    hand = hand_names;
-    within = tt;
-    once = λ p lt. sym (ap {B = ℕ} (λ b. cond b 1 0) (not_asked p lt));
-  }
-
-  pub asks_none : filter is_asked (own_ids (waits_with job out localities stock)) ≡ []
-  asks_none = none_asked (own_many job) stock.hand not_asked
-
-  pub stock_weighs : (f : Token → ℕ) → weigh f stock.hand ≡ weigh f (parts_from (own_many job) 0 (hand_ids job.state job.action later) places)
-  stock_weighs f =
-      each_weighs f stock.hand
-      ∙ (ahead_sums (weigh_one f) (own_many job) start fits within ∙ sym (each_weighs f (parts_from (own_many job) 0 start.hand places)))
-
-  pub hand_weighs : AllByRecursion (λ (id : Id). id.log ≡ None) later → (f : Token → ℕ)
-      → weigh f (hand_ids job.state job.action later) ≡ weigh f job.state.ids + weigh f job.action.ids
-  hand_weighs none f = omega (
-    arith,
-    weigh_append f job.state.ids (job.action.ids ++ later),
-    weigh_append f job.action.ids later,
-    weigh_bare f later none,
-  )
-
 -- ---- an action that is alone on its object
 
 apart_alone : (l : List Act) (act : Act) (m : List Act) → Apart (l ++ act ∷ m) → is_busy (target_of act) (l ++ m) ≡ false
@@ -329,12 +201,12 @@ apart_alone [] act m h = h.0
 apart_alone (x ∷ l) act m h =
     none_busy (target_of act) x (l ++ m) (keeps_both x act (busy_less (target_of x) l act m h.0).0) (apart_alone l act m h.1)
 
-module _ (r : Rules) (t : Tables) (entries : List Entry) (i j : ℕ) (job : Job) (out : Outcome) (localities : ℕ) (later : List Id) (places : List ℕ)
+module _ (r : Rules) (t : Tables) (entries : List Entry) (i j : ℕ) (job : Job) (out : Outcome) (later : List Id) (places : List ℕ)
     (spare : ℕ) (at : IsAt t i j job) (first : find (is_standing (target_of job.action)) (take j t.objects) ≡ None) (fit : IsFitJob job)
     (within : AreWithin (hand_ids job.state job.action later) places) (none : AllByRecursion (λ (id : Id). id.log ≡ None) later)
-    (h : StandsWith r t [] [] entries) where
+    (few : t.localities ≤ 64) (below : job.at < t.localities) (is_later : IsLater job out later places) (h : StandsWith r t [] [] entries) where
   abbrev w : Waits
-  w = waits_with job out localities (ahead (own_many job) (record { hand = hand_ids job.state job.action later; places = places }))
+  w = waits_with job out t.localities (ahead (own_many job) (record { hand = hand_ids job.state job.action later; places = places }))
 
   abbrev lent : Standing
   lent = record { object = at.standing.object; state = bare_state job.state }
@@ -343,7 +215,7 @@ module _ (r : Rules) (t : Tables) (entries : List Entry) (i j : ℕ) (job : Job)
   waiting = record t {
     running = remove t.running i;
     objects = set t.objects j (record { object = at.standing.object; state = bare_state job.state });
-    pending = t.pending ++ waits_with job out localities (ahead (own_many job) (record { hand = hand_ids job.state job.action later; places = places })) ∷ [];
+    pending = t.pending ++ waits_with job out t.localities (ahead (own_many job) (record { hand = hand_ids job.state job.action later; places = places })) ∷ [];
     spare = spare;
   }
 
@@ -370,7 +242,7 @@ module _ (r : Rules) (t : Tables) (entries : List Entry) (i j : ℕ) (job : Job)
   acts_more = map-append action_of t.pending (w ∷ [])
 
   parts : Apart (take i t.running ++ job.action ∷ (drop (suc i) t.running ++ acts))
-  parts = subst Apart (split t.here t.objects t.running t.pending i job.action at.runs h.tidy.paused) h.tidy.paused.apart
+  parts = subst Apart (split t.here t.localities t.profile.credit_log t.objects t.running t.pending i job.action at.runs h.tidy.paused) h.tidy.paused.apart
 
   apart_new : Apart (fired_of (remove t.running i) (t.pending ++ w ∷ []))
   apart_new =
@@ -414,11 +286,14 @@ module _ (r : Rules) (t : Tables) (entries : List Entry) (i j : ℕ) (job : Job)
     sum_middle f (take j t.objects) lent (drop (suc j) t.objects),
   )
 
-  paused_new : ArePaused t.here (set t.objects j lent) (remove t.running i) (t.pending ++ w ∷ [])
+  paused_new : ArePaused t.here t.localities t.profile.credit_log (set t.objects j lent) (remove t.running i) (t.pending ++ w ∷ [])
   paused_new = record {
-    each = all_append (IsPaused t.here (set t.objects j lent)) t.pending (w ∷ [])
-        (paused_set t.here t.objects t.running t.pending i j job.action at.standing lent at.runs at.stands same refl plain_same h.tidy.paused)
-        (fresh_paused job out localities later places fit within t.here (set t.objects j lent) lent at.here found_new at.kind refl, tt);
+    each = all_append (IsPaused t.here t.localities t.profile.credit_log (set t.objects j lent)) t.pending (w ∷ [])
+        (paused_set t.here t.localities t.profile.credit_log t.objects t.running t.pending i j job.action at.standing lent at.runs at.stands same refl plain_same h.tidy.paused) (
+          fresh_paused job out t.localities later places fit within t.here t.localities t.profile.credit_log (set t.objects j lent) lent at.here refl few below
+              found_new at.kind refl is_later,
+          tt,
+        );
     apart = apart_new;
     whole = subst (λ xs. AllByRecursion (Whole xs) (set t.objects j lent)) (sym acts_more)
         (all_set (Whole (acts ++ job.action ∷ [])) t.objects j lent (whole_more t.objects h.tidy.paused.whole) lent_whole);
@@ -463,7 +338,7 @@ module _ (r : Rules) (t : Tables) (entries : List Entry) (i j : ℕ) (job : Job)
   has : Has (view t [] []).tokens (hand_ids job.state job.action later)
   has f weight = omega (
     arith,
-    hand_weighs job out localities later places fit within none f,
+    hand_weighs job out t.localities later places fit within none f,
     view_sum f t [] [],
     tokens_sum f t,
     state_kept f,
@@ -514,8 +389,8 @@ module _ (r : Rules) (t : Tables) (entries : List Entry) (i j : ℕ) (job : Job)
     tokens = λ f weight. omega (
       arith,
       s.sums f weight,
-      hand_weighs job out localities later places fit within none f,
-      stock_weighs job out localities later places fit within f,
+      hand_weighs job out t.localities later places fit within none f,
+      stock_weighs job out t.localities later places fit within f,
       view_sum f t [] [],
       view_sum f waiting [] [],
       tokens_sum f t,
@@ -524,7 +399,7 @@ module _ (r : Rules) (t : Tables) (entries : List Entry) (i j : ℕ) (job : Job)
       weigh_remove f (λ (a : Act). a.ids) t.running i job.action at.runs,
       weigh_last f (λ (v : Waits). v.hand) t.pending w,
     );
-    asking = λ x. ap (count_by (same_object x)) (sym (asked_same w (asks_none job out localities later places fit within)));
+    asking = λ x. ap (count_by (same_object x)) (sym (asked_same w (asks_none job out t.localities later places fit within)));
     asks = λ x. refl;
     live = λ x home. refl;
     dead = λ x d. d;
@@ -589,20 +464,6 @@ pauses_by t t' i j job w at x stands e = record {
   }) (some_same x at.standing (sym stands ∙ at.stands));
 }
 
-within_long : (xs ys : List Id) (ps : List ℕ) → length xs ≡ length ys → AreWithin xs ps → AreWithin ys ps
-within_long xs ys [] e h = tt
-within_long xs ys (p ∷ ps) e h = (let lt = h.0 in omega (arith, lt, e), within_long xs ys ps e h.1)
-
-hands_long : (job : Job) (made : List Id) → length (hand_ids job.state job.action (map bare made)) ≡ length (hand_ids job.state job.action made)
-hands_long job made = omega (
-  arith,
-  length-append job.state.ids (job.action.ids ++ map bare made),
-  length-append job.state.ids (job.action.ids ++ made),
-  length-append job.action.ids (map bare made),
-  length-append job.action.ids made,
-  long_names made,
-)
-
 module _ (t : Tables) (job : Job) (out : Outcome) (b : Before) (is : IsBefore t job out b) where
   pub before_own : b.own ≤ length b.hand.items
   before_own = omega (
@@ -640,12 +501,12 @@ module _ (t : Tables) (job : Job) (out : Outcome) (b : Before) (is : IsBefore t 
 
 pub begins_by : (act_of : ℕ → ℕ → ℕ → State → Act → Outcome) (t t' : Tables) (job : Job) (out : Outcome) (localities : ℕ) (b : Before) (i j : ℕ) (w : Waits)
     (e0 e1 : List Entry) → IsFitJob job → t.localities ≤ 64 → KeepsLaws t.localities job.kind job.at job.state job.action out → IsBefore t job out b
-    → localities ≡ t.localities → w ≡ waits_with job out localities b.stock → Pauses i j job w t t'
+    → localities ≡ t.localities → job.at < localities → w ≡ waits_with job out localities b.stock → Pauses i j job w t t'
     → find (is_standing (target_of job.action)) (take j t.objects) ≡ None
     → e1 ≡ e0 ++ at_all t.here (first_cuts b.own 0 b.hand.items b.places.items)
     → StandsWith (rules_of act_of t.localities t.profile) t [] [] e0
     → StandsWith (rules_of act_of t'.localities t'.profile) t' [] [] e1 × Begins t t' job out e0 e1
-begins_by act_of t t' job out localities b i j w e0 e1 fit few laws is n w_is pauses first cut h =
+begins_by act_of t t' job out localities b i j w e0 e1 fit few laws is n below w_is pauses first cut h =
     let s = stock_before t job out in
     let same : w ≡ waits_with job out t.localities (stock_before t job out) =
     w_is ∙ (ap (λ k. waits_with job out k b.stock) n ∙ ap (waits_with job out t.localities) is.stock) in
@@ -655,12 +516,14 @@ begins_by act_of t t' job out localities b i j w e0 e1 fit few laws is n w_is pa
     ∙ (ap (λ k. e0 ++ at_all t.here (first_cuts k 0 b.hand.items b.places.items)) is.own
     ∙ (ap (λ xs. e0 ++ at_all t.here (first_cuts (own_many job) 0 xs b.places.items)) is.hand
     ∙ ap (λ ps. e0 ++ at_all t.here (first_cuts (own_many job) 0 (hand_before t job out) ps)) is.places)) in
-    let stands = stands_waiting (rules_of act_of t.localities t.profile) t e0 i j job out t.localities (map bare (made_of t out)) (places_in_hand t job out)
-    t'.spare now.at first fit (within_hand t job out b is fit few laws) (bare_none (made_of t out)) h in (
+    let low : job.at < t.localities = subst (λ k. job.at < k) n below in
+    let stands = stands_waiting (rules_of act_of t.localities t.profile) t e0 i j job out (map bare (made_of t out)) (places_in_hand t job out)
+    t'.spare now.at first fit (within_hand t job out b is fit few laws) (bare_none (made_of t out)) few low (later_is t job out laws fit) h in (
       subst (λ x. StandsWith (rules_of act_of x.localities x.profile) x [] [] e1) (sym now.rest)
           (subst (λ es. StandsWith (rules_of act_of t.localities t.profile)
-          (waiting (rules_of act_of t.localities t.profile) t e0 i j job out t.localities (map bare (made_of t out)) (places_in_hand t job out)
-          t'.spare now.at first fit (within_hand t job out b is fit few laws) (bare_none (made_of t out)) h) [] [] es) (sym written) stands),
+          (waiting (rules_of act_of t.localities t.profile) t e0 i j job out (map bare (made_of t out)) (places_in_hand t job out)
+          t'.spare now.at first fit (within_hand t job out b is fit few laws) (bare_none (made_of t out)) few low (later_is t job out laws fit) h) [] [] es)
+          (sym written) stands),
       record {
         i = i;
         j = j;

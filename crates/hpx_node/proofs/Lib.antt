@@ -8,6 +8,8 @@ pub mod Mailed
 pub mod Messages
 pub mod Cutting
 pub mod Settled
+pub mod LaterIds
+pub mod SplitHand
 pub mod Splits
 pub mod Stays
 pub mod Steps

@@ -32,6 +32,7 @@ pub struct Pending<A: Acts> {
 }
 
 impl<A: Acts> Model for Pending<A> {
+    ghost use Rattle.std.specs.Prelude.{◌≡◌};
     ghost use Rattle.hpx_node.specs.Jobs.{IsFitJob};
     ghost use Rattle.hpx_node.specs.Pending.{Waits};
 
@@ -47,7 +48,8 @@ impl<A: Acts> Model for Pending<A> {
       refused = w.refused;
     } };
 
-    ghost invariant = { λ w. IsFitJob w.done.job };
+    ghost invariant = { λ w. IsFitJob w.done.job
+        × (w.done.outcome ≡ A.act_of w.done.localities w.done.job.kind w.done.job.at w.done.job.state w.done.job.action) };
 }
 
 impl<A: Acts> Pending<A> {

@@ -133,6 +133,7 @@ impl<A: Acts + Copy> Node<A> {
         requires localities { done.localities ≡ self.old.localities }
         requires few { self.old.localities ≤ 64 }
         requires fit { IsFitJob done.job }
+        requires here { done.job.at < done.localities }
         requires laws { KeepsLaws done.localities done.job.kind done.job.at done.job.state done.job.action done.outcome }
         requires before { IsBefore self.old done.job done.outcome before }
         requires spare { 1 ≤ self.old.spare }

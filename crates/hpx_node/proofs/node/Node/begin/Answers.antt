@@ -34,7 +34,7 @@ returns-clause-stands g c =
     let pauses = rw c.new.ensures at c.pause.ensures in
     let cut = c.push_first_splits.ensures.entries ∙ rw (c.as_slice.ensures.value, c.as_slice-2.ensures.value, ap (λ (x : Tables). x.here) c.self.view_is) in
     (begins_by g.A.Acts.act_of t c.pause.new.self d.job d.outcome d.localities c.args.before c.args.i c.args.j _ c.args.book.now.entries
-    c.push_first_splits.new.book.entries c.requires.fit c.requires.few laws c.requires.before c.requires.localities refl pauses
+    c.push_first_splits.new.book.entries c.requires.fit c.requires.few laws c.requires.before c.requires.localities c.requires.here refl pauses
     c.requires.first cut c.requires.stands).0
 
 pub returns-clause-begins : goal.returns-clause-begins
@@ -45,5 +45,5 @@ returns-clause-begins g c =
     let pauses = rw c.new.ensures at c.pause.ensures in
     let cut = c.push_first_splits.ensures.entries ∙ rw (c.as_slice.ensures.value, c.as_slice-2.ensures.value, ap (λ (x : Tables). x.here) c.self.view_is) in
     (begins_by g.A.Acts.act_of t c.pause.new.self d.job d.outcome d.localities c.args.before c.args.i c.args.j _ c.args.book.now.entries
-    c.push_first_splits.new.book.entries c.requires.fit c.requires.few laws c.requires.before c.requires.localities refl pauses
+    c.push_first_splits.new.book.entries c.requires.fit c.requires.few laws c.requires.before c.requires.localities c.requires.here refl pauses
     c.requires.first cut c.requires.stands).1
