@@ -1,22 +1,22 @@
--- A commit waits: what its ids are split into, and what is seen of it then.
+-- A commit waits: what its ids are split into, what is asked for, and what is seen of it then.
 use Rattle.std.proofs.Common.{ℕ, zero, suc, Bool, true, false, cond, List, [], ◌∷◌, ◌++◌, ◌≡◌, ◌+◌, ◌≤◌, ◌<◌, ◌==◌, Some, None, map, set, take, drop, length, length-append, append_assoc, append-nil, refl, sym, ap, ◌∙◌, arith, inl, inr, subst}
-use Rattle.std.specs.Prelude.{flat_map, ◌&&◌, not, is_some, Result, Ok, Err, IfOk}
-use Rattle.std.specs.List.{sum_by, count_by, find, filter, slice_get, remove, AllByRecursion}
+use Rattle.std.specs.Prelude.{flat_map, ◌&&◌, not, is_some}
+use Rattle.std.specs.List.{sum_by, count_by, find, filter, list_any, slice_get, remove, AllByRecursion}
 use Rattle.std.proofs.lemmas.Bool.{cases_Bool, eqb-true}
 use Rattle.std.proofs.lemmas.List.{map-append}
 use Rattle.std.proofs.lemmas.List.Sums.{sum_by-cons, sum_by-append}
 use Rattle.hpx_value.specs.Ids.{bare, same_object}
 use Rattle.hpx_value.specs.Values.{bare_act, bare_state}
-use Rattle.hpx_value.specs.Hands.{hand_ids}
+use Rattle.hpx_value.specs.Hands.{id_at, hand_ids}
 use Rattle.hpx_value.specs.Shapes.{IsState}
 use Rattle.hpx_value.specs.declared.acts.Job.{Job}
 use Rattle.hpx_parcel.specs.Parcels.{HasRightCredit}
 use Rattle.hpx_part.specs.Keyed.{Agree}
-use Rattle.hpx_journal.specs.Data.{Id, Act, State, Outcome}
+use Rattle.hpx_journal.specs.Data.{Id, Act, State, Outcome, Parcel}
 use Rattle.hpx_journal.specs.Entries.{Rules, target_of}
-use Rattle.hpx_journal.specs.Local.{is_act, is_standing, is_busy}
+use Rattle.hpx_journal.specs.Local.{is_act, is_standing, is_busy, is_recorded, count_in}
 use Rattle.hpx_journal.proofs.Same.{same_object-sym}
-use Rattle.hpx_part.specs.Data.{Entry, Standing, Token, Local}
+use Rattle.hpx_part.specs.Data.{Event, Entry, Standing, Token, Local}
 use Rattle.hpx_part.specs.View.{View, IsCovered}
 use Rattle.hpx_part.specs.Shows.{Shows, Leads}
 use Rattle.hpx_part.specs.Parts.{at_all}
@@ -25,37 +25,36 @@ use Rattle.hpx_part.proofs.Grown.{chain}
 use Rattle.hpx_part.proofs.Lists.{sum_middle}
 use Rattle.hpx_part.proofs.Keyed.{split_get, split_set}
 use Rattle.hpx_commit.specs.Deals.{named, shares, Lasts, AreWithin}
-use Rattle.hpx_commit.specs.Stocks.{halvings, ahead, parts_from}
+use Rattle.hpx_commit.specs.Stocks.{Stock, halvings, ahead, parts_from, short_places, stripped}
 use Rattle.hpx_commit.proofs.Ahead.{halvings_have}
-use Rattle.hpx_value.specs.Laws.{KeepsLaws}
-use Rattle.hpx_node.specs.declared.node.wait.Before.{Before}
-use Rattle.hpx_node.specs.Asks.{first_cuts, own_many, hand_before, splits_before, stock_before, waits_with, Pauses, IsBefore, Begins}
-use Rattle.hpx_node.specs.Commits.{cuts, made_of, places_in_hand}
+use Rattle.hpx_node.specs.declared.parts.Outgoing.{Outgoing}
+use Rattle.hpx_node.specs.Asks.{first_cuts, own_many, asked_events, AsksFor}
+use Rattle.hpx_node.specs.Commits.{cuts}
 use Rattle.hpx_node.specs.Fit.{IsFit, IsKept}
 use Rattle.hpx_node.specs.Jobs.{IsAt, IsFitJob}
 use Rattle.hpx_node.specs.Paused.{bare_names, Apart, IsPaused, ArePaused}
-use Rattle.hpx_node.specs.Pending.{Waits, action_of, fired_of, own_ids, is_asked, asking_of, refusal_of, refusals_of}
+use Rattle.hpx_node.specs.Pending.{Waits, action_of, fired_of, own_ids, is_asked, asked_at, waits_with, asking_of, refusal_of, refusals_of}
 use Rattle.hpx_node.specs.Tables.{Tables, fired_acts}
-use Rattle.hpx_node.specs.Seen.{bare_standing, view}
-use Rattle.hpx_node.specs.Stands.{IsTidy, StandsWith, rules_of}
-use Rattle.hpx_node.proofs.Alls.{all_append, all_remove, all_set, all_at, some_same}
+use Rattle.hpx_node.specs.Seen.{bare_standing, counted, view}
+use Rattle.hpx_node.specs.Stands.{IsTidy, StandsWith}
+use Rattle.hpx_node.proofs.Alls.{all_append, all_remove, all_set, all_at}
+use Rattle.hpx_node.proofs.Asking.{asked_long, asked_stay, pays_asks}
 use Rattle.hpx_node.proofs.Bare.{bare_middle}
-use Rattle.hpx_node.proofs.FirstCuts.{first_few}
-use Rattle.hpx_node.proofs.PlanLimits.{cuts_limit}
-use Rattle.hpx_node.proofs.Prepared.{hand_within}
+use Rattle.hpx_node.proofs.IdleRows.{first_idle}
+use Rattle.hpx_node.proofs.IdleSteps.{pays_idle, pays_on}
 use Rattle.hpx_node.proofs.InHand.{agree_moved}
+use Rattle.hpx_node.proofs.Lacking.{Lacks, lacks_lead}
+use Rattle.hpx_node.proofs.LaterIds.{IsLater, bare_none, long_names}
 use Rattle.hpx_node.proofs.MadeLists.{bare_alone}
 use Rattle.hpx_node.proofs.Messages.{flat_append}
 use Rattle.hpx_node.proofs.Pausing.{keeps, busy_none, none_busy, busy_parts, busy_less, keeps_both, apart_more, apart_less, found_passes, split, paused_set}
 use Rattle.hpx_node.proofs.Plain.{no_ids}
-use Rattle.hpx_node.proofs.LaterIds.{IsLater, bare_none, long_names, within_long, hands_long, later_is}
 use Rattle.hpx_node.proofs.Refilled.{map_same}
-use Rattle.hpx_node.proofs.SplitHand.{weigh_bare, stock_weighs, hand_weighs, asks_none, fresh_paused}
+use Rattle.hpx_node.proofs.ShortHand.{lacks_least, left_asks, left_weighs, fresh_paused}
+use Rattle.hpx_node.proofs.SplitHand.{weigh_bare, stock_weighs, hand_weighs}
 use Rattle.hpx_node.proofs.Splits.{Has, Halves, halves_none, cut_many}
 use Rattle.hpx_node.proofs.Stays.{Stays, cuts_stay, stays_out, stays_in}
 use Rattle.hpx_node.proofs.Steps.{Tells, tells_leads, same_refusals, stands_then}
-use Rattle.hpx_node.proofs.IdleRows.{first_idle}
-use Rattle.hpx_node.proofs.IdleSteps.{pays_idle}
 use Rattle.hpx_node.proofs.Sums.{weigh, weigh_append, weigh_remove, weigh_set, weigh_last, tokens_sum, view_sum}
 
 -- ---- splits
@@ -205,19 +204,23 @@ module _ (r : Rules) (t : Tables) (entries : List Entry) (i j : ℕ) (job : Job)
     (spare : ℕ) (at : IsAt t i j job) (first : find (is_standing (target_of job.action)) (take j t.objects) ≡ None) (fit : IsFitJob job)
     (within : AreWithin (hand_ids job.state job.action later) places) (none : AllByRecursion (λ (id : Id). id.log ≡ None) later)
     (few : t.localities ≤ 64) (below : job.at < t.localities) (is_later : IsLater job out later places) (h : StandsWith r t [] [] entries) where
-  abbrev w : Waits
-  w = waits_with job out t.localities (ahead (own_many job) (record { hand = hand_ids job.state job.action later; places = places }))
+  abbrev pub split_ahead : Stock
+  split_ahead = ahead (own_many job) (record { hand = hand_ids job.state job.action later; places = places })
 
-  abbrev lent : Standing
+  abbrev pub short : List ℕ
+  short = short_places (own_many job) split_ahead
+
+  abbrev pub lacks : List Id
+  lacks = map (id_at split_ahead.hand) short
+
+  abbrev pub w : Waits
+  w = waits_with job out t.localities (asked_at t.asked short) (stripped short split_ahead)
+
+  abbrev pub lent : Standing
   lent = record { object = at.standing.object; state = bare_state job.state }
 
-  abbrev pub waiting : Tables
-  waiting = record t {
-    running = remove t.running i;
-    objects = set t.objects j (record { object = at.standing.object; state = bare_state job.state });
-    pending = t.pending ++ waits_with job out t.localities (ahead (own_many job) (record { hand = hand_ids job.state job.action later; places = places })) ∷ [];
-    spare = spare;
-  }
+  abbrev pub paused : Tables
+  paused = record t { running = remove t.running i; objects = set t.objects j lent; pending = t.pending ++ w ∷ []; spare = spare }
 
   same : same_object (target_of job.action) at.standing.object ≡ true
   same = found_passes (target_of job.action) t.objects at.standing at.found
@@ -290,8 +293,8 @@ module _ (r : Rules) (t : Tables) (entries : List Entry) (i j : ℕ) (job : Job)
   paused_new = record {
     each = all_append (IsPaused t.here t.localities t.profile.credit_log (set t.objects j lent)) t.pending (w ∷ [])
         (paused_set t.here t.localities t.profile.credit_log t.objects t.running t.pending i j job.action at.standing lent at.runs at.stands same refl plain_same h.tidy.paused) (
-          fresh_paused job out t.localities later places fit within t.here t.localities t.profile.credit_log (set t.objects j lent) lent at.here refl few below
-              found_new at.kind refl is_later,
+          fresh_paused job out later places fit within is_later t.here t.localities t.profile.credit_log t.asked (set t.objects j lent) lent at.here few below
+              found_new at.kind refl,
           tt,
         );
     apart = apart_new;
@@ -309,8 +312,8 @@ module _ (r : Rules) (t : Tables) (entries : List Entry) (i j : ℕ) (job : Job)
         );
   }
 
-  waiting_tidy : IsTidy waiting []
-  waiting_tidy = record {
+  paused_tidy : IsTidy paused []
+  paused_tidy = record {
     accepted = h.tidy.accepted;
     running = all_remove IsFit t.running i h.tidy.running;
     objects = all_set IsKept t.objects j lent h.tidy.objects (lent_kept at.standing job.state kept at.state fit.state);
@@ -338,7 +341,7 @@ module _ (r : Rules) (t : Tables) (entries : List Entry) (i j : ℕ) (job : Job)
   has : Has (view t [] []).tokens (hand_ids job.state job.action later)
   has f weight = omega (
     arith,
-    hand_weighs job out t.localities later places fit within none f,
+    hand_weighs job later places fit within none f,
     view_sum f t [] [],
     tokens_sum f t,
     state_kept f,
@@ -364,10 +367,7 @@ module _ (r : Rules) (t : Tables) (entries : List Entry) (i j : ℕ) (job : Job)
       ∙ (ap (map bare_act) (append_assoc (take i t.running) (job.action ∷ drop (suc i) t.running) acts)
       ∙ bare_middle (take i t.running) job.action (drop (suc i) t.running ++ acts))
 
-  abbrev moved_view : View
-  moved_view = record halved { fired = (front ++ back) ++ bare_act job.action ∷ [] }
-
-  fired_then : (front ++ back) ++ bare_act job.action ∷ [] ≡ map bare_act (fired_acts waiting)
+  fired_then : (front ++ back) ++ bare_act job.action ∷ [] ≡ map bare_act (fired_acts paused)
   fired_then =
       ap (λ xs. xs ++ bare_act job.action ∷ [])
       (sym (ap (map bare_act) (append_assoc (take i t.running) (drop (suc i) t.running) acts)
@@ -375,209 +375,120 @@ module _ (r : Rules) (t : Tables) (entries : List Entry) (i j : ℕ) (job : Job)
       ∙ (sym (map-append bare_act (remove t.running i ++ acts) (job.action ∷ []))
       ∙ ap (map bare_act) (append_assoc (remove t.running i) acts (job.action ∷ []) ∙ ap (λ xs. remove t.running i ++ xs) (sym acts_more)))
 
-  tells : Tells moved_view (view waiting [] [])
-  tells = record {
-    here = refl;
-    serial = refl;
-    number = refl;
-    waiting = refl;
-    fired = fired_then;
-    objects = sym (map_same bare_standing t.objects j at.standing lent at.stands
-        (ap (λ ss. record { object = bare at.standing.object; state = ss }) (bare_again job.state ∙ ap bare_state (sym at.state))));
-    fresh = refl;
-    due = refl;
-    tokens = λ f weight. omega (
-      arith,
-      s.sums f weight,
-      hand_weighs job out t.localities later places fit within none f,
-      stock_weighs job out t.localities later places fit within f,
-      view_sum f t [] [],
-      view_sum f waiting [] [],
-      tokens_sum f t,
-      tokens_sum f waiting,
-      state_kept f,
-      weigh_remove f (λ (a : Act). a.ids) t.running i job.action at.runs,
-      weigh_last f (λ (v : Waits). v.hand) t.pending w,
-    );
-    asking = λ x. ap (count_by (same_object x)) (sym (asked_same w (asks_none job out t.localities later places fit within)));
-    asks = λ x. refl;
-    live = λ x home. refl;
-    dead = λ x d. d;
-    refusals = same_refusals (refusals_of t.pending) (refusals_of (t.pending ++ w ∷ [])) (sym refused_same);
-    failing = omega (arith, ap (λ xs. length xs) refused_same);
-    last = refl;
-  }
-    where
-      bare_again : (x : State) → bare_state (bare_state x) ≡ bare_state x
-      bare_again x = ap (λ ids. record { drawn = x.drawn; values = x.values; conts = x.conts; ids = ids }) (bare_twice x.ids)
-
-      asked_same : (v : Waits) → filter is_asked (own_ids v) ≡ [] → asking_of (t.pending ++ v ∷ []) ≡ asking_of t.pending
-      asked_same v e =
-          flat_append (λ (y : Waits). filter is_asked (own_ids y)) t.pending (v ∷ [])
-          ∙ (ap (λ xs. asking_of t.pending ++ (xs ++ [])) e ∙ append-nil (asking_of t.pending))
-
-      refused_same : refusals_of (t.pending ++ w ∷ []) ≡ refusals_of t.pending
-      refused_same = flat_append (λ (y : Waits). refusal_of y.job.action y.refused) t.pending (w ∷ []) ∙ append-nil (refusals_of t.pending)
-
-  leads : Leads r (view t [] []) (first_cuts (own_many job) 0 (hand_ids job.state job.action later) places) (view waiting [] [])
-  leads = subst (λ es. Leads r (view t [] []) es (view waiting [] [])) (append-nil (first_cuts (own_many job) 0 (hand_ids job.state job.action later) places))
-      (chain r (view t [] []) halved (view waiting [] []) (first_cuts (own_many job) 0 (hand_ids job.state job.action later) places) [] s.leads
-      (chain r halved moved_view (view waiting [] []) [] []
-      (subst (λ xs. Leads r halved [] (record halved { fired = xs })) refl
-      (fired_moved r halved front back (front ++ back) [] (bare_act job.action) fires (sym (append-nil (front ++ back)))))
-      (tells_leads r moved_view (view waiting [] []) tells)))
-
-  pub stands_waiting : StandsWith r waiting [] []
-      (entries ++ at_all t.here (first_cuts (own_many job) 0 (hand_ids job.state job.action later) places))
-  stands_waiting =
-      let events = first_cuts (own_many job) 0 (hand_ids job.state job.action later) places in
-      let stay = first_stay (own_many job) 0 (hand_ids job.state job.action later) places in
-      stands_then r t waiting [] [] [] [] entries events h waiting_tidy
-      (record {
-        here = refl;
-        born = omega arith;
-        few = omega arith;
-        asked = omega arith;
-        sent = omega (arith, stays_out t.here (first_cuts (own_many job) 0 (hand_ids job.state job.action later) places) stay);
-        taken = omega (arith, stays_in t.here (first_cuts (own_many job) 0 (hand_ids job.state job.action later) places) stay);
-        pays = pays_idle r t waiting (first_cuts (own_many job) 0 (hand_ids job.state job.action later) places)
-            (first_idle r (own_many job) 0 (hand_ids job.state job.action later) places) (λ row. refl) refl;
-      })
-      leads
-
--- ---- as the calls do it
-
-pub pauses_by : (t t' : Tables) (i j : ℕ) (job : Job) (w : Waits) (at : IsAt t i j job) (x : Standing) → slice_get t.objects j ≡ Some x
-    → t' ≡ record t {
-      running = remove t.running i;
-      objects = set t.objects j (record { object = x.object; state = bare_state job.state });
-      pending = t.pending ++ w ∷ [];
-      spare = t'.spare;
-    } → Pauses i j job w t t'
-pauses_by t t' i j job w at x stands e = record {
-  at = at;
-  rest = e ∙ ap (λ (y : Standing). record t {
-    running = remove t.running i;
-    objects = set t.objects j (record { object = y.object; state = bare_state job.state });
-    pending = t.pending ++ w ∷ [];
-    spare = t'.spare;
-  }) (some_same x at.standing (sym stands ∙ at.stands));
-}
-
-module _ (t : Tables) (job : Job) (out : Outcome) (b : Before) (is : IsBefore t job out b) where
-  pub before_own : b.own ≤ length b.hand.items
-  before_own = omega (
+  -- what is asked for is among what was split
+  has_lacks : Has halved.tokens lacks
+  has_lacks f weight = omega (
     arith,
-    is.own,
-    ap (λ (xs : List Id). length xs) is.hand,
-    length-append job.state.ids (job.action.ids ++ map bare (made_of t out)),
-    length-append job.action.ids (map bare (made_of t out)),
-    length-append job.state.ids job.action.ids,
+    has f weight,
+    s.sums f weight,
+    stock_weighs job later places fit within f,
+    left_weighs job out later places fit within is_later f,
   )
 
-  pub kept_before : (i j : ℕ) → IsAt t i j job → IsFitJob job → IsTidy t [] → (x : Standing) → slice_get t.objects j ≡ Some x
-      → IsKept (record { object = x.object; state = b.state })
-  kept_before i j at fit tidy x stands =
-      let kept = all_at IsKept t.objects j x tidy.objects stands in
-      let same : x.state ≡ job.state = ap (λ (y : Standing). y.state) (some_same x at.standing (sym stands ∙ at.stands)) ∙ at.state in
-      subst (λ s. IsKept (record { object = x.object; state = s })) (sym is.state) (lent_kept x job.state kept same fit.state)
+  a : Lacks r halved lacks
+  a = lacks_lead r halved refl refl lacks (lacks_least job out later places fit within is_later) has_lacks
 
-  module _ (fit : IsFitJob job) (few : t.localities ≤ 64) (laws : KeepsLaws t.localities job.kind job.at job.state job.action out) where
-    pub before_short : length (first_cuts b.own 0 b.hand.items b.places.items) ≤ 192
-    before_short =
-        subst (λ (ps : List ℕ). length (first_cuts b.own 0 b.hand.items ps) ≤ 192) (sym is.places)
-        (subst (λ (ids : List Id). length (first_cuts b.own 0 ids (places_in_hand t job out)) ≤ 192) (sym is.hand)
-        (omega (
-          arith,
-          first_few b.own 0 (hand_ids job.state job.action (map bare (made_of t out))) (hand_ids job.state job.action (made_of t out))
-              (places_in_hand t job out) (hands_long job (made_of t out)),
-          cuts_limit t job out fit few laws,
-        )))
+  abbrev asked_view : View
+  asked_view = record halved { tokens = a.tokens; asking = a.asking; asks = a.asks; last = a.last }
 
-    within_hand : AreWithin (hand_ids job.state job.action (map bare (made_of t out))) (places_in_hand t job out)
-    within_hand = within_long (hand_ids job.state job.action (made_of t out)) (hand_ids job.state job.action (map bare (made_of t out)))
-        (places_in_hand t job out) (sym (hands_long job (made_of t out)))
-        (hand_within t.localities job out laws fit t.here t.births t.profile.credit_log)
+  abbrev moved_view : View
+  moved_view = record asked_view { fired = (front ++ back) ++ bare_act job.action ∷ [] }
 
-pub begins_by : (act_of : ℕ → ℕ → ℕ → State → Act → Outcome) (t t' : Tables) (job : Job) (out : Outcome) (localities : ℕ) (b : Before) (i j : ℕ) (w : Waits)
-    (e0 e1 : List Entry) → IsFitJob job → t.localities ≤ 64 → KeepsLaws t.localities job.kind job.at job.state job.action out → IsBefore t job out b
-    → localities ≡ t.localities → job.at < localities → w ≡ waits_with job out localities b.stock → Pauses i j job w t t'
-    → find (is_standing (target_of job.action)) (take j t.objects) ≡ None
-    → e1 ≡ e0 ++ at_all t.here (first_cuts b.own 0 b.hand.items b.places.items)
-    → StandsWith (rules_of act_of t.localities t.profile) t [] [] e0
-    → StandsWith (rules_of act_of t'.localities t'.profile) t' [] [] e1 × Begins t t' job out e0 e1
-begins_by act_of t t' job out localities b i j w e0 e1 fit few laws is n below w_is pauses first cut h =
-    let s = stock_before t job out in
-    let same : w ≡ waits_with job out t.localities (stock_before t job out) =
-    w_is ∙ (ap (λ k. waits_with job out k b.stock) n ∙ ap (waits_with job out t.localities) is.stock) in
-    let now : Pauses i j job (waits_with job out t.localities (stock_before t job out)) t t' = subst (λ v. Pauses i j job v t t') same pauses in
-    let written : e1 ≡ e0 ++ at_all t.here (splits_before t job out) =
-    cut
-    ∙ (ap (λ k. e0 ++ at_all t.here (first_cuts k 0 b.hand.items b.places.items)) is.own
-    ∙ (ap (λ xs. e0 ++ at_all t.here (first_cuts (own_many job) 0 xs b.places.items)) is.hand
-    ∙ ap (λ ps. e0 ++ at_all t.here (first_cuts (own_many job) 0 (hand_before t job out) ps)) is.places)) in
-    let low : job.at < t.localities = subst (λ k. job.at < k) n below in
-    let stands = stands_waiting (rules_of act_of t.localities t.profile) t e0 i j job out (map bare (made_of t out)) (places_in_hand t job out)
-    t'.spare now.at first fit (within_hand t job out b is fit few laws) (bare_none (made_of t out)) few low (later_is t job out laws fit) h in (
-      subst (λ x. StandsWith (rules_of act_of x.localities x.profile) x [] [] e1) (sym now.rest)
-          (subst (λ es. StandsWith (rules_of act_of t.localities t.profile)
-          (waiting (rules_of act_of t.localities t.profile) t e0 i j job out (map bare (made_of t out)) (places_in_hand t job out)
-          t'.spare now.at first fit (within_hand t job out b is fit few laws) (bare_none (made_of t out)) few low (later_is t job out laws fit) h) [] [] es)
-          (sym written) stands),
-      record {
-        i = i;
-        j = j;
-        pauses = now;
-        writes = record {
-          here = ap (λ (x : Tables). x.here) now.rest;
-          localities = ap (λ (x : Tables). x.localities) now.rest;
-          profile = ap (λ (x : Tables). x.profile) now.rest;
-          grows = written;
-        };
-      },
-    )
+  asking_then : (x : Id) → count_by (same_object x) (asking_of (t.pending ++ w ∷ [])) ≡ count_by (same_object x) (asking_of t.pending) + count_by (same_object x) lacks
+  asking_then x = omega (
+    arith,
+    ap (count_by (same_object x)) (flat_append (λ (y : Waits). filter is_asked (own_ids y)) t.pending (w ∷ [])),
+    sum_by-append (λ y. cond (same_object x y) 1 0) (asking_of t.pending) (filter is_asked (own_ids w) ++ []),
+    ap (count_by (same_object x)) (append-nil (filter is_asked (own_ids w))),
+    left_asks job out later places fit within is_later x,
+  )
 
--- memory is no part of it
-pub before_same : (t t' : Tables) (job : Job) (out : Outcome) (b : Before) → t' ≡ record t { spare = t'.spare } → IsBefore t job out b → IsBefore t' job out b
-before_same t t' job out b same is = subst (λ x. IsBefore x job out b) (sym same)
-    (record { hand = is.hand; places = is.places; own = is.own; stock = is.stock; state = is.state })
+  bare_again : (x : State) → bare_state (bare_state x) ≡ bare_state x
+  bare_again x = ap (λ ids. record { drawn = x.drawn; values = x.values; conts = x.conts; ids = ids }) (bare_twice x.ids)
 
-pub at_same : (t t' : Tables) (i j : ℕ) (job : Job) → t' ≡ record t { spare = t'.spare } → IsAt t i j job → IsAt t' i j job
-at_same t t' i j job same at = subst (λ x. IsAt x i j job) (sym same) (record {
-  standing = at.standing;
-  here = at.here;
-  runs = at.runs;
-  stands = at.stands;
-  found = at.found;
-  kind = at.kind;
-  state = at.state;
-})
+  refused_same : refusals_of (t.pending ++ w ∷ []) ≡ refusals_of t.pending
+  refused_same = flat_append (λ (y : Waits). refusal_of y.job.action y.refused) t.pending (w ∷ []) ∙ append-nil (refusals_of t.pending)
 
-begins_spare : (s u : Tables) (k : ℕ) (job : Job) (out : Outcome) (e0 e1 : List Entry) → Begins (record s { spare = k }) u job out e0 e1 → Begins s u job out e0 e1
-begins_spare s u k job out e0 e1 h = record {
-  i = h.i;
-  j = h.j;
-  pauses = record {
-    at = record {
-      standing = h.pauses.at.standing;
-      here = h.pauses.at.here;
-      runs = h.pauses.at.runs;
-      stands = h.pauses.at.stands;
-      found = h.pauses.at.found;
-      kind = h.pauses.at.kind;
-      state = h.pauses.at.state;
-    };
-    rest = h.pauses.rest;
-  };
-  writes = record { here = h.writes.here; localities = h.writes.localities; profile = h.writes.profile; grows = h.writes.grows };
-}
+  abbrev pub events : List Event
+  events = first_cuts (own_many job) 0 (hand_ids job.state job.action later) places
 
-pub begins_from : (s t u : Tables) (job : Job) (out : Outcome) (e e0 e1 : List Entry) → t ≡ record s { spare = t.spare } → e0 ≡ e
-    → Begins t u job out e0 e1 → Begins s u job out e e1
-begins_from s t u job out e e0 e1 same is h =
-    begins_spare s u t.spare job out e e1
-    (subst (λ x. Begins x u job out e e1) same (subst (λ es. Begins t u job out es e1) is h))
+  -- ---- once it has asked
 
-pub ok_map : {X E : Type 0} (r : Result X E) (P Q : X → Type 0) → IfOk r P → ((x : X) → P x → Q x) → IfOk r Q
-ok_map (Ok x) P Q h f = f x h
-ok_map (Err e) P Q h f = tt
+  module _ (t' : Tables) (asks : AsksFor lacks paused t') where
+    stays : {X : Type 0} (f : Tables → X) → ((x : Tables) (a s : ℕ) (d : List Parcel) (o : List Outgoing)
+        → f (record x { asked = a; desk = d; outgoing = o; spare = s }) ≡ f x) → f t' ≡ f paused
+    stays f same = ap f asks.rest ∙ same paused (paused.asked + length lacks) t'.spare t'.desk t'.outgoing
+
+    tells : Tells moved_view (view t' [] [])
+    tells = record {
+      here = sym (stays (λ x. x.here) (λ x a s d o. refl));
+      serial = sym (stays (λ x. x.serial) (λ x a s d o. refl));
+      number = sym (stays (λ x. x.births) (λ x a s d o. refl));
+      waiting = sym asks.waiting;
+      fired = fired_then ∙ sym (stays (λ x. map bare_act (fired_acts x)) (λ x a s d o. refl));
+      objects = sym (stays (λ x. map bare_standing x.objects) (λ x a s d o. refl)
+          ∙ map_same bare_standing t.objects j at.standing lent at.stands
+          (ap (λ ss. record { object = bare at.standing.object; state = ss }) (bare_again job.state ∙ ap bare_state (sym at.state))));
+      fresh = refl;
+      due = refl;
+      tokens = λ f weight. omega (
+        arith,
+        s.sums f weight,
+        a.sums f weight,
+        hand_weighs job later places fit within none f,
+        stock_weighs job later places fit within f,
+        left_weighs job out later places fit within is_later f,
+        view_sum f t [] [],
+        view_sum f t' [] [],
+        tokens_sum f t,
+        tokens_sum f paused,
+        asks.tokens f,
+        state_kept f,
+        weigh_remove f (λ (a : Act). a.ids) t.running i job.action at.runs,
+        weigh_last f (λ (v : Waits). v.hand) t.pending w,
+      );
+      asking = λ x. omega (
+        arith,
+        a.more x,
+        asking_then x,
+        stays (λ y. count_by (same_object x) (asking_of y.pending)) (λ y a s d o. refl),
+      );
+      asks = λ x. omega (arith, a.pending x, asks.asks x);
+      live = λ x home. sym (stays (λ y. count_in (find (is_recorded x) (map counted y.records))) (λ y a s d o. refl));
+      dead = λ x d. subst (λ ids. list_any (same_object x) ids ≡ true) asks.frees d;
+      refusals = same_refusals (refusals_of t.pending) (refusals_of t'.pending)
+          (sym (stays (λ x. refusals_of x.pending) (λ x a s d o. refl) ∙ refused_same));
+      failing = omega (arith, ap (λ xs. length xs) (stays (λ x. refusals_of x.pending) (λ x a s d o. refl)), ap (λ xs. length xs) refused_same);
+      last = refl;
+    }
+
+    leads : Leads r (view t [] []) (events ++ asked_events lacks) (view t' [] [])
+    leads = chain r (view t [] []) halved (view t' [] []) events (asked_events lacks) s.leads
+        (subst (λ es. Leads r halved es (view t' [] [])) (append-nil (asked_events lacks))
+        (chain r halved asked_view (view t' [] []) (asked_events lacks) [] a.leads
+        (chain r asked_view moved_view (view t' [] []) [] []
+        (fired_moved r asked_view front back (front ++ back) [] (bare_act job.action) fires (sym (append-nil (front ++ back))))
+        (tells_leads r moved_view (view t' [] []) tells))))
+
+    pub stands_waiting : StandsWith r t' [] [] (entries ++ at_all t.here (events ++ asked_events lacks))
+    stands_waiting =
+        let stay : AllByRecursion Stays (events ++ asked_events lacks) =
+        all_append Stays events (asked_events lacks) (first_stay (own_many job) 0 (hand_ids job.state job.action later) places) (asked_stay lacks) in
+        stands_then r t t' [] [] [] [] entries (events ++ asked_events lacks) h (asks.tidy [] paused_tidy)
+        (record {
+          here = stays (λ x. x.here) (λ x a s d o. refl);
+          born = omega (arith, stays (λ x. x.births) (λ x a s d o. refl));
+          few = omega (arith, stays (λ x. x.serial) (λ x a s d o. refl));
+          asked = omega (
+            arith,
+            ap (λ (x : Tables). x.asked) asks.rest,
+            length-append events (asked_events lacks),
+            asked_long lacks,
+          );
+          sent = omega (arith, stays (λ x. x.sent) (λ x a s d o. refl), stays_out t.here (events ++ asked_events lacks) stay);
+          taken = omega (arith, stays (λ x. x.taken) (λ x a s d o. refl), stays_in t.here (events ++ asked_events lacks) stay);
+          pays = pays_on r t paused t' events (asked_events lacks)
+              (pays_idle r t paused events (first_idle r (own_many job) 0 (hand_ids job.state job.action later) places) (λ row. refl) refl)
+              (pays_asks r paused t' lacks asks);
+        })
+        leads

@@ -77,10 +77,10 @@ later_named s a made out =
     each (x ∷ xs) zero = refl
     each (x ∷ xs) (suc p) = each xs p
 
-pub later_is : (t : Tables) (job : Job) (out : Outcome) → KeepsLaws t.localities job.kind job.at job.state job.action out → IsFitJob job
+pub later_is : (n : ℕ) (t : Tables) (job : Job) (out : Outcome) → KeepsLaws n job.kind job.at job.state job.action out → IsFitJob job
     → IsLater job out (map bare (made_of t out)) (places_in_hand t job out)
-later_is t job out laws fit = record {
+later_is n t job out laws fit = record {
   kinds = kinds_of t.here t.births t.profile.credit_log out.makes;
-  bare = bare_of t.here t.births t.profile.credit_log out.makes (makes_managed t.localities job out laws fit);
+  bare = bare_of t.here t.births t.profile.credit_log out.makes (makes_managed n job out laws fit);
   named = later_named job.state job.action (made_of t out) out;
 }

@@ -1,29 +1,25 @@
 -- The hand of a commit that waits: what its job had, split ahead.
-use Rattle.std.proofs.Common.{ℕ, zero, suc, Bool, true, false, cond, List, [], ◌∷◌, ◌++◌, ◌≡◌, ◌+◌, ◌≤◌, ◌<◌, Option, Some, None, map, take, drop, length, length-append, append_assoc, refl, sym, ap, ◌∙◌, arith, subst}
+use Rattle.std.proofs.Common.{ℕ, zero, suc, Bool, true, false, List, [], ◌∷◌, ◌++◌, ◌≡◌, ◌+◌, ◌≤◌, ◌<◌, Option, Some, None, map, take, length, length-append, append_assoc, refl, sym, ap, ◌∙◌, arith, subst}
 use Rattle.std.specs.Prelude.{MatchOption, ◌&&◌, not, is_some, nat_le}
-use Rattle.std.specs.List.{find, filter, AllByRecursion}
+use Rattle.std.specs.List.{filter, AllByRecursion}
 use Rattle.std.proofs.lemmas.Bool.Decides.{nat_tests}
 use Rattle.hpx_value.specs.Ids.{bare}
-use Rattle.hpx_value.specs.Values.{bare_state}
 use Rattle.hpx_value.specs.Hands.{id_at, hand_ids}
 use Rattle.hpx_value.specs.declared.acts.Job.{Job}
-use Rattle.hpx_parcel.specs.Parcels.{HasRightCredit}
-use Rattle.hpx_journal.specs.Data.{Id, Outcome}
-use Rattle.hpx_journal.specs.Entries.{target_of}
-use Rattle.hpx_journal.specs.Local.{is_standing}
-use Rattle.hpx_part.specs.Data.{Standing, Token}
-use Rattle.hpx_commit.specs.Deals.{is_managed, AreWithin}
-use Rattle.hpx_commit.specs.Stocks.{Stock, ahead, parts_from}
+use Rattle.hpx_parcel.specs.Parcels.{HasRightCredit, HasLeastCredit}
+use Rattle.hpx_journal.specs.Data.{Id}
+use Rattle.hpx_part.specs.Data.{Token}
+use Rattle.hpx_commit.specs.Deals.{is_managed, log_of, named, AreWithin}
+use Rattle.hpx_commit.specs.Stocks.{Stock, ahead, parts_from, Lasting}
+use Rattle.hpx_commit.proofs.Ahead.{ahead_is}
 use Rattle.hpx_commit.proofs.AheadSums.{ahead_sums}
-use Rattle.hpx_commit.proofs.Short.{place_bare, place_some, ahead_front}
-use Rattle.hpx_node.specs.Asks.{own_many, waits_with}
+use Rattle.hpx_commit.proofs.Short.{place_bare, place_some, ahead_front, ahead_lasts, short_is}
+use Rattle.hpx_node.specs.Asks.{own_many}
 use Rattle.hpx_node.specs.Jobs.{IsFitJob}
-use Rattle.hpx_node.specs.Paused.{HasSplit, IsPaused}
-use Rattle.hpx_node.specs.Pending.{own_ids, is_asked}
+use Rattle.hpx_node.specs.Pending.{is_asked}
 use Rattle.hpx_node.proofs.Alls.{all_append}
 use Rattle.hpx_node.proofs.FilledDue.{weigh_one, each_weighs}
 use Rattle.hpx_node.proofs.GivenUp.{weigh_none}
-use Rattle.hpx_node.proofs.LaterIds.{IsLater}
 use Rattle.hpx_node.proofs.Sums.{weigh, weigh_append}
 
 -- ---- lists
@@ -54,7 +50,7 @@ front_at P [] ys p h lt = absurd (omega (arith, lt))
 front_at P (x ∷ xs) ys zero h lt = h.0
 front_at P (x ∷ xs) ys (suc p) h lt = front_at P xs ys p h.1 (omega (arith, lt))
 
-none_asked : (n : ℕ) (ids : List Id) → ((p : ℕ) → p < n → is_asked (id_at ids p) ≡ false) → filter is_asked (take n ids) ≡ []
+pub none_asked : (n : ℕ) (ids : List Id) → ((p : ℕ) → p < n → is_asked (id_at ids p) ≡ false) → filter is_asked (take n ids) ≡ []
 none_asked zero ids h = refl
 none_asked (suc n) [] h = refl
 none_asked (suc n) (x ∷ xs) h =
@@ -75,13 +71,24 @@ right_asks_none id h = at id.log h
     at None e = ap (λ b. b && true) (unmanaged id.kind e)
     at (Some l) e = no (is_managed id)
 
+pub is_high : (kind : ℕ) → nat_le 16 kind ≡ true → 16 ≤ kind
+is_high kind e = grind (arith, nat_tests)
+
+has_some : (log : Option ℕ) (kind : ℕ) → MatchOption log (kind < 16) (λ l. 16 ≤ kind) → 16 ≤ kind → is_some log ≡ true
+has_some None kind low high = absurd (omega (arith, low, high))
+has_some (Some l) kind right high = refl
+
+least_log : (log : Option ℕ) → is_some log ≡ true → log_of log ≡ 0 → log ≡ Some 0
+least_log None some none = absurd (cc)
+least_log (Some l) some none = ap Some none
+
 pub weigh_bare : (f : Token → ℕ) (ids : List Id) → AllByRecursion (λ (id : Id). id.log ≡ None) ids → weigh f ids ≡ 0
 weigh_bare f [] h = refl
 weigh_bare f (id ∷ ids) h = omega (arith, weigh_append f (id ∷ []) ids, weigh_none f id h.0, weigh_bare f ids h.1)
 
 -- ---- the hand
 
-module _ (job : Job) (out : Outcome) (localities : ℕ) (later : List Id) (places : List ℕ) (fit : IsFitJob job)
+module _ (job : Job) (later : List Id) (places : List ℕ) (fit : IsFitJob job)
     (within : AreWithin (hand_ids job.state job.action later) places) where
   abbrev own : List Id
   own = job.state.ids ++ job.action.ids
@@ -95,7 +102,7 @@ module _ (job : Job) (out : Outcome) (localities : ℕ) (later : List Id) (place
   hand_is : hand_ids job.state job.action later ≡ own ++ later
   hand_is = sym (append_assoc job.state.ids job.action.ids later)
 
-  fits : own_many job ≤ length (hand_ids job.state job.action later)
+  pub fits : own_many job ≤ length (hand_ids job.state job.action later)
   fits = omega (arith, length-append own later, ap (λ (xs : List Id). length xs) hand_is)
 
   own_right : AllByRecursion HasRightCredit own
@@ -112,14 +119,11 @@ module _ (job : Job) (out : Outcome) (localities : ℕ) (later : List Id) (place
       ∙ (ap (λ b. nat_le 16 (id_at start.hand p).kind && not b) (place_some (own_many job) start fits within p inside)
       ∙ right_asks_none (id_at start.hand p) right)
 
-  hand_names : map bare (take (own_many job) stock.hand) ≡ map bare own
+  pub hand_names : map bare (take (own_many job) stock.hand) ≡ map bare own
   hand_names =
       sym (take_less (own_many job) (length start.hand) stock.hand fits)
       ∙ (take_bare (own_many job) (take (length start.hand) stock.hand) start.hand (ahead_front (own_many job) start fits within)
       ∙ (ap (λ (xs : List Id). map bare (take (own_many job) xs)) hand_is ∙ ap (map bare) (take_front own later)))
-
-  pub asks_none : filter is_asked (own_ids (waits_with job out localities stock)) ≡ []
-  asks_none = none_asked (own_many job) stock.hand not_asked
 
   pub stock_weighs : (f : Token → ℕ) → weigh f stock.hand ≡ weigh f (parts_from (own_many job) 0 (hand_ids job.state job.action later) places)
   stock_weighs f =
@@ -135,33 +139,19 @@ module _ (job : Job) (out : Outcome) (localities : ℕ) (later : List Id) (place
     weigh_bare f later none,
   )
 
-  -- so it waits
-  module _ (k n log : ℕ) (objects : List Standing) (x : Standing) (at : job.at ≡ k) (same : localities ≡ n) (few : n ≤ 64) (below : job.at < n)
-      (found : find (is_standing (target_of job.action)) objects ≡ Some x) (kind : x.object.kind ≡ job.kind) (state : x.state ≡ bare_state job.state)
-      (is : IsLater job out later places) where
-    fresh_split : HasSplit log (waits_with job out localities stock)
-    fresh_split = record {
-      made = later;
-      kinds = is.kinds;
-      bare = is.bare;
-      within = subst (AreWithin (hand_ids job.state job.action later)) is.named within;
-      places = ap (λ ps. (ahead (own_many job) (record { hand = hand_ids job.state job.action later; places = ps })).places) is.named;
-      rest = ap (λ ps. drop (own_many job) (ahead (own_many job) (record { hand = hand_ids job.state job.action later; places = ps })).hand) is.named;
-      own = λ p lt lasting. ap (λ ps. id_at (ahead (own_many job) (record { hand = hand_ids job.state job.action later; places = ps })).hand p) is.named;
-    }
-
-    pub fresh_paused : IsPaused k n log objects (waits_with job out localities stock)
-    fresh_paused = record {
-      job = fit;
-      here = at;
-      localities = same;
-      few = (few, below);
-      standing = x;
-      found = found;
-      kind = kind;
-      state = state;
-      hand = hand_names;
-      within = tt;
-      once = λ p lt. sym (ap {B = ℕ} (λ b. cond b 1 0) (not_asked p lt));
-      split = fresh_split;
-    }
+  -- an id that does not last has the least credit then, where its object is managed
+  pub least_there : (p : ℕ) → p < own_many job → (Lasting stock p → ⊥) → (2 ≤ named places p → is_managed (id_at start.hand p) ≡ true)
+      → HasLeastCredit (id_at stock.hand p)
+  least_there p lt short managed =
+      let inside : p < length (hand_ids job.state job.action later) = omega (arith, lt, fits) in
+      let was : Lasting start p → ⊥ = λ lasts. short (ahead_lasts (own_many job) start fits within p (λ here. lasts)) in
+      let empty = short_is (own_many job) start fits within p lt was in
+      let few : 2 ≤ named places p = omega (arith, empty.1, (ahead_is (own_many job) start fits within).first p lt) in
+      let right : HasRightCredit (id_at start.hand p) =
+      subst (λ (xs : List Id). HasRightCredit (id_at xs p)) (sym hand_is) (front_at HasRightCredit own later p own_right lt) in
+      let kind : 16 ≤ (id_at start.hand p).kind = is_high (id_at start.hand p).kind (managed few) in
+      let same : (id_at stock.hand p).kind ≡ (id_at start.hand p).kind =
+      ap (λ (x : Id). x.kind) (place_bare (own_many job) start fits within p inside) in
+      let some : is_some (id_at stock.hand p).log ≡ true =
+      place_some (own_many job) start fits within p inside ∙ has_some (id_at start.hand p).log (id_at start.hand p).kind right kind in
+      (least_log (id_at stock.hand p).log some empty.0, omega (arith, kind, same))

@@ -1,5 +1,5 @@
 -- Commits that wait for credit, against what else a node keeps.
-use Rattle.std.specs.Prelude.{ℕ, false, List, [], ◌∷◌, ◌≡◌, ◌≤◌, ◌<◌, ◌&&◌, ◌==◌, cond, not, is_some, map, length, drop, Some}
+use Rattle.std.specs.Prelude.{ℕ, false, List, [], ◌∷◌, ◌≡◌, ◌≢◌, ◌⊎◌, ◌≤◌, ◌<◌, ◌&&◌, ◌==◌, cond, not, is_some, map, length, drop, Option, Some, None}
 use Rattle.std.specs.List.{find, sum_by, count_by, AllByRecursion}
 use Rattle.hpx_value.specs.Ids.{bare, same_object}
 use Rattle.hpx_value.specs.Values.{bare_state}
@@ -34,7 +34,11 @@ whole_stock w made = record {
 abbrev pub first_stock : Waits → List Id → Stock
 first_stock w made = ahead (length (ids_named w)) (whole_stock w made)
 
--- what is in the hand of a commit that waits: what its job had, split ahead
+-- an id that does not last was asked for: it has no credit, it came with the credit of a new object, or it was refused
+abbrev pub IsShort : ℕ → Option Id → Id → Type 0
+IsShort log refused id = (id.log ≡ None) ⊎ ((id.log ≡ Some log) ⊎ ((id.log ≡ Some 0) × (refused ≢ None)))
+
+-- what is in the hand of a commit that waits: what its job had, split ahead; each id that does not last was asked for
 pub record HasSplit (log : ℕ) (w : Waits) : Type 0 where
   pub made : List Id
   pub kinds : map (λ id. id.kind) made ≡ map (λ make. make.kind) w.outcome.makes
@@ -43,6 +47,7 @@ pub record HasSplit (log : ℕ) (w : Waits) : Type 0 where
   pub places : w.places ≡ (first_stock w made).places
   pub rest : drop (length (ids_named w)) w.hand ≡ drop (length (ids_named w)) (first_stock w made).hand
   pub own : (p : ℕ) → p < length (ids_named w) → Lasting (first_stock w made) p → id_at w.hand p ≡ id_at (first_stock w made).hand p
+  pub short : (p : ℕ) → p < length (ids_named w) → (Lasting (first_stock w made) p → ⊥) → IsShort log w.refused (id_at w.hand p)
 
 -- a commit that waits at k, of n localities, where new objects have credit of this log: its object stands here as the job found it, but without credits, and the hand
 -- names what its object and its action name; of these each managed id without credit is asked for once
