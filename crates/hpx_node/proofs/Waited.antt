@@ -14,12 +14,12 @@ use Rattle.hpx_journal.specs.Entries.{target_of}
 use Rattle.hpx_journal.specs.Local.{is_standing}
 use Rattle.hpx_part.specs.Data.{Entry, Standing}
 use Rattle.hpx_part.specs.Parts.{at_all}
-use Rattle.hpx_commit.specs.Deals.{AreWithin}
+use Rattle.hpx_commit.specs.Deals.{AreWithin, AllLast}
 use Rattle.hpx_commit.specs.Stocks.{Stock, ahead, short_places}
 use Rattle.hpx_commit.proofs.Stripped.{short_few}
 use Rattle.hpx_node.specs.declared.node.wait.Before.{Before}
 use Rattle.hpx_node.specs.Asks.{first_cuts, own_many, hand_before, splits_before, split_stock, short_before, lacking, asked_events, with_asks, AsksFor, stock_before, Pauses, IsBefore, Begins}
-use Rattle.hpx_node.specs.Commits.{made_of, places_in_hand}
+use Rattle.hpx_node.specs.Commits.{made_of, hand_of, places_in_hand}
 use Rattle.hpx_node.specs.Fit.{IsKept}
 use Rattle.hpx_node.specs.Jobs.{IsAt, IsFitJob}
 use Rattle.hpx_node.specs.Pending.{Waits, asked_at, waits_with}
@@ -133,9 +133,9 @@ pub begins_by : (act_of : ℕ → ℕ → ℕ → State → Act → Outcome) (t 
     → localities ≡ t.localities → job.at < localities → w ≡ waits_with job out localities b.asked.items b.stock → Pauses i j job w t m
     → AsksFor b.lacking.items m t' → find (is_standing (target_of job.action)) (take j t.objects) ≡ None
     → e1 ≡ (e0 ++ at_all t.here (first_cuts b.own 0 b.hand.items b.places.items)) ++ at_all t.here (asked_events b.lacking.items)
-    → StandsWith (rules_of act_of t.localities t.profile) t [] [] e0
+    → 1 ≤ length (lacking t job out) → StandsWith (rules_of act_of t.localities t.profile) t [] [] e0
     → StandsWith (rules_of act_of t'.localities t'.profile) t' [] [] e1 × Begins t t' job out e0 e1
-begins_by act_of t m t' job out localities b i j w e0 e1 fit few laws is n below w_is pauses asked first cut h =
+begins_by act_of t m t' job out localities b i j w e0 e1 fit few laws is n below w_is pauses asked first cut some h =
     let later = map bare (made_of t out) in
     let places = places_in_hand t job out in
     let ids = lacking t job out in
@@ -176,6 +176,7 @@ begins_by act_of t m t' job out localities b i j w e0 e1 fit few laws is n below
         pauses = now;
         asks = asks.goes
             ∙ ap (λ x. record (with_asks t.here t.asked (lacking t job out) x) { asked = t.asked + length (lacking t job out); spare = t'.spare }) (sym now.rest);
+        some = some;
         writes = record {
           here = ap (λ (x : Tables). x.here) asks.rest;
           localities = sym localities;
@@ -189,6 +190,10 @@ begins_by act_of t m t' job out localities b i j w e0 e1 fit few laws is n below
 pub before_same : (t t' : Tables) (job : Job) (out : Outcome) (b : Before) → t' ≡ record t { spare = t'.spare } → IsBefore t job out b → IsBefore t' job out b
 before_same t t' job out b same is = subst (λ x. IsBefore x job out b) (sym same)
     (record { hand = is.hand; places = is.places; own = is.own; stock = is.stock; lacking = is.lacking; asked = is.asked; state = is.state })
+
+pub short_same : (t t' : Tables) (job : Job) (out : Outcome) → t' ≡ record t { spare = t'.spare } → (AllLast (hand_of t job out) (places_in_hand t job out) → ⊥)
+    → AllLast (hand_of t' job out) (places_in_hand t' job out) → ⊥
+short_same t t' job out same short = subst (λ x. AllLast (hand_of x job out) (places_in_hand x job out) → ⊥) (sym same) short
 
 pub at_same : (t t' : Tables) (i j : ℕ) (job : Job) → t' ≡ record t { spare = t'.spare } → IsAt t i j job → IsAt t' i j job
 at_same t t' i j job same at = subst (λ x. IsAt x i j job) (sym same) (record {
@@ -219,6 +224,7 @@ begins_spare s u k job out e0 e1 h = record {
     rest = h.pauses.rest;
   };
   asks = h.asks;
+  some = h.some;
   writes = record { here = h.writes.here; localities = h.writes.localities; profile = h.writes.profile; grows = h.writes.grows };
 }
 

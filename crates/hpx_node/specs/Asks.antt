@@ -109,11 +109,12 @@ pub record IsBefore (t : Tables) (job : Job) (out : Outcome) (b : Before) : Type
   pub asked : b.asked.items ≡ asked_at t.asked (short_before t job out)
   pub state : b.state ≡ bare_state job.state
 
--- a commit begins to wait: what it has is split, and each id that does not last is asked for
+-- a commit begins to wait: what it has is split, and each id that does not last is asked for; there is one
 pub record Begins (t t' : Tables) (job : Job) (out : Outcome) (entries entries' : List Entry) : Type 0 where
   pub i : ℕ
   pub j : ℕ
   pub paused : Tables
   pub pauses : Pauses i j job (waits_with job out t.localities (asked_at t.asked (short_before t job out)) (stock_before t job out)) t paused
   pub asks : t' ≡ record (with_asks t.here t.asked (lacking t job out) paused) { asked = t.asked + length (lacking t job out); spare = t'.spare }
+  pub some : 1 ≤ length (lacking t job out)
   pub writes : Writes (splits_before t job out ++ asked_events (lacking t job out)) t t' entries entries'

@@ -12,6 +12,8 @@ ghost use Rattle.hpx_part.specs.Parts.{at_all};
 ghost use Rattle.hpx_node.specs.Asks.{asked_events, AsksFor, IsBefore, Pauses, Begins};
 ghost use Rattle.hpx_node.specs.Pending.{asked_at};
 ghost use Rattle.hpx_node.specs.Fit.{IsKept};
+ghost use Rattle.hpx_commit.specs.Deals.{AllLast};
+ghost use Rattle.hpx_node.specs.Commits.{hand_of, places_in_hand};
 ghost use Rattle.hpx_node.specs.Births.{birth_of, ids_of};
 ghost use Rattle.hpx_node.specs.Jobs.{IsAt, IsFitJob};
 ghost use Rattle.hpx_node.specs.Stands.{Stands};
@@ -190,6 +192,7 @@ impl<A: Acts + Copy> Node<A> {
         requires fit { IsFitJob done.job }
         requires here { done.job.at < done.localities }
         requires laws { KeepsLaws done.localities done.job.kind done.job.at done.job.state done.job.action done.outcome }
+        requires short { AllLast (hand_of self.old done.job done.outcome) (places_in_hand self.old done.job done.outcome) → ⊥ }
         requires before { IsBefore self.old done.job done.outcome before }
         requires asked { self.old.asked + 1024 < 2 ^ 64 }
         requires spare { 1024 ≤ self.old.spare }
@@ -228,6 +231,7 @@ impl<A: Acts + Copy> Node<A> {
         requires few { self.old.localities ≤ 64 }
         requires fit { IsFitJob done.job }
         requires here { done.job.at < done.localities }
+        requires short { AllLast (hand_of self.old done.job done.outcome) (places_in_hand self.old done.job done.outcome) → ⊥ }
         requires room { HasRoom book.old.entries }
         requires stands { Stands A.act_of self.old book.old.entries }
         ensures stands { Stands A.act_of self.new book.new.entries }

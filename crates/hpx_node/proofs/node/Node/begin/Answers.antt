@@ -4,6 +4,7 @@ use Rattle.hpx_part.proofs.Keyed.{slice_get_less}
 use Rattle.hpx_part.specs.Parts.{at_all}
 use Rattle.hpx_node.specs.Asks.{first_cuts, asked_events}
 use Rattle.hpx_node.specs.Tables.{Tables}
+use Rattle.hpx_node.proofs.SomeShort.{something}
 use Rattle.hpx_node.proofs.Waited.{before_short, before_own, before_least, lacks_few, kept_before, begins_by}
 use Rattle.hpx_node.proofs.node.Node.begin.Goals as goal
 
@@ -73,9 +74,11 @@ returns-clause-stands g c =
     let here = ap (λ (x : Tables). x.here) c.self.view_is in
     let cut = rw (c.as_slice.ensures.value, c.as_slice-2.ensures.value, here) at c.push_first_splits.ensures.entries in
     let asked = rw (c.as_slice-3.ensures.value, here) at c.push_asks.ensures.entries in
+    let valid = rw (ap (λ (x : Tables). x.profile) c.self.view_is) at c.self.invariant.3 in
+    let some = something d.localities t d.job d.outcome c.requires.laws c.requires.fit valid.log_least c.requires.short in
     (begins_by g.A.Acts.act_of t c.pause.new.self c.ask_all.new.self d.job d.outcome d.localities c.args.before c.args.i c.args.j _ c.args.book.now.entries
     c.push_asks.new.book.entries c.requires.fit c.requires.few laws c.requires.before c.requires.localities c.requires.here refl pauses asks
-    c.requires.first (asked ∙ ap (λ es. es ++ at_all t.here (asked_events c.args.before.lacking.items)) cut) c.requires.stands).0
+    c.requires.first (asked ∙ ap (λ es. es ++ at_all t.here (asked_events c.args.before.lacking.items)) cut) some c.requires.stands).0
 
 pub returns-clause-begins : goal.returns-clause-begins
 returns-clause-begins g c =
@@ -87,6 +90,8 @@ returns-clause-begins g c =
     let here = ap (λ (x : Tables). x.here) c.self.view_is in
     let cut = rw (c.as_slice.ensures.value, c.as_slice-2.ensures.value, here) at c.push_first_splits.ensures.entries in
     let asked = rw (c.as_slice-3.ensures.value, here) at c.push_asks.ensures.entries in
+    let valid = rw (ap (λ (x : Tables). x.profile) c.self.view_is) at c.self.invariant.3 in
+    let some = something d.localities t d.job d.outcome c.requires.laws c.requires.fit valid.log_least c.requires.short in
     (begins_by g.A.Acts.act_of t c.pause.new.self c.ask_all.new.self d.job d.outcome d.localities c.args.before c.args.i c.args.j _ c.args.book.now.entries
     c.push_asks.new.book.entries c.requires.fit c.requires.few laws c.requires.before c.requires.localities c.requires.here refl pauses asks
-    c.requires.first (asked ∙ ap (λ es. es ++ at_all t.here (asked_events c.args.before.lacking.items)) cut) c.requires.stands).1
+    c.requires.first (asked ∙ ap (λ es. es ++ at_all t.here (asked_events c.args.before.lacking.items)) cut) some c.requires.stands).1

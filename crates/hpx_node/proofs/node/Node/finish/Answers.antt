@@ -26,6 +26,9 @@ commit-requires-clause-stands g c =
 pub returns-clause-ends : goal.returns-clause-ends
 returns-clause-ends g c = λ done. ends_from c.args.self.now _ _ _ c.reserve.ensures.same c.commit.ensures.ends
 
+pub wait-requires-clause-short : goal.wait-requires-clause-short
+wait-requires-clause-short g c = rw c.in-Ok-None.field-0-is at c.in-Ok-None.ensures.none
+
 pub returns-in-Ok-None-clause-asks : goal.returns-in-Ok-None-clause-asks
 returns-in-Ok-None-clause-asks g c = ok_map c.wait.result _ _ c.wait.ensures.asks (λ f h. λ asks. (rw c.in-Ok-None.field-0-is at c.in-Ok-None.ensures.none, h.1))
 
