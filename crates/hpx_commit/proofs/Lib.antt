@@ -9,3 +9,4 @@ pub mod StockLoops
 pub mod Failed
 pub mod Later
 pub mod AheadMore
+pub mod Stripped

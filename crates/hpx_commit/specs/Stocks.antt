@@ -78,6 +78,11 @@ abbrev pub replaced_from : ℕ → List Id → Stock → Stock
 replaced_from p [] s = s
 replaced_from p (id ∷ ids) s = replaced_from (p + 1) ids (replaced p id s)
 
+-- the ids at these places have no credit
+abbrev pub stripped : List ℕ → Stock → Stock
+stripped [] s = s
+stripped (p ∷ ps) s = stripped ps (replaced p (bare (id_at s.hand p)) s)
+
 -- whether the id at a place lasts for those who name it
 abbrev pub Lasting : Stock → ℕ → Type 0
 Lasting s p = Lasts (id_at s.hand p) (named s.places p)

@@ -15,7 +15,7 @@ ghost use Rattle.hpx_value.specs.declared.value.State.{State};
 ghost use Rattle.hpx_value.specs.declared.value.Act.{Act};
 ghost use Rattle.hpx_commit.specs.Deals.{is_managed, log_of, half, named, places_named, dealt, shared_from, Lasts, AllLast, AreWithin, filled, unused, filled_due, ids_due, ids_named};
 ghost use Rattle.hpx_commit.specs.Failures.{action_ids, ids_had, state_failed, due_failed, ups_failed};
-ghost use Rattle.hpx_commit.specs.Stocks.{Stock, take_half, ahead, halved, parts_from, short_places, others, replaced, replaced_from, Lasting, SameNames, SameDeal, IsAhead};
+ghost use Rattle.hpx_commit.specs.Stocks.{Stock, take_half, ahead, halved, parts_from, short_places, others, replaced, replaced_from, stripped, Lasting, SameNames, SameDeal, IsAhead};
 
 /// Each who names a place gets an id of its object. What is dealt are the shares of all places.
 pub fn deal_law()
@@ -96,6 +96,17 @@ pub fn replaced_law()
     ensures refilled { (log n : ℕ) (s : Stock) (hand : List Id) → ((p : ℕ) → n ≤ p → Lasting s p) → ((p : ℕ) → named s.places p ≤ log + 1) →
         ((p : ℕ) → Lasting s p → id_at hand p ≡ id_at s.hand p) →
         ((p : ℕ) → p < n → (Lasting s p → ⊥) → (id_at hand p).log ≡ Some log) → AllLast hand s.places }
+{}
+
+/// The short places of a stock, in rising order, and what is left of it where their ids lose their credit.
+pub fn short_law()
+    ensures none { (n : ℕ) (s : Stock) (p : ℕ) → Lasting s p → named (short_places n s) p ≡ 0 }
+    ensures once { (n : ℕ) (s : Stock) (p : ℕ) → p < n → (Lasting s p → ⊥) → named (short_places n s) p ≡ 1 }
+    ensures few { (n : ℕ) (s : Stock) → length (short_places n s) ≤ n }
+    ensures there { (ps : List ℕ) (s : Stock) (p : ℕ) → p < length s.hand → 1 ≤ named ps p → id_at (stripped ps s).hand p ≡ bare (id_at s.hand p) }
+    ensures elsewhere { (ps : List ℕ) (s : Stock) (p : ℕ) → named ps p ≡ 0 → id_at (stripped ps s).hand p ≡ id_at s.hand p }
+    ensures sums { (f : Id → ℕ) → ((id : Id) → f (bare id) ≡ 0) → (ps : List ℕ) (s : Stock) → AreWithin s.hand ps → ((p : ℕ) → named ps p ≤ 1) →
+        sum_by f (stripped ps s).hand + sum_by f (map (id_at s.hand) ps) ≡ sum_by f s.hand }
 {}
 
 /// An action that fails: the state, the action and what is due name the objects that they named, and the new state, what is

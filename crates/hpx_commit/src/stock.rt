@@ -1,9 +1,9 @@
 //! The stock of a hand: its ids, and who names them. Where an id does not last for all who name it, halves are taken ahead for
 //! those who name it first, and more credit is asked for.
-ghost use Rattle.std.specs.Prelude.{◌≡◌, ◌<◌, ◌≤◌, ◌+◌, ◌^◌, ℕ, IfOk, OnOk, length};
+ghost use Rattle.std.specs.Prelude.{◌≡◌, ◌<◌, ◌≤◌, ◌+◌, ◌^◌, ℕ, IfOk, OnOk, length, map};
 ghost use Rattle.hpx_value.specs.Hands.{id_at};
-ghost use Rattle.hpx_commit.specs.Deals.{log_of};
-ghost use Rattle.hpx_commit.specs.Stocks.{first_moved, take_half, take_halves, halvings, split_place, ahead, short_places, replaced, replaced_from};
+ghost use Rattle.hpx_commit.specs.Deals.{log_of, AreWithin};
+ghost use Rattle.hpx_commit.specs.Stocks.{first_moved, take_half, take_halves, halvings, split_place, ahead, short_places, replaced, replaced_from, stripped};
 
 use crate::deal::{half, lasts, log_of, named};
 use crate::hand::id_at;
@@ -140,6 +140,28 @@ impl Stock {
             }
         }
         Ok(short)
+    }
+
+    /// The ids at these places.
+    pub fn ids_at(&self, alloc: Global, places: &[u32]) -> Result<Vec<Gid>, OutOfMemory>
+        ensures { IfOk result (λ ids. ids.items ≡ map (id_at self.now.hand) places.now) }
+    {
+        let mut ids = Vec::new(alloc);
+        for place in places {
+            ids.push(id_at(self.hand(), *place as usize))?;
+        }
+        Ok(ids)
+    }
+
+    /// Takes the credit of the ids at these places.
+    pub fn strip(&mut self, places: &[u32])
+        requires { AreWithin self.old.hand places.now }
+        ensures { self.new ≡ stripped places.now self.old }
+    {
+        for place in places {
+            let id = id_at(self.hand(), *place as usize);
+            self.replace(*place as usize, id.bare());
+        }
     }
 
     /// Puts another id at a place.

@@ -1,5 +1,5 @@
 -- An ask for more credit is answered.
-use Rattle.std.proofs.Common.{ℕ, Bool, true, false, cond, List, [], ◌∷◌, ◌++◌, ◌≡◌, ◌+◌, ◌-◌, ◌^◌, ◌≤◌, ◌<◌, Option, Some, map, length, refl, sym, ap, ◌∙◌, arith, inl, inr, subst}
+use Rattle.std.proofs.Common.{ℕ, Bool, true, false, cond, List, [], ◌∷◌, ◌≡◌, ◌+◌, ◌-◌, ◌^◌, ◌≤◌, ◌<◌, Option, Some, map, length, refl, sym, ap, ◌∙◌, arith, inl, inr, subst}
 use Rattle.std.specs.Prelude.{if◌then◌else◌, IfSome, nat_lt}
 use Rattle.std.specs.Option.{option_map_or}
 use Rattle.std.specs.List.{sum_by, count_by, find, list_any}
@@ -17,8 +17,7 @@ use Rattle.hpx_journal.specs.Entries.{Rules}
 use Rattle.hpx_journal.specs.Tokens.{owed_token, same_token}
 use Rattle.hpx_journal.specs.Local.{is_recorded, count_in}
 use Rattle.hpx_journal.proofs.Same.{same_object-true}
-use Rattle.hpx_part.specs.Data.{Entry, Event, Reason, Count, Granted, Refused, Token, Recorded}
-use Rattle.hpx_part.specs.Parts.{at_all}
+use Rattle.hpx_part.specs.Data.{Event, Count, Granted, Refused, Token, Recorded}
 use Rattle.hpx_part.specs.View.{View}
 use Rattle.hpx_part.specs.Shows.{Leads, SameTokens}
 use Rattle.hpx_part.proofs.CreditRows.{follows_granted, follows_refused}

@@ -1,9 +1,8 @@
--- A commit waits: what its ids are split into, and what is seen of it then.
-use Rattle.std.proofs.Common.{ℕ, zero, suc, Bool, true, false, cond, List, [], ◌∷◌, ◌++◌, ◌≡◌, ◌+◌, ◌≤◌, ◌<◌, ◌==◌, Option, Some, None, map, set, take, drop, length, length-append, append_assoc, append-nil, refl, sym, ap, ◌∙◌, arith, inl, inr, subst}
-use Rattle.std.specs.Prelude.{flat_map, MatchOption, ◌&&◌, not, is_some, nat_le, Result, Ok, Err, IfOk}
-use Rattle.std.specs.List.{sum_by, count_by, find, filter, slice_get, remove, AllByRecursion}
+-- A commit waits: what its ids are split into, what is asked for, and what is seen of it then.
+use Rattle.std.proofs.Common.{ℕ, zero, suc, Bool, true, false, cond, List, [], ◌∷◌, ◌++◌, ◌≡◌, ◌+◌, ◌≤◌, ◌<◌, ◌==◌, Some, None, map, set, take, drop, length, length-append, append_assoc, append-nil, refl, sym, ap, ◌∙◌, arith, inl, inr, subst}
+use Rattle.std.specs.Prelude.{flat_map, ◌&&◌, not, is_some}
+use Rattle.std.specs.List.{sum_by, count_by, find, filter, list_any, slice_get, remove, AllByRecursion}
 use Rattle.std.proofs.lemmas.Bool.{cases_Bool, eqb-true}
-use Rattle.std.proofs.lemmas.Bool.Decides.{nat_tests}
 use Rattle.std.proofs.lemmas.List.{map-append}
 use Rattle.std.proofs.lemmas.List.Sums.{sum_by-cons, sum_by-append}
 use Rattle.hpx_value.specs.Ids.{bare, same_object}
@@ -13,11 +12,11 @@ use Rattle.hpx_value.specs.Shapes.{IsState}
 use Rattle.hpx_value.specs.declared.acts.Job.{Job}
 use Rattle.hpx_parcel.specs.Parcels.{HasRightCredit}
 use Rattle.hpx_part.specs.Keyed.{Agree}
-use Rattle.hpx_journal.specs.Data.{Id, Act, State, Outcome}
+use Rattle.hpx_journal.specs.Data.{Id, Act, State, Outcome, Parcel}
 use Rattle.hpx_journal.specs.Entries.{Rules, target_of}
-use Rattle.hpx_journal.specs.Local.{is_act, is_standing, is_busy}
+use Rattle.hpx_journal.specs.Local.{is_act, is_standing, is_busy, is_recorded, count_in}
 use Rattle.hpx_journal.proofs.Same.{same_object-sym}
-use Rattle.hpx_part.specs.Data.{Entry, Standing, Token, Local}
+use Rattle.hpx_part.specs.Data.{Event, Entry, Standing, Token, Local}
 use Rattle.hpx_part.specs.View.{View, IsCovered}
 use Rattle.hpx_part.specs.Shows.{Shows, Leads}
 use Rattle.hpx_part.specs.Parts.{at_all}
@@ -25,40 +24,37 @@ use Rattle.hpx_part.proofs.Covered.{act_names}
 use Rattle.hpx_part.proofs.Grown.{chain}
 use Rattle.hpx_part.proofs.Lists.{sum_middle}
 use Rattle.hpx_part.proofs.Keyed.{split_get, split_set}
-use Rattle.hpx_commit.specs.Deals.{is_managed, named, shares, Lasts, AreWithin}
-use Rattle.hpx_commit.specs.Stocks.{Stock, halvings, ahead, parts_from}
+use Rattle.hpx_commit.specs.Deals.{named, shares, Lasts, AreWithin}
+use Rattle.hpx_commit.specs.Stocks.{Stock, halvings, ahead, parts_from, short_places, stripped}
 use Rattle.hpx_commit.proofs.Ahead.{halvings_have}
-use Rattle.hpx_commit.proofs.AheadSums.{ahead_sums}
-use Rattle.hpx_commit.proofs.Short.{place_bare, place_some, ahead_front}
-use Rattle.hpx_value.specs.Laws.{KeepsLaws}
-use Rattle.hpx_node.specs.declared.node.wait.Before.{Before}
-use Rattle.hpx_node.specs.Asks.{first_cuts, own_many, hand_before, splits_before, stock_before, waits_with, Pauses, IsBefore, Begins}
-use Rattle.hpx_node.specs.Commits.{cuts, made_of, places_in_hand}
+use Rattle.hpx_node.specs.declared.parts.Outgoing.{Outgoing}
+use Rattle.hpx_node.specs.Asks.{first_cuts, own_many, asked_events, AsksFor}
+use Rattle.hpx_node.specs.Commits.{cuts}
 use Rattle.hpx_node.specs.Fit.{IsFit, IsKept}
 use Rattle.hpx_node.specs.Jobs.{IsAt, IsFitJob}
 use Rattle.hpx_node.specs.Paused.{bare_names, Apart, IsPaused, ArePaused}
-use Rattle.hpx_node.specs.Pending.{Waits, action_of, fired_of, own_ids, is_asked, asking_of, refusal_of, refusals_of}
+use Rattle.hpx_node.specs.Pending.{Waits, action_of, fired_of, own_ids, is_asked, asked_at, waits_with, asking_of, refusal_of, refusals_of}
 use Rattle.hpx_node.specs.Tables.{Tables, fired_acts}
-use Rattle.hpx_node.specs.Seen.{bare_standing, view}
-use Rattle.hpx_node.specs.Stands.{IsTidy, StandsWith, rules_of}
-use Rattle.hpx_node.proofs.Alls.{all_append, all_remove, all_set, all_at, some_same}
+use Rattle.hpx_node.specs.Seen.{bare_standing, counted, view}
+use Rattle.hpx_node.specs.Stands.{IsTidy, StandsWith}
+use Rattle.hpx_node.proofs.Alls.{all_append, all_remove, all_set, all_at}
+use Rattle.hpx_node.proofs.Asking.{asked_long, asked_stay, pays_asks}
 use Rattle.hpx_node.proofs.Bare.{bare_middle}
-use Rattle.hpx_node.proofs.FilledDue.{weigh_one, each_weighs}
-use Rattle.hpx_node.proofs.FirstCuts.{first_few}
-use Rattle.hpx_node.proofs.PlanLimits.{cuts_limit}
-use Rattle.hpx_node.proofs.Prepared.{hand_within}
-use Rattle.hpx_node.proofs.GivenUp.{weigh_none}
+use Rattle.hpx_node.proofs.IdleRows.{first_idle}
+use Rattle.hpx_node.proofs.IdleSteps.{pays_idle, pays_on}
 use Rattle.hpx_node.proofs.InHand.{agree_moved}
+use Rattle.hpx_node.proofs.Lacking.{Lacks, lacks_lead}
+use Rattle.hpx_node.proofs.LaterIds.{IsLater, bare_none, long_names}
 use Rattle.hpx_node.proofs.MadeLists.{bare_alone}
 use Rattle.hpx_node.proofs.Messages.{flat_append}
 use Rattle.hpx_node.proofs.Pausing.{keeps, busy_none, none_busy, busy_parts, busy_less, keeps_both, apart_more, apart_less, found_passes, split, paused_set}
 use Rattle.hpx_node.proofs.Plain.{no_ids}
-use Rattle.hpx_node.proofs.Refilled.{map_same, long_names}
+use Rattle.hpx_node.proofs.Refilled.{map_same}
+use Rattle.hpx_node.proofs.ShortHand.{lacks_least, left_asks, left_weighs, fresh_paused}
+use Rattle.hpx_node.proofs.SplitHand.{weigh_bare, stock_weighs, hand_weighs}
 use Rattle.hpx_node.proofs.Splits.{Has, Halves, halves_none, cut_many}
 use Rattle.hpx_node.proofs.Stays.{Stays, cuts_stay, stays_out, stays_in}
 use Rattle.hpx_node.proofs.Steps.{Tells, tells_leads, same_refusals, stands_then}
-use Rattle.hpx_node.proofs.IdleRows.{first_idle}
-use Rattle.hpx_node.proofs.IdleSteps.{pays_idle}
 use Rattle.hpx_node.proofs.Sums.{weigh, weigh_append, weigh_remove, weigh_set, weigh_last, tokens_sum, view_sum}
 
 -- ---- splits
@@ -161,61 +157,6 @@ find_put p (z ∷ xs) (suc j) x y h first passes = elim (cases_Bool (p z)) [
   | inr f ↦ rw f (find_put p xs j x y h (rw f at first) passes)
 ]
 
-take_less : (n m : ℕ) (ids : List Id) → n ≤ m → map bare (take n (take m ids)) ≡ map bare (take n ids)
-take_less zero m ids le = refl
-take_less (suc n) zero ids le = absurd (omega (arith, le))
-take_less (suc n) (suc m) [] le = refl
-take_less (suc n) (suc m) (x ∷ xs) le = ap (λ ys. bare x ∷ ys) (take_less n m xs (omega (arith, le)))
-
-take_bare : (n : ℕ) (xs ys : List Id) → map bare xs ≡ map bare ys → map bare (take n xs) ≡ map bare (take n ys)
-take_bare n xs ys e = take_map n xs ∙ (ap (take n) e ∙ sym (take_map n ys))
-  where
-    take_map : (n : ℕ) (zs : List Id) → map bare (take n zs) ≡ take n (map bare zs)
-    take_map zero zs = refl
-    take_map (suc n) [] = refl
-    take_map (suc n) (z ∷ zs) = ap (λ ys. bare z ∷ ys) (take_map n zs)
-
-take_front : (xs ys : List Id) → take (length xs) (xs ++ ys) ≡ xs
-take_front [] ys = none ys
-  where
-    none : (zs : List Id) → take 0 zs ≡ []
-    none zs = refl
-take_front (x ∷ xs) ys = ap (λ zs. x ∷ zs) (take_front xs ys)
-
-front_at : (P : Id → Type 0) (xs ys : List Id) (p : ℕ) → AllByRecursion P xs → p < length xs → P (id_at (xs ++ ys) p)
-front_at P [] ys p h lt = absurd (omega (arith, lt))
-front_at P (x ∷ xs) ys zero h lt = h.0
-front_at P (x ∷ xs) ys (suc p) h lt = front_at P xs ys p h.1 (omega (arith, lt))
-
-none_asked : (n : ℕ) (ids : List Id) → ((p : ℕ) → p < n → is_asked (id_at ids p) ≡ false) → filter is_asked (take n ids) ≡ []
-none_asked zero ids h = refl
-none_asked (suc n) [] h = refl
-none_asked (suc n) (x ∷ xs) h =
-    let first : is_asked x ≡ false = h 0 (omega arith) in
-    rw first (none_asked n xs (λ p lt. h (suc p) (omega (arith, lt))))
-
-unmanaged : (kind : ℕ) → kind < 16 → nat_le 16 kind ≡ false
-unmanaged kind h = grind (arith, nat_tests)
-
-right_asks_none : (id : Id) → HasRightCredit id → is_asked id ≡ false
-right_asks_none id h = at id.log h
-  where
-    no : (b : Bool) → (b && false) ≡ false
-    no true = refl
-    no false = refl
-
-    at : (log : Option ℕ) → MatchOption log (id.kind < 16) (λ l. 16 ≤ id.kind) → (is_managed id && not (is_some log)) ≡ false
-    at None e = ap (λ b. b && true) (unmanaged id.kind e)
-    at (Some l) e = no (is_managed id)
-
-weigh_bare : (f : Token → ℕ) (ids : List Id) → AllByRecursion (λ (id : Id). id.log ≡ None) ids → weigh f ids ≡ 0
-weigh_bare f [] h = refl
-weigh_bare f (id ∷ ids) h = omega (arith, weigh_append f (id ∷ []) ids, weigh_none f id h.0, weigh_bare f ids h.1)
-
-bare_none : (ids : List Id) → AllByRecursion (λ (id : Id). id.log ≡ None) (map bare ids)
-bare_none [] = tt
-bare_none (id ∷ ids) = (refl, bare_none ids)
-
 bare_counts : (o : Id) (ids : List Id) → bare_names o (map bare ids) ≡ count_by (same_object o) ids
 bare_counts o [] = refl
 bare_counts o (id ∷ ids) = omega (
@@ -252,76 +193,6 @@ lent_kept x s kept same fit = record {
   plain = λ e. (ap (λ (y : State). y.values) (sym same) ∙ (kept.plain e).0, ap (λ (y : State). y.conts) (sym same) ∙ (kept.plain e).1);
 }
 
--- ---- the hand of a commit that waits
-
-module _ (job : Job) (out : Outcome) (localities : ℕ) (later : List Id) (places : List ℕ) (fit : IsFitJob job)
-    (within : AreWithin (hand_ids job.state job.action later) places) where
-  abbrev own : List Id
-  own = job.state.ids ++ job.action.ids
-
-  abbrev start : Stock
-  start = record { hand = hand_ids job.state job.action later; places = places }
-
-  abbrev pub stock : Stock
-  stock = ahead (own_many job) (record { hand = hand_ids job.state job.action later; places = places })
-
-  hand_is : hand_ids job.state job.action later ≡ own ++ later
-  hand_is = sym (append_assoc job.state.ids job.action.ids later)
-
-  fits : own_many job ≤ length (hand_ids job.state job.action later)
-  fits = omega (arith, length-append own later, ap (λ (xs : List Id). length xs) hand_is)
-
-  own_right : AllByRecursion HasRightCredit own
-  own_right = all_append HasRightCredit job.state.ids job.action.ids fit.credit fit.action.sent.credit
-
-  not_asked : (p : ℕ) → p < own_many job → is_asked (id_at stock.hand p) ≡ false
-  not_asked p lt =
-      let inside : p < length (hand_ids job.state job.action later) = omega (arith, lt, fits) in
-      let right : HasRightCredit (id_at (hand_ids job.state job.action later) p) =
-      subst (λ (xs : List Id). HasRightCredit (id_at xs p)) (sym hand_is) (front_at HasRightCredit own later p own_right lt) in
-      let kind : (id_at stock.hand p).kind ≡ (id_at start.hand p).kind =
-      ap (λ (x : Id). x.kind) (place_bare (own_many job) start fits within p inside) in
-      ap (λ k. nat_le 16 k && not (is_some (id_at stock.hand p).log)) kind
-      ∙ (ap (λ b. nat_le 16 (id_at start.hand p).kind && not b) (place_some (own_many job) start fits within p inside)
-      ∙ right_asks_none (id_at start.hand p) right)
-
-  hand_names : map bare (take (own_many job) stock.hand) ≡ map bare own
-  hand_names =
-      sym (take_less (own_many job) (length start.hand) stock.hand fits)
-      ∙ (take_bare (own_many job) (take (length start.hand) stock.hand) start.hand (ahead_front (own_many job) start fits within)
-      ∙ (ap (λ (xs : List Id). map bare (take (own_many job) xs)) hand_is ∙ ap (map bare) (take_front own later)))
-
-  pub fresh_paused : (k : ℕ) (objects : List Standing) (x : Standing) → job.at ≡ k → find (is_standing (target_of job.action)) objects ≡ Some x
-      → x.object.kind ≡ job.kind → x.state ≡ bare_state job.state → IsPaused k objects (waits_with job out localities stock)
-  fresh_paused k objects x at found kind state = record {
-    job = fit;
-    here = at;
-    standing = x;
-    found = found;
-    kind = kind;
-    state = state;
-    hand = hand_names;
-    within = tt;
-    once = λ p lt. sym (ap {B = ℕ} (λ b. cond b 1 0) (not_asked p lt));
-  }
-
-  pub asks_none : filter is_asked (own_ids (waits_with job out localities stock)) ≡ []
-  asks_none = none_asked (own_many job) stock.hand not_asked
-
-  pub stock_weighs : (f : Token → ℕ) → weigh f stock.hand ≡ weigh f (parts_from (own_many job) 0 (hand_ids job.state job.action later) places)
-  stock_weighs f =
-      each_weighs f stock.hand
-      ∙ (ahead_sums (weigh_one f) (own_many job) start fits within ∙ sym (each_weighs f (parts_from (own_many job) 0 start.hand places)))
-
-  pub hand_weighs : AllByRecursion (λ (id : Id). id.log ≡ None) later → (f : Token → ℕ)
-      → weigh f (hand_ids job.state job.action later) ≡ weigh f job.state.ids + weigh f job.action.ids
-  hand_weighs none f = omega (
-    arith,
-    weigh_append f job.state.ids (job.action.ids ++ later),
-    weigh_append f job.action.ids later,
-    weigh_bare f later none,
-  )
-
 -- ---- an action that is alone on its object
 
 apart_alone : (l : List Act) (act : Act) (m : List Act) → Apart (l ++ act ∷ m) → is_busy (target_of act) (l ++ m) ≡ false
@@ -329,23 +200,27 @@ apart_alone [] act m h = h.0
 apart_alone (x ∷ l) act m h =
     none_busy (target_of act) x (l ++ m) (keeps_both x act (busy_less (target_of x) l act m h.0).0) (apart_alone l act m h.1)
 
-module _ (r : Rules) (t : Tables) (entries : List Entry) (i j : ℕ) (job : Job) (out : Outcome) (localities : ℕ) (later : List Id) (places : List ℕ)
+module _ (r : Rules) (t : Tables) (entries : List Entry) (i j : ℕ) (job : Job) (out : Outcome) (later : List Id) (places : List ℕ)
     (spare : ℕ) (at : IsAt t i j job) (first : find (is_standing (target_of job.action)) (take j t.objects) ≡ None) (fit : IsFitJob job)
     (within : AreWithin (hand_ids job.state job.action later) places) (none : AllByRecursion (λ (id : Id). id.log ≡ None) later)
-    (h : StandsWith r t [] [] entries) where
-  abbrev w : Waits
-  w = waits_with job out localities (ahead (own_many job) (record { hand = hand_ids job.state job.action later; places = places }))
+    (few : t.localities ≤ 64) (below : job.at < t.localities) (is_later : IsLater job out later places) (h : StandsWith r t [] [] entries) where
+  abbrev pub split_ahead : Stock
+  split_ahead = ahead (own_many job) (record { hand = hand_ids job.state job.action later; places = places })
 
-  abbrev lent : Standing
+  abbrev pub short : List ℕ
+  short = short_places (own_many job) split_ahead
+
+  abbrev pub lacks : List Id
+  lacks = map (id_at split_ahead.hand) short
+
+  abbrev pub w : Waits
+  w = waits_with job out t.localities (asked_at t.asked short) (stripped short split_ahead)
+
+  abbrev pub lent : Standing
   lent = record { object = at.standing.object; state = bare_state job.state }
 
-  abbrev pub waiting : Tables
-  waiting = record t {
-    running = remove t.running i;
-    objects = set t.objects j (record { object = at.standing.object; state = bare_state job.state });
-    pending = t.pending ++ waits_with job out localities (ahead (own_many job) (record { hand = hand_ids job.state job.action later; places = places })) ∷ [];
-    spare = spare;
-  }
+  abbrev pub paused : Tables
+  paused = record t { running = remove t.running i; objects = set t.objects j lent; pending = t.pending ++ w ∷ []; spare = spare }
 
   same : same_object (target_of job.action) at.standing.object ≡ true
   same = found_passes (target_of job.action) t.objects at.standing at.found
@@ -370,7 +245,7 @@ module _ (r : Rules) (t : Tables) (entries : List Entry) (i j : ℕ) (job : Job)
   acts_more = map-append action_of t.pending (w ∷ [])
 
   parts : Apart (take i t.running ++ job.action ∷ (drop (suc i) t.running ++ acts))
-  parts = subst Apart (split t.here t.objects t.running t.pending i job.action at.runs h.tidy.paused) h.tidy.paused.apart
+  parts = subst Apart (split t.here t.localities t.profile.credit_log t.objects t.running t.pending i job.action at.runs h.tidy.paused) h.tidy.paused.apart
 
   apart_new : Apart (fired_of (remove t.running i) (t.pending ++ w ∷ []))
   apart_new =
@@ -414,11 +289,14 @@ module _ (r : Rules) (t : Tables) (entries : List Entry) (i j : ℕ) (job : Job)
     sum_middle f (take j t.objects) lent (drop (suc j) t.objects),
   )
 
-  paused_new : ArePaused t.here (set t.objects j lent) (remove t.running i) (t.pending ++ w ∷ [])
+  paused_new : ArePaused t.here t.localities t.profile.credit_log (set t.objects j lent) (remove t.running i) (t.pending ++ w ∷ [])
   paused_new = record {
-    each = all_append (IsPaused t.here (set t.objects j lent)) t.pending (w ∷ [])
-        (paused_set t.here t.objects t.running t.pending i j job.action at.standing lent at.runs at.stands same refl plain_same h.tidy.paused)
-        (fresh_paused job out localities later places fit within t.here (set t.objects j lent) lent at.here found_new at.kind refl, tt);
+    each = all_append (IsPaused t.here t.localities t.profile.credit_log (set t.objects j lent)) t.pending (w ∷ [])
+        (paused_set t.here t.localities t.profile.credit_log t.objects t.running t.pending i j job.action at.standing lent at.runs at.stands same refl plain_same h.tidy.paused) (
+          fresh_paused job out later places fit within is_later t.here t.localities t.profile.credit_log t.asked (set t.objects j lent) lent at.here few below
+              found_new at.kind refl,
+          tt,
+        );
     apart = apart_new;
     whole = subst (λ xs. AllByRecursion (Whole xs) (set t.objects j lent)) (sym acts_more)
         (all_set (Whole (acts ++ job.action ∷ [])) t.objects j lent (whole_more t.objects h.tidy.paused.whole) lent_whole);
@@ -434,8 +312,8 @@ module _ (r : Rules) (t : Tables) (entries : List Entry) (i j : ℕ) (job : Job)
         );
   }
 
-  waiting_tidy : IsTidy waiting []
-  waiting_tidy = record {
+  paused_tidy : IsTidy paused []
+  paused_tidy = record {
     accepted = h.tidy.accepted;
     running = all_remove IsFit t.running i h.tidy.running;
     objects = all_set IsKept t.objects j lent h.tidy.objects (lent_kept at.standing job.state kept at.state fit.state);
@@ -463,7 +341,7 @@ module _ (r : Rules) (t : Tables) (entries : List Entry) (i j : ℕ) (job : Job)
   has : Has (view t [] []).tokens (hand_ids job.state job.action later)
   has f weight = omega (
     arith,
-    hand_weighs job out localities later places fit within none f,
+    hand_weighs job later places fit within none f,
     view_sum f t [] [],
     tokens_sum f t,
     state_kept f,
@@ -489,10 +367,7 @@ module _ (r : Rules) (t : Tables) (entries : List Entry) (i j : ℕ) (job : Job)
       ∙ (ap (map bare_act) (append_assoc (take i t.running) (job.action ∷ drop (suc i) t.running) acts)
       ∙ bare_middle (take i t.running) job.action (drop (suc i) t.running ++ acts))
 
-  abbrev moved_view : View
-  moved_view = record halved { fired = (front ++ back) ++ bare_act job.action ∷ [] }
-
-  fired_then : (front ++ back) ++ bare_act job.action ∷ [] ≡ map bare_act (fired_acts waiting)
+  fired_then : (front ++ back) ++ bare_act job.action ∷ [] ≡ map bare_act (fired_acts paused)
   fired_then =
       ap (λ xs. xs ++ bare_act job.action ∷ [])
       (sym (ap (map bare_act) (append_assoc (take i t.running) (drop (suc i) t.running) acts)
@@ -500,221 +375,120 @@ module _ (r : Rules) (t : Tables) (entries : List Entry) (i j : ℕ) (job : Job)
       ∙ (sym (map-append bare_act (remove t.running i ++ acts) (job.action ∷ []))
       ∙ ap (map bare_act) (append_assoc (remove t.running i) acts (job.action ∷ []) ∙ ap (λ xs. remove t.running i ++ xs) (sym acts_more)))
 
-  tells : Tells moved_view (view waiting [] [])
-  tells = record {
-    here = refl;
-    serial = refl;
-    number = refl;
-    waiting = refl;
-    fired = fired_then;
-    objects = sym (map_same bare_standing t.objects j at.standing lent at.stands
-        (ap (λ ss. record { object = bare at.standing.object; state = ss }) (bare_again job.state ∙ ap bare_state (sym at.state))));
-    fresh = refl;
-    due = refl;
-    tokens = λ f weight. omega (
-      arith,
-      s.sums f weight,
-      hand_weighs job out localities later places fit within none f,
-      stock_weighs job out localities later places fit within f,
-      view_sum f t [] [],
-      view_sum f waiting [] [],
-      tokens_sum f t,
-      tokens_sum f waiting,
-      state_kept f,
-      weigh_remove f (λ (a : Act). a.ids) t.running i job.action at.runs,
-      weigh_last f (λ (v : Waits). v.hand) t.pending w,
-    );
-    asking = λ x. ap (count_by (same_object x)) (sym (asked_same w (asks_none job out localities later places fit within)));
-    asks = λ x. refl;
-    live = λ x home. refl;
-    dead = λ x d. d;
-    refusals = same_refusals (refusals_of t.pending) (refusals_of (t.pending ++ w ∷ [])) (sym refused_same);
-    failing = omega (arith, ap (λ xs. length xs) refused_same);
-    last = refl;
-  }
-    where
-      bare_again : (x : State) → bare_state (bare_state x) ≡ bare_state x
-      bare_again x = ap (λ ids. record { drawn = x.drawn; values = x.values; conts = x.conts; ids = ids }) (bare_twice x.ids)
-
-      asked_same : (v : Waits) → filter is_asked (own_ids v) ≡ [] → asking_of (t.pending ++ v ∷ []) ≡ asking_of t.pending
-      asked_same v e =
-          flat_append (λ (y : Waits). filter is_asked (own_ids y)) t.pending (v ∷ [])
-          ∙ (ap (λ xs. asking_of t.pending ++ (xs ++ [])) e ∙ append-nil (asking_of t.pending))
-
-      refused_same : refusals_of (t.pending ++ w ∷ []) ≡ refusals_of t.pending
-      refused_same = flat_append (λ (y : Waits). refusal_of y.job.action y.refused) t.pending (w ∷ []) ∙ append-nil (refusals_of t.pending)
-
-  leads : Leads r (view t [] []) (first_cuts (own_many job) 0 (hand_ids job.state job.action later) places) (view waiting [] [])
-  leads = subst (λ es. Leads r (view t [] []) es (view waiting [] [])) (append-nil (first_cuts (own_many job) 0 (hand_ids job.state job.action later) places))
-      (chain r (view t [] []) halved (view waiting [] []) (first_cuts (own_many job) 0 (hand_ids job.state job.action later) places) [] s.leads
-      (chain r halved moved_view (view waiting [] []) [] []
-      (subst (λ xs. Leads r halved [] (record halved { fired = xs })) refl
-      (fired_moved r halved front back (front ++ back) [] (bare_act job.action) fires (sym (append-nil (front ++ back)))))
-      (tells_leads r moved_view (view waiting [] []) tells)))
-
-  pub stands_waiting : StandsWith r waiting [] []
-      (entries ++ at_all t.here (first_cuts (own_many job) 0 (hand_ids job.state job.action later) places))
-  stands_waiting =
-      let events = first_cuts (own_many job) 0 (hand_ids job.state job.action later) places in
-      let stay = first_stay (own_many job) 0 (hand_ids job.state job.action later) places in
-      stands_then r t waiting [] [] [] [] entries events h waiting_tidy
-      (record {
-        here = refl;
-        born = omega arith;
-        few = omega arith;
-        asked = omega arith;
-        sent = omega (arith, stays_out t.here (first_cuts (own_many job) 0 (hand_ids job.state job.action later) places) stay);
-        taken = omega (arith, stays_in t.here (first_cuts (own_many job) 0 (hand_ids job.state job.action later) places) stay);
-        pays = pays_idle r t waiting (first_cuts (own_many job) 0 (hand_ids job.state job.action later) places)
-            (first_idle r (own_many job) 0 (hand_ids job.state job.action later) places) (λ row. refl) refl;
-      })
-      leads
-
--- ---- as the calls do it
-
-pub pauses_by : (t t' : Tables) (i j : ℕ) (job : Job) (w : Waits) (at : IsAt t i j job) (x : Standing) → slice_get t.objects j ≡ Some x
-    → t' ≡ record t {
-      running = remove t.running i;
-      objects = set t.objects j (record { object = x.object; state = bare_state job.state });
-      pending = t.pending ++ w ∷ [];
-      spare = t'.spare;
-    } → Pauses i j job w t t'
-pauses_by t t' i j job w at x stands e = record {
-  at = at;
-  rest = e ∙ ap (λ (y : Standing). record t {
-    running = remove t.running i;
-    objects = set t.objects j (record { object = y.object; state = bare_state job.state });
-    pending = t.pending ++ w ∷ [];
-    spare = t'.spare;
-  }) (some_same x at.standing (sym stands ∙ at.stands));
-}
-
-within_long : (xs ys : List Id) (ps : List ℕ) → length xs ≡ length ys → AreWithin xs ps → AreWithin ys ps
-within_long xs ys [] e h = tt
-within_long xs ys (p ∷ ps) e h = (let lt = h.0 in omega (arith, lt, e), within_long xs ys ps e h.1)
-
-hands_long : (job : Job) (made : List Id) → length (hand_ids job.state job.action (map bare made)) ≡ length (hand_ids job.state job.action made)
-hands_long job made = omega (
-  arith,
-  length-append job.state.ids (job.action.ids ++ map bare made),
-  length-append job.state.ids (job.action.ids ++ made),
-  length-append job.action.ids (map bare made),
-  length-append job.action.ids made,
-  long_names made,
-)
-
-module _ (t : Tables) (job : Job) (out : Outcome) (b : Before) (is : IsBefore t job out b) where
-  pub before_own : b.own ≤ length b.hand.items
-  before_own = omega (
+  -- what is asked for is among what was split
+  has_lacks : Has halved.tokens lacks
+  has_lacks f weight = omega (
     arith,
-    is.own,
-    ap (λ (xs : List Id). length xs) is.hand,
-    length-append job.state.ids (job.action.ids ++ map bare (made_of t out)),
-    length-append job.action.ids (map bare (made_of t out)),
-    length-append job.state.ids job.action.ids,
+    has f weight,
+    s.sums f weight,
+    stock_weighs job later places fit within f,
+    left_weighs job out later places fit within is_later f,
   )
 
-  pub kept_before : (i j : ℕ) → IsAt t i j job → IsFitJob job → IsTidy t [] → (x : Standing) → slice_get t.objects j ≡ Some x
-      → IsKept (record { object = x.object; state = b.state })
-  kept_before i j at fit tidy x stands =
-      let kept = all_at IsKept t.objects j x tidy.objects stands in
-      let same : x.state ≡ job.state = ap (λ (y : Standing). y.state) (some_same x at.standing (sym stands ∙ at.stands)) ∙ at.state in
-      subst (λ s. IsKept (record { object = x.object; state = s })) (sym is.state) (lent_kept x job.state kept same fit.state)
+  a : Lacks r halved lacks
+  a = lacks_lead r halved refl refl lacks (lacks_least job out later places fit within is_later) has_lacks
 
-  module _ (fit : IsFitJob job) (few : t.localities ≤ 64) (laws : KeepsLaws t.localities job.kind job.at job.state job.action out) where
-    pub before_short : length (first_cuts b.own 0 b.hand.items b.places.items) ≤ 192
-    before_short =
-        subst (λ (ps : List ℕ). length (first_cuts b.own 0 b.hand.items ps) ≤ 192) (sym is.places)
-        (subst (λ (ids : List Id). length (first_cuts b.own 0 ids (places_in_hand t job out)) ≤ 192) (sym is.hand)
-        (omega (
-          arith,
-          first_few b.own 0 (hand_ids job.state job.action (map bare (made_of t out))) (hand_ids job.state job.action (made_of t out))
-              (places_in_hand t job out) (hands_long job (made_of t out)),
-          cuts_limit t job out fit few laws,
-        )))
+  abbrev asked_view : View
+  asked_view = record halved { tokens = a.tokens; asking = a.asking; asks = a.asks; last = a.last }
 
-    within_hand : AreWithin (hand_ids job.state job.action (map bare (made_of t out))) (places_in_hand t job out)
-    within_hand = within_long (hand_ids job.state job.action (made_of t out)) (hand_ids job.state job.action (map bare (made_of t out)))
-        (places_in_hand t job out) (sym (hands_long job (made_of t out)))
-        (hand_within t.localities job out laws fit t.here t.births t.profile.credit_log)
+  abbrev moved_view : View
+  moved_view = record asked_view { fired = (front ++ back) ++ bare_act job.action ∷ [] }
 
-pub begins_by : (act_of : ℕ → ℕ → ℕ → State → Act → Outcome) (t t' : Tables) (job : Job) (out : Outcome) (localities : ℕ) (b : Before) (i j : ℕ) (w : Waits)
-    (e0 e1 : List Entry) → IsFitJob job → t.localities ≤ 64 → KeepsLaws t.localities job.kind job.at job.state job.action out → IsBefore t job out b
-    → localities ≡ t.localities → w ≡ waits_with job out localities b.stock → Pauses i j job w t t'
-    → find (is_standing (target_of job.action)) (take j t.objects) ≡ None
-    → e1 ≡ e0 ++ at_all t.here (first_cuts b.own 0 b.hand.items b.places.items)
-    → StandsWith (rules_of act_of t.localities t.profile) t [] [] e0
-    → StandsWith (rules_of act_of t'.localities t'.profile) t' [] [] e1 × Begins t t' job out e0 e1
-begins_by act_of t t' job out localities b i j w e0 e1 fit few laws is n w_is pauses first cut h =
-    let s = stock_before t job out in
-    let same : w ≡ waits_with job out t.localities (stock_before t job out) =
-    w_is ∙ (ap (λ k. waits_with job out k b.stock) n ∙ ap (waits_with job out t.localities) is.stock) in
-    let now : Pauses i j job (waits_with job out t.localities (stock_before t job out)) t t' = subst (λ v. Pauses i j job v t t') same pauses in
-    let written : e1 ≡ e0 ++ at_all t.here (splits_before t job out) =
-    cut
-    ∙ (ap (λ k. e0 ++ at_all t.here (first_cuts k 0 b.hand.items b.places.items)) is.own
-    ∙ (ap (λ xs. e0 ++ at_all t.here (first_cuts (own_many job) 0 xs b.places.items)) is.hand
-    ∙ ap (λ ps. e0 ++ at_all t.here (first_cuts (own_many job) 0 (hand_before t job out) ps)) is.places)) in
-    let stands = stands_waiting (rules_of act_of t.localities t.profile) t e0 i j job out t.localities (map bare (made_of t out)) (places_in_hand t job out)
-    t'.spare now.at first fit (within_hand t job out b is fit few laws) (bare_none (made_of t out)) h in (
-      subst (λ x. StandsWith (rules_of act_of x.localities x.profile) x [] [] e1) (sym now.rest)
-          (subst (λ es. StandsWith (rules_of act_of t.localities t.profile)
-          (waiting (rules_of act_of t.localities t.profile) t e0 i j job out t.localities (map bare (made_of t out)) (places_in_hand t job out)
-          t'.spare now.at first fit (within_hand t job out b is fit few laws) (bare_none (made_of t out)) h) [] [] es) (sym written) stands),
-      record {
-        i = i;
-        j = j;
-        pauses = now;
-        writes = record {
-          here = ap (λ (x : Tables). x.here) now.rest;
-          localities = ap (λ (x : Tables). x.localities) now.rest;
-          profile = ap (λ (x : Tables). x.profile) now.rest;
-          grows = written;
-        };
-      },
-    )
+  asking_then : (x : Id) → count_by (same_object x) (asking_of (t.pending ++ w ∷ [])) ≡ count_by (same_object x) (asking_of t.pending) + count_by (same_object x) lacks
+  asking_then x = omega (
+    arith,
+    ap (count_by (same_object x)) (flat_append (λ (y : Waits). filter is_asked (own_ids y)) t.pending (w ∷ [])),
+    sum_by-append (λ y. cond (same_object x y) 1 0) (asking_of t.pending) (filter is_asked (own_ids w) ++ []),
+    ap (count_by (same_object x)) (append-nil (filter is_asked (own_ids w))),
+    left_asks job out later places fit within is_later x,
+  )
 
--- memory is no part of it
-pub before_same : (t t' : Tables) (job : Job) (out : Outcome) (b : Before) → t' ≡ record t { spare = t'.spare } → IsBefore t job out b → IsBefore t' job out b
-before_same t t' job out b same is = subst (λ x. IsBefore x job out b) (sym same)
-    (record { hand = is.hand; places = is.places; own = is.own; stock = is.stock; state = is.state })
+  bare_again : (x : State) → bare_state (bare_state x) ≡ bare_state x
+  bare_again x = ap (λ ids. record { drawn = x.drawn; values = x.values; conts = x.conts; ids = ids }) (bare_twice x.ids)
 
-pub at_same : (t t' : Tables) (i j : ℕ) (job : Job) → t' ≡ record t { spare = t'.spare } → IsAt t i j job → IsAt t' i j job
-at_same t t' i j job same at = subst (λ x. IsAt x i j job) (sym same) (record {
-  standing = at.standing;
-  here = at.here;
-  runs = at.runs;
-  stands = at.stands;
-  found = at.found;
-  kind = at.kind;
-  state = at.state;
-})
+  refused_same : refusals_of (t.pending ++ w ∷ []) ≡ refusals_of t.pending
+  refused_same = flat_append (λ (y : Waits). refusal_of y.job.action y.refused) t.pending (w ∷ []) ∙ append-nil (refusals_of t.pending)
 
-begins_spare : (s u : Tables) (k : ℕ) (job : Job) (out : Outcome) (e0 e1 : List Entry) → Begins (record s { spare = k }) u job out e0 e1 → Begins s u job out e0 e1
-begins_spare s u k job out e0 e1 h = record {
-  i = h.i;
-  j = h.j;
-  pauses = record {
-    at = record {
-      standing = h.pauses.at.standing;
-      here = h.pauses.at.here;
-      runs = h.pauses.at.runs;
-      stands = h.pauses.at.stands;
-      found = h.pauses.at.found;
-      kind = h.pauses.at.kind;
-      state = h.pauses.at.state;
-    };
-    rest = h.pauses.rest;
-  };
-  writes = record { here = h.writes.here; localities = h.writes.localities; profile = h.writes.profile; grows = h.writes.grows };
-}
+  abbrev pub events : List Event
+  events = first_cuts (own_many job) 0 (hand_ids job.state job.action later) places
 
-pub begins_from : (s t u : Tables) (job : Job) (out : Outcome) (e e0 e1 : List Entry) → t ≡ record s { spare = t.spare } → e0 ≡ e
-    → Begins t u job out e0 e1 → Begins s u job out e e1
-begins_from s t u job out e e0 e1 same is h =
-    begins_spare s u t.spare job out e e1
-    (subst (λ x. Begins x u job out e e1) same (subst (λ es. Begins t u job out es e1) is h))
+  -- ---- once it has asked
 
-pub ok_map : {X E : Type 0} (r : Result X E) (P Q : X → Type 0) → IfOk r P → ((x : X) → P x → Q x) → IfOk r Q
-ok_map (Ok x) P Q h f = f x h
-ok_map (Err e) P Q h f = tt
+  module _ (t' : Tables) (asks : AsksFor lacks paused t') where
+    stays : {X : Type 0} (f : Tables → X) → ((x : Tables) (a s : ℕ) (d : List Parcel) (o : List Outgoing)
+        → f (record x { asked = a; desk = d; outgoing = o; spare = s }) ≡ f x) → f t' ≡ f paused
+    stays f same = ap f asks.rest ∙ same paused (paused.asked + length lacks) t'.spare t'.desk t'.outgoing
+
+    tells : Tells moved_view (view t' [] [])
+    tells = record {
+      here = sym (stays (λ x. x.here) (λ x a s d o. refl));
+      serial = sym (stays (λ x. x.serial) (λ x a s d o. refl));
+      number = sym (stays (λ x. x.births) (λ x a s d o. refl));
+      waiting = sym asks.waiting;
+      fired = fired_then ∙ sym (stays (λ x. map bare_act (fired_acts x)) (λ x a s d o. refl));
+      objects = sym (stays (λ x. map bare_standing x.objects) (λ x a s d o. refl)
+          ∙ map_same bare_standing t.objects j at.standing lent at.stands
+          (ap (λ ss. record { object = bare at.standing.object; state = ss }) (bare_again job.state ∙ ap bare_state (sym at.state))));
+      fresh = refl;
+      due = refl;
+      tokens = λ f weight. omega (
+        arith,
+        s.sums f weight,
+        a.sums f weight,
+        hand_weighs job later places fit within none f,
+        stock_weighs job later places fit within f,
+        left_weighs job out later places fit within is_later f,
+        view_sum f t [] [],
+        view_sum f t' [] [],
+        tokens_sum f t,
+        tokens_sum f paused,
+        asks.tokens f,
+        state_kept f,
+        weigh_remove f (λ (a : Act). a.ids) t.running i job.action at.runs,
+        weigh_last f (λ (v : Waits). v.hand) t.pending w,
+      );
+      asking = λ x. omega (
+        arith,
+        a.more x,
+        asking_then x,
+        stays (λ y. count_by (same_object x) (asking_of y.pending)) (λ y a s d o. refl),
+      );
+      asks = λ x. omega (arith, a.pending x, asks.asks x);
+      live = λ x home. sym (stays (λ y. count_in (find (is_recorded x) (map counted y.records))) (λ y a s d o. refl));
+      dead = λ x d. subst (λ ids. list_any (same_object x) ids ≡ true) asks.frees d;
+      refusals = same_refusals (refusals_of t.pending) (refusals_of t'.pending)
+          (sym (stays (λ x. refusals_of x.pending) (λ x a s d o. refl) ∙ refused_same));
+      failing = omega (arith, ap (λ xs. length xs) (stays (λ x. refusals_of x.pending) (λ x a s d o. refl)), ap (λ xs. length xs) refused_same);
+      last = refl;
+    }
+
+    leads : Leads r (view t [] []) (events ++ asked_events lacks) (view t' [] [])
+    leads = chain r (view t [] []) halved (view t' [] []) events (asked_events lacks) s.leads
+        (subst (λ es. Leads r halved es (view t' [] [])) (append-nil (asked_events lacks))
+        (chain r halved asked_view (view t' [] []) (asked_events lacks) [] a.leads
+        (chain r asked_view moved_view (view t' [] []) [] []
+        (fired_moved r asked_view front back (front ++ back) [] (bare_act job.action) fires (sym (append-nil (front ++ back))))
+        (tells_leads r moved_view (view t' [] []) tells))))
+
+    pub stands_waiting : StandsWith r t' [] [] (entries ++ at_all t.here (events ++ asked_events lacks))
+    stands_waiting =
+        let stay : AllByRecursion Stays (events ++ asked_events lacks) =
+        all_append Stays events (asked_events lacks) (first_stay (own_many job) 0 (hand_ids job.state job.action later) places) (asked_stay lacks) in
+        stands_then r t t' [] [] [] [] entries (events ++ asked_events lacks) h (asks.tidy [] paused_tidy)
+        (record {
+          here = stays (λ x. x.here) (λ x a s d o. refl);
+          born = omega (arith, stays (λ x. x.births) (λ x a s d o. refl));
+          few = omega (arith, stays (λ x. x.serial) (λ x a s d o. refl));
+          asked = omega (
+            arith,
+            ap (λ (x : Tables). x.asked) asks.rest,
+            length-append events (asked_events lacks),
+            asked_long lacks,
+          );
+          sent = omega (arith, stays (λ x. x.sent) (λ x a s d o. refl), stays_out t.here (events ++ asked_events lacks) stay);
+          taken = omega (arith, stays (λ x. x.taken) (λ x a s d o. refl), stays_in t.here (events ++ asked_events lacks) stay);
+          pays = pays_on r t paused t' events (asked_events lacks)
+              (pays_idle r t paused events (first_idle r (own_many job) 0 (hand_ids job.state job.action later) places) (λ row. refl) refl)
+              (pays_asks r paused t' lacks asks);
+        })
+        leads

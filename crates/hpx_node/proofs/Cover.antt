@@ -201,10 +201,10 @@ bare_asked o managed (id ∷ ids) = elim (cases_Bool (is_asked id)) [
     none false b e g = refl
 
 -- what the object and the action of a commit that waits name is in its hand, or was asked for
-in_hand : (o : Id) → 16 ≤ o.kind → (here : ℕ) (objects : List Standing) (w : Waits) → IsPaused here objects w
+in_hand : (o : Id) → 16 ≤ o.kind → (here n log : ℕ) (objects : List Standing) (w : Waits) → IsPaused here n log objects w
     → count_by (same_object o) w.job.state.ids + count_by (same_object o) w.job.action.ids
     ≤ weigh (held_counts o) w.hand + count_by (same_object o) (filter is_asked (own_ids w))
-in_hand o managed here objects w h =
+in_hand o managed here n log objects w h =
     omega (
       arith,
       sum_by-append (λ x. cond (same_object o x) 1 0) w.job.state.ids w.job.action.ids,
@@ -216,14 +216,14 @@ in_hand o managed here objects w h =
       ap (weigh (held_counts o)) (take-append-drop (length (ids_named w)) w.hand),
     )
 
-in_hands : (o : Id) → 16 ≤ o.kind → (here : ℕ) (objects : List Standing) (ws : List Waits) → AllByRecursion (IsPaused here objects) ws
+in_hands : (o : Id) → 16 ≤ o.kind → (here n log : ℕ) (objects : List Standing) (ws : List Waits) → AllByRecursion (IsPaused here n log objects) ws
     → sum_by (λ (w : Waits). count_by (same_object o) w.job.state.ids) ws + sum_by (λ (w : Waits). count_by (same_object o) w.job.action.ids) ws
     ≤ weigh (held_counts o) (flat_map (λ (w : Waits). w.hand) ws) + count_by (same_object o) (asking_of ws)
-in_hands o managed here objects [] h = omega arith
-in_hands o managed here objects (w ∷ ws) h = omega (
+in_hands o managed here n log objects [] h = omega arith
+in_hands o managed here n log objects (w ∷ ws) h = omega (
   arith,
-  in_hand o managed here objects w h.0,
-  in_hands o managed here objects ws h.1,
+  in_hand o managed here n log objects w h.0,
+  in_hands o managed here n log objects ws h.1,
   sum_by-cons (λ (y : Waits). count_by (same_object o) y.job.state.ids) w ws,
   sum_by-cons (λ (y : Waits). count_by (same_object o) y.job.action.ids) w ws,
   weigh_append (held_counts o) w.hand (flat_map (λ (y : Waits). y.hand) ws),
@@ -257,7 +257,7 @@ tidy_covers t due loose tidy o managed = record {
     tokens_sum (holds o managed) t,
     held_states o managed t.objects,
     tidy.paused.lent o managed,
-    in_hands o managed t.here t.objects t.pending tidy.paused.each,
+    in_hands o managed t.here t.localities t.profile.credit_log t.objects t.pending tidy.paused.each,
     held_acts o managed t.accepted tidy.accepted,
     held_acts o managed t.running tidy.running,
     fired_names o t.running t.pending,

@@ -103,6 +103,6 @@ module _ (r : Rules) (t : Tables) (entries : List Entry) (i : ℕ) (act : Act) (
         drawn = h.tidy.drawn;
         unborn = h.tidy.unborn;
         ways = h.tidy.ways;
-        paused = fired_paused t.here t.objects t.running t.pending act free.idle h.tidy.paused;
+        paused = fired_paused t.here t.localities t.profile.credit_log t.objects t.running t.pending act free.idle h.tidy.paused;
       })
       (record { here = refl; born = omega arith; few = omega arith; asked = omega arith; sent = omega arith; taken = omega arith; pays = pays_fire r t fired i act (name_of act) is refl refl }) leads

@@ -14,9 +14,10 @@ plus_one : (n : ℕ) → suc n ≡ n + 1
 plus_one n = omega arith
 
 -- what is written, and what is still to be
-pub record IsCuttingFirst (here own : ℕ) (hand : List Id) (places : List ℕ) (p : ℕ) (before now : List Entry) (spare : ℕ) : Type 0 where
+pub record IsCuttingFirst (here own : ℕ) (hand : List Id) (places : List ℕ) (p : ℕ) (before now : List Entry) (first spare : ℕ) : Type 0 where
   pub written : now ++ at_all here (first_cuts (own - p) p (drop p hand) places) ≡ before ++ at_all here (first_cuts own 0 hand places)
   pub page : length (first_cuts (own - p) p (drop p hand) places) ≤ spare
+  pub used : spare + length (first_cuts own 0 hand places) ≡ first + length (first_cuts (own - p) p (drop p hand) places)
 
 drop_at : (xs : List Id) (p : ℕ) (d : Id) → p < length xs → drop p xs ≡ get_or xs p d ∷ drop (suc p) xs
 drop_at [] p d lt = absurd (omega (arith, lt))
@@ -35,15 +36,16 @@ step own hand places p id lt le is =
     ∙ ap (λ k. cuts id (halvings id (named places p) + 1) ++ first_cuts (own - (p + 1)) (p + 1) (drop k hand) places) (plus_one p)))
 
 pub first_none : (here own : ℕ) (hand : List Id) (places : List ℕ) (before : List Entry) (spare : ℕ) → length (first_cuts own 0 hand places) ≤ spare
-    → IsCuttingFirst here own hand places 0 before before spare
+    → IsCuttingFirst here own hand places 0 before before spare spare
 first_none here own hand places before spare le =
     let same : first_cuts (own - 0) 0 (drop 0 hand) places ≡ first_cuts own 0 hand places = ap (λ k. first_cuts k 0 hand places) (omega arith) in record {
       written = ap (λ es. before ++ at_all here es) same;
       page = omega (arith, le, ap (λ (es : List Event). length es) same);
+      used = omega (arith, ap (λ (es : List Event). length es) same);
     }
 
-module _ (here own : ℕ) (hand : List Id) (places : List ℕ) (p : ℕ) (id : Id) (before now then : List Entry) (spare left : ℕ) (lt : p < own) (le : own ≤ length hand)
-    (is : id ≡ get_or hand p id) (h : IsCuttingFirst here own hand places p before now spare) where
+module _ (here own : ℕ) (hand : List Id) (places : List ℕ) (p : ℕ) (id : Id) (before now then : List Entry) (first spare left : ℕ) (lt : p < own) (le : own ≤ length hand)
+    (is : id ≡ get_or hand p id) (h : IsCuttingFirst here own hand places p before now first spare) where
   pub one_lasts : Lasts id (halvings id (named places p) + 1)
   one_lasts = omega (arith, halvings_have id (named places p))
 
@@ -56,7 +58,7 @@ module _ (here own : ℕ) (hand : List Id) (places : List ℕ) (p : ℕ) (id : I
   )
 
   pub first_next : then ≡ now ++ at_all here (cuts id (halvings id (named places p) + 1))
-      → left + length (cuts id (halvings id (named places p) + 1)) ≡ spare → IsCuttingFirst here own hand places (p + 1) before then left
+      → left + length (cuts id (halvings id (named places p) + 1)) ≡ spare → IsCuttingFirst here own hand places (p + 1) before then first left
   first_next grows page =
       let rest = first_cuts (own - (p + 1)) (p + 1) (drop (p + 1) hand) places in
       let one = cuts id (halvings id (named places p) + 1) in record {
@@ -71,13 +73,26 @@ module _ (here own : ℕ) (hand : List Id) (places : List ℕ) (p : ℕ) (id : I
           ap (λ (es : List Event). length es) (step own hand places p id lt le is),
           length-append (cuts id (halvings id (named places p) + 1)) (first_cuts (own - (p + 1)) (p + 1) (drop (p + 1) hand) places),
         );
+        used = omega (
+          arith,
+          page,
+          h.used,
+          ap (λ (es : List Event). length es) (step own hand places p id lt le is),
+          length-append (cuts id (halvings id (named places p) + 1)) (first_cuts (own - (p + 1)) (p + 1) (drop (p + 1) hand) places),
+        );
       }
 
-pub first_last : (here own : ℕ) (hand : List Id) (places : List ℕ) (p : ℕ) (before now : List Entry) (spare : ℕ) → own ≤ p
-    → IsCuttingFirst here own hand places p before now spare → now ≡ before ++ at_all here (first_cuts own 0 hand places)
-first_last here own hand places p before now spare le h =
+pub first_last : (here own : ℕ) (hand : List Id) (places : List ℕ) (p : ℕ) (before now : List Entry) (first spare : ℕ) → own ≤ p
+    → IsCuttingFirst here own hand places p before now first spare → now ≡ before ++ at_all here (first_cuts own 0 hand places)
+first_last here own hand places p before now first spare le h =
     let none : own - p ≡ 0 = omega (arith, le) in
     sym (append-nil now) ∙ (ap (λ k. now ++ at_all here (first_cuts k p (drop p hand) places)) (sym none) ∙ h.written)
+
+pub first_page : (here own : ℕ) (hand : List Id) (places : List ℕ) (p : ℕ) (before now : List Entry) (first spare : ℕ) → own ≤ p
+    → IsCuttingFirst here own hand places p before now first spare → spare + length (first_cuts own 0 hand places) ≡ first
+first_page here own hand places p before now first spare le h =
+    let none : own - p ≡ 0 = omega (arith, le) in
+    omega (arith, h.used, ap (λ k. length (first_cuts k p (drop p hand) places)) none)
 
 -- there are no more of them than splits of a commit
 pub first_few : (k p : ℕ) (xs ys : List Id) (places : List ℕ) → length xs ≡ length ys

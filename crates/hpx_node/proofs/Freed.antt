@@ -39,7 +39,7 @@ use Rattle.hpx_node.proofs.Sums.{weigh, weigh_append, weigh_remove, tokens_sum, 
 use Rattle.hpx_node.proofs.Steps.{Tells, tells_leads}
 use Rattle.hpx_node.proofs.InHand.{hand_sum}
 use Rattle.hpx_node.proofs.Bare.{target-bare}
-use Rattle.hpx_node.proofs.Cover.{held_acts, held_messages, tidy_covers}
+use Rattle.hpx_node.proofs.Cover.{held_acts, held_messages}
 use Rattle.hpx_node.proofs.Pausing.{none_of, or_false, found_passes, freed_whole, freed_paused}
 use Rattle.hpx_node.specs.Idle.{PaysFor}
 use Rattle.hpx_node.specs.Routes.{with_returns, ids_in}
@@ -270,12 +270,12 @@ module _ (r : Rules) (t t' : Tables) (o : Id) (x : Standing) (i spare : ℕ) (is
 pub without_whole : (t : Tables) (o : Id) (x : Standing) (i : ℕ) → slice_get t.objects i ≡ Some x → find (is_standing o) t.objects ≡ Some x
     → waits_here t o ≡ false → IsTidy t [] → AllByRecursion HasRightCredit x.state.ids
 without_whole t o x i there found idle tidy =
-    freed_whole t.here t.objects t.running t.pending i x there o (found_passes o t.objects x found) idle tidy.paused
+    freed_whole t.here t.localities t.profile.credit_log t.objects t.running t.pending i x there o (found_passes o t.objects x found) idle tidy.paused
 
 pub without_tidy : (t : Tables) (o : Id) (x : Standing) (i spare : ℕ) → slice_get t.objects i ≡ Some x → find (is_standing o) t.objects ≡ Some x
     → waits_here t o ≡ false → IsTidy t [] → IsTidy (record t { objects = remove t.objects i; spare = spare }) []
 without_tidy t o x i spare there found idle tidy = record {
-  paused = freed_paused t.here t.objects t.running t.pending i x there o (found_passes o t.objects x found) idle tidy.paused;
+  paused = freed_paused t.here t.localities t.profile.credit_log t.objects t.running t.pending i x there o (found_passes o t.objects x found) idle tidy.paused;
   accepted = tidy.accepted;
   running = tidy.running;
   objects = all_remove IsKept t.objects i tidy.objects;

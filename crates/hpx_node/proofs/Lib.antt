@@ -9,6 +9,14 @@ pub mod Mailed
 pub mod Messages
 pub mod Cutting
 pub mod Settled
+pub mod LaterIds
+pub mod HandPuts
+pub mod ShortHand
+pub mod SomeShort
+pub mod Lacking
+pub mod Asking
+pub mod Waited
+pub mod SplitHand
 pub mod Splits
 pub mod Stays
 pub mod Steps

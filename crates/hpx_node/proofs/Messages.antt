@@ -91,6 +91,14 @@ module _ (p : Parcel) (t t' : Tables) (mails : Mails p t t') where
       ∙ (ap (λ zs. map bare_act t.accepted ++ zs) (middle (λ q. acts_in (Some q)) mails.front mails.back p)
       ∙ sym (append_assoc (map bare_act t.accepted) (flat_map (λ q. acts_in (Some q)) mails.front) (acts_in (Some p) ++ mails_back))))
 
+  -- what it has nothing of stays
+  pub mails_without : {Y : Type 0} (f : Parcel → List Y) → f p ≡ [] → flat_map f (messages t') ≡ flat_map f (messages t)
+  mails_without f none =
+      ap (flat_map f) mails.after
+      ∙ (middle f mails.front mails.back p
+      ∙ (ap (λ xs. flat_map f mails.front ++ (xs ++ flat_map f mails.back)) none
+      ∙ (sym (flat_append f mails.front mails.back) ∙ ap (flat_map f) (sym mails.before))))
+
 -- an action that is mailed
 posted : (act : Act) (t t' : Tables) (p : Parcel) → Mails p t t' → acts_in (Some p) ≡ bare_act act ∷ [] → asks_in (Some p) ≡ []
     → frees_in p ≡ [] → parcel_tokens p ≡ tokens_of act.ids → ((row : Row) → weight row p ≡ of_act row)
@@ -103,19 +111,12 @@ posted act t t' p mails one no_asks no_frees toks weighs waits = record {
   before = mails_before p t t' mails;
   after = mails_after p t t' mails ∙ ap (λ xs. mails_front p t t' mails ++ (xs ++ mails_back p t t' mails)) one;
   tidy = mails.tidy;
-  asks = same_without (λ q. asks_in (Some q)) no_asks;
-  frees = same_without frees_in no_frees;
+  asks = mails_without p t t' mails (λ q. asks_in (Some q)) no_asks;
+  frees = mails_without p t t' mails frees_in no_frees;
   tokens = λ f. mails_tokens p t t' mails f ∙ ap (λ xs. sum_by f (tokens t) + sum_by f xs) toks;
   more = λ row. omega (arith, mails_pending p t t' mails row, weighs row);
   goes = waits;
 }
-  where
-    same_without : (f : Parcel → List Id) → f p ≡ [] → flat_map f (messages t') ≡ flat_map f (messages t)
-    same_without f none =
-        ap (flat_map f) mails.after
-        ∙ (middle f mails.front mails.back p
-        ∙ (ap (λ xs. flat_map f mails.front ++ (xs ++ flat_map f mails.back)) none
-        ∙ (sym (flat_append f mails.front mails.back) ∙ ap (flat_map f) (sym mails.before))))
 
 pub mailed_posts : (act : Act) (t t' : Tables) → Mails (parcel_for act) t t' → t' ≡ record (with_act act t) { spare = t'.spare } → Posts act t t'
 mailed_posts act t t' mails waits = elim (cases_Bool (act.code == 1)) [

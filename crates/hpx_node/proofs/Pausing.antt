@@ -108,10 +108,10 @@ apart_behind (x ∷ l) act m h = apart_behind l act m h.1
 
 -- ---- an action is fired
 
-pub fired_paused : (here : ℕ) (objects : List Standing) (running : List Act) (pending : List Waits) (act : Act)
-    → is_busy (target_of act) (fired_of running pending) ≡ false → ArePaused here objects running pending
-    → ArePaused here objects (running ++ act ∷ []) pending
-fired_paused here objects running pending act free h = record {
+pub fired_paused : (here n log : ℕ) (objects : List Standing) (running : List Act) (pending : List Waits) (act : Act)
+    → is_busy (target_of act) (fired_of running pending) ≡ false → ArePaused here n log objects running pending
+    → ArePaused here n log objects (running ++ act ∷ []) pending
+fired_paused here n log objects running pending act free h = record {
   each = h.each;
   apart = subst Apart (sym (append_assoc running (act ∷ []) (map action_of pending))) (apart_more running act (map action_of pending) h.apart free);
   whole = h.whole;
@@ -124,8 +124,8 @@ found_passes o xs x h = find_passes (is_standing o) xs x h
 
 -- ---- an action that runs
 
-module _ (here : ℕ) (objects : List Standing) (running : List Act) (pending : List Waits) (i : ℕ) (act : Act) (runs : slice_get running i ≡ Some act)
-    (h : ArePaused here objects running pending) where
+module _ (here n log : ℕ) (objects : List Standing) (running : List Act) (pending : List Waits) (i : ℕ) (act : Act) (runs : slice_get running i ≡ Some act)
+    (h : ArePaused here n log objects running pending) where
   pub split : fired_of running pending ≡ take i running ++ act ∷ (drop (suc i) running ++ map action_of pending)
   split = ap (λ xs. xs ++ map action_of pending) (split_get running i act runs)
       ∙ append_assoc (take i running) (act ∷ drop (suc i) running) (map action_of pending)
@@ -147,14 +147,14 @@ module _ (here : ℕ) (objects : List Standing) (running : List Act) (pending : 
       (sym (busy_same (target_of act) x.object (map action_of pending) same) ∙ runs_alone)
 
 -- an action that runs and its object are a job
-pub fit_job : (here : ℕ) (objects : List Standing) (running : List Act) (pending : List Waits) (job : Job) (i j : ℕ) (x : Standing)
-    → AllByRecursion IsFit running → ArePaused here objects running pending → slice_get running i ≡ Some job.action
+pub fit_job : (here n log : ℕ) (objects : List Standing) (running : List Act) (pending : List Waits) (job : Job) (i j : ℕ) (x : Standing)
+    → AllByRecursion IsFit running → ArePaused here n log objects running pending → slice_get running i ≡ Some job.action
     → find (is_standing (target_of job.action)) objects ≡ Some x → slice_get objects j ≡ Some x → IsKept x → x.state ≡ job.state → IsFitJob job
-fit_job here objects running pending job i j x fit paused runs found stands kept state = record {
+fit_job here n log objects running pending job i j x fit paused runs found stands kept state = record {
   action = all_at IsFit running i job.action fit runs;
   state = subst IsState state kept.state;
   credit = subst (λ (s : State). AllByRecursion HasRightCredit s.ids) state
-      (runs_whole here objects running pending i job.action runs paused j x stands (found_passes (target_of job.action) objects x found));
+      (runs_whole here n log objects running pending i job.action runs paused j x stands (found_passes (target_of job.action) objects x found));
 }
 
 -- ---- ids without credit
@@ -207,11 +207,13 @@ set_same (z ∷ xs) zero x h = let e : z ≡ x = some_same z x h in rw e refl
 set_same (z ∷ xs) (suc i) x h = ap (λ zs. z ∷ zs) (set_same xs i x h)
 
 -- its object is found as well among other objects
-paused_on : (here : ℕ) (xs ys : List Standing) (w : Waits) (h : IsPaused here xs w)
-    → find (is_standing (target_of w.job.action)) ys ≡ Some h.standing → IsPaused here ys w
-paused_on here xs ys w h found = record {
+paused_on : (here n log : ℕ) (xs ys : List Standing) (w : Waits) (h : IsPaused here n log xs w)
+    → find (is_standing (target_of w.job.action)) ys ≡ Some h.standing → IsPaused here n log ys w
+paused_on here n log xs ys w h found = record {
   job = h.job;
   here = h.here;
+  localities = h.localities;
+  few = h.few;
   standing = h.standing;
   found = found;
   kind = h.kind;
@@ -219,13 +221,14 @@ paused_on here xs ys w h found = record {
   hand = h.hand;
   within = h.within;
   once = h.once;
+  split = h.split;
 }
 
 -- ---- an object on which no commit waits is freed
 
-module _ (here : ℕ) (objects : List Standing) (running : List Act) (pending : List Waits) (i : ℕ) (x : Standing) (there : slice_get objects i ≡ Some x)
+module _ (here n log : ℕ) (objects : List Standing) (running : List Act) (pending : List Waits) (i : ℕ) (x : Standing) (there : slice_get objects i ≡ Some x)
     (o : Id) (same : same_object o x.object ≡ true) (idle : list_any (λ (w : Waits). acts_on o w.job.action) pending ≡ false)
-    (h : ArePaused here objects running pending) where
+    (h : ArePaused here n log objects running pending) where
   other : (w : Waits) → acts_on o w.job.action ≡ false → is_standing (target_of w.job.action) x ≡ false
   other w none = elim (cases_Bool (same_object (target_of w.job.action) x.object)) [
     | inr f ↦ f
@@ -234,17 +237,17 @@ module _ (here : ℕ) (objects : List Standing) (running : List Act) (pending : 
         absurd (let e : true ≡ false = sym back ∙ (sym (same_object-from o x.object (target_of w.job.action) same) ∙ none) in cc)
   ]
 
-  each_less : (ws : List Waits) → list_any (λ (w : Waits). acts_on o w.job.action) ws ≡ false → AllByRecursion (IsPaused here objects) ws
-      → AllByRecursion (IsPaused here (remove objects i)) ws
+  each_less : (ws : List Waits) → list_any (λ (w : Waits). acts_on o w.job.action) ws ≡ false → AllByRecursion (IsPaused here n log objects) ws
+      → AllByRecursion (IsPaused here n log (remove objects i)) ws
   each_less [] none all = tt
   each_less (w ∷ ws) none all =
       let rest = none_of (acts_on o w.job.action) (list_any (λ (y : Waits). acts_on o y.job.action) ws) none in (
-        paused_on here objects (remove objects i) w all.0
+        paused_on here n log objects (remove objects i) w all.0
             (find_removed (is_standing (target_of w.job.action)) objects i x there (other w rest.0) ∙ all.0.found),
         each_less ws rest.1 all.1,
       )
 
-  pub freed_paused : ArePaused here (remove objects i) running pending
+  pub freed_paused : ArePaused here n log (remove objects i) running pending
   freed_paused = record {
     each = each_less pending idle h.each;
     apart = h.apart;
@@ -270,9 +273,9 @@ none_bare : (o : Id) (xs : List Standing) → AllByRecursion (λ (x : Standing).
 none_bare o [] h = refl
 none_bare o (x ∷ xs) h = omega (arith, sum_by-cons (λ (y : Standing). bare_names o y.state.ids) x xs, none_bare o xs h.1, ap (bare_names o) h.0)
 
-module _ (here : ℕ) (objects : List Standing) (running : List Act) (pending : List Waits) (i j : ℕ) (act : Act) (old new : Standing) (made : List Standing)
+module _ (here n log : ℕ) (objects : List Standing) (running : List Act) (pending : List Waits) (i j : ℕ) (act : Act) (old new : Standing) (made : List Standing)
     (runs : slice_get running i ≡ Some act) (stands : slice_get objects j ≡ Some old) (same : same_object (target_of act) old.object ≡ true)
-    (name : new.object ≡ old.object) (plain : old.object.kind ≡ 7 → new ≡ old) (h : ArePaused here objects running pending) where
+    (name : new.object ≡ old.object) (plain : old.object.kind ≡ 7 → new ≡ old) (h : ArePaused here n log objects running pending) where
   abbrev then : List Standing
   then = set (objects ++ made) j new
 
@@ -302,39 +305,39 @@ module _ (here : ℕ) (objects : List Standing) (running : List Act) (pending : 
       at true e z = eqb-true (target_of act).kind 7 e
       at false e z = absurd (cc)
 
-  each_then : (ws : List Waits) → is_busy (target_of act) (map action_of ws) ≡ false → AllByRecursion (IsPaused here objects) ws
-      → AllByRecursion (IsPaused here (set (objects ++ made) j new)) ws
+  each_then : (ws : List Waits) → is_busy (target_of act) (map action_of ws) ≡ false → AllByRecursion (IsPaused here n log objects) ws
+      → AllByRecursion (IsPaused here n log (set (objects ++ made) j new)) ws
   each_then [] none all = tt
   each_then (w ∷ ws) none all =
       let rest = busy_none (target_of act) w.job.action (map action_of ws) none in (
-        paused_on here objects then w all.0 (found_then (target_of w.job.action) all.0.standing (only_plain w rest.0) all.0.found),
+        paused_on here n log objects then w all.0 (found_then (target_of w.job.action) all.0.standing (only_plain w rest.0) all.0.found),
         each_then ws rest.1 all.1,
       )
 
-  pub paused_among : AllByRecursion (IsPaused here (set (objects ++ made) j new)) pending
-  paused_among = each_then pending (runs_alone here objects running pending i act runs h) h.each
+  pub paused_among : AllByRecursion (IsPaused here n log (set (objects ++ made) j new)) pending
+  paused_among = each_then pending (runs_alone here n log objects running pending i act runs h) h.each
 
 -- another state of an object that has no commit that waits
-pub paused_set : (here : ℕ) (objects : List Standing) (running : List Act) (pending : List Waits) (i j : ℕ) (act : Act) (old new : Standing)
+pub paused_set : (here n log : ℕ) (objects : List Standing) (running : List Act) (pending : List Waits) (i j : ℕ) (act : Act) (old new : Standing)
     → slice_get running i ≡ Some act → slice_get objects j ≡ Some old → same_object (target_of act) old.object ≡ true → new.object ≡ old.object
-    → (old.object.kind ≡ 7 → new ≡ old) → ArePaused here objects running pending → AllByRecursion (IsPaused here (set objects j new)) pending
-paused_set here objects running pending i j act old new runs stands same name plain h =
-    subst (λ xs. AllByRecursion (IsPaused here (set xs j new)) pending) (append-nil objects)
-    (paused_among here objects running pending i j act old new [] runs stands same name plain h)
+    → (old.object.kind ≡ 7 → new ≡ old) → ArePaused here n log objects running pending → AllByRecursion (IsPaused here n log (set objects j new)) pending
+paused_set here n log objects running pending i j act old new runs stands same name plain h =
+    subst (λ xs. AllByRecursion (IsPaused here n log (set xs j new)) pending) (append-nil objects)
+    (paused_among here n log objects running pending i j act old new [] runs stands same name plain h)
 
-module _ (here : ℕ) (objects : List Standing) (running : List Act) (pending : List Waits) (i j : ℕ) (act : Act) (old new : Standing) (made : List Standing)
+module _ (here n log : ℕ) (objects : List Standing) (running : List Act) (pending : List Waits) (i j : ℕ) (act : Act) (old new : Standing) (made : List Standing)
     (runs : slice_get running i ≡ Some act) (stands : slice_get objects j ≡ Some old) (same : same_object (target_of act) old.object ≡ true)
     (name : new.object ≡ old.object) (plain : old.object.kind ≡ 7 → new ≡ old) (paid : AllByRecursion HasRightCredit new.state.ids)
-    (alone : AllByRecursion (λ (x : Standing). x.state.ids ≡ []) made) (h : ArePaused here objects running pending) where
+    (alone : AllByRecursion (λ (x : Standing). x.state.ids ≡ []) made) (h : ArePaused here n log objects running pending) where
   made_whole : (xs : List Standing) → AllByRecursion (λ (x : Standing). x.state.ids ≡ []) xs
       → AllByRecursion (λ (x : Standing). is_busy x.object (map action_of pending) ≡ false → AllByRecursion HasRightCredit x.state.ids) xs
   made_whole [] none = tt
   made_whole (x ∷ xs) none = ((λ b. subst (AllByRecursion HasRightCredit) (sym none.0) tt), made_whole xs none.1)
 
-  pub done_paused : ArePaused here (set (objects ++ made) j new) (remove running i) pending
+  pub done_paused : ArePaused here n log (set (objects ++ made) j new) (remove running i) pending
   done_paused = record {
-    each = paused_among here objects running pending i j act old new made runs stands same name plain h;
-    apart = apart_then here objects running pending i act runs h;
+    each = paused_among here n log objects running pending i j act old new made runs stands same name plain h;
+    apart = apart_then here n log objects running pending i act runs h;
     whole = all_set (λ (x : Standing). is_busy x.object (map action_of pending) ≡ false → AllByRecursion HasRightCredit x.state.ids) (objects ++ made) j new
         (all_append (λ (x : Standing). is_busy x.object (map action_of pending) ≡ false → AllByRecursion HasRightCredit x.state.ids) objects made h.whole (made_whole made alone))
         (λ b. paid);

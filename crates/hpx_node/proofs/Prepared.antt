@@ -26,7 +26,7 @@ listed_few : (c : Option Cont) → length (listed c) ≤ 1
 listed_few None = omega arith
 listed_few (Some c) = omega arith
 
-action_few : (act : Act) → IsAct act → length act.ids ≤ 34
+pub action_few : (act : Act) → IsAct act → length act.ids ≤ 34
 action_few act h = omega (arith, h.ids, h.few_refs, listed_few act.cont)
 
 module _ (n : ℕ) (job : Job) (out : Outcome) (laws : KeepsLaws n job.kind job.at job.state job.action out) (fit : IsFitJob job) where

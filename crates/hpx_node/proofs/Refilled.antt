@@ -1,5 +1,5 @@
 -- Credit that was asked for is given to a commit that waits for it.
-use Rattle.std.proofs.Common.{ℕ, zero, suc, Bool, true, false, cond, List, [], ◌∷◌, ◌++◌, ◌≡◌, ◌+◌, ◌≤◌, ◌<◌, ◌==◌, Option, Some, None, map, set, take, drop, length, length-append, get_or, refl, sym, ap, ◌∙◌, arith, inl, inr, subst}
+use Rattle.std.proofs.Common.{ℕ, zero, suc, Bool, true, false, cond, List, [], ◌∷◌, ◌++◌, ◌≡◌, ◌≢◌, ◌+◌, ◌≤◌, ◌<◌, ◌==◌, Option, Some, None, map, set, take, drop, length, length-append, get_or, refl, sym, ap, ◌∙◌, arith, inl, inr, subst}
 use Rattle.std.specs.Prelude.{flat_map, ◌&&◌, ◌⊎◌, not, is_some, MatchOption}
 use Rattle.std.specs.List.{sum_by, count_by, filter, find, list_any, slice_get, remove, AllByRecursion}
 use Rattle.std.proofs.lemmas.Bool.{cases_Bool, eqb-true, eq-eqb}
@@ -24,69 +24,21 @@ use Rattle.hpx_part.proofs.Lists.{sum_middle}
 use Rattle.hpx_part.proofs.Keyed.{counts_of, counts_true, any_counted, counted_any, split_get, find_step, get_slice_get}
 use Rattle.hpx_commit.specs.Deals.{is_managed, log_of}
 use Rattle.hpx_node.specs.Pending.{Asked, Waits, action_of, fired_of, ids_named, own_ids, is_asked, asking_of, refusal_of, refusals_of, is_asked_for, refilled, Refills}
-use Rattle.hpx_node.specs.Paused.{Apart, IsPaused, ArePaused}
+use Rattle.hpx_node.specs.Paused.{Apart, whole_stock, IsShort, HasSplit, IsPaused, ArePaused}
 use Rattle.hpx_node.specs.Tables.{Tables, fired_acts}
 use Rattle.hpx_node.specs.Seen.{tokens, asks, view}
 use Rattle.hpx_node.specs.Stands.{IsTidy, rules_of}
 use Rattle.hpx_node.specs.Strange.{brings_right}
 use Rattle.hpx_node.specs.Handled.{in_hand, TakesUp, Handles}
 use Rattle.hpx_node.proofs.Alls.{some_same, find_passes, all_at, all_remove, all_set}
+use Rattle.hpx_node.proofs.HandPuts.{put_there, put_elsewhere, put_names, put_weighs, put_behind, put_asked}
 use Rattle.hpx_node.proofs.GivenUp.{weigh_none, weigh_some, owed_some}
 use Rattle.hpx_node.proofs.InHand.{hand_sum}
 use Rattle.hpx_node.proofs.IdleCounts.{pays_given}
+use Rattle.hpx_node.proofs.LaterIds.{long_names}
+use Rattle.hpx_node.proofs.SplitHand.{not_asked}
 use Rattle.hpx_node.proofs.Steps.{Tells, tells_leads}
-use Rattle.hpx_node.proofs.Sums.{weigh, weigh_append, weigh_set, tokens_sum, view_sum}
-
--- ---- an id that is put at a place
-
-at_place : (ids : List Id) (p : ℕ) → p < length ids → slice_get ids p ≡ Some (id_at ids p)
-at_place [] p lt = absurd (omega (arith, lt))
-at_place (x ∷ xs) zero lt = refl
-at_place (x ∷ xs) (suc p) lt = at_place xs p (omega (arith, lt))
-
-put_there : (ids : List Id) (p : ℕ) (y : Id) → p < length ids → id_at (set ids p y) p ≡ y
-put_there [] p y lt = absurd (omega (arith, lt))
-put_there (x ∷ xs) zero y lt = refl
-put_there (x ∷ xs) (suc p) y lt = put_there xs p y (omega (arith, lt))
-
-put_elsewhere : (ids : List Id) (p q : ℕ) (y : Id) → (q ≡ p → ⊥) → id_at (set ids p y) q ≡ id_at ids q
-put_elsewhere [] p q y ne = refl
-put_elsewhere (x ∷ xs) zero zero y ne = absurd (ne refl)
-put_elsewhere (x ∷ xs) zero (suc q) y ne = refl
-put_elsewhere (x ∷ xs) (suc p) zero y ne = refl
-put_elsewhere (x ∷ xs) (suc p) (suc q) y ne = put_elsewhere xs p q y (λ e. ne (ap suc e))
-
-put_names : (n : ℕ) (ids : List Id) (p : ℕ) (y : Id) → p < length ids → bare y ≡ bare (id_at ids p) → map bare (take n (set ids p y)) ≡ map bare (take n ids)
-put_names zero ids p y lt e = refl
-put_names (suc n) [] p y lt e = refl
-put_names (suc n) (x ∷ xs) zero y lt e = ap (λ z. z ∷ map bare (take n xs)) e
-put_names (suc n) (x ∷ xs) (suc p) y lt e = ap (λ zs. bare x ∷ zs) (put_names n xs p y (omega (arith, lt)) e)
-
-put_weighs : (f : Token → ℕ) (ids : List Id) (p : ℕ) (y : Id) → p < length ids
-    → weigh f (set ids p y) + weigh f (id_at ids p ∷ []) ≡ weigh f ids + weigh f (y ∷ [])
-put_weighs f [] p y lt = absurd (omega (arith, lt))
-put_weighs f (x ∷ xs) zero y lt = omega (arith, weigh_append f (x ∷ []) xs, weigh_append f (y ∷ []) xs)
-put_weighs f (x ∷ xs) (suc p) y lt =
-    omega (arith, weigh_append f (x ∷ []) (set xs p y), weigh_append f (x ∷ []) xs, put_weighs f xs p y (omega (arith, lt)))
-
--- one less was asked for
-put_asked : (o : Id) (n : ℕ) (ids : List Id) (p : ℕ) (y : Id) → p < n → p < length ids → is_asked (id_at ids p) ≡ true → is_asked y ≡ false
-    → count_by (same_object o) (filter is_asked (take n ids))
-    ≡ count_by (same_object o) (filter is_asked (take n (set ids p y))) + cond (same_object o (id_at ids p)) 1 0
-put_asked o zero ids p y lt inside was now = absurd (omega (arith, lt))
-put_asked o (suc n) [] p y lt inside was now = absurd (omega (arith, inside))
-put_asked o (suc n) (x ∷ xs) zero y lt inside was now =
-    rw (was, now) (omega (arith, sum_by-cons (λ z. cond (same_object o z) 1 0) x (filter is_asked (take n xs))))
-put_asked o (suc n) (x ∷ xs) (suc p) y lt inside was now = elim (cases_Bool (is_asked x)) [
-  | inl t ↦ rw t
-      (omega (
-        arith,
-        put_asked o n xs p y (omega (arith, lt)) (omega (arith, inside)) was now,
-        sum_by-cons (λ z. cond (same_object o z) 1 0) x (filter is_asked (take n xs)),
-        sum_by-cons (λ z. cond (same_object o z) 1 0) x (filter is_asked (take n (set xs p y))),
-      ))
-  | inr f ↦ rw f (put_asked o n xs p y (omega (arith, lt)) (omega (arith, inside)) was now)
-]
+use Rattle.hpx_node.proofs.Sums.{weigh_set, tokens_sum, view_sum}
 
 -- ---- lists with one other element
 
@@ -157,18 +109,14 @@ among_fired f g (a ∷ running) pending i w h = omega (
   sum_by-cons f (g (bare_act a)) (map g (map bare_act (fired_of running pending))),
 )
 
-pub long_names : (ids : List Id) → length (map bare ids) ≡ length ids
-long_names [] = refl
-long_names (x ∷ xs) = ap suc (long_names xs)
-
 short_take : (n : ℕ) (ids : List Id) → length (take n ids) ≤ length ids
 short_take zero ids = omega arith
 short_take (suc n) [] = omega arith
 short_take (suc n) (x ∷ xs) = omega (arith, short_take n xs)
 
 -- the hand has all that its object and its action name
-pub hand_long : (k : ℕ) (objects : List Standing) (w : Waits) → IsPaused k objects w → length (ids_named w) ≤ length w.hand
-hand_long k objects w h = omega (
+pub hand_long : (k l log : ℕ) (objects : List Standing) (w : Waits) → IsPaused k l log objects w → length (ids_named w) ≤ length w.hand
+hand_long k l log objects w h = omega (
   arith,
   ap (λ (ids : List Id). length ids) h.hand,
   long_names (own_ids w),
@@ -181,8 +129,8 @@ lower_all n m le [] h = tt
 lower_all n m le (x ∷ xs) h = (let lt = h.0 in omega (arith, lt, le), lower_all n m le xs h.1)
 
 -- so what was asked for is in it
-pub asked_within : (k : ℕ) (objects : List Standing) (w : Waits) → IsPaused k objects w → AllByRecursion (λ (x : Asked). x.place < length w.hand) w.asked
-asked_within k objects w h = lower_all (length (ids_named w)) (length w.hand) (hand_long k objects w h) w.asked h.within
+pub asked_within : (k l log : ℕ) (objects : List Standing) (w : Waits) → IsPaused k l log objects w → AllByRecursion (λ (x : Asked). x.place < length w.hand) w.asked
+asked_within k l log objects w h = lower_all (length (ids_named w)) (length w.hand) (hand_long k l log objects w h) w.asked h.within
 
 credit_asks_none : (id : Id) → HasCredit id → is_asked id ≡ false
 credit_asks_none id h = at id.log h
@@ -204,8 +152,31 @@ asked_bare id h = at id.log refl (and_true (is_managed id) (not (is_some id.log)
 
 -- ---- the commit that gets it
 
-module _ (k : ℕ) (objects : List Standing) (w : Waits) (n : ℕ) (ask : Asked) (id : Id) (entry : ℕ) (paused : IsPaused k objects w)
-    (there : slice_get w.asked n ≡ Some ask) (for : is_asked_for w id entry ask ≡ true) (credit : HasCredit id) where
+own_log : (id : Id) → HasCredit id → id.log ≡ Some (log_of id.log)
+own_log id h = at id.log refl h
+  where
+    at : (log : Option ℕ) → id.log ≡ log → MatchOption log ⊥ (λ l. 16 ≤ id.kind) → id.log ≡ Some (log_of id.log)
+    at None e n = absurd n
+    at (Some l) e n = e ∙ ap (λ o. Some (log_of o)) (sym e)
+
+-- one of log 0 is refused
+refused_some : (b : Bool) (o : Id) (was : Option Id) → b ≡ true → cond b (Some o) was ≢ None
+refused_some true o was e = λ none. cc
+refused_some false o was e = absurd (cc)
+
+-- and stays so
+refused_still : (b : Bool) (o : Id) (was : Option Id) → was ≢ None → cond b (Some o) was ≢ None
+refused_still true o was h = λ none. cc
+refused_still false o was h = h
+
+short_still : (log : ℕ) (b : Bool) (o : Id) (was : Option Id) (id : Id) → IsShort log was id → IsShort log (cond b (Some o) was) id
+short_still log b o was id (inl none) = inl none
+short_still log b o was id (inr (inl more)) = inr (inl more)
+short_still log b o was id (inr (inr least)) = inr (inr (least.0, refused_still b o was least.1))
+
+module _ (k l log : ℕ) (objects : List Standing) (w : Waits) (n : ℕ) (ask : Asked) (id : Id) (entry : ℕ) (paused : IsPaused k l log objects w)
+    (there : slice_get w.asked n ≡ Some ask) (for : is_asked_for w id entry ask ≡ true) (credit : HasCredit id)
+    (brings : (log_of id.log ≡ 0) ⊎ (log_of id.log ≡ log)) where
   abbrev pub then : Waits
   then = refilled n ask.place id w
 
@@ -213,7 +184,7 @@ module _ (k : ℕ) (objects : List Standing) (w : Waits) (n : ℕ) (ask : Asked)
   low = all_at (λ (x : Asked). x.place < length (ids_named w)) w.asked n ask paused.within there
 
   pub inside : ask.place < length w.hand
-  inside = omega (arith, low, hand_long k objects w paused)
+  inside = omega (arith, low, hand_long k l log objects w paused)
 
   pub same : bare id ≡ bare (id_at w.hand ask.place)
   same = same_object-true id (id_at w.hand ask.place) (and_true (ask.entry == entry) (same_object id (id_at w.hand ask.place)) for).1
@@ -261,10 +232,53 @@ module _ (k : ℕ) (objects : List Standing) (w : Waits) (n : ℕ) (ask : Asked)
         )
   ]
 
-  pub still_paused : IsPaused k objects (refilled n ask.place id w)
+  given_short : IsShort log then.refused id
+  given_short = elim brings [
+    | inl z ↦
+        inr (inr (
+          own_log id credit ∙ ap Some z,
+          refused_some (log_of id.log == 0) (bare id) w.refused (eq-eqb (log_of id.log) 0 z),
+        ))
+    | inr e ↦ inr (inl (own_log id credit ∙ ap Some e))
+  ]
+
+  -- what is put there does not last, as one that was asked for
+  split_then : HasSplit log (refilled n ask.place id w)
+  split_then = record {
+    made = paused.split.made;
+    kinds = paused.split.kinds;
+    bare = paused.split.bare;
+    within = paused.split.within;
+    places = paused.split.places;
+    rest = put_behind (length (ids_named w)) w.hand ask.place id low ∙ paused.split.rest;
+    own = λ p lt lasting. elim (cases_Bool (p == ask.place)) [
+      | inl t ↦
+          let e : p ≡ ask.place = eqb-true p ask.place t in
+          let was : is_asked (id_at w.hand p) ≡ true = subst (λ q. is_asked (id_at w.hand q) ≡ true) (sym e) was_asked in
+          let none : is_asked (id_at w.hand p) ≡ false =
+          ap is_asked (paused.split.own p lt lasting)
+          ∙ not_asked w.job paused.split.made (whole_stock w paused.split.made).places paused.job paused.split.within p lt in
+          absurd (let no : true ≡ false = sym was ∙ none in cc)
+      | inr f ↦
+          put_elsewhere w.hand ask.place p id (λ e. let t : true ≡ false = sym (eq-eqb p ask.place e) ∙ f in cc) ∙ paused.split.own p lt lasting
+    ];
+    short = λ p lt none. elim (cases_Bool (p == ask.place)) [
+      | inl t ↦
+          subst (λ q. IsShort log then.refused (id_at then.hand q)) (sym (eqb-true p ask.place t))
+          (subst (IsShort log then.refused) (sym (put_there w.hand ask.place id inside)) given_short)
+      | inr f ↦
+          subst (IsShort log then.refused)
+          (sym (put_elsewhere w.hand ask.place p id (λ e. let t : true ≡ false = sym (eq-eqb p ask.place e) ∙ f in cc)))
+          (short_still log (log_of id.log == 0) (bare id) w.refused (id_at w.hand p) (paused.split.short p lt none))
+    ];
+  }
+
+  pub still_paused : IsPaused k l log objects (refilled n ask.place id w)
   still_paused = record {
     job = paused.job;
     here = paused.here;
+    localities = paused.localities;
+    few = paused.few;
     standing = paused.standing;
     found = paused.found;
     kind = paused.kind;
@@ -272,18 +286,19 @@ module _ (k : ℕ) (objects : List Standing) (w : Waits) (n : ℕ) (ask : Asked)
     hand = put_names (length (ids_named w)) w.hand ask.place id inside same ∙ paused.hand;
     within = all_remove (λ (x : Asked). x.place < length (ids_named w)) w.asked n paused.within;
     once = once_then;
+    split = split_then;
   }
 
 -- ---- beside all that is kept
 
-module _ (k : ℕ) (objects : List Standing) (running : List Act) (pending : List Waits) (i : ℕ) (w w' : Waits) (there : slice_get pending i ≡ Some w)
-    (job : w'.job ≡ w.job) (paused : IsPaused k objects w') (h : ArePaused k objects running pending) where
+module _ (k l log : ℕ) (objects : List Standing) (running : List Act) (pending : List Waits) (i : ℕ) (w w' : Waits) (there : slice_get pending i ≡ Some w)
+    (job : w'.job ≡ w.job) (paused : IsPaused k l log objects w') (h : ArePaused k l log objects running pending) where
   pub acts_same : map action_of (set pending i w') ≡ map action_of pending
   acts_same = map_same action_of pending i w w' there (ap (λ (j : Job). j.action) job)
 
-  pub refilled_paused : ArePaused k objects running (set pending i w')
+  pub refilled_paused : ArePaused k l log objects running (set pending i w')
   refilled_paused = record {
-    each = all_set (IsPaused k objects) pending i w' h.each paused;
+    each = all_set (IsPaused k l log objects) pending i w' h.each paused;
     apart = subst (λ acts. Apart (running ++ acts)) (sym acts_same) h.apart;
     whole = subst (λ acts. AllByRecursion (λ (x : Standing). is_busy x.object acts ≡ false → AllByRecursion HasRightCredit x.state.ids) objects)
         (sym acts_same) h.whole;
@@ -297,16 +312,9 @@ module _ (k : ℕ) (objects : List Standing) (running : List Act) (pending : Lis
         );
   }
 
-own_log : (id : Id) → HasCredit id → id.log ≡ Some (log_of id.log)
-own_log id h = at id.log refl h
-  where
-    at : (log : Option ℕ) → id.log ≡ log → MatchOption log ⊥ (λ l. 16 ≤ id.kind) → id.log ≡ Some (log_of id.log)
-    at None e n = absurd n
-    at (Some l) e n = e ∙ ap (λ o. Some (log_of o)) (sym e)
-
 module _ (r : Rules) (t : Tables) (id : Id) (entry i n spare : ℕ) (w : Waits) (ask : Asked) (tidy : IsTidy t []) (there : slice_get t.pending i ≡ Some w)
     (asked : slice_get w.asked n ≡ Some ask) (for : is_asked_for w id entry ask ≡ true) (credit : HasCredit id)
-    (brings : (log_of id.log ≡ 0) ⊎ (log_of id.log ≡ r.credit_log)) where
+    (brings : (log_of id.log ≡ 0) ⊎ (log_of id.log ≡ t.profile.credit_log)) (rules : t.profile.credit_log ≡ r.credit_log) where
   abbrev log : ℕ
   log = log_of id.log
 
@@ -316,23 +324,23 @@ module _ (r : Rules) (t : Tables) (id : Id) (entry i n spare : ℕ) (w : Waits) 
   abbrev pub given : Tables
   given = record t { pending = set t.pending i (refilled n ask.place id w); spare = spare }
 
-  was : IsPaused t.here t.objects w
-  was = all_at (IsPaused t.here t.objects) t.pending i w tidy.paused.each there
+  was : IsPaused t.here t.localities t.profile.credit_log t.objects w
+  was = all_at (IsPaused t.here t.localities t.profile.credit_log t.objects) t.pending i w tidy.paused.each there
 
   some : id.log ≡ Some (log_of id.log)
   some = own_log id credit
 
   fits : ask.place < length w.hand
-  fits = inside t.here t.objects w n ask id entry was asked for credit
+  fits = inside t.here t.localities t.profile.credit_log t.objects w n ask id entry was asked for credit brings
 
   gave : is_asked (id_at w.hand ask.place) ≡ true
-  gave = was_asked t.here t.objects w n ask id entry was asked for credit
+  gave = was_asked t.here t.localities t.profile.credit_log t.objects w n ask id entry was asked for credit brings
 
-  still : IsPaused t.here t.objects (refilled n ask.place id w)
-  still = still_paused t.here t.objects w n ask id entry was asked for credit
+  still : IsPaused t.here t.localities t.profile.credit_log t.objects (refilled n ask.place id w)
+  still = still_paused t.here t.localities t.profile.credit_log t.objects w n ask id entry was asked for credit brings
 
   acts : map action_of (set t.pending i (refilled n ask.place id w)) ≡ map action_of t.pending
-  acts = acts_same t.here t.objects t.running t.pending i w now there refl still tidy.paused
+  acts = acts_same t.here t.localities t.profile.credit_log t.objects t.running t.pending i w now there refl still tidy.paused
 
   given_tidy : IsTidy given []
   given_tidy = record {
@@ -345,7 +353,7 @@ module _ (r : Rules) (t : Tables) (id : Id) (entry i n spare : ℕ) (w : Waits) 
     drawn = tidy.drawn;
     unborn = tidy.unborn;
     ways = tidy.ways;
-    paused = refilled_paused t.here t.objects t.running t.pending i w now there refl still tidy.paused;
+    paused = refilled_paused t.here t.localities t.profile.credit_log t.objects t.running t.pending i w now there refl still tidy.paused;
   }
 
   gains : (f : Token → ℕ) → sum_by f (tokens given) ≡ sum_by f (tokens t) + f (held_token (bare id) (log_of id.log))
@@ -366,7 +374,7 @@ module _ (r : Rules) (t : Tables) (id : Id) (entry i n spare : ℕ) (w : Waits) 
     flat_set (λ z. cond (same_object o z) 1 0) (λ (v : Waits). filter is_asked (own_ids v)) t.pending i w now there,
     put_asked o (length (ids_named w)) w.hand ask.place id (all_at (λ (x : Asked). x.place < length (ids_named w)) w.asked n ask was.within asked)
         fits gave (credit_asks_none id credit),
-    ap {B = ℕ} (λ (z : Id). cond (same_object o z) 1 0) (same t.here t.objects w n ask id entry was asked for credit),
+    ap {B = ℕ} (λ (z : Id). cond (same_object o z) 1 0) (same t.here t.localities t.profile.credit_log t.objects w n ask id entry was asked for credit brings),
     sum_by-cons (λ z. cond (same_object o z) 1 0) (bare id) [],
   )
 
@@ -438,7 +446,7 @@ module _ (r : Rules) (t : Tables) (id : Id) (entry i n spare : ℕ) (w : Waits) 
       let v = in_hand (Give id entry) t dead e in
       let key = owed_token (bare id) log in (
         seen dead e,
-        follows_given r v (bare id) refl log (view given [] []).tokens (asking_of (set t.pending i now)) (asks t) refl refl brings
+        follows_given r v (bare id) refl log (view given [] []).tokens (asking_of (set t.pending i now)) (asks t) refl refl (subst (λ c. (log_of id.log ≡ 0) ⊎ (log_of id.log ≡ c)) rules brings)
             (omega (
               arith,
               hand_sum (counts_of (same_token (owed_token (bare id) (log_of id.log)))) (Give id entry) t,
@@ -491,7 +499,7 @@ gives_handles act_of t id entry i spare w w' tidy credit brings there refills =
     (elim (or_cases (log_of id.log == 0) (log_of id.log == t.profile.credit_log) brings) [
       | inl a ↦ inl (eqb-true (log_of id.log) 0 a)
       | inr b ↦ inr (eqb-true (log_of id.log) t.profile.credit_log b)
-    ]))
+    ]) refl)
 
 -- what passes is found
 pub any_found : {X : Type 0} (p : X → Bool) (xs : List X) → list_any p xs ≡ true → find p xs ≡ None → ⊥

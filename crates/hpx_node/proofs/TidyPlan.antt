@@ -125,7 +125,7 @@ module _ (t : Tables) (i j : ℕ) (job : Job) (out : Outcome) (at : IsAt t i j j
     unborn = λ o late. find_none (λ (x : Record). same_object o x.gid) t.records (records_of t.here t.births t.profile.credit_log xs)
         (tidy.unborn o (omega (arith, late))) (records_past t.here t.births t.profile.credit_log xs o late);
     ways = tidy.ways;
-    paused = done_paused t.here t.objects t.running t.pending i j job.action at.standing new (objects_of t.here t.births xs) at.runs at.stands
+    paused = done_paused t.here t.localities t.profile.credit_log t.objects t.running t.pending i j job.action at.standing new (objects_of t.here t.births xs) at.runs at.stands
         (found_passes (target_of job.action) t.objects at.standing at.found) refl plain_new (state_paid t job out fit few laws)
         (objects_alone t.here t.births (map birth_of out.makes) births_made) tidy.paused;
   }

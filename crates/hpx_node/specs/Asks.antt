@@ -1,20 +1,29 @@
--- A commit that has to wait: what it writes before, and what it has in hand then.
-use Rattle.std.specs.Prelude.{ℕ, zero, suc, List, [], ◌∷◌, ◌++◌, ◌+◌, ◌≡◌, None, map, length, set}
-use Rattle.std.specs.List.{remove}
-use Rattle.hpx_value.specs.Ids.{bare}
+-- A commit that has to wait: what it writes before, what it has in hand then, and what it asks for.
+use Rattle.std.specs.Prelude.{ℕ, zero, suc, List, [], ◌∷◌, ◌++◌, ◌+◌, ◌≡◌, ◌≤◌, map, length, set}
+use Rattle.std.specs.List.{sum_by, count_by, remove}
+use Rattle.hpx_value.specs.Ids.{bare, same_object}
 use Rattle.hpx_value.specs.Values.{bare_state}
-use Rattle.hpx_value.specs.Hands.{hand_ids}
+use Rattle.hpx_value.specs.Hands.{hand_ids, id_at}
 use Rattle.hpx_value.specs.declared.acts.Job.{Job}
-use Rattle.hpx_journal.specs.Data.{Id, Outcome}
-use Rattle.hpx_part.specs.Data.{Event, Entry}
+use Rattle.hpx_value.specs.declared.outcome.Due.{Due}
+use Rattle.hpx_parcel.specs.Credits.{credits_of}
+use Rattle.hpx_journal.specs.Data.{Id, Outcome, Ask}
+use Rattle.hpx_journal.specs.Tokens.{owing}
+use Rattle.hpx_part.specs.Data.{Event, Entry, Asked, Token}
 use Rattle.hpx_commit.specs.Deals.{named}
-use Rattle.hpx_commit.specs.Stocks.{Stock, halvings, ahead}
+use Rattle.hpx_commit.specs.Stocks.{Stock, halvings, ahead, short_places, stripped}
 use Rattle.hpx_node.specs.Commits.{cuts, made_of, places_in_hand}
+use Rattle.hpx_node.specs.Idle.{Row, Asks, unpaid}
 use Rattle.hpx_node.specs.Jobs.{IsAt}
-use Rattle.hpx_node.specs.Pending.{Waits}
+use Rattle.hpx_node.specs.Pending.{Waits, asked_at, waits_with}
+use Rattle.hpx_node.specs.Routes.{with_mail}
+use Rattle.hpx_node.specs.Seen.{waiting, asks, frees, tokens}
+use Rattle.hpx_node.specs.Stands.{IsTidy}
 use Rattle.hpx_node.specs.Tables.{Tables}
 use Rattle.hpx_node.specs.Changes.{Writes}
 use Rattle.hpx_node.specs.declared.node.wait.Before.{Before}
+
+-- ---- splits
 
 -- the splits of so many places of a hand, from place p on: each id is halved for those who name it, as far as its log goes
 abbrev pub first_cuts : ℕ → ℕ → List Id → List ℕ → List Event
@@ -35,20 +44,50 @@ abbrev pub splits_before : Tables → Job → Outcome → List Event
 splits_before t job out = first_cuts (own_many job) 0 (hand_before t job out) (places_in_hand t job out)
 
 -- its stock then
-abbrev pub stock_before : Tables → Job → Outcome → Stock
-stock_before t job out = ahead (own_many job) (record { hand = hand_before t job out; places = places_in_hand t job out })
+abbrev pub split_stock : Tables → Job → Outcome → Stock
+split_stock t job out = ahead (own_many job) (record { hand = hand_before t job out; places = places_in_hand t job out })
 
--- a commit that waits with this stock, and has asked for nothing yet
-abbrev pub waits_with : Job → Outcome → ℕ → Stock → Waits
-waits_with job out localities s = record {
-  job = job;
-  outcome = out;
-  localities = localities;
-  hand = s.hand;
-  places = s.places;
-  asked = [];
-  refused = None;
-}
+-- ---- asks
+
+-- the places whose ids do not last for those who name them
+abbrev pub short_before : Tables → Job → Outcome → List ℕ
+short_before t job out = short_places (own_many job) (split_stock t job out)
+
+-- the ids there, which are asked for
+abbrev pub lacking : Tables → Job → Outcome → List Id
+lacking t job out = map (id_at (split_stock t job out).hand) (short_before t job out)
+
+-- the entries of these ids
+abbrev pub asked_events : List Id → List Event
+asked_events ids = map (λ id. Asked (bare id)) ids
+
+-- an Ask for each of these ids, to its home: from k, under the numbers behind n
+abbrev pub with_asks : ℕ → ℕ → List Id → Tables → Tables
+with_asks k n [] t = t
+with_asks k n (id ∷ ids) t = with_asks k (n + 1) ids (with_mail id.home (Ask id k (n + 1)) t)
+
+-- what an ask counts
+abbrev pub of_ask : Row → ℕ
+of_ask Asks = 1
+of_ask _ = 0
+
+-- these ids are asked for
+pub record AsksFor (ids : List Id) (t t' : Tables) : Type 0 where
+  pub rest : t' ≡ record t { asked = t.asked + length ids; desk = t'.desk; outgoing = t'.outgoing; spare = t'.spare }
+  pub goes : t' ≡ record (with_asks t.here t.asked ids t) { asked = t.asked + length ids; spare = t'.spare }
+  pub spare : t.spare ≤ t'.spare + length ids
+  pub tidy : (due : List Due) → IsTidy t due → IsTidy t' due
+  pub waiting : waiting t' ≡ waiting t
+  pub frees : frees t' ≡ frees t
+  pub asks : (o : Id) → count_by (same_object o) (asks t') ≡ count_by (same_object o) (asks t) + count_by (same_object o) ids
+  pub tokens : (f : Token → ℕ) → sum_by f (tokens t') ≡ sum_by f (tokens t) + sum_by f (map owing (credits_of ids))
+  pub more : (row : Row) → unpaid row t' ≡ unpaid row t + sum_by (λ id. of_ask row) ids
+
+-- ---- a commit that waits
+
+-- its stock while it waits: what was asked for has no credit
+abbrev pub stock_before : Tables → Job → Outcome → Stock
+stock_before t job out = stripped (short_before t job out) (split_stock t job out)
 
 -- the action of the job, at i among those that run, waits for credit; its object, at j, keeps its state without credits
 pub record Pauses (i j : ℕ) (job : Job) (w : Waits) (t t' : Tables) : Type 0 where
@@ -60,17 +99,22 @@ pub record Pauses (i j : ℕ) (job : Job) (w : Waits) (t t' : Tables) : Type 0 w
     spare = t'.spare;
   }
 
--- before a commit waits: its hand, the places that are named there, how many of it are its own, and its stock
+-- before a commit waits: its hand, the places that are named there, how many of it are its own, its stock, and what it asks for
 pub record IsBefore (t : Tables) (job : Job) (out : Outcome) (b : Before) : Type 0 where
   pub hand : b.hand.items ≡ hand_before t job out
   pub places : b.places.items ≡ places_in_hand t job out
   pub own : b.own ≡ own_many job
   pub stock : b.stock ≡ stock_before t job out
+  pub lacking : b.lacking.items ≡ lacking t job out
+  pub asked : b.asked.items ≡ asked_at t.asked (short_before t job out)
   pub state : b.state ≡ bare_state job.state
 
--- a commit begins to wait: what it has is split, and it has asked for nothing yet
+-- a commit begins to wait: what it has is split, and each id that does not last is asked for; there is one
 pub record Begins (t t' : Tables) (job : Job) (out : Outcome) (entries entries' : List Entry) : Type 0 where
   pub i : ℕ
   pub j : ℕ
-  pub pauses : Pauses i j job (waits_with job out t.localities (stock_before t job out)) t t'
-  pub writes : Writes (splits_before t job out) t t' entries entries'
+  pub paused : Tables
+  pub pauses : Pauses i j job (waits_with job out t.localities (asked_at t.asked (short_before t job out)) (stock_before t job out)) t paused
+  pub asks : t' ≡ record (with_asks t.here t.asked (lacking t job out) paused) { asked = t.asked + length (lacking t job out); spare = t'.spare }
+  pub some : 1 ≤ length (lacking t job out)
+  pub writes : Writes (splits_before t job out ++ asked_events (lacking t job out)) t t' entries entries'

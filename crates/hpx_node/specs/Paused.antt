@@ -1,14 +1,16 @@
 -- Commits that wait for credit, against what else a node keeps.
-use Rattle.std.specs.Prelude.{ℕ, false, List, [], ◌∷◌, ◌≡◌, ◌≤◌, ◌<◌, ◌&&◌, ◌==◌, cond, not, is_some, map, length, Some}
+use Rattle.std.specs.Prelude.{ℕ, false, List, [], ◌∷◌, ◌≡◌, ◌≢◌, ◌⊎◌, ◌≤◌, ◌<◌, ◌&&◌, ◌==◌, cond, not, is_some, map, length, drop, Option, Some, None}
 use Rattle.std.specs.List.{find, sum_by, count_by, AllByRecursion}
 use Rattle.hpx_value.specs.Ids.{bare, same_object}
 use Rattle.hpx_value.specs.Values.{bare_state}
-use Rattle.hpx_value.specs.Hands.{id_at}
-use Rattle.hpx_parcel.specs.Parcels.{HasRightCredit}
+use Rattle.hpx_value.specs.Hands.{id_at, hand_ids}
+use Rattle.hpx_parcel.specs.Parcels.{HasRightCredit, IsBare}
 use Rattle.hpx_journal.specs.Data.{Id, Act}
 use Rattle.hpx_journal.specs.Entries.{target_of}
 use Rattle.hpx_journal.specs.Local.{is_standing, is_busy}
 use Rattle.hpx_part.specs.Data.{Standing}
+use Rattle.hpx_commit.specs.Deals.{AreWithin, places_named}
+use Rattle.hpx_commit.specs.Stocks.{Stock, ahead, Lasting}
 use Rattle.hpx_node.specs.Pending.{Waits, action_of, fired_of, ids_named, own_ids, is_asked}
 use Rattle.hpx_node.specs.Jobs.{IsFitJob}
 
@@ -21,11 +23,39 @@ abbrev pub Apart : List Act → Type 0
 Apart [] = Unit {0}
 Apart (act ∷ acts) = (is_busy (target_of act) acts ≡ false) × Apart acts
 
--- a commit that waits: its object stands here as the job found it, but without credits, and the hand names what its object and
--- its action name; of these each managed id without credit is asked for once
-pub record IsPaused (k : ℕ) (objects : List Standing) (w : Waits) : Type 0 where
+-- the stock of its job as it was before, if the objects that it makes had these ids
+abbrev pub whole_stock : Waits → List Id → Stock
+whole_stock w made = record {
+  hand = hand_ids w.job.state w.job.action made;
+  places = places_named w.job.state w.job.action made w.outcome;
+}
+
+-- the same as it was split ahead
+abbrev pub first_stock : Waits → List Id → Stock
+first_stock w made = ahead (length (ids_named w)) (whole_stock w made)
+
+-- an id that does not last was asked for: it has no credit, it came with the credit of a new object, or it was refused
+abbrev pub IsShort : ℕ → Option Id → Id → Type 0
+IsShort log refused id = (id.log ≡ None) ⊎ ((id.log ≡ Some log) ⊎ ((id.log ≡ Some 0) × (refused ≢ None)))
+
+-- what is in the hand of a commit that waits: what its job had, split ahead; each id that does not last was asked for
+pub record HasSplit (log : ℕ) (w : Waits) : Type 0 where
+  pub made : List Id
+  pub kinds : map (λ id. id.kind) made ≡ map (λ make. make.kind) w.outcome.makes
+  pub bare : AllByRecursion IsBare made
+  pub within : AreWithin (whole_stock w made).hand (whole_stock w made).places
+  pub places : w.places ≡ (first_stock w made).places
+  pub rest : drop (length (ids_named w)) w.hand ≡ drop (length (ids_named w)) (first_stock w made).hand
+  pub own : (p : ℕ) → p < length (ids_named w) → Lasting (first_stock w made) p → id_at w.hand p ≡ id_at (first_stock w made).hand p
+  pub short : (p : ℕ) → p < length (ids_named w) → (Lasting (first_stock w made) p → ⊥) → IsShort log w.refused (id_at w.hand p)
+
+-- a commit that waits at k, of n localities, where new objects have credit of this log: its object stands here as the job found it, but without credits, and the hand
+-- names what its object and its action name; of these each managed id without credit is asked for once
+pub record IsPaused (k n log : ℕ) (objects : List Standing) (w : Waits) : Type 0 where
   pub job : IsFitJob w.job
   pub here : w.job.at ≡ k
+  pub localities : w.localities ≡ n
+  pub few : (n ≤ 64) × (w.job.at < n)
   pub standing : Standing
   pub found : find (is_standing (target_of w.job.action)) objects ≡ Some standing
   pub kind : standing.object.kind ≡ w.job.kind
@@ -33,11 +63,12 @@ pub record IsPaused (k : ℕ) (objects : List Standing) (w : Waits) : Type 0 whe
   pub hand : map bare (own_ids w) ≡ map bare (ids_named w)
   pub within : AllByRecursion (λ x. x.place < length (ids_named w)) w.asked
   pub once : (p : ℕ) → p < length (ids_named w) → count_by (λ x. x.place == p) w.asked ≡ cond (is_asked (id_at w.hand p)) 1 0
+  pub split : HasSplit log w
 
 -- the commits that wait, beside these objects and actions that run: no two fired actions keep one object busy; the ids of an
 -- object that no such commit keeps busy have their credits, and no more ids of states are without than those in their hands
-pub record ArePaused (here : ℕ) (objects : List Standing) (running : List Act) (pending : List Waits) : Type 0 where
-  pub each : AllByRecursion (IsPaused here objects) pending
+pub record ArePaused (here n log : ℕ) (objects : List Standing) (running : List Act) (pending : List Waits) : Type 0 where
+  pub each : AllByRecursion (IsPaused here n log objects) pending
   pub apart : Apart (fired_of running pending)
   pub whole : AllByRecursion (λ x. is_busy x.object (map action_of pending) ≡ false → AllByRecursion HasRightCredit x.state.ids) objects
   pub lent : (o : Id) → 16 ≤ o.kind

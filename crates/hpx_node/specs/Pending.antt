@@ -1,5 +1,5 @@
 -- Commits that wait for credit: what is in their hands meanwhile, and what was asked for.
-use Rattle.std.specs.Prelude.{ℕ, Bool, true, List, [], ◌∷◌, ◌++◌, ◌≡◌, ◌==◌, ◌&&◌, not, cond, is_some, Option, Some, None, map, flat_map, length, take, set}
+use Rattle.std.specs.Prelude.{ℕ, Bool, true, List, [], ◌∷◌, ◌++◌, ◌+◌, ◌≡◌, ◌==◌, ◌&&◌, not, cond, is_some, Option, Some, None, map, flat_map, length, take, set}
 use Rattle.std.specs.List.{filter, list_any, slice_get, remove}
 use Rattle.hpx_value.specs.Ids.{bare, same_object}
 use Rattle.hpx_value.specs.Hands.{id_at}
@@ -8,6 +8,7 @@ use Rattle.hpx_journal.specs.Data.{Id, Act, Outcome}
 use Rattle.hpx_journal.specs.Entries.{name_of}
 use Rattle.hpx_part.specs.Data.{Refusal}
 use Rattle.hpx_commit.specs.Deals.{is_managed, log_of}
+use Rattle.hpx_commit.specs.Stocks.{Stock}
 pub use Rattle.hpx_node.specs.declared.pending.Asked.{Asked}
 
 -- a commit that waits: its job and outcome, the ids in its hand, the places that are named there, what was asked for, and an
@@ -20,6 +21,23 @@ pub record Waits : Type 0 where
   pub places : List ℕ
   pub asked : List Asked
   pub refused : Option Id
+
+-- what is asked for at these places: each under the next number behind n
+abbrev pub asked_at : ℕ → List ℕ → List Asked
+asked_at n [] = []
+asked_at n (p ∷ ps) = record { entry = n + 1; place = p } ∷ asked_at (n + 1) ps
+
+-- a commit that begins to wait, with this stock, for what was asked for
+abbrev pub waits_with : Job → Outcome → ℕ → List Asked → Stock → Waits
+waits_with job out localities asked s = record {
+  job = job;
+  outcome = out;
+  localities = localities;
+  hand = s.hand;
+  places = s.places;
+  asked = asked;
+  refused = None;
+}
 
 -- its action, which is still fired
 abbrev pub action_of : Waits → Act

@@ -42,7 +42,7 @@ pub record IsTidy (t : Tables) (due : List Due) : Type 0 where
   pub drawn : AllByRecursion (λ x. 16 ≤ x.object.kind → x.object.home ≡ t.here → x.object.number ≤ t.births) t.objects
   pub unborn : (o : Id) → t.births < o.number → find (λ x. same_object o x.gid) t.records ≡ None
   pub ways : AreOnTheirWay t
-  pub paused : ArePaused t.here t.objects t.running t.pending
+  pub paused : ArePaused t.here t.localities t.profile.credit_log t.objects t.running t.pending
 
 -- the node keeps its part, and its tables show where that leads, with this due and these ids named nowhere
 pub record StandsWith (r : Rules) (t : Tables) (due : List Due) (loose : List Id) (entries : List Entry) : Type 0 where

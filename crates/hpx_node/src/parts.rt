@@ -15,9 +15,9 @@ pub struct Outgoing {
 #[derive(Clone, Copy, Debug, PartialEq, Eq)]
 pub enum Finished {
     Committed,
-    /// Some id of the hand has too little credit for all who name it. What it has is split, and the commit waits. An ask for more
-    /// comes in a later step.
-    Waiting,
+    /// Some id of the hand has too little credit for all who name it. What it has is split, more is asked for, and the commit
+    /// waits for it.
+    Asking,
     /// It is not one of the jobs that run here.
     NotRunning,
 }

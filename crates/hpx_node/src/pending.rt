@@ -1,9 +1,8 @@
 //! Commits that wait for credit that was asked for.
 ghost use Rattle.std.specs.Prelude.{◌≡◌, ◌<◌, true, None, IfSome, IfNone, length, find};
 ghost use Rattle.std.specs.List.{AllByRecursion, slice_get};
-ghost use Rattle.hpx_node.specs.Asks.{waits_with};
 ghost use Rattle.hpx_node.specs.Jobs.{IsFitJob};
-ghost use Rattle.hpx_node.specs.Pending.{is_asked_for, awaits, Refills};
+ghost use Rattle.hpx_node.specs.Pending.{is_asked_for, awaits, waits_with, Refills};
 
 use hpx_commit::deal::log_of;
 use hpx_commit::hand::id_at;
@@ -11,7 +10,6 @@ use hpx_commit::stock::Stock;
 use hpx_value::acts::{Acts, Done};
 use hpx_value::gid::Gid;
 use hpx_value::value::Act;
-use std::alloc::Global;
 use std::marker::Model;
 
 /// What was asked for: the number of the ask, and the place in the hand.
@@ -32,6 +30,7 @@ pub struct Pending<A: Acts> {
 }
 
 impl<A: Acts> Model for Pending<A> {
+    ghost use Rattle.std.specs.Prelude.{◌≡◌};
     ghost use Rattle.hpx_node.specs.Jobs.{IsFitJob};
     ghost use Rattle.hpx_node.specs.Pending.{Waits};
 
@@ -47,19 +46,20 @@ impl<A: Acts> Model for Pending<A> {
       refused = w.refused;
     } };
 
-    ghost invariant = { λ w. IsFitJob w.done.job };
+    ghost invariant = { λ w. IsFitJob w.done.job
+        × (w.done.outcome ≡ A.act_of w.done.localities w.done.job.kind w.done.job.at w.done.job.state w.done.job.action) };
 }
 
 impl<A: Acts> Pending<A> {
-    /// A job that is done, with its stock. It has asked for nothing yet.
-    pub fn new(alloc: Global, done: Done<A>, stock: Stock) -> Pending<A>
+    /// A job that is done, with its stock and what it has asked for.
+    pub fn new(done: Done<A>, stock: Stock, asked: Vec<Asked>) -> Pending<A>
         requires { IsFitJob done.job }
-        ensures { result ≡ waits_with done.job done.outcome done.localities stock }
+        ensures { result ≡ waits_with done.job done.outcome done.localities asked.items stock }
     {
         Pending {
             done,
             stock,
-            asked: Vec::new(alloc),
+            asked,
             refused: None,
         }
     }

@@ -164,7 +164,9 @@ impl<A: Acts + Copy> Node<A> {
         ensures stands { Stands A.act_of self.new book.new.entries }
         ensures committed { IfOk result (λ f. f ≡ Finished.Committed →
             Writes (committed self.old done.job done.outcome) self.old self.new book.old.entries book.new.entries) }
-        ensures waits { IfOk result (λ f. f ≡ Finished.Waiting →
+        ensures lasts { IfOk result (λ f. f ≡ Finished.Committed →
+            AllLast (hand_of self.old done.job done.outcome) (places_in_hand self.old done.job done.outcome)) }
+        ensures asks { IfOk result (λ f. f ≡ Finished.Asking →
             (AllLast (hand_of self.old done.job done.outcome) (places_in_hand self.old done.job done.outcome) → ⊥)
             × Begins self.old self.new done.job done.outcome book.old.entries book.new.entries) }
         ensures not_running { IfOk result (λ f. f ≡ Finished.NotRunning →

@@ -83,6 +83,7 @@ pub fn push_first_splits(book: &mut Journal, here: u32, hand: &[Gid], places: &[
     requires own { own ≤ length hand.now }
     requires page { length (first_cuts own 0 hand.now places.now) ≤ book.old.spare }
     ensures entries { book.new.entries ≡ book.old.entries ++ at_all here (first_cuts own 0 hand.now places.now) }
+    ensures page { book.new.spare + length (first_cuts own 0 hand.now places.now) ≡ book.old.spare }
 {
     for p in 0..own {
         let id = hand[p as usize];

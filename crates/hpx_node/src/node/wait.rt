@@ -1,5 +1,5 @@
-//! A commit whose ids do not last: what it has is split ahead, and it waits for credit.
-ghost use Rattle.std.specs.Prelude.{◌≡◌, ◌≤◌, ◌<◌, ◌+◌, ◌^◌, Some, None, IfOk, IfErr, length, map, take, find, slice_get};
+//! A commit whose ids do not last: what it has is split ahead, and it waits for credit that it asks for.
+ghost use Rattle.std.specs.Prelude.{◌≡◌, ◌≤◌, ◌<◌, ◌+◌, ◌++◌, ◌^◌, Some, None, IfOk, IfErr, length, map, take, find, slice_get};
 ghost use Rattle.std.specs.List.{AllByRecursion};
 ghost use Rattle.hpx_value.specs.Laws.{IsManaged, KeepsLaws};
 ghost use Rattle.hpx_journal.specs.Weights.{HasRoom};
@@ -7,23 +7,30 @@ ghost use Rattle.hpx_value.specs.Ids.{bare};
 ghost use Rattle.hpx_value.specs.Values.{bare_state};
 ghost use Rattle.hpx_journal.specs.Entries.{target_of};
 ghost use Rattle.hpx_journal.specs.Local.{is_standing};
-ghost use Rattle.hpx_node.specs.Asks.{IsBefore, Pauses, Begins};
+ghost use Rattle.hpx_parcel.specs.Parcels.{HasLeastCredit};
+ghost use Rattle.hpx_part.specs.Parts.{at_all};
+ghost use Rattle.hpx_node.specs.Asks.{asked_events, AsksFor, IsBefore, Pauses, Begins};
+ghost use Rattle.hpx_node.specs.Pending.{asked_at};
 ghost use Rattle.hpx_node.specs.Fit.{IsKept};
+ghost use Rattle.hpx_commit.specs.Deals.{AllLast};
+ghost use Rattle.hpx_node.specs.Commits.{hand_of, places_in_hand};
 ghost use Rattle.hpx_node.specs.Births.{birth_of, ids_of};
 ghost use Rattle.hpx_node.specs.Jobs.{IsAt, IsFitJob};
 ghost use Rattle.hpx_node.specs.Stands.{Stands};
 ghost use Rattle.hpx_node.specs.Changes.{OnlySpare};
 
-use crate::kept::Kept;
+use crate::kept::{Kept, Letter};
 use crate::node::Node;
 use crate::node::finish::{MOST_ENTRIES, lawful};
 use crate::node::settle::push_first_splits;
 use crate::parts::{FinishFault, Finished};
-use crate::pending::Pending;
+use crate::pending::{Asked, Pending};
 use hpx_commit::hand::Hand;
 use hpx_commit::plan::places_named;
 use hpx_commit::stock::{Stock, split_ahead};
+use hpx_journal::entry::{Entry, Event};
 use hpx_journal::journal::Journal;
+use hpx_parcel::parcel::Parcel;
 use hpx_value::acts::{Acts, Done};
 use hpx_value::exact::Exact;
 use hpx_value::gid::Gid;
@@ -34,14 +41,29 @@ use hpx_value::value::State;
 use std::alloc::Global;
 
 /// What a commit has that waits: its hand and the places that are named there, of which so many first are its own, the stock that
-/// is split ahead, and the state of its object without credits.
+/// is split ahead, the ids that are asked for and their numbers and places, and the state of its object without credits.
 #[derive(Drop)]
 struct Before {
     hand: Vec<Gid>,
     places: Vec<u32>,
     own: u32,
     stock: Stock,
+    lacking: Vec<Gid>,
+    asked: Vec<Asked>,
     state: State,
+}
+
+/// Writes that each of these ids is asked for.
+fn push_asks(book: &mut Journal, here: u32, ids: &[Gid])
+    requires page { length ids.now ≤ book.old.spare }
+    ensures entries { book.new.entries ≡ book.old.entries ++ at_all here (asked_events ids.now) }
+{
+    for id in ids {
+        book.push(Entry {
+            at: here,
+            event: Event::Asked { object: id.bare() },
+        });
+    }
 }
 
 /// A state without credits.
@@ -76,12 +98,30 @@ impl<A: Acts + Copy> Node<A> {
         Ok(ids)
     }
 
-    /// What a commit has that waits: its hand, and its stock.
+    /// What is asked for at these places: each under the next number.
+    fn asks(&self, alloc: Global, places: &[u32]) -> Result<Vec<Asked>, OutOfMemory>
+        requires few { self.now.asked + length places.now < 2 ^ 64 }
+        ensures { IfOk result (λ asked. asked.items ≡ asked_at self.now.asked places.now) }
+    {
+        let mut entry = self.asked;
+        let mut asked = Vec::new(alloc);
+        for place in places {
+            entry += 1;
+            asked.push(Asked {
+                entry,
+                place: *place,
+            })?;
+        }
+        Ok(asked)
+    }
+
+    /// What a commit has that waits: its hand, its stock, and what it asks for.
     fn before(&self, alloc: Global, done: &Done<A>) -> Result<Before, OutOfMemory>
         requires localities { done.now.localities ≤ 64 }
         requires at { done.now.job.at < done.now.localities }
         requires fit { IsFitJob done.now.job }
         requires few { self.now.births + 1024 < 2 ^ 32 }
+        requires asked { self.now.asked + 1024 < 2 ^ 64 }
         ensures { IfOk result (IsBefore self.now done.now.job done.now.outcome) }
     {
         lawful(done);
@@ -93,12 +133,18 @@ impl<A: Acts + Copy> Node<A> {
         let later = self.later(alloc, outcome.makes.as_slice())?;
         let own = job.state.ids.len() + job.action.ids.len();
         let hand = Hand::of(alloc, &job.state, &job.action, later.as_slice())?;
-        let stock = split_ahead(alloc, hand.ids(), places.as_slice(), own as u32)?;
+        let mut stock = split_ahead(alloc, hand.ids(), places.as_slice(), own as u32)?;
+        let short = stock.short_places(alloc, own as u32)?;
+        let lacking = stock.ids_at(alloc, short.as_slice())?;
+        let asked = self.asks(alloc, short.as_slice())?;
+        stock.strip(short.as_slice());
         Ok(Before {
             hand: Vec::from_slice(alloc, hand.ids())?,
             places,
             own: own as u32,
             stock,
+            lacking,
+            asked,
             state: bare_state(alloc, &job.state)?,
         })
     }
@@ -110,7 +156,8 @@ impl<A: Acts + Copy> Node<A> {
         requires kept { (x : _) → slice_get self.old.objects j ≡ Some x → IsKept (record { object = x.object; state = state }) }
         requires state { state ≡ bare_state waits.job.state }
         requires spare { 1 ≤ self.old.spare }
-        ensures { Pauses i j waits.job waits self.old self.new }
+        ensures pauses { Pauses i j waits.job waits self.old self.new }
+        ensures spare { self.old.spare ≤ self.new.spare + 1 }
     {
         let _ = self.running.remove(i);
         let object = self.objects[j].object();
@@ -118,24 +165,37 @@ impl<A: Acts + Copy> Node<A> {
         self.pending.push_reserved(waits);
     }
 
-    /// Splits what a commit has, and lets it wait. It takes no memory.
-    fn begin(
-        &mut self,
-        alloc: Global,
-        book: &mut Journal,
-        i: usize,
-        j: usize,
-        done: Done<A>,
-        before: Before,
-    )
+    /// Asks for more of each of these ids at its home.
+    fn ask_all(&mut self, ids: &[Gid])
+        requires least { AllByRecursion HasLeastCredit ids.now }
+        requires few { self.old.asked + length ids.now < 2 ^ 64 }
+        requires spare { length ids.now ≤ self.old.spare }
+        ensures { AsksFor ids.now self.old self.new }
+    {
+        for id in ids {
+            self.asked += 1;
+            let ask = Parcel::Ask {
+                id: *id,
+                asker: self.here as u16,
+                entry: self.asked,
+            };
+            self.mail(id.home(), Letter::new(ask));
+        }
+    }
+
+    /// Splits what a commit has, lets it wait, and asks for what it lacks. It takes no memory.
+    fn begin(&mut self, book: &mut Journal, i: usize, j: usize, done: Done<A>, before: Before)
         requires at { IsAt self.old i j done.job }
         requires first { find (is_standing (target_of done.job.action)) (take j self.old.objects) ≡ None }
         requires localities { done.localities ≡ self.old.localities }
         requires few { self.old.localities ≤ 64 }
         requires fit { IsFitJob done.job }
+        requires here { done.job.at < done.localities }
         requires laws { KeepsLaws done.localities done.job.kind done.job.at done.job.state done.job.action done.outcome }
+        requires short { AllLast (hand_of self.old done.job done.outcome) (places_in_hand self.old done.job done.outcome) → ⊥ }
         requires before { IsBefore self.old done.job done.outcome before }
-        requires spare { 1 ≤ self.old.spare }
+        requires asked { self.old.asked + 1024 < 2 ^ 64 }
+        requires spare { 1024 ≤ self.old.spare }
         requires page { 1024 ≤ book.old.spare }
         requires stands { Stands A.act_of self.old book.old.entries }
         ensures stands { Stands A.act_of self.new book.new.entries }
@@ -146,13 +206,17 @@ impl<A: Acts + Copy> Node<A> {
             places,
             own,
             stock,
+            lacking,
+            asked,
             state,
         } = before;
         push_first_splits(book, self.here, hand.as_slice(), places.as_slice(), own);
-        self.pause(i, j, state, Pending::new(alloc, done, stock));
+        push_asks(book, self.here, lacking.as_slice());
+        self.pause(i, j, state, Pending::new(done, stock, asked));
+        self.ask_all(lacking.as_slice());
     }
 
-    /// Lets a commit wait: what it has is split ahead. The job is handed back without memory.
+    /// Lets a commit wait: what it has is split ahead, and what it lacks is asked for. The job is handed back without memory.
     pub fn wait(
         &mut self,
         alloc: Global,
@@ -167,10 +231,11 @@ impl<A: Acts + Copy> Node<A> {
         requires few { self.old.localities ≤ 64 }
         requires fit { IsFitJob done.job }
         requires here { done.job.at < done.localities }
+        requires short { AllLast (hand_of self.old done.job done.outcome) (places_in_hand self.old done.job done.outcome) → ⊥ }
         requires room { HasRoom book.old.entries }
         requires stands { Stands A.act_of self.old book.old.entries }
         ensures stands { Stands A.act_of self.new book.new.entries }
-        ensures waits { IfOk result (λ f. (f ≡ Finished.Waiting) × Begins self.old self.new done.job done.outcome book.old.entries book.new.entries) }
+        ensures asks { IfOk result (λ f. (f ≡ Finished.Asking) × Begins self.old self.new done.job done.outcome book.old.entries book.new.entries) }
         ensures err { IfErr result (λ e. (e.undone ≡ done) × OnlySpare self.old self.new book.old book.new) }
     {
         lawful(&done);
@@ -178,10 +243,10 @@ impl<A: Acts + Copy> Node<A> {
             Ok(before) => before,
             Err(_) => return Err(FinishFault { undone: done }),
         };
-        if self.reserve(1).is_err() || book.reserve(MOST_ENTRIES).is_err() {
+        if self.reserve(MOST_ENTRIES).is_err() || book.reserve(MOST_ENTRIES).is_err() {
             return Err(FinishFault { undone: done });
         }
-        self.begin(alloc, book, i, j, done, before);
-        Ok(Finished::Waiting)
+        self.begin(book, i, j, done, before);
+        Ok(Finished::Asking)
     }
 }

@@ -1,9 +1,11 @@
-use Rattle.std.proofs.Common.{◌≤◌, ◌∙◌, length, refl, ap, subst, arith}
+use Rattle.std.proofs.Common.{◌≤◌, ◌++◌, ◌∙◌, ap, length, refl, subst, arith}
 use Rattle.hpx_value.specs.Laws.{KeepsLaws}
 use Rattle.hpx_part.proofs.Keyed.{slice_get_less}
-use Rattle.hpx_node.specs.Asks.{first_cuts}
+use Rattle.hpx_part.specs.Parts.{at_all}
+use Rattle.hpx_node.specs.Asks.{first_cuts, asked_events}
 use Rattle.hpx_node.specs.Tables.{Tables}
-use Rattle.hpx_node.proofs.Begun.{before_short, before_own, kept_before, begins_by}
+use Rattle.hpx_node.proofs.SomeShort.{something}
+use Rattle.hpx_node.proofs.Waited.{before_short, before_own, before_least, lacks_few, kept_before, begins_by}
 use Rattle.hpx_node.proofs.node.Node.begin.Goals as goal
 
 pub push_first_splits-requires-clause-own : goal.push_first_splits-requires-clause-own
@@ -19,6 +21,17 @@ push_first_splits-requires-clause-page g c =
     rw (c.as_slice.ensures.value, c.as_slice-2.ensures.value) (before_short t d.job d.outcome c.args.before c.requires.before c.requires.fit c.requires.few laws) in
     omega (arith, short, c.requires.page)
 
+pub push_asks-requires : goal.push_asks-requires
+push_asks-requires g c =
+    let d = c.args.done in
+    let t = c.args.self.now in
+    let laws = subst (λ n. KeepsLaws n d.job.kind d.job.at d.job.state d.job.action d.outcome) c.requires.localities c.requires.laws in
+    let short : length (first_cuts c.args.before.own 0 c.as_slice.result.now c.as_slice-2.result.now) ≤ 192 =
+    rw (c.as_slice.ensures.value, c.as_slice-2.ensures.value) (before_short t d.job d.outcome c.args.before c.requires.before c.requires.fit c.requires.few laws) in
+    let few : length c.as_slice-3.result.now ≤ 162 =
+    rw c.as_slice-3.ensures.value (lacks_few t d.job d.outcome c.args.before c.requires.before c.requires.fit c.requires.few laws) in
+    omega (arith, short, few, c.push_first_splits.ensures.page, c.requires.page)
+
 pub pause-requires-clause-object : goal.pause-requires-clause-object
 pause-requires-clause-object g c = slice_get_less c.args.self.now.objects c.args.j c.requires.at.standing c.requires.at.stands
 
@@ -26,24 +39,59 @@ pub pause-requires-clause-kept : goal.pause-requires-clause-kept
 pause-requires-clause-kept g c =
     kept_before c.args.self.now c.args.done.job c.args.done.outcome c.args.before c.requires.before c.args.i c.args.j c.requires.at c.requires.fit c.requires.stands.tidy
 
+pub ask_all-requires-clause-least : goal.ask_all-requires-clause-least
+ask_all-requires-clause-least g c =
+    let d = c.args.done in
+    let laws = subst (λ n. KeepsLaws n d.job.kind d.job.at d.job.state d.job.action d.outcome) c.requires.localities c.requires.laws in
+    rw c.as_slice-4.ensures.value
+    (before_least c.args.self.now d.job d.outcome c.args.before c.requires.before c.requires.fit c.requires.few laws)
+
+pub ask_all-requires-clause-few : goal.ask_all-requires-clause-few
+ask_all-requires-clause-few g c =
+    let d = c.args.done in
+    let t = c.args.self.now in
+    let laws = subst (λ n. KeepsLaws n d.job.kind d.job.at d.job.state d.job.action d.outcome) c.requires.localities c.requires.laws in
+    let few : length c.as_slice-4.result.now ≤ 162 =
+    rw c.as_slice-4.ensures.value (lacks_few t d.job d.outcome c.args.before c.requires.before c.requires.fit c.requires.few laws) in
+    omega (arith, few, c.requires.asked, ap (λ (x : Tables). x.asked) c.pause.ensures.pauses.rest)
+
+pub ask_all-requires-clause-spare : goal.ask_all-requires-clause-spare
+ask_all-requires-clause-spare g c =
+    let d = c.args.done in
+    let t = c.args.self.now in
+    let laws = subst (λ n. KeepsLaws n d.job.kind d.job.at d.job.state d.job.action d.outcome) c.requires.localities c.requires.laws in
+    let few : length c.as_slice-4.result.now ≤ 162 =
+    rw c.as_slice-4.ensures.value (lacks_few t d.job d.outcome c.args.before c.requires.before c.requires.fit c.requires.few laws) in
+    omega (arith, few, c.requires.spare, c.pause.ensures.spare)
+
 pub returns-clause-stands : goal.returns-clause-stands
 returns-clause-stands g c =
     let d = c.args.done in
     let t = c.args.self.now in
     let laws = subst (λ n. KeepsLaws n d.job.kind d.job.at d.job.state d.job.action d.outcome) c.requires.localities c.requires.laws in
-    let pauses = rw c.new.ensures at c.pause.ensures in
-    let cut = c.push_first_splits.ensures.entries ∙ rw (c.as_slice.ensures.value, c.as_slice-2.ensures.value, ap (λ (x : Tables). x.here) c.self.view_is) in
-    (begins_by g.A.Acts.act_of t c.pause.new.self d.job d.outcome d.localities c.args.before c.args.i c.args.j _ c.args.book.now.entries
-    c.push_first_splits.new.book.entries c.requires.fit c.requires.few laws c.requires.before c.requires.localities refl pauses
-    c.requires.first cut c.requires.stands).0
+    let pauses = rw c.new.ensures at c.pause.ensures.pauses in
+    let asks = rw c.as_slice-4.ensures.value at c.ask_all.ensures in
+    let here = ap (λ (x : Tables). x.here) c.self.view_is in
+    let cut = rw (c.as_slice.ensures.value, c.as_slice-2.ensures.value, here) at c.push_first_splits.ensures.entries in
+    let asked = rw (c.as_slice-3.ensures.value, here) at c.push_asks.ensures.entries in
+    let valid = rw (ap (λ (x : Tables). x.profile) c.self.view_is) at c.self.invariant.3 in
+    let some = something d.localities t d.job d.outcome c.requires.laws c.requires.fit valid.log_least c.requires.short in
+    (begins_by g.A.Acts.act_of t c.pause.new.self c.ask_all.new.self d.job d.outcome d.localities c.args.before c.args.i c.args.j _ c.args.book.now.entries
+    c.push_asks.new.book.entries c.requires.fit c.requires.few laws c.requires.before c.requires.localities c.requires.here refl pauses asks
+    c.requires.first (asked ∙ ap (λ es. es ++ at_all t.here (asked_events c.args.before.lacking.items)) cut) some c.requires.stands).0
 
 pub returns-clause-begins : goal.returns-clause-begins
 returns-clause-begins g c =
     let d = c.args.done in
     let t = c.args.self.now in
     let laws = subst (λ n. KeepsLaws n d.job.kind d.job.at d.job.state d.job.action d.outcome) c.requires.localities c.requires.laws in
-    let pauses = rw c.new.ensures at c.pause.ensures in
-    let cut = c.push_first_splits.ensures.entries ∙ rw (c.as_slice.ensures.value, c.as_slice-2.ensures.value, ap (λ (x : Tables). x.here) c.self.view_is) in
-    (begins_by g.A.Acts.act_of t c.pause.new.self d.job d.outcome d.localities c.args.before c.args.i c.args.j _ c.args.book.now.entries
-    c.push_first_splits.new.book.entries c.requires.fit c.requires.few laws c.requires.before c.requires.localities refl pauses
-    c.requires.first cut c.requires.stands).1
+    let pauses = rw c.new.ensures at c.pause.ensures.pauses in
+    let asks = rw c.as_slice-4.ensures.value at c.ask_all.ensures in
+    let here = ap (λ (x : Tables). x.here) c.self.view_is in
+    let cut = rw (c.as_slice.ensures.value, c.as_slice-2.ensures.value, here) at c.push_first_splits.ensures.entries in
+    let asked = rw (c.as_slice-3.ensures.value, here) at c.push_asks.ensures.entries in
+    let valid = rw (ap (λ (x : Tables). x.profile) c.self.view_is) at c.self.invariant.3 in
+    let some = something d.localities t d.job d.outcome c.requires.laws c.requires.fit valid.log_least c.requires.short in
+    (begins_by g.A.Acts.act_of t c.pause.new.self c.ask_all.new.self d.job d.outcome d.localities c.args.before c.args.i c.args.j _ c.args.book.now.entries
+    c.push_asks.new.book.entries c.requires.fit c.requires.few laws c.requires.before c.requires.localities c.requires.here refl pauses asks
+    c.requires.first (asked ∙ ap (λ es. es ++ at_all t.here (asked_events c.args.before.lacking.items)) cut) some c.requires.stands).1

@@ -1,6 +1,6 @@
 use Rattle.std.proofs.Common.{ap, ◌∙◌}
 use Rattle.hpx_journal.specs.Weights.{Book}
-use Rattle.hpx_node.proofs.Begun.{ok_map}
+use Rattle.hpx_node.proofs.Waited.{ok_map}
 use Rattle.hpx_node.proofs.Same.{stands_same}
 use Rattle.hpx_node.proofs.SameCommit.{prepared_same, ends_from}
 use Rattle.hpx_node.proofs.node.Node.finish.Goals.{then-is_err-via-then-is_err, then-is_err-via-else-is_err+then-is_err-2}
@@ -26,10 +26,13 @@ commit-requires-clause-stands g c =
 pub returns-clause-ends : goal.returns-clause-ends
 returns-clause-ends g c = λ done. ends_from c.args.self.now _ _ _ c.reserve.ensures.same c.commit.ensures.ends
 
-pub returns-in-Ok-None-clause-waits : goal.returns-in-Ok-None-clause-waits
-returns-in-Ok-None-clause-waits g c = ok_map c.wait.result _ _ c.wait.ensures.waits (λ f h. λ waits. (rw c.in-Ok-None.field-0-is at c.in-Ok-None.ensures.none, h.1))
+pub wait-requires-clause-short : goal.wait-requires-clause-short
+wait-requires-clause-short g c = rw c.in-Ok-None.field-0-is at c.in-Ok-None.ensures.none
+
+pub returns-in-Ok-None-clause-asks : goal.returns-in-Ok-None-clause-asks
+returns-in-Ok-None-clause-asks g c = ok_map c.wait.result _ _ c.wait.ensures.asks (λ f h. λ asks. (rw c.in-Ok-None.field-0-is at c.in-Ok-None.ensures.none, h.1))
 
 pub returns-in-Ok-None-clause-running : goal.returns-in-Ok-None-clause-running
 returns-in-Ok-None-clause-running g c =
-    ok_map c.wait.result _ _ c.wait.ensures.waits (λ f h. λ other.
+    ok_map c.wait.result _ _ c.wait.ensures.asks (λ f h. λ other.
     (c.in-Some.ensures.found.0, record { i = c.in-Some.spot.0; j = c.in-Some.spot.1; is = c.in-Some.ensures.found.1 }))

@@ -38,8 +38,8 @@ refill-requires-clause-within g c =
     let tidy = rw (← c.self.view_is) at c.requires.tidy in
     let inside : c.in-Some.i < length c.self.inside.pending.items = rw (c.as_slice.ensures.value) at c.in-Some.ensures.inside in
     let there = slice_get_is n.pending.items c.in-Some.i c.index_mut.result.now inside c.index_mut.ensures.value in
-    asked_within n.here n.objects.items c.index_mut.result.now
-    (all_at (IsPaused n.here n.objects.items) n.pending.items c.in-Some.i c.index_mut.result.now tidy.paused.each there)
+    asked_within n.here n.localities n.profile.credit_log n.objects.items c.index_mut.result.now
+    (all_at (IsPaused n.here n.localities n.profile.credit_log n.objects.items) n.pending.items c.in-Some.i c.index_mut.result.now tidy.paused.each there)
 
 pub returns-clause-gives : goal.returns-clause-gives
 returns-clause-gives g c =

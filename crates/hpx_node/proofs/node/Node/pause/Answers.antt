@@ -1,6 +1,6 @@
 use Rattle.hpx_part.proofs.Keyed.{slice_get_is}
 use Rattle.std.proofs.Common.{refl}
-use Rattle.hpx_node.proofs.Begun.{pauses_by}
+use Rattle.hpx_node.proofs.Waited.{pauses_by}
 use Rattle.hpx_node.proofs.node.Node.pause.Goals as goal
 
 pub new-requires : goal.new-requires
@@ -9,8 +9,8 @@ new-requires g c =
     let is = slice_get_is c.self.inside.objects.items c.args.j c.index.result.now inside c.index.ensures in
     rw c.object-object.ensures (c.requires.kept c.index.result.now (rw (← c.self.view_is) is))
 
-pub returns : goal.returns
-returns g c =
+pub returns-clause-pauses : goal.returns-clause-pauses
+returns-clause-pauses g c =
     let inside = rw (← c.self.view_is) at c.requires.object in
     let is = slice_get_is c.self.inside.objects.items c.args.j c.index.result.now inside c.index.ensures in
     let at = rw (← c.self.view_is) at c.requires.at in

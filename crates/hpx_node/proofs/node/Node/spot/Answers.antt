@@ -15,5 +15,5 @@ returns-clause-fit g c =
     let found = rw (c.as_slice-2.ensures.value, c.target.ensures) at c.in_ok-j.ensures.found in
     let state : c.state.result.now ≡ c.job-job.result.now.state = c.if-not-same.ensures.0 refl in
     rw (← c.job-job.ensures)
-    (fit_job n.here n.objects.items n.running.items n.pending.items c.job-job.result.now c.in_ok-i.i c.in_ok-j.j c.index-kept.result.now
+    (fit_job n.here n.localities n.profile.credit_log n.objects.items n.running.items n.pending.items c.job-job.result.now c.in_ok-i.i c.in_ok-j.j c.index-kept.result.now
     tidy.running paused runs (found ∙ there) there c.state.ensures.kept (sym c.state.ensures.state ∙ state))

@@ -1,6 +1,6 @@
 use Rattle.std.proofs.Common.{ap, refl, ◌∙◌}
 use Rattle.hpx_journal.specs.Weights.{Book}
-use Rattle.hpx_node.proofs.Begun.{before_same, begins_from}
+use Rattle.hpx_node.proofs.Waited.{short_same, before_same, begins_from}
 use Rattle.hpx_node.proofs.Same.{stands_same}
 use Rattle.hpx_node.proofs.node.Node.wait.Goals.{then-is_err-via-then-is_err, then-is_err-via-else-is_err+then-is_err-2}
 use Rattle.hpx_node.proofs.node.Node.wait.Goals as goal
@@ -21,6 +21,9 @@ begin-requires-clause-stands g c =
 pub begin-requires-clause-before : goal.begin-requires-clause-before
 begin-requires-clause-before g c = before_same c.args.self.now _ _ _ _ c.reserve.ensures.same c.in-Ok.ensures
 
-pub returns-clause-waits : goal.returns-clause-waits
-returns-clause-waits g c =
+pub begin-requires-clause-short : goal.begin-requires-clause-short
+begin-requires-clause-short g c = short_same c.args.self.now _ c.args.done.job c.args.done.outcome c.reserve.ensures.same c.requires.short
+
+pub returns-clause-asks : goal.returns-clause-asks
+returns-clause-asks g c =
     (refl, begins_from c.args.self.now _ _ _ _ _ _ _ c.reserve.ensures.same c.reserve-else-is_err.ensures.entries c.begin.ensures.begins)

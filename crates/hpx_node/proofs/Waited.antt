@@ -1,0 +1,239 @@
+-- A commit begins to wait, as the calls do it.
+use Rattle.std.proofs.Common.{ℕ, List, [], ◌∷◌, ◌++◌, ◌≡◌, ◌+◌, ◌≤◌, ◌<◌, None, Some, map, set, take, length, length-append, append_assoc, sym, ap, ◌∙◌, arith, subst}
+use Rattle.std.specs.Prelude.{Result, Ok, Err, IfOk}
+use Rattle.std.specs.List.{find, slice_get, remove, AllByRecursion}
+use Rattle.std.proofs.lemmas.List.{length-map}
+use Rattle.hpx_value.specs.Ids.{bare}
+use Rattle.hpx_value.specs.Values.{bare_state}
+use Rattle.hpx_value.specs.Hands.{id_at, hand_ids}
+use Rattle.hpx_value.specs.Laws.{KeepsLaws}
+use Rattle.hpx_value.specs.declared.acts.Job.{Job}
+use Rattle.hpx_parcel.specs.Parcels.{HasLeastCredit}
+use Rattle.hpx_journal.specs.Data.{Id, Act, State, Outcome}
+use Rattle.hpx_journal.specs.Entries.{target_of}
+use Rattle.hpx_journal.specs.Local.{is_standing}
+use Rattle.hpx_part.specs.Data.{Entry, Standing}
+use Rattle.hpx_part.specs.Parts.{at_all}
+use Rattle.hpx_commit.specs.Deals.{AreWithin, AllLast}
+use Rattle.hpx_commit.specs.Stocks.{Stock, ahead, short_places}
+use Rattle.hpx_commit.proofs.Stripped.{short_few}
+use Rattle.hpx_node.specs.declared.node.wait.Before.{Before}
+use Rattle.hpx_node.specs.Asks.{first_cuts, own_many, hand_before, splits_before, split_stock, short_before, lacking, asked_events, with_asks, AsksFor, stock_before, Pauses, IsBefore, Begins}
+use Rattle.hpx_node.specs.Commits.{made_of, hand_of, places_in_hand}
+use Rattle.hpx_node.specs.Fit.{IsKept}
+use Rattle.hpx_node.specs.Jobs.{IsAt, IsFitJob}
+use Rattle.hpx_node.specs.Pending.{Waits, asked_at, waits_with}
+use Rattle.hpx_node.specs.Stands.{IsTidy, StandsWith, rules_of}
+use Rattle.hpx_node.specs.Tables.{Tables}
+use Rattle.hpx_node.proofs.Alls.{all_at, some_same}
+use Rattle.hpx_node.proofs.Begun.{lent_kept, stands_waiting}
+use Rattle.hpx_node.proofs.Cutting.{at_all_append}
+use Rattle.hpx_node.proofs.FirstCuts.{first_few}
+use Rattle.hpx_node.proofs.LaterIds.{bare_none, within_long, hands_long, later_is}
+use Rattle.hpx_node.proofs.PlanLimits.{cuts_limit}
+use Rattle.hpx_node.proofs.Prepared.{action_few, hand_within}
+use Rattle.hpx_node.proofs.ShortHand.{short_within, lacks_least}
+use Rattle.hpx_node.proofs.Steps.{stands_by}
+
+pub pauses_by : (t t' : Tables) (i j : ℕ) (job : Job) (w : Waits) (at : IsAt t i j job) (x : Standing) → slice_get t.objects j ≡ Some x
+    → t' ≡ record t {
+      running = remove t.running i;
+      objects = set t.objects j (record { object = x.object; state = bare_state job.state });
+      pending = t.pending ++ w ∷ [];
+      spare = t'.spare;
+    } → Pauses i j job w t t'
+pauses_by t t' i j job w at x stands e = record {
+  at = at;
+  rest = e ∙ ap (λ (y : Standing). record t {
+    running = remove t.running i;
+    objects = set t.objects j (record { object = y.object; state = bare_state job.state });
+    pending = t.pending ++ w ∷ [];
+    spare = t'.spare;
+  }) (some_same x at.standing (sym stands ∙ at.stands));
+}
+
+-- ---- the hand, before
+
+module _ (n : ℕ) (t : Tables) (job : Job) (out : Outcome) (laws : KeepsLaws n job.kind job.at job.state job.action out) (fit : IsFitJob job) where
+  pub within_hand : AreWithin (hand_ids job.state job.action (map bare (made_of t out))) (places_in_hand t job out)
+  within_hand = within_long (hand_ids job.state job.action (made_of t out)) (hand_ids job.state job.action (map bare (made_of t out)))
+      (places_in_hand t job out) (sym (hands_long job (made_of t out)))
+      (hand_within n job out laws fit t.here t.births t.profile.credit_log)
+
+  pub within_split : AreWithin (split_stock t job out).hand (short_before t job out)
+  within_split = short_within job out (map bare (made_of t out)) (places_in_hand t job out) fit within_hand (later_is n t job out laws fit)
+
+  pub short_many : length (short_before t job out) ≤ 162
+  short_many = omega (
+    arith,
+    short_few (own_many job) (split_stock t job out),
+    length-append job.state.ids job.action.ids,
+    fit.state.few,
+    action_few job.action fit.action.sent.shape,
+  )
+
+-- what is found of it, in steps
+pub split_by : (t : Tables) (job : Job) (out : Outcome) (own : ℕ) (hand : List Id) (places : List ℕ) (s : Stock)
+    → s ≡ ahead own (record { hand = hand; places = places }) → own ≡ own_many job → hand ≡ hand_before t job out → places ≡ places_in_hand t job out
+    → s ≡ split_stock t job out
+split_by t job out own hand places s is many same named =
+    is
+    ∙ (ap (λ k. ahead k (record { hand = hand; places = places })) many
+    ∙ (ap (λ xs. ahead (own_many job) (record { hand = xs; places = places })) same
+    ∙ ap (λ ps. ahead (own_many job) (record { hand = hand_before t job out; places = ps })) named))
+
+pub short_by : (t : Tables) (job : Job) (out : Outcome) (own : ℕ) (s : Stock) (short : List ℕ) → short ≡ short_places own s → own ≡ own_many job
+    → s ≡ split_stock t job out → short ≡ short_before t job out
+short_by t job out own s short is many same = is ∙ (ap (λ k. short_places k s) many ∙ ap (short_places (own_many job)) same)
+
+module _ (t : Tables) (job : Job) (out : Outcome) (b : Before) (is : IsBefore t job out b) where
+  pub before_own : b.own ≤ length b.hand.items
+  before_own = omega (
+    arith,
+    is.own,
+    ap (λ (xs : List Id). length xs) is.hand,
+    length-append job.state.ids (job.action.ids ++ map bare (made_of t out)),
+    length-append job.action.ids (map bare (made_of t out)),
+    length-append job.state.ids job.action.ids,
+  )
+
+  pub kept_before : (i j : ℕ) → IsAt t i j job → IsFitJob job → IsTidy t [] → (x : Standing) → slice_get t.objects j ≡ Some x
+      → IsKept (record { object = x.object; state = b.state })
+  kept_before i j at fit tidy x stands =
+      let kept = all_at IsKept t.objects j x tidy.objects stands in
+      let same : x.state ≡ job.state = ap (λ (y : Standing). y.state) (some_same x at.standing (sym stands ∙ at.stands)) ∙ at.state in
+      subst (λ s. IsKept (record { object = x.object; state = s })) (sym is.state) (lent_kept x job.state kept same fit.state)
+
+  module _ (fit : IsFitJob job) (few : t.localities ≤ 64) (laws : KeepsLaws t.localities job.kind job.at job.state job.action out) where
+    pub before_short : length (first_cuts b.own 0 b.hand.items b.places.items) ≤ 192
+    before_short =
+        subst (λ (ps : List ℕ). length (first_cuts b.own 0 b.hand.items ps) ≤ 192) (sym is.places)
+        (subst (λ (ids : List Id). length (first_cuts b.own 0 ids (places_in_hand t job out)) ≤ 192) (sym is.hand)
+        (omega (
+          arith,
+          first_few b.own 0 (hand_ids job.state job.action (map bare (made_of t out))) (hand_ids job.state job.action (made_of t out))
+              (places_in_hand t job out) (hands_long job (made_of t out)),
+          cuts_limit t job out fit few laws,
+        )))
+
+    pub lacks_few : length b.lacking.items ≤ 162
+    lacks_few = omega (
+      arith,
+      ap (λ (xs : List Id). length xs) is.lacking,
+      length-map (short_before t job out) (id_at (split_stock t job out).hand),
+      short_many t.localities t job out laws fit,
+    )
+
+    pub before_least : AllByRecursion HasLeastCredit b.lacking.items
+    before_least = subst (AllByRecursion HasLeastCredit) (sym is.lacking)
+        (lacks_least job out (map bare (made_of t out)) (places_in_hand t job out) fit (within_hand t.localities t job out laws fit) (later_is t.localities t job out laws fit))
+
+pub begins_by : (act_of : ℕ → ℕ → ℕ → State → Act → Outcome) (t m t' : Tables) (job : Job) (out : Outcome) (localities : ℕ) (b : Before) (i j : ℕ) (w : Waits)
+    (e0 e1 : List Entry) → IsFitJob job → t.localities ≤ 64 → KeepsLaws t.localities job.kind job.at job.state job.action out → IsBefore t job out b
+    → localities ≡ t.localities → job.at < localities → w ≡ waits_with job out localities b.asked.items b.stock → Pauses i j job w t m
+    → AsksFor b.lacking.items m t' → find (is_standing (target_of job.action)) (take j t.objects) ≡ None
+    → e1 ≡ (e0 ++ at_all t.here (first_cuts b.own 0 b.hand.items b.places.items)) ++ at_all t.here (asked_events b.lacking.items)
+    → 1 ≤ length (lacking t job out) → StandsWith (rules_of act_of t.localities t.profile) t [] [] e0
+    → StandsWith (rules_of act_of t'.localities t'.profile) t' [] [] e1 × Begins t t' job out e0 e1
+begins_by act_of t m t' job out localities b i j w e0 e1 fit few laws is n below w_is pauses asked first cut some h =
+    let later = map bare (made_of t out) in
+    let places = places_in_hand t job out in
+    let ids = lacking t job out in
+    let same : w ≡ waits_with job out t.localities (asked_at t.asked (short_before t job out)) (stock_before t job out) =
+    w_is
+    ∙ (ap (λ k. waits_with job out k b.asked.items b.stock) n
+    ∙ (ap (λ xs. waits_with job out t.localities xs b.stock) is.asked
+    ∙ ap (waits_with job out t.localities (asked_at t.asked (short_before t job out))) is.stock)) in
+    let now : Pauses i j job (waits_with job out t.localities (asked_at t.asked (short_before t job out)) (stock_before t job out)) t m =
+    subst (λ v. Pauses i j job v t m) same pauses in
+    let written : e1 ≡ e0 ++ at_all t.here (splits_before t job out ++ asked_events (lacking t job out)) =
+    cut
+    ∙ (ap (λ k. (e0 ++ at_all t.here (first_cuts k 0 b.hand.items b.places.items)) ++ at_all t.here (asked_events b.lacking.items)) is.own
+    ∙ (ap (λ xs. (e0 ++ at_all t.here (first_cuts (own_many job) 0 xs b.places.items)) ++ at_all t.here (asked_events b.lacking.items)) is.hand
+    ∙ (ap (λ ps. (e0 ++ at_all t.here (first_cuts (own_many job) 0 (hand_before t job out) ps)) ++ at_all t.here (asked_events b.lacking.items)) is.places
+    ∙ (ap (λ xs. (e0 ++ at_all t.here (splits_before t job out)) ++ at_all t.here (asked_events xs)) is.lacking
+    ∙ (append_assoc e0 (at_all t.here (splits_before t job out)) (at_all t.here (asked_events ids))
+    ∙ ap (λ es. e0 ++ es) (sym (at_all_append t.here (splits_before t job out) (asked_events ids)))))))) in
+    let low : job.at < t.localities = subst (λ k. job.at < k) n below in
+    let within = within_hand t.localities t job out laws fit in
+    let mailed : AsksFor (lacking t job out) m t' = subst (λ xs. AsksFor xs m t') is.lacking asked in
+    let asks : AsksFor (lacking t job out) (record t {
+      running = remove t.running i;
+      objects = set t.objects j (record { object = now.at.standing.object; state = bare_state job.state });
+      pending = t.pending ++ waits_with job out t.localities (asked_at t.asked (short_before t job out)) (stock_before t job out) ∷ [];
+      spare = m.spare;
+    }) t' = subst (λ x. AsksFor (lacking t job out) x t') now.rest mailed in
+    let stands = stands_waiting (rules_of act_of t.localities t.profile) t e0 i j job out later places m.spare now.at first fit within (bare_none (made_of t out)) few
+    low (later_is t.localities t job out laws fit) h t' asks in
+    let localities : t.localities ≡ t'.localities = sym (ap (λ (x : Tables). x.localities) asks.rest) in
+    let profile : t.profile ≡ t'.profile = sym (ap (λ (x : Tables). x.profile) asks.rest) in (
+      stands_by act_of t.localities t'.localities t.profile t'.profile t' [] [] e1 localities profile
+          (subst (λ es. StandsWith (rules_of act_of t.localities t.profile) t' [] [] es) (sym written) stands),
+      record {
+        i = i;
+        j = j;
+        paused = m;
+        pauses = now;
+        asks = asks.goes
+            ∙ ap (λ x. record (with_asks t.here t.asked (lacking t job out) x) { asked = t.asked + length (lacking t job out); spare = t'.spare }) (sym now.rest);
+        some = some;
+        writes = record {
+          here = ap (λ (x : Tables). x.here) asks.rest;
+          localities = sym localities;
+          profile = sym profile;
+          grows = written;
+        };
+      },
+    )
+
+-- memory is no part of it
+pub before_same : (t t' : Tables) (job : Job) (out : Outcome) (b : Before) → t' ≡ record t { spare = t'.spare } → IsBefore t job out b → IsBefore t' job out b
+before_same t t' job out b same is = subst (λ x. IsBefore x job out b) (sym same)
+    (record { hand = is.hand; places = is.places; own = is.own; stock = is.stock; lacking = is.lacking; asked = is.asked; state = is.state })
+
+pub short_same : (t t' : Tables) (job : Job) (out : Outcome) → t' ≡ record t { spare = t'.spare } → (AllLast (hand_of t job out) (places_in_hand t job out) → ⊥)
+    → AllLast (hand_of t' job out) (places_in_hand t' job out) → ⊥
+short_same t t' job out same short = subst (λ x. AllLast (hand_of x job out) (places_in_hand x job out) → ⊥) (sym same) short
+
+pub at_same : (t t' : Tables) (i j : ℕ) (job : Job) → t' ≡ record t { spare = t'.spare } → IsAt t i j job → IsAt t' i j job
+at_same t t' i j job same at = subst (λ x. IsAt x i j job) (sym same) (record {
+  standing = at.standing;
+  here = at.here;
+  runs = at.runs;
+  stands = at.stands;
+  found = at.found;
+  kind = at.kind;
+  state = at.state;
+})
+
+begins_spare : (s u : Tables) (k : ℕ) (job : Job) (out : Outcome) (e0 e1 : List Entry) → Begins (record s { spare = k }) u job out e0 e1 → Begins s u job out e0 e1
+begins_spare s u k job out e0 e1 h = record {
+  i = h.i;
+  j = h.j;
+  paused = h.paused;
+  pauses = record {
+    at = record {
+      standing = h.pauses.at.standing;
+      here = h.pauses.at.here;
+      runs = h.pauses.at.runs;
+      stands = h.pauses.at.stands;
+      found = h.pauses.at.found;
+      kind = h.pauses.at.kind;
+      state = h.pauses.at.state;
+    };
+    rest = h.pauses.rest;
+  };
+  asks = h.asks;
+  some = h.some;
+  writes = record { here = h.writes.here; localities = h.writes.localities; profile = h.writes.profile; grows = h.writes.grows };
+}
+
+pub begins_from : (s t u : Tables) (job : Job) (out : Outcome) (e e0 e1 : List Entry) → t ≡ record s { spare = t.spare } → e0 ≡ e
+    → Begins t u job out e0 e1 → Begins s u job out e e1
+begins_from s t u job out e e0 e1 same is h =
+    begins_spare s u t.spare job out e e1
+    (subst (λ x. Begins x u job out e e1) same (subst (λ es. Begins t u job out es e1) is h))
+
+pub ok_map : {X E : Type 0} (r : Result X E) (P Q : X → Type 0) → IfOk r P → ((x : X) → P x → Q x) → IfOk r Q
+ok_map (Ok x) P Q h f = f x h
+ok_map (Err e) P Q h f = tt

@@ -1,0 +1,73 @@
+use Rattle.std.proofs.Common.{◌≡◌, ◌≤◌, ◌+◌, ◌∙◌, map, length, length-append, refl, sym, ap, arith}
+use Rattle.hpx_value.specs.Hands.{id_at}
+use Rattle.hpx_commit.specs.Stocks.{Stock, stripped}
+use Rattle.hpx_node.specs.Asks.{own_many, hand_before, split_stock, short_before}
+use Rattle.hpx_node.specs.Commits.{places_in_hand}
+use Rattle.hpx_node.specs.Pending.{asked_at}
+use Rattle.hpx_node.proofs.Waited.{split_by, short_by, short_many, within_split}
+use Rattle.hpx_node.proofs.node.Node.before.Goals as goal
+
+pub asks-requires : goal.asks-requires
+asks-requires g c =
+    let d = c.args.done.now in
+    let t = c.args.self.now in
+    let hand : c.ids.result.now ≡ hand_before c.args.self.now c.args.done.now.job c.args.done.now.outcome =
+    rw (c.ids.ensures, c.in_ok-hand-2.ensures.0, c.in_ok-hand-2.ensures.1, c.in_ok-hand-2.ensures.2, c.as_slice-4.ensures.value, c.in_ok-later.ensures, c.as_slice-3.ensures, c.job-job.ensures, c.outcome-outcome.ensures) refl in
+    let places : c.as_slice-5.result.now ≡ places_in_hand c.args.self.now c.args.done.now.job c.args.done.now.outcome =
+    rw (c.as_slice-5.ensures.value, c.in_ok-places.ensures, c.in_ok-hand.ensures.0, c.in_ok-hand.ensures.1, c.in_ok-hand.ensures.2, c.as_slice-2.ensures.value, c.in_ok-made.ensures, c.as_slice.ensures, c.job-job.ensures, c.outcome-outcome.ensures) refl in
+    let own : c.len.result + c.len-2.result ≡ own_many c.args.done.now.job =
+    rw (c.len.ensures, c.len-2.ensures, c.job-job.ensures) (sym (length-append c.args.done.now.job.state.ids c.args.done.now.job.action.ids)) in
+    let split : c.in_ok-stock.stock ≡ split_stock c.args.self.now c.args.done.now.job c.args.done.now.outcome =
+    split_by t d.job d.outcome _ c.ids.result.now c.as_slice-5.result.now c.in_ok-stock.stock c.in_ok-stock.ensures own hand places in
+    let short : c.in_ok-short.short.items ≡ short_before c.args.self.now c.args.done.now.job c.args.done.now.outcome =
+    short_by t d.job d.outcome _ c.in_ok-stock.stock c.in_ok-short.short.items c.in_ok-short.ensures own split in
+    let few : length c.as_slice-7.result.now ≤ 162 =
+    rw (c.as_slice-7.ensures.value, short) (short_many d.localities t d.job d.outcome c.lawful.ensures c.requires.fit) in
+    omega (arith, few, c.requires.asked)
+
+pub strip-requires : goal.strip-requires
+strip-requires g c =
+    let d = c.args.done.now in
+    let t = c.args.self.now in
+    let hand : c.ids.result.now ≡ hand_before c.args.self.now c.args.done.now.job c.args.done.now.outcome =
+    rw (c.ids.ensures, c.in_ok-hand-2.ensures.0, c.in_ok-hand-2.ensures.1, c.in_ok-hand-2.ensures.2, c.as_slice-4.ensures.value, c.in_ok-later.ensures, c.as_slice-3.ensures, c.job-job.ensures, c.outcome-outcome.ensures) refl in
+    let places : c.as_slice-5.result.now ≡ places_in_hand c.args.self.now c.args.done.now.job c.args.done.now.outcome =
+    rw (c.as_slice-5.ensures.value, c.in_ok-places.ensures, c.in_ok-hand.ensures.0, c.in_ok-hand.ensures.1, c.in_ok-hand.ensures.2, c.as_slice-2.ensures.value, c.in_ok-made.ensures, c.as_slice.ensures, c.job-job.ensures, c.outcome-outcome.ensures) refl in
+    let own : c.len.result + c.len-2.result ≡ own_many c.args.done.now.job =
+    rw (c.len.ensures, c.len-2.ensures, c.job-job.ensures) (sym (length-append c.args.done.now.job.state.ids c.args.done.now.job.action.ids)) in
+    let split : c.in_ok-stock.stock ≡ split_stock c.args.self.now c.args.done.now.job c.args.done.now.outcome =
+    split_by t d.job d.outcome _ c.ids.result.now c.as_slice-5.result.now c.in_ok-stock.stock c.in_ok-stock.ensures own hand places in
+    let short : c.in_ok-short.short.items ≡ short_before c.args.self.now c.args.done.now.job c.args.done.now.outcome =
+    short_by t d.job d.outcome _ c.in_ok-stock.stock c.in_ok-short.short.items c.in_ok-short.ensures own split in
+    rw (c.as_slice-8.ensures.value, short, split) (within_split d.localities t d.job d.outcome c.lawful.ensures c.requires.fit)
+
+pub returns : goal.returns
+returns g c =
+    let d = c.args.done.now in
+    let t = c.args.self.now in
+    let hand : c.ids.result.now ≡ hand_before c.args.self.now c.args.done.now.job c.args.done.now.outcome =
+    rw (c.ids.ensures, c.in_ok-hand-2.ensures.0, c.in_ok-hand-2.ensures.1, c.in_ok-hand-2.ensures.2, c.as_slice-4.ensures.value, c.in_ok-later.ensures, c.as_slice-3.ensures, c.job-job.ensures, c.outcome-outcome.ensures) refl in
+    let places : c.as_slice-5.result.now ≡ places_in_hand c.args.self.now c.args.done.now.job c.args.done.now.outcome =
+    rw (c.as_slice-5.ensures.value, c.in_ok-places.ensures, c.in_ok-hand.ensures.0, c.in_ok-hand.ensures.1, c.in_ok-hand.ensures.2, c.as_slice-2.ensures.value, c.in_ok-made.ensures, c.as_slice.ensures, c.job-job.ensures, c.outcome-outcome.ensures) refl in
+    let own : c.len.result + c.len-2.result ≡ own_many c.args.done.now.job =
+    rw (c.len.ensures, c.len-2.ensures, c.job-job.ensures) (sym (length-append c.args.done.now.job.state.ids c.args.done.now.job.action.ids)) in
+    let split : c.in_ok-stock.stock ≡ split_stock c.args.self.now c.args.done.now.job c.args.done.now.outcome =
+    split_by t d.job d.outcome _ c.ids.result.now c.as_slice-5.result.now c.in_ok-stock.stock c.in_ok-stock.ensures own hand places in
+    let short : c.in_ok-short.short.items ≡ short_before c.args.self.now c.args.done.now.job c.args.done.now.outcome =
+    short_by t d.job d.outcome _ c.in_ok-stock.stock c.in_ok-short.short.items c.in_ok-short.ensures own split in
+    let kept : c.ids-2.result.now ≡ hand_before c.args.self.now c.args.done.now.job c.args.done.now.outcome =
+    rw (c.ids-2.ensures, c.in_ok-hand-2.ensures.0, c.in_ok-hand-2.ensures.1, c.in_ok-hand-2.ensures.2, c.as_slice-4.ensures.value, c.in_ok-later.ensures, c.as_slice-3.ensures, c.job-job.ensures, c.outcome-outcome.ensures) refl in
+    record {
+      hand = c.in_ok-from_slice.ensures.items ∙ kept;
+      places = sym c.as_slice-5.ensures.value ∙ places;
+      own = own;
+      stock = c.stock-2.view_is
+          ∙ (c.strip.ensures
+          ∙ (ap (λ ps. stripped ps c.in_ok-stock.stock) (c.as_slice-8.ensures.value ∙ short)
+          ∙ ap (stripped (short_before t d.job d.outcome)) split));
+      lacking = c.in_ok-lacking.ensures
+          ∙ (ap (λ ps. map (id_at c.in_ok-stock.stock.hand) ps) (c.as_slice-6.ensures.value ∙ short)
+          ∙ ap (λ (s : Stock). map (id_at s.hand) (short_before t d.job d.outcome)) split);
+      asked = c.in_ok-asked.ensures ∙ ap (asked_at t.asked) (c.as_slice-7.ensures.value ∙ short);
+      state = rw c.job-job.ensures at c.in_ok-bare_state.ensures;
+    }
