@@ -9,7 +9,7 @@ use Rattle.hpx_top.specs.Reader.{Reading, HasRead, lines_left}
 use Rattle.hpx_top.specs.declared.session.SessionFault.{SessionFault}
 use Rattle.hpx_top.specs.declared.session.SessionFault.TheVariants.{Read, Write, Fabric, JournalFull, OutOfMemory, InputFull}
 use Rattle.hpx_top.specs.Session.{lines_fed, IsCut, IsCutIn, IsCutBy, IsOver, IsUnderWay, IsStopped}
-use Rattle.hpx_top.specs.Ends.{IsWhole, IsBrokenOff, IsBrokenIn, IsBegun, IsEndedBy, IsReadUp, IsReadOn}
+use Rattle.hpx_top.specs.Ends.{IsWhole, IsBrokenOff, IsBrokenIn, IsBegun, IsEndedBy, IsReadFrom, IsReadUp, IsReadOn}
 use Rattle.hpx_top.proofs.LineLemmas.{told_rest, before_quit_append, text_front, front_then, followed_nothing}
 use Rattle.hpx_top.proofs.SessionLemmas.{under_cut, under_in, under_over}
 
@@ -178,6 +178,16 @@ pub read_on_from : (n : ℕ) (input : List ℕ) (left rest : Option (List ℕ)) 
     → HasRead left reading rest → reading.read ≡ n → IsReadOn n input rest
 read_on_from n input left rest reading h stopped read count =
     read_on_at n input reading rest (subst (λ all. IsStopped all reading rest) (told input left h) stopped) (subst (λ all. HasRead all reading rest) h read) count
+
+pub read_from : (input : List ℕ) (left rest : Option (List ℕ)) (reading : Reading) (before after : ℕ) → left ≡ Some input → HasRead left reading rest
+    → after ≡ before + reading.read → IsReadFrom input rest before after
+read_from input left rest reading before after h read count =
+    let told = told_rest input read.front rest (sym h ∙ read.next) in
+    record { front = read.front; rest = told.0; input_is = told.2; left_is = told.1; count = count ∙ ap (λ n. before + n) (sym read.count) }
+
+-- nothing was read
+pub read_from_none : (input : List ℕ) (left : Option (List ℕ)) (taken : ℕ) → left ≡ Some input → IsReadFrom input left taken taken
+read_from_none input left taken h = record { front = []; rest = input; input_is = refl; left_is = h; count = omega arith }
 
 pub ended_from : (f : SessionFault) (input : List ℕ) (left : Option (List ℕ)) (entries : List Entry) (old new : Option (List ℕ)) → left ≡ Some input
     → IsCutBy f (all_lines left) old entries new → IsEndedBy f input entries old new

@@ -19,6 +19,10 @@ part_front bytes old new w = record {
   held = w.held;
 }
 
+-- nothing is the front of nothing
+pub nothing_said : (held : Option (List ℕ)) → WritesFront [] held held
+nothing_said held = record { front = []; begins = record { later = []; is = refl }; held = sym (followed_nothing held) }
+
 -- what holds of whatever error
 pub any_err : {T E : Type 0} (r : Result T E) (P : Type 0) → P → OnErr r P
 any_err (Ok x) P h = tt

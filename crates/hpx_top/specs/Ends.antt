@@ -1,5 +1,5 @@
 -- What a run has done where it ends, over the bytes of its input.
-use Rattle.std.specs.Prelude.{ℕ, true, false, Option, Some, List, [], ◌∷◌, ◌++◌, ◌≡◌, ◌<◌, ◌≤◌, ◌⊎◌, length}
+use Rattle.std.specs.Prelude.{ℕ, true, false, Option, Some, List, [], ◌∷◌, ◌++◌, ◌≡◌, ◌+◌, ◌<◌, ◌≤◌, ◌⊎◌, length}
 use Rattle.std.specs.List.{list_any, slice_split}
 use Rattle.hpx_root_journal.specs.declared.entry.Entry.{Entry}
 use Rattle.hpx_ports.specs.Told.{followed}
@@ -45,6 +45,14 @@ pub record IsBegun (input : List ℕ) (entries : List Entry) (old new : Option (
   pub is : new ≡ followed old text
   pub theirs : IsFront text (text_of handled)
   pub begins : IsFront text (text_of (lines_of input))
+
+-- The first bytes of the input were read, as many as the count of the source rose by, and the others are left.
+pub record IsReadFrom (input : List ℕ) (left : Option (List ℕ)) (before after : ℕ) : Type 0 where
+  pub front : List ℕ
+  pub rest : List ℕ
+  pub input_is : input ≡ front ++ rest
+  pub left_is : left ≡ Some rest
+  pub count : after ≡ before + length front
 
 -- the input was read to its end, or to `quit`
 abbrev pub IsReadUp : List ℕ → Option (List ℕ) → Type 0

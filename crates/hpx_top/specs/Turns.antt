@@ -1,9 +1,9 @@
 -- What a turn wrote, and which jobs are out after it.
-use Rattle.std.specs.Prelude.{ℕ, List, [], ◌∷◌, ◌++◌, ◌≡◌, ◌⊎◌, Some}
+use Rattle.std.specs.Prelude.{ℕ, List, [], ◌∷◌, ◌++◌, ◌≡◌, ◌⊎◌, Option, Some, None}
 use Rattle.std.specs.List.{AllByRecursion}
 use Rattle.hpx_value.specs.declared.acts.Job.{Job}
 use Rattle.hpx_root_journal.specs.Data.{Act, Outcome, Apply}
-use Rattle.hpx_root_journal.specs.Entries.{name_of, target_of}
+use Rattle.hpx_root_journal.specs.Entries.{Frame, name_of, target_of}
 use Rattle.hpx_root_journal.specs.declared.entry.Name.{Name}
 use Rattle.hpx_root_journal.specs.declared.entry.Entry.{Entry}
 use Rattle.hpx_root_journal.specs.declared.entry.Event.TheVariants.{Line, Fire, Out, In}
@@ -11,6 +11,7 @@ use Rattle.hpx_root_journal.specs.Whole.{Grows, FeedsNothing}
 use Rattle.hpx_parcel.specs.Reading.{parcel_of}
 use Rattle.hpx_top.specs.declared.turns.Turned.{Turned}
 use Rattle.hpx_top.specs.declared.turns.Turned.TheVariants as turned
+use Rattle.hpx_top.specs.declared.parts.Outgoing.{Outgoing}
 use Rattle.hpx_top.specs.declared.parts.Finished.TheVariants.{Committed, NotRunning}
 use Rattle.hpx_top.specs.Tables.{Tables}
 use Rattle.hpx_top.specs.Changes.{committed}
@@ -30,6 +31,19 @@ pub record SendsHome (k : ℕ) (old new : List Entry) : Type 0 where
   pub grows : Grows k (Out to bytes ∷ []) old new
   pub spelled : parcel_of bytes ≡ Some (Apply act)
   pub home : to ≡ (target_of act).home
+
+-- The action that had waited longest at k, on its way to another locality, went there in a frame. The others still wait.
+pub record SendsOldest (k : ℕ) (t t' : Tables) (old new : List Entry) : Type 0 where
+  pub first : Outgoing
+  pub bytes : List ℕ
+  pub is : t.outgoing ≡ first ∷ t'.outgoing
+  pub spelled : parcel_of bytes ≡ Some (Apply first.act)
+  pub grows : Grows k (Out first.to bytes ∷ []) old new
+
+-- the frame in hand was accepted where it goes, and nothing is in hand
+pub record AcceptsHeld (frame : Frame) (held : Option Frame) (old new : List Entry) : Type 0 where
+  pub grows : Grows frame.0 (In frame.1 ∷ []) old new
+  pub empty : held ≡ None
 
 -- a job was committed: the journal grew by its Done, and then by each message and print that it leaves, in order
 pub record Commits (old new : List Entry) : Type 0 where

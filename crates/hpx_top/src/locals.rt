@@ -9,7 +9,7 @@ ghost use Rattle.hpx_ports.specs.Faults.{Rose};
 ghost use Rattle.hpx_top.specs.Tables.{IsPassive};
 ghost use Rattle.hpx_top.specs.Stands.{rules_of};
 ghost use Rattle.hpx_top.specs.Sound.{IsSound, IsSame, IsInside, SendsOne, AcceptsOne, IsCarrying, IsQuiet, IsStuck, NoneRuns, Begins, Stops, running_in, road_of, listed};
-ghost use Rattle.hpx_top.specs.Turns.{IsUnfed, SendsHome};
+ghost use Rattle.hpx_top.specs.Turns.{IsUnfed, SendsHome, SendsOldest, AcceptsHeld};
 ghost use Rattle.hpx_top.specs.Changes.{committed};
 ghost use Rattle.hpx_top.specs.Jobs.{IsRunning, Starts};
 
@@ -191,6 +191,7 @@ impl<A: RootActs + Copy> Locals<A> {
         ensures carrying { IsCarrying self.new.hand (F.flight fabric.new) (F.trace fabric.new) self.new.journal.entries }
         ensures empty { OnOk result (self.new.hand ≡ None → (self.old.hand ≡ None) × (F.flight fabric.old ≡ Some []) × (F.flight fabric.new ≡ Some [])) }
         ensures some { OnOk result (self.new.hand ≢ None → (self.old.hand ≢ None) ⊎ (F.flight fabric.old ≢ Some [])) }
+        ensures held { (frame : _) → self.old.hand ≡ Some frame → (self.new.hand ≡ Some frame) × (fabric.new ≡ fabric.old) × (result ≡ Ok tt) }
         ensures err { OnErr result (self.new.hand ≡ self.old.hand) }
         ensures cause { IsErrOf result FabricFault.Failed → Rose (F.faults fabric.old) (F.faults fabric.new) }
         ensures stands { (IsErrOf result FabricFault.Failed → ⊥) → F.faults fabric.new ≡ F.faults fabric.old }
@@ -221,6 +222,8 @@ impl<A: RootActs + Copy> Locals<A> {
         ensures some { result ≡ Ok true → (t : _) → slice_get self.old.nodes.items k ≡ Some t → t.outgoing ≢ [] }
         ensures sent { result ≡ Ok true → (to : ℕ) × (bytes : List ℕ) × Grows k (Event.Out to bytes ∷ []) self.old.journal.entries self.new.journal.entries }
         ensures home { result ≡ Ok true → SendsHome k self.old.journal.entries self.new.journal.entries }
+        ensures oldest { result ≡ Ok true → (t t' : _) → slice_get self.old.nodes.items k ≡ Some t → slice_get self.new.nodes.items k ≡ Some t'
+            → SendsOldest k t t' self.old.journal.entries self.new.journal.entries }
         ensures none { result ≡ Ok false → IsSame self.old.nodes.items self.new.nodes.items self.old.journal.entries self.new.journal.entries
             × ((t : _) → slice_get self.old.nodes.items k ≡ Some t → t.outgoing ≡ []) }
         ensures err { OnErr result (IsSame self.old.nodes.items self.new.nodes.items self.old.journal.entries self.new.journal.entries) }
@@ -257,6 +260,10 @@ impl<A: RootActs + Copy> Locals<A> {
         ensures jobs { running_in self.new.nodes.items ≡ running_in self.old.nodes.items }
         ensures some { result ≡ Ok true → (self.old.hand ≢ None) ⊎ (F.flight fabric.old ≢ Some []) }
         ensures accepted { result ≡ Ok true → (k : ℕ) × (bytes : List ℕ) × Grows k (Event.In bytes ∷ []) self.old.journal.entries self.new.journal.entries }
+        ensures clears { OnOk result (self.new.hand ≡ None) }
+        ensures held { (frame : _) → self.old.hand ≡ Some frame → OnOk result (AcceptsHeld frame self.new.hand self.old.journal.entries self.new.journal.entries) }
+        ensures stays { (frame : _) → self.old.hand ≡ Some frame → OnErr result (self.new.hand ≡ Some frame) }
+        ensures apart { (frame : _) → self.old.hand ≡ Some frame → fabric.new ≡ fabric.old }
         ensures none { result ≡ Ok false → (self.old.hand ≡ None) × (F.flight fabric.old ≡ Some []) × (self.new.hand ≡ None) × (F.flight fabric.new ≡ Some [])
             × IsSame self.old.nodes.items self.new.nodes.items self.old.journal.entries self.new.journal.entries }
         ensures err { OnErr result (IsSame self.old.nodes.items self.new.nodes.items self.old.journal.entries self.new.journal.entries) }

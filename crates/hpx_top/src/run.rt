@@ -3,8 +3,8 @@ ghost use Rattle.std.specs.Prelude.{◌≡◌, ◌≢◌, ◌≤◌, ◌<◌, �
 ghost use Rattle.hpx_root_journal.specs.Weights.{HasRoom};
 ghost use Rattle.hpx_ports.specs.Faults.{Rose};
 ghost use Rattle.hpx_ports.specs.Told.{followed};
-ghost use Rattle.hpx_top.specs.Ends.{IsWhole, IsBrokenOff, IsBrokenIn, IsBegun, IsEndedBy, IsReadUp, IsReadOn, IsInputFull};
-ghost use Rattle.hpx_top.specs.Session.{IsAtRest, IsLegalAt, entries_in};
+ghost use Rattle.hpx_top.specs.Ends.{IsWhole, IsBrokenOff, IsBrokenIn, IsBegun, IsEndedBy, IsReadFrom, IsReadUp, IsReadOn, IsInputFull};
+ghost use Rattle.hpx_top.specs.Session.{IsAtRest, IsLegalAt, WritesFront, entries_in};
 ghost use Rattle.hpx_top.specs.Sound.{IsCarrying};
 ghost use Rattle.hpx_top.specs.Statuses.{IsStatus, status_of, status_line, word_line};
 ghost use Rattle.hpx_top.specs.Usage.{bad_word};
@@ -76,9 +76,10 @@ fn line_of(fault: SessionFault) -> (&'static [u8], u8)
     }
 }
 
-/// Says something on `err`. Where that fails, nothing comes of it.
+/// Says something on `err`. Where that fails, nothing comes of it but the front of the line.
 fn say<E: Sink>(err: &mut E, line: &[u8])
-    ensures { (Rose (E.faults err.old) (E.faults err.new) → ⊥) → E.held err.new ≡ followed (E.held err.old) line.now }
+    ensures front { WritesFront line.now (E.held err.old) (E.held err.new) }
+    ensures whole { (Rose (E.faults err.old) (E.faults err.new) → ⊥) → E.held err.new ≡ followed (E.held err.old) line.now }
 {
     match write_all(err, line) {
         Ok(()) => (),
@@ -98,6 +99,8 @@ fn serve_all<S: Source, K: Sink, F: Fabric>(
     requires trace { F.trace fabric.old ≡ Some [] }
 
     ensures whole { (input : _) → S.left source.old ≡ Some input → OnOk result.1 (IsWhole input (entries_in result.0) (K.held sink.old) (K.held sink.new)) }
+    ensures reads { (input : _) → S.left source.old ≡ Some input → IsReadFrom input (S.left source.new) (S.taken source.old) (S.taken source.new) }
+    ensures limit { S.taken source.new ≤ S.taken source.old + 67108864 }
     ensures read_up { (input : _) → S.left source.old ≡ Some input → OnOk result.1 (IsReadUp input (S.left source.new)) }
     ensures ended { (input : _) → S.left source.old ≡ Some input → IfSome result.0 (λ w.
         IfErr result.1 (λ fault. IsEndedBy fault input w.journal.entries (K.held sink.old) (K.held sink.new))) }
@@ -150,6 +153,8 @@ pub fn run<S: Source, K: Sink, E: Sink, F: Fabric>(
         E.held err.new ≡ followed (E.held err.old) (word_line place) }
     ensures status_line { bad_word words.now ≡ None → (Rose (E.faults err.old) (E.faults err.new) → ⊥) →
         E.held err.new ≡ followed (E.held err.old) (status_line result.status) }
+    ensures usage_front { (place : ℕ) → bad_word words.now ≡ Some place → WritesFront (word_line place) (E.held err.old) (E.held err.new) }
+    ensures status_front { bad_word words.now ≡ None → WritesFront (status_line result.status) (E.held err.old) (E.held err.new) }
     ensures silent { result.status ≡ 0 → err.new ≡ err.old }
     ensures no_other { IsStatus result.status }
 
@@ -165,6 +170,8 @@ pub fn run<S: Source, K: Sink, E: Sink, F: Fabric>(
         IfSome result.world (λ w. IsBrokenOff 1 input w.journal.entries (K.held sink.old) (K.held sink.new)) }
     ensures untouched { result.world ≡ None → (source.new ≡ source.old) × (sink.new ≡ sink.old) × (result.fabric ≡ fabric) }
 
+    ensures reads { (input : _) → S.left source.old ≡ Some input → IsReadFrom input (S.left source.new) (S.taken source.old) (S.taken source.new) }
+    ensures limit { S.taken source.new ≤ S.taken source.old + 67108864 }
     ensures read_up { (input : _) → S.left source.old ≡ Some input → result.status ≡ 0 → IsReadUp input (S.left source.new) }
     ensures rest { result.status ≡ 0 → IfSome result.world (λ w. IsAtRest w) }
     ensures read { result.status ≡ 2 → Rose (S.faults source.old) (S.faults source.new) }

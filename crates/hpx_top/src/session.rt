@@ -9,7 +9,7 @@ ghost use Rattle.hpx_top.specs.Sound.{IsCarrying};
 ghost use Rattle.hpx_top.specs.PlainText.{is_long, text_of};
 ghost use Rattle.hpx_top.specs.Reader.{HasRead, bytes_left};
 ghost use Rattle.hpx_top.specs.Session.{IsAtRest, IsLegalAt, FeedsAtMost, FeedsLine, IsLineEndedBy, WritesFront, IsServing, IsOver, IsCutBy, IsStopped};
-ghost use Rattle.hpx_top.specs.Ends.{IsWhole, IsEndedBy, IsBegun, IsReadUp, IsReadOn, IsInputFull};
+ghost use Rattle.hpx_top.specs.Ends.{IsWhole, IsEndedBy, IsBegun, IsReadFrom, IsReadUp, IsReadOn, IsInputFull};
 
 use crate::acts::AllActs;
 use crate::acts::console::BAD_COMMAND;
@@ -217,6 +217,7 @@ fn serve_line<S: Source, K: Sink, F: Fabric>(
         IsStopped all reader.new (S.left source.new) }
     ensures reads { (all : _) → HasRead all reader.old (S.left source.old) → HasRead all reader.new (S.left source.new) }
     ensures counted { reader.new.read + S.taken source.old ≡ reader.old.read + S.taken source.new }
+    ensures limit { reader.old.read ≤ 67108864 → reader.new.read ≤ 67108864 }
 
     ensures rest { OnOk result (IsAtRest world.new) }
     ensures legal { IsLegalAt (length world.new.nodes) world.new.journal.entries }
@@ -267,6 +268,8 @@ pub fn serve<S: Source, K: Sink, F: Fabric>(
     requires carrying { IsCarrying world.old.hand (F.flight fabric.old) (F.trace fabric.old) world.old.journal.entries }
 
     ensures whole { (input : _) → S.left source.old ≡ Some input → OnOk result (IsWhole input world.new.journal.entries (K.held sink.old) (K.held sink.new)) }
+    ensures reads { (input : _) → S.left source.old ≡ Some input → IsReadFrom input (S.left source.new) (S.taken source.old) (S.taken source.new) }
+    ensures limit { S.taken source.new ≤ S.taken source.old + 67108864 }
     ensures read_up { (input : _) → S.left source.old ≡ Some input → OnOk result (IsReadUp input (S.left source.new)) }
     ensures ended { (input : _) → S.left source.old ≡ Some input →
         IfErr result (λ fault. IsEndedBy fault input world.new.journal.entries (K.held sink.old) (K.held sink.new)) }

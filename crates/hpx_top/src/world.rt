@@ -7,7 +7,7 @@ ghost use Rattle.hpx_ports.specs.Faults.{Rose};
 ghost use Rattle.hpx_top.specs.Stands.{rules_of};
 ghost use Rattle.hpx_top.specs.Sound.{IsSame, IsInside, IsCarrying, IsQuiet, NothingApplies, NoneRuns, running_in};
 ghost use Rattle.hpx_top.specs.Changes.{committed};
-ghost use Rattle.hpx_top.specs.Turns.{Wrote, Ran, IsUnfed, SendsHome};
+ghost use Rattle.hpx_top.specs.Turns.{Wrote, Ran, IsUnfed, SendsHome, SendsOldest, AcceptsHeld};
 ghost use Rattle.hpx_top.specs.Free.{NoneIsFree};
 ghost use Rattle.hpx_top.specs.Jobs.{IsRunning, Starts, IsOut};
 
@@ -200,6 +200,8 @@ impl<A: RootActs + Copy> World<A> {
         ensures answers { IfOk result (λ t. (t ≡ Turned.Empty) ⊎ ((t ≡ Turned.Moved)
             × ((to : ℕ) × (bytes : List ℕ) × Grows k (Event.Out to bytes ∷ []) self.old.journal.entries self.new.journal.entries))) }
         ensures home { result ≡ Ok Turned.Moved → SendsHome k self.old.journal.entries self.new.journal.entries }
+        ensures oldest { (t t' : _) → result ≡ Ok Turned.Moved → slice_get self.old.nodes k ≡ Some t → slice_get self.new.nodes k ≡ Some t'
+            → SendsOldest k t t' self.old.journal.entries self.new.journal.entries }
         ensures empty { (t : _) → slice_get self.old.nodes k ≡ Some t → IfOk result (λ turned. (turned ≡ Turned.Empty) ↔ (t.outgoing ≡ [])) }
         ensures err { OnErr result (IsSame self.old.nodes self.new.nodes self.old.journal.entries self.new.journal.entries) }
         ensures which { IfErr result (λ e. (e ≡ WorldFault.Fabric) ⊎ (e ≡ WorldFault.OutOfMemory None)) }
@@ -225,6 +227,10 @@ impl<A: RootActs + Copy> World<A> {
         ensures ran { IfOk result (λ t. Ran t self.old.nodes self.new.nodes) }
         ensures answers { IfOk result (λ t. (t ≡ Turned.Empty) ⊎ ((t ≡ Turned.Moved)
             × ((at : ℕ) × (bytes : List ℕ) × Grows at (Event.In bytes ∷ []) self.old.journal.entries self.new.journal.entries))) }
+        ensures clears { OnOk result (self.new.hand ≡ None) }
+        ensures held { (frame : _) → self.old.hand ≡ Some frame → OnOk result (AcceptsHeld frame self.new.hand self.old.journal.entries self.new.journal.entries) }
+        ensures stays { (frame : _) → self.old.hand ≡ Some frame → OnErr result (self.new.hand ≡ Some frame) }
+        ensures apart { (frame : _) → self.old.hand ≡ Some frame → fabric.new ≡ fabric.old }
         ensures empty { IfOk result (λ turned. (turned ≡ Turned.Empty) ↔ ((self.old.hand ≡ None) × (F.flight fabric.old ≡ Some []))) }
         ensures err { OnErr result (IsSame self.old.nodes self.new.nodes self.old.journal.entries self.new.journal.entries) }
         ensures which { IfErr result (λ e. (e ≡ WorldFault.Fabric) ⊎ (e ≡ WorldFault.OutOfMemory None)) }
@@ -271,6 +277,8 @@ impl<A: RootActs + Copy> World<A> {
         ensures pumps { (k : _) → choice ≡ Choice.Pump k → IfOk result (λ t. (t ≡ Turned.Empty) ⊎ ((t ≡ Turned.Moved)
             × ((to : ℕ) × (bytes : List ℕ) × Grows k (Event.Out to bytes ∷ []) self.old.journal.entries self.new.journal.entries))) }
         ensures home { (k : _) → choice ≡ Choice.Pump k → result ≡ Ok Turned.Moved → SendsHome k self.old.journal.entries self.new.journal.entries }
+        ensures oldest { (k : _) (t t' : _) → choice ≡ Choice.Pump k → result ≡ Ok Turned.Moved → slice_get self.old.nodes k ≡ Some t → slice_get self.new.nodes k ≡ Some t'
+            → SendsOldest k t t' self.old.journal.entries self.new.journal.entries }
         ensures takes { choice ≡ Choice.Take → IfOk result (λ t. (t ≡ Turned.Empty) ⊎ ((t ≡ Turned.Moved)
             × ((at : ℕ) × (bytes : List ℕ) × Grows at (Event.In bytes ∷ []) self.old.journal.entries self.new.journal.entries))) }
         ensures idle { (k : _) (t : _) → choice ≡ Choice.Fire k → slice_get self.old.nodes k ≡ Some t
@@ -281,6 +289,11 @@ impl<A: RootActs + Copy> World<A> {
             → IfOk result (λ turned. (turned ≡ Turned.Empty) ↔ (t.outgoing ≡ [])) }
         ensures nothing { choice ≡ Choice.Take → IfOk result (λ turned. (turned ≡ Turned.Empty) ↔ ((self.old.hand ≡ None) × (F.flight fabric.old ≡ Some []))) }
 
+        ensures clears { choice ≡ Choice.Take → OnOk result (self.new.hand ≡ None) }
+        ensures held { (frame : _) → choice ≡ Choice.Take → self.old.hand ≡ Some frame
+            → OnOk result (AcceptsHeld frame self.new.hand self.old.journal.entries self.new.journal.entries) }
+        ensures stays { (frame : _) → choice ≡ Choice.Take → self.old.hand ≡ Some frame → OnErr result (self.new.hand ≡ Some frame) }
+        ensures apart_held { (frame : _) → choice ≡ Choice.Take → self.old.hand ≡ Some frame → fabric.new ≡ fabric.old }
         ensures hand { choice ≢ Choice.Take → self.new.hand ≡ self.old.hand }
         ensures apart { ((k : _) → choice ≢ Choice.Pump k) → choice ≢ Choice.Take → fabric.new ≡ fabric.old }
         ensures err { OnErr result (IsSame self.old.nodes self.new.nodes self.old.journal.entries self.new.journal.entries) }

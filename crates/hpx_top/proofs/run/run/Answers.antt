@@ -1,5 +1,8 @@
-use Rattle.std.proofs.Common.{ℕ, [], ◌≡◌, ◌⊎◌, inl, inr, refl, sym, ap, ◌∙◌}
-use Rattle.hpx_top.specs.Statuses.{status_after}
+use Rattle.std.proofs.Common.{ℕ, [], Some, ◌≡◌, ◌⊎◌, inl, inr, refl, sym, ap, ◌∙◌}
+use Rattle.hpx_ports.specs.Told.{followed}
+use Rattle.hpx_top.specs.Statuses.{status_after, word_line}
+use Rattle.hpx_top.specs.Usage.{bad_word}
+use Rattle.hpx_top.proofs.ShowLemmas.{nothing_said}
 use Rattle.hpx_top.proofs.EndLemmas.{begun_nothing}
 use Rattle.hpx_top.proofs.RunLemmas.{ended_well, ended_between, ended_within, ended_without}
 use Rattle.hpx_top.proofs.run.run.Goals as goal
@@ -51,3 +54,15 @@ returns-clause-at_most_a_line g c =
       | in-Err w ↦ w.status-is ∙ (w.line_of-status.ensures.status ∙ ap status_after (sym w.in-Err.is))
     ] in
     λ input h s. ended_without c.serve_all-world.result.1 c.serve_all-world.result.0 input _ _ (sym is ∙ s) (c.serve_all-world.ensures.ended input h)
+
+pub returns-in-Some-clause-usage_line : goal.returns-in-Some-clause-usage_line
+returns-in-Some-clause-usage_line g c = λ place bad calm.
+    let is : Some c.in-Some.place ≡ Some place = sym c.in-Some.is ∙ (c.bad_word.ensures ∙ (ap bad_word c.as_slice.ensures ∙ bad)) in
+    let same : c.in-Some.place ≡ place = cc in
+    c.say.ensures.whole calm ∙ ap (λ line. followed (g.E.Sink.held c.args.err.now) line) (c.usage_line.ensures ∙ ap word_line same)
+
+pub returns-clause-status_front : goal.returns-clause-status_front
+returns-clause-status_front g c = λ good. elim c.match-served.branch [
+  | in-Ok w ↦ rw (w.status-is, w.err-is) (nothing_said (g.E.Sink.held c.args.err.now))
+  | in-Err w ↦ rw (w.err-is, w.status-is, w.line_of-status.ensures.status) (rw w.line_of-status.ensures.line at w.say-in-Err.ensures.front)
+]

@@ -5,7 +5,7 @@ use Rattle.hpx_top.specs.Session.{IsLegalAt}
 use Rattle.hpx_top.proofs.ShowLemmas.{if_err_from, err_of, no_err}
 use Rattle.hpx_top.proofs.SessionLemmas.{serving_start, under_start}
 use Rattle.hpx_top.proofs.FeedLemmas.{cut_write}
-use Rattle.hpx_top.proofs.EndLemmas.{all_lines, whole_from, begun_over, read_up_from, read_on_from, ended_from, begun_from, read_none}
+use Rattle.hpx_top.proofs.EndLemmas.{all_lines, whole_from, begun_over, read_up_from, read_on_from, read_from, read_from_none, ended_from, begun_from, read_none}
 use Rattle.hpx_top.proofs.session.serve.Goals as goal
 
 pub returns-in_err-write-clause-ended : goal.returns-in_err-write-clause-ended
@@ -25,6 +25,11 @@ returns-in_err-write-clause-begun g c =
     (g.K.Sink.held c.args.sink.now) (g.K.Sink.held c.write.new.sink) h
     (cut_write c.in_err-write.field-0.0 all _ _ _ c.in_err-write.ensures.cause.0 under)
 
+-- nothing was read
+pub returns-in_err-write-clause-reads : goal.returns-in_err-write-clause-reads
+returns-in_err-write-clause-reads g c =
+    λ input h. read_from_none input (g.S.Source.left c.args.source.now) (g.S.Source.taken c.args.source.now) h
+
 pub loop-reader-init : goal.loop-reader-init
 loop-reader-init g c = record {
   serving = serving_start (length c.args.world.now.nodes) (all_lines (g.S.Source.left c.args.source.now)) (g.K.Sink.held c.args.sink.now) (g.K.Sink.held c.write.new.sink)
@@ -32,6 +37,7 @@ loop-reader-init g c = record {
       (rw c.new-reader.ensures refl) (rw c.new-reader.ensures (omega arith)) c.requires.empty c.in_ok-write.ensures.held;
   reads = read_none (g.S.Source.left c.args.source.now) c.new-reader.result c.new-reader.ensures;
   counted = rw c.new-reader.ensures (omega arith);
+  limit = rw c.new-reader.ensures (omega arith);
   rest = c.requires.rest;
   legal = subst (λ es. IsLegalAt (length c.args.world.now.nodes) es) (sym c.requires.empty) tt;
   carrying = c.requires.carrying;
@@ -50,6 +56,7 @@ loop-reader-preserved g c =
       serving = rw (← c.loop-reader.invariant.count) next;
       reads = c.serve_line.ensures.reads _ c.loop-reader.invariant.reads;
       counted = omega (arith, c.loop-reader.invariant.counted, c.serve_line.ensures.counted);
+      limit = c.serve_line.ensures.limit c.loop-reader.invariant.limit;
       rest = c.in_ok-serve_line.ensures.rest;
       legal = c.serve_line.ensures.legal;
       carrying = c.serve_line.ensures.carrying;
@@ -98,6 +105,28 @@ returns-in_err-serve_line-clause-taken g c =
     let is = ap (λ f. Err f) (err_of c.from_residual-in_err-serve_line.result c.in_err-serve_line.field-0.0 InputFull c.from_residual-in_err-serve_line.ensures.1 e) in
     let read = c.in_err-serve_line.ensures.full_input is in
     omega (arith, read, c.loop-reader.invariant.counted, c.serve_line.ensures.counted)
+
+pub returns-in_err-serve_line-clause-reads : goal.returns-in_err-serve_line-clause-reads
+returns-in_err-serve_line-clause-reads g c =
+    λ input h. read_from input (g.S.Source.left c.args.source.now) (g.S.Source.left c.serve_line.new.source) c.serve_line.new.reader
+    (g.S.Source.taken c.args.source.now) (g.S.Source.taken c.serve_line.new.source) h (c.serve_line.ensures.reads _ c.loop-reader.invariant.reads)
+    (omega (arith, c.loop-reader.invariant.counted, c.serve_line.ensures.counted))
+
+pub returns-in_err-serve_line-clause-limit : goal.returns-in_err-serve_line-clause-limit
+returns-in_err-serve_line-clause-limit g c =
+    let most = c.serve_line.ensures.limit c.loop-reader.invariant.limit in
+    omega (arith, most, c.loop-reader.invariant.counted, c.serve_line.ensures.counted)
+
+pub returns-clause-reads : goal.returns-clause-reads
+returns-clause-reads g c =
+    λ input h. read_from input (g.S.Source.left c.args.source.now) (g.S.Source.left c.serve_line.new.source) c.serve_line.new.reader
+    (g.S.Source.taken c.args.source.now) (g.S.Source.taken c.serve_line.new.source) h (c.serve_line.ensures.reads _ c.loop-reader.invariant.reads)
+    (omega (arith, c.loop-reader.invariant.counted, c.serve_line.ensures.counted))
+
+pub returns-clause-limit : goal.returns-clause-limit
+returns-clause-limit g c =
+    let most = c.serve_line.ensures.limit c.loop-reader.invariant.limit in
+    omega (arith, most, c.loop-reader.invariant.counted, c.serve_line.ensures.counted)
 
 pub returns-clause-whole : goal.returns-clause-whole
 returns-clause-whole g c =

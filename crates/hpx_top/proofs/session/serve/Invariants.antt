@@ -1,4 +1,4 @@
-use Rattle.std.proofs.Common.{◌≡◌, ◌+◌, [], false, length}
+use Rattle.std.proofs.Common.{◌≡◌, ◌+◌, ◌≤◌, [], false, length}
 use Rattle.hpx_root_journal.specs.Weights.{HasRoom}
 use Rattle.hpx_top.specs.Sound.{IsCarrying}
 use Rattle.hpx_top.specs.Reader.{HasRead, bytes_left, lines_left}
@@ -12,6 +12,7 @@ invariant-loop-reader g l =
           (g.K.Sink.held l.fn.sink) l.reader (g.S.Source.left l.source) l.world.journal.entries (g.K.Sink.held l.sink);
       reads : HasRead (g.S.Source.left l.fn.source) l.reader (g.S.Source.left l.source);
       counted : l.reader.read + g.S.Source.taken l.fn.source ≡ g.S.Source.taken l.source;
+      limit : l.reader.read ≤ 67108864;
       rest : IsAtRest l.world;
       legal : IsLegalAt (length l.world.nodes) l.world.journal.entries;
       carrying : IsCarrying l.world.hand (g.F.Fabric.flight l.fabric) (g.F.Fabric.trace l.fabric) l.world.journal.entries;

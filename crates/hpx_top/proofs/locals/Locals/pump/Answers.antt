@@ -1,8 +1,11 @@
-use Rattle.std.proofs.Common.{subst, ◌≡◌, [], Some, refl, sym, ap, ◌∙◌}
+use Rattle.std.proofs.Common.{subst, ◌≡◌, [], ◌∷◌, Some, refl, sym, ap, ◌∙◌}
+use Rattle.hpx_root_journal.specs.declared.entry.Event.TheVariants.{Out}
+use Rattle.hpx_root_journal.specs.Whole.{Grows}
 use Rattle.hpx_top.specs.Tables.{Tables}
 use Rattle.hpx_top.specs.Sound.{SendsOne}
+use Rattle.hpx_top.specs.Turns.{SendsOldest}
 use Rattle.hpx_top.proofs.SoundLemmas.{stands_own, sound_out, sends_of}
-use Rattle.hpx_top.proofs.TurnLemmas.{here_at, grows_at, same_at, got_at, running_at}
+use Rattle.hpx_top.proofs.TurnLemmas.{here_at, grows_at, same_at, got_at, at_both, running_at}
 use Rattle.hpx_top.proofs.DueLemmas.{adds_out}
 use Rattle.hpx_top.proofs.IdleLemmas.{some_none}
 use Rattle.hpx_top.proofs.AwayLemmas.{carrying_sent}
@@ -52,6 +55,21 @@ returns-clause-home g c = λ same. record {
   spelled = (rw c.in-Ok.is at c.encode.ensures.read) ∙ ap Some c.in-Some.ensures.some.carried;
   home = c.in-Some.ensures.some.home;
 }
+
+pub returns-clause-oldest : goal.returns-clause-oldest
+returns-clause-oldest g c = λ same.
+    let next = c.in-Some.ensures.some in
+    let entries = c.args.self.now.journal.entries in
+    let grows = grows_at _ _ _ c.requires.sound c.args.k c.index_mut-node.result.now c.gone.new.self c.requires.range c.index_mut-node.ensures.value _ _
+    (rw c.reserve.ensures.entries at c.gone.ensures.writes) in
+    at_both _ _ _ c.requires.sound c.args.k c.index_mut-node.result.now c.gone.new.self c.requires.range c.index_mut-node.ensures.value
+    (λ x y. SendsOldest c.args.k x y entries c.gone.new.book.entries) (record {
+      first = next.first;
+      bytes = c.in-Ok.bytes;
+      is = next.is ∙ ap (λ xs. next.first ∷ xs) (sym (ap (λ (x : Tables). x.outgoing) (c.gone.ensures.rest next.first next.rest next.is)));
+      spelled = (rw c.in-Ok.is at c.encode.ensures.read) ∙ ap Some next.carried;
+      grows = subst (λ to. Grows c.args.k (Out to c.in-Ok.bytes ∷ []) entries c.gone.new.book.entries) next.place grows;
+    })
 
 pub returns-clause-few : goal.returns-clause-few
 returns-clause-few g c =
