@@ -52,6 +52,7 @@ use Rattle.hpx_node.proofs.Plain.{no_ids}
 use Rattle.hpx_node.proofs.Refilled.{map_same}
 use Rattle.hpx_node.proofs.ShortHand.{lacks_least, left_asks, left_weighs, fresh_paused}
 use Rattle.hpx_node.proofs.SplitHand.{weigh_bare, stock_weighs, hand_weighs}
+use Rattle.hpx_node.proofs.Single.{single_set}
 use Rattle.hpx_node.proofs.Splits.{Has, Halves, halves_none, cut_many}
 use Rattle.hpx_node.proofs.Stays.{Stays, cuts_stay, stays_out, stays_in}
 use Rattle.hpx_node.proofs.Steps.{Tells, tells_leads, same_refusals, stands_then}
@@ -157,7 +158,7 @@ find_put p (z ∷ xs) (suc j) x y h first passes = elim (cases_Bool (p z)) [
   | inr f ↦ rw f (find_put p xs j x y h (rw f at first) passes)
 ]
 
-bare_counts : (o : Id) (ids : List Id) → bare_names o (map bare ids) ≡ count_by (same_object o) ids
+pub bare_counts : (o : Id) (ids : List Id) → bare_names o (map bare ids) ≡ count_by (same_object o) ids
 bare_counts o [] = refl
 bare_counts o (id ∷ ids) = omega (
   arith,
@@ -195,7 +196,7 @@ lent_kept x s kept same fit = record {
 
 -- ---- an action that is alone on its object
 
-apart_alone : (l : List Act) (act : Act) (m : List Act) → Apart (l ++ act ∷ m) → is_busy (target_of act) (l ++ m) ≡ false
+pub apart_alone : (l : List Act) (act : Act) (m : List Act) → Apart (l ++ act ∷ m) → is_busy (target_of act) (l ++ m) ≡ false
 apart_alone [] act m h = h.0
 apart_alone (x ∷ l) act m h =
     none_busy (target_of act) x (l ++ m) (keeps_both x act (busy_less (target_of x) l act m h.0).0) (apart_alone l act m h.1)
@@ -297,6 +298,7 @@ module _ (r : Rules) (t : Tables) (entries : List Entry) (i j : ℕ) (job : Job)
               found_new at.kind refl,
           tt,
         );
+    single = single_set t.objects j at.standing lent at.stands refl h.tidy.paused.single;
     apart = apart_new;
     whole = subst (λ xs. AllByRecursion (Whole xs) (set t.objects j lent)) (sym acts_more)
         (all_set (Whole (acts ++ job.action ∷ [])) t.objects j lent (whole_more t.objects h.tidy.paused.whole) lent_whole);

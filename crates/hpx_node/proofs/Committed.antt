@@ -1,17 +1,19 @@
 -- A prepared commit, written step by step, leaves what one step would leave.
 use Rattle.std.proofs.Common.{ℕ, List, [], ◌++◌, ◌≡◌, ◌+◌, set, length, append_assoc, append-nil, sym, ap, ◌∙◌, arith}
-use Rattle.std.specs.List.{remove}
+use Rattle.hpx_agas.specs.declared.record.Record.{Record}
+use Rattle.hpx_journal.specs.Data.{Act}
 use Rattle.hpx_part.specs.Data.{Event, Entry, Standing}
 use Rattle.hpx_part.specs.Parts.{at_all}
 use Rattle.hpx_node.specs.declared.node.settle.Birth.{Birth}
 use Rattle.hpx_node.specs.Births.{Makes, objects_of, records_of}
+use Rattle.hpx_node.specs.Pending.{Waits}
 use Rattle.hpx_node.specs.Tables.{Tables}
 use Rattle.hpx_node.proofs.Cutting.{at_all_append}
 
 -- the tables once what is made is made and the job is done
-module _ (t t1 t2 : Tables) (xs : List Birth) (i j : ℕ) (new : Standing) (made : Makes xs [] t t1) (running : t2.running ≡ remove t1.running i)
+module _ (t t1 t2 : Tables) (xs : List Birth) (j : ℕ) (running : List Act) (pending : List Waits) (new : Standing) (made : Makes xs [] t t1)
     (objects : t2.objects ≡ set t1.objects j new)
-    (rest : t2 ≡ record t1 { running = t2.running; objects = t2.objects; spare = t2.spare }) where
+    (rest : t2 ≡ record t1 { running = running; pending = pending; objects = t2.objects; spare = t2.spare }) where
   births_then : t1.births ≡ t.births + length xs
   births_then = omega (arith, made.births)
 
@@ -21,23 +23,23 @@ module _ (t t1 t2 : Tables) (xs : List Birth) (i j : ℕ) (new : Standing) (made
   objects_then : t2.objects ≡ set (t.objects ++ objects_of t.here t.births xs) j new
   objects_then = objects ∙ ap (λ ys. set ys j new) (sym (append-nil t1.objects) ∙ made.objects)
 
-  running_then : t2.running ≡ remove t.running i
-  running_then = running ∙ ap (λ (x : Tables). remove x.running i) made.rest
+  abbrev then : ℕ → List Record → List Standing → Tables
+  then n rs os = record t { births = n; records = rs; objects = os; running = running; pending = pending; spare = t2.spare }
 
   pub settled_is : t2 ≡ record t {
     births = t.births + length xs;
     records = t.records ++ records_of t.here t.births t.profile.credit_log xs;
     objects = set (t.objects ++ objects_of t.here t.births xs) j new;
-    running = remove t.running i;
+    running = running;
+    pending = pending;
     spare = t2.spare;
   }
   settled_is =
       rest
-      ∙ (ap (λ (x : Tables). record x { running = t2.running; objects = t2.objects; spare = t2.spare }) made.rest
-      ∙ (ap (λ n. record t { births = n; records = t1.records; objects = t2.objects; running = t2.running; spare = t2.spare }) births_then
-      ∙ (ap (λ rs. record t { births = t.births + length xs; records = rs; objects = t2.objects; running = t2.running; spare = t2.spare }) records_then
-      ∙ (ap (λ os. record t { births = t.births + length xs; records = t.records ++ records_of t.here t.births t.profile.credit_log xs; objects = os; running = t2.running; spare = t2.spare }) objects_then
-      ∙ ap (λ rest. record t { births = t.births + length xs; records = t.records ++ records_of t.here t.births t.profile.credit_log xs; objects = set (t.objects ++ objects_of t.here t.births xs) j new; running = rest; spare = t2.spare }) running_then))))
+      ∙ (ap (λ (x : Tables). record x { running = running; pending = pending; objects = t2.objects; spare = t2.spare }) made.rest
+      ∙ (ap (λ n. then n t1.records t2.objects) births_then
+      ∙ (ap (λ rs. then (t.births + length xs) rs t2.objects) records_then
+      ∙ ap (λ os. then (t.births + length xs) (t.records ++ records_of t.here t.births t.profile.credit_log xs) os) objects_then)))
 
 -- entries that are written one list after another
 pub written_on : (k : ℕ) (a b c d : List Entry) (xs ys zs : List Event) → b ≡ a ++ at_all k xs → c ≡ b ++ at_all k ys → d ≡ c ++ at_all k zs

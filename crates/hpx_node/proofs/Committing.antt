@@ -1,6 +1,6 @@
 -- A prepared commit, once its job is settled, stands with what is due and what nobody names.
 use Rattle.std.proofs.Common.{ℕ, false, Some, List, [], ◌∷◌, ◌++◌, ◌≡◌, ◌≤◌, ◌<◌, set, length, append_assoc, append-nil, sym, ap, ◌∙◌, subst}
-use Rattle.std.specs.List.{remove, slice_get}
+use Rattle.std.specs.List.{slice_get, AllByRecursion}
 use Rattle.hpx_value.specs.Values.{bare_act, bare_state, message_of, named}
 use Rattle.hpx_value.specs.Laws.{KeepsLaws}
 use Rattle.hpx_value.specs.declared.acts.Job.{Job}
@@ -10,67 +10,75 @@ use Rattle.hpx_part.specs.Data.{Event, Entry, Done, Standing}
 use Rattle.hpx_part.specs.Parts.{at_all}
 use Rattle.hpx_part.proofs.Keyed.{slice_get_less}
 use Rattle.hpx_node.specs.declared.node.finish.Prepared.{Prepared}
-use Rattle.hpx_node.specs.Births.{Makes, births_of, objects_of}
-use Rattle.hpx_node.specs.Commits.{splits_from, written, ups, committed, IsPrepared}
-use Rattle.hpx_node.specs.Jobs.{IsAt, IsFitJob}
+use Rattle.hpx_node.specs.declared.node.settle.Birth.{Birth}
+use Rattle.hpx_node.specs.Births.{Makes, births_of, objects_of, ids_of}
+use Rattle.hpx_node.specs.Commits.{splits_from, written, ups, committed_from, IsPrepared}
+use Rattle.hpx_node.specs.Fit.{IsFit}
+use Rattle.hpx_node.specs.Jobs.{IsFitJob}
+use Rattle.hpx_node.specs.Paused.{ArePaused}
+use Rattle.hpx_node.specs.Pending.{Waits}
 use Rattle.hpx_node.specs.Stands.{StandsWith, rules_of}
 use Rattle.hpx_node.specs.Tables.{Tables}
 use Rattle.hpx_node.proofs.Alls.{get_before}
 use Rattle.hpx_node.proofs.Committed.{settled_is, written_on}
 use Rattle.hpx_node.proofs.OfPrepared.{tables_settled, stands_of, committed_is}
+use Rattle.hpx_node.proofs.Settled.{IsEnding}
 
--- once what is made is made
-module _ (t : Tables) (job : Job) (p : Prepared) (i j : ℕ) (at : IsAt t i j job) (t1 : Tables) (made : Makes p.births.items [] t t1) where
-  pub runs_then : slice_get t1.running i ≡ Some job.action
-  runs_then = ap (λ (x : Tables). slice_get x.running i) made.rest ∙ at.runs
-
-  pub runs_less : i < length t1.running
-  runs_less = slice_get_less t1.running i job.action runs_then
-
-  pub stands_then : slice_get t1.objects j ≡ Some at.standing
+-- once what is made is made, what stood before stands as before
+module _ (t t1 : Tables) (xs : List Birth) (made : Makes xs [] t t1) (j : ℕ) (x : Standing) (stands : slice_get t.objects j ≡ Some x) where
+  pub stands_then : slice_get t1.objects j ≡ Some x
   stands_then =
-      ap (λ xs. slice_get xs j) (sym (append-nil t1.objects) ∙ made.objects)
-      ∙ get_before t.objects (objects_of t.here t.births p.births.items) j at.standing at.stands
+      ap (λ ys. slice_get ys j) (sym (append-nil t1.objects) ∙ made.objects)
+      ∙ get_before t.objects (objects_of t.here t.births xs) j x stands
 
   pub stands_less : j < length t1.objects
-  stands_less = slice_get_less t1.objects j at.standing stands_then
+  stands_less = slice_get_less t1.objects j x stands_then
 
 -- once the job is settled
 module _ (act_of : ℕ → ℕ → ℕ → State → Act → Outcome)
     (blind : (n kind here : ℕ) (s : State) (a : Act) → act_of n kind here s a ≡ act_of n kind here (bare_state s) (named 0 0 (message_of (bare_act a))))
     (t : Tables) (job : Job) (out : Outcome) (fit : IsFitJob job) (few : t.localities ≤ 64)
     (laws : KeepsLaws t.localities job.kind job.at job.state job.action out) (right : out ≡ act_of t.localities job.kind job.at job.state job.action)
-    (p : Prepared) (is : IsPrepared t job out p) (i j : ℕ) (at : IsAt t i j job)
+    (p : Prepared) (is : IsPrepared t job out p) (j : ℕ) (running : List Act) (pending : List Waits)
+    (at : IsEnding t j job (ids_of t.here t.births t.profile.credit_log p.births.items) p.stock.hand running pending)
     (t1 t2 : Tables) (made : Makes p.births.items [] t t1)
-    (running : t2.running ≡ remove t1.running i)
     (objects : (x : Standing) → slice_get t1.objects j ≡ Some x → t2.objects ≡ set t1.objects j (record { object = x.object; state = p.plan.state }))
-    (rest : t2 ≡ record t1 { running = t2.running; objects = t2.objects; spare = t2.spare })
-    (e0 e1 e2 e3 : List Entry)
-    (first : e1 ≡ e0 ++ at_all t.here (births_of t.here t.births p.births.items))
-    (cut : e2 ≡ e1 ++ at_all t1.here (splits_from 0 p.hand.items p.places.items))
-    (done : (act : Act) → slice_get t1.running i ≡ Some act → e3 ≡ e2 ++ at_all t1.here (Done (name_of act) false ∷ [])) where
-  tables_are : t2 ≡ tables_settled t job out fit few laws p is i j at t2.spare
-  tables_are = settled_is t t1 t2 p.births.items i j (record { object = at.standing.object; state = p.plan.state }) made running
-      (objects at.standing (stands_then t job p i j at t1 made)) rest
+    (rest : t2 ≡ record t1 { running = running; pending = pending; objects = t2.objects; spare = t2.spare })
+    (e0 e1 e2 : List Entry)
+    (first : e1 ≡ e0 ++ at_all t.here (births_of t.here t.births p.births.items ++ splits_from 0 p.stock.hand p.stock.places))
+    (done : e2 ≡ e1 ++ at_all t1.here (Done (name_of job.action) false ∷ [])) where
+  tables_are : t2 ≡ tables_settled t job out fit few laws p is j running pending at t2.spare
+  tables_are = settled_is t t1 t2 p.births.items j running pending (record { object = at.standing.object; state = p.plan.state }) made
+      (objects at.standing (stands_then t t1 p.births.items made j at.standing at.stands)) rest
 
   same_here : t1.here ≡ t.here
   same_here = ap (λ (x : Tables). x.here) made.rest
 
-  abbrev settled_events : List Event
-  settled_events = births_of t.here t.births p.births.items ++ (splits_from 0 p.hand.items p.places.items ++ Done (name_of job.action) false ∷ [])
+  abbrev born : List Event
+  born = births_of t.here t.births p.births.items
 
-  settled_written : e3 ≡ e0 ++ at_all t.here settled_events
-  settled_written = written_on t.here e0 e1 e2 e3 (births_of t.here t.births p.births.items) (splits_from 0 p.hand.items p.places.items)
-      (Done (name_of job.action) false ∷ []) first
-      (subst (λ k. e2 ≡ e1 ++ at_all k (splits_from 0 p.hand.items p.places.items)) same_here cut)
-      (subst (λ k. e3 ≡ e2 ++ at_all k (Done (name_of job.action) false ∷ [])) same_here (done job.action (runs_then t job p i j at t1 made)))
+  abbrev cuts : List Event
+  cuts = splits_from 0 p.stock.hand p.stock.places
 
-  pub settled_stands : StandsWith (rules_of act_of t.localities t.profile) t [] [] e0
-      → StandsWith (rules_of act_of t2.localities t2.profile) t2 p.plan.due.items p.plan.ups.items e3
-  settled_stands h =
-      subst (λ (x : Tables). StandsWith (rules_of act_of x.localities x.profile) x p.plan.due.items p.plan.ups.items e3) (sym tables_are)
-      (subst (λ es. StandsWith (rules_of act_of t.localities t.profile) (tables_settled t job out fit few laws p is i j at t2.spare) p.plan.due.items p.plan.ups.items es)
-      (sym settled_written) (stands_of t job out fit few laws p is act_of blind right i j at t2.spare e0 h))
+  abbrev last : List Event
+  last = Done (name_of job.action) false ∷ []
+
+  done_there : e2 ≡ e1 ++ at_all t.here last
+  done_there = subst (λ k. e2 ≡ e1 ++ at_all k last) same_here done
+
+  settled_written : e2 ≡ e0 ++ at_all t.here (born ++ (cuts ++ last))
+  settled_written =
+      written_on t.here e0 e1 e2 e2 (born ++ cuts) last [] first done_there (sym (append-nil e2))
+      ∙ ap (λ xs. e0 ++ at_all t.here xs) (append_assoc born cuts last)
+
+  pub settled_stands : AllByRecursion IsFit running
+      → ArePaused t.here t.localities t.profile.credit_log (set (t.objects ++ objects_of t.here t.births p.births.items) j (record { object = at.standing.object; state = p.plan.state })) running pending
+      → StandsWith (rules_of act_of t.localities t.profile) t [] [] e0
+      → StandsWith (rules_of act_of t2.localities t2.profile) t2 p.plan.due.items p.plan.ups.items e2
+  settled_stands runs paused h =
+      subst (λ (x : Tables). StandsWith (rules_of act_of x.localities x.profile) x p.plan.due.items p.plan.ups.items e2) (sym tables_are)
+      (subst (λ es. StandsWith (rules_of act_of t.localities t.profile) (tables_settled t job out fit few laws p is j running pending at t2.spare) p.plan.due.items p.plan.ups.items es)
+      (sym settled_written) (stands_of t job out fit few laws p is j running pending at t2.spare act_of blind right runs paused e0 h))
 
   pub settled_here : (t2.here ≡ t.here) × (t2.localities ≡ t.localities) × (t2.profile ≡ t.profile)
   settled_here = (
@@ -82,22 +90,19 @@ module _ (act_of : ℕ → ℕ → ℕ → State → Act → Outcome)
   pub settled_serial : t2.serial ≡ t.serial
   settled_serial = ap (λ (x : Tables). x.serial) tables_are
 
-  pub settled_running : t2.running ≡ remove t.running i
+  pub settled_running : t2.running ≡ running
   settled_running = ap (λ (x : Tables). x.running) tables_are
 
+  pub settled_pending : t2.pending ≡ pending
+  settled_pending = ap (λ (x : Tables). x.pending) tables_are
+
   -- all of it is written
-  pub all_written : (t3 : Tables) (e4 e5 : List Entry) → t3.here ≡ t2.here → e4 ≡ e3 ++ at_all t2.here (written t2.here t2.serial p.plan.due.items)
-      → e5 ≡ e4 ++ at_all t3.here (ups p.plan.ups.items) → e5 ≡ e0 ++ at_all t.here (committed t job out)
-  all_written t3 e4 e5 h paid given =
-      let sent = written t.here t.serial p.plan.due.items in
-      let gone = ups p.plan.ups.items in
-      let born = births_of t.here t.births p.births.items in
-      let cuts = splits_from 0 p.hand.items p.places.items in
-      let last = Done (name_of job.action) false ∷ [] in
-      let paid_on : e4 ≡ e3 ++ at_all t.here sent =
-      paid ∙ (ap (λ k. e3 ++ at_all k (written k t2.serial p.plan.due.items)) settled_here.0
-      ∙ ap (λ n. e3 ++ at_all t.here (written t.here n p.plan.due.items)) settled_serial) in
-      let given_on : e5 ≡ e4 ++ at_all t.here gone = given ∙ ap (λ k. e4 ++ at_all k gone) (h ∙ settled_here.0) in
-      written_on t.here e0 e3 e4 e5 settled_events sent gone settled_written paid_on given_on
-      ∙ ap (λ xs. e0 ++ at_all t.here xs) (append_assoc born (cuts ++ last) (sent ++ gone)
-      ∙ (ap (λ xs. born ++ xs) (append_assoc cuts last (sent ++ gone)) ∙ sym (committed_is t job out fit few laws p is)))
+  pub all_written : (e3 : List Entry) → e3 ≡ e2 ++ at_all t2.here (written t2.here t2.serial p.plan.due.items ++ ups p.plan.ups.items)
+      → e3 ≡ e0 ++ at_all t.here (committed_from t job out p.stock)
+  all_written e3 left =
+      let rest = written t.here t.serial p.plan.due.items ++ ups p.plan.ups.items in
+      let left_on : e3 ≡ e2 ++ at_all t.here (written t.here t.serial p.plan.due.items ++ ups p.plan.ups.items) =
+      left ∙ (ap (λ k. e2 ++ at_all k (written k t2.serial p.plan.due.items ++ ups p.plan.ups.items)) settled_here.0
+      ∙ ap (λ n. e2 ++ at_all t.here (written t.here n p.plan.due.items ++ ups p.plan.ups.items)) settled_serial) in
+      written_on t.here e0 e1 e2 e3 (born ++ cuts) last rest first done_there left_on
+      ∙ ap (λ xs. e0 ++ at_all t.here xs) (append_assoc born cuts (last ++ rest) ∙ sym (committed_is t job out fit few laws p is))

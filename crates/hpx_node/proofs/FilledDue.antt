@@ -134,7 +134,7 @@ half_right : (kind : ℕ) (log : Option ℕ) → MatchOption log (kind < 16) (λ
 half_right kind None h = h
 half_right kind (Some l) h = h
 
-share_credit : (id : Id) (n : ℕ) → HasRightCredit id → HasRightCredit (share id n)
+pub share_credit : (id : Id) (n : ℕ) → HasRightCredit id → HasRightCredit (share id n)
 share_credit id zero h = h
 share_credit id (suc n) h = half_right id.kind id.log h
 
@@ -171,21 +171,34 @@ unnamed_credit p (id ∷ ids) places h = elim (cases_Bool (is_managed id && (nam
   | inr t ↦ rw t (unnamed_credit (p + 1) ids places h.1)
 ]
 
-named_cons : (q : ℕ) (ps : List ℕ) (p : ℕ) → named_times (q ∷ ps) p ≡ cond (q == p) 1 0 + named_times ps p
+pub named_cons : (q : ℕ) (ps : List ℕ) (p : ℕ) → named_times (q ∷ ps) p ≡ cond (q == p) 1 0 + named_times ps p
 named_cons q ps p = sum_by-cons (λ r. cond (r == p) 1 0) q ps
 
-named_miss : (q : ℕ) (ps : List ℕ) (p : ℕ) → (q == p) ≡ false → named_times (q ∷ ps) p ≡ named_times ps p
+pub named_miss : (q : ℕ) (ps : List ℕ) (p : ℕ) → (q == p) ≡ false → named_times (q ∷ ps) p ≡ named_times ps p
 named_miss q ps p e = rw (named_cons q ps p, e) (omega arith)
 
--- a place of an unmanaged id is not among those that are named
-pub plain_named : (hand : List Id) (ps : List ℕ) (p : ℕ) → is_managed (id_at hand p) ≡ false → named_times (managed_places hand ps) p ≡ 0
-plain_named hand [] p un = refl
-plain_named hand (q ∷ qs) p un = elim (cases_Bool (is_managed (id_at hand q))) [
-  | inl t ↦
-      let other : (q == p) ≡ false = ne_eqb q p (λ e. true_not (sym t ∙ (ap (λ k. is_managed (id_at hand k)) e ∙ un))) in
-      rw t (omega (arith, named_miss q (managed_places hand qs) p other, plain_named hand qs p un))
-  | inr t ↦ rw t (plain_named hand qs p un)
+-- the named places of managed objects are of managed ids
+pub managed_named : (hand : List Id) (ps : List ℕ) → AllByRecursion (λ p. is_managed (id_at hand p) ≡ true) (managed_places hand ps)
+managed_named hand [] = tt
+managed_named hand (q ∷ qs) = elim (cases_Bool (is_managed (id_at hand q))) [
+  | inl t ↦ rw t (t, managed_named hand qs)
+  | inr t ↦ rw t (managed_named hand qs)
 ]
+
+-- a place of an unmanaged id is not among those that are named, where they name what is managed
+pub plain_named : (hand other : List Id) (ps qs : List ℕ) → map (λ p. bare (id_at hand p)) ps ≡ map (λ p. bare (id_at other p)) qs
+    → AllByRecursion (λ p. is_managed (id_at other p) ≡ true) qs → (p : ℕ) → is_managed (id_at hand p) ≡ false → named_times ps p ≡ 0
+plain_named hand other [] qs same all p un = refl
+plain_named hand other (x ∷ ps) [] same all p un = absurd (none_is (bare (id_at hand x)) (map (λ q. bare (id_at hand q)) ps) (sym same))
+plain_named hand other (x ∷ ps) (y ∷ qs) same all p un =
+    let kind : (id_at hand x).kind ≡ (id_at other y).kind =
+    ap (λ (z : Id). z.kind) (head_is (bare (id_at hand x)) (bare (id_at other y)) (map (λ q. bare (id_at hand q)) ps) (map (λ q. bare (id_at other q)) qs) same) in
+    let is : is_managed (id_at hand x) ≡ true = ap (nat_le 16) kind ∙ all.0 in
+    let miss : (x == p) ≡ false = ne_eqb x p (λ e. true_not (sym is ∙ (ap (λ k. is_managed (id_at hand k)) e ∙ un))) in
+    named_miss x ps p miss ∙ plain_named hand other ps qs (tail_is (bare (id_at hand x)) (bare (id_at other y)) (map (λ q. bare (id_at hand q)) ps) (map (λ q. bare (id_at other q)) qs) same) all.1 p un
+  where
+    tail_is : (a b : Id) (xs ys : List Id) → a ∷ xs ≡ b ∷ ys → xs ≡ ys
+    tail_is a b xs ys h = cc
 
 -- ---- weights
 

@@ -102,7 +102,7 @@ module _ (n kind here : ℕ) (s : State) (a : Act) (out : Outcome) (laws : Keeps
   paid_cont (Made make slot) = credit_at (hand_ids s a made) (length s.ids + length a.ids + make) hand_credit
   paid_cont (Here slot) = session_credit
 
-  hand_kinds_are : hand_kinds s a out ≡ map kind_of (hand_ids s a made)
+  pub hand_kinds_are : hand_kinds s a out ≡ map kind_of (hand_ids s a made)
   hand_kinds_are =
       ap (λ ks. map (λ (id : Id). id.kind) s.ids ++ (map (λ (id : Id). id.kind) a.ids ++ ks)) (sym kinds)
       ∙ sym (map-append kind_of s.ids (a.ids ++ made) ∙ ap (λ ks. map kind_of s.ids ++ ks) (map-append kind_of a.ids made))

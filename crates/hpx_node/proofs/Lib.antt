@@ -22,6 +22,7 @@ pub mod Stays
 pub mod Steps
 pub mod Paid
 pub mod Posted
+pub mod Single
 pub mod Pausing
 pub mod Prepared
 pub mod Same
@@ -44,8 +45,16 @@ pub mod PlanLimits
 pub mod PlanWeights
 pub mod PlanRoom
 pub mod OfPrepared
+pub mod Ending
 pub mod Committed
 pub mod Committing
+pub mod FullStock
+pub mod HasCome
+pub mod Resuming
+pub mod RunsCommit
+pub mod WaitsCommit
+pub mod Continued
+pub mod ReadyStock
 pub mod FewEntries
 pub mod Spared
 pub mod Taken

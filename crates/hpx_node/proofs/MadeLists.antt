@@ -51,7 +51,7 @@ find_past p (x ∷ xs) ys h = let e = h.0 in rw e (find_past p xs ys h.1)
 abbrev pub Drawn : ℕ → ℕ → Standing → Type 0
 Drawn here n x = 16 ≤ x.object.kind → x.object.home ≡ here → x.object.number ≤ n
 
-false_if : (b : Bool) → (b ≡ true → ⊥) → b ≡ false
+pub false_if : (b : Bool) → (b ≡ true → ⊥) → b ≡ false
 false_if true h = absurd (h refl)
 false_if false h = refl
 

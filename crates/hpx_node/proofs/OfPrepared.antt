@@ -1,11 +1,11 @@
 -- A commit that was prepared, by its own names.
 use Rattle.std.proofs.Common.{ℕ, false, List, [], ◌∷◌, ◌≡◌, ◌+◌, ◌++◌, ◌≤◌, set, length, map, sym, ap, ◌∙◌, subst}
-use Rattle.std.specs.List.{remove, AllByRecursion}
+use Rattle.std.specs.List.{AllByRecursion}
 use Rattle.hpx_value.specs.Values.{bare_act, bare_state, message_of, named}
-use Rattle.hpx_value.specs.Hands.{hand_ids, due_of, state_after}
+use Rattle.hpx_value.specs.Hands.{due_of, state_after}
 use Rattle.hpx_value.specs.Laws.{KeepsLaws}
 use Rattle.hpx_value.specs.declared.acts.Job.{Job}
-use Rattle.hpx_parcel.specs.Parcels.{HasCredit}
+use Rattle.hpx_parcel.specs.Parcels.{HasRightCredit, HasCredit}
 use Rattle.hpx_journal.specs.Data.{Id, Act, State, Outcome, Due}
 use Rattle.hpx_journal.specs.Entries.{name_of}
 use Rattle.hpx_part.specs.Data.{Event, Entry, Done, Standing}
@@ -14,107 +14,107 @@ use Rattle.hpx_commit.specs.Deals.{dealt, unused, unnamed}
 use Rattle.hpx_node.specs.declared.node.finish.Prepared.{Prepared}
 use Rattle.hpx_node.specs.declared.node.settle.Birth.{Birth}
 use Rattle.hpx_node.specs.Births.{IsBirth, birth_of, births_of, objects_of, records_of, ids_of}
-use Rattle.hpx_node.specs.Commits.{IsPrepared, splits_from, written, ups, committed, hand_of, places_in_hand, made_of}
-use Rattle.hpx_node.specs.Fit.{IsKept, IsFitDue}
-use Rattle.hpx_node.specs.Jobs.{IsAt, IsFitJob}
-use Rattle.hpx_node.specs.Stands.{IsTidy, StandsWith, rules_of}
+use Rattle.hpx_node.specs.Commits.{IsPrepared, splits_from, written, ups, committed_from, made_of}
+use Rattle.hpx_node.specs.Fit.{IsFit, IsKept, IsFitDue}
+use Rattle.hpx_node.specs.Jobs.{IsFitJob}
+use Rattle.hpx_node.specs.Paused.{ArePaused}
+use Rattle.hpx_node.specs.Pending.{Waits}
+use Rattle.hpx_node.specs.Stands.{StandsWith, rules_of}
 use Rattle.hpx_node.specs.Tables.{Tables}
 use Rattle.hpx_node.proofs.Plain.{plain_values, plain_conts}
-use Rattle.hpx_node.proofs.Planned.{made_fit, state_fit, due_may, ups_credit}
+use Rattle.hpx_node.proofs.Planned.{made_fit, state_fit, state_paid, due_may, ups_credit}
 use Rattle.hpx_node.proofs.PlanLimits.{makes_few, due_few, ups_few, cuts_limit}
 use Rattle.hpx_node.proofs.PlanRoom.{commit_few, commit_light}
 use Rattle.hpx_node.proofs.PlanWeights.{written_same, weighs}
-use Rattle.hpx_node.proofs.PreparedPlan.{prepared_tidy, prepared_stands}
+use Rattle.hpx_node.proofs.PreparedPlan.{prepared_stands}
+use Rattle.hpx_node.proofs.Settled.{IsEnding}
 
 module _ (t : Tables) (job : Job) (out : Outcome) (fit : IsFitJob job) (few : t.localities ≤ 64)
     (laws : KeepsLaws t.localities job.kind job.at job.state job.action out) (p : Prepared) (is : IsPrepared t job out p) where
-  -- the hand, by what is about to be made
-  hand_is : hand_ids job.state job.action (ids_of t.here t.births t.profile.credit_log p.births.items) ≡ p.hand.items
-  hand_is = ap (λ ys. hand_ids job.state job.action (ids_of t.here t.births t.profile.credit_log ys)) is.births ∙ sym is.hand
-
   pub births_fit : AllByRecursion IsBirth p.births.items
   births_fit = subst (AllByRecursion IsBirth) (sym is.births) (made_fit t job out fit few laws)
 
   pub births_few : length p.births.items ≤ 32
   births_few = subst (λ (ys : List Birth). length ys ≤ 32) (sym is.births) (makes_few t job out fit few laws)
 
-  pub state_kept : (x : Standing) → IsKept x → x.object.kind ≡ job.kind → x.state ≡ job.state → IsKept (record { object = x.object; state = p.plan.state })
+  pub state_kept : (x : Standing) → IsKept x → x.object.kind ≡ job.kind → bare_state x.state ≡ bare_state job.state → IsKept (record { object = x.object; state = p.plan.state })
   state_kept x kept kind state = subst (λ s. IsKept (record { object = x.object; state = s })) (sym is.state_left)
       (record {
         kind = kept.kind;
-        state = state_fit t job out fit few laws;
+        state = state_fit t job out fit few laws p.stock is.stock;
         plain = λ e.
             let values = ap (λ (s : State). s.values) (sym state) ∙ (kept.plain e).0 in
             let conts = ap (λ (s : State). s.conts) (sym state) ∙ (kept.plain e).1 in (
-              plain_values t job out fit few laws (sym kind ∙ e) values conts,
-              plain_conts t job out fit few laws (sym kind ∙ e) values conts,
+              plain_values t job out fit few laws p.stock is.stock (sym kind ∙ e) values conts,
+              plain_conts t job out fit few laws p.stock is.stock (sym kind ∙ e) values conts,
             );
       })
 
+  pub state_has : AllByRecursion HasRightCredit p.plan.state.ids
+  state_has = subst (λ (s : State). AllByRecursion HasRightCredit s.ids) (sym is.state_left) (state_paid t job out fit few laws p.stock is.stock)
+
   pub due_fits : AllByRecursion IsFitDue p.plan.due.items
-  due_fits = subst (AllByRecursion IsFitDue) (sym is.due_left) (due_may t job out fit few laws)
+  due_fits = subst (AllByRecursion IsFitDue) (sym is.due_left) (due_may t job out fit few laws p.stock is.stock)
 
   pub due_short : length p.plan.due.items ≤ 177
-  due_short = subst (λ (ds : List Due). length ds ≤ 177) (sym is.due_left) (due_few t job out fit few laws)
+  due_short = subst (λ (ds : List Due). length ds ≤ 177) (sym is.due_left) (due_few t job out fit few laws p.stock is.stock)
 
   pub ups_have : AllByRecursion HasCredit p.plan.ups.items
-  ups_have = subst (AllByRecursion HasCredit) (sym is.ups_left) (ups_credit t job out fit few laws)
+  ups_have = subst (AllByRecursion HasCredit) (sym is.ups_left) (ups_credit t job out fit few laws p.stock is.stock)
 
   pub ups_short : length p.plan.ups.items ≤ 194
-  ups_short = subst (λ (us : List Id). length us ≤ 194) (sym is.ups_left) (ups_few t job out fit few laws)
+  ups_short = subst (λ (us : List Id). length us ≤ 194) (sym is.ups_left) (ups_few t job out fit few laws p.stock is.stock)
 
-  pub splits_short : length (splits_from 0 p.hand.items p.places.items) ≤ 192
-  splits_short = subst (λ (ps : List ℕ). length (splits_from 0 p.hand.items ps) ≤ 192) (sym is.places)
-      (subst (λ (ids : List Id). length (splits_from 0 ids (places_in_hand t job out)) ≤ 192) (sym is.hand) (cuts_limit t job out fit few laws))
+  pub splits_short : length (splits_from 0 p.stock.hand p.stock.places) ≤ 192
+  splits_short = cuts_limit t job out fit few laws p.stock is.stock
 
   -- what is written is what the outcome says
-  pub committed_is : committed t job out ≡ births_of t.here t.births p.births.items
-      ++ (splits_from 0 p.hand.items p.places.items
+  pub committed_is : committed_from t job out p.stock ≡ births_of t.here t.births p.births.items
+      ++ (splits_from 0 p.stock.hand p.stock.places
       ++ (Done (name_of job.action) false ∷ (written t.here t.serial p.plan.due.items ++ ups p.plan.ups.items)))
   committed_is =
       let made = made_of t out in
       let state = state_after job.state job.action made out in
-      let rest = λ (ds : List Event) (us : List Id). Done (name_of job.action) false ∷ (ds ++ ups us) in
+      let rest = λ (ds : List Event) (us : List Id). splits_from 0 p.stock.hand p.stock.places ++ (Done (name_of job.action) false ∷ (ds ++ ups us)) in
       let first = births_of t.here t.births (map birth_of out.makes) in
       let due : written t.here t.serial (due_of job.state job.action (made_of t out) out) ≡ written t.here t.serial p.plan.due.items =
-      sym (written_same t.here t.serial (due_of job.state job.action made out) (unused state.ids (dealt (hand_of t job out) (places_in_hand t job out))))
+      sym (written_same t.here t.serial (due_of job.state job.action made out) (unused state.ids (dealt p.stock.hand p.stock.places)))
       ∙ ap (λ ds. written t.here t.serial ds) (sym is.due_left) in
-      ap (λ ds. first ++ (splits_from 0 (hand_of t job out) (places_in_hand t job out) ++ rest ds (unnamed (hand_of t job out) (places_in_hand t job out)))) due
-      ∙ (ap (λ us. first ++ (splits_from 0 (hand_of t job out) (places_in_hand t job out) ++ rest (written t.here t.serial p.plan.due.items) us)) (sym is.ups_left)
-      ∙ (ap (λ ps. first ++ (splits_from 0 (hand_of t job out) ps ++ rest (written t.here t.serial p.plan.due.items) p.plan.ups.items)) (sym is.places)
-      ∙ (ap (λ ids. first ++ (splits_from 0 ids p.places.items ++ rest (written t.here t.serial p.plan.due.items) p.plan.ups.items)) (sym is.hand)
-      ∙ ap (λ ys. births_of t.here t.births ys ++ (splits_from 0 p.hand.items p.places.items ++ rest (written t.here t.serial p.plan.due.items) p.plan.ups.items)) (sym is.births))))
+      ap (λ ds. first ++ rest ds (unnamed p.stock.hand p.stock.places)) due
+      ∙ (ap (λ us. first ++ rest (written t.here t.serial p.plan.due.items) us) (sym is.ups_left)
+      ∙ ap (λ ys. births_of t.here t.births ys ++ rest (written t.here t.serial p.plan.due.items) p.plan.ups.items) (sym is.births))
 
-  pub committed_few : length (committed t job out) ≤ 596
-  committed_few = commit_few t job out fit few laws
+  pub committed_few : length (committed_from t job out p.stock) ≤ 596
+  committed_few = commit_few t job out fit few laws p.stock is.stock
 
-  pub committed_light : (k : ℕ) → weighs k (committed t job out) ≤ 2380288
-  committed_light k = commit_light t job out fit few laws k
+  pub committed_light : (k : ℕ) → weighs k (committed_from t job out p.stock) ≤ 2380288
+  committed_light k = commit_light t job out fit few laws p.stock is.stock k
 
-  -- the tables once it is settled
-  abbrev pub tables_settled : (i j : ℕ) → IsAt t i j job → ℕ → Tables
-  tables_settled i j at spare = record t {
-    births = t.births + length p.births.items;
-    records = t.records ++ records_of t.here t.births t.profile.credit_log p.births.items;
-    objects = set (t.objects ++ objects_of t.here t.births p.births.items) j (record { object = at.standing.object; state = p.plan.state });
-    running = remove t.running i;
-    spare = spare;
-  }
+  -- ---- once it is settled, where this ends then
 
-  pub tidy_of : (i j : ℕ) (at : IsAt t i j job) → IsTidy t [] → (spare : ℕ) → IsTidy (tables_settled i j at spare) p.plan.due.items
-  tidy_of i j at tidy spare = prepared_tidy t job out fit few laws p.births.items p.places.items p.plan.state p.plan.due.items p.plan.ups.items
-      is.births is.places is.state_left is.due_left is.ups_left i j at tidy spare
+  module _ (j : ℕ) (running : List Act) (pending : List Waits)
+      (at : IsEnding t j job (ids_of t.here t.births t.profile.credit_log p.births.items) p.stock.hand running pending) (spare : ℕ) where
+    -- the tables
+    abbrev pub tables_settled : Tables
+    tables_settled = record t {
+      births = t.births + length p.births.items;
+      records = t.records ++ records_of t.here t.births t.profile.credit_log p.births.items;
+      objects = set (t.objects ++ objects_of t.here t.births p.births.items) j (record { object = at.standing.object; state = p.plan.state });
+      running = running;
+      pending = pending;
+      spare = spare;
+    }
 
-  -- births, splits and the Done lead from view to view
-  pub stands_of : (act_of : ℕ → ℕ → ℕ → State → Act → Outcome)
-      → ((n kind here : ℕ) (s : State) (a : Act) → act_of n kind here s a ≡ act_of n kind here (bare_state s) (named 0 0 (message_of (bare_act a))))
-      → out ≡ act_of t.localities job.kind job.at job.state job.action
-      → (i j : ℕ) (at : IsAt t i j job) (spare : ℕ) (entries : List Entry) → StandsWith (rules_of act_of t.localities t.profile) t [] [] entries
-      → StandsWith (rules_of act_of t.localities t.profile) (tables_settled i j at spare) p.plan.due.items p.plan.ups.items
-      (entries ++ at_all t.here (births_of t.here t.births p.births.items
-      ++ (splits_from 0 p.hand.items p.places.items ++ Done (name_of job.action) false ∷ [])))
-  stands_of act_of blind right i j at spare entries h =
-      subst (λ ids. StandsWith (rules_of act_of t.localities t.profile) (tables_settled i j at spare) p.plan.due.items p.plan.ups.items
-      (entries ++ at_all t.here (births_of t.here t.births p.births.items ++ (splits_from 0 ids p.places.items ++ Done (name_of job.action) false ∷ [])))) hand_is
-      (prepared_stands t job out fit few laws p.births.items p.places.items p.plan.state p.plan.due.items p.plan.ups.items
-      is.births is.places is.state_left is.due_left is.ups_left act_of blind right is.lasts i j at spare entries h)
+    -- births, splits and the Done lead from view to view
+    pub stands_of : (act_of : ℕ → ℕ → ℕ → State → Act → Outcome)
+        → ((n kind here : ℕ) (s : State) (a : Act) → act_of n kind here s a ≡ act_of n kind here (bare_state s) (named 0 0 (message_of (bare_act a))))
+        → out ≡ act_of t.localities job.kind job.at job.state job.action
+        → AllByRecursion IsFit running
+        → ArePaused t.here t.localities t.profile.credit_log (set (t.objects ++ objects_of t.here t.births p.births.items) j (record { object = at.standing.object; state = p.plan.state })) running pending
+        → (entries : List Entry) → StandsWith (rules_of act_of t.localities t.profile) t [] [] entries
+        → StandsWith (rules_of act_of t.localities t.profile) tables_settled p.plan.due.items p.plan.ups.items
+        (entries ++ at_all t.here (births_of t.here t.births p.births.items
+        ++ (splits_from 0 p.stock.hand p.stock.places ++ Done (name_of job.action) false ∷ [])))
+    stands_of act_of blind right runs paused entries h =
+        prepared_stands t job out fit few laws p.stock is.stock p.births.items p.plan.state p.plan.due.items p.plan.ups.items
+        is.births is.state_left is.due_left is.ups_left j running pending at runs paused spare act_of blind right entries h

@@ -17,10 +17,11 @@ use Rattle.hpx_part.proofs.Keyed.{split_get}
 use Rattle.hpx_node.specs.Fit.{IsFit, IsKept}
 use Rattle.hpx_node.specs.Jobs.{IsFitJob}
 use Rattle.hpx_node.specs.Pending.{Waits, action_of, fired_of}
-use Rattle.hpx_node.specs.Paused.{bare_names, Apart, IsPaused, ArePaused}
+use Rattle.hpx_node.specs.Paused.{bare_names, Apart, Single, IsPaused, ArePaused}
 use Rattle.hpx_node.proofs.Alls.{some_same, find_passes, all_append, all_remove, all_set, all_at, get_before}
 use Rattle.hpx_node.proofs.FreeLemmas.{any_over}
 use Rattle.hpx_node.proofs.MadeLists.{find_front}
+use Rattle.hpx_node.proofs.Single.{single_set, single_removed}
 
 -- ---- busy objects
 
@@ -76,7 +77,7 @@ busy_parts o (x ∷ l) m h =
     let first = busy_none o x (l ++ m) h in
     let rest = busy_parts o l m first.1 in (none_busy o x l first.0 rest.0, rest.1)
 
-busy_middle : (o : Id) (l : List Act) (act : Act) (m : List Act) → is_busy o (l ++ m) ≡ false → keeps o act ≡ false → is_busy o (l ++ act ∷ m) ≡ false
+pub busy_middle : (o : Id) (l : List Act) (act : Act) (m : List Act) → is_busy o (l ++ m) ≡ false → keeps o act ≡ false → is_busy o (l ++ act ∷ m) ≡ false
 busy_middle o [] act m h k = none_busy o act m k h
 busy_middle o (x ∷ l) act m h k =
     let first = busy_none o x (l ++ m) h in none_busy o x (l ++ act ∷ m) first.0 (busy_middle o l act m first.1 k)
@@ -113,6 +114,7 @@ pub fired_paused : (here n log : ℕ) (objects : List Standing) (running : List 
     → ArePaused here n log objects (running ++ act ∷ []) pending
 fired_paused here n log objects running pending act free h = record {
   each = h.each;
+  single = h.single;
   apart = subst Apart (sym (append_assoc running (act ∷ []) (map action_of pending))) (apart_more running act (map action_of pending) h.apart free);
   whole = h.whole;
   lent = h.lent;
@@ -250,6 +252,7 @@ module _ (here n log : ℕ) (objects : List Standing) (running : List Act) (pend
   pub freed_paused : ArePaused here n log (remove objects i) running pending
   freed_paused = record {
     each = each_less pending idle h.each;
+    single = single_removed objects i h.single;
     apart = h.apart;
     whole = all_remove (λ (y : Standing). is_busy y.object (map action_of pending) ≡ false → AllByRecursion HasRightCredit y.state.ids) objects i h.whole;
     lent = λ k managed. let more = h.lent k managed in omega (arith, more, less_removed (λ (y : Standing). bare_names k y.state.ids) objects i);
@@ -269,13 +272,12 @@ module _ (here n log : ℕ) (objects : List Standing) (running : List Act) (pend
 
 -- ---- an action that runs is done, and objects were made
 
-none_bare : (o : Id) (xs : List Standing) → AllByRecursion (λ (x : Standing). x.state.ids ≡ []) xs → sum_by (λ (x : Standing). bare_names o x.state.ids) xs ≡ 0
+pub none_bare : (o : Id) (xs : List Standing) → AllByRecursion (λ (x : Standing). x.state.ids ≡ []) xs → sum_by (λ (x : Standing). bare_names o x.state.ids) xs ≡ 0
 none_bare o [] h = refl
 none_bare o (x ∷ xs) h = omega (arith, sum_by-cons (λ (y : Standing). bare_names o y.state.ids) x xs, none_bare o xs h.1, ap (bare_names o) h.0)
 
-module _ (here n log : ℕ) (objects : List Standing) (running : List Act) (pending : List Waits) (i j : ℕ) (act : Act) (old new : Standing) (made : List Standing)
-    (runs : slice_get running i ≡ Some act) (stands : slice_get objects j ≡ Some old) (same : same_object (target_of act) old.object ≡ true)
-    (name : new.object ≡ old.object) (plain : old.object.kind ≡ 7 → new ≡ old) (h : ArePaused here n log objects running pending) where
+module _ (here n log : ℕ) (objects : List Standing) (j : ℕ) (act : Act) (old new : Standing) (made : List Standing) (stands : slice_get objects j ≡ Some old)
+    (same : same_object (target_of act) old.object ≡ true) (name : new.object ≡ old.object) (plain : old.object.kind ≡ 7 → new ≡ old) where
   abbrev then : List Standing
   then = set (objects ++ made) j new
 
@@ -305,7 +307,7 @@ module _ (here n log : ℕ) (objects : List Standing) (running : List Act) (pend
       at true e z = eqb-true (target_of act).kind 7 e
       at false e z = absurd (cc)
 
-  each_then : (ws : List Waits) → is_busy (target_of act) (map action_of ws) ≡ false → AllByRecursion (IsPaused here n log objects) ws
+  pub each_then : (ws : List Waits) → is_busy (target_of act) (map action_of ws) ≡ false → AllByRecursion (IsPaused here n log objects) ws
       → AllByRecursion (IsPaused here n log (set (objects ++ made) j new)) ws
   each_then [] none all = tt
   each_then (w ∷ ws) none all =
@@ -314,8 +316,13 @@ module _ (here n log : ℕ) (objects : List Standing) (running : List Act) (pend
         each_then ws rest.1 all.1,
       )
 
-  pub paused_among : AllByRecursion (IsPaused here n log (set (objects ++ made) j new)) pending
-  paused_among = each_then pending (runs_alone here n log objects running pending i act runs h) h.each
+-- where the action ran
+pub paused_among : (here n log : ℕ) (objects : List Standing) (running : List Act) (pending : List Waits) (i j : ℕ) (act : Act) (old new : Standing)
+    (made : List Standing) → slice_get running i ≡ Some act → slice_get objects j ≡ Some old → same_object (target_of act) old.object ≡ true
+    → new.object ≡ old.object → (old.object.kind ≡ 7 → new ≡ old) → ArePaused here n log objects running pending
+    → AllByRecursion (IsPaused here n log (set (objects ++ made) j new)) pending
+paused_among here n log objects running pending i j act old new made runs stands same name plain h =
+    each_then here n log objects j act old new made stands same name plain pending (runs_alone here n log objects running pending i act runs h) h.each
 
 -- another state of an object that has no commit that waits
 pub paused_set : (here n log : ℕ) (objects : List Standing) (running : List Act) (pending : List Waits) (i j : ℕ) (act : Act) (old new : Standing)
@@ -328,7 +335,7 @@ paused_set here n log objects running pending i j act old new runs stands same n
 module _ (here n log : ℕ) (objects : List Standing) (running : List Act) (pending : List Waits) (i j : ℕ) (act : Act) (old new : Standing) (made : List Standing)
     (runs : slice_get running i ≡ Some act) (stands : slice_get objects j ≡ Some old) (same : same_object (target_of act) old.object ≡ true)
     (name : new.object ≡ old.object) (plain : old.object.kind ≡ 7 → new ≡ old) (paid : AllByRecursion HasRightCredit new.state.ids)
-    (alone : AllByRecursion (λ (x : Standing). x.state.ids ≡ []) made) (h : ArePaused here n log objects running pending) where
+    (alone : AllByRecursion (λ (x : Standing). x.state.ids ≡ []) made) (single : Single (objects ++ made)) (h : ArePaused here n log objects running pending) where
   made_whole : (xs : List Standing) → AllByRecursion (λ (x : Standing). x.state.ids ≡ []) xs
       → AllByRecursion (λ (x : Standing). is_busy x.object (map action_of pending) ≡ false → AllByRecursion HasRightCredit x.state.ids) xs
   made_whole [] none = tt
@@ -337,6 +344,7 @@ module _ (here n log : ℕ) (objects : List Standing) (running : List Act) (pend
   pub done_paused : ArePaused here n log (set (objects ++ made) j new) (remove running i) pending
   done_paused = record {
     each = paused_among here n log objects running pending i j act old new made runs stands same name plain h;
+    single = single_set (objects ++ made) j old new (get_before objects made j old stands) name single;
     apart = apart_then here n log objects running pending i act runs h;
     whole = all_set (λ (x : Standing). is_busy x.object (map action_of pending) ≡ false → AllByRecursion HasRightCredit x.state.ids) (objects ++ made) j new
         (all_append (λ (x : Standing). is_busy x.object (map action_of pending) ≡ false → AllByRecursion HasRightCredit x.state.ids) objects made h.whole (made_whole made alone))

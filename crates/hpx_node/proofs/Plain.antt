@@ -6,6 +6,8 @@ use Rattle.hpx_value.specs.Laws.{KeepsLaws}
 use Rattle.hpx_value.specs.Shapes.{IsState}
 use Rattle.hpx_value.specs.declared.acts.Job.{Job}
 use Rattle.hpx_journal.specs.Data.{State, Outcome}
+use Rattle.hpx_commit.specs.Stocks.{Stock}
+use Rattle.hpx_node.specs.Commits.{IsStock}
 use Rattle.hpx_node.specs.Jobs.{IsFitJob}
 use Rattle.hpx_node.specs.Tables.{Tables}
 use Rattle.hpx_node.proofs.Planned.{planned_state, state_fit}
@@ -25,16 +27,16 @@ same_state s u drawn values conts ids =
     ∙ ap (λ x. record { drawn = u.drawn; values = u.values; conts = u.conts; ids = x }) ids))
 
 module _ (t : Tables) (job : Job) (out : Outcome) (fit : IsFitJob job) (few : t.localities ≤ 64)
-    (laws : KeepsLaws t.localities job.kind job.at job.state job.action out) (kind : job.kind ≡ 7)
+    (laws : KeepsLaws t.localities job.kind job.at job.state job.action out) (s : Stock) (is : IsStock t job out s) (kind : job.kind ≡ 7)
     (values : job.state.values ≡ []) (conts : job.state.conts ≡ []) where
-  pub plain_values : (planned_state t job out fit few laws).values ≡ []
+  pub plain_values : (planned_state t job out fit few laws s is).values ≡ []
   plain_values = ap (renumbered 0) (laws.plain kind values conts).0
 
-  pub plain_conts : (planned_state t job out fit few laws).conts ≡ []
+  pub plain_conts : (planned_state t job out fit few laws s is).conts ≡ []
   plain_conts = ap (λ ns. conts_from (length (refs_in out.state.values)) (map (hand_slot job.state job.action) ns)) (laws.plain kind values conts).1
 
-  pub plain_same : planned_state t job out fit few laws ≡ job.state
-  plain_same = same_state (planned_state t job out fit few laws) job.state
+  pub plain_same : planned_state t job out fit few laws s is ≡ job.state
+  plain_same = same_state (planned_state t job out fit few laws s is) job.state
       (omega (arith, laws.slots.counted, ap (λ ns. length ns) (laws.slots.session (λ e. absurd (omega (arith, e, kind))))))
       (plain_values ∙ sym values) (plain_conts ∙ sym conts)
-      (no_ids (planned_state t job out fit few laws) (state_fit t job out fit few laws) plain_values plain_conts ∙ sym (no_ids job.state fit.state values conts))
+      (no_ids (planned_state t job out fit few laws s is) (state_fit t job out fit few laws s is) plain_values plain_conts ∙ sym (no_ids job.state fit.state values conts))

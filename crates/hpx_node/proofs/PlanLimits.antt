@@ -13,15 +13,16 @@ use Rattle.hpx_value.proofs.Kept.{length-hand_slots}
 use Rattle.hpx_value.specs.declared.acts.Job.{Job}
 use Rattle.hpx_value.specs.declared.outcome.Reply.{Reply}
 use Rattle.hpx_journal.specs.Data.{Id, Cont, State, Act, Outcome, MessageDue, PrintDue}
-use Rattle.hpx_commit.specs.Deals.{is_managed, half, share, named, dealt, shares, shared_from, unnamed, unnamed_from, unused}
+use Rattle.hpx_commit.specs.Deals.{is_managed, half, share, named, dealt, shares, shared_from, unnamed, unnamed_from, unused, AllLast, AreWithin}
+use Rattle.hpx_commit.specs.Stocks.{Stock}
 use Rattle.hpx_commit.proofs.Deals.{sums_dealt}
 use Rattle.std.specs.Prelude.{set, ◌&&◌, ◌==◌}
 use Rattle.hpx_node.specs.Births.{birth_of}
-use Rattle.hpx_node.specs.Commits.{cuts, splits_from}
+use Rattle.hpx_node.specs.Commits.{IsStock, cuts, splits_from}
 use Rattle.hpx_node.specs.Jobs.{IsFitJob}
 use Rattle.hpx_node.specs.Tables.{Tables}
 use Rattle.hpx_node.proofs.FilledDue.{length-filled_due}
-use Rattle.hpx_node.proofs.Planned.{made, hand, places, planned_due, outcome_state, outcome_due, deals, within, ids_long}
+use Rattle.hpx_node.proofs.Planned.{made, own, planned_due, outcome_state, outcome_due, deals, own_within, hand_has, ids_long}
 
 -- ---- what is due
 
@@ -112,6 +113,10 @@ dealt_long ids (p ∷ ps) =
     let part = share (id_at ids p) (named ps p) in
     omega (arith, sum_by-cons one part (dealt (set ids p part) ps), dealt_long (set ids p part) ps)
 
+-- no more splits than are named
+cuts_within : (ids : List Id) (ps : List ℕ) → AreWithin ids ps → length (splits_from 0 ids ps) ≤ length ps
+cuts_within ids ps within = omega (arith, splits_few 0 ids ps, sums_dealt one ids ps within, dealt_long ids ps)
+
 filter_few : {X : Type 0} (p : X → Bool) (xs : List X) → length (filter p xs) ≤ length xs
 filter_few p [] = omega arith
 filter_few p (x ∷ xs) = elim (cases_Bool (p x)) [
@@ -129,32 +134,49 @@ module _ (t : Tables) (job : Job) (out : Outcome) (fit : IsFitJob job) (few : t.
   pub replies_few : length out.replies ≤ 129
   replies_few = few_replies job.state job.action out fit.state laws.conts
 
-  pub due_few : length (planned_due t job out fit few laws) ≤ 177
-  due_few = omega (
-    arith,
-    few_due job.state job.action (made t job out fit few laws) out laws.few.sends replies_few laws.few.prints,
-    length-filled_due (outcome_due t job out fit few laws) (unused (outcome_state t job out fit few laws).ids (deals t job out fit few laws)),
-  )
-
-  pub hand_limit : length (hand t job out fit few laws) ≤ 194
-  hand_limit = hand_few job.state job.action (made t job out fit few laws) fit.state fit.action.sent.shape
+  pub own_few : length (own t job out fit few laws).hand ≤ 194
+  own_few = hand_few job.state job.action (made t job out fit few laws) fit.state fit.action.sent.shape
       (omega (arith, laws.few.makes, ids_long t.here t.births t.profile.credit_log out.makes))
 
-  pub ups_few : length (unnamed (hand t job out fit few laws) (places t job out fit few laws)) ≤ 194
-  ups_few = omega (arith, hand_limit, unnamed_few 0 (hand t job out fit few laws) (places t job out fit few laws))
-
-  pub places_few : length (places t job out fit few laws) ≤ 192
-  places_few = omega (
+  pub own_places : length (own t job out fit few laws).places ≤ 192
+  own_places = omega (
     arith,
     laws.names.all,
-    filter_few (λ p. is_managed (id_at (hand t job out fit few laws) p)) (mentions job.state job.action out),
+    filter_few (λ p. is_managed (id_at (own t job out fit few laws).hand p)) (mentions job.state job.action out),
   )
 
-  pub cuts_limit : length (splits_from 0 (hand t job out fit few laws) (places t job out fit few laws)) ≤ 192
-  cuts_limit = omega (
+  pub own_cuts : length (splits_from 0 (own t job out fit few laws).hand (own t job out fit few laws).places) ≤ 192
+  own_cuts = omega (
     arith,
-    places_few,
-    splits_few 0 (hand t job out fit few laws) (places t job out fit few laws),
-    sums_dealt one (hand t job out fit few laws) (places t job out fit few laws) (within t job out fit few laws),
-    dealt_long (hand t job out fit few laws) (places t job out fit few laws),
+    own_places,
+    cuts_within (own t job out fit few laws).hand (own t job out fit few laws).places (own_within t job out fit few laws),
   )
+
+  -- its own stock may be dealt
+  pub own_is : AllLast (own t job out fit few laws).hand (own t job out fit few laws).places → IsStock t job out (own t job out fit few laws)
+  own_is lasts = record {
+    names = record { within = own_within t job out fit few laws; as_many = refl; names = refl; left = refl };
+    credit = hand_has t job out fit few laws;
+    few = omega (arith, own_few);
+    lasts = lasts;
+  }
+
+  module _ (s : Stock) (is : IsStock t job out s) where
+    pub due_few : length (planned_due t job out fit few laws s is) ≤ 177
+    due_few = omega (
+      arith,
+      few_due job.state job.action (made t job out fit few laws) out laws.few.sends replies_few laws.few.prints,
+      length-filled_due (outcome_due t job out fit few laws) (unused (outcome_state t job out fit few laws).ids (deals t job out fit few laws s is)),
+    )
+
+    -- nobody names what nobody named in the hand
+    pub ups_few : length (unnamed s.hand s.places) ≤ 194
+    ups_few = omega (
+      arith,
+      own_few,
+      unnamed_few 0 (own t job out fit few laws).hand (own t job out fit few laws).places,
+      ap (λ (xs : List Id). length xs) is.names.left,
+    )
+
+    pub cuts_limit : length (splits_from 0 s.hand s.places) ≤ 192
+    cuts_limit = omega (arith, own_places, is.names.as_many, cuts_within s.hand s.places is.names.within)

@@ -4,38 +4,33 @@ use Rattle.std.proofs.lemmas.List.{length-map}
 use Rattle.hpx_value.specs.Ids.{bare}
 use Rattle.hpx_value.specs.Laws.{KeepsLaws}
 use Rattle.hpx_value.specs.declared.acts.Job.{Job}
-use Rattle.hpx_journal.specs.Data.{Id, Outcome}
+use Rattle.hpx_journal.specs.Data.{Outcome}
 use Rattle.hpx_journal.specs.Entries.{name_of}
 use Rattle.hpx_part.specs.Data.{Event, Done, Up}
 use Rattle.hpx_commit.specs.Deals.{log_of, unnamed}
 use Rattle.hpx_node.specs.Births.{birth_of, births_of}
-use Rattle.hpx_node.specs.Commits.{splits_from, written, ups}
+use Rattle.hpx_commit.specs.Stocks.{Stock}
+use Rattle.hpx_node.specs.Commits.{IsStock, splits_from, written, ups}
 use Rattle.hpx_node.specs.Jobs.{IsFitJob}
 use Rattle.hpx_node.specs.Tables.{Tables}
-use Rattle.hpx_node.proofs.Planned.{made, hand, places, outcome_due, made_fit}
+use Rattle.hpx_node.proofs.Planned.{made, outcome_due, made_fit}
 use Rattle.hpx_node.proofs.PlanLimits.{makes_few, replies_few, ups_few, cuts_limit, few_due}
 use Rattle.hpx_node.proofs.PlanWeights.{written_few, weighs, weighs_append, weighs_cons, births_light, splits_light, ups_light, written_light}
 use Rattle.hpx_node.proofs.Stays.{births_long}
 
 module _ (t : Tables) (job : Job) (out : Outcome) (fit : IsFitJob job) (few : t.localities ≤ 64)
-    (laws : KeepsLaws t.localities job.kind job.at job.state job.action out) where
-  abbrev all : List Id
-  all = hand t job out fit few laws
-
-  abbrev named : List ℕ
-  named = places t job out fit few laws
-
+    (laws : KeepsLaws t.localities job.kind job.at job.state job.action out) (s : Stock) (is : IsStock t job out s) where
   abbrev first : List Event
   first = births_of t.here t.births (map birth_of out.makes)
 
   abbrev halvings : List Event
-  halvings = splits_from 0 all named
+  halvings = splits_from 0 s.hand s.places
 
   abbrev due : List Event
   due = written t.here t.serial (outcome_due t job out fit few laws)
 
   abbrev last : List Event
-  last = ups (unnamed all named)
+  last = ups (unnamed s.hand s.places)
 
   abbrev done : Event
   done = Done (name_of job.action) false
@@ -48,11 +43,11 @@ module _ (t : Tables) (job : Job) (out : Outcome) (fit : IsFitJob job) (few : t.
     length-append due last,
     births_long t.here t.births (map birth_of out.makes),
     makes_few t job out fit few laws,
-    cuts_limit t job out fit few laws,
+    cuts_limit t job out fit few laws s is,
     written_few t.here t.serial (outcome_due t job out fit few laws),
     few_due job.state job.action (made t job out fit few laws) out laws.few.sends (replies_few t job out fit few laws) laws.few.prints,
-    length-map (unnamed all named) (λ id. Up (bare id) (log_of id.log)),
-    ups_few t job out fit few laws,
+    length-map (unnamed s.hand s.places) (λ id. Up (bare id) (log_of id.log)),
+    ups_few t job out fit few laws s is,
   )
 
   pub commit_light : (k : ℕ) → weighs k (first ++ (halvings ++ (done ∷ (due ++ last)))) ≤ 2380288
@@ -64,9 +59,9 @@ module _ (t : Tables) (job : Job) (out : Outcome) (fit : IsFitJob job) (few : t.
     weighs_append k due last,
     births_light k t.here t.births (map birth_of out.makes) (made_fit t job out fit few laws),
     makes_few t job out fit few laws,
-    splits_light k 0 all named,
-    cuts_limit t job out fit few laws,
+    splits_light k 0 s.hand s.places,
+    cuts_limit t job out fit few laws s is,
     written_light k t.here t.serial job.state job.action (made t job out fit few laws) out laws.few.sends (replies_few t job out fit few laws) laws.few.prints laws.few.short,
-    ups_light k (unnamed all named),
-    ups_few t job out fit few laws,
+    ups_light k (unnamed s.hand s.places),
+    ups_few t job out fit few laws s is,
   )

@@ -1,11 +1,11 @@
 -- A commit that is planned keeps what a plan promises.
-use Rattle.std.proofs.Common.{ℕ, suc, List, [], ◌∷◌, ◌≡◌, ◌+◌, ◌≤◌, length, map, append-nil, refl, sym, ap, ◌∙◌, arith}
+use Rattle.std.proofs.Common.{ℕ, suc, true, List, [], ◌∷◌, ◌≡◌, ◌+◌, ◌≤◌, length, map, append-nil, refl, sym, ap, ◌∙◌, arith}
 use Rattle.std.specs.Prelude.{flat_map}
 use Rattle.std.specs.List.{sum_by, AllByRecursion}
 use Rattle.hpx_value.specs.Ids.{bare}
 use Rattle.hpx_value.specs.Values.{bare_act, bare_state, message_of, named, refs_in}
 use Rattle.hpx_value.specs.Shapes.{IsState}
-use Rattle.hpx_value.specs.Hands.{hand_ids, hand_slots, due_of, state_after}
+use Rattle.hpx_value.specs.Hands.{id_at, hand_ids, hand_slots, due_of, state_after}
 use Rattle.hpx_value.specs.Laws.{KeepsLaws, IsManaged, birth_state, uses}
 use Rattle.hpx_value.specs.Mentions.{mentions}
 use Rattle.hpx_value.proofs.Uses.{used_below}
@@ -15,19 +15,21 @@ use Rattle.hpx_parcel.specs.Parcels.{HasRightCredit, HasCredit}
 use Rattle.hpx_journal.specs.Data.{Id, Act, State, Outcome, Due}
 use Rattle.hpx_journal.specs.Names.{due_ids}
 use Rattle.hpx_part.specs.Data.{Token}
-use Rattle.hpx_commit.specs.Deals.{dealt, filled, unused, filled_due, ids_due, places_named, shared_from, unnamed, AllLast, AreWithin}
+use Rattle.hpx_commit.specs.Deals.{is_managed, dealt, filled, unused, filled_due, ids_due, places_named, shared_from, unnamed, AreWithin}
+use Rattle.hpx_commit.specs.Stocks.{Stock}
 use Rattle.hpx_commit.proofs.Naming.{managed, names_match, places_within}
 use Rattle.hpx_commit.proofs.Fills.{Fits, filled_same, unused_rest, filled_sums, due_filled, filled_all, unused_all}
 use Rattle.hpx_commit.proofs.Deals.{names_dealt, sums_dealt}
 use Rattle.hpx_node.specs.declared.node.settle.Birth.{Birth}
 use Rattle.hpx_node.specs.Births.{IsBirth, birth_of, ids_of}
+use Rattle.hpx_node.specs.Commits.{IsStock}
 use Rattle.hpx_node.specs.Fit.{IsFitDue}
 use Rattle.hpx_node.specs.Jobs.{IsFitJob}
 use Rattle.hpx_node.specs.Seen.{bare_due}
 use Rattle.hpx_node.specs.Stands.{rules_of}
 use Rattle.hpx_node.specs.Tables.{Tables}
 use Rattle.hpx_node.proofs.BareHands.{due-bare, state-bare, blind_of}
-use Rattle.hpx_node.proofs.FilledDue.{managed_append, due_same, length-filled, state_filled, due_fit, due_credit, same_ids, dealt_credit, unnamed_credit, plain_named, weigh_one, each_weighs, weigh_managed}
+use Rattle.hpx_node.proofs.FilledDue.{managed_append, due_same, length-filled, state_filled, due_fit, due_credit, same_ids, dealt_credit, unnamed_credit, managed_named, plain_named, weigh_one, each_weighs, weigh_managed}
 use Rattle.hpx_node.proofs.HandFit.{hand_credit, fit_due, state_credit}
 use Rattle.hpx_node.proofs.Settled.{Plans}
 use Rattle.hpx_node.proofs.Sums.{weigh}
@@ -68,14 +70,11 @@ module _ (t : Tables) (job : Job) (out : Outcome) (fit : IsFitJob job) (few : t.
   abbrev pub made : List Id
   made = ids_of t.here t.births t.profile.credit_log (map birth_of out.makes)
 
-  abbrev pub hand : List Id
-  hand = hand_ids job.state job.action made
-
-  abbrev pub places : List ℕ
-  places = places_named job.state job.action made out
-
-  abbrev pub deals : List Id
-  deals = dealt hand places
+  abbrev pub own : Stock
+  own = record {
+    hand = hand_ids job.state job.action (ids_of t.here t.births t.profile.credit_log (map birth_of out.makes));
+    places = places_named job.state job.action (ids_of t.here t.births t.profile.credit_log (map birth_of out.makes)) out;
+  }
 
   -- the new state and what is due before anything is dealt
   abbrev pub outcome_state : State
@@ -84,22 +83,16 @@ module _ (t : Tables) (job : Job) (out : Outcome) (fit : IsFitJob job) (few : t.
   abbrev pub outcome_due : List Due
   outcome_due = due_of job.state job.action made out
 
-  abbrev pub planned_state : State
-  planned_state = record outcome_state { ids = filled outcome_state.ids deals }
-
-  abbrev pub planned_due : List Due
-  planned_due = filled_due outcome_due (unused outcome_state.ids deals)
-
   pub made_fit : AllByRecursion IsBirth (map birth_of out.makes)
   made_fit = births_fit out.makes laws.few.managed laws.shapes.births
 
-  made_kinds : map (λ (id : Id). id.kind) made ≡ map (λ (x : Make). x.kind) out.makes
+  pub made_kinds : map (λ (id : Id). id.kind) made ≡ map (λ (x : Make). x.kind) out.makes
   made_kinds = ids_kinds t.here t.births t.profile.credit_log out.makes
 
-  made_credit : AllByRecursion HasRightCredit made
+  pub made_credit : AllByRecursion HasRightCredit made
   made_credit = ids_credit t.here t.births t.profile.credit_log (map birth_of out.makes) made_fit
 
-  pub hand_has : AllByRecursion HasRightCredit hand
+  pub hand_has : AllByRecursion HasRightCredit own.hand
   hand_has = hand_credit t.localities job.kind job.at job.state job.action out laws few made made_kinds fit.credit fit.action.sent.credit made_credit
 
   due_has : AllByRecursion IsFitDue outcome_due
@@ -108,91 +101,117 @@ module _ (t : Tables) (job : Job) (out : Outcome) (fit : IsFitJob job) (few : t.
   state_has : AllByRecursion HasRightCredit outcome_state.ids
   state_has = state_credit t.localities job.kind job.at job.state job.action out laws few made made_kinds fit.credit fit.action.sent.credit made_credit
 
-  deals_have : AllByRecursion HasRightCredit deals
-  deals_have = dealt_credit hand places hand_has
+  pub own_within : AreWithin own.hand own.places
+  own_within = places_within job.state job.action made out (ids_long t.here t.births t.profile.credit_log out.makes) laws.names.places
 
-  pub within : AreWithin hand places
-  within = places_within job.state job.action made out (ids_long t.here t.births t.profile.credit_log out.makes) laws.names.places
+  pub own_managed : AllByRecursion (λ p. is_managed (id_at own.hand p) ≡ true) own.places
+  own_managed = managed_named own.hand (mentions job.state job.action out)
+
+-- ---- dealt from a stock
+
+module _ (t : Tables) (job : Job) (out : Outcome) (fit : IsFitJob job) (few : t.localities ≤ 64)
+    (laws : KeepsLaws t.localities job.kind job.at job.state job.action out) (s : Stock) (is : IsStock t job out s) where
+  abbrev state_named : State
+  state_named = outcome_state t job out fit few laws
+
+  abbrev due_named : List Due
+  due_named = outcome_due t job out fit few laws
+
+  abbrev pub deals : List Id
+  deals = dealt s.hand s.places
+
+  abbrev pub planned_state : State
+  planned_state = record (outcome_state t job out fit few laws) { ids = filled (outcome_state t job out fit few laws).ids deals }
+
+  abbrev pub planned_due : List Due
+  planned_due = filled_due (outcome_due t job out fit few laws) (unused (outcome_state t job out fit few laws).ids deals)
+
+  deals_have : AllByRecursion HasRightCredit deals
+  deals_have = dealt_credit s.hand s.places is.credit
+
+  within : AreWithin s.hand s.places
+  within = is.names.within
 
   -- what is dealt names the managed ids of the new state, and then those of what is due
-  names : Fits outcome_state.ids deals (managed (map bare (flat_map ids_due outcome_due)))
+  names : Fits state_named.ids deals (managed (map bare (flat_map ids_due due_named)))
   names =
-      names_dealt hand places
-      ∙ (sym (names_match job.state job.action made fit.state fit.action.sent.shape t.localities out
+      names_dealt s.hand s.places
+      ∙ (is.names.names ∙ sym (names_match job.state job.action (made t job out fit few laws) fit.state fit.action.sent.shape t.localities out
       (used_below (length (hand_slots job.state job.action)) (uses out) laws.conts) laws.roots)
-      ∙ managed_append outcome_state.ids (flat_map ids_due outcome_due))
+      ∙ managed_append state_named.ids (flat_map ids_due due_named))
 
-  names_due : Fits (flat_map ids_due outcome_due) (unused outcome_state.ids deals) []
+  names_due : Fits (flat_map ids_due due_named) (unused state_named.ids deals) []
   names_due =
-      unused_rest outcome_state.ids deals (managed (map bare (flat_map ids_due outcome_due))) names
-      ∙ sym (append-nil (managed (map bare (flat_map ids_due outcome_due))))
+      unused_rest state_named.ids deals (managed (map bare (flat_map ids_due due_named))) names
+      ∙ sym (append-nil (managed (map bare (flat_map ids_due due_named))))
 
   -- ---- what is left
 
-  state_left : bare_state planned_state ≡ state_after (bare_state job.state) (bare_act job.action) (map bare made) out
+  state_left : bare_state planned_state ≡ state_after (bare_state job.state) (bare_act job.action) (map bare (made t job out fit few laws)) out
   state_left =
-      ap (λ ids. record { drawn = outcome_state.drawn; values = outcome_state.values; conts = outcome_state.conts; ids = ids })
-      (filled_same outcome_state.ids deals (managed (map bare (flat_map ids_due outcome_due))) names)
-      ∙ sym (state-bare job.state job.action made out)
+      ap (λ ids. record { drawn = state_named.drawn; values = state_named.values; conts = state_named.conts; ids = ids })
+      (filled_same state_named.ids deals (managed (map bare (flat_map ids_due due_named))) names)
+      ∙ sym (state-bare job.state job.action (made t job out fit few laws) out)
 
-  due_left : map bare_due planned_due ≡ due_of (bare_state job.state) (bare_act job.action) (map bare made) out
-  due_left = due_same outcome_due (unused outcome_state.ids deals) [] names_due ∙ sym (due-bare job.state job.action made out)
+  due_left : map bare_due planned_due ≡ due_of (bare_state job.state) (bare_act job.action) (map bare (made t job out fit few laws)) out
+  due_left = due_same due_named (unused state_named.ids deals) [] names_due ∙ sym (due-bare job.state job.action (made t job out fit few laws) out)
 
   pub state_fit : IsState planned_state
-  state_fit = state_filled outcome_state (filled outcome_state.ids deals) (length-filled outcome_state.ids deals) (laws.shapes.state made)
+  state_fit = state_filled state_named (filled state_named.ids deals) (length-filled state_named.ids deals) (laws.shapes.state (made t job out fit few laws))
 
   pub state_paid : AllByRecursion HasRightCredit planned_state.ids
-  state_paid = filled_all HasRightCredit outcome_state.ids deals state_has deals_have
+  state_paid = filled_all HasRightCredit state_named.ids deals (state_has t job out fit few laws) deals_have
 
-  unused_have : AllByRecursion HasRightCredit (unused outcome_state.ids deals)
-  unused_have = unused_all HasRightCredit outcome_state.ids deals deals_have
+  unused_have : AllByRecursion HasRightCredit (unused state_named.ids deals)
+  unused_have = unused_all HasRightCredit state_named.ids deals deals_have
 
   pub due_may : AllByRecursion IsFitDue planned_due
-  due_may = due_fit outcome_due (unused outcome_state.ids deals) [] names_due unused_have due_has
+  due_may = due_fit due_named (unused state_named.ids deals) [] names_due unused_have (due_has t job out fit few laws)
 
-  pub ups_credit : AllByRecursion HasCredit (unnamed hand places)
-  ups_credit = unnamed_credit 0 hand places hand_has
+  pub ups_credit : AllByRecursion HasCredit (unnamed s.hand s.places)
+  ups_credit = unnamed_credit 0 s.hand s.places is.credit
 
   -- ---- what it weighs
 
   module _ (f : Token → ℕ) where
-    state_weighs : weigh f planned_state.ids ≡ sum_by (weigh_one f) (managed (filled outcome_state.ids deals))
-    state_weighs = weigh_managed f (filled outcome_state.ids deals) state_paid
+    state_weighs : weigh f planned_state.ids ≡ sum_by (weigh_one f) (managed (filled state_named.ids deals))
+    state_weighs = weigh_managed f (filled state_named.ids deals) state_paid
 
     due_weighs : weigh f (flat_map due_ids planned_due)
-        ≡ sum_by (weigh_one f) (managed (filled (flat_map ids_due outcome_due) (unused outcome_state.ids deals)))
+        ≡ sum_by (weigh_one f) (managed (filled (flat_map ids_due due_named) (unused state_named.ids deals)))
     due_weighs =
-        ap (weigh f) (same_ids planned_due ∙ due_filled outcome_due (unused outcome_state.ids deals))
-        ∙ weigh_managed f (filled (flat_map ids_due outcome_due) (unused outcome_state.ids deals))
-        (filled_all HasRightCredit (flat_map ids_due outcome_due) (unused outcome_state.ids deals) (due_credit outcome_due due_has) unused_have)
+        ap (weigh f) (same_ids planned_due ∙ due_filled due_named (unused state_named.ids deals))
+        ∙ weigh_managed f (filled (flat_map ids_due due_named) (unused state_named.ids deals))
+        (filled_all HasRightCredit (flat_map ids_due due_named) (unused state_named.ids deals) (due_credit due_named (due_has t job out fit few laws)) unused_have)
 
-    shared : weigh f planned_state.ids + weigh f (flat_map due_ids planned_due) ≡ weigh f (shared_from 0 hand places)
+    shared : weigh f planned_state.ids + weigh f (flat_map due_ids planned_due) ≡ weigh f (shared_from 0 s.hand s.places)
     shared = omega (
       arith,
       state_weighs,
       due_weighs,
-      filled_sums (weigh_one f) outcome_state.ids deals (managed (map bare (flat_map ids_due outcome_due))) names,
-      filled_sums (weigh_one f) (flat_map ids_due outcome_due) (unused outcome_state.ids deals) [] names_due,
-      none_weighs (weigh_one f) (unused (flat_map ids_due outcome_due) (unused outcome_state.ids deals))
-          (unused_rest (flat_map ids_due outcome_due) (unused outcome_state.ids deals) [] names_due),
-      sums_dealt (weigh_one f) hand places within,
-      each_weighs f (shared_from 0 hand places),
+      filled_sums (weigh_one f) state_named.ids deals (managed (map bare (flat_map ids_due due_named))) names,
+      filled_sums (weigh_one f) (flat_map ids_due due_named) (unused state_named.ids deals) [] names_due,
+      none_weighs (weigh_one f) (unused (flat_map ids_due due_named) (unused state_named.ids deals))
+          (unused_rest (flat_map ids_due due_named) (unused state_named.ids deals) [] names_due),
+      sums_dealt (weigh_one f) s.hand s.places within,
+      each_weighs f (shared_from 0 s.hand s.places),
     )
 
   -- ---- a plan
 
   module _ (act_of : ℕ → ℕ → ℕ → State → Act → Outcome)
       (blind : (n kind here : ℕ) (s : State) (a : Act) → act_of n kind here s a ≡ act_of n kind here (bare_state s) (named 0 0 (message_of (bare_act a))))
-      (right : out ≡ act_of t.localities job.kind job.at job.state job.action) (lasts : AllLast hand places) where
-    pub planned : Plans (rules_of act_of t.localities t.profile) t job out (map birth_of out.makes) places planned_state planned_due (unnamed hand places)
+      (right : out ≡ act_of t.localities job.kind job.at job.state job.action) where
+    pub planned : Plans (rules_of act_of t.localities t.profile) t job out (map birth_of out.makes) s planned_state planned_due (unnamed s.hand s.places)
     planned = record {
       births = refl;
-      fit = made_fit;
+      fit = made_fit t job out fit few laws;
       right = right
           ∙ sym (blind_of (act_of t.localities job.kind job.at) (blind t.localities job.kind job.at) job.state job.action);
-      credit = hand_has;
-      lasts = lasts;
-      plain = λ p un. plain_named hand (mentions job.state job.action out) p un;
+      credit = is.credit;
+      lasts = is.lasts;
+      plain = λ p un. plain_named s.hand (own t job out fit few laws).hand s.places (own t job out fit few laws).places is.names.names
+          (own_managed t job out fit few laws) p un;
       state_left = state_left;
       due_left = due_left;
       shared = shared;

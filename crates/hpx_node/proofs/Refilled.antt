@@ -23,7 +23,7 @@ use Rattle.hpx_part.proofs.Credit.{token_own}
 use Rattle.hpx_part.proofs.Lists.{sum_middle}
 use Rattle.hpx_part.proofs.Keyed.{counts_of, counts_true, any_counted, counted_any, split_get, find_step, get_slice_get}
 use Rattle.hpx_commit.specs.Deals.{is_managed, log_of}
-use Rattle.hpx_node.specs.Pending.{Asked, Waits, action_of, fired_of, ids_named, own_ids, is_asked, asking_of, refusal_of, refusals_of, is_asked_for, refilled, Refills}
+use Rattle.hpx_node.specs.Pending.{awaits, Asked, Waits, action_of, fired_of, ids_named, own_ids, is_asked, asking_of, refusal_of, refusals_of, is_asked_for, refilled, Refills}
 use Rattle.hpx_node.specs.Paused.{Apart, whole_stock, IsShort, HasSplit, IsPaused, ArePaused}
 use Rattle.hpx_node.specs.Tables.{Tables, fired_acts}
 use Rattle.hpx_node.specs.Seen.{tokens, asks, view}
@@ -299,6 +299,7 @@ module _ (k l log : ℕ) (objects : List Standing) (running : List Act) (pending
   pub refilled_paused : ArePaused k l log objects running (set pending i w')
   refilled_paused = record {
     each = all_set (IsPaused k l log objects) pending i w' h.each paused;
+    single = h.single;
     apart = subst (λ acts. Apart (running ++ acts)) (sym acts_same) h.apart;
     whole = subst (λ acts. AllByRecursion (λ (x : Standing). is_busy x.object acts ≡ false → AllByRecursion HasRightCredit x.state.ids) objects)
         (sym acts_same) h.whole;
@@ -469,8 +470,9 @@ module _ (r : Rules) (t : Tables) (id : Id) (entry i n spare : ℕ) (w : Waits) 
         tells_leads r (seen dead e) (view given [] []) (tells dead e takes),
       )
 
-  pub given_handles : Handles r (Give id entry) t given (Given (bare id) (log_of id.log) ∷ [])
-  given_handles = record {
+  pub given_handles : find (is_asked_for w id entry) w.asked ≡ Some ask → find (awaits id entry) (take i t.pending) ≡ None
+      → Handles r (Give id entry) t given (Given (bare id) (log_of id.log) ∷ [])
+  given_handles found alone = record {
     here = refl;
     localities = refl;
     profile = refl;
@@ -483,23 +485,23 @@ module _ (r : Rules) (t : Tables) (id : Id) (entry i n spare : ℕ) (w : Waits) 
     tidy = given_tidy;
     leads = leads;
     pays = pays_given r t given id (bare id) entry (log_of id.log) some (λ row. refl) refl;
-    deals = record { i = i; before = w; after = refilled n ask.place id w; there = there; refills = record { k = n; ask = ask; there = asked; for = for; now = refl }; rest = refl };
+    deals = record { i = i; before = w; after = refilled n ask.place id w; there = there; first = alone; refills = record { k = n; ask = ask; first = found; there = asked; for = for; now = refl }; rest = refl };
   }
 
 -- ---- as the call does it
 
 pub gives_handles : (act_of : ℕ → ℕ → ℕ → State → Act → Outcome) (t : Tables) (id : Id) (entry i spare : ℕ) (w w' : Waits) → IsTidy t [] → HasCredit id
-    → brings_right t id ≡ true → slice_get t.pending i ≡ Some w → Refills id entry w w'
-    → Handles (rules_of act_of t.localities t.profile) (Give id entry) t (record t { pending = set t.pending i w'; spare = spare })
+    → brings_right t id ≡ true → slice_get t.pending i ≡ Some w → find (awaits id entry) (take i t.pending) ≡ None
+    → Refills id entry w w' → Handles (rules_of act_of t.localities t.profile) (Give id entry) t (record t { pending = set t.pending i w'; spare = spare })
     (Given (bare id) (log_of id.log) ∷ [])
-gives_handles act_of t id entry i spare w w' tidy credit brings there refills =
+gives_handles act_of t id entry i spare w w' tidy credit brings there alone refills =
     subst (λ v. Handles (rules_of act_of t.localities t.profile) (Give id entry) t (record t { pending = set t.pending i v; spare = spare }) (Given (bare id) (log_of id.log) ∷ []))
     (sym refills.now)
     (given_handles (rules_of act_of t.localities t.profile) t id entry i refills.k spare w refills.ask tidy there refills.there refills.for credit
     (elim (or_cases (log_of id.log == 0) (log_of id.log == t.profile.credit_log) brings) [
       | inl a ↦ inl (eqb-true (log_of id.log) 0 a)
       | inr b ↦ inr (eqb-true (log_of id.log) t.profile.credit_log b)
-    ]) refl)
+    ]) refl refills.first alone)
 
 -- what passes is found
 pub any_found : {X : Type 0} (p : X → Bool) (xs : List X) → list_any p xs ≡ true → find p xs ≡ None → ⊥
@@ -515,6 +517,7 @@ pub refills_by : (w w' : Waits) (id : Id) (entry k : ℕ) (ask : Asked) → slic
 refills_by w w' id entry k ask there found rest refused = record {
   k = k;
   ask = ask;
+  first = found;
   there = there;
   for = find_passes (is_asked_for w id entry) w.asked ask found;
   now = rest ∙ ap (λ o. record w { hand = set w.hand ask.place id; asked = remove w.asked k; refused = o }) refused;

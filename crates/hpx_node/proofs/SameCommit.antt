@@ -12,9 +12,7 @@ pub prepared_same : (t t' : Tables) (job : Job) (out : Outcome) (p : Prepared) �
     → IsPrepared t' job out p
 prepared_same t t' job out p same is = subst (λ x. IsPrepared x job out p) (sym same) (record {
   births = is.births;
-  hand = is.hand;
-  places = is.places;
-  lasts = is.lasts;
+  stock = record { names = is.stock.names; credit = is.stock.credit; few = is.stock.few; lasts = is.stock.lasts };
   state_left = is.state_left;
   due_left = is.due_left;
   ups_left = is.ups_left;

@@ -4,11 +4,11 @@ use Rattle.std.specs.Prelude.{flat_map}
 use Rattle.std.proofs.Common.{inl, inr}
 use Rattle.std.proofs.lemmas.Bool.{cases_Bool}
 use Rattle.hpx_agas.specs.declared.record.Record.{Record}
-use Rattle.std.specs.List.{sum_by, count_by, list_any, find, remove, AllByRecursion}
+use Rattle.std.specs.List.{sum_by, count_by, list_any, find, slice_get, remove, AllByRecursion}
 use Rattle.std.proofs.lemmas.List.{map-append}
 use Rattle.hpx_value.specs.Ids.{bare, same_object}
 use Rattle.hpx_value.specs.Values.{bare_act, bare_state}
-use Rattle.hpx_value.specs.Hands.{id_at, hand_ids, due_of, state_after}
+use Rattle.hpx_value.specs.Hands.{id_at, due_of, state_after}
 use Rattle.hpx_value.specs.declared.acts.Job.{Job}
 use Rattle.hpx_parcel.specs.Parcels.{HasRightCredit}
 use Rattle.hpx_journal.specs.Data.{Id, Act, State, Outcome, Due}
@@ -24,15 +24,15 @@ use Rattle.hpx_part.proofs.Grown.{chain}
 use Rattle.hpx_part.proofs.ObjectRows.{follows_done}
 use Rattle.hpx_part.proofs.Keyed.{split_get, split_set}
 use Rattle.hpx_commit.specs.Deals.{is_managed, named, shared_from, unnamed_from, Lasts}
+use Rattle.hpx_commit.specs.Stocks.{Stock}
 use Rattle.hpx_node.specs.declared.node.settle.Birth.{Birth}
-use Rattle.hpx_node.specs.Pending.{action_of, refusals_of}
+use Rattle.hpx_node.specs.Pending.{Waits, fired_of, asking_of, refusals_of}
 use Rattle.hpx_node.specs.Tables.{Tables}
 use Rattle.hpx_node.specs.Seen.{bare_standing, bare_due, counted, view}
-use Rattle.hpx_node.specs.Jobs.{IsAt}
 use Rattle.hpx_node.specs.Stands.{IsTidy, StandsWith}
 use Rattle.hpx_node.specs.Commits.{splits_from}
 use Rattle.hpx_node.specs.Births.{IsBirth, birth_of, births_of, objects_of, records_of, ids_of}
-use Rattle.hpx_node.proofs.Bare.{target-bare, found-bare, bare_middle}
+use Rattle.hpx_node.proofs.Bare.{target-bare, found-bare}
 use Rattle.hpx_node.proofs.Bearing.{Bears, Unborn, bears}
 use Rattle.hpx_node.proofs.Cover.{tidy_covers}
 use Rattle.hpx_node.proofs.MadeLists.{object_of, fresh_ids, bare_made, find_front, are_made, set_front}
@@ -44,28 +44,49 @@ use Rattle.hpx_node.proofs.IdleRows.{IsIdle, births_idle, splits_idle, done_idle
 use Rattle.hpx_node.proofs.IdleSteps.{pays_idle}
 use Rattle.hpx_node.proofs.Sums.{weigh, weigh_append, weigh_flat, weigh_remove, weigh_set, tokens_sum, view_sum}
 
--- what a plan of a commit promises, over lists
-pub record Plans (r : Rules) (t : Tables) (job : Job) (out : Outcome) (xs : List Birth) (places : List ℕ) (state : State) (due : List Due) (ups : List Id) : Type 0 where
+-- what a plan of a commit promises, where this stock is dealt
+pub record Plans (r : Rules) (t : Tables) (job : Job) (out : Outcome) (xs : List Birth) (s : Stock) (state : State) (due : List Due) (ups : List Id) : Type 0 where
   pub births : xs ≡ map birth_of out.makes
   pub fit : AllByRecursion IsBirth xs
   pub right : out ≡ r.outcome_of job.kind job.at (bare_state job.state) (bare_act job.action)
-  pub credit : AllByRecursion HasRightCredit (hand_ids job.state job.action (ids_of t.here t.births r.credit_log xs))
-  pub lasts : (p : ℕ) → Lasts (id_at (hand_ids job.state job.action (ids_of t.here t.births r.credit_log xs)) p) (named places p)
-  pub plain : (p : ℕ) → is_managed (id_at (hand_ids job.state job.action (ids_of t.here t.births r.credit_log xs)) p) ≡ false → named places p ≡ 0
+  pub credit : AllByRecursion HasRightCredit s.hand
+  pub lasts : (p : ℕ) → Lasts (id_at s.hand p) (named s.places p)
+  pub plain : (p : ℕ) → is_managed (id_at s.hand p) ≡ false → named s.places p ≡ 0
   pub state_left : bare_state state ≡ state_after (bare_state job.state) (bare_act job.action) (map bare (ids_of t.here t.births r.credit_log xs)) out
   pub due_left : map bare_due due ≡ due_of (bare_state job.state) (bare_act job.action) (map bare (ids_of t.here t.births r.credit_log xs)) out
-  pub shared : (f : Token → ℕ) → weigh f state.ids + weigh f (flat_map due_ids due)
-      ≡ weigh f (shared_from 0 (hand_ids job.state job.action (ids_of t.here t.births r.credit_log xs)) places)
-  pub ups_left : ups ≡ unnamed_from 0 (hand_ids job.state job.action (ids_of t.here t.births r.credit_log xs)) places
+  pub shared : (f : Token → ℕ) → weigh f state.ids + weigh f (flat_map due_ids due) ≡ weigh f (shared_from 0 s.hand s.places)
+  pub ups_left : ups ≡ unnamed_from 0 s.hand s.places
 
-module _ (r : Rules) (t : Tables) (entries : List Entry) (i j : ℕ) (job : Job) (out : Outcome) (at : IsAt t i j job) (xs : List Birth)
-    (places : List ℕ) (state : State) (due : List Due) (ups : List Id) (spare : ℕ) (plans : Plans r t job out xs places state due ups)
+-- the fired action of a job, whose object stands at j, is about to be done: then these actions run, these commits wait, and these
+-- ids, which the stock has, are in no other hand
+pub record IsEnding (t : Tables) (j : ℕ) (job : Job) (made hand : List Id) (running : List Act) (pending : List Waits) : Type 0 where
+  pub standing : Standing
+  pub here : job.at ≡ t.here
+  pub stands : slice_get t.objects j ≡ Some standing
+  pub found : find (is_standing (target_of job.action)) t.objects ≡ Some standing
+  pub kind : standing.object.kind ≡ job.kind
+  pub state : bare_state standing.state ≡ bare_state job.state
+  pub front : List Act
+  pub back : List Act
+  pub fires : map bare_act (fired_of t.running t.pending) ≡ front ++ bare_act job.action ∷ back
+  pub fired : map bare_act (fired_of running pending) ≡ front ++ back
+  pub asking : (o : Id) → count_by (same_object o) (asking_of t.pending) ≡ count_by (same_object o) (asking_of pending)
+  pub refusals : refusals_of t.pending ≡ refusals_of pending
+  pub credits : (f : Token → ℕ) → weigh f hand + weigh f (flat_map (λ (a : Act). a.ids) running) + weigh f (flat_map (λ (w : Waits). w.hand) pending)
+      ≡ weigh f standing.state.ids + weigh f (flat_map (λ (a : Act). a.ids) t.running) + weigh f (flat_map (λ (w : Waits). w.hand) t.pending) + weigh f made
+
+module _ (r : Rules) (t : Tables) (entries : List Entry) (j : ℕ) (job : Job) (out : Outcome) (xs : List Birth) (s : Stock)
+    (running : List Act) (pending : List Waits) (at : IsEnding t j job (ids_of t.here t.births r.credit_log xs) s.hand running pending)
+    (state : State) (due : List Due) (ups : List Id) (spare : ℕ) (plans : Plans r t job out xs s state due ups)
     (h : StandsWith r t [] [] entries) where
   abbrev made : List Id
   made = ids_of t.here t.births r.credit_log xs
 
   abbrev hand : List Id
-  hand = hand_ids job.state job.action made
+  hand = s.hand
+
+  abbrev places : List ℕ
+  places = s.places
 
   abbrev new : Standing
   new = record { object = at.standing.object; state = state }
@@ -75,7 +96,8 @@ module _ (r : Rules) (t : Tables) (entries : List Entry) (i j : ℕ) (job : Job)
     births = t.births + length xs;
     records = t.records ++ records_of t.here t.births r.credit_log xs;
     objects = set (t.objects ++ objects_of t.here t.births xs) j (record { object = at.standing.object; state = state });
-    running = remove t.running i;
+    running = running;
+    pending = pending;
     spare = spare;
   }
 
@@ -99,31 +121,23 @@ module _ (r : Rules) (t : Tables) (entries : List Entry) (i j : ℕ) (job : Job)
 
   -- ---- what is halved
 
-  weigh_hand : (f : Token → ℕ) → weigh f hand ≡ weigh f job.state.ids + weigh f job.action.ids + weigh f made
-  weigh_hand f = omega (arith, weigh_append f job.state.ids (job.action.ids ++ made), weigh_append f job.action.ids made)
-
   state_kept : (f : Token → ℕ) → weigh f (flat_map (λ (x : Standing). x.state.ids) t.objects)
-      ≡ weigh f (flat_map (λ (x : Standing). x.state.ids) (remove t.objects j)) + weigh f job.state.ids
+      ≡ weigh f (flat_map (λ (x : Standing). x.state.ids) (remove t.objects j)) + weigh f at.standing.state.ids
   state_kept f = weigh_remove f (λ (x : Standing). x.state.ids) t.objects j at.standing at.stands
-      ∙ ap (λ s. weigh f (flat_map (λ (x : Standing). x.state.ids) (remove t.objects j)) + weigh f s.ids) at.state
-
-  action_kept : (f : Token → ℕ) → weigh f (flat_map (λ (a : Act). a.ids) t.running)
-      ≡ weigh f (flat_map (λ (a : Act). a.ids) (remove t.running i)) + weigh f job.action.ids
-  action_kept f = weigh_remove f (λ (a : Act). a.ids) t.running i job.action at.runs
 
   has : Has b.then.tokens hand
-  has f weight = omega (arith, weigh_hand f, b.sums f weight, view_sum f t [] [], tokens_sum f t, state_kept f, action_kept f)
+  has f weight = omega (arith, at.credits f, b.sums f weight, view_sum f t [] [], tokens_sum f t, state_kept f)
 
   zero_plus : (p : ℕ) → p ≡ 0 + p
   zero_plus p = omega arith
 
-  s : Halves r b.then (splits_from 0 hand places) hand (shared_from 0 hand places ++ unnamed_from 0 hand places)
-  s = splits_lead r hand 0 places b.then b.due plans.credit
+  cut : Halves r b.then (splits_from 0 hand places) hand (shared_from 0 hand places ++ unnamed_from 0 hand places)
+  cut = splits_lead r hand 0 places b.then b.due plans.credit
       (λ p lt. subst (λ k. Lasts (id_at hand p) (named places k)) (zero_plus p) (plans.lasts p))
       (λ p lt un. subst (λ k. named places k ≡ 0) (zero_plus p) (plans.plain p un)) has
 
   abbrev halved : View
-  halved = record b.then { tokens = s.tokens; last = s.last }
+  halved = record b.then { tokens = cut.tokens; last = cut.last }
 
   -- ---- what is done
 
@@ -143,18 +157,8 @@ module _ (r : Rules) (t : Tables) (entries : List Entry) (i j : ℕ) (job : Job)
       ∙ (ap (λ ys. ys ++ others) (map-append bare_standing (take j t.objects) (at.standing ∷ drop (suc j) t.objects))
       ∙ append_assoc front (bare_standing at.standing ∷ map bare_standing (drop (suc j) t.objects)) others))
 
-  abbrev fired_front : List Act
-  fired_front = map bare_act (take i t.running)
-
-  abbrev fired_back : List Act
-  fired_back = map bare_act (drop (suc i) t.running ++ map action_of t.pending)
-
-  fires : b.then.fired ≡ fired_front ++ bare_act job.action ∷ fired_back
-  fires =
-      b.fired
-      ∙ (ap (λ xs. map bare_act (xs ++ map action_of t.pending)) (split_get t.running i job.action at.runs)
-      ∙ (ap (map bare_act) (append_assoc (take i t.running) (job.action ∷ drop (suc i) t.running) (map action_of t.pending))
-      ∙ bare_middle (take i t.running) job.action (drop (suc i) t.running ++ map action_of t.pending)))
+  fires : b.then.fired ≡ at.front ++ bare_act job.action ∷ at.back
+  fires = b.fired ∙ at.fires
 
   stands : find (is_standing (target_of (bare_act job.action))) b.then.objects ≡ Some (bare_standing at.standing)
   stands =
@@ -167,7 +171,7 @@ module _ (r : Rules) (t : Tables) (entries : List Entry) (i j : ℕ) (job : Job)
       plans.right
       ∙ (ap (λ k. r.outcome_of k job.at (bare_state job.state) (bare_act job.action)) (sym at.kind)
       ∙ (ap (λ k. r.outcome_of at.standing.object.kind k (bare_state job.state) (bare_act job.action)) (at.here ∙ sym b.here)
-      ∙ ap (λ y. r.outcome_of at.standing.object.kind b.then.here (bare_state y) (bare_act job.action)) (sym at.state)))
+      ∙ ap (λ y. r.outcome_of at.standing.object.kind b.then.here y (bare_act job.action)) (sym at.state)))
 
   are : AreMade out.makes b.then.fresh b.then.objects
   are = subst (λ fs. AreMade out.makes fs b.then.objects) (sym b.fresh)
@@ -182,7 +186,7 @@ module _ (r : Rules) (t : Tables) (entries : List Entry) (i j : ℕ) (job : Job)
 
   abbrev then : View
   then = record halved {
-    fired = fired_front ++ fired_back;
+    fired = at.front ++ at.back;
     objects = front ++ record { object = bare at.standing.object; state = state_after (bare_state at.standing.state) (bare_act job.action) b.then.fresh out } ∷ back;
     fresh = [];
     due = due_of (bare_state at.standing.state) (bare_act job.action) b.then.fresh out;
@@ -191,12 +195,12 @@ module _ (r : Rules) (t : Tables) (entries : List Entry) (i j : ℕ) (job : Job)
 
   state_is : state_after (bare_state at.standing.state) (bare_act job.action) b.then.fresh out ≡ bare_state state
   state_is =
-      ap (λ y. state_after (bare_state y) (bare_act job.action) b.then.fresh out) at.state
+      ap (λ y. state_after y (bare_act job.action) b.then.fresh out) at.state
       ∙ (ap (λ fs. state_after (bare_state job.state) (bare_act job.action) fs out) fresh_is ∙ sym plans.state_left)
 
   due_is : due_of (bare_state at.standing.state) (bare_act job.action) b.then.fresh out ≡ map bare_due due
   due_is =
-      ap (λ y. due_of (bare_state y) (bare_act job.action) b.then.fresh out) at.state
+      ap (λ y. due_of y (bare_act job.action) b.then.fresh out) at.state
       ∙ (ap (λ fs. due_of (bare_state job.state) (bare_act job.action) fs out) fresh_is ∙ sym plans.due_left)
 
   set_is : set (t.objects ++ others) j new ≡ set t.objects j new ++ others
@@ -217,7 +221,7 @@ module _ (r : Rules) (t : Tables) (entries : List Entry) (i j : ℕ) (job : Job)
   none_kept f (y ∷ ys) n d =
       ap (λ ids. weigh f (ids ++ flat_map (λ (x : Standing). x.state.ids) (objects_of t.here (n + 1) ys))) d.0.none ∙ none_kept f ys (n + 1) d.1
 
-  objects_weigh : (f : Token → ℕ) → weigh f (flat_map (λ (x : Standing). x.state.ids) (set (t.objects ++ others) j new)) + weigh f job.state.ids
+  objects_weigh : (f : Token → ℕ) → weigh f (flat_map (λ (x : Standing). x.state.ids) (set (t.objects ++ others) j new)) + weigh f at.standing.state.ids
       ≡ weigh f (flat_map (λ (x : Standing). x.state.ids) t.objects) + weigh f state.ids
   objects_weigh f = omega (
     arith,
@@ -225,16 +229,14 @@ module _ (r : Rules) (t : Tables) (entries : List Entry) (i j : ℕ) (job : Job)
     weigh_flat f (λ (x : Standing). x.state.ids) (set t.objects j new) others,
     none_kept f xs t.births plans.fit,
     weigh_set f (λ (x : Standing). x.state.ids) t.objects j at.standing new at.stands,
-    ap (λ y. weigh f y.ids) at.state,
   )
 
-  tokens_then : (f : Token → ℕ) → IsWeight f → sum_by f s.tokens ≡ sum_by f (view settled due ups).tokens
+  tokens_then : (f : Token → ℕ) → IsWeight f → sum_by f cut.tokens ≡ sum_by f (view settled due ups).tokens
   tokens_then f weight = omega (
     arith,
-    s.sums f weight,
+    cut.sums f weight,
     b.sums f weight,
     weigh_append f (shared_from 0 hand places) (unnamed_from 0 hand places),
-    weigh_hand f,
     plans.shared f,
     ap (weigh f) plans.ups_left,
     view_sum f t [] [],
@@ -242,7 +244,7 @@ module _ (r : Rules) (t : Tables) (entries : List Entry) (i j : ℕ) (job : Job)
     tokens_sum f t,
     tokens_sum f settled,
     objects_weigh f,
-    action_kept f,
+    at.credits f,
   )
 
   tells : Tells then (view settled due ups)
@@ -251,18 +253,17 @@ module _ (r : Rules) (t : Tables) (entries : List Entry) (i j : ℕ) (job : Job)
     serial = b.serial;
     number = b.number;
     waiting = b.waiting;
-    fired = sym (ap (map bare_act) (append_assoc (take i t.running) (drop (suc i) t.running) (map action_of t.pending))
-        ∙ map-append bare_act (take i t.running) (drop (suc i) t.running ++ map action_of t.pending));
+    fired = sym at.fired;
     objects = objects_then;
     fresh = refl;
     due = due_is;
     tokens = tokens_then;
-    asking = λ x. ap (λ ys. count_by (same_object x) ys) b.asking;
+    asking = λ x. ap (λ ys. count_by (same_object x) ys) b.asking ∙ at.asking x;
     asks = λ x. ap (λ ys. count_by (same_object x) ys) b.asks;
     live = λ x home. ap (λ ys. count_in (find (is_recorded x) ys)) (b.live ∙ sym (map-append counted t.records (records_of t.here t.births r.credit_log xs)));
     dead = λ x d. subst (λ ys. list_any (same_object x) ys ≡ true) (sym b.dead) d;
-    refusals = same_refusals b.then.refusals (refusals_of t.pending) b.refusals;
-    failing = omega (arith, b.failing);
+    refusals = same_refusals b.then.refusals (refusals_of pending) (b.refusals ∙ at.refusals);
+    failing = omega (arith, b.failing, ap (λ ys. length ys) at.refusals);
     last = refl;
   }
 
@@ -270,14 +271,14 @@ module _ (r : Rules) (t : Tables) (entries : List Entry) (i j : ℕ) (job : Job)
     done_leads : Leads r halved (Done (name_of job.action) false ∷ []) (view settled due ups)
     done_leads = (
       then,
-      follows_done r halved fired_front fired_back front back (bare_act job.action) (bare_standing at.standing) out b.due fires objects_are stands right are
+      follows_done r halved at.front at.back front back (bare_act job.action) (bare_standing at.standing) out b.due fires objects_are stands right are
           (λ covered. tells_covered then (view settled due ups) tells (tidy_covers settled due ups tidy)),
       tells_leads r then (view settled due ups) tells,
     )
 
     leads : Leads r (view t [] []) (births_of t.here t.births xs ++ (splits_from 0 hand places ++ Done (name_of job.action) false ∷ [])) (view settled due ups)
     leads = chain r (view t [] []) b.then (view settled due ups) (births_of t.here t.births xs) (splits_from 0 hand places ++ Done (name_of job.action) false ∷ [])
-        b.leads (chain r b.then halved (view settled due ups) (splits_from 0 hand places) (Done (name_of job.action) false ∷ []) s.leads done_leads)
+        b.leads (chain r b.then halved (view settled due ups) (splits_from 0 hand places) (Done (name_of job.action) false ∷ []) cut.leads done_leads)
 
     stay : AllByRecursion Stays (births_of t.here t.births xs ++ (splits_from 0 hand places ++ Done (name_of job.action) false ∷ []))
     stay = all_append Stays (births_of t.here t.births xs) (splits_from 0 hand places ++ Done (name_of job.action) false ∷ [])

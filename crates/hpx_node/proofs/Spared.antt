@@ -4,7 +4,7 @@ use Rattle.std.proofs.lemmas.Bool.{cases_Bool}
 use Rattle.hpx_journal.specs.Data.{State, Act, Outcome, Parcel, Apply, Return, Ask, Give, Cached, Move, Go, Shipped, Arrived, Free}
 use Rattle.hpx_journal.specs.Weights.{Book}
 use Rattle.hpx_journal.specs.Weights.{HasRoom}
-use Rattle.hpx_part.specs.Data.{Entry, Mail, In}
+use Rattle.hpx_part.specs.Data.{Event, Entry, Mail, In}
 use Rattle.hpx_part.specs.Parts.{at_all}
 use Rattle.hpx_parcel.specs.Reading.{parcel_of}
 use Rattle.std.specs.List.{AllByRecursion}
@@ -14,6 +14,8 @@ use Rattle.hpx_node.specs.Changes.{OnlySpare, Writes}
 use Rattle.hpx_node.specs.Stands.{StandsWith, rules_of}
 use Rattle.hpx_node.specs.Strange.{Broken, breaks, is_far, broken, broken_near}
 use Rattle.hpx_node.specs.Handled.{is_own, effects, kind_of, Takes, Clears}
+use Rattle.hpx_node.specs.Resumes.{Continues}
+use Rattle.hpx_node.proofs.Same.{writes_then}
 use Rattle.hpx_node.proofs.Right.{not_broken, near_right, near_popped}
 use Rattle.hpx_node.proofs.Taken.{taken_few}
 use Rattle.hpx_node.specs.Routes.{DealsWith, Accepts}
@@ -102,7 +104,7 @@ module _ (t m : Tables) (p q : Parcel) (rest : List Parcel) (x : Option Broken) 
   pub first_there : t.desk ≡ p ∷ rest
   first_there = sym (ap (λ (u : Tables). u.desk) same) ∙ first
 
-  one : q ≡ p
+  pub one : q ≡ p
   one = is ∙ ap (λ (d : List Parcel). get_or d 0 q) first_there
 
   pub none_here : broken t p ≡ None
@@ -147,8 +149,10 @@ first_stands act_of t p rest s entries first h =
 pub cleared : (t m t' : Tables) (b n : Book) (p q : Parcel) (rest : List Parcel) (s : ℕ) (x : Option Broken) (entries : List Entry) → OnlySpare t m b n
     → m.desk ≡ p ∷ rest → q ≡ get_or t.desk 0 q → x ≡ broken t q → x ≡ None
     → Writes (Mail (kind_of p) ∷ effects (record m { desk = rest; spare = s }) p) (record m { desk = rest; spare = s }) t' n.entries entries
-    → Accepts p (record m { desk = rest; spare = s }) t' → t'.taken ≡ m.taken → t'.sent ≡ m.sent → Clears t t' b.entries entries
-cleared t m t' b n p q rest s x entries same first is told none writes accepts taken sent =
+    → Accepts p (record m { desk = rest; spare = s }) t' → t'.taken ≡ m.taken → t'.sent ≡ m.sent
+    → (u : Tables) (more : List Event) (later : List Entry) → Continues p (record t { desk = rest }) t' u more → Writes more t' u entries later
+    → u.taken ≡ t'.taken → u.sent ≡ t'.sent → Clears t u b.entries later
+cleared t m t' b n p q rest s x entries same first is told none writes accepts taken sent u more later continues wrote still_taken still_sent =
     let events : effects (record m { desk = rest; spare = s }) p ≡ effects t p =
     effects_spare m rest s p ∙ (ap (λ (y : Tables). effects y p) same.tables ∙ effects_spare t t.desk m.spare p) in
     let here : m.here ≡ t.here = ap (λ (u : Tables). u.here) same.tables in record {
@@ -156,18 +160,23 @@ cleared t m t' b n p q rest s x entries same first is told none writes accepts t
       rest = rest;
       first = first_there t m p q rest x same.tables first is told none;
       right = none_here t m p q rest x same.tables first is told none;
-      writes = record {
-        here = writes.here ∙ here;
-        localities = writes.localities ∙ ap (λ (u : Tables). u.localities) same.tables;
-        profile = writes.profile ∙ ap (λ (u : Tables). u.profile) same.tables;
-        grows = writes.grows
-            ∙ (ap (λ es. es ++ at_all m.here (Mail (kind_of p) ∷ effects (record m { desk = rest; spare = s }) p)) same.entries
-            ∙ (ap (λ k. b.entries ++ at_all k (Mail (kind_of p) ∷ effects (record m { desk = rest; spare = s }) p)) here
-            ∙ ap (λ es. b.entries ++ at_all t.here (Mail (kind_of p) ∷ es)) events));
-      };
+      mid = t';
+      more = more;
+      writes = writes_then (Mail (kind_of p) ∷ effects t p) more t t' u b.entries entries later
+          (record {
+            here = writes.here ∙ here;
+            localities = writes.localities ∙ ap (λ (v : Tables). v.localities) same.tables;
+            profile = writes.profile ∙ ap (λ (v : Tables). v.profile) same.tables;
+            grows = writes.grows
+                ∙ (ap (λ es. es ++ at_all m.here (Mail (kind_of p) ∷ effects (record m { desk = rest; spare = s }) p)) same.entries
+                ∙ (ap (λ k. b.entries ++ at_all k (Mail (kind_of p) ∷ effects (record m { desk = rest; spare = s }) p)) here
+                ∙ ap (λ es. b.entries ++ at_all t.here (Mail (kind_of p) ∷ es)) events));
+          })
+          wrote;
       accepts = accepts_from p t m t' rest s same.tables accepts;
-      taken = taken ∙ ap (λ (u : Tables). u.taken) same.tables;
-      sent = sent ∙ ap (λ (u : Tables). u.sent) same.tables;
+      continues = continues;
+      taken = still_taken ∙ (taken ∙ ap (λ (v : Tables). v.taken) same.tables);
+      sent = still_sent ∙ (sent ∙ ap (λ (v : Tables). v.sent) same.tables);
     }
 
 pub mail_by : (t m : Tables) (b n : Book) (p q : Parcel) (rest : List Parcel) (s : ℕ) (x : Option Broken) → OnlySpare t m b n
@@ -183,25 +192,32 @@ mail_near t m b n p q rest x same first is told none =
 -- a frame is accepted after memory was made
 pub took : (t m t' : Tables) (b n : Book) (p : Parcel) (bytes frame : List ℕ) (entries : List Entry) → OnlySpare t m b n → bytes ≡ frame
     → parcel_of frame ≡ Some p → broken t p ≡ None → Writes (In bytes ∷ effects m p) m t' n.entries entries
-    → DealsWith p (record m { taken = m.taken + 1 }) t' → t'.taken ≡ m.taken + 1 → t'.sent ≡ m.sent → Takes frame t t' b.entries entries
-took t m t' b n p bytes frame entries same copy spelled right writes deals taken sent =
+    → DealsWith p (record m { taken = m.taken + 1 }) t' → t'.taken ≡ m.taken + 1 → t'.sent ≡ m.sent
+    → (u : Tables) (more : List Event) (later : List Entry) → Continues p (record t { taken = t.taken + 1 }) t' u more → Writes more t' u entries later
+    → u.taken ≡ t'.taken → u.sent ≡ t'.sent → Takes frame t u b.entries later
+took t m t' b n p bytes frame entries same copy spelled right writes deals taken sent u more later continues wrote still_taken still_sent =
     let events : effects m p ≡ effects t p =
     ap (λ (y : Tables). effects y p) same.tables ∙ effects_spare t t.desk m.spare p in
     let here : m.here ≡ t.here = ap (λ (u : Tables). u.here) same.tables in record {
       parcel = p;
       spelled = spelled;
       right = right;
-      writes = record {
-        here = writes.here ∙ here;
-        localities = writes.localities ∙ ap (λ (u : Tables). u.localities) same.tables;
-        profile = writes.profile ∙ ap (λ (u : Tables). u.profile) same.tables;
-        grows = writes.grows
-            ∙ (ap (λ es. es ++ at_all m.here (In bytes ∷ effects m p)) same.entries
-            ∙ (ap (λ k. b.entries ++ at_all k (In bytes ∷ effects m p)) here
-            ∙ (ap (λ es. b.entries ++ at_all t.here (In bytes ∷ es)) events
-            ∙ ap (λ (bs : List ℕ). b.entries ++ at_all t.here (In bs ∷ effects t p)) copy)));
-      };
+      mid = t';
+      more = more;
+      writes = writes_then (In frame ∷ effects t p) more t t' u b.entries entries later
+          (record {
+            here = writes.here ∙ here;
+            localities = writes.localities ∙ ap (λ (v : Tables). v.localities) same.tables;
+            profile = writes.profile ∙ ap (λ (v : Tables). v.profile) same.tables;
+            grows = writes.grows
+                ∙ (ap (λ es. es ++ at_all m.here (In bytes ∷ effects m p)) same.entries
+                ∙ (ap (λ k. b.entries ++ at_all k (In bytes ∷ effects m p)) here
+                ∙ (ap (λ es. b.entries ++ at_all t.here (In bytes ∷ es)) events
+                ∙ ap (λ (bs : List ℕ). b.entries ++ at_all t.here (In bs ∷ effects t p)) copy)));
+          })
+          wrote;
       deals = waits_from p t m t' same.tables deals;
-      taken = taken ∙ ap (λ (u : Tables). u.taken + 1) same.tables;
-      sent = sent ∙ ap (λ (u : Tables). u.sent) same.tables;
+      continues = continues;
+      taken = still_taken ∙ (taken ∙ ap (λ (v : Tables). v.taken + 1) same.tables);
+      sent = still_sent ∙ (sent ∙ ap (λ (v : Tables). v.sent) same.tables);
     }

@@ -125,7 +125,7 @@ waits_spare (Move act) t s t' h = h ∙ act_spare act t s t'.spare
 waits_spare (Return id) t s t' h = h ∙ free_spare id t s t'.records t'.spare
 waits_spare (Ask id asker entry) t s t' h = h ∙ mail_kept asker (Give (given_here t id) entry) t s t'.records t'.spare
 waits_spare (Free o) t s t' h = h ∙ returns_spare (ids_in (find (is_standing o) t.objects)) t s t'.objects t'.spare
-waits_spare (Give id entry) t s t' h = record { i = h.i; before = h.before; after = h.after; there = h.there; refills = h.refills; rest = h.rest }
+waits_spare (Give id entry) t s t' h = record { i = h.i; before = h.before; after = h.after; there = h.there; first = h.first; refills = h.refills; rest = h.rest }
 waits_spare (Cached o place) t s t' h = h
 waits_spare (Go act) t s t' h = h
 waits_spare (Shipped act state) t s t' h = h

@@ -100,7 +100,7 @@ at_all_at : (k : ℕ) (events : List Event) → AreAt k (at_all k events)
 at_all_at k [] = tt
 at_all_at k (e ∷ es) = (refl, at_all_at k es)
 
-at_all_length : (k : ℕ) (events : List Event) → length (at_all k events) ≡ length events
+pub at_all_length : (k : ℕ) (events : List Event) → length (at_all k events) ≡ length events
 at_all_length k [] = refl
 at_all_length k (e ∷ es) = ap suc (at_all_length k es)
 

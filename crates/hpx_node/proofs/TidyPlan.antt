@@ -1,25 +1,30 @@
 -- A commit that is planned leaves all that is kept well formed.
 use Rattle.std.proofs.Common.{ℕ, Bool, true, false, List, [], ◌∷◌, ◌++◌, ◌≡◌, ◌+◌, ◌<◌, ◌≤◌, Some, None, set, length, map, refl, sym, ap, ◌∙◌, arith, inl, inr}
-use Rattle.std.specs.List.{find, remove, AllByRecursion}
+use Rattle.std.specs.List.{find, slice_get, AllByRecursion}
 use Rattle.std.proofs.lemmas.Bool.{cases_Bool}
 use Rattle.hpx_value.specs.Ids.{bare_id, same_object}
 use Rattle.hpx_value.specs.Laws.{KeepsLaws}
+use Rattle.hpx_value.specs.Values.{bare_state}
+use Rattle.hpx_commit.specs.Stocks.{Stock}
 use Rattle.hpx_value.specs.declared.acts.Job.{Job}
 use Rattle.hpx_agas.specs.declared.record.Record.{Record}
-use Rattle.hpx_journal.specs.Data.{Id, State, Outcome}
-use Rattle.hpx_journal.specs.Entries.{target_of}
+use Rattle.hpx_journal.specs.Data.{Id, Act, State, Outcome}
 use Rattle.hpx_journal.proofs.Same.{same_object-true}
 use Rattle.hpx_part.specs.Data.{Standing}
 use Rattle.hpx_node.specs.declared.node.settle.Birth.{Birth}
 use Rattle.hpx_node.specs.Births.{IsBirth, birth_of, objects_of, records_of}
 use Rattle.hpx_node.specs.Fit.{IsFit, IsKept}
-use Rattle.hpx_node.specs.Jobs.{IsAt, IsFitJob}
+use Rattle.hpx_node.specs.Commits.{IsStock}
+use Rattle.hpx_node.specs.Jobs.{IsFitJob}
+use Rattle.hpx_node.specs.Paused.{Single, ArePaused}
+use Rattle.hpx_node.specs.Pending.{Waits}
 use Rattle.hpx_node.specs.Stands.{IsTidy}
 use Rattle.hpx_node.specs.Tables.{Tables}
-use Rattle.hpx_node.proofs.Alls.{all_append, all_at, all_remove, all_set}
-use Rattle.hpx_node.proofs.Pausing.{found_passes, done_paused}
-use Rattle.hpx_node.proofs.Plain.{plain_values, plain_conts, plain_same}
-use Rattle.hpx_node.proofs.Planned.{made_fit, planned_state, planned_due, state_fit, state_paid, due_may}
+use Rattle.hpx_node.proofs.Alls.{all_append, all_at, all_set}
+use Rattle.hpx_node.proofs.MadeLists.{bare_alone}
+use Rattle.hpx_node.proofs.Single.{single_made}
+use Rattle.hpx_node.proofs.Plain.{no_ids, plain_values, plain_conts, plain_same}
+use Rattle.hpx_node.proofs.Planned.{made_fit, planned_state, planned_due, state_fit, due_may}
 
 -- ---- what is made
 
@@ -67,65 +72,79 @@ records_past here n log (x ∷ xs) o late =
 
 -- ---- the tables
 
-module _ (t : Tables) (i j : ℕ) (job : Job) (out : Outcome) (at : IsAt t i j job) (fit : IsFitJob job) (few : t.localities ≤ 64)
-    (laws : KeepsLaws t.localities job.kind job.at job.state job.action out) (tidy : IsTidy t []) (spare : ℕ) where
+module _ (t : Tables) (j : ℕ) (job : Job) (out : Outcome) (standing : Standing) (stands : slice_get t.objects j ≡ Some standing)
+    (kind : standing.object.kind ≡ job.kind) (state : bare_state standing.state ≡ bare_state job.state) (fit : IsFitJob job) (few : t.localities ≤ 64)
+    (laws : KeepsLaws t.localities job.kind job.at job.state job.action out) (s : Stock) (is : IsStock t job out s) (tidy : IsTidy t []) where
   abbrev xs : List Birth
   xs = map birth_of out.makes
 
-  abbrev new : Standing
-  new = record { object = at.standing.object; state = planned_state t job out fit few laws }
-
-  abbrev pub settled : Tables
-  settled = record t {
-    births = t.births + length xs;
-    records = t.records ++ records_of t.here t.births t.profile.credit_log xs;
-    objects = set (t.objects ++ objects_of t.here t.births xs) j new;
-    running = remove t.running i;
-    spare = spare;
-  }
+  abbrev pub new : Standing
+  new = record { object = standing.object; state = planned_state t job out fit few laws s is }
 
   births_made : AllByRecursion IsBirth (map birth_of out.makes)
   births_made = made_fit t job out fit few laws
+
+  pub made_alone : AllByRecursion (λ (x : Standing). x.state.ids ≡ []) (objects_of t.here t.births (map birth_of out.makes))
+  made_alone = objects_alone t.here t.births (map birth_of out.makes) births_made
+
+  pub still_single : Single (t.objects ++ objects_of t.here t.births (map birth_of out.makes))
+  still_single = single_made t.here t.births t.objects (map birth_of out.makes) tidy.paused.single tidy.drawn births_made
 
   drawn_all : AllByRecursion (Drawn t.here (t.births + length xs)) (t.objects ++ objects_of t.here t.births xs)
   drawn_all = all_append (Drawn t.here (t.births + length xs)) t.objects (objects_of t.here t.births xs)
       (drawn_later t.here t.births (t.births + length xs) (omega arith) t.objects tidy.drawn)
       (objects_drawn t.here t.births (t.births + length xs) xs (omega arith))
 
+  kept : IsKept standing
+  kept = all_at IsKept t.objects j standing tidy.objects stands
+
   -- a plain object keeps nothing, and so it stays
-  plain_kept : at.standing.object.kind ≡ 7 → (job.state.values ≡ []) × (job.state.conts ≡ [])
-  plain_kept e =
-      let kept = (all_at IsKept t.objects j at.standing tidy.objects at.stands).plain e in (
-        ap (λ (s : State). s.values) (sym at.state) ∙ kept.0,
-        ap (λ (s : State). s.conts) (sym at.state) ∙ kept.1,
-      )
+  plain_kept : standing.object.kind ≡ 7 → (job.state.values ≡ []) × (job.state.conts ≡ [])
+  plain_kept e = (
+    ap (λ (x : State). x.values) (sym state) ∙ (kept.plain e).0,
+    ap (λ (x : State). x.conts) (sym state) ∙ (kept.plain e).1,
+  )
 
-  plain_new : at.standing.object.kind ≡ 7 → new ≡ at.standing
+  pub plain_new : standing.object.kind ≡ 7 → new ≡ standing
   plain_new e =
-      let kept = plain_kept e in
-      ap (λ s. record { object = at.standing.object; state = s })
-      (plain_same t job out fit few laws (sym at.kind ∙ e) kept.0 kept.1 ∙ sym at.state)
+      let none = plain_kept e in
+      let old : bare_state standing.state ≡ standing.state =
+      bare_alone standing.state (no_ids standing.state kept.state (kept.plain e).0 (kept.plain e).1) in
+      let own : bare_state job.state ≡ job.state = bare_alone job.state (no_ids job.state fit.state none.0 none.1) in
+      ap (λ x. record { object = standing.object; state = x })
+      (plain_same t job out fit few laws s is (sym kind ∙ e) none.0 none.1 ∙ (sym own ∙ (sym state ∙ old)))
 
-  pub tidy_settled : IsTidy settled (planned_due t job out fit few laws)
-  tidy_settled = record {
-    accepted = tidy.accepted;
-    running = all_remove IsFit t.running i tidy.running;
-    objects = all_set IsKept (t.objects ++ objects_of t.here t.births xs) j new
-        (all_append IsKept t.objects (objects_of t.here t.births xs) tidy.objects (objects_kept t.here t.births xs births_made))
-        (record {
-          kind = (all_at IsKept t.objects j at.standing tidy.objects at.stands).kind;
-          state = state_fit t job out fit few laws;
-          plain = λ e. let kept = plain_kept e in (plain_values t job out fit few laws (sym at.kind ∙ e) kept.0 kept.1, plain_conts t job out fit few laws (sym at.kind ∙ e) kept.0 kept.1);
-        });
-    messages = tidy.messages;
-    fit = due_may t job out fit few laws;
-    moves = tidy.moves;
-    drawn = all_set (Drawn t.here (t.births + length xs)) (t.objects ++ objects_of t.here t.births xs) j new drawn_all
-        (λ managed home. let low = all_at (Drawn t.here t.births) t.objects j at.standing tidy.drawn at.stands managed home in omega (arith, low));
-    unborn = λ o late. find_none (λ (x : Record). same_object o x.gid) t.records (records_of t.here t.births t.profile.credit_log xs)
-        (tidy.unborn o (omega (arith, late))) (records_past t.here t.births t.profile.credit_log xs o late);
-    ways = tidy.ways;
-    paused = done_paused t.here t.localities t.profile.credit_log t.objects t.running t.pending i j job.action at.standing new (objects_of t.here t.births xs) at.runs at.stands
-        (found_passes (target_of job.action) t.objects at.standing at.found) refl plain_new (state_paid t job out fit few laws)
-        (objects_alone t.here t.births (map birth_of out.makes) births_made) tidy.paused;
-  }
+  module _ (running : List Act) (pending : List Waits) (spare : ℕ) (runs : AllByRecursion IsFit running)
+      (paused : ArePaused t.here t.localities t.profile.credit_log (set (t.objects ++ objects_of t.here t.births (map birth_of out.makes)) j
+      (record { object = standing.object; state = planned_state t job out fit few laws s is })) running pending) where
+    abbrev pub settled : Tables
+    settled = record t {
+      births = t.births + length xs;
+      records = t.records ++ records_of t.here t.births t.profile.credit_log xs;
+      objects = set (t.objects ++ objects_of t.here t.births xs) j new;
+      running = running;
+      pending = pending;
+      spare = spare;
+    }
+
+    pub tidy_settled : IsTidy settled (planned_due t job out fit few laws s is)
+    tidy_settled = record {
+      accepted = tidy.accepted;
+      running = runs;
+      objects = all_set IsKept (t.objects ++ objects_of t.here t.births xs) j new
+          (all_append IsKept t.objects (objects_of t.here t.births xs) tidy.objects (objects_kept t.here t.births xs births_made))
+          (record {
+            kind = kept.kind;
+            state = state_fit t job out fit few laws s is;
+            plain = λ e. let none = plain_kept e in (plain_values t job out fit few laws s is (sym kind ∙ e) none.0 none.1, plain_conts t job out fit few laws s is (sym kind ∙ e) none.0 none.1);
+          });
+      messages = tidy.messages;
+      fit = due_may t job out fit few laws s is;
+      moves = tidy.moves;
+      drawn = all_set (Drawn t.here (t.births + length xs)) (t.objects ++ objects_of t.here t.births xs) j new drawn_all
+          (λ managed home. let low = all_at (Drawn t.here t.births) t.objects j standing tidy.drawn stands managed home in omega (arith, low));
+      unborn = λ o late. find_none (λ (x : Record). same_object o x.gid) t.records (records_of t.here t.births t.profile.credit_log xs)
+          (tidy.unborn o (omega (arith, late))) (records_past t.here t.births t.profile.credit_log xs o late);
+      ways = tidy.ways;
+      paused = paused;
+    }

@@ -30,7 +30,7 @@ use Rattle.hpx_node.proofs.Begun.{lent_kept, stands_waiting}
 use Rattle.hpx_node.proofs.Cutting.{at_all_append}
 use Rattle.hpx_node.proofs.FirstCuts.{first_few}
 use Rattle.hpx_node.proofs.LaterIds.{bare_none, within_long, hands_long, later_is}
-use Rattle.hpx_node.proofs.PlanLimits.{cuts_limit}
+use Rattle.hpx_node.proofs.PlanLimits.{own_cuts}
 use Rattle.hpx_node.proofs.Prepared.{action_few, hand_within}
 use Rattle.hpx_node.proofs.ShortHand.{short_within, lacks_least}
 use Rattle.hpx_node.proofs.Steps.{stands_by}
@@ -113,7 +113,7 @@ module _ (t : Tables) (job : Job) (out : Outcome) (b : Before) (is : IsBefore t 
           arith,
           first_few b.own 0 (hand_ids job.state job.action (map bare (made_of t out))) (hand_ids job.state job.action (made_of t out))
               (places_in_hand t job out) (hands_long job (made_of t out)),
-          cuts_limit t job out fit few laws,
+          own_cuts t job out fit few laws,
         )))
 
     pub lacks_few : length b.lacking.items ≤ 162

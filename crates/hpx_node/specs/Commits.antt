@@ -1,13 +1,16 @@
 -- What a commit writes.
-use Rattle.std.specs.Prelude.{ℕ, zero, suc, false, List, [], ◌∷◌, ◌++◌, ◌+◌, ◌≡◌, map}
+use Rattle.std.specs.Prelude.{ℕ, zero, suc, false, List, [], ◌∷◌, ◌++◌, ◌+◌, ◌≡◌, ◌≤◌, length, map}
+use Rattle.std.specs.List.{AllByRecursion}
 use Rattle.hpx_value.specs.Ids.{bare}
 use Rattle.hpx_value.specs.Hands.{hand_ids, due_of, state_after}
 use Rattle.hpx_value.specs.declared.acts.Job.{Job}
+use Rattle.hpx_parcel.specs.Parcels.{HasRightCredit}
 use Rattle.hpx_journal.specs.Data.{Id, Outcome, Due, MessageDue, PrintDue}
 use Rattle.hpx_journal.specs.Entries.{name_of}
 use Rattle.hpx_part.specs.Data.{Event, Split, Done, Sent, Print, Up}
 use Rattle.hpx_node.specs.Births.{birth_of, births_of, ids_of}
 use Rattle.hpx_commit.specs.Deals.{half, log_of, named, places_named, dealt, AllLast, unnamed, filled, unused, filled_due}
+use Rattle.hpx_commit.specs.Stocks.{Stock, SameNames}
 use Rattle.hpx_node.specs.declared.node.finish.Prepared.{Prepared}
 use Rattle.hpx_node.specs.Tables.{Tables}
 
@@ -48,24 +51,37 @@ hand_of t job out = hand_ids job.state job.action (made_of t out)
 abbrev pub places_in_hand : Tables → Job → Outcome → List ℕ
 places_in_hand t job out = places_named job.state job.action (made_of t out) out
 
--- births, splits, the Done, what is due, and what nobody names
-abbrev pub committed : Tables → Job → Outcome → List Event
-committed t job out =
+-- the stock of the hand: its ids, and the places that are named there
+abbrev pub own_stock : Tables → Job → Outcome → Stock
+own_stock t job out = record { hand = hand_of t job out; places = places_in_hand t job out }
+
+-- where this stock is dealt: births, splits, the Done, what is due, and what nobody names
+abbrev pub committed_from : Tables → Job → Outcome → Stock → List Event
+committed_from t job out s =
     births_of t.here t.births (map birth_of out.makes)
-    ++ (splits_from 0 (hand_of t job out) (places_in_hand t job out)
+    ++ (splits_from 0 s.hand s.places
     ++ (Done (name_of job.action) false
     ∷ (written t.here t.serial (due_of job.state job.action (made_of t out) out)
-    ++ ups (unnamed (hand_of t job out) (places_in_hand t job out)))))
+    ++ ups (unnamed s.hand s.places))))
 
--- a commit, before its first change: what it makes, its hand, the places that it names, the new state, what is due, and what nobody names
+-- where that is the stock of the hand
+abbrev pub committed : Tables → Job → Outcome → List Event
+committed t job out = committed_from t job out (own_stock t job out)
+
+-- a stock that may be dealt: it names what the hand names, and each id has its credit, which lasts for all who name it
+pub record IsStock (t : Tables) (job : Job) (out : Outcome) (s : Stock) : Type 0 where
+  pub names : SameNames (own_stock t job out) s
+  pub credit : AllByRecursion HasRightCredit s.hand
+  pub few : length s.hand ≤ 1024
+  pub lasts : AllLast s.hand s.places
+
+-- a commit, before its first change: what it makes, a stock that may be dealt, the new state, what is due, and what nobody names
 pub record IsPrepared (t : Tables) (job : Job) (out : Outcome) (p : Prepared) : Type 0 where
   pub births : p.births.items ≡ map birth_of out.makes
-  pub hand : p.hand.items ≡ hand_of t job out
-  pub places : p.places.items ≡ places_in_hand t job out
-  pub lasts : AllLast (hand_of t job out) (places_in_hand t job out)
+  pub stock : IsStock t job out p.stock
   pub state_left : p.plan.state ≡ record (state_after job.state job.action (made_of t out) out) {
-    ids = filled (state_after job.state job.action (made_of t out) out).ids (dealt (hand_of t job out) (places_in_hand t job out));
+    ids = filled (state_after job.state job.action (made_of t out) out).ids (dealt p.stock.hand p.stock.places);
   }
   pub due_left : p.plan.due.items ≡ filled_due (due_of job.state job.action (made_of t out) out)
-      (unused (state_after job.state job.action (made_of t out) out).ids (dealt (hand_of t job out) (places_in_hand t job out)))
-  pub ups_left : p.plan.ups.items ≡ unnamed (hand_of t job out) (places_in_hand t job out)
+      (unused (state_after job.state job.action (made_of t out) out).ids (dealt p.stock.hand p.stock.places))
+  pub ups_left : p.plan.ups.items ≡ unnamed p.stock.hand p.stock.places

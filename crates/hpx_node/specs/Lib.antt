@@ -11,6 +11,7 @@ pub mod Paused
 pub mod Births
 pub mod Commits
 pub mod Asks
+pub mod Resumes
 pub mod Kept
 pub mod Strange
 pub mod Handled

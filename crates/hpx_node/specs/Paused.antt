@@ -23,6 +23,11 @@ abbrev pub Apart : List Act → Type 0
 Apart [] = Unit {0}
 Apart (act ∷ acts) = (is_busy (target_of act) acts ≡ false) × Apart acts
 
+-- no object stands here twice
+abbrev pub Single : List Standing → Type 0
+Single [] = Unit {0}
+Single (x ∷ xs) = (find (is_standing x.object) xs ≡ None) × Single xs
+
 -- the stock of its job as it was before, if the objects that it makes had these ids
 abbrev pub whole_stock : Waits → List Id → Stock
 whole_stock w made = record {
@@ -65,10 +70,11 @@ pub record IsPaused (k n log : ℕ) (objects : List Standing) (w : Waits) : Type
   pub once : (p : ℕ) → p < length (ids_named w) → count_by (λ x. x.place == p) w.asked ≡ cond (is_asked (id_at w.hand p)) 1 0
   pub split : HasSplit log w
 
--- the commits that wait, beside these objects and actions that run: no two fired actions keep one object busy; the ids of an
+-- the commits that wait, beside these objects and actions that run: no object stands here twice, and no two fired actions keep one busy; the ids of an
 -- object that no such commit keeps busy have their credits, and no more ids of states are without than those in their hands
 pub record ArePaused (here n log : ℕ) (objects : List Standing) (running : List Act) (pending : List Waits) : Type 0 where
   pub each : AllByRecursion (IsPaused here n log objects) pending
+  pub single : Single objects
   pub apart : Apart (fired_of running pending)
   pub whole : AllByRecursion (λ x. is_busy x.object (map action_of pending) ≡ false → AllByRecursion HasRightCredit x.state.ids) objects
   pub lent : (o : Id) → 16 ≤ o.kind

@@ -1,6 +1,6 @@
 -- Commits that wait for credit: what is in their hands meanwhile, and what was asked for.
 use Rattle.std.specs.Prelude.{ℕ, Bool, true, List, [], ◌∷◌, ◌++◌, ◌+◌, ◌≡◌, ◌==◌, ◌&&◌, not, cond, is_some, Option, Some, None, map, flat_map, length, take, set}
-use Rattle.std.specs.List.{filter, list_any, slice_get, remove}
+use Rattle.std.specs.List.{filter, find, list_any, slice_get, remove}
 use Rattle.hpx_value.specs.Ids.{bare, same_object}
 use Rattle.hpx_value.specs.Hands.{id_at}
 use Rattle.hpx_value.specs.declared.acts.Job.{Job}
@@ -90,10 +90,24 @@ refilled k place id w = record w {
   refused = cond (log_of id.log == 0) (Some (bare id)) w.refused;
 }
 
--- it is given to a commit that waits for it
+-- it is given to a commit that waits for it, at the first place that was asked for so
 pub record Refills (id : Id) (entry : ℕ) (w w' : Waits) : Type 0 where
   pub k : ℕ
   pub ask : Asked
+  pub first : find (is_asked_for w id entry) w.asked ≡ Some ask
   pub there : slice_get w.asked k ≡ Some ask
   pub for : is_asked_for w id entry ask ≡ true
   pub now : w' ≡ refilled k ask.place id w
+
+-- it waits for one id alone, and none was refused
+abbrev pub waits_for_one : Waits → Bool
+waits_for_one w = (length w.asked == 1) && not (is_some w.refused)
+
+-- ids, with one at the place for which it was asked
+abbrev pub put_for : List Id → Id → Option Asked → List Id
+put_for hand id None = hand
+put_for hand id (Some ask) = set hand ask.place id
+
+-- its hand with an id that was asked for under this number
+abbrev pub hand_with : Id → ℕ → Waits → List Id
+hand_with id entry w = put_for w.hand id (find (is_asked_for w id entry) w.asked)

@@ -1,5 +1,5 @@
 -- Where messages and actions go.
-use Rattle.std.specs.Prelude.{ℕ, Bool, false, not, nat_lt, cond, [], ◌∷◌, ◌++◌, ◌≡◌, ◌+◌, ◌-◌, ◌^◌, ◌==◌, ◌&&◌, set, List, Option, Some, None}
+use Rattle.std.specs.Prelude.{ℕ, Bool, false, not, nat_lt, cond, [], ◌∷◌, ◌++◌, ◌≡◌, ◌+◌, ◌-◌, ◌^◌, ◌==◌, ◌&&◌, set, take, List, Option, Some, None}
 use Rattle.std.specs.Option.{option_map_or}
 use Rattle.std.specs.List.{find, slice_get}
 use Rattle.hpx_value.specs.Ids.{bare, credit}
@@ -10,7 +10,7 @@ use Rattle.hpx_part.specs.Data.{Standing}
 use Rattle.hpx_agas.specs.declared.record.Record.{Record}
 use Rattle.hpx_node.specs.Fit.{parcel_for}
 use Rattle.hpx_node.specs.Kept.{stands_here, record_here, count_here}
-use Rattle.hpx_node.specs.Pending.{Waits, Refills}
+use Rattle.hpx_node.specs.Pending.{Waits, Refills, awaits}
 use Rattle.hpx_node.specs.Tables.{Tables}
 
 -- ---- messages
@@ -78,12 +78,13 @@ with_act act t = cond (may_stay t act) (with_accepted act t) (with_mail (target_
 
 -- ---- credit that was asked for
 
--- it is given to a commit that waits for it
+-- it is given to the first commit that waits for it
 pub record Gives (id : Id) (entry : ℕ) (t t' : Tables) : Type 0 where
   pub i : ℕ
   pub before : Waits
   pub after : Waits
   pub there : slice_get t.pending i ≡ Some before
+  pub first : find (awaits id entry) (take i t.pending) ≡ None
   pub refills : Refills id entry before after
   pub rest : t' ≡ record t { pending = set t.pending i after; spare = t'.spare }
 

@@ -111,10 +111,11 @@ pub fn first_free<A: Acts>(
 }
 
 /// Where a commit waits for an id of the object, asked for under a number.
-#[tactic(auto, using(hpx_part::proofs::Keyed::find_step, hpx_part::proofs::Keyed::find_at_index))]
+#[tactic(auto, using(hpx_part::proofs::Keyed::find_step, hpx_part::proofs::Keyed::find_at_index, crate::proofs::FreeLemmas::find_none_more))]
 pub fn waiting_at<A: Acts>(pending: &[Pending<A>], o: Gid, entry: u64) -> Option<usize>
     ensures inside { IfSome result (λ i. i < length pending.now) }
     ensures found { IfSome result (λ i. find (awaits o entry) pending.now ≡ slice_get pending.now i) }
+    ensures first { IfSome result (λ i. find (awaits o entry) (take i pending.now) ≡ None) }
     ensures none { IfNone result (find (awaits o entry) pending.now ≡ None) }
 {
     for (i, w) in pending.iter().enumerate() {

@@ -35,6 +35,7 @@ mod fire;
 mod frames;
 mod getters;
 mod pay;
+mod resume;
 mod rules;
 mod settle;
 mod wait;

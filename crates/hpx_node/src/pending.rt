@@ -1,15 +1,17 @@
 //! Commits that wait for credit that was asked for.
-ghost use Rattle.std.specs.Prelude.{◌≡◌, ◌<◌, true, None, IfSome, IfNone, length, find};
+ghost use Rattle.std.specs.Prelude.{◌≡◌, ◌<◌, true, None, IfSome, IfNone, IfOk, length, find};
 ghost use Rattle.std.specs.List.{AllByRecursion, slice_get};
 ghost use Rattle.hpx_node.specs.Jobs.{IsFitJob};
-ghost use Rattle.hpx_node.specs.Pending.{is_asked_for, awaits, waits_with, Refills};
+ghost use Rattle.hpx_node.specs.Pending.{is_asked_for, awaits, waits_for_one, hand_with, waits_with, Refills};
 
 use hpx_commit::deal::log_of;
 use hpx_commit::hand::id_at;
 use hpx_commit::stock::Stock;
 use hpx_value::acts::{Acts, Done};
 use hpx_value::gid::Gid;
+use hpx_value::memory::OutOfMemory;
 use hpx_value::value::Act;
+use std::alloc::Global;
 use std::marker::Model;
 
 /// What was asked for: the number of the ask, and the place in the hand.
@@ -71,6 +73,29 @@ impl<A: Acts> Pending<A> {
         &self.done.job().action
     }
 
+    /// The job that is done.
+    pub fn done(&self) -> &Done<A>
+        ensures job { result.now.job ≡ self.now.job }
+        ensures outcome { result.now.outcome ≡ self.now.outcome }
+        ensures localities { result.now.localities ≡ self.now.localities }
+    {
+        &self.done
+    }
+
+    /// The places that are named in its hand.
+    pub fn places(&self) -> &[u32]
+        ensures { result.now ≡ self.now.places }
+    {
+        self.stock.places()
+    }
+
+    /// Whether it waits for one id alone, and none was refused.
+    pub fn waits_for_one(&self) -> bool
+        ensures { result ≡ waits_for_one self.now }
+    {
+        self.asked.len() == 1 && self.refused.is_none()
+    }
+
     /// The ids in its hand.
     pub fn hand(&self) -> &[Gid]
         ensures { result.now ≡ self.now.hand }
@@ -105,6 +130,18 @@ impl<A: Acts> Pending<A> {
         ensures { result ≡ awaits o entry self.now }
     {
         self.asked.iter().any(|x| self.is_for(*x, o, entry))
+    }
+
+    /// The ids in its hand, with one that it waits for in its place.
+    pub fn hand_with(&self, alloc: Global, id: Gid, entry: u64) -> Result<Vec<Gid>, OutOfMemory>
+        requires { AllByRecursion (λ x. x.place < length self.now.hand) self.now.asked }
+        ensures { IfOk result (λ hand. hand.items ≡ hand_with id entry self.now) }
+    {
+        let mut hand = Vec::from_slice(alloc, self.stock.hand())?;
+        if let Some(k) = self.ask_at(id, entry) {
+            hand[self.asked[k].place as usize] = id;
+        }
+        Ok(hand)
     }
 
     /// Takes an id that it waits for into its hand.

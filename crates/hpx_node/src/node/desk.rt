@@ -189,6 +189,8 @@ impl<A: Acts + Copy> Node<A> {
         requires tidy { IsTidy self.old [] }
         requires page { 1 ≤ book.old.spare }
         ensures gives { Gives id entry self.old self.new }
+        ensures spare { self.old.spare ≤ self.new.spare }
+        ensures page { book.old.spare ≤ book.new.spare + 1 }
         ensures handles { Handles (rules_of A.act_of self.old.localities self.old.profile) (Give id entry) self.old self.new (effects self.old (Give id entry)) }
         ensures grows { book.new.entries ≡ book.old.entries ++ at_all self.old.here (effects self.old (Give id entry)) }
     {
@@ -215,6 +217,8 @@ impl<A: Acts + Copy> Node<A> {
         requires page { 129 ≤ book.old.spare }
         ensures handles { Handles (rules_of A.act_of self.old.localities self.old.profile) parcel self.old self.new (effects self.old parcel) }
         ensures grows { book.new.entries ≡ book.old.entries ++ at_all self.old.here (effects self.old parcel) }
+        ensures spare { (id : _) (entry : _) → parcel ≡ Give id entry → self.old.spare ≤ self.new.spare }
+        ensures page { (id : _) (entry : _) → parcel ≡ Give id entry → book.old.spare ≤ book.new.spare + 1 }
     {
         match parcel {
             Parcel::Apply(act) => self.post(act),
@@ -239,8 +243,8 @@ impl<A: Acts + Copy> Node<A> {
         requires spelled { parcel_of bytes ≡ Some parcel }
         requires right { broken_near self.old parcel ≡ None }
         requires few { self.old.taken + 1 < 2 ^ 64 }
-        requires spare { 128 ≤ self.old.spare }
-        requires page { 130 ≤ book.old.spare }
+        requires spare { 1280 ≤ self.old.spare }
+        requires page { 1280 ≤ book.old.spare }
         requires stands { Stands A.act_of self.old book.old.entries }
         ensures stands { Stands A.act_of self.new book.new.entries }
         ensures writes { Writes (In bytes ∷ effects self.old parcel) self.old self.new book.old.entries book.new.entries }
@@ -248,6 +252,8 @@ impl<A: Acts + Copy> Node<A> {
         ensures running { self.new.running ≡ self.old.running }
         ensures taken { self.new.taken ≡ self.old.taken + 1 }
         ensures sent { self.new.sent ≡ self.old.sent }
+        ensures spare { (id : _) (entry : _) → parcel ≡ Give id entry → 1024 ≤ self.new.spare }
+        ensures page { (id : _) (entry : _) → parcel ≡ Give id entry → 1024 ≤ book.new.spare }
         ensures few { length book.new.entries ≤ length book.old.entries + 130 }
     {
         let at = self.here;
@@ -265,8 +271,8 @@ impl<A: Acts + Copy> Node<A> {
         requires own { is_own self.old.here parcel ≡ true }
         requires near { is_far self.old.localities parcel ≡ false }
         requires right { broken_near self.old parcel ≡ None }
-        requires spare { 128 ≤ self.old.spare }
-        requires page { 130 ≤ book.old.spare }
+        requires spare { 1280 ≤ self.old.spare }
+        requires page { 1280 ≤ book.old.spare }
         requires stands { Stands A.act_of (with_first parcel self.old) book.old.entries }
         ensures stands { Stands A.act_of self.new book.new.entries }
         ensures writes { Writes (Mail (kind_of parcel) ∷ effects self.old parcel) self.old self.new book.old.entries book.new.entries }
@@ -274,6 +280,8 @@ impl<A: Acts + Copy> Node<A> {
         ensures running { self.new.running ≡ self.old.running }
         ensures taken { self.new.taken ≡ self.old.taken }
         ensures sent { self.new.sent ≡ self.old.sent }
+        ensures spare { (id : _) (entry : _) → parcel ≡ Give id entry → 1024 ≤ self.new.spare }
+        ensures page { (id : _) (entry : _) → parcel ≡ Give id entry → 1024 ≤ book.new.spare }
         ensures few { length book.new.entries ≤ length book.old.entries + 130 }
     {
         let at = self.here;
@@ -285,14 +293,14 @@ impl<A: Acts + Copy> Node<A> {
         self.handle(book, parcel);
     }
 
-    /// Makes memory for a message that is dealt with.
+    /// Makes memory for a message that is dealt with, and for a commit that goes on with it.
     fn reserve_turn(&mut self, book: &mut Journal) -> Result<(), OutOfMemory>
         ensures same { OnlySpare self.old self.new book.old book.new }
-        ensures spare { OnOk result (128 ≤ self.new.spare) }
-        ensures page { OnOk result (130 ≤ book.new.spare) }
+        ensures spare { OnOk result (1280 ≤ self.new.spare) }
+        ensures page { OnOk result (1280 ≤ book.new.spare) }
     {
-        self.reserve(128)?;
-        book.reserve(130)?;
+        self.reserve(1280)?;
+        book.reserve(1280)?;
         Ok(())
     }
 
@@ -328,15 +336,20 @@ impl<A: Acts + Copy> Node<A> {
             Ok(bytes) => bytes,
             Err(_) => return Err(TakeFault::OutOfMemory),
         };
+        let ready = match self.ready(alloc, &parcel) {
+            Ok(ready) => ready,
+            Err(_) => return Err(TakeFault::OutOfMemory),
+        };
         if self.reserve_turn(book).is_err() {
             return Err(TakeFault::OutOfMemory);
         }
         self.enter_frame(book, bytes, parcel);
+        self.go_on(book, ready);
         Ok(())
     }
 
     /// Deals with the oldest message to the own locality, if there is one; nothing changes at a refusal.
-    pub fn desk(&mut self, book: &mut Journal) -> Result<bool, DeskFault>
+    pub fn desk(&mut self, alloc: Global, book: &mut Journal) -> Result<bool, DeskFault>
         requires room { HasRoom book.old.entries }
         requires stands { Stands A.act_of self.old book.old.entries }
         ensures stands { Stands A.act_of self.new book.new.entries }
@@ -357,12 +370,18 @@ impl<A: Acts + Copy> Node<A> {
                 kept: x.kept,
             });
         }
+        let ready = match self.ready(alloc, self.desk[0].parcel()) {
+            Ok(ready) => ready,
+            Err(_) => return Err(DeskFault::OutOfMemory),
+        };
         if self.reserve_turn(book).is_err() {
             return Err(DeskFault::OutOfMemory);
         }
-        if let Some(letter) = self.desk.pop_front() {
-            self.enter_mail(book, letter.into_parcel());
-        }
+        let Some(letter) = self.desk.pop_front() else {
+            return Ok(false);
+        };
+        self.enter_mail(book, letter.into_parcel());
+        self.go_on(book, ready);
         Ok(true)
     }
 }

@@ -8,18 +8,19 @@ ghost use Rattle.hpx_journal.specs.Entries.{target_of};
 ghost use Rattle.hpx_journal.specs.Local.{is_standing};
 ghost use Rattle.hpx_node.specs.Asks.{Begins};
 ghost use Rattle.hpx_node.specs.Births.{birth_of, ids_of};
-ghost use Rattle.hpx_node.specs.Commits.{committed, hand_of, places_in_hand, IsPrepared};
+ghost use Rattle.hpx_node.specs.Commits.{committed, made_of, hand_of, places_in_hand, own_stock, IsStock, IsPrepared};
 ghost use Rattle.hpx_node.specs.Jobs.{IsAt, IsRunning, IsFitJob, Ends};
 ghost use Rattle.hpx_node.specs.Stands.{IsTidy, Stands};
 ghost use Rattle.hpx_node.specs.Changes.{OnlySpare, Writes};
 
 use crate::find::{index_of, place_of, target};
 use crate::node::Node;
-use crate::node::settle::{Birth, births, push_splits};
+use crate::node::settle::{Birth, births};
 use crate::parts::{FinishFault, Finished};
 use hpx_commit::deal::all_last;
 use hpx_commit::hand::Hand;
-use hpx_commit::plan::{Plan, places_named, plan_commit};
+use hpx_commit::plan::{Plan, places_named, plan_stock};
+use hpx_commit::stock::Stock;
 use hpx_journal::journal::Journal;
 use hpx_value::acts::{Acts, Done};
 use hpx_value::exact::Exact;
@@ -32,13 +33,12 @@ use std::collections::VecDeque;
 /// How many entries a commit may write, and how many messages it may send.
 pub const MOST_ENTRIES: u32 = 1024;
 
-/// A commit, before its first change.
+/// A commit, before its first change: what it makes, the stock that it deals, and what it leaves.
 #[derive(Drop)]
-struct Prepared {
-    births: VecDeque<Birth>,
-    hand: Vec<Gid>,
-    places: Vec<u32>,
-    plan: Plan,
+pub struct Prepared {
+    pub births: VecDeque<Birth>,
+    pub stock: Stock,
+    pub plan: Plan,
 }
 
 /// The outcome of a job keeps the laws of actions.
@@ -94,6 +94,30 @@ impl<A: Acts + Copy> Node<A> {
         Ok(ids)
     }
 
+    /// Plans a commit that deals a stock of its hand.
+    pub fn prepare_from(
+        &self,
+        alloc: Global,
+        done: &Done<A>,
+        hand: &Hand,
+        stock: Stock,
+    ) -> Result<Prepared, OutOfMemory>
+        requires state { hand.now.state.now ≡ done.now.job.state }
+        requires action { hand.now.action.now ≡ done.now.job.action }
+        requires made { hand.now.made.now ≡ made_of self.now done.now.outcome }
+        requires stock { IsStock self.now done.now.job done.now.outcome stock }
+        ensures prepared { IfOk result (IsPrepared self.now done.now.job done.now.outcome) }
+        ensures stock { IfOk result (λ p. p.stock ≡ stock) }
+    {
+        let outcome = done.outcome();
+        let plan = plan_stock(alloc, hand, outcome, stock.hand(), stock.places())?;
+        Ok(Prepared {
+            births: births(alloc, outcome.makes.as_slice())?,
+            stock,
+            plan,
+        })
+    }
+
     /// Plans a commit. There is none where some id of the hand does not last for all who name it.
     fn prepare(&self, alloc: Global, done: &Done<A>) -> Result<Option<Prepared>, OutOfMemory>
         requires localities { done.now.localities ≤ 64 }
@@ -102,6 +126,7 @@ impl<A: Acts + Copy> Node<A> {
         requires few { self.now.births + 1024 < 2 ^ 32 }
         ensures laws { KeepsLaws done.now.localities done.now.job.kind done.now.job.at done.now.job.state done.now.job.action done.now.outcome }
         ensures some { IfOk result (λ o. IfSome o (λ p. IsPrepared self.now done.now.job done.now.outcome p)) }
+        ensures own { IfOk result (λ o. IfSome o (λ p. p.stock ≡ own_stock self.now done.now.job done.now.outcome)) }
         ensures none { IfOk result (λ o. IfNone o (AllLast (hand_of self.now done.now.job done.now.outcome) (places_in_hand self.now done.now.job done.now.outcome) → ⊥)) }
     {
         lawful(done);
@@ -113,13 +138,8 @@ impl<A: Acts + Copy> Node<A> {
         if !all_last(hand.ids(), places.as_slice()) {
             return Ok(None);
         }
-        let plan = plan_commit(alloc, &hand, outcome, places.as_slice())?;
-        Ok(Some(Prepared {
-            births: births(alloc, outcome.makes.as_slice())?,
-            hand: Vec::from_slice(alloc, hand.ids())?,
-            places,
-            plan,
-        }))
+        let stock = Stock::of(alloc, hand.ids(), places.as_slice())?;
+        Ok(Some(self.prepare_from(alloc, done, &hand, stock)?))
     }
 
     /// Writes a commit that is prepared. It takes no memory.
@@ -130,6 +150,7 @@ impl<A: Acts + Copy> Node<A> {
         requires fit { IsFitJob done.now.job }
         requires laws { KeepsLaws done.now.localities done.now.job.kind done.now.job.at done.now.job.state done.now.job.action done.now.outcome }
         requires prepared { IsPrepared self.old done.now.job done.now.outcome prepared }
+        requires own { prepared.stock ≡ own_stock self.old done.now.job done.now.outcome }
         requires room { HasRoom book.old.entries }
         requires spare { 1024 ≤ self.old.spare }
         requires page { 1024 ≤ book.old.spare }
@@ -140,15 +161,12 @@ impl<A: Acts + Copy> Node<A> {
     {
         let Prepared {
             births,
-            hand,
-            places,
+            stock,
             plan: Plan { state, due, ups },
         } = prepared;
-        self.bear_all(book, births);
-        push_splits(book, self.here, hand.as_slice(), places.as_slice());
+        self.make(book, births, &stock);
         self.settle(book, i, j, state);
-        self.pay_all(book, due, ups.as_slice());
-        self.give_up_all(book, VecDeque::from_vec(ups));
+        self.leave(book, due, ups);
     }
 
     /// Commits a job that is done, or lets it wait where some id of its hand has too little credit for all who name it.

@@ -3,6 +3,7 @@ ghost use Rattle.std.specs.Prelude.{◌≡◌, ◌≤◌, ◌<◌, ◌+◌, ◌^
 ghost use Rattle.std.specs.List.{AllByRecursion};
 ghost use Rattle.hpx_parcel.specs.Parcels.{HasCredit};
 ghost use Rattle.hpx_part.specs.Parts.{at_all};
+ghost use Rattle.hpx_node.specs.Changes.{OnlySends};
 ghost use Rattle.hpx_node.specs.Commits.{written, ups};
 ghost use Rattle.hpx_node.specs.Fit.{IsFitDue};
 ghost use Rattle.hpx_node.specs.Stands.{Stands, StandsWith, rules_of};
@@ -51,6 +52,7 @@ impl<A: Acts + Copy> Node<A> {
         ensures serial { self.new.serial ≤ self.old.serial + 1 }
         ensures here { (self.new.here ≡ self.old.here) × (self.new.localities ≡ self.old.localities) × (self.new.profile ≡ self.old.profile) }
         ensures running { self.new.running ≡ self.old.running }
+        ensures rest { OnlySends self.old self.new }
         ensures writes { book.new.entries ++ at_all self.new.here (written self.new.here self.new.serial due.new.items)
             ≡ book.old.entries ++ at_all self.old.here (written self.old.here self.old.serial due.old.items) }
     {
@@ -90,6 +92,7 @@ impl<A: Acts + Copy> Node<A> {
         ensures page { book.new.spare + 1 ≡ book.old.spare }
         ensures here { (self.new.here ≡ self.old.here) × (self.new.localities ≡ self.old.localities) × (self.new.profile ≡ self.old.profile) }
         ensures running { self.new.running ≡ self.old.running }
+        ensures rest { OnlySends self.old self.new }
         ensures writes { book.new.entries ++ at_all self.new.here (ups loose.new.items) ≡ book.old.entries ++ at_all self.old.here (ups loose.old.items) }
     {
         let at = self.here;
@@ -118,6 +121,7 @@ impl<A: Acts + Copy> Node<A> {
         ensures page { book.new.spare + length due.items ≡ book.old.spare }
         ensures here { (self.new.here ≡ self.old.here) × (self.new.localities ≡ self.old.localities) × (self.new.profile ≡ self.old.profile) }
         ensures running { self.new.running ≡ self.old.running }
+        ensures rest { OnlySends self.old self.new }
         ensures writes { book.new.entries ≡ book.old.entries ++ at_all self.old.here (written self.old.here self.old.serial due.items) }
     {
         while !due.is_empty() {
@@ -134,10 +138,29 @@ impl<A: Acts + Copy> Node<A> {
         ensures stands { Stands A.act_of self.new book.new.entries }
         ensures here { (self.new.here ≡ self.old.here) × (self.new.localities ≡ self.old.localities) × (self.new.profile ≡ self.old.profile) }
         ensures running { self.new.running ≡ self.old.running }
+        ensures rest { OnlySends self.old self.new }
         ensures writes { book.new.entries ≡ book.old.entries ++ at_all self.old.here (ups loose.items) }
     {
         while !loose.is_empty() {
             self.give_up(book, &mut loose);
         }
+    }
+
+    /// Writes all that a commit leaves: what is due, and then the ids that nobody names.
+    pub fn leave(&mut self, book: &mut Journal, due: VecDeque<Due>, loose: Vec<Gid>)
+        requires fit { AllByRecursion IsFitDue due.items }
+        requires credit { AllByRecursion HasCredit loose.items }
+        requires spare { length due.items + length loose.items ≤ self.old.spare }
+        requires page { length due.items + length loose.items ≤ book.old.spare }
+        requires few { self.old.serial + length due.items < 2 ^ 64 }
+        requires stands { StandsWith (rules_of A.act_of self.old.localities self.old.profile) self.old due.items loose.items book.old.entries }
+        ensures stands { Stands A.act_of self.new book.new.entries }
+        ensures here { (self.new.here ≡ self.old.here) × (self.new.localities ≡ self.old.localities) × (self.new.profile ≡ self.old.profile) }
+        ensures running { self.new.running ≡ self.old.running }
+        ensures rest { OnlySends self.old self.new }
+        ensures writes { book.new.entries ≡ book.old.entries ++ at_all self.old.here (written self.old.here self.old.serial due.items ++ ups loose.items) }
+    {
+        self.pay_all(book, due, loose.as_slice());
+        self.give_up_all(book, VecDeque::from_vec(loose));
     }
 }

@@ -6,7 +6,7 @@ ghost use Rattle.hpx_value.specs.Laws.{birth_state};
 ghost use Rattle.hpx_journal.specs.Entries.{name_of};
 ghost use Rattle.hpx_part.specs.Parts.{at_all};
 ghost use Rattle.hpx_part.specs.Data.{Done};
-ghost use Rattle.hpx_commit.specs.Deals.{Lasts, half, named};
+ghost use Rattle.hpx_commit.specs.Deals.{Lasts, AllLast, half, named};
 ghost use Rattle.hpx_node.specs.Births.{IsBirth, Makes, birth_of, births_of};
 ghost use Rattle.hpx_node.specs.Asks.{first_cuts};
 ghost use Rattle.hpx_node.specs.Commits.{cuts, splits_from};
@@ -15,7 +15,7 @@ ghost use Rattle.hpx_node.specs.Fit.{IsKept};
 use crate::kept::Kept;
 use crate::node::Node;
 use hpx_commit::deal::named;
-use hpx_commit::stock::halvings;
+use hpx_commit::stock::{Stock, halvings};
 use hpx_journal::entry::{Entry, Event};
 use hpx_journal::journal::Journal;
 use hpx_value::acts::Acts;
@@ -172,6 +172,24 @@ impl<A: Acts + Copy> Node<A> {
         while !births.is_empty() {
             self.bear(book, &mut births);
         }
+    }
+
+    /// Makes the objects that are about to be made, and halves the ids of a stock for those who name them.
+    pub fn make(&mut self, book: &mut Journal, births: VecDeque<Birth>, stock: &Stock)
+        requires fit { AllByRecursion IsBirth births.items }
+        requires few { self.old.births + length births.items < 2 ^ 32 }
+        requires short { length stock.now.hand ≤ 1024 }
+        requires lasts { AllLast stock.now.hand stock.now.places }
+        requires spare { length births.items ≤ self.old.spare }
+        requires page { length births.items + length (splits_from 0 stock.now.hand stock.now.places) ≤ book.old.spare }
+        ensures made { Makes births.items [] self.old self.new }
+        ensures spare { self.old.spare ≤ self.new.spare + length births.items }
+        ensures page { book.new.spare + (length births.items + length (splits_from 0 stock.now.hand stock.now.places)) ≡ book.old.spare }
+        ensures entries { book.new.entries ≡ book.old.entries
+            ++ at_all self.old.here (births_of self.old.here self.old.births births.items ++ splits_from 0 stock.now.hand stock.now.places) }
+    {
+        self.bear_all(book, births);
+        push_splits(book, self.here, stock.hand(), stock.places());
     }
 
     /// Commits the job itself: its action runs no more, and its object has the new state.

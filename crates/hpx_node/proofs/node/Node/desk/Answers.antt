@@ -1,9 +1,9 @@
-use Rattle.std.proofs.Common.{◌∷◌, ◌≡◌, ◌<◌, ◌∙◌, length, deque_len, get_or, arith, sym, ap}
+use Rattle.std.proofs.Common.{◌∷◌, ◌≡◌, ◌≤◌, ◌∙◌, get_or, sym, ap}
 use Rattle.hpx_journal.specs.Data.{Parcel}
 use Rattle.hpx_node.specs.Tables.{Tables}
+use Rattle.hpx_node.proofs.Continued.{ready_first, completes_first, given_mail, ready_gives, all_inside, all_may, is_continued}
 use Rattle.hpx_node.proofs.Spared.{spare_stands, mail_by, mail_near, first_own, first_stands, cleared}
 use Rattle.hpx_node.proofs.node.Node.desk.Goals as goal
-use Rattle.hpx_node.proofs.node.Node.desk.Goals.{in-Some-pop_front, in_default-pop_front}
 
 pub returns-then-is_err-clause-stands : goal.returns-then-is_err-clause-stands
 returns-then-is_err-clause-stands g c = spare_stands g.A.Acts.act_of _ _ _ _ c.reserve_turn.ensures.same c.requires.stands
@@ -40,33 +40,68 @@ enter_mail-requires-clause-stands g c =
     first_stands g.A.Acts.act_of _ c.into_parcel.result c.pop_front.new.self.items _ _
     (c.in-Some-pop_front.ensures.items ∙ ap (λ (q : Parcel). q ∷ c.pop_front.new.self.items) (sym c.into_parcel.ensures.parcel)) i
 
-pub returns-clause-stands : goal.returns-clause-stands
-returns-clause-stands g c =
-    let desk : c.self-2.inside.desk.items ≡ c.self.inside.desk.items =
-    ap (λ (t : Tables). t.desk) c.self-2.view_is
-    ∙ (ap (λ (t : Tables). t.desk) c.reserve_turn.ensures.same.tables ∙ ap (λ (t : Tables). t.desk) (sym c.self.view_is)) in
-    elim c.match-pop_front.branch [
-      | in-Some-pop_front w ↦ rw (w.self-is, w.book-is) w.enter_mail.ensures.stands
-      | in_default-pop_front w ↦
-          let some : 0 < deque_len c.self-2.inside.desk = omega (arith, ap length desk, c.len.ensures, c.if-len-eq0.false) in
-          absurd (let e = c.pop_front.ensures.value c.index.result.now some in let f = w.in_default-pop_front.is in cc)
-    ]
+pub go_on-requires-clause-waits : goal.go_on-requires-clause-waits
+go_on-requires-clause-waits g c =
+    let t = c.args.self.now in
+    let p = c.into_parcel.result in
+    let rest = c.pop_front.new.self.items in
+    let same = rw (← c.self-2.view_is) at c.reserve_turn.ensures.same in
+    let first = c.in-Some-pop_front.ensures.items ∙ ap (λ (q : Parcel). q ∷ c.pop_front.new.self.items) (sym c.into_parcel.ensures.parcel) in
+    let is = (rw (← c.parcel-2.ensures.parcel) at c.index-2.ensures) ∙ ap (λ (x : Tables). get_or x.desk 0 c.parcel-2.result.now) c.self.view_is in
+    let some = ready_first t _ p c.parcel-2.result.now rest c.in-Ok.ready same.tables first is c.in-Ok.ensures.some in
+    let gives = given_mail t _ c.enter_mail.new.self p rest _ same.tables c.enter_mail.ensures.accepts in
+    all_inside t t.taken _ rest c.enter_mail.new.self p c.in-Ok.ready some gives
+
+pub go_on-requires-clause-may : goal.go_on-requires-clause-may
+go_on-requires-clause-may g c =
+    let t = c.args.self.now in
+    let p = c.into_parcel.result in
+    let rest = c.pop_front.new.self.items in
+    let same = rw (← c.self-2.view_is) at c.reserve_turn.ensures.same in
+    let first = c.in-Some-pop_front.ensures.items ∙ ap (λ (q : Parcel). q ∷ c.pop_front.new.self.items) (sym c.into_parcel.ensures.parcel) in
+    let is = (rw (← c.parcel-2.ensures.parcel) at c.index-2.ensures) ∙ ap (λ (x : Tables). get_or x.desk 0 c.parcel-2.result.now) c.self.view_is in
+    let some = ready_first t _ p c.parcel-2.result.now rest c.in-Ok.ready same.tables first is c.in-Ok.ensures.some in
+    let gives = given_mail t _ c.enter_mail.new.self p rest _ same.tables c.enter_mail.ensures.accepts in
+    all_may t t.taken _ rest c.enter_mail.new.self p c.in-Ok.ready some gives
+
+pub go_on-requires-clause-spare : goal.go_on-requires-clause-spare
+go_on-requires-clause-spare g c =
+    let t = c.args.self.now in
+    let p = c.into_parcel.result in
+    let rest = c.pop_front.new.self.items in
+    let same = rw (← c.self-2.view_is) at c.reserve_turn.ensures.same in
+    let first = c.in-Some-pop_front.ensures.items ∙ ap (λ (q : Parcel). q ∷ c.pop_front.new.self.items) (sym c.into_parcel.ensures.parcel) in
+    let is = (rw (← c.parcel-2.ensures.parcel) at c.index-2.ensures) ∙ ap (λ (x : Tables). get_or x.desk 0 c.parcel-2.result.now) c.self.view_is in
+    let some = ready_first t _ p c.parcel-2.result.now rest c.in-Ok.ready same.tables first is c.in-Ok.ensures.some in
+    let gives = given_mail t _ c.enter_mail.new.self p rest _ same.tables c.enter_mail.ensures.accepts in
+    ready_gives (1024 ≤ c.enter_mail.new.self.spare) t p c.in-Ok.ready some (λ id entry e. c.enter_mail.ensures.spare id entry e)
+
+pub go_on-requires-clause-page : goal.go_on-requires-clause-page
+go_on-requires-clause-page g c =
+    let t = c.args.self.now in
+    let p = c.into_parcel.result in
+    let rest = c.pop_front.new.self.items in
+    let same = rw (← c.self-2.view_is) at c.reserve_turn.ensures.same in
+    let first = c.in-Some-pop_front.ensures.items ∙ ap (λ (q : Parcel). q ∷ c.pop_front.new.self.items) (sym c.into_parcel.ensures.parcel) in
+    let is = (rw (← c.parcel-2.ensures.parcel) at c.index-2.ensures) ∙ ap (λ (x : Tables). get_or x.desk 0 c.parcel-2.result.now) c.self.view_is in
+    let some = ready_first t _ p c.parcel-2.result.now rest c.in-Ok.ready same.tables first is c.in-Ok.ensures.some in
+    let gives = given_mail t _ c.enter_mail.new.self p rest _ same.tables c.enter_mail.ensures.accepts in
+    ready_gives (1024 ≤ c.enter_mail.new.book.spare) t p c.in-Ok.ready some (λ id entry e. c.enter_mail.ensures.page id entry e)
 
 pub returns-clause-cleared : goal.returns-clause-cleared
 returns-clause-cleared g c =
-    let told = rw (← c.self.view_is) at c.broken.ensures in
-    let same = rw (← c.self.view_is, ← c.self-2.view_is) at c.reserve_turn.ensures.same in
-    let is : c.parcel.result.now ≡ get_or c.self.inside.desk.items 0 c.parcel.result.now = rw (← c.parcel.ensures.parcel) at c.index.ensures in
-    let desk : c.self-2.inside.desk.items ≡ c.self.inside.desk.items =
-    ap (λ (t : Tables). t.desk) c.self-2.view_is
-    ∙ (ap (λ (t : Tables). t.desk) c.reserve_turn.ensures.same.tables ∙ ap (λ (t : Tables). t.desk) (sym c.self.view_is)) in
-    λ ok. elim c.match-pop_front.branch [
-      | in-Some-pop_front w ↦
-          rw (w.self-is, w.book-is, ← c.self.view_is)
-          (cleared _ _ _ _ _ w.into_parcel.result c.parcel.result.now c.pop_front.new.self.items _ c.broken.result _ same
-          (w.in-Some-pop_front.ensures.items ∙ ap (λ (q : Parcel). q ∷ c.pop_front.new.self.items) (sym w.into_parcel.ensures.parcel))
-          is told c.in_default.is w.enter_mail.ensures.writes w.enter_mail.ensures.accepts w.enter_mail.ensures.taken w.enter_mail.ensures.sent)
-      | in_default-pop_front w ↦
-          let some : 0 < deque_len c.self-2.inside.desk = omega (arith, ap length desk, c.len.ensures, c.if-len-eq0.false) in
-          absurd (let e = c.pop_front.ensures.value c.index.result.now some in let f = w.in_default-pop_front.is in cc)
-    ]
+    let t = c.args.self.now in
+    let p = c.into_parcel.result in
+    let rest = c.pop_front.new.self.items in
+    let same = rw (← c.self-2.view_is) at c.reserve_turn.ensures.same in
+    let first = c.in-Some-pop_front.ensures.items ∙ ap (λ (q : Parcel). q ∷ c.pop_front.new.self.items) (sym c.into_parcel.ensures.parcel) in
+    let is = (rw (← c.parcel-2.ensures.parcel) at c.index-2.ensures) ∙ ap (λ (x : Tables). get_or x.desk 0 c.parcel-2.result.now) c.self.view_is in
+    let some = ready_first t _ p c.parcel-2.result.now rest c.in-Ok.ready same.tables first is c.in-Ok.ensures.some in
+    let gives = given_mail t _ c.enter_mail.new.self p rest _ same.tables c.enter_mail.ensures.accepts in
+    let none = completes_first t _ p c.parcel-2.result.now rest c.in-Ok.ready same.tables first is c.in-Ok.ensures.none in
+    let k = is_continued t t.taken _ rest c.enter_mail.new.self c.go_on.new.self c.enter_mail.new.book.entries c.go_on.new.book.entries p c.in-Ok.ready
+    some none gives c.go_on.ensures.running c.go_on.ensures.none c.go_on.ensures.pending c.go_on.ensures.writes in
+    let looked = (rw (← c.parcel.ensures.parcel) at c.index.ensures) ∙ ap (λ (x : Tables). get_or x.desk 0 c.parcel.result.now) c.self.view_is in
+    λ ok. cleared t _ c.enter_mail.new.self _ _ p c.parcel.result.now rest _ c.broken.result c.enter_mail.new.book.entries same first looked c.broken.ensures
+    c.in_default.is c.enter_mail.ensures.writes c.enter_mail.ensures.accepts c.enter_mail.ensures.taken c.enter_mail.ensures.sent
+    c.go_on.new.self k.more c.go_on.new.book.entries k.continues k.writes c.go_on.ensures.taken c.go_on.ensures.sent

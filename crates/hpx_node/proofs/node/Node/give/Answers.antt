@@ -45,11 +45,13 @@ pub returns-clause-gives : goal.returns-clause-gives
 returns-clause-gives g c =
     let inside : c.in-Some.i < length c.self.inside.pending.items = rw (c.as_slice.ensures.value) at c.in-Some.ensures.inside in
     let there = slice_get_is c.self.inside.pending.items c.in-Some.i c.index_mut.result.now inside c.index_mut.ensures.value in
+    let alone = rw (c.as_slice.ensures.value) at c.in-Some.ensures.first in
     rw (← c.self.view_is) (record {
       i = c.in-Some.i;
       before = c.index_mut.result.now;
       after = c.refill.new.self;
       there = there;
+      first = alone;
       refills = c.refill.ensures;
       rest = refl;
     })
@@ -60,5 +62,6 @@ returns-clause-handles g c =
     let brings = rw (← c.self.view_is) at c.requires.brings in
     let inside : c.in-Some.i < length c.self.inside.pending.items = rw (c.as_slice.ensures.value) at c.in-Some.ensures.inside in
     let there = slice_get_is c.self.inside.pending.items c.in-Some.i c.index_mut.result.now inside c.index_mut.ensures.value in
+    let alone = rw (c.as_slice.ensures.value) at c.in-Some.ensures.first in
     rw (← c.self.view_is)
-    (gives_handles g.A.Acts.act_of _ c.args.id c.args.entry c.in-Some.i _ c.index_mut.result.now c.refill.new.self tidy c.requires.credit brings there c.refill.ensures)
+    (gives_handles g.A.Acts.act_of _ c.args.id c.args.entry c.in-Some.i _ c.index_mut.result.now c.refill.new.self tidy c.requires.credit brings there alone c.refill.ensures)

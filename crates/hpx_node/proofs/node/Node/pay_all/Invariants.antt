@@ -1,6 +1,7 @@
 use Rattle.std.proofs.Common.{◌≡◌, ◌≤◌, ◌<◌, ◌+◌, ◌++◌, ◌^◌, length}
 use Rattle.std.specs.List.{AllByRecursion}
 use Rattle.hpx_part.specs.Parts.{at_all}
+use Rattle.hpx_node.specs.Changes.{OnlySends}
 use Rattle.hpx_node.specs.Commits.{written}
 use Rattle.hpx_node.specs.Fit.{IsFitDue}
 use Rattle.hpx_node.specs.Stands.{StandsWith, rules_of}
@@ -18,6 +19,7 @@ invariant-loop-self g l = record {
   stands : StandsWith (rules_of g.A.Acts.act_of l.self.localities l.self.profile) l.self l.due.items l.loose l.book.entries;
   here : (l.self.here ≡ l.fn.self.here) × (l.self.localities ≡ l.fn.self.localities) × (l.self.profile ≡ l.fn.self.profile);
   running : l.self.running ≡ l.fn.self.running;
+  rest : OnlySends l.fn.self l.self;
   writes : l.book.entries ++ at_all l.self.here (written l.self.here l.self.serial l.due.items)
       ≡ l.fn.book.entries ++ at_all l.fn.self.here (written l.fn.self.here l.fn.self.serial l.fn.due.items);
 }

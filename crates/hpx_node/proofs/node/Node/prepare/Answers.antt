@@ -1,4 +1,5 @@
-use Rattle.std.proofs.Common.{false, ◌≡◌, arith}
+use Rattle.std.proofs.Common.{true, false, ◌≡◌, arith}
+use Rattle.hpx_node.proofs.PlanLimits.{own_is}
 use Rattle.hpx_node.proofs.Prepared.{makes_managed, hand_few, hand_within}
 use Rattle.hpx_node.proofs.node.Node.prepare.Goals as goal
 
@@ -31,17 +32,12 @@ returns-then-not-all_last-clause-none g c =
     let test = rw (c.as_slice-3.ensures.value, c.in_ok-places.ensures, c.ids.ensures, c.in_ok-hand.ensures.0, c.in_ok-hand.ensures.1, c.in_ok-hand.ensures.2, c.as_slice-2.ensures.value, c.in_ok-made.ensures, c.as_slice.ensures, c.job-job.ensures, c.outcome-outcome.ensures) at c.all_last.ensures in
     λ last. let yes = test.1 last in let no : c.all_last.result ≡ false = c.if-not-all_last.true in cc
 
-pub plan_commit-requires-clause-few : goal.plan_commit-requires-clause-few
-plan_commit-requires-clause-few g c =
+pub prepare_from-requires-clause-stock : goal.prepare_from-requires-clause-stock
+prepare_from-requires-clause-stock g c =
     let d = c.args.done.now in
-    let t = c.args.self.now in
-    let few = hand_few d.localities d.job d.outcome c.lawful.ensures c.requires.fit t.here t.births t.profile.credit_log in
-    rw (c.in_ok-hand.ensures.0, c.in_ok-hand.ensures.1, c.in_ok-hand.ensures.2, c.as_slice-2.ensures.value, c.in_ok-made.ensures, c.as_slice.ensures, c.job-job.ensures, c.outcome-outcome.ensures)
-    (omega (arith, few))
-
-pub plan_commit-requires-clause-within : goal.plan_commit-requires-clause-within
-plan_commit-requires-clause-within g c =
-    let d = c.args.done.now in
-    let t = c.args.self.now in
-    rw (c.as_slice-4.ensures.value, c.in_ok-places.ensures, c.in_ok-hand.ensures.0, c.in_ok-hand.ensures.1, c.in_ok-hand.ensures.2, c.as_slice-2.ensures.value, c.in_ok-made.ensures, c.as_slice.ensures, c.job-job.ensures, c.outcome-outcome.ensures)
-    (hand_within d.localities d.job d.outcome c.lawful.ensures c.requires.fit t.here t.births t.profile.credit_log)
+    let t = record c.args.self.now { localities = d.localities } in
+    let test = rw (c.as_slice-3.ensures.value, c.in_ok-places.ensures, c.ids.ensures, c.in_ok-hand.ensures.0, c.in_ok-hand.ensures.1, c.in_ok-hand.ensures.2, c.as_slice-2.ensures.value, c.in_ok-made.ensures, c.as_slice.ensures, c.job-job.ensures, c.outcome-outcome.ensures) at c.all_last.ensures in
+    let is : c.all_last.result ≡ true = let no = c.if-not-all_last.false in cc in
+    let own = own_is t d.job d.outcome c.requires.fit c.requires.localities c.lawful.ensures (test.0 is) in
+    rw (c.in_ok-stock.ensures, c.ids-2.ensures, c.as_slice-4.ensures.value, c.in_ok-places.ensures, c.in_ok-hand.ensures.0, c.in_ok-hand.ensures.1, c.in_ok-hand.ensures.2, c.as_slice-2.ensures.value, c.in_ok-made.ensures, c.as_slice.ensures, c.job-job.ensures, c.outcome-outcome.ensures)
+    (record { names = own.names; credit = own.credit; few = own.few; lasts = own.lasts })

@@ -1,0 +1,332 @@
+-- A commit that was prepared before its last credit came goes on with it.
+use Rattle.std.proofs.Common.{ℕ, zero, suc, Bool, true, false, cond, List, [], ◌∷◌, ◌≡◌, ◌<◌, ◌+◌, ◌==◌, ◌&&◌, not, Option, Some, None, set, take, length, append-nil, get_or, refl, sym, ap, ◌∙◌, arith, inl, inr, subst}
+use Rattle.std.specs.Prelude.{is_some, IfSome, IfNone}
+use Rattle.std.specs.List.{find, list_any, slice_get, remove}
+use Rattle.std.proofs.lemmas.Bool.{cases_Bool, eqb-true, eq-eqb}
+use Rattle.hpx_value.specs.Ids.{bare}
+use Rattle.hpx_value.specs.declared.acts.Job.{Job}
+use Rattle.hpx_journal.specs.Data.{Id, Outcome, Parcel, Apply, Return, Ask, Give, Cached, Move, Go, Shipped, Arrived, Free}
+use Rattle.hpx_journal.proofs.Same.{and_true}
+use Rattle.hpx_part.proofs.Keyed.{slice_get_less}
+use Rattle.hpx_commit.specs.Deals.{log_of}
+use Rattle.hpx_node.specs.declared.node.finish.Prepared.{Prepared}
+use Rattle.hpx_node.specs.declared.node.resume.Ready.{Ready}
+use Rattle.hpx_part.specs.Data.{Event, Entry}
+use Rattle.hpx_node.specs.Commits.{committed_from, IsPrepared}
+use Rattle.hpx_node.specs.Pending.{Waits, Asked, awaits, is_asked_for, waits_for_one, put_for, hand_with, Refills}
+use Rattle.hpx_node.specs.Changes.{Writes}
+use Rattle.hpx_node.specs.Resumes.{may_go_on, stock_with, full_stock, is_last, completes, MayResume, IsReady, IsReadyFor, Continues}
+use Rattle.hpx_node.specs.Routes.{Gives, DealsWith, Accepts}
+use Rattle.hpx_node.specs.Tables.{Tables}
+use Rattle.hpx_node.proofs.Alls.{some_same}
+
+-- ---- lists
+
+any_at : {X : Type 0} (p : X → Bool) (xs : List X) (i : ℕ) (x : X) → slice_get xs i ≡ Some x → p x ≡ true → list_any p xs ≡ true
+any_at p [] i x h t = cc
+any_at p (y ∷ xs) zero x h t = let e : p y ≡ true = ap p (some_same y x h) ∙ t in rw e refl
+any_at p (y ∷ xs) (suc i) x h t = elim (cases_Bool (p y)) [
+  | inl a ↦ rw a refl
+  | inr f ↦ rw f (any_at p xs i x h t)
+]
+
+-- the first that passes is at one place
+pub first_same : {X : Type 0} (p : X → Bool) (xs : List X) (i k : ℕ) (x y : X) → slice_get xs i ≡ Some x → slice_get xs k ≡ Some y → p x ≡ true → p y ≡ true
+    → find p (take i xs) ≡ None → find p (take k xs) ≡ None → i ≡ k
+first_same p [] i k x y h g s t a b = cc
+first_same p (z ∷ xs) zero zero x y h g s t a b = refl
+first_same p (z ∷ xs) zero (suc k) x y h g s t a b =
+    let e : p z ≡ true = ap p (some_same z x h) ∙ s in absurd (let f : Some z ≡ None = rw e at b in cc)
+first_same p (z ∷ xs) (suc i) zero x y h g s t a b =
+    let e : p z ≡ true = ap p (some_same z y g) ∙ t in absurd (let f : Some z ≡ None = rw e at a in cc)
+first_same p (z ∷ xs) (suc i) (suc k) x y h g s t a b = elim (cases_Bool (p z)) [
+  | inl e ↦ absurd (let f : Some z ≡ None = rw e at a in cc)
+  | inr e ↦ ap suc (first_same p xs i k x y h g s t (rw e at a) (rw e at b))
+]
+
+get_set : {X : Type 0} (xs : List X) (i : ℕ) (x : X) → i < length xs → slice_get (set xs i x) i ≡ Some x
+get_set [] i x lt = absurd (omega (arith, lt))
+get_set (y ∷ xs) zero x lt = refl
+get_set (y ∷ xs) (suc i) x lt = get_set xs i x (omega (arith, lt))
+
+pub less_long : {X : Type 0} (xs : List X) (i : ℕ) (x : X) → slice_get xs i ≡ Some x → length (remove xs i) + 1 ≡ length xs
+less_long [] i x h = cc
+less_long (y ∷ xs) zero x h = omega arith
+less_long (y ∷ xs) (suc i) x h = omega (arith, less_long xs i x h)
+
+pub none_some : (o : Option Id) → not (is_some o) ≡ true → o ≡ None
+none_some None h = refl
+none_some (Some x) h = absurd (cc)
+
+pub off : (b : Bool) → not b ≡ true → b ≡ false
+off true h = absurd (cc)
+off false h = refl
+
+set_long : {X : Type 0} (xs : List X) (i : ℕ) (x : X) → length (set xs i x) ≡ length xs
+set_long [] i x = refl
+set_long (y ∷ xs) zero x = refl
+set_long (y ∷ xs) (suc i) x = ap suc (set_long xs i x)
+
+-- ---- a commit that gets the last that it waits for
+
+module _ (id : Id) (entry : ℕ) (w w' : Waits) (refills : Refills id entry w w') (last : is_last id (Some w) ≡ true) where
+  parts : (not (log_of id.log == 0) ≡ true) × (waits_for_one w ≡ true)
+  parts = and_true (not (log_of id.log == 0)) (waits_for_one w) last
+
+  some_log : (log_of id.log == 0) ≡ false
+  some_log = off (log_of id.log == 0) parts.0
+
+  one_asked : (length w.asked == 1) ≡ true
+  one_asked = (and_true (length w.asked == 1) (not (is_some w.refused)) parts.1).0
+
+  none_refused : w.refused ≡ None
+  none_refused = none_some w.refused (and_true (length w.asked == 1) (not (is_some w.refused)) parts.1).1
+
+  asked_then : length w'.asked ≡ 0
+  asked_then = omega (
+    arith,
+    ap (λ (v : Waits). length v.asked) refills.now,
+    less_long w.asked refills.k refills.ask refills.there,
+    eqb-true (length w.asked) 1 one_asked,
+  )
+
+  refused_then : w'.refused ≡ None
+  refused_then = ap (λ (v : Waits). v.refused) refills.now ∙ (ap (λ b. cond b (Some (bare id)) w.refused) some_log ∙ none_refused)
+
+  pub complete_then : may_go_on w' ≡ true
+  complete_then = ap (λ b. b && not (is_some w'.refused)) (eq-eqb (length w'.asked) 0 asked_then) ∙ ap (λ o. not (is_some o)) refused_then
+
+  pub hand_then : w'.hand ≡ hand_with id entry w
+  hand_then = ap (λ (v : Waits). v.hand) refills.now ∙ sym (ap (put_for w.hand id) refills.first)
+
+  pub asks_for : awaits id entry w ≡ true
+  asks_for = any_at (is_asked_for w id entry) w.asked refills.k refills.ask refills.there refills.for
+
+  -- its job, its outcome and its places are the same
+  pub rest_then : w' ≡ record w { hand = w'.hand; asked = w'.asked; refused = w'.refused }
+  rest_then =
+      refills.now
+      ∙ (ap (λ xs. record w { hand = xs; asked = remove w.asked refills.k; refused = cond (log_of id.log == 0) (Some (bare id)) w.refused }) (sym (ap (λ (v : Waits). v.hand) refills.now))
+      ∙ (ap (λ xs. record w { hand = w'.hand; asked = xs; refused = cond (log_of id.log == 0) (Some (bare id)) w.refused }) (sym (ap (λ (v : Waits). v.asked) refills.now))
+      ∙ ap (λ o. record w { hand = w'.hand; asked = w'.asked; refused = o }) (sym (ap (λ (v : Waits). v.refused) refills.now))))
+
+-- ---- once it is given
+
+-- what was prepared is so whatever was taken and waits
+prepared_on : (t : Tables) (job : Job) (out : Outcome) (p : Prepared) (n s : ℕ) (d : List Parcel) (ws : List Waits) → IsPrepared t job out p
+    → IsPrepared (record t { taken = n; desk = d; pending = ws; spare = s }) job out p
+prepared_on t job out p n s d ws is = record {
+  births = is.births;
+  stock = record { names = is.stock.names; credit = is.stock.credit; few = is.stock.few; lasts = is.stock.lasts };
+  state_left = is.state_left;
+  due_left = is.due_left;
+  ups_left = is.ups_left;
+}
+
+module _ (t : Tables) (n k : ℕ) (d : List Parcel) (mid : Tables) (id : Id) (entry : ℕ) (y : Ready) (ready : IsReady t id entry y)
+    (g : Gives id entry (record t { taken = n; desk = d; spare = k }) mid) where
+  g_for : awaits id entry g.before ≡ true
+  g_for = any_at (is_asked_for g.before id entry) g.before.asked g.refills.k g.refills.ask g.refills.there g.refills.for
+
+  pub same_place : g.i ≡ y.i
+  same_place = first_same (awaits id entry) t.pending g.i y.i g.before ready.before g.there ready.there g_for ready.for g.first ready.first
+
+  same_before : g.before ≡ ready.before
+  same_before = some_same g.before ready.before (sym g.there ∙ (ap (slice_get t.pending) same_place ∙ ready.there))
+
+  refills : Refills id entry ready.before g.after
+  refills = subst (λ v. Refills id entry v g.after) same_before g.refills
+
+  mid_is : mid ≡ record t { taken = n; desk = d; pending = set t.pending g.i g.after; spare = mid.spare }
+  mid_is = g.rest
+
+  inside : g.i < length t.pending
+  inside = slice_get_less t.pending g.i g.before g.there
+
+  pub now_there : slice_get mid.pending g.i ≡ Some g.after
+  now_there = ap (λ (x : Tables). slice_get x.pending g.i) mid_is ∙ get_set t.pending g.i g.after inside
+
+  pub waits_inside : y.i < length mid.pending
+  waits_inside = omega (
+    arith,
+    inside,
+    same_place,
+    ap (λ (x : Tables). length x.pending) mid_is,
+    set_long t.pending g.i g.after,
+  )
+
+  abbrev given_to : List Id → List Asked → Option Id → Waits
+  given_to hand asked refused = record ready.before { hand = hand; asked = asked; refused = refused }
+
+  may_then : (hand : List Id) (asked : List Asked) (refused : Option Id) → may_go_on (record ready.before { hand = hand; asked = asked; refused = refused }) ≡ true
+      → hand ≡ hand_with id entry ready.before
+      → MayResume (record t { taken = n; desk = d; pending = set t.pending g.i g.after; spare = mid.spare }) (record ready.before { hand = hand; asked = asked; refused = refused }) y.j y.prepared
+  may_then hand asked refused complete is = record {
+    complete = complete;
+    object = ready.object;
+    prepared = prepared_on t ready.before.job ready.before.outcome y.prepared n mid.spare d (set t.pending g.i g.after) ready.prepared;
+    stock = ready.stock ∙ ap (stock_with t ready.before) (sym is);
+  }
+
+  pub complete_now : may_go_on g.after ≡ true
+  complete_now = complete_then id entry ready.before g.after refills ready.last
+
+  after_is : g.after ≡ record ready.before { hand = g.after.hand; asked = g.after.asked; refused = g.after.refused }
+  after_is = rest_then id entry ready.before g.after refills ready.last
+
+  may_after : MayResume mid g.after y.j y.prepared
+  may_after =
+      subst (λ (x : Tables). MayResume x g.after y.j y.prepared) (sym mid_is)
+      (subst (λ (v : Waits). MayResume (record t { taken = n; desk = d; pending = set t.pending g.i g.after; spare = mid.spare }) v y.j y.prepared) (sym after_is)
+      (may_then g.after.hand g.after.asked g.after.refused (subst (λ (v : Waits). may_go_on v ≡ true) after_is complete_now)
+      (hand_then id entry ready.before g.after refills ready.last)))
+
+  pub may_given : (w : Waits) → slice_get mid.pending y.i ≡ Some w → MayResume mid w y.j y.prepared
+  may_given w h =
+      let e : g.after ≡ w = some_same g.after w (sym now_there ∙ (ap (slice_get mid.pending) same_place ∙ h)) in
+      subst (λ v. MayResume mid v y.j y.prepared) e may_after
+
+-- ---- by the message
+
+-- only a Give makes one ready
+only_give : (t : Tables) (p : Parcel) (y : Ready) → IsReadyFor t p y → (P : Type 0)
+    → ((id : Id) (entry : ℕ) → p ≡ Give id entry → IsReady t id entry y → P) → P
+only_give t (Give id entry) y ready P h = h id entry refl ready
+only_give t (Apply act) y ready P h = absurd ready
+only_give t (Return id) y ready P h = absurd ready
+only_give t (Ask id asker entry) y ready P h = absurd ready
+only_give t (Cached id place) y ready P h = absurd ready
+only_give t (Move act) y ready P h = absurd ready
+only_give t (Go act) y ready P h = absurd ready
+only_give t (Shipped act state) y ready P h = absurd ready
+only_give t (Arrived id place) y ready P h = absurd ready
+only_give t (Free o) y ready P h = absurd ready
+
+-- where it is a Give, it is given
+abbrev pub IsGiven : Parcel → Tables → Tables → Type 0
+IsGiven p t mid = (id : Id) (entry : ℕ) → p ≡ Give id entry → Gives id entry t mid
+
+pub given_frame : (t s mid : Tables) (p : Parcel) → s ≡ record t { spare = s.spare } → DealsWith p (record s { taken = s.taken + 1 }) mid
+    → IsGiven p (record t { taken = t.taken + 1; desk = t.desk; spare = s.spare }) mid
+given_frame t s mid p same deals id entry e =
+    subst (λ (u : Tables). Gives id entry (record u { taken = u.taken + 1 }) mid) same
+    (subst (λ q. DealsWith q (record s { taken = s.taken + 1 }) mid) e deals)
+
+pub given_mail : (t s mid : Tables) (p : Parcel) (rest : List Parcel) (k : ℕ) → s ≡ record t { spare = s.spare }
+    → Accepts p (record s { desk = rest; spare = k }) mid → IsGiven p (record t { taken = t.taken; desk = rest; spare = k }) mid
+given_mail t s mid p rest k same accepts id entry e =
+    subst (λ (u : Tables). Gives id entry (record u { desk = rest; spare = k }) mid) same
+    (subst (λ q. Accepts q (record s { desk = rest; spare = k }) mid) e accepts)
+
+-- the message that was looked at is the one that is taken up
+pub ready_first : (t m : Tables) (p q : Parcel) (rest : List Parcel) (o : Option Ready) → m ≡ record t { spare = m.spare } → m.desk ≡ p ∷ rest
+    → q ≡ get_or t.desk 0 q → IfSome o (IsReadyFor t q) → IfSome o (IsReadyFor t p)
+ready_first t m p q rest o same first is ready =
+    subst (λ x. IfSome o (IsReadyFor t x)) (is ∙ ap (λ (d : List Parcel). get_or d 0 q) (sym (ap (λ (u : Tables). u.desk) same) ∙ first)) ready
+
+pub completes_first : (t m : Tables) (p q : Parcel) (rest : List Parcel) (o : Option Ready) → m ≡ record t { spare = m.spare } → m.desk ≡ p ∷ rest
+    → q ≡ get_or t.desk 0 q → IfNone o (completes t q ≡ false) → IfNone o (completes t p ≡ false)
+completes_first t m p q rest o same first is none =
+    subst (λ x. IfNone o (completes t x ≡ false)) (is ∙ ap (λ (d : List Parcel). get_or d 0 q) (sym (ap (λ (u : Tables). u.desk) same) ∙ first)) none
+
+pub ready_gives : (P : Type 0) (t : Tables) (p : Parcel) (o : Option Ready) → IfSome o (IsReadyFor t p)
+    → ((id : Id) (entry : ℕ) → p ≡ Give id entry → P) → IfSome o (λ y. P)
+ready_gives P t p None ready h = tt
+ready_gives P t p (Some y) ready h = only_give t p y ready P (λ id entry e is. h id entry e)
+
+pub all_inside : (t : Tables) (n k : ℕ) (d : List Parcel) (mid : Tables) (p : Parcel) (o : Option Ready) → IfSome o (IsReadyFor t p)
+    → IsGiven p (record t { taken = n; desk = d; spare = k }) mid → IfSome o (λ y. y.i < length mid.pending)
+all_inside t n k d mid p None ready gives = tt
+all_inside t n k d mid p (Some y) ready gives =
+    only_give t p y ready (y.i < length mid.pending) (λ id entry e is. waits_inside t n k d mid id entry y is (gives id entry e))
+
+pub all_may : (t : Tables) (n k : ℕ) (d : List Parcel) (mid : Tables) (p : Parcel) (o : Option Ready) → IfSome o (IsReadyFor t p)
+    → IsGiven p (record t { taken = n; desk = d; spare = k }) mid
+    → IfSome o (λ y. (w : Waits) → slice_get mid.pending y.i ≡ Some w → MayResume mid w y.j y.prepared)
+all_may t n k d mid p None ready gives = tt
+all_may t n k d mid p (Some y) ready gives = λ w h.
+    only_give t p y ready (MayResume mid w y.j y.prepared) (λ id entry e is. may_given t n k d mid id entry y is (gives id entry e) w h)
+
+-- what goes on, and what it writes
+pub record IsContinued (p : Parcel) (t mid t' : Tables) (entries entries' : List Entry) : Type 0 where
+  pub more : List Event
+  pub continues : Continues p t mid t' more
+  pub writes : Writes more mid t' entries entries'
+
+find_at : {X : Type 0} (p : X → Bool) (xs : List X) (i : ℕ) (x : X) → slice_get xs i ≡ Some x → p x ≡ true → find p (take i xs) ≡ None → find p xs ≡ Some x
+find_at p [] i x h t none = cc
+find_at p (z ∷ xs) zero x h t none = let e : p z ≡ true = ap p (some_same z x h) ∙ t in rw e h
+find_at p (z ∷ xs) (suc i) x h t none = elim (cases_Bool (p z)) [
+  | inl e ↦ absurd (let f : Some z ≡ None = rw e at none in cc)
+  | inr e ↦ rw e (find_at p xs i x h t (rw e at none))
+]
+
+module _ (t : Tables) (n k : ℕ) (d : List Parcel) (mid : Tables) (id : Id) (entry : ℕ) (y : Ready) (ready : IsReady t id entry y)
+    (g : Gives id entry (record t { taken = n; desk = d; spare = k }) mid) (t' : Tables) (entries entries' : List Entry)
+    (running : t'.running ≡ mid.running) (pending : t'.pending ≡ remove mid.pending y.i)
+    (writes : (w : Waits) → slice_get mid.pending y.i ≡ Some w
+    → Writes (committed_from mid w.job w.outcome (full_stock mid w)) mid t' entries entries') where
+  completes_is : is_last id (find (awaits id entry) t.pending) ≡ true
+  completes_is = ap (is_last id) (find_at (awaits id entry) t.pending y.i ready.before ready.there ready.for ready.first) ∙ ready.last
+
+  place_is : g.i ≡ y.i
+  place_is = same_place t n k d mid id entry y ready g
+
+  there_now : slice_get mid.pending y.i ≡ Some g.after
+  there_now = sym (ap (slice_get mid.pending) place_is) ∙ now_there t n k d mid id entry y ready g
+
+  given_continued : IsContinued (Give id entry) (record t { taken = n; desk = d }) mid t' entries entries'
+  given_continued = record {
+    more = committed_from mid g.after.job g.after.outcome (full_stock mid g.after);
+    continues = record {
+      rests = λ no. absurd (let e : true ≡ false = sym completes_is ∙ no in cc);
+      goes = λ yes. record {
+        gives = record { i = g.i; before = g.before; after = g.after; there = g.there; first = g.first; refills = g.refills; rest = g.rest };
+        goes = record { what = refl; pending = pending ∙ ap (remove mid.pending) (sym place_is); running = running };
+      };
+    };
+    writes = writes g.after there_now;
+  }
+
+-- where none is ready, nothing more is written
+none_continued : (p : Parcel) (t mid t' : Tables) (entries entries' : List Entry) → completes t p ≡ false → t' ≡ mid → entries' ≡ entries
+    → IsContinued p t mid t' entries entries'
+none_continued p t mid t' entries entries' none same still = record {
+  more = [];
+  continues = record {
+    rests = λ no. (same, refl);
+    goes = λ yes. absurd (let e : true ≡ false = sym yes ∙ none in cc);
+  };
+  writes = record {
+    here = ap (λ (x : Tables). x.here) same;
+    localities = ap (λ (x : Tables). x.localities) same;
+    profile = ap (λ (x : Tables). x.profile) same;
+    grows = still ∙ sym (append-nil entries);
+  };
+}
+
+completes_same : (p : Parcel) (t : Tables) (n : ℕ) (d : List Parcel) → completes (record t { taken = n; desk = d }) p ≡ completes t p
+completes_same (Give id entry) t n d = refl
+completes_same (Apply act) t n d = refl
+completes_same (Return id) t n d = refl
+completes_same (Ask id asker entry) t n d = refl
+completes_same (Cached id place) t n d = refl
+completes_same (Move act) t n d = refl
+completes_same (Go act) t n d = refl
+completes_same (Shipped act state) t n d = refl
+completes_same (Arrived id place) t n d = refl
+completes_same (Free o) t n d = refl
+
+module _ (t : Tables) (n k : ℕ) (d : List Parcel) (mid t' : Tables) (entries entries' : List Entry) where
+  pub is_continued : (p : Parcel) (o : Option Ready) → IfSome o (IsReadyFor t p) → IfNone o (completes t p ≡ false)
+      → IsGiven p (record t { taken = n; desk = d; spare = k }) mid → t'.running ≡ mid.running
+      → IfNone o ((t' ≡ mid) × (entries' ≡ entries)) → IfSome o (λ y. t'.pending ≡ remove mid.pending y.i)
+      → IfSome o (λ y. (w : Waits) → slice_get mid.pending y.i ≡ Some w
+      → Writes (committed_from mid w.job w.outcome (full_stock mid w)) mid t' entries entries')
+      → IsContinued p (record t { taken = n; desk = d }) mid t' entries entries'
+  is_continued p None some none gives running same pending writes =
+      none_continued p (record t { taken = n; desk = d }) mid t' entries entries' (completes_same p t n d ∙ none) same.0 same.1
+  is_continued p (Some y) some none gives running same pending writes =
+      only_give t p y some (IsContinued p (record t { taken = n; desk = d }) mid t' entries entries')
+      (λ id entry e is. subst (λ q. IsContinued q (record t { taken = n; desk = d }) mid t' entries entries') (sym e)
+      (given_continued t n k d mid id entry y is (gives id entry e) t' entries entries' running pending writes))

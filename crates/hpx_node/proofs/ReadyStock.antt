@@ -1,0 +1,107 @@
+-- With the last credit in its place, what a commit deals may be dealt.
+use Rattle.std.proofs.Common.{ℕ, suc, Bool, true, false, cond, List, [], ◌∷◌, ◌≡◌, ◌≤◌, ◌<◌, ◌+◌, ◌==◌, ◌&&◌, ◌⊎◌, not, Option, Some, None, set, length, refl, sym, ap, ◌∙◌, arith, inl, inr, subst}
+use Rattle.std.specs.Prelude.{is_some}
+use Rattle.std.specs.List.{find, list_any, slice_get, remove}
+use Rattle.std.proofs.lemmas.Bool.{cases_Bool, eqb-true, ne_eqb}
+use Rattle.hpx_value.specs.Ids.{bare}
+use Rattle.hpx_value.specs.Hands.{id_at}
+use Rattle.hpx_value.specs.Laws.{KeepsLaws}
+use Rattle.hpx_parcel.specs.Parcels.{HasCredit}
+use Rattle.hpx_journal.specs.Data.{Id}
+use Rattle.hpx_journal.proofs.Same.{and_true}
+use Rattle.hpx_part.specs.Data.{Standing}
+use Rattle.hpx_commit.specs.Deals.{is_managed, log_of}
+use Rattle.hpx_commit.specs.Stocks.{Lasting}
+use Rattle.hpx_node.specs.Commits.{IsStock, made_of}
+use Rattle.hpx_node.specs.Paused.{first_stock, IsShort, IsPaused}
+use Rattle.hpx_node.specs.Pending.{Waits, ids_named, is_asked, awaits, is_asked_for, waits_for_one, refilled, hand_with, put_for}
+use Rattle.hpx_node.specs.Resumes.{stock_with, is_last}
+use Rattle.hpx_node.specs.Strange.{brings_right}
+use Rattle.hpx_node.specs.Tables.{Tables}
+use Rattle.hpx_node.proofs.Continued.{less_long, none_some, off}
+use Rattle.hpx_node.proofs.HasCome.{come_stock, come_long, come_short, waits_managed}
+use Rattle.hpx_node.proofs.Refilled.{still_paused}
+use Rattle.hpx_node.proofs.WaitsCommit.{none_long, not_asked}
+
+-- what passes is found at a place
+pub record Found {X : Type 0} (p : X → Bool) (xs : List X) : Type 0 where
+  pub k : ℕ
+  pub x : X
+  pub there : slice_get xs k ≡ Some x
+  pub passes : p x ≡ true
+  pub found : find p xs ≡ Some x
+
+pub any_place : {X : Type 0} (p : X → Bool) (xs : List X) → list_any p xs ≡ true → Found p xs
+any_place p [] h = absurd (cc)
+any_place p (x ∷ xs) h = elim (cases_Bool (p x)) [
+  | inl t ↦ record { k = 0; x = x; there = refl; passes = t; found = rw t refl }
+  | inr f ↦ let rest = any_place p xs (rw f at h) in record { k = suc rest.k; x = rest.x; there = rest.there; passes = rest.passes; found = rw f rest.found }
+]
+
+-- an id that did not last came with the credit of a new object
+module _ (here n log : ℕ) (objects : List Standing) (w : Waits) (paused : IsPaused here n log objects w) (none : w.asked ≡ []) (given : w.refused ≡ None) where
+  has_come : (p : ℕ) → p < length (ids_named w) → (Lasting (first_stock w paused.split.made) p → ⊥) → is_managed (id_at w.hand p) ≡ true
+      → IsShort log w.refused (id_at w.hand p) → (id_at w.hand p).log ≡ Some log
+  has_come p lt h managed (inl bare) =
+      let yes : is_asked (id_at w.hand p) ≡ true = ap (λ (l : Option ℕ). is_managed (id_at w.hand p) && not (is_some l)) bare ∙ ap (λ b. b && true) managed in
+      absurd (let e : true ≡ false = sym yes ∙ not_asked here n log objects w paused none p lt in cc)
+  has_come p lt h managed (inr (inl more)) = more
+  has_come p lt h managed (inr (inr least)) = absurd (least.1 given)
+
+module _ (t : Tables) (w : Waits) (id : Id) (entry : ℕ) (paused : IsPaused t.here t.localities t.profile.credit_log t.objects w) (few : t.localities ≤ 64)
+    (laws : KeepsLaws t.localities w.job.kind w.job.at w.job.state w.job.action w.outcome) (log : 8 ≤ t.profile.credit_log) (credit : HasCredit id)
+    (brings : (log_of id.log ≡ 0) ⊎ (log_of id.log ≡ t.profile.credit_log)) (waits : awaits id entry w ≡ true) (last : is_last id (Some w) ≡ true) where
+  f : Found (is_asked_for w id entry) w.asked
+  f = any_place (is_asked_for w id entry) w.asked waits
+
+  abbrev now : Waits
+  now = refilled f.k f.x.place id w
+
+  still : IsPaused t.here t.localities t.profile.credit_log t.objects (refilled f.k f.x.place id w)
+  still = still_paused t.here t.localities t.profile.credit_log t.objects w f.k f.x id entry paused f.there f.passes credit brings
+
+  parts : (not (log_of id.log == 0) ≡ true) × (waits_for_one w ≡ true)
+  parts = and_true (not (log_of id.log == 0)) (waits_for_one w) last
+
+  none_left : remove w.asked f.k ≡ []
+  none_left = none_long (remove w.asked f.k) (omega (
+    arith,
+    less_long w.asked f.k f.x f.there,
+    eqb-true (length w.asked) 1 (and_true (length w.asked == 1) (not (is_some w.refused)) parts.1).0,
+  ))
+
+  none_refused : cond (log_of id.log == 0) (Some (bare id)) w.refused ≡ None
+  none_refused =
+      ap (λ b. cond b (Some (bare id)) w.refused) (off (log_of id.log == 0) parts.0)
+      ∙ none_some w.refused (and_true (length w.asked == 1) (not (is_some w.refused)) parts.1).1
+
+  stock : IsStock t w.job w.outcome (stock_with t w (set w.hand f.x.place id))
+  stock = come_stock t now still.job few laws still.split.made still.split.kinds still.split.bare still.split.places still.split.rest still.hand log
+      still.split.own (λ p lt h. has_come t.here t.localities t.profile.credit_log t.objects now still none_left none_refused p lt h
+      (waits_managed t now still.job few laws still.split.made still.split.kinds still.split.bare still.split.places still.split.rest still.hand p lt h)
+      (still.split.short p lt h))
+
+  hand_is : set w.hand f.x.place id ≡ hand_with id entry w
+  hand_is = sym (ap (put_for w.hand id) f.found)
+
+  pub ready_stock : IsStock t w.job w.outcome (stock_with t w (hand_with id entry w))
+  ready_stock = subst (λ xs. IsStock t w.job w.outcome (stock_with t w xs)) hand_is stock
+
+  pub ready_long : length (ids_named w) + length (made_of t w.outcome) ≤ length (hand_with id entry w)
+  ready_long = subst (λ (xs : List Id). length (ids_named w) + length (made_of t w.outcome) ≤ length xs) hand_is
+      (come_long t now still.job few laws still.split.made still.split.kinds still.split.bare still.split.places still.split.rest still.hand)
+
+  pub ready_short : length (hand_with id entry w) ≤ 1024
+  ready_short = subst (λ (xs : List Id). length xs ≤ 1024) hand_is
+      (come_short t now still.job few laws still.split.made still.split.kinds still.split.bare still.split.places still.split.rest still.hand)
+
+-- ---- as the call finds it
+
+pub last_is : (id : Id) (w : Waits) (log : ℕ) (one : Bool) → log ≡ log_of id.log → one ≡ waits_for_one w → (log ≡ 0 → ⊥) → one ≡ true → is_last id (Some w) ≡ true
+last_is id w log one l e other is = ap (λ b. not b && waits_for_one w) (ne_eqb (log_of id.log) 0 (λ z. other (l ∙ z))) ∙ (sym e ∙ is)
+
+pub brings_by : (t : Tables) (id : Id) → brings_right t id ≡ true → (log_of id.log ≡ 0) ⊎ (log_of id.log ≡ t.profile.credit_log)
+brings_by t id h = elim (cases_Bool (log_of id.log == 0)) [
+  | inl a ↦ inl (eqb-true (log_of id.log) 0 a)
+  | inr b ↦ inr (eqb-true (log_of id.log) t.profile.credit_log (rw b at h))
+]

@@ -1,0 +1,27 @@
+use Rattle.std.proofs.Common.{◌≡◌, ◌∙◌, length, length-append, ap, arith}
+use Rattle.hpx_value.specs.declared.acts.Job.{Job}
+use Rattle.hpx_journal.specs.Data.{Id, Outcome}
+use Rattle.hpx_commit.specs.Stocks.{Stock}
+use Rattle.hpx_node.proofs.Prepared.{made_long}
+use Rattle.hpx_node.proofs.node.Node.prepare_waiting.Goals as goal
+use Rattle.std.proofs.Common.{List}
+
+pub replace_from-requires-clause-fits : goal.replace_from-requires-clause-fits
+replace_from-requires-clause-fits g c =
+    let w = c.args.waits.now in
+    let t = c.args.self.now in
+    let state : c.len.result ≡ length w.job.state.ids = c.len.ensures ∙ ap (λ (j : Job). length j.state.ids) (c.job-job.ensures ∙ c.done-2.ensures.job) in
+    let action : c.len-2.result ≡ length w.job.action.ids = c.len-2.ensures ∙ ap (λ (j : Job). length j.action.ids) (c.job-job.ensures ∙ c.done-2.ensures.job) in
+    let makes = c.as_slice.ensures ∙ ap (λ (o : Outcome). o.makes) (c.outcome-outcome.ensures ∙ c.done-3.ensures.outcome) in
+    let ids = c.as_slice-2.ensures.value ∙ c.in_ok-made.ensures in
+    let made : length c.as_slice-2.result.now ≡ length w.outcome.makes =
+    ap (λ (xs : List Id). length xs) ids ∙ (made_long t.here t.births t.profile.credit_log c.as_slice.result.now ∙ ap length makes) in
+    omega (
+      arith,
+      state,
+      action,
+      made,
+      ap (λ (s : Stock). length s.hand) c.in_ok-stock.ensures,
+      length-append w.job.state.ids w.job.action.ids,
+      c.requires.fits,
+    )

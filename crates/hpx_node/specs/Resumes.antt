@@ -1,0 +1,86 @@
+-- A commit that waited and goes on, once all that it asked for has come.
+use Rattle.std.specs.Prelude.{ℕ, Bool, true, false, List, [], ◌≡◌, ◌==◌, ◌&&◌, not, is_some, length, take, Option, Some, None}
+use Rattle.std.specs.List.{find, remove, slice_get}
+use Rattle.hpx_journal.specs.Data.{Id, Parcel, Give}
+use Rattle.hpx_journal.specs.Entries.{target_of}
+use Rattle.hpx_journal.specs.Local.{is_standing}
+use Rattle.hpx_part.specs.Data.{Event}
+use Rattle.hpx_commit.specs.Deals.{log_of}
+use Rattle.hpx_commit.specs.Stocks.{Stock, replaced_from}
+use Rattle.hpx_node.specs.declared.node.finish.Prepared.{Prepared}
+use Rattle.hpx_node.specs.declared.node.resume.Ready.{Ready}
+use Rattle.hpx_node.specs.Commits.{made_of, committed_from, IsPrepared}
+use Rattle.hpx_node.specs.Pending.{Waits, ids_named, awaits, waits_for_one, hand_with}
+use Rattle.hpx_node.specs.Routes.{Gives}
+use Rattle.hpx_node.specs.Tables.{Tables}
+
+-- ---- a commit for which all has come
+
+-- it waits for nothing more, and nothing was refused
+abbrev pub may_go_on : Waits → Bool
+may_go_on w = (length w.asked == 0) && not (is_some w.refused)
+
+-- what it deals with these ids in its hand: what it makes has its credit
+abbrev pub stock_with : Tables → Waits → List Id → Stock
+stock_with t w hand = replaced_from (length (ids_named w)) (made_of t w.outcome) (record { hand = hand; places = w.places })
+
+-- what it deals
+abbrev pub full_stock : Tables → Waits → Stock
+full_stock t w = stock_with t w w.hand
+
+-- it is prepared to go on, and its object stands at j
+pub record MayResume (t : Tables) (w : Waits) (j : ℕ) (p : Prepared) : Type 0 where
+  pub complete : may_go_on w ≡ true
+  pub object : find (is_standing (target_of w.job.action)) t.objects ≡ slice_get t.objects j
+  pub prepared : IsPrepared t w.job w.outcome p
+  pub stock : p.stock ≡ full_stock t w
+
+-- the commit at i goes on: these events are written, and it waits no more
+pub record GoesOn (i : ℕ) (w : Waits) (t t' : Tables) (events : List Event) : Type 0 where
+  pub what : events ≡ committed_from t w.job w.outcome (full_stock t w)
+  pub pending : t'.pending ≡ remove t.pending i
+  pub running : t'.running ≡ t.running
+
+-- ---- a message that brings the last credit
+
+-- an id is the last that a commit waits for, and none was refused
+abbrev pub is_last : Id → Option Waits → Bool
+is_last id None = false
+is_last id (Some w) = not (log_of id.log == 0) && waits_for_one w
+
+-- a message brings a commit the last credit
+abbrev pub completes : Tables → Parcel → Bool
+completes t (Give id entry) = is_last id (find (awaits id entry) t.pending)
+completes t _ = false
+
+-- a commit that goes on once this is given is prepared
+pub record IsReady (t : Tables) (id : Id) (entry : ℕ) (y : Ready) : Type 0 where
+  pub before : Waits
+  pub there : slice_get t.pending y.i ≡ Some before
+  pub first : find (awaits id entry) (take y.i t.pending) ≡ None
+  pub for : awaits id entry before ≡ true
+  pub last : is_last id (Some before) ≡ true
+  pub object : find (is_standing (target_of before.job.action)) t.objects ≡ slice_get t.objects y.j
+  pub prepared : IsPrepared t before.job before.outcome y.prepared
+  pub stock : y.prepared.stock ≡ stock_with t before (hand_with id entry before)
+
+-- by the message
+abbrev pub IsReadyFor : Tables → Parcel → Ready → Type 0
+IsReadyFor t (Give id entry) y = IsReady t id entry y
+IsReadyFor t _ y = ⊥
+
+-- ---- a message is dealt with, and a commit may go on with it
+
+-- the commit that gets the last credit goes on
+pub record GoesWithLast (id : Id) (entry : ℕ) (t mid t' : Tables) (more : List Event) : Type 0 where
+  pub gives : Gives id entry t mid
+  pub goes : GoesOn gives.i gives.after mid t' more
+
+abbrev pub GoesWith : Parcel → Tables → Tables → Tables → List Event → Type 0
+GoesWith (Give id entry) t mid t' more = GoesWithLast id entry t mid t' more
+GoesWith _ t mid t' more = ⊥
+
+-- a message that was dealt with at t has left mid: where it brought a commit the last credit, that goes on, and these are written
+pub record Continues (p : Parcel) (t mid t' : Tables) (more : List Event) : Type 0 where
+  pub rests : completes t p ≡ false → (t' ≡ mid) × (more ≡ [])
+  pub goes : completes t p ≡ true → GoesWith p t mid t' more

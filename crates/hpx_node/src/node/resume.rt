@@ -1,0 +1,179 @@
+//! A commit that waited and goes on: the last that it asked for has come.
+ghost use Rattle.std.specs.Prelude.{◌≡◌, ◌≤◌, ◌<◌, ◌+◌, ◌^◌, ◌∷◌, ◌++◌, [], false, true, Some, None, IfOk, IfSome, IfNone, length, set, slice_get};
+ghost use Rattle.std.specs.List.{remove, AllByRecursion};
+ghost use Rattle.hpx_value.specs.Laws.{KeepsLaws};
+ghost use Rattle.hpx_journal.specs.Entries.{name_of};
+ghost use Rattle.hpx_parcel.specs.Parcels.{IsParcel};
+ghost use Rattle.hpx_part.specs.Parts.{at_all};
+ghost use Rattle.hpx_part.specs.Data.{Done};
+ghost use Rattle.hpx_node.specs.Commits.{committed_from, IsStock, IsPrepared};
+ghost use Rattle.hpx_node.specs.Fit.{IsKept};
+ghost use Rattle.hpx_node.specs.Jobs.{IsFitJob};
+ghost use Rattle.hpx_node.specs.Pending.{ids_named};
+ghost use Rattle.hpx_node.specs.Resumes.{full_stock, stock_with, MayResume, IsReadyFor, completes};
+ghost use Rattle.hpx_node.specs.Stands.{Stands, IsTidy};
+ghost use Rattle.hpx_node.specs.Strange.{broken_near};
+ghost use Rattle.hpx_node.specs.Changes.{Writes};
+
+use crate::find::{place_of, target, waiting_at};
+use crate::kept::Kept;
+use crate::node::Node;
+use crate::node::finish::{Prepared, lawful};
+use crate::pending::Pending;
+use hpx_commit::deal::log_of;
+use hpx_commit::hand::Hand;
+use hpx_commit::plan::Plan;
+use hpx_commit::stock::Stock;
+use hpx_journal::entry::{Entry, Event};
+use hpx_journal::journal::Journal;
+use hpx_journal::local::name_of;
+use hpx_parcel::parcel::Parcel;
+use hpx_value::acts::Acts;
+use hpx_value::gid::Gid;
+use hpx_value::memory::OutOfMemory;
+use hpx_value::value::State;
+use std::alloc::Global;
+
+/// A commit that goes on, before its first change: where it waits, where its object stands, and what it writes.
+#[derive(Drop)]
+pub struct Ready {
+    pub i: usize,
+    pub j: usize,
+    pub prepared: Prepared,
+}
+
+impl<A: Acts + Copy> Node<A> {
+    /// Plans a commit that waited, with these ids in its hand.
+    fn prepare_waiting(
+        &self,
+        alloc: Global,
+        waits: &Pending<A>,
+        hand: &[Gid],
+    ) -> Result<Prepared, OutOfMemory>
+        requires localities { waits.now.localities ≤ 64 }
+        requires at { waits.now.job.at < waits.now.localities }
+        requires fit { IsFitJob waits.now.job }
+        requires few { self.now.births + 1024 < 2 ^ 32 }
+        requires fits { length (ids_named waits.now) + length waits.now.outcome.makes ≤ length hand.now }
+        requires short { length hand.now ≤ 1024 }
+        requires stock { IsStock self.now waits.now.job waits.now.outcome (stock_with self.now waits.now hand.now) }
+        ensures prepared { IfOk result (IsPrepared self.now waits.now.job waits.now.outcome) }
+        ensures stock { IfOk result (λ p. p.stock ≡ stock_with self.now waits.now hand.now) }
+    {
+        lawful(waits.done());
+        let job = waits.done().job();
+        let outcome = waits.done().outcome();
+        let made = self.made(alloc, outcome.makes.as_slice())?;
+        let mut stock = Stock::of(alloc, hand, waits.places())?;
+        stock.replace_from(job.state.ids.len() + job.action.ids.len(), made.as_slice());
+        let hand = Hand::of(alloc, &job.state, &job.action, made.as_slice())?;
+        self.prepare_from(alloc, waits.done(), &hand, stock)
+    }
+
+    /// What goes on once a message is dealt with: the commit for which it brings the last credit.
+    pub fn ready(&self, alloc: Global, parcel: &Parcel) -> Result<Option<Ready>, OutOfMemory>
+        requires fit { IsParcel parcel.now }
+        requires tidy { IsTidy self.now [] }
+        requires right { broken_near self.now parcel.now ≡ None }
+        requires few { self.now.births + 1024 < 2 ^ 32 }
+        ensures some { IfOk result (λ o. IfSome o (IsReadyFor self.now parcel.now)) }
+        ensures none { IfOk result (λ o. IfNone o (completes self.now parcel.now ≡ false)) }
+    {
+        let (id, entry) = match parcel {
+            Parcel::Give { id, entry } => (*id, *entry),
+            _ => return Ok(None),
+        };
+        let Some(i) = waiting_at(self.pending.as_slice(), id, entry) else {
+            return Ok(None);
+        };
+        let waits = &self.pending[i];
+        lawful(waits.done());
+        if log_of(id) == 0 || !waits.waits_for_one() {
+            return Ok(None);
+        }
+        let Some(j) = place_of(self.objects.as_slice(), target(waits.action())) else {
+            return Ok(None);
+        };
+        let hand = waits.hand_with(alloc, id, entry)?;
+        let prepared = self.prepare_waiting(alloc, waits, hand.as_slice())?;
+        Ok(Some(Ready { i, j, prepared }))
+    }
+
+    /// Commits the job of a commit that waited: it waits no more, and its object has the new state.
+    fn settle_waiting(&mut self, book: &mut Journal, i: usize, j: usize, state: State)
+        requires waits { i < length self.old.pending }
+        requires object { j < length self.old.objects }
+        requires kept { (x : _) → slice_get self.old.objects j ≡ Some x → IsKept (record { object = x.object; state = state }) }
+        requires page { 1 ≤ book.old.spare }
+        ensures pending { self.new.pending ≡ remove self.old.pending i }
+        ensures objects { (x : _) → slice_get self.old.objects j ≡ Some x → self.new.objects ≡ set self.old.objects j (record { object = x.object; state = state }) }
+        ensures rest { self.new ≡ record self.old { pending = self.new.pending; objects = self.new.objects; spare = self.new.spare } }
+        ensures spare { self.old.spare ≤ self.new.spare }
+        ensures page { book.new.spare + 1 ≡ book.old.spare }
+        ensures entries { (w : _) → slice_get self.old.pending i ≡ Some w
+            → book.new.entries ≡ book.old.entries ++ at_all self.old.here (Done (name_of w.job.action) false ∷ []) }
+    {
+        let waits = self.pending.remove(i);
+        let object = self.objects[j].object();
+        self.objects[j] = Kept::new(object, state);
+        book.push(Entry {
+            at: self.here,
+            event: Event::Done {
+                action: name_of(waits.action()),
+                failed: false,
+            },
+        });
+    }
+
+    /// Writes a commit that waited. It takes no memory.
+    pub fn resume(&mut self, book: &mut Journal, ready: Ready)
+        requires waits { ready.i < length self.old.pending }
+        requires may { (w : _) → slice_get self.old.pending ready.i ≡ Some w → MayResume self.old w ready.j ready.prepared }
+        requires room { length book.old.entries + 800 ≤ 2097152 }
+        requires spare { 1024 ≤ self.old.spare }
+        requires page { 1024 ≤ book.old.spare }
+        requires stands { Stands A.act_of self.old book.old.entries }
+        ensures stands { Stands A.act_of self.new book.new.entries }
+        ensures running { self.new.running ≡ self.old.running }
+        ensures pending { self.new.pending ≡ remove self.old.pending ready.i }
+        ensures taken { self.new.taken ≡ self.old.taken }
+        ensures sent { self.new.sent ≡ self.old.sent }
+        ensures few { length book.new.entries ≤ length book.old.entries + 596 }
+        ensures writes { (w : _) → slice_get self.old.pending ready.i ≡ Some w
+            → Writes (committed_from self.old w.job w.outcome (full_stock self.old w)) self.old self.new book.old.entries book.new.entries }
+    {
+        let Ready { i, j, prepared } = ready;
+        let Prepared {
+            births,
+            stock,
+            plan: Plan { state, due, ups },
+        } = prepared;
+        lawful(self.pending[i].done());
+        self.make(book, births, &stock);
+        self.settle_waiting(book, i, j, state);
+        self.leave(book, due, ups);
+    }
+
+    /// Goes on with a commit, if one is ready.
+    pub fn go_on(&mut self, book: &mut Journal, ready: Option<Ready>)
+        requires waits { IfSome ready (λ y. y.i < length self.old.pending) }
+        requires may { IfSome ready (λ y. (w : _) → slice_get self.old.pending y.i ≡ Some w → MayResume self.old w y.j y.prepared) }
+        requires room { length book.old.entries + 800 ≤ 2097152 }
+        requires spare { IfSome ready (λ y. 1024 ≤ self.old.spare) }
+        requires page { IfSome ready (λ y. 1024 ≤ book.old.spare) }
+        requires stands { Stands A.act_of self.old book.old.entries }
+        ensures stands { Stands A.act_of self.new book.new.entries }
+        ensures running { self.new.running ≡ self.old.running }
+        ensures taken { self.new.taken ≡ self.old.taken }
+        ensures sent { self.new.sent ≡ self.old.sent }
+        ensures few { length book.new.entries ≤ length book.old.entries + 596 }
+        ensures none { IfNone ready ((self.new ≡ self.old) × (book.new.entries ≡ book.old.entries)) }
+        ensures pending { IfSome ready (λ y. self.new.pending ≡ remove self.old.pending y.i) }
+        ensures writes { IfSome ready (λ y. (w : _) → slice_get self.old.pending y.i ≡ Some w
+            → Writes (committed_from self.old w.job w.outcome (full_stock self.old w)) self.old self.new book.old.entries book.new.entries) }
+    {
+        if let Some(ready) = ready {
+            self.resume(book, ready);
+        }
+    }
+}
