@@ -20,7 +20,7 @@ pub bare_halved : (k : ℕ) (id : Id) → bare (halved k id) ≡ bare id
 bare_halved zero id = refl
 bare_halved (suc k) id = bare_halved k (half id)
 
-some_half : (log : Option ℕ) → is_some (option_map (λ l. l - 1) log) ≡ is_some log
+pub some_half : (log : Option ℕ) → is_some (option_map (λ l. l - 1) log) ≡ is_some log
 some_half None = refl
 some_half (Some l) = refl
 

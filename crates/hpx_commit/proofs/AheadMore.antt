@@ -24,7 +24,7 @@ module _ (P : Id → Type 0) where
   all_set (id ∷ ids) zero x h all = (h, all.1)
   all_set (id ∷ ids) (suc p) x h all = (all.0, all_set ids p x h all.1)
 
-  all_more : (ids : List Id) (x : Id) → P x → AllByRecursion P ids → AllByRecursion P (ids ++ x ∷ [])
+  pub all_more : (ids : List Id) (x : Id) → P x → AllByRecursion P ids → AllByRecursion P (ids ++ x ∷ [])
   all_more [] x h all = (h, tt)
   all_more (id ∷ ids) x h all = (all.0, all_more ids x h all.1)
 

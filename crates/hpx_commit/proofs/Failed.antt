@@ -22,7 +22,7 @@ use Rattle.hpx_commit.proofs.Fills.{head_is, tail_is, none_is}
 -- ---- names
 
 -- ids that name the same objects as a list in two parts
-front_parts : (xs ys ids : List Id) → map bare (take (length (xs ++ ys)) ids) ≡ map bare (xs ++ ys)
+pub front_parts : (xs ys ids : List Id) → map bare (take (length (xs ++ ys)) ids) ≡ map bare (xs ++ ys)
     → (map bare (take (length xs) ids) ≡ map bare xs) × (map bare (take (length ys) (drop (length xs) ids)) ≡ map bare ys)
 front_parts [] ys ids h = (refl, h)
 front_parts (x ∷ xs) ys [] h = absurd (none_is (bare x) (map bare (xs ++ ys)) h)
@@ -93,7 +93,7 @@ module _ (P : Id → Type 0) where
     | inr t ↦ rw t (all_managed ids h.1)
   ]
 
-  all_unanswered : (ids : List Id) (cont : Option Cont) → AllByRecursion P ids → AllByRecursion P (unanswered ids cont)
+  pub all_unanswered : (ids : List Id) (cont : Option Cont) → AllByRecursion P ids → AllByRecursion P (unanswered ids cont)
   all_unanswered ids None h = h
   all_unanswered ids (Some c) h =
       all_append (take c.place ids) (drop (suc c.place) ids) (all_take c.place ids h) (all_drop (suc c.place) ids h)

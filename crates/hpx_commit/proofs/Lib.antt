@@ -1,6 +1,7 @@
 pub mod Deals
 pub mod Naming
 pub mod Fills
+pub mod Halves
 pub mod Moved
 pub mod Ahead
 pub mod AheadSums

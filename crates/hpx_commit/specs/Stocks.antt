@@ -1,5 +1,5 @@
 -- Halves of ids that are taken ahead for those who name them first, where not all of an id's credit lasts for all.
-use Rattle.std.specs.Prelude.{ℕ, zero, suc, cond, not, nat_le, min, List, [], ◌∷◌, ◌++◌, ◌≡◌, ◌≤◌, ◌<◌, ◌+◌, ◌-◌, ◌==◌, set, length, map}
+use Rattle.std.specs.Prelude.{ℕ, zero, suc, true, cond, not, is_some, nat_le, min, List, [], ◌∷◌, ◌++◌, ◌≡◌, ◌≤◌, ◌<◌, ◌+◌, ◌-◌, ◌==◌, set, length, map}
 use Rattle.std.specs.List.{filter}
 use Rattle.hpx_value.specs.Ids.{Id, bare}
 use Rattle.hpx_value.specs.Hands.{id_at}
@@ -110,3 +110,11 @@ pub record IsAhead (n : ℕ) (s t : Stock) : Type 0 where
   pub first : (p : ℕ) → p < n → IsSplit (halvings (id_at s.hand p) (named s.places p)) p s t
   pub rest : (p : ℕ) → n ≤ p → p < length s.hand → IsSplit 0 p s t
   pub halves : (p : ℕ) → length s.hand ≤ p → p < length t.hand → named t.places p ≡ 1
+
+-- it was split off the id at one of the first n places: it is of the same object, and both have a credit
+pub record IsHalf (n : ℕ) (s : Stock) (id : Id) : Type 0 where
+  pub place : ℕ
+  pub first : place < n
+  pub object : bare id ≡ bare (id_at s.hand place)
+  pub has : is_some id.log ≡ true
+  pub had : is_some (id_at s.hand place).log ≡ true

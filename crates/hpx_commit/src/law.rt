@@ -1,6 +1,6 @@
 //! What dealing keeps: objects, and credits.
-ghost use Rattle.std.specs.Prelude.{◌≡◌, ◌<◌, ◌≤◌, ◌+◌, ◌-◌, ◌*◌, ◌++◌, [], ℕ, List, Option, is_some, length, map, flat_map, take};
-ghost use Rattle.std.specs.List.{sum_by, filter};
+ghost use Rattle.std.specs.Prelude.{◌≡◌, ◌<◌, ◌≤◌, ◌+◌, ◌-◌, ◌*◌, ◌++◌, [], ℕ, List, Option, is_some, length, map, flat_map, take, drop};
+ghost use Rattle.std.specs.List.{sum_by, filter, AllByRecursion};
 ghost use Rattle.hpx_value.specs.Ids.{Id, bare};
 ghost use Rattle.hpx_value.specs.Hands.{id_at, hand_ids};
 ghost use Rattle.hpx_value.specs.Shapes.{IsState, IsAct};
@@ -15,7 +15,7 @@ ghost use Rattle.hpx_value.specs.declared.value.State.{State};
 ghost use Rattle.hpx_value.specs.declared.value.Act.{Act};
 ghost use Rattle.hpx_commit.specs.Deals.{is_managed, log_of, half, named, places_named, dealt, shared_from, Lasts, AllLast, AreWithin, filled, unused, filled_due, ids_due, ids_named};
 ghost use Rattle.hpx_commit.specs.Failures.{action_ids, ids_had, state_failed, due_failed, ups_failed};
-ghost use Rattle.hpx_commit.specs.Stocks.{Stock, take_half, ahead, halved, parts_from, short_places, others, replaced, replaced_from, stripped, Lasting, SameNames, SameDeal, IsAhead};
+ghost use Rattle.hpx_commit.specs.Stocks.{Stock, take_half, ahead, halved, parts_from, short_places, others, replaced, replaced_from, stripped, Lasting, SameNames, SameDeal, IsAhead, IsHalf};
 
 /// Each who names a place gets an id of its object. What is dealt are the shares of all places.
 pub fn deal_law()
@@ -68,6 +68,8 @@ pub fn ahead_law()
         (p < length s.hand → Lasting s p) → Lasting (ahead n s) p }
     ensures few { (n : ℕ) (s : Stock) → n ≤ length s.hand → AreWithin s.hand s.places →
         length (ahead n s).hand ≤ length s.hand + length s.places }
+    ensures halves { (n : ℕ) (s : Stock) → n ≤ length s.hand → AreWithin s.hand s.places →
+        AllByRecursion (IsHalf n s) (drop (length s.hand) (ahead n s).hand) }
 {}
 
 /// What is split ahead does not depend on the ids behind the first places: those of made objects may be others later.

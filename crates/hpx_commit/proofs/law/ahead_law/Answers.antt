@@ -2,6 +2,7 @@ use Rattle.hpx_commit.proofs.Ahead.{ahead_same, ahead_is}
 use Rattle.hpx_commit.proofs.AheadSums.{ahead_sums}
 use Rattle.hpx_commit.proofs.Short.{short_is, ahead_lasts, ahead_short, place_some, ahead_front}
 use Rattle.hpx_commit.proofs.AheadMore.{ahead_few}
+use Rattle.hpx_commit.proofs.Halves.{ahead_halves}
 use Rattle.hpx_commit.proofs.law.ahead_law.Goals as goal
 
 pub returns-clause-same : goal.returns-clause-same
@@ -30,3 +31,6 @@ returns-clause-lasts c = λ n s fits within p h. ahead_lasts n s fits within p h
 
 pub returns-clause-few : goal.returns-clause-few
 returns-clause-few c = λ n s fits within. ahead_few n s fits within
+
+pub returns-clause-halves : goal.returns-clause-halves
+returns-clause-halves c = λ n s fits within. ahead_halves n s fits within
