@@ -172,7 +172,7 @@ bare_counts o (id ∷ ids) = omega (
     one true = refl
     one false = refl
 
-bare_twice : (ids : List Id) → map bare (map bare ids) ≡ map bare ids
+pub bare_twice : (ids : List Id) → map bare (map bare ids) ≡ map bare ids
 bare_twice [] = refl
 bare_twice (id ∷ ids) = ap (λ xs. bare id ∷ xs) (bare_twice ids)
 

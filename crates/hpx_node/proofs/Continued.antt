@@ -1,6 +1,6 @@
 -- A commit that was prepared before its last credit came goes on with it.
-use Rattle.std.proofs.Common.{ℕ, zero, suc, Bool, true, false, cond, List, [], ◌∷◌, ◌≡◌, ◌<◌, ◌+◌, ◌==◌, ◌&&◌, not, Option, Some, None, set, take, length, append-nil, get_or, refl, sym, ap, ◌∙◌, arith, inl, inr, subst}
-use Rattle.std.specs.Prelude.{is_some, IfSome, IfNone}
+use Rattle.std.proofs.Common.{ℕ, zero, suc, Bool, true, false, cond, List, [], ◌∷◌, ◌≡◌, ◌<◌, ◌+◌, ◌==◌, ◌&&◌, not, Option, Some, None, set, take, length, refl, sym, ap, ◌∙◌, arith, inl, inr, subst}
+use Rattle.std.specs.Prelude.{is_some}
 use Rattle.std.specs.List.{find, list_any, slice_get, remove}
 use Rattle.std.proofs.lemmas.Bool.{cases_Bool, eqb-true, eq-eqb}
 use Rattle.hpx_value.specs.Ids.{bare}
@@ -11,18 +11,16 @@ use Rattle.hpx_part.proofs.Keyed.{slice_get_less}
 use Rattle.hpx_commit.specs.Deals.{log_of}
 use Rattle.hpx_node.specs.declared.node.finish.Prepared.{Prepared}
 use Rattle.hpx_node.specs.declared.node.resume.Ready.{Ready}
-use Rattle.hpx_part.specs.Data.{Event, Entry}
-use Rattle.hpx_node.specs.Commits.{committed_from, IsPrepared}
+use Rattle.hpx_node.specs.Commits.{IsPrepared}
 use Rattle.hpx_node.specs.Pending.{Waits, Asked, awaits, is_asked_for, waits_for_one, put_for, hand_with, Refills}
-use Rattle.hpx_node.specs.Changes.{Writes}
-use Rattle.hpx_node.specs.Resumes.{may_go_on, stock_with, full_stock, is_last, completes, MayResume, IsReady, IsReadyFor, Continues}
+use Rattle.hpx_node.specs.Resumes.{may_go_on, stock_with, is_last, MayResume, IsReady, IsReadyFor}
 use Rattle.hpx_node.specs.Routes.{Gives, DealsWith, Accepts}
 use Rattle.hpx_node.specs.Tables.{Tables}
 use Rattle.hpx_node.proofs.Alls.{some_same}
 
 -- ---- lists
 
-any_at : {X : Type 0} (p : X → Bool) (xs : List X) (i : ℕ) (x : X) → slice_get xs i ≡ Some x → p x ≡ true → list_any p xs ≡ true
+pub any_at : {X : Type 0} (p : X → Bool) (xs : List X) (i : ℕ) (x : X) → slice_get xs i ≡ Some x → p x ≡ true → list_any p xs ≡ true
 any_at p [] i x h t = cc
 any_at p (y ∷ xs) zero x h t = let e : p y ≡ true = ap p (some_same y x h) ∙ t in rw e refl
 any_at p (y ∷ xs) (suc i) x h t = elim (cases_Bool (p y)) [
@@ -44,7 +42,7 @@ first_same p (z ∷ xs) (suc i) (suc k) x y h g s t a b = elim (cases_Bool (p z)
   | inr e ↦ ap suc (first_same p xs i k x y h g s t (rw e at a) (rw e at b))
 ]
 
-get_set : {X : Type 0} (xs : List X) (i : ℕ) (x : X) → i < length xs → slice_get (set xs i x) i ≡ Some x
+pub get_set : {X : Type 0} (xs : List X) (i : ℕ) (x : X) → i < length xs → slice_get (set xs i x) i ≡ Some x
 get_set [] i x lt = absurd (omega (arith, lt))
 get_set (y ∷ xs) zero x lt = refl
 get_set (y ∷ xs) (suc i) x lt = get_set xs i x (omega (arith, lt))
@@ -189,7 +187,7 @@ module _ (t : Tables) (n k : ℕ) (d : List Parcel) (mid : Tables) (id : Id) (en
 -- ---- by the message
 
 -- only a Give makes one ready
-only_give : (t : Tables) (p : Parcel) (y : Ready) → IsReadyFor t p y → (P : Type 0)
+pub only_give : (t : Tables) (p : Parcel) (y : Ready) → IsReadyFor t p y → (P : Type 0)
     → ((id : Id) (entry : ℕ) → p ≡ Give id entry → IsReady t id entry y → P) → P
 only_give t (Give id entry) y ready P h = h id entry refl ready
 only_give t (Apply act) y ready P h = absurd ready
@@ -217,116 +215,3 @@ pub given_mail : (t s mid : Tables) (p : Parcel) (rest : List Parcel) (k : ℕ) 
 given_mail t s mid p rest k same accepts id entry e =
     subst (λ (u : Tables). Gives id entry (record u { desk = rest; spare = k }) mid) same
     (subst (λ q. Accepts q (record s { desk = rest; spare = k }) mid) e accepts)
-
--- the message that was looked at is the one that is taken up
-pub ready_first : (t m : Tables) (p q : Parcel) (rest : List Parcel) (o : Option Ready) → m ≡ record t { spare = m.spare } → m.desk ≡ p ∷ rest
-    → q ≡ get_or t.desk 0 q → IfSome o (IsReadyFor t q) → IfSome o (IsReadyFor t p)
-ready_first t m p q rest o same first is ready =
-    subst (λ x. IfSome o (IsReadyFor t x)) (is ∙ ap (λ (d : List Parcel). get_or d 0 q) (sym (ap (λ (u : Tables). u.desk) same) ∙ first)) ready
-
-pub completes_first : (t m : Tables) (p q : Parcel) (rest : List Parcel) (o : Option Ready) → m ≡ record t { spare = m.spare } → m.desk ≡ p ∷ rest
-    → q ≡ get_or t.desk 0 q → IfNone o (completes t q ≡ false) → IfNone o (completes t p ≡ false)
-completes_first t m p q rest o same first is none =
-    subst (λ x. IfNone o (completes t x ≡ false)) (is ∙ ap (λ (d : List Parcel). get_or d 0 q) (sym (ap (λ (u : Tables). u.desk) same) ∙ first)) none
-
-pub ready_gives : (P : Type 0) (t : Tables) (p : Parcel) (o : Option Ready) → IfSome o (IsReadyFor t p)
-    → ((id : Id) (entry : ℕ) → p ≡ Give id entry → P) → IfSome o (λ y. P)
-ready_gives P t p None ready h = tt
-ready_gives P t p (Some y) ready h = only_give t p y ready P (λ id entry e is. h id entry e)
-
-pub all_inside : (t : Tables) (n k : ℕ) (d : List Parcel) (mid : Tables) (p : Parcel) (o : Option Ready) → IfSome o (IsReadyFor t p)
-    → IsGiven p (record t { taken = n; desk = d; spare = k }) mid → IfSome o (λ y. y.i < length mid.pending)
-all_inside t n k d mid p None ready gives = tt
-all_inside t n k d mid p (Some y) ready gives =
-    only_give t p y ready (y.i < length mid.pending) (λ id entry e is. waits_inside t n k d mid id entry y is (gives id entry e))
-
-pub all_may : (t : Tables) (n k : ℕ) (d : List Parcel) (mid : Tables) (p : Parcel) (o : Option Ready) → IfSome o (IsReadyFor t p)
-    → IsGiven p (record t { taken = n; desk = d; spare = k }) mid
-    → IfSome o (λ y. (w : Waits) → slice_get mid.pending y.i ≡ Some w → MayResume mid w y.j y.prepared)
-all_may t n k d mid p None ready gives = tt
-all_may t n k d mid p (Some y) ready gives = λ w h.
-    only_give t p y ready (MayResume mid w y.j y.prepared) (λ id entry e is. may_given t n k d mid id entry y is (gives id entry e) w h)
-
--- what goes on, and what it writes
-pub record IsContinued (p : Parcel) (t mid t' : Tables) (entries entries' : List Entry) : Type 0 where
-  pub more : List Event
-  pub continues : Continues p t mid t' more
-  pub writes : Writes more mid t' entries entries'
-
-find_at : {X : Type 0} (p : X → Bool) (xs : List X) (i : ℕ) (x : X) → slice_get xs i ≡ Some x → p x ≡ true → find p (take i xs) ≡ None → find p xs ≡ Some x
-find_at p [] i x h t none = cc
-find_at p (z ∷ xs) zero x h t none = let e : p z ≡ true = ap p (some_same z x h) ∙ t in rw e h
-find_at p (z ∷ xs) (suc i) x h t none = elim (cases_Bool (p z)) [
-  | inl e ↦ absurd (let f : Some z ≡ None = rw e at none in cc)
-  | inr e ↦ rw e (find_at p xs i x h t (rw e at none))
-]
-
-module _ (t : Tables) (n k : ℕ) (d : List Parcel) (mid : Tables) (id : Id) (entry : ℕ) (y : Ready) (ready : IsReady t id entry y)
-    (g : Gives id entry (record t { taken = n; desk = d; spare = k }) mid) (t' : Tables) (entries entries' : List Entry)
-    (running : t'.running ≡ mid.running) (pending : t'.pending ≡ remove mid.pending y.i)
-    (writes : (w : Waits) → slice_get mid.pending y.i ≡ Some w
-    → Writes (committed_from mid w.job w.outcome (full_stock mid w)) mid t' entries entries') where
-  completes_is : is_last id (find (awaits id entry) t.pending) ≡ true
-  completes_is = ap (is_last id) (find_at (awaits id entry) t.pending y.i ready.before ready.there ready.for ready.first) ∙ ready.last
-
-  place_is : g.i ≡ y.i
-  place_is = same_place t n k d mid id entry y ready g
-
-  there_now : slice_get mid.pending y.i ≡ Some g.after
-  there_now = sym (ap (slice_get mid.pending) place_is) ∙ now_there t n k d mid id entry y ready g
-
-  given_continued : IsContinued (Give id entry) (record t { taken = n; desk = d }) mid t' entries entries'
-  given_continued = record {
-    more = committed_from mid g.after.job g.after.outcome (full_stock mid g.after);
-    continues = record {
-      rests = λ no. absurd (let e : true ≡ false = sym completes_is ∙ no in cc);
-      goes = λ yes. record {
-        gives = record { i = g.i; before = g.before; after = g.after; there = g.there; first = g.first; refills = g.refills; rest = g.rest };
-        goes = record { what = refl; pending = pending ∙ ap (remove mid.pending) (sym place_is); running = running };
-      };
-    };
-    writes = writes g.after there_now;
-  }
-
--- where none is ready, nothing more is written
-none_continued : (p : Parcel) (t mid t' : Tables) (entries entries' : List Entry) → completes t p ≡ false → t' ≡ mid → entries' ≡ entries
-    → IsContinued p t mid t' entries entries'
-none_continued p t mid t' entries entries' none same still = record {
-  more = [];
-  continues = record {
-    rests = λ no. (same, refl);
-    goes = λ yes. absurd (let e : true ≡ false = sym yes ∙ none in cc);
-  };
-  writes = record {
-    here = ap (λ (x : Tables). x.here) same;
-    localities = ap (λ (x : Tables). x.localities) same;
-    profile = ap (λ (x : Tables). x.profile) same;
-    grows = still ∙ sym (append-nil entries);
-  };
-}
-
-completes_same : (p : Parcel) (t : Tables) (n : ℕ) (d : List Parcel) → completes (record t { taken = n; desk = d }) p ≡ completes t p
-completes_same (Give id entry) t n d = refl
-completes_same (Apply act) t n d = refl
-completes_same (Return id) t n d = refl
-completes_same (Ask id asker entry) t n d = refl
-completes_same (Cached id place) t n d = refl
-completes_same (Move act) t n d = refl
-completes_same (Go act) t n d = refl
-completes_same (Shipped act state) t n d = refl
-completes_same (Arrived id place) t n d = refl
-completes_same (Free o) t n d = refl
-
-module _ (t : Tables) (n k : ℕ) (d : List Parcel) (mid t' : Tables) (entries entries' : List Entry) where
-  pub is_continued : (p : Parcel) (o : Option Ready) → IfSome o (IsReadyFor t p) → IfNone o (completes t p ≡ false)
-      → IsGiven p (record t { taken = n; desk = d; spare = k }) mid → t'.running ≡ mid.running
-      → IfNone o ((t' ≡ mid) × (entries' ≡ entries)) → IfSome o (λ y. t'.pending ≡ remove mid.pending y.i)
-      → IfSome o (λ y. (w : Waits) → slice_get mid.pending y.i ≡ Some w
-      → Writes (committed_from mid w.job w.outcome (full_stock mid w)) mid t' entries entries')
-      → IsContinued p (record t { taken = n; desk = d }) mid t' entries entries'
-  is_continued p None some none gives running same pending writes =
-      none_continued p (record t { taken = n; desk = d }) mid t' entries entries' (completes_same p t n d ∙ none) same.0 same.1
-  is_continued p (Some y) some none gives running same pending writes =
-      only_give t p y some (IsContinued p (record t { taken = n; desk = d }) mid t' entries entries')
-      (λ id entry e is. subst (λ q. IsContinued q (record t { taken = n; desk = d }) mid t' entries entries') (sym e)
-      (given_continued t n k d mid id entry y is (gives id entry e) t' entries entries' running pending writes))

@@ -149,17 +149,17 @@ dealt_credit hand (p ∷ ps) h =
 true_not : true ≡ false → ⊥
 true_not h = cc
 
-is_least : (kind : ℕ) → nat_le 16 kind ≡ true → 16 ≤ kind
+pub is_least : (kind : ℕ) → nat_le 16 kind ≡ true → 16 ≤ kind
 is_least kind e = grind (arith, nat_tests)
 
-is_below : (kind : ℕ) → nat_le 16 kind ≡ false → kind < 16
+pub is_below : (kind : ℕ) → nat_le 16 kind ≡ false → kind < 16
 is_below kind e = grind (arith, nat_tests)
 
 and_first : (b c : Bool) → (b && c) ≡ true → b ≡ true
 and_first true c h = refl
 and_first false c h = h
 
-has_credit : (kind : ℕ) (log : Option ℕ) → 16 ≤ kind → MatchOption log (kind < 16) (λ l. 16 ≤ kind) → MatchOption log ⊥ (λ l. 16 ≤ kind)
+pub has_credit : (kind : ℕ) (log : Option ℕ) → 16 ≤ kind → MatchOption log (kind < 16) (λ l. 16 ≤ kind) → MatchOption log ⊥ (λ l. 16 ≤ kind)
 has_credit kind None least h = absurd (omega (arith, least, h))
 has_credit kind (Some l) least h = h
 

@@ -1,5 +1,5 @@
 -- What each entry counts, row by row.
-use Rattle.std.proofs.Common.{ℕ, zero, suc, false, List, [], ◌∷◌, ◌≡◌, ◌+◌, ◌≤◌, ◌==◌, Some, refl, arith, inl, inr}
+use Rattle.std.proofs.Common.{ℕ, zero, suc, true, false, List, [], ◌∷◌, ◌≡◌, ◌+◌, ◌≤◌, ◌==◌, Some, refl, arith, inl, inr}
 use Rattle.std.specs.List.{sum_by, AllByRecursion}
 use Rattle.std.proofs.lemmas.Bool.{cases_Bool}
 use Rattle.std.proofs.lemmas.List.Sums.{sum_by-cons}
@@ -149,6 +149,13 @@ pub done_idle : (r : Rules) (a : Name) → IsIdle r (Done a false)
 done_idle r a = record {
   goes = by_rows (λ row. goes r row (Done a false) ≡ 0) refl refl refl refl refl refl refl;
   causes = by_rows (λ row. causes r row (Done a false) ≡ 0) refl refl refl refl refl refl refl;
+  hops = omega arith;
+}
+
+pub fail_idle : (r : Rules) (a : Name) → IsIdle r (Done a true)
+fail_idle r a = record {
+  goes = by_rows (λ row. goes r row (Done a true) ≡ 0) refl refl refl refl refl refl refl;
+  causes = by_rows (λ row. causes r row (Done a true) ≡ 0) refl refl refl refl refl refl refl;
   hops = omega arith;
 }
 

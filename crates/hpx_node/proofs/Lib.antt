@@ -56,6 +56,16 @@ pub mod WaitsCommit
 pub mod Continued
 pub mod ReadyStock
 pub mod FewEntries
+pub mod Places
+pub mod HandLeft
+pub mod FailedDue
+pub mod FailedFew
+pub mod WaitsFired
+pub mod FailedStep
+pub mod FailedAll
+pub mod FailedPlan
+pub mod FailsThen
+pub mod Followed
 pub mod Spared
 pub mod Taken
 pub mod Right

@@ -1,11 +1,11 @@
 -- What a node's tables tell, by what stands at its locality.
-use Rattle.std.proofs.Common.{ℕ, Bool, true, false, cond, List, [], ◌∷◌, ◌++◌, ◌≡◌, ◌+◌, ◌≤◌, ◌<◌, ◌^◌, Option, Some, None, map, refl, sym, ap, ◌∙◌, subst, arith, inl, inr, zero-add}
-use Rattle.std.specs.Prelude.{flat_map, MatchOption, ◌&&◌, ◌==◌, not, is_some}
+use Rattle.std.proofs.Common.{ℕ, Bool, true, false, cond, List, [], ◌∷◌, ◌++◌, ◌≡◌, ◌≤◌, ◌^◌, Option, Some, None, map, refl, sym, ap, ◌∙◌, subst, arith, inl, inr, zero-add}
+use Rattle.std.specs.Prelude.{flat_map, ◌==◌, is_some}
 use Rattle.std.specs.List.{sum_by, count_by, find, AllByRecursion}
 use Rattle.std.proofs.lemmas.Bool.{cases_Bool}
 use Rattle.std.proofs.lemmas.List.Sums.{sum_by-cons, sum_by-append}
 use Rattle.hpx_value.specs.Values.{bare_act}
-use Rattle.hpx_value.specs.Ids.{bare, same_object, credit, credit_of_log}
+use Rattle.hpx_value.specs.Ids.{same_object, credit, credit_of_log}
 use Rattle.hpx_parcel.specs.Credits.{credit_list, credits_of}
 use Rattle.hpx_parcel.specs.Parcels.{IsParcel, HasRightCredit, IsBare}
 use Rattle.hpx_journal.specs.Data.{Id, Act, Parcel, Apply, Return, Ask, Give, Cached, Move, Go, Shipped, Arrived, Free}
@@ -13,9 +13,9 @@ use Rattle.hpx_journal.specs.Entries.{name_of}
 use Rattle.hpx_journal.specs.Frames.{acts_in}
 use Rattle.hpx_journal.specs.Local.{is_act, is_standing, is_busy}
 use Rattle.hpx_journal.specs.Names.{names}
-use Rattle.hpx_journal.specs.Tokens.{held, owing, is_held, is_owed, same_token}
+use Rattle.hpx_journal.specs.Tokens.{held, owing, is_held}
 use Rattle.hpx_journal.proofs.Same.{same_object-through, same_token-true, held-Counts}
-use Rattle.hpx_part.specs.Data.{Standing, Token, Travel, Local}
+use Rattle.hpx_part.specs.Data.{Standing, Travel, Local}
 use Rattle.hpx_part.specs.Shows.{IsWeight, Shows}
 use Rattle.hpx_part.proofs.Covered.{act_names, object_names, due_names}
 use Rattle.hpx_part.proofs.Keyed.{Agree-sum}
@@ -24,7 +24,7 @@ use Rattle.hpx_node.specs.declared.parts.Outgoing.{Outgoing}
 use Rattle.hpx_node.specs.Kept.{stands_here, credit_in, ids_held, credit_owed, held_here, owed_here, held_worth, owed_worth}
 use Rattle.hpx_node.specs.Pending.{Waits, action_of}
 use Rattle.hpx_node.specs.Tables.{Tables, IsPassive, messages}
-use Rattle.hpx_node.specs.Seen.{bare_standing, tokens_of, parcel_tokens, view}
+use Rattle.hpx_node.specs.Seen.{bare_standing, parcel_tokens, view}
 use Rattle.hpx_node.specs.Stands.{IsTidy}
 use Rattle.hpx_node.proofs.Cover.{held_counts, held_each}
 use Rattle.hpx_node.proofs.Sums.{weigh, weigh_append, tokens_sum, view_sum}

@@ -222,6 +222,7 @@ paused_on here n log xs ys w h found = record {
   state = h.state;
   hand = h.hand;
   within = h.within;
+  refused = h.refused;
   once = h.once;
   split = h.split;
 }

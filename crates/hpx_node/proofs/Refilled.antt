@@ -37,6 +37,7 @@ use Rattle.hpx_node.proofs.InHand.{hand_sum}
 use Rattle.hpx_node.proofs.IdleCounts.{pays_given}
 use Rattle.hpx_node.proofs.LaterIds.{long_names}
 use Rattle.hpx_node.proofs.SplitHand.{not_asked}
+use Rattle.hpx_node.proofs.Places.{take_at, names_at, any_place}
 use Rattle.hpx_node.proofs.Steps.{Tells, tells_leads}
 use Rattle.hpx_node.proofs.Sums.{weigh_set, tokens_sum, view_sum}
 
@@ -273,6 +274,15 @@ module _ (k l log : ℕ) (objects : List Standing) (w : Waits) (n : ℕ) (ask : 
     ];
   }
 
+  -- what has no more credit is named
+  refused_then : (o : Id) (b : Bool) → cond b (Some (bare id)) w.refused ≡ Some o → list_any (same_object o) (ids_named w) ≡ true
+  refused_then o true e =
+      let there : bare (id_at w.hand ask.place) ≡ bare (id_at (ids_named w) ask.place) =
+      ap bare (sym (take_at (length (ids_named w)) w.hand ask.place low)) ∙ names_at (own_ids w) (ids_named w) paused.hand ask.place in
+      subst (λ k. list_any (same_object k) (ids_named w) ≡ true) (some_same (bare id) o e)
+      (any_place (bare id) (ids_named w) ask.place low (same ∙ there))
+  refused_then o false e = paused.refused o e
+
   pub still_paused : IsPaused k l log objects (refilled n ask.place id w)
   still_paused = record {
     job = paused.job;
@@ -285,6 +295,7 @@ module _ (k l log : ℕ) (objects : List Standing) (w : Waits) (n : ℕ) (ask : 
     state = paused.state;
     hand = put_names (length (ids_named w)) w.hand ask.place id inside same ∙ paused.hand;
     within = all_remove (λ (x : Asked). x.place < length (ids_named w)) w.asked n paused.within;
+    refused = λ o e. refused_then o (log_of id.log == 0) e;
     once = once_then;
     split = split_then;
   }

@@ -265,6 +265,7 @@ module _ (job : Job) (out : Outcome) (later : List Id) (places : List ℕ) (fit 
       state = state;
       hand = strip_names many short split short_within ∙ hand_names job later places fit within;
       within = asked_low m many short short_low;
+      refused = λ o e. absurd (cc);
       once = λ p lt. each_once m p lt;
       split = fresh_split;
     }

@@ -14,7 +14,7 @@ use Rattle.hpx_node.specs.Changes.{OnlySpare, Writes}
 use Rattle.hpx_node.specs.Stands.{StandsWith, rules_of}
 use Rattle.hpx_node.specs.Strange.{Broken, breaks, is_far, broken, broken_near}
 use Rattle.hpx_node.specs.Handled.{is_own, effects, kind_of, Takes, Clears}
-use Rattle.hpx_node.specs.Resumes.{Continues}
+use Rattle.hpx_node.specs.Next.{Continues}
 use Rattle.hpx_node.proofs.Same.{writes_then}
 use Rattle.hpx_node.proofs.Right.{not_broken, near_right, near_popped}
 use Rattle.hpx_node.proofs.Taken.{taken_few}

@@ -24,7 +24,7 @@ pub use Rattle.hpx_node.specs.Idle.{kind_of}
 use Rattle.hpx_node.specs.Idle.{Pays, PaysFor}
 pub use Rattle.hpx_node.specs.Routes.{more_here}
 use Rattle.hpx_node.specs.Routes.{with_returns, DealsWith, Accepts}
-use Rattle.hpx_node.specs.Resumes.{Continues}
+use Rattle.hpx_node.specs.Next.{Continues}
 
 -- ---- what it writes
 
@@ -120,14 +120,14 @@ abbrev pub is_own : ℕ → Parcel → Bool
 is_own k (Free o) = o.home == k
 is_own k _ = true
 
--- a frame is accepted: it spells a message that breaks no rule, whose action, if it has one, waits; where it brings a commit the
--- last credit, that goes on
+-- a frame is accepted: it spells a message that breaks no rule, whose action, if it has one, waits; where it brings a commit its
+-- last answer, that goes on, or its action fails
 pub record Takes (bytes : List ℕ) (t t' : Tables) (entries entries' : List Entry) : Type 0 where
   pub parcel : Parcel
   pub spelled : parcel_of bytes ≡ Some parcel
   pub right : broken t parcel ≡ None
   pub mid : Tables  -- once the message is dealt with
-  pub more : List Event  -- of the commit
+  pub more : List Event  -- of what follows
   pub writes : Writes (In bytes ∷ (effects t parcel ++ more)) t t' entries entries'
   pub deals : DealsWith parcel (record t { taken = t.taken + 1 }) mid
   pub continues : Continues parcel (record t { taken = t.taken + 1 }) mid t' more
@@ -135,14 +135,14 @@ pub record Takes (bytes : List ℕ) (t t' : Tables) (entries entries' : List Ent
   pub sent : t'.sent ≡ t.sent
 
 -- the first message on the desk breaks no rule, and is dealt with: its action, if it has one, is accepted; where it brings a commit
--- the last credit, that goes on
+-- its last answer, that goes on, or its action fails
 pub record Clears (t t' : Tables) (entries entries' : List Entry) : Type 0 where
   pub parcel : Parcel
   pub rest : List Parcel
   pub first : t.desk ≡ parcel ∷ rest
   pub right : broken t parcel ≡ None
   pub mid : Tables  -- once the message is dealt with
-  pub more : List Event  -- of the commit
+  pub more : List Event  -- of what follows
   pub writes : Writes (Mail (kind_of parcel) ∷ (effects t parcel ++ more)) t t' entries entries'
   pub accepts : Accepts parcel (record t { desk = rest }) mid
   pub continues : Continues parcel (record t { desk = rest }) mid t' more

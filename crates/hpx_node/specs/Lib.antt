@@ -11,6 +11,8 @@ pub mod Paused
 pub mod Births
 pub mod Commits
 pub mod Asks
+pub mod Fails
+pub mod Next
 pub mod Resumes
 pub mod Kept
 pub mod Strange

@@ -1,6 +1,6 @@
 -- Commits that wait for credit, against what else a node keeps.
-use Rattle.std.specs.Prelude.{ℕ, false, List, [], ◌∷◌, ◌≡◌, ◌≢◌, ◌⊎◌, ◌≤◌, ◌<◌, ◌&&◌, ◌==◌, cond, not, is_some, map, length, drop, Option, Some, None}
-use Rattle.std.specs.List.{find, sum_by, count_by, AllByRecursion}
+use Rattle.std.specs.Prelude.{ℕ, true, false, List, [], ◌∷◌, ◌≡◌, ◌≢◌, ◌⊎◌, ◌≤◌, ◌<◌, ◌&&◌, ◌==◌, cond, not, is_some, map, length, drop, Option, Some, None}
+use Rattle.std.specs.List.{find, list_any, sum_by, count_by, AllByRecursion}
 use Rattle.hpx_value.specs.Ids.{bare, same_object}
 use Rattle.hpx_value.specs.Values.{bare_state}
 use Rattle.hpx_value.specs.Hands.{id_at, hand_ids}
@@ -54,8 +54,9 @@ pub record HasSplit (log : ℕ) (w : Waits) : Type 0 where
   pub own : (p : ℕ) → p < length (ids_named w) → Lasting (first_stock w made) p → id_at w.hand p ≡ id_at (first_stock w made).hand p
   pub short : (p : ℕ) → p < length (ids_named w) → (Lasting (first_stock w made) p → ⊥) → IsShort log w.refused (id_at w.hand p)
 
--- a commit that waits at k, of n localities, where new objects have credit of this log: its object stands here as the job found it, but without credits, and the hand
--- names what its object and its action name; of these each managed id without credit is asked for once
+-- a commit that waits at k, of n localities, where new objects have credit of this log: its object stands here as the job found it,
+-- but without credits, and the hand names what its object and its action name; of these each managed id without credit is asked for
+-- once, and one that was refused is among them
 pub record IsPaused (k n log : ℕ) (objects : List Standing) (w : Waits) : Type 0 where
   pub job : IsFitJob w.job
   pub here : w.job.at ≡ k
@@ -67,6 +68,7 @@ pub record IsPaused (k n log : ℕ) (objects : List Standing) (w : Waits) : Type
   pub state : standing.state ≡ bare_state w.job.state
   pub hand : map bare (own_ids w) ≡ map bare (ids_named w)
   pub within : AllByRecursion (λ x. x.place < length (ids_named w)) w.asked
+  pub refused : (o : Id) → w.refused ≡ Some o → list_any (same_object o) (ids_named w) ≡ true
   pub once : (p : ℕ) → p < length (ids_named w) → count_by (λ x. x.place == p) w.asked ≡ cond (is_asked (id_at w.hand p)) 1 0
   pub split : HasSplit log w
 

@@ -1,5 +1,5 @@
 -- A commit that waited and goes on, once all that it asked for has come.
-use Rattle.std.specs.Prelude.{ℕ, Bool, true, false, List, [], ◌≡◌, ◌==◌, ◌&&◌, not, is_some, length, take, Option, Some, None}
+use Rattle.std.specs.Prelude.{ℕ, Bool, true, false, List, ◌≡◌, ◌==◌, ◌&&◌, not, is_some, length, take, Option, Some, None}
 use Rattle.std.specs.List.{find, remove, slice_get}
 use Rattle.hpx_journal.specs.Data.{Id, Parcel, Give}
 use Rattle.hpx_journal.specs.Entries.{target_of}
@@ -79,8 +79,3 @@ pub record GoesWithLast (id : Id) (entry : ℕ) (t mid t' : Tables) (more : List
 abbrev pub GoesWith : Parcel → Tables → Tables → Tables → List Event → Type 0
 GoesWith (Give id entry) t mid t' more = GoesWithLast id entry t mid t' more
 GoesWith _ t mid t' more = ⊥
-
--- a message that was dealt with at t has left mid: where it brought a commit the last credit, that goes on, and these are written
-pub record Continues (p : Parcel) (t mid t' : Tables) (more : List Event) : Type 0 where
-  pub rests : completes t p ≡ false → (t' ≡ mid) × (more ≡ [])
-  pub goes : completes t p ≡ true → GoesWith p t mid t' more

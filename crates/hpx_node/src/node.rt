@@ -29,11 +29,13 @@ use std::collections::VecDeque;
 use std::marker::Model;
 
 mod desk;
+mod fail;
 mod feed;
 mod finish;
 mod fire;
 mod frames;
 mod getters;
+mod next;
 mod pay;
 mod resume;
 mod rules;

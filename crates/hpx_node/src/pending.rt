@@ -1,6 +1,7 @@
 //! Commits that wait for credit that was asked for.
 ghost use Rattle.std.specs.Prelude.{◌≡◌, ◌<◌, true, None, IfSome, IfNone, IfOk, length, find};
 ghost use Rattle.std.specs.List.{AllByRecursion, slice_get};
+ghost use Rattle.hpx_node.specs.Fails.{fails_with};
 ghost use Rattle.hpx_node.specs.Jobs.{IsFitJob};
 ghost use Rattle.hpx_node.specs.Pending.{is_asked_for, awaits, waits_for_one, hand_with, waits_with, Refills};
 
@@ -94,6 +95,13 @@ impl<A: Acts> Pending<A> {
         ensures { result ≡ waits_for_one self.now }
     {
         self.asked.len() == 1 && self.refused.is_none()
+    }
+
+    /// Whether it fails with an id: it waits for nothing else, and this or another has no more credit.
+    pub fn fails_with(&self, id: Gid) -> bool
+        ensures { result ≡ fails_with id self.now }
+    {
+        self.asked.len() == 1 && (log_of(id) == 0 || self.refused.is_some())
     }
 
     /// The ids in its hand.

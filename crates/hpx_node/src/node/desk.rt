@@ -293,7 +293,7 @@ impl<A: Acts + Copy> Node<A> {
         self.handle(book, parcel);
     }
 
-    /// Makes memory for a message that is dealt with, and for a commit that goes on with it.
+    /// Makes memory for a message that is dealt with, and for what follows it.
     fn reserve_turn(&mut self, book: &mut Journal) -> Result<(), OutOfMemory>
         ensures same { OnlySpare self.old self.new book.old book.new }
         ensures spare { OnOk result (1280 ≤ self.new.spare) }
@@ -336,15 +336,15 @@ impl<A: Acts + Copy> Node<A> {
             Ok(bytes) => bytes,
             Err(_) => return Err(TakeFault::OutOfMemory),
         };
-        let ready = match self.ready(alloc, &parcel) {
-            Ok(ready) => ready,
+        let next = match self.next(alloc, &parcel) {
+            Ok(next) => next,
             Err(_) => return Err(TakeFault::OutOfMemory),
         };
         if self.reserve_turn(book).is_err() {
             return Err(TakeFault::OutOfMemory);
         }
         self.enter_frame(book, bytes, parcel);
-        self.go_on(book, ready);
+        self.follow(book, next);
         Ok(())
     }
 
@@ -370,8 +370,8 @@ impl<A: Acts + Copy> Node<A> {
                 kept: x.kept,
             });
         }
-        let ready = match self.ready(alloc, self.desk[0].parcel()) {
-            Ok(ready) => ready,
+        let next = match self.next(alloc, self.desk[0].parcel()) {
+            Ok(next) => next,
             Err(_) => return Err(DeskFault::OutOfMemory),
         };
         if self.reserve_turn(book).is_err() {
@@ -381,7 +381,7 @@ impl<A: Acts + Copy> Node<A> {
             return Ok(false);
         };
         self.enter_mail(book, letter.into_parcel());
-        self.go_on(book, ready);
+        self.follow(book, next);
         Ok(true)
     }
 }

@@ -153,27 +153,4 @@ impl<A: Acts + Copy> Node<A> {
         self.settle_waiting(book, i, j, state);
         self.leave(book, due, ups);
     }
-
-    /// Goes on with a commit, if one is ready.
-    pub fn go_on(&mut self, book: &mut Journal, ready: Option<Ready>)
-        requires waits { IfSome ready (λ y. y.i < length self.old.pending) }
-        requires may { IfSome ready (λ y. (w : _) → slice_get self.old.pending y.i ≡ Some w → MayResume self.old w y.j y.prepared) }
-        requires room { length book.old.entries + 800 ≤ 2097152 }
-        requires spare { IfSome ready (λ y. 1024 ≤ self.old.spare) }
-        requires page { IfSome ready (λ y. 1024 ≤ book.old.spare) }
-        requires stands { Stands A.act_of self.old book.old.entries }
-        ensures stands { Stands A.act_of self.new book.new.entries }
-        ensures running { self.new.running ≡ self.old.running }
-        ensures taken { self.new.taken ≡ self.old.taken }
-        ensures sent { self.new.sent ≡ self.old.sent }
-        ensures few { length book.new.entries ≤ length book.old.entries + 596 }
-        ensures none { IfNone ready ((self.new ≡ self.old) × (book.new.entries ≡ book.old.entries)) }
-        ensures pending { IfSome ready (λ y. self.new.pending ≡ remove self.old.pending y.i) }
-        ensures writes { IfSome ready (λ y. (w : _) → slice_get self.old.pending y.i ≡ Some w
-            → Writes (committed_from self.old w.job w.outcome (full_stock self.old w)) self.old self.new book.old.entries book.new.entries) }
-    {
-        if let Some(ready) = ready {
-            self.resume(book, ready);
-        }
-    }
 }

@@ -1,7 +1,8 @@
 use Rattle.std.proofs.Common.{◌∷◌, ◌≡◌, ◌≤◌, ◌∙◌, get_or, sym, ap}
 use Rattle.hpx_journal.specs.Data.{Parcel}
 use Rattle.hpx_node.specs.Tables.{Tables}
-use Rattle.hpx_node.proofs.Continued.{ready_first, completes_first, given_mail, ready_gives, all_inside, all_may, is_continued}
+use Rattle.hpx_node.proofs.Continued.{given_mail}
+use Rattle.hpx_node.proofs.Followed.{next_first, may_follow, next_gives, is_continued}
 use Rattle.hpx_node.proofs.Spared.{spare_stands, mail_by, mail_near, first_own, first_stands, cleared}
 use Rattle.hpx_node.proofs.node.Node.desk.Goals as goal
 
@@ -40,53 +41,41 @@ enter_mail-requires-clause-stands g c =
     first_stands g.A.Acts.act_of _ c.into_parcel.result c.pop_front.new.self.items _ _
     (c.in-Some-pop_front.ensures.items ∙ ap (λ (q : Parcel). q ∷ c.pop_front.new.self.items) (sym c.into_parcel.ensures.parcel)) i
 
-pub go_on-requires-clause-waits : goal.go_on-requires-clause-waits
-go_on-requires-clause-waits g c =
+pub follow-requires-clause-may : goal.follow-requires-clause-may
+follow-requires-clause-may g c =
     let t = c.args.self.now in
     let p = c.into_parcel.result in
     let rest = c.pop_front.new.self.items in
     let same = rw (← c.self-2.view_is) at c.reserve_turn.ensures.same in
     let first = c.in-Some-pop_front.ensures.items ∙ ap (λ (q : Parcel). q ∷ c.pop_front.new.self.items) (sym c.into_parcel.ensures.parcel) in
     let is = (rw (← c.parcel-2.ensures.parcel) at c.index-2.ensures) ∙ ap (λ (x : Tables). get_or x.desk 0 c.parcel-2.result.now) c.self.view_is in
-    let some = ready_first t _ p c.parcel-2.result.now rest c.in-Ok.ready same.tables first is c.in-Ok.ensures.some in
+    let next = next_first t _ p c.parcel-2.result.now rest c.in-Ok.next same.tables first is c.in-Ok.ensures in
     let gives = given_mail t _ c.enter_mail.new.self p rest _ same.tables c.enter_mail.ensures.accepts in
-    all_inside t t.taken _ rest c.enter_mail.new.self p c.in-Ok.ready some gives
+    may_follow t t.taken _ rest c.enter_mail.new.self p c.in-Ok.next next gives
 
-pub go_on-requires-clause-may : goal.go_on-requires-clause-may
-go_on-requires-clause-may g c =
+pub follow-requires-clause-spare : goal.follow-requires-clause-spare
+follow-requires-clause-spare g c =
     let t = c.args.self.now in
     let p = c.into_parcel.result in
     let rest = c.pop_front.new.self.items in
     let same = rw (← c.self-2.view_is) at c.reserve_turn.ensures.same in
     let first = c.in-Some-pop_front.ensures.items ∙ ap (λ (q : Parcel). q ∷ c.pop_front.new.self.items) (sym c.into_parcel.ensures.parcel) in
     let is = (rw (← c.parcel-2.ensures.parcel) at c.index-2.ensures) ∙ ap (λ (x : Tables). get_or x.desk 0 c.parcel-2.result.now) c.self.view_is in
-    let some = ready_first t _ p c.parcel-2.result.now rest c.in-Ok.ready same.tables first is c.in-Ok.ensures.some in
+    let next = next_first t _ p c.parcel-2.result.now rest c.in-Ok.next same.tables first is c.in-Ok.ensures in
     let gives = given_mail t _ c.enter_mail.new.self p rest _ same.tables c.enter_mail.ensures.accepts in
-    all_may t t.taken _ rest c.enter_mail.new.self p c.in-Ok.ready some gives
+    next_gives (1024 ≤ c.enter_mail.new.self.spare) t p c.in-Ok.next next (λ id entry e. c.enter_mail.ensures.spare id entry e)
 
-pub go_on-requires-clause-spare : goal.go_on-requires-clause-spare
-go_on-requires-clause-spare g c =
+pub follow-requires-clause-page : goal.follow-requires-clause-page
+follow-requires-clause-page g c =
     let t = c.args.self.now in
     let p = c.into_parcel.result in
     let rest = c.pop_front.new.self.items in
     let same = rw (← c.self-2.view_is) at c.reserve_turn.ensures.same in
     let first = c.in-Some-pop_front.ensures.items ∙ ap (λ (q : Parcel). q ∷ c.pop_front.new.self.items) (sym c.into_parcel.ensures.parcel) in
     let is = (rw (← c.parcel-2.ensures.parcel) at c.index-2.ensures) ∙ ap (λ (x : Tables). get_or x.desk 0 c.parcel-2.result.now) c.self.view_is in
-    let some = ready_first t _ p c.parcel-2.result.now rest c.in-Ok.ready same.tables first is c.in-Ok.ensures.some in
+    let next = next_first t _ p c.parcel-2.result.now rest c.in-Ok.next same.tables first is c.in-Ok.ensures in
     let gives = given_mail t _ c.enter_mail.new.self p rest _ same.tables c.enter_mail.ensures.accepts in
-    ready_gives (1024 ≤ c.enter_mail.new.self.spare) t p c.in-Ok.ready some (λ id entry e. c.enter_mail.ensures.spare id entry e)
-
-pub go_on-requires-clause-page : goal.go_on-requires-clause-page
-go_on-requires-clause-page g c =
-    let t = c.args.self.now in
-    let p = c.into_parcel.result in
-    let rest = c.pop_front.new.self.items in
-    let same = rw (← c.self-2.view_is) at c.reserve_turn.ensures.same in
-    let first = c.in-Some-pop_front.ensures.items ∙ ap (λ (q : Parcel). q ∷ c.pop_front.new.self.items) (sym c.into_parcel.ensures.parcel) in
-    let is = (rw (← c.parcel-2.ensures.parcel) at c.index-2.ensures) ∙ ap (λ (x : Tables). get_or x.desk 0 c.parcel-2.result.now) c.self.view_is in
-    let some = ready_first t _ p c.parcel-2.result.now rest c.in-Ok.ready same.tables first is c.in-Ok.ensures.some in
-    let gives = given_mail t _ c.enter_mail.new.self p rest _ same.tables c.enter_mail.ensures.accepts in
-    ready_gives (1024 ≤ c.enter_mail.new.book.spare) t p c.in-Ok.ready some (λ id entry e. c.enter_mail.ensures.page id entry e)
+    next_gives (1024 ≤ c.enter_mail.new.book.spare) t p c.in-Ok.next next (λ id entry e. c.enter_mail.ensures.page id entry e)
 
 pub returns-clause-cleared : goal.returns-clause-cleared
 returns-clause-cleared g c =
@@ -96,12 +85,11 @@ returns-clause-cleared g c =
     let same = rw (← c.self-2.view_is) at c.reserve_turn.ensures.same in
     let first = c.in-Some-pop_front.ensures.items ∙ ap (λ (q : Parcel). q ∷ c.pop_front.new.self.items) (sym c.into_parcel.ensures.parcel) in
     let is = (rw (← c.parcel-2.ensures.parcel) at c.index-2.ensures) ∙ ap (λ (x : Tables). get_or x.desk 0 c.parcel-2.result.now) c.self.view_is in
-    let some = ready_first t _ p c.parcel-2.result.now rest c.in-Ok.ready same.tables first is c.in-Ok.ensures.some in
+    let next = next_first t _ p c.parcel-2.result.now rest c.in-Ok.next same.tables first is c.in-Ok.ensures in
     let gives = given_mail t _ c.enter_mail.new.self p rest _ same.tables c.enter_mail.ensures.accepts in
-    let none = completes_first t _ p c.parcel-2.result.now rest c.in-Ok.ready same.tables first is c.in-Ok.ensures.none in
-    let k = is_continued t t.taken _ rest c.enter_mail.new.self c.go_on.new.self c.enter_mail.new.book.entries c.go_on.new.book.entries p c.in-Ok.ready
-    some none gives c.go_on.ensures.running c.go_on.ensures.none c.go_on.ensures.pending c.go_on.ensures.writes in
+    let k = is_continued t t.taken _ rest c.enter_mail.new.self c.follow.new.self c.enter_mail.new.book.entries c.follow.new.book.entries p c.in-Ok.next
+    next gives c.follow.ensures.running c.follow.ensures.followed in
     let looked = (rw (← c.parcel.ensures.parcel) at c.index.ensures) ∙ ap (λ (x : Tables). get_or x.desk 0 c.parcel.result.now) c.self.view_is in
-    λ ok. cleared t _ c.enter_mail.new.self _ _ p c.parcel.result.now rest _ c.broken.result c.enter_mail.new.book.entries same first looked c.broken.ensures
-    c.in_default.is c.enter_mail.ensures.writes c.enter_mail.ensures.accepts c.enter_mail.ensures.taken c.enter_mail.ensures.sent
-    c.go_on.new.self k.more c.go_on.new.book.entries k.continues k.writes c.go_on.ensures.taken c.go_on.ensures.sent
+    λ ok. cleared t _ _ _ _ p c.parcel.result.now rest _ c.broken.result _ same first looked c.broken.ensures c.in_default.is
+    c.enter_mail.ensures.writes c.enter_mail.ensures.accepts c.enter_mail.ensures.taken c.enter_mail.ensures.sent
+    c.follow.new.self k.more c.follow.new.book.entries k.continues k.writes c.follow.ensures.taken c.follow.ensures.sent

@@ -1,0 +1,135 @@
+-- What an action leaves that fails: an answer that may be sent, ids that may be given up, and no credit is lost.
+use Rattle.std.proofs.Common.{ℕ, zero, suc, Bool, true, false, cond, codes, List, [], ◌∷◌, ◌++◌, ◌≡◌, ◌+◌, ◌≤◌, ◌<◌, ◌==◌, Option, Some, None, map, length, length-append, refl, sym, ap, ◌∙◌, arith, inl, inr, lit≤}
+use Rattle.std.specs.Prelude.{flat_map, MatchOption}
+use Rattle.std.specs.List.{filter, remove, AllByRecursion}
+use Rattle.std.proofs.lemmas.Bool.{cases_Bool}
+use Rattle.std.proofs.lemmas.List.Sums.{length-filter, count_by-le-length}
+use Rattle.hpx_value.specs.Ids.{bare}
+use Rattle.hpx_value.specs.Values.{bare_act}
+use Rattle.hpx_value.specs.Hands.{id_at, own_slot, answer}
+use Rattle.hpx_parcel.specs.Parcels.{HasRightCredit, HasCredit}
+use Rattle.hpx_journal.specs.Data.{Id, Cont, State, Act, MessageDue, PrintDue, Fault}
+use Rattle.hpx_journal.specs.Names.{due_ids}
+use Rattle.hpx_journal.specs.Local.{failure}
+use Rattle.hpx_part.specs.Data.{Token}
+use Rattle.hpx_commit.specs.Deals.{is_managed, ids_due}
+use Rattle.hpx_commit.specs.Failures.{action_ids, halves_ahead, ids_had, state_failed, due_failed, unanswered, ups_failed}
+use Rattle.hpx_commit.proofs.Failed.{due_bare, failed_sums, all_unanswered}
+use Rattle.hpx_node.specs.Fit.{IsFitDue}
+use Rattle.hpx_node.specs.Seen.{bare_due}
+use Rattle.hpx_node.proofs.Alls.{all_append}
+use Rattle.hpx_node.proofs.FilledDue.{is_least, has_credit, due_credit, same_ids, weigh_one, each_weighs, weigh_managed}
+use Rattle.hpx_node.proofs.HandFit.{credit_at}
+use Rattle.hpx_node.proofs.Sums.{weigh, weigh_append}
+
+-- ---- the answer and the print
+
+answer_fit : (ids : List Id) (cont : Option Cont) → AllByRecursion HasRightCredit ids
+    → AllByRecursion IsFitDue (map (λ x. MessageDue (answer [] x (Fault 5))) (own_slot ids cont))
+answer_fit ids None h = tt
+answer_fit ids (Some c) h = (
+  record {
+    sent = record {
+      shape = record {
+        values = record { few = lit≤ tt; each = (tt, ((lit≤ tt, lit≤ tt), tt)) };
+        refs = tt;
+        few_refs = lit≤ tt;
+        cont = tt;
+        ids = refl;
+        short = lit≤ tt;
+      };
+      credit = (credit_at ids c.place h, tt);
+    };
+    moves = λ e. absurd (omega (arith, e));
+  },
+  tt,
+)
+
+print_fit : (b : Bool) → AllByRecursion IsFitDue (cond b (PrintDue (codes "error: credit limit\n") ∷ []) [])
+print_fit true = (tt, tt)
+print_fit false = tt
+
+pub failed_fit : (ids : List Id) (cont : Option Cont) → AllByRecursion HasRightCredit ids → AllByRecursion IsFitDue (due_failed ids cont)
+failed_fit ids cont h = all_append IsFitDue (map (λ x. MessageDue (answer [] x (Fault 5))) (own_slot ids cont)) _ (answer_fit ids cont h) (print_fit _)
+
+print_few : (b : Bool) → length (cond b (PrintDue (codes "error: credit limit\n") ∷ []) []) ≤ 1
+print_few true = lit≤ tt
+print_few false = lit≤ tt
+
+pub failed_few : (ids : List Id) (cont : Option Cont) → length (due_failed ids cont) ≤ 2
+failed_few ids None = omega (arith, print_few ((id_at ids 0).kind == 1))
+failed_few ids (Some c) = omega (arith, print_few ((id_at ids 0).kind == 1))
+
+-- without credits it is what the journal says of a failure
+pub failed_due : (act : Act) (ids : List Id) → map bare ids ≡ map bare act.ids → failure (bare_act act) ≡ map bare_due (due_failed ids act.cont)
+failed_due act ids same = ap (λ xs. due_failed xs act.cont) (sym same) ∙ sym (due_bare bare_due (λ m. refl) (λ bytes. refl) ids act.cont)
+
+-- ---- what is given up
+
+managed_credit : (ids : List Id) → AllByRecursion HasRightCredit ids → AllByRecursion HasCredit (filter is_managed ids)
+managed_credit [] h = tt
+managed_credit (id ∷ ids) h = elim (cases_Bool (is_managed id)) [
+  | inl t ↦ rw t (has_credit id.kind id.log (is_least id.kind t) h.0, managed_credit ids h.1)
+  | inr f ↦ rw f (managed_credit ids h.1)
+]
+
+remove_few : (ids : List Id) (i : ℕ) → length (remove ids i) ≤ length ids
+remove_few [] zero = omega arith
+remove_few [] (suc i) = omega arith
+remove_few (id ∷ ids) zero = omega arith
+remove_few (id ∷ ids) (suc i) = omega (arith, remove_few ids i)
+
+left_few : (ids : List Id) (cont : Option Cont) → length (unanswered ids cont) ≤ length ids
+left_few ids None = omega arith
+left_few ids (Some c) = remove_few ids c.place
+
+credit_right : (ids : List Id) → AllByRecursion HasCredit ids → AllByRecursion HasRightCredit ids
+credit_right [] h = tt
+credit_right (id ∷ ids) h = (right id.log h.0, credit_right ids h.1)
+  where
+    right : (log : Option ℕ) → MatchOption log ⊥ (λ l. 16 ≤ id.kind) → MatchOption log (id.kind < 16) (λ l. 16 ≤ id.kind)
+    right None e = absurd e
+    right (Some l) e = e
+
+pub ups_few : (s : State) (a : Act) (makes : ℕ) (ids : List Id)
+    → length (ups_failed s a makes ids) ≤ length (action_ids s a ids) + length (halves_ahead s a makes ids)
+ups_few s a makes ids =
+    omega (
+      arith,
+      length-filter is_managed (unanswered (action_ids s a ids) a.cont ++ halves_ahead s a makes ids),
+      count_by-le-length is_managed (unanswered (action_ids s a ids) a.cont ++ halves_ahead s a makes ids),
+      length-append (unanswered (action_ids s a ids) a.cont) (halves_ahead s a makes ids),
+      left_few (action_ids s a ids) a.cont,
+    )
+
+module _ (s : State) (a : Act) (makes : ℕ) (ids : List Id) (state : AllByRecursion HasRightCredit (state_failed s ids).ids)
+    (action : AllByRecursion HasRightCredit (action_ids s a ids)) (halves : AllByRecursion HasCredit (halves_ahead s a makes ids)) where
+  rest_right : AllByRecursion HasRightCredit (unanswered (action_ids s a ids) a.cont ++ halves_ahead s a makes ids)
+  rest_right = all_append HasRightCredit (unanswered (action_ids s a ids) a.cont) (halves_ahead s a makes ids)
+      (all_unanswered HasRightCredit (action_ids s a ids) a.cont action) (credit_right (halves_ahead s a makes ids) halves)
+
+  pub ups_credit : AllByRecursion HasCredit (ups_failed s a makes ids)
+  ups_credit = managed_credit (unanswered (action_ids s a ids) a.cont ++ halves_ahead s a makes ids) rest_right
+
+  had_right : AllByRecursion HasRightCredit (ids_had s a makes ids)
+  had_right = all_append HasRightCredit (state_failed s ids).ids (action_ids s a ids ++ halves_ahead s a makes ids) state
+      (all_append HasRightCredit (action_ids s a ids) (halves_ahead s a makes ids) action (credit_right (halves_ahead s a makes ids) halves))
+
+  due_right : AllByRecursion HasRightCredit (flat_map ids_due (due_failed (action_ids s a ids) a.cont))
+  due_right = due_credit (due_failed (action_ids s a ids) a.cont) (failed_fit (action_ids s a ids) a.cont action)
+
+  -- the new state, what is due and what is given up weigh what was there
+  module _ (f : Token → ℕ) where
+    pub failed_weighs : weigh f (state_failed s ids).ids + weigh f (flat_map due_ids (due_failed (action_ids s a ids) a.cont)) + weigh f (ups_failed s a makes ids)
+        ≡ weigh f (state_failed s ids).ids + weigh f (action_ids s a ids) + weigh f (halves_ahead s a makes ids)
+    failed_weighs = omega (
+      arith,
+      weigh_managed f (state_failed s ids).ids state,
+      ap (weigh f) (same_ids (due_failed (action_ids s a ids) a.cont)),
+      weigh_managed f (flat_map ids_due (due_failed (action_ids s a ids) a.cont)) due_right,
+      each_weighs f (ups_failed s a makes ids),
+      failed_sums (weigh_one f) s a makes ids,
+      weigh_managed f (ids_had s a makes ids) had_right,
+      weigh_append f (state_failed s ids).ids (action_ids s a ids ++ halves_ahead s a makes ids),
+      weigh_append f (action_ids s a ids) (halves_ahead s a makes ids),
+    )

@@ -1,0 +1,94 @@
+-- A failure is planned before the last id is in the hand.
+use Rattle.std.proofs.Common.{ℕ, Bool, List, [], ◌∷◌, ◌≡◌, ◌≤◌, ◌<◌, ◌+◌, Option, Some, None, drop, set, length, refl, sym, ap, ◌∙◌, arith, inl, inr, subst}
+use Rattle.std.specs.Prelude.{Result, Ok, Err, IfOk}
+use Rattle.std.specs.List.{find, slice_get, AllByRecursion}
+use Rattle.std.proofs.lemmas.Bool.{cases_Bool}
+use Rattle.std.proofs.lemmas.List.{drop-set-lt, length-set}
+use Rattle.hpx_value.specs.Laws.{KeepsLaws}
+use Rattle.hpx_value.specs.declared.acts.Job.{Job}
+use Rattle.hpx_journal.specs.Data.{Id, Outcome}
+use Rattle.hpx_commit.specs.Failures.{action_ids, state_failed, due_failed, ups_failed}
+use Rattle.hpx_commit.specs.declared.plan.Plan.{Plan}
+use Rattle.hpx_node.specs.Fails.{ups_left, IsFailure}
+use Rattle.hpx_node.specs.Paused.{IsPaused}
+use Rattle.hpx_node.specs.Pending.{Asked, Waits, ids_named, is_asked_for, put_for, hand_with, Refills}
+use Rattle.hpx_node.specs.Stands.{IsTidy}
+use Rattle.hpx_node.specs.Tables.{Tables}
+use Rattle.hpx_node.proofs.Alls.{some_same, all_at}
+use Rattle.hpx_node.proofs.FailedFew.{ups_limit}
+use Rattle.hpx_node.proofs.HandLeft.{long_enough}
+use Rattle.hpx_node.proofs.Refilled.{hand_long}
+
+all_found : {X : Type 0} (P : X → Type 0) (p : X → Bool) (xs : List X) (x : X) → AllByRecursion P xs → find p xs ≡ Some x → P x
+all_found P p [] x all h = cc
+all_found P p (y ∷ ys) x all h = elim (cases_Bool (p y)) [
+  | inl t ↦ let e : Some y ≡ Some x = rw t at h in subst P (some_same y x e) all.0
+  | inr f ↦ all_found P p ys x all.1 (rw f at h)
+]
+
+pub paused_at : (t : Tables) (i : ℕ) (w : Waits) → IsTidy t [] → slice_get t.pending i ≡ Some w
+    → IsPaused t.here t.localities t.profile.credit_log t.objects w
+paused_at t i w tidy there = all_at (IsPaused t.here t.localities t.profile.credit_log t.objects) t.pending i w tidy.paused.each there
+
+module _ (t : Tables) (i : ℕ) (w : Waits) (id : Id) (entry : ℕ) (tidy : IsTidy t []) (there : slice_get t.pending i ≡ Some w) where
+  paused : IsPaused t.here t.localities t.profile.credit_log t.objects w
+  paused = paused_at t i w tidy there
+
+  -- the id stands among those that are named
+  put_long : (o : Option Asked) → length (put_for w.hand id o) ≡ length w.hand
+  put_long None = refl
+  put_long (Some ask) = length-set w.hand ask.place id
+
+  put_rest : (o : Option Asked) → find (is_asked_for w id entry) w.asked ≡ o → drop (length (ids_named w)) (put_for w.hand id o) ≡ drop (length (ids_named w)) w.hand
+  put_rest None e = refl
+  put_rest (Some ask) e = drop-set-lt (length (ids_named w)) w.hand ask.place id
+      (all_found (λ (x : Asked). x.place < length (ids_named w)) (is_asked_for w id entry) w.asked ask paused.within e)
+
+  pub plan_long : length w.job.state.ids + length w.job.action.ids + length w.outcome.makes ≤ length (hand_with id entry w)
+  plan_long = long_enough w (hand_with id entry w) paused.job paused.split.made paused.split.kinds paused.split.bare paused.split.within
+      (put_rest (find (is_asked_for w id entry) w.asked) refl ∙ paused.split.rest)
+      (omega (arith, put_long (find (is_asked_for w id entry) w.asked), hand_long t.here t.localities t.profile.credit_log t.objects w paused))
+
+  pub plan_limit : (n : ℕ) → KeepsLaws n w.job.kind w.job.at w.job.state w.job.action w.outcome → length (ups_left (record w { hand = hand_with id entry w })) ≤ 226
+  plan_limit n laws = ups_limit n w (hand_with id entry w) paused.job paused.split.made paused.split.kinds paused.split.bare paused.split.within
+      (put_rest (find (is_asked_for w id entry) w.asked) refl ∙ paused.split.rest) laws
+
+-- it is that of the commit once the id is in its hand
+pub failure_then : (w w' : Waits) (id : Id) (entry : ℕ) (p : Plan) → Refills id entry w w' → IsFailure (record w { hand = hand_with id entry w }) p → IsFailure w' p
+failure_then w w' id entry p refills is =
+    let hand : hand_with id entry w ≡ set w.hand refills.ask.place id = ap (put_for w.hand id) refills.first in
+    subst (λ v. IsFailure v p) (sym refills.now) (record {
+      state = is.state ∙ ap (λ ids. state_failed w.job.state ids) hand;
+      due = is.due ∙ ap (λ ids. due_failed (action_ids w.job.state w.job.action ids) w.job.action.cont) hand;
+      ups = is.ups ∙ ap (λ ids. ups_failed w.job.state w.job.action (length w.outcome.makes) ids) hand;
+    })
+
+-- ---- as the call does it
+
+module _ (pending : List Waits) (i : ℕ) (v : Waits) (id : Id) (entry : ℕ) (job : Job) (out : Outcome) (hand : List Id) (p : Plan)
+    (there : slice_get pending i ≡ Some v) (is_job : job ≡ v.job) (is_out : out ≡ v.outcome) (is_hand : hand ≡ hand_with id entry v)
+    (ups : p.ups.items ≡ ups_failed job.state job.action (length out.makes) hand) where
+  ups_are : p.ups.items ≡ ups_left (record v { hand = hand_with id entry v })
+  ups_are =
+      ups
+      ∙ (ap (λ (j : Job). ups_failed j.state j.action (length out.makes) hand) is_job
+      ∙ (ap (λ (o : Outcome). ups_failed v.job.state v.job.action (length o.makes) hand) is_out
+      ∙ ap (λ ids. ups_failed v.job.state v.job.action (length v.outcome.makes) ids) is_hand))
+
+  pub failure_is : p.state ≡ state_failed job.state hand → p.due.items ≡ due_failed (action_ids job.state job.action hand) job.action.cont
+      → (w : Waits) → slice_get pending i ≡ Some w → IsFailure (record w { hand = hand_with id entry w }) p
+  failure_is state due w at =
+      subst (λ (u : Waits). IsFailure (record u { hand = hand_with id entry u }) p) (some_same v w (sym there ∙ at)) (record {
+        state = state ∙ (ap (λ (j : Job). state_failed j.state hand) is_job ∙ ap (λ ids. state_failed v.job.state ids) is_hand);
+        due = due
+            ∙ (ap (λ (j : Job). due_failed (action_ids j.state j.action hand) j.action.cont) is_job
+            ∙ ap (λ ids. due_failed (action_ids v.job.state v.job.action ids) v.job.action.cont) is_hand);
+        ups = ups_are;
+      })
+
+  pub failure_few : length (ups_left (record v { hand = hand_with id entry v })) ≤ 226 → length p.ups.items ≤ 256
+  failure_few few = omega (arith, few, ap (λ (ids : List Id). length ids) ups_are)
+
+pub ok_three : {X E : Type 0} (r : Result X E) (P Q R S : X → Type 0) → IfOk r P → IfOk r Q → IfOk r R → ((x : X) → P x → Q x → R x → S x) → IfOk r S
+ok_three (Ok x) P Q R S h i j f = f x h i j
+ok_three (Err e) P Q R S h i j f = tt

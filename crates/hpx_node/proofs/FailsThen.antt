@@ -1,0 +1,93 @@
+-- An action whose failure was planned before its commit's last answer came fails with it.
+use Rattle.std.proofs.Common.{ℕ, zero, suc, Bool, true, false, cond, List, [], ◌∷◌, ◌≡◌, ◌==◌, Option, Some, None, set, length, refl, sym, ap, ◌∙◌, arith, subst}
+use Rattle.std.specs.Prelude.{◌||◌, is_some}
+use Rattle.std.specs.List.{find, slice_get, remove}
+use Rattle.std.proofs.lemmas.Bool.{eqb-true}
+use Rattle.hpx_value.specs.Ids.{bare}
+use Rattle.hpx_journal.specs.Data.{Id, Parcel, Apply, Return, Ask, Give, Cached, Move, Go, Shipped, Arrived, Free}
+use Rattle.hpx_journal.specs.Entries.{target_of}
+use Rattle.hpx_journal.specs.Local.{is_standing}
+use Rattle.hpx_journal.proofs.Same.{and_true}
+use Rattle.hpx_part.proofs.Keyed.{slice_get_less}
+use Rattle.hpx_commit.specs.Deals.{log_of}
+use Rattle.hpx_node.specs.declared.node.fail.Failing.{Failing}
+use Rattle.hpx_node.specs.Fails.{MustFail, IsFailure, IsFailing, IsFailingFor}
+use Rattle.hpx_node.specs.Pending.{Waits, Asked, awaits, is_asked_for, Refills}
+use Rattle.hpx_node.specs.Routes.{Gives}
+use Rattle.hpx_node.specs.Tables.{Tables}
+use Rattle.hpx_node.proofs.Alls.{some_same}
+use Rattle.hpx_node.proofs.Continued.{any_at, first_same, get_set}
+use Rattle.hpx_node.proofs.FailedPlan.{failure_then}
+
+one_gone : (xs : List Asked) (k : ℕ) (x : Asked) → slice_get xs k ≡ Some x → length xs ≡ 1 → remove xs k ≡ []
+one_gone [] k x h one = cc
+one_gone (y ∷ []) zero x h one = refl
+one_gone (y ∷ []) (suc k) x h one = cc
+one_gone (y ∷ z ∷ zs) k x h one = absurd (omega (arith, one))
+
+some_of : (b : Bool) (new : Id) (old : Option Id) → (b || is_some old) ≡ true → (o : Id) × (cond b (Some new) old ≡ Some o)
+some_of true new old h = (new, refl)
+some_of false new (Some o) h = (o, refl)
+some_of false new None h = absurd (cc)
+
+module _ (t : Tables) (n k : ℕ) (d : List Parcel) (mid : Tables) (id : Id) (entry : ℕ) (y : Failing) (fails : IsFailing t id entry y)
+    (g : Gives id entry (record t { taken = n; desk = d; spare = k }) mid) where
+  g_for : awaits id entry g.before ≡ true
+  g_for = any_at (is_asked_for g.before id entry) g.before.asked g.refills.k g.refills.ask g.refills.there g.refills.for
+
+  pub same_place : g.i ≡ y.i
+  same_place = first_same (awaits id entry) t.pending g.i y.i g.before fails.commit g.there fails.there g_for fails.for g.first fails.first
+
+  same_before : g.before ≡ fails.commit
+  same_before = some_same g.before fails.commit (sym g.there ∙ (ap (slice_get t.pending) same_place ∙ fails.there))
+
+  refills : Refills id entry fails.commit g.after
+  refills = subst (λ v. Refills id entry v g.after) same_before g.refills
+
+  pub now_there : slice_get mid.pending y.i ≡ Some g.after
+  now_there =
+      ap (λ (x : Tables). slice_get x.pending y.i) g.rest
+      ∙ (ap (slice_get (set t.pending g.i g.after)) (sym same_place)
+      ∙ get_set t.pending g.i g.after (slice_get_less t.pending g.i g.before g.there))
+
+  last : ((length fails.commit.asked == 1) ≡ true) × (((log_of id.log == 0) || is_some fails.commit.refused) ≡ true)
+  last = and_true (length fails.commit.asked == 1) ((log_of id.log == 0) || is_some fails.commit.refused) fails.last
+
+  given : g.after.asked ≡ []
+  given =
+      ap (λ (v : Waits). v.asked) refills.now
+      ∙ one_gone fails.commit.asked refills.k refills.ask refills.there (eqb-true (length fails.commit.asked) 1 last.0)
+
+  refused : (o : Id) × (cond (log_of id.log == 0) (Some (bare id)) fails.commit.refused ≡ Some o)
+  refused = some_of (log_of id.log == 0) (bare id) fails.commit.refused last.1
+
+  pub must_then : MustFail y.i y.j mid
+  must_then = record {
+    commit = g.after;
+    there = now_there;
+    given = given;
+    refusal = refused.0;
+    refused = ap (λ (v : Waits). v.refused) refills.now ∙ refused.1;
+    standing = fails.standing;
+    stands = ap (λ (x : Tables). slice_get x.objects y.j) g.rest ∙ fails.stands;
+    found = ap (λ (x : Tables). find (is_standing (target_of g.after.job.action)) x.objects) g.rest
+        ∙ (ap (λ (v : Waits). find (is_standing (target_of v.job.action)) t.objects) refills.now ∙ fails.found);
+  }
+
+  pub plan_then : (w : Waits) → slice_get mid.pending y.i ≡ Some w → IsFailure w y.plan
+  plan_then w h = subst (λ v. IsFailure v y.plan) (some_same g.after w (sym now_there ∙ h))
+      (failure_then fails.commit g.after id entry y.plan refills fails.plan)
+
+-- only a Give makes one fail
+pub only_fails : (t : Tables) (p : Parcel) (y : Failing) → IsFailingFor t p y → (P : Type 0)
+    → ((id : Id) (entry : ℕ) → p ≡ Give id entry → IsFailing t id entry y → P) → P
+only_fails t (Give id entry) y fails P h = h id entry refl fails
+only_fails t (Apply act) y fails P h = absurd fails
+only_fails t (Return id) y fails P h = absurd fails
+only_fails t (Ask id asker entry) y fails P h = absurd fails
+only_fails t (Cached id place) y fails P h = absurd fails
+only_fails t (Move act) y fails P h = absurd fails
+only_fails t (Go act) y fails P h = absurd fails
+only_fails t (Shipped act state) y fails P h = absurd fails
+only_fails t (Arrived id place) y fails P h = absurd fails
+only_fails t (Free o) y fails P h = absurd fails

@@ -1,0 +1,72 @@
+use Rattle.std.proofs.Common.{◌<◌, length, sym, ap, ◌∙◌, arith, subst}
+use Rattle.hpx_value.specs.declared.acts.Job.{Job}
+use Rattle.hpx_part.proofs.Keyed.{slice_get_is}
+use Rattle.hpx_node.specs.Jobs.{IsFitJob}
+use Rattle.hpx_node.proofs.FailedPlan.{paused_at, plan_long, plan_limit, failure_is, failure_few, ok_three}
+use Rattle.hpx_node.proofs.Waited.{ok_map}
+use Rattle.hpx_node.proofs.Refilled.{asked_within}
+use Rattle.hpx_node.proofs.node.Node.failure.Goals as goal
+
+pub lawful-requires-clause-localities : goal.lawful-requires-clause-localities
+lawful-requires-clause-localities g c =
+    let inside : c.args.i < length c.self.inside.pending.items = rw (← c.self.view_is) at c.requires.there in
+    let there = slice_get_is c.self.inside.pending.items c.args.i c.index-waits.result.now inside c.index-waits.ensures in
+    let tidy = rw (← c.self.view_is) at c.requires.tidy in
+    let paused = paused_at _ c.args.i c.index-waits.result.now tidy there in
+    let few = paused.few.0 in
+    omega (arith, c.done-done.ensures.localities, paused.localities, few)
+
+pub lawful-requires-clause-at : goal.lawful-requires-clause-at
+lawful-requires-clause-at g c =
+    let inside : c.args.i < length c.self.inside.pending.items = rw (← c.self.view_is) at c.requires.there in
+    let there = slice_get_is c.self.inside.pending.items c.args.i c.index-waits.result.now inside c.index-waits.ensures in
+    let tidy = rw (← c.self.view_is) at c.requires.tidy in
+    let paused = paused_at _ c.args.i c.index-waits.result.now tidy there in
+    let below = paused.few.1 in
+    omega (arith, c.done-done.ensures.localities, paused.localities, below, ap (λ (j : Job). j.at) c.done-done.ensures.job)
+
+pub lawful-requires-clause-fit : goal.lawful-requires-clause-fit
+lawful-requires-clause-fit g c =
+    let inside : c.args.i < length c.self.inside.pending.items = rw (← c.self.view_is) at c.requires.there in
+    let there = slice_get_is c.self.inside.pending.items c.args.i c.index-waits.result.now inside c.index-waits.ensures in
+    let tidy = rw (← c.self.view_is) at c.requires.tidy in
+    subst IsFitJob (sym c.done-done.ensures.job) (paused_at _ c.args.i c.index-waits.result.now tidy there).job
+
+pub hand_with-requires : goal.hand_with-requires
+hand_with-requires g c =
+    let inside : c.args.i < length c.self.inside.pending.items = rw (← c.self.view_is) at c.requires.there in
+    let there = slice_get_is c.self.inside.pending.items c.args.i c.index-waits.result.now inside c.index-waits.ensures in
+    let tidy = rw (← c.self.view_is) at c.requires.tidy in
+    asked_within _ _ _ _ c.index-waits.result.now (paused_at _ c.args.i c.index-waits.result.now tidy there)
+
+pub plan_failure-requires : goal.plan_failure-requires
+plan_failure-requires g c =
+    let inside : c.args.i < length c.self.inside.pending.items = rw (← c.self.view_is) at c.requires.there in
+    let there = slice_get_is c.self.inside.pending.items c.args.i c.index-waits.result.now inside c.index-waits.ensures in
+    let tidy = rw (← c.self.view_is) at c.requires.tidy in
+    rw (c.len-makes.ensures, c.outcome.ensures, c.job-job.ensures, c.done-done.ensures.outcome, c.done-done.ensures.job, c.as_slice.ensures.value, c.in_ok-hand.ensures)
+    (plan_long _ c.args.i c.index-waits.result.now c.args.id c.args.entry tidy there)
+
+pub returns-clause-plan : goal.returns-clause-plan
+returns-clause-plan g c =
+    let inside : c.args.i < length c.self.inside.pending.items = rw (← c.self.view_is) at c.requires.there in
+    let there = slice_get_is c.self.inside.pending.items c.args.i c.index-waits.result.now inside c.index-waits.ensures in
+    let hand = c.as_slice.ensures.value ∙ c.in_ok-hand.ensures in
+    rw (← c.self.view_is)
+    (ok_three c.plan_failure.result _ _ _ _ c.plan_failure.ensures.state c.plan_failure.ensures.due c.plan_failure.ensures.ups
+    (λ p state due ups. failure_is c.self.inside.pending.items c.args.i c.index-waits.result.now c.args.id c.args.entry c.job-job.result.now c.outcome.result.now
+    c.as_slice.result.now p there (c.job-job.ensures ∙ c.done-done.ensures.job) (c.outcome.ensures ∙ c.done-done.ensures.outcome) hand
+    (rw c.len-makes.ensures at ups) state due))
+
+pub returns-clause-few : goal.returns-clause-few
+returns-clause-few g c =
+    let inside : c.args.i < length c.self.inside.pending.items = rw (← c.self.view_is) at c.requires.there in
+    let there = slice_get_is c.self.inside.pending.items c.args.i c.index-waits.result.now inside c.index-waits.ensures in
+    let tidy = rw (← c.self.view_is) at c.requires.tidy in
+    let hand = c.as_slice.ensures.value ∙ c.in_ok-hand.ensures in
+    let laws = rw (c.done-done.ensures.job, c.done-done.ensures.outcome) at c.lawful.ensures in
+    let limit = plan_limit _ c.args.i c.index-waits.result.now c.args.id c.args.entry tidy there c.done-done.result.now.localities laws in
+    ok_map c.plan_failure.result _ _ c.plan_failure.ensures.ups
+    (λ p ups. failure_few c.self.inside.pending.items c.args.i c.index-waits.result.now c.args.id c.args.entry c.job-job.result.now c.outcome.result.now
+    c.as_slice.result.now p there (c.job-job.ensures ∙ c.done-done.ensures.job) (c.outcome.ensures ∙ c.done-done.ensures.outcome) hand
+    (rw c.len-makes.ensures at ups) limit)

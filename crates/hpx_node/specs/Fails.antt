@@ -1,0 +1,111 @@
+-- An action that could get no credit: what it leaves, and what is written.
+use Rattle.std.specs.Prelude.{ℕ, Bool, true, false, List, [], ◌∷◌, ◌++◌, ◌≡◌, ◌≤◌, ◌==◌, ◌&&◌, ◌||◌, is_some, Option, Some, None, set, take, length}
+use Rattle.std.specs.List.{find, slice_get, remove}
+use Rattle.hpx_journal.specs.Data.{Id, State, Due, Parcel, Give}
+use Rattle.hpx_journal.specs.Entries.{name_of, target_of}
+use Rattle.hpx_journal.specs.Local.{is_standing}
+use Rattle.hpx_part.specs.Data.{Event, Done, Standing}
+use Rattle.hpx_commit.specs.Failures.{action_ids, state_failed, due_failed, ups_failed}
+use Rattle.hpx_commit.specs.Deals.{log_of}
+use Rattle.hpx_commit.specs.declared.plan.Plan.{Plan}
+use Rattle.hpx_node.specs.declared.node.fail.Failing.{Failing}
+use Rattle.hpx_node.specs.Commits.{written, ups}
+use Rattle.hpx_node.specs.Pending.{Waits, awaits, hand_with}
+use Rattle.hpx_node.specs.Routes.{Gives}
+use Rattle.hpx_node.specs.Tables.{Tables}
+
+-- the state of its object, as it was, with what is left of its credits
+abbrev pub state_left : Waits → State
+state_left w = state_failed w.job.state w.hand
+
+-- what is due: the answer, and the print of the session
+abbrev pub due_left : Waits → List Due
+due_left w = due_failed (action_ids w.job.state w.job.action w.hand) w.job.action.cont
+
+-- what is given up: the other ids of the action, and the halves
+abbrev pub ups_left : Waits → List Id
+ups_left w = ups_failed w.job.state w.job.action (length w.outcome.makes) w.hand
+
+-- the Done that fails, what is due, and what is given up
+abbrev pub failed_events : Tables → Waits → List Event
+failed_events t w = Done (name_of w.job.action) true ∷ (written t.here t.serial (due_left w) ++ ups (ups_left w))
+
+-- the commit at i of those that wait has to fail: all that it asked for was given, with no more credit once; its object stands at j
+pub record MustFail (i j : ℕ) (t : Tables) : Type 0 where
+  pub commit : Waits
+  pub there : slice_get t.pending i ≡ Some commit
+  pub given : commit.asked ≡ []
+  pub refusal : Id
+  pub refused : commit.refused ≡ Some refusal
+  pub standing : Standing
+  pub stands : slice_get t.objects j ≡ Some standing
+  pub found : find (is_standing (target_of commit.job.action)) t.objects ≡ Some standing
+
+-- what it leaves is planned
+pub record IsFailure (w : Waits) (p : Plan) : Type 0 where
+  pub state : p.state ≡ state_left w
+  pub due : p.due.items ≡ due_left w
+  pub ups : p.ups.items ≡ ups_left w
+
+-- the commit at i fails: it waits no more, and its object, at j, has its credits again
+pub record Fails (i j : ℕ) (t t' : Tables) : Type 0 where
+  pub commit : Waits
+  pub there : slice_get t.pending i ≡ Some commit
+  pub standing : Standing
+  pub stands : slice_get t.objects j ≡ Some standing
+  pub rest : t' ≡ record t {
+    serial = t'.serial;
+    accepted = t'.accepted;
+    pending = remove t.pending i;
+    desk = t'.desk;
+    outgoing = t'.outgoing;
+    objects = set t.objects j (record { object = standing.object; state = state_left commit });
+    spare = t'.spare;
+  }
+
+-- ---- a message that brings the last answer
+
+-- a commit fails with this id: it waits for nothing else, and this or another has no more credit
+abbrev pub fails_with : Id → Waits → Bool
+fails_with id w = (length w.asked == 1) && ((log_of id.log == 0) || is_some w.refused)
+
+-- so does the first that waits for it
+abbrev pub fails_first : Id → Option Waits → Bool
+fails_first id None = false
+fails_first id (Some w) = fails_with id w
+
+-- a message brings a commit its last answer, and it fails
+abbrev pub dooms : Tables → Parcel → Bool
+dooms t (Give id entry) = fails_first id (find (awaits id entry) t.pending)
+dooms t _ = false
+
+-- a commit that fails once this is given: where it waits, where its object stands, and what it leaves
+pub record IsFailing (t : Tables) (id : Id) (entry : ℕ) (y : Failing) : Type 0 where
+  pub commit : Waits
+  pub there : slice_get t.pending y.i ≡ Some commit
+  pub first : find (awaits id entry) (take y.i t.pending) ≡ None
+  pub for : awaits id entry commit ≡ true
+  pub last : fails_with id commit ≡ true
+  pub standing : Standing
+  pub stands : slice_get t.objects y.j ≡ Some standing
+  pub found : find (is_standing (target_of commit.job.action)) t.objects ≡ Some standing
+  pub plan : IsFailure (record commit { hand = hand_with id entry commit }) y.plan
+  pub few : length y.plan.ups.items ≤ 256
+
+-- by the message
+abbrev pub IsFailingFor : Tables → Parcel → Failing → Type 0
+IsFailingFor t (Give id entry) y = IsFailing t id entry y
+IsFailingFor t _ y = ⊥
+
+-- ---- a message is dealt with, and an action may fail with it
+
+-- the commit that gets its last answer fails
+pub record FailsWithLast (id : Id) (entry : ℕ) (t mid t' : Tables) (more : List Event) : Type 0 where
+  pub gives : Gives id entry t mid
+  pub j : ℕ
+  pub fails : Fails gives.i j mid t'
+  pub what : more ≡ failed_events mid gives.after
+
+abbrev pub FailsWith : Parcel → Tables → Tables → Tables → List Event → Type 0
+FailsWith (Give id entry) t mid t' more = FailsWithLast id entry t mid t' more
+FailsWith _ t mid t' more = ⊥

@@ -1,0 +1,122 @@
+//! Failing an action that could get no credit: its object keeps its state, its continuation is answered, and the rest is given up.
+ghost use Rattle.std.specs.Prelude.{◌≡◌, ◌≤◌, ◌<◌, ◌+◌, ◌^◌, ◌∷◌, ◌++◌, [], true, false, Some, None, IfOk, IfSome, IfNone, length, set};
+ghost use Rattle.std.specs.List.{remove, slice_get};
+ghost use Rattle.hpx_journal.specs.Entries.{name_of};
+ghost use Rattle.hpx_part.specs.Data.{Done};
+ghost use Rattle.hpx_part.specs.Parts.{at_all};
+ghost use Rattle.hpx_node.specs.Fails.{MustFail, IsFailure, Fails, IsFailingFor, dooms, failed_events};
+ghost use Rattle.hpx_node.specs.Changes.{Writes};
+ghost use Rattle.hpx_node.specs.Fit.{IsKept};
+ghost use Rattle.hpx_node.specs.Pending.{hand_with};
+ghost use Rattle.hpx_node.specs.Stands.{IsTidy, Stands};
+
+use crate::find::{place_of, target, waiting_at};
+use crate::kept::Kept;
+use crate::node::Node;
+use crate::node::finish::lawful;
+use hpx_commit::failure::plan_failure;
+use hpx_commit::plan::Plan;
+use hpx_journal::entry::{Entry, Event};
+use hpx_journal::journal::Journal;
+use hpx_journal::local::name_of;
+use hpx_parcel::parcel::Parcel;
+use hpx_value::acts::Acts;
+use hpx_value::gid::Gid;
+use hpx_value::memory::OutOfMemory;
+use hpx_value::value::State;
+use std::alloc::Global;
+
+/// An action that fails, before its first change: where its commit waits, where its object stands, and what it leaves.
+#[derive(Drop)]
+pub struct Failing {
+    pub i: usize,
+    pub j: usize,
+    pub plan: Plan,
+}
+
+impl<A: Acts + Copy> Node<A> {
+    /// What the action leaves that fails, whose commit waits at i, with this id in its hand.
+    fn failure(&self, alloc: Global, i: usize, id: Gid, entry: u64) -> Result<Plan, OutOfMemory>
+        requires there { i < length self.now.pending }
+        requires tidy { IsTidy self.now [] }
+        ensures plan { IfOk result (λ p. (w : _) → slice_get self.now.pending i ≡ Some w → IsFailure (record w { hand = hand_with id entry w }) p) }
+        ensures few { IfOk result (λ p. length p.ups.items ≤ 256) }
+    {
+        let waits = &self.pending[i];
+        let done = waits.done();
+        lawful(done);
+        let hand = waits.hand_with(alloc, id, entry)?;
+        let job = done.job();
+        let makes = done.outcome().makes.len();
+        plan_failure(alloc, &job.state, &job.action, makes, hand.as_slice())
+    }
+
+    /// What fails once a message is dealt with: the action of the commit to which it brings the last answer, where some id got no
+    /// more credit.
+    pub fn failing(&self, alloc: Global, parcel: &Parcel) -> Result<Option<Failing>, OutOfMemory>
+        requires tidy { IsTidy self.now [] }
+        ensures some { IfOk result (λ o. IfSome o (IsFailingFor self.now parcel.now)) }
+        ensures none { IfOk result (λ o. IfNone o (dooms self.now parcel.now ≡ false)) }
+    {
+        let (id, entry) = match parcel {
+            Parcel::Give { id, entry } => (*id, *entry),
+            _ => return Ok(None),
+        };
+        let Some(i) = waiting_at(self.pending.as_slice(), id, entry) else {
+            return Ok(None);
+        };
+        let waits = &self.pending[i];
+        if !waits.fails_with(id) {
+            return Ok(None);
+        }
+        let Some(j) = place_of(self.objects.as_slice(), target(waits.action())) else {
+            return Ok(None);
+        };
+        let plan = self.failure(alloc, i, id, entry)?;
+        Ok(Some(Failing { i, j, plan }))
+    }
+
+    /// The commit at i waits no more: its action is done, and failed. Its object, at j, has this state.
+    fn abandon(&mut self, book: &mut Journal, i: usize, j: usize, state: State)
+        requires waits { i < length self.old.pending }
+        requires object { j < length self.old.objects }
+        requires kept { (x : _) → slice_get self.old.objects j ≡ Some x → IsKept (record { object = x.object; state = state }) }
+        requires page { 1 ≤ book.old.spare }
+        ensures pending { self.new.pending ≡ remove self.old.pending i }
+        ensures objects { (x : _) → slice_get self.old.objects j ≡ Some x → self.new.objects ≡ set self.old.objects j (record { object = x.object; state = state }) }
+        ensures rest { self.new ≡ record self.old { pending = self.new.pending; objects = self.new.objects; spare = self.new.spare } }
+        ensures spare { self.old.spare ≤ self.new.spare }
+        ensures page { book.new.spare + 1 ≡ book.old.spare }
+        ensures entries { (w : _) → slice_get self.old.pending i ≡ Some w → book.new.entries ≡ book.old.entries ++ at_all self.old.here (Done (name_of w.job.action) true ∷ []) }
+    {
+        let waits = self.pending.remove(i);
+        let object = self.objects[j].object();
+        self.objects[j] = Kept::new(object, state);
+        book.push(Entry {
+            at: self.here,
+            event: Event::Done {
+                action: name_of(waits.action()),
+                failed: true,
+            },
+        });
+    }
+
+    /// Fails the action whose commit is at i, and whose object stands at j. It takes no memory.
+    pub fn fail(&mut self, book: &mut Journal, i: usize, j: usize, plan: Plan)
+        requires must { MustFail i j self.old }
+        requires plan { (w : _) → slice_get self.old.pending i ≡ Some w → IsFailure w plan }
+        requires few { length plan.ups.items ≤ 256 }
+        requires serial { self.old.serial + 2 < 2 ^ 64 }
+        requires spare { 512 ≤ self.old.spare }
+        requires page { 512 ≤ book.old.spare }
+        requires stands { Stands A.act_of self.old book.old.entries }
+        ensures stands { Stands A.act_of self.new book.new.entries }
+        ensures fails { Fails i j self.old self.new }
+        ensures writes { (w : _) → slice_get self.old.pending i ≡ Some w → Writes (failed_events self.old w) self.old self.new book.old.entries book.new.entries }
+        ensures few { length book.new.entries ≤ length book.old.entries + 259 }
+    {
+        let Plan { state, due, ups } = plan;
+        self.abandon(book, i, j, state);
+        self.leave(book, due, ups);
+    }
+}

@@ -1,0 +1,66 @@
+//! What follows a message: a commit that gets its last answer goes on, or its action fails.
+ghost use Rattle.std.specs.Prelude.{◌≡◌, ◌≤◌, ◌<◌, ◌+◌, ◌^◌, [], None, IfOk, length};
+ghost use Rattle.hpx_parcel.specs.Parcels.{IsParcel};
+ghost use Rattle.hpx_node.specs.Next.{IsNext, MayFollow, IfFollows, HasFollowed};
+ghost use Rattle.hpx_node.specs.Stands.{IsTidy, Stands};
+ghost use Rattle.hpx_node.specs.Strange.{broken_near};
+
+use crate::node::Node;
+use crate::node::fail::Failing;
+use crate::node::resume::Ready;
+use hpx_journal::journal::Journal;
+use hpx_parcel::parcel::Parcel;
+use hpx_value::acts::Acts;
+use hpx_value::memory::OutOfMemory;
+use std::alloc::Global;
+
+/// What follows a message, before its first change.
+#[derive(Drop)]
+pub enum Next {
+    /// Nothing.
+    Rests,
+    /// A commit goes on.
+    GoesOn(Ready),
+    /// An action fails.
+    Fails(Failing),
+}
+
+impl<A: Acts + Copy> Node<A> {
+    /// What follows once a message is dealt with.
+    pub fn next(&self, alloc: Global, parcel: &Parcel) -> Result<Next, OutOfMemory>
+        requires fit { IsParcel parcel.now }
+        requires tidy { IsTidy self.now [] }
+        requires right { broken_near self.now parcel.now ≡ None }
+        requires few { self.now.births + 1024 < 2 ^ 32 }
+        ensures { IfOk result (IsNext self.now parcel.now) }
+    {
+        if let Some(failing) = self.failing(alloc, parcel)? {
+            return Ok(Next::Fails(failing));
+        }
+        match self.ready(alloc, parcel)? {
+            Some(ready) => Ok(Next::GoesOn(ready)),
+            None => Ok(Next::Rests),
+        }
+    }
+
+    /// Does what follows. It takes no memory.
+    pub fn follow(&mut self, book: &mut Journal, next: Next)
+        requires may { MayFollow self.old next }
+        requires room { length book.old.entries + 800 ≤ 2097152 }
+        requires spare { IfFollows next (1024 ≤ self.old.spare) }
+        requires page { IfFollows next (1024 ≤ book.old.spare) }
+        requires stands { Stands A.act_of self.old book.old.entries }
+        ensures stands { Stands A.act_of self.new book.new.entries }
+        ensures running { self.new.running ≡ self.old.running }
+        ensures taken { self.new.taken ≡ self.old.taken }
+        ensures sent { self.new.sent ≡ self.old.sent }
+        ensures few { length book.new.entries ≤ length book.old.entries + 596 }
+        ensures followed { HasFollowed next self.old self.new book.old.entries book.new.entries }
+    {
+        match next {
+            Next::Rests => (),
+            Next::GoesOn(ready) => self.resume(book, ready),
+            Next::Fails(Failing { i, j, plan }) => self.fail(book, i, j, plan),
+        }
+    }
+}
