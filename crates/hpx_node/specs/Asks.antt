@@ -71,7 +71,7 @@ abbrev pub of_ask : Row → ℕ
 of_ask Asks = 1
 of_ask _ = 0
 
--- these ids are asked for
+-- these ids are asked for: an Ask for each is on its way to its home, and nothing else that is seen changes
 pub record AsksFor (ids : List Id) (t t' : Tables) : Type 0 where
   pub rest : t' ≡ record t { asked = t.asked + length ids; desk = t'.desk; outgoing = t'.outgoing; spare = t'.spare }
   pub goes : t' ≡ record (with_asks t.here t.asked ids t) { asked = t.asked + length ids; spare = t'.spare }
