@@ -1,6 +1,6 @@
 //! A commit, planned: the state that it leaves, what is due then, and the ids that are given up.
 ghost use Rattle.std.specs.Prelude.{◌≡◌, ◌<◌, ◌≤◌, ◌+◌, ◌^◌, ◌∷◌, ◌++◌, [], ℕ, IfOk, OnOk, length};
-ghost use Rattle.hpx_value.specs.Hands.{hand_ids, due_of, state_after};
+ghost use Rattle.hpx_value.specs.Hands.{due_of, state_after};
 ghost use Rattle.hpx_value.specs.Mentions.{mentions};
 ghost use Rattle.hpx_value.specs.declared.outcome.Due.TheVariants.{Message as MessageDue, Print as PrintDue};
 ghost use Rattle.hpx_commit.specs.Deals.{managed_places, dealt, AllLast, AreWithin, unnamed, filled, unused, filled_due, unused_due, places_named};
@@ -129,26 +129,4 @@ pub fn plan_stock(
         due,
         ups: unnamed(alloc, ids, places)?,
     })
-}
-
-/// Plans a commit, where each id of the hand lasts for those who name it.
-pub fn plan_commit(
-    alloc: Global,
-    hand: &Hand,
-    outcome: &Outcome,
-    places: &[u32],
-) -> Result<Plan, OutOfMemory>
-    requires few { length (hand_ids hand.now.state.now hand.now.action.now hand.now.made.now) < 2 ^ 32 }
-    requires within { AreWithin (hand_ids hand.now.state.now hand.now.action.now hand.now.made.now) places.now }
-    requires lasts { AllLast (hand_ids hand.now.state.now hand.now.action.now hand.now.made.now) places.now }
-    ensures state { IfOk result (λ plan. plan.state ≡ record (state_after hand.now.state.now hand.now.action.now hand.now.made.now outcome.now) {
-      ids = filled (state_after hand.now.state.now hand.now.action.now hand.now.made.now outcome.now).ids
-          (dealt (hand_ids hand.now.state.now hand.now.action.now hand.now.made.now) places.now);
-    }) }
-    ensures due { IfOk result (λ plan. plan.due.items ≡ filled_due (due_of hand.now.state.now hand.now.action.now hand.now.made.now outcome.now)
-        (unused (state_after hand.now.state.now hand.now.action.now hand.now.made.now outcome.now).ids
-        (dealt (hand_ids hand.now.state.now hand.now.action.now hand.now.made.now) places.now))) }
-    ensures ups { IfOk result (λ plan. plan.ups.items ≡ unnamed (hand_ids hand.now.state.now hand.now.action.now hand.now.made.now) places.now) }
-{
-    plan_stock(alloc, hand, outcome, hand.ids(), places)
 }
