@@ -106,6 +106,7 @@ pub record FailsWithLast (id : Id) (entry : ℕ) (t mid t' : Tables) (more : Lis
   pub fails : Fails gives.i j mid t'
   pub what : more ≡ failed_events mid gives.after
 
+-- so it is with a Give, and with no other message
 abbrev pub FailsWith : Parcel → Tables → Tables → Tables → List Event → Type 0
 FailsWith (Give id entry) t mid t' more = FailsWithLast id entry t mid t' more
 FailsWith _ t mid t' more = ⊥

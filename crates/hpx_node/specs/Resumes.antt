@@ -76,6 +76,7 @@ pub record GoesWithLast (id : Id) (entry : ℕ) (t mid t' : Tables) (more : List
   pub gives : Gives id entry t mid
   pub goes : GoesOn gives.i gives.after mid t' more
 
+-- so it is with a Give, and with no other message
 abbrev pub GoesWith : Parcel → Tables → Tables → Tables → List Event → Type 0
 GoesWith (Give id entry) t mid t' more = GoesWithLast id entry t mid t' more
 GoesWith _ t mid t' more = ⊥

@@ -53,7 +53,11 @@ impl<A: Acts + Copy> Node<A> {
 
     /// What fails once a message is dealt with: the action of the commit to which it brings the last answer, where some id got no
     /// more credit.
-    pub fn failing(&self, alloc: Global, parcel: &Parcel) -> Result<Option<Failing>, OutOfMemory>
+    pub(crate) fn failing(
+        &self,
+        alloc: Global,
+        parcel: &Parcel,
+    ) -> Result<Option<Failing>, OutOfMemory>
         requires tidy { IsTidy self.now [] }
         ensures some { IfOk result (λ o. IfSome o (IsFailingFor self.now parcel.now)) }
         ensures none { IfOk result (λ o. IfNone o (dooms self.now parcel.now ≡ false)) }
@@ -102,7 +106,7 @@ impl<A: Acts + Copy> Node<A> {
     }
 
     /// Fails the action whose commit is at i, and whose object stands at j. It takes no memory.
-    pub fn fail(&mut self, book: &mut Journal, i: usize, j: usize, plan: Plan)
+    pub(crate) fn fail(&mut self, book: &mut Journal, i: usize, j: usize, plan: Plan)
         requires must { MustFail i j self.old }
         requires plan { (w : _) → slice_get self.old.pending i ≡ Some w → IsFailure w plan }
         requires few { length plan.ups.items ≤ 256 }

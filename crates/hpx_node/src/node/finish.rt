@@ -80,7 +80,7 @@ impl<A: Acts + Copy> Node<A> {
     }
 
     /// The ids of the objects that an outcome makes.
-    pub fn made(&self, alloc: Global, makes: &[Make]) -> Result<Vec<Gid>, OutOfMemory>
+    pub(crate) fn made(&self, alloc: Global, makes: &[Make]) -> Result<Vec<Gid>, OutOfMemory>
         requires managed { AllByRecursion (λ make. IsManaged make.kind) makes.now }
         requires few { self.now.births + length makes.now < 2 ^ 32 }
         ensures { IfOk result (λ ids. ids.items ≡ ids_of self.now.here self.now.births self.now.profile.credit_log (map birth_of makes.now)) }
@@ -95,7 +95,7 @@ impl<A: Acts + Copy> Node<A> {
     }
 
     /// Plans a commit that deals a stock of its hand.
-    pub fn prepare_from(
+    pub(crate) fn prepare_from(
         &self,
         alloc: Global,
         done: &Done<A>,

@@ -27,7 +27,7 @@ pub enum Next {
 
 impl<A: Acts + Copy> Node<A> {
     /// What follows once a message is dealt with.
-    pub fn next(&self, alloc: Global, parcel: &Parcel) -> Result<Next, OutOfMemory>
+    pub(crate) fn next(&self, alloc: Global, parcel: &Parcel) -> Result<Next, OutOfMemory>
         requires fit { IsParcel parcel.now }
         requires tidy { IsTidy self.now [] }
         requires right { broken_near self.now parcel.now ≡ None }
@@ -44,7 +44,7 @@ impl<A: Acts + Copy> Node<A> {
     }
 
     /// Does what follows. It takes no memory.
-    pub fn follow(&mut self, book: &mut Journal, next: Next)
+    pub(crate) fn follow(&mut self, book: &mut Journal, next: Next)
         requires may { MayFollow self.old next }
         requires room { length book.old.entries + 800 ≤ 2097152 }
         requires spare { IfFollows next (1024 ≤ self.old.spare) }

@@ -110,7 +110,7 @@ impl<A: Acts + Copy> Node<A> {
     }
 
     /// Writes all that is due.
-    pub fn pay_all(&mut self, book: &mut Journal, mut due: VecDeque<Due>, loose: &[Gid])
+    pub(crate) fn pay_all(&mut self, book: &mut Journal, mut due: VecDeque<Due>, loose: &[Gid])
         requires fit { AllByRecursion IsFitDue due.items }
         requires spare { length due.items ≤ self.old.spare }
         requires page { length due.items ≤ book.old.spare }
@@ -130,7 +130,7 @@ impl<A: Acts + Copy> Node<A> {
     }
 
     /// Gives up all of these ids.
-    pub fn give_up_all(&mut self, book: &mut Journal, mut loose: VecDeque<Gid>)
+    pub(crate) fn give_up_all(&mut self, book: &mut Journal, mut loose: VecDeque<Gid>)
         requires credit { AllByRecursion HasCredit loose.items }
         requires spare { length loose.items ≤ self.old.spare }
         requires page { length loose.items ≤ book.old.spare }
@@ -147,7 +147,7 @@ impl<A: Acts + Copy> Node<A> {
     }
 
     /// Writes all that a commit leaves: what is due, and then the ids that nobody names.
-    pub fn leave(&mut self, book: &mut Journal, due: VecDeque<Due>, loose: Vec<Gid>)
+    pub(crate) fn leave(&mut self, book: &mut Journal, due: VecDeque<Due>, loose: Vec<Gid>)
         requires fit { AllByRecursion IsFitDue due.items }
         requires credit { AllByRecursion HasCredit loose.items }
         requires spare { length due.items + length loose.items ≤ self.old.spare }

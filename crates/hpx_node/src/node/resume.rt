@@ -71,7 +71,7 @@ impl<A: Acts + Copy> Node<A> {
     }
 
     /// What goes on once a message is dealt with: the commit for which it brings the last credit.
-    pub fn ready(&self, alloc: Global, parcel: &Parcel) -> Result<Option<Ready>, OutOfMemory>
+    pub(crate) fn ready(&self, alloc: Global, parcel: &Parcel) -> Result<Option<Ready>, OutOfMemory>
         requires fit { IsParcel parcel.now }
         requires tidy { IsTidy self.now [] }
         requires right { broken_near self.now parcel.now ≡ None }
@@ -126,7 +126,7 @@ impl<A: Acts + Copy> Node<A> {
     }
 
     /// Writes a commit that waited. It takes no memory.
-    pub fn resume(&mut self, book: &mut Journal, ready: Ready)
+    pub(crate) fn resume(&mut self, book: &mut Journal, ready: Ready)
         requires waits { ready.i < length self.old.pending }
         requires may { (w : _) → slice_get self.old.pending ready.i ≡ Some w → MayResume self.old w ready.j ready.prepared }
         requires room { length book.old.entries + 800 ≤ 2097152 }

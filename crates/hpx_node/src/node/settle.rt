@@ -159,7 +159,7 @@ impl<A: Acts + Copy> Node<A> {
 
     /// Makes the objects that are about to be made.
     #[tactic(auto, using(crate::proofs::Made::makes_none, crate::proofs::Made::makes_then))]
-    pub fn bear_all(&mut self, book: &mut Journal, mut births: VecDeque<Birth>)
+    pub(crate) fn bear_all(&mut self, book: &mut Journal, mut births: VecDeque<Birth>)
         requires fit { AllByRecursion IsBirth births.items }
         requires few { self.old.births + length births.items < 2 ^ 32 }
         requires spare { length births.items ≤ self.old.spare }
@@ -175,7 +175,7 @@ impl<A: Acts + Copy> Node<A> {
     }
 
     /// Makes the objects that are about to be made, and halves the ids of a stock for those who name them.
-    pub fn make(&mut self, book: &mut Journal, births: VecDeque<Birth>, stock: &Stock)
+    pub(crate) fn make(&mut self, book: &mut Journal, births: VecDeque<Birth>, stock: &Stock)
         requires fit { AllByRecursion IsBirth births.items }
         requires few { self.old.births + length births.items < 2 ^ 32 }
         requires short { length stock.now.hand ≤ 1024 }
@@ -193,7 +193,7 @@ impl<A: Acts + Copy> Node<A> {
     }
 
     /// Commits the job itself: its action runs no more, and its object has the new state.
-    pub fn settle(&mut self, book: &mut Journal, i: usize, j: usize, state: State)
+    pub(crate) fn settle(&mut self, book: &mut Journal, i: usize, j: usize, state: State)
         requires action { i < length self.old.running }
         requires object { j < length self.old.objects }
         requires kept { (x : _) → slice_get self.old.objects j ≡ Some x → IsKept (record { object = x.object; state = state }) }

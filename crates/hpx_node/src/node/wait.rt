@@ -217,7 +217,7 @@ impl<A: Acts + Copy> Node<A> {
     }
 
     /// Lets a commit wait: what it has is split ahead, and what it lacks is asked for. The job is handed back without memory.
-    pub fn wait(
+    pub(crate) fn wait(
         &mut self,
         alloc: Global,
         book: &mut Journal,
