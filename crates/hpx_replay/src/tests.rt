@@ -1,10 +1,11 @@
 //! Journals by hand: one from a birth to the freeing, with a call, an ask and a move, and wrong ones.
+ghost use Rattle.std.specs.Prelude.{◌<◌};
+
 use crate::replay::{ReplayFault, replay};
 use crate::space::Space;
 use hpx_journal::cargo::one;
 use hpx_journal::entry::{Entry, Event, Name, Reason};
 use hpx_journal::journal::Journal;
-use hpx_trial::hex::hex;
 use hpx_trial::trial::Trial;
 use hpx_value::gid::Gid;
 use hpx_value::items::{Bytes, Items};
@@ -12,6 +13,37 @@ use hpx_value::memory::OutOfMemory;
 use hpx_value::profile::Profile;
 use hpx_value::value::{State, Value};
 use std::alloc::Global;
+
+/// The number of a hexadecimal digit; 0 for any other byte.
+fn digit(byte: u8) -> u8
+    ensures { result < 16 }
+{
+    match byte {
+        b'0'..=b'9' => byte - b'0',
+        b'a'..=b'f' => byte - b'a' + 10,
+        _ => 0,
+    }
+}
+
+/// Bytes that are written as hexadecimal digits, in pairs, with spaces between some pairs.
+fn hex(alloc: Global, text: &[u8]) -> Result<Bytes, OutOfMemory> {
+    let mut out = Vec::new(alloc);
+    let mut first: Option<u8> = None;
+    for byte in text {
+        if *byte == b' ' {
+            continue;
+        }
+        match first {
+            Some(high) => {
+                let high = if high < 16 { high } else { 0 };
+                out.push(high * 16 + digit(*byte))?;
+                first = None;
+            }
+            None => first = Some(digit(*byte)),
+        }
+    }
+    Ok(Items::from_vec(out))
+}
 
 const NEW: &[u8] =
     b"0101 0000 0000000000000002 0000000200000007 0000000000000001 0005 0000 01 0000000100000003 0000000000000001 00000000";

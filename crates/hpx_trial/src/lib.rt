@@ -2,6 +2,5 @@
 //! has an object made, calls it, moves it and drops it.
 #![tactic(auto)]
 
-pub mod hex;
 pub mod still;
 pub mod trial;
