@@ -44,6 +44,7 @@ pub mod PreparedPlan
 pub mod PlanLimits
 pub mod PlanWeights
 pub mod PlanRoom
+pub mod Turns
 pub mod OfPrepared
 pub mod Ending
 pub mod Committed

@@ -5,6 +5,7 @@ pub mod Seen
 pub mod Frames
 pub mod Stands
 pub mod Changes
+pub mod Limits
 pub mod Free
 pub mod Jobs
 pub mod Paused

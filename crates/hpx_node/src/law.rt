@@ -7,11 +7,13 @@ ghost use Rattle.hpx_journal.specs.Laws.{outs, ins};
 ghost use Rattle.hpx_journal.specs.Local.{is_standing};
 ghost use Rattle.hpx_journal.specs.Names.{names};
 ghost use Rattle.hpx_journal.specs.Tokens.{is_held};
+ghost use Rattle.hpx_journal.specs.Weights.{HasRoom};
 ghost use Rattle.hpx_journal.specs.Whole.{part, run_local, IsClean};
 ghost use Rattle.hpx_part.specs.Data.{Entry};
 ghost use Rattle.hpx_part.specs.Parts.{at_boot};
 ghost use Rattle.hpx_node.specs.Tables.{Tables, IsPassive};
 ghost use Rattle.hpx_node.specs.Idle.{Row, Actions, goes, causes, hops, unpaid};
+ghost use Rattle.hpx_node.specs.Limits.{IsWithin, AddsATurn};
 ghost use Rattle.hpx_node.specs.Kept.{stands_here, held_here, owed_here, held_worth, owed_worth};
 ghost use Rattle.hpx_node.specs.Stands.{StandsWith};
 
@@ -55,4 +57,9 @@ pub fn numbers_law()
         IsClean r (at_boot r t.here) (part t.here entries) →
         count_by (is_held o) (run_local r (at_boot r t.here) (part t.here entries)).tokens
         ≡ names o (run_local r (at_boot r t.here) (part t.here entries)) }
+{}
+
+/// Where there is room, a call leaves a journal within its limits.
+pub fn limits_law()
+    ensures { (old new : List Entry) → HasRoom old → AddsATurn old new → IsWithin new }
 {}

@@ -6,6 +6,7 @@ ghost use Rattle.hpx_part.specs.Data.{Line};
 ghost use Rattle.hpx_node.specs.Fit.{IsFit};
 ghost use Rattle.hpx_node.specs.Stands.{Stands};
 ghost use Rattle.hpx_node.specs.Changes.{OnlySpare, Writes};
+ghost use Rattle.hpx_node.specs.Limits.{AddsATurn};
 ghost use Rattle.hpx_node.specs.Routes.{with_act};
 
 use crate::node::Node;
@@ -76,6 +77,7 @@ impl<A: Acts + Copy> Node<A> {
         ensures running { self.new.running ≡ self.old.running }
         ensures waits { OnOk result (self.new ≡ record (with_act (line_act (record { origin = self.old.here; serial = self.old.serial + 1 }) line)
             (record self.old { serial = self.old.serial + 1 })) { spare = self.new.spare }) }
+        ensures turn { AddsATurn book.old.entries book.new.entries }
         ensures line { OnOk result (Writes (Line (record { origin = self.old.here; serial = self.old.serial + 1 }) line ∷ []) self.old self.new book.old.entries book.new.entries) }
         ensures err { OnErr result (OnlySpare self.old self.new book.old book.new) }
     {

@@ -9,6 +9,7 @@ ghost use Rattle.hpx_node.specs.Jobs.{Starts};
 ghost use Rattle.hpx_node.specs.Tables.{fired_acts};
 ghost use Rattle.hpx_node.specs.Stands.{Stands};
 ghost use Rattle.hpx_node.specs.Changes.{OnlySpare, Writes};
+ghost use Rattle.hpx_node.specs.Limits.{AddsATurn};
 
 use crate::find::first_free;
 use crate::node::Node;
@@ -64,6 +65,7 @@ impl<A: Acts + Copy> Node<A> {
         requires room { HasRoom book.old.entries }
         requires stands { Stands A.act_of self.old book.old.entries }
         ensures stands { Stands A.act_of self.new book.new.entries }
+        ensures turn { AddsATurn book.old.entries book.new.entries }
         ensures fired { IfOk result (λ o. IfSome o (λ job. Writes (Fire (name_of job.action) ∷ []) self.old self.new book.old.entries book.new.entries)) }
         ensures job { IfOk result (λ o. IfSome o (Starts self.old self.new)) }
         ensures none { IfOk result (λ o. IfNone o (NoneIsFree (fired_acts self.old) self.old.objects self.old.accepted × OnlySpare self.old self.new book.old book.new)) }

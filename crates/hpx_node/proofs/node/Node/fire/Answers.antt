@@ -1,9 +1,10 @@
-use Rattle.std.proofs.Common.{◌≡◌, Some, refl, sym, ◌∙◌}
+use Rattle.std.proofs.Common.{◌≡◌, Some, refl, sym, ◌∙◌, arith}
 use Rattle.std.specs.List.{slice_get}
 use Rattle.hpx_node.specs.Free.{IsFree}
 use Rattle.hpx_node.specs.Pending.{fired_of}
 use Rattle.hpx_node.proofs.FreeLemmas.{started_runs}
 use Rattle.hpx_node.proofs.Same.{writes_from, stands_same}
+use Rattle.hpx_node.proofs.Turns.{turn_from, adds_one}
 use Rattle.hpx_node.proofs.node.Node.fire.Goals as goal
 
 pub returns-clause-fired : goal.returns-clause-fired
@@ -50,3 +51,7 @@ returns-in_err-reserve-2-clause-stands g c =
 pub start-requires-clause-stands : goal.start-requires-clause-stands
 start-requires-clause-stands g c =
     stands_same g.A.Acts.act_of c.args.self.now _ _ _ c.requires.stands c.in_ok-reserve.ensures.same c.in_ok-reserve-2.ensures.entries
+
+pub returns-clause-turn : goal.returns-clause-turn
+returns-clause-turn g c = turn_from _ _ _ c.in_ok-reserve-2.ensures.entries
+    (adds_one _ _ _ _ (c.start.ensures.fired c.in_ok-job.job.action (rw c.in_ok-reserve.ensures.same c.in_ok-job.ensures.action)).grows (omega arith))

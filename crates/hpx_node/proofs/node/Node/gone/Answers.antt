@@ -2,6 +2,7 @@ use Rattle.std.proofs.Common.{arith, ◌∙◌, ◌≡◌, Some, ap, drop, refl}
 use Rattle.hpx_parcel.specs.Reading.{parcel_of}
 use Rattle.hpx_node.proofs.Few.{sent_few}
 use Rattle.hpx_node.proofs.Gone.{stands_gone}
+use Rattle.hpx_node.proofs.Turns.{adds_out}
 use Rattle.hpx_node.proofs.node.Node.gone.Goals as goal
 
 pub overflow_add-self : goal.overflow_add-self
@@ -18,3 +19,7 @@ returns-clause-stands g c =
     let bytes : parcel_of c.args.frame ≡ Some front.first.parcel = spelled.spelled ∙ ap (λ p. Some p) front.carried in
     rw (c.push.ensures.entries, is, front.place)
     (stands_gone _ _ _ front.first front.rest c.args.frame _ front.is bytes refl stands)
+
+pub returns-clause-turn : goal.returns-clause-turn
+returns-clause-turn g c =
+    adds_out c.self.inside.here c.args.to c.args.frame c.requires.front.parcel _ _ c.requires.front.spelled c.push.ensures.entries
