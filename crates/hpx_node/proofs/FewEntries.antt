@@ -38,7 +38,7 @@ freed_few t o tidy None e = omega arith
 freed_few t o tidy (Some x) e =
     let kept : IsKept x = kept_found o t.objects x tidy.objects e in omega (arith, ups_few x.state.ids, kept.state.few)
 
-effects_few : (t : Tables) (p : Parcel) → IsTidy t [] → length (effects t p) ≤ 129
+pub effects_few : (t : Tables) (p : Parcel) → IsTidy t [] → length (effects t p) ≤ 129
 effects_few t (Return id) tidy = omega (arith, returned_few t id id.log)
 effects_few t (Ask id asker entry) tidy = omega arith
 effects_few t (Free o) tidy = freed_few t o tidy (find (is_standing o) t.objects) refl

@@ -45,6 +45,7 @@ pub mod PlanLimits
 pub mod PlanWeights
 pub mod PlanRoom
 pub mod Turns
+pub mod TurnSteps
 pub mod OfPrepared
 pub mod Ending
 pub mod Committed

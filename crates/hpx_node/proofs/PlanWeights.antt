@@ -95,7 +95,7 @@ module _ (k : ℕ) where
   ups_light [] = refl
   ups_light (id ∷ ids) = omega (arith, weighs_cons (Up (bare id) (log_of id.log)) (ups ids), ups_light ids)
 
-  weighs_due : (here serial : ℕ) (due : List Due) → weighs (written here serial due) ≡ sum_by due_weight due
+  pub weighs_due : (here serial : ℕ) (due : List Due) → weighs (written here serial due) ≡ sum_by due_weight due
   weighs_due here serial [] = refl
   weighs_due here serial (MessageDue m ∷ rest) = omega (
     arith,

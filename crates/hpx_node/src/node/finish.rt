@@ -12,6 +12,7 @@ ghost use Rattle.hpx_node.specs.Commits.{committed, made_of, hand_of, places_in_
 ghost use Rattle.hpx_node.specs.Jobs.{IsAt, IsRunning, IsFitJob, Ends};
 ghost use Rattle.hpx_node.specs.Stands.{IsTidy, Stands};
 ghost use Rattle.hpx_node.specs.Changes.{OnlySpare, Writes};
+ghost use Rattle.hpx_node.specs.Limits.{AddsATurn};
 
 use crate::find::{index_of, place_of, target};
 use crate::node::Node;
@@ -156,6 +157,7 @@ impl<A: Acts + Copy> Node<A> {
         requires page { 1024 ≤ book.old.spare }
         requires stands { Stands A.act_of self.old book.old.entries }
         ensures stands { Stands A.act_of self.new book.new.entries }
+        ensures turn { AddsATurn book.old.entries book.new.entries }
         ensures committed { Writes (committed self.old done.now.job done.now.outcome) self.old self.new book.old.entries book.new.entries }
         ensures ends { Ends self.old self.new done.now.job }
     {
@@ -180,6 +182,7 @@ impl<A: Acts + Copy> Node<A> {
         requires room { HasRoom book.old.entries }
         requires stands { Stands A.act_of self.old book.old.entries }
         ensures stands { Stands A.act_of self.new book.new.entries }
+        ensures turn { AddsATurn book.old.entries book.new.entries }
         ensures committed { IfOk result (λ f. f ≡ Finished.Committed →
             Writes (committed self.old done.job done.outcome) self.old self.new book.old.entries book.new.entries) }
         ensures lasts { IfOk result (λ f. f ≡ Finished.Committed →

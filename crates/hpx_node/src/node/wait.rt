@@ -18,6 +18,7 @@ ghost use Rattle.hpx_node.specs.Births.{birth_of, ids_of};
 ghost use Rattle.hpx_node.specs.Jobs.{IsAt, IsFitJob};
 ghost use Rattle.hpx_node.specs.Stands.{Stands};
 ghost use Rattle.hpx_node.specs.Changes.{OnlySpare};
+ghost use Rattle.hpx_node.specs.Limits.{AddsATurn};
 
 use crate::kept::{Kept, Letter};
 use crate::node::Node;
@@ -199,6 +200,7 @@ impl<A: Acts + Copy> Node<A> {
         requires page { 1024 ≤ book.old.spare }
         requires stands { Stands A.act_of self.old book.old.entries }
         ensures stands { Stands A.act_of self.new book.new.entries }
+        ensures turn { AddsATurn book.old.entries book.new.entries }
         ensures begins { Begins self.old self.new done.job done.outcome book.old.entries book.new.entries }
     {
         let Before {
@@ -235,6 +237,7 @@ impl<A: Acts + Copy> Node<A> {
         requires room { HasRoom book.old.entries }
         requires stands { Stands A.act_of self.old book.old.entries }
         ensures stands { Stands A.act_of self.new book.new.entries }
+        ensures turn { AddsATurn book.old.entries book.new.entries }
         ensures asks { IfOk result (λ f. (f ≡ Finished.Asking) × Begins self.old self.new done.job done.outcome book.old.entries book.new.entries) }
         ensures err { IfErr result (λ e. (e.undone ≡ done) × OnlySpare self.old self.new book.old book.new) }
     {

@@ -5,6 +5,7 @@ use Rattle.hpx_part.specs.Parts.{at_all}
 use Rattle.hpx_node.specs.Asks.{first_cuts, asked_events}
 use Rattle.hpx_node.specs.Tables.{Tables}
 use Rattle.hpx_node.proofs.SomeShort.{something}
+use Rattle.hpx_node.proofs.TurnSteps.{adds_asks}
 use Rattle.hpx_node.proofs.Waited.{before_short, before_own, before_least, lacks_few, kept_before, begins_by}
 use Rattle.hpx_node.proofs.node.Node.begin.Goals as goal
 
@@ -95,3 +96,15 @@ returns-clause-begins g c =
     (begins_by g.A.Acts.act_of t c.pause.new.self c.ask_all.new.self d.job d.outcome d.localities c.args.before c.args.i c.args.j _ c.args.book.now.entries
     c.push_asks.new.book.entries c.requires.fit c.requires.few laws c.requires.before c.requires.localities c.requires.here refl pauses asks
     c.requires.first (asked ∙ ap (λ es. es ++ at_all t.here (asked_events c.args.before.lacking.items)) cut) some c.requires.stands).1
+
+pub returns-clause-turn : goal.returns-clause-turn
+returns-clause-turn g c =
+    let d = c.args.done in
+    let t = c.args.self.now in
+    let laws = subst (λ n. KeepsLaws n d.job.kind d.job.at d.job.state d.job.action d.outcome) c.requires.localities c.requires.laws in
+    let short : length (first_cuts c.args.before.own 0 c.as_slice.result.now c.as_slice-2.result.now) ≤ 192 =
+    rw (c.as_slice.ensures.value, c.as_slice-2.ensures.value) (before_short t d.job d.outcome c.args.before c.requires.before c.requires.fit c.requires.few laws) in
+    let few : length c.as_slice-3.result.now ≤ 162 =
+    rw c.as_slice-3.ensures.value (lacks_few t d.job d.outcome c.args.before c.requires.before c.requires.fit c.requires.few laws) in
+    adds_asks c.self.inside.here c.args.before.own c.as_slice.result.now c.as_slice-2.result.now c.as_slice-3.result.now _ _ _
+    c.push_first_splits.ensures.entries c.push_asks.ensures.entries short few

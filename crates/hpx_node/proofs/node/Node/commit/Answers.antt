@@ -9,6 +9,7 @@ use Rattle.hpx_node.specs.Tables.{Tables}
 use Rattle.hpx_node.proofs.Alls.{all_at, some_same}
 use Rattle.hpx_node.proofs.OfPrepared.{births_fit, births_few, state_kept, due_fits, due_short, ups_have, ups_short, splits_short}
 use Rattle.hpx_node.proofs.Committing.{stands_then, stands_less}
+use Rattle.hpx_node.proofs.TurnSteps.{adds_commit}
 use Rattle.hpx_node.proofs.RunsCommit.{runs_stands, runs_here, runs_serial, runs_running, runs_written}
 use Rattle.hpx_node.proofs.node.Node.commit.Goals as goal
 
@@ -171,3 +172,11 @@ returns-clause-ends g c =
           c.requires.own c.args.i c.args.j c.requires.at c.make.new.self c.settle.new.self c.make.ensures.made c.settle.ensures.running c.settle.ensures.objects
           c.settle.ensures.rest c.args.book.now.entries c.make.new.book.entries c.settle.new.book.entries c.make.ensures.entries c.settle.ensures.entries;
     }
+
+pub returns-clause-turn : goal.returns-clause-turn
+returns-clause-turn g c =
+    let d = c.args.done.now in
+    let t = c.args.self.now in
+    let laws = subst (λ n. KeepsLaws n d.job.kind d.job.at d.job.state d.job.action d.outcome) c.requires.localities c.requires.laws in
+    adds_commit t d.job d.outcome c.requires.fit c.requires.few laws c.args.prepared c.requires.prepared c.requires.own
+    c.leave.new.self c.args.book.now.entries c.leave.new.book.entries (returns-clause-committed g c)

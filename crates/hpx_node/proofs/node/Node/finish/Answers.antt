@@ -2,6 +2,7 @@ use Rattle.std.proofs.Common.{ap, ◌∙◌}
 use Rattle.hpx_journal.specs.Weights.{Book}
 use Rattle.hpx_node.proofs.Waited.{ok_map}
 use Rattle.hpx_node.proofs.Same.{stands_same}
+use Rattle.hpx_node.proofs.Turns.{turn_from, adds_none}
 use Rattle.hpx_node.proofs.SameCommit.{prepared_same, ends_from}
 use Rattle.hpx_node.proofs.node.Node.finish.Goals.{then-is_err-via-then-is_err, then-is_err-via-else-is_err+then-is_err-2}
 use Rattle.hpx_node.proofs.node.Node.finish.Goals as goal
@@ -36,3 +37,12 @@ pub returns-in-Ok-None-clause-running : goal.returns-in-Ok-None-clause-running
 returns-in-Ok-None-clause-running g c =
     ok_map c.wait.result _ _ c.wait.ensures.asks (λ f h. λ other.
     (c.in-Some.ensures.found.0, record { i = c.in-Some.spot.0; j = c.in-Some.spot.1; is = c.in-Some.ensures.found.1 }))
+
+pub returns-then-is_err-clause-turn : goal.returns-then-is_err-clause-turn
+returns-then-is_err-clause-turn g c = elim c.then-is_err.branch [
+  | then-is_err-via-then-is_err w ↦ adds_none _ _ (ap (λ (b : Book). b.entries) w.book-is)
+  | then-is_err-via-else-is_err+then-is_err-2 w ↦ adds_none _ _ (ap (λ (b : Book). b.entries) w.book-is ∙ w.reserve-else-is_err.ensures.entries)
+]
+
+pub returns-clause-turn : goal.returns-clause-turn
+returns-clause-turn g c = turn_from _ _ _ c.reserve-else-is_err.ensures.entries c.commit.ensures.turn

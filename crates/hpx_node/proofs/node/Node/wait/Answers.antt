@@ -2,6 +2,7 @@ use Rattle.std.proofs.Common.{ap, refl, ◌∙◌}
 use Rattle.hpx_journal.specs.Weights.{Book}
 use Rattle.hpx_node.proofs.Waited.{short_same, before_same, begins_from}
 use Rattle.hpx_node.proofs.Same.{stands_same}
+use Rattle.hpx_node.proofs.Turns.{turn_from, adds_none}
 use Rattle.hpx_node.proofs.node.Node.wait.Goals.{then-is_err-via-then-is_err, then-is_err-via-else-is_err+then-is_err-2}
 use Rattle.hpx_node.proofs.node.Node.wait.Goals as goal
 
@@ -27,3 +28,12 @@ begin-requires-clause-short g c = short_same c.args.self.now _ c.args.done.job c
 pub returns-clause-asks : goal.returns-clause-asks
 returns-clause-asks g c =
     (refl, begins_from c.args.self.now _ _ _ _ _ _ _ c.reserve.ensures.same c.reserve-else-is_err.ensures.entries c.begin.ensures.begins)
+
+pub returns-then-is_err-clause-turn : goal.returns-then-is_err-clause-turn
+returns-then-is_err-clause-turn g c = elim c.then-is_err.branch [
+  | then-is_err-via-then-is_err w ↦ adds_none _ _ (ap (λ (b : Book). b.entries) w.book-is)
+  | then-is_err-via-else-is_err+then-is_err-2 w ↦ adds_none _ _ (ap (λ (b : Book). b.entries) w.book-is ∙ w.reserve-else-is_err.ensures.entries)
+]
+
+pub returns-clause-turn : goal.returns-clause-turn
+returns-clause-turn g c = turn_from _ _ _ c.reserve-else-is_err.ensures.entries c.begin.ensures.turn
