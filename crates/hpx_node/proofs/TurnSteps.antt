@@ -11,11 +11,11 @@ use Rattle.hpx_journal.specs.Data.{Id, Cont, Outcome, Parcel, Return, Ask, Give,
 use Rattle.hpx_journal.specs.Entries.{name_of}
 use Rattle.hpx_journal.specs.Local.{is_standing}
 use Rattle.hpx_journal.specs.Weights.{bytes_in, weight_of, total_weight}
-use Rattle.hpx_part.specs.Data.{Event, Entry, Standing, Done, Count, Granted, Refused}
+use Rattle.hpx_part.specs.Data.{Entry, Standing, Done, Count, Granted, Refused}
 use Rattle.hpx_part.specs.Parts.{at_all}
 use Rattle.hpx_commit.specs.Deals.{half, named}
 use Rattle.hpx_commit.specs.Failures.{action_ids, due_failed}
-use Rattle.hpx_commit.specs.Stocks.{Stock, halvings}
+use Rattle.hpx_commit.specs.Stocks.{halvings}
 use Rattle.hpx_commit.specs.declared.plan.Plan.{Plan}
 use Rattle.hpx_node.specs.declared.node.finish.Prepared.{Prepared}
 use Rattle.hpx_node.specs.Asks.{first_cuts, asked_events}

@@ -10,6 +10,7 @@ use Rattle.hpx_value.specs.declared.acts.Job.{Job}
 use Rattle.hpx_parcel.specs.Parcels.{HasCredit}
 use Rattle.hpx_journal.specs.Data.{Id, Act, State, Outcome}
 use Rattle.hpx_journal.specs.Entries.{name_of, target_of}
+use Rattle.hpx_journal.specs.Weights.{total_weight}
 use Rattle.hpx_journal.proofs.Same.{and_true}
 use Rattle.hpx_part.specs.Data.{Entry, Done, Standing, Token}
 use Rattle.hpx_part.specs.Parts.{at_all}
@@ -27,13 +28,14 @@ use Rattle.hpx_node.proofs.Alls.{all_at, some_same}
 use Rattle.hpx_node.proofs.SplitHand.{none_asked}
 use Rattle.hpx_node.proofs.Committing.{settled_stands, settled_here, settled_serial, all_written}
 use Rattle.hpx_node.proofs.Ending.{prepared_alone, prepared_single, prepared_plain}
-use Rattle.hpx_node.proofs.OfPrepared.{births_fit, births_few, state_kept, state_has, due_fits, due_short, ups_have, ups_short, splits_short, committed_few}
+use Rattle.hpx_node.proofs.OfPrepared.{births_fit, births_few, state_kept, state_has, due_fits, due_short, ups_have, ups_short, splits_short, committed_few, committed_light}
 use Rattle.hpx_node.proofs.Steps.{at_all_length}
 use Rattle.hpx_node.proofs.Pausing.{found_passes}
 use Rattle.hpx_node.proofs.HasCome.{come_weighs}
 use Rattle.hpx_node.proofs.Resuming.{bare_again, waits_ending, resumed_paused}
 use Rattle.hpx_node.proofs.Settled.{IsEnding}
 use Rattle.hpx_node.proofs.Sums.{weigh}
+use Rattle.hpx_node.proofs.Turns.{grown_weighs}
 
 pub none_long : (xs : List Asked) → length xs ≡ 0 → xs ≡ []
 none_long [] h = refl
@@ -217,4 +219,16 @@ module _ (act_of : ℕ → ℕ → ℕ → State → Act → Outcome)
           length-append e0 (at_all t.here (committed_from t w.job w.outcome p.stock)),
           at_all_length t.here all,
           all_short,
+        )
+
+    pub waits_light : (e3 : List Entry) → e3 ≡ e2 ++ at_all t2.here (written t2.here t2.serial p.plan.due.items ++ ups p.plan.ups.items)
+        → total_weight e3 ≤ total_weight e0 + 2380288
+    waits_light e3 left =
+        let is_all : e3 ≡ e0 ++ at_all t.here (committed_from t w.job w.outcome p.stock) =
+        all_written act_of blind t w.job w.outcome k.was.job few k.laws k.right p is j t.running (remove t.pending i) ends t1 t2 made objects rest_is e0 e1 e2
+        first done_is e3 left in
+        omega (
+          arith,
+          grown_weighs t.here (committed_from t w.job w.outcome p.stock) e0 e3 is_all,
+          committed_light t w.job w.outcome k.was.job few k.laws p is t.here,
         )

@@ -1,5 +1,5 @@
 -- How much a call writes at most, and the limits of a journal.
-use Rattle.std.specs.Prelude.{ℕ, List, ◌+◌, ◌^◌, ◌≤◌, length}
+use Rattle.std.specs.Prelude.{List, ◌+◌, ◌^◌, ◌≤◌, length}
 use Rattle.hpx_journal.specs.Weights.{total_weight}
 use Rattle.hpx_part.specs.Data.{Entry}
 

@@ -5,9 +5,10 @@ ghost use Rattle.hpx_value.specs.Ids.{bare, credit};
 ghost use Rattle.hpx_parcel.specs.Parcels.{IsParcel, HasRightCredit, HasCredit, HasLeastCredit, IsBare};
 ghost use Rattle.hpx_journal.specs.Data.{Return, Ask, Give, Free};
 ghost use Rattle.hpx_parcel.specs.Reading.{parcel_of};
-ghost use Rattle.hpx_journal.specs.Weights.{HasRoom};
+ghost use Rattle.hpx_journal.specs.Weights.{HasRoom, total_weight};
 ghost use Rattle.hpx_part.specs.Data.{In, Mail};
 ghost use Rattle.hpx_node.specs.Changes.{OnlySpare, Writes};
+ghost use Rattle.hpx_node.specs.Limits.{AddsATurn};
 ghost use Rattle.hpx_part.specs.Parts.{at_all};
 ghost use Rattle.hpx_node.specs.Stands.{IsTidy, Stands, rules_of};
 ghost use Rattle.hpx_node.specs.Kept.{stands_here, waits_here, held_here, count_here};
@@ -255,6 +256,7 @@ impl<A: Acts + Copy> Node<A> {
         ensures spare { (id : _) (entry : _) → parcel ≡ Give id entry → 1024 ≤ self.new.spare }
         ensures page { (id : _) (entry : _) → parcel ≡ Give id entry → 1024 ≤ book.new.spare }
         ensures few { length book.new.entries ≤ length book.old.entries + 130 }
+        ensures light { total_weight book.new.entries ≤ total_weight book.old.entries + 73856 }
     {
         let at = self.here;
         self.taken += 1;
@@ -283,6 +285,7 @@ impl<A: Acts + Copy> Node<A> {
         ensures spare { (id : _) (entry : _) → parcel ≡ Give id entry → 1024 ≤ self.new.spare }
         ensures page { (id : _) (entry : _) → parcel ≡ Give id entry → 1024 ≤ book.new.spare }
         ensures few { length book.new.entries ≤ length book.old.entries + 130 }
+        ensures light { total_weight book.new.entries ≤ total_weight book.old.entries + 73856 }
     {
         let at = self.here;
         let kind = kind_of(&parcel);
@@ -315,7 +318,7 @@ impl<A: Acts + Copy> Node<A> {
         requires stands { Stands A.act_of self.old book.old.entries }
         ensures stands { Stands A.act_of self.new book.new.entries }
         ensures running { self.new.running ≡ self.old.running }
-        ensures few { length book.new.entries ≤ length book.old.entries + 1024 }
+        ensures turn { AddsATurn book.old.entries book.new.entries }
         ensures ok { OnOk result (Takes frame.now self.old self.new book.old.entries book.new.entries) }
         ensures err { OnErr result (OnlySpare self.old self.new book.old book.new) }
         ensures cause { IfErr result (NotTaken self.old frame.now) }
@@ -354,7 +357,7 @@ impl<A: Acts + Copy> Node<A> {
         requires stands { Stands A.act_of self.old book.old.entries }
         ensures stands { Stands A.act_of self.new book.new.entries }
         ensures running { self.new.running ≡ self.old.running }
-        ensures few { length book.new.entries ≤ length book.old.entries + 1024 }
+        ensures turn { AddsATurn book.old.entries book.new.entries }
         ensures cleared { result ≡ Ok true → Clears self.old self.new book.old.entries book.new.entries }
         ensures empty { result ≡ Ok false → (self.old.desk ≡ []) × (OnlySpare self.old self.new book.old book.new) }
         ensures err { OnErr result (OnlySpare self.old self.new book.old book.new) }

@@ -2,6 +2,7 @@
 ghost use Rattle.std.specs.Prelude.{◌≡◌, ◌≤◌, ◌<◌, ◌+◌, ◌^◌, ◌∷◌, ◌++◌, [], true, false, Some, None, IfOk, IfSome, IfNone, length, set};
 ghost use Rattle.std.specs.List.{remove, slice_get};
 ghost use Rattle.hpx_journal.specs.Entries.{name_of};
+ghost use Rattle.hpx_journal.specs.Weights.{total_weight};
 ghost use Rattle.hpx_part.specs.Data.{Done};
 ghost use Rattle.hpx_part.specs.Parts.{at_all};
 ghost use Rattle.hpx_node.specs.Fails.{MustFail, IsFailure, Fails, IsFailingFor, dooms, failed_events};
@@ -118,6 +119,7 @@ impl<A: Acts + Copy> Node<A> {
         ensures fails { Fails i j self.old self.new }
         ensures writes { (w : _) → slice_get self.old.pending i ≡ Some w → Writes (failed_events self.old w) self.old self.new book.old.entries book.new.entries }
         ensures few { length book.new.entries ≤ length book.old.entries + 259 }
+        ensures light { total_weight book.new.entries ≤ total_weight book.old.entries + 16640 }
     {
         let Plan { state, due, ups } = plan;
         self.abandon(book, i, j, state);

@@ -1,6 +1,7 @@
 //! What follows a message: a commit that gets its last answer goes on, or its action fails.
 ghost use Rattle.std.specs.Prelude.{◌≡◌, ◌≤◌, ◌<◌, ◌+◌, ◌^◌, [], None, IfOk, length};
 ghost use Rattle.hpx_parcel.specs.Parcels.{IsParcel};
+ghost use Rattle.hpx_journal.specs.Weights.{total_weight};
 ghost use Rattle.hpx_node.specs.Next.{IsNext, MayFollow, IfFollows, HasFollowed};
 ghost use Rattle.hpx_node.specs.Stands.{IsTidy, Stands};
 ghost use Rattle.hpx_node.specs.Strange.{broken_near};
@@ -55,6 +56,7 @@ impl<A: Acts + Copy> Node<A> {
         ensures taken { self.new.taken ≡ self.old.taken }
         ensures sent { self.new.sent ≡ self.old.sent }
         ensures few { length book.new.entries ≤ length book.old.entries + 596 }
+        ensures light { total_weight book.new.entries ≤ total_weight book.old.entries + 2380288 }
         ensures followed { HasFollowed next self.old self.new book.old.entries book.new.entries }
     {
         match next {

@@ -3,6 +3,7 @@ ghost use Rattle.std.specs.Prelude.{◌≡◌, ◌≤◌, ◌<◌, ◌+◌, ◌^
 ghost use Rattle.std.specs.List.{remove, AllByRecursion};
 ghost use Rattle.hpx_value.specs.Laws.{KeepsLaws};
 ghost use Rattle.hpx_journal.specs.Entries.{name_of};
+ghost use Rattle.hpx_journal.specs.Weights.{total_weight};
 ghost use Rattle.hpx_parcel.specs.Parcels.{IsParcel};
 ghost use Rattle.hpx_part.specs.Parts.{at_all};
 ghost use Rattle.hpx_part.specs.Data.{Done};
@@ -139,6 +140,7 @@ impl<A: Acts + Copy> Node<A> {
         ensures taken { self.new.taken ≡ self.old.taken }
         ensures sent { self.new.sent ≡ self.old.sent }
         ensures few { length book.new.entries ≤ length book.old.entries + 596 }
+        ensures light { total_weight book.new.entries ≤ total_weight book.old.entries + 2380288 }
         ensures writes { (w : _) → slice_get self.old.pending ready.i ≡ Some w
             → Writes (committed_from self.old w.job w.outcome (full_stock self.old w)) self.old self.new book.old.entries book.new.entries }
     {

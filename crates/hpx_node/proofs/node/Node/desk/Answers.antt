@@ -4,6 +4,8 @@ use Rattle.hpx_node.specs.Tables.{Tables}
 use Rattle.hpx_node.proofs.Continued.{given_mail}
 use Rattle.hpx_node.proofs.Followed.{next_first, may_follow, next_gives, is_continued}
 use Rattle.hpx_node.proofs.Spared.{spare_stands, mail_by, mail_near, first_own, first_stands, cleared}
+use Rattle.hpx_node.proofs.Turns.{adds_none}
+use Rattle.hpx_node.proofs.TurnSteps.{adds_steps}
 use Rattle.hpx_node.proofs.node.Node.desk.Goals as goal
 
 pub returns-then-is_err-clause-stands : goal.returns-then-is_err-clause-stands
@@ -93,3 +95,10 @@ returns-clause-cleared g c =
     λ ok. cleared t _ _ _ _ p c.parcel.result.now rest _ c.broken.result _ same first looked c.broken.ensures c.in_default.is
     c.enter_mail.ensures.writes c.enter_mail.ensures.accepts c.enter_mail.ensures.taken c.enter_mail.ensures.sent
     c.follow.new.self k.more c.follow.new.book.entries k.continues k.writes c.follow.ensures.taken c.follow.ensures.sent
+
+pub returns-then-is_err-clause-turn : goal.returns-then-is_err-clause-turn
+returns-then-is_err-clause-turn g c = adds_none _ _ c.reserve_turn.ensures.same.entries
+
+pub returns-clause-turn : goal.returns-clause-turn
+returns-clause-turn g c = adds_steps _ _ _ _ c.reserve_turn.ensures.same.entries
+    c.enter_mail.ensures.few c.enter_mail.ensures.light c.follow.ensures.few c.follow.ensures.light

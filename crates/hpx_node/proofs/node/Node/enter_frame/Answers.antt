@@ -2,6 +2,8 @@ use Rattle.std.proofs.Common.{◌+◌, ◌∙◌, ap}
 use Rattle.hpx_node.specs.Tables.{Tables}
 use Rattle.hpx_node.proofs.Taken.{taken_by, taken_tidy, taken_writes}
 use Rattle.hpx_node.proofs.FewEntries.{grows_few}
+use Rattle.hpx_node.proofs.Turns.{frame_short}
+use Rattle.hpx_node.proofs.TurnSteps.{grows_light}
 use Rattle.hpx_node.proofs.node.Node.enter_frame.Goals as goal
 
 pub handle-requires-clause-tidy : goal.handle-requires-clause-tidy
@@ -28,3 +30,9 @@ returns-clause-writes g c =
       profile = h.profile ∙ ap (λ (t : Tables). t.profile) c.self.view_is;
       grows = taken_writes _ c.args.self.now (c.self.inside.taken + 1) c.args.parcel c.args.bytes _ _ _ c.self.view_is c.push.ensures.entries c.handle.ensures.grows;
     }
+
+pub returns-clause-light : goal.returns-clause-light
+returns-clause-light g c =
+    let stands = rw (← c.self.view_is) at c.requires.stands in
+    grows_light c.self.inside.here _ _ c.args.parcel _ _ _ (taken_tidy _ (c.self.inside.taken + 1) stands.tidy)
+    (frame_short c.args.bytes c.args.parcel c.requires.spelled) c.push.ensures.entries c.handle.ensures.grows

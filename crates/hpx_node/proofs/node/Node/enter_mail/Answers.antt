@@ -1,6 +1,8 @@
+use Rattle.std.proofs.Common.{arith}
 use Rattle.hpx_node.proofs.Routed.{accepts_by}
 use Rattle.hpx_node.proofs.Taken.{mailed_by}
 use Rattle.hpx_node.proofs.FewEntries.{grows_few, popped_tidy}
+use Rattle.hpx_node.proofs.TurnSteps.{grows_light}
 use Rattle.hpx_node.proofs.node.Node.enter_mail.Goals as goal
 
 pub returns-clause-stands : goal.returns-clause-stands
@@ -24,3 +26,7 @@ returns-clause-accepts g c =
 
 pub returns-clause-few : goal.returns-clause-few
 returns-clause-few g c = grows_few _ _ _ c.args.parcel _ _ _ (popped_tidy c.args.parcel _ c.requires.stands.tidy) c.push.ensures.entries c.handle.ensures.grows
+
+pub returns-clause-light : goal.returns-clause-light
+returns-clause-light g c =
+    grows_light _ _ _ c.args.parcel _ _ _ (popped_tidy c.args.parcel _ c.requires.stands.tidy) (omega arith) c.push.ensures.entries c.handle.ensures.grows

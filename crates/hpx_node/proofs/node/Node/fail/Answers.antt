@@ -2,6 +2,7 @@ use Rattle.std.proofs.Common.{ap, arith}
 use Rattle.hpx_part.proofs.Keyed.{slice_get_less}
 use Rattle.hpx_node.specs.Tables.{Tables}
 use Rattle.hpx_node.proofs.FailedAll.{plan_due, plan_ups, plan_few, plan_kept, then_stands, then_fails, then_writes, then_few}
+use Rattle.hpx_node.proofs.TurnSteps.{fails_light}
 use Rattle.hpx_node.proofs.node.Node.fail.Goals as goal
 
 pub abandon-requires-clause-waits : goal.abandon-requires-clause-waits
@@ -61,3 +62,9 @@ returns-clause-few g c =
     then_few g.A.Acts.act_of c.args.self.now c.args.i c.args.j c.requires.must c.args.plan c.requires.plan c.args.book.now.entries c.requires.stands
     c.abandon.new.self c.abandon.new.book.entries c.abandon.ensures.pending c.abandon.ensures.objects c.abandon.ensures.rest c.abandon.ensures.entries
     c.leave.new.self c.leave.new.book.entries c.leave.ensures.rest c.leave.ensures.writes c.requires.few
+
+pub returns-clause-light : goal.returns-clause-light
+returns-clause-light g c =
+    let must = c.requires.must in
+    fails_light c.args.self.now c.leave.new.self must.commit c.args.plan c.args.book.now.entries c.leave.new.book.entries
+    (c.requires.plan must.commit must.there) c.requires.few (returns-clause-writes g c must.commit must.there)

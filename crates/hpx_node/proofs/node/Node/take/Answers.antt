@@ -3,6 +3,8 @@ use Rattle.hpx_parcel.specs.Reading.{parcel_of}
 use Rattle.hpx_node.proofs.Continued.{given_frame}
 use Rattle.hpx_node.proofs.Followed.{may_follow, next_gives, is_continued}
 use Rattle.hpx_node.proofs.Spared.{spare_stands, spare_few, took}
+use Rattle.hpx_node.proofs.Turns.{adds_none}
+use Rattle.hpx_node.proofs.TurnSteps.{adds_steps}
 use Rattle.hpx_node.proofs.node.Node.take.Goals as goal
 
 pub enter_frame-requires-clause-few : goal.enter_frame-requires-clause-few
@@ -44,3 +46,10 @@ returns-clause-ok g c =
     c.in-Ok-duplicate.bytes c.args.frame.now c.enter_frame.new.book.entries c.reserve_turn.ensures.same c.in-Ok-duplicate.ensures spelled
     (sym c.broken.ensures ∙ c.in_default.is) c.enter_frame.ensures.writes c.enter_frame.ensures.deals c.enter_frame.ensures.taken
     c.enter_frame.ensures.sent c.follow.new.self k.more c.follow.new.book.entries k.continues k.writes c.follow.ensures.taken c.follow.ensures.sent
+
+pub returns-then-is_err-clause-turn : goal.returns-then-is_err-clause-turn
+returns-then-is_err-clause-turn g c = adds_none _ _ c.reserve_turn.ensures.same.entries
+
+pub returns-clause-turn : goal.returns-clause-turn
+returns-clause-turn g c = adds_steps _ _ _ _ c.reserve_turn.ensures.same.entries
+    c.enter_frame.ensures.few c.enter_frame.ensures.light c.follow.ensures.few c.follow.ensures.light
