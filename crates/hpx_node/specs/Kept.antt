@@ -1,9 +1,10 @@
 -- What stands at a node, and the credit that is held and owed there.
-use Rattle.std.specs.Prelude.{ℕ, Bool, List, [], ◌∷◌, ◌++◌, ◌+◌, ◌^◌, cond, if◌then◌else◌, is_some, option_map, Option}
+use Rattle.std.specs.Prelude.{ℕ, Bool, List, [], ◌∷◌, ◌++◌, ◌≡◌, ◌+◌, ◌^◌, cond, if◌then◌else◌, is_some, option_map, Option, Some}
 use Rattle.std.specs.Option.{option_map_or}
 use Rattle.std.specs.List.{find, sum_by, list_any}
 use Rattle.hpx_value.specs.Ids.{credit, same_object}
-use Rattle.hpx_agas.specs.Records.{find_record}
+use Rattle.hpx_agas.specs.Records.{find_record, Rises}
+use Rattle.hpx_agas.specs.Registries.{IsGood}
 use Rattle.hpx_agas.specs.declared.record.Record.{Record}
 use Rattle.hpx_journal.specs.Data.{Id, Parcel, Apply, Return, Ask, Give, Move, Go, Shipped, Arrived}
 use Rattle.hpx_journal.specs.Local.{is_standing, acts_on}
@@ -59,6 +60,11 @@ record_here t o = find_record o t.records
 -- the credit that is out, 0 without a live record
 abbrev pub count_here : Tables → Id → ℕ
 count_here t o = option_map_or (λ (r : Record). r.count) (record_here t o) 0
+
+-- the live records, by rising number: each is of an object that was born here, with a count within the limit
+pub record HasRecords (t : Tables) : Type 0 where
+  pub rises : Rises 0 t.records
+  pub good : (o : Id) (r : Record) → record_here t o ≡ Some r → IsGood t.here t.profile t.births r
 
 -- where it was last said to be
 abbrev pub place_here : Tables → Id → Option ℕ

@@ -1,9 +1,9 @@
 //! What stands at a locality, and the credit that is there.
-ghost use Rattle.std.specs.Prelude.{◌≡◌, ◌+◌, ◌-◌, ◌^◌, ℕ, min, sum_by, option_map, slice_get};
+ghost use Rattle.std.specs.Prelude.{◌≡◌, ◌+◌, ◌-◌, ◌^◌, ℕ, min, length, sum_by, option_map, slice_get};
 ghost use Rattle.hpx_value.specs.Ids.{bare};
 ghost use Rattle.hpx_agas.specs.declared.record.Record.{Record};
 ghost use Rattle.hpx_node.specs.Tables.{messages};
-ghost use Rattle.hpx_node.specs.Kept.{stands_here, credit_in, ids_held, credit_owed, held_here, owed_here, count_here, place_here};
+ghost use Rattle.hpx_node.specs.Kept.{stands_here, credit_in, ids_held, credit_owed, held_here, owed_here, count_here, place_here, HasRecords};
 
 use crate::find::place_of;
 use crate::kept::{Fit, Kept, Letter};
@@ -168,6 +168,14 @@ impl<A: Acts + Copy> Node<A> {
         ensures { result ≡ place_here self.now o }
     {
         self.records.place(o)
+    }
+
+    /// How many objects of this home are live.
+    pub fn number(&self) -> u32
+        ensures value { result ≡ length self.now.records }
+        ensures sound { HasRecords self.now }
+    {
+        self.records.number()
     }
 
     /// The id of the live object at a place, by rising number, from 0.
