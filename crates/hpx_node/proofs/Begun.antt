@@ -55,6 +55,7 @@ use Rattle.hpx_node.proofs.SplitHand.{weigh_bare, stock_weighs, hand_weighs}
 use Rattle.hpx_node.proofs.Single.{single_set}
 use Rattle.hpx_node.proofs.Splits.{Has, Halves, halves_none, cut_many}
 use Rattle.hpx_node.proofs.Stays.{Stays, cuts_stay, stays_out, stays_in}
+use Rattle.hpx_node.proofs.Ended.{LeavesActs, first_leave, asked_leave, answers_none}
 use Rattle.hpx_node.proofs.Steps.{Tells, tells_leads, same_refusals, stands_then}
 use Rattle.hpx_node.proofs.Sums.{weigh, weigh_append, weigh_remove, weigh_set, weigh_last, tokens_sum, view_sum}
 
@@ -492,5 +493,7 @@ module _ (r : Rules) (t : Tables) (entries : List Entry) (i j : ℕ) (job : Job)
           pays = pays_on r t paused t' events (asked_events lacks)
               (pays_idle r t paused events (first_idle r (own_many job) 0 (hand_ids job.state job.action later) places) (λ row. refl) refl)
               (pays_asks r paused t' lacks asks);
+          answers = answers_none r t t' (events ++ asked_events lacks) (stays (λ x. x.answered) (λ x a s d o. refl))
+              (all_append LeavesActs events (asked_events lacks) (first_leave (own_many job) 0 (hand_ids job.state job.action later) places) (asked_leave lacks));
         })
         leads

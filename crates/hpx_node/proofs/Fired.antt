@@ -25,6 +25,7 @@ use Rattle.hpx_node.specs.Fit.{IsFit}
 use Rattle.hpx_node.proofs.Alls.{all_append, all_remove, all_at}
 use Rattle.hpx_node.proofs.Pausing.{fired_paused}
 use Rattle.hpx_node.proofs.Steps.{Tells, tells_leads, stands_then}
+use Rattle.hpx_node.proofs.Ended.{answers_fire}
 use Rattle.hpx_node.proofs.IdleSteps.{pays_fire}
 
 module _ (r : Rules) (t : Tables) (entries : List Entry) (i : ℕ) (act : Act) (spare : ℕ) (is : slice_get t.accepted i ≡ Some act)
@@ -105,4 +106,4 @@ module _ (r : Rules) (t : Tables) (entries : List Entry) (i : ℕ) (act : Act) (
         ways = h.tidy.ways;
         paused = fired_paused t.here t.localities t.profile.credit_log t.objects t.running t.pending act free.idle h.tidy.paused;
       })
-      (record { here = refl; born = omega arith; few = omega arith; asked = omega arith; sent = omega arith; taken = omega arith; pays = pays_fire r t fired i act (name_of act) is refl refl }) leads
+      (record { here = refl; born = omega arith; few = omega arith; asked = omega arith; sent = omega arith; taken = omega arith; pays = pays_fire r t fired i act (name_of act) is refl refl; answers = answers_fire r t fired (name_of act) refl }) leads

@@ -257,6 +257,7 @@ module _ (r : Rules) (t t' : Tables) (o : Id) (x : Standing) (i spare : ℕ) (is
         births = ap (λ (y : Tables). y.births) rest;
         sent = ap (λ (y : Tables). y.sent) rest;
         taken = ap (λ (y : Tables). y.taken) rest;
+        answered = ap (λ (y : Tables). y.answered) rest;
         running = ap (λ (y : Tables). y.running) rest;
         asked = ap (λ (y : Tables). y.asked) rest;
         tidy = gives.tidy;

@@ -20,6 +20,7 @@ pub mod SplitHand
 pub mod Splits
 pub mod Stays
 pub mod Steps
+pub mod Ended
 pub mod Paid
 pub mod Posted
 pub mod Single

@@ -491,6 +491,7 @@ module _ (r : Rules) (t : Tables) (id : Id) (entry i n spare : ℕ) (w : Waits) 
     births = refl;
     sent = refl;
     taken = refl;
+    answered = refl;
     running = refl;
     asked = refl;
     tidy = given_tidy;

@@ -35,6 +35,8 @@ stands_spare r t due loose es spare h = record {
   sent = h.sent;
   taken = h.taken;
   paid = record { rows = h.paid.rows; once = h.paid.once };
+  few_answers = h.few_answers;
+  answered = h.answered;
 }
 
 pub stands_same : (act_of : ℕ → ℕ → ℕ → State → Act → Outcome) (t t' : Tables) (es es' : List Entry) → Stands act_of t es

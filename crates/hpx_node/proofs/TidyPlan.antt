@@ -12,6 +12,7 @@ use Rattle.hpx_journal.specs.Data.{Id, Act, State, Outcome}
 use Rattle.hpx_journal.proofs.Same.{same_object-true}
 use Rattle.hpx_part.specs.Data.{Standing}
 use Rattle.hpx_node.specs.declared.node.settle.Birth.{Birth}
+use Rattle.hpx_node.specs.Awaited.{answered_by}
 use Rattle.hpx_node.specs.Births.{IsBirth, birth_of, objects_of, records_of}
 use Rattle.hpx_node.specs.Fit.{IsFit, IsKept}
 use Rattle.hpx_node.specs.Commits.{IsStock}
@@ -124,6 +125,7 @@ module _ (t : Tables) (j : ℕ) (job : Job) (out : Outcome) (standing : Standing
       objects = set (t.objects ++ objects_of t.here t.births xs) j new;
       running = running;
       pending = pending;
+      answered = t.answered + answered_by (Some job.action);
       spare = spare;
     }
 

@@ -1,7 +1,7 @@
 -- How a node's tables stand for its part of the journal.
 use Rattle.std.specs.Prelude.{ℕ, List, [], ◌≡◌, ◌≤◌, length}
 use Rattle.hpx_value.specs.declared.profile.Profile.{Profile}
-use Rattle.std.specs.List.{AllByRecursion, find}
+use Rattle.std.specs.List.{AllByRecursion, count_by, find}
 use Rattle.hpx_value.specs.Ids.{same_object}
 use Rattle.std.specs.Prelude.{IfSome, None, ◌<◌}
 use Rattle.hpx_value.specs.Values.{bare_act}
@@ -9,14 +9,15 @@ use Rattle.hpx_parcel.specs.Parcels.{IsParcel}
 use Rattle.hpx_parcel.specs.Reading.{parcel_of}
 use Rattle.hpx_journal.specs.Data.{Id, State, Act, Outcome, Due}
 use Rattle.hpx_journal.specs.Entries.{Rules, move_to}
-use Rattle.hpx_journal.specs.Whole.{part}
+use Rattle.hpx_journal.specs.Whole.{part, run_local, IsClean}
 use Rattle.hpx_journal.specs.Laws.{outs, ins}
 use Rattle.hpx_part.specs.Data.{Entry}
-use Rattle.hpx_part.specs.Parts.{StandsFor}
+use Rattle.hpx_part.specs.Parts.{StandsFor, at_boot}
 use Rattle.hpx_node.specs.Fit.{IsFit, IsKept, IsFitDue}
 use Rattle.hpx_node.specs.Frames.{AreOnTheirWay}
 use Rattle.hpx_node.specs.Paused.{ArePaused}
 use Rattle.hpx_node.specs.Idle.{IsPaid}
+use Rattle.hpx_node.specs.Awaited.{is_answer}
 use Rattle.hpx_node.specs.Tables.{Tables, messages}
 use Rattle.hpx_node.specs.Seen.{view}
 
@@ -54,6 +55,9 @@ pub record StandsWith (r : Rules) (t : Tables) (due : List Due) (loose : List Id
   pub sent : t.sent ≡ length (outs (part t.here entries))
   pub taken : t.taken ≡ length (ins (part t.here entries))
   pub paid : IsPaid r t (part t.here entries)
+  pub few_answers : t.answered ≤ length entries
+  pub answered : IsClean r (at_boot r t.here) (part t.here entries)
+      → t.answered ≡ count_by is_answer (run_local r (at_boot r t.here) (part t.here entries)).done
 
 -- nothing is due and each id is named, by the rules of these tables
 abbrev pub Stands : (ℕ → ℕ → ℕ → State → Act → Outcome) → Tables → List Entry → Type 0

@@ -11,6 +11,7 @@ ghost use Rattle.hpx_journal.specs.Weights.{HasRoom};
 ghost use Rattle.hpx_journal.specs.Whole.{part, run_local, IsClean};
 ghost use Rattle.hpx_part.specs.Data.{Entry};
 ghost use Rattle.hpx_part.specs.Parts.{at_boot};
+ghost use Rattle.hpx_node.specs.Awaited.{awaited_here, awaited_at};
 ghost use Rattle.hpx_node.specs.Tables.{Tables, IsPassive};
 ghost use Rattle.hpx_node.specs.Idle.{Row, Actions, goes, causes, hops, unpaid};
 ghost use Rattle.hpx_node.specs.Limits.{IsWithin, AddsATurn};
@@ -40,7 +41,8 @@ pub fn idle_law()
 {}
 
 /// What calls tell of a node is so at its locality, where its part leads, up to a foreign arrival: which objects stand there, the
-/// credit that is held and owed there, and of a passive one that as many credits are held as objects are named.
+/// credit that is held and owed there, how many answers the session waits for, and of a passive one that as many credits are held
+/// as objects are named.
 pub fn numbers_law()
     ensures holds { (r : Rules) (t : Tables) (entries : List Entry) (o : Id) → StandsWith r t [] [] entries →
         IsClean r (at_boot r t.here) (part t.here entries) →
@@ -57,6 +59,9 @@ pub fn numbers_law()
         IsClean r (at_boot r t.here) (part t.here entries) →
         count_by (is_held o) (run_local r (at_boot r t.here) (part t.here entries)).tokens
         ≡ names o (run_local r (at_boot r t.here) (part t.here entries)) }
+    ensures answers { (r : Rules) (t : Tables) (entries : List Entry) → StandsWith r t [] [] entries →
+        IsClean r (at_boot r t.here) (part t.here entries) →
+        awaited_here t ≡ awaited_at (run_local r (at_boot r t.here) (part t.here entries)) }
 {}
 
 /// Where there is room, a call leaves a journal within its limits.
