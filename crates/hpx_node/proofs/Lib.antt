@@ -86,5 +86,6 @@ pub mod IdleCounts
 pub mod IdleEffects
 pub mod IdleSince
 pub mod Routed
+pub mod RowLaws
 pub mod Spareless
 pub mod AnsweredEntry

@@ -3,7 +3,7 @@ ghost use Rattle.std.specs.Prelude.{◌≡◌, ◌≤◌, ◌+◌, ◌++◌, [],
 ghost use Rattle.std.specs.List.{sum_by, count_by, find};
 ghost use Rattle.hpx_journal.specs.Data.{Id};
 ghost use Rattle.hpx_journal.specs.Entries.{Rules};
-ghost use Rattle.hpx_journal.specs.Laws.{outs, ins};
+ghost use Rattle.hpx_journal.specs.Laws.{outs, ins, RefusesForCause};
 ghost use Rattle.hpx_journal.specs.Local.{is_standing};
 ghost use Rattle.hpx_journal.specs.Names.{names};
 ghost use Rattle.hpx_journal.specs.Tokens.{is_held};
@@ -26,7 +26,8 @@ pub fn settled_law()
 {}
 
 /// Nothing idle: in each row what has gone and what is still here is what was caused, from boot on, and from any moment on
-/// at which the node was passive. Each action goes through one message at most.
+/// at which the node was passive. Each action goes through one message at most. An id goes or is handed over with no more credit
+/// no more often than one came so or was refused here.
 pub fn idle_law()
     ensures boot { (r : Rules) (t : Tables) (entries : List Entry) → StandsWith r t [] [] entries → (row : Row) →
         sum_by (λ (e : Entry). goes r row e.event) (part t.here entries) + unpaid row t
@@ -37,6 +38,7 @@ pub fn idle_law()
         ≡ sum_by (λ (e : Entry). causes r row e.event) (part t.here later) }
     ensures once { (r : Rules) (t : Tables) (entries : List Entry) → StandsWith r t [] [] entries →
         sum_by (λ (e : Entry). hops r e.event) (part t.here entries) ≤ sum_by (λ (e : Entry). causes r Actions e.event) (part t.here entries) }
+    ensures refuses { (r : Rules) (t : Tables) (entries : List Entry) → StandsWith r t [] [] entries → RefusesForCause r (part t.here entries) }
 {}
 
 /// What calls tell of a node is so at its locality, where its part leads, up to a foreign arrival: which objects stand there, the
