@@ -87,5 +87,6 @@ pub mod IdleEffects
 pub mod IdleSince
 pub mod Routed
 pub mod RowLaws
+pub mod Targets
 pub mod Spareless
 pub mod AnsweredEntry

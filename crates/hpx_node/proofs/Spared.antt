@@ -36,6 +36,7 @@ spare_stands act_of t t' b b' same h =
         messages = h.tidy.messages;
         fit = h.tidy.fit;
         moves = h.tidy.moves;
+        targets = h.tidy.targets;
         ways = h.tidy.ways;
         drawn = h.tidy.drawn;
         unborn = h.tidy.unborn;
@@ -45,7 +46,7 @@ spare_stands act_of t t' b b' same h =
       born = h.born;
       sent = h.sent;
       taken = h.taken;
-      paid = record { rows = h.paid.rows; once = h.paid.once };
+      paid = record { rows = h.paid.rows; once = h.paid.once; frees = h.paid.frees };
     }))
 
 pub spare_few : (act_of : ℕ → ℕ → ℕ → State → Act → Outcome) (t t' : Tables) (b b' : Book) → OnlySpare t t' b b' → HasRoom b.entries
@@ -134,6 +135,7 @@ first_stands act_of t p rest s entries first h =
         messages = h.tidy.messages;
         fit = h.tidy.fit;
         moves = h.tidy.moves;
+        targets = h.tidy.targets;
         ways = h.tidy.ways;
         drawn = h.tidy.drawn;
         unborn = h.tidy.unborn;
@@ -143,7 +145,7 @@ first_stands act_of t p rest s entries first h =
       born = h.born;
       sent = h.sent;
       taken = h.taken;
-      paid = record { rows = h.paid.rows; once = h.paid.once };
+      paid = record { rows = h.paid.rows; once = h.paid.once; frees = h.paid.frees };
     })
 
 pub cleared : (t m t' : Tables) (b n : Book) (p q : Parcel) (rest : List Parcel) (s : ℕ) (x : Option Broken) (entries : List Entry) → OnlySpare t m b n
