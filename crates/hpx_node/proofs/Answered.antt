@@ -121,6 +121,7 @@ module _ (act_of : ℕ → ℕ → ℕ → State → Act → Outcome) (t m t' : 
     messages = tidy.messages;
     fit = tidy.fit;
     moves = tidy.moves;
+    targets = tidy.targets;
     ways = tidy.ways;
     drawn = tidy.drawn;
     unborn = none_unborn t.births id rec t.records m.records there others tidy.unborn;

@@ -38,6 +38,7 @@ use Rattle.hpx_node.specs.Tables.{Tables, fired_acts}
 use Rattle.hpx_node.specs.Seen.{bare_standing, counted, view}
 use Rattle.hpx_node.specs.Stands.{IsTidy, StandsWith}
 use Rattle.hpx_node.proofs.Alls.{all_append, all_remove, all_set, all_at}
+use Rattle.hpx_node.proofs.Targets.{targets_set}
 use Rattle.hpx_node.proofs.Asking.{asked_long, asked_stay, pays_asks}
 use Rattle.hpx_node.proofs.Bare.{bare_middle}
 use Rattle.hpx_node.proofs.IdleRows.{first_idle}
@@ -323,6 +324,7 @@ module _ (r : Rules) (t : Tables) (entries : List Entry) (i j : ℕ) (job : Job)
     messages = h.tidy.messages;
     fit = tt;
     moves = h.tidy.moves;
+    targets = targets_set t.objects j at.standing lent t.accepted at.stands refl h.tidy.targets;
     drawn = all_set (λ (x : Standing). 16 ≤ x.object.kind → x.object.home ≡ t.here → x.object.number ≤ t.births) t.objects j lent h.tidy.drawn
         (all_at (λ (x : Standing). 16 ≤ x.object.kind → x.object.home ≡ t.here → x.object.number ≤ t.births) t.objects j at.standing h.tidy.drawn at.stands);
     unborn = h.tidy.unborn;

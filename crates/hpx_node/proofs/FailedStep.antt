@@ -29,6 +29,7 @@ use Rattle.hpx_node.specs.Seen.{bare_standing, view}
 use Rattle.hpx_node.specs.Stands.{IsTidy, StandsWith}
 use Rattle.hpx_node.specs.Tables.{Tables, fired_acts}
 use Rattle.hpx_node.proofs.Alls.{some_same, all_at, all_set}
+use Rattle.hpx_node.proofs.Targets.{targets_set}
 use Rattle.hpx_node.proofs.Bare.{target-bare, found-bare, bare_middle}
 use Rattle.hpx_node.proofs.Begun.{bare_twice}
 use Rattle.hpx_node.proofs.Cover.{tidy_covers}
@@ -192,6 +193,7 @@ module _ (r : Rules) (t : Tables) (entries : List Entry) (i j : ℕ) (w : Waits)
     messages = h.tidy.messages;
     fit = due_fit;
     moves = h.tidy.moves;
+    targets = targets_set t.objects j x new t.accepted stands refl h.tidy.targets;
     drawn = all_set (λ (y : Standing). 16 ≤ y.object.kind → y.object.home ≡ t.here → y.object.number ≤ t.births) t.objects j new h.tidy.drawn
         (all_at (λ (y : Standing). 16 ≤ y.object.kind → y.object.home ≡ t.here → y.object.number ≤ t.births) t.objects j x h.tidy.drawn stands);
     unborn = h.tidy.unborn;

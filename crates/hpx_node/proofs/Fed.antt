@@ -41,6 +41,7 @@ module _ (r : Rules) (t t' : Tables) (entries : List Entry) (bytes : List ℕ) w
         messages = h.tidy.messages;
         fit = tt;
         moves = h.tidy.moves;
+        targets = h.tidy.targets;
         drawn = h.tidy.drawn;
         unborn = h.tidy.unborn;
         ways = h.tidy.ways;

@@ -154,6 +154,7 @@ module _ (r : Rules) (t : Tables) (entries : List Entry) (x : Outgoing) (rest : 
         messages = all_append IsParcel t.desk others parts.0 parts.1.1;
         fit = tt;
         moves = h.moves;
+        targets = h.targets;
         drawn = h.drawn;
         unborn = h.unborn;
         ways = (ways.1, h.ways.1);

@@ -87,5 +87,7 @@ pub mod IdleCounts
 pub mod IdleEffects
 pub mod IdleSince
 pub mod Routed
+pub mod RowLaws
+pub mod Targets
 pub mod Spareless
 pub mod AnsweredEntry

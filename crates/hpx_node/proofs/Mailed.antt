@@ -37,6 +37,7 @@ module _ (t : Tables) (p : Parcel) (spare : ℕ) (fit : IsParcel p) (enough : t.
               (all_append IsParcel (messages t) (p ∷ []) h.messages (fit, tt));
           fit = h.fit;
           moves = h.moves;
+          targets = h.targets;
           drawn = h.drawn;
           unborn = h.unborn;
           ways = (
@@ -66,6 +67,7 @@ module _ (t : Tables) (p : Parcel) (spare : ℕ) (fit : IsParcel p) (enough : t.
               all_append IsParcel (t.desk ++ p ∷ []) outs (all_append IsParcel t.desk (p ∷ []) parts.0 (fit, tt)) parts.1;
           fit = h.fit;
           moves = h.moves;
+          targets = h.targets;
           drawn = h.drawn;
           unborn = h.unborn;
           ways = (h.ways.0, all_append (IsForHere t.localities t.here) t.desk (p ∷ []) h.ways.1 (record { to = to; may = may; here = own_is t to own }, tt));

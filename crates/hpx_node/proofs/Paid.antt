@@ -45,6 +45,7 @@ tidy_rest t x due serial h = record {
   messages = h.messages;
   fit = h.fit.1;
   moves = h.moves;
+  targets = h.targets;
   drawn = h.drawn;
   unborn = h.unborn;
   ways = h.ways;

@@ -362,6 +362,7 @@ module _ (r : Rules) (t : Tables) (id : Id) (entry i n spare : ℕ) (w : Waits) 
     messages = tidy.messages;
     fit = tidy.fit;
     moves = tidy.moves;
+    targets = tidy.targets;
     drawn = tidy.drawn;
     unborn = tidy.unborn;
     ways = tidy.ways;

@@ -214,6 +214,7 @@ module _ (r : Rules) (t m : Tables) (id : Id) (log : ℕ) (rec : Record) (some :
     messages = tidy.messages;
     fit = tidy.fit;
     moves = tidy.moves;
+    targets = tidy.targets;
     ways = tidy.ways;
     drawn = tidy.drawn;
     unborn = none_unborn t.births id rec t.records m.records there others tidy.unborn;

@@ -38,6 +38,7 @@ spare_stands act_of t t' b b' same h =
         messages = h.tidy.messages;
         fit = h.tidy.fit;
         moves = h.tidy.moves;
+        targets = h.tidy.targets;
         ways = h.tidy.ways;
         drawn = h.tidy.drawn;
         unborn = h.tidy.unborn;
@@ -47,7 +48,7 @@ spare_stands act_of t t' b b' same h =
       born = h.born;
       sent = h.sent;
       taken = h.taken;
-      paid = record { rows = h.paid.rows; once = h.paid.once };
+      paid = record { rows = h.paid.rows; once = h.paid.once; frees = h.paid.frees };
       few_answers = h.few_answers;
       answered = h.answered;
     }))
@@ -148,6 +149,7 @@ first_stands act_of t p rest s entries first h =
         messages = h.tidy.messages;
         fit = h.tidy.fit;
         moves = h.tidy.moves;
+        targets = h.tidy.targets;
         ways = h.tidy.ways;
         drawn = h.tidy.drawn;
         unborn = h.tidy.unborn;
@@ -157,7 +159,7 @@ first_stands act_of t p rest s entries first h =
       born = h.born;
       sent = h.sent;
       taken = h.taken;
-      paid = record { rows = h.paid.rows; once = h.paid.once };
+      paid = record { rows = h.paid.rows; once = h.paid.once; frees = h.paid.frees };
       few_answers = h.few_answers;
       answered = h.answered;
     })

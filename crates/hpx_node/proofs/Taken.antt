@@ -184,6 +184,7 @@ taken_tidy t n tidy = record {
   messages = tidy.messages;
   fit = tidy.fit;
   moves = tidy.moves;
+  targets = tidy.targets;
   ways = tidy.ways;
   drawn = tidy.drawn;
   unborn = tidy.unborn;

@@ -21,7 +21,8 @@ use Rattle.hpx_node.specs.Paused.{Single, ArePaused}
 use Rattle.hpx_node.specs.Pending.{Waits}
 use Rattle.hpx_node.specs.Stands.{IsTidy}
 use Rattle.hpx_node.specs.Tables.{Tables}
-use Rattle.hpx_node.proofs.Alls.{all_append, all_at, all_set}
+use Rattle.hpx_node.proofs.Alls.{all_append, all_at, all_set, get_before}
+use Rattle.hpx_node.proofs.Targets.{targets_set, targets_more}
 use Rattle.hpx_node.proofs.MadeLists.{bare_alone}
 use Rattle.hpx_node.proofs.Single.{single_made}
 use Rattle.hpx_node.proofs.Plain.{no_ids, plain_values, plain_conts, plain_same}
@@ -143,6 +144,8 @@ module _ (t : Tables) (j : ℕ) (job : Job) (out : Outcome) (standing : Standing
       messages = tidy.messages;
       fit = due_may t job out fit few laws s is;
       moves = tidy.moves;
+      targets = targets_set (t.objects ++ objects_of t.here t.births xs) j standing new t.accepted
+          (get_before t.objects (objects_of t.here t.births xs) j standing stands) refl (targets_more t.objects (objects_of t.here t.births xs) t.accepted tidy.targets);
       drawn = all_set (Drawn t.here (t.births + length xs)) (t.objects ++ objects_of t.here t.births xs) j new drawn_all
           (λ managed home. let low = all_at (Drawn t.here t.births) t.objects j standing tidy.drawn stands managed home in omega (arith, low));
       unborn = λ o late. find_none (λ (x : Record). same_object o x.gid) t.records (records_of t.here t.births t.profile.credit_log xs)

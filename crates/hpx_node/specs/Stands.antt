@@ -1,5 +1,5 @@
 -- How a node's tables stand for its part of the journal.
-use Rattle.std.specs.Prelude.{ℕ, List, [], ◌≡◌, ◌≤◌, length}
+use Rattle.std.specs.Prelude.{ℕ, true, List, [], ◌≡◌, ◌≤◌, length}
 use Rattle.hpx_value.specs.declared.profile.Profile.{Profile}
 use Rattle.std.specs.List.{AllByRecursion, count_by, find}
 use Rattle.hpx_value.specs.Ids.{same_object}
@@ -8,7 +8,7 @@ use Rattle.hpx_value.specs.Values.{bare_act}
 use Rattle.hpx_parcel.specs.Parcels.{IsParcel}
 use Rattle.hpx_parcel.specs.Reading.{parcel_of}
 use Rattle.hpx_journal.specs.Data.{Id, State, Act, Outcome, Due}
-use Rattle.hpx_journal.specs.Entries.{Rules, move_to}
+use Rattle.hpx_journal.specs.Entries.{Rules, move_to, target_of}
 use Rattle.hpx_journal.specs.Whole.{part, run_local, IsClean}
 use Rattle.hpx_journal.specs.Laws.{outs, ins}
 use Rattle.hpx_part.specs.Data.{Entry}
@@ -18,6 +18,7 @@ use Rattle.hpx_node.specs.Frames.{AreOnTheirWay}
 use Rattle.hpx_node.specs.Paused.{ArePaused}
 use Rattle.hpx_node.specs.Idle.{IsPaid}
 use Rattle.hpx_node.specs.Awaited.{is_answer}
+use Rattle.hpx_node.specs.Kept.{stands_here}
 use Rattle.hpx_node.specs.Tables.{Tables, messages}
 use Rattle.hpx_node.specs.Seen.{view}
 
@@ -31,8 +32,8 @@ rules_of act_of n profile = record {
   outcome_of = act_of n;
 }
 
--- all that is kept, due or on its way is well formed; a MOVE is accepted only to here, what was
--- born here has a number that was drawn, and messages are where they may be
+-- all that is kept, due or on its way is well formed; a MOVE is accepted only to here, and an action only where its object
+-- stands; what was born here has a number that was drawn, and messages are where they may be
 pub record IsTidy (t : Tables) (due : List Due) : Type 0 where
   pub accepted : AllByRecursion IsFit t.accepted
   pub running : AllByRecursion IsFit t.running
@@ -40,6 +41,7 @@ pub record IsTidy (t : Tables) (due : List Due) : Type 0 where
   pub messages : AllByRecursion IsParcel (messages t)
   pub fit : AllByRecursion IsFitDue due
   pub moves : AllByRecursion (λ act. IfSome (move_to (bare_act act)) (λ to. to ≡ t.here)) t.accepted
+  pub targets : AllByRecursion (λ act. stands_here t (target_of act) ≡ true) t.accepted
   pub drawn : AllByRecursion (λ x. 16 ≤ x.object.kind → x.object.home ≡ t.here → x.object.number ≤ t.births) t.objects
   pub unborn : (o : Id) → t.births < o.number → find (λ x. same_object o x.gid) t.records ≡ None
   pub ways : AreOnTheirWay t
