@@ -10,3 +10,5 @@ pub mod node;
 pub mod parts;
 pub mod pending;
 pub mod strange;
+#[cfg(test)]
+mod tests;

@@ -215,6 +215,13 @@ impl<A: Acts + Copy> Node<A> {
             && self.outgoing.is_empty()
     }
 
+    /// Which locality it is.
+    pub fn here(&self) -> u32
+        ensures { result ≡ self.now.here }
+    {
+        self.here
+    }
+
     /// How many frames have gone.
     pub fn sent(&self) -> u64
         ensures { result ≡ self.now.sent }

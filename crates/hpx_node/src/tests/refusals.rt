@@ -1,0 +1,206 @@
+//! Frames that are refused.
+use crate::parts::TakeFault;
+use crate::tests::site::{Site, number};
+use hpx_value::gid::Gid;
+use hpx_value::items::{Bytes, Items};
+use std::alloc::Global;
+use std::test::Fail;
+
+/// The call that has a number made at locality 1.
+const NEW: &str =
+    "0101 0000 0000000000000002 0000000200000007 0000000000000001 0005 0000 01 0000000100000003 0000000000000001 00000000";
+
+/// The bytes that hexadecimal digits show, whatever stands between them.
+fn hex(alloc: Global, text: &str) -> Result<Bytes, Fail> {
+    let mut bytes = Vec::new(alloc);
+    let mut high: Option<u8> = None;
+    for c in text.chars() {
+        if let Some(digit) = c.to_digit(16) {
+            match high {
+                None => high = Some(digit as u8),
+                Some(first) => {
+                    bytes.push(first << 4u32 | digit as u8)?;
+                    high = None;
+                }
+            }
+        }
+    }
+    Ok(Items::from_vec(bytes))
+}
+
+/// The home of the number, where it stands.
+fn home(alloc: Global) -> Result<Site, Fail> {
+    let mut site = Site::boot(alloc, 1)?;
+    site.take(alloc, &hex(alloc, NEW)?)?;
+    site.run(alloc)?;
+    Ok(site)
+}
+
+/// Whether a frame was refused so.
+fn is_fault(answer: Result<(), TakeFault>, fault: TakeFault) -> bool {
+    match answer {
+        Ok(()) => false,
+        Err(other) => other == fault,
+    }
+}
+
+/// Whether a frame is refused so, and nothing changes.
+fn is_refused(alloc: Global, mut site: Site, text: &str, fault: TakeFault) -> Result<bool, Fail> {
+    let frame = hex(alloc, text)?;
+    let before = site.seen();
+    let refused = is_fault(site.take(alloc, &frame), fault);
+    Ok(refused && before.same(site.seen()))
+}
+
+/// The second number of locality 1, which is not born.
+fn unborn() -> Gid {
+    Gid::new(1, 16, 2)
+}
+
+/// The first number of locality 5, where there are two localities.
+fn far() -> Gid {
+    Gid::new(5, 16, 1)
+}
+
+fn strange(rule: u8, object: Gid, kept: u128) -> TakeFault {
+    TakeFault::Strange { rule, object, kept }
+}
+
+/// So it is at the home of the number.
+fn at_home(alloc: Global, text: &str, fault: TakeFault) -> Result<bool, Fail> {
+    let site = home(alloc)?;
+    is_refused(alloc, site, text, fault)
+}
+
+/// A Return and an Ask of an unborn number, a Return of more than the count, and a Give that nobody asked for.
+fn refuses_credit(alloc: Global) -> Result<bool, Fail> {
+    Ok(
+        at_home(
+            alloc,
+            "0102 0000000248000021 0000000000000002",
+            strange(1, unborn(), 1),
+        )? && at_home(
+            alloc,
+            "0103 0000000240000021 0000000000000002 0000 0000000000000001",
+            strange(1, unborn(), 1),
+        )? && at_home(
+            alloc,
+            "0102 0000000249000021 0000000000000001",
+            strange(2, number(), 256),
+        )? && at_home(
+            alloc,
+            "0104 0000000248000021 0000000000000001 0000000000000007",
+            strange(3, number(), 7),
+        )?,
+    )
+}
+
+#[test]
+fn the_home_refuses_credit(rt: HostRuntime) -> Result<(), Fail> {
+    assert!(rt; refuses_credit(rt.alloc())?);
+    Ok(())
+}
+
+/// An action on an unborn number, one from locality 2 of 2, and a MOVE to elsewhere.
+fn refuses_actions(alloc: Global) -> Result<bool, Fail> {
+    Ok(
+        at_home(
+            alloc,
+            "0101 0000 0000000000000003 0000000247000021 0000000000000002 0010 0000 00",
+            strange(8, unborn(), 1),
+        )? && at_home(
+            alloc,
+            "0101 0002 0000000000000003 0000000247000021 0000000000000001 0010 0000 00",
+            strange(9, number(), 2),
+        )? && at_home(
+            alloc,
+            "0106 0000 0000000000000003 0000000247000021 0000000000000001 0001 0001 02 0000000000000000 00",
+            strange(8, number(), 1),
+        )?,
+    )
+}
+
+#[test]
+fn the_home_refuses_actions(rt: HostRuntime) -> Result<(), Fail> {
+    assert!(rt; refuses_actions(rt.alloc())?);
+    Ok(())
+}
+
+/// A granted MOVE to here of what is not here, and one to elsewhere of what stands here.
+fn refuses_moves(alloc: Global) -> Result<bool, Fail> {
+    Ok(
+        at_home(
+            alloc,
+            "0107 0000 0000000000000003 0000000247000021 0000000000000002 0001 0001 02 0000000000000001 00",
+            strange(6, unborn(), 1),
+        )? && at_home(
+            alloc,
+            "0107 0000 0000000000000003 0000000247000021 0000000000000001 0001 0001 02 0000000000000000 00",
+            strange(8, number(), 1),
+        )?,
+    )
+}
+
+#[test]
+fn the_home_refuses_moves(rt: HostRuntime) -> Result<(), Fail> {
+    assert!(rt; refuses_moves(rt.alloc())?);
+    Ok(())
+}
+
+/// An object that stands here, one that has come to a place, and a place to be remembered.
+fn refuses_places(alloc: Global) -> Result<bool, Fail> {
+    Ok(
+        at_home(
+            alloc,
+            "0108 0000 0000000000000003 0000000247000021 0000000000000001 0001 0001 02 0000000000000001 00 00000000 0000 0000",
+            strange(4, number(), 1),
+        )? && at_home(
+            alloc,
+            "0109 0000000247000021 0000000000000001 0000",
+            strange(5, number(), 1),
+        )? && at_home(
+            alloc,
+            "0105 0000000200000021 0000000000000001 0000",
+            strange(8, number(), 1),
+        )?,
+    )
+}
+
+#[test]
+fn the_home_refuses_places(rt: HostRuntime) -> Result<(), Fail> {
+    assert!(rt; refuses_places(rt.alloc())?);
+    Ok(())
+}
+
+/// Frames that break two rules: 9 and 1, 1 and 2, 9 and 3, 9 and 7, 9 and 8.
+fn tells_the_first(alloc: Global) -> Result<bool, Fail> {
+    Ok(
+        at_home(
+            alloc,
+            "0103 0000000240000021 0000000000000002 0002 0000000000000001",
+            strange(9, unborn(), 2),
+        )? && at_home(
+            alloc,
+            "0102 0000000249000021 0000000000000002",
+            strange(1, unborn(), 1),
+        )? && at_home(
+            alloc,
+            "0104 0000000648000021 0000000000000001 0000000000000007",
+            strange(9, far(), 2),
+        )? && at_home(
+            alloc,
+            "010a 0000000600000021 0000000000000001",
+            strange(9, far(), 2),
+        )? && at_home(
+            alloc,
+            "0101 0002 0000000000000003 0000000247000021 0000000000000002 0010 0000 00",
+            strange(9, unborn(), 2),
+        )?,
+    )
+}
+
+#[test]
+fn the_first_rule_that_is_broken_is_told(rt: HostRuntime) -> Result<(), Fail> {
+    assert!(rt; tells_the_first(rt.alloc())?);
+    Ok(())
+}
