@@ -1,0 +1,16 @@
+pub mod Plain
+pub mod Growth
+pub mod Sound
+pub mod Roads
+pub mod Carrying
+pub mod Counts
+pub mod Booted
+pub mod Calls
+pub mod Finished
+pub mod Unfed
+pub mod Idle
+pub mod Worked
+pub mod Refused
+pub mod Never
+pub mod Promised
+pub mod Rested

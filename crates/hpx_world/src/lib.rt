@@ -1,0 +1,5 @@
+//! All localities over a fabric, and the one journal that they write.
+#![tactic(auto)]
+
+pub mod locals;
+pub mod turns;
