@@ -14,3 +14,5 @@ pub mod Refused
 pub mod Never
 pub mod Promised
 pub mod Rested
+pub mod Taken
+pub mod FewFrames
