@@ -16,3 +16,4 @@ pub mod Promised
 pub mod Rested
 pub mod Taken
 pub mod FewFrames
+pub mod Turned

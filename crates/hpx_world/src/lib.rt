@@ -2,4 +2,6 @@
 #![tactic(auto)]
 
 pub mod locals;
+pub mod steps;
 pub mod turns;
+pub mod world;
