@@ -3,14 +3,18 @@ ghost use Rattle.std.specs.Prelude.{◌≡◌, ◌≢◌, ◌≤◌, ◌<◌, �
 ghost use Rattle.hpx_value.specs.Profiles.{IsValid};
 ghost use Rattle.hpx_journal.specs.Weights.{HasRoom, total_weight};
 ghost use Rattle.hpx_journal.specs.Whole.{IsCarried, replayed};
+ghost use Rattle.hpx_ports.specs.Faults.{Rose};
 ghost use Rattle.hpx_world.specs.Places.{rules_in};
 ghost use Rattle.hpx_world.specs.Sound.{IsSame};
 ghost use Rattle.hpx_world.specs.Away.{IsCarrying, Fetches, Keeps};
 ghost use Rattle.hpx_world.specs.Quiet.{IsQuiet, IsAtRest, NothingApplies, NoneRuns};
 ghost use Rattle.hpx_world.specs.Promises.{KeepsPromises};
+ghost use Rattle.hpx_world.specs.Turns.{DidFeed, DidFire, DidFinish, DidDesk, DidPump, DidTake, IsBadFrame, IsStrangeFrame, IsStrangeMail};
 
 use crate::locals::Locals;
+use crate::turns::{Choice, Turned, WorldFault};
 use hpx_journal::journal::Journal;
+use hpx_ports::fabric::Fabric;
 use hpx_value::acts::Acts;
 use hpx_value::items::Bytes;
 use hpx_value::memory::OutOfMemory;
@@ -87,5 +91,91 @@ impl<A: Acts + Copy> World<A> {
             IsCarried r [] self.now.journal.entries → result ≡ true → IsAtRest r (replayed r self.now.journal.entries) }
     {
         self.locals.quiet()
+    }
+
+    /// Why the journal is full, with a job that was to be committed.
+    fn full(&self, choice: Choice<A>) -> WorldFault<A>
+        ensures full { (done : _) → choice ≡ Choice.Finish done →
+            result ≡ WorldFault.JournalFull (length self.now.journal.entries) (min (2 ^ 64 - 1) (total_weight self.now.journal.entries)) (Some done) }
+        ensures other { ((done : _) → choice ≢ Choice.Finish done) →
+            result ≡ WorldFault.JournalFull (length self.now.journal.entries) (min (2 ^ 64 - 1) (total_weight self.now.journal.entries)) None }
+    {
+        let undone = match choice {
+            Choice::Finish(done) => Some(done),
+            Choice::Feed(_) => None,
+            Choice::Fire(_) => None,
+            Choice::Desk(_) => None,
+            Choice::Pump(_) => None,
+            Choice::Take => None,
+        };
+        self.locals.full(undone)
+    }
+
+    /// One turn. At a refusal nothing has changed, save that a frame that was delivered stays in hand.
+    pub fn turn<F: Fabric>(
+        &mut self,
+        alloc: Global,
+        choice: Choice<A>,
+        fabric: &mut F,
+    ) -> Result<Turned, WorldFault<A>>
+        requires feed { (line : _) → choice ≡ Choice.Feed line → length line ≤ 1025 }
+        requires fire { (k : _) → choice ≡ Choice.Fire k → k < length self.old.nodes }
+        requires finish { (done : _) → choice ≡ Choice.Finish done → done.job.at < length self.old.nodes }
+        requires desk { (k : _) → choice ≡ Choice.Desk k → k < length self.old.nodes }
+        requires pump { (k : _) → choice ≡ Choice.Pump k → k < length self.old.nodes }
+
+        ensures count { length self.new.nodes ≡ length self.old.nodes }
+        ensures profile { self.new.profile ≡ self.old.profile }
+        ensures carrying { let r = rules_in A.act_of self.old in
+            IsCarrying r self.old.hand (F.flight fabric.old) (F.trace fabric.old) self.old.journal.entries
+            → IsCarrying r self.new.hand (F.flight fabric.new) (F.trace fabric.new) self.new.journal.entries }
+        ensures promises { let r = rules_in A.act_of self.old in
+            IsCarrying r self.old.hand (F.flight fabric.old) (F.trace fabric.old) self.old.journal.entries → KeepsPromises r self.new.journal.entries }
+
+        ensures fed { (line : _) → choice ≡ Choice.Feed line → IfOk result (λ t. DidFeed line t self.old.nodes self.new.nodes self.old.journal.entries self.new.journal.entries) }
+        ensures fired { (k : _) → choice ≡ Choice.Fire k → IfOk result (λ t. DidFire k t self.old.nodes self.new.nodes self.old.journal.entries self.new.journal.entries) }
+        ensures finished { (done : _) → choice ≡ Choice.Finish done → IfOk result (λ t. DidFinish done.localities done.job done.outcome t self.old.nodes self.new.nodes self.old.journal.entries self.new.journal.entries) }
+        ensures cleared { (k : _) → choice ≡ Choice.Desk k → IfOk result (λ t. DidDesk k t self.old.nodes self.new.nodes self.old.journal.entries self.new.journal.entries) }
+        ensures pumped { (k : _) → choice ≡ Choice.Pump k → IfOk result (λ t. DidPump k t self.old.nodes self.new.nodes self.old.journal.entries self.new.journal.entries) }
+        ensures took { choice ≡ Choice.Take → IfOk result (λ t. DidTake (Fetches self.old.hand (F.flight fabric.old) (F.flight fabric.new) (F.trace fabric.old) (F.trace fabric.new)) t self.old.nodes self.new.nodes self.old.journal.entries self.new.journal.entries) }
+        ensures clears { choice ≡ Choice.Take → OnOk result (self.new.hand ≡ None) }
+        ensures hand { choice ≢ Choice.Take → self.new.hand ≡ self.old.hand }
+        ensures apart { ((k : _) → choice ≢ Choice.Pump k) → choice ≢ Choice.Take → fabric.new ≡ fabric.old }
+
+        ensures err { OnErr result (IsSame self.old.nodes self.new.nodes self.old.journal.entries self.new.journal.entries) }
+        ensures kept { choice ≡ Choice.Take → OnErr result (Keeps self.old.hand (F.flight fabric.old) (F.flight fabric.new) (F.trace fabric.old) (F.trace fabric.new) self.new.hand) }
+        ensures full { (HasRoom self.old.journal.entries → ⊥) → (done : _) → choice ≡ Choice.Finish done → result ≡ Err (WorldFault.JournalFull
+            (length self.old.journal.entries) (min (2 ^ 64 - 1) (total_weight self.old.journal.entries)) (Some done)) }
+        ensures full_other { (HasRoom self.old.journal.entries → ⊥) → ((done : _) → choice ≢ Choice.Finish done) → result ≡ Err (WorldFault.JournalFull
+            (length self.old.journal.entries) (min (2 ^ 64 - 1) (total_weight self.old.journal.entries)) None) }
+        ensures full_only { (e w : ℕ) (u : _) → result ≡ Err (WorldFault.JournalFull e w u) → HasRoom self.old.journal.entries → ⊥ }
+        ensures room { OnOk result (HasRoom self.old.journal.entries) }
+        ensures undone { (done : _) (u : _) → choice ≡ Choice.Finish done → result ≡ Err (WorldFault.OutOfMemory u) → u ≡ Some done }
+        ensures no_job { ((done : _) → choice ≢ Choice.Finish done) → (u : _) → result ≡ Err (WorldFault.OutOfMemory u) → u ≡ None }
+        ensures bad_frame { (to : _) (frame : _) (at : _) (why : _) → result ≡ Err (WorldFault.BadFrame to frame at why) →
+            (choice ≡ Choice.Take) × (self.new.hand ≡ Some (to, frame)) × IsBadFrame frame at why }
+        ensures strange { (to : _) (frame : _) (rule : _) (object : _) (kept : _) → result ≡ Err (WorldFault.Strange to frame rule object kept) →
+            ((choice ≡ Choice.Take) × (self.new.hand ≡ Some (to, frame)) × IsStrangeFrame self.old.nodes to frame rule object kept)
+            ⊎ ((choice ≡ Choice.Desk to) × (frame ≡ []) × IsStrangeMail self.old.nodes to rule object kept) }
+        ensures early { (sent : _) (taken : _) → result ≡ Err (WorldFault.EarlyEnd sent taken) →
+            (choice ≡ Choice.Take) × (self.new.hand ≡ None) × (sent ≡ sum_by (λ t. t.sent) self.old.nodes) × (taken ≡ sum_by (λ t. t.taken) self.old.nodes) × (sent ≢ taken) }
+        ensures never_bad { IsCarrying (rules_in A.act_of self.old) self.old.hand (F.flight fabric.old) (F.trace fabric.old) self.old.journal.entries →
+            (to : _) (frame : _) (at : _) (why : _) → result ≢ Err (WorldFault.BadFrame to frame at why) }
+        ensures never_early { IsCarrying (rules_in A.act_of self.old) self.old.hand (F.flight fabric.old) (F.trace fabric.old) self.old.journal.entries →
+            (sent : _) (taken : _) → result ≢ Err (WorldFault.EarlyEnd sent taken) }
+        ensures cause { result ≡ Err WorldFault.Fabric → Rose (F.faults fabric.old) (F.faults fabric.new) }
+        ensures stands { result ≢ Err WorldFault.Fabric → F.faults fabric.new ≡ F.faults fabric.old }
+    {
+        if !self.journal().room() {
+            return Err(self.full(choice));
+        }
+        match choice {
+            Choice::Feed(line) => self.locals.feed(alloc, line),
+            Choice::Fire(k) => self.locals.fire(alloc, k as usize),
+            Choice::Finish(done) => self.locals.finish(alloc, done.job().at as usize, done),
+            Choice::Desk(k) => self.locals.desk(alloc, k as usize),
+            Choice::Pump(k) => self.locals.pump(alloc, k as usize, fabric),
+            Choice::Take => self.locals.take(alloc, fabric),
+        }
     }
 }
