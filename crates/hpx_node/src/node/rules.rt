@@ -5,39 +5,17 @@ ghost use Rattle.hpx_value.specs.Ids.{bare};
 ghost use Rattle.hpx_journal.specs.Entries.{move_to};
 ghost use Rattle.hpx_node.specs.Kept.{record_here};
 ghost use Rattle.hpx_node.specs.Pending.{awaits};
-ghost use Rattle.hpx_node.specs.Strange.{object_of, are_far, moves_far, is_far_act, is_far, is_live, is_lost, is_to_here, breaks, brings_right, broken_return, broken_act, broken_move, broken_go, broken_object, broken_landed, broken_give, broken_free, broken_near, broken};
+ghost use Rattle.hpx_node.specs.Strange.{are_far, moves_far, is_far_act, is_far, is_live, is_lost, is_to_here, breaks, brings_right, broken_return, broken_act, broken_move, broken_go, broken_object, broken_landed, broken_give, broken_free, broken_near, broken};
 
 use crate::find::{target, waits_on};
 use crate::node::Node;
-use crate::strange::Broken;
+use crate::strange::{Broken, object_of};
 use hpx_commit::deal::log_of;
 use hpx_journal::local::move_to;
 use hpx_parcel::parcel::Parcel;
 use hpx_value::acts::Acts;
 use hpx_value::gid::Gid;
 use hpx_value::value::Act;
-
-/// The object that a message is about.
-fn object_of(parcel: &Parcel) -> Gid
-    ensures { result ≡ object_of parcel.now }
-{
-    match parcel {
-        Parcel::Apply(act) => target(act).bare(),
-        Parcel::Move(act) => target(act).bare(),
-        Parcel::Go(act) => target(act).bare(),
-        Parcel::Object { action, state: _ } => target(action).bare(),
-        Parcel::Return(id) => id.bare(),
-        Parcel::Ask {
-            id,
-            asker: _,
-            entry: _,
-        } => id.bare(),
-        Parcel::Give { id, entry: _ } => id.bare(),
-        Parcel::Cached { id, place: _ } => id.bare(),
-        Parcel::Landed { id, place: _ } => id.bare(),
-        Parcel::Free(o) => o.bare(),
-    }
-}
 
 /// A rule that is broken.
 fn breaks(rule: u8, parcel: &Parcel, kept: u128) -> Option<Broken>

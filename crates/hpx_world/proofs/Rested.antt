@@ -1,0 +1,145 @@
+-- Where nothing is to be done, nothing is under way, and as many credits are held as there are names.
+use Rattle.std.proofs.Common.{ℕ, zero, suc, Bool, true, false, cond, List, [], ◌∷◌, ◌++◌, ◌≡◌, ◌<◌, ◌≤◌, ◌+◌, length, map, Some, Option, refl, sym, ap, ◌∙◌, subst, arith, inl, inr}
+use Rattle.std.specs.Prelude.{flat_map}
+use Rattle.std.specs.List.{slice_get, sum_by, count_by, AllByRecursion}
+use Rattle.std.proofs.lemmas.Bool.{cases_Bool}
+use Rattle.std.proofs.lemmas.List.Sums.{sum_by-cons, sum_by-append}
+use Rattle.hpx_value.specs.declared.profile.Profile.{Profile}
+use Rattle.hpx_parcel.specs.Credits.{Credit, credits_of}
+use Rattle.hpx_journal.specs.Data.{Id, Act}
+use Rattle.hpx_journal.specs.Entries.{Rules, Frame, name_of}
+use Rattle.hpx_journal.specs.Laws.{HasGrammar}
+use Rattle.hpx_journal.specs.Local.{is_act}
+use Rattle.hpx_journal.specs.Tokens.{held}
+use Rattle.hpx_journal.specs.Whole.{IsLegal, IsCarried, IsQuietAt, IsClean, replayed, part, run_local}
+use Rattle.hpx_journal.proofs.Grow.{run_part}
+use Rattle.hpx_journal.proofs.Quiet.{legal_road_empty}
+use Rattle.hpx_journal.proofs.Same.{same_token-true}
+use Rattle.hpx_journal.proofs.Start.{first, legal_part_clean}
+use Rattle.hpx_part.specs.Data.{Entry, Token, Local}
+use Rattle.hpx_part.specs.Keyed.{Agree}
+use Rattle.hpx_part.specs.Parts.{at_boot}
+use Rattle.hpx_part.specs.Shows.{IsWeight, Shows}
+use Rattle.hpx_part.proofs.Keyed.{counts_of, counts_true}
+use Rattle.hpx_part.proofs.Keys.{own}
+use Rattle.hpx_node.specs.Pending.{Waits}
+use Rattle.hpx_node.specs.Seen.{view, tokens, tokens_of, kept_ids, parcel_tokens}
+use Rattle.hpx_node.specs.Stands.{IsTidy, rules_of}
+use Rattle.hpx_node.specs.Tables.{Tables, IsPassive, messages}
+use Rattle.hpx_node.specs.declared.parts.Outgoing.{Outgoing}
+use Rattle.hpx_node.proofs.Numbers.{rest_shown}
+use Rattle.hpx_world.specs.Sound.{Meaning, StandsAt, IsSound}
+use Rattle.hpx_world.specs.Quiet.{IsQuiet, IsAtRest}
+use Rattle.hpx_world.proofs.Counts.{sent_all, taken_all}
+use Rattle.hpx_world.proofs.Sound.{sound_legal}
+
+-- ---- tokens that are owed
+
+-- 1 for one that is owed
+abbrev owed_counts : Token → ℕ
+owed_counts x = cond x.owed 1 0
+
+owed_weighs : IsWeight owed_counts
+owed_weighs a b h = let t = same_token-true a b h in ap (λ o. cond o 1 0) (sym t.owed)
+
+none_held_owed : (cs : List Credit) → sum_by owed_counts (map held cs) ≡ 0
+none_held_owed [] = refl
+none_held_owed (c ∷ cs) = omega (arith, sum_by-cons owed_counts (held c) (map held cs), none_held_owed cs)
+
+not_owed : (b : Bool) → ◌≡◌ {A = ℕ} (cond b 1 0) 0 → b ≡ false
+not_owed true h = absurd (omega (arith, h))
+not_owed false h = refl
+
+none_owed : (ks : List Token) → sum_by owed_counts ks ≡ 0 → AllByRecursion (λ k. k.owed ≡ false) ks
+none_owed [] h = tt
+none_owed (k ∷ ks) h =
+    let c = sum_by-cons owed_counts k ks in
+    (not_owed k.owed (omega (arith, c, h)), none_owed ks (omega (arith, c, h)))
+
+-- ---- a passive node
+
+none_agrees : (xs : List Act) → Agree is_act xs [] → xs ≡ []
+none_agrees [] h = refl
+none_agrees (x ∷ xs) h =
+    absurd (omega (arith, h.counts (name_of x), sum_by-cons (counts_of (is_act (name_of x))) x xs, counts_true (is_act (name_of x)) x (own x)))
+
+no_messages : (t : Tables) → IsPassive t → messages t ≡ []
+no_messages t h =
+    ap (λ d. d ++ map (λ (x : Outgoing). x.parcel) t.outgoing) h.desk
+    ∙ ap (λ (xs : List Outgoing). map (λ (x : Outgoing). x.parcel) xs) h.outgoing
+
+-- nothing is under way where its tables stand
+pub passive_quiet : (t : Tables) (s : Local) → IsPassive t → Shows (view t [] []) s → IsQuietAt s
+passive_quiet t s h shows =
+    let none = no_messages t h in
+    record {
+      waiting = none_agrees s.waiting (subst (Agree is_act s.waiting) (waits t h none) shows.acts.waiting);
+      fired = none_agrees s.fired (subst (Agree is_act s.fired) (runs t h) shows.acts.fired);
+      travels = shows.objects.travels;
+      fresh = shows.objects.fresh;
+      due = shows.acts.due;
+      owed = none_owed s.tokens (owes t s none shows);
+    }
+  where
+    waits : (t : Tables) → IsPassive t → messages t ≡ [] → (view t [] []).waiting ≡ []
+    waits t h none = rw (h.accepted, none) refl
+
+    runs : (t : Tables) → IsPassive t → (view t [] []).fired ≡ []
+    runs t h = rw (h.running, h.pending) refl
+
+    owes : (t : Tables) (s : Local) → messages t ≡ [] → Shows (view t [] []) s → sum_by owed_counts s.tokens ≡ 0
+    owes t s none shows = omega (
+      arith,
+      shows.credit.tokens owed_counts owed_weighs,
+      sum_by-append owed_counts (tokens t) [],
+      sum_by-append owed_counts (tokens_of (kept_ids t)) (flat_map parcel_tokens (messages t)),
+      ap (λ ps. sum_by owed_counts (flat_map parcel_tokens ps)) none,
+      none_held_owed (credits_of (kept_ids t)),
+    )
+
+-- ---- all of them
+
+get_some : (xs : List Tables) (k : ℕ) → k < length xs → (x : Tables) × (slice_get xs k ≡ Some x)
+get_some [] k h = absurd (omega arith)
+get_some (x ∷ xs) zero h = (x, refl)
+get_some (x ∷ xs) (suc k) h = get_some xs k (omega arith)
+
+passive_at : (nodes : List Tables) (k : ℕ) (t : Tables) → AllByRecursion IsPassive nodes → slice_get nodes k ≡ Some t → IsPassive t
+passive_at [] k t h at = absurd (cc)
+passive_at (x ∷ xs) zero t h at = let e : x ≡ t = cc in subst IsPassive e h.0
+passive_at (x ∷ xs) (suc k) t h at = passive_at xs k t h.1 at
+
+module _ (act_of : Meaning) (profile : Profile) (nodes : List Tables) (es : List Entry) (sound : IsSound act_of profile nodes es)
+    (grammar : HasGrammar (rules_of act_of (length nodes) profile)) (carried : IsCarried (rules_of act_of (length nodes) profile) [] es) where
+  abbrev r : Rules
+  r = rules_of act_of (length nodes) profile
+
+  legal : IsLegal r es
+  legal = sound_legal act_of profile nodes es sound carried
+
+  -- a node shows what the journal leaves at its locality
+  pub shown_at : (k : ℕ) (t : Tables) → k < length nodes → slice_get nodes k ≡ Some t → Shows (view t [] []) ((replayed r es).places k)
+  shown_at k t lt at =
+      let own = sound.stand k t at in
+      subst (Shows (view t [] [])) (sym (run_part r (first r) es k))
+      (at_own own (legal_part_clean r es legal grammar k lt))
+    where
+      at_own : StandsAt act_of (length nodes) profile k t es → IsClean r (at_boot r k) (part k es)
+          → Shows (view t [] []) (run_local r (at_boot r k) (part k es))
+      at_own own clean =
+          subst (λ j. IsClean r (at_boot r j) (part j es) → Shows (view t [] []) (run_local r (at_boot r j) (part j es))) own.here
+          (subst (λ p. IsClean (rules_of act_of (length nodes) p) (at_boot (rules_of act_of (length nodes) p) t.here) (part t.here es)
+          → Shows (view t [] []) (run_local (rules_of act_of (length nodes) p) (at_boot (rules_of act_of (length nodes) p) t.here) (part t.here es))) own.tuned
+          (subst (λ n. IsClean (rules_of act_of n t.profile) (at_boot (rules_of act_of n t.profile) t.here) (part t.here es)
+          → Shows (view t [] []) (run_local (rules_of act_of n t.profile) (at_boot (rules_of act_of n t.profile) t.here) (part t.here es))) own.localities
+          own.stands.keeps.shows)) clean
+
+  pub quiet_rests : (hand : Option Frame) → IsQuiet nodes hand → IsAtRest r (replayed r es)
+  quiet_rests hand quiet = record {
+    road = legal_road_empty r es legal
+        (sym (taken_all act_of profile nodes es sound carried) ∙ (quiet.taken ∙ sent_all act_of profile nodes es sound carried));
+    places = λ k lt. let x = get_some nodes k lt in
+        passive_quiet x.0 ((replayed r es).places k) (passive_at nodes k x.0 quiet.passive x.1) (shown_at k x.0 lt x.1);
+    held = λ o k managed lt. let x = get_some nodes k lt in
+        rest_shown x.0 ((replayed r es).places k) o managed (passive_at nodes k x.0 quiet.passive x.1) (sound.stand k x.0 x.1).stands.tidy (shown_at k x.0 lt x.1);
+  }

@@ -1,0 +1,64 @@
+use Rattle.std.proofs.Common.{subst, length, [], ◌∷◌, Some, refl, ap, ◌∙◌}
+use Rattle.hpx_part.specs.Data.{Out}
+use Rattle.hpx_node.specs.Changes.{Writes}
+use Rattle.hpx_node.specs.Stands.{rules_of}
+use Rattle.hpx_node.specs.Tables.{Tables}
+use Rattle.hpx_world.specs.Quiet.{SendsNothing}
+use Rattle.hpx_world.specs.Turns.{Sends}
+use Rattle.hpx_world.proofs.Growth.{SendsOne, sends_of}
+use Rattle.hpx_world.proofs.Sound.{sound_grows}
+use Rattle.hpx_world.proofs.Carrying.{carrying_sent}
+use Rattle.hpx_world.proofs.Calls.{done_at, same_at, at_own, running_at, here_at, stands_at, within}
+use Rattle.hpx_world.proofs.locals.Locals.pump.Goals as goal
+
+pub returns-in-None-clause-did : goal.returns-in-None-clause-did
+returns-in-None-clause-did g c = (
+  same_at _ c.args.k c.index_mut-node.result.now c.index_mut-node.result.now c.requires.range c.index_mut-node.ensures.value
+      c.args.self.now.journal c.args.self.now.journal (record { tables = refl; entries = refl }),
+  at_own _ c.args.k c.index_mut-node.result.now c.index_mut-node.result.now c.requires.range c.index_mut-node.ensures.value SendsNothing c.in-None.ensures.none,
+)
+
+pub gone-requires-clause-stands : goal.gone-requires-clause-stands
+gone-requires-clause-stands g c =
+    rw c.reserve.ensures.entries
+    (stands_at _ _ _ _ c.requires.sound c.args.k c.index_mut-node.result.now c.index_mut-node.result.now c.requires.range c.index_mut-node.ensures.value)
+
+pub returns-clause-sound : goal.returns-clause-sound
+returns-clause-sound g c =
+    sound_grows _ _ _ _ c.requires.sound c.args.k c.index_mut-node.result.now _ (Out c.in-Some.to c.in-Ok.bytes ∷ []) _ c.requires.range c.index_mut-node.ensures.value
+    (rw c.reserve.ensures.entries at c.gone.ensures.writes) c.gone.ensures.stands
+
+pub returns-clause-carrying : goal.returns-clause-carrying
+returns-clause-carrying g c = λ carrying.
+    let r = rules_of g.A.Acts.act_of (length c.args.self.now.nodes.items) c.args.self.now.profile in
+    carrying_sent r _ _ _ _ _ _ _ c.args.k c.in-Some.to c.in-Ok.bytes
+    (rw c.as_slice.ensures at c.in-Ok-send.ensures.flight) (rw c.as_slice.ensures at c.in-Ok-send.ensures.trace)
+    (subst (λ k. SendsOne r k (c.in-Some.to, c.in-Ok.bytes) c.args.self.now.journal.entries c.gone.new.book.entries)
+    (here_at _ _ _ _ c.requires.sound c.args.k c.index_mut-node.result.now c.gone.new.self c.requires.range c.index_mut-node.ensures.value)
+    (sends_of r c.index_mut-node.result.now c.gone.new.self _ _ c.in-Some.to c.in-Ok.bytes
+    (within _ _ _ _ c.requires.sound c.args.k c.index_mut-node.result.now c.gone.new.self c.requires.range c.index_mut-node.ensures.value)
+    (rw c.reserve.ensures.entries at c.gone.ensures.writes)))
+    carrying
+
+pub returns-clause-did : goal.returns-clause-did
+returns-clause-did g c =
+    let next = c.in-Some.ensures.some in
+    let entries = c.args.self.now.journal.entries in
+    let writes = rw c.reserve.ensures.entries at c.gone.ensures.writes in
+    done_at _ c.args.k c.index_mut-node.result.now c.gone.new.self c.requires.range c.index_mut-node.ensures.value
+    (Sends c.args.self.now.journal.entries c.gone.new.book.entries) (record {
+      first = next.first;
+      rest = next.rest;
+      bytes = c.in-Ok.bytes;
+      is = next.is;
+      spelled = (rw c.in-Ok.is at c.encode.ensures.read) ∙ ap Some next.carried;
+      writes = subst (λ to. Writes (Out to c.in-Ok.bytes ∷ []) c.index_mut-node.result.now c.gone.new.self c.args.self.now.journal.entries c.gone.new.book.entries)
+          next.place (rw c.reserve.ensures.entries at c.gone.ensures.writes);
+      leaves = c.gone.ensures.rest next.first next.rest next.is;
+    })
+
+pub returns-clause-jobs : goal.returns-clause-jobs
+returns-clause-jobs g c =
+    let next = c.in-Some.ensures.some in
+    running_at _ c.args.k c.index_mut-node.result.now c.gone.new.self c.requires.range c.index_mut-node.ensures.value
+    (ap (λ (x : Tables). x.running) (c.gone.ensures.rest next.first next.rest next.is))

@@ -1,0 +1,7 @@
+pub mod Places
+pub mod Sound
+pub mod Away
+pub mod Quiet
+pub mod Promises
+pub mod Turns
+pub mod Steps

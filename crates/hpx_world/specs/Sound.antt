@@ -1,0 +1,42 @@
+-- What holds of all localities together, after each turn.
+use Rattle.std.specs.Prelude.{ℕ, List, ◌≡◌, ◌≤◌, Some, length, map, set}
+use Rattle.std.specs.List.{slice_get}
+use Rattle.hpx_value.specs.declared.profile.Profile.{Profile}
+use Rattle.hpx_journal.specs.Data.{State, Act, Outcome}
+use Rattle.hpx_part.specs.Data.{Entry}
+use Rattle.hpx_node.specs.Stands.{Stands}
+use Rattle.hpx_node.specs.Tables.{Tables}
+
+-- the meaning of actions, by the number of localities
+abbrev pub Meaning : Type 0
+Meaning = ℕ → ℕ → ℕ → State → Act → Outcome
+
+-- the node at k of n stands for its part of the one journal
+pub record StandsAt (act_of : Meaning) (n : ℕ) (profile : Profile) (k : ℕ) (t : Tables) (entries : List Entry) : Type 0 where
+  pub here : t.here ≡ k
+  pub localities : t.localities ≡ n
+  pub tuned : t.profile ≡ profile
+  pub stands : Stands act_of t entries
+
+-- there are 1 to 64 nodes, and each stands for its part of the one journal
+pub record IsSound (act_of : Meaning) (profile : Profile) (nodes : List Tables) (entries : List Entry) : Type 0 where
+  pub few : length nodes ≤ 64
+  pub some : 1 ≤ length nodes
+  pub stand : (k : ℕ) (t : Tables) → slice_get nodes k ≡ Some t → StandsAt act_of (length nodes) profile k t entries
+
+-- at k this was done, and nothing elsewhere
+pub record DoneAt (k : ℕ) (Does : Tables → Tables → Type 0) (nodes nodes' : List Tables) : Type 0 where
+  pub before : Tables
+  pub after : Tables
+  pub there : slice_get nodes k ≡ Some before
+  pub does : Does before after
+  pub others : nodes' ≡ set nodes k after
+
+-- a node apart from the memory that it has
+abbrev pub without_spare : Tables → Tables
+without_spare t = record t { spare = 0 }
+
+-- nothing changed but the memory that nodes have
+pub record IsSame (nodes nodes' : List Tables) (entries entries' : List Entry) : Type 0 where
+  pub tables : map without_spare nodes' ≡ map without_spare nodes
+  pub journal : entries' ≡ entries
