@@ -27,7 +27,7 @@ total_front : (n : ℕ) (g : ℕ → ℕ) → total (suc n) g ≡ g 0 + total n 
 total_front zero g = refl
 total_front (suc n) g = omega (arith, total_front n g)
 
-sum_total : (nodes : List Tables) (f : Tables → ℕ) (g : ℕ → ℕ) → ((k : ℕ) (t : Tables) → slice_get nodes k ≡ Some t → f t ≡ g k)
+pub sum_total : (nodes : List Tables) (f : Tables → ℕ) (g : ℕ → ℕ) → ((k : ℕ) (t : Tables) → slice_get nodes k ≡ Some t → f t ≡ g k)
     → sum_by f nodes ≡ total (length nodes) g
 sum_total [] f g h = refl
 sum_total (t ∷ ts) f g h =

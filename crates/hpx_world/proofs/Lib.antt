@@ -17,3 +17,5 @@ pub mod Rested
 pub mod Taken
 pub mod FewFrames
 pub mod Turned
+pub mod Found
+pub mod Audited

@@ -1,6 +1,6 @@
 -- A call of one node keeps all localities sound.
 use Rattle.std.proofs.Common.{true, ℕ, zero, suc, List, [], ◌∷◌, ◌++◌, ◌≡◌, ◌≢◌, ◌<◌, ◌≤◌, ◌+◌, Some, refl, sym, ap, ◌∙◌, subst, arith, length, get_or, set, length-set, append-nil, inl, inr}
-use Rattle.std.specs.List.{slice_get, AllByRecursion}
+use Rattle.std.specs.List.{slice_get, count_by, AllByRecursion}
 use Rattle.std.proofs.lemmas.Bool.{cases_eq}
 use Rattle.std.proofs.lemmas.List.{length-append}
 use Rattle.hpx_value.specs.declared.profile.Profile.{Profile}
@@ -16,6 +16,7 @@ use Rattle.hpx_part.specs.Parts.{at_all, at_boot, StandsFor}
 use Rattle.hpx_part.specs.Shows.{Shows, HasForm}
 use Rattle.hpx_part.specs.View.{View}
 use Rattle.hpx_part.proofs.Keyed.{slice_get_is}
+use Rattle.hpx_node.specs.Awaited.{is_answer}
 use Rattle.hpx_node.specs.Changes.{Writes}
 use Rattle.hpx_node.specs.Idle.{IsPaid}
 use Rattle.hpx_node.specs.Seen.{view}
@@ -58,6 +59,8 @@ stands_other r t k events es es' grows away h =
       sent = h.sent ∙ ap (λ p. length (outs p)) (sym same);
       taken = h.taken ∙ ap (λ p. length (ins p)) (sym same);
       paid = subst (IsPaid r t) (sym same) h.paid;
+      few_answers = omega (arith, h.few_answers, more);
+      answered = subst (λ p. IsClean r (at_boot r t.here) p → t.answered ≡ count_by is_answer (run_local r (at_boot r t.here) p).done) (sym same) h.answered;
     }
 
 pub set_same : (xs : List Tables) (k : ℕ) (t : Tables) → k < length xs → slice_get (set xs k t) k ≡ Some t

@@ -5,3 +5,4 @@ pub mod Quiet
 pub mod Promises
 pub mod Turns
 pub mod Steps
+pub mod Audit

@@ -1,6 +1,7 @@
 //! All localities over a fabric, and the one journal that they write.
 #![tactic(auto)]
 
+pub mod audit;
 pub mod locals;
 pub mod steps;
 pub mod turns;

@@ -9,8 +9,10 @@ ghost use Rattle.hpx_world.specs.Sound.{IsSame};
 ghost use Rattle.hpx_world.specs.Away.{IsCarrying, Fetches, Keeps};
 ghost use Rattle.hpx_world.specs.Quiet.{IsQuiet, IsAtRest, NothingApplies, NoneRuns};
 ghost use Rattle.hpx_world.specs.Promises.{KeepsPromises};
+ghost use Rattle.hpx_world.specs.Audit.{audit_lines, IsAudit};
 ghost use Rattle.hpx_world.specs.Turns.{DidFeed, DidFire, DidFinish, DidDesk, DidPump, DidTake, IsBadFrame, IsStrangeFrame, IsStrangeMail};
 
+use crate::audit::AuditLines;
 use crate::locals::Locals;
 use crate::turns::{Choice, Turned, WorldFault};
 use hpx_journal::journal::Journal;
@@ -31,6 +33,7 @@ pub struct World<A: Acts + Copy> {
 
 impl<A: Acts + Copy> Model for World<A> {
     ghost use Rattle.std.specs.Prelude.{◌≡◌, length};
+    ghost use Rattle.hpx_value.specs.Profiles.{IsValid};
     ghost use Rattle.hpx_world.specs.Places.{Places};
     ghost use Rattle.hpx_world.specs.Sound.{IsSound};
 
@@ -39,7 +42,8 @@ impl<A: Acts + Copy> Model for World<A> {
     ghost view = { λ w. record { profile = w.locals.profile; nodes = w.locals.nodes.items; journal = w.locals.journal; hand = w.locals.hand } };
 
     ghost invariant = { λ w. (A.count w.acts ≡ length w.locals.nodes.items)
-        × IsSound A.act_of w.locals.profile w.locals.nodes.items w.locals.journal.entries };
+        × IsSound A.act_of w.locals.profile w.locals.nodes.items w.locals.journal.entries
+        × IsValid w.locals.profile };
 }
 
 impl<A: Acts + Copy> World<A> {
@@ -91,6 +95,15 @@ impl<A: Acts + Copy> World<A> {
             IsCarried r [] self.now.journal.entries → result ≡ true → IsAtRest r (replayed r self.now.journal.entries) }
     {
         self.locals.quiet()
+    }
+
+    /// A line for each object of which credit is out, by home, and then by number.
+    pub fn audit(&self, alloc: Global) -> Result<AuditLines, OutOfMemory>
+        ensures lines { IfOk result (λ lines. lines ≡ audit_lines self.now.nodes) }
+        ensures tells { let r = rules_in A.act_of self.now in
+            IsCarried r [] self.now.journal.entries → IfOk result (λ lines. IsAudit r (replayed r self.now.journal.entries) lines) }
+    {
+        self.locals.audit(alloc)
     }
 
     /// Why the journal is full, with a job that was to be committed.

@@ -1,0 +1,63 @@
+-- The audit of all localities.
+use Rattle.std.specs.Prelude.{ℕ, List, ◌≡◌, ◌≤◌, ◌<◌, ◌+◌, ◌-◌, ◌^◌, min, map, flat_map, true}
+use Rattle.std.specs.List.{sum_by, count_by, AllByRecursion}
+use Rattle.hpx_value.specs.Ids.{same_object}
+use Rattle.hpx_agas.specs.declared.record.Record.{Record}
+use Rattle.hpx_journal.specs.Bags.{total}
+use Rattle.hpx_journal.specs.Data.{Id}
+use Rattle.hpx_journal.specs.Entries.{Rules}
+use Rattle.hpx_journal.specs.Frames.{tokens_in}
+use Rattle.hpx_journal.specs.Tokens.{worth}
+use Rattle.hpx_journal.specs.Whole.{Space, recorded_in}
+use Rattle.hpx_node.specs.Kept.{HasRecords, held_here, held_worth, owed_worth}
+use Rattle.hpx_node.specs.Tables.{Tables}
+use Rattle.hpx_world.specs.declared.audit.AuditLine.{AuditLine}
+
+-- the credit of o that is held, at all nodes; no more than 2^128 - 1 is told
+abbrev pub held_in_all : Id → List Tables → ℕ
+held_in_all o nodes = min (2 ^ 128 - 1) (sum_by (λ t. held_here t o) nodes)
+
+-- the line of a live record
+abbrev pub audit_line : List Tables → Record → AuditLine
+audit_line nodes x = record {
+  gid = x.gid;
+  recorded = x.count;
+  held = held_in_all x.gid nodes;
+  flight = x.count - held_in_all x.gid nodes;
+  at = x.place;
+}
+
+-- those of one node, by rising number
+abbrev pub lines_at : List Tables → Tables → List AuditLine
+lines_at nodes t = map (audit_line nodes) t.records
+
+-- those of all nodes, by home
+abbrev pub audit_lines : List Tables → List AuditLine
+audit_lines nodes = flat_map (lines_at nodes) nodes
+
+-- each node's records are its own
+abbrev pub HaveRecords : List Tables → Type 0
+HaveRecords nodes = AllByRecursion HasRecords nodes
+
+-- ---- what they say of the space
+
+-- the credits of o that are held at the localities
+abbrev pub held_at_all : Rules → Id → Space → ℕ
+held_at_all r o w = total r.localities (λ k. sum_by (held_worth o) (w.places k).tokens)
+
+-- the credits of o that are owed there, or on the road
+abbrev pub away_of : Rules → Id → Space → ℕ
+away_of r o w = total r.localities (λ k. sum_by (owed_worth o) (w.places k).tokens)
+    + sum_by (λ f. sum_by (worth o) (tokens_in (r.parcel_of f.1))) w.road
+
+-- a line tells what is recorded of its object, what is held, and what is away
+pub record Tells (r : Rules) (w : Space) (x : AuditLine) : Type 0 where
+  pub some : 1 ≤ x.recorded
+  pub recorded_is : x.recorded ≡ recorded_in x.gid w
+  pub held_is : x.held ≡ held_at_all r x.gid w
+  pub flight_is : x.flight ≡ away_of r x.gid w
+
+-- each line tells so, and each object of which credit is out has exactly one
+pub record IsAudit (r : Rules) (w : Space) (lines : List AuditLine) : Type 0 where
+  pub tell : AllByRecursion (Tells r w) lines
+  pub each : (o : Id) → 1 ≤ recorded_in o w → count_by (λ x. same_object o x.gid) lines ≡ 1
