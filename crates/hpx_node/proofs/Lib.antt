@@ -88,5 +88,6 @@ pub mod IdleSince
 pub mod Routed
 pub mod RowLaws
 pub mod Targets
+pub mod Lacks
 pub mod Spareless
 pub mod AnsweredEntry

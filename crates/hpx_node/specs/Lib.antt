@@ -19,4 +19,5 @@ pub mod Kept
 pub mod Strange
 pub mod Handled
 pub mod Idle
+pub mod Lacks
 pub mod Routes
