@@ -29,7 +29,7 @@ pub record IsContinued (p : Parcel) (t mid t' : Tables) (entries entries' : List
   pub continues : Continues p t mid t' more
   pub writes : Writes more mid t' entries entries'
 
-find_at : {X : Type 0} (p : X → Bool) (xs : List X) (i : ℕ) (x : X) → slice_get xs i ≡ Some x → p x ≡ true → find p (take i xs) ≡ None → find p xs ≡ Some x
+pub find_at : {X : Type 0} (p : X → Bool) (xs : List X) (i : ℕ) (x : X) → slice_get xs i ≡ Some x → p x ≡ true → find p (take i xs) ≡ None → find p xs ≡ Some x
 find_at p [] i x h t none = cc
 find_at p (z ∷ xs) zero x h t none = let e : p z ≡ true = ap p (some_same z x h) ∙ t in rw e h
 find_at p (z ∷ xs) (suc i) x h t none = elim (cases_Bool (p z)) [

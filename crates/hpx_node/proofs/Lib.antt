@@ -89,5 +89,6 @@ pub mod IdleSince
 pub mod Routed
 pub mod RowLaws
 pub mod Targets
+pub mod Lacks
 pub mod Spareless
 pub mod AnsweredEntry

@@ -20,4 +20,5 @@ pub mod Awaited
 pub mod Strange
 pub mod Handled
 pub mod Idle
+pub mod Lacks
 pub mod Routes

@@ -5,6 +5,7 @@ ghost use Rattle.hpx_journal.specs.Entries.{move_to};
 ghost use Rattle.hpx_parcel.specs.Parcels.{IsParcel};
 ghost use Rattle.hpx_node.specs.Fit.{IsFit};
 ghost use Rattle.hpx_node.specs.Tables.{IsPassive};
+ghost use Rattle.hpx_node.specs.Lacks.{Lacks};
 ghost use Rattle.hpx_node.specs.Stands.{Stands};
 ghost use Rattle.hpx_node.specs.Changes.{OnlySpare, Mails, Posts};
 ghost use Rattle.hpx_node.specs.Frames.{MayGoTo};
@@ -107,6 +108,7 @@ impl<A: Acts + Copy> Node<A> {
         ensures localities { IfOk result (λ n. n.localities ≡ A.count acts) }
         ensures profile { IfOk result (λ n. n.profile ≡ profile) }
         ensures passive { IfOk result IsPassive }
+        ensures lacks { IfOk result Lacks }
         ensures frames { IfOk result (λ n. (n.sent ≡ 0) × (n.taken ≡ 0)) }
         ensures stands { IfOk result (λ n. Stands A.act_of n []) }
     {

@@ -10,6 +10,7 @@ ghost use Rattle.hpx_node.specs.Asks.{Begins};
 ghost use Rattle.hpx_node.specs.Births.{birth_of, ids_of};
 ghost use Rattle.hpx_node.specs.Commits.{committed, made_of, hand_of, places_in_hand, own_stock, IsStock, IsPrepared};
 ghost use Rattle.hpx_node.specs.Jobs.{IsAt, IsRunning, IsFitJob, Ends};
+ghost use Rattle.hpx_node.specs.Lacks.{Lacks};
 ghost use Rattle.hpx_node.specs.Stands.{IsTidy, Stands};
 ghost use Rattle.hpx_node.specs.Changes.{OnlySpare, Writes};
 ghost use Rattle.hpx_node.specs.Limits.{AddsATurn};
@@ -160,6 +161,7 @@ impl<A: Acts + Copy> Node<A> {
         ensures turn { AddsATurn book.old.entries book.new.entries }
         ensures committed { Writes (committed self.old done.now.job done.now.outcome) self.old self.new book.old.entries book.new.entries }
         ensures ends { Ends self.old self.new done.now.job }
+        ensures pending { self.new.pending ≡ self.old.pending }
     {
         let Prepared {
             births,
@@ -182,6 +184,7 @@ impl<A: Acts + Copy> Node<A> {
         requires room { HasRoom book.old.entries }
         requires stands { Stands A.act_of self.old book.old.entries }
         ensures stands { Stands A.act_of self.new book.new.entries }
+        ensures lacks { Lacks self.old → Lacks self.new }
         ensures turn { AddsATurn book.old.entries book.new.entries }
         ensures committed { IfOk result (λ f. f ≡ Finished.Committed →
             Writes (committed self.old done.job done.outcome) self.old self.new book.old.entries book.new.entries) }

@@ -7,6 +7,7 @@ ghost use Rattle.hpx_part.specs.Data.{Fire};
 ghost use Rattle.hpx_node.specs.Free.{NoneIsFree, IsFree};
 ghost use Rattle.hpx_node.specs.Jobs.{Starts};
 ghost use Rattle.hpx_node.specs.Tables.{fired_acts};
+ghost use Rattle.hpx_node.specs.Lacks.{Lacks};
 ghost use Rattle.hpx_node.specs.Stands.{Stands};
 ghost use Rattle.hpx_node.specs.Changes.{OnlySpare, Writes};
 ghost use Rattle.hpx_node.specs.Limits.{AddsATurn};
@@ -47,6 +48,7 @@ impl<A: Acts + Copy> Node<A> {
         ensures stands { Stands A.act_of self.new book.new.entries }
         ensures fired { (act : _) → slice_get self.old.accepted i ≡ Some act → Writes (Fire (name_of act) ∷ []) self.old self.new book.old.entries book.new.entries }
         ensures objects { self.new.objects ≡ self.old.objects }
+        ensures pending { self.new.pending ≡ self.old.pending }
         ensures accepted { self.new.accepted ≡ remove self.old.accepted i }
         ensures running { (act : _) → slice_get self.old.accepted i ≡ Some act → self.new.running ≡ self.old.running ++ act ∷ [] }
     {
@@ -65,6 +67,7 @@ impl<A: Acts + Copy> Node<A> {
         requires room { HasRoom book.old.entries }
         requires stands { Stands A.act_of self.old book.old.entries }
         ensures stands { Stands A.act_of self.new book.new.entries }
+        ensures lacks { Lacks self.old → Lacks self.new }
         ensures turn { AddsATurn book.old.entries book.new.entries }
         ensures fired { IfOk result (λ o. IfSome o (λ job. Writes (Fire (name_of job.action) ∷ []) self.old self.new book.old.entries book.new.entries)) }
         ensures job { IfOk result (λ o. IfSome o (Starts self.old self.new)) }

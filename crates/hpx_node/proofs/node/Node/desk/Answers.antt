@@ -1,4 +1,4 @@
-use Rattle.std.proofs.Common.{◌∷◌, ◌≡◌, ◌≤◌, ◌∙◌, get_or, sym, ap, arith}
+use Rattle.std.proofs.Common.{◌∷◌, ◌≡◌, ◌≤◌, ◌∙◌, get_or, refl, sym, ap, arith}
 use Rattle.hpx_journal.specs.Data.{Parcel}
 use Rattle.hpx_node.specs.Tables.{Tables}
 use Rattle.hpx_node.proofs.Continued.{given_mail}
@@ -6,6 +6,7 @@ use Rattle.hpx_node.proofs.Followed.{next_first, may_follow, next_gives, is_cont
 use Rattle.hpx_node.proofs.Spared.{spare_stands, mail_by, mail_near, first_own, first_stands, cleared, when_ok, spare_popped}
 use Rattle.hpx_node.proofs.Turns.{adds_none}
 use Rattle.hpx_node.proofs.TurnSteps.{adds_steps}
+use Rattle.hpx_node.proofs.Lacks.{lacks_spare, clears_lacks}
 use Rattle.hpx_node.proofs.node.Node.desk.Goals as goal
 
 pub returns-then-is_err-clause-stands : goal.returns-then-is_err-clause-stands
@@ -109,3 +110,9 @@ returns-then-is_err-clause-turn g c = adds_none _ _ c.reserve_turn.ensures.same.
 pub returns-clause-turn : goal.returns-clause-turn
 returns-clause-turn g c = adds_steps _ _ _ _ c.reserve_turn.ensures.same.entries
     c.enter_mail.ensures.few c.enter_mail.ensures.light c.follow.ensures.few c.follow.ensures.light
+
+pub returns-then-is_err-clause-lacks : goal.returns-then-is_err-clause-lacks
+returns-then-is_err-clause-lacks g c = λ h. lacks_spare _ _ _ _ c.reserve_turn.ensures.same h
+
+pub returns-clause-lacks : goal.returns-clause-lacks
+returns-clause-lacks g c = λ h. clears_lacks _ _ _ _ (returns-clause-cleared g c refl) h

@@ -1,10 +1,12 @@
-use Rattle.std.proofs.Common.{◌≡◌, Some, refl, sym, ◌∙◌, arith}
+use Rattle.std.proofs.Common.{◌≡◌, Some, refl, sym, ap, ◌∙◌, arith}
 use Rattle.std.specs.List.{slice_get}
 use Rattle.hpx_node.specs.Free.{IsFree}
 use Rattle.hpx_node.specs.Pending.{fired_of}
 use Rattle.hpx_node.proofs.FreeLemmas.{started_runs}
 use Rattle.hpx_node.proofs.Same.{writes_from, stands_same}
 use Rattle.hpx_node.proofs.Turns.{turn_from, adds_one}
+use Rattle.hpx_node.specs.Tables.{Tables}
+use Rattle.hpx_node.proofs.Lacks.{lacks_same}
 use Rattle.hpx_node.proofs.node.Node.fire.Goals as goal
 
 pub returns-clause-fired : goal.returns-clause-fired
@@ -55,3 +57,12 @@ start-requires-clause-stands g c =
 pub returns-clause-turn : goal.returns-clause-turn
 returns-clause-turn g c = turn_from _ _ _ c.in_ok-reserve-2.ensures.entries
     (adds_one _ _ _ _ (c.start.ensures.fired c.in_ok-job.job.action (rw c.in_ok-reserve.ensures.same c.in_ok-job.ensures.action)).grows (omega arith))
+
+pub returns-in_err-reserve-clause-lacks : goal.returns-in_err-reserve-clause-lacks
+returns-in_err-reserve-clause-lacks g c = λ h. lacks_same _ _ (ap (λ (x : Tables). x.pending) c.in_err-reserve.ensures.same) h
+
+pub returns-in_err-reserve-2-clause-lacks : goal.returns-in_err-reserve-2-clause-lacks
+returns-in_err-reserve-2-clause-lacks g c = λ h. lacks_same _ _ (ap (λ (x : Tables). x.pending) c.in_ok-reserve.ensures.same) h
+
+pub returns-clause-lacks : goal.returns-clause-lacks
+returns-clause-lacks g c = λ h. lacks_same _ _ (c.start.ensures.pending ∙ ap (λ (x : Tables). x.pending) c.in_ok-reserve.ensures.same) h

@@ -5,6 +5,7 @@ use Rattle.hpx_node.proofs.Followed.{may_follow, next_gives, is_continued}
 use Rattle.hpx_node.proofs.Spared.{spare_stands, spare_few, took}
 use Rattle.hpx_node.proofs.Turns.{adds_none}
 use Rattle.hpx_node.proofs.TurnSteps.{adds_steps}
+use Rattle.hpx_node.proofs.Lacks.{lacks_spare, takes_lacks}
 use Rattle.hpx_node.proofs.node.Node.take.Goals as goal
 
 pub enter_frame-requires-clause-few : goal.enter_frame-requires-clause-few
@@ -53,3 +54,9 @@ returns-then-is_err-clause-turn g c = adds_none _ _ c.reserve_turn.ensures.same.
 pub returns-clause-turn : goal.returns-clause-turn
 returns-clause-turn g c = adds_steps _ _ _ _ c.reserve_turn.ensures.same.entries
     c.enter_frame.ensures.few c.enter_frame.ensures.light c.follow.ensures.few c.follow.ensures.light
+
+pub returns-then-is_err-clause-lacks : goal.returns-then-is_err-clause-lacks
+returns-then-is_err-clause-lacks g c = λ h. lacks_spare _ _ _ _ c.reserve_turn.ensures.same h
+
+pub returns-clause-lacks : goal.returns-clause-lacks
+returns-clause-lacks g c = λ h. takes_lacks c.args.frame.now _ _ _ _ (returns-clause-ok g c) h

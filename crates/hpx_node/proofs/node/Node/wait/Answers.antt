@@ -4,6 +4,8 @@ use Rattle.hpx_node.proofs.Waited.{short_same, before_same, begins_from}
 use Rattle.hpx_node.proofs.Same.{stands_same}
 use Rattle.hpx_node.proofs.Turns.{turn_from, adds_none}
 use Rattle.hpx_node.proofs.node.Node.wait.Goals.{then-is_err-via-then-is_err, then-is_err-via-else-is_err+then-is_err-2}
+use Rattle.hpx_node.specs.Tables.{Tables}
+use Rattle.hpx_node.proofs.Lacks.{lacks_same, begins_lacks}
 use Rattle.hpx_node.proofs.node.Node.wait.Goals as goal
 
 pub returns-then-is_err-clause-stands : goal.returns-then-is_err-clause-stands
@@ -37,3 +39,9 @@ returns-then-is_err-clause-turn g c = elim c.then-is_err.branch [
 
 pub returns-clause-turn : goal.returns-clause-turn
 returns-clause-turn g c = turn_from _ _ _ c.reserve-else-is_err.ensures.entries c.begin.ensures.turn
+
+pub returns-then-is_err-clause-lacks : goal.returns-then-is_err-clause-lacks
+returns-then-is_err-clause-lacks g c = λ h. lacks_same _ _ (ap (λ (x : Tables). x.pending) c.reserve.ensures.same) h
+
+pub returns-clause-lacks : goal.returns-clause-lacks
+returns-clause-lacks g c = λ h. begins_lacks _ _ _ _ _ _ c.begin.ensures.begins (lacks_same _ _ (ap (λ (x : Tables). x.pending) c.reserve.ensures.same) h)
