@@ -58,6 +58,7 @@ counted_tidy t a due h = record {
   moves = h.moves;
   drawn = h.drawn;
   unborn = h.unborn;
+  places = h.places;
   ways = h.ways;
   paused = h.paused;
 }

@@ -42,6 +42,7 @@ module _ (r : Rules) (t t' : Tables) (entries : List Entry) (bytes : List ℕ) w
         moves = h.tidy.moves;
         drawn = h.tidy.drawn;
         unborn = h.tidy.unborn;
+        places = h.tidy.places;
         ways = h.tidy.ways;
       }))
       (record {

@@ -102,6 +102,7 @@ module _ (r : Rules) (t : Tables) (entries : List Entry) (i : ℕ) (act : Act) (
         moves = all_remove (λ a. IfSome (move_to (bare_act a)) (λ k. k ≡ t.here)) t.accepted i h.tidy.moves;
         drawn = h.tidy.drawn;
         unborn = h.tidy.unborn;
+        places = h.tidy.places;
         ways = h.tidy.ways;
         paused = fired_paused t.here t.localities t.profile.credit_log t.objects t.running t.pending act free.idle h.tidy.paused;
       })

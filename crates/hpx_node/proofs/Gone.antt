@@ -155,6 +155,7 @@ module _ (r : Rules) (t : Tables) (entries : List Entry) (x : Outgoing) (rest : 
         moves = h.moves;
         drawn = h.drawn;
         unborn = h.unborn;
+        places = h.places;
         ways = (ways.1, h.ways.1);
       }
 

@@ -46,6 +46,7 @@ tidy_rest t x due serial h = record {
   moves = h.moves;
   drawn = h.drawn;
   unborn = h.unborn;
+  places = h.places;
   ways = h.ways;
 }
 

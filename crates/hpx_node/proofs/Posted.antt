@@ -47,6 +47,7 @@ accepted_posts act t spare enough fit stay =
         moves = all_append (λ a. IfSome (move_to (bare_act a)) (λ to. to ≡ t.here)) t.accepted (act ∷ []) h.moves (stay_moves t act stay, tt);
         drawn = h.drawn;
         unborn = h.unborn;
+        places = h.places;
         ways = h.ways;
       };
       tokens = λ f. omega (

@@ -21,6 +21,7 @@ tidy_spare t due spare h = record {
   moves = h.moves;
   drawn = h.drawn;
   unborn = h.unborn;
+  places = h.places;
   ways = h.ways;
 }
 
