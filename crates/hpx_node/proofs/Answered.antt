@@ -122,6 +122,7 @@ module _ (act_of : ℕ → ℕ → ℕ → State → Act → Outcome) (t m t' : 
     messages = tidy.messages;
     fit = tidy.fit;
     moves = tidy.moves;
+    targets = tidy.targets;
     ways = tidy.ways;
     drawn = tidy.drawn;
     unborn = none_unborn t.births id rec t.records m.records there others tidy.unborn;
@@ -139,6 +140,7 @@ module _ (act_of : ℕ → ℕ → ℕ → State → Act → Outcome) (t m t' : 
     births = ap (λ (x : Tables). x.births) mails.rest ∙ ap (λ (x : Tables). x.births) rest;
     sent = ap (λ (x : Tables). x.sent) mails.rest ∙ ap (λ (x : Tables). x.sent) rest;
     taken = ap (λ (x : Tables). x.taken) mails.rest ∙ ap (λ (x : Tables). x.taken) rest;
+    answered = ap (λ (x : Tables). x.answered) mails.rest ∙ ap (λ (x : Tables). x.answered) rest;
     running = ap (λ (x : Tables). x.running) mails.rest ∙ ap (λ (x : Tables). x.running) rest;
     asked = ap (λ (x : Tables). x.asked) mails.rest ∙ ap (λ (x : Tables). x.asked) rest;
     tidy = mails.tidy [] still_tidy;

@@ -19,7 +19,7 @@ use Rattle.hpx_node.specs.Routes.{is_other, with_mail}
 use Rattle.hpx_node.specs.Seen.{frees_in, asks}
 use Rattle.hpx_node.specs.Stands.{IsTidy}
 use Rattle.hpx_node.specs.Tables.{Tables, messages}
-use Rattle.hpx_node.proofs.IdleRows.{Costs, by_rows, nothing}
+use Rattle.hpx_node.proofs.IdleRows.{Costs, by_rows, nothing, comes_to_free}
 use Rattle.hpx_node.proofs.IdleSteps.{mails_pending}
 use Rattle.hpx_node.proofs.Lacking.{owed, owed_cons}
 use Rattle.hpx_node.proofs.Stays.{Stays}
@@ -56,6 +56,7 @@ counted_tidy t a due h = record {
   messages = h.messages;
   fit = h.fit;
   moves = h.moves;
+  targets = h.targets;
   drawn = h.drawn;
   unborn = h.unborn;
   places = h.places;
@@ -80,7 +81,7 @@ asks_nothing t =
     }
 
 ask_weight : (id : Id) (k e : ℕ) (row : Row) → weight row (Ask id k e) ≡ of_ask row
-ask_weight id k e = by_rows (λ row. weight row (Ask id k e) ≡ of_ask row) refl refl refl refl refl refl refl
+ask_weight id k e = by_rows (λ row. weight row (Ask id k e) ≡ of_ask row) refl refl refl refl refl refl refl (λ x. refl)
 
 module _ (t t' : Tables) (id : Id) (mails : Mails (Ask id t.here (t.asked + 1)) (record t { asked = t.asked + 1 }) t')
     (goes : t' ≡ record (with_mail id.home (Ask id t.here (t.asked + 1)) (record t { asked = t.asked + 1 })) { spare = t'.spare }) where
@@ -147,9 +148,10 @@ asks_more ids i x t m t' lt is a b =
 
 asked_costs : (r : Rules) (o : Id) → Costs r (Asked o) nothing of_ask
 asked_costs r o = record {
-  goes = by_rows (λ row. goes r row (Asked o) ≡ 0) refl refl refl refl refl refl refl;
-  causes = by_rows (λ row. causes r row (Asked o) ≡ of_ask row) refl refl refl refl refl refl refl;
+  goes = by_rows (λ row. goes r row (Asked o) ≡ 0) refl refl refl refl refl refl refl (λ x. refl);
+  causes = by_rows (λ row. causes r row (Asked o) ≡ of_ask row) refl refl refl refl refl refl refl (λ x. refl);
   hops = omega arith;
+  calm = λ x. refl;
 }
 
 asked_sums : (r : Rules) (ids : List Id) (row : Row)
@@ -172,11 +174,16 @@ asked_hops : (r : Rules) (ids : List Id) → sum_by (hops r) (asked_events ids) 
 asked_hops r [] = refl
 asked_hops r (id ∷ ids) = omega (arith, sum_by-cons (hops r) (Asked (bare id)) (asked_events ids), asked_hops r ids)
 
+asked_frees : (r : Rules) (ids : List Id) (o : Id) → sum_by (comes_to_free r o) (asked_events ids) ≡ 0
+asked_frees r [] o = refl
+asked_frees r (id ∷ ids) o = omega (arith, sum_by-cons (comes_to_free r o) (Asked (bare id)) (asked_events ids), asked_frees r ids o)
+
 -- each ask has its message
 pub pays_asks : (r : Rules) (t t' : Tables) (ids : List Id) → AsksFor ids t t' → Pays r t t' (asked_events ids)
 pays_asks r t t' ids asks = record {
   rows = λ row. let sums = asked_sums r ids row in omega (arith, asks.more row, sums.0, sums.1);
   kept = omega (arith, asked_hops r ids, ap (λ (x : Tables). length x.accepted) asks.rest);
+  frees = λ o. omega (arith, asked_frees r ids o);
 }
 
 pub asked_long : (ids : List Id) → length (asked_events ids) ≡ length ids

@@ -38,6 +38,7 @@ use Rattle.hpx_node.specs.Tables.{Tables, fired_acts}
 use Rattle.hpx_node.specs.Seen.{bare_standing, counted, view}
 use Rattle.hpx_node.specs.Stands.{IsTidy, StandsWith}
 use Rattle.hpx_node.proofs.Alls.{all_append, all_remove, all_set, all_at}
+use Rattle.hpx_node.proofs.Targets.{targets_set}
 use Rattle.hpx_node.proofs.Asking.{asked_long, asked_stay, pays_asks}
 use Rattle.hpx_node.proofs.Bare.{bare_middle}
 use Rattle.hpx_node.proofs.IdleRows.{first_idle}
@@ -55,6 +56,7 @@ use Rattle.hpx_node.proofs.SplitHand.{weigh_bare, stock_weighs, hand_weighs}
 use Rattle.hpx_node.proofs.Single.{single_set}
 use Rattle.hpx_node.proofs.Splits.{Has, Halves, halves_none, cut_many}
 use Rattle.hpx_node.proofs.Stays.{Stays, cuts_stay, stays_out, stays_in}
+use Rattle.hpx_node.proofs.Ended.{LeavesActs, first_leave, asked_leave, answers_none}
 use Rattle.hpx_node.proofs.Steps.{Tells, tells_leads, same_refusals, stands_then}
 use Rattle.hpx_node.proofs.Sums.{weigh, weigh_append, weigh_remove, weigh_set, weigh_last, tokens_sum, view_sum}
 
@@ -322,6 +324,7 @@ module _ (r : Rules) (t : Tables) (entries : List Entry) (i j : ℕ) (job : Job)
     messages = h.tidy.messages;
     fit = tt;
     moves = h.tidy.moves;
+    targets = targets_set t.objects j at.standing lent t.accepted at.stands refl h.tidy.targets;
     drawn = all_set (λ (x : Standing). 16 ≤ x.object.kind → x.object.home ≡ t.here → x.object.number ≤ t.births) t.objects j lent h.tidy.drawn
         (all_at (λ (x : Standing). 16 ≤ x.object.kind → x.object.home ≡ t.here → x.object.number ≤ t.births) t.objects j at.standing h.tidy.drawn at.stands);
     unborn = h.tidy.unborn;
@@ -493,5 +496,7 @@ module _ (r : Rules) (t : Tables) (entries : List Entry) (i j : ℕ) (job : Job)
           pays = pays_on r t paused t' events (asked_events lacks)
               (pays_idle r t paused events (first_idle r (own_many job) 0 (hand_ids job.state job.action later) places) (λ row. refl) refl)
               (pays_asks r paused t' lacks asks);
+          answers = answers_none r t t' (events ++ asked_events lacks) (stays (λ x. x.answered) (λ x a s d o. refl))
+              (all_append LeavesActs events (asked_events lacks) (first_leave (own_many job) 0 (hand_ids job.state job.action later) places) (asked_leave lacks));
         })
         leads

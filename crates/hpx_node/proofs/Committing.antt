@@ -13,6 +13,7 @@ use Rattle.hpx_part.specs.Parts.{at_all}
 use Rattle.hpx_part.proofs.Keyed.{slice_get_less}
 use Rattle.hpx_node.specs.declared.node.finish.Prepared.{Prepared}
 use Rattle.hpx_node.specs.declared.node.settle.Birth.{Birth}
+use Rattle.hpx_node.specs.Awaited.{answered_by}
 use Rattle.hpx_node.specs.Births.{Makes, birth_of, births_of, objects_of, records_of, ids_of}
 use Rattle.hpx_node.specs.Changes.{AreAlike}
 use Rattle.hpx_node.specs.Commits.{splits_from, written, ups, committed_from, state_dealt, due_dealt, with_settled, committed_to, IsPrepared}
@@ -48,12 +49,12 @@ module _ (act_of : ℕ → ℕ → ℕ → State → Act → Outcome)
     (at : IsEnding t j job (ids_of t.here t.births t.profile.credit_log p.births.items) p.stock.hand running pending)
     (t1 t2 : Tables) (made : Makes p.births.items [] t t1)
     (objects : (x : Standing) → slice_get t1.objects j ≡ Some x → t2.objects ≡ set t1.objects j (record { object = x.object; state = p.plan.state }))
-    (rest : t2 ≡ record t1 { running = running; pending = pending; objects = t2.objects; spare = t2.spare })
+    (rest : t2 ≡ record t1 { running = running; pending = pending; objects = t2.objects; answered = t1.answered + answered_by (Some job.action); spare = t2.spare })
     (e0 e1 e2 : List Entry)
     (first : e1 ≡ e0 ++ at_all t.here (births_of t.here t.births p.births.items ++ splits_from 0 p.stock.hand p.stock.places))
     (done : e2 ≡ e1 ++ at_all t1.here (Done (name_of job.action) false ∷ [])) where
   tables_are : t2 ≡ tables_settled t job out fit few laws p is j running pending at t2.spare
-  tables_are = settled_is t t1 t2 p.births.items j running pending (record { object = at.standing.object; state = p.plan.state }) made
+  tables_are = settled_is t t1 t2 p.births.items j running pending (answered_by (Some job.action)) (record { object = at.standing.object; state = p.plan.state }) made
       (objects at.standing (stands_then t t1 p.births.items made j at.standing at.stands)) rest
 
   same_here : t1.here ≡ t.here
@@ -122,6 +123,7 @@ module _ (act_of : ℕ → ℕ → ℕ → State → Act → Outcome)
     births = t.births + n;
     records = t.records ++ records_of t.here t.births t.profile.credit_log xs;
     objects = set (t.objects ++ objects_of t.here t.births xs) j (record { object = at.standing.object; state = state });
+    answered = t.answered + answered_by (Some job.action);
     spare = t2.spare;
   }
 

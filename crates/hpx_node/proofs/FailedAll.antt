@@ -1,5 +1,6 @@
 -- A failure, written step by step, leaves what one step would leave.
 use Rattle.std.proofs.Common.{ℕ, suc, true, List, [], ◌∷◌, ◌++◌, ◌≡◌, ◌+◌, ◌≤◌, Some, set, length, length-append, append_assoc, refl, sym, ap, ◌∙◌, arith, subst}
+use Rattle.std.specs.Prelude.{option_map}
 use Rattle.std.specs.List.{slice_get, remove, AllByRecursion}
 use Rattle.hpx_parcel.specs.Parcels.{HasCredit}
 use Rattle.hpx_journal.specs.Data.{Id, State, Act, Outcome, Due, MessageDue, PrintDue}
@@ -8,11 +9,12 @@ use Rattle.hpx_part.specs.Data.{Done, Entry, Standing}
 use Rattle.hpx_part.specs.Parts.{at_all}
 use Rattle.hpx_commit.specs.Failures.{action_ids}
 use Rattle.hpx_commit.specs.declared.plan.Plan.{Plan}
+use Rattle.hpx_node.specs.Awaited.{answered_by}
 use Rattle.hpx_node.specs.Changes.{OnlySends, AreAlike, Writes}
 use Rattle.hpx_node.specs.Commits.{written, ups}
 use Rattle.hpx_node.specs.Fails.{state_left, due_left, ups_left, failed_events, MustFail, IsFailure, Fails}
 use Rattle.hpx_node.specs.Fit.{IsKept, IsFitDue}
-use Rattle.hpx_node.specs.Pending.{Waits}
+use Rattle.hpx_node.specs.Pending.{Waits, action_of}
 use Rattle.hpx_node.specs.Routes.{with_left}
 use Rattle.hpx_node.specs.Stands.{StandsWith, rules_of}
 use Rattle.hpx_node.specs.Tables.{Tables}
@@ -59,21 +61,26 @@ module _ (act_of : ℕ → ℕ → ℕ → State → Act → Outcome) (t : Table
 
   module _ (t1 : Tables) (e1 : List Entry) (pending : t1.pending ≡ remove t.pending i)
       (objects : (x : Standing) → slice_get t.objects j ≡ Some x → t1.objects ≡ set t.objects j (record { object = x.object; state = p.state }))
-      (rest : t1 ≡ record t { pending = t1.pending; objects = t1.objects; spare = t1.spare })
+      (rest : t1 ≡ record t { pending = t1.pending; objects = t1.objects; answered = t.answered + answered_by (option_map action_of (slice_get t.pending i)); spare = t1.spare })
       (done : (v : Waits) → slice_get t.pending i ≡ Some v → e1 ≡ e0 ++ at_all t.here (Done (name_of v.job.action) true ∷ [])) where
+    abbrev more : ℕ
+    more = t.answered + answered_by (Some must.commit.job.action)
+
     abbrev now : Tables
     now = record t {
       pending = remove t.pending i;
       objects = set t.objects j (record { object = must.standing.object; state = state_left must.commit });
+      answered = more;
       spare = t1.spare;
     }
 
     now_is : t1 ≡ now
     now_is =
         rest
-        ∙ (ap (λ ws. record t { pending = ws; objects = t1.objects; spare = t1.spare }) pending
-        ∙ (ap (λ os. record t { pending = remove t.pending i; objects = os; spare = t1.spare }) (objects must.standing must.stands)
-        ∙ ap (λ s. record t { pending = remove t.pending i; objects = set t.objects j (record { object = must.standing.object; state = s }); spare = t1.spare }) is.state))
+        ∙ (ap (λ o. record t { pending = t1.pending; objects = t1.objects; answered = t.answered + answered_by (option_map action_of o); spare = t1.spare }) must.there
+        ∙ (ap (λ ws. record t { pending = ws; objects = t1.objects; answered = more; spare = t1.spare }) pending
+        ∙ (ap (λ os. record t { pending = remove t.pending i; objects = os; answered = more; spare = t1.spare }) (objects must.standing must.stands)
+        ∙ ap (λ s. record t { pending = remove t.pending i; objects = set t.objects j (record { object = must.standing.object; state = s }); answered = more; spare = t1.spare }) is.state)))
 
     pub then_stands : StandsWith (rules_of act_of t1.localities t1.profile) t1 p.due.items p.ups.items e1
     then_stands =
@@ -92,6 +99,7 @@ module _ (act_of : ℕ → ℕ → ℕ → State → Act → Outcome) (t : Table
         desk = t2.desk;
         outgoing = t2.outgoing;
         objects = set t.objects j (record { object = must.standing.object; state = state_left must.commit });
+        answered = t.answered + answered_by (Some must.commit.job.action);
         spare = t2.spare;
       }
       end_is = sends ∙ ap (λ (x : Tables). record x { serial = t2.serial; accepted = t2.accepted; desk = t2.desk; outgoing = t2.outgoing; spare = t2.spare }) now_is
@@ -115,7 +123,7 @@ module _ (act_of : ℕ → ℕ → ℕ → State → Act → Outcome) (t : Table
         stands = must.stands;
         found = must.found;
         rest = left_from (due_left must.commit) (ups_left must.commit)
-            (record t { pending = remove t.pending i; objects = set t.objects j (record { object = must.standing.object; state = state_left must.commit }) })
+            (record t { pending = remove t.pending i; objects = set t.objects j (record { object = must.standing.object; state = state_left must.commit }); answered = more })
             t1 t2 now_is
             (alike
             ∙ (ap (λ ds. record (with_left ds p.ups.items t1) { spare = 0 }) is.due

@@ -20,6 +20,7 @@ use Rattle.hpx_part.specs.View.{View}
 use Rattle.hpx_part.proofs.Keyed.{counts_of, any_counted, counted_any, split_get}
 use Rattle.hpx_part.proofs.ObjectRows.{follows_fail}
 use Rattle.hpx_commit.specs.Failures.{action_ids}
+use Rattle.hpx_node.specs.Awaited.{answered_by}
 use Rattle.hpx_node.specs.Fails.{state_left, due_left, ups_left}
 use Rattle.hpx_node.specs.Fit.{IsKept, IsFitDue}
 use Rattle.hpx_node.specs.Paused.{Single, IsPaused, ArePaused}
@@ -28,9 +29,11 @@ use Rattle.hpx_node.specs.Seen.{bare_standing, view}
 use Rattle.hpx_node.specs.Stands.{IsTidy, StandsWith}
 use Rattle.hpx_node.specs.Tables.{Tables, fired_acts}
 use Rattle.hpx_node.proofs.Alls.{some_same, all_at, all_set}
+use Rattle.hpx_node.proofs.Targets.{targets_set}
 use Rattle.hpx_node.proofs.Bare.{target-bare, found-bare, bare_middle}
 use Rattle.hpx_node.proofs.Begun.{bare_twice}
 use Rattle.hpx_node.proofs.Cover.{tidy_covers}
+use Rattle.hpx_node.proofs.Ended.{answers_done}
 use Rattle.hpx_node.proofs.FailedDue.{failed_fit, failed_due, ups_credit, failed_weighs}
 use Rattle.hpx_node.proofs.FilledDue.{state_filled}
 use Rattle.hpx_node.proofs.HandLeft.{state_right, action_right, halves_credit, same_names, hand_weighs}
@@ -130,6 +133,7 @@ module _ (r : Rules) (t : Tables) (entries : List Entry) (i j : ℕ) (w : Waits)
   failed = record t {
     pending = remove t.pending i;
     objects = set t.objects j (record { object = x.object; state = state_left w });
+    answered = t.answered + answered_by (Some w.job.action);
     spare = spare;
   }
 
@@ -189,6 +193,7 @@ module _ (r : Rules) (t : Tables) (entries : List Entry) (i j : ℕ) (w : Waits)
     messages = h.tidy.messages;
     fit = due_fit;
     moves = h.tidy.moves;
+    targets = targets_set t.objects j x new t.accepted stands refl h.tidy.targets;
     drawn = all_set (λ (y : Standing). 16 ≤ y.object.kind → y.object.home ≡ t.here → y.object.number ≤ t.births) t.objects j new h.tidy.drawn
         (all_at (λ (y : Standing). 16 ≤ y.object.kind → y.object.home ≡ t.here → y.object.number ≤ t.births) t.objects j x h.tidy.drawn stands);
     unborn = h.tidy.unborn;
@@ -318,5 +323,6 @@ module _ (r : Rules) (t : Tables) (entries : List Entry) (i j : ℕ) (w : Waits)
         sent = omega (arith, stays_out t.here (Done (name_of w.job.action) true ∷ []) stay);
         taken = omega (arith, stays_in t.here (Done (name_of w.job.action) true ∷ []) stay);
         pays = pays_idle r t failed (Done (name_of w.job.action) true ∷ []) (fail_idle r (name_of w.job.action), tt) (λ row. refl) refl;
+        answers = answers_done r t failed [] front back w.job.action true tt fires refl;
       })
       leads

@@ -12,6 +12,7 @@ use Rattle.hpx_node.specs.Changes.{Posts}
 use Rattle.hpx_node.proofs.Posted.{seen_posted, tells_posted}
 use Rattle.hpx_node.proofs.Steps.{tells_leads, stands_then}
 use Rattle.hpx_node.proofs.Routed.{act_kept}
+use Rattle.hpx_node.proofs.Ended.{answers_none}
 use Rattle.hpx_node.proofs.IdleSteps.{pays_line}
 
 module _ (r : Rules) (t t' : Tables) (entries : List Entry) (bytes : List ℕ) where
@@ -40,6 +41,7 @@ module _ (r : Rules) (t t' : Tables) (entries : List Entry) (bytes : List ℕ) w
         messages = h.tidy.messages;
         fit = tt;
         moves = h.tidy.moves;
+        targets = h.tidy.targets;
         drawn = h.tidy.drawn;
         unborn = h.tidy.unborn;
         places = h.tidy.places;
@@ -53,5 +55,6 @@ module _ (r : Rules) (t t' : Tables) (entries : List Entry) (bytes : List ℕ) w
         sent = omega (arith, ap (λ (x : Tables). x.sent) posts.rest);
         taken = omega (arith, ap (λ (x : Tables). x.taken) posts.rest);
         pays = pays_line r t t' name bytes posts.more (act_kept (line_act name bytes) drawn t' posts.goes);
+        answers = answers_none r t t' (Line name bytes ∷ []) (ap (λ (x : Tables). x.answered) posts.rest) ((λ s. (refl, refl)), tt);
       })
       leads

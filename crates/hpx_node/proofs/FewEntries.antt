@@ -69,6 +69,7 @@ popped_tidy p t tidy = record {
   messages = tidy.messages.1;
   fit = tidy.fit;
   moves = tidy.moves;
+  targets = tidy.targets;
   ways = (tidy.ways.0, tidy.ways.1.1);
   drawn = tidy.drawn;
   unborn = tidy.unborn;

@@ -1,5 +1,5 @@
 -- An action is fired.
-use Rattle.std.proofs.Common.{ℕ, suc, List, [], ◌∷◌, ◌++◌, ◌≡◌, Some, take, drop, map, append_assoc, refl, sym, ap, ◌∙◌, arith}
+use Rattle.std.proofs.Common.{ℕ, suc, true, List, [], ◌∷◌, ◌++◌, ◌≡◌, Some, take, drop, map, append_assoc, refl, sym, ap, ◌∙◌, arith}
 use Rattle.std.specs.Prelude.{flat_map, IfSome}
 use Rattle.std.specs.List.{slice_get, remove, find}
 use Rattle.std.proofs.lemmas.List.{map-append}
@@ -22,9 +22,11 @@ use Rattle.hpx_node.specs.Stands.{IsTidy, StandsWith}
 use Rattle.hpx_node.proofs.Bare.{target-bare, found-bare, busy-bare, bare_middle}
 use Rattle.hpx_node.proofs.Sums.{weigh_remove, weigh_last, tokens_sum, view_sum}
 use Rattle.hpx_node.specs.Fit.{IsFit}
+use Rattle.hpx_node.specs.Kept.{stands_here}
 use Rattle.hpx_node.proofs.Alls.{all_append, all_remove, all_at}
 use Rattle.hpx_node.proofs.Pausing.{fired_paused}
 use Rattle.hpx_node.proofs.Steps.{Tells, tells_leads, stands_then}
+use Rattle.hpx_node.proofs.Ended.{answers_fire}
 use Rattle.hpx_node.proofs.IdleSteps.{pays_fire}
 
 module _ (r : Rules) (t : Tables) (entries : List Entry) (i : ℕ) (act : Act) (spare : ℕ) (is : slice_get t.accepted i ≡ Some act)
@@ -100,10 +102,11 @@ module _ (r : Rules) (t : Tables) (entries : List Entry) (i : ℕ) (act : Act) (
         messages = h.tidy.messages;
         fit = tt;
         moves = all_remove (λ a. IfSome (move_to (bare_act a)) (λ k. k ≡ t.here)) t.accepted i h.tidy.moves;
+        targets = all_remove (λ a. stands_here t (target_of a) ≡ true) t.accepted i h.tidy.targets;
         drawn = h.tidy.drawn;
         unborn = h.tidy.unborn;
         places = h.tidy.places;
         ways = h.tidy.ways;
         paused = fired_paused t.here t.localities t.profile.credit_log t.objects t.running t.pending act free.idle h.tidy.paused;
       })
-      (record { here = refl; born = omega arith; few = omega arith; asked = omega arith; sent = omega arith; taken = omega arith; pays = pays_fire r t fired i act (name_of act) is refl refl }) leads
+      (record { here = refl; born = omega arith; few = omega arith; asked = omega arith; sent = omega arith; taken = omega arith; pays = pays_fire r t fired i act (name_of act) is refl refl; answers = answers_fire r t fired (name_of act) refl }) leads

@@ -35,6 +35,7 @@ use Rattle.hpx_node.specs.Stands.{IsTidy}
 use Rattle.hpx_node.specs.Kept.{waits_here, credit_in, ids_held, held_here}
 use Rattle.hpx_node.specs.Handled.{LetsFree, ups, freed, in_hand, TakesUp, Handles, GivesUp}
 use Rattle.hpx_node.proofs.Alls.{all_at, all_remove}
+use Rattle.hpx_node.proofs.Targets.{targets_less}
 use Rattle.hpx_node.proofs.Sums.{weigh, weigh_append, weigh_remove, tokens_sum, view_sum}
 use Rattle.hpx_node.proofs.Steps.{Tells, tells_leads}
 use Rattle.hpx_node.proofs.InHand.{hand_sum}
@@ -257,6 +258,7 @@ module _ (r : Rules) (t t' : Tables) (o : Id) (x : Standing) (i spare : ℕ) (is
         births = ap (λ (y : Tables). y.births) rest;
         sent = ap (λ (y : Tables). y.sent) rest;
         taken = ap (λ (y : Tables). y.taken) rest;
+        answered = ap (λ (y : Tables). y.answered) rest;
         running = ap (λ (y : Tables). y.running) rest;
         asked = ap (λ (y : Tables). y.asked) rest;
         tidy = gives.tidy;
@@ -266,6 +268,21 @@ module _ (r : Rules) (t t' : Tables) (o : Id) (x : Standing) (i spare : ℕ) (is
         leads = λ dead e takes. subst (λ es. Leads r (in_hand (Free o) t dead e) es (view t' [] [])) (sym (ap (freed o) is)) (leads dead e takes);
       }
 
+-- no accepted action is on an object of which no credit is held
+bare_none : (o : Id) (acts : List Act) → list_any (acts_on o) (map bare_act acts) ≡ false → list_any (acts_on o) acts ≡ false
+bare_none o [] h = refl
+bare_none o (a ∷ acts) h =
+    let parts = none_of (acts_on o (bare_act a)) (list_any (acts_on o) (map bare_act acts)) h in
+    or_false (acts_on o a) (list_any (acts_on o) acts) (sym (ap (same_object o) (target-bare a)) ∙ parts.0) (bare_none o acts parts.1)
+
+none_accepted : (t : Tables) (o : Id) → IsBare o → held_here t o ≡ 0 → IsTidy t [] → list_any (acts_on o) t.accepted ≡ false
+none_accepted t o is_bare none tidy = bare_none o t.accepted (no_acts o is_bare.1 (map bare_act t.accepted) (omega (
+  arith,
+  none_held o t tidy none,
+  tokens_sum (λ y. cond (is_held o y) 1 0) t,
+  acts_held o is_bare.1 t.accepted tidy.accepted,
+)))
+
 -- what goes has its credits, and what is left stands as before
 pub without_whole : (t : Tables) (o : Id) (x : Standing) (i : ℕ) → slice_get t.objects i ≡ Some x → find (is_standing o) t.objects ≡ Some x
     → waits_here t o ≡ false → IsTidy t [] → AllByRecursion HasRightCredit x.state.ids
@@ -273,8 +290,8 @@ without_whole t o x i there found idle tidy =
     freed_whole t.here t.localities t.profile.credit_log t.objects t.running t.pending i x there o (found_passes o t.objects x found) idle tidy.paused
 
 pub without_tidy : (t : Tables) (o : Id) (x : Standing) (i spare : ℕ) → slice_get t.objects i ≡ Some x → find (is_standing o) t.objects ≡ Some x
-    → waits_here t o ≡ false → IsTidy t [] → IsTidy (record t { objects = remove t.objects i; spare = spare }) []
-without_tidy t o x i spare there found idle tidy = record {
+    → IsBare o → waits_here t o ≡ false → held_here t o ≡ 0 → IsTidy t [] → IsTidy (record t { objects = remove t.objects i; spare = spare }) []
+without_tidy t o x i spare there found is_bare idle none tidy = record {
   paused = freed_paused t.here t.localities t.profile.credit_log t.objects t.running t.pending i x there o (found_passes o t.objects x found) idle tidy.paused;
   accepted = tidy.accepted;
   running = tidy.running;
@@ -282,6 +299,7 @@ without_tidy t o x i spare there found idle tidy = record {
   messages = tidy.messages;
   fit = tidy.fit;
   moves = tidy.moves;
+  targets = targets_less t.objects i x o t.accepted there (found_passes o t.objects x found) (none_accepted t o is_bare none tidy) tidy.targets;
   ways = tidy.ways;
   drawn = all_remove (λ (x : Standing). 16 ≤ x.object.kind → x.object.home ≡ t.here → x.object.number ≤ t.births) t.objects i tidy.drawn;
   unborn = tidy.unborn;

@@ -26,6 +26,7 @@ use Rattle.hpx_node.proofs.Cover.{tidy_covers}
 use Rattle.hpx_node.proofs.Messages.{flat_append}
 use Rattle.hpx_node.proofs.Sums.{tokens_sum, view_sum}
 use Rattle.hpx_node.proofs.Steps.{Tells, tells_leads, tells_covered, stands_then}
+use Rattle.hpx_node.proofs.Ended.{answers_none}
 use Rattle.hpx_node.proofs.IdleSteps.{pays_out}
 
 any_later : (o : Id) (xs ys : List Id) → list_any (same_object o) ys ≡ true → list_any (same_object o) (xs ++ ys) ≡ true
@@ -153,6 +154,7 @@ module _ (r : Rules) (t : Tables) (entries : List Entry) (x : Outgoing) (rest : 
         messages = all_append IsParcel t.desk others parts.0 parts.1.1;
         fit = tt;
         moves = h.moves;
+        targets = h.targets;
         drawn = h.drawn;
         unborn = h.unborn;
         places = h.places;
@@ -180,5 +182,6 @@ module _ (r : Rules) (t : Tables) (entries : List Entry) (x : Outgoing) (rest : 
         sent = omega arith;
         taken = omega arith;
         pays = pays_out r t went x.to bytes x.parcel t.desk others spelled before refl refl;
+        answers = answers_none r t went (Out x.to bytes ∷ []) refl ((λ s. (refl, refl)), tt);
       })
       leads

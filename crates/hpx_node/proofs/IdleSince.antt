@@ -14,9 +14,9 @@ use Rattle.hpx_node.specs.Stands.{StandsWith}
 use Rattle.hpx_node.proofs.IdleRows.{by_rows}
 
 none_queued : (row : Row) → queued row [] ≡ 0
-none_queued = by_rows (λ row. queued row [] ≡ 0) refl refl refl refl refl refl refl
+none_queued = by_rows (λ row. queued row [] ≡ 0) refl refl refl refl refl refl refl (λ o. refl)
 
-passive_unpaid : (t : Tables) → IsPassive t → (row : Row) → unpaid row t ≡ 0
+pub passive_unpaid : (t : Tables) → IsPassive t → (row : Row) → unpaid row t ≡ 0
 passive_unpaid t passive row =
     let none : messages t ≡ [] =
     ap (λ (d : List Parcel). d ++ map (λ (x : Outgoing). x.parcel) t.outgoing) passive.desk

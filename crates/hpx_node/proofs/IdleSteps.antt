@@ -9,10 +9,10 @@ use Rattle.hpx_part.specs.Parts.{at_all}
 use Rattle.hpx_part.proofs.Keyed.{split_get}
 use Rattle.hpx_node.specs.Fit.{parcel_for}
 use Rattle.hpx_node.specs.Tables.{Tables, messages}
-use Rattle.hpx_node.specs.Idle.{Row, Returns, Asks, Gives, Frees, Counts, Refusals, Actions, kind_of, brings, weight, owes, goes, causes, hops, of_act, queued, unpaid, Pays, PaysFor, IsPaid}
+use Rattle.hpx_node.specs.Idle.{Row, Returns, Asks, Gives, Frees, Counts, Refusals, Actions, FreesOf, kind_of, brings, weight, owes, goes, causes, hops, of_act, queued, unpaid, Pays, PaysFor, IsPaid}
 use Rattle.hpx_node.specs.Changes.{Mails}
 use Rattle.hpx_node.specs.Handled.{with_first}
-use Rattle.hpx_node.proofs.IdleRows.{Costs, nothing, IsIdle, none_sums, none_hops, act_weight, line_costs, sent_costs, fire_costs, up_costs, out_costs, in_costs, mail_costs, mail_hops, free_owes, freed_idle}
+use Rattle.hpx_node.proofs.IdleRows.{Costs, nothing, IsIdle, none_sums, none_hops, act_weight, line_costs, sent_costs, fire_costs, up_costs, out_costs, in_goes, in_causes, in_frees, mail_costs, mail_hops, freed_costs, comes_to_free, frees_now, none_come}
 
 -- ---- what is unpaid
 
@@ -36,6 +36,7 @@ queued_more Gives l act m = refl
 queued_more Frees l act m = refl
 queued_more Counts l act m = refl
 queued_more Refusals l act m = refl
+queued_more (FreesOf o) l act m = refl
 
 queued_last : (row : Row) (l : List Act) (act : Act) → queued row (l ++ act ∷ []) ≡ queued row l + of_act row
 queued_last Actions l act = omega (arith, length-append l (act ∷ []))
@@ -45,6 +46,7 @@ queued_last Gives l act = refl
 queued_last Frees l act = refl
 queued_last Counts l act = refl
 queued_last Refusals l act = refl
+queued_last (FreesOf o) l act = refl
 
 -- one more accepted action
 pub accepted_pending : (act : Act) (t : Tables) (spare : ℕ) (row : Row)
@@ -91,6 +93,15 @@ paid_more r t t' k es events paid pays = record {
     sum_at (hops r) k events,
     sum_at (causes r Actions) k events,
   );
+  frees = λ o. omega (
+    arith,
+    paid.frees o,
+    pays.frees o,
+    sum_by-append (λ (e : Entry). comes_to_free r o e.event) es (at_all k events),
+    sum_by-append (λ (e : Entry). frees_now o e.event) es (at_all k events),
+    sum_at (comes_to_free r o) k events,
+    sum_at (frees_now o) k events,
+  );
 }
 
 -- ---- steps
@@ -101,6 +112,7 @@ pub pays_one : (r : Rules) (t t' : Tables) (e : Event) (g c : Row → ℕ) → C
 pays_one r t t' e g c costs h few = record {
   rows = λ row. omega (arith, h row, costs.goes row, costs.causes row, one_sum (goes r row) e, one_sum (causes r row) e);
   kept = omega (arith, few, costs.goes Actions, one_sum (goes r Actions) e, one_sum (hops r) e);
+  frees = λ o. omega (arith, costs.calm o, one_sum (comes_to_free r o) e);
 }
 
 -- entries that count nothing
@@ -109,6 +121,7 @@ pub pays_idle : (r : Rules) (t t' : Tables) (es : List Event) → AllByRecursion
 pays_idle r t t' es idle h same = record {
   rows = λ row. let sums = none_sums r es idle row in omega (arith, h row, sums.0, sums.1);
   kept = omega (arith, none_hops r es idle, ap (λ (xs : List Act). length xs) same);
+  frees = λ o. omega (arith, none_come r es idle o);
 }
 
 pub pays_line : (r : Rules) (t t' : Tables) (a : Name) (bytes : List ℕ) → ((row : Row) → unpaid row t' ≡ unpaid row t + of_act row)
@@ -165,23 +178,30 @@ pays_out r t t' to bytes p front back spelled before after same =
 pub pays_in : (r : Rules) (t u t' : Tables) (p : Parcel) (bytes : List ℕ) (events : List Event) → r.parcel_of bytes ≡ Some p
     → ((row : Row) → unpaid row u ≡ unpaid row t) → u.accepted ≡ t.accepted → PaysFor r p u t' events → Pays r t t' (In bytes ∷ events)
 pays_in r t u t' p bytes events spelled same queue pays =
-    let costs = in_costs r bytes p spelled in record {
+    record {
       rows = λ row. omega (
         arith,
         pays.rows row,
         same row,
-        costs.goes row,
-        costs.causes row,
+        in_goes r bytes row,
+        in_causes r bytes p spelled row,
         sum_by-cons (goes r row) (In bytes) events,
         sum_by-cons (causes r row) (In bytes) events,
       );
       kept = omega (
         arith,
         pays.kept,
-        costs.goes Actions,
+        in_goes r bytes Actions,
         ap (λ (xs : List Act). length xs) queue,
         sum_by-cons (goes r Actions) (In bytes) events,
         sum_by-cons (hops r) (In bytes) events,
+      );
+      frees = λ o. omega (
+        arith,
+        pays.frees o,
+        in_frees r bytes p spelled o,
+        sum_by-cons (comes_to_free r o) (In bytes) events,
+        sum_by-cons (frees_now o) (In bytes) events,
       );
     }
 
@@ -198,6 +218,12 @@ pays_mail r t t' p events kept none pays = record {
     sum_by-cons (causes r row) (Mail (kind_of p)) events,
   );
   kept = omega (arith, kept, none, mail_hops r p, sum_by-cons (hops r) (Mail (kind_of p)) events);
+  frees = λ o. omega (
+    arith,
+    pays.frees o,
+    sum_by-cons (comes_to_free r o) (Mail (kind_of p)) events,
+    sum_by-cons (frees_now o) (Mail (kind_of p)) events,
+  );
 }
 
 -- ---- what a message does that was taken up
@@ -208,6 +234,7 @@ pub pays_for_act : (r : Rules) (t t' : Tables) (p : Parcel) → ((row : Row) →
 pays_for_act r t t' p owed more kept = record {
   rows = λ row. omega (arith, owed row, more row);
   kept = omega (arith, kept);
+  frees = λ o. omega (arith, owed (FreesOf o));
 }
 
 -- one list of entries after the other
@@ -221,30 +248,43 @@ pays_on r t m t' es fs a b = record {
     sum_by-append (causes r row) es fs,
   );
   kept = omega (arith, a.kept, b.kept, sum_by-append (goes r Actions) es fs, sum_by-append (hops r) es fs);
+  frees = λ o. omega (
+    arith,
+    a.frees o,
+    b.frees o,
+    sum_by-append (comes_to_free r o) es fs,
+    sum_by-append (frees_now o) es fs,
+  );
 }
 
 -- an object is freed
 pub pays_freed : (r : Rules) (t m t' : Tables) (o : Id) (events : List Event) → ((row : Row) → unpaid row m ≡ unpaid row t)
     → m.accepted ≡ t.accepted → Pays r m t' events → PaysFor r (Free o) t t' (Freed o ∷ events)
 pays_freed r t m t' o events same queue pays =
-    let idle = freed_idle r o in record {
+    let costs = freed_costs r o in record {
       rows = λ row. omega (
         arith,
         pays.rows row,
         same row,
-        free_owes o row,
-        idle.goes row,
-        idle.causes row,
+        costs.goes row,
+        costs.causes row,
         sum_by-cons (goes r row) (Freed o) events,
         sum_by-cons (causes r row) (Freed o) events,
       );
       kept = omega (
         arith,
         pays.kept,
-        idle.goes Actions,
-        idle.hops,
+        costs.goes Actions,
+        costs.hops,
         ap (λ (xs : List Act). length xs) queue,
         sum_by-cons (goes r Actions) (Freed o) events,
         sum_by-cons (hops r) (Freed o) events,
+      );
+      frees = λ x. omega (
+        arith,
+        pays.frees x,
+        costs.calm x,
+        sum_by-cons (comes_to_free r x) (Freed o) events,
+        sum_by-cons (frees_now x) (Freed o) events,
       );
     }

@@ -124,6 +124,7 @@ posted_handles r act p t t' tidy posts one none toks owed waits =
       births = ap (λ (x : Tables). x.births) rest;
       sent = ap (λ (x : Tables). x.sent) rest;
       taken = ap (λ (x : Tables). x.taken) rest;
+      answered = ap (λ (x : Tables). x.answered) rest;
       running = ap (λ (x : Tables). x.running) rest;
       asked = ap (λ (x : Tables). x.asked) rest;
       tidy = posts.tidy [] tidy;

@@ -20,6 +20,7 @@ pub mod SplitHand
 pub mod Splits
 pub mod Stays
 pub mod Steps
+pub mod Ended
 pub mod Paid
 pub mod Posted
 pub mod Single
@@ -88,5 +89,7 @@ pub mod IdleCounts
 pub mod IdleEffects
 pub mod IdleSince
 pub mod Routed
+pub mod RowLaws
+pub mod Targets
 pub mod Spareless
 pub mod AnsweredEntry

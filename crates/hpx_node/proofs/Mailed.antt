@@ -37,6 +37,7 @@ module _ (t : Tables) (p : Parcel) (spare : ℕ) (fit : IsParcel p) (enough : t.
               (all_append IsParcel (messages t) (p ∷ []) h.messages (fit, tt));
           fit = h.fit;
           moves = h.moves;
+          targets = h.targets;
           drawn = h.drawn;
           unborn = h.unborn;
           places = h.places;
@@ -67,6 +68,7 @@ module _ (t : Tables) (p : Parcel) (spare : ℕ) (fit : IsParcel p) (enough : t.
               all_append IsParcel (t.desk ++ p ∷ []) outs (all_append IsParcel t.desk (p ∷ []) parts.0 (fit, tt)) parts.1;
           fit = h.fit;
           moves = h.moves;
+          targets = h.targets;
           drawn = h.drawn;
           unborn = h.unborn;
           places = h.places;

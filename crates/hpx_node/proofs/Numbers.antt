@@ -1,9 +1,10 @@
 -- What a node's tables tell, by what stands at its locality.
 use Rattle.std.proofs.Common.{ℕ, Bool, true, false, cond, List, [], ◌∷◌, ◌++◌, ◌≡◌, ◌≤◌, ◌^◌, Option, Some, None, map, refl, sym, ap, ◌∙◌, subst, arith, inl, inr, zero-add}
-use Rattle.std.specs.Prelude.{flat_map, ◌==◌, is_some}
+use Rattle.std.specs.Prelude.{flat_map, ◌-◌, ◌==◌, is_some}
 use Rattle.std.specs.List.{sum_by, count_by, find, AllByRecursion}
 use Rattle.std.proofs.lemmas.Bool.{cases_Bool}
 use Rattle.std.proofs.lemmas.List.Sums.{sum_by-cons, sum_by-append}
+use Rattle.hpx_value.specs.Hands.{session}
 use Rattle.hpx_value.specs.Values.{bare_act}
 use Rattle.hpx_value.specs.Ids.{same_object, credit, credit_of_log}
 use Rattle.hpx_parcel.specs.Credits.{credit_list, credits_of}
@@ -21,6 +22,7 @@ use Rattle.hpx_part.proofs.Covered.{act_names, object_names, due_names}
 use Rattle.hpx_part.proofs.Keyed.{Agree-sum}
 use Rattle.hpx_part.proofs.Keys.{means, own, stood, means_object, own_object}
 use Rattle.hpx_node.specs.declared.parts.Outgoing.{Outgoing}
+use Rattle.hpx_node.specs.Awaited.{is_answer, drawn_by, awaited_here, awaited_at}
 use Rattle.hpx_node.specs.Kept.{stands_here, credit_in, ids_held, credit_owed, held_here, owed_here, held_worth, owed_worth}
 use Rattle.hpx_node.specs.Pending.{Waits, action_of}
 use Rattle.hpx_node.specs.Tables.{Tables, IsPassive, messages}
@@ -191,6 +193,20 @@ found_bare o (x ∷ xs) = elim (cases_Bool (is_standing o x)) [
 
 pub holds_shown : (t : Tables) (s : Local) (o : Id) → Shows (view t [] []) s → stands_here t o ≡ is_some (find (is_standing o) s.objects)
 holds_shown t s o shown = sym (ap is_some (shown.objects.objects.finds o) ∙ found_bare o t.objects)
+
+drawn_bare : (xs : List Standing) → drawn_by (find (is_standing session) (map bare_standing xs)) ≡ drawn_by (find (is_standing session) xs)
+drawn_bare [] = refl
+drawn_bare (x ∷ xs) = elim (cases_Bool (is_standing session x)) [
+  | inl t ↦ rw t refl
+  | inr t ↦ rw t (drawn_bare xs)
+]
+
+pub awaited_shown : (t : Tables) (s : Local) → Shows (view t [] []) s → t.answered ≡ count_by is_answer s.done → awaited_here t ≡ awaited_at s
+awaited_shown t s shown had =
+    let drawn : drawn_by (find (is_standing session) t.objects) ≡ drawn_by (find (is_standing session) s.objects) =
+    sym (ap drawn_by (shown.objects.objects.finds session) ∙ drawn_bare t.objects) in
+    ap (λ k. cond (k == 0) (drawn_by (find (is_standing session) t.objects) - t.answered) 0) (sym shown.acts.here)
+    ∙ (ap (λ n. cond (s.here == 0) (n - t.answered) 0) drawn ∙ ap (λ n. cond (s.here == 0) (drawn_by (find (is_standing session) s.objects) - n) 0) had)
 
 -- ---- a passive node
 

@@ -1,5 +1,5 @@
 -- A commit that was prepared, by its own names.
-use Rattle.std.proofs.Common.{ℕ, false, List, [], ◌∷◌, ◌≡◌, ◌+◌, ◌++◌, ◌≤◌, set, length, map, sym, ap, ◌∙◌, subst}
+use Rattle.std.proofs.Common.{ℕ, false, Some, List, [], ◌∷◌, ◌≡◌, ◌+◌, ◌++◌, ◌≤◌, set, length, map, sym, ap, ◌∙◌, subst}
 use Rattle.std.specs.List.{AllByRecursion}
 use Rattle.hpx_value.specs.Values.{bare_act, bare_state, message_of, named}
 use Rattle.hpx_value.specs.Hands.{due_of, state_after}
@@ -13,6 +13,7 @@ use Rattle.hpx_part.specs.Parts.{at_all}
 use Rattle.hpx_commit.specs.Deals.{dealt, unused, unnamed}
 use Rattle.hpx_node.specs.declared.node.finish.Prepared.{Prepared}
 use Rattle.hpx_node.specs.declared.node.settle.Birth.{Birth}
+use Rattle.hpx_node.specs.Awaited.{answered_by}
 use Rattle.hpx_node.specs.Births.{IsBirth, birth_of, births_of, objects_of, records_of, ids_of}
 use Rattle.hpx_node.specs.Commits.{IsPrepared, splits_from, written, ups, committed_from, made_of}
 use Rattle.hpx_node.specs.Fit.{IsFit, IsKept, IsFitDue}
@@ -102,6 +103,7 @@ module _ (t : Tables) (job : Job) (out : Outcome) (fit : IsFitJob job) (few : t.
       objects = set (t.objects ++ objects_of t.here t.births p.births.items) j (record { object = at.standing.object; state = p.plan.state });
       running = running;
       pending = pending;
+      answered = t.answered + answered_by (Some job.action);
       spare = spare;
     }
 

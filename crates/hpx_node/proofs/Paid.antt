@@ -31,6 +31,7 @@ use Rattle.hpx_node.proofs.Posted.{seen_posted, tells_posted}
 use Rattle.hpx_node.proofs.Sums.{weigh_append, view_sum}
 use Rattle.hpx_node.proofs.Steps.{Tells, same_refusals, tells_leads, tells_covered, stands_then}
 use Rattle.hpx_node.proofs.Routed.{act_kept}
+use Rattle.hpx_node.proofs.Ended.{answers_none}
 use Rattle.hpx_node.proofs.IdleRows.{print_idle}
 use Rattle.hpx_node.proofs.IdleSteps.{pays_idle, pays_sent, pays_up}
 
@@ -44,6 +45,7 @@ tidy_rest t x due serial h = record {
   messages = h.messages;
   fit = h.fit.1;
   moves = h.moves;
+  targets = h.targets;
   drawn = h.drawn;
   unborn = h.unborn;
   places = h.places;
@@ -83,6 +85,7 @@ module _ (r : Rules) (t t' : Tables) (entries : List Entry) (loose : List Id) wh
         sent = omega (arith, ap (λ (x : Tables). x.sent) posts.rest);
         taken = omega (arith, ap (λ (x : Tables). x.taken) posts.rest);
         pays = pays_sent r t t' name posts.more (act_kept (named t.here (t.serial + 1) m) drawn t' posts.goes);
+        answers = answers_none r t t' (Sent name ∷ []) (ap (λ (x : Tables). x.answered) posts.rest) ((λ s. (refl, refl)), tt);
       })
       leads
 
@@ -115,7 +118,7 @@ module _ (r : Rules) (t : Tables) (entries : List Entry) (loose : List Id) where
       ) in
       let tidy = tidy_rest t (PrintDue bytes) rest t.serial h.tidy in
       stands_then r t t (PrintDue bytes ∷ rest) rest loose loose entries (Print bytes ∷ []) h tidy
-      (record { here = refl; born = omega arith; few = omega arith; asked = omega arith; sent = omega arith; taken = omega arith; pays = pays_idle r t t (Print bytes ∷ []) (print_idle r bytes, tt) (λ row. refl) refl })
+      (record { here = refl; born = omega arith; few = omega arith; asked = omega arith; sent = omega arith; taken = omega arith; pays = pays_idle r t t (Print bytes ∷ []) (print_idle r bytes, tt) (λ row. refl) refl; answers = answers_none r t t (Print bytes ∷ []) refl ((λ s. (refl, refl)), tt) })
       leads
 
 module _ (r : Rules) (t t' : Tables) (entries : List Entry) (id : Id) (log : ℕ) (e : id.log ≡ Some log) (rest : List Id)
@@ -202,6 +205,7 @@ module _ (r : Rules) (t t' : Tables) (entries : List Entry) (id : Id) (log : ℕ
         sent = omega (arith, ap (λ (x : Tables). x.sent) mails.rest);
         taken = omega (arith, ap (λ (x : Tables). x.taken) mails.rest);
         pays = pays_up r t t' id (bare id) log mails;
+        answers = answers_none r t t' (Up (bare id) log ∷ []) (ap (λ (x : Tables). x.answered) mails.rest) ((λ s. (refl, refl)), tt);
       })
       leads)
 

@@ -10,19 +10,20 @@ use Rattle.hpx_journal.specs.Data.{Id, Act, Due}
 use Rattle.hpx_part.specs.Data.{Event, Token}
 use Rattle.hpx_part.specs.View.{View}
 use Rattle.hpx_part.specs.Shows.{IsWeight}
-use Rattle.hpx_journal.specs.Entries.{move_to}
+use Rattle.hpx_journal.specs.Entries.{move_to, target_of}
 use Rattle.hpx_journal.specs.Frames.{acts_in}
 use Rattle.hpx_node.specs.Fit.{IsFit}
 use Rattle.hpx_node.specs.Pending.{asking_of, refusals_of}
 use Rattle.hpx_node.specs.Tables.{Tables, messages, fired_acts}
 use Rattle.hpx_node.specs.Seen.{bare_standing, counted, view}
 use Rattle.hpx_node.specs.Changes.{Posts}
+use Rattle.hpx_node.specs.Kept.{stands_here}
 use Rattle.hpx_node.proofs.Alls.{all_append}
 use Rattle.hpx_node.proofs.Sums.{weigh, tokens_sum, weigh_last, view_sum}
 use Rattle.hpx_node.proofs.Steps.{Tells, same_refusals}
 use Rattle.hpx_node.specs.Routes.{may_stay}
 use Rattle.hpx_node.proofs.IdleSteps.{accepted_pending}
-use Rattle.hpx_node.proofs.Routed.{accepted_waits, stay_moves}
+use Rattle.hpx_node.proofs.Routed.{accepted_waits, stay_moves, stay_stands}
 
 -- an action that is accepted
 pub accepted_posts : (act : Act) (t : Tables) (spare : ℕ) → t.spare ≤ spare + 1 → IsFit act → may_stay t act ≡ true
@@ -45,6 +46,7 @@ accepted_posts act t spare enough fit stay =
         messages = h.messages;
         fit = h.fit;
         moves = all_append (λ a. IfSome (move_to (bare_act a)) (λ to. to ≡ t.here)) t.accepted (act ∷ []) h.moves (stay_moves t act stay, tt);
+        targets = all_append (λ a. stands_here t (target_of a) ≡ true) t.accepted (act ∷ []) h.targets (stay_stands t act stay, tt);
         drawn = h.drawn;
         unborn = h.unborn;
         places = h.places;

@@ -1,5 +1,5 @@
 -- A plan under other names: its parts are those of the plan that is known to be right.
-use Rattle.std.proofs.Common.{ℕ, false, List, [], ◌∷◌, ◌≡◌, ◌+◌, ◌++◌, ◌≤◌, set, length, map, sym, subst}
+use Rattle.std.proofs.Common.{ℕ, false, Some, List, [], ◌∷◌, ◌≡◌, ◌+◌, ◌++◌, ◌≤◌, set, length, map, sym, subst}
 use Rattle.std.specs.List.{AllByRecursion}
 use Rattle.hpx_value.specs.Values.{bare_act, bare_state, message_of, named}
 use Rattle.hpx_value.specs.Laws.{KeepsLaws}
@@ -11,6 +11,7 @@ use Rattle.hpx_part.specs.Parts.{at_all}
 use Rattle.hpx_commit.specs.Deals.{unnamed}
 use Rattle.hpx_commit.specs.Stocks.{Stock}
 use Rattle.hpx_node.specs.declared.node.settle.Birth.{Birth}
+use Rattle.hpx_node.specs.Awaited.{answered_by}
 use Rattle.hpx_node.specs.Births.{birth_of, births_of, objects_of, records_of, ids_of}
 use Rattle.hpx_node.specs.Commits.{IsStock, splits_from}
 use Rattle.hpx_node.specs.Fit.{IsFit}
@@ -53,6 +54,7 @@ module _ (t : Tables) (job : Job) (out : Outcome) (fit : IsFitJob job) (few : t.
       objects = set (t.objects ++ objects_of t.here t.births xs) j (record { object = at.standing.object; state = state });
       running = running;
       pending = pending;
+      answered = t.answered + answered_by (Some job.action);
       spare = spare;
     }
 
@@ -64,6 +66,7 @@ module _ (t : Tables) (job : Job) (out : Outcome) (fit : IsFitJob job) (few : t.
           objects = set (t.objects ++ objects_of t.here t.births ys) j (record { object = at.standing.object; state = x });
           running = running;
           pending = pending;
+          answered = t.answered + answered_by (Some job.action);
           spare = spare;
         } in
         let beside : ArePaused t.here t.localities t.profile.credit_log (set (t.objects ++ objects_of t.here t.births (map birth_of out.makes)) j

@@ -362,6 +362,7 @@ module _ (r : Rules) (t : Tables) (id : Id) (entry i n spare : ℕ) (w : Waits) 
     messages = tidy.messages;
     fit = tidy.fit;
     moves = tidy.moves;
+    targets = tidy.targets;
     drawn = tidy.drawn;
     unborn = tidy.unborn;
     places = tidy.places;
@@ -492,6 +493,7 @@ module _ (r : Rules) (t : Tables) (id : Id) (entry i n spare : ℕ) (w : Waits) 
     births = refl;
     sent = refl;
     taken = refl;
+    answered = refl;
     running = refl;
     asked = refl;
     tidy = given_tidy;

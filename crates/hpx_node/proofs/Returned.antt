@@ -185,11 +185,11 @@ module _ (r : Rules) (t m : Tables) (id : Id) (log : ℕ) (rec : Record) (some :
       )
 
   handles_at : (t' : Tables) → t'.here ≡ m.here → t'.localities ≡ m.localities → t'.profile ≡ m.profile → t'.serial ≡ m.serial → t'.births ≡ m.births → t'.sent ≡ m.sent
-      → t'.taken ≡ m.taken → t'.running ≡ m.running → t'.asked ≡ m.asked → DealsWith (Return id) t t' → IsTidy t' []
+      → t'.taken ≡ m.taken → t'.answered ≡ m.answered → t'.running ≡ m.running → t'.asked ≡ m.asked → DealsWith (Return id) t t' → IsTidy t' []
       → PaysFor r (Return id) t t' (returned t id id.log)
       → ((dead : List Id) (e : Event) → TakesUp r t (Return id) dead e → Leads r (in_hand (Return id) t dead e) (returned t id id.log) (view t' [] []))
       → Handles r (Return id) t t' (returned t id id.log)
-  handles_at t' here localities profile serial births sent taken running asked waits tidy pays leads = record {
+  handles_at t' here localities profile serial births sent taken answered running asked waits tidy pays leads = record {
     here = here ∙ ap (λ (x : Tables). x.here) rest;
     localities = localities ∙ ap (λ (x : Tables). x.localities) rest;
     profile = profile ∙ ap (λ (x : Tables). x.profile) rest;
@@ -197,6 +197,7 @@ module _ (r : Rules) (t m : Tables) (id : Id) (log : ℕ) (rec : Record) (some :
     births = births ∙ ap (λ (x : Tables). x.births) rest;
     sent = sent ∙ ap (λ (x : Tables). x.sent) rest;
     taken = taken ∙ ap (λ (x : Tables). x.taken) rest;
+    answered = answered ∙ ap (λ (x : Tables). x.answered) rest;
     running = running ∙ ap (λ (x : Tables). x.running) rest;
     asked = asked ∙ ap (λ (x : Tables). x.asked) rest;
     tidy = tidy;
@@ -214,6 +215,7 @@ module _ (r : Rules) (t m : Tables) (id : Id) (log : ℕ) (rec : Record) (some :
     messages = tidy.messages;
     fit = tidy.fit;
     moves = tidy.moves;
+    targets = tidy.targets;
     ways = tidy.ways;
     drawn = tidy.drawn;
     unborn = none_unborn t.births id rec t.records m.records there others tidy.unborn;
@@ -234,7 +236,7 @@ module _ (r : Rules) (t m : Tables) (id : Id) (log : ℕ) (rec : Record) (some :
 
   -- and there is more out
   pub returned_alive : (rec.count == credit id) ≡ false → IsTidy t [] → Handles r (Return id) t m (returned t id id.log)
-  returned_alive more tidy = handles_at m refl refl refl refl refl refl refl refl refl
+  returned_alive more tidy = handles_at m refl refl refl refl refl refl refl refl refl refl
       (rest ∙ ap (λ b. record (cond b (with_mail (place_or_0 t id) (Free (bare id)) t) t) { records = m.records; spare = m.spare })
       (sym (ap (λ n. n == credit id) was ∙ more))) (still_tidy tidy)
       (subst (PaysFor r (Return id) t m) (sym events)
@@ -250,7 +252,7 @@ module _ (r : Rules) (t m : Tables) (id : Id) (log : ℕ) (rec : Record) (some :
       let zero : count ≡ 0 = let e = eqb-true rec.count (credit id) all in omega (arith, was, worth, e) in
       let on = mails.rest in
       handles_at t' (ap (λ (x : Tables). x.here) on) (ap (λ (x : Tables). x.localities) on) (ap (λ (x : Tables). x.profile) on)
-      (ap (λ (x : Tables). x.serial) on) (ap (λ (x : Tables). x.births) on) (ap (λ (x : Tables). x.sent) on) (ap (λ (x : Tables). x.taken) on) (ap (λ (x : Tables). x.running) on)
+      (ap (λ (x : Tables). x.serial) on) (ap (λ (x : Tables). x.births) on) (ap (λ (x : Tables). x.sent) on) (ap (λ (x : Tables). x.taken) on) (ap (λ (x : Tables). x.answered) on) (ap (λ (x : Tables). x.running) on)
       (ap (λ (x : Tables). x.asked) on)
       (mail_records rec.place (Free (bare id)) t m t' rest goes
       ∙ (ap (λ n. record (with_mail n (Free (bare id)) t) { records = t'.records; spare = t'.spare }) (sym place_is)

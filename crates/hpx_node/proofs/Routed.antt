@@ -73,6 +73,10 @@ stay_moves t act h =
     subst (λ (to : Option ℕ). IfSome to (λ x. x ≡ t.here)) (sym (move_to-bare act))
     (here_only t.here (move_to act) (not_false (moves_on t.here (move_to act)) parts.0))
 
+-- and its object stands here
+pub stay_stands : (t : Tables) (act : Act) → may_stay t act ≡ true → stands_here t (target_of act) ≡ true
+stay_stands t act h = (and_true (not (moves_on t.here (move_to act))) (stands_here t (target_of act)) h).1
+
 pub accepted_waits : (act : Act) (t : Tables) (spare : ℕ) → may_stay t act ≡ true
     → record t { accepted = t.accepted ++ act ∷ []; spare = spare } ≡ record (with_act act t) { spare = spare }
 accepted_waits act t spare stay = ap (λ b. record (cond b (with_accepted act t) (with_mail (target_of act).home (parcel_for act) t)) { spare = spare }) (sym stay)

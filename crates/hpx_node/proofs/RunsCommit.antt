@@ -1,5 +1,5 @@
 -- A prepared commit of an action that runs, as the call writes it.
-use Rattle.std.proofs.Common.{ℕ, false, Some, List, [], ◌∷◌, ◌++◌, ◌≡◌, ◌≤◌, set, sym, ap, ◌∙◌, subst}
+use Rattle.std.proofs.Common.{ℕ, false, Some, List, [], ◌∷◌, ◌++◌, ◌≡◌, ◌+◌, ◌≤◌, set, sym, ap, ◌∙◌, subst}
 use Rattle.std.specs.List.{slice_get, remove}
 use Rattle.hpx_value.specs.Hands.{hand_ids}
 use Rattle.hpx_value.specs.Laws.{KeepsLaws}
@@ -11,6 +11,7 @@ use Rattle.hpx_part.specs.Data.{Entry, Done, Standing}
 use Rattle.hpx_part.specs.Parts.{at_all}
 use Rattle.hpx_commit.specs.Stocks.{Stock}
 use Rattle.hpx_node.specs.declared.node.finish.Prepared.{Prepared}
+use Rattle.hpx_node.specs.Awaited.{answered_by}
 use Rattle.hpx_node.specs.Births.{Makes, births_of, objects_of, ids_of}
 use Rattle.hpx_node.specs.Changes.{AreAlike}
 use Rattle.hpx_node.specs.Commits.{splits_from, written, ups, committed, committed_from, own_stock, committed_to, IsPrepared, Commits}
@@ -32,7 +33,7 @@ module _ (act_of : ℕ → ℕ → ℕ → State → Act → Outcome)
     (p : Prepared) (is : IsPrepared t job out p) (own : p.stock ≡ own_stock t job out) (i j : ℕ) (at : IsAt t i j job)
     (t1 t2 : Tables) (made : Makes p.births.items [] t t1) (running : t2.running ≡ remove t1.running i)
     (objects : (x : Standing) → slice_get t1.objects j ≡ Some x → t2.objects ≡ set t1.objects j (record { object = x.object; state = p.plan.state }))
-    (rest : t2 ≡ record t1 { running = t2.running; objects = t2.objects; spare = t2.spare })
+    (rest : t2 ≡ record t1 { running = t2.running; objects = t2.objects; answered = t1.answered + answered_by (slice_get t1.running i); spare = t2.spare })
     (e0 e1 e2 : List Entry)
     (first : e1 ≡ e0 ++ at_all t.here (births_of t.here t.births p.births.items ++ splits_from 0 p.stock.hand p.stock.places))
     (done : (act : Act) → slice_get t1.running i ≡ Some act → e2 ≡ e1 ++ at_all t1.here (Done (name_of act) false ∷ [])) where
@@ -44,14 +45,18 @@ module _ (act_of : ℕ → ℕ → ℕ → State → Act → Outcome)
   ends : IsEnding t j job (ids_of t.here t.births t.profile.credit_log p.births.items) p.stock.hand (remove t.running i) t.pending
   ends = runs_ending t i j job at (ids_of t.here t.births t.profile.credit_log p.births.items) p.stock.hand hand_is
 
-  rest_is : t2 ≡ record t1 { running = remove t.running i; pending = t.pending; objects = t2.objects; spare = t2.spare }
+  still_runs : slice_get t1.running i ≡ Some job.action
+  still_runs = ap (λ (x : Tables). slice_get x.running i) made.rest ∙ at.runs
+
+  rest_is : t2 ≡ record t1 { running = remove t.running i; pending = t.pending; objects = t2.objects; answered = t1.answered + answered_by (Some job.action); spare = t2.spare }
   rest_is =
       rest
-      ∙ (ap (λ rs. record t1 { running = rs; objects = t2.objects; spare = t2.spare }) (running ∙ ap (λ (x : Tables). remove x.running i) made.rest)
-      ∙ ap (λ ws. record t1 { running = remove t.running i; pending = ws; objects = t2.objects; spare = t2.spare }) (ap (λ (x : Tables). x.pending) made.rest))
+      ∙ (ap (λ o. record t1 { running = t2.running; objects = t2.objects; answered = t1.answered + answered_by o; spare = t2.spare }) still_runs
+      ∙ (ap (λ rs. record t1 { running = rs; objects = t2.objects; answered = t1.answered + answered_by (Some job.action); spare = t2.spare }) (running ∙ ap (λ (x : Tables). remove x.running i) made.rest)
+      ∙ ap (λ ws. record t1 { running = remove t.running i; pending = ws; objects = t2.objects; answered = t1.answered + answered_by (Some job.action); spare = t2.spare }) (ap (λ (x : Tables). x.pending) made.rest)))
 
   done_is : e2 ≡ e1 ++ at_all t1.here (Done (name_of job.action) false ∷ [])
-  done_is = done job.action (ap (λ (x : Tables). slice_get x.running i) made.rest ∙ at.runs)
+  done_is = done job.action still_runs
 
   beside : IsTidy t [] → ArePaused t.here t.localities t.profile.credit_log
       (set (t.objects ++ objects_of t.here t.births p.births.items) j (record { object = ends.standing.object; state = p.plan.state })) (remove t.running i) t.pending

@@ -19,6 +19,7 @@ tidy_spare t due spare h = record {
   messages = h.messages;
   fit = h.fit;
   moves = h.moves;
+  targets = h.targets;
   drawn = h.drawn;
   unborn = h.unborn;
   places = h.places;
@@ -35,7 +36,9 @@ stands_spare r t due loose es spare h = record {
   asked = h.asked;
   sent = h.sent;
   taken = h.taken;
-  paid = record { rows = h.paid.rows; once = h.paid.once };
+  paid = record { rows = h.paid.rows; once = h.paid.once; frees = h.paid.frees };
+  few_answers = h.few_answers;
+  answered = h.answered;
 }
 
 pub stands_same : (act_of : ℕ → ℕ → ℕ → State → Act → Outcome) (t t' : Tables) (es es' : List Entry) → Stands act_of t es

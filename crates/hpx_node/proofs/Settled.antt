@@ -30,12 +30,14 @@ use Rattle.hpx_node.specs.Pending.{Waits, fired_of, asking_of, refusals_of}
 use Rattle.hpx_node.specs.Tables.{Tables}
 use Rattle.hpx_node.specs.Seen.{bare_standing, bare_due, counted, view}
 use Rattle.hpx_node.specs.Stands.{IsTidy, StandsWith}
+use Rattle.hpx_node.specs.Awaited.{answered_by}
 use Rattle.hpx_node.specs.Commits.{splits_from}
 use Rattle.hpx_node.specs.Births.{IsBirth, birth_of, births_of, objects_of, records_of, ids_of}
 use Rattle.hpx_node.proofs.Bare.{target-bare, found-bare}
 use Rattle.hpx_node.proofs.Bearing.{Bears, Unborn, bears}
 use Rattle.hpx_node.proofs.Cover.{tidy_covers}
 use Rattle.hpx_node.proofs.MadeLists.{object_of, fresh_ids, bare_made, find_front, are_made, set_front}
+use Rattle.hpx_node.proofs.Ended.{LeavesActs, births_leave, splits_leave, Answers, answers_done}
 use Rattle.hpx_node.proofs.Splits.{Has, Halves, splits_lead}
 use Rattle.hpx_node.proofs.Alls.{all_append}
 use Rattle.hpx_node.proofs.Stays.{Stays, births_stay, births_long, splits_stay, stays_out, stays_in}
@@ -98,6 +100,7 @@ module _ (r : Rules) (t : Tables) (entries : List Entry) (j : ℕ) (job : Job) (
     objects = set (t.objects ++ objects_of t.here t.births xs) j (record { object = at.standing.object; state = state });
     running = running;
     pending = pending;
+    answered = t.answered + answered_by (Some job.action);
     spare = spare;
   }
 
@@ -302,5 +305,9 @@ module _ (r : Rules) (t : Tables) (entries : List Entry) (j : ℕ) (job : Job) (
           sent = omega (arith, stays_out t.here (births_of t.here t.births xs ++ (splits_from 0 hand places ++ Done (name_of job.action) false ∷ [])) stay);
           pays = pays_idle r t settled (births_of t.here t.births xs ++ (splits_from 0 hand places ++ Done (name_of job.action) false ∷ [])) idle (λ row. refl) refl;
           taken = omega (arith, stays_in t.here (births_of t.here t.births xs ++ (splits_from 0 hand places ++ Done (name_of job.action) false ∷ [])) stay);
+          answers = subst (Answers r t settled) (append_assoc (births_of t.here t.births xs) (splits_from 0 hand places) (Done (name_of job.action) false ∷ []))
+              (answers_done r t settled (births_of t.here t.births xs ++ splits_from 0 hand places) at.front at.back job.action false
+              (all_append LeavesActs (births_of t.here t.births xs) (splits_from 0 hand places) (births_leave t.here t.births xs) (splits_leave 0 hand places))
+              at.fires refl);
         })
         leads

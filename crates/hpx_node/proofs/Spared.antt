@@ -1,5 +1,7 @@
 -- Memory is made, and nothing else changes.
 use Rattle.std.proofs.Common.{ℕ, true, false, get_or, List, [], ◌∷◌, ◌++◌, ◌≡◌, ◌+◌, ◌<◌, ◌^◌, Option, Some, None, refl, sym, ap, ◌∙◌, arith, subst, inl, inr}
+use Rattle.std.specs.Prelude.{◌≤◌, ◌-◌, min, OnOk, Result, Ok, Err}
+use Rattle.std.specs.Result.{is_err}
 use Rattle.std.proofs.lemmas.Bool.{cases_Bool}
 use Rattle.hpx_journal.specs.Data.{State, Act, Outcome, Parcel, Apply, Return, Ask, Give, Cached, Move, Go, Shipped, Arrived, Free}
 use Rattle.hpx_journal.specs.Weights.{Book}
@@ -36,6 +38,7 @@ spare_stands act_of t t' b b' same h =
         messages = h.tidy.messages;
         fit = h.tidy.fit;
         moves = h.tidy.moves;
+        targets = h.tidy.targets;
         ways = h.tidy.ways;
         drawn = h.tidy.drawn;
         unborn = h.tidy.unborn;
@@ -46,8 +49,20 @@ spare_stands act_of t t' b b' same h =
       born = h.born;
       sent = h.sent;
       taken = h.taken;
-      paid = record { rows = h.paid.rows; once = h.paid.once };
+      paid = record { rows = h.paid.rows; once = h.paid.once; frees = h.paid.frees };
+      few_answers = h.few_answers;
+      answered = h.answered;
     }))
+
+-- what is said of an answer that is no error
+pub when_ok : {X E : Type 0} (answer : Result X E) (P : Type 0) → is_err answer ≡ false → OnOk answer P → P
+when_ok (Ok x) P fine h = h
+when_ok (Err e) P fine h = absurd (cc)
+
+-- a message less on the desk leaves no less memory
+pub spare_popped : (n accepted capacity long capacity' long' rest : ℕ) → n ≤ min (min accepted (capacity - long)) rest → capacity' ≡ capacity → long' ≤ long
+    → n ≤ min (min accepted (capacity' - long')) rest
+spare_popped n accepted capacity long capacity' long' rest h same fewer = omega (arith, h, same, fewer)
 
 pub spare_few : (act_of : ℕ → ℕ → ℕ → State → Act → Outcome) (t t' : Tables) (b b' : Book) → OnlySpare t t' b b' → HasRoom b.entries
     → StandsWith (rules_of act_of t.localities t.profile) t [] [] b.entries → t'.taken + 1 < 2 ^ 64
@@ -135,6 +150,7 @@ first_stands act_of t p rest s entries first h =
         messages = h.tidy.messages;
         fit = h.tidy.fit;
         moves = h.tidy.moves;
+        targets = h.tidy.targets;
         ways = h.tidy.ways;
         drawn = h.tidy.drawn;
         unborn = h.tidy.unborn;
@@ -145,7 +161,9 @@ first_stands act_of t p rest s entries first h =
       born = h.born;
       sent = h.sent;
       taken = h.taken;
-      paid = record { rows = h.paid.rows; once = h.paid.once };
+      paid = record { rows = h.paid.rows; once = h.paid.once; frees = h.paid.frees };
+      few_answers = h.few_answers;
+      answered = h.answered;
     })
 
 pub cleared : (t m t' : Tables) (b n : Book) (p q : Parcel) (rest : List Parcel) (s : ℕ) (x : Option Broken) (entries : List Entry) → OnlySpare t m b n

@@ -6,7 +6,7 @@ use Rattle.hpx_value.specs.declared.profile.Profile.{Profile}
 use Rattle.hpx_journal.specs.Data.{Id, Due, State, Act, Outcome}
 use Rattle.hpx_journal.specs.Entries.{Rules}
 use Rattle.hpx_journal.specs.Local.{is_recorded, count_in}
-use Rattle.hpx_journal.specs.Whole.{part}
+use Rattle.hpx_journal.specs.Whole.{part, run_local, IsClean}
 use Rattle.hpx_journal.specs.Laws.{outs, ins, outs_by, AreAt}
 use Rattle.hpx_journal.specs.Whole.{arrives}
 use Rattle.hpx_journal.specs.Names.{due_ids}
@@ -16,12 +16,14 @@ use Rattle.hpx_journal.proofs.Grow.{part_append, part_at}
 use Rattle.hpx_part.specs.Data.{Event, Entry, Refusal, Standing}
 use Rattle.hpx_part.specs.View.{View, IsCovered, names_in_view}
 use Rattle.hpx_part.specs.Shows.{SameTokens, Leads, same_refusal}
-use Rattle.hpx_part.specs.Parts.{at_all}
+use Rattle.hpx_part.specs.Parts.{at_boot, at_all}
 use Rattle.hpx_part.proofs.Grown.{grow}
 use Rattle.hpx_part.proofs.Weaken.{weaker_leads}
 use Rattle.hpx_node.specs.Tables.{Tables}
 use Rattle.hpx_node.specs.Seen.{view}
+use Rattle.hpx_node.specs.Awaited.{is_answer}
 use Rattle.hpx_node.specs.Idle.{Pays, IsPaid}
+use Rattle.hpx_node.proofs.Ended.{Answers, answered_then}
 use Rattle.hpx_node.proofs.IdleSteps.{paid_more}
 use Rattle.hpx_node.specs.Stands.{IsTidy, StandsWith, rules_of}
 
@@ -123,6 +125,7 @@ pub record Counts (r : Rules) (t t' : Tables) (events : List Event) : Type 0 whe
   pub sent : t'.sent ≡ t.sent + length (outs (at_all t.here events))
   pub taken : t'.taken ≡ t.taken + length (ins (at_all t.here events))
   pub pays : Pays r t t' events
+  pub answers : Answers r t t' events
 
 pub stands_then : (r : Rules) (t t' : Tables) (due due' : List Due) (loose loose' : List Id) (entries : List Entry) (events : List Event)
     → StandsWith r t due loose entries → IsTidy t' due' → Counts r t t' events → Leads r (view t due loose) events (view t' due' loose')
@@ -141,6 +144,11 @@ stands_then r t t' due due' loose loose' entries events h tidy counts leads =
       sent = omega (arith, counts.sent, h.sent, ap (λ zs. length (outs zs)) there, outs_append (part t.here entries) (at_all t.here events));
       taken = omega (arith, counts.taken, h.taken, ap (λ zs. length (ins zs)) there, ins_append (part t.here entries) (at_all t.here events));
       paid = subst (IsPaid r t') (sym there) (paid_more r t t' t.here (part t.here entries) events h.paid counts.pays);
+      few_answers = omega (arith, h.few_answers, counts.answers.few, length-append entries (at_all t.here events), at_all_length t.here events);
+      answered = subst (λ k. IsClean r (at_boot r k) (part k (entries ++ at_all t.here events))
+          → t'.answered ≡ count_by is_answer (run_local r (at_boot r k) (part k (entries ++ at_all t.here events))).done) (sym counts.here)
+          (subst (λ zs. IsClean r (at_boot r t.here) zs → t'.answered ≡ count_by is_answer (run_local r (at_boot r t.here) zs).done) (sym grown)
+          (answered_then r t t' (part t.here entries) events counts.answers h.answered (λ clean. (h.keeps.shows clean).acts.fired)));
     }
 
 -- rules that are the same

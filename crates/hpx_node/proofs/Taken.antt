@@ -1,7 +1,7 @@
 -- A message is taken up: from a frame, or from the desk.
 use Rattle.std.proofs.Common.{ℕ, Bool, true, false, List, [], ◌∷◌, ◌++◌, ◌≡◌, ◌+◌, ◌≤◌, Option, Some, None, map, length, length-append, append_assoc, refl, sym, ap, ◌∙◌, arith, inl, inr, subst}
 use Rattle.std.specs.Prelude.{flat_map, ◌==◌, nat_lt, if◌then◌else◌}
-use Rattle.std.specs.List.{find, sum_by}
+use Rattle.std.specs.List.{find, sum_by, AllByRecursion}
 use Rattle.std.proofs.lemmas.Bool.{cases_Bool, eqb-true}
 use Rattle.std.proofs.lemmas.List.Sums.{sum_by-append}
 use Rattle.hpx_value.specs.Ids.{bare, same_object}
@@ -35,42 +35,45 @@ use Rattle.hpx_node.proofs.Returned.{any_behind}
 use Rattle.hpx_node.specs.Idle.{hops}
 use Rattle.hpx_node.specs.Routes.{Accepts}
 use Rattle.hpx_node.proofs.Routed.{accepts_kept}
+use Rattle.hpx_node.proofs.Ended.{LeavesActs, answers_none}
 use Rattle.hpx_node.proofs.IdleSteps.{pays_in, pays_mail}
 use Rattle.hpx_node.proofs.IdleEffects.{effects_hops}
 
 -- ---- what is written behind the first entry is no frame
 
--- no frame goes out, and none comes in
+-- no frame goes out, none comes in, and no action is fired or done
 pub record NoFrame (k : ℕ) (events : List Event) : Type 0 where
   pub out : outs (at_all k events) ≡ []
   pub come : ins (at_all k events) ≡ []
+  pub acts : AllByRecursion LeavesActs events
 
 up_quiet : (k : ℕ) (id : Id) (log : Option ℕ) (rest : List Event) → NoFrame k rest → NoFrame k (up_of id log ++ rest)
 up_quiet k id None rest h = h
-up_quiet k id (Some log) rest h = record { out = h.out; come = h.come }
+up_quiet k id (Some log) rest h = record { out = h.out; come = h.come; acts = ((λ s. (refl, refl)), h.acts) }
 
 ups_quiet : (k : ℕ) (ids : List Id) → NoFrame k (ups ids)
-ups_quiet k [] = record { out = refl; come = refl }
+ups_quiet k [] = record { out = refl; come = refl; acts = tt }
 ups_quiet k (id ∷ ids) = up_quiet k id id.log (ups ids) (ups_quiet k ids)
 
 returned_quiet : (k : ℕ) (t : Tables) (id : Id) (log : Option ℕ) → NoFrame k (returned t id log)
-returned_quiet k t id None = record { out = refl; come = refl }
-returned_quiet k t id (Some log) = record { out = refl; come = refl }
+returned_quiet k t id None = record { out = refl; come = refl; acts = tt }
+returned_quiet k t id (Some log) = record { out = refl; come = refl; acts = ((λ s. (refl, refl)), tt) }
 
 answered_quiet : (k : ℕ) (t : Tables) (id : Id) (b : Bool)
     → NoFrame k ((if b then Count (bare id) (count_here t id) Refused else Count (bare id) (more_here t id) Granted) ∷ [])
-answered_quiet k t id true = record { out = refl; come = refl }
-answered_quiet k t id false = record { out = refl; come = refl }
+answered_quiet k t id true = record { out = refl; come = refl; acts = ((λ s. (refl, refl)), tt) }
+answered_quiet k t id false = record { out = refl; come = refl; acts = ((λ s. (refl, refl)), tt) }
 
 freed_quiet : (k : ℕ) (o : Id) (x : Option Standing) → NoFrame k (freed o x)
-freed_quiet k o None = record { out = refl; come = refl }
-freed_quiet k o (Some x) = let h = ups_quiet k x.state.ids in record { out = h.out; come = h.come }
+freed_quiet k o None = record { out = refl; come = refl; acts = tt }
+freed_quiet k o (Some x) = let h = ups_quiet k x.state.ids in record { out = h.out; come = h.come; acts = ((λ s. (refl, refl)), h.acts) }
 
 pub effects_quiet : (k : ℕ) (t : Tables) (p : Parcel) → NoFrame k (effects t p)
 effects_quiet k t (Return id) = returned_quiet k t id id.log
 effects_quiet k t (Ask id asker entry) = answered_quiet k t id (nat_lt t.profile.credit_limit (more_here t id))
 effects_quiet k t (Free o) = freed_quiet k o (find (is_standing o) t.objects)
-effects_quiet k t _ = record { out = refl; come = refl }
+effects_quiet k t (Give id entry) = record { out = refl; come = refl; acts = ((λ s. (refl, refl)), tt) }
+effects_quiet k t _ = record { out = refl; come = refl; acts = tt }
 
 -- ---- frames
 
@@ -100,6 +103,7 @@ taken_stands r t t' p bytes entries events h fit spelled none quiet handles =
       sent = omega (arith, handles.sent, ap length quiet.out);
       taken = omega (arith, handles.taken, ap length quiet.come);
       pays = pays_in r t (record t { taken = t.taken + 1 }) t' p bytes events spelled (λ row. refl) refl handles.pays;
+      answers = answers_none r t t' (In bytes ∷ events) handles.answered ((λ s. (refl, refl)), quiet.acts);
     })
     leads
 
@@ -140,6 +144,7 @@ mailed_stands r t t' p entries events h own quiet none accepts handles =
       sent = omega (arith, handles.sent, ap length quiet.out);
       taken = omega (arith, handles.taken, ap length quiet.come);
       pays = pays_mail r t t' p events (accepts_kept p t t' accepts) none handles.pays;
+      answers = answers_none r (with_first p t) t' (Mail (kind_of p) ∷ events) handles.answered ((λ s. (refl, refl)), quiet.acts);
     })
     leads
 
@@ -179,6 +184,7 @@ taken_tidy t n tidy = record {
   messages = tidy.messages;
   fit = tidy.fit;
   moves = tidy.moves;
+  targets = tidy.targets;
   ways = tidy.ways;
   drawn = tidy.drawn;
   unborn = tidy.unborn;

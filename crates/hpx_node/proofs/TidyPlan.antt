@@ -12,6 +12,7 @@ use Rattle.hpx_journal.specs.Data.{Id, Act, State, Outcome}
 use Rattle.hpx_journal.proofs.Same.{same_object-true}
 use Rattle.hpx_part.specs.Data.{Standing}
 use Rattle.hpx_node.specs.declared.node.settle.Birth.{Birth}
+use Rattle.hpx_node.specs.Awaited.{answered_by}
 use Rattle.hpx_node.specs.Births.{IsBirth, birth_of, objects_of, records_of}
 use Rattle.hpx_node.specs.Fit.{IsFit, IsKept}
 use Rattle.hpx_node.specs.Commits.{IsStock}
@@ -21,7 +22,8 @@ use Rattle.hpx_node.specs.Pending.{Waits}
 use Rattle.hpx_node.specs.Stands.{IsTidy}
 use Rattle.hpx_node.specs.Tables.{Tables}
 use Rattle.hpx_node.proofs.Homes.{all_stay, records_stay}
-use Rattle.hpx_node.proofs.Alls.{all_append, all_at, all_set}
+use Rattle.hpx_node.proofs.Alls.{all_append, all_at, all_set, get_before}
+use Rattle.hpx_node.proofs.Targets.{targets_set, targets_more}
 use Rattle.hpx_node.proofs.MadeLists.{bare_alone}
 use Rattle.hpx_node.proofs.Single.{single_made}
 use Rattle.hpx_node.proofs.Plain.{no_ids, plain_values, plain_conts, plain_same}
@@ -125,6 +127,7 @@ module _ (t : Tables) (j : ℕ) (job : Job) (out : Outcome) (standing : Standing
       objects = set (t.objects ++ objects_of t.here t.births xs) j new;
       running = running;
       pending = pending;
+      answered = t.answered + answered_by (Some job.action);
       spare = spare;
     }
 
@@ -142,6 +145,8 @@ module _ (t : Tables) (j : ℕ) (job : Job) (out : Outcome) (standing : Standing
       messages = tidy.messages;
       fit = due_may t job out fit few laws s is;
       moves = tidy.moves;
+      targets = targets_set (t.objects ++ objects_of t.here t.births xs) j standing new t.accepted
+          (get_before t.objects (objects_of t.here t.births xs) j standing stands) refl (targets_more t.objects (objects_of t.here t.births xs) t.accepted tidy.targets);
       drawn = all_set (Drawn t.here (t.births + length xs)) (t.objects ++ objects_of t.here t.births xs) j new drawn_all
           (λ managed home. let low = all_at (Drawn t.here t.births) t.objects j standing tidy.drawn stands managed home in omega (arith, low));
       unborn = λ o late. find_none (λ (x : Record). same_object o x.gid) t.records (records_of t.here t.births t.profile.credit_log xs)

@@ -1,6 +1,6 @@
 -- A prepared commit that waited, as the call writes it.
 use Rattle.std.proofs.Common.{ℕ, Bool, true, false, Some, None, List, [], ◌∷◌, ◌++◌, ◌≡◌, ◌≤◌, ◌<◌, ◌+◌, ◌==◌, cond, not, set, length, length-append, refl, sym, ap, ◌∙◌, arith, subst}
-use Rattle.std.specs.Prelude.{is_some, Option}
+use Rattle.std.specs.Prelude.{is_some, option_map, Option}
 use Rattle.std.specs.List.{count_by, filter, slice_get, remove, AllByRecursion}
 use Rattle.std.proofs.lemmas.Bool.{eqb-true}
 use Rattle.hpx_value.specs.Hands.{id_at}
@@ -17,11 +17,12 @@ use Rattle.hpx_part.specs.Parts.{at_all}
 use Rattle.hpx_commit.specs.Stocks.{Stock}
 use Rattle.hpx_node.specs.declared.node.finish.Prepared.{Prepared}
 use Rattle.hpx_node.specs.Fit.{IsKept, IsFitDue}
+use Rattle.hpx_node.specs.Awaited.{answered_by}
 use Rattle.hpx_node.specs.Births.{IsBirth, Makes, births_of, objects_of, ids_of}
 use Rattle.hpx_node.specs.Changes.{AreAlike}
 use Rattle.hpx_node.specs.Commits.{splits_from, written, ups, committed_from, committed_to, IsPrepared, Commits}
 use Rattle.hpx_node.specs.Paused.{IsPaused, ArePaused}
-use Rattle.hpx_node.specs.Pending.{Waits, ids_named, own_ids, is_asked, Asked}
+use Rattle.hpx_node.specs.Pending.{Waits, action_of, ids_named, own_ids, is_asked, Asked}
 use Rattle.hpx_node.specs.Resumes.{full_stock, MayResume}
 use Rattle.hpx_node.specs.Routes.{with_left}
 use Rattle.hpx_node.specs.Stands.{IsTidy, StandsWith, rules_of}
@@ -172,18 +173,22 @@ module _ (act_of : ℕ → ℕ → ℕ → State → Act → Outcome)
 
   module _ (t1 t2 : Tables) (made : Makes p.births.items [] t t1) (pending : t2.pending ≡ remove t1.pending i)
       (objects : (x : Standing) → slice_get t1.objects j ≡ Some x → t2.objects ≡ set t1.objects j (record { object = x.object; state = p.plan.state }))
-      (rest : t2 ≡ record t1 { pending = t2.pending; objects = t2.objects; spare = t2.spare })
+      (rest : t2 ≡ record t1 { pending = t2.pending; objects = t2.objects; answered = t1.answered + answered_by (option_map action_of (slice_get t1.pending i)); spare = t2.spare })
       (e0 e1 e2 : List Entry)
       (first : e1 ≡ e0 ++ at_all t.here (births_of t.here t.births p.births.items ++ splits_from 0 p.stock.hand p.stock.places))
       (done : (v : Waits) → slice_get t1.pending i ≡ Some v → e2 ≡ e1 ++ at_all t1.here (Done (name_of v.job.action) false ∷ [])) where
-    rest_is : t2 ≡ record t1 { running = t.running; pending = remove t.pending i; objects = t2.objects; spare = t2.spare }
+    still_waits : slice_get t1.pending i ≡ Some w
+    still_waits = ap (λ (x : Tables). slice_get x.pending i) made.rest ∙ k.there
+
+    rest_is : t2 ≡ record t1 { running = t.running; pending = remove t.pending i; objects = t2.objects; answered = t1.answered + answered_by (Some w.job.action); spare = t2.spare }
     rest_is =
         rest
-        ∙ (ap (λ ws. record t1 { pending = ws; objects = t2.objects; spare = t2.spare }) (pending ∙ ap (λ (x : Tables). remove x.pending i) made.rest)
-        ∙ ap (λ rs. record t1 { running = rs; pending = remove t.pending i; objects = t2.objects; spare = t2.spare }) (ap (λ (x : Tables). x.running) made.rest))
+        ∙ (ap (λ o. record t1 { pending = t2.pending; objects = t2.objects; answered = t1.answered + answered_by (option_map action_of o); spare = t2.spare }) still_waits
+        ∙ (ap (λ ws. record t1 { pending = ws; objects = t2.objects; answered = t1.answered + answered_by (Some w.job.action); spare = t2.spare }) (pending ∙ ap (λ (x : Tables). remove x.pending i) made.rest)
+        ∙ ap (λ rs. record t1 { running = rs; pending = remove t.pending i; objects = t2.objects; answered = t1.answered + answered_by (Some w.job.action); spare = t2.spare }) (ap (λ (x : Tables). x.running) made.rest)))
 
     done_is : e2 ≡ e1 ++ at_all t1.here (Done (name_of w.job.action) false ∷ [])
-    done_is = done w (ap (λ (x : Tables). slice_get x.pending i) made.rest ∙ k.there)
+    done_is = done w still_waits
 
     pub waits_stands : StandsWith (rules_of act_of t.localities t.profile) t [] [] e0
         → StandsWith (rules_of act_of t2.localities t2.profile) t2 p.plan.due.items p.plan.ups.items e2

@@ -9,6 +9,7 @@ use Rattle.hpx_journal.specs.Data.{Id, State, Outcome, Due, MessageDue, PrintDue
 use Rattle.hpx_journal.specs.Entries.{name_of, target_of}
 use Rattle.hpx_journal.specs.Local.{is_standing}
 use Rattle.hpx_part.specs.Data.{Event, Split, Done, Sent, Print, Up, Standing}
+use Rattle.hpx_node.specs.Awaited.{answered_by}
 use Rattle.hpx_node.specs.Births.{birth_of, births_of, objects_of, records_of, ids_of}
 use Rattle.hpx_commit.specs.Deals.{half, log_of, named, places_named, dealt, AllLast, unnamed, filled, unused, filled_due}
 use Rattle.hpx_commit.specs.Stocks.{Stock, SameNames}
@@ -99,12 +100,13 @@ pub record IsPrepared (t : Tables) (job : Job) (out : Outcome) (p : Prepared) : 
 
 -- ---- where a commit leads
 
--- what it makes stands here and lives, and its object, x at j, has the new state
+-- what it makes stands here and lives, its object, x at j, has the new state, and an answer of the session counts as had
 abbrev pub with_settled : Job → Outcome → Stock → ℕ → Standing → Tables → Tables
 with_settled job out s j x t = record t {
   births = t.births + length out.makes;
   records = t.records ++ records_of t.here t.births t.profile.credit_log (map birth_of out.makes);
   objects = set (t.objects ++ objects_of t.here t.births (map birth_of out.makes)) j (record { object = x.object; state = state_dealt t job out s });
+  answered = t.answered + answered_by (Some job.action);
 }
 
 -- and what is due is on its way; then what nobody names is given up

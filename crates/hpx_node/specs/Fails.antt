@@ -1,5 +1,5 @@
 -- An action that could get no credit: what it leaves, and what is written.
-use Rattle.std.specs.Prelude.{ℕ, Bool, true, false, List, [], ◌∷◌, ◌++◌, ◌≡◌, ◌≤◌, ◌==◌, ◌&&◌, ◌||◌, is_some, Option, Some, None, set, take, length}
+use Rattle.std.specs.Prelude.{ℕ, Bool, true, false, List, [], ◌∷◌, ◌++◌, ◌≡◌, ◌≤◌, ◌+◌, ◌==◌, ◌&&◌, ◌||◌, is_some, Option, Some, None, set, take, length}
 use Rattle.std.specs.List.{find, slice_get, remove}
 use Rattle.hpx_journal.specs.Data.{Id, State, Due, Parcel, Give}
 use Rattle.hpx_journal.specs.Entries.{name_of, target_of}
@@ -9,6 +9,7 @@ use Rattle.hpx_commit.specs.Failures.{action_ids, state_failed, due_failed, ups_
 use Rattle.hpx_commit.specs.Deals.{log_of}
 use Rattle.hpx_commit.specs.declared.plan.Plan.{Plan}
 use Rattle.hpx_node.specs.declared.node.fail.Failing.{Failing}
+use Rattle.hpx_node.specs.Awaited.{answered_by}
 use Rattle.hpx_node.specs.Commits.{written, ups}
 use Rattle.hpx_node.specs.Pending.{Waits, awaits, hand_with}
 use Rattle.hpx_node.specs.Routes.{Gives, with_left}
@@ -47,8 +48,8 @@ pub record IsFailure (w : Waits) (p : Plan) : Type 0 where
   pub due : p.due.items ≡ due_left w
   pub ups : p.ups.items ≡ ups_left w
 
--- the commit at i fails: it waits no more, and its object, at j, has its credits again; what is due is on its way, and then the
--- rest is given up
+-- the commit at i fails: it waits no more, and its object, at j, has its credits again; an answer of the session counts as had;
+-- what is due is on its way, and then the rest is given up
 pub record Fails (i j : ℕ) (t t' : Tables) : Type 0 where
   pub commit : Waits
   pub there : slice_get t.pending i ≡ Some commit
@@ -58,6 +59,7 @@ pub record Fails (i j : ℕ) (t t' : Tables) : Type 0 where
   pub rest : t' ≡ record (with_left (due_left commit) (ups_left commit) (record t {
     pending = remove t.pending i;
     objects = set t.objects j (record { object = standing.object; state = state_left commit });
+    answered = t.answered + answered_by (Some commit.job.action);
   })) { spare = t'.spare }
 
 -- ---- a message that brings the last answer

@@ -97,6 +97,7 @@ pub record Handles (r : Rules) (p : Parcel) (t t' : Tables) (events : List Event
   pub births : t'.births ≡ t.births
   pub sent : t'.sent ≡ t.sent
   pub taken : t'.taken ≡ t.taken
+  pub answered : t'.answered ≡ t.answered
   pub running : t'.running ≡ t.running
   pub asked : t'.asked ≡ t.asked
   pub tidy : IsTidy t' []

@@ -1,12 +1,14 @@
 -- Nothing idle: each message has its cause, and what was caused and has not gone yet is still here.
-use Rattle.std.specs.Prelude.{ℕ, Bool, true, false, cond, List, ◌≡◌, ◌≤◌, ◌+◌, ◌==◌, ◌||◌, length, Option, Some, None}
-use Rattle.std.specs.List.{sum_by}
-use Rattle.hpx_journal.specs.Data.{Act, Parcel, Apply, Return, Ask, Give, Cached, Move, Go, Shipped, Arrived, Free}
+use Rattle.std.specs.Prelude.{ℕ, Bool, true, false, cond, List, ◌≡◌, ◌≤◌, ◌+◌, ◌==◌, ◌&&◌, ◌||◌, length, Option, Some, None}
+use Rattle.std.specs.List.{sum_by, count_by}
+use Rattle.hpx_value.specs.Ids.{same_object}
+use Rattle.hpx_journal.specs.Data.{Id, Act, Parcel, Apply, Return, Ask, Give, Cached, Move, Go, Shipped, Arrived, Free}
 use Rattle.hpx_journal.specs.Entries.{Rules}
-use Rattle.hpx_part.specs.Data.{Entry, Event, Line, Fire, Sent, Up, Asked, Given, Count, Refused, Reason, Mail, Out, In}
+use Rattle.hpx_journal.specs.Laws.{takes_such, is_free_of, is_freed, count_events, freeds}
+use Rattle.hpx_part.specs.Data.{Entry, Event, Line, Fire, Sent, Up, Asked, Given, Count, Refused, Reason, Freed, Mail, Out, In}
 use Rattle.hpx_node.specs.Tables.{Tables, messages}
 
--- what is counted: messages of a kind, counts of objects, refusals of credit, and actions
+-- what is counted: messages of a kind, counts of objects, refusals of credit, actions, and what frees one object
 pub data Row : Type 0 where
   Returns : Row
   Asks : Row
@@ -15,6 +17,7 @@ pub data Row : Type 0 where
   Counts : Row
   Refusals : Row
   Actions : Row
+  FreesOf : Id → Row
 
 -- 1 where it is so
 abbrev pub one_if : Bool → ℕ
@@ -53,6 +56,10 @@ is_refusal _ = 0
 abbrev pub brings : Parcel → ℕ
 brings p = one_if ((kind_of p == 1) || (kind_of p == 6))
 
+-- it says that this object is to be freed
+abbrev pub frees_one : Id → Parcel → ℕ
+frees_one o p = one_if (is_free_of o (Some p))
+
 -- what a message counts that goes
 abbrev pub weight : Row → Parcel → ℕ
 weight Returns p = is_kind 2 p
@@ -62,14 +69,16 @@ weight Frees p = is_kind 10 p
 weight Counts p = 0
 weight Refusals p = is_refusal p
 weight Actions p = brings p
+weight (FreesOf o) p = frees_one o p
 
 -- what a message counts that comes, as a cause: an Ask is answered, a Return and an Ask change a count, a refusal is
--- handed on, and an action is run or goes on
+-- handed on, an action is run or goes on, and an object is freed
 abbrev pub owes : Row → Parcel → ℕ
 owes Gives p = is_kind 3 p
 owes Counts p = is_kind 2 p + is_kind 3 p
 owes Refusals p = is_refusal p
 owes Actions p = brings p
+owes (FreesOf o) p = frees_one o p
 owes _ p = 0
 
 -- so it is with the message that bytes spell
@@ -94,6 +103,7 @@ goes r Frees (Mail kind) = one_if (kind == 10)
 goes r Counts (Count o count why) = 1
 goes r Refusals (Given o log) = one_if (log == 0)
 goes r Actions (Fire action) = 1
+goes r (FreesOf o) (Freed x) = one_if (same_object o x)
 goes r _ _ = 0
 
 -- what causes it, entry by entry
@@ -107,6 +117,7 @@ causes r Counts (Mail kind) = one_if (kind == 2) + one_if (kind == 3)
 causes r Refusals (Count o count why) = one_if (is_refused why)
 causes r Actions (Line action bytes) = 1
 causes r Actions (Sent action) = 1
+causes r (FreesOf o) (Count x count why) = one_if ((count == 0) && same_object o x)
 causes r _ _ = 0
 
 -- how often an action goes through a message: out of here, or from the desk
@@ -131,21 +142,24 @@ queued _ acts = 0
 abbrev pub unpaid : Row → Tables → ℕ
 unpaid row t = sum_by (weight row) (messages t) + queued row t.accepted
 
--- a step: what goes with these entries, and what is unpaid then, is what was unpaid and what they cause; and an action
--- that was accepted is run, and goes into no message again, as one from the desk is accepted
+-- a step: what goes with these entries, and what is unpaid then, is what was unpaid and what they cause; an action that was
+-- accepted is run, and goes into no message again, as one from the desk is accepted; and what comes to be freed is freed
 pub record Pays (r : Rules) (t t' : Tables) (events : List Event) : Type 0 where
   pub rows : (row : Row) → sum_by (goes r row) events + unpaid row t' ≡ unpaid row t + sum_by (causes r row) events
   pub kept : sum_by (hops r) events + length t.accepted ≤ sum_by (goes r Actions) events + length t'.accepted
+  pub frees : (o : Id) → count_by (takes_such (is_free_of o) r) events ≤ count_by (is_freed o) events
 
 -- the same behind the entry that takes a message up: with what this message causes
 pub record PaysFor (r : Rules) (p : Parcel) (t t' : Tables) (events : List Event) : Type 0 where
   pub rows : (row : Row) → sum_by (goes r row) events + unpaid row t' ≡ unpaid row t + owes row p + sum_by (causes r row) events
   pub kept : sum_by (hops r) events + length t.accepted ≤ sum_by (goes r Actions) events + length t'.accepted
+  pub frees : (o : Id) → frees_one o p + count_by (takes_such (is_free_of o) r) events ≤ count_by (is_freed o) events
 
--- the entries of a part are paid for: in each row what has gone with them, and what is unpaid, is what they caused; and
--- each line, each action that is sent and each that comes goes through one message at most
+-- the entries of a part are paid for: in each row what has gone with them, and what is unpaid, is what they caused; each line,
+-- each action that is sent and each that comes goes through one message at most; and each Free that came has freed its object
 pub record IsPaid (r : Rules) (t : Tables) (entries : List Entry) : Type 0 where
   pub rows : (row : Row)
       → sum_by (λ (e : Entry). goes r row e.event) entries + unpaid row t ≡ sum_by (λ (e : Entry). causes r row e.event) entries
   pub once : sum_by (λ (e : Entry). hops r e.event) entries + sum_by (weight Actions) (messages t)
       ≤ sum_by (λ (e : Entry). causes r Actions e.event) entries
+  pub frees : (o : Id) → count_events (takes_such (is_free_of o) r) entries ≤ freeds o entries

@@ -16,6 +16,7 @@ pub mod Fails
 pub mod Next
 pub mod Resumes
 pub mod Kept
+pub mod Awaited
 pub mod Strange
 pub mod Handled
 pub mod Idle

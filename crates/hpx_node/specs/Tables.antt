@@ -23,6 +23,7 @@ pub record Tables : Type 0 where
   pub records : List Record  -- of the live objects of this home, by rising number
   pub sent : ℕ  -- frames gone
   pub taken : ℕ  -- frames accepted
+  pub answered : ℕ  -- answers that the session has had
   pub spare : ℕ
 
 -- the messages that are on their way, to here or to others

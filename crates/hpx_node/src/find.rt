@@ -5,13 +5,14 @@ ghost use Rattle.std.specs.VecDeque.{deque_len};
 ghost use Rattle.hpx_value.specs.Hands.{id_at};
 ghost use Rattle.hpx_journal.specs.Entries.{target_of};
 ghost use Rattle.hpx_journal.specs.Local.{is_standing, acts_on, is_busy};
+ghost use Rattle.hpx_node.specs.Awaited.{answered_by};
 ghost use Rattle.hpx_node.specs.Free.{NoneIsFree, IsFree};
 ghost use Rattle.hpx_node.specs.Pending.{fired_of, awaits};
 
 use crate::kept::{Fit, Kept};
 use crate::pending::Pending;
 use hpx_value::acts::Acts;
-use hpx_value::codes::{PLAIN, SESSION};
+use hpx_value::codes::{PLAIN, SESSION, SET};
 use hpx_value::exact::Exact;
 use hpx_value::gid::Gid;
 use hpx_value::value::Act;
@@ -24,6 +25,18 @@ pub fn target(act: &Act) -> Gid
     match act.ids.as_slice().first() {
         Some(id) => *id,
         None => Gid::new(0, SESSION, 1),
+    }
+}
+
+/// 1 for an action that answers the session, and 0 for any other.
+pub fn answered_by(act: &Act) -> u64
+    ensures { result ≡ answered_by (Some act.now) }
+{
+    let session = Gid::new(0, SESSION, 1);
+    if act.code == SET && session.names_same(target(act)) {
+        1
+    } else {
+        0
     }
 }
 

@@ -3,7 +3,7 @@ ghost use Rattle.std.specs.Prelude.{◌≡◌, ◌≤◌, ◌+◌, ◌++◌, [],
 ghost use Rattle.std.specs.List.{sum_by, count_by, find};
 ghost use Rattle.hpx_journal.specs.Data.{Id};
 ghost use Rattle.hpx_journal.specs.Entries.{Rules};
-ghost use Rattle.hpx_journal.specs.Laws.{outs, ins};
+ghost use Rattle.hpx_journal.specs.Laws.{outs, ins, RefusesForCause, FreesTheDead};
 ghost use Rattle.hpx_journal.specs.Local.{is_standing};
 ghost use Rattle.hpx_journal.specs.Names.{names};
 ghost use Rattle.hpx_journal.specs.Tokens.{is_held};
@@ -11,22 +11,29 @@ ghost use Rattle.hpx_journal.specs.Weights.{HasRoom};
 ghost use Rattle.hpx_journal.specs.Whole.{part, run_local, IsClean};
 ghost use Rattle.hpx_part.specs.Data.{Entry};
 ghost use Rattle.hpx_part.specs.Parts.{at_boot};
-ghost use Rattle.hpx_node.specs.Tables.{Tables, IsPassive};
+ghost use Rattle.hpx_node.specs.Awaited.{awaited_here, awaited_at};
+ghost use Rattle.hpx_node.specs.Tables.{Tables, IsPassive, fired_acts};
 ghost use Rattle.hpx_node.specs.Idle.{Row, Actions, goes, causes, hops, unpaid};
+ghost use Rattle.hpx_node.specs.Free.{NoneIsFree};
 ghost use Rattle.hpx_node.specs.Limits.{IsWithin, AddsATurn};
 ghost use Rattle.hpx_node.specs.Kept.{stands_here, held_here, owed_here, held_worth, owed_worth};
 ghost use Rattle.hpx_node.specs.Stands.{StandsWith};
 
-/// Between calls nothing of the part is fresh, and nothing is due, up to a foreign arrival.
+/// Between calls nothing of the part is fresh, and nothing is due, up to a foreign arrival. Nothing accepted is stuck: where nothing
+/// runs and no commit waits, some accepted action is free, if there is one.
 pub fn settled_law()
     ensures fresh { (r : Rules) (t : Tables) (entries : List Entry) → StandsWith r t [] [] entries →
         IsClean r (at_boot r t.here) (part t.here entries) → (run_local r (at_boot r t.here) (part t.here entries)).fresh ≡ [] }
     ensures due { (r : Rules) (t : Tables) (entries : List Entry) → StandsWith r t [] [] entries →
         IsClean r (at_boot r t.here) (part t.here entries) → (run_local r (at_boot r t.here) (part t.here entries)).due ≡ [] }
+    ensures stuck { (r : Rules) (t : Tables) (entries : List Entry) → StandsWith r t [] [] entries →
+        NoneIsFree (fired_acts t) t.objects t.accepted → t.running ≡ [] → t.pending ≡ [] → t.accepted ≡ [] }
 {}
 
 /// Nothing idle: in each row what has gone and what is still here is what was caused, from boot on, and from any moment on
-/// at which the node was passive. Each action goes through one message at most.
+/// at which the node was passive. Each action goes through one message at most. An id goes or is handed over with no more credit
+/// no more often than one came so or was refused here. Where the node is passive each dead object of its home was freed here or a Free
+/// of it was sent, and each Free that came has freed its object.
 pub fn idle_law()
     ensures boot { (r : Rules) (t : Tables) (entries : List Entry) → StandsWith r t [] [] entries → (row : Row) →
         sum_by (λ (e : Entry). goes r row e.event) (part t.here entries) + unpaid row t
@@ -37,10 +44,14 @@ pub fn idle_law()
         ≡ sum_by (λ (e : Entry). causes r row e.event) (part t.here later) }
     ensures once { (r : Rules) (t : Tables) (entries : List Entry) → StandsWith r t [] [] entries →
         sum_by (λ (e : Entry). hops r e.event) (part t.here entries) ≤ sum_by (λ (e : Entry). causes r Actions e.event) (part t.here entries) }
+    ensures refuses { (r : Rules) (t : Tables) (entries : List Entry) → StandsWith r t [] [] entries → RefusesForCause r (part t.here entries) }
+    ensures frees { (r : Rules) (t : Tables) (entries : List Entry) → StandsWith r t [] [] entries → IsPassive t →
+        FreesTheDead r t.here (part t.here entries) }
 {}
 
 /// What calls tell of a node is so at its locality, where its part leads, up to a foreign arrival: which objects stand there, the
-/// credit that is held and owed there, and of a passive one that as many credits are held as objects are named.
+/// credit that is held and owed there, how many answers the session waits for, and of a passive one that as many credits are held
+/// as objects are named.
 pub fn numbers_law()
     ensures holds { (r : Rules) (t : Tables) (entries : List Entry) (o : Id) → StandsWith r t [] [] entries →
         IsClean r (at_boot r t.here) (part t.here entries) →
@@ -57,6 +68,9 @@ pub fn numbers_law()
         IsClean r (at_boot r t.here) (part t.here entries) →
         count_by (is_held o) (run_local r (at_boot r t.here) (part t.here entries)).tokens
         ≡ names o (run_local r (at_boot r t.here) (part t.here entries)) }
+    ensures answers { (r : Rules) (t : Tables) (entries : List Entry) → StandsWith r t [] [] entries →
+        IsClean r (at_boot r t.here) (part t.here entries) →
+        awaited_here t ≡ awaited_at (run_local r (at_boot r t.here) (part t.here entries)) }
 {}
 
 /// Where there is room, a call leaves a journal within its limits.

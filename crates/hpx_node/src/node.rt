@@ -60,6 +60,7 @@ pub struct Node<A: Acts + Copy> {
     records: Records<Parcel>,
     sent: u64,
     taken: u64,
+    answered: u64,
 }
 
 impl<A: Acts + Copy> Model for Node<A> {
@@ -86,6 +87,7 @@ impl<A: Acts + Copy> Model for Node<A> {
       records = n.records.records;
       sent = n.sent;
       taken = n.taken;
+      answered = n.answered;
       spare = min (min (deque_capacity n.accepted - deque_len n.accepted) (deque_capacity n.desk - deque_len n.desk))
           (min (deque_capacity n.outgoing - deque_len n.outgoing) (min (vec_capacity n.running - vec_len n.running)
           (min (vec_capacity n.pending - vec_len n.pending) (min (vec_capacity n.objects - vec_len n.objects) n.records.spare))));
@@ -126,6 +128,7 @@ impl<A: Acts + Copy> Node<A> {
             records: Records::new(alloc, profile, here),
             sent: 0,
             taken: 0,
+            answered: 0,
         })
     }
 

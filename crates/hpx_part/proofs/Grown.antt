@@ -18,11 +18,11 @@ use Rattle.hpx_part.proofs.Covered.{backed}
 
 -- ---- parts
 
-run_local_append : (r : Rules) (s : Local) (xs ys : List Entry) → run_local r s (xs ++ ys) ≡ run_local r (run_local r s xs) ys
+pub run_local_append : (r : Rules) (s : Local) (xs ys : List Entry) → run_local r s (xs ++ ys) ≡ run_local r (run_local r s xs) ys
 run_local_append r s [] ys = refl
 run_local_append r s (x ∷ xs) ys = run_local_append r (after r s x.event) xs ys
 
-clean_front : (r : Rules) (s : Local) (xs ys : List Entry) → IsClean r s (xs ++ ys) → IsClean r s xs × IsClean r (run_local r s xs) ys
+pub clean_front : (r : Rules) (s : Local) (xs ys : List Entry) → IsClean r s (xs ++ ys) → IsClean r s xs × IsClean r (run_local r s xs) ys
 clean_front r s [] ys h = (tt, h)
 clean_front r s (x ∷ xs) ys h = let i = clean_front r (after r s x.event) xs ys h.1 in ((h.0, i.0), i.1)
 

@@ -1,17 +1,18 @@
 //! Failing an action that could get no credit: its object keeps its state, its continuation is answered, and the rest is given up.
-ghost use Rattle.std.specs.Prelude.{◌≡◌, ◌≤◌, ◌<◌, ◌+◌, ◌^◌, ◌∷◌, ◌++◌, [], true, false, Some, None, IfOk, IfSome, IfNone, length, set};
+ghost use Rattle.std.specs.Prelude.{◌≡◌, ◌≤◌, ◌<◌, ◌+◌, ◌^◌, ◌∷◌, ◌++◌, [], true, false, Some, None, IfOk, IfSome, IfNone, length, option_map, set};
 ghost use Rattle.std.specs.List.{remove, slice_get};
 ghost use Rattle.hpx_journal.specs.Entries.{name_of};
 ghost use Rattle.hpx_journal.specs.Weights.{total_weight};
 ghost use Rattle.hpx_part.specs.Data.{Done};
 ghost use Rattle.hpx_part.specs.Parts.{at_all};
+ghost use Rattle.hpx_node.specs.Awaited.{answered_by};
 ghost use Rattle.hpx_node.specs.Fails.{MustFail, IsFailure, Fails, IsFailingFor, dooms, failed_events};
 ghost use Rattle.hpx_node.specs.Changes.{Writes};
 ghost use Rattle.hpx_node.specs.Fit.{IsKept};
-ghost use Rattle.hpx_node.specs.Pending.{hand_with};
+ghost use Rattle.hpx_node.specs.Pending.{hand_with, action_of};
 ghost use Rattle.hpx_node.specs.Stands.{IsTidy, Stands};
 
-use crate::find::{place_of, target, waiting_at};
+use crate::find::{answered_by, place_of, target, waiting_at};
 use crate::kept::Kept;
 use crate::node::Node;
 use crate::node::finish::lawful;
@@ -86,15 +87,22 @@ impl<A: Acts + Copy> Node<A> {
         requires waits { i < length self.old.pending }
         requires object { j < length self.old.objects }
         requires kept { (x : _) → slice_get self.old.objects j ≡ Some x → IsKept (record { object = x.object; state = state }) }
+        requires answers { self.old.answered + 1 < 2 ^ 64 }
         requires page { 1 ≤ book.old.spare }
         ensures pending { self.new.pending ≡ remove self.old.pending i }
         ensures objects { (x : _) → slice_get self.old.objects j ≡ Some x → self.new.objects ≡ set self.old.objects j (record { object = x.object; state = state }) }
-        ensures rest { self.new ≡ record self.old { pending = self.new.pending; objects = self.new.objects; spare = self.new.spare } }
+        ensures rest { self.new ≡ record self.old {
+          pending = self.new.pending;
+          objects = self.new.objects;
+          answered = self.old.answered + answered_by (option_map action_of (slice_get self.old.pending i));
+          spare = self.new.spare;
+        } }
         ensures spare { self.old.spare ≤ self.new.spare }
         ensures page { book.new.spare + 1 ≡ book.old.spare }
         ensures entries { (w : _) → slice_get self.old.pending i ≡ Some w → book.new.entries ≡ book.old.entries ++ at_all self.old.here (Done (name_of w.job.action) true ∷ []) }
     {
         let waits = self.pending.remove(i);
+        self.answered += answered_by(waits.action());
         let object = self.objects[j].object();
         self.objects[j] = Kept::new(object, state);
         book.push(Entry {
@@ -112,6 +120,7 @@ impl<A: Acts + Copy> Node<A> {
         requires plan { (w : _) → slice_get self.old.pending i ≡ Some w → IsFailure w plan }
         requires few { length plan.ups.items ≤ 256 }
         requires serial { self.old.serial + 2 < 2 ^ 64 }
+        requires answers { self.old.answered + 1 < 2 ^ 64 }
         requires spare { 512 ≤ self.old.spare }
         requires page { 512 ≤ book.old.spare }
         requires stands { Stands A.act_of self.old book.old.entries }

@@ -1,7 +1,10 @@
 //! What stands at a locality, and the credit that is there.
-ghost use Rattle.std.specs.Prelude.{◌≡◌, ◌+◌, ◌-◌, ◌^◌, ℕ, min, length, sum_by, option_map, slice_get};
+ghost use Rattle.std.specs.Prelude.{◌≡◌, ◌+◌, ◌-◌, ◌^◌, ℕ, min, length, sum_by, find, option_map, slice_get};
 ghost use Rattle.hpx_value.specs.Ids.{bare};
+ghost use Rattle.hpx_value.specs.Hands.{session};
+ghost use Rattle.hpx_journal.specs.Local.{is_standing};
 ghost use Rattle.hpx_agas.specs.declared.record.Record.{Record};
+ghost use Rattle.hpx_node.specs.Awaited.{drawn_by, awaited_here};
 ghost use Rattle.hpx_node.specs.Tables.{messages};
 ghost use Rattle.hpx_node.specs.Kept.{stands_here, credit_in, ids_held, credit_owed, held_here, owed_here, count_here, place_here, HasRecords};
 
@@ -12,6 +15,7 @@ use crate::parts::Outgoing;
 use crate::pending::Pending;
 use hpx_parcel::parcel::Parcel;
 use hpx_value::acts::Acts;
+use hpx_value::codes::SESSION;
 use hpx_value::gid::Gid;
 use std::collections::VecDeque;
 
@@ -202,5 +206,24 @@ impl<A: Acts + Copy> Node<A> {
         ensures { result ≡ min (2 ^ 128 - 1) (owed_here self.now o) }
     {
         owed_on_desk(&self.desk, o).saturating_add(owed_on_the_way(&self.outgoing, o))
+    }
+    /// How many slots the session has drawn, where it stands here.
+    fn drawn(&self) -> u64
+        ensures { result ≡ drawn_by (find (is_standing session) self.now.objects) }
+    {
+        match place_of(self.objects.as_slice(), Gid::new(0, SESSION, 1)) {
+            Some(j) => self.objects[j].state().drawn as u64,
+            None => 0,
+        }
+    }
+
+    /// How many answers the session still waits for: 0 elsewhere than at locality 0.
+    pub fn awaited(&self) -> u64
+        ensures { result ≡ awaited_here self.now }
+    {
+        if self.here != 0 {
+            return 0;
+        }
+        self.drawn().saturating_sub(self.answered)
     }
 }

@@ -1,5 +1,5 @@
 //! A commit that waited and goes on: the last that it asked for has come.
-ghost use Rattle.std.specs.Prelude.{◌≡◌, ◌≤◌, ◌<◌, ◌+◌, ◌^◌, ◌∷◌, ◌++◌, [], false, true, Some, None, IfOk, IfSome, IfNone, length, set, slice_get};
+ghost use Rattle.std.specs.Prelude.{◌≡◌, ◌≤◌, ◌<◌, ◌+◌, ◌^◌, ◌∷◌, ◌++◌, [], false, true, Some, None, IfOk, IfSome, IfNone, length, option_map, set, slice_get};
 ghost use Rattle.std.specs.List.{remove, AllByRecursion};
 ghost use Rattle.hpx_value.specs.Laws.{KeepsLaws};
 ghost use Rattle.hpx_journal.specs.Entries.{name_of};
@@ -7,16 +7,17 @@ ghost use Rattle.hpx_journal.specs.Weights.{total_weight};
 ghost use Rattle.hpx_parcel.specs.Parcels.{IsParcel};
 ghost use Rattle.hpx_part.specs.Parts.{at_all};
 ghost use Rattle.hpx_part.specs.Data.{Done};
+ghost use Rattle.hpx_node.specs.Awaited.{answered_by};
 ghost use Rattle.hpx_node.specs.Commits.{committed_from, IsStock, IsPrepared, Commits};
 ghost use Rattle.hpx_node.specs.Fit.{IsKept};
 ghost use Rattle.hpx_node.specs.Jobs.{IsFitJob};
-ghost use Rattle.hpx_node.specs.Pending.{ids_named};
+ghost use Rattle.hpx_node.specs.Pending.{ids_named, action_of};
 ghost use Rattle.hpx_node.specs.Resumes.{full_stock, stock_with, MayResume, IsReadyFor, completes};
 ghost use Rattle.hpx_node.specs.Stands.{Stands, IsTidy};
 ghost use Rattle.hpx_node.specs.Strange.{broken_near};
 ghost use Rattle.hpx_node.specs.Changes.{Writes};
 
-use crate::find::{place_of, target, waiting_at};
+use crate::find::{answered_by, place_of, target, waiting_at};
 use crate::kept::Kept;
 use crate::node::Node;
 use crate::node::finish::{Prepared, lawful};
@@ -105,16 +106,23 @@ impl<A: Acts + Copy> Node<A> {
         requires waits { i < length self.old.pending }
         requires object { j < length self.old.objects }
         requires kept { (x : _) → slice_get self.old.objects j ≡ Some x → IsKept (record { object = x.object; state = state }) }
+        requires answers { self.old.answered + 1 < 2 ^ 64 }
         requires page { 1 ≤ book.old.spare }
         ensures pending { self.new.pending ≡ remove self.old.pending i }
         ensures objects { (x : _) → slice_get self.old.objects j ≡ Some x → self.new.objects ≡ set self.old.objects j (record { object = x.object; state = state }) }
-        ensures rest { self.new ≡ record self.old { pending = self.new.pending; objects = self.new.objects; spare = self.new.spare } }
+        ensures rest { self.new ≡ record self.old {
+          pending = self.new.pending;
+          objects = self.new.objects;
+          answered = self.old.answered + answered_by (option_map action_of (slice_get self.old.pending i));
+          spare = self.new.spare;
+        } }
         ensures spare { self.old.spare ≤ self.new.spare }
         ensures page { book.new.spare + 1 ≡ book.old.spare }
         ensures entries { (w : _) → slice_get self.old.pending i ≡ Some w
             → book.new.entries ≡ book.old.entries ++ at_all self.old.here (Done (name_of w.job.action) false ∷ []) }
     {
         let waits = self.pending.remove(i);
+        self.answered += answered_by(waits.action());
         let object = self.objects[j].object();
         self.objects[j] = Kept::new(object, state);
         book.push(Entry {

@@ -9,9 +9,11 @@ ghost use Rattle.hpx_part.specs.Data.{Done};
 ghost use Rattle.hpx_commit.specs.Deals.{Lasts, AllLast, half, named};
 ghost use Rattle.hpx_node.specs.Births.{IsBirth, Makes, birth_of, births_of};
 ghost use Rattle.hpx_node.specs.Asks.{first_cuts};
+ghost use Rattle.hpx_node.specs.Awaited.{answered_by};
 ghost use Rattle.hpx_node.specs.Commits.{cuts, splits_from};
 ghost use Rattle.hpx_node.specs.Fit.{IsKept};
 
+use crate::find::answered_by;
 use crate::kept::Kept;
 use crate::node::Node;
 use hpx_commit::deal::named;
@@ -197,15 +199,22 @@ impl<A: Acts + Copy> Node<A> {
         requires action { i < length self.old.running }
         requires object { j < length self.old.objects }
         requires kept { (x : _) → slice_get self.old.objects j ≡ Some x → IsKept (record { object = x.object; state = state }) }
+        requires answers { self.old.answered + 1 < 2 ^ 64 }
         requires page { 1 ≤ book.old.spare }
         ensures running { self.new.running ≡ remove self.old.running i }
         ensures objects { (x : _) → slice_get self.old.objects j ≡ Some x → self.new.objects ≡ set self.old.objects j (record { object = x.object; state = state }) }
-        ensures rest { self.new ≡ record self.old { running = self.new.running; objects = self.new.objects; spare = self.new.spare } }
+        ensures rest { self.new ≡ record self.old {
+          running = self.new.running;
+          objects = self.new.objects;
+          answered = self.old.answered + answered_by (slice_get self.old.running i);
+          spare = self.new.spare;
+        } }
         ensures spare { self.old.spare ≤ self.new.spare }
         ensures page { book.new.spare + 1 ≡ book.old.spare }
         ensures entries { (act : _) → slice_get self.old.running i ≡ Some act → book.new.entries ≡ book.old.entries ++ at_all self.old.here (Done (name_of act) false ∷ []) }
     {
         let act = self.running.remove(i);
+        self.answered += answered_by(act.act());
         let object = self.objects[j].object();
         self.objects[j] = Kept::new(object, state);
         book.push(Entry {

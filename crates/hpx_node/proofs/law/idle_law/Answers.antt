@@ -1,4 +1,5 @@
 use Rattle.hpx_node.proofs.IdleSince.{paid_since, hops_once}
+use Rattle.hpx_node.proofs.RowLaws.{refuses_for_cause, frees_the_dead}
 use Rattle.hpx_node.proofs.law.idle_law.Goals as goal
 
 pub returns-clause-boot : goal.returns-clause-boot
@@ -9,3 +10,9 @@ returns-clause-since c = λ r t t' entries later stands passive then here row. p
 
 pub returns-clause-once : goal.returns-clause-once
 returns-clause-once c = λ r t entries stands. hops_once r t entries stands
+
+pub returns-clause-refuses : goal.returns-clause-refuses
+returns-clause-refuses c = λ r t entries stands. refuses_for_cause r t entries stands
+
+pub returns-clause-frees : goal.returns-clause-frees
+returns-clause-frees c = λ r t entries stands passive. frees_the_dead r t entries stands passive

@@ -1,4 +1,4 @@
-use Rattle.hpx_node.proofs.Numbers.{holds_shown, held_shown, owed_shown, rest_shown}
+use Rattle.hpx_node.proofs.Numbers.{holds_shown, held_shown, owed_shown, rest_shown, awaited_shown}
 use Rattle.hpx_node.proofs.law.numbers_law.Goals as goal
 
 pub returns-clause-holds : goal.returns-clause-holds
@@ -15,3 +15,6 @@ returns-clause-frames c = λ r t entries stands. (stands.sent, stands.taken)
 
 pub returns-clause-rest : goal.returns-clause-rest
 returns-clause-rest c = λ r t entries o stands passive managed clean. rest_shown t _ o managed passive stands.tidy (stands.keeps.shows clean)
+
+pub returns-clause-answers : goal.returns-clause-answers
+returns-clause-answers c = λ r t entries stands clean. awaited_shown t _ (stands.keeps.shows clean) (stands.answered clean)

@@ -1,3 +1,4 @@
+use Rattle.hpx_node.proofs.Targets.{none_stuck}
 use Rattle.hpx_node.proofs.law.settled_law.Goals as goal
 
 pub returns-clause-fresh : goal.returns-clause-fresh
@@ -5,3 +6,6 @@ returns-clause-fresh c = λ r t entries stands clean. (stands.keeps.shows clean)
 
 pub returns-clause-due : goal.returns-clause-due
 returns-clause-due c = λ r t entries stands clean. (stands.keeps.shows clean).acts.due
+
+pub returns-clause-stuck : goal.returns-clause-stuck
+returns-clause-stuck c = λ r t entries stands none running pending. none_stuck t t.accepted running pending stands.tidy.targets none

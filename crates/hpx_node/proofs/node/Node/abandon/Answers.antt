@@ -30,4 +30,4 @@ returns-clause-entries g c =
     λ w h. let e : c.remove-waits.result ≡ w = some_same c.remove-waits.result w (sym is ∙ (rw (← c.self.view_is) at h)) in
     rw (← c.self.view_is) (c.push.ensures.entries
     ∙ ap (λ n. c.args.book.now.entries ++ record { at = c.self.inside.here; event = Done n true } ∷ [])
-    (c.name_of.ensures ∙ (ap name_of c.action.ensures ∙ ap (λ (v : Waits). name_of v.job.action) e)))
+    (c.name_of.ensures ∙ (ap name_of c.action-2.ensures ∙ ap (λ (v : Waits). name_of v.job.action) e)))

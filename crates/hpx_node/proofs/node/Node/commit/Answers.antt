@@ -53,6 +53,10 @@ settle-requires-clause-kept g c =
     subst (λ (y : Standing). IsKept (record { object = y.object; state = c.args.prepared.plan.state })) e
     (state_kept t d.job d.outcome c.requires.fit c.requires.few laws c.args.prepared c.requires.prepared at.standing kept at.kind (ap bare_state at.state))
 
+pub settle-requires-clause-answers : goal.settle-requires-clause-answers
+settle-requires-clause-answers g c =
+    omega (arith, ap (λ (x : Tables). x.answered) c.make.ensures.made.rest, c.requires.stands.few_answers, c.requires.room.entries)
+
 pub settle-requires-clause-page : goal.settle-requires-clause-page
 settle-requires-clause-page g c =
     let d = c.args.done.now in

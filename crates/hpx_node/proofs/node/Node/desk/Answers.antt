@@ -1,9 +1,9 @@
-use Rattle.std.proofs.Common.{◌∷◌, ◌≡◌, ◌≤◌, ◌∙◌, get_or, sym, ap}
+use Rattle.std.proofs.Common.{◌∷◌, ◌≡◌, ◌≤◌, ◌∙◌, get_or, sym, ap, arith}
 use Rattle.hpx_journal.specs.Data.{Parcel}
 use Rattle.hpx_node.specs.Tables.{Tables}
 use Rattle.hpx_node.proofs.Continued.{given_mail}
 use Rattle.hpx_node.proofs.Followed.{next_first, may_follow, next_gives, is_continued}
-use Rattle.hpx_node.proofs.Spared.{spare_stands, mail_by, mail_near, first_own, first_stands, cleared}
+use Rattle.hpx_node.proofs.Spared.{spare_stands, mail_by, mail_near, first_own, first_stands, cleared, when_ok, spare_popped}
 use Rattle.hpx_node.proofs.Turns.{adds_none}
 use Rattle.hpx_node.proofs.TurnSteps.{adds_steps}
 use Rattle.hpx_node.proofs.node.Node.desk.Goals as goal
@@ -42,6 +42,13 @@ enter_mail-requires-clause-stands g c =
     let i = rw (← c.self-2.view_is) at h in
     first_stands g.A.Acts.act_of _ c.into_parcel.result c.pop_front.new.self.items _ _
     (c.in-Some-pop_front.ensures.items ∙ ap (λ (q : Parcel). q ∷ c.pop_front.new.self.items) (sym c.into_parcel.ensures.parcel)) i
+
+pub enter_mail-requires-clause-spare : goal.enter_mail-requires-clause-spare
+enter_mail-requires-clause-spare g c =
+    let kept : 1280 ≤ c.reserve_turn.new.self.spare =
+    when_ok c.reserve_turn.result (1280 ≤ c.reserve_turn.new.self.spare) (sym c.is_err.ensures.value ∙ c.if-is_err.false) c.reserve_turn.ensures.spare in
+    let made = rw (← c.self-2.view_is) at kept in
+    spare_popped 1280 _ _ _ _ _ _ made c.in-Some-pop_front.ensures.capacity (omega (arith, c.in-Some-pop_front.ensures.len))
 
 pub follow-requires-clause-may : goal.follow-requires-clause-may
 follow-requires-clause-may g c =

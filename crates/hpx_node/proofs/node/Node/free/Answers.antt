@@ -10,12 +10,13 @@ pub let_go_all-requires-clause-tidy : goal.let_go_all-requires-clause-tidy
 let_go_all-requires-clause-tidy g c =
     let tidy = rw (← c.self.view_is) at c.requires.tidy in
     let idle = rw (← c.self.view_is) at c.requires.idle in
+    let none = rw (← c.self.view_is) at c.requires.none in
     let inside : c.in-Some.i < length c.self.inside.objects.items = rw (c.as_slice.ensures.value) at c.in-Some.ensures.inside in
     let there : slice_get c.self.inside.objects.items c.in-Some.i ≡ Some c.remove-kept.result =
     slice_get_is c.self.inside.objects.items c.in-Some.i c.remove-kept.result inside c.remove-kept.ensures.value in
     let found : find (is_standing c.args.o) c.self.inside.objects.items ≡ Some c.remove-kept.result =
     (rw (c.as_slice.ensures.value) at c.in-Some.ensures.found) ∙ there in
-    rw (c.remove-kept.ensures.items) (without_tidy _ c.args.o c.remove-kept.result c.in-Some.i _ there found idle tidy)
+    rw (c.remove-kept.ensures.items) (without_tidy _ c.args.o c.remove-kept.result c.in-Some.i _ there found c.requires.bare idle none tidy)
 
 pub let_go_all-requires-clause-right : goal.let_go_all-requires-clause-right
 let_go_all-requires-clause-right g c =

@@ -119,6 +119,10 @@ settle_waiting-requires-clause-kept g c =
     λ x h. let e : k.was.standing ≡ x = some_same k.was.standing x (sym there ∙ h) in
     subst (λ (y : Standing). IsKept (record { object = y.object; state = c.args.ready.prepared.plan.state })) e (state_is_kept g.A.Acts.act_of g.met.A.Acts.is_blind t w c.args.ready.i c.args.ready.j c.args.ready.prepared k)
 
+pub settle_waiting-requires-clause-answers : goal.settle_waiting-requires-clause-answers
+settle_waiting-requires-clause-answers g c =
+    omega (arith, ap (λ (x : Tables). x.answered) c.make.ensures.made.rest, c.requires.stands.few_answers, c.requires.room)
+
 pub settle_waiting-requires-clause-page : goal.settle_waiting-requires-clause-page
 settle_waiting-requires-clause-page g c =
     let w = c.index.result.now in

@@ -29,4 +29,4 @@ returns-clause-entries g c =
     slice_get_is c.self.inside.pending.items c.args.i c.remove-waits.result inside c.remove-waits.ensures.value in
     λ w h. let e : c.remove-waits.result ≡ w = some_same c.remove-waits.result w (sym is ∙ (rw (← c.self.view_is) at h)) in
     rw (← c.self.view_is) (c.push.ensures.entries
-    ∙ ap (λ n. c.args.book.now.entries ++ record { at = c.self.inside.here; event = Done n false } ∷ []) (c.name_of.ensures ∙ (ap name_of c.action.ensures ∙ ap (λ (v : Waits). name_of v.job.action) e)))
+    ∙ ap (λ n. c.args.book.now.entries ++ record { at = c.self.inside.here; event = Done n false } ∷ []) (c.name_of.ensures ∙ (ap name_of c.action-2.ensures ∙ ap (λ (v : Waits). name_of v.job.action) e)))
