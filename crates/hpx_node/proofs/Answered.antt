@@ -43,6 +43,7 @@ use Rattle.hpx_node.proofs.IdleCounts.{pays_refused, pays_granted}
 use Rattle.hpx_value.specs.Profiles.{IsValid}
 use Rattle.hpx_node.proofs.InHand.{hand_sum}
 use Rattle.hpx_node.proofs.GivenUp.{owed_some}
+use Rattle.hpx_node.proofs.Homes.{one_stays, asked_stays}
 use Rattle.hpx_node.proofs.Returned.{found_counted, one_recounted, none_unborn, live_home, live_record}
 
 again : (b : Bool) (count old new : ℕ) → new ≡ cond b count old → (b ≡ true → old ≡ count) → old ≡ new
@@ -125,6 +126,7 @@ module _ (act_of : ℕ → ℕ → ℕ → State → Act → Outcome) (t m t' : 
     ways = tidy.ways;
     drawn = tidy.drawn;
     unborn = none_unborn t.births id rec t.records m.records there others tidy.unborn;
+    places = one_stays t.here id rec t.records m.records there others (λ x h. asked_stays t.here t.profile rec x (tidy.places id rec there) (sym now ∙ h)) tidy.places;
   })
 
   handled : ((dead : List Id) (e : Event) → TakesUp rules t (Ask id asker entry) dead e

@@ -59,6 +59,7 @@ counted_tidy t a due h = record {
   targets = h.targets;
   drawn = h.drawn;
   unborn = h.unborn;
+  places = h.places;
   ways = h.ways;
   paused = h.paused;
 }

@@ -328,6 +328,7 @@ module _ (r : Rules) (t : Tables) (entries : List Entry) (i j : ℕ) (job : Job)
     drawn = all_set (λ (x : Standing). 16 ≤ x.object.kind → x.object.home ≡ t.here → x.object.number ≤ t.births) t.objects j lent h.tidy.drawn
         (all_at (λ (x : Standing). 16 ≤ x.object.kind → x.object.home ≡ t.here → x.object.number ≤ t.births) t.objects j at.standing h.tidy.drawn at.stands);
     unborn = h.tidy.unborn;
+    places = h.tidy.places;
     ways = h.tidy.ways;
     paused = paused_new;
   }

@@ -1,10 +1,12 @@
--- A prepared commit, once its job is settled, stands with what is due and what nobody names.
-use Rattle.std.proofs.Common.{ℕ, false, Some, List, [], ◌∷◌, ◌++◌, ◌≡◌, ◌+◌, ◌≤◌, ◌<◌, set, length, append_assoc, append-nil, sym, ap, ◌∙◌, subst}
+-- A prepared commit, once its job is settled, stands with what is due and what nobody names, and leads where it is to lead.
+use Rattle.std.proofs.Common.{ℕ, false, Some, List, [], ◌∷◌, ◌++◌, ◌≡◌, ◌≤◌, ◌<◌, ◌+◌, map, set, length, append_assoc, append-nil, sym, ap, ◌∙◌, subst}
 use Rattle.std.specs.List.{slice_get, AllByRecursion}
+use Rattle.std.proofs.lemmas.List.{length-map}
 use Rattle.hpx_value.specs.Values.{bare_act, bare_state, message_of, named}
 use Rattle.hpx_value.specs.Laws.{KeepsLaws}
 use Rattle.hpx_value.specs.declared.acts.Job.{Job}
-use Rattle.hpx_journal.specs.Data.{Act, State, Outcome}
+use Rattle.hpx_commit.specs.Deals.{unnamed}
+use Rattle.hpx_journal.specs.Data.{Id, Act, State, Due, Outcome}
 use Rattle.hpx_journal.specs.Entries.{name_of}
 use Rattle.hpx_part.specs.Data.{Event, Entry, Done, Standing}
 use Rattle.hpx_part.specs.Parts.{at_all}
@@ -12,16 +14,19 @@ use Rattle.hpx_part.proofs.Keyed.{slice_get_less}
 use Rattle.hpx_node.specs.declared.node.finish.Prepared.{Prepared}
 use Rattle.hpx_node.specs.declared.node.settle.Birth.{Birth}
 use Rattle.hpx_node.specs.Awaited.{answered_by}
-use Rattle.hpx_node.specs.Births.{Makes, births_of, objects_of, ids_of}
-use Rattle.hpx_node.specs.Commits.{splits_from, written, ups, committed_from, IsPrepared}
+use Rattle.hpx_node.specs.Births.{Makes, birth_of, births_of, objects_of, records_of, ids_of}
+use Rattle.hpx_node.specs.Changes.{AreAlike}
+use Rattle.hpx_node.specs.Commits.{splits_from, written, ups, committed_from, state_dealt, due_dealt, with_settled, committed_to, IsPrepared}
 use Rattle.hpx_node.specs.Fit.{IsFit}
 use Rattle.hpx_node.specs.Jobs.{IsFitJob}
 use Rattle.hpx_node.specs.Paused.{ArePaused}
 use Rattle.hpx_node.specs.Pending.{Waits}
+use Rattle.hpx_node.specs.Routes.{with_left}
 use Rattle.hpx_node.specs.Stands.{StandsWith, rules_of}
 use Rattle.hpx_node.specs.Tables.{Tables}
 use Rattle.hpx_node.proofs.Alls.{get_before}
 use Rattle.hpx_node.proofs.Committed.{settled_is, written_on}
+use Rattle.hpx_node.proofs.Left.{left_from}
 use Rattle.hpx_node.proofs.OfPrepared.{tables_settled, stands_of, committed_is}
 use Rattle.hpx_node.proofs.Settled.{IsEnding}
 
@@ -107,3 +112,33 @@ module _ (act_of : ℕ → ℕ → ℕ → State → Act → Outcome)
       ∙ ap (λ n. e2 ++ at_all t.here (written t.here n p.plan.due.items ++ ups p.plan.ups.items)) settled_serial) in
       written_on t.here e0 e1 e2 e3 (born ++ cuts) last rest first done_there left_on
       ∙ ap (λ xs. e0 ++ at_all t.here xs) (append_assoc born cuts (last ++ rest) ∙ sym (committed_is t job out fit few laws p is))
+
+  -- ---- where it leads
+
+  abbrev less : Tables
+  less = record t { running = running; pending = pending }
+
+  abbrev to : ℕ → List Birth → State → Tables
+  to n xs state = record less {
+    births = t.births + n;
+    records = t.records ++ records_of t.here t.births t.profile.credit_log xs;
+    objects = set (t.objects ++ objects_of t.here t.births xs) j (record { object = at.standing.object; state = state });
+    answered = t.answered + answered_by (Some job.action);
+    spare = t2.spare;
+  }
+
+  settled_to : t2 ≡ record (with_settled job out p.stock j at.standing less) { spare = t2.spare }
+  settled_to =
+      let xs = map birth_of out.makes in
+      tables_are
+      ∙ (ap (λ (ys : List Birth). to (length ys) ys p.plan.state) is.births
+      ∙ (ap (λ (n : ℕ). to n xs p.plan.state) (length-map out.makes birth_of)
+      ∙ ap (λ (state : State). to (length out.makes) xs state) is.state_left))
+
+  pub all_committed : (u : Tables) → AreAlike u (with_left p.plan.due.items p.plan.ups.items t2)
+      → u ≡ record (committed_to job out p.stock j at.standing less) { spare = u.spare }
+  all_committed u alike =
+      left_from (due_dealt t job out p.stock) (unnamed p.stock.hand p.stock.places) (with_settled job out p.stock j at.standing less) t2 u settled_to
+      (alike
+      ∙ (ap (λ (ds : List Due). record (with_left ds p.plan.ups.items t2) { spare = 0 }) is.due_left
+      ∙ ap (λ (us : List Id). record (with_left (due_dealt t job out p.stock) us t2) { spare = 0 }) is.ups_left))

@@ -10,16 +10,18 @@ use Rattle.hpx_part.specs.Parts.{at_all}
 use Rattle.hpx_commit.specs.Failures.{action_ids}
 use Rattle.hpx_commit.specs.declared.plan.Plan.{Plan}
 use Rattle.hpx_node.specs.Awaited.{answered_by}
-use Rattle.hpx_node.specs.Changes.{OnlySends, Writes}
+use Rattle.hpx_node.specs.Changes.{OnlySends, AreAlike, Writes}
 use Rattle.hpx_node.specs.Commits.{written, ups}
 use Rattle.hpx_node.specs.Fails.{state_left, due_left, ups_left, failed_events, MustFail, IsFailure, Fails}
 use Rattle.hpx_node.specs.Fit.{IsKept, IsFitDue}
 use Rattle.hpx_node.specs.Pending.{Waits, action_of}
+use Rattle.hpx_node.specs.Routes.{with_left}
 use Rattle.hpx_node.specs.Stands.{StandsWith, rules_of}
 use Rattle.hpx_node.specs.Tables.{Tables}
 use Rattle.hpx_node.proofs.Alls.{some_same}
 use Rattle.hpx_node.proofs.FailedDue.{failed_few}
 use Rattle.hpx_node.proofs.FailedStep.{stands_failed, new_kept, due_fit, ups_have}
+use Rattle.hpx_node.proofs.Left.{left_from}
 use Rattle.hpx_node.proofs.Steps.{at_all_length}
 
 written_long : (here serial : ℕ) (due : List Due) → length (written here serial due) ≡ length due
@@ -113,13 +115,19 @@ module _ (act_of : ℕ → ℕ → ℕ → State → Act → Outcome) (t : Table
           ∙ append_assoc e0 (at_all t.here (Done (name_of must.commit.job.action) true ∷ []))
           (at_all t.here (written t.here t.serial (due_left must.commit) ++ ups (ups_left must.commit))))
 
-      pub then_fails : Fails i j t t2
-      then_fails = record {
+      pub then_fails : AreAlike t2 (with_left p.due.items p.ups.items t1) → Fails i j t t2
+      then_fails alike = record {
         commit = must.commit;
         there = must.there;
         standing = must.standing;
         stands = must.stands;
-        rest = end_is;
+        found = must.found;
+        rest = left_from (due_left must.commit) (ups_left must.commit)
+            (record t { pending = remove t.pending i; objects = set t.objects j (record { object = must.standing.object; state = state_left must.commit }); answered = more })
+            t1 t2 now_is
+            (alike
+            ∙ (ap (λ ds. record (with_left ds p.ups.items t1) { spare = 0 }) is.due
+            ∙ ap (λ us. record (with_left (due_left must.commit) us t1) { spare = 0 }) is.ups));
       }
 
       pub then_writes : (v : Waits) → slice_get t.pending i ≡ Some v → Writes (failed_events t v) t t2 e0 e2

@@ -197,6 +197,7 @@ module _ (r : Rules) (t : Tables) (entries : List Entry) (i j : ℕ) (w : Waits)
     drawn = all_set (λ (y : Standing). 16 ≤ y.object.kind → y.object.home ≡ t.here → y.object.number ≤ t.births) t.objects j new h.tidy.drawn
         (all_at (λ (y : Standing). 16 ≤ y.object.kind → y.object.home ≡ t.here → y.object.number ≤ t.births) t.objects j x h.tidy.drawn stands);
     unborn = h.tidy.unborn;
+    places = h.tidy.places;
     ways = h.tidy.ways;
     paused = paused_left;
   }

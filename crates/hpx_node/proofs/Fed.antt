@@ -44,6 +44,7 @@ module _ (r : Rules) (t t' : Tables) (entries : List Entry) (bytes : List ℕ) w
         targets = h.tidy.targets;
         drawn = h.tidy.drawn;
         unborn = h.tidy.unborn;
+        places = h.tidy.places;
         ways = h.tidy.ways;
       }))
       (record {

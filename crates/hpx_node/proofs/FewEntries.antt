@@ -73,4 +73,5 @@ popped_tidy p t tidy = record {
   ways = (tidy.ways.0, tidy.ways.1.1);
   drawn = tidy.drawn;
   unborn = tidy.unborn;
+  places = tidy.places;
 }

@@ -105,6 +105,7 @@ module _ (r : Rules) (t : Tables) (entries : List Entry) (i : ℕ) (act : Act) (
         targets = all_remove (λ a. stands_here t (target_of a) ≡ true) t.accepted i h.tidy.targets;
         drawn = h.tidy.drawn;
         unborn = h.tidy.unborn;
+        places = h.tidy.places;
         ways = h.tidy.ways;
         paused = fired_paused t.here t.localities t.profile.credit_log t.objects t.running t.pending act free.idle h.tidy.paused;
       })

@@ -11,7 +11,7 @@ use Rattle.hpx_node.specs.declared.node.next.Next.{Next}
 use Rattle.hpx_node.specs.declared.node.next.Next.TheVariants as nexts
 use Rattle.hpx_node.specs.declared.node.resume.Ready.{Ready}
 use Rattle.hpx_node.specs.Changes.{Writes}
-use Rattle.hpx_node.specs.Commits.{committed_from}
+use Rattle.hpx_node.specs.Commits.{committed_from, Commits}
 use Rattle.hpx_node.specs.Fails.{Fails, IsFailing, fails_first, dooms, failed_events}
 use Rattle.hpx_node.specs.Next.{IsNext, MayFollow, IfFollows, HasFollowed, Continues}
 use Rattle.hpx_node.specs.Pending.{Waits, awaits}
@@ -80,22 +80,37 @@ module _ (t : Tables) (n k : ℕ) (d : List Parcel) (mid : Tables) (id : Id) (en
   -- a commit went on
   module _ (y : Ready) (ready : IsReady t id entry y) (running : t'.running ≡ mid.running) (pending : t'.pending ≡ remove mid.pending y.i)
       (writes : (w : Waits) → slice_get mid.pending y.i ≡ Some w
-      → Writes (committed_from mid w.job w.outcome (full_stock mid w)) mid t' entries entries') where
+      → Writes (committed_from mid w.job w.outcome (full_stock mid w)) mid t' entries entries')
+      (commits : (w : Waits) → slice_get mid.pending y.i ≡ Some w
+      → Commits w.job w.outcome (full_stock mid w) y.j (record mid { pending = remove mid.pending y.i }) t') where
     completes_is : is_last id (find (awaits id entry) t.pending) ≡ true
     completes_is = ap (is_last id) (find_at (awaits id entry) t.pending y.i ready.before ready.there ready.for ready.first) ∙ ready.last
 
     place_is : g.i ≡ y.i
     place_is = same_place t n k d mid id entry y ready g
 
+    after_there : slice_get mid.pending y.i ≡ Some g.after
+    after_there = sym (ap (slice_get mid.pending) place_is) ∙ now_there t n k d mid id entry y ready g
+
     went_on : IsContinued (Give id entry) (record t { taken = n; desk = d }) mid t' entries entries'
     went_on = record {
       more = committed_from mid g.after.job g.after.outcome (full_stock mid g.after);
       continues = record {
         rests = λ no none. absurd (let e : true ≡ false = sym completes_is ∙ no in cc);
-        goes = λ yes. record { gives = gave; goes = record { what = refl; pending = pending ∙ ap (remove mid.pending) (sym place_is); running = running } };
+        goes = λ yes. record {
+          gives = gave;
+          goes = record {
+            j = y.j;
+            what = refl;
+            pending = pending ∙ ap (remove mid.pending) (sym place_is);
+            running = running;
+            commits = subst (λ i. Commits g.after.job g.after.outcome (full_stock mid g.after) y.j (record mid { pending = remove mid.pending i }) t') (sym place_is)
+                (commits g.after after_there);
+          };
+        };
         fails = λ yes. absurd (never_both id (find (awaits id entry) t.pending) completes_is yes);
       };
-      writes = writes g.after (sym (ap (slice_get mid.pending) place_is) ∙ now_there t n k d mid id entry y ready g);
+      writes = writes g.after after_there;
     }
 
   -- an action failed
@@ -159,7 +174,7 @@ module _ (t : Tables) (n k : ℕ) (d : List Parcel) (mid t' : Tables) (entries e
   is_continued p (nexts.GoesOn y) is gives running followed =
       only_give t p y is (IsContinued p (record t { taken = n; desk = d }) mid t' entries entries') (λ id entry e ready.
       subst (λ q. IsContinued q (record t { taken = n; desk = d }) mid t' entries entries') (sym e)
-      (went_on t n k d mid id entry (gives id entry e) t' entries entries' y ready running followed.0 followed.1))
+      (went_on t n k d mid id entry (gives id entry e) t' entries entries' y ready running followed.0 followed.1 followed.2))
   is_continued p (nexts.Fails y) is gives running followed =
       only_fails t p y is (IsContinued p (record t { taken = n; desk = d }) mid t' entries entries') (λ id entry e fails.
       subst (λ q. IsContinued q (record t { taken = n; desk = d }) mid t' entries entries') (sym e)

@@ -303,6 +303,7 @@ without_tidy t o x i spare there found is_bare idle none tidy = record {
   ways = tidy.ways;
   drawn = all_remove (λ (x : Standing). 16 ≤ x.object.kind → x.object.home ≡ t.here → x.object.number ≤ t.births) t.objects i tidy.drawn;
   unborn = tidy.unborn;
+  places = tidy.places;
 }
 
 pub freed_grows : (k : ℕ) (o : Id) (x : Standing) (ids : List Id) (u : Option Standing) (before now after : List Entry) → u ≡ Some x → ids ≡ x.state.ids

@@ -157,6 +157,7 @@ module _ (r : Rules) (t : Tables) (entries : List Entry) (x : Outgoing) (rest : 
         targets = h.targets;
         drawn = h.drawn;
         unborn = h.unborn;
+        places = h.places;
         ways = (ways.1, h.ways.1);
       }
 

@@ -83,6 +83,8 @@ pub mod Held
 pub mod SameCommit
 pub mod IdleRows
 pub mod IdleSteps
+pub mod Homes
+pub mod Left
 pub mod IdleCounts
 pub mod IdleEffects
 pub mod IdleSince

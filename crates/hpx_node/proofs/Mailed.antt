@@ -40,6 +40,7 @@ module _ (t : Tables) (p : Parcel) (spare : ℕ) (fit : IsParcel p) (enough : t.
           targets = h.targets;
           drawn = h.drawn;
           unborn = h.unborn;
+          places = h.places;
           ways = (
             all_append (IsOnItsWay t.localities t.here) t.outgoing (record { to = to; parcel = p } ∷ []) h.ways.0
                 (record { somewhere = parts.0; away = parts.1; may = may }, tt),
@@ -70,6 +71,7 @@ module _ (t : Tables) (p : Parcel) (spare : ℕ) (fit : IsParcel p) (enough : t.
           targets = h.targets;
           drawn = h.drawn;
           unborn = h.unborn;
+          places = h.places;
           ways = (h.ways.0, all_append (IsForHere t.localities t.here) t.desk (p ∷ []) h.ways.1 (record { to = to; may = may; here = own_is t to own }, tt));
         };
       }

@@ -48,6 +48,7 @@ tidy_rest t x due serial h = record {
   targets = h.targets;
   drawn = h.drawn;
   unborn = h.unborn;
+  places = h.places;
   ways = h.ways;
 }
 

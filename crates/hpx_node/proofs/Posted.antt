@@ -49,6 +49,7 @@ accepted_posts act t spare enough fit stay =
         targets = all_append (λ a. stands_here t (target_of a) ≡ true) t.accepted (act ∷ []) h.targets (stay_stands t act stay, tt);
         drawn = h.drawn;
         unborn = h.unborn;
+        places = h.places;
         ways = h.ways;
       };
       tokens = λ f. omega (

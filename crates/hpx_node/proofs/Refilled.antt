@@ -365,6 +365,7 @@ module _ (r : Rules) (t : Tables) (id : Id) (entry i n spare : ℕ) (w : Waits) 
     targets = tidy.targets;
     drawn = tidy.drawn;
     unborn = tidy.unborn;
+    places = tidy.places;
     ways = tidy.ways;
     paused = refilled_paused t.here t.localities t.profile.credit_log t.objects t.running t.pending i w now there refl still tidy.paused;
   }

@@ -36,6 +36,7 @@ use Rattle.hpx_node.proofs.Alike.{Stays, fired_stay, stays_same, stays_mailed, f
 use Rattle.hpx_node.proofs.InHand.{hand_sum}
 use Rattle.hpx_node.proofs.GivenUp.{owed_some}
 use Rattle.hpx_node.proofs.Cover.{tidy_covers}
+use Rattle.hpx_node.proofs.Homes.{one_stays, lowered_stays}
 use Rattle.hpx_node.specs.Idle.{Row, unpaid, PaysFor}
 use Rattle.hpx_node.specs.Routes.{place_or_0, with_mail, DealsWith}
 use Rattle.hpx_node.proofs.Spareless.{mail_records}
@@ -218,6 +219,7 @@ module _ (r : Rules) (t m : Tables) (id : Id) (log : ℕ) (rec : Record) (some :
     ways = tidy.ways;
     drawn = tidy.drawn;
     unborn = none_unborn t.births id rec t.records m.records there others tidy.unborn;
+    places = one_stays t.here id rec t.records m.records there others (λ x h. lowered_stays t.here id rec x (tidy.places id rec there) (sym left ∙ h)) tidy.places;
   })
 
   asks_stay : (x : Id) → count_by (same_object x) (asks t) ≡ count_by (same_object x) (asks m)

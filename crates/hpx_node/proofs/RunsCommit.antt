@@ -13,14 +13,16 @@ use Rattle.hpx_commit.specs.Stocks.{Stock}
 use Rattle.hpx_node.specs.declared.node.finish.Prepared.{Prepared}
 use Rattle.hpx_node.specs.Awaited.{answered_by}
 use Rattle.hpx_node.specs.Births.{Makes, births_of, objects_of, ids_of}
-use Rattle.hpx_node.specs.Commits.{splits_from, written, ups, committed, committed_from, own_stock, IsPrepared}
+use Rattle.hpx_node.specs.Changes.{AreAlike}
+use Rattle.hpx_node.specs.Commits.{splits_from, written, ups, committed, committed_from, own_stock, committed_to, IsPrepared, Commits}
 use Rattle.hpx_node.specs.Fit.{IsFit}
 use Rattle.hpx_node.specs.Jobs.{IsAt, IsFitJob}
 use Rattle.hpx_node.specs.Paused.{ArePaused}
+use Rattle.hpx_node.specs.Routes.{with_left}
 use Rattle.hpx_node.specs.Stands.{IsTidy, StandsWith, rules_of}
 use Rattle.hpx_node.specs.Tables.{Tables}
 use Rattle.hpx_node.proofs.Alls.{all_remove, some_same}
-use Rattle.hpx_node.proofs.Committing.{settled_stands, settled_here, settled_serial, settled_running, all_written}
+use Rattle.hpx_node.proofs.Committing.{settled_stands, settled_here, settled_serial, settled_running, all_written, all_committed}
 use Rattle.hpx_node.proofs.Ending.{runs_ending, runs_paused}
 use Rattle.hpx_node.proofs.Settled.{IsEnding}
 
@@ -82,3 +84,16 @@ module _ (act_of : ℕ → ℕ → ℕ → State → Act → Outcome)
   runs_written e3 left =
       all_written act_of blind t job out fit few laws right p is j (remove t.running i) t.pending ends t1 t2 made objects rest_is e0 e1 e2 first done_is e3 left
       ∙ ap (λ s. e0 ++ at_all t.here (committed_from t job out s)) own
+
+  pub runs_commits : (u : Tables) → AreAlike u (with_left p.plan.due.items p.plan.ups.items t2)
+      → Commits job out (own_stock t job out) j (record t { running = remove t.running i }) u
+  runs_commits u alike =
+      let less = record t { running = remove t.running i } in
+      let same : ends.standing ≡ at.standing = some_same ends.standing at.standing (sym ends.stands ∙ at.stands) in record {
+        standing = at.standing;
+        stands = at.stands;
+        found = at.found;
+        goes = all_committed act_of blind t job out fit few laws right p is j (remove t.running i) t.pending ends t1 t2 made objects rest_is e0 e1 e2 first done_is u alike
+            ∙ (ap (λ (x : Standing). record (committed_to job out p.stock j x less) { spare = u.spare }) same
+            ∙ ap (λ (s : Stock). record (committed_to job out s j at.standing less) { spare = u.spare }) own);
+      }

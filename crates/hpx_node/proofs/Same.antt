@@ -22,6 +22,7 @@ tidy_spare t due spare h = record {
   targets = h.targets;
   drawn = h.drawn;
   unborn = h.unborn;
+  places = h.places;
   ways = h.ways;
 }
 

@@ -42,6 +42,7 @@ spare_stands act_of t t' b b' same h =
         ways = h.tidy.ways;
         drawn = h.tidy.drawn;
         unborn = h.tidy.unborn;
+        places = h.tidy.places;
       };
       few = h.few;
       asked = h.asked;
@@ -153,6 +154,7 @@ first_stands act_of t p rest s entries first h =
         ways = h.tidy.ways;
         drawn = h.tidy.drawn;
         unborn = h.tidy.unborn;
+        places = h.tidy.places;
       };
       few = h.few;
       asked = h.asked;

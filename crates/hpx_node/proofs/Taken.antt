@@ -188,6 +188,7 @@ taken_tidy t n tidy = record {
   ways = tidy.ways;
   drawn = tidy.drawn;
   unborn = tidy.unborn;
+  places = tidy.places;
 }
 
 pub taken_by : (act_of : ℕ → ℕ → ℕ → State → Act → Outcome) (t t' : Tables) (p : Parcel) (bytes : List ℕ) (before now after : List Entry)

@@ -21,6 +21,7 @@ use Rattle.hpx_node.specs.Paused.{Single, ArePaused}
 use Rattle.hpx_node.specs.Pending.{Waits}
 use Rattle.hpx_node.specs.Stands.{IsTidy}
 use Rattle.hpx_node.specs.Tables.{Tables}
+use Rattle.hpx_node.proofs.Homes.{all_stay, records_stay}
 use Rattle.hpx_node.proofs.Alls.{all_append, all_at, all_set, get_before}
 use Rattle.hpx_node.proofs.Targets.{targets_set, targets_more}
 use Rattle.hpx_node.proofs.MadeLists.{bare_alone}
@@ -150,6 +151,7 @@ module _ (t : Tables) (j : ℕ) (job : Job) (out : Outcome) (standing : Standing
           (λ managed home. let low = all_at (Drawn t.here t.births) t.objects j standing tidy.drawn stands managed home in omega (arith, low));
       unborn = λ o late. find_none (λ (x : Record). same_object o x.gid) t.records (records_of t.here t.births t.profile.credit_log xs)
           (tidy.unborn o (omega (arith, late))) (records_past t.here t.births t.profile.credit_log xs o late);
+      places = all_stay t.here t.records (records_of t.here t.births t.profile.credit_log xs) tidy.places (records_stay t.here t.births t.profile.credit_log xs);
       ways = tidy.ways;
       paused = paused;
     }

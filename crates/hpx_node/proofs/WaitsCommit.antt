@@ -19,15 +19,17 @@ use Rattle.hpx_node.specs.declared.node.finish.Prepared.{Prepared}
 use Rattle.hpx_node.specs.Fit.{IsKept, IsFitDue}
 use Rattle.hpx_node.specs.Awaited.{answered_by}
 use Rattle.hpx_node.specs.Births.{IsBirth, Makes, births_of, objects_of, ids_of}
-use Rattle.hpx_node.specs.Commits.{splits_from, written, ups, committed_from, IsPrepared}
+use Rattle.hpx_node.specs.Changes.{AreAlike}
+use Rattle.hpx_node.specs.Commits.{splits_from, written, ups, committed_from, committed_to, IsPrepared, Commits}
 use Rattle.hpx_node.specs.Paused.{IsPaused, ArePaused}
 use Rattle.hpx_node.specs.Pending.{Waits, action_of, ids_named, own_ids, is_asked, Asked}
 use Rattle.hpx_node.specs.Resumes.{full_stock, MayResume}
+use Rattle.hpx_node.specs.Routes.{with_left}
 use Rattle.hpx_node.specs.Stands.{IsTidy, StandsWith, rules_of}
 use Rattle.hpx_node.specs.Tables.{Tables}
 use Rattle.hpx_node.proofs.Alls.{all_at, some_same}
 use Rattle.hpx_node.proofs.SplitHand.{none_asked}
-use Rattle.hpx_node.proofs.Committing.{settled_stands, settled_here, settled_serial, all_written}
+use Rattle.hpx_node.proofs.Committing.{settled_stands, settled_here, settled_serial, all_written, all_committed}
 use Rattle.hpx_node.proofs.Ending.{prepared_alone, prepared_single, prepared_plain}
 use Rattle.hpx_node.proofs.OfPrepared.{births_fit, births_few, state_kept, state_has, due_fits, due_short, ups_have, ups_short, splits_short, committed_few, committed_light}
 use Rattle.hpx_node.proofs.Steps.{at_all_length}
@@ -237,3 +239,17 @@ module _ (act_of : ℕ → ℕ → ℕ → State → Act → Outcome)
           grown_weighs t.here (committed_from t w.job w.outcome p.stock) e0 e3 is_all,
           committed_light t w.job w.outcome k.was.job few k.laws p is t.here,
         )
+
+    pub waits_commits : (u : Tables) → AreAlike u (with_left p.plan.due.items p.plan.ups.items t2)
+        → Commits w.job w.outcome (full_stock t w) j (record t { pending = remove t.pending i }) u
+    waits_commits u alike =
+        let less = record t { pending = remove t.pending i } in
+        let same : ends.standing ≡ k.was.standing = some_same ends.standing k.was.standing (sym ends.stands ∙ stands) in record {
+          standing = k.was.standing;
+          stands = stands;
+          found = k.was.found;
+          goes = all_committed act_of blind t w.job w.outcome k.was.job few k.laws k.right p is j t.running (remove t.pending i) ends t1 t2 made objects rest_is e0 e1 e2
+              first done_is u alike
+              ∙ (ap (λ (x : Standing). record (committed_to w.job w.outcome p.stock j x less) { spare = u.spare }) same
+              ∙ ap (λ (s : Stock). record (committed_to w.job w.outcome s j k.was.standing less) { spare = u.spare }) k.may.stock);
+        }

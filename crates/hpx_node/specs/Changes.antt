@@ -18,6 +18,10 @@ pub record OnlySpare (t t' : Tables) (b b' : Book) : Type 0 where
   pub tables : t' ≡ record t { spare = t'.spare }
   pub entries : b'.entries ≡ b.entries
 
+-- the same but for how much more there is memory
+abbrev pub AreAlike : Tables → Tables → Type 0
+AreAlike t t' = record t { spare = 0 } ≡ record t' { spare = 0 }
+
 -- nothing but the last number drawn for an action, and what waits or is on its way
 abbrev pub OnlySends : Tables → Tables → Type 0
 OnlySends t t' = t' ≡ record t { serial = t'.serial; accepted = t'.accepted; desk = t'.desk; outgoing = t'.outgoing; spare = t'.spare }

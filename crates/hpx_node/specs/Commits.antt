@@ -1,17 +1,21 @@
 -- What a commit writes.
-use Rattle.std.specs.Prelude.{ℕ, zero, suc, false, List, [], ◌∷◌, ◌++◌, ◌+◌, ◌≡◌, ◌≤◌, length, map}
-use Rattle.std.specs.List.{AllByRecursion}
+use Rattle.std.specs.Prelude.{ℕ, zero, suc, false, List, [], ◌∷◌, ◌++◌, ◌+◌, ◌≡◌, ◌≤◌, Some, length, map, set}
+use Rattle.std.specs.List.{AllByRecursion, find, slice_get, remove}
 use Rattle.hpx_value.specs.Ids.{bare}
 use Rattle.hpx_value.specs.Hands.{hand_ids, due_of, state_after}
 use Rattle.hpx_value.specs.declared.acts.Job.{Job}
 use Rattle.hpx_parcel.specs.Parcels.{HasRightCredit}
-use Rattle.hpx_journal.specs.Data.{Id, Outcome, Due, MessageDue, PrintDue}
-use Rattle.hpx_journal.specs.Entries.{name_of}
-use Rattle.hpx_part.specs.Data.{Event, Split, Done, Sent, Print, Up}
-use Rattle.hpx_node.specs.Births.{birth_of, births_of, ids_of}
+use Rattle.hpx_journal.specs.Data.{Id, State, Outcome, Due, MessageDue, PrintDue}
+use Rattle.hpx_journal.specs.Entries.{name_of, target_of}
+use Rattle.hpx_journal.specs.Local.{is_standing}
+use Rattle.hpx_part.specs.Data.{Event, Split, Done, Sent, Print, Up, Standing}
+use Rattle.hpx_node.specs.Awaited.{answered_by}
+use Rattle.hpx_node.specs.Births.{birth_of, births_of, objects_of, records_of, ids_of}
 use Rattle.hpx_commit.specs.Deals.{half, log_of, named, places_named, dealt, AllLast, unnamed, filled, unused, filled_due}
 use Rattle.hpx_commit.specs.Stocks.{Stock, SameNames}
 use Rattle.hpx_node.specs.declared.node.finish.Prepared.{Prepared}
+use Rattle.hpx_node.specs.Jobs.{IsAt}
+use Rattle.hpx_node.specs.Routes.{with_left}
 use Rattle.hpx_node.specs.Tables.{Tables}
 
 -- ---- splits: an id that n name is halved n - 1 times
@@ -68,6 +72,17 @@ committed_from t job out s =
 abbrev pub committed : Tables → Job → Outcome → List Event
 committed t job out = committed_from t job out (own_stock t job out)
 
+-- the new state of the object, where this stock is dealt: each mention has its share
+abbrev pub state_dealt : Tables → Job → Outcome → Stock → State
+state_dealt t job out s = record (state_after job.state job.action (made_of t out) out) {
+  ids = filled (state_after job.state job.action (made_of t out) out).ids (dealt s.hand s.places);
+}
+
+-- what is due then, each mention with the next share
+abbrev pub due_dealt : Tables → Job → Outcome → Stock → List Due
+due_dealt t job out s = filled_due (due_of job.state job.action (made_of t out) out)
+    (unused (state_after job.state job.action (made_of t out) out).ids (dealt s.hand s.places))
+
 -- a stock that may be dealt: it names what the hand names, and each id has its credit, which lasts for all who name it
 pub record IsStock (t : Tables) (job : Job) (out : Outcome) (s : Stock) : Type 0 where
   pub names : SameNames (own_stock t job out) s
@@ -79,9 +94,36 @@ pub record IsStock (t : Tables) (job : Job) (out : Outcome) (s : Stock) : Type 0
 pub record IsPrepared (t : Tables) (job : Job) (out : Outcome) (p : Prepared) : Type 0 where
   pub births : p.births.items ≡ map birth_of out.makes
   pub stock : IsStock t job out p.stock
-  pub state_left : p.plan.state ≡ record (state_after job.state job.action (made_of t out) out) {
-    ids = filled (state_after job.state job.action (made_of t out) out).ids (dealt p.stock.hand p.stock.places);
-  }
-  pub due_left : p.plan.due.items ≡ filled_due (due_of job.state job.action (made_of t out) out)
-      (unused (state_after job.state job.action (made_of t out) out).ids (dealt p.stock.hand p.stock.places))
+  pub state_left : p.plan.state ≡ state_dealt t job out p.stock
+  pub due_left : p.plan.due.items ≡ due_dealt t job out p.stock
   pub ups_left : p.plan.ups.items ≡ unnamed p.stock.hand p.stock.places
+
+-- ---- where a commit leads
+
+-- what it makes stands here and lives, its object, x at j, has the new state, and an answer of the session counts as had
+abbrev pub with_settled : Job → Outcome → Stock → ℕ → Standing → Tables → Tables
+with_settled job out s j x t = record t {
+  births = t.births + length out.makes;
+  records = t.records ++ records_of t.here t.births t.profile.credit_log (map birth_of out.makes);
+  objects = set (t.objects ++ objects_of t.here t.births (map birth_of out.makes)) j (record { object = x.object; state = state_dealt t job out s });
+  answered = t.answered + answered_by (Some job.action);
+}
+
+-- and what is due is on its way; then what nobody names is given up
+abbrev pub committed_to : Job → Outcome → Stock → ℕ → Standing → Tables → Tables
+committed_to job out s j x t = with_left (due_dealt t job out s) (unnamed s.hand s.places) (with_settled job out s j x t)
+
+-- a job commits with this stock, where its action runs and waits no more; its object stands at j. Nothing else changes
+pub record Commits (job : Job) (out : Outcome) (s : Stock) (j : ℕ) (t t' : Tables) : Type 0 where
+  pub standing : Standing
+  pub stands : slice_get t.objects j ≡ Some standing
+  pub found : find (is_standing (target_of job.action)) t.objects ≡ Some standing
+  pub goes : t' ≡ record (committed_to job out s j standing t) { spare = t'.spare }
+
+-- the job, whose action runs at i, is no longer among those that run: it commits with the stock of its hand
+pub record Ends (t t' : Tables) (job : Job) (out : Outcome) : Type 0 where
+  pub i : ℕ
+  pub j : ℕ
+  pub at : IsAt t i j job
+  pub running : t'.running ≡ remove t.running i
+  pub commits : Commits job out (own_stock t job out) j (record t { running = remove t.running i }) t'

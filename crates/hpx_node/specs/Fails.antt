@@ -12,7 +12,7 @@ use Rattle.hpx_node.specs.declared.node.fail.Failing.{Failing}
 use Rattle.hpx_node.specs.Awaited.{answered_by}
 use Rattle.hpx_node.specs.Commits.{written, ups}
 use Rattle.hpx_node.specs.Pending.{Waits, awaits, hand_with}
-use Rattle.hpx_node.specs.Routes.{Gives}
+use Rattle.hpx_node.specs.Routes.{Gives, with_left}
 use Rattle.hpx_node.specs.Tables.{Tables}
 
 -- the state of its object, as it was, with what is left of its credits
@@ -48,22 +48,19 @@ pub record IsFailure (w : Waits) (p : Plan) : Type 0 where
   pub due : p.due.items ≡ due_left w
   pub ups : p.ups.items ≡ ups_left w
 
--- the commit at i fails: it waits no more, and its object, at j, has its credits again; an answer of the session counts as had
+-- the commit at i fails: it waits no more, and its object, at j, has its credits again; an answer of the session counts as had;
+-- what is due is on its way, and then the rest is given up
 pub record Fails (i j : ℕ) (t t' : Tables) : Type 0 where
   pub commit : Waits
   pub there : slice_get t.pending i ≡ Some commit
   pub standing : Standing
   pub stands : slice_get t.objects j ≡ Some standing
-  pub rest : t' ≡ record t {
-    serial = t'.serial;
-    accepted = t'.accepted;
+  pub found : find (is_standing (target_of commit.job.action)) t.objects ≡ Some standing
+  pub rest : t' ≡ record (with_left (due_left commit) (ups_left commit) (record t {
     pending = remove t.pending i;
-    desk = t'.desk;
-    outgoing = t'.outgoing;
     objects = set t.objects j (record { object = standing.object; state = state_left commit });
     answered = t.answered + answered_by (Some commit.job.action);
-    spare = t'.spare;
-  }
+  })) { spare = t'.spare }
 
 -- ---- a message that brings the last answer
 

@@ -33,7 +33,7 @@ pub record IsFitJob (job : Job) : Type 0 where
   pub state : IsState job.state
   pub credit : AllByRecursion HasRightCredit job.state.ids
 
--- the first accepted action that is free is taken, and its job runs
+-- the first accepted action that is free is taken, and its job runs; nothing else changes
 pub record Starts (t t' : Tables) (job : Job) : Type 0 where
   pub i : ℕ
   pub standing : Standing
@@ -46,10 +46,5 @@ pub record Starts (t t' : Tables) (job : Job) : Type 0 where
   pub state : job.state ≡ standing.state
   pub accepted : t'.accepted ≡ remove t.accepted i
   pub running : t'.running ≡ t.running ++ job.action ∷ []
+  pub rest : t' ≡ record t { accepted = t'.accepted; running = t'.running; spare = t'.spare }
   pub runs : IsRunning t' job
-
--- the job is no longer among those that run
-pub record Ends (t t' : Tables) (job : Job) : Type 0 where
-  pub i : ℕ
-  pub action : slice_get t.running i ≡ Some job.action
-  pub running : t'.running ≡ remove t.running i

@@ -6,7 +6,7 @@ use Rattle.hpx_part.specs.Data.{Event, Entry}
 use Rattle.hpx_node.specs.declared.node.next.Next.{Next}
 use Rattle.hpx_node.specs.declared.node.next.Next.TheVariants as nexts
 use Rattle.hpx_node.specs.Changes.{Writes}
-use Rattle.hpx_node.specs.Commits.{committed_from}
+use Rattle.hpx_node.specs.Commits.{committed_from, Commits}
 use Rattle.hpx_node.specs.Fails.{MustFail, IsFailure, Fails, IsFailingFor, dooms, failed_events, FailsWith}
 use Rattle.hpx_node.specs.Pending.{Waits}
 use Rattle.hpx_node.specs.Resumes.{MayResume, IsReadyFor, completes, full_stock, GoesWith}
@@ -38,6 +38,8 @@ HasFollowed (nexts.GoesOn y) t t' entries entries' =
     (t'.pending ≡ remove t.pending y.i)
     × ((w : Waits) → slice_get t.pending y.i ≡ Some w
     → Writes (committed_from t w.job w.outcome (full_stock t w)) t t' entries entries')
+    × ((w : Waits) → slice_get t.pending y.i ≡ Some w
+    → Commits w.job w.outcome (full_stock t w) y.j (record t { pending = remove t.pending y.i }) t')
 HasFollowed (nexts.Fails y) t t' entries entries' =
     Fails y.i y.j t t' × ((w : Waits) → slice_get t.pending y.i ≡ Some w → Writes (failed_events t w) t t' entries entries')
 

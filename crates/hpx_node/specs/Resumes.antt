@@ -9,7 +9,7 @@ use Rattle.hpx_commit.specs.Deals.{log_of}
 use Rattle.hpx_commit.specs.Stocks.{Stock, replaced_from}
 use Rattle.hpx_node.specs.declared.node.finish.Prepared.{Prepared}
 use Rattle.hpx_node.specs.declared.node.resume.Ready.{Ready}
-use Rattle.hpx_node.specs.Commits.{made_of, committed_from, IsPrepared}
+use Rattle.hpx_node.specs.Commits.{made_of, committed_from, IsPrepared, Commits}
 use Rattle.hpx_node.specs.Pending.{Waits, ids_named, awaits, waits_for_one, hand_with}
 use Rattle.hpx_node.specs.Routes.{Gives}
 use Rattle.hpx_node.specs.Tables.{Tables}
@@ -35,11 +35,13 @@ pub record MayResume (t : Tables) (w : Waits) (j : ℕ) (p : Prepared) : Type 0 
   pub prepared : IsPrepared t w.job w.outcome p
   pub stock : p.stock ≡ full_stock t w
 
--- the commit at i goes on: these events are written, and it waits no more
+-- the commit at i goes on: these events are written, and it waits no more; its object stands at j
 pub record GoesOn (i : ℕ) (w : Waits) (t t' : Tables) (events : List Event) : Type 0 where
+  pub j : ℕ
   pub what : events ≡ committed_from t w.job w.outcome (full_stock t w)
   pub pending : t'.pending ≡ remove t.pending i
   pub running : t'.running ≡ t.running
+  pub commits : Commits w.job w.outcome (full_stock t w) j (record t { pending = remove t.pending i }) t'
 
 -- ---- a message that brings the last credit
 

@@ -3,7 +3,8 @@ use Rattle.std.specs.Prelude.{ℕ, Bool, false, not, nat_lt, cond, [], ◌∷◌
 use Rattle.std.specs.Option.{option_map_or}
 use Rattle.std.specs.List.{find, slice_get}
 use Rattle.hpx_value.specs.Ids.{bare, credit}
-use Rattle.hpx_journal.specs.Data.{Id, Act, Parcel, Apply, Return, Ask, Give, Move, Free}
+use Rattle.hpx_value.specs.Values.{named}
+use Rattle.hpx_journal.specs.Data.{Id, Act, Due, MessageDue, PrintDue, Parcel, Apply, Return, Ask, Give, Move, Free}
 use Rattle.hpx_journal.specs.Entries.{target_of, move_to}
 use Rattle.hpx_journal.specs.Local.{is_standing}
 use Rattle.hpx_part.specs.Data.{Standing}
@@ -75,6 +76,18 @@ with_accepted act t = record t { accepted = t.accepted ++ act ∷ [] }
 -- with one more action: accepted exactly where it may be, else in a message to the home of its object
 abbrev pub with_act : Act → Tables → Tables
 with_act act t = cond (may_stay t act) (with_accepted act t) (with_mail (target_of act).home (parcel_for act) t)
+
+-- ---- what is left
+
+-- all that is due is on its way, in order: each message under the next serial; prints change nothing
+abbrev pub with_due : List Due → Tables → Tables
+with_due [] t = t
+with_due (MessageDue m ∷ due) t = with_due due (with_act (named t.here (t.serial + 1) m) (record t { serial = t.serial + 1 }))
+with_due (PrintDue bytes ∷ due) t = with_due due t
+
+-- and then these ids are given up
+abbrev pub with_left : List Due → List Id → Tables → Tables
+with_left due ids t = with_returns ids (with_due due t)
 
 -- ---- credit that was asked for
 

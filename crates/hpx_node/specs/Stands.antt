@@ -3,8 +3,10 @@ use Rattle.std.specs.Prelude.{ℕ, true, List, [], ◌≡◌, ◌≤◌, length}
 use Rattle.hpx_value.specs.declared.profile.Profile.{Profile}
 use Rattle.std.specs.List.{AllByRecursion, count_by, find}
 use Rattle.hpx_value.specs.Ids.{same_object}
-use Rattle.std.specs.Prelude.{IfSome, None, ◌<◌}
+use Rattle.std.specs.Prelude.{IfSome, Some, None, ◌<◌}
 use Rattle.hpx_value.specs.Values.{bare_act}
+use Rattle.hpx_agas.specs.Records.{find_record}
+use Rattle.hpx_agas.specs.declared.record.Record.{Record}
 use Rattle.hpx_parcel.specs.Parcels.{IsParcel}
 use Rattle.hpx_parcel.specs.Reading.{parcel_of}
 use Rattle.hpx_journal.specs.Data.{Id, State, Act, Outcome, Due}
@@ -32,8 +34,16 @@ rules_of act_of n profile = record {
   outcome_of = act_of n;
 }
 
+-- a record says that its object is at k, and does not move
+abbrev pub StaysAt : ℕ → Record → Type 0
+StaysAt k x = (x.place ≡ k) × (x.moving ≡ None)
+
+-- each record that is found says so
+abbrev pub StayAt : ℕ → List Record → Type 0
+StayAt k records = (o : Id) (x : Record) → find_record o records ≡ Some x → StaysAt k x
+
 -- all that is kept, due or on its way is well formed; a MOVE is accepted only to here, and an action only where its object
--- stands; what was born here has a number that was drawn, and messages are where they may be
+-- stands; what was born here has a number that was drawn; no object of this home is or goes elsewhere; messages are where they may be
 pub record IsTidy (t : Tables) (due : List Due) : Type 0 where
   pub accepted : AllByRecursion IsFit t.accepted
   pub running : AllByRecursion IsFit t.running
@@ -44,6 +54,7 @@ pub record IsTidy (t : Tables) (due : List Due) : Type 0 where
   pub targets : AllByRecursion (λ act. stands_here t (target_of act) ≡ true) t.accepted
   pub drawn : AllByRecursion (λ x. 16 ≤ x.object.kind → x.object.home ≡ t.here → x.object.number ≤ t.births) t.objects
   pub unborn : (o : Id) → t.births < o.number → find (λ x. same_object o x.gid) t.records ≡ None
+  pub places : StayAt t.here t.records
   pub ways : AreOnTheirWay t
   pub paused : ArePaused t.here t.localities t.profile.credit_log t.objects t.running t.pending
 

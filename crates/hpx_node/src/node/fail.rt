@@ -125,6 +125,9 @@ impl<A: Acts + Copy> Node<A> {
         requires page { 512 ≤ book.old.spare }
         requires stands { Stands A.act_of self.old book.old.entries }
         ensures stands { Stands A.act_of self.new book.new.entries }
+        ensures running { self.new.running ≡ self.old.running }
+        ensures taken { self.new.taken ≡ self.old.taken }
+        ensures sent { self.new.sent ≡ self.old.sent }
         ensures fails { Fails i j self.old self.new }
         ensures writes { (w : _) → slice_get self.old.pending i ≡ Some w → Writes (failed_events self.old w) self.old self.new book.old.entries book.new.entries }
         ensures few { length book.new.entries ≤ length book.old.entries + 259 }

@@ -8,8 +8,8 @@ ghost use Rattle.hpx_journal.specs.Entries.{target_of};
 ghost use Rattle.hpx_journal.specs.Local.{is_standing};
 ghost use Rattle.hpx_node.specs.Asks.{Begins};
 ghost use Rattle.hpx_node.specs.Births.{birth_of, ids_of};
-ghost use Rattle.hpx_node.specs.Commits.{committed, made_of, hand_of, places_in_hand, own_stock, IsStock, IsPrepared};
-ghost use Rattle.hpx_node.specs.Jobs.{IsAt, IsRunning, IsFitJob, Ends};
+ghost use Rattle.hpx_node.specs.Commits.{committed, made_of, hand_of, places_in_hand, own_stock, IsStock, IsPrepared, Ends};
+ghost use Rattle.hpx_node.specs.Jobs.{IsAt, IsRunning, IsFitJob};
 ghost use Rattle.hpx_node.specs.Lacks.{Lacks};
 ghost use Rattle.hpx_node.specs.Stands.{IsTidy, Stands};
 ghost use Rattle.hpx_node.specs.Changes.{OnlySpare, Writes};
@@ -160,7 +160,7 @@ impl<A: Acts + Copy> Node<A> {
         ensures stands { Stands A.act_of self.new book.new.entries }
         ensures turn { AddsATurn book.old.entries book.new.entries }
         ensures committed { Writes (committed self.old done.now.job done.now.outcome) self.old self.new book.old.entries book.new.entries }
-        ensures ends { Ends self.old self.new done.now.job }
+        ensures ends { Ends self.old self.new done.now.job done.now.outcome }
         ensures pending { self.new.pending ≡ self.old.pending }
     {
         let Prepared {
@@ -196,7 +196,7 @@ impl<A: Acts + Copy> Node<A> {
         ensures not_running { IfOk result (λ f. f ≡ Finished.NotRunning →
             (done.localities ≡ self.old.localities → IsRunning self.old done.job → ⊥) × OnlySpare self.old self.new book.old book.new) }
         ensures running { IfOk result (λ f. (f ≡ Finished.NotRunning → ⊥) → (done.localities ≡ self.old.localities) × IsRunning self.old done.job) }
-        ensures ends { IfOk result (λ f. f ≡ Finished.Committed → Ends self.old self.new done.job) }
+        ensures ends { IfOk result (λ f. f ≡ Finished.Committed → Ends self.old self.new done.job done.outcome) }
         ensures err { IfErr result (λ e. (e.undone ≡ done) × OnlySpare self.old self.new book.old book.new) }
     {
         let (i, j) = match self.spot(&done) {

@@ -49,6 +49,7 @@ impl<A: Acts + Copy> Node<A> {
         ensures fired { (act : _) → slice_get self.old.accepted i ≡ Some act → Writes (Fire (name_of act) ∷ []) self.old self.new book.old.entries book.new.entries }
         ensures objects { self.new.objects ≡ self.old.objects }
         ensures pending { self.new.pending ≡ self.old.pending }
+        ensures rest { self.new ≡ record self.old { accepted = self.new.accepted; running = self.new.running; spare = self.new.spare } }
         ensures accepted { self.new.accepted ≡ remove self.old.accepted i }
         ensures running { (act : _) → slice_get self.old.accepted i ≡ Some act → self.new.running ≡ self.old.running ++ act ∷ [] }
     {

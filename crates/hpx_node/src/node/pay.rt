@@ -3,9 +3,10 @@ ghost use Rattle.std.specs.Prelude.{◌≡◌, ◌≤◌, ◌<◌, ◌+◌, ◌^
 ghost use Rattle.std.specs.List.{AllByRecursion};
 ghost use Rattle.hpx_parcel.specs.Parcels.{HasCredit};
 ghost use Rattle.hpx_part.specs.Parts.{at_all};
-ghost use Rattle.hpx_node.specs.Changes.{OnlySends};
+ghost use Rattle.hpx_node.specs.Changes.{OnlySends, AreAlike};
 ghost use Rattle.hpx_node.specs.Commits.{written, ups};
 ghost use Rattle.hpx_node.specs.Fit.{IsFitDue};
+ghost use Rattle.hpx_node.specs.Routes.{with_due, with_returns, with_left};
 ghost use Rattle.hpx_node.specs.Stands.{Stands, StandsWith, rules_of};
 ghost use Rattle.hpx_value.specs.Values.{named};
 
@@ -53,6 +54,7 @@ impl<A: Acts + Copy> Node<A> {
         ensures here { (self.new.here ≡ self.old.here) × (self.new.localities ≡ self.old.localities) × (self.new.profile ≡ self.old.profile) }
         ensures running { self.new.running ≡ self.old.running }
         ensures rest { OnlySends self.old self.new }
+        ensures goes { AreAlike (with_due due.new.items self.new) (with_due due.old.items self.old) }
         ensures writes { book.new.entries ++ at_all self.new.here (written self.new.here self.new.serial due.new.items)
             ≡ book.old.entries ++ at_all self.old.here (written self.old.here self.old.serial due.old.items) }
     {
@@ -93,6 +95,7 @@ impl<A: Acts + Copy> Node<A> {
         ensures here { (self.new.here ≡ self.old.here) × (self.new.localities ≡ self.old.localities) × (self.new.profile ≡ self.old.profile) }
         ensures running { self.new.running ≡ self.old.running }
         ensures rest { OnlySends self.old self.new }
+        ensures goes { AreAlike (with_returns loose.new.items self.new) (with_returns loose.old.items self.old) }
         ensures writes { book.new.entries ++ at_all self.new.here (ups loose.new.items) ≡ book.old.entries ++ at_all self.old.here (ups loose.old.items) }
     {
         let at = self.here;
@@ -122,6 +125,7 @@ impl<A: Acts + Copy> Node<A> {
         ensures here { (self.new.here ≡ self.old.here) × (self.new.localities ≡ self.old.localities) × (self.new.profile ≡ self.old.profile) }
         ensures running { self.new.running ≡ self.old.running }
         ensures rest { OnlySends self.old self.new }
+        ensures goes { AreAlike self.new (with_due due.items self.old) }
         ensures writes { book.new.entries ≡ book.old.entries ++ at_all self.old.here (written self.old.here self.old.serial due.items) }
     {
         while !due.is_empty() {
@@ -139,6 +143,7 @@ impl<A: Acts + Copy> Node<A> {
         ensures here { (self.new.here ≡ self.old.here) × (self.new.localities ≡ self.old.localities) × (self.new.profile ≡ self.old.profile) }
         ensures running { self.new.running ≡ self.old.running }
         ensures rest { OnlySends self.old self.new }
+        ensures goes { AreAlike self.new (with_returns loose.items self.old) }
         ensures writes { book.new.entries ≡ book.old.entries ++ at_all self.old.here (ups loose.items) }
     {
         while !loose.is_empty() {
@@ -158,6 +163,7 @@ impl<A: Acts + Copy> Node<A> {
         ensures here { (self.new.here ≡ self.old.here) × (self.new.localities ≡ self.old.localities) × (self.new.profile ≡ self.old.profile) }
         ensures running { self.new.running ≡ self.old.running }
         ensures rest { OnlySends self.old self.new }
+        ensures goes { AreAlike self.new (with_left due.items loose.items self.old) }
         ensures writes { book.new.entries ≡ book.old.entries ++ at_all self.old.here (written self.old.here self.old.serial due.items ++ ups loose.items) }
     {
         self.pay_all(book, due, loose.as_slice());

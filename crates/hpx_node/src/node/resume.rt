@@ -8,7 +8,7 @@ ghost use Rattle.hpx_parcel.specs.Parcels.{IsParcel};
 ghost use Rattle.hpx_part.specs.Parts.{at_all};
 ghost use Rattle.hpx_part.specs.Data.{Done};
 ghost use Rattle.hpx_node.specs.Awaited.{answered_by};
-ghost use Rattle.hpx_node.specs.Commits.{committed_from, IsStock, IsPrepared};
+ghost use Rattle.hpx_node.specs.Commits.{committed_from, IsStock, IsPrepared, Commits};
 ghost use Rattle.hpx_node.specs.Fit.{IsKept};
 ghost use Rattle.hpx_node.specs.Jobs.{IsFitJob};
 ghost use Rattle.hpx_node.specs.Pending.{ids_named, action_of};
@@ -151,6 +151,8 @@ impl<A: Acts + Copy> Node<A> {
         ensures light { total_weight book.new.entries ≤ total_weight book.old.entries + 2380288 }
         ensures writes { (w : _) → slice_get self.old.pending ready.i ≡ Some w
             → Writes (committed_from self.old w.job w.outcome (full_stock self.old w)) self.old self.new book.old.entries book.new.entries }
+        ensures commits { (w : _) → slice_get self.old.pending ready.i ≡ Some w
+            → Commits w.job w.outcome (full_stock self.old w) ready.j (record self.old { pending = remove self.old.pending ready.i }) self.new }
     {
         let Ready { i, j, prepared } = ready;
         let Prepared {

@@ -10,7 +10,7 @@ use Rattle.hpx_node.proofs.Alls.{all_at, some_same}
 use Rattle.hpx_node.proofs.OfPrepared.{births_fit, births_few, state_kept, due_fits, due_short, ups_have, ups_short, splits_short}
 use Rattle.hpx_node.proofs.Committing.{stands_then, stands_less}
 use Rattle.hpx_node.proofs.TurnSteps.{adds_commit}
-use Rattle.hpx_node.proofs.RunsCommit.{runs_stands, runs_here, runs_serial, runs_running, runs_written}
+use Rattle.hpx_node.proofs.RunsCommit.{runs_stands, runs_here, runs_serial, runs_running, runs_written, runs_commits}
 use Rattle.hpx_node.proofs.node.Node.commit.Goals as goal
 
 pub make-requires-clause-fit : goal.make-requires-clause-fit
@@ -170,11 +170,16 @@ returns-clause-ends g c =
     let right = d.right ∙ ap (λ n. g.A.Acts.act_of n d.job.kind d.job.at d.job.state d.job.action) c.requires.localities in
     record {
       i = c.args.i;
-      action = c.requires.at.runs;
+      j = c.args.j;
+      at = c.requires.at;
       running = c.leave.ensures.running
           ∙ runs_running g.A.Acts.act_of g.met.A.Acts.is_blind t d.job d.outcome c.requires.fit c.requires.few laws right c.args.prepared c.requires.prepared
           c.requires.own c.args.i c.args.j c.requires.at c.make.new.self c.settle.new.self c.make.ensures.made c.settle.ensures.running c.settle.ensures.objects
           c.settle.ensures.rest c.args.book.now.entries c.make.new.book.entries c.settle.new.book.entries c.make.ensures.entries c.settle.ensures.entries;
+      commits = runs_commits g.A.Acts.act_of g.met.A.Acts.is_blind t d.job d.outcome c.requires.fit c.requires.few laws right c.args.prepared c.requires.prepared
+          c.requires.own c.args.i c.args.j c.requires.at c.make.new.self c.settle.new.self c.make.ensures.made c.settle.ensures.running c.settle.ensures.objects
+          c.settle.ensures.rest c.args.book.now.entries c.make.new.book.entries c.settle.new.book.entries c.make.ensures.entries c.settle.ensures.entries
+          c.leave.new.self c.leave.ensures.goes;
     }
 
 pub returns-clause-turn : goal.returns-clause-turn

@@ -49,7 +49,7 @@ pub returns-clause-fails : goal.returns-clause-fails
 returns-clause-fails g c =
     then_fails g.A.Acts.act_of c.args.self.now c.args.i c.args.j c.requires.must c.args.plan c.requires.plan c.args.book.now.entries c.requires.stands
     c.abandon.new.self c.abandon.new.book.entries c.abandon.ensures.pending c.abandon.ensures.objects c.abandon.ensures.rest c.abandon.ensures.entries
-    c.leave.new.self c.leave.new.book.entries c.leave.ensures.rest c.leave.ensures.writes
+    c.leave.new.self c.leave.new.book.entries c.leave.ensures.rest c.leave.ensures.writes c.leave.ensures.goes
 
 pub returns-clause-writes : goal.returns-clause-writes
 returns-clause-writes g c =

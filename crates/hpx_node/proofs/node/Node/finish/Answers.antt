@@ -27,7 +27,7 @@ commit-requires-clause-stands g c =
     stands_same g.A.Acts.act_of c.args.self.now _ _ _ c.requires.stands c.reserve.ensures.same c.reserve-else-is_err.ensures.entries
 
 pub returns-clause-ends : goal.returns-clause-ends
-returns-clause-ends g c = λ done. ends_from c.args.self.now _ _ _ c.reserve.ensures.same c.commit.ensures.ends
+returns-clause-ends g c = λ done. ends_from c.args.self.now _ _ _ _ c.reserve.ensures.same c.commit.ensures.ends
 
 pub wait-requires-clause-short : goal.wait-requires-clause-short
 wait-requires-clause-short g c = rw c.in-Ok-None.field-0-is at c.in-Ok-None.ensures.none

@@ -34,6 +34,7 @@ returns-clause-job g c =
       state = job.1;
       accepted = c.start.ensures.accepted ∙ rw (c.in_ok-reserve.ensures.same, ← c.self.view_is);
       running = c.start.ensures.running c.in_ok-job.job.action (rw (c.in_ok-reserve.ensures.same, ← c.self.view_is) at) ∙ rw (c.in_ok-reserve.ensures.same, ← c.self.view_is);
+      rest = c.start.ensures.rest ∙ rw (c.in_ok-reserve.ensures.same, ← c.self.view_is);
       runs = started_runs c.self.inside.here c.self.inside.running.items c.self.inside.objects.items c.start.new.self c.in_ok-job.job
           c.in-Some.spot.1 free.standing
           ((c.start.ensures.fired c.in_ok-job.job.action (rw (c.in_ok-reserve.ensures.same, ← c.self.view_is) at)).here ∙ rw (c.in_ok-reserve.ensures.same, ← c.self.view_is))

@@ -1,16 +1,16 @@
 use Rattle.std.proofs.Common.{◌≡◌, ◌∙◌, Some, sym, ap, subst, arith}
-use Rattle.std.specs.List.{slice_get}
+use Rattle.std.specs.List.{slice_get, remove}
 use Rattle.hpx_part.specs.Data.{Standing}
 use Rattle.hpx_part.proofs.Keyed.{slice_get_is}
 use Rattle.hpx_node.specs.Changes.{Writes}
-use Rattle.hpx_node.specs.Commits.{committed_from}
+use Rattle.hpx_node.specs.Commits.{committed_from, Commits}
 use Rattle.hpx_node.specs.Fit.{IsKept}
 use Rattle.hpx_node.specs.Pending.{Waits}
 use Rattle.hpx_node.specs.Resumes.{full_stock}
 use Rattle.hpx_node.specs.Tables.{Tables}
 use Rattle.hpx_node.proofs.Alls.{some_same}
 use Rattle.hpx_node.proofs.Committing.{stands_then, stands_less}
-use Rattle.hpx_node.proofs.WaitsCommit.{known, stands, born_few, born_fit, cut_few, state_is_kept, due_is_fit, due_is_short, ups_are_paid, ups_are_short, waits_stands, waits_here, waits_serial, waits_written, waits_few, waits_light}
+use Rattle.hpx_node.proofs.WaitsCommit.{known, stands, born_few, born_fit, cut_few, state_is_kept, due_is_fit, due_is_short, ups_are_paid, ups_are_short, waits_stands, waits_here, waits_serial, waits_written, waits_few, waits_light, waits_commits}
 use Rattle.hpx_node.proofs.node.Node.resume.Goals as goal
 
 pub make-requires-clause-fit : goal.make-requires-clause-fit
@@ -278,3 +278,20 @@ returns-clause-writes g c =
           c.settle_waiting.ensures.objects c.settle_waiting.ensures.rest c.args.book.now.entries c.make.new.book.entries c.settle_waiting.new.book.entries
           c.make.ensures.entries c.settle_waiting.ensures.entries c.leave.new.book.entries c.leave.ensures.writes;
     })
+
+pub returns-clause-commits : goal.returns-clause-commits
+returns-clause-commits g c =
+    let w = c.index.result.now in
+    let d = c.done.result.now in
+    let t = c.args.self.now in
+    let inside = rw (← c.self.view_is) at c.requires.waits in
+    let is : slice_get t.pending c.args.ready.i ≡ Some c.index.result.now =
+    ap (λ (x : Tables). slice_get x.pending c.args.ready.i) (sym c.self.view_is)
+    ∙ slice_get_is c.self.inside.pending.items c.args.ready.i c.index.result.now inside c.index.ensures in
+    let k = known g.A.Acts.act_of t w c.args.ready.i c.args.ready.j c.args.ready.prepared d.localities d.job d.outcome is (c.requires.may w is)
+    c.requires.stands.tidy c.done.ensures.localities c.done.ensures.job c.done.ensures.outcome c.lawful.ensures d.right in
+    λ v h. let e : c.index.result.now ≡ v = some_same w v (sym is ∙ h) in
+    subst (λ (x : Waits). Commits x.job x.outcome (full_stock t x) c.args.ready.j (record t { pending = remove t.pending c.args.ready.i }) c.leave.new.self) e
+    (waits_commits g.A.Acts.act_of g.met.A.Acts.is_blind t w c.args.ready.i c.args.ready.j c.args.ready.prepared k c.make.new.self c.settle_waiting.new.self c.make.ensures.made c.settle_waiting.ensures.pending
+    c.settle_waiting.ensures.objects c.settle_waiting.ensures.rest c.args.book.now.entries c.make.new.book.entries c.settle_waiting.new.book.entries
+    c.make.ensures.entries c.settle_waiting.ensures.entries c.leave.new.self c.leave.ensures.goes)
