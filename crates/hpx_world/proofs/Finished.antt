@@ -7,8 +7,8 @@ use Rattle.hpx_journal.specs.Weights.{Book}
 use Rattle.hpx_commit.specs.Deals.{AllLast}
 use Rattle.hpx_node.specs.Asks.{Begins}
 use Rattle.hpx_node.specs.Changes.{Writes, OnlySpare}
-use Rattle.hpx_node.specs.Commits.{committed, hand_of, places_in_hand}
-use Rattle.hpx_node.specs.Jobs.{IsRunning, Ends}
+use Rattle.hpx_node.specs.Commits.{committed, hand_of, places_in_hand, Ends}
+use Rattle.hpx_node.specs.Jobs.{IsRunning}
 use Rattle.hpx_node.specs.Tables.{Tables}
 use Rattle.hpx_node.specs.declared.parts.Finished.{Finished}
 use Rattle.hpx_node.specs.declared.parts.Finished.TheVariants.{Committed, Asking, NotRunning}
@@ -27,7 +27,7 @@ module _ (nodes : List Tables) (k : ℕ) (t t' : Tables) (lt : k < length nodes)
       → (f ≡ Asking → (AllLast (hand_of t job out) (places_in_hand t job out) → ⊥) × Begins t t' job out b.entries b'.entries)
       → (f ≡ NotRunning → (n ≡ t.localities → IsRunning t job → ⊥) × OnlySpare t t' b b')
       → ((f ≡ NotRunning → ⊥) → (n ≡ t.localities) × IsRunning t job)
-      → (f ≡ Committed → Ends t t' job)
+      → (f ≡ Committed → Ends t t' job out)
       → DidFinish n job out (turned.Finished f) nodes (set nodes k t') b.entries b'.entries
   finished_did Committed writes lasts asks none runs ends =
       let r = runs (λ e. cc) in (

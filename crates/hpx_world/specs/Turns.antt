@@ -10,9 +10,9 @@ use Rattle.hpx_part.specs.Data.{Name, Event, Entry, Line, Fire, Out}
 use Rattle.hpx_commit.specs.Deals.{AllLast}
 use Rattle.hpx_node.specs.Asks.{Begins}
 use Rattle.hpx_node.specs.Changes.{Writes}
-use Rattle.hpx_node.specs.Commits.{committed, hand_of, places_in_hand}
+use Rattle.hpx_node.specs.Commits.{committed, hand_of, places_in_hand, Ends}
 use Rattle.hpx_node.specs.Frames.{IsFront}
-use Rattle.hpx_node.specs.Jobs.{IsRunning, Starts, Ends}
+use Rattle.hpx_node.specs.Jobs.{IsRunning, Starts}
 use Rattle.hpx_node.specs.Routes.{with_act}
 use Rattle.hpx_node.specs.Handled.{Takes, Clears, NotTaken, NotCleared}
 use Rattle.hpx_node.specs.Strange.{object_of}
@@ -48,7 +48,7 @@ pub record Commits (job : Job) (out : Outcome) (entries entries' : List Entry) (
   pub runs : IsRunning t job
   pub lasts : AllLast (hand_of t job out) (places_in_hand t job out)
   pub writes : Writes (committed t job out) t t' entries entries'
-  pub ends : Ends t t' job
+  pub ends : Ends t t' job out
 
 -- a job that runs begins to wait: some id of its hand does not last, and is asked for
 pub record Asks (job : Job) (out : Outcome) (entries entries' : List Entry) (t t' : Tables) : Type 0 where
