@@ -7,7 +7,8 @@ use Rattle.std.proofs.lemmas.List.{length-map}
 use Rattle.hpx_value.specs.Ids.{bare, credit}
 use Rattle.hpx_value.specs.Hands.{id_at}
 use Rattle.hpx_value.specs.declared.acts.Job.{Job}
-use Rattle.hpx_journal.specs.Data.{Id, Act, Parcel, Outcome, Apply, Return, Ask, Give, Cached, Move, Go, Shipped, Arrived, Free}
+use Rattle.hpx_value.specs.Values.{named}
+use Rattle.hpx_journal.specs.Data.{Id, Act, Due, MessageDue, PrintDue, Parcel, Outcome, Apply, Return, Ask, Give, Cached, Move, Go, Shipped, Arrived, Free}
 use Rattle.hpx_journal.specs.Entries.{target_of}
 use Rattle.hpx_journal.specs.Local.{is_standing}
 use Rattle.hpx_journal.specs.Weights.{Book}
@@ -15,7 +16,8 @@ use Rattle.hpx_part.specs.Data.{Entry, Event}
 use Rattle.hpx_commit.specs.Deals.{log_of}
 use Rattle.hpx_node.specs.Asks.{split_stock, short_before, lacking, with_asks, Begins}
 use Rattle.hpx_node.specs.Changes.{OnlySpare}
-use Rattle.hpx_node.specs.Fails.{fails_first, dooms}
+use Rattle.hpx_node.specs.Fails.{fails_first, dooms, state_left, due_left, ups_left}
+use Rattle.hpx_node.specs.Awaited.{answered_by}
 use Rattle.hpx_node.specs.Fit.{parcel_for}
 use Rattle.hpx_node.specs.Handled.{Takes, Clears}
 use Rattle.hpx_node.specs.Kept.{count_here}
@@ -23,7 +25,7 @@ use Rattle.hpx_node.specs.Lacks.{Lacks}
 use Rattle.hpx_node.specs.Next.{Continues}
 use Rattle.hpx_node.specs.Pending.{Waits, Asked, asked_at, awaits, is_asked_for}
 use Rattle.hpx_node.specs.Resumes.{is_last, completes}
-use Rattle.hpx_node.specs.Routes.{is_other, may_stay, with_mail, with_return, with_returns, with_free, with_act, place_or_0, given_here, ids_in, Gives, DealsWith, Accepts}
+use Rattle.hpx_node.specs.Routes.{is_other, may_stay, with_mail, with_return, with_returns, with_free, with_act, with_due, with_left, place_or_0, given_here, ids_in, Gives, DealsWith, Accepts}
 use Rattle.hpx_node.specs.Tables.{Tables}
 use Rattle.hpx_node.proofs.Alls.{all_append, all_remove, all_set}
 use Rattle.hpx_node.proofs.Continued.{any_at, less_long}
@@ -66,6 +68,17 @@ act_pending act t = elim (cases_Bool (may_stay t act)) [
   | inl b ↦ rw b refl
   | inr b ↦ rw b (mail_pending (target_of act).home (parcel_for act) t)
 ]
+
+due_pending : (due : List Due) (t : Tables) → (with_due due t).pending ≡ t.pending
+due_pending [] t = refl
+due_pending (MessageDue m ∷ due) t =
+    let drawn = record t { serial = t.serial + 1 } in
+    let act = named t.here (t.serial + 1) m in
+    due_pending due (with_act act drawn) ∙ act_pending act drawn
+due_pending (PrintDue bytes ∷ due) t = due_pending due t
+
+left_pending : (due : List Due) (ids : List Id) (t : Tables) → (with_left due ids t).pending ≡ t.pending
+left_pending due ids t = returns_pending ids (with_due due t) ∙ due_pending due t
 
 asks_pending : (k n : ℕ) (ids : List Id) (t : Tables) → (with_asks k n ids t).pending ≡ t.pending
 asks_pending k n [] t = refl
@@ -124,7 +137,12 @@ follows_lacks : (id : Id) (entry : ℕ) (t mid t' : Tables) (more : List Event) 
 follows_lacks id entry t mid t' more g k h = elim (cases_Bool (completes t (Give id entry))) [
   | inl is_so ↦ let on = k.goes is_so in gone_lacks id entry t mid on.gives h t' on.goes.pending
   | inr not_last ↦ elim (cases_Bool (dooms t (Give id entry))) [
-    | inl is_so ↦ let on = k.fails is_so in gone_lacks id entry t mid on.gives h t' (ap (λ (x : Tables). x.pending) on.fails.rest)
+    | inl is_so ↦ let on = k.fails is_so in gone_lacks id entry t mid on.gives h t' (ap (λ (x : Tables). x.pending) on.fails.rest
+        ∙ left_pending (due_left on.fails.commit) (ups_left on.fails.commit) (record mid {
+          pending = remove mid.pending on.gives.i;
+          objects = set mid.objects on.j (record { object = on.fails.standing.object; state = state_left on.fails.commit });
+          answered = mid.answered + answered_by (Some on.fails.commit.job.action);
+        }))
     | inr nor ↦ subst Lacks (sym (k.rests not_last nor).0) (given_lacks id entry t mid g h not_last nor)
   ]
 ]
