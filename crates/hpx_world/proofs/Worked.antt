@@ -82,7 +82,7 @@ module _ (act_of : Meaning) (profile : Profile) (old mid : List Tables) (e0 e1 :
       → DidFinish n job out x mid new e1 e2 → NoneRuns old → NoneRuns new
   worked n out (turned.Finished Committed) new e2 same count h none =
       let d = h.1 in
-      ended none new d.before d.after d.does.ends.i d.there d.does.ends.action d.others d.does.ends.running
+      ended none new d.before d.after d.does.ends.i d.there d.does.ends.at.runs d.others d.does.ends.running
   worked n out (turned.Finished Asking) new e2 same count h none =
       let d = h.1 in
       ended none new d.before d.after d.does.begins.i d.there d.does.begins.pauses.at.runs d.others (asked_left out d.before d.after e2 d.does)
