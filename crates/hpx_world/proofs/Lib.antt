@@ -10,8 +10,10 @@ pub mod Finished
 pub mod Unfed
 pub mod Idle
 pub mod Worked
+pub mod Next
 pub mod Refused
 pub mod Never
+pub mod Handed
 pub mod Promised
 pub mod Rested
 pub mod Taken

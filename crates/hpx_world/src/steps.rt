@@ -1,10 +1,20 @@
 //! Turns of all localities, one after another, until nothing can be done.
-ghost use Rattle.std.specs.Prelude.{◌≡◌, ◌-◌, ◌^◌, length, min};
-ghost use Rattle.hpx_journal.specs.Weights.{total_weight};
+ghost use Rattle.std.specs.Prelude.{◌≡◌, ◌≢◌, ◌≤◌, ◌<◌, ◌-◌, ◌^◌, ◌⊎◌, [], ℕ, length, min, sum_by, true, false, Ok, Err, None, Some, OnOk, OnErr, slice_get};
+ghost use Rattle.std.specs.List.{AllByRecursion};
+ghost use Rattle.hpx_journal.specs.Weights.{HasRoom, total_weight};
+ghost use Rattle.hpx_ports.specs.Faults.{Rose};
+ghost use Rattle.hpx_node.specs.Stands.{rules_of};
+ghost use Rattle.hpx_world.specs.Away.{IsCarrying, IsInside};
+ghost use Rattle.hpx_world.specs.Quiet.{IsStuck, HasNoMail, SendsNothing, NothingApplies, NoneRuns, running_in};
+ghost use Rattle.hpx_world.specs.Sound.{IsSound, IsSame};
+ghost use Rattle.hpx_world.specs.Steps.{IsUnfed, IsOut};
+ghost use Rattle.hpx_world.specs.Turns.{IsBadFrame, IsStrangeFrame, IsStrangeMail};
 
 use crate::locals::Locals;
 use crate::turns::WorldFault;
+use hpx_ports::fabric::Fabric;
 use hpx_value::acts::{Acts, Done};
+use std::alloc::Global;
 
 impl<A: Acts + Copy> Locals<A> {
     /// Why the journal is full.
@@ -16,5 +26,188 @@ impl<A: Acts + Copy> Locals<A> {
             weight: self.journal.weight(),
             undone,
         }
+    }
+
+    /// Locality k fires an action that can be, runs it, and finishes it. False where none can be fired.
+    fn work(&mut self, alloc: Global, acts: &A, k: usize) -> Result<bool, WorldFault<A>>
+        requires acts { A.count acts.now ≡ length self.old.nodes.items }
+        requires range { k < length self.old.nodes.items }
+        requires room { HasRoom self.old.journal.entries }
+        requires sound { IsSound A.act_of self.old.profile self.old.nodes.items self.old.journal.entries }
+        ensures sound { IsSound A.act_of self.new.profile self.new.nodes.items self.new.journal.entries }
+        ensures count { length self.new.nodes.items ≡ length self.old.nodes.items }
+        ensures profile { self.new.profile ≡ self.old.profile }
+        ensures hand { self.new.hand ≡ self.old.hand }
+        ensures inside { IsInside (rules_of A.act_of (length self.old.nodes.items) self.old.profile) self.old.journal.entries self.new.journal.entries }
+        ensures unfed { IsUnfed self.old.journal.entries self.new.journal.entries }
+        ensures longer { result ≡ Ok true → length self.old.journal.entries < length self.new.journal.entries }
+        ensures jobs { (worked : _) → result ≡ Ok worked → NoneRuns self.old.nodes.items → NoneRuns self.new.nodes.items }
+        ensures none { result ≡ Ok false → IsSame self.old.nodes.items self.new.nodes.items self.old.journal.entries self.new.journal.entries
+            × ((t : _) → slice_get self.old.nodes.items k ≡ Some t → IsStuck t) }
+        ensures full { (e w : ℕ) (u : _) → result ≡ Err (WorldFault.JournalFull e w u) → HasRoom self.new.journal.entries → ⊥ }
+        ensures counted { (e w : ℕ) (u : _) → result ≡ Err (WorldFault.JournalFull e w u) →
+            (e ≡ length self.new.journal.entries) × (w ≡ min (2 ^ 64 - 1) (total_weight self.new.journal.entries)) }
+        ensures undone_full { (e w : ℕ) (done : _) → result ≡ Err (WorldFault.JournalFull e w (Some done)) → IsOut self.new.nodes.items done.localities done.job }
+        ensures undone { (done : _) → result ≡ Err (WorldFault.OutOfMemory (Some done)) → IsOut self.new.nodes.items done.localities done.job }
+        ensures which { (e : _) → result ≡ Err e → ((u : _) × (e ≡ WorldFault.OutOfMemory u)) ⊎ ((n w : ℕ) × (u : _) × (e ≡ WorldFault.JournalFull n w u)) }
+    {
+        let job = match self.fire(alloc, k)?.job() {
+            Some(job) => job,
+            None => return Ok(false),
+        };
+        let done = match Done::compute(alloc, acts, job) {
+            Ok(done) => done,
+            Err(_) => return Err(WorldFault::OutOfMemory { undone: None }),
+        };
+        if !self.journal.room() {
+            return Err(self.full(Some(done)));
+        }
+        self.finish(alloc, k, done)?;
+        Ok(true)
+    }
+
+    /// The first locality that can fires an action, runs it, and finishes it. False where none can.
+    fn work_first(&mut self, alloc: Global, acts: &A) -> Result<bool, WorldFault<A>>
+        requires acts { A.count acts.now ≡ length self.old.nodes.items }
+        requires room { HasRoom self.old.journal.entries }
+        requires sound { IsSound A.act_of self.old.profile self.old.nodes.items self.old.journal.entries }
+        ensures sound { IsSound A.act_of self.new.profile self.new.nodes.items self.new.journal.entries }
+        ensures count { length self.new.nodes.items ≡ length self.old.nodes.items }
+        ensures profile { self.new.profile ≡ self.old.profile }
+        ensures hand { self.new.hand ≡ self.old.hand }
+        ensures inside { IsInside (rules_of A.act_of (length self.old.nodes.items) self.old.profile) self.old.journal.entries self.new.journal.entries }
+        ensures unfed { IsUnfed self.old.journal.entries self.new.journal.entries }
+        ensures longer { result ≡ Ok true → length self.old.journal.entries < length self.new.journal.entries }
+        ensures jobs { (worked : _) → result ≡ Ok worked → NoneRuns self.old.nodes.items → NoneRuns self.new.nodes.items }
+        ensures none { result ≡ Ok false → IsSame self.old.nodes.items self.new.nodes.items self.old.journal.entries self.new.journal.entries
+            × AllByRecursion IsStuck self.new.nodes.items }
+        ensures full { (e w : ℕ) (u : _) → result ≡ Err (WorldFault.JournalFull e w u) → HasRoom self.new.journal.entries → ⊥ }
+        ensures counted { (e w : ℕ) (u : _) → result ≡ Err (WorldFault.JournalFull e w u) →
+            (e ≡ length self.new.journal.entries) × (w ≡ min (2 ^ 64 - 1) (total_weight self.new.journal.entries)) }
+        ensures undone_full { (e w : ℕ) (done : _) → result ≡ Err (WorldFault.JournalFull e w (Some done)) → IsOut self.new.nodes.items done.localities done.job }
+        ensures undone { (done : _) → result ≡ Err (WorldFault.OutOfMemory (Some done)) → IsOut self.new.nodes.items done.localities done.job }
+        ensures which { (e : _) → result ≡ Err e → ((u : _) × (e ≡ WorldFault.OutOfMemory u)) ⊎ ((n w : ℕ) × (u : _) × (e ≡ WorldFault.JournalFull n w u)) }
+    {
+        for k in 0..self.nodes.len() {
+            if self.work(alloc, acts, k)? {
+                return Ok(true);
+            }
+        }
+        Ok(false)
+    }
+
+    /// The first locality that has a message to itself deals with it. False where none has.
+    fn desk_first(&mut self, alloc: Global) -> Result<bool, WorldFault<A>>
+        requires room { HasRoom self.old.journal.entries }
+        requires sound { IsSound A.act_of self.old.profile self.old.nodes.items self.old.journal.entries }
+        ensures sound { IsSound A.act_of self.new.profile self.new.nodes.items self.new.journal.entries }
+        ensures count { length self.new.nodes.items ≡ length self.old.nodes.items }
+        ensures profile { self.new.profile ≡ self.old.profile }
+        ensures hand { self.new.hand ≡ self.old.hand }
+        ensures inside { IsInside (rules_of A.act_of (length self.old.nodes.items) self.old.profile) self.old.journal.entries self.new.journal.entries }
+        ensures unfed { IsUnfed self.old.journal.entries self.new.journal.entries }
+        ensures longer { result ≡ Ok true → length self.old.journal.entries < length self.new.journal.entries }
+        ensures jobs { running_in self.new.nodes.items ≡ running_in self.old.nodes.items }
+        ensures none { result ≡ Ok false → IsSame self.old.nodes.items self.new.nodes.items self.old.journal.entries self.new.journal.entries
+            × AllByRecursion HasNoMail self.new.nodes.items }
+        ensures err { OnErr result (self.new.journal.entries ≡ self.old.journal.entries) }
+        ensures strange { (to : _) (frame : _) (rule : _) (object : _) (kept : _) → result ≡ Err (WorldFault.Strange to frame rule object kept) →
+            (frame ≡ []) × IsStrangeMail self.new.nodes.items to rule object kept }
+        ensures which { (e : _) → result ≡ Err e → (e ≡ WorldFault.OutOfMemory None)
+            ⊎ ((k : _) × (rule : _) × (object : _) × (kept : _) × (e ≡ WorldFault.Strange k [] rule object kept)) }
+    {
+        for k in 0..self.nodes.len() {
+            if self.desk(alloc, k)?.moved() {
+                return Ok(true);
+            }
+        }
+        Ok(false)
+    }
+
+    /// The first locality that has a message for another sends it. False where none has.
+    fn pump_first<F: Fabric>(
+        &mut self,
+        alloc: Global,
+        fabric: &mut F,
+    ) -> Result<bool, WorldFault<A>>
+        requires room { HasRoom self.old.journal.entries }
+        requires sound { IsSound A.act_of self.old.profile self.old.nodes.items self.old.journal.entries }
+        ensures sound { IsSound A.act_of self.new.profile self.new.nodes.items self.new.journal.entries }
+        ensures count { length self.new.nodes.items ≡ length self.old.nodes.items }
+        ensures profile { self.new.profile ≡ self.old.profile }
+        ensures hand { self.new.hand ≡ self.old.hand }
+        ensures carrying { let r = rules_of A.act_of (length self.old.nodes.items) self.old.profile in
+            IsCarrying r self.old.hand (F.flight fabric.old) (F.trace fabric.old) self.old.journal.entries
+            → IsCarrying r self.new.hand (F.flight fabric.new) (F.trace fabric.new) self.new.journal.entries }
+        ensures unfed { IsUnfed self.old.journal.entries self.new.journal.entries }
+        ensures longer { result ≡ Ok true → length self.old.journal.entries < length self.new.journal.entries }
+        ensures jobs { running_in self.new.nodes.items ≡ running_in self.old.nodes.items }
+        ensures none { result ≡ Ok false → IsSame self.old.nodes.items self.new.nodes.items self.old.journal.entries self.new.journal.entries
+            × AllByRecursion SendsNothing self.new.nodes.items }
+        ensures err { OnErr result (self.new.journal.entries ≡ self.old.journal.entries) }
+        ensures which { (e : _) → result ≡ Err e → (e ≡ WorldFault.Fabric) ⊎ (e ≡ WorldFault.OutOfMemory None) }
+        ensures cause { result ≡ Err WorldFault.Fabric → Rose (F.faults fabric.old) (F.faults fabric.new) }
+        ensures stands { result ≢ Err WorldFault.Fabric → F.faults fabric.new ≡ F.faults fabric.old }
+    {
+        for k in 0..self.nodes.len() {
+            if self.pump(alloc, k, fabric)?.moved() {
+                return Ok(true);
+            }
+        }
+        Ok(false)
+    }
+
+    /// One turn of those that can be made. False where none can.
+    pub fn step<F: Fabric>(
+        &mut self,
+        alloc: Global,
+        acts: &A,
+        fabric: &mut F,
+    ) -> Result<bool, WorldFault<A>>
+        requires acts { A.count acts.now ≡ length self.old.nodes.items }
+        requires sound { IsSound A.act_of self.old.profile self.old.nodes.items self.old.journal.entries }
+        ensures sound { IsSound A.act_of self.new.profile self.new.nodes.items self.new.journal.entries }
+        ensures count { length self.new.nodes.items ≡ length self.old.nodes.items }
+        ensures profile { self.new.profile ≡ self.old.profile }
+        ensures carrying { let r = rules_of A.act_of (length self.old.nodes.items) self.old.profile in
+            IsCarrying r self.old.hand (F.flight fabric.old) (F.trace fabric.old) self.old.journal.entries
+            → IsCarrying r self.new.hand (F.flight fabric.new) (F.trace fabric.new) self.new.journal.entries }
+        ensures unfed { IsUnfed self.old.journal.entries self.new.journal.entries }
+        ensures longer { result ≡ Ok true → length self.old.journal.entries < length self.new.journal.entries }
+        ensures jobs { (moved : _) → result ≡ Ok moved → NoneRuns self.old.nodes.items → NoneRuns self.new.nodes.items }
+        ensures idle { result ≡ Ok false → NothingApplies self.new.nodes.items self.new.hand (F.flight fabric.new) }
+        ensures room { result ≡ Ok true → HasRoom self.old.journal.entries }
+        ensures stays { result ≡ Ok false → HasRoom self.new.journal.entries }
+        ensures taken { result ≡ Ok false → sum_by (λ t. t.taken) self.new.nodes.items ≡ sum_by (λ t. t.sent) self.new.nodes.items }
+        ensures full_at_once { (HasRoom self.old.journal.entries → ⊥) → result ≡ Err (WorldFault.JournalFull
+            (length self.old.journal.entries) (min (2 ^ 64 - 1) (total_weight self.old.journal.entries)) None) }
+        ensures full { (e w : ℕ) (u : _) → result ≡ Err (WorldFault.JournalFull e w u) → HasRoom self.new.journal.entries → ⊥ }
+        ensures counted { (e w : ℕ) (u : _) → result ≡ Err (WorldFault.JournalFull e w u) →
+            (e ≡ length self.new.journal.entries) × (w ≡ min (2 ^ 64 - 1) (total_weight self.new.journal.entries)) }
+        ensures undone_full { (e w : ℕ) (done : _) → result ≡ Err (WorldFault.JournalFull e w (Some done)) → IsOut self.new.nodes.items done.localities done.job }
+        ensures undone { (done : _) → result ≡ Err (WorldFault.OutOfMemory (Some done)) → IsOut self.new.nodes.items done.localities done.job }
+        ensures bad_frame { (to : _) (frame : _) (at : _) (why : _) → result ≡ Err (WorldFault.BadFrame to frame at why) →
+            (self.new.hand ≡ Some (to, frame)) × IsBadFrame frame at why }
+        ensures strange { (to : _) (frame : _) (rule : _) (object : _) (kept : _) → result ≡ Err (WorldFault.Strange to frame rule object kept) →
+            ((self.new.hand ≡ Some (to, frame)) × IsStrangeFrame self.new.nodes.items to frame rule object kept)
+            ⊎ ((frame ≡ []) × IsStrangeMail self.new.nodes.items to rule object kept) }
+        ensures early { (sent : _) (taken : _) → result ≡ Err (WorldFault.EarlyEnd sent taken) →
+            (self.new.hand ≡ None) × (sent ≡ sum_by (λ t. t.sent) self.new.nodes.items) × (taken ≡ sum_by (λ t. t.taken) self.new.nodes.items) × (sent ≢ taken) }
+        ensures cause { result ≡ Err WorldFault.Fabric → Rose (F.faults fabric.old) (F.faults fabric.new) }
+        ensures stands { result ≢ Err WorldFault.Fabric → F.faults fabric.new ≡ F.faults fabric.old }
+    {
+        if !self.journal.room() {
+            return Err(self.full(None));
+        }
+        if self.work_first(alloc, acts)? {
+            return Ok(true);
+        }
+        if self.desk_first(alloc)? {
+            return Ok(true);
+        }
+        if self.pump_first(alloc, fabric)? {
+            return Ok(true);
+        }
+        Ok(self.take(alloc, fabric)?.moved())
     }
 }

@@ -1,5 +1,5 @@
 //! The world: all localities over a fabric, with what is promised of the journal that they write.
-ghost use Rattle.std.specs.Prelude.{◌≡◌, ◌≢◌, ◌≤◌, ◌<◌, ◌+◌, ◌-◌, ◌^◌, ◌∷◌, [], ℕ, length, min, OnOk, OnErr, IfOk, IfErr, IsTrue, ◌↔◌, ◌⊎◌, true, Ok, Err, Some, None, sum_by};
+ghost use Rattle.std.specs.Prelude.{◌≡◌, ◌≢◌, ◌≤◌, ◌<◌, ◌+◌, ◌-◌, ◌^◌, ◌∷◌, [], ℕ, length, min, OnOk, OnErr, IfOk, IfErr, IsTrue, ◌↔◌, ◌⊎◌, true, false, Ok, Err, Some, None, sum_by};
 ghost use Rattle.hpx_value.specs.Profiles.{IsValid};
 ghost use Rattle.hpx_journal.specs.Weights.{HasRoom, total_weight};
 ghost use Rattle.hpx_journal.specs.Whole.{IsCarried, replayed};
@@ -10,6 +10,7 @@ ghost use Rattle.hpx_world.specs.Away.{IsCarrying, Fetches, Keeps};
 ghost use Rattle.hpx_world.specs.Quiet.{IsQuiet, IsAtRest, NothingApplies, NoneRuns};
 ghost use Rattle.hpx_world.specs.Promises.{KeepsPromises};
 ghost use Rattle.hpx_world.specs.Audit.{audit_lines, IsAudit};
+ghost use Rattle.hpx_world.specs.Steps.{IsUnfed, IsOut};
 ghost use Rattle.hpx_world.specs.Turns.{DidFeed, DidFire, DidFinish, DidDesk, DidPump, DidTake, IsBadFrame, IsStrangeFrame, IsStrangeMail};
 
 use crate::audit::AuditLines;
@@ -190,5 +191,47 @@ impl<A: Acts + Copy> World<A> {
             Choice::Pump(k) => self.locals.pump(alloc, k as usize, fabric),
             Choice::Take => self.locals.take(alloc, fabric),
         }
+    }
+
+    /// One turn of those that can be made, the first in this order: a job is handed out, run and taken back at the first
+    /// locality that can; the first message to an own locality is dealt with; the first message to another is sent; a
+    /// frame is accepted. False where none can. Nothing is fed.
+    pub fn step<F: Fabric>(&mut self, alloc: Global, fabric: &mut F) -> Result<bool, WorldFault<A>>
+        ensures count { length self.new.nodes ≡ length self.old.nodes }
+        ensures profile { self.new.profile ≡ self.old.profile }
+        ensures carrying { let r = rules_in A.act_of self.old in
+            IsCarrying r self.old.hand (F.flight fabric.old) (F.trace fabric.old) self.old.journal.entries
+            → IsCarrying r self.new.hand (F.flight fabric.new) (F.trace fabric.new) self.new.journal.entries }
+        ensures promises { let r = rules_in A.act_of self.old in
+            IsCarrying r self.old.hand (F.flight fabric.old) (F.trace fabric.old) self.old.journal.entries → KeepsPromises r self.new.journal.entries }
+
+        ensures unfed { IsUnfed self.old.journal.entries self.new.journal.entries }
+        ensures longer { result ≡ Ok true → length self.old.journal.entries < length self.new.journal.entries }
+        ensures jobs { (moved : _) → result ≡ Ok moved → NoneRuns self.old.nodes → NoneRuns self.new.nodes }
+        ensures idle { result ≡ Ok false → NothingApplies self.new.nodes self.new.hand (F.flight fabric.new) }
+        ensures taken { result ≡ Ok false → sum_by (λ t. t.taken) self.new.nodes ≡ sum_by (λ t. t.sent) self.new.nodes }
+        ensures room { OnOk result (HasRoom self.old.journal.entries) }
+
+        ensures full_at_once { (HasRoom self.old.journal.entries → ⊥) → result ≡ Err (WorldFault.JournalFull
+            (length self.old.journal.entries) (min (2 ^ 64 - 1) (total_weight self.old.journal.entries)) None) }
+        ensures full { (e w : ℕ) (u : _) → result ≡ Err (WorldFault.JournalFull e w u) → HasRoom self.new.journal.entries → ⊥ }
+        ensures counted { (e w : ℕ) (u : _) → result ≡ Err (WorldFault.JournalFull e w u) →
+            (e ≡ length self.new.journal.entries) × (w ≡ min (2 ^ 64 - 1) (total_weight self.new.journal.entries)) }
+        ensures undone_full { (e w : ℕ) (done : _) → result ≡ Err (WorldFault.JournalFull e w (Some done)) → IsOut self.new.nodes done.localities done.job }
+        ensures undone { (done : _) → result ≡ Err (WorldFault.OutOfMemory (Some done)) → IsOut self.new.nodes done.localities done.job }
+        ensures bad_frame { (to : _) (frame : _) (at : _) (why : _) → result ≡ Err (WorldFault.BadFrame to frame at why) →
+            (self.new.hand ≡ Some (to, frame)) × IsBadFrame frame at why }
+        ensures strange { (to : _) (frame : _) (rule : _) (object : _) (kept : _) → result ≡ Err (WorldFault.Strange to frame rule object kept) →
+            ((self.new.hand ≡ Some (to, frame)) × IsStrangeFrame self.new.nodes to frame rule object kept)
+            ⊎ ((frame ≡ []) × IsStrangeMail self.new.nodes to rule object kept) }
+        ensures early { (sent : _) (taken : _) → result ≡ Err (WorldFault.EarlyEnd sent taken) →
+            (self.new.hand ≡ None) × (sent ≡ sum_by (λ t. t.sent) self.new.nodes) × (taken ≡ sum_by (λ t. t.taken) self.new.nodes) × (sent ≢ taken) }
+        ensures never_bad { IsCarrying (rules_in A.act_of self.old) self.old.hand (F.flight fabric.old) (F.trace fabric.old) self.old.journal.entries →
+            (to : _) (frame : _) (at : _) (why : _) → result ≢ Err (WorldFault.BadFrame to frame at why) }
+        ensures cause { result ≡ Err WorldFault.Fabric → Rose (F.faults fabric.old) (F.faults fabric.new) }
+        ensures stands { result ≢ Err WorldFault.Fabric → F.faults fabric.new ≡ F.faults fabric.old }
+    {
+        let acts = self.acts;
+        self.locals.step(alloc, &acts, fabric)
     }
 }

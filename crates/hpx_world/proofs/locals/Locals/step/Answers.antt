@@ -1,0 +1,91 @@
+use Rattle.std.proofs.Common.{◌≡◌, ◌≢◌, true, false, Ok, Err, Some, length, refl, sym, ap, ◌∙◌, arith, inl}
+use Rattle.hpx_node.specs.Stands.{rules_of}
+use Rattle.hpx_world.specs.Away.{Fetches}
+use Rattle.hpx_world.specs.declared.turns.Turned.TheVariants.{Moved}
+use Rattle.hpx_world.specs.declared.turns.WorldFault.TheVariants as faults
+use Rattle.hpx_world.proofs.Carrying.{carrying_same}
+use Rattle.hpx_world.proofs.Next.{inside_at, err_of, err_back, err_is, no_err, not_both, took_none, nothing_left, sum_same}
+use Rattle.hpx_world.proofs.Refused.{strange_frame_same}
+use Rattle.hpx_world.proofs.Unfed.{inside_then, unfed_then, unfed_le, took_unfed, took_longer}
+use Rattle.hpx_world.proofs.locals.Locals.step.Goals as goal
+
+pub returns-in_err-work_first-clause-carrying : goal.returns-in_err-work_first-clause-carrying
+returns-in_err-work_first-clause-carrying g c = λ h.
+    carrying_same (rules_of g.A.Acts.act_of (length c.args.self.now.nodes.items) c.args.self.now.profile) _ _ _ _ _ _ _ _ c.work_first.ensures.hand refl refl c.work_first.ensures.inside h
+
+pub returns-in_err-work_first-clause-undone_full : goal.returns-in_err-work_first-clause-undone_full
+returns-in_err-work_first-clause-undone_full g c = λ e w done is.
+    c.in_err-work_first.ensures.undone_full e w done
+    (ap (λ fault. Err fault) (err_of c.from_residual.result c.in_err-work_first.field-0.0 (faults.JournalFull e w (Some done)) c.from_residual.ensures.1 is))
+
+pub returns-then-branch-clause-carrying : goal.returns-then-branch-clause-carrying
+returns-then-branch-clause-carrying g c = λ h.
+    carrying_same (rules_of g.A.Acts.act_of (length c.args.self.now.nodes.items) c.args.self.now.profile) _ _ _ _ _ _ _ _ c.work_first.ensures.hand refl refl c.work_first.ensures.inside h
+
+pub returns-then-branch-2-clause-carrying : goal.returns-then-branch-2-clause-carrying
+returns-then-branch-2-clause-carrying g c = λ h.
+    let r = rules_of g.A.Acts.act_of (length c.args.self.now.nodes.items) c.args.self.now.profile in
+    let dealt = inside_at g.A.Acts.act_of (length c.args.self.now.nodes.items) (length c.work_first.new.self.nodes.items) c.args.self.now.profile c.work_first.new.self.profile _ _
+    c.work_first.ensures.count c.work_first.ensures.profile c.desk_first.ensures.inside in
+    carrying_same r _ _ _ _ _ _ _ _ (c.desk_first.ensures.hand ∙ c.work_first.ensures.hand) refl refl
+    (inside_then r _ _ _ c.work_first.ensures.inside dealt) h
+
+pub returns-in_err-take-clause-bad_frame : goal.returns-in_err-take-clause-bad_frame
+returns-in_err-take-clause-bad_frame g c = λ to frame at why is.
+    c.in_err-take.ensures.bad_frame to frame at why
+    (ap (λ fault. Err fault) (err_of c.from_residual-in_err-take.result c.in_err-take.field-0.0 (faults.BadFrame to frame at why) c.from_residual-in_err-take.ensures.1 is))
+
+pub returns-in_err-take-clause-strange : goal.returns-in_err-take-clause-strange
+returns-in_err-take-clause-strange g c = λ to frame rule object kept is.
+    let same = err_of c.from_residual-in_err-take.result c.in_err-take.field-0.0 (faults.Strange to frame rule object kept) c.from_residual-in_err-take.ensures.1 is in
+    let taken = c.in_err-take.ensures.strange to frame rule object kept (ap (λ fault. Err fault) same) in
+    inl (taken.0, strange_frame_same _ _ to frame rule object kept c.in_err-take.ensures.err.tables taken.1)
+
+pub returns-in_err-take-clause-early : goal.returns-in_err-take-clause-early
+returns-in_err-take-clause-early g c = λ sent taken is.
+    let same = err_of c.from_residual-in_err-take.result c.in_err-take.field-0.0 (faults.EarlyEnd sent taken) c.from_residual-in_err-take.ensures.1 is in
+    let early = c.in_err-take.ensures.early sent taken (ap (λ fault. Err fault) same) in
+    let tables = c.in_err-take.ensures.err.tables in
+    (early.0, early.1 ∙ sym (sum_same (λ t. t.sent) (λ t. refl) _ _ tables), early.2 ∙ sym (sum_same (λ t. t.taken) (λ t. refl) _ _ tables), early.3)
+
+pub returns-in_err-take-clause-stands : goal.returns-in_err-take-clause-stands
+returns-in_err-take-clause-stands g c = λ not.
+    let is = err_back c.from_residual-in_err-take.result c.in_err-take.field-0.0 c.from_residual-in_err-take.ensures.1 in
+    c.in_err-take.ensures.stands (λ e. not (is ∙ ap (λ fault. Err fault) (err_is _ _ e)))
+    ∙ c.in_ok-pump_first.ensures.stands (no_err _ _)
+
+pub returns-clause-idle : goal.returns-clause-idle
+returns-clause-idle g c = λ is.
+    let still : c.moved.result ≡ false = cc in
+    let not : c.in_ok-take.field-0 ≢ Moved = λ e. not_both c.moved.result still (c.moved.ensures.1 e) in
+    let none = took_none c.pump_first.new.self.nodes.items c.take.new.self.nodes.items c.pump_first.new.self.journal.entries c.take.new.self.journal.entries
+    (Fetches c.pump_first.new.self.hand (g.F.Fabric.flight c.pump_first.new.fabric) (g.F.Fabric.flight c.take.new.fabric) (g.F.Fabric.trace c.pump_first.new.fabric) (g.F.Fabric.trace c.take.new.fabric)) c.in_ok-take.field-0 not c.in_ok-take.ensures.did in
+    let worked = c.in_ok-work_first.ensures.none (ap (λ b. Ok b) c.if-branch.false) in
+    let dealt = c.in_ok-desk_first.ensures.none (ap (λ b. Ok b) c.if-branch-2.false) in
+    let sent = c.in_ok-pump_first.ensures.none (ap (λ b. Ok b) c.if-branch-3.false) in
+    nothing_left _ _ _ _ _ _ _ _ _ _ dealt.0.tables sent.0.tables none.2.tables worked.1 dealt.1 sent.1 c.in_ok-take.ensures.clears none.0
+
+pub returns-clause-taken : goal.returns-clause-taken
+returns-clause-taken g c = λ is.
+    let still : c.moved.result ≡ false = cc in
+    let not : c.in_ok-take.field-0 ≢ Moved = λ e. not_both c.moved.result still (c.moved.ensures.1 e) in
+    let none = took_none c.pump_first.new.self.nodes.items c.take.new.self.nodes.items c.pump_first.new.self.journal.entries c.take.new.self.journal.entries
+    (Fetches c.pump_first.new.self.hand (g.F.Fabric.flight c.pump_first.new.fabric) (g.F.Fabric.flight c.take.new.fabric) (g.F.Fabric.trace c.pump_first.new.fabric) (g.F.Fabric.trace c.take.new.fabric)) c.in_ok-take.field-0 not c.in_ok-take.ensures.did in
+    sum_same (λ t. t.taken) (λ t. refl) _ _ none.2.tables ∙ (none.1 ∙ sym (sum_same (λ t. t.sent) (λ t. refl) _ _ none.2.tables))
+
+pub returns-clause-unfed : goal.returns-clause-unfed
+returns-clause-unfed g c =
+    unfed_then _ c.work_first.new.self.journal.entries _ c.work_first.ensures.unfed
+    (unfed_then _ c.desk_first.new.self.journal.entries _ c.desk_first.ensures.unfed
+    (unfed_then _ c.pump_first.new.self.journal.entries _ c.pump_first.ensures.unfed
+    (took_unfed c.pump_first.new.self.nodes.items c.take.new.self.nodes.items c.pump_first.new.self.journal.entries c.take.new.self.journal.entries
+    (Fetches c.pump_first.new.self.hand (g.F.Fabric.flight c.pump_first.new.fabric) (g.F.Fabric.flight c.take.new.fabric) (g.F.Fabric.trace c.pump_first.new.fabric) (g.F.Fabric.trace c.take.new.fabric)) c.in_ok-take.field-0 c.in_ok-take.ensures.did)))
+
+pub returns-clause-longer : goal.returns-clause-longer
+returns-clause-longer g c = λ is.
+    let moved : c.moved.result ≡ true = cc in
+    let x : c.in_ok-take.field-0 ≡ Moved = c.moved.ensures.0 moved in
+    let more = took_longer c.pump_first.new.self.nodes.items c.take.new.self.nodes.items c.pump_first.new.self.journal.entries c.take.new.self.journal.entries
+    (Fetches c.pump_first.new.self.hand (g.F.Fabric.flight c.pump_first.new.fabric) (g.F.Fabric.flight c.take.new.fabric) (g.F.Fabric.trace c.pump_first.new.fabric) (g.F.Fabric.trace c.take.new.fabric))
+    (rw x at c.in_ok-take.ensures.did) in
+    omega (arith, more, unfed_le _ _ c.work_first.ensures.unfed, unfed_le _ _ c.desk_first.ensures.unfed, unfed_le _ _ c.pump_first.ensures.unfed)
