@@ -212,6 +212,13 @@ impl<A: Acts + Copy> Node<A> {
             && self.outgoing.is_empty()
     }
 
+    /// Whether an action runs here: its job is out.
+    pub fn runs(&self) -> bool
+        ensures { IsTrue result ↔ (self.now.running ≢ []) }
+    {
+        !self.running.is_empty()
+    }
+
     /// How many frames have gone.
     pub fn sent(&self) -> u64
         ensures { result ≡ self.now.sent }
