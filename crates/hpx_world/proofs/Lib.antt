@@ -9,6 +9,7 @@ pub mod Calls
 pub mod Finished
 pub mod Unfed
 pub mod Idle
+pub mod Jobs
 pub mod Worked
 pub mod Next
 pub mod Refused

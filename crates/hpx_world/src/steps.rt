@@ -1,13 +1,13 @@
 //! Turns of all localities, one after another, until nothing can be done.
-ghost use Rattle.std.specs.Prelude.{◌≡◌, ◌≢◌, ◌≤◌, ◌<◌, ◌-◌, ◌^◌, ◌⊎◌, [], ℕ, length, min, sum_by, true, false, Ok, Err, None, Some, OnOk, OnErr, slice_get};
+ghost use Rattle.std.specs.Prelude.{◌≡◌, ◌≢◌, ◌≤◌, ◌<◌, ◌-◌, ◌^◌, ◌⊎◌, [], ℕ, length, min, sum_by, true, false, Ok, Err, None, Some, OnOk, OnErr, IfOk, IfErr, IsTrue, ◌↔◌, slice_get};
 ghost use Rattle.std.specs.List.{AllByRecursion};
 ghost use Rattle.hpx_journal.specs.Weights.{HasRoom, total_weight};
 ghost use Rattle.hpx_ports.specs.Faults.{Rose};
 ghost use Rattle.hpx_node.specs.Stands.{rules_of};
 ghost use Rattle.hpx_world.specs.Away.{IsCarrying, IsInside};
-ghost use Rattle.hpx_world.specs.Quiet.{IsStuck, HasNoMail, SendsNothing, NothingApplies, NoneRuns, running_in};
+ghost use Rattle.hpx_world.specs.Quiet.{IsQuiet, IsStuck, HasNoMail, SendsNothing, NothingApplies, NoneRuns, running_in};
 ghost use Rattle.hpx_world.specs.Sound.{IsSound, IsSame};
-ghost use Rattle.hpx_world.specs.Steps.{IsUnfed, IsOut};
+ghost use Rattle.hpx_world.specs.Steps.{IsUnfed, IsOut, IsEarly};
 ghost use Rattle.hpx_world.specs.Turns.{IsBadFrame, IsStrangeFrame, IsStrangeMail};
 
 use crate::locals::Locals;
@@ -209,5 +209,76 @@ impl<A: Acts + Copy> Locals<A> {
             return Ok(true);
         }
         Ok(self.take(alloc, fabric)?.moved())
+    }
+
+    /// Whether no job is out anywhere.
+    #[tactic(auto, using(crate::proofs::Jobs::all_none, crate::proofs::Jobs::none_all))]
+    fn none_runs(&self) -> bool
+        ensures { IsTrue result ↔ NoneRuns self.now.nodes.items }
+    {
+        for node in self.nodes.iter() {
+            if node.runs() {
+                return false;
+            }
+        }
+        true
+    }
+
+    /// What it says that nothing can be done: where no job is out the world is quiet, or has ended early.
+    fn settled(&self) -> Result<(), WorldFault<A>>
+        requires room { HasRoom self.now.journal.entries }
+        requires sound { IsSound A.act_of self.now.profile self.now.nodes.items self.now.journal.entries }
+        ensures quiet { OnOk result (NoneRuns self.now.nodes.items → IsQuiet self.now.nodes.items self.now.hand) }
+        ensures early { IfErr result (λ e. (e ≡ WorldFault.EarlyEnd (sum_by (λ t. t.sent) self.now.nodes.items) (sum_by (λ t. t.taken) self.now.nodes.items))
+            × NoneRuns self.now.nodes.items × (IsQuiet self.now.nodes.items self.now.hand → ⊥)) }
+    {
+        if !self.none_runs() || self.quiet() {
+            return Ok(());
+        }
+        let (sent, taken) = self.frames();
+        Err(WorldFault::EarlyEnd {
+            sent: sent as u64,
+            taken: taken as u64,
+        })
+    }
+
+    /// Steps, until none can be made.
+    pub fn drain<F: Fabric>(
+        &mut self,
+        alloc: Global,
+        acts: &A,
+        fabric: &mut F,
+    ) -> Result<(), WorldFault<A>>
+        requires acts { A.count acts.now ≡ length self.old.nodes.items }
+        requires sound { IsSound A.act_of self.old.profile self.old.nodes.items self.old.journal.entries }
+        ensures sound { IsSound A.act_of self.new.profile self.new.nodes.items self.new.journal.entries }
+        ensures count { length self.new.nodes.items ≡ length self.old.nodes.items }
+        ensures profile { self.new.profile ≡ self.old.profile }
+        ensures carrying { let r = rules_of A.act_of (length self.old.nodes.items) self.old.profile in
+            IsCarrying r self.old.hand (F.flight fabric.old) (F.trace fabric.old) self.old.journal.entries
+            → IsCarrying r self.new.hand (F.flight fabric.new) (F.trace fabric.new) self.new.journal.entries }
+        ensures unfed { IsUnfed self.old.journal.entries self.new.journal.entries }
+        ensures jobs { OnOk result (NoneRuns self.old.nodes.items → NoneRuns self.new.nodes.items) }
+        ensures idle { OnOk result (NothingApplies self.new.nodes.items self.new.hand (F.flight fabric.new)) }
+        ensures quiet { OnOk result (NoneRuns self.old.nodes.items → IsQuiet self.new.nodes.items self.new.hand) }
+        ensures room { OnOk result (HasRoom self.new.journal.entries) }
+        ensures full_at_once { (HasRoom self.old.journal.entries → ⊥) → result ≡ Err (WorldFault.JournalFull
+            (length self.old.journal.entries) (min (2 ^ 64 - 1) (total_weight self.old.journal.entries)) None) }
+        ensures full { (e w : ℕ) (u : _) → result ≡ Err (WorldFault.JournalFull e w u) → HasRoom self.new.journal.entries → ⊥ }
+        ensures counted { (e w : ℕ) (u : _) → result ≡ Err (WorldFault.JournalFull e w u) →
+            (e ≡ length self.new.journal.entries) × (w ≡ min (2 ^ 64 - 1) (total_weight self.new.journal.entries)) }
+        ensures undone_full { (e w : ℕ) (done : _) → result ≡ Err (WorldFault.JournalFull e w (Some done)) → IsOut self.new.nodes.items done.localities done.job }
+        ensures undone { (done : _) → result ≡ Err (WorldFault.OutOfMemory (Some done)) → IsOut self.new.nodes.items done.localities done.job }
+        ensures bad_frame { (to : _) (frame : _) (at : _) (why : _) → result ≡ Err (WorldFault.BadFrame to frame at why) →
+            (self.new.hand ≡ Some (to, frame)) × IsBadFrame frame at why }
+        ensures strange { (to : _) (frame : _) (rule : _) (object : _) (kept : _) → result ≡ Err (WorldFault.Strange to frame rule object kept) →
+            ((self.new.hand ≡ Some (to, frame)) × IsStrangeFrame self.new.nodes.items to frame rule object kept)
+            ⊎ ((frame ≡ []) × IsStrangeMail self.new.nodes.items to rule object kept) }
+        ensures early { (sent : _) (taken : _) → result ≡ Err (WorldFault.EarlyEnd sent taken) → IsEarly self.new.nodes.items self.new.hand (F.flight fabric.new) sent taken }
+        ensures cause { result ≡ Err WorldFault.Fabric → Rose (F.faults fabric.old) (F.faults fabric.new) }
+        ensures stands { result ≢ Err WorldFault.Fabric → F.faults fabric.new ≡ F.faults fabric.old }
+    {
+        while self.step(alloc, acts, fabric)? {}
+        self.settled()
     }
 }

@@ -10,7 +10,7 @@ ghost use Rattle.hpx_world.specs.Away.{IsCarrying, Fetches, Keeps};
 ghost use Rattle.hpx_world.specs.Quiet.{IsQuiet, IsAtRest, NothingApplies, NoneRuns};
 ghost use Rattle.hpx_world.specs.Promises.{KeepsPromises};
 ghost use Rattle.hpx_world.specs.Audit.{audit_lines, IsAudit};
-ghost use Rattle.hpx_world.specs.Steps.{IsUnfed, IsOut};
+ghost use Rattle.hpx_world.specs.Steps.{IsUnfed, IsOut, IsEarly};
 ghost use Rattle.hpx_world.specs.Turns.{DidFeed, DidFire, DidFinish, DidDesk, DidPump, DidTake, IsBadFrame, IsStrangeFrame, IsStrangeMail};
 
 use crate::audit::AuditLines;
@@ -233,5 +233,43 @@ impl<A: Acts + Copy> World<A> {
     {
         let acts = self.acts;
         self.locals.step(alloc, &acts, fabric)
+    }
+
+    /// Steps, until none can be made. Where no job was out, the world is quiet then. At a refusal the steps before it stand.
+    pub fn drain<F: Fabric>(&mut self, alloc: Global, fabric: &mut F) -> Result<(), WorldFault<A>>
+        ensures count { length self.new.nodes ≡ length self.old.nodes }
+        ensures profile { self.new.profile ≡ self.old.profile }
+        ensures carrying { let r = rules_in A.act_of self.old in
+            IsCarrying r self.old.hand (F.flight fabric.old) (F.trace fabric.old) self.old.journal.entries
+            → IsCarrying r self.new.hand (F.flight fabric.new) (F.trace fabric.new) self.new.journal.entries }
+        ensures promises { let r = rules_in A.act_of self.old in
+            IsCarrying r self.old.hand (F.flight fabric.old) (F.trace fabric.old) self.old.journal.entries → KeepsPromises r self.new.journal.entries }
+
+        ensures unfed { IsUnfed self.old.journal.entries self.new.journal.entries }
+        ensures jobs { OnOk result (NoneRuns self.old.nodes → NoneRuns self.new.nodes) }
+        ensures idle { OnOk result (NothingApplies self.new.nodes self.new.hand (F.flight fabric.new)) }
+        ensures quiet { OnOk result (NoneRuns self.old.nodes → IsQuiet self.new.nodes self.new.hand) }
+        ensures room { OnOk result (HasRoom self.new.journal.entries) }
+
+        ensures full_at_once { (HasRoom self.old.journal.entries → ⊥) → result ≡ Err (WorldFault.JournalFull
+            (length self.old.journal.entries) (min (2 ^ 64 - 1) (total_weight self.old.journal.entries)) None) }
+        ensures full { (e w : ℕ) (u : _) → result ≡ Err (WorldFault.JournalFull e w u) → HasRoom self.new.journal.entries → ⊥ }
+        ensures counted { (e w : ℕ) (u : _) → result ≡ Err (WorldFault.JournalFull e w u) →
+            (e ≡ length self.new.journal.entries) × (w ≡ min (2 ^ 64 - 1) (total_weight self.new.journal.entries)) }
+        ensures undone_full { (e w : ℕ) (done : _) → result ≡ Err (WorldFault.JournalFull e w (Some done)) → IsOut self.new.nodes done.localities done.job }
+        ensures undone { (done : _) → result ≡ Err (WorldFault.OutOfMemory (Some done)) → IsOut self.new.nodes done.localities done.job }
+        ensures bad_frame { (to : _) (frame : _) (at : _) (why : _) → result ≡ Err (WorldFault.BadFrame to frame at why) →
+            (self.new.hand ≡ Some (to, frame)) × IsBadFrame frame at why }
+        ensures strange { (to : _) (frame : _) (rule : _) (object : _) (kept : _) → result ≡ Err (WorldFault.Strange to frame rule object kept) →
+            ((self.new.hand ≡ Some (to, frame)) × IsStrangeFrame self.new.nodes to frame rule object kept)
+            ⊎ ((frame ≡ []) × IsStrangeMail self.new.nodes to rule object kept) }
+        ensures early { (sent : _) (taken : _) → result ≡ Err (WorldFault.EarlyEnd sent taken) → IsEarly self.new.nodes self.new.hand (F.flight fabric.new) sent taken }
+        ensures never_bad { IsCarrying (rules_in A.act_of self.old) self.old.hand (F.flight fabric.old) (F.trace fabric.old) self.old.journal.entries →
+            (to : _) (frame : _) (at : _) (why : _) → result ≢ Err (WorldFault.BadFrame to frame at why) }
+        ensures cause { result ≡ Err WorldFault.Fabric → Rose (F.faults fabric.old) (F.faults fabric.new) }
+        ensures stands { result ≢ Err WorldFault.Fabric → F.faults fabric.new ≡ F.faults fabric.old }
+    {
+        let acts = self.acts;
+        self.locals.drain(alloc, &acts, fabric)
     }
 }

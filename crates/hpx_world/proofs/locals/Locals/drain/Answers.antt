@@ -1,0 +1,51 @@
+use Rattle.std.proofs.Common.{Err, None, Some, length, refl, ap, ◌∙◌, subst}
+use Rattle.std.specs.Prelude.{◌-◌, ◌^◌, min}
+use Rattle.hpx_journal.specs.Weights.{HasRoom, total_weight}
+use Rattle.hpx_world.specs.declared.turns.WorldFault.TheVariants as faults
+use Rattle.hpx_world.proofs.Next.{carrying_at, err_of, err_back, err_is, no_err}
+use Rattle.hpx_world.proofs.Unfed.{unfed_then}
+use Rattle.hpx_world.proofs.locals.Locals.drain.Goals as goal
+
+pub loop-preserved : goal.loop-preserved
+loop-preserved g c =
+    let i = c.loop.invariant in
+    record {
+      sound = c.step.ensures.sound;
+      count = c.step.ensures.count ∙ i.count;
+      profile = c.step.ensures.profile ∙ i.profile;
+      carrying = λ h. carrying_at g.A.Acts.act_of (length c.args.self.now.nodes.items) (length c.loop.self.nodes.items) c.args.self.now.profile c.loop.self.profile
+          _ _ _ _ _ _ _ _ i.count i.profile c.step.ensures.carrying (i.carrying h);
+      unfed = unfed_then _ _ _ i.unfed c.step.ensures.unfed;
+      jobs = λ none. c.in_ok-step.ensures.jobs c.in_ok-step.field-0 refl (i.jobs none);
+      stands = c.in_ok-step.ensures.stands (no_err _ _) ∙ i.stands;
+      full = λ none. absurd (no_err _ _ (c.in_ok-step.ensures.full_at_once (λ room. none (subst (λ es. HasRoom es) (i.full none) room))));
+    }
+
+-- where there was no room from the start, nothing was written so far
+pub returns-in_err-step-clause-full_at_once : goal.returns-in_err-step-clause-full_at_once
+returns-in_err-step-clause-full_at_once g c = λ none.
+    let same = c.loop.invariant.full none in
+    let full = c.in_err-step.ensures.full_at_once (λ room. none (subst (λ es. HasRoom es) same room)) in
+    err_back c.from_residual.result c.in_err-step.field-0.0 c.from_residual.ensures.1
+    ∙ (ap (λ fault. Err fault) (err_is _ _ full)
+    ∙ ap (λ es. Err (faults.JournalFull (length es) (min (2 ^ 64 - 1) (total_weight es)) None)) same)
+
+pub returns-in_err-step-clause-undone_full : goal.returns-in_err-step-clause-undone_full
+returns-in_err-step-clause-undone_full g c = λ e w done is.
+    c.in_err-step.ensures.undone_full e w done
+    (ap (λ fault. Err fault) (err_of c.from_residual.result c.in_err-step.field-0.0 (faults.JournalFull e w (Some done)) c.from_residual.ensures.1 is))
+
+pub returns-in_err-step-clause-bad_frame : goal.returns-in_err-step-clause-bad_frame
+returns-in_err-step-clause-bad_frame g c = λ to frame at why is.
+    c.in_err-step.ensures.bad_frame to frame at why
+    (ap (λ fault. Err fault) (err_of c.from_residual.result c.in_err-step.field-0.0 (faults.BadFrame to frame at why) c.from_residual.ensures.1 is))
+
+pub returns-in_err-step-clause-strange : goal.returns-in_err-step-clause-strange
+returns-in_err-step-clause-strange g c = λ to frame rule object kept is.
+    c.in_err-step.ensures.strange to frame rule object kept
+    (ap (λ fault. Err fault) (err_of c.from_residual.result c.in_err-step.field-0.0 (faults.Strange to frame rule object kept) c.from_residual.ensures.1 is))
+
+pub returns-in_err-step-clause-stands : goal.returns-in_err-step-clause-stands
+returns-in_err-step-clause-stands g c = λ not.
+    let is = err_back c.from_residual.result c.in_err-step.field-0.0 c.from_residual.ensures.1 in
+    c.in_err-step.ensures.stands (λ e. not (is ∙ ap (λ fault. Err fault) (err_is _ _ e))) ∙ c.loop.invariant.stands
