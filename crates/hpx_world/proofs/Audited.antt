@@ -226,6 +226,7 @@ module _ (act_of : Meaning) (profile : Profile) (nodes : List Tables) (es : List
       recorded_is = count_is;
       held_is = held_is;
       flight_is = omega (arith, held_is, sums);
+      at_is = ((sound.stand k t at).stands.tidy.places x.gid x found).0 ∙ sym home;
     }
 
   tells_all : AllByRecursion (Tells r w) (audit_lines nodes)

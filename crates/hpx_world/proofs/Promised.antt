@@ -4,8 +4,9 @@ use Rattle.std.specs.List.{slice_get}
 use Rattle.hpx_value.specs.declared.profile.Profile.{Profile}
 use Rattle.hpx_journal.specs.Entries.{Rules}
 use Rattle.hpx_journal.specs.Foreign.{NodeKeeps}
-use Rattle.hpx_journal.specs.Laws.{HasGrammar, KeepsActLaws, entry_at}
+use Rattle.hpx_journal.specs.Laws.{HasGrammar, KeepsActLaws, RefusesForCause, entry_at}
 use Rattle.hpx_journal.specs.Whole.{IsLegal, IsJoin, IsCarried, replayed, part}
+use Rattle.hpx_journal.proofs.Failures.{legal_refusals}
 use Rattle.hpx_journal.proofs.Fronts.{legal_front, legal_rest}
 use Rattle.hpx_journal.proofs.Grow.{join_front}
 use Rattle.hpx_journal.proofs.Quiet.{legal_freed_once, legal_gone, legal_away, freed_managed}
@@ -15,7 +16,9 @@ use Rattle.hpx_part.specs.Data.{Entry, Done, Freed, Count, Granted, Refused}
 use Rattle.hpx_part.specs.Parts.{at_boot}
 use Rattle.hpx_node.specs.Stands.{rules_of}
 use Rattle.hpx_node.specs.Tables.{Tables}
-use Rattle.hpx_world.specs.Sound.{Meaning, StandsAt, IsSound}
+use Rattle.hpx_node.proofs.RowLaws.{refuses_for_cause}
+use Rattle.hpx_world.specs.Sound.{Meaning, IsSound}
+use Rattle.hpx_world.proofs.Sound.{get_some, stands_all, sound_joins}
 use Rattle.hpx_world.specs.Promises.{KeepsLedger, KeepsLife, RunsOnce, AnswersOnce, KeepsLimit, KeepsPromises}
 
 -- ---- a join
@@ -67,8 +70,9 @@ module _ (r : Rules) (es : List Entry) (grammar : HasGrammar r) (join : IsJoin r
     claimed = λ front later e x. legal_slots r grammar laws front (legal_front r (first r) front later (legal_at front later e)) x;
   }
 
-  pub join_limit : KeepsLimit r es
-  join_limit = record {
+  pub join_limit : ((k : ℕ) → k < r.localities → RefusesForCause r (part k es)) → KeepsLimit r es
+  join_limit cause = record {
+    failures = legal_refusals r es legal cause;
     granted = λ front later k o count e. let row = (legal_rest r (first r) front (entry_at k (Count o count Granted) ∷ later) (legal_at front (entry_at k (Count o count Granted) ∷ later) e)).0.allowed.row in (row.2, row.3);
     refused = λ front later k o count e. let row = (legal_rest r (first r) front (entry_at k (Count o count Refused) ∷ later) (legal_at front (entry_at k (Count o count Refused) ∷ later) e)).0.allowed.row in
         (row.2, omega (arith, row.2, row.3));
@@ -76,33 +80,21 @@ module _ (r : Rules) (es : List Entry) (grammar : HasGrammar r) (join : IsJoin r
 
 -- ---- all localities
 
-get_some : (xs : List Tables) (k : ℕ) → k < length xs → (x : Tables) × (slice_get xs k ≡ Some x)
-get_some [] k h = absurd (omega arith)
-get_some (x ∷ xs) zero h = (x, refl)
-get_some (x ∷ xs) (suc k) h = get_some xs k (omega arith)
-
 module _ (act_of : Meaning) (profile : Profile) (nodes : List Tables) (es : List Entry) (sound : IsSound act_of profile nodes es) where
   abbrev pub rules : Rules
   rules = rules_of act_of (length nodes) profile
 
-  keeps_at : (k : ℕ) (t : Tables) → StandsAt act_of (length nodes) profile k t es → NodeKeeps rules (at_boot rules k) (part k es)
-  keeps_at k t own =
-      subst (λ j. NodeKeeps rules (at_boot rules j) (part j es)) own.here
-      (subst (λ p. NodeKeeps (rules_of act_of (length nodes) p) (at_boot (rules_of act_of (length nodes) p) t.here) (part t.here es)) own.tuned
-      (subst (λ n. NodeKeeps (rules_of act_of n t.profile) (at_boot (rules_of act_of n t.profile) t.here) (part t.here es)) own.localities own.stands.keeps.keeps))
-
-  -- their parts are joined
-  pub sound_join : IsCarried rules [] es → IsJoin rules es
-  sound_join carried = record {
-    parts = λ k lt. let x = get_some nodes k lt in keeps_at k x.0 (sound.stand k x.0 x.1);
-    carried = carried;
-  }
+  -- an id with no more credit goes or is handed over only for a cause
+  causes : (k : ℕ) → k < length nodes → RefusesForCause rules (part k es)
+  causes k lt = let x = get_some nodes k lt in
+      subst (λ j. RefusesForCause rules (part j es)) (sound.stand k x.0 x.1).here
+      (refuses_for_cause rules x.0 es (stands_all act_of profile nodes es sound k x.0 x.1))
 
   pub promised : HasGrammar rules → KeepsActLaws rules → IsCarried rules [] es → KeepsPromises rules es
-  promised grammar laws carried = let join = sound_join carried in record {
+  promised grammar laws carried = let join = sound_joins act_of profile nodes es sound carried in record {
     ledger = join_ledger rules es grammar join;
     life = join_life rules es grammar join;
     actions = join_once rules es grammar join;
     continuations = join_answers rules es grammar join laws;
-    limit = join_limit rules es grammar join;
+    limit = join_limit rules es grammar join causes;
   }

@@ -8,12 +8,13 @@ use Rattle.hpx_value.specs.declared.profile.Profile.{Profile}
 use Rattle.hpx_parcel.specs.Credits.{Credit, credits_of}
 use Rattle.hpx_journal.specs.Data.{Id, Act}
 use Rattle.hpx_journal.specs.Entries.{Rules, Frame, name_of}
-use Rattle.hpx_journal.specs.Laws.{HasGrammar}
+use Rattle.hpx_journal.specs.Laws.{HasGrammar, FreesTheDead, outs, ins}
 use Rattle.hpx_journal.specs.Local.{is_act}
 use Rattle.hpx_journal.specs.Tokens.{held}
 use Rattle.hpx_journal.specs.Whole.{IsLegal, IsCarried, IsQuietAt, IsClean, replayed, part, run_local}
 use Rattle.hpx_journal.proofs.Grow.{run_part}
-use Rattle.hpx_journal.proofs.Quiet.{legal_road_empty}
+use Rattle.hpx_journal.proofs.Deaths.{legal_all_freed}
+use Rattle.hpx_journal.proofs.Quiet.{legal_quiet, legal_road_empty}
 use Rattle.hpx_journal.proofs.Same.{same_token-true}
 use Rattle.hpx_journal.proofs.Start.{first, legal_part_clean}
 use Rattle.hpx_part.specs.Data.{Entry, Token, Local}
@@ -28,10 +29,11 @@ use Rattle.hpx_node.specs.Stands.{IsTidy, rules_of}
 use Rattle.hpx_node.specs.Tables.{Tables, IsPassive, messages}
 use Rattle.hpx_node.specs.declared.parts.Outgoing.{Outgoing}
 use Rattle.hpx_node.proofs.Numbers.{rest_shown}
+use Rattle.hpx_node.proofs.RowLaws.{frees_the_dead}
 use Rattle.hpx_world.specs.Sound.{Meaning, StandsAt, IsSound}
 use Rattle.hpx_world.specs.Quiet.{IsQuiet, IsAtRest}
 use Rattle.hpx_world.proofs.Counts.{sent_all, taken_all}
-use Rattle.hpx_world.proofs.Sound.{sound_legal}
+use Rattle.hpx_world.proofs.Sound.{get_some, stands_all, sound_legal}
 
 -- ---- tokens that are owed
 
@@ -99,11 +101,6 @@ passive_quiet t s h shows =
 
 -- ---- all of them
 
-get_some : (xs : List Tables) (k : ℕ) → k < length xs → (x : Tables) × (slice_get xs k ≡ Some x)
-get_some [] k h = absurd (omega arith)
-get_some (x ∷ xs) zero h = (x, refl)
-get_some (x ∷ xs) (suc k) h = get_some xs k (omega arith)
-
 passive_at : (nodes : List Tables) (k : ℕ) (t : Tables) → AllByRecursion IsPassive nodes → slice_get nodes k ≡ Some t → IsPassive t
 passive_at [] k t h at = absurd (cc)
 passive_at (x ∷ xs) zero t h at = let e : x ≡ t = cc in subst IsPassive e h.0
@@ -120,26 +117,25 @@ module _ (act_of : Meaning) (profile : Profile) (nodes : List Tables) (es : List
   -- a node shows what the journal leaves at its locality
   pub shown_at : (k : ℕ) (t : Tables) → k < length nodes → slice_get nodes k ≡ Some t → Shows (view t [] []) ((replayed r es).places k)
   shown_at k t lt at =
-      let own = sound.stand k t at in
       subst (Shows (view t [] [])) (sym (run_part r (first r) es k))
-      (at_own own (legal_part_clean r es legal grammar k lt))
-    where
-      at_own : StandsAt act_of (length nodes) profile k t es → IsClean r (at_boot r k) (part k es)
-          → Shows (view t [] []) (run_local r (at_boot r k) (part k es))
-      at_own own clean =
-          subst (λ j. IsClean r (at_boot r j) (part j es) → Shows (view t [] []) (run_local r (at_boot r j) (part j es))) own.here
-          (subst (λ p. IsClean (rules_of act_of (length nodes) p) (at_boot (rules_of act_of (length nodes) p) t.here) (part t.here es)
-          → Shows (view t [] []) (run_local (rules_of act_of (length nodes) p) (at_boot (rules_of act_of (length nodes) p) t.here) (part t.here es))) own.tuned
-          (subst (λ n. IsClean (rules_of act_of n t.profile) (at_boot (rules_of act_of n t.profile) t.here) (part t.here es)
-          → Shows (view t [] []) (run_local (rules_of act_of n t.profile) (at_boot (rules_of act_of n t.profile) t.here) (part t.here es))) own.localities
-          own.stands.keeps.shows)) clean
+      (subst (λ j. IsClean r (at_boot r j) (part j es) → Shows (view t [] []) (run_local r (at_boot r j) (part j es))) (sound.stand k t at).here
+      (stands_all act_of profile nodes es sound k t at).keeps.shows (legal_part_clean r es legal grammar k lt))
 
   pub quiet_rests : (hand : Option Frame) → IsQuiet nodes hand → IsAtRest r (replayed r es)
   quiet_rests hand quiet = record {
-    road = legal_road_empty r es legal
-        (sym (taken_all act_of profile nodes es sound carried) ∙ (quiet.taken ∙ sent_all act_of profile nodes es sound carried));
-    places = λ k lt. let x = get_some nodes k lt in
-        passive_quiet x.0 ((replayed r es).places k) (passive_at nodes k x.0 quiet.passive x.1) (shown_at k x.0 lt x.1);
+    quiet = legal_quiet r es legal places_quiet same (λ o dead. legal_all_freed r es legal (legal_road_empty r es legal same) frees_at o dead);
     held = λ o k managed lt. let x = get_some nodes k lt in
         rest_shown x.0 ((replayed r es).places k) o managed (passive_at nodes k x.0 quiet.passive x.1) (sound.stand k x.0 x.1).stands.tidy (shown_at k x.0 lt x.1);
   }
+    where
+      same : length (ins es) ≡ length (outs es)
+      same = sym (taken_all act_of profile nodes es sound carried) ∙ (quiet.taken ∙ sent_all act_of profile nodes es sound carried)
+
+      places_quiet : (k : ℕ) → k < length nodes → IsQuietAt ((replayed r es).places k)
+      places_quiet k lt = let x = get_some nodes k lt in
+          passive_quiet x.0 ((replayed r es).places k) (passive_at nodes k x.0 quiet.passive x.1) (shown_at k x.0 lt x.1)
+
+      frees_at : (k : ℕ) → k < length nodes → FreesTheDead r k (part k es)
+      frees_at k lt = let x = get_some nodes k lt in
+          subst (λ j. FreesTheDead r j (part j es)) (sound.stand k x.0 x.1).here
+          (frees_the_dead r x.0 es (stands_all act_of profile nodes es sound k x.0 x.1) (passive_at nodes k x.0 quiet.passive x.1))

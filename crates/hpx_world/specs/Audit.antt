@@ -50,12 +50,13 @@ abbrev pub away_of : Rules → Id → Space → ℕ
 away_of r o w = total r.localities (λ k. sum_by (owed_worth o) (w.places k).tokens)
     + sum_by (λ f. sum_by (worth o) (tokens_in (r.parcel_of f.1))) w.road
 
--- a line tells what is recorded of its object, what is held, and what is away
+-- a line tells what is recorded of its object, what is held, and what is away; while nothing moves it is at its home
 pub record Tells (r : Rules) (w : Space) (x : AuditLine) : Type 0 where
   pub some : 1 ≤ x.recorded
   pub recorded_is : x.recorded ≡ recorded_in x.gid w
   pub held_is : x.held ≡ held_at_all r x.gid w
   pub flight_is : x.flight ≡ away_of r x.gid w
+  pub at_is : x.at ≡ x.gid.home
 
 -- each line tells so, and each object of which credit is out has exactly one
 pub record IsAudit (r : Rules) (w : Space) (lines : List AuditLine) : Type 0 where

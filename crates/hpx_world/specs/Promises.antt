@@ -4,7 +4,7 @@ use Rattle.hpx_value.specs.Hands.{Slot}
 use Rattle.hpx_journal.specs.Data.{Id}
 use Rattle.hpx_journal.specs.Entries.{Rules}
 use Rattle.hpx_journal.specs.Foreign.{kept}
-use Rattle.hpx_journal.specs.Laws.{IsBornIn, entry_at, begun, fires, fires_at, dones, dones_at, freeds, held_in, owed_in, asking_in, asked_in, given_in, travelling_in, Commits, Fails, TargetsStand}
+use Rattle.hpx_journal.specs.Laws.{IsBornIn, entry_at, begun, fires, fires_at, dones, dones_at, freeds, held_in, owed_in, asking_in, asked_in, given_in, travelling_in, count_events, is_failed, is_refused_count, Commits, Fails, TargetsStand}
 use Rattle.hpx_journal.specs.Local.{recorded}
 use Rattle.hpx_journal.specs.Names.{IsBacked}
 use Rattle.hpx_journal.specs.Slots.{claims_in}
@@ -52,12 +52,14 @@ pub record RunsOnce (r : Rules) (es : List Entry) : Type 0 where
 pub record AnswersOnce (r : Rules) (es : List Entry) : Type 0 where
   pub claimed : (front later : List Entry) → es ≡ front ++ later → (x : Slot) → claims_in r x (replayed r front) ≤ 1
 
--- the limit: more credit is granted only where the count stays within it, and refused only where the count would pass it
+-- the limit: more credit is granted only where the count stays within it, and refused only where the count would pass it; no more
+-- actions fail than asks were refused
 pub record KeepsLimit (r : Rules) (es : List Entry) : Type 0 where
   pub granted : (front later : List Entry) (k : ℕ) (o : Id) (count : ℕ) → es ≡ front ++ entry_at k (Count o count Granted) ∷ later
       → (count + 1 ≡ recorded o ((replayed r front).places k) + 2 ^ r.credit_log) × (count ≤ r.credit_limit)
   pub refused : (front later : List Entry) (k : ℕ) (o : Id) (count : ℕ) → es ≡ front ++ entry_at k (Count o count Refused) ∷ later
       → (count ≡ recorded o ((replayed r front).places k)) × (r.credit_limit + 1 < count + 2 ^ r.credit_log)
+  pub failures : count_events is_failed es ≤ count_events is_refused_count es
 
 -- all of these
 pub record KeepsPromises (r : Rules) (es : List Entry) : Type 0 where

@@ -5,7 +5,7 @@ use Rattle.hpx_journal.specs.Data.{Id, Act}
 use Rattle.hpx_journal.specs.Entries.{Frame, Rules}
 use Rattle.hpx_journal.specs.Names.{names}
 use Rattle.hpx_journal.specs.Tokens.{is_held}
-use Rattle.hpx_journal.specs.Whole.{Space, IsQuietAt}
+use Rattle.hpx_journal.specs.Whole.{Space, IsQuiet as IsQuietIn}
 use Rattle.hpx_node.specs.Free.{NoneIsFree}
 use Rattle.hpx_node.specs.Tables.{Tables, IsPassive, fired_acts}
 
@@ -15,10 +15,10 @@ pub record IsQuiet (nodes : List Tables) (hand : Option Frame) : Type 0 where
   pub empty : hand ≡ None
   pub taken : sum_by (λ t. t.taken) nodes ≡ sum_by (λ t. t.sent) nodes
 
--- nothing is under way anywhere, and at each locality as many credits of an object are held as it has names
+-- the journal is quiet: nothing is under way anywhere, and what is dead is gone; and at each locality as many credits of an object
+-- are held as it has names
 pub record IsAtRest (r : Rules) (w : Space) : Type 0 where
-  pub road : w.road ≡ []
-  pub places : (k : ℕ) → k < r.localities → IsQuietAt (w.places k)
+  pub quiet : IsQuietIn r w
   pub held : (o : Id) (k : ℕ) → 16 ≤ o.kind → k < r.localities → count_by (is_held o) (w.places k).tokens ≡ names o (w.places k)
 
 -- no accepted action may be fired

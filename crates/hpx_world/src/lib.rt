@@ -2,7 +2,7 @@
 #![tactic(auto)]
 
 pub mod audit;
-pub mod locals;
-pub mod steps;
+mod locals;
+mod steps;
 pub mod turns;
 pub mod world;
