@@ -31,9 +31,9 @@ pub fn settled_law()
 {}
 
 /// Nothing idle: in each row what has gone and what is still here is what was caused, from boot on, and from any moment on
-/// at which the node was passive. Each action goes through one message at most. An id goes or is handed over with no more credit
-/// no more often than one came so or was refused here. Where the node is passive each dead object of its home was freed here or a Free
-/// of it was sent, and each Free that came has freed its object.
+/// at which the node was passive. Actions go through messages no more often than they came, were sent or are lines. An id goes or is
+/// handed over with no more credit no more often than one came so or was refused here. Where the node is passive each dead object of
+/// its home was freed here or a Free of it was sent, and each Free that came has freed its object.
 pub fn idle_law()
     ensures boot { (r : Rules) (t : Tables) (entries : List Entry) → StandsWith r t [] [] entries → (row : Row) →
         sum_by (λ (e : Entry). goes r row e.event) (part t.here entries) + unpaid row t

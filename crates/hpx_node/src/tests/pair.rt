@@ -89,41 +89,8 @@ impl Pair {
         Ok(pair)
     }
 
-    /// So many calls, which are fed and done at the session alone.
-    pub fn start(&mut self, alloc: Global, times: u32) -> Result<(), Fail> {
-        for _i in 0..times {
-            self.first.feed(alloc, b'a')?;
-            self.first.run(alloc)?;
-        }
-        Ok(())
-    }
-
-    /// Carries so many frames to the second.
-    pub fn carry_all(&mut self, alloc: Global, times: u32) -> Result<(), Fail> {
-        for _i in 0..times {
-            self.there(alloc)?;
-        }
-        Ok(())
-    }
-
     /// What is out of the number's credit.
     pub fn count(&self) -> u128 {
         self.second.seen().count
-    }
-
-    /// Whether so much is out of the number's credit, and so much is held of it and owed.
-    pub fn has_credit(&self, count: u128, held: u128, owed: u128) -> bool {
-        let first = self.first.seen();
-        let second = self.second.seen();
-        second.count == count
-            && first.held.saturating_add(second.held) == held
-            && first.owed.saturating_add(second.owed) == owed
-    }
-
-    /// Whether nothing is to be done, and each frame that was sent was taken.
-    pub fn is_quiet(&self) -> bool {
-        let first = self.first.seen();
-        let second = self.second.seen();
-        first.passive && second.passive && first.sent == second.taken && second.sent == first.taken
     }
 }

@@ -4,7 +4,6 @@ ghost use Rattle.std.specs.Prelude.{◌<◌};
 use crate::node::Node;
 use crate::parts::{DeskFault, Finished, TakeFault};
 use hpx_journal::cargo::one;
-use hpx_journal::entry::Event;
 use hpx_journal::journal::Journal;
 use hpx_parcel::write::encode;
 use hpx_trial::trial::Trial;
@@ -168,21 +167,6 @@ impl Site {
             place: self.node.place(number()),
             live: self.node.live(0),
         }
-    }
-
-    /// How often a text was printed, and how often anything was.
-    pub fn printed(&self, text: &[u8]) -> (u64, u64) {
-        let mut times = 0u64;
-        let mut all = 0u64;
-        for entry in self.book.as_slice() {
-            if let Event::Print { bytes } = &entry.event {
-                all = all.saturating_add(1);
-                if bytes.as_slice() == text {
-                    times = times.saturating_add(1);
-                }
-            }
-        }
-        (times, all)
     }
 }
 
