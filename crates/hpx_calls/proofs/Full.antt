@@ -284,7 +284,7 @@ moves_all n here s a out (x ∷ xs) h = ((λ e. absurd (h.0.0 e)), moves_all n h
 
 roots_all : (n here : ℕ) (xs : List Start) → here < n → AllByRecursion (λ (x : Sending). IsTarget n x.target) (sends_of here xs)
 roots_all n here [] low = tt
-roots_all n here (x ∷ xs) low = (inr (inl (inr (inr refl), low)), roots_all n here xs low)
+roots_all n here (x ∷ xs) low = (inr (inr (inr refl), low), roots_all n here xs low)
 
 slots_once : (kind : ℕ) (s : State) (vs : List Spelled) (conts : List ℕ) (makes : List Make) (here : ℕ) (xs : List Start) (rs : List Reply)
     → NamesSlotsOnce kind s (outcome s vs conts makes (sends_of here xs) rs)

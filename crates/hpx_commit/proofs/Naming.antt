@@ -195,10 +195,9 @@ module _ (s : State) (a : Act) (made : List Id) (state : IsState s) (action : Is
       small (inl (inl k, z)) = omega arith
       small (inl (inr (inl k), z)) = omega arith
       small (inl (inr (inr k), z)) = omega arith
-      small (inr (inl (inl k, z))) = omega arith
-      small (inr (inl (inr (inl k), z))) = omega arith
-      small (inr (inl (inr (inr k), z))) = omega arith
-      small (inr (inr (k, z))) = omega arith
+      small (inr (inl k, z)) = omega arith
+      small (inr (inr (inl k), z)) = omega arith
+      small (inr (inr (inr k), z)) = omega arith
 
   target_matches : (n : ℕ) (t : Target) → IsTarget n t → Matches hand (target_id hand t ∷ []) (target_places t)
   target_matches n (Place p) h = refl

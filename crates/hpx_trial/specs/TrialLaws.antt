@@ -136,7 +136,7 @@ module _ (n kind here : ℕ) (s : State) (a : Act) (some : 1 ≤ n) (state : IsS
     );
     codes = ((λ e. absurd (cc), λ e. absurd (cc)), tt);
     moves = ((λ e. absurd (cc)), tt);
-    roots = (inr (inl (inl refl, omega arith)), tt);
+    roots = (inr (inl refl, omega arith), tt);
   })
 
   takes : IsSpeaking kind s a → (slot place : _) → a.args ≡ Int slot ∷ Ref place ∷ [] → KeepsLaws n kind here s a (said s.drawn (Ref 1 ∷ []) [])

@@ -1,5 +1,5 @@
 -- The laws that every meaning of actions keeps.
-use Rattle.std.specs.Prelude.{ℕ, pos, Bool, cond, nat_lt, List, [], ◌∷◌, ◌++◌, ◌≡◌, ◌≢◌, ◌+◌, ◌%◌, ◌<◌, ◌≤◌, ◌==◌, ◌&&◌, ◌⊎◌, length}
+use Rattle.std.specs.Prelude.{ℕ, pos, Bool, cond, nat_lt, List, [], ◌∷◌, ◌++◌, ◌≡◌, ◌≢◌, ◌+◌, ◌<◌, ◌≤◌, ◌==◌, ◌&&◌, ◌⊎◌, length}
 use Rattle.std.specs.List.{AllByRecursion, count_by}
 use Rattle.hpx_value.specs.Ids.{Id}
 use Rattle.hpx_value.specs.Values.{Value, Int, State, Act, refs_in, bare_state}
@@ -70,7 +70,7 @@ drawn_slots (x ∷ xs) = draws x.cont ++ drawn_slots xs
 abbrev pub IsRoot : ℕ → ℕ → ℕ → Type 0
 IsRoot n kind at =
     (((kind ≡ 1) ⊎ ((kind ≡ 2) ⊎ (kind ≡ 4))) × (at ≡ 0))
-    ⊎ ((((kind ≡ 3) ⊎ ((kind ≡ 5) ⊎ (kind ≡ 7))) × (at < n)) ⊎ ((kind ≡ 6) × (at ≡ 1 % n)))
+    ⊎ (((kind ≡ 3) ⊎ ((kind ≡ 5) ⊎ (kind ≡ 7))) × (at < n))
 
 -- a root that a target names is one that there is
 abbrev pub IsTarget : ℕ → Target → Type 0

@@ -10,8 +10,6 @@ pub const COMPONENTS: u32 = 3;
 pub const LOCALITIES: u32 = 4;
 /// The shelf: a root of each locality.
 pub const SHELF: u32 = 5;
-/// The tally: a root of locality 1, or of 0 where there is one locality.
-pub const TALLY: u32 = 6;
 /// The plain object: a root of each locality, without state and never busy.
 pub const PLAIN: u32 = 7;
 /// The first kind of managed objects, which is movable.

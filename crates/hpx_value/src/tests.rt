@@ -283,10 +283,8 @@ fn credits_have_worth(rt: HostRuntime) {
 
 #[test]
 fn codes_are_those_of_frames(rt: HostRuntime) {
-    let roots = [
-        SESSION, SYMBOLS, COMPONENTS, LOCALITIES, SHELF, TALLY, PLAIN,
-    ];
-    assert_eq!(rt; roots, [1, 2, 3, 4, 5, 6, 7]);
+    let roots = [SESSION, SYMBOLS, COMPONENTS, LOCALITIES, SHELF, PLAIN];
+    assert_eq!(rt; roots, [1, 2, 3, 4, 5, 7]);
     assert_eq!(rt; [FIRST_MANAGED, LAST_MOVABLE, LAST_MANAGED], [16, 31, 63]);
     assert_eq!(rt; [MOVE, WHERE, SET, LINE], [1, 2, 3, 4]);
     assert_eq!(rt; [ADD, QUERY, RESET], [16, 17, 18]);
@@ -304,10 +302,10 @@ fn texts_are_plain(rt: HostRuntime) -> Result<(), Fail> {
         format!(in alloc; "{id:?}")?.as_str(),
         "Gid { msb: 8589934625, lsb: 1 }"
     );
-    let target = Target::Root { kind: TALLY, at: 1 };
+    let target = Target::Root { kind: PLAIN, at: 1 };
     assert_eq!(rt;
         format!(in alloc; "{target:?}")?.as_str(),
-        "Root { kind: 6, at: 1 }"
+        "Root { kind: 7, at: 1 }"
     );
     let cont = SendCont::Own(2);
     assert_eq!(rt; format!(in alloc; "{cont:?}")?.as_str(), "Own(2)");
