@@ -45,7 +45,7 @@ frees_carried r o road (e ∷ es) h =
     )
 
 -- beyond the last locality nothing was written
-part_beyond : (n k : ℕ) (es : List Entry) → AreBelow n es → n ≤ k → part k es ≡ []
+pub part_beyond : (n k : ℕ) (es : List Entry) → AreBelow n es → n ≤ k → part k es ≡ []
 part_beyond n k [] h beyond = refl
 part_beyond n k (e ∷ es) h beyond =
     let d : e.at ≢ k = λ t. absurd (omega (arith, h.0)) in

@@ -93,11 +93,11 @@ due_act_formed a [] h = tt
 due_act_formed a (PrintDue bytes ∷ rest) h = tt
 due_act_formed a (MessageDue m ∷ rest) h = (h.0, tt)
 
-tail_formed : (due : List Due) → AllByRecursion IsFormedDue due → AllByRecursion IsFormedDue (tail due)
-tail_formed [] h = tt
-tail_formed (x ∷ xs) h = h.1
+pub all-tail : (P : Due → Type 0) (due : List Due) → AllByRecursion P due → AllByRecursion P (tail due)
+all-tail P [] h = tt
+all-tail P (x ∷ xs) h = h.1
 
-all-image : {X Y : Type 0} (P : Y → Type 0) (f : X → Y) (xs : List X) → AllByRecursion (λ x. P (f x)) xs → AllByRecursion P (map f xs)
+pub all-image : {X Y : Type 0} (P : Y → Type 0) (f : X → Y) (xs : List X) → AllByRecursion (λ x. P (f x)) xs → AllByRecursion P (map f xs)
 all-image P f [] h = tt
 all-image P f (x ∷ xs) h = (h.0, all-image P f xs h.1)
 
@@ -230,7 +230,7 @@ module _ (r : Rules) (grammar : HasGrammar r) (laws : KeepsActLaws r) (s : Local
 
   -- the target of a fired action, and what its outcome keeps
   module _ (a : Name) (x : Runs s a) where
-    target_formed : IsState x.target.state
+    pub target_formed : IsState x.target.state
     target_formed =
         let old : list_any (same_object (target_of x.act)) s.fresh ≡ false = all-find (IsOld s.fresh) (is_act a) s.fired x.act settled.old x.fired in
         elim (all-find (IsFormedOrFresh s.fresh) (is_standing (target_of x.act)) s.objects x.target formed.objects x.stands) [
@@ -345,8 +345,8 @@ module _ (r : Rules) (grammar : HasGrammar r) (laws : KeepsActLaws r) (s : Local
       rw (x.fired, x.stands)
       (due_formed r.localities x.target.object.kind s.here x.target.state x.act s.fresh (outcome r s x.act x.target) (keeps a x))
   due_after (Done a true) row = rw row.0.fired (failure_formed row.0.act)
-  due_after (Sent a) row = tail_formed s.due formed.due
-  due_after (Print bytes) row = tail_formed s.due formed.due
+  due_after (Sent a) row = all-tail IsFormedDue s.due formed.due
+  due_after (Print bytes) row = all-tail IsFormedDue s.due formed.due
   due_after _ row = formed.due
 
   -- ---- fired actions are for old objects

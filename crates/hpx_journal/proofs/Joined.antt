@@ -29,7 +29,7 @@ use Rattle.hpx_journal.proofs.Wholes.{IsWhole, whole_step, at_same, at_other}
 drawn_le : (a : Name) (h n : ℕ) → drawn_at a h n ≤ 1
 drawn_le a h n = grind (arith, nat_tests)
 
-drawn_away : (a : Name) (h n : ℕ) → h ≢ a.origin → drawn_at a h n ≡ 0
+pub drawn_away : (a : Name) (h n : ℕ) → h ≢ a.origin → drawn_at a h n ≡ 0
 drawn_away a h n d = grind (arith, nat_tests)
 
 drawn_late : (a : Name) (h n : ℕ) → IsUndrawn n a.serial → drawn_at a h n ≡ 0

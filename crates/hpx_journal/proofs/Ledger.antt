@@ -102,7 +102,7 @@ ledger_moves r s (In bytes) sane h k o = omega arith
 ledger_moves r s _ sane h k o = refl
 
 -- each reason for a count says that o is at home here, was born and is not dead
-count_row : (r : Rules) (s : Local) (o : Id) (count : ℕ) (why : Reason) → Row r s (Count o count why)
+pub count_row : (r : Rules) (s : Local) (o : Id) (count : ℕ) (why : Reason) → Row r s (Count o count why)
     → (o.home ≡ s.here) × (1 ≤ recorded o s)
 count_row r s o count (Returned log) h = (h.0, h.1)
 count_row r s o count Granted h = (h.0, h.1)

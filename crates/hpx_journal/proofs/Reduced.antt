@@ -279,7 +279,7 @@ module _ (r : Rules) where
     printed = refl;
   }
 
-none_front : (es later : List Entry) → NoneFails (es ++ later) → NoneFails es × NoneFails later
+pub none_front : (es later : List Entry) → NoneFails (es ++ later) → NoneFails es × NoneFails later
 none_front es later h =
     let sums = sum_by-append (λ x. cond {A = ℕ} (is_failed x.event) 1 0) es later in (omega (arith, h, sums), omega (arith, h, sums))
 

@@ -27,7 +27,7 @@ use Rattle.hpx_journal.proofs.Claims.{claimed, budget, opened_here, claims_move}
 use Rattle.hpx_journal.proofs.Start.{first, start_whole, legal_whole, roots_all, zero_all}
 
 -- what the whole knows of each locality
-place_of : (r : Rules) (w : Space) → IsWhole r w → (k : ℕ) → k < r.localities → IsPlace r (w.places k)
+pub place_of : (r : Rules) (w : Space) → IsWhole r w → (k : ℕ) → k < r.localities → IsPlace r (w.places k)
 place_of r w whole k h = record {
   here = subst (λ j. j < r.localities) (sym (whole.here k)) h;
   once = λ o managed. omega (arith, one_object r w whole o managed, total-term r.localities (λ j. kept o (w.places j)) k h);

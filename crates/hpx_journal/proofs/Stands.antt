@@ -39,12 +39,12 @@ any_without_at : {X : Type 0} (p q : X → Bool) (b : Bool) (y : X) (ys : List X
 any_without_at p q true y ys apart ih = rw (apart refl) refl
 any_without_at p q false y ys apart ih = rw ih refl
 
-any_without : {X : Type 0} (p q : X → Bool) (xs : List X) → ((x : X) → q x ≡ true → p x ≡ false)
+pub any_without : {X : Type 0} (p q : X → Bool) (xs : List X) → ((x : X) → q x ≡ true → p x ≡ false)
     → list_any p (without q xs) ≡ list_any p xs
 any_without p q [] apart = refl
 any_without p q (y ∷ ys) apart = any_without_at p q (q y) y ys (apart y) (any_without p q ys apart)
 
-apart_from : (t o : Id) → same_object o t ≡ false → (x : Standing) → is_standing o x ≡ true → is_standing t x ≡ false
+pub apart_from : (t o : Id) → same_object o t ≡ false → (x : Standing) → is_standing o x ≡ true → is_standing t x ≡ false
 apart_from t o d x h =
     elim (cases_Bool (same_object t x.object)) [
       | inl u ↦
@@ -65,7 +65,7 @@ gone_stand objects o (act ∷ acts) h all =
       gone_stand objects o acts (or_false_both _ _ h).1 all.1,
     )
 
-settled_stand : (objects : List Standing) (o : Id) (new : State) (t : Id) → stands objects t ≡ true
+pub settled_stand : (objects : List Standing) (o : Id) (new : State) (t : Id) → stands objects t ≡ true
     → stands (record { object = o; state = new } ∷ without (is_standing o) objects) t ≡ true
 settled_stand objects o new t h =
     elim (cases_Bool (same_object o t)) [

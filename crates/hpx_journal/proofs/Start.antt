@@ -114,7 +114,7 @@ module _ (r : Rules) where
   start_backed : AreBacked r first
   start_backed k h = boot_backed r.localities k
 
-  start_frees : FreesDead r first
+  pub start_frees : FreesDead r first
   start_frees = record { road = λ f o h t. absurd (cc); last = λ k bytes o h t. absurd (cc) }
 
   -- ---- legal journals

@@ -12,4 +12,6 @@ pub mod Whole
 pub mod Slots
 pub mod Weights
 pub mod Laws
+pub mod Natives
 pub mod Pool
+pub mod Sessions

@@ -10,9 +10,10 @@ ghost use Rattle.hpx_journal.specs.Rows.{IsDead};
 ghost use Rattle.hpx_journal.specs.Names.{IsBacked};
 ghost use Rattle.hpx_journal.specs.Foreign.{present, IsUndrawn, kept, NodeKeeps, IsForeign};
 ghost use Rattle.hpx_journal.specs.Roots.{roots};
-ghost use Rattle.hpx_journal.specs.Whole.{IsLegal, IsJoin, IsClean, IsCarried, IsQuiet, IsQuietAt, part, replayed, run_local, credit_sum, recorded_in, IsDeadIn, names_in};
+ghost use Rattle.hpx_journal.specs.Whole.{IsLegal, IsJoin, IsClean, IsCarried, IsQuiet, IsQuietAt, Space, part, replayed, run_local, credit_sum, recorded_in, IsDeadIn, names_in};
 ghost use Rattle.hpx_journal.specs.Laws.{fired_here, travelling_in, FreesTheDead, KeepsActLaws, IsFormed, RefusesForCause, count_events, is_failed, hands_refusal, is_refused_count, HasGrammar, IsBornIn, IsOnRoad, IsLegalLocal, AreAt, SameBag, TargetsStand, Commits, Fails, entry_at, held_in, owed_in, asking_in, asked_in, given_in, begun, fires, dones, fires_at, dones_at, freeds, ins, outs, road_run};
-ghost use Rattle.hpx_journal.specs.Pool.{Pool, IsBlind, Shows, NoneFails, IsPlainRun, boot_pool};
+ghost use Rattle.hpx_journal.specs.Pool.{Pool, IsBlind, Shows, NoneFails, IsPlainRun, boot_pool, prints_of};
+ghost use Rattle.hpx_journal.specs.Sessions.{IsSettled, BeginsWith, IsSession, IsPlainSession, IsPlainBrokenOff, entries_of, shown};
 
 /// Each front of a legal journal is legal.
 pub fn front_law()
@@ -176,4 +177,24 @@ pub fn reduction_law()
     ensures boot { (r : Rules) → Shows r (replayed r []) (boot_pool r) [] }
     ensures plain { (r : Rules) (es later : List Entry) (p : Pool) (out : List (List ℕ)) → HasGrammar r → KeepsActLaws r → IsBlind r →
         IsLegal r (es ++ later) → NoneFails (es ++ later) → Shows r (replayed r es) p out → IsPlainRun r (replayed r es) p out later }
+{}
+
+/// Where no action fails, what a session prints, block after block, is what the plain pool prints, line after line; where
+/// a line is broken off, what was printed begins what the pool prints. A session is a legal journal, and grows by a block;
+/// what is quiet is settled.
+pub fn session_law()
+    ensures boot { (r : Rules) (lines : List (List ℕ)) (blocks : List (List Entry)) → HasGrammar r → KeepsActLaws r → IsBlind r →
+        NoneFails (entries_of blocks) → IsSession r [] lines blocks → IsPlainSession r (boot_pool r) lines (shown blocks) }
+    ensures broken_off { (r : Rules) (lines : List (List ℕ)) (blocks : List (List Entry)) (line : List ℕ) (es : List Entry) →
+        HasGrammar r → KeepsActLaws r → IsBlind r → IsSession r [] lines blocks → BeginsWith line es →
+        IsLegal r (entries_of blocks ++ es) → NoneFails (entries_of blocks ++ es) →
+        IsPlainBrokenOff r (boot_pool r) lines (shown blocks) line (prints_of es) }
+    ensures grows { (r : Rules) (lines : List (List ℕ)) (blocks : List (List Entry)) (line : List ℕ) (es : List Entry) →
+        IsSession r [] lines blocks → IsLegal r (entries_of blocks ++ es) → BeginsWith line es →
+        IsSettled r (replayed r (entries_of blocks ++ es)) → IsSession r [] (lines ++ line ∷ []) (blocks ++ es ∷ []) }
+    ensures entries { (blocks : List (List Entry)) (es : List Entry) → entries_of (blocks ++ es ∷ []) ≡ entries_of blocks ++ es }
+    ensures texts { (blocks : List (List Entry)) (es : List Entry) → shown (blocks ++ es ∷ []) ≡ shown blocks ++ prints_of es ∷ [] }
+    ensures legal { (r : Rules) (lines : List (List ℕ)) (blocks : List (List Entry)) → IsSession r [] lines blocks →
+        IsLegal r (entries_of blocks) }
+    ensures quiet { (r : Rules) (w : Space) → IsQuiet r w → IsSettled r w }
 {}

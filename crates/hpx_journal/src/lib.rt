@@ -8,3 +8,4 @@ pub mod hand;
 pub mod journal;
 pub mod law;
 pub mod local;
+pub mod natives;
