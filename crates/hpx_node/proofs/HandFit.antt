@@ -70,10 +70,9 @@ target_credit n hand (Root kind at) h i = small h
     small (inl (inl k, z)) = omega arith
     small (inl (inr (inl k), z)) = omega arith
     small (inl (inr (inr k), z)) = omega arith
-    small (inr (inl (inl k, z))) = omega arith
-    small (inr (inl (inr (inl k), z))) = omega arith
-    small (inr (inl (inr (inr k), z))) = omega arith
-    small (inr (inr (k, z))) = omega arith
+    small (inr (inl k, z)) = omega arith
+    small (inr (inr (inl k), z)) = omega arith
+    small (inr (inr (inr k), z)) = omega arith
 
 -- ---- kinds
 

@@ -93,4 +93,9 @@ pub mod RowLaws
 pub mod Targets
 pub mod Lacks
 pub mod Spareless
+pub mod Orders
+pub mod OrderMails
+pub mod OrderAsks
+pub mod OrderTurns
+pub mod OrderCalls
 pub mod AnsweredEntry

@@ -87,7 +87,7 @@ sum_same f (z ∷ xs) zero x y h e =
     omega (arith, sum_by-cons f z xs, sum_by-cons f y xs, e, ap f (some_same z x h))
 sum_same f (z ∷ xs) (suc i) x y h e = omega (arith, sum_by-cons f z xs, sum_by-cons f z (set xs i y), sum_same f xs i x y h e)
 
-sum_less : {X : Type 0} (f : X → ℕ) (xs : List X) (i : ℕ) (x : X) → slice_get xs i ≡ Some x → sum_by f (remove xs i) + f x ≡ sum_by f xs
+pub sum_less : {X : Type 0} (f : X → ℕ) (xs : List X) (i : ℕ) (x : X) → slice_get xs i ≡ Some x → sum_by f (remove xs i) + f x ≡ sum_by f xs
 sum_less f xs i x h = omega (arith, ap (sum_by f) (split_get xs i x h), sum_middle f (take i xs) x (drop (suc i) xs))
 
 -- an action whose commit waits is among the fired

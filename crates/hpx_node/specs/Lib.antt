@@ -21,4 +21,5 @@ pub mod Strange
 pub mod Handled
 pub mod Idle
 pub mod Lacks
+pub mod Orders
 pub mod Routes

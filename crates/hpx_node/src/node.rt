@@ -6,6 +6,7 @@ ghost use Rattle.hpx_parcel.specs.Parcels.{IsParcel};
 ghost use Rattle.hpx_node.specs.Fit.{IsFit};
 ghost use Rattle.hpx_node.specs.Tables.{IsPassive};
 ghost use Rattle.hpx_node.specs.Lacks.{Lacks};
+ghost use Rattle.hpx_node.specs.Orders.{KeepsOrder};
 ghost use Rattle.hpx_node.specs.Stands.{Stands};
 ghost use Rattle.hpx_node.specs.Changes.{OnlySpare, Mails, Posts};
 ghost use Rattle.hpx_node.specs.Frames.{MayGoTo};
@@ -109,6 +110,7 @@ impl<A: Acts + Copy> Node<A> {
         ensures profile { IfOk result (λ n. n.profile ≡ profile) }
         ensures passive { IfOk result IsPassive }
         ensures lacks { IfOk result Lacks }
+        ensures orderly { IfOk result (λ n. KeepsOrder A.act_of n []) }
         ensures frames { IfOk result (λ n. (n.sent ≡ 0) × (n.taken ≡ 0)) }
         ensures stands { IfOk result (λ n. Stands A.act_of n []) }
     {

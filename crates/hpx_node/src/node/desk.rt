@@ -9,6 +9,7 @@ ghost use Rattle.hpx_journal.specs.Weights.{HasRoom, total_weight};
 ghost use Rattle.hpx_part.specs.Data.{In, Mail};
 ghost use Rattle.hpx_node.specs.Changes.{OnlySpare, Writes};
 ghost use Rattle.hpx_node.specs.Lacks.{Lacks};
+ghost use Rattle.hpx_node.specs.Orders.{KeepsOrder};
 ghost use Rattle.hpx_node.specs.Limits.{AddsATurn};
 ghost use Rattle.hpx_part.specs.Parts.{at_all};
 ghost use Rattle.hpx_node.specs.Stands.{IsTidy, Stands, rules_of};
@@ -320,6 +321,7 @@ impl<A: Acts + Copy> Node<A> {
         ensures stands { Stands A.act_of self.new book.new.entries }
         ensures running { self.new.running ≡ self.old.running }
         ensures lacks { Lacks self.old → Lacks self.new }
+        ensures orderly { KeepsOrder A.act_of self.old book.old.entries → KeepsOrder A.act_of self.new book.new.entries }
         ensures turn { AddsATurn book.old.entries book.new.entries }
         ensures ok { OnOk result (Takes frame.now self.old self.new book.old.entries book.new.entries) }
         ensures err { OnErr result (OnlySpare self.old self.new book.old book.new) }
@@ -360,6 +362,7 @@ impl<A: Acts + Copy> Node<A> {
         ensures stands { Stands A.act_of self.new book.new.entries }
         ensures running { self.new.running ≡ self.old.running }
         ensures lacks { Lacks self.old → Lacks self.new }
+        ensures orderly { KeepsOrder A.act_of self.old book.old.entries → KeepsOrder A.act_of self.new book.new.entries }
         ensures turn { AddsATurn book.old.entries book.new.entries }
         ensures cleared { result ≡ Ok true → Clears self.old self.new book.old.entries book.new.entries }
         ensures empty { result ≡ Ok false → (self.old.desk ≡ []) × (OnlySpare self.old self.new book.old book.new) }

@@ -5,6 +5,7 @@ ghost use Rattle.hpx_journal.specs.Weights.{HasRoom};
 ghost use Rattle.hpx_part.specs.Data.{Line};
 ghost use Rattle.hpx_node.specs.Fit.{IsFit};
 ghost use Rattle.hpx_node.specs.Lacks.{Lacks};
+ghost use Rattle.hpx_node.specs.Orders.{KeepsOrder};
 ghost use Rattle.hpx_node.specs.Stands.{Stands};
 ghost use Rattle.hpx_node.specs.Changes.{OnlySpare, Writes};
 ghost use Rattle.hpx_node.specs.Limits.{AddsATurn};
@@ -80,6 +81,7 @@ impl<A: Acts + Copy> Node<A> {
         ensures waits { OnOk result (self.new ≡ record (with_act (line_act (record { origin = self.old.here; serial = self.old.serial + 1 }) line)
             (record self.old { serial = self.old.serial + 1 })) { spare = self.new.spare }) }
         ensures lacks { Lacks self.old → Lacks self.new }
+        ensures orderly { KeepsOrder A.act_of self.old book.old.entries → KeepsOrder A.act_of self.new book.new.entries }
         ensures turn { AddsATurn book.old.entries book.new.entries }
         ensures line { OnOk result (Writes (Line (record { origin = self.old.here; serial = self.old.serial + 1 }) line ∷ []) self.old self.new book.old.entries book.new.entries) }
         ensures err { OnErr result (OnlySpare self.old self.new book.old book.new) }

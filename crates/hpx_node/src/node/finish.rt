@@ -11,6 +11,7 @@ ghost use Rattle.hpx_node.specs.Births.{birth_of, ids_of};
 ghost use Rattle.hpx_node.specs.Commits.{committed, made_of, hand_of, places_in_hand, own_stock, IsStock, IsPrepared, Ends};
 ghost use Rattle.hpx_node.specs.Jobs.{IsAt, IsRunning, IsFitJob};
 ghost use Rattle.hpx_node.specs.Lacks.{Lacks};
+ghost use Rattle.hpx_node.specs.Orders.{KeepsOrder};
 ghost use Rattle.hpx_node.specs.Stands.{IsTidy, Stands};
 ghost use Rattle.hpx_node.specs.Changes.{OnlySpare, Writes};
 ghost use Rattle.hpx_node.specs.Limits.{AddsATurn};
@@ -185,6 +186,7 @@ impl<A: Acts + Copy> Node<A> {
         requires stands { Stands A.act_of self.old book.old.entries }
         ensures stands { Stands A.act_of self.new book.new.entries }
         ensures lacks { Lacks self.old → Lacks self.new }
+        ensures orderly { KeepsOrder A.act_of self.old book.old.entries → KeepsOrder A.act_of self.new book.new.entries }
         ensures turn { AddsATurn book.old.entries book.new.entries }
         ensures committed { IfOk result (λ f. f ≡ Finished.Committed →
             Writes (committed self.old done.job done.outcome) self.old self.new book.old.entries book.new.entries) }

@@ -8,6 +8,7 @@ ghost use Rattle.hpx_node.specs.Free.{NoneIsFree, IsFree};
 ghost use Rattle.hpx_node.specs.Jobs.{Starts};
 ghost use Rattle.hpx_node.specs.Tables.{fired_acts};
 ghost use Rattle.hpx_node.specs.Lacks.{Lacks};
+ghost use Rattle.hpx_node.specs.Orders.{KeepsOrder};
 ghost use Rattle.hpx_node.specs.Stands.{Stands};
 ghost use Rattle.hpx_node.specs.Changes.{OnlySpare, Writes};
 ghost use Rattle.hpx_node.specs.Limits.{AddsATurn};
@@ -69,6 +70,7 @@ impl<A: Acts + Copy> Node<A> {
         requires stands { Stands A.act_of self.old book.old.entries }
         ensures stands { Stands A.act_of self.new book.new.entries }
         ensures lacks { Lacks self.old → Lacks self.new }
+        ensures orderly { KeepsOrder A.act_of self.old book.old.entries → KeepsOrder A.act_of self.new book.new.entries }
         ensures turn { AddsATurn book.old.entries book.new.entries }
         ensures fired { IfOk result (λ o. IfSome o (λ job. Writes (Fire (name_of job.action) ∷ []) self.old self.new book.old.entries book.new.entries)) }
         ensures job { IfOk result (λ o. IfSome o (Starts self.old self.new)) }

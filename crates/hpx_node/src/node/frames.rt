@@ -5,6 +5,7 @@ ghost use Rattle.hpx_parcel.specs.Parcels.{IsParcel};
 ghost use Rattle.hpx_part.specs.Data.{Out};
 ghost use Rattle.hpx_node.specs.Frames.{IsFront, IsSpelled};
 ghost use Rattle.hpx_node.specs.Lacks.{Lacks};
+ghost use Rattle.hpx_node.specs.Orders.{KeepsOrder};
 ghost use Rattle.hpx_node.specs.Stands.{Stands};
 ghost use Rattle.hpx_node.specs.Changes.{Writes};
 ghost use Rattle.hpx_node.specs.Limits.{AddsATurn};
@@ -39,6 +40,7 @@ impl<A: Acts + Copy> Node<A> {
         ensures stands { Stands A.act_of self.new book.new.entries }
         ensures writes { Writes (Out to frame ∷ []) self.old self.new book.old.entries book.new.entries }
         ensures lacks { Lacks self.old → Lacks self.new }
+        ensures orderly { KeepsOrder A.act_of self.old book.old.entries → KeepsOrder A.act_of self.new book.new.entries }
         ensures turn { AddsATurn book.old.entries book.new.entries }
         ensures rest { (first : _) (rest : _) → self.old.outgoing ≡ first ∷ rest
             → self.new ≡ record self.old { outgoing = rest; sent = self.old.sent + 1; spare = self.new.spare } }

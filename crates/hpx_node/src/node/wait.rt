@@ -17,6 +17,7 @@ ghost use Rattle.hpx_node.specs.Commits.{hand_of, places_in_hand};
 ghost use Rattle.hpx_node.specs.Births.{birth_of, ids_of};
 ghost use Rattle.hpx_node.specs.Jobs.{IsAt, IsFitJob};
 ghost use Rattle.hpx_node.specs.Lacks.{Lacks};
+ghost use Rattle.hpx_node.specs.Orders.{KeepsOrder};
 ghost use Rattle.hpx_node.specs.Stands.{Stands};
 ghost use Rattle.hpx_node.specs.Changes.{OnlySpare};
 ghost use Rattle.hpx_node.specs.Limits.{AddsATurn};
@@ -239,6 +240,7 @@ impl<A: Acts + Copy> Node<A> {
         requires stands { Stands A.act_of self.old book.old.entries }
         ensures stands { Stands A.act_of self.new book.new.entries }
         ensures lacks { Lacks self.old → Lacks self.new }
+        ensures orderly { KeepsOrder A.act_of self.old book.old.entries → KeepsOrder A.act_of self.new book.new.entries }
         ensures turn { AddsATurn book.old.entries book.new.entries }
         ensures asks { IfOk result (λ f. (f ≡ Finished.Asking) × Begins self.old self.new done.job done.outcome book.old.entries book.new.entries) }
         ensures err { IfErr result (λ e. (e.undone ≡ done) × OnlySpare self.old self.new book.old book.new) }

@@ -11,6 +11,23 @@ pub struct Pair {
     pub second: Site,
 }
 
+/// What one of the two does.
+#[derive(Clone, Copy)]
+pub enum Step {
+    /// The first is fed a line of one byte.
+    Feed(u8),
+    /// The first runs its next job.
+    RunFirst,
+    /// The second runs its next job.
+    RunSecond,
+    /// The second deals with a message on its desk.
+    DeskSecond,
+    /// A frame is carried to the second.
+    There,
+    /// A frame is carried to the first.
+    Back,
+}
+
 /// The kind of the message in a frame; 0 for none.
 fn kind_in(frame: &Bytes) -> u8 {
     match frame.as_slice() {
@@ -32,10 +49,10 @@ fn carry(alloc: Global, from: &mut Site, to: &mut Site) -> Result<u8, Fail> {
 
 impl Pair {
     /// Both at boot.
-    pub fn boot(alloc: Global) -> Result<Pair, Fail> {
+    pub fn boot(alloc: Global, credit_limit: u128) -> Result<Pair, Fail> {
         Ok(Pair {
-            first: Site::boot(alloc, 0)?,
-            second: Site::boot(alloc, 1)?,
+            first: Site::with_limit(alloc, 0, credit_limit)?,
+            second: Site::with_limit(alloc, 1, credit_limit)?,
         })
     }
 
@@ -47,6 +64,29 @@ impl Pair {
     /// Carries a frame to the first.
     pub fn back(&mut self, alloc: Global) -> Result<u8, Fail> {
         carry(alloc, &mut self.second, &mut self.first)
+    }
+
+    /// One of the two does something.
+    pub fn step(&mut self, alloc: Global, step: Step) -> Result<(), Fail> {
+        match step {
+            Step::Feed(byte) => self.first.feed(alloc, byte)?,
+            Step::RunFirst => {
+                self.first.run(alloc)?;
+            }
+            Step::RunSecond => {
+                self.second.run(alloc)?;
+            }
+            Step::DeskSecond => {
+                self.second.desk(alloc)?;
+            }
+            Step::There => {
+                self.there(alloc)?;
+            }
+            Step::Back => {
+                self.back(alloc)?;
+            }
+        }
+        Ok(())
     }
 
     /// Each does one thing of each sort.
@@ -82,11 +122,29 @@ impl Pair {
         Ok(())
     }
 
-    /// Both, once the number is made.
+    /// Both, once the number is made, which may have no more credit than at its birth.
     pub fn with_number(alloc: Global) -> Result<Pair, Fail> {
-        let mut pair = Pair::boot(alloc)?;
+        Pair::with_limit(alloc, 256)
+    }
+
+    /// Both, once the number is made, which may have so much credit at most.
+    pub fn with_limit(alloc: Global, credit_limit: u128) -> Result<Pair, Fail> {
+        let mut pair = Pair::boot(alloc, credit_limit)?;
         pair.line(alloc, b'n')?;
         Ok(pair)
+    }
+
+    /// The number's credit: what is held and what is owed at the first, the same at the second, and the count.
+    pub fn credit(&self) -> [u128; 5] {
+        let first = self.first.seen();
+        let second = self.second.seen();
+        [
+            first.held,
+            first.owed,
+            second.held,
+            second.owed,
+            second.count,
+        ]
     }
 
     /// What is out of the number's credit.

@@ -1,9 +1,12 @@
 //! Frames that are refused.
-use crate::parts::TakeFault;
+use crate::parts::{DeskFault, TakeFault};
+use crate::tests::pair::Pair;
 use crate::tests::site::{Site, number};
+use hpx_parcel::parcel::Why;
 use hpx_value::gid::Gid;
 use hpx_value::items::{Bytes, Items};
 use std::alloc::Global;
+use std::process::Abort;
 use std::test::Fail;
 
 /// The call that has a number made at locality 1.
@@ -66,6 +69,12 @@ fn strange(rule: u8, object: Gid, kept: u128) -> TakeFault {
     TakeFault::Strange { rule, object, kept }
 }
 
+/// So it is where nothing was made.
+fn at_boot(alloc: Global, text: &str, fault: TakeFault) -> Result<bool, Fail> {
+    let site = Site::boot(alloc, 1)?;
+    is_refused(alloc, site, text, fault)
+}
+
 /// So it is at the home of the number.
 fn at_home(alloc: Global, text: &str, fault: TakeFault) -> Result<bool, Fail> {
     let site = home(alloc)?;
@@ -98,6 +107,107 @@ fn refuses_credit(alloc: Global) -> Result<bool, Fail> {
 #[test]
 fn the_home_refuses_credit(rt: HostRuntime) -> Result<(), Fail> {
     assert!(rt; refuses_credit(rt.alloc())?);
+    Ok(())
+}
+
+/// A Return, an Ask and an action where nothing was made, and a Return to a locality that is not there.
+fn refuses_early(alloc: Global) -> Result<bool, Fail> {
+    Ok(
+        at_boot(
+            alloc,
+            "0102 0000000248000021 0000000000000001",
+            strange(1, number(), 0),
+        )? && at_boot(
+            alloc,
+            "0103 0000000240000021 0000000000000001 0000 0000000000000001",
+            strange(1, number(), 0),
+        )? && at_boot(
+            alloc,
+            "0101 0000 0000000000000003 0000000247000021 0000000000000001 0010 0000 00",
+            strange(8, number(), 0),
+        )? && at_boot(
+            alloc,
+            "0102 0000000648000021 0000000000000001",
+            strange(9, far(), 2),
+        )?,
+    )
+}
+
+#[test]
+fn a_home_without_a_number_refuses(rt: HostRuntime) -> Result<(), Fail> {
+    assert!(rt; refuses_early(rt.alloc())?);
+    Ok(())
+}
+
+/// A Free of the number, whose id is held here, one of an unborn number, and bytes that spell no message.
+fn refuses_frees(alloc: Global) -> Result<bool, Fail> {
+    Ok(
+        at_home(
+            alloc,
+            "010a 0000000200000021 0000000000000001",
+            strange(7, number(), 256),
+        )? && at_home(
+            alloc,
+            "010a 0000000200000021 0000000000000002",
+            strange(7, unborn(), 0),
+        )? && at_home(
+            alloc,
+            "01ff",
+            TakeFault::BadFrame {
+                at: 1,
+                why: Why::Kind,
+            },
+        )?,
+    )
+}
+
+#[test]
+fn the_home_refuses_frees(rt: HostRuntime) -> Result<(), Fail> {
+    assert!(rt; refuses_frees(rt.alloc())?);
+    Ok(())
+}
+
+/// The session's locality, where the ninth call asks for credit of the number.
+fn asking(alloc: Global) -> Result<Site, Fail> {
+    let mut pair = Pair::with_number(alloc)?;
+    pair.calls(alloc, 8)?;
+    pair.first.feed(alloc, b'a')?;
+    pair.first.run(alloc)?;
+    Ok(pair.first)
+}
+
+/// So it is there.
+fn at_asking(alloc: Global, text: &str, fault: TakeFault) -> Result<bool, Fail> {
+    let site = asking(alloc)?;
+    is_refused(alloc, site, text, fault)
+}
+
+/// Gives with too little credit, with too much, under another number, and of another object.
+fn refuses_gives(alloc: Global) -> Result<bool, Fail> {
+    Ok(
+        at_asking(
+            alloc,
+            "0104 0000000247000021 0000000000000001 0000000000000001",
+            strange(3, number(), 1),
+        )? && at_asking(
+            alloc,
+            "0104 0000000249000021 0000000000000001 0000000000000001",
+            strange(3, number(), 1),
+        )? && at_asking(
+            alloc,
+            "0104 0000000248000021 0000000000000001 0000000000000002",
+            strange(3, number(), 2),
+        )? && at_asking(
+            alloc,
+            "0104 0000000248000021 0000000000000002 0000000000000001",
+            strange(3, unborn(), 1),
+        )?,
+    )
+}
+
+#[test]
+fn a_commit_that_asks_refuses_other_credit(rt: HostRuntime) -> Result<(), Fail> {
+    assert!(rt; refuses_gives(rt.alloc())?);
     Ok(())
 }
 
@@ -203,4 +313,33 @@ fn tells_the_first(alloc: Global) -> Result<bool, Fail> {
 fn the_first_rule_that_is_broken_is_told(rt: HostRuntime) -> Result<(), Fail> {
     assert!(rt; tells_the_first(rt.alloc())?);
     Ok(())
+}
+
+/// The Free of a number whose id is still held is refused and stays; once the id has gone it frees the number.
+fn free_stays(rt: &impl Abort, alloc: Global, mut site: Site) -> Result<(), Fail> {
+    let before = site.seen();
+    let strange = DeskFault::Strange {
+        rule: 7,
+        object: number(),
+        kept: 256,
+    };
+    assert!(rt; site.desk(alloc) == Err(strange));
+    assert!(rt; site.desk(alloc) == Err(strange));
+    assert!(rt; before.same(site.seen()));
+    assert!(rt; site.send(alloc)?.is_some());
+    assert!(rt; site.desk(alloc)?);
+    assert!(rt; !site.seen().holds);
+    Ok(())
+}
+
+#[test]
+fn a_refused_free_stays_on_the_desk(rt: HostRuntime) -> Result<(), Fail> {
+    let alloc = rt.alloc();
+    let mut site = home(alloc)?;
+    site.take(
+        alloc,
+        &hex(alloc, "0102 0000000248000021 0000000000000001")?,
+    )?;
+    assert!(rt; site.seen().count == 0 && site.seen().holds);
+    free_stays(&rt, alloc, site)
 }

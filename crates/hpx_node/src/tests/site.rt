@@ -4,6 +4,7 @@ ghost use Rattle.std.specs.Prelude.{◌<◌};
 use crate::node::Node;
 use crate::parts::{DeskFault, Finished, TakeFault};
 use hpx_journal::cargo::one;
+use hpx_journal::entry::Event;
 use hpx_journal::journal::Journal;
 use hpx_parcel::write::encode;
 use hpx_trial::trial::Trial;
@@ -64,13 +65,20 @@ pub fn number() -> Gid {
 }
 
 impl Site {
-    /// One of two localities, at boot.
+    /// One of two localities, at boot, where an object may have no more credit than at its birth.
     pub fn boot(alloc: Global, here: u32) -> Result<Site, OutOfMemory>
+        requires { here < 2 }
+    {
+        Site::with_limit(alloc, here, 256)
+    }
+
+    /// One of two localities, at boot, with so much credit for an object at most.
+    pub fn with_limit(alloc: Global, here: u32, credit_limit: u128) -> Result<Site, OutOfMemory>
         requires { here < 2 }
     {
         let profile = Profile {
             credit_log: 8,
-            credit_limit: 256,
+            credit_limit,
             cache: 1,
         };
         if !profile.is_valid() {
@@ -150,6 +158,32 @@ impl Site {
         let copy = frame.duplicate(alloc)?;
         self.node.gone(&mut self.book, to, frame);
         Ok(Some(copy))
+    }
+
+    /// What it did last; 0 is the last.
+    pub fn event(&self, back: u64) -> Option<&Event> {
+        let place = self.book.entries().checked_sub(1)?.checked_sub(back)?;
+        match self.book.entry(place) {
+            Some(entry) => Some(&entry.event),
+            None => None,
+        }
+    }
+
+    /// How many actions have failed here.
+    pub fn failures(&self) -> u64 {
+        let mut n = 0u64;
+        for entry in self.book.as_slice() {
+            if matches!(
+                entry.event,
+                Event::Done {
+                    action: _,
+                    failed: true
+                }
+            ) {
+                n = n.saturating_add(1);
+            }
+        }
+        n
     }
 
     /// What is seen of it, and of the number.

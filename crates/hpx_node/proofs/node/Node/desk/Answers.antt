@@ -7,6 +7,7 @@ use Rattle.hpx_node.proofs.Spared.{spare_stands, mail_by, mail_near, first_own, 
 use Rattle.hpx_node.proofs.Turns.{adds_none}
 use Rattle.hpx_node.proofs.TurnSteps.{adds_steps}
 use Rattle.hpx_node.proofs.Lacks.{lacks_spare, clears_lacks}
+use Rattle.hpx_node.proofs.OrderCalls.{orderly_spare, clears_keeps}
 use Rattle.hpx_node.proofs.node.Node.desk.Goals as goal
 
 pub returns-then-is_err-clause-stands : goal.returns-then-is_err-clause-stands
@@ -116,3 +117,9 @@ returns-then-is_err-clause-lacks g c = λ h. lacks_spare _ _ _ _ c.reserve_turn.
 
 pub returns-clause-lacks : goal.returns-clause-lacks
 returns-clause-lacks g c = λ h. clears_lacks _ _ _ _ (returns-clause-cleared g c refl) h
+
+pub returns-then-is_err-clause-orderly : goal.returns-then-is_err-clause-orderly
+returns-then-is_err-clause-orderly g c = λ h. orderly_spare g.A.Acts.act_of _ _ _ _ c.reserve_turn.ensures.same h
+
+pub returns-clause-orderly : goal.returns-clause-orderly
+returns-clause-orderly g c = λ h. clears_keeps g.A.Acts.act_of _ _ _ _ h (returns-clause-cleared g c refl) c.requires.stands.tidy

@@ -3,6 +3,7 @@ use Rattle.hpx_node.proofs.Same.{stands_same}
 use Rattle.hpx_node.proofs.Turns.{turn_from, adds_one}
 use Rattle.hpx_node.specs.Tables.{Tables}
 use Rattle.hpx_node.proofs.Lacks.{lacks_same}
+use Rattle.hpx_node.proofs.OrderCalls.{orderly_same, act_keeps}
 use Rattle.hpx_node.proofs.node.Node.feed.Goals as goal
 
 pub returns-in_err-reserve-clause-stands : goal.returns-in_err-reserve-clause-stands
@@ -29,3 +30,14 @@ returns-in_err-reserve-2-clause-lacks g c = λ h. lacks_same _ _ (ap (λ (x : Ta
 
 pub returns-clause-lacks : goal.returns-clause-lacks
 returns-clause-lacks g c = λ h. lacks_same _ _ (c.enter_line.ensures.pending ∙ ap (λ (x : Tables). x.pending) c.in_ok-reserve.ensures.same) h
+
+pub returns-in_err-reserve-clause-orderly : goal.returns-in_err-reserve-clause-orderly
+returns-in_err-reserve-clause-orderly g c = λ h. orderly_same g.A.Acts.act_of c.args.self.now _ c.args.book.now.entries _ c.in_err-reserve.ensures.same refl h
+
+pub returns-in_err-reserve-2-clause-orderly : goal.returns-in_err-reserve-2-clause-orderly
+returns-in_err-reserve-2-clause-orderly g c = λ h. orderly_same g.A.Acts.act_of c.args.self.now _ c.args.book.now.entries _ c.in_ok-reserve.ensures.same c.in_err-reserve-2.ensures.entries h
+
+pub returns-clause-orderly : goal.returns-clause-orderly
+returns-clause-orderly g c = λ h. act_keeps g.A.Acts.act_of _ _ _ _
+    (orderly_same g.A.Acts.act_of c.args.self.now _ c.args.book.now.entries _ c.in_ok-reserve.ensures.same c.in_ok-reserve-2.ensures.entries h)
+    _ c.enter_line.ensures.line ((λ k. refl, λ k. refl), tt) c.in_ok-act.act _ c.enter_line.ensures.waits

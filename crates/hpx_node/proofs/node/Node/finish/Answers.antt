@@ -7,6 +7,7 @@ use Rattle.hpx_node.proofs.SameCommit.{prepared_same, ends_from}
 use Rattle.hpx_node.proofs.node.Node.finish.Goals.{then-is_err-via-then-is_err, then-is_err-via-else-is_err+then-is_err-2}
 use Rattle.hpx_node.specs.Tables.{Tables}
 use Rattle.hpx_node.proofs.Lacks.{lacks_same}
+use Rattle.hpx_node.proofs.OrderCalls.{orderly_same, ends_keeps}
 use Rattle.hpx_node.proofs.node.Node.finish.Goals as goal
 
 pub returns-then-is_err-clause-stands : goal.returns-then-is_err-clause-stands
@@ -54,3 +55,15 @@ returns-then-is_err-clause-lacks g c = λ h. lacks_same _ _ (ap (λ (x : Tables)
 
 pub returns-clause-lacks : goal.returns-clause-lacks
 returns-clause-lacks g c = λ h. lacks_same _ _ (c.commit.ensures.pending ∙ ap (λ (x : Tables). x.pending) c.reserve.ensures.same) h
+
+pub returns-then-is_err-clause-orderly : goal.returns-then-is_err-clause-orderly
+returns-then-is_err-clause-orderly g c = elim c.then-is_err.branch [
+  | then-is_err-via-then-is_err w ↦ λ h. orderly_same g.A.Acts.act_of c.args.self.now _ _ _ c.reserve.ensures.same (ap (λ (b : Book). b.entries) w.book-is) h
+  | then-is_err-via-else-is_err+then-is_err-2 w ↦ λ h. orderly_same g.A.Acts.act_of c.args.self.now _ _ _ c.reserve.ensures.same
+      (ap (λ (b : Book). b.entries) w.book-is ∙ w.reserve-else-is_err.ensures.entries) h
+]
+
+pub returns-clause-orderly : goal.returns-clause-orderly
+returns-clause-orderly g c = λ h. ends_keeps g.A.Acts.act_of _ _ _ _
+    (orderly_same g.A.Acts.act_of c.args.self.now _ c.args.book.now.entries _ c.reserve.ensures.same c.reserve-else-is_err.ensures.entries h)
+    _ _ c.commit.ensures.committed c.commit.ensures.ends

@@ -6,6 +6,7 @@ use Rattle.hpx_node.proofs.Spared.{spare_stands, spare_few, took}
 use Rattle.hpx_node.proofs.Turns.{adds_none}
 use Rattle.hpx_node.proofs.TurnSteps.{adds_steps}
 use Rattle.hpx_node.proofs.Lacks.{lacks_spare, takes_lacks}
+use Rattle.hpx_node.proofs.OrderCalls.{orderly_spare, takes_keeps}
 use Rattle.hpx_node.proofs.node.Node.take.Goals as goal
 
 pub enter_frame-requires-clause-few : goal.enter_frame-requires-clause-few
@@ -60,3 +61,9 @@ returns-then-is_err-clause-lacks g c = λ h. lacks_spare _ _ _ _ c.reserve_turn.
 
 pub returns-clause-lacks : goal.returns-clause-lacks
 returns-clause-lacks g c = λ h. takes_lacks c.args.frame.now _ _ _ _ (returns-clause-ok g c) h
+
+pub returns-then-is_err-clause-orderly : goal.returns-then-is_err-clause-orderly
+returns-then-is_err-clause-orderly g c = λ h. orderly_spare g.A.Acts.act_of _ _ _ _ c.reserve_turn.ensures.same h
+
+pub returns-clause-orderly : goal.returns-clause-orderly
+returns-clause-orderly g c = λ h. takes_keeps g.A.Acts.act_of _ _ _ _ h c.args.frame.now (returns-clause-ok g c) c.requires.stands.tidy
