@@ -50,7 +50,7 @@ either true false v = omega arith
 either false true v = refl
 either false false v = refl
 
-worth_splits : (o : Id) (ks : List Token) → sum_by (worth o) ks ≡ sum_by (held_worth o) ks + sum_by (owed_worth o) ks
+pub worth_splits : (o : Id) (ks : List Token) → sum_by (worth o) ks ≡ sum_by (held_worth o) ks + sum_by (owed_worth o) ks
 worth_splits o [] = refl
 worth_splits o (k ∷ ks) = omega (
   arith,
@@ -72,7 +72,7 @@ credit_splits r o w = omega (
 
 -- ---- records
 
-count_in_records : (o : Id) (rs : List Record) → count_in (find (is_recorded o) (map counted rs)) ≡ option_map_or (λ (x : Record). x.count) (find_record o rs) 0
+pub count_in_records : (o : Id) (rs : List Record) → count_in (find (is_recorded o) (map counted rs)) ≡ option_map_or (λ (x : Record). x.count) (find_record o rs) 0
 count_in_records o [] = refl
 count_in_records o (x ∷ xs) = elim (cases_Bool (same_object o x.gid)) [
   | inl t ↦ rw t refl
@@ -126,7 +126,7 @@ count_some o low (x ∷ xs) r h f = elim (cases_Bool (same_object o x.gid)) [
 
 -- ---- lists of lines
 
-all_each : {X : Type 0} (P : X → Type 0) (xs : List X) → ((i : ℕ) (x : X) → slice_get xs i ≡ Some x → P x) → AllByRecursion P xs
+pub all_each : {X : Type 0} (P : X → Type 0) (xs : List X) → ((i : ℕ) (x : X) → slice_get xs i ≡ Some x → P x) → AllByRecursion P xs
 all_each P [] h = tt
 all_each P (x ∷ xs) h = (h 0 x refl, all_each P xs (λ i y at. h (suc i) y at))
 

@@ -3,6 +3,8 @@ use Rattle.std.proofs.Common.{ℕ, zero, suc, List, [], ◌∷◌, ◌++◌, ◌
 use Rattle.std.specs.List.{slice_get, sum_by, AllByRecursion}
 use Rattle.std.proofs.lemmas.List.Sums.{sum_by-cons, sum_by-append}
 use Rattle.hpx_value.specs.declared.profile.Profile.{Profile}
+use Rattle.hpx_node.specs.Lacks.{Lacks}
+use Rattle.hpx_node.specs.Orders.{KeepsOrder}
 use Rattle.hpx_node.specs.Stands.{Stands}
 use Rattle.hpx_node.specs.Tables.{Tables, IsPassive}
 use Rattle.hpx_world.specs.Quiet.{NoneRuns}
@@ -25,8 +27,8 @@ pub booted_none : (act_of : Meaning) (profile : Profile) (n : ℕ) → AreBooted
 booted_none act_of profile n = record { each = λ k t h. absurd (cc) }
 
 pub booted_more : (act_of : Meaning) (profile : Profile) (n : ℕ) (nodes : List Tables) (t : Tables) → AreBooted act_of profile n nodes
-    → t.here ≡ length nodes → t.localities ≡ n → t.profile ≡ profile → Stands act_of t [] → AreBooted act_of profile n (nodes ++ t ∷ [])
-booted_more act_of profile n nodes t h here localities tuned stands = record {
+    → t.here ≡ length nodes → t.localities ≡ n → t.profile ≡ profile → Stands act_of t [] → Lacks t → KeepsOrder act_of t [] → AreBooted act_of profile n (nodes ++ t ∷ [])
+booted_more act_of profile n nodes t h here localities tuned stands lacks orderly = record {
   each = λ k x at. elim (last_or_before nodes t k x at) [
     | inl i ↦ h.each k x i
     | inr i ↦ subst (λ y. StandsAt act_of n profile k y []) i.1 (record {
@@ -34,6 +36,8 @@ booted_more act_of profile n nodes t h here localities tuned stands = record {
       localities = localities;
       tuned = tuned;
       stands = stands;
+      lacks = lacks;
+      orderly = orderly;
     })
   ];
 }

@@ -14,6 +14,8 @@ use Rattle.hpx_node.specs.Asks.{Begins, splits_before, asked_events, lacking}
 use Rattle.hpx_node.specs.Changes.{Writes, OnlySpare}
 use Rattle.hpx_node.specs.Commits.{committed}
 use Rattle.hpx_node.specs.Handled.{Takes, Clears, effects, kind_of}
+use Rattle.hpx_node.specs.Lacks.{Lacks}
+use Rattle.hpx_node.specs.Orders.{KeepsOrder}
 use Rattle.hpx_node.specs.Stands.{Stands, rules_of}
 use Rattle.hpx_node.specs.Tables.{Tables}
 use Rattle.hpx_node.specs.declared.parts.Finished.{Finished}
@@ -167,8 +169,9 @@ module _ (act_of : Meaning) (profile : Profile) (nodes : List Tables) (es : List
   within = rw here_at lt
 
   module _ (es' : List Entry) (w : WritesInside t t' es es') where
-    pub sound_inside : Stands act_of t' es' → IsSound act_of profile (set nodes k t') es'
-    sound_inside stands = sound_grows act_of profile nodes es h k t t' w.events es' lt is w.writes stands
+    pub sound_inside : Stands act_of t' es' → (Lacks t → Lacks t') → (KeepsOrder act_of t es → KeepsOrder act_of t' es')
+        → IsSound act_of profile (set nodes k t') es'
+    sound_inside stands lacks orderly = sound_grows act_of profile nodes es h k t t' w.events es' lt is w.writes stands lacks orderly
 
     pub inside_at : IsInside (rules_of act_of (length nodes) profile) es es'
     inside_at = inside_of t t' w.events es es' w.writes (rules_of act_of (length nodes) profile) within w.inner

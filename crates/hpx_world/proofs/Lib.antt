@@ -22,3 +22,13 @@ pub mod FewFrames
 pub mod Turned
 pub mod Found
 pub mod Audited
+pub mod Shown
+pub mod Welcome
+pub mod SentRight
+pub mod Waited
+pub mod Freeable
+pub mod ActsRight
+pub mod Rightly
+pub mod Strange
+pub mod Lacking
+pub mod Settled

@@ -19,6 +19,8 @@ use Rattle.hpx_part.proofs.Keyed.{slice_get_is}
 use Rattle.hpx_node.specs.Awaited.{is_answer}
 use Rattle.hpx_node.specs.Changes.{Writes}
 use Rattle.hpx_node.specs.Idle.{IsPaid}
+use Rattle.hpx_node.specs.Lacks.{Lacks}
+use Rattle.hpx_node.specs.Orders.{IsOrderly, KeepsOrder}
 use Rattle.hpx_node.specs.Seen.{view}
 use Rattle.hpx_node.specs.Stands.{Stands, StandsWith, rules_of}
 use Rattle.hpx_node.specs.Tables.{Tables}
@@ -63,6 +65,12 @@ stands_other r t k events es es' grows away h =
       answered = subst (λ p. IsClean r (at_boot r t.here) p → t.answered ≡ count_by is_answer (run_local r (at_boot r t.here) p).done) (sym same) h.answered;
     }
 
+orderly_other : (act_of : Meaning) (t : Tables) (k : ℕ) (events : List Event) (es es' : List Entry) → es' ≡ es ++ at_all k events → k ≢ t.here
+    → KeepsOrder act_of t es → KeepsOrder act_of t es'
+orderly_other act_of t k events es es' grows away h =
+    let same : part t.here es' ≡ part t.here es = ap (part t.here) grows ∙ part_kept t.here k events es away in
+    subst (IsOrderly (rules_of act_of t.localities t.profile) t) (sym same) h
+
 pub set_same : (xs : List Tables) (k : ℕ) (t : Tables) → k < length xs → slice_get (set xs k t) k ≡ Some t
 set_same [] k t h = absurd (omega arith)
 set_same (x ∷ xs) zero t h = refl
@@ -98,7 +106,8 @@ module _ (act_of : Meaning) (profile : Profile) (nodes : List Tables) (es : List
   sound_at k t lt is = h.stand k t (got k t lt is)
 
   module _ (k : ℕ) (t t' : Tables) (events : List Event) (es' : List Entry) (lt : k < length nodes) (is : t ≡ get_or nodes k t)
-      (writes : Writes events t t' es es') (stands : Stands act_of t' es') where
+      (writes : Writes events t t' es es') (stands : Stands act_of t' es') (lacks : Lacks t → Lacks t')
+      (orderly : KeepsOrder act_of t es → KeepsOrder act_of t' es') where
     own : StandsAt act_of (length nodes) profile k t es
     own = sound_at k t lt is
 
@@ -115,6 +124,8 @@ module _ (act_of : Meaning) (profile : Profile) (nodes : List Tables) (es : List
             localities = writes.localities ∙ own.localities;
             tuned = writes.profile ∙ own.tuned;
             stands = stands;
+            lacks = lacks own.lacks;
+            orderly = orderly own.orderly;
           })
       | inr other ↦
           let old = h.stand j x (sym (set_other nodes k j t' other) ∙ at) in
@@ -123,6 +134,8 @@ module _ (act_of : Meaning) (profile : Profile) (nodes : List Tables) (es : List
             localities = old.localities;
             tuned = old.tuned;
             stands = stands_other (rules_of act_of x.localities x.profile) x k events es es' grows (λ e. other (e ∙ old.here)) old.stands;
+            lacks = old.lacks;
+            orderly = orderly_other act_of x k events es es' grows (λ e. other (e ∙ old.here)) old.orderly;
           }
     ]
 

@@ -18,7 +18,8 @@ use Rattle.hpx_world.specs.declared.turns.Turned.{Turned}
 use Rattle.hpx_world.specs.declared.turns.Turned.TheVariants as turned
 use Rattle.hpx_world.specs.Away.{IsInside}
 use Rattle.hpx_world.specs.Sound.{IsSame}
-use Rattle.hpx_world.specs.Steps.{FeedsNothing, IsUnfed}
+use Rattle.hpx_journal.specs.Sessions.{FeedsNothing}
+use Rattle.hpx_world.specs.Steps.{IsUnfed}
 use Rattle.hpx_world.specs.Turns.{DidFire, DidFinish, DidDesk, DidPump, DidTake}
 use Rattle.hpx_world.proofs.Plain.{IsPlain, ArePlain, committed_plain, begins_plain, dealt_plain}
 

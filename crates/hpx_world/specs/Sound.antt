@@ -4,6 +4,8 @@ use Rattle.std.specs.List.{slice_get}
 use Rattle.hpx_value.specs.declared.profile.Profile.{Profile}
 use Rattle.hpx_journal.specs.Data.{State, Act, Outcome}
 use Rattle.hpx_part.specs.Data.{Entry}
+use Rattle.hpx_node.specs.Lacks.{Lacks}
+use Rattle.hpx_node.specs.Orders.{KeepsOrder}
 use Rattle.hpx_node.specs.Stands.{Stands}
 use Rattle.hpx_node.specs.Tables.{Tables}
 
@@ -11,12 +13,14 @@ use Rattle.hpx_node.specs.Tables.{Tables}
 abbrev pub Meaning : Type 0
 Meaning = ℕ → ℕ → ℕ → State → Act → Outcome
 
--- the node at k of n stands for its part of the one journal
+-- the node at k of n stands for its part of the one journal, each commit that waits there lacks something, and its own messages are in order
 pub record StandsAt (act_of : Meaning) (n : ℕ) (profile : Profile) (k : ℕ) (t : Tables) (entries : List Entry) : Type 0 where
   pub here : t.here ≡ k
   pub localities : t.localities ≡ n
   pub tuned : t.profile ≡ profile
   pub stands : Stands act_of t entries
+  pub lacks : Lacks t
+  pub orderly : KeepsOrder act_of t entries
 
 -- there are 1 to 64 nodes, and each stands for its part of the one journal
 pub record IsSound (act_of : Meaning) (profile : Profile) (nodes : List Tables) (entries : List Entry) : Type 0 where

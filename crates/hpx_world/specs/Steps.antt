@@ -2,16 +2,12 @@
 use Rattle.std.specs.Prelude.{ℕ, List, ◌++◌, ◌≡◌, ◌≢◌, ◌⊎◌, Option, Some, None, sum_by}
 use Rattle.std.specs.List.{slice_get, AllByRecursion}
 use Rattle.hpx_value.specs.declared.acts.Job.{Job}
-use Rattle.hpx_part.specs.Data.{Event, Entry, Line}
+use Rattle.hpx_journal.specs.Sessions.{FeedsNothing}
+use Rattle.hpx_part.specs.Data.{Entry}
 use Rattle.hpx_node.specs.Jobs.{IsRunning}
 use Rattle.hpx_journal.specs.Entries.{Frame}
 use Rattle.hpx_node.specs.Tables.{Tables}
 use Rattle.hpx_world.specs.Quiet.{IsQuiet, NothingApplies, NoneRuns}
-
--- an event that is no line
-abbrev pub FeedsNothing : Event → Type 0
-FeedsNothing (Line a bytes) = ⊥
-FeedsNothing _ = Unit {0}
 
 -- the journal grew, if at all, by entries that feed nothing
 pub record IsUnfed (old new : List Entry) : Type 0 where

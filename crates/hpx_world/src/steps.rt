@@ -7,7 +7,7 @@ ghost use Rattle.hpx_node.specs.Stands.{rules_of};
 ghost use Rattle.hpx_world.specs.Away.{IsCarrying, IsInside};
 ghost use Rattle.hpx_world.specs.Quiet.{IsQuiet, IsStuck, HasNoMail, SendsNothing, NothingApplies, NoneRuns, running_in};
 ghost use Rattle.hpx_world.specs.Sound.{IsSound, IsSame};
-ghost use Rattle.hpx_world.specs.Steps.{IsUnfed, IsOut, IsEarly};
+ghost use Rattle.hpx_world.specs.Steps.{IsUnfed, IsOut, IsEarly, IsHeld};
 ghost use Rattle.hpx_world.specs.Turns.{IsBadFrame, IsStrangeFrame, IsStrangeMail};
 
 use crate::locals::Locals;
@@ -193,6 +193,9 @@ impl<A: Acts + Copy> Locals<A> {
             ⊎ ((frame ≡ []) × IsStrangeMail self.new.nodes.items to rule object kept) }
         ensures early { (sent : _) (taken : _) → result ≡ Err (WorldFault.EarlyEnd sent taken) →
             (self.new.hand ≡ None) × (sent ≡ sum_by (λ t. t.sent) self.new.nodes.items) × (taken ≡ sum_by (λ t. t.taken) self.new.nodes.items) × (sent ≢ taken) }
+        ensures never_early { IsCarrying (rules_of A.act_of (length self.old.nodes.items) self.old.profile) self.old.hand (F.flight fabric.old) (F.trace fabric.old) self.old.journal.entries →
+            (sent : _) (taken : _) → result ≢ Err (WorldFault.EarlyEnd sent taken) }
+        ensures fabric_room { result ≡ Err WorldFault.Fabric → HasRoom self.new.journal.entries }
         ensures cause { result ≡ Err WorldFault.Fabric → Rose (F.faults fabric.old) (F.faults fabric.new) }
         ensures stands { result ≢ Err WorldFault.Fabric → F.faults fabric.new ≡ F.faults fabric.old }
     {
@@ -275,6 +278,9 @@ impl<A: Acts + Copy> Locals<A> {
             ((self.new.hand ≡ Some (to, frame)) × IsStrangeFrame self.new.nodes.items to frame rule object kept)
             ⊎ ((frame ≡ []) × IsStrangeMail self.new.nodes.items to rule object kept) }
         ensures early { (sent : _) (taken : _) → result ≡ Err (WorldFault.EarlyEnd sent taken) → IsEarly self.new.nodes.items self.new.hand (F.flight fabric.new) sent taken }
+        ensures held { IsCarrying (rules_of A.act_of (length self.old.nodes.items) self.old.profile) self.old.hand (F.flight fabric.old) (F.trace fabric.old) self.old.journal.entries →
+            (sent : _) (taken : _) → result ≡ Err (WorldFault.EarlyEnd sent taken) → IsHeld self.new.nodes.items self.new.hand (F.flight fabric.new) }
+        ensures fabric_room { result ≡ Err WorldFault.Fabric → HasRoom self.new.journal.entries }
         ensures cause { result ≡ Err WorldFault.Fabric → Rose (F.faults fabric.old) (F.faults fabric.new) }
         ensures stands { result ≢ Err WorldFault.Fabric → F.faults fabric.new ≡ F.faults fabric.old }
     {

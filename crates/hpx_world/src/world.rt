@@ -2,6 +2,7 @@
 ghost use Rattle.std.specs.Prelude.{◌≡◌, ◌≢◌, ◌≤◌, ◌<◌, ◌+◌, ◌-◌, ◌^◌, ◌∷◌, [], ℕ, length, min, OnOk, OnErr, IfOk, IfErr, IsTrue, ◌↔◌, ◌⊎◌, true, false, Ok, Err, Some, None, sum_by};
 ghost use Rattle.hpx_value.specs.Profiles.{IsValid};
 ghost use Rattle.hpx_journal.specs.Weights.{HasRoom, total_weight};
+ghost use Rattle.hpx_journal.specs.Natives.{NothingMoves};
 ghost use Rattle.hpx_journal.specs.Whole.{IsCarried, replayed};
 ghost use Rattle.hpx_ports.specs.Faults.{Rose};
 ghost use Rattle.hpx_world.specs.Places.{rules_in};
@@ -107,6 +108,16 @@ impl<A: Acts + Copy> World<A> {
         self.locals.audit(alloc)
     }
 
+    /// What always holds, where each frame that was accepted had been sent: the contract is the law. The journal keeps all that is
+    /// promised, and where nothing is to be done nothing is under way.
+    pub fn law(&self)
+        ensures promises { let r = rules_in A.act_of self.now in IsCarried r [] self.now.journal.entries → KeepsPromises r self.now.journal.entries }
+        ensures rest { let r = rules_in A.act_of self.now in
+            IsCarried r [] self.now.journal.entries → IsQuiet self.now.nodes self.now.hand → IsAtRest r (replayed r self.now.journal.entries) }
+    {
+        let _ = &self.locals;
+    }
+
     /// Why the journal is full, with a job that was to be committed.
     fn full(&self, choice: Choice<A>) -> WorldFault<A>
         ensures full { (done : _) → choice ≡ Choice.Finish done →
@@ -175,6 +186,9 @@ impl<A: Acts + Copy> World<A> {
             (choice ≡ Choice.Take) × (self.new.hand ≡ None) × (sent ≡ sum_by (λ t. t.sent) self.old.nodes) × (taken ≡ sum_by (λ t. t.taken) self.old.nodes) × (sent ≢ taken) }
         ensures never_bad { IsCarrying (rules_in A.act_of self.old) self.old.hand (F.flight fabric.old) (F.trace fabric.old) self.old.journal.entries →
             (to : _) (frame : _) (at : _) (why : _) → result ≢ Err (WorldFault.BadFrame to frame at why) }
+        ensures never_strange { let r = rules_in A.act_of self.old in NothingMoves r →
+            IsCarrying r self.old.hand (F.flight fabric.old) (F.trace fabric.old) self.old.journal.entries →
+            (to : _) (frame : _) (rule : _) (object : _) (kept : _) → result ≢ Err (WorldFault.Strange to frame rule object kept) }
         ensures never_early { IsCarrying (rules_in A.act_of self.old) self.old.hand (F.flight fabric.old) (F.trace fabric.old) self.old.journal.entries →
             (sent : _) (taken : _) → result ≢ Err (WorldFault.EarlyEnd sent taken) }
         ensures cause { result ≡ Err WorldFault.Fabric → Rose (F.faults fabric.old) (F.faults fabric.new) }
@@ -228,6 +242,12 @@ impl<A: Acts + Copy> World<A> {
             (self.new.hand ≡ None) × (sent ≡ sum_by (λ t. t.sent) self.new.nodes) × (taken ≡ sum_by (λ t. t.taken) self.new.nodes) × (sent ≢ taken) }
         ensures never_bad { IsCarrying (rules_in A.act_of self.old) self.old.hand (F.flight fabric.old) (F.trace fabric.old) self.old.journal.entries →
             (to : _) (frame : _) (at : _) (why : _) → result ≢ Err (WorldFault.BadFrame to frame at why) }
+        ensures never_strange { let r = rules_in A.act_of self.old in NothingMoves r →
+            IsCarrying r self.old.hand (F.flight fabric.old) (F.trace fabric.old) self.old.journal.entries →
+            (to : _) (frame : _) (rule : _) (object : _) (kept : _) → result ≢ Err (WorldFault.Strange to frame rule object kept) }
+        ensures never_early { IsCarrying (rules_in A.act_of self.old) self.old.hand (F.flight fabric.old) (F.trace fabric.old) self.old.journal.entries →
+            (sent : _) (taken : _) → result ≢ Err (WorldFault.EarlyEnd sent taken) }
+        ensures fabric_room { result ≡ Err WorldFault.Fabric → HasRoom self.new.journal.entries }
         ensures cause { result ≡ Err WorldFault.Fabric → Rose (F.faults fabric.old) (F.faults fabric.new) }
         ensures stands { result ≢ Err WorldFault.Fabric → F.faults fabric.new ≡ F.faults fabric.old }
     {
@@ -235,7 +255,8 @@ impl<A: Acts + Copy> World<A> {
         self.locals.step(alloc, &acts, fabric)
     }
 
-    /// Steps, until none can be made. Where no job was out, the world is quiet then. At a refusal the steps before it stand.
+    /// Steps, until none can be made. Where no job was out, the world is quiet then, and nothing is under way. At a refusal the
+    /// steps before it stand.
     pub fn drain<F: Fabric>(&mut self, alloc: Global, fabric: &mut F) -> Result<(), WorldFault<A>>
         ensures count { length self.new.nodes ≡ length self.old.nodes }
         ensures profile { self.new.profile ≡ self.old.profile }
@@ -249,6 +270,9 @@ impl<A: Acts + Copy> World<A> {
         ensures jobs { OnOk result (NoneRuns self.old.nodes → NoneRuns self.new.nodes) }
         ensures idle { OnOk result (NothingApplies self.new.nodes self.new.hand (F.flight fabric.new)) }
         ensures quiet { OnOk result (NoneRuns self.old.nodes → IsQuiet self.new.nodes self.new.hand) }
+        ensures rest { let r = rules_in A.act_of self.old in
+            IsCarrying r self.old.hand (F.flight fabric.old) (F.trace fabric.old) self.old.journal.entries
+            → OnOk result (NoneRuns self.old.nodes → IsAtRest r (replayed r self.new.journal.entries)) }
         ensures room { OnOk result (HasRoom self.new.journal.entries) }
 
         ensures full_at_once { (HasRoom self.old.journal.entries → ⊥) → result ≡ Err (WorldFault.JournalFull
@@ -266,6 +290,13 @@ impl<A: Acts + Copy> World<A> {
         ensures early { (sent : _) (taken : _) → result ≡ Err (WorldFault.EarlyEnd sent taken) → IsEarly self.new.nodes self.new.hand (F.flight fabric.new) sent taken }
         ensures never_bad { IsCarrying (rules_in A.act_of self.old) self.old.hand (F.flight fabric.old) (F.trace fabric.old) self.old.journal.entries →
             (to : _) (frame : _) (at : _) (why : _) → result ≢ Err (WorldFault.BadFrame to frame at why) }
+        ensures never_strange { let r = rules_in A.act_of self.old in NothingMoves r →
+            IsCarrying r self.old.hand (F.flight fabric.old) (F.trace fabric.old) self.old.journal.entries →
+            (to : _) (frame : _) (rule : _) (object : _) (kept : _) → result ≢ Err (WorldFault.Strange to frame rule object kept) }
+        ensures never_early { let r = rules_in A.act_of self.old in NothingMoves r →
+            IsCarrying r self.old.hand (F.flight fabric.old) (F.trace fabric.old) self.old.journal.entries →
+            (sent : _) (taken : _) → result ≢ Err (WorldFault.EarlyEnd sent taken) }
+        ensures fabric_room { result ≡ Err WorldFault.Fabric → HasRoom self.new.journal.entries }
         ensures cause { result ≡ Err WorldFault.Fabric → Rose (F.faults fabric.old) (F.faults fabric.new) }
         ensures stands { result ≢ Err WorldFault.Fabric → F.faults fabric.new ≡ F.faults fabric.old }
     {

@@ -28,7 +28,7 @@ pub returns-in-Ok-clause-sound : goal.returns-in-Ok-clause-sound
 returns-in-Ok-clause-sound g c =
     let lt : c.args.frame.now.0 < length c.args.self.now.nodes.items = omega (arith, c.if-frame-n.false, c.len-n.ensures) in
     sound_grows _ _ _ _ c.requires.sound c.args.frame.now.0 c.index_mut.result.now c.take.new.self _ _ lt c.index_mut.ensures.value
-    c.in-Ok.ensures.ok.writes c.take.ensures.stands
+    c.in-Ok.ensures.ok.writes c.take.ensures.stands c.take.ensures.lacks c.take.ensures.orderly
 
 pub returns-in-Ok-clause-ok : goal.returns-in-Ok-clause-ok
 returns-in-Ok-clause-ok g c =
@@ -44,7 +44,7 @@ pub returns-in-Err-clause-sound : goal.returns-in-Err-clause-sound
 returns-in-Err-clause-sound g c =
     let lt : c.args.frame.now.0 < length c.args.self.now.nodes.items = omega (arith, c.if-frame-n.false, c.len-n.ensures) in
     sound_inside _ _ _ _ c.requires.sound c.args.frame.now.0 c.index_mut.result.now c.take.new.self lt c.index_mut.ensures.value _
-    (spare_inside _ _ c.args.self.now.journal c.take.new.book c.in-Err.ensures.err) c.take.ensures.stands
+    (spare_inside _ _ c.args.self.now.journal c.take.new.book c.in-Err.ensures.err) c.take.ensures.stands c.take.ensures.lacks c.take.ensures.orderly
 
 pub returns-in-Err-clause-jobs : goal.returns-in-Err-clause-jobs
 returns-in-Err-clause-jobs g c =

@@ -13,7 +13,7 @@ loop-k-preserved g c =
     let b = c.in_ok-boot.ensures in
     record {
       count = rw c.in_ok-push.ensures.items (omega (arith, length-append c.loop-k.nodes.items (c.in_ok-boot.field-0 ∷ []), c.loop-k.invariant.count));
-      booted = rw c.in_ok-push.ensures.items (booted_more _ _ _ c.loop-k.nodes.items c.in_ok-boot.field-0 i.booted (b.here ∙ sym i.count) b.localities b.profile b.stands);
+      booted = rw c.in_ok-push.ensures.items (booted_more _ _ _ c.loop-k.nodes.items c.in_ok-boot.field-0 i.booted (b.here ∙ sym i.count) b.localities b.profile b.stands b.lacks b.orderly);
       none = rw c.in_ok-push.ensures.items (none_runs_more c.loop-k.nodes.items c.in_ok-boot.field-0 i.none b.passive);
       idle = rw c.in_ok-push.ensures.items (idle_more c.loop-k.nodes.items c.in_ok-boot.field-0 i.idle b.passive b.frames);
     }

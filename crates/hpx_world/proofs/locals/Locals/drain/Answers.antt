@@ -49,3 +49,8 @@ pub returns-in_err-step-clause-stands : goal.returns-in_err-step-clause-stands
 returns-in_err-step-clause-stands g c = λ not.
     let is = err_back c.from_residual.result c.in_err-step.field-0.0 c.from_residual.ensures.1 in
     c.in_err-step.ensures.stands (λ e. not (is ∙ ap (λ fault. Err fault) (err_is _ _ e))) ∙ c.loop.invariant.stands
+
+pub returns-in_err-step-clause-fabric_room : goal.returns-in_err-step-clause-fabric_room
+returns-in_err-step-clause-fabric_room g c = λ is.
+    c.in_err-step.ensures.fabric_room
+    (ap (λ fault. Err fault) (err_of c.from_residual.result c.in_err-step.field-0.0 faults.Fabric c.from_residual.ensures.1 is))

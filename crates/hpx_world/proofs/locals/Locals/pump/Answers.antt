@@ -26,7 +26,7 @@ gone-requires-clause-stands g c =
 pub returns-clause-sound : goal.returns-clause-sound
 returns-clause-sound g c =
     sound_grows _ _ _ _ c.requires.sound c.args.k c.index_mut-node.result.now _ (Out c.in-Some.to c.in-Ok.bytes ∷ []) _ c.requires.range c.index_mut-node.ensures.value
-    (rw c.reserve.ensures.entries at c.gone.ensures.writes) c.gone.ensures.stands
+    (rw c.reserve.ensures.entries at c.gone.ensures.writes) c.gone.ensures.stands c.gone.ensures.lacks (rw c.reserve.ensures.entries at c.gone.ensures.orderly)
 
 pub returns-clause-carrying : goal.returns-clause-carrying
 returns-clause-carrying g c = λ carrying.

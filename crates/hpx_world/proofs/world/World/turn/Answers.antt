@@ -2,6 +2,8 @@ use Rattle.std.proofs.Common.{length, refl}
 use Rattle.hpx_node.specs.Stands.{rules_of}
 use Rattle.hpx_world.proofs.Carrying.{carrying_same}
 use Rattle.hpx_world.proofs.Turned.{promised_then}
+use Rattle.hpx_world.proofs.Refused.{strange_frame_same}
+use Rattle.hpx_world.proofs.Strange.{no_strange_hand, no_strange_mail}
 use Rattle.hpx_world.proofs.world.World.turn.Goals as goal
 
 pub returns-in-Feed-clause-carrying : goal.returns-in-Feed-clause-carrying
@@ -59,3 +61,25 @@ returns-in-Take-clause-promises g c = rw (← c.self.view_is) (λ carrying.
 pub returns-in-Take-clause-bad_frame : goal.returns-in-Take-clause-bad_frame
 returns-in-Take-clause-bad_frame g c = λ to frame at why is.
     let bad = c.take.ensures.bad_frame to frame at why is in (c.in-Take.is, bad.0, bad.1)
+
+pub returns-in-Desk-clause-never_strange : goal.returns-in-Desk-clause-never_strange
+returns-in-Desk-clause-never_strange g c = rw (← c.self.view_is) (λ still carrying to frame rule object kept is.
+    let mail = c.desk.ensures.strange to frame rule object kept is in
+    no_strange_mail g.A.Acts.act_of c.self.inside.locals.profile c.self.inside.locals.nodes.items c.self.inside.locals.journal.entries c.self.invariant.1
+    (length c.self.inside.locals.nodes.items) c.self.inside.locals.profile refl refl
+    (record {
+      laws = λ n kind here s a some few h state act. g.met.A.Acts.keeps_laws n kind here s a some few h state act;
+      still = still;
+    }) _ _ _ carrying _ rule object kept mail.2)
+
+pub returns-in-Take-clause-never_strange : goal.returns-in-Take-clause-never_strange
+returns-in-Take-clause-never_strange g c = rw (← c.self.view_is) (λ still carrying to frame rule object kept is.
+    let strange = c.take.ensures.strange to frame rule object kept is in
+    let same = rw is at c.take.ensures.err in
+    no_strange_hand g.A.Acts.act_of c.take.new.self.profile c.take.new.self.nodes.items c.take.new.self.journal.entries c.take.ensures.sound
+    (length c.self.inside.locals.nodes.items) c.self.inside.locals.profile c.take.ensures.count c.take.ensures.profile
+    (record {
+      laws = λ n kind here s a some few h state act. g.met.A.Acts.keeps_laws n kind here s a some few h state act;
+      still = still;
+    }) _ _ _ (c.take.ensures.carrying carrying) to frame rule object kept strange.0
+    (strange_frame_same _ _ to frame rule object kept same.tables strange.1))
