@@ -1,17 +1,17 @@
 -- What the end of a session says of the bytes of its input.
-use Rattle.std.specs.Prelude.{IfSome}
+use Rattle.std.specs.Prelude.{IfSome, Result, Err, ◌≢◌}
 use Rattle.std.specs.List.{list_any, slice_split}
 use Rattle.std.proofs.Common.{ℕ, Bool, true, false, List, [], ◌∷◌, ◌++◌, ◌≡◌, ◌+◌, ◌⊎◌, length, Option, Some, None, refl, sym, ap, ◌∙◌, subst, inl, inr, arith, append-nil, append_assoc, length-append}
-use Rattle.hpx_root_journal.specs.declared.entry.Entry.{Entry}
+use Rattle.hpx_journal.specs.declared.entry.Entry.{Entry}
 use Rattle.hpx_ports.specs.Told.{preceded, followed}
-use Rattle.hpx_top.specs.PlainText.{IsFront, is_quit, is_newline, before_quit, lines_in, lines_of, quits, fed, text_of}
+use Rattle.app_console.specs.PlainText.{IsFront, is_quit, is_newline, before_quit, lines_in, lines_of, quits, fed, text_of}
 use Rattle.hpx_top.specs.Reader.{Reading, HasRead, lines_left}
 use Rattle.hpx_top.specs.declared.session.SessionFault.{SessionFault}
-use Rattle.hpx_top.specs.declared.session.SessionFault.TheVariants.{Read, Write, Fabric, JournalFull, OutOfMemory, InputFull}
-use Rattle.hpx_top.specs.Session.{lines_fed, IsCut, IsCutIn, IsCutBy, IsOver, IsUnderWay, IsStopped}
-use Rattle.hpx_top.specs.Ends.{IsWhole, IsBrokenOff, IsBrokenIn, IsBegun, IsEndedBy, IsReadFrom, IsReadUp, IsReadOn}
+use Rattle.hpx_top.specs.declared.session.SessionFault.TheVariants.{Read, Write, Fabric, JournalFull, OutOfMemory, BadFrame, Strange, InputFull}
+use Rattle.hpx_top.specs.Session.{lines_fed, HasFed, IsCut, IsCutIn, IsCutAtOpening, IsCutBy, IsOver, IsUnderWay, IsStopped}
+use Rattle.hpx_top.specs.Ends.{IsWhole, IsBrokenOff, IsBrokenIn, IsBrokenAtOpening, IsBegun, IsEndedBy, IsReadFrom, IsReadUp, IsReadOn}
 use Rattle.hpx_top.proofs.LineLemmas.{told_rest, before_quit_append, text_front, front_then, followed_nothing}
-use Rattle.hpx_top.proofs.SessionLemmas.{under_cut, under_in, under_over}
+use Rattle.hpx_top.proofs.SessionLemmas.{under_cut, under_in, under_opening, under_over}
 
 handed : (input : List ℕ) (left : Option (List (List ℕ))) (lines rest : List (List ℕ)) → list_any is_quit lines ≡ false
     → lines_in (slice_split is_newline input) ≡ lines ++ rest → lines_of input ≡ lines ++ before_quit rest
@@ -78,7 +78,7 @@ begun_nothing input entries old new empty same = record {
   handled = [];
   later = lines_of input;
   first = refl;
-  lines = ap lines_fed empty;
+  lines = inr (ap lines_fed empty, refl);
   text = [];
   is = same ∙ sym (followed_nothing old);
   theirs = record { later = text_of []; is = refl };
@@ -125,6 +125,9 @@ read_on_at n input reading left s h all =
 
 -- ---- by the cause of an end
 
+abbrev failed : (T : Type 0) → SessionFault → Result T SessionFault
+failed T f = Err f
+
 begun_cut : (most : ℕ) (input : List ℕ) (entries : List Entry) (old new : Option (List ℕ))
     → IsCut most (Some (lines_in (slice_split is_newline input))) old entries new → IsBegun input entries old new
 begun_cut most input entries old new c = begun_at input entries old new (under_cut most (Some (lines_in (slice_split is_newline input))) old new entries c)
@@ -138,9 +141,11 @@ pub ended_at : (f : SessionFault) (input : List ℕ) (entries : List Entry) (old
 ended_at Write input entries old new c = begun_at input entries old new c
 ended_at Read input entries old new c = broken_at 0 input entries old new c
 ended_at InputFull input entries old new c = broken_at 0 input entries old new c
-ended_at Fabric input entries old new c = broken_in input entries old new c
-ended_at JournalFull input entries old new c = broken_in input entries old new c
-ended_at OutOfMemory input entries old new c = broken_at 1 input entries old new c
+ended_at Fabric input entries old new c = inl (broken_in input entries old new c)
+ended_at JournalFull input entries old new c = inl (broken_in input entries old new c)
+ended_at BadFrame input entries old new c = inl (broken_in input entries old new c)
+ended_at Strange input entries old new c = inl (broken_in input entries old new c)
+ended_at OutOfMemory input entries old new c = inl (broken_at 1 input entries old new c)
 
 pub begun_by : (f : SessionFault) (input : List ℕ) (entries : List Entry) (old new : Option (List ℕ))
     → IsCutBy f (Some (lines_in (slice_split is_newline input))) old entries new → IsBegun input entries old new
@@ -149,7 +154,28 @@ begun_by Read input entries old new c = begun_cut 0 input entries old new c
 begun_by InputFull input entries old new c = begun_cut 0 input entries old new c
 begun_by Fabric input entries old new c = begun_in input entries old new c
 begun_by JournalFull input entries old new c = begun_in input entries old new c
+begun_by BadFrame input entries old new c = begun_in input entries old new c
+begun_by Strange input entries old new c = begun_in input entries old new c
 begun_by OutOfMemory input entries old new c = begun_cut 1 input entries old new c
+
+-- while the accumulator was made
+pub opening_broken : (entries : List Entry) (old new : Option (List ℕ)) → IsCutAtOpening old entries new → IsBrokenAtOpening entries old new
+opening_broken entries old new c = record { lines = c.journal; text = c.held }
+
+pub begun_opening : (input : List ℕ) (entries : List Entry) (old new : Option (List ℕ)) → IsCutAtOpening old entries new → IsBegun input entries old new
+begun_opening input entries old new c =
+    begun_at input entries old new (under_opening (Some (lines_in (slice_split is_newline input))) old new entries c)
+
+pub ended_opening : {T : Type 0} (f : SessionFault) (input : List ℕ) (entries : List Entry) (old new : Option (List ℕ))
+    → (failed T f ≢ Err Read) × (failed T f ≢ Err Write) × (failed T f ≢ Err InputFull) → IsCutAtOpening old entries new → IsEndedBy f input entries old new
+ended_opening Read input entries old new other c = absurd (other.0 refl)
+ended_opening Write input entries old new other c = absurd (other.1 refl)
+ended_opening InputFull input entries old new other c = absurd (other.2 refl)
+ended_opening Fabric input entries old new other c = inr (opening_broken entries old new c)
+ended_opening JournalFull input entries old new other c = inr (opening_broken entries old new c)
+ended_opening BadFrame input entries old new other c = inr (opening_broken entries old new c)
+ended_opening Strange input entries old new other c = inr (opening_broken entries old new c)
+ended_opening OutOfMemory input entries old new other c = inr (opening_broken entries old new c)
 
 -- ---- the same of the bytes that a source had left
 

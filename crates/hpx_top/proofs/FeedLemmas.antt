@@ -1,55 +1,189 @@
--- A line that is fed, and how serving it ends.
-use Rattle.std.specs.Prelude.{Result, Ok, Err, OnErr, IfErr, ◌≢◌}
-use Rattle.std.specs.List.{concat}
-use Rattle.std.proofs.Common.{ℕ, List, [], ◌∷◌, ◌++◌, ◌≡◌, ◌≤◌, length, drop, Option, refl, sym, ap, ◌∙◌, subst, append_assoc}
-use Rattle.hpx_root_journal.specs.declared.entry.Name.{Name}
-use Rattle.hpx_root_journal.specs.declared.entry.Entry.{Entry}
-use Rattle.hpx_root_journal.specs.declared.entry.Event.TheVariants.{Line}
-use Rattle.hpx_root_journal.specs.Pool.{prints_of}
-use Rattle.hpx_root_journal.specs.Sessions.{BeginsWith}
-use Rattle.hpx_root_journal.specs.Whole.{Grows}
+-- A text that is fed, and how serving it ends.
+use Rattle.std.specs.Prelude.{◌⊎◌, Result, Ok, Err, OnOk, OnErr, IfOk, IfErr, ◌≢◌, nat_lt, not, ◌&&◌, ◌==◌}
+use Rattle.std.specs.List.{concat, slice_get, AllByRecursion}
+use Rattle.std.proofs.Common.{ℕ, zero, suc, Bool, cond, List, [], ◌∷◌, ◌++◌, ◌≡◌, ◌+◌, ◌^◌, ◌≤◌, ◌<◌, length, drop, map, set, Option, Some, refl, sym, ap, ◌∙◌, subst, inl, inr, arith, append_assoc}
+use Rattle.std.proofs.lemmas.Bool.{cond_both, cases_lt}
+use Rattle.hpx_value.specs.declared.profile.Profile.{Profile}
+use Rattle.hpx_journal.specs.declared.entry.Name.{Name}
+use Rattle.hpx_journal.specs.declared.entry.Entry.{Entry}
+use Rattle.hpx_journal.specs.declared.entry.Event.TheVariants.{Line}
+use Rattle.hpx_journal.specs.Data.{Act, Parcel}
+use Rattle.hpx_journal.specs.Entries.{Rules, target_of, line_act}
+use Rattle.hpx_journal.specs.Laws.{count_events, is_failed}
+use Rattle.hpx_journal.specs.Natives.{NothingMoves}
+use Rattle.hpx_journal.specs.Pool.{NoneFails, prints_of}
+use Rattle.hpx_journal.specs.Sessions.{BeginsWith}
+use Rattle.hpx_journal.specs.Whole.{replayed}
+use Rattle.hpx_journal.specs.Weights.{HasRoom, total_weight}
+use Rattle.hpx_journal.proofs.Ample.{legal_ample}
+use Rattle.hpx_journal.proofs.Sessions.{quiet_settled}
+use Rattle.hpx_node.specs.Fit.{parcel_for}
+use Rattle.hpx_node.specs.Routes.{may_stay, is_other, with_accepted, with_mail, with_act}
+use Rattle.hpx_node.specs.Stands.{rules_of}
+use Rattle.hpx_node.specs.Tables.{Tables, IsPassive}
 use Rattle.hpx_ports.specs.Told.{followed}
+use Rattle.hpx_world.specs.declared.turns.Turned.{Turned}
+use Rattle.hpx_world.specs.declared.turns.Turned.TheVariants as turned
+use Rattle.hpx_world.specs.Places.{Places}
+use Rattle.hpx_world.specs.Promises.{KeepsPromises}
+use Rattle.hpx_world.specs.Quiet.{NoneRuns, IsAtRest, running_in}
+use Rattle.hpx_world.specs.Sound.{DoneAt}
+use Rattle.hpx_world.specs.Steps.{IsUnfed}
+use Rattle.hpx_world.specs.Turns.{Feeds as FeedsAt, next_name, DidFeed}
+use Rattle.app_console.specs.Acts.{act_of}
+use Rattle.app_console.specs.ActsLaws.{nothing_moves}
+use Rattle.app_console.specs.Console.{commands, prompt}
+use Rattle.app_console.specs.PlainText.{opening}
 use Rattle.hpx_top.specs.declared.session.SessionFault.{SessionFault}
-use Rattle.hpx_top.specs.declared.session.SessionFault.TheVariants.{Read, Write, Fabric, JournalFull, OutOfMemory, InputFull}
-use Rattle.hpx_top.specs.PlainText.{prompt}
+use Rattle.hpx_top.specs.declared.session.SessionFault.TheVariants.{Read, Write, Fabric, JournalFull, OutOfMemory, BadFrame, Strange, InputFull}
 use Rattle.hpx_top.specs.Reader.{Reading, TakesLine, lines_left}
-use Rattle.hpx_top.specs.Turns.{IsUnfed}
-use Rattle.hpx_top.specs.Session.{lines_fed, FeedsAtMost, FeedsLine, WritesFront, IsServing, IsUnderWay, IsCutBy, IsLineEndedBy}
-use Rattle.std.specs.List.{AllByRecursion}
-use Rattle.hpx_root_journal.specs.Data.{Act}
-use Rattle.hpx_top.specs.Tables.{Tables, IsPassive}
-use Rattle.hpx_top.specs.Sound.{NoneRuns, running_in}
+use Rattle.hpx_top.specs.Session.{rules, IsAmple, lines_fed, FeedsAtMost, Feeds, WritesFront, IsServing, IsCutAtOpening, IsUnderWay, IsCutBy, IsLineEndedBy}
 use Rattle.hpx_top.proofs.LineLemmas.{lines_fed_append, block_line}
 use Rattle.hpx_top.proofs.SessionLemmas.{cut_line, cut_in, under_line}
 
--- a line and what follows from it are a block
-pub record IsFed (line : List ℕ) (old new : List Entry) : Type 0 where
+-- ---- what is judged by the same rules
+
+pub same_rules : (w w' : Places) → length w'.nodes ≡ length w.nodes → w'.profile ≡ w.profile → rules w' ≡ rules w
+same_rules w w' count same = ap (λ n. rules_of act_of n w'.profile) count ∙ ap (λ p. rules_of act_of (length w.nodes) p) same
+
+-- ---- a text and what follows from it are a block
+
+pub record IsFed (text : List ℕ) (old new : List Entry) : Type 0 where
   pub block : List Entry
   pub is : new ≡ old ++ block
-  pub begins : BeginsWith line block
+  pub begins : BeginsWith text block
 
-pub fed_then : (line marked : List ℕ) (old mid new : List Entry) → ((a : Name) × Grows 0 (Line a marked ∷ []) old mid) → marked ≡ line
-    → IsUnfed mid new → IsFed line old new
-fed_then line marked old mid new fed is unfed =
-    let g = fed.1 in
-    let e : Entry = record { at = 0; event = Line fed.0 marked } in
+-- the entry that a Feed writes
+record IsWritten (text : List ℕ) (old new : List Entry) : Type 0 where
+  at : ℕ
+  name : Name
+  is : new ≡ old ++ record { at = at; event = Line name text } ∷ []
+
+written_by : (text : List ℕ) (t : Turned) (nodes nodes' : List Tables) (old new : List Entry) → DidFeed text t nodes nodes' old new → IsWritten text old new
+written_by text turned.Fed nodes nodes' old new d = record { at = d.before.here; name = next_name d.before; is = d.does.writes.grows }
+written_by text (turned.Fired job) nodes nodes' old new d = absurd d
+written_by text turned.Idle nodes nodes' old new d = absurd d
+written_by text (turned.Finished f) nodes nodes' old new d = absurd d
+written_by text turned.Moved nodes nodes' old new d = absurd d
+written_by text turned.Empty nodes nodes' old new d = absurd d
+
+pub fed_then : (text : List ℕ) (t : Turned) (nodes nodes' : List Tables) (old mid new : List Entry) → DidFeed text t nodes nodes' old mid → IsUnfed mid new
+    → IsFed text old new
+fed_then text t nodes nodes' old mid new d unfed =
+    let w = written_by text t nodes nodes' old mid d in
+    let e : Entry = record { at = w.at; event = Line w.name text } in
     record {
       block = e ∷ unfed.more;
-      is = unfed.is ∙ (ap (λ x. x ++ unfed.more) g.is ∙ append_assoc old (e ∷ []) unfed.more);
-      begins = ((fed.0, ap (λ bytes. Line fed.0 bytes) is), unfed.unfed);
+      is = unfed.is ∙ (ap (λ x. x ++ unfed.more) w.is ∙ append_assoc old (e ∷ []) unfed.more);
+      begins = ((w.name, refl), unfed.unfed);
     }
 
-pub fed_once : (line : List ℕ) (old new : List Entry) → IsFed line old new → lines_fed new ≡ lines_fed old ++ line ∷ []
-fed_once line old new f =
-    ap lines_fed f.is ∙ (lines_fed_append old f.block ∙ ap (λ t. lines_fed old ++ t) (block_line line f.block f.begins))
+pub fed_once : (text : List ℕ) (old new : List Entry) → IsFed text old new → lines_fed new ≡ lines_fed old ++ text ∷ []
+fed_once text old new f =
+    ap lines_fed f.is ∙ (lines_fed_append old f.block ∙ ap (λ t. lines_fed old ++ t) (block_line text f.block f.begins))
 
--- at rest no job is out, and feeding a line hands none out
-rest_runs_none : (nodes : List Tables) → AllByRecursion IsPassive nodes → NoneRuns nodes
-rest_runs_none [] h = tt
-rest_runs_none (t ∷ ts) h = ((h.0).running, rest_runs_none ts h.1)
+-- ---- feeding hands no job out
 
-pub fed_runs_none : (old new : List Tables) → AllByRecursion IsPassive old → running_in new ≡ running_in old → NoneRuns new
-fed_runs_none old new h same = subst (AllByRecursion (λ (acts : List Act). acts ≡ [])) (sym same) (rest_runs_none old h)
+mail_running : (b : Bool) (to : ℕ) (p : Parcel) (t : Tables)
+    → (cond b (record t { outgoing = t.outgoing ++ record { to = to; parcel = p } ∷ [] }) (record t { desk = t.desk ++ p ∷ [] })).running ≡ t.running
+mail_running b to p t = cond_both b _ _ (λ (x : Tables). x.running ≡ t.running) (λ e. refl) (λ e. refl)
+
+act_running : (act : Act) (t : Tables) → (with_act act t).running ≡ t.running
+act_running act t =
+    cond_both (may_stay t act) (with_accepted act t) (with_mail (target_of act).home (parcel_for act) t) (λ (x : Tables). x.running ≡ t.running) (λ e. refl)
+    (λ e. mail_running (is_other t (target_of act).home) (target_of act).home (parcel_for act) t)
+
+passive_runs : (nodes : List Tables) → AllByRecursion IsPassive nodes → NoneRuns nodes
+passive_runs [] h = tt
+passive_runs (t ∷ ts) h = ((h.0).running, passive_runs ts h.1)
+
+set_runs : (nodes : List Tables) (k : ℕ) (t : Tables) → NoneRuns nodes → t.running ≡ [] → NoneRuns (set nodes k t)
+set_runs [] k t h none = tt
+set_runs (x ∷ xs) zero t h none = (none, h.1)
+set_runs (x ∷ xs) (suc k) t h none = (h.0, set_runs xs k t h.1 none)
+
+get_runs : (nodes : List Tables) (k : ℕ) (t : Tables) → NoneRuns nodes → slice_get nodes k ≡ Some t → t.running ≡ []
+get_runs [] k t h at = cc
+get_runs (x ∷ xs) zero t h at = let e : x ≡ t = cc in ap (λ (y : Tables). y.running) (sym e) ∙ h.0
+get_runs (x ∷ xs) (suc k) t h at = get_runs xs k t h.1 at
+
+fed_runs : (text : List ℕ) (nodes nodes' : List Tables) (old new : List Entry) → DoneAt 0 (FeedsAt text old new) nodes nodes' → NoneRuns nodes → NoneRuns nodes'
+fed_runs text nodes nodes' old new d none =
+    let same : d.after.running ≡ d.before.running =
+    ap (λ (x : Tables). x.running) d.does.waits ∙ act_running (line_act (next_name d.before) text) (record d.before { serial = d.before.serial + 1 }) in
+    subst NoneRuns (sym d.others) (set_runs nodes 0 d.after none (same ∙ get_runs nodes 0 d.before none d.there))
+
+pub none_out : (text : List ℕ) (t : Turned) (nodes nodes' : List Tables) (old new : List Entry) → DidFeed text t nodes nodes' old new
+    → AllByRecursion IsPassive nodes → NoneRuns nodes'
+none_out text turned.Fed nodes nodes' old new d passive = fed_runs text nodes nodes' old new d (passive_runs nodes passive)
+none_out text (turned.Fired job) nodes nodes' old new d passive = absurd d
+none_out text turned.Idle nodes nodes' old new d passive = absurd d
+none_out text (turned.Finished f) nodes nodes' old new d passive = absurd d
+none_out text turned.Moved nodes nodes' old new d passive = absurd d
+none_out text turned.Empty nodes nodes' old new d passive = absurd d
+
+-- ---- no MOVE is sent
+
+pub still : (n : ℕ) (p : Profile) → NothingMoves (rules_of act_of n p)
+still n p = record { codes = λ kind here s a low state act. nothing_moves n kind here s a }
+
+-- ---- no action fails
+
+pub calm : (n : ℕ) (p : Profile) (es : List Entry) → IsAmple p → HasRoom es → KeepsPromises (rules_of act_of n p) es → NoneFails es
+calm n p es ample room promises =
+    let none = legal_ample (rules_of act_of n p) es promises.ledger.legal ample.log (omega (arith, room.entries)) ample.limit in
+    omega (arith, promises.limit.failures, none)
+
+-- what was fed, and all that follows from it
+pub feeds : (n : ℕ) (p : Profile) (text : List ℕ) (old new : List Entry) → IsFed text old new → IsAmple p → HasRoom new → KeepsPromises (rules_of act_of n p) new
+    → IsAtRest (rules_of act_of n p) (replayed (rules_of act_of n p) new) → Feeds (rules_of act_of n p) text old new
+feeds n p text old new f ample room promises rest = record {
+  block = f.block;
+  is = f.is;
+  begins = f.begins;
+  legal = promises.ledger.legal;
+  settled = quiet_settled (rules_of act_of n p) (replayed (rules_of act_of n p) new) rest.quiet;
+  calm = calm n p new ample room promises;
+}
+
+-- ---- why a text is not fed, or the world does not come to rest
+
+-- the faults of a world that a console makes, which are the three that are left
+pub of_three : (f : SessionFault) → (f ≢ Read) × (f ≢ Write) × (f ≢ InputFull) → (f ≡ BadFrame → ⊥) → (f ≡ Strange → ⊥)
+    → (f ≡ Fabric) ⊎ (f ≡ JournalFull) ⊎ (f ≡ OutOfMemory)
+of_three Read other bad strange = absurd (other.0 refl)
+of_three Write other bad strange = absurd (other.1 refl)
+of_three InputFull other bad strange = absurd (other.2 refl)
+of_three BadFrame other bad strange = absurd (bad refl)
+of_three Strange other bad strange = absurd (strange refl)
+of_three Fabric other bad strange = inl refl
+of_three JournalFull other bad strange = inr (inl refl)
+of_three OutOfMemory other bad strange = inr (inr refl)
+
+pub neither : {A B : Type 0} → (A → ⊥) → (B → ⊥) → A ⊎ B → ⊥
+neither a b (inl x) = a x
+neither a b (inr y) = b y
+
+-- neither full nor out of memory
+pub room_by : (f : SessionFault) (R : Type 0) → (f ≡ Fabric) ⊎ (f ≡ JournalFull) ⊎ (f ≡ OutOfMemory) → (f ≢ JournalFull) → (f ≢ OutOfMemory) → (f ≡ Fabric → R) → R
+room_by f R (inl e) full memory there = there e
+room_by f R (inr (inl e)) full memory there = absurd (full e)
+room_by f R (inr (inr e)) full memory there = absurd (memory e)
+
+room_cases : (es : List Entry) → (length es + 1024 < 2097153) ⊎ (2097153 ≤ length es + 1024) → (total_weight es + 16777216 < 2 ^ 30 + 1) ⊎ (2 ^ 30 + 1 ≤ total_weight es + 16777216)
+    → ((HasRoom es → ⊥) → ⊥) → HasRoom es
+room_cases es (inl a) (inl b) not = record { entries = omega (arith, a); weight = omega (arith, b) }
+room_cases es (inr a) b not = absurd (not (λ room. omega (arith, a, room.entries)))
+room_cases es (inl a) (inr b) not = absurd (not (λ room. omega (arith, b, room.weight)))
+
+-- whether there is room can be told
+pub room_stands : (es : List Entry) → ((HasRoom es → ⊥) → ⊥) → HasRoom es
+room_stands es not = room_cases es (cases_lt (length es + 1024) 2097153) (cases_lt (total_weight es + 16777216) (2 ^ 30 + 1)) not
+
+-- what holds at Ok, from what else holds there
+pub on_ok : {T E : Type 0} (r : Result T E) (P Q : Type 0) → ((x : T) → r ≡ Ok x → P → Q) → OnOk r P → OnOk r Q
+on_ok (Ok x) P Q f p = f x refl p
+on_ok (Err e) P Q f p = tt
 
 -- ---- how serving a line ends
 
@@ -57,22 +191,24 @@ abbrev failed : (T : Type 0) → SessionFault → Result T SessionFault
 failed T f = Err f
 
 -- feeding it failed
-pub ended_feed : {T : Type 0} (f : SessionFault) (n : ℕ) (line : List ℕ) (old new : List Entry) (before now : Option (List ℕ))
+pub ended_feed : {T : Type 0} (f : SessionFault) (r : Rules) (line : List ℕ) (old new : List Entry) (before now : Option (List ℕ))
     → (failed T f ≢ Err Read) × (failed T f ≢ Err Write) × (failed T f ≢ Err InputFull) → FeedsAtMost (97 ∷ line) old new → now ≡ before
-    → IsLineEndedBy f n line old new before now
-ended_feed Read n line old new before now other fed same = absurd (other.0 refl)
-ended_feed Write n line old new before now other fed same = absurd (other.1 refl)
-ended_feed InputFull n line old new before now other fed same = absurd (other.2 refl)
-ended_feed Fabric n line old new before now other fed same = (fed, same)
-ended_feed JournalFull n line old new before now other fed same = (fed, same)
-ended_feed OutOfMemory n line old new before now other fed same = (fed, same)
+    → IsLineEndedBy f r line old new before now
+ended_feed Read r line old new before now other fed same = absurd (other.0 refl)
+ended_feed Write r line old new before now other fed same = absurd (other.1 refl)
+ended_feed InputFull r line old new before now other fed same = absurd (other.2 refl)
+ended_feed Fabric r line old new before now other fed same = (fed, same)
+ended_feed JournalFull r line old new before now other fed same = (fed, same)
+ended_feed OutOfMemory r line old new before now other fed same = (fed, same)
+ended_feed BadFrame r line old new before now other fed same = (fed, same)
+ended_feed Strange r line old new before now other fed same = (fed, same)
 
 -- writing what it prints failed
-pub ended_show : {T : Type 0} (r : Result T SessionFault) (Q : Type 0) (n : ℕ) (line : List ℕ) (old new : List Entry) (before now : Option (List ℕ))
-    → IfErr r (λ f. (f ≡ Write) × Q) → OnErr r (WritesFront (concat (prints_of (drop (length old) new))) before now) → FeedsLine n line old new
-    → IfErr r (λ f. IsLineEndedBy f n line old new before now)
-ended_show (Ok x) Q n line old new before now cause w fed = tt
-ended_show (Err f) Q n line old new before now cause w fed = subst (λ f. IsLineEndedBy f n line old new before now) (sym cause.0) (fed, w)
+pub ended_show : {T : Type 0} (result : Result T SessionFault) (Q : Type 0) (r : Rules) (line : List ℕ) (old new : List Entry) (before now : Option (List ℕ))
+    → IfErr result (λ f. (f ≡ Write) × Q) → OnErr result (WritesFront (concat (prints_of (drop (length old) new))) before now) → Feeds r (97 ∷ line) old new
+    → IfErr result (λ f. IsLineEndedBy f r line old new before now)
+ended_show (Ok x) Q r line old new before now cause w fed = tt
+ended_show (Err f) Q r line old new before now cause w fed = subst (λ f. IsLineEndedBy f r line old new before now) (sym cause.0) (fed, w)
 
 -- ---- how a session ends
 
@@ -80,17 +216,27 @@ pub cut_write : (f : SessionFault) (all : Option (List (List ℕ))) (before now 
     → IsUnderWay all before entries now → IsCutBy f all before entries now
 cut_write f all before now entries is u = subst (λ f. IsCutBy f all before entries now) (sym is) u
 
-pub cut_text : (f : SessionFault) (n m : ℕ) (all : Option (List (List ℕ))) (before now mid later : Option (List ℕ)) (reading next : Reading)
-    (left rest : Option (List ℕ)) (old new : List Entry) (line : List ℕ) → 1 ≤ n → n ≤ 64 → m ≡ n → IsServing n all before reading left old now
-    → mid ≡ followed now prompt → TakesLine line (lines_left reading left) (lines_left next rest) → IsLineEndedBy f m line old new mid later
-    → IsCutBy f all before new later
-cut_text Write n m all before now mid later reading next left rest old new line some few same s prompted takes e =
-    under_line n all before now mid later reading next left rest old new line some few s prompted takes (subst (λ k. FeedsLine k line old new) same e.0) e.1
-cut_text Read n m all before now mid later reading next left rest old new line some few same s prompted takes e = absurd e
-cut_text InputFull n m all before now mid later reading next left rest old new line some few same s prompted takes e = absurd e
-cut_text Fabric n m all before now mid later reading next left rest old new line some few same s prompted takes e =
-    cut_in n all before now later reading next left rest old new line s (e.1 ∙ prompted) takes e.0
-cut_text JournalFull n m all before now mid later reading next left rest old new line some few same s prompted takes e =
-    cut_in n all before now later reading next left rest old new line s (e.1 ∙ prompted) takes e.0
-cut_text OutOfMemory n m all before now mid later reading next left rest old new line some few same s prompted takes e =
-    cut_line n all before now later reading next left rest old new line s (e.1 ∙ prompted) takes e.0
+-- the accumulator was not made
+pub cut_opening : (before now : Option (List ℕ)) (old new : List Entry) → old ≡ [] → FeedsAtMost opening old new → now ≡ followed before commands
+    → IsCutAtOpening before new now
+cut_opening before now old new empty (inl same) held = record { journal = inl (same ∙ ap lines_fed empty); held = held }
+cut_opening before now old new empty (inr one) held = record { journal = inr (one ∙ ap (λ es. lines_fed es ++ opening ∷ []) empty); held = held }
+
+pub cut_text : (f : SessionFault) (n : ℕ) (p : Profile) (all : Option (List (List ℕ))) (before now mid later : Option (List ℕ)) (reading next : Reading)
+    (left rest : Option (List ℕ)) (old new : List Entry) (line : List ℕ) → 1 ≤ n → n ≤ 64 → IsServing (rules_of act_of n p) all before reading left old now
+    → mid ≡ followed now prompt → TakesLine line (lines_left reading left) (lines_left next rest)
+    → IsLineEndedBy f (rules_of act_of n p) line old new mid later → IsCutBy f all before new later
+cut_text Write n p all before now mid later reading next left rest old new line some few s prompted takes e =
+    under_line n p all before now mid later reading next left rest old new line some few s prompted takes e.0 e.1
+cut_text Read n p all before now mid later reading next left rest old new line some few s prompted takes e = absurd e
+cut_text InputFull n p all before now mid later reading next left rest old new line some few s prompted takes e = absurd e
+cut_text Fabric n p all before now mid later reading next left rest old new line some few s prompted takes e =
+    cut_in (rules_of act_of n p) all before now later reading next left rest old new line s (e.1 ∙ prompted) takes e.0
+cut_text JournalFull n p all before now mid later reading next left rest old new line some few s prompted takes e =
+    cut_in (rules_of act_of n p) all before now later reading next left rest old new line s (e.1 ∙ prompted) takes e.0
+cut_text BadFrame n p all before now mid later reading next left rest old new line some few s prompted takes e =
+    cut_in (rules_of act_of n p) all before now later reading next left rest old new line s (e.1 ∙ prompted) takes e.0
+cut_text Strange n p all before now mid later reading next left rest old new line some few s prompted takes e =
+    cut_in (rules_of act_of n p) all before now later reading next left rest old new line s (e.1 ∙ prompted) takes e.0
+cut_text OutOfMemory n p all before now mid later reading next left rest old new line some few s prompted takes e =
+    cut_line (rules_of act_of n p) all before now later reading next left rest old new line s (e.1 ∙ prompted) takes e.0

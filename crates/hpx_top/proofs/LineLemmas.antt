@@ -3,16 +3,15 @@ use Rattle.std.specs.Prelude.{ℤ, pos, ◌||◌, ◌&&◌, not, if◌then◌els
 use Rattle.std.specs.List.{concat, list_any, AllByRecursion}
 use Rattle.std.proofs.Common.{ℕ, suc, Bool, true, false, List, [], ◌∷◌, ◌++◌, ◌≡◌, length, Option, Some, None, refl, sym, ap, ◌∙◌, subst, arith, append-nil, append_assoc}
 use Rattle.std.proofs.lemmas.List.Folds.{list_any-append}
-use Rattle.hpx_root_journal.specs.declared.entry.Entry.{Entry}
-use Rattle.hpx_root_journal.specs.declared.entry.Event.{Event}
-use Rattle.hpx_root_journal.specs.declared.entry.Event.TheVariants.{Line, Fire, Done, Sent, Print, Out, In}
-use Rattle.hpx_root_journal.specs.Entries.{Rules}
-use Rattle.hpx_root_journal.specs.Whole.{Space, FeedsNothing, run}
-use Rattle.hpx_root_journal.specs.Pool.{prints_of}
-use Rattle.hpx_root_journal.specs.Sessions.{IsSession, BeginsWith, entries_of, shown}
+use Rattle.hpx_journal.specs.declared.entry.Entry.{Entry}
+use Rattle.hpx_journal.specs.declared.entry.Event.{Event}
+use Rattle.hpx_journal.specs.declared.entry.Event.TheVariants.{Line, Fire, Split, Born, Done, Sent, Print, Up, Asked, Given, Count, Freed, Left, Landed, Looked, Mail, Out, In}
+use Rattle.hpx_journal.specs.Entries.{Rules}
+use Rattle.hpx_journal.specs.Pool.{prints_of}
+use Rattle.hpx_journal.specs.Sessions.{FeedsNothing, IsSession, BeginsWith, entries_of, shown}
 use Rattle.hpx_ports.specs.Told.{preceded, followed}
-use Rattle.hpx_top.specs.PlainText.{IsFront, is_long, is_quit, are_quit, before_quit, fed, line_text, after_line, after_lines, command_text, lines_text, text_of, prompt, commands, first_of, others_of, written}
-use Rattle.hpx_top.specs.Console.{words_of, command_of, bad_command}
+use Rattle.app_console.specs.PlainText.{IsFront, is_long, is_quit, are_quit, before_quit, opening, marked, fed, line_text, after_line, after_lines, command_text, lines_text, text_of, first_of, others_of, written}
+use Rattle.app_console.specs.Console.{words_of, command_of, commands, prompt, bad_command}
 use Rattle.hpx_top.specs.Session.{lines_by, lines_fed}
 
 -- ---- what is told
@@ -79,19 +78,22 @@ text_front xs (y ∷ ys) =
 
 -- ---- lines that are fed
 
-fed_cons : (b : Bool) (x : List ℕ) (a c d : List (List ℕ)) → a ≡ c ++ d → (if b then a else (97 ∷ x) ∷ a) ≡ (if b then c else (97 ∷ x) ∷ c) ++ d
-fed_cons true x a c d h = h
-fed_cons false x a c d h = ap (λ t. (97 ∷ x) ∷ t) h
+marked_cons : (b : Bool) (x : List ℕ) (a c d : List (List ℕ)) → a ≡ c ++ d → (if b then a else (97 ∷ x) ∷ a) ≡ (if b then c else (97 ∷ x) ∷ c) ++ d
+marked_cons true x a c d h = h
+marked_cons false x a c d h = ap (λ t. (97 ∷ x) ∷ t) h
 
-pub fed_append : (xs ys : List (List ℕ)) → fed (xs ++ ys) ≡ fed xs ++ fed ys
-fed_append [] ys = refl
-fed_append (x ∷ xs) ys = fed_cons (is_long x) x (fed (xs ++ ys)) (fed xs) (fed ys) (fed_append xs ys)
+marked_append : (xs ys : List (List ℕ)) → marked (xs ++ ys) ≡ marked xs ++ marked ys
+marked_append [] ys = refl
+marked_append (x ∷ xs) ys = marked_cons (is_long x) x (marked (xs ++ ys)) (marked xs) (marked ys) (marked_append xs ys)
 
 pub fed_short : (xs : List (List ℕ)) (line : List ℕ) → is_long line ≡ false → fed (xs ++ line ∷ []) ≡ fed xs ++ (97 ∷ line) ∷ []
-fed_short xs line h = fed_append xs (line ∷ []) ∙ ap (λ b. fed xs ++ (if b then [] else (97 ∷ line) ∷ [])) h
+fed_short xs line h =
+    ap (λ t. opening ∷ t) (marked_append xs (line ∷ []) ∙ ap (λ b. marked xs ++ (if b then [] else (97 ∷ line) ∷ [])) h)
 
 pub fed_long : (xs : List (List ℕ)) (line : List ℕ) → is_long line ≡ true → fed (xs ++ line ∷ []) ≡ fed xs
-fed_long xs line h = fed_append xs (line ∷ []) ∙ (ap (λ b. fed xs ++ (if b then [] else (97 ∷ line) ∷ [])) h ∙ append-nil (fed xs))
+fed_long xs line h =
+    ap (λ t. opening ∷ t)
+    (marked_append xs (line ∷ []) ∙ (ap (λ b. marked xs ++ (if b then [] else (97 ∷ line) ∷ [])) h ∙ append-nil (marked xs)))
 
 -- ---- lines that end reading
 
@@ -128,9 +130,20 @@ lines_fed_append (e ∷ es) ys = ap (λ t. lines_by e.event ++ t) (lines_fed_app
 silent : (event : Event) → FeedsNothing event → lines_by event ≡ []
 silent (Line a bytes) h = absurd h
 silent (Fire a) h = refl
+silent (Split o log) h = refl
+silent (Born o state) h = refl
 silent (Done a failed) h = refl
 silent (Sent a) h = refl
 silent (Print bytes) h = refl
+silent (Up o log) h = refl
+silent (Asked o) h = refl
+silent (Given o log) h = refl
+silent (Count o count why) h = refl
+silent (Freed o) h = refl
+silent (Left o to) h = refl
+silent (Landed o) h = refl
+silent (Looked o hit) h = refl
+silent (Mail kind) h = refl
 silent (Out to bytes) h = refl
 silent (In bytes) h = refl
 
@@ -142,30 +155,31 @@ pub block_line : (line : List ℕ) (es : List Entry) → BeginsWith line es → 
 block_line line [] h = absurd h
 block_line line (e ∷ es) h = ap (λ t. t ++ lines_fed es) (ap lines_by h.0.1) ∙ ap (λ t. line ∷ t) (none_fed es h.1)
 
-pub session_lines : (r : Rules) (w : Space) (lines : List (List ℕ)) (blocks : List (List Entry)) → IsSession r w lines blocks
+pub session_lines : (r : Rules) (before : List Entry) (lines : List (List ℕ)) (blocks : List (List Entry)) → IsSession r before lines blocks
     → lines_fed (entries_of blocks) ≡ lines
-session_lines r w [] [] h = refl
-session_lines r w [] (es ∷ blocks) h = absurd h
-session_lines r w (line ∷ lines) [] h = absurd h
-session_lines r w (line ∷ lines) (es ∷ blocks) h =
+session_lines r before [] [] h = refl
+session_lines r before [] (es ∷ blocks) h = absurd h
+session_lines r before (line ∷ lines) [] h = absurd h
+session_lines r before (line ∷ lines) (es ∷ blocks) h =
     lines_fed_append es (entries_of blocks)
     ∙ (ap (λ t. t ++ lines_fed (entries_of blocks)) (block_line line es h.0.begins)
-    ∙ ap (λ t. line ∷ t) (session_lines r (run r w es) lines blocks h.1))
+    ∙ ap (λ t. line ∷ t) (session_lines r (before ++ es) lines blocks h.1))
 
-pub session_count : (r : Rules) (w : Space) (lines : List (List ℕ)) (blocks : List (List Entry)) → IsSession r w lines blocks
+pub session_count : (r : Rules) (before : List Entry) (lines : List (List ℕ)) (blocks : List (List Entry)) → IsSession r before lines blocks
     → length (shown blocks) ≡ length lines
-session_count r w [] [] h = refl
-session_count r w [] (es ∷ blocks) h = absurd h
-session_count r w (line ∷ lines) [] h = absurd h
-session_count r w (line ∷ lines) (es ∷ blocks) h = ap (λ n. suc n) (session_count r (run r w es) lines blocks h.1)
+session_count r before [] [] h = refl
+session_count r before [] (es ∷ blocks) h = absurd h
+session_count r before (line ∷ lines) [] h = absurd h
+session_count r before (line ∷ lines) (es ∷ blocks) h = ap (λ n. suc n) (session_count r (before ++ es) lines blocks h.1)
 
-pub shown_more : (blocks : List (List Entry)) (es : List Entry) → shown (blocks ++ es ∷ []) ≡ shown blocks ++ prints_of es ∷ []
-shown_more [] es = refl
-shown_more (b ∷ blocks) es = ap (λ t. prints_of b ∷ t) (shown_more blocks es)
+-- behind the first text, which is that of the opening line
+pub others_count : (texts : List (List (List ℕ))) (n : ℕ) → length texts ≡ suc n → length (others_of texts) ≡ n
+others_count [] n h = absurd (omega arith)
+others_count (t ∷ texts) n h = omega arith
 
-pub entries_more : (blocks : List (List Entry)) (es : List Entry) → entries_of (blocks ++ es ∷ []) ≡ entries_of blocks ++ es
-entries_more [] es = append-nil es
-entries_more (b ∷ blocks) es = ap (λ t. b ++ t) (entries_more blocks es) ∙ sym (append_assoc b (entries_of blocks) es)
+pub others_more : (texts : List (List (List ℕ))) (more : List (List ℕ)) (n : ℕ) → length texts ≡ suc n → others_of (texts ++ more ∷ []) ≡ others_of texts ++ more ∷ []
+others_more [] more n h = absurd (omega arith)
+others_more (t ∷ texts) more n h = refl
 
 -- ---- what is written for one line more
 
@@ -173,20 +187,20 @@ regroup : (p a b r : List ℕ) → p ++ (a ++ (b ++ r)) ≡ (p ++ (a ++ b)) ++ r
 regroup p a b r = simp append_assoc
 
 written_cons : (b : Bool) (xs : List (List ℕ)) (first line r : List ℕ) (texts : List (List (List ℕ))) (more : List (List ℕ))
-    → length texts ≡ length (if b then fed xs else (97 ∷ first) ∷ fed xs)
-    → ((texts : List (List (List ℕ))) → length texts ≡ length (fed xs) → written (xs ++ line ∷ []) (texts ++ more ∷ []) ≡ written xs texts ++ r)
+    → length texts ≡ length (if b then marked xs else (97 ∷ first) ∷ marked xs)
+    → ((texts : List (List (List ℕ))) → length texts ≡ length (marked xs) → written (xs ++ line ∷ []) (texts ++ more ∷ []) ≡ written xs texts ++ r)
     → (if b then prompt ++ (bad_command ++ written (xs ++ line ∷ []) (texts ++ more ∷ []))
     else prompt ++ (first_of (texts ++ more ∷ []) ++ written (xs ++ line ∷ []) (others_of (texts ++ more ∷ []))))
     ≡ (if b then prompt ++ (bad_command ++ written xs texts) else prompt ++ (first_of texts ++ written xs (others_of texts))) ++ r
 written_cons true xs first line r texts more h next =
     ap (λ t. prompt ++ (bad_command ++ t)) (next texts h) ∙ regroup prompt bad_command (written xs texts) r
-written_cons false xs first line r [] more h next = absurd (let no : 0 ≡ length ((97 ∷ first) ∷ fed xs) = h in omega arith)
+written_cons false xs first line r [] more h next = absurd (let no : 0 ≡ length ((97 ∷ first) ∷ marked xs) = h in omega arith)
 written_cons false xs first line r (t ∷ texts) more h next =
-    let count : length texts ≡ length (fed xs) = omega (arith, h) in
+    let count : length texts ≡ length (marked xs) = omega (arith, h) in
     ap (λ u. prompt ++ (concat t ++ u)) (next texts count) ∙ regroup prompt (concat t) (written xs texts) r
 
 pub written_more : (xs : List (List ℕ)) (texts : List (List (List ℕ))) (line : List ℕ) (more : List (List ℕ)) → is_long line ≡ false
-    → length texts ≡ length (fed xs) → written (xs ++ line ∷ []) (texts ++ more ∷ []) ≡ written xs texts ++ (prompt ++ (concat more ++ []))
+    → length texts ≡ length (marked xs) → written (xs ++ line ∷ []) (texts ++ more ∷ []) ≡ written xs texts ++ (prompt ++ (concat more ++ []))
 written_more [] [] line more short h =
     ap (λ b. if b then prompt ++ (bad_command ++ []) else prompt ++ (concat more ++ [])) short
 written_more [] (t ∷ texts) line more short h = absurd (let no : length (t ∷ texts) ≡ 0 = h in omega arith)
@@ -196,7 +210,7 @@ written_more (x ∷ xs) texts line more short h =
 
 -- what a line that was fed shows is its text
 pub line_shown : (v : ℤ) (xs : List (List ℕ)) (texts : List (List (List ℕ))) (line : List ℕ) (more : List (List ℕ)) → is_long line ≡ false
-    → length texts ≡ length (fed xs) → written xs texts ≡ lines_text v xs → written (xs ++ line ∷ []) (texts ++ more ∷ []) ≡ lines_text v (xs ++ line ∷ [])
+    → length texts ≡ length (marked xs) → written xs texts ≡ lines_text v xs → written (xs ++ line ∷ []) (texts ++ more ∷ []) ≡ lines_text v (xs ++ line ∷ [])
     → lines_text v xs ++ (prompt ++ concat more) ≡ lines_text v (xs ++ line ∷ [])
 line_shown v xs texts line more short h old new =
     ap (λ t. t ++ (prompt ++ concat more)) (sym old)

@@ -2,10 +2,10 @@
 use Rattle.std.specs.Prelude.{Result, Ok, Err, OnOk, IfErr, IfSome}
 use Rattle.std.proofs.Common.{ℕ, List, ◌≡◌, ◌⊎◌, Option, Some, None, refl, ap, inl, inr, arith}
 use Rattle.hpx_top.specs.declared.session.SessionFault.{SessionFault}
-use Rattle.hpx_top.specs.declared.session.SessionFault.TheVariants.{Read, Write, Fabric, JournalFull, OutOfMemory, InputFull}
-use Rattle.hpx_top.specs.Places.{Places}
+use Rattle.hpx_top.specs.declared.session.SessionFault.TheVariants.{Read, Write, Fabric, JournalFull, OutOfMemory, BadFrame, Strange, InputFull}
+use Rattle.hpx_world.specs.Places.{Places}
 use Rattle.hpx_top.specs.Session.{entries_in}
-use Rattle.hpx_top.specs.Ends.{IsBrokenOff, IsBrokenIn, IsEndedBy}
+use Rattle.hpx_top.specs.Ends.{IsBrokenOff, IsBrokenIn, IsBrokenAtOpening, IsEndedBy}
 use Rattle.hpx_top.specs.Statuses.{status_after}
 
 -- status 0 comes of no fault
@@ -16,6 +16,8 @@ ended_well (Err Write) P s h = absurd (omega arith)
 ended_well (Err Fabric) P s h = absurd (omega arith)
 ended_well (Err JournalFull) P s h = absurd (omega arith)
 ended_well (Err OutOfMemory) P s h = absurd (omega arith)
+ended_well (Err BadFrame) P s h = absurd (omega arith)
+ended_well (Err Strange) P s h = absurd (omega arith)
 ended_well (Err InputFull) P s h = absurd (omega arith)
 
 between : {T : Type 0} (r : Result T SessionFault) (P : SessionFault → Type 0) (Q : Type 0) → (status_after r ≡ 2) ⊎ (status_after r ≡ 9)
@@ -30,6 +32,10 @@ between (Err Fabric) P Q (inl s) read input h = absurd (omega arith)
 between (Err Fabric) P Q (inr s) read input h = absurd (omega arith)
 between (Err JournalFull) P Q (inl s) read input h = absurd (omega arith)
 between (Err JournalFull) P Q (inr s) read input h = absurd (omega arith)
+between (Err BadFrame) P Q (inl s) read input h = absurd (omega arith)
+between (Err BadFrame) P Q (inr s) read input h = absurd (omega arith)
+between (Err Strange) P Q (inl s) read input h = absurd (omega arith)
+between (Err Strange) P Q (inr s) read input h = absurd (omega arith)
 between (Err OutOfMemory) P Q (inl s) read input h = absurd (omega arith)
 between (Err OutOfMemory) P Q (inr s) read input h = absurd (omega arith)
 
@@ -43,6 +49,10 @@ within (Err Write) P Q (inl s) fabric full h = absurd (omega arith)
 within (Err Write) P Q (inr s) fabric full h = absurd (omega arith)
 within (Err Read) P Q (inl s) fabric full h = absurd (omega arith)
 within (Err Read) P Q (inr s) fabric full h = absurd (omega arith)
+within (Err BadFrame) P Q (inl s) fabric full h = absurd (omega arith)
+within (Err BadFrame) P Q (inr s) fabric full h = absurd (omega arith)
+within (Err Strange) P Q (inl s) fabric full h = absurd (omega arith)
+within (Err Strange) P Q (inr s) fabric full h = absurd (omega arith)
 within (Err InputFull) P Q (inl s) fabric full h = absurd (omega arith)
 within (Err InputFull) P Q (inr s) fabric full h = absurd (omega arith)
 within (Err OutOfMemory) P Q (inl s) fabric full h = absurd (omega arith)
@@ -64,11 +74,12 @@ ended_between r (Some w) input old new s none h =
 -- status 4 or 5 comes in a line
 pub ended_within : {T : Type 0} (r : Result T SessionFault) (o : Option Places) (input : List ℕ) (old new : Option (List ℕ))
     → (status_after r ≡ 4) ⊎ (status_after r ≡ 5) → (o ≡ None → r ≡ Err OutOfMemory)
-    → IfSome o (λ w. IfErr r (λ f. IsEndedBy f input w.journal.entries old new)) → IsBrokenIn input (entries_in o) old new
+    → IfSome o (λ w. IfErr r (λ f. IsEndedBy f input w.journal.entries old new))
+    → IsBrokenIn input (entries_in o) old new ⊎ IsBrokenAtOpening (entries_in o) old new
 ended_within r None input old new (inl s) none h = absurd (let six = no_world r (none refl) in omega arith)
 ended_within r None input old new (inr s) none h = absurd (let six = no_world r (none refl) in omega arith)
 ended_within r (Some w) input old new s none h =
-    within r (λ f. IsEndedBy f input w.journal.entries old new) (IsBrokenIn input w.journal.entries old new) s (λ e. e) (λ e. e) h
+    within r (λ f. IsEndedBy f input w.journal.entries old new) (IsBrokenIn input w.journal.entries old new ⊎ IsBrokenAtOpening w.journal.entries old new) s (λ e. e) (λ e. e) h
 
 without : {T : Type 0} (r : Result T SessionFault) (P : SessionFault → Type 0) (Q : Type 0) → status_after r ≡ 6 → (P OutOfMemory → Q) → IfErr r P → Q
 without (Ok x) P Q s memory h = absurd (omega arith)
@@ -77,12 +88,14 @@ without (Err Write) P Q s memory h = absurd (omega arith)
 without (Err Fabric) P Q s memory h = absurd (omega arith)
 without (Err JournalFull) P Q s memory h = absurd (omega arith)
 without (Err OutOfMemory) P Q s memory h = memory h
+without (Err BadFrame) P Q s memory h = absurd (omega arith)
+without (Err Strange) P Q s memory h = absurd (omega arith)
 without (Err InputFull) P Q s memory h = absurd (omega arith)
 
 -- status 6 comes before a line, or within it
 pub ended_without : {T : Type 0} (r : Result T SessionFault) (o : Option Places) (input : List ℕ) (old new : Option (List ℕ))
     → status_after r ≡ 6 → IfSome o (λ w. IfErr r (λ f. IsEndedBy f input w.journal.entries old new))
-    → IfSome o (λ w. IsBrokenOff 1 input w.journal.entries old new)
+    → IfSome o (λ w. IsBrokenOff 1 input w.journal.entries old new ⊎ IsBrokenAtOpening w.journal.entries old new)
 ended_without r None input old new s h = tt
 ended_without r (Some w) input old new s h =
-    without r (λ f. IsEndedBy f input w.journal.entries old new) (IsBrokenOff 1 input w.journal.entries old new) s (λ e. e) h
+    without r (λ f. IsEndedBy f input w.journal.entries old new) (IsBrokenOff 1 input w.journal.entries old new ⊎ IsBrokenAtOpening w.journal.entries old new) s (λ e. e) h

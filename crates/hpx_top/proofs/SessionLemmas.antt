@@ -5,82 +5,97 @@ use Rattle.std.specs.List.{concat, list_any, slice_split}
 use Rattle.std.proofs.Common.{ℕ, Bool, true, false, List, [], ◌∷◌, ◌++◌, ◌≡◌, ◌+◌, ◌<◌, ◌≤◌, ◌⊎◌, length, drop, Option, Some, None, refl, sym, ap, ◌∙◌, subst, inl, inr, arith, append-nil, append_assoc, length-append}
 use Rattle.std.proofs.lemmas.List.{drop_at}
 use Rattle.std.proofs.lemmas.List.Folds.{list_any-append}
-use Rattle.hpx_root_journal.specs.declared.entry.Entry.{Entry}
-use Rattle.hpx_root_journal.specs.Roots.{roots}
-use Rattle.hpx_root_journal.specs.Whole.{IsLegal, start, run}
-use Rattle.hpx_root_journal.specs.Pool.{prints_of, state_of}
-use Rattle.hpx_root_journal.specs.Sessions.{IsSession, IsSettled, entries_of, shown}
-use Rattle.hpx_root_journal.proofs.Plain.{session_plain, session_grows}
-use Rattle.hpx_root_journal.proofs.Boot.{boot_sound, boot_settled}
+use Rattle.hpx_value.specs.declared.profile.Profile.{Profile}
+use Rattle.hpx_journal.specs.declared.entry.Entry.{Entry}
+use Rattle.hpx_journal.specs.Entries.{Rules}
+use Rattle.hpx_journal.specs.Whole.{IsLegal, replayed}
+use Rattle.hpx_journal.specs.Pool.{NoneFails, prints_of}
+use Rattle.hpx_journal.specs.Sessions.{IsSession, IsBlock, IsSettled, entries_of, shown}
+use Rattle.hpx_journal.proofs.Sessions.{session_grows, entries_append, shown_append}
+use Rattle.hpx_node.specs.Stands.{rules_of}
 use Rattle.hpx_parcel.specs.Reading.{parcel_of}
 use Rattle.hpx_ports.specs.Told.{preceded, followed}
-use Rattle.hpx_top.specs.Acts.{act_of}
-use Rattle.hpx_top.specs.Stands.{rules_of}
-use Rattle.hpx_top.specs.PlainText.{IsPiece, is_long, is_quit, is_newline, lines_in, before_quit, fed, after_lines, lines_text, text_of, prompt, commands, written}
-use Rattle.hpx_top.specs.Console.{bad_command}
+use Rattle.hpx_world.proofs.Sound.{spells_well}
+use Rattle.app_console.specs.Acts.{act_of}
+use Rattle.app_console.specs.Console.{commands, prompt, bad_command}
+use Rattle.app_console.specs.PlainText.{IsPiece, is_long, is_quit, is_newline, lines_in, before_quit, opening, fed, after_lines, lines_text, text_of, others_of, written}
+use Rattle.app_console.proofs.TextLaws.{law_whole}
 use Rattle.hpx_top.specs.Reader.{Reading, lines_left, input_left, bytes_left, TakesLine, TakesLong, TakesQuit, IsAtEnd, IsFull}
-use Rattle.hpx_top.specs.Session.{lines_fed, FeedsAtMost, WritesFront, FeedsLine, IsJournalOf, HandsOut, IsServing, IsCut, IsCutIn, IsOver, IsUnderWay, IsStopped}
-use Rattle.hpx_top.proofs.TextSession.{boot_stable, only_session, names_blind, session_text}
-use Rattle.hpx_top.proofs.LineLemmas.{followed_twice, preceded_nothing, preceded_twice, lines_text_more, long_text, front_all, text_front, fed_short, fed_long, goes_on_more, goes_on_less, long_goes_on, session_lines, session_count, shown_more, entries_more, line_shown}
+use Rattle.hpx_top.specs.Session.{lines_fed, FeedsAtMost, HasFed, WritesFront, Feeds, IsJournalOf, HandsOut, IsServing, IsCut, IsCutIn, IsCutAtOpening, IsOver, IsUnderWay, IsStopped}
+use Rattle.hpx_top.proofs.LineLemmas.{followed_twice, preceded_nothing, preceded_twice, lines_text_more, long_text, front_all, text_front, fed_short, fed_long, goes_on_more, goes_on_less, long_goes_on, session_lines, session_count, others_count, others_more, line_shown}
 
 -- ---- the journal
 
--- at boot it is a session of no lines
-pub journal_start : (n : ℕ) (entries : List Entry) → entries ≡ [] → IsJournalOf n [] entries
-journal_start n entries h = record { blocks = []; session = tt; entries_are = h }
+-- once the accumulator is made it is a session of no lines
+pub journal_open : (r : Rules) (old new : List Entry) → old ≡ [] → Feeds r opening old new → IsJournalOf r [] new
+journal_open r old new empty f =
+    let is : new ≡ f.block = f.is ∙ ap (λ es. es ++ f.block) empty in
+    record {
+      blocks = f.block ∷ [];
+      session = (
+        record { legal = subst (IsLegal r) is f.legal; begins = f.begins; settled = subst (λ es. IsSettled r (replayed r es)) is f.settled },
+        tt,
+      );
+      entries_are = is ∙ sym (append-nil f.block);
+      calm = f.calm;
+    }
 
-pub journal_lines : (n : ℕ) (lines : List (List ℕ)) (entries : List Entry) → IsJournalOf n lines entries → lines_fed entries ≡ fed lines
-journal_lines n lines entries j =
-    ap lines_fed j.entries_are ∙ session_lines (rules_of act_of n) (start (roots n)) (fed lines) j.blocks j.session
+pub journal_lines : (r : Rules) (lines : List (List ℕ)) (entries : List Entry) → IsJournalOf r lines entries → lines_fed entries ≡ fed lines
+journal_lines r lines entries j = ap lines_fed j.entries_are ∙ session_lines r [] (fed lines) j.blocks j.session
 
 -- a line that is too long changes nothing
-pub journal_long : (n : ℕ) (lines : List (List ℕ)) (line : List ℕ) (entries : List Entry) → is_long line ≡ true → IsJournalOf n lines entries
-    → IsJournalOf n (lines ++ line ∷ []) entries
-journal_long n lines line entries long j = record {
+pub journal_long : (r : Rules) (lines : List (List ℕ)) (line : List ℕ) (entries : List Entry) → is_long line ≡ true → IsJournalOf r lines entries
+    → IsJournalOf r (lines ++ line ∷ []) entries
+journal_long r lines line entries long j = record {
   blocks = j.blocks;
-  session = subst (λ ls. IsSession (rules_of act_of n) (start (roots n)) ls j.blocks) (sym (fed_long lines line long)) j.session;
+  session = subst (λ ls. IsSession r [] ls j.blocks) (sym (fed_long lines line long)) j.session;
   entries_are = j.entries_are;
+  calm = j.calm;
 }
 
 -- a line that is fed is one block more
-grown : (n : ℕ) (lines : List (List ℕ)) (line : List ℕ) (old new : List Entry) → is_long line ≡ false → (j : IsJournalOf n lines old)
-    → (f : FeedsLine n line old new) → IsSession (rules_of act_of n) (start (roots n)) (fed (lines ++ line ∷ [])) (j.blocks ++ f.block ∷ [])
-grown n lines line old new short j f =
-    let r = rules_of act_of n in
+grown : (r : Rules) (lines : List (List ℕ)) (line : List ℕ) (old new : List Entry) → is_long line ≡ false → (j : IsJournalOf r lines old)
+    → (f : Feeds r (97 ∷ line) old new) → IsSession r [] (fed (lines ++ line ∷ [])) (j.blocks ++ f.block ∷ [])
+grown r lines line old new short j f =
     let is : new ≡ entries_of j.blocks ++ f.block = f.is ∙ ap (λ es. es ++ f.block) j.entries_are in
-    subst (λ ls. IsSession r (start (roots n)) ls (j.blocks ++ f.block ∷ [])) (sym (fed_short lines line short))
-    (session_grows r (start (roots n)) (fed lines) j.blocks (97 ∷ line) f.block j.session (subst (IsLegal r (start (roots n))) is f.legal) f.begins
-    (subst (λ es. IsSettled r (run r (start (roots n)) es)) is f.settled))
+    subst (λ ls. IsSession r [] ls (j.blocks ++ f.block ∷ [])) (sym (fed_short lines line short))
+    (session_grows r [] (fed lines) j.blocks (97 ∷ line) f.block j.session (record {
+      legal = subst (IsLegal r) is f.legal;
+      begins = f.begins;
+      settled = subst (λ es. IsSettled r (replayed r es)) is f.settled;
+    }))
 
-pub journal_more : (n : ℕ) (lines : List (List ℕ)) (line : List ℕ) (old new : List Entry) → is_long line ≡ false → IsJournalOf n lines old
-    → FeedsLine n line old new → IsJournalOf n (lines ++ line ∷ []) new
-journal_more n lines line old new short j f = record {
+pub journal_more : (r : Rules) (lines : List (List ℕ)) (line : List ℕ) (old new : List Entry) → is_long line ≡ false → IsJournalOf r lines old
+    → Feeds r (97 ∷ line) old new → IsJournalOf r (lines ++ line ∷ []) new
+journal_more r lines line old new short j f = record {
   blocks = j.blocks ++ f.block ∷ [];
-  session = grown n lines line old new short j f;
-  entries_are = f.is ∙ (ap (λ es. es ++ f.block) j.entries_are ∙ sym (entries_more j.blocks f.block));
+  session = grown r lines line old new short j f;
+  entries_are = f.is ∙ (ap (λ es. es ++ f.block) j.entries_are ∙ sym (entries_append j.blocks f.block));
+  calm = f.calm;
 }
 
 -- what was shown is the text of one number
-pub journal_text : (n : ℕ) (lines : List (List ℕ)) (blocks : List (List Entry)) → 1 ≤ n → n ≤ 64 → length lines ≤ 4000000000
-    → IsSession (rules_of act_of n) (start (roots n)) (fed lines) blocks → written lines (shown blocks) ≡ lines_text (pos 0) lines
-journal_text n lines blocks some few short session =
-    let r = rules_of act_of n in
-    session_text n parcel_of some few 0 (pos 0) lines (shown blocks) (state_of (start (roots n))) (omega arith) (boot_stable n)
-    (session_plain r (only_session n parcel_of) (names_blind n parcel_of) (start (roots n)) (fed lines) blocks (boot_settled r n) (boot_sound n) session)
+journal_text : (n : ℕ) (p : Profile) (lines : List (List ℕ)) (entries : List Entry) → 1 ≤ n → n ≤ 64 → length lines < 4000000000
+    → (j : IsJournalOf (rules_of act_of n p) lines entries) → written lines (others_of (shown j.blocks)) ≡ lines_text (pos 0) lines
+journal_text n p lines entries some few short j =
+    (law_whole n p.credit_log p.credit_limit parcel_of some few lines j.blocks short (spells_well act_of n p) (subst NoneFails j.entries_are j.calm) j.session).1
 
 -- what a line prints is its text
-pub line_prints : (n : ℕ) (lines : List (List ℕ)) (line : List ℕ) (old new : List Entry) → 1 ≤ n → n ≤ 64 → length lines + 1 ≤ 4000000000
-    → is_long line ≡ false → IsJournalOf n lines old → FeedsLine n line old new
+pub line_prints : (n : ℕ) (p : Profile) (lines : List (List ℕ)) (line : List ℕ) (old new : List Entry) → 1 ≤ n → n ≤ 64 → length lines + 1 < 4000000000
+    → is_long line ≡ false → IsJournalOf (rules_of act_of n p) lines old → Feeds (rules_of act_of n p) (97 ∷ line) old new
     → lines_text (pos 0) lines ++ (prompt ++ concat (prints_of (drop (length old) new))) ≡ lines_text (pos 0) (lines ++ line ∷ [])
-line_prints n lines line old new some few count short j f =
-    let all : length (lines ++ line ∷ []) ≤ 4000000000 = omega (arith, length-append lines (line ∷ [])) in
+unfolding journal_more
+line_prints n p lines line old new some few count short j f =
+    let r = rules_of act_of n p in
+    let all : length (lines ++ line ∷ []) < 4000000000 = omega (arith, length-append lines (line ∷ [])) in
     let block : drop (length old) new ≡ f.block = ap (drop (length old)) f.is ∙ drop_at old f.block (length old) refl in
-    let texts : written (lines ++ line ∷ []) (shown j.blocks ++ prints_of f.block ∷ []) ≡ lines_text (pos 0) (lines ++ line ∷ [])
-    = ap (written (lines ++ line ∷ [])) (sym (shown_more j.blocks f.block)) ∙ journal_text n (lines ++ line ∷ []) (j.blocks ++ f.block ∷ []) some few all (grown n lines line old new short j f) in
+    let many : length (shown j.blocks) ≡ length (fed lines) = session_count r [] (fed lines) j.blocks j.session in
+    let texts : written (lines ++ line ∷ []) (others_of (shown j.blocks) ++ prints_of f.block ∷ []) ≡ lines_text (pos 0) (lines ++ line ∷ [])
+    = ap (written (lines ++ line ∷ [])) (sym (ap others_of (shown_append j.blocks f.block) ∙ others_more (shown j.blocks) (prints_of f.block) _ many))
+    ∙ journal_text n p (lines ++ line ∷ []) new some few all (journal_more r lines line old new short j f) in
     ap (λ es. lines_text (pos 0) lines ++ (prompt ++ concat (prints_of es))) block
-    ∙ line_shown (pos 0) lines (shown j.blocks) line (prints_of f.block) short
-    (session_count (rules_of act_of n) (start (roots n)) (fed lines) j.blocks j.session)
-    (journal_text n lines j.blocks some few (omega arith) j.session) texts
+    ∙ line_shown (pos 0) lines (others_of (shown j.blocks)) line (prints_of f.block) short (others_count (shown j.blocks) _ many)
+    (journal_text n p lines old some few (omega arith) j) texts
 
 -- ---- the lines of the input
 
@@ -124,43 +139,43 @@ long_more lines line long =
 
 -- ---- between lines
 
--- after the first text
-pub serving_start : (n : ℕ) (all : Option (List (List ℕ))) (before now : Option (List ℕ)) (reading : Reading) (left : Option (List ℕ)) (entries : List Entry)
-    → all ≡ lines_left reading left → bytes_left reading ≤ 67108864 → entries ≡ [] → now ≡ followed before commands
-    → IsServing n all before reading left entries now
-serving_start n all before now reading left entries whole few empty held = record {
+-- once the accumulator is made
+pub serving_open : (r : Rules) (all : Option (List (List ℕ))) (before now : Option (List ℕ)) (reading : Reading) (left : Option (List ℕ)) (old new : List Entry)
+    → all ≡ lines_left reading left → bytes_left reading ≤ 67108864 → old ≡ [] → Feeds r opening old new → now ≡ followed before commands
+    → IsServing r all before reading left new now
+serving_open r all before now reading left old new whole few empty f held = record {
   lines = [];
   handled = subst (λ o. HandsOut all o []) whole (hands_none all);
   few = omega arith;
-  journal = journal_start n entries empty;
+  journal = journal_open r old new empty f;
   held = held ∙ ap (followed before) (sym (append-nil commands));
 }
 
 -- a line was fed, and what it prints was written
-pub serving_line : (n : ℕ) (all : Option (List (List ℕ))) (before now mid later : Option (List ℕ)) (reading next : Reading) (left rest : Option (List ℕ))
-    (old new : List Entry) (line : List ℕ) → 1 ≤ n → n ≤ 64 → IsServing n all before reading left old now → mid ≡ followed now prompt
-    → TakesLine line (lines_left reading left) (lines_left next rest) → bytes_left next < bytes_left reading → FeedsLine n line old new
-    → later ≡ followed mid (concat (prints_of (drop (length old) new))) → IsServing n all before next rest new later
-serving_line n all before now mid later reading next left rest old new line some few s prompted takes fewer f shown = record {
+pub serving_line : (n : ℕ) (p : Profile) (all : Option (List (List ℕ))) (before now mid later : Option (List ℕ)) (reading next : Reading) (left rest : Option (List ℕ))
+    (old new : List Entry) (line : List ℕ) → 1 ≤ n → n ≤ 64 → IsServing (rules_of act_of n p) all before reading left old now → mid ≡ followed now prompt
+    → TakesLine line (lines_left reading left) (lines_left next rest) → bytes_left next < bytes_left reading → Feeds (rules_of act_of n p) (97 ∷ line) old new
+    → later ≡ followed mid (concat (prints_of (drop (length old) new))) → IsServing (rules_of act_of n p) all before next rest new later
+serving_line n p all before now mid later reading next left rest old new line some few s prompted takes fewer f shown = record {
   lines = s.lines ++ line ∷ [];
   handled = hands_more all (lines_left reading left) (lines_left next rest) s.lines line s.handled takes.first takes.goes_on;
   few = omega (arith, length-append s.lines (line ∷ []), s.few);
-  journal = journal_more n s.lines line old new takes.fits s.journal f;
+  journal = journal_more (rules_of act_of n p) s.lines line old new takes.fits s.journal f;
   held = held_more before now mid later commands (lines_text (pos 0) s.lines) prompt (concat (prints_of (drop (length old) new)))
       (lines_text (pos 0) (s.lines ++ line ∷ [])) s.held prompted shown
-      (line_prints n s.lines line old new some few (omega (arith, s.few)) takes.fits s.journal f);
+      (line_prints n p s.lines line old new some few (omega (arith, s.few)) takes.fits s.journal f);
 }
 
 -- a line was too long
-pub serving_long : (n : ℕ) (all : Option (List (List ℕ))) (before now mid later : Option (List ℕ)) (reading next : Reading) (left rest : Option (List ℕ))
-    (entries : List Entry) → IsServing n all before reading left entries now → mid ≡ followed now prompt
+pub serving_long : (r : Rules) (all : Option (List (List ℕ))) (before now mid later : Option (List ℕ)) (reading next : Reading) (left rest : Option (List ℕ))
+    (entries : List Entry) → IsServing r all before reading left entries now → mid ≡ followed now prompt
     → TakesLong (lines_left reading left) (lines_left next rest) → bytes_left next < bytes_left reading
-    → later ≡ followed mid bad_command → IsServing n all before next rest entries later
-serving_long n all before now mid later reading next left rest entries s prompted takes fewer shown = record {
+    → later ≡ followed mid bad_command → IsServing r all before next rest entries later
+serving_long r all before now mid later reading next left rest entries s prompted takes fewer shown = record {
   lines = s.lines ++ takes.line ∷ [];
   handled = hands_more all (lines_left reading left) (lines_left next rest) s.lines takes.line s.handled takes.first (long_goes_on takes.line takes.long);
   few = omega (arith, length-append s.lines (takes.line ∷ []), s.few);
-  journal = journal_long n s.lines takes.line entries takes.long s.journal;
+  journal = journal_long r s.lines takes.line entries takes.long s.journal;
   held = held_more before now mid later commands (lines_text (pos 0) s.lines) prompt bad_command (lines_text (pos 0) (s.lines ++ takes.line ∷ []))
       s.held prompted shown (long_more s.lines takes.line takes.long);
 }
@@ -168,32 +183,32 @@ serving_long n all before now mid later reading next left rest entries s prompte
 -- ---- where it ends
 
 -- nothing was handled behind the prompt
-pub cut_here : (most n : ℕ) (all : Option (List (List ℕ))) (before now mid : Option (List ℕ)) (reading : Reading) (left : Option (List ℕ))
-    (old new : List Entry) → IsServing n all before reading left old now → mid ≡ followed now prompt → lines_fed new ≡ lines_fed old
+pub cut_here : (most : ℕ) (r : Rules) (all : Option (List (List ℕ))) (before now mid : Option (List ℕ)) (reading : Reading) (left : Option (List ℕ))
+    (old new : List Entry) → IsServing r all before reading left old now → mid ≡ followed now prompt → lines_fed new ≡ lines_fed old
     → IsCut most all before new mid
-cut_here most n all before now mid reading left old new s prompted same = record {
+cut_here most r all before now mid reading left old new s prompted same = record {
   lines = s.lines;
   next = [];
   left = lines_left reading left;
   handled = hands_no_more all (lines_left reading left) s.lines s.handled;
   few = omega arith;
-  journal = same ∙ (journal_lines n s.lines old s.journal ∙ ap fed (sym (append-nil s.lines)));
+  journal = same ∙ (journal_lines r s.lines old s.journal ∙ ap fed (sym (append-nil s.lines)));
   held = held_prompt before now mid commands (lines_text (pos 0) s.lines) prompt s.held prompted;
 }
 
 -- one line more may have been fed
-pub cut_line : (n : ℕ) (all : Option (List (List ℕ))) (before now mid : Option (List ℕ)) (reading next : Reading) (left rest : Option (List ℕ))
-    (old new : List Entry) (line : List ℕ) → IsServing n all before reading left old now → mid ≡ followed now prompt
+pub cut_line : (r : Rules) (all : Option (List (List ℕ))) (before now mid : Option (List ℕ)) (reading next : Reading) (left rest : Option (List ℕ))
+    (old new : List Entry) (line : List ℕ) → IsServing r all before reading left old now → mid ≡ followed now prompt
     → TakesLine line (lines_left reading left) (lines_left next rest) → FeedsAtMost (97 ∷ line) old new → IsCut 1 all before new mid
-cut_line n all before now mid reading next left rest old new line s prompted takes (inl same) =
-    cut_here 1 n all before now mid reading left old new s prompted same
-cut_line n all before now mid reading next left rest old new line s prompted takes (inr one) = record {
+cut_line r all before now mid reading next left rest old new line s prompted takes (inl same) =
+    cut_here 1 r all before now mid reading left old new s prompted same
+cut_line r all before now mid reading next left rest old new line s prompted takes (inr one) = record {
   lines = s.lines;
   next = line ∷ [];
   left = lines_left next rest;
   handled = hands_more all (lines_left reading left) (lines_left next rest) s.lines line s.handled takes.first takes.goes_on;
   few = omega arith;
-  journal = one ∙ (ap (λ ls. ls ++ (97 ∷ line) ∷ []) (journal_lines n s.lines old s.journal) ∙ sym (fed_short s.lines line takes.fits));
+  journal = one ∙ (ap (λ ls. ls ++ (97 ∷ line) ∷ []) (journal_lines r s.lines old s.journal) ∙ sym (fed_short s.lines line takes.fits));
   held = held_prompt before now mid commands (lines_text (pos 0) s.lines) prompt s.held prompted;
 }
 
@@ -218,10 +233,10 @@ quit_among all (Some more) lines line h quit = subst (λ o. IfSome o (λ ls. lis
     or_true false = refl
 
 -- the line was due
-pub cut_in : (n : ℕ) (all : Option (List (List ℕ))) (before now mid : Option (List ℕ)) (reading next : Reading) (left rest : Option (List ℕ))
-    (old new : List Entry) (line : List ℕ) → IsServing n all before reading left old now → mid ≡ followed now prompt
+pub cut_in : (r : Rules) (all : Option (List (List ℕ))) (before now mid : Option (List ℕ)) (reading next : Reading) (left rest : Option (List ℕ))
+    (old new : List Entry) (line : List ℕ) → IsServing r all before reading left old now → mid ≡ followed now prompt
     → TakesLine line (lines_left reading left) (lines_left next rest) → FeedsAtMost (97 ∷ line) old new → IsCutIn all before new mid
-cut_in n all before now mid reading next left rest old new line s prompted takes once = record {
+cut_in r all before now mid reading next left rest old new line s prompted takes once = record {
   lines = s.lines;
   line = line;
   left = lines_left next rest;
@@ -232,50 +247,50 @@ cut_in n all before now mid reading next left rest old new line s prompted takes
 }
   where
     lines_in_journal : FeedsAtMost (97 ∷ line) old new → (lines_fed new ≡ fed s.lines) ⊎ (lines_fed new ≡ fed (s.lines ++ line ∷ []))
-    lines_in_journal (inl same) = inl (same ∙ journal_lines n s.lines old s.journal)
+    lines_in_journal (inl same) = inl (same ∙ journal_lines r s.lines old s.journal)
     lines_in_journal (inr one) =
-        inr (one ∙ (ap (λ ls. ls ++ (97 ∷ line) ∷ []) (journal_lines n s.lines old s.journal) ∙ sym (fed_short s.lines line takes.fits)))
+        inr (one ∙ (ap (λ ls. ls ++ (97 ∷ line) ∷ []) (journal_lines r s.lines old s.journal) ∙ sym (fed_short s.lines line takes.fits)))
 
-pub over_end : (n : ℕ) (all : Option (List (List ℕ))) (before now mid : Option (List ℕ)) (reading next : Reading) (left : Option (List ℕ)) (entries : List Entry)
-    → IsServing n all before reading left entries now → mid ≡ followed now prompt → IsAtEnd next (input_left reading left) (lines_left reading left)
+pub over_end : (r : Rules) (all : Option (List (List ℕ))) (before now mid : Option (List ℕ)) (reading next : Reading) (left : Option (List ℕ)) (entries : List Entry)
+    → IsServing r all before reading left entries now → mid ≡ followed now prompt → IsAtEnd next (input_left reading left) (lines_left reading left)
     → IsOver next.ended all before entries mid
-over_end n all before now mid reading next left entries s prompted at_end = record {
+over_end r all before now mid reading next left entries s prompted at_end = record {
   lines = s.lines;
   left = lines_left reading left;
   handled = s.handled;
   last = last_none (lines_left reading left) at_end.no_lines;
   read_up = inl at_end.ended;
-  journal = journal_lines n s.lines entries s.journal;
+  journal = journal_lines r s.lines entries s.journal;
   held = held_prompt before now mid commands (lines_text (pos 0) s.lines) prompt s.held prompted;
 }
 
-pub over_quit : (n : ℕ) (ended : Bool) (all later : Option (List (List ℕ))) (before now mid : Option (List ℕ)) (reading : Reading) (left : Option (List ℕ))
-    (entries : List Entry) → IsServing n all before reading left entries now → mid ≡ followed now prompt → TakesQuit (lines_left reading left) later
+pub over_quit : (r : Rules) (ended : Bool) (all later : Option (List (List ℕ))) (before now mid : Option (List ℕ)) (reading : Reading) (left : Option (List ℕ))
+    (entries : List Entry) → IsServing r all before reading left entries now → mid ≡ followed now prompt → TakesQuit (lines_left reading left) later
     → IsOver ended all before entries mid
-over_quit n ended all later before now mid reading left entries s prompted takes = record {
+over_quit r ended all later before now mid reading left entries s prompted takes = record {
   lines = s.lines;
   left = lines_left reading left;
   handled = s.handled;
   last = last_quit (lines_left reading left) later takes.line takes.first takes.quit;
   read_up = inr (quit_among all later s.lines takes.line (s.handled.first ∙ ap (preceded s.lines) takes.first) takes.quit);
-  journal = journal_lines n s.lines entries s.journal;
+  journal = journal_lines r s.lines entries s.journal;
   held = held_prompt before now mid commands (lines_text (pos 0) s.lines) prompt s.held prompted;
 }
 
-pub stopped_read : (n : ℕ) (all : Option (List (List ℕ))) (before now : Option (List ℕ)) (reading next : Reading) (left rest : Option (List ℕ)) (entries : List Entry)
-    → IsServing n all before reading left entries now → IsPiece next.pending → next.ended ≡ false → input_left next rest ≡ input_left reading left
+pub stopped_read : (r : Rules) (all : Option (List (List ℕ))) (before now : Option (List ℕ)) (reading next : Reading) (left rest : Option (List ℕ)) (entries : List Entry)
+    → IsServing r all before reading left entries now → IsPiece next.pending → next.ended ≡ false → input_left next rest ≡ input_left reading left
     → IsStopped all next rest
-stopped_read n all before now reading next left rest entries s no_line goes_on same = record {
+stopped_read r all before now reading next left rest entries s no_line goes_on same = record {
   lines = s.lines;
   handled = subst (λ o. HandsOut all o s.lines) (ap (option_map (λ input. lines_in (slice_split is_newline input))) (sym same)) s.handled;
   no_line = no_line;
   goes_on = goes_on;
 }
 
-pub stopped_full : (n : ℕ) (all : Option (List (List ℕ))) (before now : Option (List ℕ)) (reading next : Reading) (left rest : Option (List ℕ)) (entries : List Entry)
-    → IsServing n all before reading left entries now → IsFull next → input_left next rest ≡ input_left reading left → IsStopped all next rest
-stopped_full n all before now reading next left rest entries s full same =
-    stopped_read n all before now reading next left rest entries s full.no_line full.goes_on same
+pub stopped_full : (r : Rules) (all : Option (List (List ℕ))) (before now : Option (List ℕ)) (reading next : Reading) (left rest : Option (List ℕ)) (entries : List Entry)
+    → IsServing r all before reading left entries now → IsFull next → input_left next rest ≡ input_left reading left → IsStopped all next rest
+stopped_full r all before now reading next left rest entries s full same =
+    stopped_read r all before now reading next left rest entries s full.no_line full.goes_on same
 
 -- ---- what a failed write leaves
 
@@ -286,7 +301,7 @@ under_start all before now entries empty w = record {
   lines = [];
   left = all;
   handled = hands_none all;
-  journal = ap lines_fed empty;
+  journal = inr (ap lines_fed empty, refl);
   written = record {
     front = w.front;
     begins = record { later = w.begins.later ++ prompt; is = sym (append_assoc w.front w.begins.later prompt) ∙ ap (λ t. t ++ prompt) w.begins.is };
@@ -295,13 +310,13 @@ under_start all before now entries empty w = record {
 }
 
 -- a prompt was not
-pub under_prompt : (n : ℕ) (all : Option (List (List ℕ))) (before now later : Option (List ℕ)) (reading : Reading) (left : Option (List ℕ)) (entries : List Entry)
-    → IsServing n all before reading left entries now → WritesFront prompt now later → IsUnderWay all before entries later
-under_prompt n all before now later reading left entries s w = record {
+pub under_prompt : (r : Rules) (all : Option (List (List ℕ))) (before now later : Option (List ℕ)) (reading : Reading) (left : Option (List ℕ)) (entries : List Entry)
+    → IsServing r all before reading left entries now → WritesFront prompt now later → IsUnderWay all before entries later
+under_prompt r all before now later reading left entries s w = record {
   lines = s.lines;
   left = lines_left reading left;
   handled = s.handled;
-  journal = journal_lines n s.lines entries s.journal;
+  journal = inl (journal_lines r s.lines entries s.journal);
   written = record {
     front = commands ++ (lines_text (pos 0) s.lines ++ w.front);
     begins = record {
@@ -314,7 +329,7 @@ under_prompt n all before now later reading left entries s w = record {
 
 -- the text of a line was not
 under_text : (all left : Option (List (List ℕ))) (before now mid later : Option (List ℕ)) (entries : List Entry) (lines more : List (List ℕ)) (text : List ℕ)
-    → HandsOut all left more → lines_fed entries ≡ fed more → now ≡ followed before (commands ++ lines_text (pos 0) lines) → mid ≡ followed now prompt
+    → HandsOut all left more → HasFed more entries → now ≡ followed before (commands ++ lines_text (pos 0) lines) → mid ≡ followed now prompt
     → WritesFront text mid later → lines_text (pos 0) lines ++ (prompt ++ text) ≡ lines_text (pos 0) more → IsUnderWay all before entries later
 under_text all left before now mid later entries lines more text handled journal held prompted w is = record {
   lines = more;
@@ -332,23 +347,24 @@ under_text all left before now mid later entries lines more text handled journal
   };
 }
 
-pub under_line : (n : ℕ) (all : Option (List (List ℕ))) (before now mid later : Option (List ℕ)) (reading next : Reading) (left rest : Option (List ℕ))
-    (old new : List Entry) (line : List ℕ) → 1 ≤ n → n ≤ 64 → IsServing n all before reading left old now → mid ≡ followed now prompt
-    → TakesLine line (lines_left reading left) (lines_left next rest) → FeedsLine n line old new
+pub under_line : (n : ℕ) (p : Profile) (all : Option (List (List ℕ))) (before now mid later : Option (List ℕ)) (reading next : Reading) (left rest : Option (List ℕ))
+    (old new : List Entry) (line : List ℕ) → 1 ≤ n → n ≤ 64 → IsServing (rules_of act_of n p) all before reading left old now → mid ≡ followed now prompt
+    → TakesLine line (lines_left reading left) (lines_left next rest) → Feeds (rules_of act_of n p) (97 ∷ line) old new
     → WritesFront (concat (prints_of (drop (length old) new))) mid later → IsUnderWay all before new later
-under_line n all before now mid later reading next left rest old new line some few s prompted takes f w =
+under_line n p all before now mid later reading next left rest old new line some few s prompted takes f w =
+    let r = rules_of act_of n p in
     under_text all (lines_left next rest) before now mid later new s.lines (s.lines ++ line ∷ []) (concat (prints_of (drop (length old) new)))
     (hands_more all (lines_left reading left) (lines_left next rest) s.lines line s.handled takes.first takes.goes_on)
-    (journal_lines n (s.lines ++ line ∷ []) new (journal_more n s.lines line old new takes.fits s.journal f)) s.held prompted w
-    (line_prints n s.lines line old new some few (omega (arith, s.few)) takes.fits s.journal f)
+    (inl (journal_lines r (s.lines ++ line ∷ []) new (journal_more r s.lines line old new takes.fits s.journal f))) s.held prompted w
+    (line_prints n p s.lines line old new some few (omega (arith, s.few)) takes.fits s.journal f)
 
-pub under_long : (n : ℕ) (all : Option (List (List ℕ))) (before now mid later : Option (List ℕ)) (reading next : Reading) (left rest : Option (List ℕ))
-    (entries : List Entry) → IsServing n all before reading left entries now → mid ≡ followed now prompt
+pub under_long : (r : Rules) (all : Option (List (List ℕ))) (before now mid later : Option (List ℕ)) (reading next : Reading) (left rest : Option (List ℕ))
+    (entries : List Entry) → IsServing r all before reading left entries now → mid ≡ followed now prompt
     → TakesLong (lines_left reading left) (lines_left next rest) → WritesFront bad_command mid later → IsUnderWay all before entries later
-under_long n all before now mid later reading next left rest entries s prompted takes w =
+under_long r all before now mid later reading next left rest entries s prompted takes w =
     under_text all (lines_left next rest) before now mid later entries s.lines (s.lines ++ takes.line ∷ []) bad_command
     (hands_more all (lines_left reading left) (lines_left next rest) s.lines takes.line s.handled takes.first (long_goes_on takes.line takes.long))
-    (journal_lines n (s.lines ++ takes.line ∷ []) entries (journal_long n s.lines takes.line entries takes.long s.journal)) s.held prompted w
+    (inl (journal_lines r (s.lines ++ takes.line ∷ []) entries (journal_long r s.lines takes.line entries takes.long s.journal))) s.held prompted w
     (long_more s.lines takes.line takes.long)
 
 -- ---- each end is under way
@@ -359,7 +375,7 @@ under_cut most all before now entries c = record {
   lines = c.lines ++ c.next;
   left = c.left;
   handled = c.handled;
-  journal = c.journal;
+  journal = inl c.journal;
   written = record { front = text_of c.lines; begins = text_front c.lines c.next; held = c.held };
 }
 
@@ -375,14 +391,14 @@ under_in all before now entries c = under c.journal
         first = c.handled.first ∙ sym (preceded_twice c.lines (c.line ∷ []) c.left);
         goes_on = goes_on_less c.lines (c.line ∷ []) c.handled.goes_on;
       };
-      journal = same;
+      journal = inl same;
       written = record { front = text_of c.lines; begins = front_all (text_of c.lines); held = c.held };
     }
     under (inr more) = record {
       lines = c.lines ++ c.line ∷ [];
       left = c.left;
       handled = c.handled;
-      journal = more;
+      journal = inl more;
       written = record { front = text_of c.lines; begins = text_front c.lines (c.line ∷ []); held = c.held };
     }
 
@@ -392,6 +408,20 @@ under_over ended all before now entries o = record {
   lines = o.lines;
   left = o.left;
   handled = o.handled;
-  journal = o.journal;
+  journal = inl o.journal;
   written = record { front = text_of o.lines; begins = front_all (text_of o.lines); held = o.held };
 }
+
+pub under_opening : (all : Option (List (List ℕ))) (before now : Option (List ℕ)) (entries : List Entry) → IsCutAtOpening before entries now
+    → IsUnderWay all before entries now
+under_opening all before now entries c = record {
+  lines = [];
+  left = all;
+  handled = hands_none all;
+  journal = opened c.journal;
+  written = record { front = commands; begins = record { later = prompt; is = refl }; held = c.held };
+}
+  where
+    opened : (lines_fed entries ≡ []) ⊎ (lines_fed entries ≡ opening ∷ []) → HasFed [] entries
+    opened (inl none) = inr (none, refl)
+    opened (inr one) = inl one

@@ -1,12 +1,12 @@
 -- What goes to a sink, piece after piece.
-use Rattle.std.specs.Prelude.{Result, Ok, Err, OnOk, OnErr, IfErr}
+use Rattle.std.specs.Prelude.{Result, Ok, Err, OnOk, OnErr, IfOk, IfErr}
 use Rattle.std.specs.Result.{IsErrAnd}
 use Rattle.std.specs.List.{concat, slice_get}
 use Rattle.std.proofs.Common.{ℕ, zero, suc, List, [], ◌∷◌, ◌++◌, ◌≡◌, ◌+◌, ◌<◌, ◌≤◌, length, take, drop, Option, Some, refl, sym, ap, ◌∙◌, subst, arith, append-nil, append_assoc}
 use Rattle.std.proofs.lemmas.List.{take-append-drop, drop_all}
 use Rattle.std.proofs.lemmas.List.Folds.{concat-append}
-use Rattle.hpx_root_journal.specs.declared.entry.Entry.{Entry}
-use Rattle.hpx_root_journal.specs.Pool.{prints_by, prints_of}
+use Rattle.hpx_journal.specs.declared.entry.Entry.{Entry}
+use Rattle.hpx_journal.specs.Pool.{prints_by, prints_of}
 use Rattle.hpx_ports.specs.Told.{followed}
 use Rattle.hpx_ports.specs.Bytes.{WritesPart}
 use Rattle.hpx_top.specs.Session.{WritesFront, WritesUpTo}
@@ -51,6 +51,11 @@ err_back (Err y) e h = ap (λ z. Err z) h
 pub ok_there : {T E : Type 0} (r : Result T E) (P : Type 0) → ((e : E) → r ≡ Err e → ⊥) → OnOk r P → P
 ok_there (Ok x) P never h = h
 ok_there (Err e) P never h = absurd (never e refl)
+
+-- the value that is there, where there is no error
+pub ok_value : {T E : Type 0} (r : Result T E) (P : T → Type 0) → ((e : E) → r ≡ Err e → ⊥) → IfOk r P → (x : T) × P x
+ok_value (Ok x) P never h = (x, h)
+ok_value (Err e) P never h = absurd (never e refl)
 
 -- ---- entry after entry
 

@@ -1,12 +1,13 @@
 -- What a run has done where it ends, over the bytes of its input.
 use Rattle.std.specs.Prelude.{ℕ, true, false, Option, Some, List, [], ◌∷◌, ◌++◌, ◌≡◌, ◌+◌, ◌<◌, ◌≤◌, ◌⊎◌, length}
 use Rattle.std.specs.List.{list_any, slice_split}
-use Rattle.hpx_root_journal.specs.declared.entry.Entry.{Entry}
+use Rattle.hpx_journal.specs.declared.entry.Entry.{Entry}
 use Rattle.hpx_ports.specs.Told.{followed}
 use Rattle.hpx_top.specs.declared.session.SessionFault.{SessionFault}
 use Rattle.hpx_top.specs.declared.session.SessionFault.TheVariants.{Read, Write, OutOfMemory, InputFull}
-use Rattle.hpx_top.specs.PlainText.{is_long, is_quit, is_newline, IsPiece, lines_in, lines_of, quits, fed, text_of, IsFront}
-use Rattle.hpx_top.specs.Session.{lines_fed}
+use Rattle.app_console.specs.Console.{commands}
+use Rattle.app_console.specs.PlainText.{IsFront, is_long, is_quit, is_newline, IsPiece, lines_in, lines_of, quits, opening, fed, text_of}
+use Rattle.hpx_top.specs.Session.{lines_fed, HasFed}
 
 -- the lines of the input were fed, up to its end or to `quit`, and the whole text was written
 pub record IsWhole (input : List ℕ) (entries : List Entry) (old new : Option (List ℕ)) : Type 0 where
@@ -35,12 +36,18 @@ pub record IsBrokenIn (input : List ℕ) (entries : List Entry) (old new : Optio
   pub lines : (lines_fed entries ≡ fed handled) ⊎ (lines_fed entries ≡ fed (handled ++ line ∷ []))
   pub text : new ≡ followed old (text_of handled)
 
+-- Behind the first text the accumulator was to be made: the line for it was to be fed, or was fed and what follows from it was to
+-- be done. No line of the input was handled.
+pub record IsBrokenAtOpening (entries : List Entry) (old new : Option (List ℕ)) : Type 0 where
+  pub lines : (lines_fed entries ≡ []) ⊎ (lines_fed entries ≡ opening ∷ [])
+  pub text : new ≡ followed old commands
+
 -- The first lines of the input were fed. What was written begins the whole text, and comes of no line behind them.
 pub record IsBegun (input : List ℕ) (entries : List Entry) (old new : Option (List ℕ)) : Type 0 where
   pub handled : List (List ℕ)
   pub later : List (List ℕ)
   pub first : lines_of input ≡ handled ++ later
-  pub lines : lines_fed entries ≡ fed handled
+  pub lines : HasFed handled entries
   pub text : List ℕ
   pub is : new ≡ followed old text
   pub theirs : IsFront text (text_of handled)
@@ -75,10 +82,10 @@ pub record IsReadOn (n : ℕ) (input : List ℕ) (left : Option (List ℕ)) : Ty
 abbrev pub IsInputFull : List ℕ → Option (List ℕ) → Type 0
 IsInputFull input left = IsReadOn 67108864 input left
 
--- how a session was broken off: at a write anywhere, otherwise behind a prompt, or in the line behind it
+-- how a session was broken off: at a write anywhere, otherwise behind a prompt, or in the line behind it, or where the accumulator is made
 abbrev pub IsEndedBy : SessionFault → List ℕ → List Entry → Option (List ℕ) → Option (List ℕ) → Type 0
 IsEndedBy Write input entries old new = IsBegun input entries old new
 IsEndedBy Read input entries old new = IsBrokenOff 0 input entries old new
 IsEndedBy InputFull input entries old new = IsBrokenOff 0 input entries old new
-IsEndedBy OutOfMemory input entries old new = IsBrokenOff 1 input entries old new
-IsEndedBy _ input entries old new = IsBrokenIn input entries old new
+IsEndedBy OutOfMemory input entries old new = IsBrokenOff 1 input entries old new ⊎ IsBrokenAtOpening entries old new
+IsEndedBy _ input entries old new = IsBrokenIn input entries old new ⊎ IsBrokenAtOpening entries old new

@@ -1,25 +1,48 @@
 -- How far a session has come: the lines that were handled, what was fed for them, and what was written.
-use Rattle.std.specs.Prelude.{ℕ, Bool, pos, true, false, Option, Some, None, IfSome, List, [], ◌∷◌, ◌++◌, ◌≡◌, ◌+◌, ◌≤◌, ◌⊎◌, length, drop}
+use Rattle.std.specs.Prelude.{ℕ, Bool, pos, true, false, Option, Some, None, IfSome, List, [], ◌∷◌, ◌++◌, ◌≡◌, ◌+◌, ◌≤◌, ◌^◌, ◌⊎◌, length, drop}
 use Rattle.std.specs.List.{concat, list_any}
-use Rattle.hpx_root_journal.specs.declared.entry.Entry.{Entry}
-use Rattle.hpx_root_journal.specs.declared.entry.Event.{Event}
-use Rattle.hpx_root_journal.specs.declared.entry.Event.TheVariants.{Line}
-use Rattle.hpx_root_journal.specs.Roots.{roots}
-use Rattle.hpx_root_journal.specs.Whole.{IsLegal, start, run}
-use Rattle.hpx_root_journal.specs.Sessions.{IsSession, IsSettled, BeginsWith, entries_of}
+use Rattle.hpx_value.specs.declared.profile.Profile.{Profile}
+use Rattle.hpx_journal.specs.declared.entry.Entry.{Entry}
+use Rattle.hpx_journal.specs.declared.entry.Event.{Event}
+use Rattle.hpx_journal.specs.declared.entry.Event.TheVariants.{Line}
+use Rattle.hpx_journal.specs.Entries.{Rules}
+use Rattle.hpx_journal.specs.Whole.{IsLegal, replayed}
+use Rattle.hpx_journal.specs.Pool.{NoneFails, prints_of}
+use Rattle.hpx_journal.specs.Sessions.{IsSession, IsSettled, BeginsWith, entries_of}
 use Rattle.hpx_ports.specs.Told.{preceded, followed}
-use Rattle.hpx_root_journal.specs.Pool.{prints_of}
+use Rattle.hpx_world.specs.Places.{Places, rules_in}
+use Rattle.hpx_world.specs.Quiet.{IsQuiet, IsAtRest}
+use Rattle.app_console.specs.Acts.{act_of}
+use Rattle.app_console.specs.Console.{commands}
+use Rattle.app_console.specs.PlainText.{IsFront, is_long, is_quit, IsPiece, before_quit, opening, fed, lines_text, text_of}
 use Rattle.hpx_top.specs.declared.session.SessionFault.{SessionFault}
 use Rattle.hpx_top.specs.declared.session.SessionFault.TheVariants.{Read, Write, OutOfMemory, InputFull}
-use Rattle.hpx_top.specs.Acts.{act_of}
-use Rattle.hpx_top.specs.Places.{Places}
-use Rattle.hpx_top.specs.Sound.{IsQuiet}
-use Rattle.hpx_top.specs.Stands.{rules_of}
-use Rattle.hpx_top.specs.PlainText.{is_long, is_quit, IsPiece, before_quit, fed, commands, lines_text, text_of, IsFront}
 use Rattle.hpx_top.specs.Reader.{Reading, lines_left, bytes_left}
+
+-- ---- the world of a console
+
+-- what its journal is judged by
+abbrev pub rules : Places → Rules
+rules w = rules_in act_of w
+
+-- a count that grows by the credit of a new object at each entry of a whole journal stays within the limit
+pub record IsAmple (p : Profile) : Type 0 where
+  pub log : p.credit_log ≤ 31
+  pub limit : 2 ^ 53 ≤ p.credit_limit
+
+-- nothing is to be done anywhere, nothing is under way, and as many credits are held as objects are named
+pub record IsRested (w : Places) : Type 0 where
+  pub quiet : IsQuiet w.nodes w.hand
+  pub rest : IsAtRest (rules w) (replayed (rules w) w.journal.entries)
+
+-- the entries that stand where a run ends: none without a world
+abbrev pub entries_in : Option Places → List Entry
+entries_in None = []
+entries_in (Some w) = w.journal.entries
 
 -- ---- the Line entries of a journal
 
+-- the line that an event feeds
 abbrev pub lines_by : Event → List (List ℕ)
 lines_by (Line a bytes) = bytes ∷ []
 lines_by _ = []
@@ -29,9 +52,13 @@ abbrev pub lines_fed : List Entry → List (List ℕ)
 lines_fed [] = []
 lines_fed (e ∷ es) = lines_by e.event ++ lines_fed es
 
--- the journal grew by at most one Line entry, of this line
+-- the journal grew by at most one Line entry, of this text
 abbrev pub FeedsAtMost : List ℕ → List Entry → List Entry → Type 0
-FeedsAtMost line old new = (lines_fed new ≡ lines_fed old) ⊎ (lines_fed new ≡ lines_fed old ++ line ∷ [])
+FeedsAtMost text old new = (lines_fed new ≡ lines_fed old) ⊎ (lines_fed new ≡ lines_fed old ++ text ∷ [])
+
+-- what is fed for these lines was fed, or there are none and nothing was fed at all
+abbrev pub HasFed : List (List ℕ) → List Entry → Type 0
+HasFed lines entries = (lines_fed entries ≡ fed lines) ⊎ ((lines_fed entries ≡ []) × (lines ≡ []))
 
 -- ---- what a session has done
 
@@ -47,33 +74,21 @@ pub record WritesUpTo (rest bytes : List ℕ) (old new : Option (List ℕ)) : Ty
   pub whole : front ++ rest ≡ bytes
   pub held : new ≡ followed old front
 
--- the journal is legal at n localities
-abbrev pub IsLegalAt : ℕ → List Entry → Type 0
-IsLegalAt n entries = IsLegal (rules_of act_of n) (start (roots n)) entries
-
--- nothing is to be done anywhere: nothing is pending and nothing is due
-pub record IsAtRest (world : Places) : Type 0 where
-  pub quiet : IsQuiet world.nodes world.hand
-  pub settled : IsSettled (rules_of act_of (length world.nodes)) (run (rules_of act_of (length world.nodes)) (start (roots (length world.nodes))) world.journal.entries)
-
--- the entries that stand where a run ends: none without a world
-abbrev pub entries_in : Option Places → List Entry
-entries_in None = []
-entries_in (Some world) = world.journal.entries
-
--- the journal grew by what a line did: it was fed, and then nothing was left to do
-pub record FeedsLine (n : ℕ) (line : List ℕ) (old new : List Entry) : Type 0 where
+-- the journal grew by what a text did: it was fed, and then nothing was left to do; no action failed
+pub record Feeds (r : Rules) (text : List ℕ) (old new : List Entry) : Type 0 where
   pub block : List Entry
   pub is : new ≡ old ++ block
-  pub begins : BeginsWith (97 ∷ line) block
-  pub legal : IsLegal (rules_of act_of n) (start (roots n)) new
-  pub settled : IsSettled (rules_of act_of n) (run (rules_of act_of n) (start (roots n)) new)
+  pub begins : BeginsWith text block
+  pub legal : IsLegal r new
+  pub settled : IsSettled r (replayed r new)
+  pub calm : NoneFails new
 
--- the journal of n localities is a session of these lines
-pub record IsJournalOf (n : ℕ) (lines : List (List ℕ)) (entries : List Entry) : Type 0 where
+-- the journal is a session of these lines, and no action failed
+pub record IsJournalOf (r : Rules) (lines : List (List ℕ)) (entries : List Entry) : Type 0 where
   pub blocks : List (List Entry)
-  pub session : IsSession (rules_of act_of n) (start (roots n)) (fed lines) blocks
+  pub session : IsSession r [] (fed lines) blocks
   pub entries_are : entries ≡ entries_of blocks
+  pub calm : NoneFails entries
 
 -- the first lines of an input were handled, none of them a quit, and the rest is left
 pub record HandsOut (all left : Option (List (List ℕ))) (lines : List (List ℕ)) : Type 0 where
@@ -81,12 +96,12 @@ pub record HandsOut (all left : Option (List (List ℕ))) (lines : List (List �
   pub goes_on : list_any is_quit lines ≡ false
 
 -- between two lines: those that were handled were fed, and what they print was written
-pub record IsServing (n : ℕ) (all : Option (List (List ℕ))) (before : Option (List ℕ)) (reading : Reading) (left : Option (List ℕ))
+pub record IsServing (r : Rules) (all : Option (List (List ℕ))) (before : Option (List ℕ)) (reading : Reading) (left : Option (List ℕ))
     (entries : List Entry) (now : Option (List ℕ)) : Type 0 where
   pub lines : List (List ℕ)
   pub handled : HandsOut all (lines_left reading left) lines
   pub few : length lines + bytes_left reading ≤ 67108864
-  pub journal : IsJournalOf n lines entries
+  pub journal : IsJournalOf r lines entries
   pub held : now ≡ followed before (commands ++ lines_text (pos 0) lines)
 
 -- After a prompt: the text is that of the lines that were handled. Of the lines behind them one may have been fed.
@@ -109,6 +124,11 @@ pub record IsCutIn (all : Option (List (List ℕ))) (before : Option (List ℕ))
   pub journal : (lines_fed entries ≡ fed lines) ⊎ (lines_fed entries ≡ fed (lines ++ line ∷ []))
   pub held : now ≡ followed before (text_of lines)
 
+-- Behind the first text, before the first prompt: the accumulator is to be made, and the line for it may have been fed.
+pub record IsCutAtOpening (before : Option (List ℕ)) (entries : List Entry) (now : Option (List ℕ)) : Type 0 where
+  pub journal : (lines_fed entries ≡ []) ⊎ (lines_fed entries ≡ opening ∷ [])
+  pub held : now ≡ followed before commands
+
 -- after the last prompt: all lines were handled, up to the end or to a quit
 pub record IsOver (ended : Bool) (all : Option (List (List ℕ))) (before : Option (List ℕ)) (entries : List Entry) (now : Option (List ℕ)) : Type 0 where
   pub lines : List (List ℕ)
@@ -124,7 +144,7 @@ pub record IsUnderWay (all : Option (List (List ℕ))) (before : Option (List �
   pub lines : List (List ℕ)
   pub left : Option (List (List ℕ))
   pub handled : HandsOut all left lines
-  pub journal : lines_fed entries ≡ fed lines
+  pub journal : HasFed lines entries
   pub written : WritesFront (text_of lines) before now
 
 -- the bytes that may be read were read, and behind the lines that were handled they hold no whole line
@@ -137,11 +157,11 @@ pub record IsStopped (all : Option (List (List ℕ))) (reading : Reading) (left 
 -- ---- by the cause of an end
 
 -- a line was broken off: a write failed once it was handled, or it was fed once at most
-abbrev pub IsLineEndedBy : SessionFault → ℕ → List ℕ → List Entry → List Entry → Option (List ℕ) → Option (List ℕ) → Type 0
-IsLineEndedBy Write n line old new before now = FeedsLine n line old new × WritesFront (concat (prints_of (drop (length old) new))) before now
-IsLineEndedBy Read n line old new before now = ⊥
-IsLineEndedBy InputFull n line old new before now = ⊥
-IsLineEndedBy _ n line old new before now = FeedsAtMost (97 ∷ line) old new × (now ≡ before)
+abbrev pub IsLineEndedBy : SessionFault → Rules → List ℕ → List Entry → List Entry → Option (List ℕ) → Option (List ℕ) → Type 0
+IsLineEndedBy Write r line old new before now = Feeds r (97 ∷ line) old new × WritesFront (concat (prints_of (drop (length old) new))) before now
+IsLineEndedBy Read r line old new before now = ⊥
+IsLineEndedBy InputFull r line old new before now = ⊥
+IsLineEndedBy _ r line old new before now = FeedsAtMost (97 ∷ line) old new × (now ≡ before)
 
 -- a session was broken off: at a write anywhere, otherwise behind a prompt, or in the line behind it
 abbrev pub IsCutBy : SessionFault → Option (List (List ℕ)) → Option (List ℕ) → List Entry → Option (List ℕ) → Type 0

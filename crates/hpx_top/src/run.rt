@@ -1,31 +1,33 @@
 //! The top call: all that the program does, over ports that it is given.
 ghost use Rattle.std.specs.Prelude.{◌≡◌, ◌≢◌, ◌≤◌, ◌<◌, ◌+◌, ◌⊎◌, [], Ok, Some, None, Err, IfSome, IfErr, OnOk, OnErr, ℕ, length};
-ghost use Rattle.hpx_root_journal.specs.Weights.{HasRoom};
+ghost use Rattle.hpx_journal.specs.Weights.{HasRoom};
 ghost use Rattle.hpx_ports.specs.Faults.{Rose};
 ghost use Rattle.hpx_ports.specs.Told.{followed};
-ghost use Rattle.hpx_top.specs.Ends.{IsWhole, IsBrokenOff, IsBrokenIn, IsBegun, IsEndedBy, IsReadFrom, IsReadUp, IsReadOn, IsInputFull};
-ghost use Rattle.hpx_top.specs.Session.{IsAtRest, IsLegalAt, WritesFront, entries_in};
-ghost use Rattle.hpx_top.specs.Sound.{IsCarrying};
+ghost use Rattle.hpx_world.specs.Away.{IsCarrying};
+ghost use Rattle.hpx_world.specs.Promises.{KeepsPromises};
+ghost use Rattle.hpx_top.specs.Ends.{IsWhole, IsBrokenOff, IsBrokenIn, IsBrokenAtOpening, IsBegun, IsEndedBy, IsReadFrom, IsReadUp, IsReadOn, IsInputFull};
+ghost use Rattle.hpx_top.specs.Session.{rules, IsRested, WritesFront, entries_in};
 ghost use Rattle.hpx_top.specs.Statuses.{IsStatus, status_of, status_line, word_line};
 ghost use Rattle.hpx_top.specs.Usage.{bad_word};
 
 #[cfg(test)]
 mod tests;
 
-use crate::acts::AllActs;
 use crate::session::{SessionFault, serve};
-use crate::world::World;
+use app_console::acts::ConsoleActs;
 use hpx_ports::fabric::Fabric;
 use hpx_ports::sink::{Sink, write_all};
 use hpx_ports::source::Source;
 use hpx_value::items::{Text, Texts};
+use hpx_value::profile::Profile;
+use hpx_world::world::World;
 use std::alloc::Global;
 
 /// How a run ended: its status, the world where one was booted, and the fabric.
 #[derive(Drop)]
 pub struct End<F: Fabric> {
     pub status: u8,
-    pub world: Option<World<AllActs>>,
+    pub world: Option<World<ConsoleActs>>,
     pub fabric: F,
 }
 
@@ -33,6 +35,13 @@ pub struct End<F: Fabric> {
 const ACCUMULATOR: &[u8] = b"accumulator";
 
 const TWO_LOCALITIES: &[u8] = b"--hpx:localities=2";
+
+/// A new object has the most credit that an id can have, and no count comes near the greatest one.
+const PROFILE: Profile = Profile {
+    credit_log: 31,
+    credit_limit: 1 << 62,
+    cache: 64,
+};
 
 /// The place, from 1, of the first word that is not what it must be; 0 where a word is missing.
 pub fn bad_word(words: &[Text]) -> Option<u8>
@@ -72,6 +81,8 @@ fn line_of(fault: SessionFault) -> (&'static [u8], u8)
         SessionFault::Fabric => (b"hpx: fabric failed\n", 4),
         SessionFault::JournalFull => (b"hpx: journal full\n", 5),
         SessionFault::OutOfMemory => (b"hpx: out of memory\n", 6),
+        SessionFault::BadFrame => (b"hpx: bad frame\n", 7),
+        SessionFault::Strange => (b"hpx: strange parcel\n", 8),
         SessionFault::InputFull => (b"hpx: input full\n", 9),
     }
 }
@@ -88,13 +99,13 @@ fn say<E: Sink>(err: &mut E, line: &[u8])
 }
 
 /// A session over two localities, on a fabric in which nothing is in flight yet.
-#[tactic(auto, using(crate::proofs::AwayLemmas::carrying_start))]
+#[tactic(auto, using(crate::proofs::Carried::carrying_start))]
 fn serve_all<S: Source, K: Sink, F: Fabric>(
     alloc: Global,
     source: &mut S,
     sink: &mut K,
     fabric: &mut F,
-) -> (Option<World<AllActs>>, Result<(), SessionFault>)
+) -> (Option<World<ConsoleActs>>, Result<(), SessionFault>)
     requires flight { F.flight fabric.old ≡ Some [] }
     requires trace { F.trace fabric.old ≡ Some [] }
 
@@ -112,9 +123,11 @@ fn serve_all<S: Source, K: Sink, F: Fabric>(
     ensures none { result.0 ≡ None → result.1 ≡ Err SessionFault.OutOfMemory }
     ensures untouched { result.0 ≡ None → (source.new ≡ source.old) × (sink.new ≡ sink.old) × (fabric.new ≡ fabric.old) }
     ensures localities { IfSome result.0 (λ w. length w.nodes ≡ 2) }
-    ensures rest { OnOk result.1 (IfSome result.0 (λ w. IsAtRest w)) }
-    ensures legal { IfSome result.0 (λ w. IsLegalAt 2 w.journal.entries) }
-    ensures carrying { IfSome result.0 (λ w. IsCarrying w.hand (F.flight fabric.new) (F.trace fabric.new) w.journal.entries) }
+    ensures rest { OnOk result.1 (IfSome result.0 (λ w. IsRested w)) }
+    ensures promises { IfSome result.0 (λ w. KeepsPromises (rules w) w.journal.entries) }
+    ensures carrying { IfSome result.0 (λ w. IsCarrying (rules w) w.hand (F.flight fabric.new) (F.trace fabric.new) w.journal.entries) }
+    ensures no_frame { result.1 ≢ Err SessionFault.BadFrame }
+    ensures no_parcel { result.1 ≢ Err SessionFault.Strange }
 
     ensures read { result.1 ≡ Err SessionFault.Read → Rose (S.faults source.old) (S.faults source.new) }
     ensures write { result.1 ≡ Err SessionFault.Write → Rose (K.faults sink.old) (K.faults sink.new) }
@@ -126,11 +139,12 @@ fn serve_all<S: Source, K: Sink, F: Fabric>(
     ensures write_only { result.1 ≢ Err SessionFault.Write → K.faults sink.new ≡ K.faults sink.old }
     ensures fabric_only { result.1 ≢ Err SessionFault.Fabric → F.faults fabric.new ≡ F.faults fabric.old }
 {
-    let mut world = match World::boot(alloc, AllActs { localities: 2 }) {
+    let mut world = match World::boot(alloc, ConsoleActs { localities: 2 }, PROFILE) {
         Ok(world) => world,
         Err(_) => return (None, Err(SessionFault::OutOfMemory)),
     };
     let served = serve(alloc, &mut world, source, sink, fabric);
+    world.law();
     (Some(world), served)
 }
 
@@ -164,16 +178,18 @@ pub fn run<S: Source, K: Sink, E: Sink, F: Fabric>(
     ensures between_lines { (input : _) → S.left source.old ≡ Some input → (result.status ≡ 2) ⊎ (result.status ≡ 9) →
         IsBrokenOff 0 input (entries_in result.world) (K.held sink.old) (K.held sink.new) }
     ensures in_a_line { (input : _) → S.left source.old ≡ Some input → (result.status ≡ 4) ⊎ (result.status ≡ 5) →
-        IsBrokenIn input (entries_in result.world) (K.held sink.old) (K.held sink.new) }
+        IsBrokenIn input (entries_in result.world) (K.held sink.old) (K.held sink.new)
+        ⊎ IsBrokenAtOpening (entries_in result.world) (K.held sink.old) (K.held sink.new) }
 
     ensures at_most_a_line { (input : _) → S.left source.old ≡ Some input → result.status ≡ 6 →
-        IfSome result.world (λ w. IsBrokenOff 1 input w.journal.entries (K.held sink.old) (K.held sink.new)) }
+        IfSome result.world (λ w. IsBrokenOff 1 input w.journal.entries (K.held sink.old) (K.held sink.new)
+        ⊎ IsBrokenAtOpening w.journal.entries (K.held sink.old) (K.held sink.new)) }
     ensures untouched { result.world ≡ None → (source.new ≡ source.old) × (sink.new ≡ sink.old) × (result.fabric ≡ fabric) }
 
     ensures reads { (input : _) → S.left source.old ≡ Some input → IsReadFrom input (S.left source.new) (S.taken source.old) (S.taken source.new) }
     ensures limit { S.taken source.new ≤ S.taken source.old + 67108864 }
     ensures read_up { (input : _) → S.left source.old ≡ Some input → result.status ≡ 0 → IsReadUp input (S.left source.new) }
-    ensures rest { result.status ≡ 0 → IfSome result.world (λ w. IsAtRest w) }
+    ensures rest { result.status ≡ 0 → IfSome result.world (λ w. IsRested w) }
     ensures read { result.status ≡ 2 → Rose (S.faults source.old) (S.faults source.new) }
     ensures write { result.status ≡ 3 → Rose (K.faults sink.old) (K.faults sink.new) }
     ensures fabric { result.status ≡ 4 → Rose (F.faults fabric) (F.faults result.fabric) }
@@ -188,8 +204,8 @@ pub fn run<S: Source, K: Sink, E: Sink, F: Fabric>(
     ensures world { result.world ≡ None → (result.status ≡ 1) ⊎ (result.status ≡ 6) }
 
     ensures localities { IfSome result.world (λ w. length w.nodes ≡ 2) }
-    ensures legal { IfSome result.world (λ w. IsLegalAt 2 w.journal.entries) }
-    ensures carrying { IfSome result.world (λ w. IsCarrying w.hand (F.flight result.fabric) (F.trace result.fabric) w.journal.entries) }
+    ensures promises { IfSome result.world (λ w. KeepsPromises (rules w) w.journal.entries) }
+    ensures carrying { IfSome result.world (λ w. IsCarrying (rules w) w.hand (F.flight result.fabric) (F.trace result.fabric) w.journal.entries) }
 
     ensures complete { bad_word words.now ≡ None → (Rose (S.faults source.old) (S.faults source.new) → ⊥) → (Rose (K.faults sink.old) (K.faults sink.new) → ⊥) →
         (Rose (F.faults fabric) (F.faults result.fabric) → ⊥) → S.taken source.new < S.taken source.old + 67108864 →

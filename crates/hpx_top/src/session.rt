@@ -1,29 +1,34 @@
 //! A session of the console: each line that is read is fed, and what it prints is written.
-ghost use Rattle.std.specs.Prelude.{◌≡◌, ◌≢◌, ◌≤◌, ◌<◌, ◌+◌, ◌∷◌, ℕ, [], Ok, Err, Some, OnOk, OnErr, IfErr, IfSome, length, drop, true, false, slice_get};
+ghost use Rattle.std.specs.Prelude.{◌≡◌, ◌≢◌, ◌≤◌, ◌<◌, ◌+◌, ◌∷◌, ◌⊎◌, ℕ, [], Ok, Err, Some, OnOk, OnErr, IfErr, IfSome, length, drop, true, false, slice_get};
 ghost use Rattle.std.specs.List.{concat};
-ghost use Rattle.hpx_root_journal.specs.Pool.{prints_by, prints_of};
-ghost use Rattle.hpx_root_journal.specs.Weights.{HasRoom};
+ghost use Rattle.hpx_journal.specs.Pool.{prints_by, prints_of};
+ghost use Rattle.hpx_journal.specs.Weights.{HasRoom};
 ghost use Rattle.hpx_ports.specs.Faults.{Rose};
 ghost use Rattle.hpx_ports.specs.Told.{followed};
-ghost use Rattle.hpx_top.specs.Sound.{IsCarrying};
-ghost use Rattle.hpx_top.specs.PlainText.{is_long, text_of};
+ghost use Rattle.hpx_world.specs.Away.{IsCarrying};
+ghost use Rattle.hpx_world.specs.Promises.{KeepsPromises};
+ghost use Rattle.hpx_world.specs.Quiet.{IsQuiet, NoneRuns};
+ghost use Rattle.hpx_world.specs.Steps.{IsUnfed};
+ghost use Rattle.hpx_world.specs.Turns.{DidFeed};
+ghost use Rattle.hpx_world.specs.declared.turns.Turned.{Turned};
+ghost use Rattle.app_console.specs.PlainText.{is_long, opening, text_of};
 ghost use Rattle.hpx_top.specs.Reader.{HasRead, bytes_left};
-ghost use Rattle.hpx_top.specs.Session.{IsAtRest, IsLegalAt, FeedsAtMost, FeedsLine, IsLineEndedBy, WritesFront, IsServing, IsOver, IsCutBy, IsStopped};
+ghost use Rattle.hpx_top.specs.Session.{rules, IsAmple, IsRested, FeedsAtMost, Feeds, IsLineEndedBy, WritesFront, IsServing, IsOver, IsCutBy, IsStopped};
 ghost use Rattle.hpx_top.specs.Ends.{IsWhole, IsEndedBy, IsBegun, IsReadFrom, IsReadUp, IsReadOn, IsInputFull};
 
-use crate::acts::AllActs;
-use crate::acts::console::BAD_COMMAND;
-use crate::acts::lines::{COMMANDS, PROMPT, marked};
 use crate::reader::{LineReader, Next, ReadFault};
-use crate::turns::{Choice, WorldFault};
-use crate::world::World;
+use app_console::acts::ConsoleActs;
+use app_console::console::{BAD_COMMAND, COMMANDS};
+use app_console::lines::{PROMPT, marked, opening};
+use hpx_journal::entry::{Entry, Event};
+use hpx_journal::journal::Journal;
 use hpx_ports::fabric::Fabric;
 use hpx_ports::fault::Failed;
 use hpx_ports::sink::{Sink, write_all};
 use hpx_ports::source::Source;
-use hpx_root_journal::entry::{Entry, Event};
-use hpx_root_journal::journal::Journal;
 use hpx_value::items::Text;
+use hpx_world::turns::{Choice, WorldFault};
+use hpx_world::world::World;
 use std::alloc::Global;
 use thiserror::Error;
 
@@ -40,6 +45,10 @@ pub enum SessionFault {
     JournalFull,
     #[error("out of memory")]
     OutOfMemory,
+    #[error("bad frame")]
+    BadFrame,
+    #[error("strange parcel")]
+    Strange,
     #[error("input full")]
     InputFull,
 }
@@ -95,16 +104,34 @@ fn show<K: Sink>(journal: &Journal, cut: u64, sink: &mut K) -> Result<(), Sessio
 }
 
 /// What a refusal of the world is for a session.
-fn fault_of(fault: WorldFault<AllActs>) -> SessionFault
+fn fault_of(fault: WorldFault<ConsoleActs>) -> SessionFault
     ensures fabric { result ≡ SessionFault.Fabric → fault ≡ WorldFault.Fabric }
     ensures fabric_too { fault ≡ WorldFault.Fabric → result ≡ SessionFault.Fabric }
-    ensures full_too { (e w : ℕ) (u : _) → fault ≡ WorldFault.JournalFull e w u → result ≡ SessionFault.JournalFull }
     ensures full { result ≡ SessionFault.JournalFull → (e w : ℕ) × (u : _) × (fault ≡ WorldFault.JournalFull e w u) }
+    ensures full_too { (e w : ℕ) (u : _) → fault ≡ WorldFault.JournalFull e w u → result ≡ SessionFault.JournalFull }
     ensures memory { result ≡ SessionFault.OutOfMemory → (u : _) × (fault ≡ WorldFault.OutOfMemory u) }
+    ensures bad_frame { result ≡ SessionFault.BadFrame → (to : _) × (frame : _) × (at : _) × (why : _) × (fault ≡ WorldFault.BadFrame to frame at why) }
+    ensures strange { result ≡ SessionFault.Strange →
+        ((to : _) × (frame : _) × (rule : _) × (object : _) × (kept : _) × (fault ≡ WorldFault.Strange to frame rule object kept))
+        ⊎ ((sent : _) × (taken : _) × (fault ≡ WorldFault.EarlyEnd sent taken)) }
     ensures other { (result ≢ SessionFault.Read) × (result ≢ SessionFault.Write) × (result ≢ SessionFault.InputFull) }
 {
     match fault {
         WorldFault::Fabric => SessionFault::Fabric,
+        WorldFault::BadFrame {
+            to: _,
+            frame: _,
+            at: _,
+            why: _,
+        } => SessionFault::BadFrame,
+        WorldFault::Strange {
+            to: _,
+            frame: _,
+            rule: _,
+            object: _,
+            kept: _,
+        } => SessionFault::Strange,
+        WorldFault::EarlyEnd { sent: _, taken: _ } => SessionFault::Strange,
         WorldFault::JournalFull {
             entries: _,
             weight: _,
@@ -114,81 +141,165 @@ fn fault_of(fault: WorldFault<AllActs>) -> SessionFault
     }
 }
 
-/// Feeds a line, and lets the world come to rest.
-fn feed<F: Fabric>(
+/// Has a text fed. At a refusal the journal stays.
+fn begin<F: Fabric>(
     alloc: Global,
-    world: &mut World<AllActs>,
-    line: &Text,
+    world: &mut World<ConsoleActs>,
+    text: Text,
     fabric: &mut F,
 ) -> Result<(), SessionFault>
-    requires short { is_long line.now ≡ false }
-    requires rest { IsAtRest world.old }
-    requires legal { IsLegalAt (length world.old.nodes) world.old.journal.entries }
-    requires carrying { IsCarrying world.old.hand (F.flight fabric.old) (F.trace fabric.old) world.old.journal.entries }
+    requires short { length text ≤ 1025 }
+    requires carrying { IsCarrying (rules world.old) world.old.hand (F.flight fabric.old) (F.trace fabric.old) world.old.journal.entries }
 
-    ensures legal { IsLegalAt (length world.new.nodes) world.new.journal.entries }
-    ensures carrying { IsCarrying world.new.hand (F.flight fabric.new) (F.trace fabric.new) world.new.journal.entries }
+    ensures carrying { IsCarrying (rules world.new) world.new.hand (F.flight fabric.new) (F.trace fabric.new) world.new.journal.entries }
     ensures count { length world.new.nodes ≡ length world.old.nodes }
-    ensures fed { OnOk result (FeedsLine (length world.new.nodes) line.now world.old.journal.entries world.new.journal.entries) }
-    ensures rest { OnOk result (IsAtRest world.new) }
-    ensures once { FeedsAtMost (97 ∷ line.now) world.old.journal.entries world.new.journal.entries }
+    ensures profile { world.new.profile ≡ world.old.profile }
+    ensures fed { OnOk result ((turned : Turned) × DidFeed text turned world.old.nodes world.new.nodes world.old.journal.entries world.new.journal.entries) }
+    ensures same { OnErr result (world.new.journal.entries ≡ world.old.journal.entries) }
+    ensures apart { fabric.new ≡ fabric.old }
+
+    ensures full { result ≡ Err SessionFault.JournalFull → HasRoom world.new.journal.entries → ⊥ }
+    ensures fabric { result ≡ Err SessionFault.Fabric → Rose (F.faults fabric.old) (F.faults fabric.new) }
+    ensures room { result ≢ Err SessionFault.JournalFull → HasRoom world.old.journal.entries }
+    ensures cause { IfErr result (λ fault. (fault ≡ SessionFault.Fabric) ⊎ (fault ≡ SessionFault.JournalFull) ⊎ (fault ≡ SessionFault.OutOfMemory)) }
+{
+    match world.turn(alloc, Choice::Feed(text), fabric) {
+        Ok(_) => Ok(()),
+        Err(fault) => Err(fault_of(fault)),
+    }
+}
+
+/// Lets the world come to rest. The fabric tells: no frame without a parcel comes, and none that breaks a rule.
+fn settle<F: Fabric>(
+    alloc: Global,
+    world: &mut World<ConsoleActs>,
+    fabric: &mut F,
+) -> Result<(), SessionFault>
+    requires carrying { IsCarrying (rules world.old) world.old.hand (F.flight fabric.old) (F.trace fabric.old) world.old.journal.entries }
+
+    ensures carrying { IsCarrying (rules world.new) world.new.hand (F.flight fabric.new) (F.trace fabric.new) world.new.journal.entries }
+    ensures count { length world.new.nodes ≡ length world.old.nodes }
+    ensures profile { world.new.profile ≡ world.old.profile }
+    ensures unfed { IsUnfed world.old.journal.entries world.new.journal.entries }
+    ensures promises { KeepsPromises (rules world.new) world.new.journal.entries }
+    ensures rest { NoneRuns world.old.nodes → OnOk result (IsRested world.new) }
 
     ensures fabric { result ≡ Err SessionFault.Fabric → Rose (F.faults fabric.old) (F.faults fabric.new) }
     ensures full { result ≡ Err SessionFault.JournalFull → HasRoom world.new.journal.entries → ⊥ }
     ensures room { result ≢ Err SessionFault.JournalFull → result ≢ Err SessionFault.OutOfMemory → HasRoom world.new.journal.entries }
-    ensures other { (result ≢ Err SessionFault.Read) × (result ≢ Err SessionFault.Write) × (result ≢ Err SessionFault.InputFull) }
+    ensures cause { IfErr result (λ fault. (fault ≡ SessionFault.Fabric) ⊎ (fault ≡ SessionFault.JournalFull) ⊎ (fault ≡ SessionFault.OutOfMemory)) }
     ensures stands { result ≢ Err SessionFault.Fabric → F.faults fabric.new ≡ F.faults fabric.old }
 {
-    let marked = match marked(alloc, line.as_slice()) {
-        Ok(marked) => marked,
-        Err(_) => return Err(SessionFault::OutOfMemory),
-    };
-    if let Err(fault) = world.turn(alloc, Choice::Feed(marked), fabric) {
-        return Err(fault_of(fault));
-    }
     match world.drain(alloc, fabric) {
         Ok(()) => Ok(()),
         Err(fault) => Err(fault_of(fault)),
     }
 }
 
+/// Feeds a text, and lets the world come to rest.
+fn feed<F: Fabric>(
+    alloc: Global,
+    world: &mut World<ConsoleActs>,
+    text: Text,
+    fabric: &mut F,
+) -> Result<(), SessionFault>
+    requires short { length text ≤ 1025 }
+    requires ample { IsAmple world.old.profile }
+    requires quiet { IsQuiet world.old.nodes world.old.hand }
+    requires carrying { IsCarrying (rules world.old) world.old.hand (F.flight fabric.old) (F.trace fabric.old) world.old.journal.entries }
+
+    ensures carrying { IsCarrying (rules world.new) world.new.hand (F.flight fabric.new) (F.trace fabric.new) world.new.journal.entries }
+    ensures count { length world.new.nodes ≡ length world.old.nodes }
+    ensures profile { world.new.profile ≡ world.old.profile }
+    ensures fed { OnOk result (Feeds (rules world.old) text world.old.journal.entries world.new.journal.entries) }
+    ensures rest { OnOk result (IsRested world.new) }
+    ensures once { FeedsAtMost text world.old.journal.entries world.new.journal.entries }
+
+    ensures fabric { result ≡ Err SessionFault.Fabric → Rose (F.faults fabric.old) (F.faults fabric.new) }
+    ensures full { result ≡ Err SessionFault.JournalFull → HasRoom world.new.journal.entries → ⊥ }
+    ensures room { result ≢ Err SessionFault.JournalFull → result ≢ Err SessionFault.OutOfMemory → HasRoom world.new.journal.entries }
+    ensures other { (result ≢ Err SessionFault.Read) × (result ≢ Err SessionFault.Write) × (result ≢ Err SessionFault.InputFull) }
+    ensures no_frame { result ≢ Err SessionFault.BadFrame }
+    ensures no_parcel { result ≢ Err SessionFault.Strange }
+    ensures stands { result ≢ Err SessionFault.Fabric → F.faults fabric.new ≡ F.faults fabric.old }
+{
+    begin(alloc, world, text, fabric)?;
+    settle(alloc, world, fabric)
+}
+
+/// Has the accumulator made.
+fn open<F: Fabric>(
+    alloc: Global,
+    world: &mut World<ConsoleActs>,
+    fabric: &mut F,
+) -> Result<(), SessionFault>
+    requires ample { IsAmple world.old.profile }
+    requires quiet { IsQuiet world.old.nodes world.old.hand }
+    requires carrying { IsCarrying (rules world.old) world.old.hand (F.flight fabric.old) (F.trace fabric.old) world.old.journal.entries }
+
+    ensures carrying { IsCarrying (rules world.new) world.new.hand (F.flight fabric.new) (F.trace fabric.new) world.new.journal.entries }
+    ensures count { length world.new.nodes ≡ length world.old.nodes }
+    ensures profile { world.new.profile ≡ world.old.profile }
+    ensures fed { OnOk result (Feeds (rules world.old) opening world.old.journal.entries world.new.journal.entries) }
+    ensures rest { OnOk result (IsRested world.new) }
+    ensures once { FeedsAtMost opening world.old.journal.entries world.new.journal.entries }
+
+    ensures fabric { result ≡ Err SessionFault.Fabric → Rose (F.faults fabric.old) (F.faults fabric.new) }
+    ensures full { result ≡ Err SessionFault.JournalFull → HasRoom world.new.journal.entries → ⊥ }
+    ensures room { result ≢ Err SessionFault.JournalFull → result ≢ Err SessionFault.OutOfMemory → HasRoom world.new.journal.entries }
+    ensures other { (result ≢ Err SessionFault.Read) × (result ≢ Err SessionFault.Write) × (result ≢ Err SessionFault.InputFull) }
+    ensures no_frame { result ≢ Err SessionFault.BadFrame }
+    ensures no_parcel { result ≢ Err SessionFault.Strange }
+    ensures stands { result ≢ Err SessionFault.Fabric → F.faults fabric.new ≡ F.faults fabric.old }
+{
+    match opening(alloc) {
+        Ok(text) => feed(alloc, world, text, fabric),
+        Err(_) => Err(SessionFault::OutOfMemory),
+    }
+}
+
 /// Feeds a line, and writes what it prints.
 fn serve_text<K: Sink, F: Fabric>(
     alloc: Global,
-    world: &mut World<AllActs>,
+    world: &mut World<ConsoleActs>,
     line: &Text,
     sink: &mut K,
     fabric: &mut F,
 ) -> Result<(), SessionFault>
     requires short { is_long line.now ≡ false }
-    requires rest { IsAtRest world.old }
-    requires legal { IsLegalAt (length world.old.nodes) world.old.journal.entries }
-    requires carrying { IsCarrying world.old.hand (F.flight fabric.old) (F.trace fabric.old) world.old.journal.entries }
+    requires ample { IsAmple world.old.profile }
+    requires rest { IsRested world.old }
+    requires carrying { IsCarrying (rules world.old) world.old.hand (F.flight fabric.old) (F.trace fabric.old) world.old.journal.entries }
 
-    ensures legal { IsLegalAt (length world.new.nodes) world.new.journal.entries }
-    ensures carrying { IsCarrying world.new.hand (F.flight fabric.new) (F.trace fabric.new) world.new.journal.entries }
+    ensures carrying { IsCarrying (rules world.new) world.new.hand (F.flight fabric.new) (F.trace fabric.new) world.new.journal.entries }
     ensures count { length world.new.nodes ≡ length world.old.nodes }
-    ensures fed { OnOk result (FeedsLine (length world.new.nodes) line.now world.old.journal.entries world.new.journal.entries) }
-    ensures rest { OnOk result (IsAtRest world.new) }
+    ensures profile { world.new.profile ≡ world.old.profile }
+    ensures fed { OnOk result (Feeds (rules world.old) (97 ∷ line.now) world.old.journal.entries world.new.journal.entries) }
+    ensures rest { OnOk result (IsRested world.new) }
     ensures held { OnOk result (K.held sink.new ≡ followed (K.held sink.old) (concat (prints_of (drop (length world.old.journal.entries) world.new.journal.entries)))) }
-    ensures err { IfErr result (λ fault. IsLineEndedBy fault (length world.new.nodes) line.now world.old.journal.entries world.new.journal.entries (K.held sink.old) (K.held sink.new)) }
+    ensures err { IfErr result (λ fault. IsLineEndedBy fault (rules world.old) line.now world.old.journal.entries world.new.journal.entries (K.held sink.old) (K.held sink.new)) }
 
     ensures write { result ≡ Err SessionFault.Write → Rose (K.faults sink.old) (K.faults sink.new) }
     ensures fabric { result ≡ Err SessionFault.Fabric → Rose (F.faults fabric.old) (F.faults fabric.new) }
     ensures full { result ≡ Err SessionFault.JournalFull → HasRoom world.new.journal.entries → ⊥ }
     ensures room { result ≢ Err SessionFault.JournalFull → result ≢ Err SessionFault.OutOfMemory → HasRoom world.new.journal.entries }
+    ensures no_frame { result ≢ Err SessionFault.BadFrame }
+    ensures no_parcel { result ≢ Err SessionFault.Strange }
     ensures write_only { result ≢ Err SessionFault.Write → K.faults sink.new ≡ K.faults sink.old }
     ensures fabric_only { result ≢ Err SessionFault.Fabric → F.faults fabric.new ≡ F.faults fabric.old }
 {
     let cut = world.journal().entries();
-    feed(alloc, world, line, fabric)?;
+    let Ok(text) = marked(alloc, line.as_slice()) else {
+        return Err(SessionFault::OutOfMemory);
+    };
+    feed(alloc, world, text, fabric)?;
     show(world.journal(), cut, sink)
 }
 
 /// One line: a prompt, and what the line prints. False where the lines end.
 fn serve_line<S: Source, K: Sink, F: Fabric>(
     alloc: Global,
-    world: &mut World<AllActs>,
+    world: &mut World<ConsoleActs>,
     reader: &mut LineReader,
     source: &mut S,
     sink: &mut K,
@@ -196,33 +307,33 @@ fn serve_line<S: Source, K: Sink, F: Fabric>(
 ) -> Result<bool, SessionFault>
     requires some { 1 ≤ length world.old.nodes }
     requires few { length world.old.nodes ≤ 64 }
-    requires rest { IsAtRest world.old }
-    requires legal { IsLegalAt (length world.old.nodes) world.old.journal.entries }
-    requires carrying { IsCarrying world.old.hand (F.flight fabric.old) (F.trace fabric.old) world.old.journal.entries }
+    requires ample { IsAmple world.old.profile }
+    requires rest { IsRested world.old }
+    requires carrying { IsCarrying (rules world.old) world.old.hand (F.flight fabric.old) (F.trace fabric.old) world.old.journal.entries }
 
     ensures line { result ≡ Ok true → (all : _) (before : _) →
-        IsServing (length world.old.nodes) all before reader.old (S.left source.old) world.old.journal.entries (K.held sink.old) →
-        IsServing (length world.old.nodes) all before reader.new (S.left source.new) world.new.journal.entries (K.held sink.new) }
+        IsServing (rules world.old) all before reader.old (S.left source.old) world.old.journal.entries (K.held sink.old) →
+        IsServing (rules world.old) all before reader.new (S.left source.new) world.new.journal.entries (K.held sink.new) }
     ensures over { result ≡ Ok false → (all : _) (before : _) →
-        IsServing (length world.old.nodes) all before reader.old (S.left source.old) world.old.journal.entries (K.held sink.old) →
+        IsServing (rules world.old) all before reader.old (S.left source.old) world.old.journal.entries (K.held sink.old) →
         IsOver reader.new.ended all before world.new.journal.entries (K.held sink.new) }
     ensures err { IfErr result (λ fault. (all : _) (before : _) →
-        IsServing (length world.old.nodes) all before reader.old (S.left source.old) world.old.journal.entries (K.held sink.old) →
+        IsServing (rules world.old) all before reader.old (S.left source.old) world.old.journal.entries (K.held sink.old) →
         IsCutBy fault all before world.new.journal.entries (K.held sink.new)) }
     ensures input { result ≡ Err SessionFault.InputFull → (all : _) (before : _) →
-        IsServing (length world.old.nodes) all before reader.old (S.left source.old) world.old.journal.entries (K.held sink.old) →
+        IsServing (rules world.old) all before reader.old (S.left source.old) world.old.journal.entries (K.held sink.old) →
         IsStopped all reader.new (S.left source.new) }
     ensures read_on { result ≡ Err SessionFault.Read → (all : _) (before : _) →
-        IsServing (length world.old.nodes) all before reader.old (S.left source.old) world.old.journal.entries (K.held sink.old) →
+        IsServing (rules world.old) all before reader.old (S.left source.old) world.old.journal.entries (K.held sink.old) →
         IsStopped all reader.new (S.left source.new) }
     ensures reads { (all : _) → HasRead all reader.old (S.left source.old) → HasRead all reader.new (S.left source.new) }
     ensures counted { reader.new.read + S.taken source.old ≡ reader.old.read + S.taken source.new }
     ensures limit { reader.old.read ≤ 67108864 → reader.new.read ≤ 67108864 }
 
-    ensures rest { OnOk result (IsAtRest world.new) }
-    ensures legal { IsLegalAt (length world.new.nodes) world.new.journal.entries }
-    ensures carrying { IsCarrying world.new.hand (F.flight fabric.new) (F.trace fabric.new) world.new.journal.entries }
+    ensures rest { OnOk result (IsRested world.new) }
+    ensures carrying { IsCarrying (rules world.new) world.new.hand (F.flight fabric.new) (F.trace fabric.new) world.new.journal.entries }
     ensures count { length world.new.nodes ≡ length world.old.nodes }
+    ensures profile { world.new.profile ≡ world.old.profile }
     ensures fewer { result ≡ Ok true → bytes_left reader.new < bytes_left reader.old }
 
     ensures read { result ≡ Err SessionFault.Read → Rose (S.faults source.old) (S.faults source.new) }
@@ -232,6 +343,8 @@ fn serve_line<S: Source, K: Sink, F: Fabric>(
     ensures room { HasRoom world.old.journal.entries → result ≢ Err SessionFault.JournalFull → result ≢ Err SessionFault.OutOfMemory → HasRoom world.new.journal.entries }
     ensures full_input { result ≡ Err SessionFault.InputFull → reader.new.read ≡ 67108864 }
     ensures read_only { result ≢ Err SessionFault.Read → S.faults source.new ≡ S.faults source.old }
+    ensures no_frame { result ≢ Err SessionFault.BadFrame }
+    ensures no_parcel { result ≢ Err SessionFault.Strange }
     ensures write_only { result ≢ Err SessionFault.Write → K.faults sink.new ≡ K.faults sink.old }
     ensures fabric_only { result ≢ Err SessionFault.Fabric → F.faults fabric.new ≡ F.faults fabric.old }
 {
@@ -253,10 +366,10 @@ fn serve_line<S: Source, K: Sink, F: Fabric>(
     }
 }
 
-/// A session, from the first text to the last prompt.
+/// A session, from the first text to the last prompt. Its world is at boot, and no ask for credit is ever refused there.
 pub fn serve<S: Source, K: Sink, F: Fabric>(
     alloc: Global,
-    world: &mut World<AllActs>,
+    world: &mut World<ConsoleActs>,
     source: &mut S,
     sink: &mut K,
     fabric: &mut F,
@@ -264,8 +377,9 @@ pub fn serve<S: Source, K: Sink, F: Fabric>(
     requires some { 1 ≤ length world.old.nodes }
     requires few { length world.old.nodes ≤ 64 }
     requires empty { world.old.journal.entries ≡ [] }
-    requires rest { IsAtRest world.old }
-    requires carrying { IsCarrying world.old.hand (F.flight fabric.old) (F.trace fabric.old) world.old.journal.entries }
+    requires ample { IsAmple world.old.profile }
+    requires quiet { IsQuiet world.old.nodes world.old.hand }
+    requires carrying { IsCarrying (rules world.old) world.old.hand (F.flight fabric.old) (F.trace fabric.old) world.old.journal.entries }
 
     ensures whole { (input : _) → S.left source.old ≡ Some input → OnOk result (IsWhole input world.new.journal.entries (K.held sink.old) (K.held sink.new)) }
     ensures reads { (input : _) → S.left source.old ≡ Some input → IsReadFrom input (S.left source.new) (S.taken source.old) (S.taken source.new) }
@@ -278,10 +392,10 @@ pub fn serve<S: Source, K: Sink, F: Fabric>(
     ensures read_on { (input : _) → S.left source.old ≡ Some input → result ≡ Err SessionFault.Read → (n : ℕ) × IsReadOn n input (S.left source.new) }
     ensures taken { result ≡ Err SessionFault.InputFull → S.taken source.new ≡ S.taken source.old + 67108864 }
 
-    ensures rest { OnOk result (IsAtRest world.new) }
-    ensures legal { IsLegalAt (length world.new.nodes) world.new.journal.entries }
-    ensures carrying { IsCarrying world.new.hand (F.flight fabric.new) (F.trace fabric.new) world.new.journal.entries }
+    ensures rest { OnOk result (IsRested world.new) }
+    ensures carrying { IsCarrying (rules world.new) world.new.hand (F.flight fabric.new) (F.trace fabric.new) world.new.journal.entries }
     ensures count { length world.new.nodes ≡ length world.old.nodes }
+    ensures profile { world.new.profile ≡ world.old.profile }
 
     ensures read { result ≡ Err SessionFault.Read → Rose (S.faults source.old) (S.faults source.new) }
     ensures write { result ≡ Err SessionFault.Write → Rose (K.faults sink.old) (K.faults sink.new) }
@@ -289,10 +403,13 @@ pub fn serve<S: Source, K: Sink, F: Fabric>(
     ensures full { result ≡ Err SessionFault.JournalFull → HasRoom world.new.journal.entries → ⊥ }
     ensures room { result ≢ Err SessionFault.JournalFull → result ≢ Err SessionFault.OutOfMemory → HasRoom world.new.journal.entries }
     ensures read_only { result ≢ Err SessionFault.Read → S.faults source.new ≡ S.faults source.old }
+    ensures no_frame { result ≢ Err SessionFault.BadFrame }
+    ensures no_parcel { result ≢ Err SessionFault.Strange }
     ensures write_only { result ≢ Err SessionFault.Write → K.faults sink.new ≡ K.faults sink.old }
     ensures fabric_only { result ≢ Err SessionFault.Fabric → F.faults fabric.new ≡ F.faults fabric.old }
 {
     write(sink, COMMANDS)?;
+    open(alloc, world, fabric)?;
     let mut reader = LineReader::new(alloc);
     while serve_line(alloc, world, &mut reader, source, sink, fabric)? {}
     Ok(())

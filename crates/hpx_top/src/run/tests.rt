@@ -1,9 +1,11 @@
-use crate::run::{End, run};
+use crate::run::{End, PROFILE, run};
 use hpx_ports::fabric::{Fabric, Wire};
 use hpx_ports::memory_fabric::{MemFabric, SureFabric};
 use hpx_ports::memory_sink::{MemSink, SureSink};
 use hpx_ports::memory_source::{MemSource, SureSource};
 use hpx_ports::order::Order;
+use hpx_replay::replay::replay;
+use hpx_value::gid::Gid;
 use hpx_value::items::{Bytes, Items, Lengths, Text, Texts};
 use std::alloc::{AllocError, Global};
 use std::test::Fail;
@@ -12,10 +14,14 @@ const WORDS: [&[u8]; 2] = [b"accumulator", b"--hpx:localities=2"];
 
 const ORDERS: [Order; 3] = [Order::FirstIn, Order::LastIn, Order::Scrambled(7)];
 
-// The first frame of `add 5`, in hexadecimal digits.
-const FIRST_FRAME: &[u8] =
-    b"010100000000000000000002000000020000000d0000000000000001001000010200000000000000050100000001000000030000000000000001\
-00000000";
+// The frame that asks for the accumulator, and that of `add 5`, in hexadecimal digits.
+const NEW_FRAME: &[u8] =
+    b"010100000000000000000002000000020000000700000000000000010005000103000b616363756d756c61746f7201000000\
+0100000003000000000000000100000000";
+
+const ADD_FRAME: &[u8] =
+    b"010100000000000000000004000000025e000021000000000000000100100001020000000000000005010000000100000003\
+000000000000000100000001";
 
 fn bytes(alloc: Global, text: &[u8]) -> Result<Bytes, AllocError> {
     Ok(Bytes::from_vec(Vec::from_slice(alloc, text)?))
@@ -102,6 +108,18 @@ fn sessions_print_what_one_number_says(rt: HostRuntime) -> Result<(), Fail> {
     Ok(())
 }
 
+// The frame that an event of a trace sent, from locality 0 to 1, in hexadecimal digits.
+fn sent_over(alloc: Global, wire: &Wire) -> Result<Vec<u8>, AllocError> {
+    match wire {
+        Wire::Sent {
+            from: 0,
+            to: 1,
+            bytes,
+        } => hexadecimal(alloc, bytes.as_slice()),
+        _ => Ok(Vec::new(alloc)),
+    }
+}
+
 #[test]
 fn each_command_crosses_the_fabric(rt: HostRuntime) -> Result<(), Fail> {
     let alloc = rt.alloc();
@@ -118,33 +136,180 @@ fn each_command_crosses_the_fabric(rt: HostRuntime) -> Result<(), Fail> {
         fabric,
     );
     assert_eq!(rt; end.fabric.in_flight(), 0);
-    assert_eq!(rt; end.fabric.trace().len(), 8);
-    match end.fabric.trace().first() {
-        Some(Wire::Sent { from, to, bytes }) => {
-            assert_eq!(rt; (*from, *to), (0, 1));
-            assert_eq!(rt; bytes.len(), 62);
-            assert_eq!(rt;
-                hexadecimal(alloc, bytes.as_slice())?.as_slice(),
-                FIRST_FRAME
-            );
-        }
-        _ => assert_eq!(rt; true, false),
+    let trace = end.fabric.trace();
+    assert_eq!(rt; trace.len(), 12);
+    for (i, want) in [(0usize, NEW_FRAME), (4, ADD_FRAME)] {
+        let frame = match trace.get(i) {
+            Some(wire) => sent_over(alloc, wire)?,
+            None => Vec::new(alloc),
+        };
+        assert_eq!(rt; frame.as_slice(), want);
     }
     Ok(())
 }
 
+// Counted by hand. `open`: Line, Fire, Done, Sent and Out at 0; In, Fire, Born, Done, Sent and Out at 1; In, Fire and Done at
+// 0. `add 5`: the same without Born, and a Split at 0, and an Up at 1, with the Mail and the Count of the id that is given up.
+// `query` has a Print more.
 #[test]
 fn each_session_has_its_entries_and_frames(rt: HostRuntime) -> Result<(), Fail> {
     let alloc = rt.alloc();
     for order in ORDERS {
         for (input, entries, frames) in [
-            (b"add 5\nquery\nquit\n".as_slice(), 27, 4),
-            (b"add 5\n", 13, 2),
-            (b"query\n", 14, 2),
-            (b"add x\n", 4, 0),
-            (b"", 0, 0),
+            (b"add 5\nquery\nquit\n".as_slice(), 14 + 17 + 18, 6),
+            (b"add 5\n", 14 + 17, 4),
+            (b"query\n", 14 + 18, 4),
+            (b"add x\n", 14 + 4, 2),
+            (b"", 14, 2),
         ] {
             assert_eq!(rt; session(alloc, input, order)?.2, (entries, frames));
+        }
+    }
+    Ok(())
+}
+
+// What the audit says of a session of so many lines `add 1`: the object's number, and the three credits and the place.
+fn audited(alloc: Global, lines: u32) -> Result<(Gid, [u128; 3], u32), Fail> {
+    let mut input = Vec::new(alloc);
+    for _ in 0..lines {
+        input.extend_from_slice(b"add 1\n")?;
+    }
+    let mut source = SureSource::new(Bytes::from_vec(input));
+    let mut sink = SureSink::new(alloc);
+    let mut err = SureSink::new(alloc);
+    let fabric = SureFabric::new(alloc, Order::FirstIn);
+    let end = run(
+        alloc,
+        &words(alloc, &WORDS)?,
+        &mut source,
+        &mut sink,
+        &mut err,
+        fabric,
+    );
+    let none = (Gid::new(1, 1, 1), [0; 3], 0);
+    let Some(world) = &end.world else {
+        return Ok(none);
+    };
+    let Ok(lines) = world.audit(alloc) else {
+        return Ok(none);
+    };
+    match lines.as_slice() {
+        [line] => Ok((line.gid, [line.recorded, line.held, line.flight], line.at)),
+        _ => Ok(none),
+    }
+}
+
+// Each line halves the credit of the session's id, and half of it goes home again. The 32nd asks for more.
+#[test]
+fn the_audit_tells_the_credit_of_the_accumulator(rt: HostRuntime) -> Result<(), Fail> {
+    let alloc = rt.alloc();
+    let accumulator = Gid::new(1, 16, 1);
+    for (lines, credit) in [
+        (0u32, 2_147_483_648u128),
+        (1, 1_073_741_824),
+        (31, 1),
+        (32, 1_073_741_824),
+    ] {
+        assert_eq!(rt;
+            audited(alloc, lines)?,
+            (accumulator, [credit, credit, 0], 1)
+        );
+    }
+    Ok(())
+}
+
+// The text of one number, as the test itself makes it.
+#[derive(Drop)]
+struct Plain {
+    number: i64,
+    text: Vec<u8>,
+}
+
+impl Plain {
+    fn line(&mut self, alloc: Global, line: &[u8], amount: i64) -> Result<(), AllocError> {
+        self.text.extend_from_slice(b"> ")?;
+        match line {
+            b"query" => {
+                let number = self.number;
+                self.text
+                    .extend_from_slice(format!(in alloc; "{number}\n")?.as_bytes())?;
+            }
+            b"reset" => self.number = 0,
+            b"help" => self
+                .text
+                .extend_from_slice(b"commands: reset, add [amount], query, help, quit\n")?,
+            b"sum" => self.text.extend_from_slice(b"error: bad command\n")?,
+            _ => match self.number.checked_add(amount) {
+                Some(sum) => self.number = sum,
+                None => self.text.extend_from_slice(b"error: overflow\n")?,
+            },
+        }
+        Ok(())
+    }
+}
+
+// A session made from a number: its input, and its text.
+fn generated(alloc: Global, start: u64) -> Result<(Vec<u8>, Vec<u8>), AllocError> {
+    let mut x = start;
+    let mut input = Vec::new(alloc);
+    let mut plain = Plain {
+        number: 0,
+        text: Vec::from_slice(alloc, b"commands: reset, add [amount], query, help, quit\n")?,
+    };
+    for _ in 0..start % 7 {
+        x = x.wrapping_mul(1_103_515_245).wrapping_add(12_345) % 2_147_483_648;
+        let kind = (x / 65_536) % 8;
+        let amount = if kind == 7 {
+            i64::MAX
+        } else {
+            (x % 1000) as i64
+        };
+        let word: &[u8] = match kind {
+            0 => b"query",
+            1 => b"reset",
+            2 => b"help",
+            3 => b"sum",
+            _ => b"add",
+        };
+        input.extend_from_slice(word)?;
+        if kind > 3 {
+            input.extend_from_slice(format!(in alloc; " {amount}")?.as_bytes())?;
+        }
+        input.push(b'\n')?;
+        plain.line(alloc, word, amount)?;
+    }
+    plain.text.extend_from_slice(b"> ")?;
+    Ok((input, plain.text))
+}
+
+#[test]
+fn three_hundred_sessions_have_the_plain_text_and_a_legal_journal(
+    rt: HostRuntime,
+) -> Result<(), Fail> {
+    let alloc = rt.alloc();
+    for order in ORDERS {
+        for start in 1..101u64 {
+            let (input, text) = generated(alloc, start)?;
+            let mut source = SureSource::new(Bytes::from_vec(input));
+            let mut sink = SureSink::new(alloc);
+            let mut err = SureSink::new(alloc);
+            let end = run(
+                alloc,
+                &words(alloc, &WORDS)?,
+                &mut source,
+                &mut sink,
+                &mut err,
+                SureFabric::new(alloc, order),
+            );
+            assert_eq!(rt; end.status, 0);
+            assert_eq!(rt; sink.bytes(), text.as_slice());
+            match &end.world {
+                Some(world) => {
+                    let judged = replay(alloc, world.acts(), 2, PROFILE, world.journal());
+                    assert!(rt; judged.is_ok());
+                }
+                None => assert!(rt; false),
+            }
         }
     }
     Ok(())
@@ -159,7 +324,7 @@ fn long_lines_are_not_fed(rt: HostRuntime) -> Result<(), Fail> {
     }
     let (status, text, counts) = session(alloc, input.as_slice(), Order::FirstIn)?;
     assert_eq!(rt; status, 0);
-    assert_eq!(rt; counts, (0, 0));
+    assert_eq!(rt; counts, (14, 2));
     let want: &[u8] = b"commands: reset, add [amount], query, help, quit\n> error: bad command\n> ";
     assert_eq!(rt; text.as_slice(), want);
     Ok(())
@@ -194,6 +359,8 @@ fn failing(
 }
 
 const WHOLE: &[u8] = b"commands: reset, add [amount], query, help, quit\n> > 5\n> ";
+
+const AT_OPENING: &[u8] = b"commands: reset, add [amount], query, help, quit\n";
 
 const AT_FIRST_LINE: &[u8] = b"commands: reset, add [amount], query, help, quit\n> ";
 
@@ -249,17 +416,19 @@ fn each_send_may_fail(rt: HostRuntime) -> Result<(), Fail> {
     let alloc = rt.alloc();
     for order in ORDERS {
         for (n, want) in [
-            (1, AT_FIRST_LINE),
-            (2, AT_FIRST_LINE),
-            (3, AT_SECOND_LINE),
-            (4, AT_SECOND_LINE),
+            (1, AT_OPENING),
+            (2, AT_OPENING),
+            (3, AT_FIRST_LINE),
+            (4, AT_FIRST_LINE),
+            (5, AT_SECOND_LINE),
+            (6, AT_SECOND_LINE),
         ] {
             let (status, text, line) = failing(alloc, order, &[], &[], &[n], &[])?;
             assert_eq!(rt; status, 4);
             assert_eq!(rt; text.as_slice(), want);
             assert_eq!(rt; line.as_slice(), b"hpx: fabric failed\n".as_slice());
         }
-        let (status, text, line) = failing(alloc, order, &[], &[], &[5], &[])?;
+        let (status, text, line) = failing(alloc, order, &[], &[], &[7], &[])?;
         assert_eq!(rt; status, 0);
         assert_eq!(rt; text.as_slice(), WHOLE);
         assert_eq!(rt; line.as_slice(), b"".as_slice());
@@ -282,10 +451,14 @@ fn each_delivery_may_fail(rt: HostRuntime) -> Result<(), Fail> {
             }
             failed = n;
             assert_eq!(rt; status, 4);
-            assert!(rt; text.as_slice() == AT_FIRST_LINE || text.as_slice() == AT_SECOND_LINE);
+            assert!(rt;
+                text.as_slice() == AT_OPENING
+                    || text.as_slice() == AT_FIRST_LINE
+                    || text.as_slice() == AT_SECOND_LINE
+            );
             assert_eq!(rt; line.as_slice(), b"hpx: fabric failed\n".as_slice());
         }
-        assert!(rt; failed >= 4);
+        assert!(rt; failed >= 6);
         assert!(rt; failed < 99);
     }
     Ok(())
@@ -346,9 +519,10 @@ fn other_words_are_refused(rt: HostRuntime) -> Result<(), Fail> {
     Ok(())
 }
 
-// Counted by hand for one line `add 1`: Line, Fire, Done, Sent, Out and In at locality 0 and 1, Fire, Done, Sent, Out, In,
-// Fire and Done are 13 entries. They weigh 13 * 64 and the bytes in them: 6 of the line, and twice those of the two frames,
-// which are 62 and 43.
+// Counted by hand: 14 entries and 2 frames of the opening, and 17 and 2 a line. The 32nd line and each 31st behind it, 64 of
+// them, ask for credit: Asked, Out, In, Count, Out, In and Given, and two frames. They weigh 64 each and the bytes in them: 5 of
+// the opening and 17 of the accumulator's state, 6 of each line, and twice those of the frames: 67 and 59 at the opening, 62 and
+// 43 for each line, 28 and 26 for each ask.
 #[test]
 fn two_thousand_lines_are_two_thousand_times_one(rt: HostRuntime) -> Result<(), Fail> {
     let alloc = rt.alloc();
@@ -369,15 +543,19 @@ fn two_thousand_lines_are_two_thousand_times_one(rt: HostRuntime) -> Result<(), 
     );
     assert_eq!(rt; end.status, 0);
     assert_eq!(rt; end.fabric.in_flight(), 0);
-    assert_eq!(rt; end.fabric.trace().len(), 2000 * 4);
+    assert_eq!(rt; end.fabric.trace().len(), 4 + 2000 * 4 + 64 * 4);
     // The commands line has 49 bytes, and there are 2,001 prompts.
     assert_eq!(rt; sink.bytes().len(), 49 + 2001 * 2);
     match &end.world {
         Some(world) => {
-            assert_eq!(rt; world.journal().entries(), 2000 * 13);
+            let entries = 14 + 2000 * 17 + 64 * 7;
+            assert_eq!(rt; world.journal().entries(), entries);
             assert_eq!(rt;
                 world.journal().weight(),
-                2000 * (13 * 64 + 6 + 2 * 62 + 2 * 43)
+                64 * entries
+                    + (5 + 17 + 2 * 67 + 2 * 59)
+                    + 2000 * (6 + 2 * 62 + 2 * 43)
+                    + 64 * (2 * 28 + 2 * 26)
             );
         }
         None => assert_eq!(rt; true, false),

@@ -1,40 +1,32 @@
-use Rattle.std.proofs.Common.{◌≡◌, refl, ap, ◌∙◌, inr, ◌∷◌}
-use Rattle.hpx_top.specs.Sound.{NoneRuns}
-use Rattle.hpx_top.proofs.ShowLemmas.{ok_there}
-use Rattle.hpx_top.proofs.FeedLemmas.{IsFed, fed_then, fed_once, fed_runs_none}
+use Rattle.std.specs.Prelude.{◌≢◌, IfOk}
+use Rattle.std.proofs.Common.{◌≡◌, ◌∙◌, [], Ok, Err, length, refl, sym, ap, subst, inl, inr}
+use Rattle.hpx_journal.specs.Whole.{replayed}
+use Rattle.hpx_world.specs.Promises.{KeepsPromises}
+use Rattle.hpx_world.specs.Quiet.{IsAtRest}
+use Rattle.hpx_top.specs.Session.{rules, IsAmple, IsRested}
+use Rattle.hpx_top.proofs.FeedLemmas.{IsFed, same_rules, fed_then, fed_once, none_out, feeds, on_ok}
 use Rattle.hpx_top.proofs.session.feed.Goals as goal
 
-pub returns-in-Err-drain-clause-once : goal.returns-in-Err-drain-clause-once
-returns-in-Err-drain-clause-once g c =
-    let is : c.in-Ok.marked ≡ 97 ∷ c.args.line.now = c.in-Ok.ensures ∙ ap (λ t. 97 ∷ t) c.as_slice.ensures in
-    let fed : IsFed (97 ∷ c.args.line.now) c.args.world.now.journal.entries c.drain.new.self.journal.entries
-    = fed_then (97 ∷ c.args.line.now) c.in-Ok.marked _ c.turn.new.self.journal.entries _ (ok_there c.turn.result _ c.in_default.not-Err (c.turn.ensures.line _ refl)) is c.drain.ensures.unfed in
-    inr (fed_once _ _ _ fed)
+pub returns-clause-fed : goal.returns-clause-fed
+returns-clause-fed g c =
+    let w = c.args.world.now in
+    let did = c.in_ok-begin.ensures.fed in
+    let fed = fed_then c.args.text did.0 _ _ _ c.begin.new.world.journal.entries _ did.1 c.settle.ensures.unfed in
+    let none = none_out c.args.text did.0 _ _ _ _ did.1 c.requires.quiet.passive in
+    let mid = same_rules w c.begin.new.world c.begin.ensures.count c.begin.ensures.profile in
+    let new = same_rules c.begin.new.world c.settle.new.world c.settle.ensures.count c.settle.ensures.profile in
+    let es = c.settle.new.world.journal.entries in
+    on_ok c.settle.result (IsRested c.settle.new.world) _ (λ x is rest.
+    feeds (length w.nodes) w.profile c.args.text w.journal.entries es fed c.requires.ample (c.settle.ensures.room (λ e. cc) (λ e. cc))
+    (subst (λ r. KeepsPromises r es) (new ∙ mid) c.settle.ensures.promises) (subst (λ r. IsAtRest r (replayed r es)) (new ∙ mid) rest.rest))
+    (c.settle.ensures.rest none)
 
-pub returns-in-Ok-drain-clause-fed : goal.returns-in-Ok-drain-clause-fed
-returns-in-Ok-drain-clause-fed g c =
-    let is : c.in-Ok.marked ≡ 97 ∷ c.args.line.now = c.in-Ok.ensures ∙ ap (λ t. 97 ∷ t) c.as_slice.ensures in
-    let fed : IsFed (97 ∷ c.args.line.now) c.args.world.now.journal.entries c.drain.new.self.journal.entries
-    = fed_then (97 ∷ c.args.line.now) c.in-Ok.marked _ c.turn.new.self.journal.entries _ (ok_there c.turn.result _ c.in_default.not-Err (c.turn.ensures.line _ refl)) is c.drain.ensures.unfed in
-    let none : NoneRuns c.turn.new.self.nodes
-    = fed_runs_none c.args.world.now.nodes c.turn.new.self.nodes c.requires.rest.quiet.passive (c.turn.ensures.jobs _ refl) in
-    record {
-      block = fed.block;
-      is = fed.is;
-      begins = fed.begins;
-      legal = c.drain.ensures.legal;
-      settled = c.in-Ok-drain.ensures.settled none;
-    }
+pub returns-clause-rest : goal.returns-clause-rest
+returns-clause-rest g c =
+    let did = c.in_ok-begin.ensures.fed in
+    c.settle.ensures.rest (none_out c.args.text did.0 _ _ _ _ did.1 c.requires.quiet.passive)
 
-pub returns-in-Ok-drain-clause-once : goal.returns-in-Ok-drain-clause-once
-returns-in-Ok-drain-clause-once g c =
-    let is : c.in-Ok.marked ≡ 97 ∷ c.args.line.now = c.in-Ok.ensures ∙ ap (λ t. 97 ∷ t) c.as_slice.ensures in
-    let fed : IsFed (97 ∷ c.args.line.now) c.args.world.now.journal.entries c.drain.new.self.journal.entries
-    = fed_then (97 ∷ c.args.line.now) c.in-Ok.marked _ c.turn.new.self.journal.entries _ (ok_there c.turn.result _ c.in_default.not-Err (c.turn.ensures.line _ refl)) is c.drain.ensures.unfed in
-    inr (fed_once _ _ _ fed)
-
-pub returns-in-Ok-drain-clause-rest : goal.returns-in-Ok-drain-clause-rest
-returns-in-Ok-drain-clause-rest g c =
-    let none : NoneRuns c.turn.new.self.nodes
-    = fed_runs_none c.args.world.now.nodes c.turn.new.self.nodes c.requires.rest.quiet.passive (c.turn.ensures.jobs _ refl) in
-    record { quiet = c.in-Ok-drain.ensures.quiet none; settled = c.in-Ok-drain.ensures.settled none }
+pub returns-clause-once : goal.returns-clause-once
+returns-clause-once g c =
+    let did = c.in_ok-begin.ensures.fed in
+    inr (fed_once _ _ _ (fed_then c.args.text did.0 _ _ _ c.begin.new.world.journal.entries _ did.1 c.settle.ensures.unfed))

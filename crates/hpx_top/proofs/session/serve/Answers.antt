@@ -1,11 +1,11 @@
 use Rattle.std.proofs.Common.{Ok, Err, length, refl, sym, ap, ◌∙◌, arith, subst}
 use Rattle.hpx_top.specs.declared.session.SessionFault.TheVariants.{Read, InputFull}
-use Rattle.hpx_root_journal.specs.Weights.{HasRoom}
-use Rattle.hpx_top.specs.Session.{IsLegalAt}
+use Rattle.hpx_journal.specs.Weights.{HasRoom}
+use Rattle.hpx_top.specs.Session.{IsAmple}
 use Rattle.hpx_top.proofs.ShowLemmas.{if_err_from, err_of, no_err}
-use Rattle.hpx_top.proofs.SessionLemmas.{serving_start, under_start}
-use Rattle.hpx_top.proofs.FeedLemmas.{cut_write}
-use Rattle.hpx_top.proofs.EndLemmas.{all_lines, whole_from, begun_over, read_up_from, read_on_from, read_from, read_from_none, ended_from, begun_from, read_none}
+use Rattle.hpx_top.proofs.SessionLemmas.{serving_open, under_start}
+use Rattle.hpx_top.proofs.FeedLemmas.{same_rules, cut_write, cut_opening}
+use Rattle.hpx_top.proofs.EndLemmas.{all_lines, whole_from, begun_over, read_up_from, read_on_from, read_from, read_from_none, ended_from, begun_from, ended_opening, begun_opening, read_none}
 use Rattle.hpx_top.proofs.session.serve.Goals as goal
 
 pub returns-in_err-write-clause-ended : goal.returns-in_err-write-clause-ended
@@ -25,40 +25,58 @@ returns-in_err-write-clause-begun g c =
     (g.K.Sink.held c.args.sink.now) (g.K.Sink.held c.write.new.sink) h
     (cut_write c.in_err-write.field-0.0 all _ _ _ c.in_err-write.ensures.cause.0 under)
 
+-- the accumulator was not made
+pub returns-in_err-open-clause-ended : goal.returns-in_err-open-clause-ended
+returns-in_err-open-clause-ended g c =
+    let cut = cut_opening (g.K.Sink.held c.args.sink.now) (g.K.Sink.held c.write.new.sink) _ _ c.requires.empty c.in_err-open.ensures.once c.in_ok-write.ensures.held in
+    λ input h. if_err_from c.from_residual-in_err-open.result c.in_err-open.field-0.0 _ c.from_residual-in_err-open.ensures.1
+    (ended_opening c.in_err-open.field-0.0 input _ (g.K.Sink.held c.args.sink.now) (g.K.Sink.held c.write.new.sink) c.in_err-open.ensures.other cut)
+
+pub returns-in_err-open-clause-begun : goal.returns-in_err-open-clause-begun
+returns-in_err-open-clause-begun g c =
+    let cut = cut_opening (g.K.Sink.held c.args.sink.now) (g.K.Sink.held c.write.new.sink) _ _ c.requires.empty c.in_err-open.ensures.once c.in_ok-write.ensures.held in
+    λ input h. begun_opening input _ (g.K.Sink.held c.args.sink.now) (g.K.Sink.held c.write.new.sink) cut
+
 -- nothing was read
+pub returns-in_err-open-clause-reads : goal.returns-in_err-open-clause-reads
+returns-in_err-open-clause-reads g c =
+    λ input h. read_from_none input (g.S.Source.left c.args.source.now) (g.S.Source.taken c.args.source.now) h
+
 pub returns-in_err-write-clause-reads : goal.returns-in_err-write-clause-reads
 returns-in_err-write-clause-reads g c =
     λ input h. read_from_none input (g.S.Source.left c.args.source.now) (g.S.Source.taken c.args.source.now) h
 
 pub loop-reader-init : goal.loop-reader-init
 loop-reader-init g c = record {
-  serving = serving_start (length c.args.world.now.nodes) (all_lines (g.S.Source.left c.args.source.now)) (g.K.Sink.held c.args.sink.now) (g.K.Sink.held c.write.new.sink)
-      c.new-reader.result (g.S.Source.left c.args.source.now) c.args.world.now.journal.entries
-      (rw c.new-reader.ensures refl) (rw c.new-reader.ensures (omega arith)) c.requires.empty c.in_ok-write.ensures.held;
+  serving = serving_open _ (all_lines (g.S.Source.left c.args.source.now)) (g.K.Sink.held c.args.sink.now) (g.K.Sink.held c.write.new.sink)
+      c.new-reader.result (g.S.Source.left c.args.source.now) c.args.world.now.journal.entries c.open.new.world.journal.entries
+      (rw c.new-reader.ensures refl) (rw c.new-reader.ensures (omega arith)) c.requires.empty c.in_ok-open.ensures.fed c.in_ok-write.ensures.held;
   reads = read_none (g.S.Source.left c.args.source.now) c.new-reader.result c.new-reader.ensures;
   counted = rw c.new-reader.ensures (omega arith);
   limit = rw c.new-reader.ensures (omega arith);
-  rest = c.requires.rest;
-  legal = subst (λ es. IsLegalAt (length c.args.world.now.nodes) es) (sym c.requires.empty) tt;
-  carrying = c.requires.carrying;
-  count = refl;
+  rest = c.in_ok-open.ensures.rest;
+  ample = subst IsAmple (sym c.open.ensures.profile) c.requires.ample;
+  profile = c.open.ensures.profile;
+  carrying = c.open.ensures.carrying;
+  count = c.open.ensures.count;
   source_stands = refl;
   sink_stands = c.in_ok-write.ensures.stands;
-  fabric_stands = refl;
-  room = subst (λ es. HasRoom es) (sym c.requires.empty) (record { entries = omega arith; weight = omega arith });
+  fabric_stands = c.in_ok-open.ensures.stands (no_err _ _);
+  room = c.in_ok-open.ensures.room (no_err _ _) (no_err _ _);
 }
 
 pub loop-reader-preserved : goal.loop-reader-preserved
 loop-reader-preserved g c =
-    let serving = rw (← c.loop-reader.invariant.count) at c.loop-reader.invariant.serving in
+    let serving = rw (← same_rules c.args.world.now c.loop-reader.world c.loop-reader.invariant.count c.loop-reader.invariant.profile) at c.loop-reader.invariant.serving in
     let next = c.in_ok-serve_line.ensures.line (ap (λ b. Ok b) c.if-branch.true) _ _ serving in
     record {
-      serving = rw (← c.loop-reader.invariant.count) next;
+      serving = rw (same_rules c.args.world.now c.loop-reader.world c.loop-reader.invariant.count c.loop-reader.invariant.profile) at next;
       reads = c.serve_line.ensures.reads _ c.loop-reader.invariant.reads;
       counted = omega (arith, c.loop-reader.invariant.counted, c.serve_line.ensures.counted);
       limit = c.serve_line.ensures.limit c.loop-reader.invariant.limit;
       rest = c.in_ok-serve_line.ensures.rest;
-      legal = c.serve_line.ensures.legal;
+      ample = subst IsAmple (sym c.serve_line.ensures.profile) c.loop-reader.invariant.ample;
+      profile = c.serve_line.ensures.profile ∙ c.loop-reader.invariant.profile;
       carrying = c.serve_line.ensures.carrying;
       count = c.serve_line.ensures.count ∙ c.loop-reader.invariant.count;
       source_stands = c.in_ok-serve_line.ensures.read_only (no_err _ _) ∙ c.loop-reader.invariant.source_stands;
@@ -69,20 +87,20 @@ loop-reader-preserved g c =
 
 pub returns-in_err-serve_line-clause-ended : goal.returns-in_err-serve_line-clause-ended
 returns-in_err-serve_line-clause-ended g c =
-    let serving = rw (← c.loop-reader.invariant.count) at c.loop-reader.invariant.serving in
+    let serving = rw (← same_rules c.args.world.now c.loop-reader.world c.loop-reader.invariant.count c.loop-reader.invariant.profile) at c.loop-reader.invariant.serving in
     let cut = c.in_err-serve_line.ensures.err _ _ serving in
     λ input h. if_err_from c.from_residual-in_err-serve_line.result c.in_err-serve_line.field-0.0 _ c.from_residual-in_err-serve_line.ensures.1
     (ended_from c.in_err-serve_line.field-0.0 input (g.S.Source.left c.args.source.now) _ _ _ h cut)
 
 pub returns-in_err-serve_line-clause-begun : goal.returns-in_err-serve_line-clause-begun
 returns-in_err-serve_line-clause-begun g c =
-    let serving = rw (← c.loop-reader.invariant.count) at c.loop-reader.invariant.serving in
+    let serving = rw (← same_rules c.args.world.now c.loop-reader.world c.loop-reader.invariant.count c.loop-reader.invariant.profile) at c.loop-reader.invariant.serving in
     let cut = c.in_err-serve_line.ensures.err _ _ serving in
     λ input h. begun_from c.in_err-serve_line.field-0.0 input (g.S.Source.left c.args.source.now) _ _ _ h cut
 
 pub returns-in_err-serve_line-clause-input : goal.returns-in_err-serve_line-clause-input
 returns-in_err-serve_line-clause-input g c =
-    let serving = rw (← c.loop-reader.invariant.count) at c.loop-reader.invariant.serving in
+    let serving = rw (← same_rules c.args.world.now c.loop-reader.world c.loop-reader.invariant.count c.loop-reader.invariant.profile) at c.loop-reader.invariant.serving in
     λ input h e.
     let is = ap (λ f. Err f) (err_of c.from_residual-in_err-serve_line.result c.in_err-serve_line.field-0.0 InputFull c.from_residual-in_err-serve_line.ensures.1 e) in
     read_on_from 67108864 input (g.S.Source.left c.args.source.now) (g.S.Source.left c.serve_line.new.source) c.serve_line.new.reader h
@@ -90,7 +108,7 @@ returns-in_err-serve_line-clause-input g c =
 
 pub returns-in_err-serve_line-clause-read_on : goal.returns-in_err-serve_line-clause-read_on
 returns-in_err-serve_line-clause-read_on g c =
-    let serving = rw (← c.loop-reader.invariant.count) at c.loop-reader.invariant.serving in
+    let serving = rw (← same_rules c.args.world.now c.loop-reader.world c.loop-reader.invariant.count c.loop-reader.invariant.profile) at c.loop-reader.invariant.serving in
     λ input h e.
     let is = ap (λ f. Err f) (err_of c.from_residual-in_err-serve_line.result c.in_err-serve_line.field-0.0 Read c.from_residual-in_err-serve_line.ensures.1 e) in (
       c.serve_line.new.reader.read,
@@ -130,13 +148,13 @@ returns-clause-limit g c =
 
 pub returns-clause-whole : goal.returns-clause-whole
 returns-clause-whole g c =
-    let serving = rw (← c.loop-reader.invariant.count) at c.loop-reader.invariant.serving in
+    let serving = rw (← same_rules c.args.world.now c.loop-reader.world c.loop-reader.invariant.count c.loop-reader.invariant.profile) at c.loop-reader.invariant.serving in
     let over = c.in_ok-serve_line.ensures.over (ap (λ b. Ok b) c.if-branch.false) _ _ serving in
     λ input h. whole_from c.serve_line.new.reader.ended input (g.S.Source.left c.args.source.now) _ _ _ h over
 
 pub returns-clause-read_up : goal.returns-clause-read_up
 returns-clause-read_up g c =
-    let serving = rw (← c.loop-reader.invariant.count) at c.loop-reader.invariant.serving in
+    let serving = rw (← same_rules c.args.world.now c.loop-reader.world c.loop-reader.invariant.count c.loop-reader.invariant.profile) at c.loop-reader.invariant.serving in
     let over = c.in_ok-serve_line.ensures.over (ap (λ b. Ok b) c.if-branch.false) _ _ serving in
     λ input h. read_up_from c.serve_line.new.reader.ended input (g.S.Source.left c.args.source.now) (g.S.Source.left c.serve_line.new.source)
     c.serve_line.new.reader c.serve_line.new.world.journal.entries (g.K.Sink.held c.args.sink.now) (g.K.Sink.held c.serve_line.new.sink) h over
@@ -144,6 +162,6 @@ returns-clause-read_up g c =
 
 pub returns-clause-begun : goal.returns-clause-begun
 returns-clause-begun g c =
-    let serving = rw (← c.loop-reader.invariant.count) at c.loop-reader.invariant.serving in
+    let serving = rw (← same_rules c.args.world.now c.loop-reader.world c.loop-reader.invariant.count c.loop-reader.invariant.profile) at c.loop-reader.invariant.serving in
     let over = c.in_ok-serve_line.ensures.over (ap (λ b. Ok b) c.if-branch.false) _ _ serving in
     λ input h. begun_over c.serve_line.new.reader.ended input (g.S.Source.left c.args.source.now) _ _ _ h over

@@ -15,10 +15,10 @@ returns-in_err-serve_text-in-Ok-Line-clause-err g c =
     let takes = rw c.in-Ok-Line.field-0-is at c.in-Ok-Line.ensures.ok in
     if_err_from c.from_residual-in_err-serve_text-in-Ok-Line.result c.in_err-serve_text-in-Ok-Line.field-0.0 _
     c.from_residual-in_err-serve_text-in-Ok-Line.ensures.1
-    (λ all before s. cut_text c.in_err-serve_text-in-Ok-Line.field-0.0 (length c.args.world.now.nodes) (length c.serve_text.new.world.nodes) all before
+    (λ all before s. cut_text c.in_err-serve_text-in-Ok-Line.field-0.0 (length c.args.world.now.nodes) c.args.world.now.profile all before
     (g.K.Sink.held c.args.sink.now) (g.K.Sink.held c.write.new.sink) (g.K.Sink.held c.serve_text.new.sink) c.args.reader.now c.next_line.new.self
     (g.S.Source.left c.args.source.now) (g.S.Source.left c.next_line.new.source) c.args.world.now.journal.entries c.serve_text.new.world.journal.entries
-    _ c.requires.some c.requires.few c.serve_text.ensures.count s c.in_ok-write.ensures.held takes c.in_err-serve_text-in-Ok-Line.ensures.err)
+    _ c.requires.some c.requires.few s c.in_ok-write.ensures.held takes c.in_err-serve_text-in-Ok-Line.ensures.err)
 
 pub returns-in_err-write-in-Ok-Long-clause-err : goal.returns-in_err-write-in-Ok-Long-clause-err
 returns-in_err-write-in-Ok-Long-clause-err g c =
@@ -26,7 +26,7 @@ returns-in_err-write-in-Ok-Long-clause-err g c =
     if_err_from c.from_residual-in_err-write-in-Ok-Long.result c.in_err-write-in-Ok-Long.field-0.0 _
     c.from_residual-in_err-write-in-Ok-Long.ensures.1
     (λ all before s. cut_write c.in_err-write-in-Ok-Long.field-0.0 all before _ _ c.in_err-write-in-Ok-Long.ensures.cause.0
-    (under_long (length c.args.world.now.nodes) all before
+    (under_long _ all before
     (g.K.Sink.held c.args.sink.now) (g.K.Sink.held c.write.new.sink) _ c.args.reader.now c.next_line.new.self
     (g.S.Source.left c.args.source.now) (g.S.Source.left c.next_line.new.source) c.args.world.now.journal.entries
     s c.in_ok-write.ensures.held takes c.in_err-write-in-Ok-Long.ensures.front))
@@ -35,17 +35,17 @@ pub returns-in_ok-serve_text-in-Ok-Line-clause-line : goal.returns-in_ok-serve_t
 returns-in_ok-serve_text-in-Ok-Line-clause-line g c =
     let takes = rw c.in-Ok-Line.field-0-is at c.in-Ok-Line.ensures.ok in
     let fewer = rw c.in-Ok-Line.field-0-is at c.in-Ok-Line.ensures.fewer in
-    (λ h all before s. serving_line (length c.args.world.now.nodes) all before
+    (λ h all before s. serving_line (length c.args.world.now.nodes) c.args.world.now.profile all before
     (g.K.Sink.held c.args.sink.now) (g.K.Sink.held c.write.new.sink) (g.K.Sink.held c.serve_text.new.sink) c.args.reader.now c.next_line.new.self
     (g.S.Source.left c.args.source.now) (g.S.Source.left c.next_line.new.source) c.args.world.now.journal.entries c.serve_text.new.world.journal.entries
-    _ c.requires.some c.requires.few s c.in_ok-write.ensures.held takes fewer (rw c.serve_text.ensures.count at c.in_ok-serve_text-in-Ok-Line.ensures.fed)
+    _ c.requires.some c.requires.few s c.in_ok-write.ensures.held takes fewer c.in_ok-serve_text-in-Ok-Line.ensures.fed
     c.in_ok-serve_text-in-Ok-Line.ensures.held)
 
 pub returns-in_ok-write-in-Ok-Long-clause-line : goal.returns-in_ok-write-in-Ok-Long-clause-line
 returns-in_ok-write-in-Ok-Long-clause-line g c =
     let takes = rw c.in-Ok-Long.field-0-is at c.in-Ok-Long.ensures.ok in
     let fewer = rw c.in-Ok-Long.field-0-is at c.in-Ok-Long.ensures.fewer in
-    (λ h all before s. serving_long (length c.args.world.now.nodes) all before
+    (λ h all before s. serving_long _ all before
     (g.K.Sink.held c.args.sink.now) (g.K.Sink.held c.write.new.sink) _ c.args.reader.now c.next_line.new.self
     (g.S.Source.left c.args.source.now) (g.S.Source.left c.next_line.new.source) c.args.world.now.journal.entries
     s c.in_ok-write.ensures.held takes fewer c.in_ok-write-in-Ok-Long.ensures.held)
@@ -53,42 +53,42 @@ returns-in_ok-write-in-Ok-Long-clause-line g c =
 pub returns-in-Ok-Quit-clause-over : goal.returns-in-Ok-Quit-clause-over
 returns-in-Ok-Quit-clause-over g c =
     let takes = rw c.in-Ok-Quit.field-0-is at c.in-Ok-Quit.ensures.ok in
-    (λ h all before s. over_quit (length c.args.world.now.nodes) c.next_line.new.self.ended all (lines_left c.next_line.new.self (g.S.Source.left c.next_line.new.source)) before
+    (λ h all before s. over_quit _ c.next_line.new.self.ended all (lines_left c.next_line.new.self (g.S.Source.left c.next_line.new.source)) before
     (g.K.Sink.held c.args.sink.now) (g.K.Sink.held c.write.new.sink) c.args.reader.now (g.S.Source.left c.args.source.now)
     c.args.world.now.journal.entries s c.in_ok-write.ensures.held takes)
 
 pub returns-in-Ok-End-clause-over : goal.returns-in-Ok-End-clause-over
 returns-in-Ok-End-clause-over g c =
     let ends = rw c.in-Ok-End.field-0-is at c.in-Ok-End.ensures.ok in
-    (λ h all before s. over_end (length c.args.world.now.nodes) all before
+    (λ h all before s. over_end _ all before
     (g.K.Sink.held c.args.sink.now) (g.K.Sink.held c.write.new.sink) c.args.reader.now c.next_line.new.self (g.S.Source.left c.args.source.now)
     c.args.world.now.journal.entries s c.in_ok-write.ensures.held ends.0)
 
 pub returns-in-Ok-Full-clause-err : goal.returns-in-Ok-Full-clause-err
 returns-in-Ok-Full-clause-err g c = λ all before s.
-    cut_here 0 (length c.args.world.now.nodes) all before (g.K.Sink.held c.args.sink.now) (g.K.Sink.held c.write.new.sink) c.args.reader.now
+    cut_here 0 _ all before (g.K.Sink.held c.args.sink.now) (g.K.Sink.held c.write.new.sink) c.args.reader.now
     (g.S.Source.left c.args.source.now) c.args.world.now.journal.entries c.args.world.now.journal.entries s c.in_ok-write.ensures.held refl
 
 pub returns-in-Ok-Full-clause-input : goal.returns-in-Ok-Full-clause-input
 returns-in-Ok-Full-clause-input g c =
     let full = rw c.in-Ok-Full.field-0-is at c.in-Ok-Full.ensures.ok in
-    (λ h all before s. stopped_full (length c.args.world.now.nodes) all before (g.K.Sink.held c.args.sink.now) c.args.reader.now c.next_line.new.self
+    (λ h all before s. stopped_full _ all before (g.K.Sink.held c.args.sink.now) c.args.reader.now c.next_line.new.self
     (g.S.Source.left c.args.source.now) (g.S.Source.left c.next_line.new.source) c.args.world.now.journal.entries s full.0 full.1)
 
 pub returns-in-Err-Failed-clause-err : goal.returns-in-Err-Failed-clause-err
 returns-in-Err-Failed-clause-err g c = λ all before s.
-    cut_here 0 (length c.args.world.now.nodes) all before (g.K.Sink.held c.args.sink.now) (g.K.Sink.held c.write.new.sink) c.args.reader.now
+    cut_here 0 _ all before (g.K.Sink.held c.args.sink.now) (g.K.Sink.held c.write.new.sink) c.args.reader.now
     (g.S.Source.left c.args.source.now) c.args.world.now.journal.entries c.args.world.now.journal.entries s c.in_ok-write.ensures.held refl
 
 pub returns-in-Err-Failed-clause-read_on : goal.returns-in-Err-Failed-clause-read_on
 returns-in-Err-Failed-clause-read_on g c =
     let failed = c.in-Err-Failed.is ∙ ap (λ f. Err f) c.in-Err-Failed.field-0-is in
     λ h all before s.
-    stopped_read (length c.args.world.now.nodes) all before (g.K.Sink.held c.args.sink.now) c.args.reader.now c.next_line.new.self
+    stopped_read _ all before (g.K.Sink.held c.args.sink.now) c.args.reader.now c.next_line.new.self
     (g.S.Source.left c.args.source.now) (g.S.Source.left c.next_line.new.source) c.args.world.now.journal.entries s
     (c.next_line.ensures.no_line failed) (c.next_line.ensures.goes_on failed) c.in-Err-Failed.ensures.err
 
 pub returns-in-Err-OutOfMemory-clause-err : goal.returns-in-Err-OutOfMemory-clause-err
 returns-in-Err-OutOfMemory-clause-err g c = λ all before s.
-    cut_here 1 (length c.args.world.now.nodes) all before (g.K.Sink.held c.args.sink.now) (g.K.Sink.held c.write.new.sink) c.args.reader.now
+    cut_here 1 _ all before (g.K.Sink.held c.args.sink.now) (g.K.Sink.held c.write.new.sink) c.args.reader.now
     (g.S.Source.left c.args.source.now) c.args.world.now.journal.entries c.args.world.now.journal.entries s c.in_ok-write.ensures.held refl

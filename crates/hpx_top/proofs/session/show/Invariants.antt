@@ -1,6 +1,6 @@
 use Rattle.std.specs.List.{concat}
 use Rattle.std.proofs.Common.{◌≡◌, drop}
-use Rattle.hpx_root_journal.specs.Pool.{prints_of}
+use Rattle.hpx_journal.specs.Pool.{prints_of}
 use Rattle.hpx_top.specs.Session.{WritesUpTo}
 use Rattle.hpx_top.proofs.session.show.Given as goal
 

@@ -1,7 +1,0 @@
--- A journal as clauses see it: its entries, and for how many more there is memory.
-use Rattle.std.specs.Prelude.{ℕ, List}
-use Rattle.hpx_root_journal.specs.Entries.{Entry}
-
-pub record Book : Type 0 where
-  pub entries : List Entry
-  pub spare : ℕ

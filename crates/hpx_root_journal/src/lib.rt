@@ -1,6 +1,0 @@
-//! The journal: every change of the world is an entry.
-#![tactic(auto)]
-
-pub mod entry;
-pub mod journal;
-pub mod law;

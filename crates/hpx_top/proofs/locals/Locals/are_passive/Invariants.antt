@@ -1,7 +1,0 @@
-use Rattle.std.proofs.Common.{take}
-use Rattle.std.specs.List.{AllByRecursion}
-use Rattle.hpx_top.specs.Tables.{IsPassive}
-use Rattle.hpx_top.proofs.locals.Locals.are_passive.Given as goal
-
-abbrev pub invariant-loop-node : goal.invariant-loop-node
-invariant-loop-node g l = AllByRecursion IsPassive (take l.node-index l.self.nodes.items)
