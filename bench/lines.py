@@ -1,8 +1,9 @@
 #!/usr/bin/env python3
-"""Builds the program, runs it on 1,000 to 8,000 lines of `add 1`, and prints the time that each line takes.
+"""Builds the program, runs it on 1,000 to 16,000 lines, and prints the time that each line and each entry takes.
 
-Run it anywhere in the repository, with `rt` on the path. Each number of lines is run five times, and the
-shortest time is taken. The time to start the program, measured with no lines, is taken off.
+The lines are `add 1`, or `add 1` and `query` in turn. Run it anywhere in the repository, with `rt` on the path. Each
+number of lines is run five times, and the shortest time is taken. The time to start the program, measured with no
+lines, is taken off.
 """
 
 import pathlib
@@ -12,13 +13,28 @@ import time
 CRATE = pathlib.Path(__file__).resolve().parent.parent / "crates" / "hpx"
 PROGRAM = CRATE / "out" / "hpx"
 WORDS = ["accumulator", "--hpx:localities=2"]
+COMMANDS = b"commands: reset, add [amount], query, help, quit\n"
 RUNS = 5
 
 
-def shortest(lines):
+def adds(lines):
+    """Lines of `add 1`, what they print, and how many entries each leaves."""
+    return b"add 1\n" * lines, COMMANDS + b"> " * (lines + 1), 17 * lines
+
+
+def adds_and_queries(lines):
+    """The same of `add 1` and `query` in turn."""
+    text = COMMANDS + b"".join(b"> > %d\n" % (i + 1) for i in range(lines // 2)) + b"> "
+    return b"add 1\nquery\n" * (lines // 2), text, 35 * (lines // 2)
+
+
+def asks(lines):
+    """How often the session asks for credit: at the 32nd line, and at each 31st behind it."""
+    return 0 if lines < 32 else (lines - 32) // 31 + 1
+
+
+def shortest(text, want):
     """The shortest time of some runs, in seconds."""
-    text = b"add 1\n" * lines
-    want = b"commands: reset, add [amount], query, help, quit\n" + b"> " * (lines + 1)
     times = []
     for _ in range(RUNS):
         start = time.perf_counter()
@@ -31,10 +47,13 @@ def shortest(lines):
 
 def main():
     subprocess.run(["rt", "run", "--", *WORDS], cwd=CRATE, input=b"", check=True, capture_output=True)
-    idle = shortest(0)
-    for lines in (1000, 2000, 4000, 8000):
-        each = (shortest(lines) - idle) / lines
-        print(f"{lines} lines: {each * 1e6:.2f} microseconds a line")
+    idle = shortest(b"", COMMANDS + b"> ")
+    for name, kind in (("add 1", adds), ("add 1, query", adds_and_queries)):
+        for lines in (1000, 2000, 4000, 8000, 16000):
+            text, want, entries = kind(lines)
+            took = shortest(text, want) - idle
+            count = 14 + entries + 7 * asks(lines)
+            print(f"{name}: {lines} lines: {took / lines * 1e6:.2f} microseconds a line, {took / count * 1e6:.3f} an entry")
 
 
 if __name__ == "__main__":
