@@ -2,7 +2,7 @@
 use Rattle.std.specs.Prelude.{◌⊎◌, Result, Ok, Err, OnOk, OnErr, IfOk, IfErr, ◌≢◌, nat_lt, not, ◌&&◌, ◌==◌}
 use Rattle.std.specs.List.{concat, slice_get, AllByRecursion}
 use Rattle.std.proofs.Common.{ℕ, zero, suc, Bool, cond, List, [], ◌∷◌, ◌++◌, ◌≡◌, ◌+◌, ◌^◌, ◌≤◌, ◌<◌, length, drop, map, set, Option, Some, refl, sym, ap, ◌∙◌, subst, inl, inr, arith, append_assoc}
-use Rattle.std.proofs.lemmas.Bool.{cond_both, cases_lt}
+use Rattle.std.proofs.lemmas.Bool.{cond_both}
 use Rattle.hpx_value.specs.declared.profile.Profile.{Profile}
 use Rattle.hpx_journal.specs.declared.entry.Name.{Name}
 use Rattle.hpx_journal.specs.declared.entry.Entry.{Entry}
@@ -14,7 +14,7 @@ use Rattle.hpx_journal.specs.Natives.{NothingMoves}
 use Rattle.hpx_journal.specs.Pool.{NoneFails, prints_of}
 use Rattle.hpx_journal.specs.Sessions.{BeginsWith}
 use Rattle.hpx_journal.specs.Whole.{replayed}
-use Rattle.hpx_journal.specs.Weights.{HasRoom, total_weight}
+use Rattle.hpx_journal.specs.Weights.{HasRoom}
 use Rattle.hpx_journal.proofs.Ample.{legal_ample}
 use Rattle.hpx_journal.proofs.Sessions.{quiet_settled}
 use Rattle.hpx_node.specs.Fit.{parcel_for}
@@ -169,16 +169,6 @@ pub room_by : (f : SessionFault) (R : Type 0) → (f ≡ Fabric) ⊎ (f ≡ Jour
 room_by f R (inl e) full memory there = there e
 room_by f R (inr (inl e)) full memory there = absurd (full e)
 room_by f R (inr (inr e)) full memory there = absurd (memory e)
-
-room_cases : (es : List Entry) → (length es + 1024 < 2097153) ⊎ (2097153 ≤ length es + 1024) → (total_weight es + 16777216 < 2 ^ 30 + 1) ⊎ (2 ^ 30 + 1 ≤ total_weight es + 16777216)
-    → ((HasRoom es → ⊥) → ⊥) → HasRoom es
-room_cases es (inl a) (inl b) not = record { entries = omega (arith, a); weight = omega (arith, b) }
-room_cases es (inr a) b not = absurd (not (λ room. omega (arith, a, room.entries)))
-room_cases es (inl a) (inr b) not = absurd (not (λ room. omega (arith, b, room.weight)))
-
--- whether there is room can be told
-pub room_stands : (es : List Entry) → ((HasRoom es → ⊥) → ⊥) → HasRoom es
-room_stands es not = room_cases es (cases_lt (length es + 1024) 2097153) (cases_lt (total_weight es + 16777216) (2 ^ 30 + 1)) not
 
 -- what holds at Ok, from what else holds there
 pub on_ok : {T E : Type 0} (r : Result T E) (P Q : Type 0) → ((x : T) → r ≡ Ok x → P → Q) → OnOk r P → OnOk r Q

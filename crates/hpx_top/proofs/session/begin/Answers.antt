@@ -1,5 +1,5 @@
 use Rattle.std.proofs.Common.{Err, length, refl, ap}
-use Rattle.hpx_top.proofs.FeedLemmas.{of_three, neither, still, room_stands}
+use Rattle.hpx_top.proofs.FeedLemmas.{of_three, neither, still}
 use Rattle.hpx_top.proofs.session.begin.Goals as goal
 
 pub returns-clause-cause : goal.returns-clause-cause
