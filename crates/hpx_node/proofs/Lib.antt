@@ -99,3 +99,4 @@ pub mod OrderAsks
 pub mod OrderTurns
 pub mod OrderCalls
 pub mod AnsweredEntry
+pub mod Recounted

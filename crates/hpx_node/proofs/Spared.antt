@@ -21,7 +21,9 @@ use Rattle.hpx_node.proofs.Same.{writes_then}
 use Rattle.hpx_node.proofs.Right.{not_broken, near_right, near_popped}
 use Rattle.hpx_node.proofs.Taken.{taken_few}
 use Rattle.hpx_node.specs.Routes.{DealsWith, Accepts}
+use Rattle.hpx_node.specs.Recounts.{Leaves}
 use Rattle.hpx_node.proofs.Spareless.{waits_from, accepts_from}
+use Rattle.hpx_node.proofs.Recounted.{leaves_from}
 
 pub spare_stands : (act_of : ℕ → ℕ → ℕ → State → Act → Outcome) (t t' : Tables) (b b' : Book) → OnlySpare t t' b b'
     → StandsWith (rules_of act_of t.localities t.profile) t [] [] b.entries → StandsWith (rules_of act_of t'.localities t'.profile) t' [] [] b'.entries
@@ -169,10 +171,10 @@ first_stands act_of t p rest s entries first h =
 pub cleared : (t m t' : Tables) (b n : Book) (p q : Parcel) (rest : List Parcel) (s : ℕ) (x : Option Broken) (entries : List Entry) → OnlySpare t m b n
     → m.desk ≡ p ∷ rest → q ≡ get_or t.desk 0 q → x ≡ broken t q → x ≡ None
     → Writes (Mail (kind_of p) ∷ effects (record m { desk = rest; spare = s }) p) (record m { desk = rest; spare = s }) t' n.entries entries
-    → Accepts p (record m { desk = rest; spare = s }) t' → t'.taken ≡ m.taken → t'.sent ≡ m.sent
+    → Accepts p (record m { desk = rest; spare = s }) t' → Leaves p (record m { desk = rest; spare = s }) t' → t'.taken ≡ m.taken → t'.sent ≡ m.sent
     → (u : Tables) (more : List Event) (later : List Entry) → Continues p (record t { desk = rest }) t' u more → Writes more t' u entries later
     → u.taken ≡ t'.taken → u.sent ≡ t'.sent → Clears t u b.entries later
-cleared t m t' b n p q rest s x entries same first is told none writes accepts taken sent u more later continues wrote still_taken still_sent =
+cleared t m t' b n p q rest s x entries same first is told none writes accepts leaves taken sent u more later continues wrote still_taken still_sent =
     let events : effects (record m { desk = rest; spare = s }) p ≡ effects t p =
     effects_spare m rest s p ∙ (ap (λ (y : Tables). effects y p) same.tables ∙ effects_spare t t.desk m.spare p) in
     let here : m.here ≡ t.here = ap (λ (u : Tables). u.here) same.tables in record {
@@ -194,6 +196,8 @@ cleared t m t' b n p q rest s x entries same first is told none writes accepts t
           })
           wrote;
       accepts = accepts_from p t m t' rest s same.tables accepts;
+      leaves = leaves_from p t (record m { desk = rest; spare = s }) t' (ap (λ (v : Tables). v.records) same.tables)
+          (ap (λ (v : Tables). v.profile) same.tables) (ap (λ (v : Tables). v.objects) same.tables) leaves;
       continues = continues;
       taken = still_taken ∙ (taken ∙ ap (λ (v : Tables). v.taken) same.tables);
       sent = still_sent ∙ (sent ∙ ap (λ (v : Tables). v.sent) same.tables);
@@ -212,10 +216,10 @@ mail_near t m b n p q rest x same first is told none =
 -- a frame is accepted after memory was made
 pub took : (t m t' : Tables) (b n : Book) (p : Parcel) (bytes frame : List ℕ) (entries : List Entry) → OnlySpare t m b n → bytes ≡ frame
     → parcel_of frame ≡ Some p → broken t p ≡ None → Writes (In bytes ∷ effects m p) m t' n.entries entries
-    → DealsWith p (record m { taken = m.taken + 1 }) t' → t'.taken ≡ m.taken + 1 → t'.sent ≡ m.sent
+    → DealsWith p (record m { taken = m.taken + 1 }) t' → Leaves p m t' → t'.taken ≡ m.taken + 1 → t'.sent ≡ m.sent
     → (u : Tables) (more : List Event) (later : List Entry) → Continues p (record t { taken = t.taken + 1 }) t' u more → Writes more t' u entries later
     → u.taken ≡ t'.taken → u.sent ≡ t'.sent → Takes frame t u b.entries later
-took t m t' b n p bytes frame entries same copy spelled right writes deals taken sent u more later continues wrote still_taken still_sent =
+took t m t' b n p bytes frame entries same copy spelled right writes deals leaves taken sent u more later continues wrote still_taken still_sent =
     let events : effects m p ≡ effects t p =
     ap (λ (y : Tables). effects y p) same.tables ∙ effects_spare t t.desk m.spare p in
     let here : m.here ≡ t.here = ap (λ (u : Tables). u.here) same.tables in record {
@@ -237,6 +241,8 @@ took t m t' b n p bytes frame entries same copy spelled right writes deals taken
           })
           wrote;
       deals = waits_from p t m t' same.tables deals;
+      leaves = leaves_from p t m t' (ap (λ (v : Tables). v.records) same.tables) (ap (λ (v : Tables). v.profile) same.tables)
+          (ap (λ (v : Tables). v.objects) same.tables) leaves;
       continues = continues;
       taken = still_taken ∙ (taken ∙ ap (λ (v : Tables). v.taken + 1) same.tables);
       sent = still_sent ∙ (sent ∙ ap (λ (v : Tables). v.sent) same.tables);

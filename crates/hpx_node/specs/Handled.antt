@@ -25,6 +25,7 @@ use Rattle.hpx_node.specs.Idle.{Pays, PaysFor}
 pub use Rattle.hpx_node.specs.Routes.{more_here}
 use Rattle.hpx_node.specs.Routes.{with_returns, DealsWith, Accepts}
 use Rattle.hpx_node.specs.Next.{Continues}
+use Rattle.hpx_node.specs.Recounts.{Leaves}
 
 -- ---- what it writes
 
@@ -131,6 +132,7 @@ pub record Takes (bytes : List ℕ) (t t' : Tables) (entries entries' : List Ent
   pub more : List Event  -- of what follows
   pub writes : Writes (In bytes ∷ (effects t parcel ++ more)) t t' entries entries'
   pub deals : DealsWith parcel (record t { taken = t.taken + 1 }) mid
+  pub leaves : Leaves parcel t mid
   pub continues : Continues parcel (record t { taken = t.taken + 1 }) mid t' more
   pub taken : t'.taken ≡ t.taken + 1
   pub sent : t'.sent ≡ t.sent
@@ -146,6 +148,7 @@ pub record Clears (t t' : Tables) (entries entries' : List Entry) : Type 0 where
   pub more : List Event  -- of what follows
   pub writes : Writes (Mail (kind_of parcel) ∷ (effects t parcel ++ more)) t t' entries entries'
   pub accepts : Accepts parcel (record t { desk = rest }) mid
+  pub leaves : Leaves parcel t mid
   pub continues : Continues parcel (record t { desk = rest }) mid t' more
   pub taken : t'.taken ≡ t.taken
   pub sent : t'.sent ≡ t.sent

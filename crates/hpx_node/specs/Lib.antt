@@ -18,6 +18,7 @@ pub mod Resumes
 pub mod Kept
 pub mod Awaited
 pub mod Strange
+pub mod Recounts
 pub mod Handled
 pub mod Idle
 pub mod Lacks

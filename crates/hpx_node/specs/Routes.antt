@@ -105,7 +105,7 @@ pub record Gives (id : Id) (entry : ℕ) (t t' : Tables) : Type 0 where
 
 -- what waits then, or is on its way: an action that it brought; the answer to an ask; that a dead object is to be freed; ids
 -- that a freed object gives up. Credit that was asked for is in the hand of the commit that waits for it. Nothing else changes
--- but records at an ask or a return, and objects at a Free
+-- but records at an ask or a return, and objects at a Free: specs/Recounts.antt says how
 abbrev pub DealsWith : Parcel → Tables → Tables → Type 0
 DealsWith (Apply act) t t' = t' ≡ record (with_act act t) { spare = t'.spare }
 DealsWith (Move act) t t' = t' ≡ record (with_act act t) { spare = t'.spare }

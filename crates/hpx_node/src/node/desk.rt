@@ -18,6 +18,7 @@ ghost use Rattle.hpx_node.specs.Pending.{awaits};
 ghost use Rattle.hpx_node.specs.Strange.{is_live, brings_right, broken_near, is_far};
 ghost use Rattle.hpx_node.specs.Handled.{ups, effects, with_first, kind_of, is_own, Handles, GivesUp, Takes, Clears, NotTaken, NotCleared};
 ghost use Rattle.hpx_node.specs.Routes.{Gives, DealsWith, Accepts};
+ghost use Rattle.hpx_node.specs.Recounts.{Leaves};
 
 use crate::find::{place_of, waiting_at};
 use crate::kept::Letter;
@@ -108,6 +109,7 @@ impl<A: Acts + Copy> Node<A> {
         requires spare { 1 ≤ self.old.spare }
         requires page { 1 ≤ book.old.spare }
         ensures handles { Handles (rules_of A.act_of self.old.localities self.old.profile) (Return id) self.old self.new (effects self.old (Return id)) }
+        ensures leaves { Leaves (Return id) self.old self.new }
         ensures grows { book.new.entries ≡ book.old.entries ++ at_all self.old.here (effects self.old (Return id)) }
     {
         let at = self.here;
@@ -141,6 +143,7 @@ impl<A: Acts + Copy> Node<A> {
         requires spare { 1 ≤ self.old.spare }
         requires page { 1 ≤ book.old.spare }
         ensures handles { Handles (rules_of A.act_of self.old.localities self.old.profile) (Ask id asker entry) self.old self.new (effects self.old (Ask id asker entry)) }
+        ensures leaves { Leaves (Ask id asker entry) self.old self.new }
         ensures grows { book.new.entries ≡ book.old.entries ++ at_all self.old.here (effects self.old (Ask id asker entry)) }
     {
         let at = self.here;
@@ -170,6 +173,7 @@ impl<A: Acts + Copy> Node<A> {
         requires spare { 128 ≤ self.old.spare }
         requires page { 129 ≤ book.old.spare }
         ensures handles { Handles (rules_of A.act_of self.old.localities self.old.profile) (Free o) self.old self.new (effects self.old (Free o)) }
+        ensures leaves { Leaves (Free o) self.old self.new }
         ensures grows { book.new.entries ≡ book.old.entries ++ at_all self.old.here (effects self.old (Free o)) }
     {
         let at = self.here;
@@ -219,6 +223,7 @@ impl<A: Acts + Copy> Node<A> {
         requires spare { 128 ≤ self.old.spare }
         requires page { 129 ≤ book.old.spare }
         ensures handles { Handles (rules_of A.act_of self.old.localities self.old.profile) parcel self.old self.new (effects self.old parcel) }
+        ensures leaves { Leaves parcel self.old self.new }
         ensures grows { book.new.entries ≡ book.old.entries ++ at_all self.old.here (effects self.old parcel) }
         ensures spare { (id : _) (entry : _) → parcel ≡ Give id entry → self.old.spare ≤ self.new.spare }
         ensures page { (id : _) (entry : _) → parcel ≡ Give id entry → book.old.spare ≤ book.new.spare + 1 }
@@ -252,6 +257,7 @@ impl<A: Acts + Copy> Node<A> {
         ensures stands { Stands A.act_of self.new book.new.entries }
         ensures writes { Writes (In bytes ∷ effects self.old parcel) self.old self.new book.old.entries book.new.entries }
         ensures deals { DealsWith parcel (record self.old { taken = self.old.taken + 1 }) self.new }
+        ensures leaves { Leaves parcel self.old self.new }
         ensures running { self.new.running ≡ self.old.running }
         ensures taken { self.new.taken ≡ self.old.taken + 1 }
         ensures sent { self.new.sent ≡ self.old.sent }
@@ -281,6 +287,7 @@ impl<A: Acts + Copy> Node<A> {
         ensures stands { Stands A.act_of self.new book.new.entries }
         ensures writes { Writes (Mail (kind_of parcel) ∷ effects self.old parcel) self.old self.new book.old.entries book.new.entries }
         ensures accepts { Accepts parcel self.old self.new }
+        ensures leaves { Leaves parcel self.old self.new }
         ensures running { self.new.running ≡ self.old.running }
         ensures taken { self.new.taken ≡ self.old.taken }
         ensures sent { self.new.sent ≡ self.old.sent }

@@ -8,6 +8,7 @@ use Rattle.hpx_node.specs.Handled.{answered}
 use Rattle.hpx_node.proofs.AnsweredEntry.{refused_by_entry, granted_by_entry}
 use Rattle.hpx_journal.specs.Data.{Parcel}
 use Rattle.hpx_node.proofs.Returned.{live_covers, recounted}
+use Rattle.hpx_node.proofs.Recounted.{leaves_asked}
 use Rattle.hpx_node.proofs.Answered.{refused_by, granted_by}
 use Rattle.hpx_node.proofs.node.Node.answer.Goals as goal
 use Rattle.hpx_node.proofs.node.Node.answer.Goals.{in-Limit, in-Yes}
@@ -63,3 +64,16 @@ returns-clause-grows g c =
     ∙ (ap (λ o. before ++ record { at = c.self.inside.here; event = Count o c.count-count.result c.match-granted.why.0 } ∷ []) c.bare-object.ensures
     ∙ (ap (λ k. before ++ record { at = k; event = Count (bare c.args.id) c.count-count.result c.match-granted.why.0 } ∷ []) (ap (λ (t : Tables). t.here) c.self.view_is)
     ∙ ap (λ es. before ++ at_all c.args.self.now.here es) entry))
+
+pub returns-in_default-clause-leaves : goal.returns-in_default-clause-leaves
+returns-in_default-clause-leaves g c =
+    let live = rw (← c.self.view_is) at c.requires.live in
+    let enough = rw (← c.self.view_is) at c.requires.enough in
+    absurd (c.in_default.ensures.strange.0 refl (live_covers c.self.inside.here c.self.inside.records.records c.args.id live enough))
+
+pub returns-clause-leaves : goal.returns-clause-leaves
+returns-clause-leaves g c =
+    let live = rw (← c.self.view_is) at c.requires.live in
+    rw (← c.self.view_is)
+    (leaves_asked _ _ c.args.id _ live (ap (λ (t : Tables). t.records) c.mail.ensures.mails.rest) c.in-Ok.ensures.others
+    c.self.inside.records.profile c.self.invariant.5 c.in-Ok.ensures.record c.args.asker c.args.entry)

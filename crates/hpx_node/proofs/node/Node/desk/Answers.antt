@@ -102,7 +102,7 @@ returns-clause-cleared g c =
     next gives c.follow.ensures.running c.follow.ensures.followed in
     let looked = (rw (← c.parcel.ensures.parcel) at c.index.ensures) ∙ ap (λ (x : Tables). get_or x.desk 0 c.parcel.result.now) c.self.view_is in
     λ ok. cleared t _ _ _ _ p c.parcel.result.now rest _ c.broken.result _ same first looked c.broken.ensures c.in_default.is
-    c.enter_mail.ensures.writes c.enter_mail.ensures.accepts c.enter_mail.ensures.taken c.enter_mail.ensures.sent
+    c.enter_mail.ensures.writes c.enter_mail.ensures.accepts c.enter_mail.ensures.leaves c.enter_mail.ensures.taken c.enter_mail.ensures.sent
     c.follow.new.self k.more c.follow.new.book.entries k.continues k.writes c.follow.ensures.taken c.follow.ensures.sent
 
 pub returns-then-is_err-clause-turn : goal.returns-then-is_err-clause-turn

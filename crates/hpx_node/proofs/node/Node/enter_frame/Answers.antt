@@ -1,8 +1,9 @@
-use Rattle.std.proofs.Common.{◌+◌, ◌∙◌, ap}
+use Rattle.std.proofs.Common.{◌+◌, ◌∙◌, ap, refl}
 use Rattle.hpx_node.specs.Tables.{Tables}
 use Rattle.hpx_node.proofs.Taken.{taken_by, taken_tidy, taken_writes}
 use Rattle.hpx_node.proofs.FewEntries.{grows_few}
 use Rattle.hpx_node.proofs.Turns.{frame_short}
+use Rattle.hpx_node.proofs.Recounted.{leaves_from}
 use Rattle.hpx_node.proofs.TurnSteps.{grows_light}
 use Rattle.hpx_node.proofs.node.Node.enter_frame.Goals as goal
 
@@ -36,3 +37,6 @@ returns-clause-light g c =
     let stands = rw (← c.self.view_is) at c.requires.stands in
     grows_light c.self.inside.here _ _ c.args.parcel _ _ _ (taken_tidy _ (c.self.inside.taken + 1) stands.tidy)
     (frame_short c.args.bytes c.args.parcel c.requires.spelled) c.push.ensures.entries c.handle.ensures.grows
+
+pub returns-clause-leaves : goal.returns-clause-leaves
+returns-clause-leaves g c = rw (← c.self.view_is) (leaves_from c.args.parcel _ _ _ refl refl refl c.handle.ensures.leaves)

@@ -1,8 +1,9 @@
 use Rattle.std.proofs.Common.{◌<◌, ◌≡◌, ◌∙◌, Some, length, sym, ap}
-use Rattle.std.specs.List.{find, slice_get}
+use Rattle.std.specs.List.{find, slice_get, remove}
 use Rattle.hpx_journal.specs.Local.{is_standing}
 use Rattle.hpx_part.proofs.Keyed.{slice_get_is}
 use Rattle.hpx_node.specs.Tables.{Tables}
+use Rattle.hpx_node.proofs.Recounted.{leaves_freed}
 use Rattle.hpx_node.proofs.Freed.{freed_handles, freed_grows, without_tidy, without_whole}
 use Rattle.hpx_node.proofs.node.Node.free.Goals as goal
 
@@ -56,3 +57,15 @@ returns-clause-grows g c =
     rw here
     (freed_grows c.self.inside.here c.args.o c.remove-kept.result c.state.result.now.ids _ c.args.book.now.entries c.push.new.self.entries _
     seen (ap (λ s. s.ids) c.state.ensures.state) c.push.ensures.entries c.let_go_all.ensures.grows)
+
+pub returns-clause-leaves : goal.returns-clause-leaves
+returns-clause-leaves g c =
+    let inside : c.in-Some.i < length c.self.inside.objects.items = rw (c.as_slice.ensures.value) at c.in-Some.ensures.inside in
+    let there : slice_get c.self.inside.objects.items c.in-Some.i ≡ Some c.remove-kept.result =
+    slice_get_is c.self.inside.objects.items c.in-Some.i c.remove-kept.result inside c.remove-kept.ensures.value in
+    let found : find (is_standing c.args.o) c.self.inside.objects.items ≡ Some c.remove-kept.result =
+    (rw (c.as_slice.ensures.value) at c.in-Some.ensures.found) ∙ there in
+    let before = rw (c.as_slice.ensures.value) at c.in-Some.ensures.first in
+    rw (← c.self.view_is)
+    (leaves_freed c.self.inside.objects.items _ c.args.o c.remove-kept.result c.in-Some.i before there found
+    (ap (λ (t : Tables). t.objects) c.let_go_all.ensures.gives.rest ∙ c.remove-kept.ensures.items))

@@ -46,7 +46,7 @@ returns-clause-ok g c =
     c.follow.ensures.running c.follow.ensures.followed in
     took t s c.enter_frame.new.self c.args.book.now c.reserve_turn.new.book c.in-Ok.parcel
     c.in-Ok-duplicate.bytes c.args.frame.now c.enter_frame.new.book.entries c.reserve_turn.ensures.same c.in-Ok-duplicate.ensures spelled
-    (sym c.broken.ensures ∙ c.in_default.is) c.enter_frame.ensures.writes c.enter_frame.ensures.deals c.enter_frame.ensures.taken
+    (sym c.broken.ensures ∙ c.in_default.is) c.enter_frame.ensures.writes c.enter_frame.ensures.deals c.enter_frame.ensures.leaves c.enter_frame.ensures.taken
     c.enter_frame.ensures.sent c.follow.new.self k.more c.follow.new.book.entries k.continues k.writes c.follow.ensures.taken c.follow.ensures.sent
 
 pub returns-then-is_err-clause-turn : goal.returns-then-is_err-clause-turn

@@ -1,6 +1,8 @@
 use Rattle.std.proofs.Common.{refl, sym, ap, ◌∙◌}
 use Rattle.hpx_agas.specs.Registries.{Registry}
 use Rattle.hpx_journal.specs.Data.{Parcel}
+use Rattle.hpx_node.specs.Tables.{Tables}
+use Rattle.hpx_node.proofs.Recounted.{leaves_returned}
 use Rattle.hpx_node.proofs.Returned.{alive_by, dead_by, live_covers, recounted}
 use Rattle.hpx_node.proofs.node.Node.take_back.Goals as goal
 
@@ -31,3 +33,20 @@ returns-in_default-left-clause-handles g c =
     (alive_by _ _ _ c.args.self.now c.args.id c.in-Some.log c.self.view_is tidy (sym c.log.ensures ∙ c.in-Some.is) live enough
     (recounted _ _ _ _ tidy (ap (λ (x : Registry Parcel). x.births) c.in-Ok.ensures.rest))
     c.in-Ok.ensures.record c.in-Ok.ensures.others (rw c.in_default-left.is at c.in-Ok.ensures.left))
+
+pub returns-in_default-back-clause-leaves : goal.returns-in_default-back-clause-leaves
+returns-in_default-back-clause-leaves g c =
+    let live = rw (← c.self.view_is) at c.requires.live in
+    let enough = rw (← c.self.view_is) at c.requires.enough in
+    absurd (c.in_default-back.ensures.strange.0 refl (live_covers c.self.inside.here c.self.inside.records.records c.args.id live enough))
+
+pub returns-in-Dead-clause-leaves : goal.returns-in-Dead-clause-leaves
+returns-in-Dead-clause-leaves g c =
+    let live = rw (← c.self.view_is) at c.requires.live in
+    rw (← c.self.view_is)
+    (leaves_returned _ _ c.args.id _ live (ap (λ (t : Tables). t.records) c.mail.ensures.mails.rest) c.in-Ok.ensures.others c.in-Ok.ensures.record)
+
+pub returns-in_default-left-clause-leaves : goal.returns-in_default-left-clause-leaves
+returns-in_default-left-clause-leaves g c =
+    let live = rw (← c.self.view_is) at c.requires.live in
+    rw (← c.self.view_is) (leaves_returned _ _ c.args.id _ live refl c.in-Ok.ensures.others c.in-Ok.ensures.record)
