@@ -50,20 +50,20 @@ module _ (n log limit : ℕ) (parcel_of : List ℕ → Option Parcel) (few : n �
   lined line here d low h = rw (place n here few low, le-leb d 4000000000 h) refl
 
   -- an answer that is no id
-  answered_number : (z : ℤ) (slot here d : ℕ) → here < n → d ≤ 4000000000
+  answered_number : (z : ℤ) (slot here d : ℕ) → here < n → d ≤ 4000000000 → slot < d
       → outcome_in (rules n log limit parcel_of) here (set slot (Int z)) (session_state d o) ≡ spoken d (Ref 0 ∷ []) [] (answer_texts (Int z))
   unfolding act_of
-  answered_number z slot here d low h = rw (place n here few low, le-leb d 4000000000 h) refl
+  answered_number z slot here d low h drawn = rw (place n here few low, le-leb d 4000000000 h, lt-ltb slot d drawn) refl
 
-  answered_fault : (code slot here d : ℕ) → here < n → d ≤ 4000000000
+  answered_fault : (code slot here d : ℕ) → here < n → d ≤ 4000000000 → slot < d
       → outcome_in (rules n log limit parcel_of) here (set slot (Fault code)) (session_state d o) ≡ spoken d (Ref 0 ∷ []) [] (answer_texts (Fault code))
   unfolding act_of
-  answered_fault code slot here d low h = rw (place n here few low, le-leb d 4000000000 h) refl
+  answered_fault code slot here d low h drawn = rw (place n here few low, le-leb d 4000000000 h, lt-ltb slot d drawn) refl
 
-  answered_nothing : (slot here d : ℕ) → here < n → d ≤ 4000000000
+  answered_nothing : (slot here d : ℕ) → here < n → d ≤ 4000000000 → slot < d
       → outcome_in (rules n log limit parcel_of) here (set slot Nothing) (session_state d o) ≡ spoken d (Ref 0 ∷ []) [] []
   unfolding act_of
-  answered_nothing slot here d low h = rw (place n here few low, le-leb d 4000000000 h) refl
+  answered_nothing slot here d low h drawn = rw (place n here few low, le-leb d 4000000000 h, lt-ltb slot d drawn) refl
 
   -- questions, where it is an accumulator
   asked_add : (z v : ℤ) (here d : ℕ) → here < n → o.kind ≡ 16 → outcome_in (rules n log limit parcel_of) here (ask o 16 (Int z ∷ []) d) (number_state v)
@@ -245,20 +245,20 @@ module _ (n log limit : ℕ) (parcel_of : List ℕ → Option Parcel) (few : n �
       inr (over_stays k d v (answer_texts answer) steps.0 q (session_next n d d o v (m ∷ []) [] p steps.0 m (session_state d o) x refl at next refl) steps.2)
 
   -- any answer that is no id
-  number_answer : (k slot d : ℕ) (v z : ℤ) (p q : Pool) → d ≤ 4000000000 → At n d o v (set slot (Int z) ∷ []) [] p → Steps (rules n log limit parcel_of) k p q
+  number_answer : (k slot d : ℕ) (v z : ℤ) (p q : Pool) → d ≤ 4000000000 → slot < d → At n d o v (set slot (Int z) ∷ []) [] p → Steps (rules n log limit parcel_of) k p q
       → IsWaiting q ⊎ At n d o v [] (number_text z ∷ []) q
-  number_answer k slot d v z p q h at steps =
-      answer_ends k slot d v (Int z) p q at steps (answered_number n log limit parcel_of few o z slot (p.places session) d at.session_place h)
+  number_answer k slot d v z p q h drawn at steps =
+      answer_ends k slot d v (Int z) p q at steps (answered_number n log limit parcel_of few o z slot (p.places session) d at.session_place h drawn)
 
-  fault_answer : (k slot d : ℕ) (v : ℤ) (code : ℕ) (p q : Pool) → d ≤ 4000000000 → At n d o v (set slot (Fault code) ∷ []) [] p
+  fault_answer : (k slot d : ℕ) (v : ℤ) (code : ℕ) (p q : Pool) → d ≤ 4000000000 → slot < d → At n d o v (set slot (Fault code) ∷ []) [] p
       → Steps (rules n log limit parcel_of) k p q → IsWaiting q ⊎ At n d o v [] (fault_text code ∷ []) q
-  fault_answer k slot d v code p q h at steps =
-      answer_ends k slot d v (Fault code) p q at steps (answered_fault n log limit parcel_of few o code slot (p.places session) d at.session_place h)
+  fault_answer k slot d v code p q h drawn at steps =
+      answer_ends k slot d v (Fault code) p q at steps (answered_fault n log limit parcel_of few o code slot (p.places session) d at.session_place h drawn)
 
-  nothing_answer : (k slot d : ℕ) (v : ℤ) (p q : Pool) → d ≤ 4000000000 → At n d o v (set slot Nothing ∷ []) [] p → Steps (rules n log limit parcel_of) k p q
+  nothing_answer : (k slot d : ℕ) (v : ℤ) (p q : Pool) → d ≤ 4000000000 → slot < d → At n d o v (set slot Nothing ∷ []) [] p → Steps (rules n log limit parcel_of) k p q
       → IsWaiting q ⊎ At n d o v [] [] q
-  nothing_answer k slot d v p q h at steps =
-      answer_ends k slot d v Nothing p q at steps (answered_nothing n log limit parcel_of few o slot (p.places session) d at.session_place h)
+  nothing_answer k slot d v p q h drawn at steps =
+      answer_ends k slot d v Nothing p q at steps (answered_nothing n log limit parcel_of few o slot (p.places session) d at.session_place h drawn)
 
   -- the accumulator acted, and answers
   number_acts : (slot d : ℕ) (v v' : ℤ) (m : Message) (answer : Value) (p q : Pool) → target_in m ≡ o → At n d o v (m ∷ []) [] p
@@ -269,58 +269,58 @@ module _ (n log limit : ℕ) (parcel_of : List ℕ → Option Parcel) (few : n �
       (subst (λ texts. At n d o v' (sent_by m (number_state v) [] x) texts q) prints (number_next n d o v v' (m ∷ []) [] p q m (number_state v) x t at next after))
 
   -- a number is added, by whether the sum fits
-  add_ends : (k slot d : ℕ) (v z : ℤ) (p q : Pool) (b : Bool) → fits (v +ℤ z) ≡ b → d ≤ 4000000000
+  add_ends : (k slot d : ℕ) (v z : ℤ) (p q : Pool) (b : Bool) → fits (v +ℤ z) ≡ b → d ≤ 4000000000 → slot < d
       → At n d o v (ask o 16 (Int z ∷ []) slot ∷ []) [] p → Steps (rules n log limit parcel_of) k p q
       → IsWaiting q ⊎ At n d o (if b then v +ℤ z else v) [] (if b then [] else fault_text 1 ∷ []) q
-  add_ends zero slot d v z p q b e h at steps = inl (still n d o v (ask o 16 (Int z ∷ []) slot) p q at steps)
-  add_ends (suc k) slot d v z p q true e h at steps =
+  add_ends zero slot d v z p q b e h drawn at steps = inl (still n d o v (ask o 16 (Int z ∷ []) slot) p q at steps)
+  add_ends (suc k) slot d v z p q true e h drawn at steps =
       let m = ask o 16 (Int z ∷ []) slot in
       let x : Outcome = outcome_by n (number_state v) (named 0 0 m) (Keeps (Int (v +ℤ z) ∷ []) Nothing) in
       let is : outcome_in (rules n log limit parcel_of) (p.places o) m (number_state v) ≡ x =
       asked_add n log limit parcel_of few o z v (p.places o) slot at.number_place at.kind
       ∙ ap (λ c. outcome_by n (number_state v) (named 0 0 m) (if c then Keeps (Int (v +ℤ z) ∷ []) Nothing else Keeps (Int v ∷ []) (Fault 1))) e in
       let next = only_plain (rules n log limit parcel_of) p steps.0 m (number_state v) x at.pending at.number_at refl is refl steps.1 in
-      nothing_answer k slot d (v +ℤ z) steps.0 q h (number_acts slot d v (v +ℤ z) m Nothing p steps.0 refl at x next refl refl refl) steps.2
-  add_ends (suc k) slot d v z p q false e h at steps =
+      nothing_answer k slot d (v +ℤ z) steps.0 q h drawn (number_acts slot d v (v +ℤ z) m Nothing p steps.0 refl at x next refl refl refl) steps.2
+  add_ends (suc k) slot d v z p q false e h drawn at steps =
       let m = ask o 16 (Int z ∷ []) slot in
       let x : Outcome = outcome_by n (number_state v) (named 0 0 m) (Keeps (Int v ∷ []) (Fault 1)) in
       let is : outcome_in (rules n log limit parcel_of) (p.places o) m (number_state v) ≡ x =
       asked_add n log limit parcel_of few o z v (p.places o) slot at.number_place at.kind
       ∙ ap (λ c. outcome_by n (number_state v) (named 0 0 m) (if c then Keeps (Int (v +ℤ z) ∷ []) Nothing else Keeps (Int v ∷ []) (Fault 1))) e in
       let next = only_plain (rules n log limit parcel_of) p steps.0 m (number_state v) x at.pending at.number_at refl is refl steps.1 in
-      fault_answer k slot d v 1 steps.0 q h (number_acts slot d v v m (Fault 1) p steps.0 refl at x next refl refl refl) steps.2
+      fault_answer k slot d v 1 steps.0 q h drawn (number_acts slot d v v m (Fault 1) p steps.0 refl at x next refl refl refl) steps.2
 
-  query_ends : (k slot d : ℕ) (v : ℤ) (p q : Pool) → d ≤ 4000000000 → At n d o v (ask o 17 [] slot ∷ []) [] p → Steps (rules n log limit parcel_of) k p q
+  query_ends : (k slot d : ℕ) (v : ℤ) (p q : Pool) → d ≤ 4000000000 → slot < d → At n d o v (ask o 17 [] slot ∷ []) [] p → Steps (rules n log limit parcel_of) k p q
       → IsWaiting q ⊎ At n d o v [] (number_text v ∷ []) q
-  query_ends zero slot d v p q h at steps = inl (still n d o v (ask o 17 [] slot) p q at steps)
-  query_ends (suc k) slot d v p q h at steps =
+  query_ends zero slot d v p q h drawn at steps = inl (still n d o v (ask o 17 [] slot) p q at steps)
+  query_ends (suc k) slot d v p q h drawn at steps =
       let m = ask o 17 [] slot in
       let x : Outcome = outcome_by n (number_state v) (named 0 0 m) (Keeps (Int v ∷ []) (Int v)) in
       let is : outcome_in (rules n log limit parcel_of) (p.places o) m (number_state v) ≡ x =
       asked_query n log limit parcel_of few o v (p.places o) slot at.number_place at.kind in
       let next = only_plain (rules n log limit parcel_of) p steps.0 m (number_state v) x at.pending at.number_at refl is refl steps.1 in
-      number_answer k slot d v v steps.0 q h (number_acts slot d v v m (Int v) p steps.0 refl at x next refl refl refl) steps.2
+      number_answer k slot d v v steps.0 q h drawn (number_acts slot d v v m (Int v) p steps.0 refl at x next refl refl refl) steps.2
 
-  reset_ends : (k slot d : ℕ) (v : ℤ) (p q : Pool) → d ≤ 4000000000 → At n d o v (ask o 18 [] slot ∷ []) [] p → Steps (rules n log limit parcel_of) k p q
+  reset_ends : (k slot d : ℕ) (v : ℤ) (p q : Pool) → d ≤ 4000000000 → slot < d → At n d o v (ask o 18 [] slot ∷ []) [] p → Steps (rules n log limit parcel_of) k p q
       → IsWaiting q ⊎ At n d o (pos 0) [] [] q
-  reset_ends zero slot d v p q h at steps = inl (still n d o v (ask o 18 [] slot) p q at steps)
-  reset_ends (suc k) slot d v p q h at steps =
+  reset_ends zero slot d v p q h drawn at steps = inl (still n d o v (ask o 18 [] slot) p q at steps)
+  reset_ends (suc k) slot d v p q h drawn at steps =
       let m = ask o 18 [] slot in
       let x : Outcome = outcome_by n (number_state v) (named 0 0 m) (Keeps (Int (pos 0) ∷ []) Nothing) in
       let is : outcome_in (rules n log limit parcel_of) (p.places o) m (number_state v) ≡ x =
       asked_reset n log limit parcel_of few o v (p.places o) slot at.number_place at.kind in
       let next = only_plain (rules n log limit parcel_of) p steps.0 m (number_state v) x at.pending at.number_at refl is refl steps.1 in
-      nothing_answer k slot d (pos 0) steps.0 q h (number_acts slot d v (pos 0) m Nothing p steps.0 refl at x next refl refl refl) steps.2
+      nothing_answer k slot d (pos 0) steps.0 q h drawn (number_acts slot d v (pos 0) m Nothing p steps.0 refl at x next refl refl refl) steps.2
 
   -- the session has read the line: what is left then, by the command
   read_ends : (k d : ℕ) (v : ℤ) (p q : Pool) (c : Command) → d + 1 ≤ 4000000000
       → At n (drawn_by d c) o v (asked_by o d c) (printed_by c) p → Steps (rules n log limit parcel_of) k p q → IsWaiting q ⊎ IsOver n d o v c q
   read_ends k d v p q (Add z) h at steps =
-      then_ends (λ over. record { drawn = d + 1; few = omega arith; at = over }) (add_ends k d (d + 1) v z p q (fits (v +ℤ z)) refl h at steps)
+      then_ends (λ over. record { drawn = d + 1; few = omega arith; at = over }) (add_ends k d (d + 1) v z p q (fits (v +ℤ z)) refl h (omega arith) at steps)
   read_ends k d v p q Query h at steps =
-      then_ends (λ over. record { drawn = d + 1; few = omega arith; at = over }) (query_ends k d (d + 1) v p q h at steps)
+      then_ends (λ over. record { drawn = d + 1; few = omega arith; at = over }) (query_ends k d (d + 1) v p q h (omega arith) at steps)
   read_ends k d v p q Reset h at steps =
-      then_ends (λ over. record { drawn = d + 1; few = omega arith; at = over }) (reset_ends k d (d + 1) v p q h at steps)
+      then_ends (λ over. record { drawn = d + 1; few = omega arith; at = over }) (reset_ends k d (d + 1) v p q h (omega arith) at steps)
   read_ends k d v p q Help h at steps = inr (record { drawn = d; few = omega arith; at = over_stays k d v (commands ∷ []) p q at steps })
   read_ends k d v p q BadNumber h at steps = inr (record { drawn = d; few = omega arith; at = over_stays k d v (bad_number ∷ []) p q at steps })
   read_ends k d v p q BadCommand h at steps = inr (record { drawn = d; few = omega arith; at = over_stays k d v (bad_command ∷ []) p q at steps })

@@ -43,17 +43,26 @@ answer_texts (Int z) = number_text z ∷ []
 answer_texts (Fault code) = fault_text code ∷ []
 answer_texts _ = []
 
--- the answer to the command that drew a slot: an id is kept, in place of the one before
-abbrev pub answer_effect : List Value → Effect
-answer_effect (Int slot ∷ Ref place ∷ []) = Takes place
-answer_effect (Int slot ∷ value ∷ []) = Prints (answer_texts value)
-answer_effect _ = Unlisted
+-- what is answered: an id is kept, in place of the one before, and all else is printed
+abbrev pub value_effect : Value → Effect
+value_effect (Ref place) = Takes place
+value_effect value = Prints (answer_texts value)
+
+-- a slot that was drawn: they are drawn from 0 on
+abbrev pub is_drawn : ℤ → ℕ → Bool
+is_drawn (pos slot) drawn = nat_lt slot drawn
+is_drawn (negsuc slot) drawn = false
+
+-- the answer to the command that drew a slot
+abbrev pub answer_effect : ℕ → List Value → Effect
+answer_effect drawn (Int slot ∷ value ∷ []) = if is_drawn slot drawn then value_effect value else Unlisted
+answer_effect drawn _ = Unlisted
 
 -- code 4 is LINE, code 3 SET; neither carries a continuation
 abbrev pub session_effect : List Value → ℕ → ℕ → List Value → Option Cont → Effect
 session_effect values drawn code args (Some cont) = Unlisted
 session_effect values drawn code args None =
-    if code == 4 then line_effect values drawn args else if code == 3 then answer_effect args else Unlisted
+    if code == 4 then line_effect values drawn args else if code == 3 then answer_effect drawn args else Unlisted
 
 -- ---- component namespaces
 

@@ -143,14 +143,19 @@ answer_shown (Int z) = length-number_text z
 answer_shown (Fault code) = length-fault_text code
 answer_shown _ = tt
 
-answer_fine : (kind : ℕ) (s : State) (a : Act) → IsSpeaking kind s a → (args : List Value) → a.args ≡ args → IsFine kind s a (Acts.answer_effect args)
-answer_fine kind s a h (Int slot ∷ Ref place ∷ []) e = (h, (slot, e))
-answer_fine kind s a h (Int slot ∷ Nothing ∷ []) e = (h, answer_shown Nothing)
-answer_fine kind s a h (Int slot ∷ Flag b ∷ []) e = (h, answer_shown (Flag b))
-answer_fine kind s a h (Int slot ∷ Int z ∷ []) e = (h, answer_shown (Int z))
-answer_fine kind s a h (Int slot ∷ Text bytes ∷ []) e = (h, answer_shown (Text bytes))
-answer_fine kind s a h (Int slot ∷ Fault code ∷ []) e = (h, answer_shown (Fault code))
-answer_fine kind s a h (Int slot ∷ Ints numbers ∷ []) e = (h, answer_shown (Ints numbers))
+value_fine : (kind : ℕ) (s : State) (a : Act) → IsSpeaking kind s a → (slot : ℤ) (value : Value) → a.args ≡ Int slot ∷ value ∷ []
+    → IsFine kind s a (Acts.value_effect value)
+value_fine kind s a h slot (Ref place) e = (h, (slot, e))
+value_fine kind s a h slot Nothing e = (h, answer_shown Nothing)
+value_fine kind s a h slot (Flag b) e = (h, answer_shown (Flag b))
+value_fine kind s a h slot (Int z) e = (h, answer_shown (Int z))
+value_fine kind s a h slot (Text bytes) e = (h, answer_shown (Text bytes))
+value_fine kind s a h slot (Fault code) e = (h, answer_shown (Fault code))
+value_fine kind s a h slot (Ints numbers) e = (h, answer_shown (Ints numbers))
+
+answer_fine : (kind : ℕ) (s : State) (a : Act) → IsSpeaking kind s a → (args : List Value) → a.args ≡ args → IsFine kind s a (Acts.answer_effect s.drawn args)
+answer_fine kind s a h (Int slot ∷ value ∷ []) e =
+    either_fine kind s a (Acts.is_drawn slot s.drawn) _ _ (λ drawn. value_fine kind s a h slot value e) (λ other. tt)
 answer_fine kind s a h _ e = tt
 
 session_fine : (kind : ℕ) (s : State) (a : Act) → kind ≡ 1 → s.conts ≡ [] → KeepsOne s.values → (cont : Option Cont) → a.cont ≡ cont

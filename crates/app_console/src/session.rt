@@ -1,6 +1,6 @@
 //! The session: it reads lines, asks the accumulator, and prints the answers.
 ghost use Rattle.std.specs.Prelude.{◌≡◌, ◌≤◌, ◌∷◌, [], IfOk};
-ghost use Rattle.app_console.specs.Acts.{session_effect, line_effect, open_effect, command_effect, asks_it, answer_effect, answer_texts};
+ghost use Rattle.app_console.specs.Acts.{session_effect, line_effect, open_effect, command_effect, asks_it, answer_effect, is_drawn, value_effect, answer_texts};
 
 use crate::console::{
     BAD_COMMAND, BAD_NUMBER, COMMANDS, Command, NOT_READY, fault_text, number_text, read_command,
@@ -28,7 +28,7 @@ pub fn session_effect(alloc: Global, state: &State, action: &Act) -> Result<Effe
     }
     match (action.code, action.args.as_slice()) {
         (LINE, [Value::Text(text)]) => line_effect(alloc, state, text),
-        (SET, args) => answer_effect(alloc, args),
+        (SET, args) => answer_effect(alloc, state.drawn, args),
         _ => Ok(Effect::Unlisted),
     }
 }
@@ -90,14 +90,30 @@ fn asks_it(alloc: Global, state: &State, code: u16, args: Values) -> Result<Effe
     })
 }
 
-/// What an answer does: an id is kept, and all else is printed.
-fn answer_effect(alloc: Global, args: &[Value]) -> Result<Effect, OutOfMemory>
-    ensures { IfOk result (λ effect. effect ≡ answer_effect args.now) }
+/// Whether a session that has drawn so many slots has drawn this one.
+fn is_drawn(slot: i64, drawn: u32) -> bool
+    ensures { result ≡ is_drawn slot drawn }
+{
+    0 <= slot && slot < i64::from(drawn)
+}
+
+/// What an answer does, where a command drew its slot.
+fn answer_effect(alloc: Global, drawn: u32, args: &[Value]) -> Result<Effect, OutOfMemory>
+    ensures { IfOk result (λ effect. effect ≡ answer_effect drawn args.now) }
 {
     match args {
-        [Value::Int(_), Value::Ref(place)] => Ok(Effect::Takes(*place)),
-        [Value::Int(_), value] => Ok(Effect::Prints(answer_texts(alloc, value)?)),
+        [Value::Int(slot), value] if is_drawn(*slot, drawn) => value_effect(alloc, value),
         _ => Ok(Effect::Unlisted),
+    }
+}
+
+/// What is answered: an id is kept, and all else is printed.
+fn value_effect(alloc: Global, value: &Value) -> Result<Effect, OutOfMemory>
+    ensures { IfOk result (λ effect. effect ≡ value_effect value.now) }
+{
+    match value {
+        Value::Ref(place) => Ok(Effect::Takes(*place)),
+        value => Ok(Effect::Prints(answer_texts(alloc, value)?)),
     }
 }
 

@@ -60,8 +60,8 @@ fn fed(alloc: Global, knows: bool, text: Text) -> Result<Outcome, OutOfMemory> {
     ACTS.act(alloc, SESSION, 0, &session(alloc, knows)?, &line)
 }
 
-fn answered(alloc: Global, value: Value) -> Result<Outcome, OutOfMemory> {
-    let mut args = list(alloc, &[7])?;
+fn answered(alloc: Global, slot: i64, value: Value) -> Result<Outcome, OutOfMemory> {
+    let mut args = list(alloc, &[slot])?;
     args.push(value)?;
     let answer = action(alloc, SET, args, None);
     ACTS.act(alloc, SESSION, 0, &session(alloc, true)?, &answer)
@@ -164,14 +164,25 @@ fn a_line_prints(rt: HostRuntime) -> Result<(), OutOfMemory> {
 #[test]
 fn an_answer_is_printed_or_kept(rt: HostRuntime) -> Result<(), OutOfMemory> {
     let alloc = rt.alloc();
-    let least = answered(alloc, Value::Int(i64::MIN))?;
+    let least = answered(alloc, 6, Value::Int(i64::MIN))?;
     assert!(rt; prints(&least, b"-9223372036854775808\n"));
-    assert!(rt; prints(&answered(alloc, Value::Fault(1))?, b"error: overflow\n"));
-    assert!(rt; answered(alloc, Value::Unit)?.prints.is_empty());
-    let kept = answered(alloc, Value::Ref(1))?;
+    assert!(rt; prints(&answered(alloc, 0, Value::Fault(1))?, b"error: overflow\n"));
+    assert!(rt; answered(alloc, 6, Value::Unit)?.prints.is_empty());
+    let kept = answered(alloc, 6, Value::Ref(1))?;
     assert!(rt; kept.prints.is_empty());
     // The id of the answer stands behind the one that is kept and the target.
     assert!(rt; matches!(kept.state.values.as_slice(), [Value::Ref(2)]));
+    Ok(())
+}
+
+#[test]
+fn an_answer_to_no_slot_that_was_drawn_is_none(rt: HostRuntime) -> Result<(), OutOfMemory> {
+    let alloc = rt.alloc();
+    for slot in [7, -1, 4294967296] {
+        assert!(rt; answered(alloc, slot, Value::Int(1))?.prints.is_empty());
+        let kept = answered(alloc, slot, Value::Ref(1))?;
+        assert!(rt; matches!(kept.state.values.as_slice(), [Value::Ref(0)]));
+    }
     Ok(())
 }
 
