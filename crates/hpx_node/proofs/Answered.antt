@@ -1,6 +1,6 @@
 -- An ask for more credit is answered.
 use Rattle.std.proofs.Common.{ℕ, Bool, true, false, cond, List, [], ◌∷◌, ◌≡◌, ◌+◌, ◌-◌, ◌^◌, ◌≤◌, ◌<◌, Option, Some, map, length, refl, sym, ap, ◌∙◌, arith, inl, inr, subst}
-use Rattle.std.specs.Prelude.{if◌then◌else◌, IfSome, nat_lt}
+use Rattle.std.specs.Prelude.{if◌then◌else◌, IfSome, is_some, nat_lt, ◌&&◌, ◌==◌}
 use Rattle.std.specs.Option.{option_map_or}
 use Rattle.std.specs.List.{sum_by, count_by, find, list_any}
 use Rattle.std.proofs.lemmas.Bool.{cases_Bool}
@@ -124,6 +124,7 @@ module _ (act_of : ℕ → ℕ → ℕ → State → Act → Outcome) (t m t' : 
     moves = tidy.moves;
     targets = tidy.targets;
     ways = tidy.ways;
+    serves = tidy.serves;
     drawn = tidy.drawn;
     unborn = none_unborn t.births id rec t.records m.records there others tidy.unborn;
     places = one_stays t.here id rec t.records m.records there others (λ x h. asked_stays t.here t.profile rec x (tidy.places id rec there) (sym now ∙ h)) tidy.places;
@@ -259,6 +260,18 @@ yes_free t rec id more h = elim (cases_Bool (nat_lt t.profile.credit_limit (grow
   | inl b ↦ absurd (let e : Yes more ≡ Limit = rw b at h in cc)
   | inr b ↦ (b, let e : Yes more ≡ Yes (record id { log = Some t.profile.credit_log }) = rw b at h in cc)
 ]
+
+granted_home : (full : Bool) (p : Profile) (id more : Id) → Yes more ≡ (if full then Limit else Yes (record id { log = Some p.credit_log })) → more.home ≡ id.home
+granted_home true p id more h = absurd (cc)
+granted_home false p id more h = let e : more ≡ record id { log = Some p.credit_log } = cc in ap (λ (x : Id). x.home) e
+
+-- an id with more credit is of the same home
+pub given_home : (here : ℕ) (records : List Record) (p : Profile) (id more : Id) → ((id.home == here) && is_some (find_record id records)) ≡ true
+    → IfSome (find_record id records) (λ x. Yes more ≡ granted_of p x id) → more.home ≡ id.home
+given_home here records p id more live h =
+    let found = live_record here records id live in
+    granted_home (nat_lt p.credit_limit (grown p found.0)) p id more
+    (subst (λ (o : Option Record). IfSome o (λ x. Yes more ≡ granted_of p x id)) found.1 h)
 
 module _ (act_of : ℕ → ℕ → ℕ → State → Act → Outcome) (t m t' : Tables) (id given : Id) (asker entry : ℕ) (least : id.log ≡ Some 0)
     (live : is_live t id ≡ true) (enough : credit id ≤ count_here t id) (rest : m ≡ record t { records = m.records; spare = m.spare }) (tidy : IsTidy t [])

@@ -14,11 +14,12 @@ use Rattle.hpx_journal.specs.Entries.{Rules}
 use Rattle.hpx_part.specs.Data.{Asked, Token}
 use Rattle.hpx_node.specs.Asks.{asked_events, with_asks, of_ask, AsksFor}
 use Rattle.hpx_node.specs.Changes.{Mails}
-use Rattle.hpx_node.specs.Idle.{Row, weight, goes, causes, hops, Pays}
+use Rattle.hpx_node.specs.Idle.{Row, weight, goes, causes, spends, Pays}
 use Rattle.hpx_node.specs.Routes.{is_other, with_mail}
 use Rattle.hpx_node.specs.Seen.{frees_in, asks}
 use Rattle.hpx_node.specs.Stands.{IsTidy}
 use Rattle.hpx_node.specs.Tables.{Tables, messages}
+use Rattle.hpx_node.proofs.IdleFired.{calm_fired}
 use Rattle.hpx_node.proofs.IdleRows.{Costs, by_rows, nothing, comes_to_free}
 use Rattle.hpx_node.proofs.IdleSteps.{mails_pending}
 use Rattle.hpx_node.proofs.Lacking.{owed, owed_cons}
@@ -57,6 +58,7 @@ counted_tidy t a due h = record {
   fit = h.fit;
   moves = h.moves;
   targets = h.targets;
+  serves = h.serves;
   drawn = h.drawn;
   unborn = h.unborn;
   places = h.places;
@@ -150,7 +152,7 @@ asked_costs : (r : Rules) (o : Id) → Costs r (Asked o) nothing of_ask
 asked_costs r o = record {
   goes = by_rows (λ row. goes r row (Asked o) ≡ 0) refl refl refl refl refl refl refl (λ x. refl);
   causes = by_rows (λ row. causes r row (Asked o) ≡ of_ask row) refl refl refl refl refl refl refl (λ x. refl);
-  hops = omega arith;
+  spends = omega arith;
   calm = λ x. refl;
 }
 
@@ -170,9 +172,9 @@ asked_sums r (id ∷ ids) row =
       ),
     )
 
-asked_hops : (r : Rules) (ids : List Id) → sum_by (hops r) (asked_events ids) ≡ 0
-asked_hops r [] = refl
-asked_hops r (id ∷ ids) = omega (arith, sum_by-cons (hops r) (Asked (bare id)) (asked_events ids), asked_hops r ids)
+asked_spends : (r : Rules) (ids : List Id) → sum_by (spends r) (asked_events ids) ≡ 0
+asked_spends r [] = refl
+asked_spends r (id ∷ ids) = omega (arith, sum_by-cons (spends r) (Asked (bare id)) (asked_events ids), asked_spends r ids)
 
 asked_frees : (r : Rules) (ids : List Id) (o : Id) → sum_by (comes_to_free r o) (asked_events ids) ≡ 0
 asked_frees r [] o = refl
@@ -182,7 +184,8 @@ asked_frees r (id ∷ ids) o = omega (arith, sum_by-cons (comes_to_free r o) (As
 pub pays_asks : (r : Rules) (t t' : Tables) (ids : List Id) → AsksFor ids t t' → Pays r t t' (asked_events ids)
 pays_asks r t t' ids asks = record {
   rows = λ row. let sums = asked_sums r ids row in omega (arith, asks.more row, sums.0, sums.1);
-  kept = omega (arith, asked_hops r ids, ap (λ (x : Tables). length x.accepted) asks.rest);
+  kept = omega (arith, asked_spends r ids, ap (λ (x : Tables). length x.accepted) asks.rest);
+  fired = calm_fired r (length t'.accepted) (asked_events ids) (asked_spends r ids);
   frees = λ o. omega (arith, asked_frees r ids o);
 }
 

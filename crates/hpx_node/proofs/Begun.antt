@@ -7,7 +7,7 @@ use Rattle.std.proofs.lemmas.List.{map-append}
 use Rattle.std.proofs.lemmas.List.Sums.{sum_by-cons, sum_by-append}
 use Rattle.hpx_value.specs.Ids.{bare, same_object}
 use Rattle.hpx_value.specs.Values.{bare_act, bare_state}
-use Rattle.hpx_value.specs.Hands.{id_at, hand_ids}
+use Rattle.hpx_value.specs.Hands.{session, id_at, hand_ids}
 use Rattle.hpx_value.specs.Shapes.{IsState}
 use Rattle.hpx_value.specs.declared.acts.Job.{Job}
 use Rattle.hpx_parcel.specs.Parcels.{HasRightCredit}
@@ -38,7 +38,7 @@ use Rattle.hpx_node.specs.Tables.{Tables, fired_acts}
 use Rattle.hpx_node.specs.Seen.{bare_standing, counted, view}
 use Rattle.hpx_node.specs.Stands.{IsTidy, StandsWith}
 use Rattle.hpx_node.proofs.Alls.{all_append, all_remove, all_set, all_at}
-use Rattle.hpx_node.proofs.Targets.{targets_set}
+use Rattle.hpx_node.proofs.Targets.{stand_set, targets_set}
 use Rattle.hpx_node.proofs.Asking.{asked_long, asked_stay, pays_asks}
 use Rattle.hpx_node.proofs.Bare.{bare_middle}
 use Rattle.hpx_node.proofs.IdleRows.{first_idle}
@@ -325,6 +325,7 @@ module _ (r : Rules) (t : Tables) (entries : List Entry) (i j : ℕ) (job : Job)
     fit = tt;
     moves = h.tidy.moves;
     targets = targets_set t.objects j at.standing lent t.accepted at.stands refl h.tidy.targets;
+    serves = λ first. stand_set (is_standing session) t.objects j at.standing lent at.stands refl (h.tidy.serves first);
     drawn = all_set (λ (x : Standing). 16 ≤ x.object.kind → x.object.home ≡ t.here → x.object.number ≤ t.births) t.objects j lent h.tidy.drawn
         (all_at (λ (x : Standing). 16 ≤ x.object.kind → x.object.home ≡ t.here → x.object.number ≤ t.births) t.objects j at.standing h.tidy.drawn at.stands);
     unborn = h.tidy.unborn;

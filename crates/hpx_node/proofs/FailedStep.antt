@@ -6,7 +6,7 @@ use Rattle.std.proofs.lemmas.List.{map-append}
 use Rattle.std.proofs.lemmas.List.Sums.{sum_by-append}
 use Rattle.hpx_value.specs.Ids.{bare, same_object}
 use Rattle.hpx_value.specs.Values.{bare_act, bare_state}
-use Rattle.hpx_value.specs.Hands.{id_at}
+use Rattle.hpx_value.specs.Hands.{session, id_at}
 use Rattle.hpx_parcel.specs.Parcels.{HasRightCredit, HasCredit}
 use Rattle.hpx_journal.specs.Data.{Id, Act, State}
 use Rattle.hpx_journal.specs.Entries.{Rules, name_of, target_of}
@@ -29,7 +29,7 @@ use Rattle.hpx_node.specs.Seen.{bare_standing, view}
 use Rattle.hpx_node.specs.Stands.{IsTidy, StandsWith}
 use Rattle.hpx_node.specs.Tables.{Tables, fired_acts}
 use Rattle.hpx_node.proofs.Alls.{some_same, all_at, all_set}
-use Rattle.hpx_node.proofs.Targets.{targets_set}
+use Rattle.hpx_node.proofs.Targets.{stand_set, targets_set}
 use Rattle.hpx_node.proofs.Bare.{target-bare, found-bare, bare_middle}
 use Rattle.hpx_node.proofs.Begun.{bare_twice}
 use Rattle.hpx_node.proofs.Cover.{tidy_covers}
@@ -194,6 +194,7 @@ module _ (r : Rules) (t : Tables) (entries : List Entry) (i j : ℕ) (w : Waits)
     fit = due_fit;
     moves = h.tidy.moves;
     targets = targets_set t.objects j x new t.accepted stands refl h.tidy.targets;
+    serves = λ first. stand_set (is_standing session) t.objects j x new stands refl (h.tidy.serves first);
     drawn = all_set (λ (y : Standing). 16 ≤ y.object.kind → y.object.home ≡ t.here → y.object.number ≤ t.births) t.objects j new h.tidy.drawn
         (all_at (λ (y : Standing). 16 ≤ y.object.kind → y.object.home ≡ t.here → y.object.number ≤ t.births) t.objects j x h.tidy.drawn stands);
     unborn = h.tidy.unborn;

@@ -1,6 +1,8 @@
 -- A line is fed.
-use Rattle.std.proofs.Common.{ℕ, List, [], ◌∷◌, ◌++◌, ◌≡◌, ◌+◌, ◌≤◌, Some, length, refl, ap, arith}
-use Rattle.hpx_journal.specs.Entries.{Rules, line_act}
+use Rattle.std.proofs.Common.{ℕ, true, cond, ◌∙◌, length-append, List, [], ◌∷◌, ◌++◌, ◌≡◌, ◌+◌, ◌≤◌, Some, length, refl, ap, arith}
+use Rattle.hpx_value.specs.Hands.{session}
+use Rattle.hpx_journal.specs.Data.{Act}
+use Rattle.hpx_journal.specs.Entries.{Rules, line_act, target_of}
 use Rattle.hpx_part.specs.Data.{Name, Entry, Line}
 use Rattle.hpx_part.specs.Shows.{Leads}
 use Rattle.hpx_part.specs.Parts.{at_all}
@@ -9,9 +11,11 @@ use Rattle.hpx_node.specs.Tables.{Tables}
 use Rattle.hpx_node.specs.Seen.{view}
 use Rattle.hpx_node.specs.Stands.{StandsWith}
 use Rattle.hpx_node.specs.Changes.{Posts}
+use Rattle.hpx_node.specs.Fit.{parcel_for}
+use Rattle.hpx_node.specs.Kept.{stands_here}
+use Rattle.hpx_node.specs.Routes.{with_accepted, with_act, with_mail}
 use Rattle.hpx_node.proofs.Posted.{seen_posted, tells_posted}
 use Rattle.hpx_node.proofs.Steps.{tells_leads, stands_then}
-use Rattle.hpx_node.proofs.Routed.{act_kept}
 use Rattle.hpx_node.proofs.Ended.{answers_none}
 use Rattle.hpx_node.proofs.IdleSteps.{pays_line}
 
@@ -21,6 +25,16 @@ module _ (r : Rules) (t t' : Tables) (entries : List Entry) (bytes : List ℕ) w
 
   abbrev drawn : Tables
   drawn = record t { serial = t.serial + 1 }
+
+  -- it is accepted at once, where the session stands
+  joined : stands_here t session ≡ true → t' ≡ record (with_act (line_act name bytes) drawn) { spare = t'.spare }
+      → length t.accepted + 1 ≤ length t'.accepted
+  joined serves goes =
+      let act = line_act name bytes in
+      let more : t'.accepted ≡ t.accepted ++ act ∷ [] =
+      ap (λ (x : Tables). x.accepted) goes
+      ∙ ap (λ b. (cond b (with_accepted act drawn) (with_mail (target_of act).home (parcel_for act) drawn)).accepted) serves in
+      omega (arith, ap (λ (xs : List Act). length xs) more, length-append t.accepted (act ∷ []))
 
   pub stands_line : t.here ≡ 0 → length bytes ≤ 1025 → Posts (line_act name bytes) drawn t' → StandsWith r t [] [] entries
       → StandsWith r t' [] [] (entries ++ at_all t.here (Line name bytes ∷ []))
@@ -42,6 +56,7 @@ module _ (r : Rules) (t t' : Tables) (entries : List Entry) (bytes : List ℕ) w
         fit = tt;
         moves = h.tidy.moves;
         targets = h.tidy.targets;
+        serves = h.tidy.serves;
         drawn = h.tidy.drawn;
         unborn = h.tidy.unborn;
         places = h.tidy.places;
@@ -54,7 +69,7 @@ module _ (r : Rules) (t t' : Tables) (entries : List Entry) (bytes : List ℕ) w
         asked = omega (arith, ap (λ (x : Tables). x.asked) posts.rest);
         sent = omega (arith, ap (λ (x : Tables). x.sent) posts.rest);
         taken = omega (arith, ap (λ (x : Tables). x.taken) posts.rest);
-        pays = pays_line r t t' name bytes posts.more (act_kept (line_act name bytes) drawn t' posts.goes);
+        pays = pays_line r t t' name bytes posts.more (joined (h.tidy.serves here) posts.goes);
         answers = answers_none r t t' (Line name bytes ∷ []) (ap (λ (x : Tables). x.answered) posts.rest) ((λ s. (refl, refl)), tt);
       })
       leads

@@ -71,6 +71,7 @@ popped_tidy p t tidy = record {
   moves = tidy.moves;
   targets = tidy.targets;
   ways = (tidy.ways.0, tidy.ways.1.1);
+  serves = tidy.serves;
   drawn = tidy.drawn;
   unborn = tidy.unborn;
   places = tidy.places;

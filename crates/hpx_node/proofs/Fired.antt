@@ -103,6 +103,7 @@ module _ (r : Rules) (t : Tables) (entries : List Entry) (i : ℕ) (act : Act) (
         fit = tt;
         moves = all_remove (λ a. IfSome (move_to (bare_act a)) (λ k. k ≡ t.here)) t.accepted i h.tidy.moves;
         targets = all_remove (λ a. stands_here t (target_of a) ≡ true) t.accepted i h.tidy.targets;
+        serves = h.tidy.serves;
         drawn = h.tidy.drawn;
         unborn = h.tidy.unborn;
         places = h.tidy.places;

@@ -35,7 +35,7 @@ use Rattle.hpx_node.specs.Stands.{IsTidy}
 use Rattle.hpx_node.specs.Kept.{waits_here, credit_in, ids_held, held_here}
 use Rattle.hpx_node.specs.Handled.{LetsFree, ups, freed, in_hand, TakesUp, Handles, GivesUp}
 use Rattle.hpx_node.proofs.Alls.{all_at, all_remove}
-use Rattle.hpx_node.proofs.Targets.{targets_less}
+use Rattle.hpx_node.proofs.Targets.{stand_less, targets_less}
 use Rattle.hpx_node.proofs.Sums.{weigh, weigh_append, weigh_remove, tokens_sum, view_sum}
 use Rattle.hpx_node.proofs.Steps.{Tells, tells_leads}
 use Rattle.hpx_node.proofs.InHand.{hand_sum}
@@ -289,6 +289,16 @@ pub without_whole : (t : Tables) (o : Id) (x : Standing) (i : ℕ) → slice_get
 without_whole t o x i there found idle tidy =
     freed_whole t.here t.localities t.profile.credit_log t.objects t.running t.pending i x there o (found_passes o t.objects x found) idle tidy.paused
 
+-- what is managed is not the session
+not_session : (o : Id) (x : Standing) → 16 ≤ o.kind → same_object o x.object ≡ true → same_object session x.object ≡ false
+not_session o x managed same = elim (cases_Bool (same_object session x.object)) [
+  | inl t ↦
+      let first : 1 ≡ x.object.kind = ap (λ (y : Id). y.kind) (same_object-true session x.object t) in
+      let kind : o.kind ≡ x.object.kind = ap (λ (y : Id). y.kind) (same_object-true o x.object same) in
+      absurd (omega (arith, managed, first, kind))
+  | inr f ↦ f
+]
+
 pub without_tidy : (t : Tables) (o : Id) (x : Standing) (i spare : ℕ) → slice_get t.objects i ≡ Some x → find (is_standing o) t.objects ≡ Some x
     → IsBare o → waits_here t o ≡ false → held_here t o ≡ 0 → IsTidy t [] → IsTidy (record t { objects = remove t.objects i; spare = spare }) []
 without_tidy t o x i spare there found is_bare idle none tidy = record {
@@ -301,6 +311,7 @@ without_tidy t o x i spare there found is_bare idle none tidy = record {
   moves = tidy.moves;
   targets = targets_less t.objects i x o t.accepted there (found_passes o t.objects x found) (none_accepted t o is_bare none tidy) tidy.targets;
   ways = tidy.ways;
+  serves = λ first. stand_less (is_standing session) t.objects i x there (not_session o x is_bare.1 (found_passes o t.objects x found)) (tidy.serves first);
   drawn = all_remove (λ (x : Standing). 16 ≤ x.object.kind → x.object.home ≡ t.here → x.object.number ≤ t.births) t.objects i tidy.drawn;
   unborn = tidy.unborn;
   places = tidy.places;

@@ -155,6 +155,7 @@ module _ (r : Rules) (t : Tables) (entries : List Entry) (x : Outgoing) (rest : 
         fit = tt;
         moves = h.moves;
         targets = h.targets;
+        serves = h.serves;
         drawn = h.drawn;
         unborn = h.unborn;
         places = h.places;

@@ -7,16 +7,18 @@ use Rattle.hpx_journal.specs.Data.{Id, Act, Parcel, Return, Ask, Give, Free}
 use Rattle.hpx_journal.specs.Entries.{Rules}
 use Rattle.hpx_part.specs.Data.{Event, Given, Count, Returned, Granted, Refused}
 use Rattle.hpx_node.specs.Tables.{Tables}
-use Rattle.hpx_node.specs.Idle.{Row, Returns, Asks, Gives, Frees, Counts, Refusals, Actions, FreesOf, frees_one, weight, owes, goes, causes, hops, one_if, is_least, unpaid, PaysFor}
+use Rattle.hpx_node.specs.Idle.{Row, Returns, Asks, Gives, Frees, Counts, Refusals, Actions, FreesOf, frees_one, weight, owes, goes, causes, spends, one_if, is_least, unpaid, PaysFor}
 use Rattle.hpx_node.proofs.IdleRows.{by_rows, comes_to_free}
+use Rattle.hpx_node.proofs.IdleFired.{calm_fired}
 
 -- what an entry counts in one row is what the message owed, and what is unpaid then
 pays_count : (r : Rules) (t t' : Tables) (p : Parcel) (e : Event)
-    → ((row : Row) → goes r row e + unpaid row t' ≡ unpaid row t + owes row p + causes r row e) → hops r e ≡ 0 → t'.accepted ≡ t.accepted
+    → ((row : Row) → goes r row e + unpaid row t' ≡ unpaid row t + owes row p + causes r row e) → spends r e ≡ 0 → t'.accepted ≡ t.accepted
     → ((o : Id) → frees_one o p + comes_to_free r o e ≡ 0) → PaysFor r p t t' (e ∷ [])
 pays_count r t t' p e h none same calm = record {
   rows = λ row. omega (arith, h row, sum_by-cons (goes r row) e [], sum_by-cons (causes r row) e []);
-  kept = omega (arith, none, ap (λ (xs : List Act). length xs) same, sum_by-cons (hops r) e []);
+  kept = omega (arith, none, ap (λ (xs : List Act). length xs) same, sum_by-cons (spends r) e []);
+  fired = calm_fired r (length t'.accepted) (e ∷ []) (omega (arith, none, sum_by-cons (spends r) e []));
   frees = λ o. omega (arith, calm o, sum_by-cons (comes_to_free r o) e []);
 }
 

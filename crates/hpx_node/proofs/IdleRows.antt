@@ -15,7 +15,7 @@ use Rattle.hpx_commit.specs.Stocks.{halvings}
 use Rattle.hpx_node.specs.Asks.{first_cuts}
 use Rattle.hpx_node.specs.Commits.{cuts, splits_from}
 use Rattle.hpx_node.specs.Fit.{parcel_for}
-use Rattle.hpx_node.specs.Idle.{Row, Returns, Asks, Gives, Frees, Counts, Refusals, Actions, FreesOf, kind_of, brings, frees_one, weight, owes, goes, causes, hops, of_act}
+use Rattle.hpx_node.specs.Idle.{Row, Returns, Asks, Gives, Frees, Counts, Refusals, Actions, FreesOf, kind_of, brings, frees_one, weight, owes, goes, causes, spends, of_act}
 use Rattle.hpx_node.proofs.Alls.{all_append}
 
 -- one row after the other
@@ -62,7 +62,7 @@ frees_now o e = cond (is_freed o e) 1 0
 
 -- what an entry counts as one that goes, and as a cause; with it comes no Free
 pub record Costs (r : Rules) (e : Event) (g c : Row → ℕ) : Type 0 where
-  pub hops : hops r e ≤ goes r Actions e
+  pub spends : spends r e ≤ goes r Actions e
   pub calm : (o : Id) → comes_to_free r o e ≡ 0
   pub goes : (row : Row) → goes r row e ≡ g row
   pub causes : (row : Row) → causes r row e ≡ c row
@@ -70,19 +70,17 @@ pub record Costs (r : Rules) (e : Event) (g c : Row → ℕ) : Type 0 where
 abbrev pub nothing : Row → ℕ
 nothing row = 0
 
-pub line_costs : (r : Rules) (a : Name) (bytes : List ℕ) → Costs r (Line a bytes) nothing of_act
-line_costs r a bytes = record {
-  goes = by_rows (λ row. goes r row (Line a bytes) ≡ 0) refl refl refl refl refl refl refl (λ o. refl);
-  causes = by_rows (λ row. causes r row (Line a bytes) ≡ of_act row) refl refl refl refl refl refl refl (λ o. refl);
-  hops = omega arith;
-  calm = λ o. refl;
-}
+pub line_goes : (r : Rules) (a : Name) (bytes : List ℕ) (row : Row) → goes r row (Line a bytes) ≡ 0
+line_goes r a bytes = by_rows (λ row. goes r row (Line a bytes) ≡ 0) refl refl refl refl refl refl refl (λ o. refl)
+
+pub line_causes : (r : Rules) (a : Name) (bytes : List ℕ) (row : Row) → causes r row (Line a bytes) ≡ of_act row
+line_causes r a bytes = by_rows (λ row. causes r row (Line a bytes) ≡ of_act row) refl refl refl refl refl refl refl (λ o. refl)
 
 pub sent_costs : (r : Rules) (a : Name) → Costs r (Sent a) nothing of_act
 sent_costs r a = record {
   goes = by_rows (λ row. goes r row (Sent a) ≡ 0) refl refl refl refl refl refl refl (λ o. refl);
   causes = by_rows (λ row. causes r row (Sent a) ≡ of_act row) refl refl refl refl refl refl refl (λ o. refl);
-  hops = omega arith;
+  spends = omega arith;
   calm = λ o. refl;
 }
 
@@ -90,7 +88,7 @@ pub fire_costs : (r : Rules) (a : Name) → Costs r (Fire a) of_act nothing
 fire_costs r a = record {
   goes = by_rows (λ row. goes r row (Fire a) ≡ of_act row) refl refl refl refl refl refl refl (λ o. refl);
   causes = by_rows (λ row. causes r row (Fire a) ≡ 0) refl refl refl refl refl refl refl (λ o. refl);
-  hops = omega arith;
+  spends = omega arith;
   calm = λ o. refl;
 }
 
@@ -98,7 +96,7 @@ pub up_costs : (r : Rules) (o id : Id) (log : ℕ) → Costs r (Up o log) nothin
 up_costs r o id log = record {
   goes = by_rows (λ row. goes r row (Up o log) ≡ 0) refl refl refl refl refl refl refl (λ o. refl);
   causes = by_rows (λ row. causes r row (Up o log) ≡ weight row (Return id)) refl refl refl refl refl refl refl (λ o. refl);
-  hops = omega arith;
+  spends = omega arith;
   calm = λ o. refl;
 }
 
@@ -106,7 +104,7 @@ pub out_costs : (r : Rules) (to : ℕ) (bytes : List ℕ) (p : Parcel) → r.par
 out_costs r to bytes p e = record {
   goes = by_rows (λ row. goes r row (Out to bytes) ≡ weight row p) (rw e refl) (rw e refl) (rw e refl) (rw e refl) (rw e refl) (rw e refl) (rw e refl) (λ o. rw e refl);
   causes = by_rows (λ row. causes r row (Out to bytes) ≡ 0) refl refl refl refl refl refl refl (λ o. refl);
-  hops = rw e (omega arith);
+  spends = rw e (omega arith);
   calm = λ o. refl;
 }
 
@@ -122,8 +120,8 @@ pub in_frees : (r : Rules) (bytes : List ℕ) (p : Parcel) → r.parcel_of bytes
 in_frees r bytes p e o = rw e refl
 
 -- how often its action has gone through a message then
-pub mail_hops : (r : Rules) (p : Parcel) → hops r (Mail (kind_of p)) ≡ brings p
-mail_hops r p = refl
+pub mail_spends : (r : Rules) (p : Parcel) → spends r (Mail (kind_of p)) ≡ brings p
+mail_spends r p = refl
 
 -- a message that is taken from the desk counts what one that goes counts, and causes what one that comes causes
 pub mail_costs : (r : Rules) (p : Parcel) (row : Row) → goes r row (Mail (kind_of p)) + owes row p ≡ weight row p + causes r row (Mail (kind_of p))
@@ -135,9 +133,9 @@ mail_costs r p = by_rows (λ row. goes r row (Mail (kind_of p)) + owes row p ≡
 abbrev pub IsIdle : Rules → Event → Type 0
 IsIdle r e = Costs r e nothing nothing
 
-pub none_hops : (r : Rules) (es : List Event) → AllByRecursion (IsIdle r) es → sum_by (hops r) es ≤ sum_by (goes r Actions) es
-none_hops r [] h = omega arith
-none_hops r (e ∷ es) h = omega (arith, sum_by-cons (hops r) e es, sum_by-cons (goes r Actions) e es, h.0.hops, none_hops r es h.1)
+pub none_spends : (r : Rules) (es : List Event) → AllByRecursion (IsIdle r) es → sum_by (spends r) es ≤ sum_by (goes r Actions) es
+none_spends r [] h = omega arith
+none_spends r (e ∷ es) h = omega (arith, sum_by-cons (spends r) e es, sum_by-cons (goes r Actions) e es, h.0.spends, none_spends r es h.1)
 
 pub none_sums : (r : Rules) (es : List Event) → AllByRecursion (IsIdle r) es → (row : Row)
     → (sum_by (goes r row) es ≡ 0) × (sum_by (causes r row) es ≡ 0)
@@ -156,7 +154,7 @@ pub split_idle : (r : Rules) (o : Id) (log : ℕ) → IsIdle r (Split o log)
 split_idle r o log = record {
   goes = by_rows (λ row. goes r row (Split o log) ≡ 0) refl refl refl refl refl refl refl (λ o. refl);
   causes = by_rows (λ row. causes r row (Split o log) ≡ 0) refl refl refl refl refl refl refl (λ o. refl);
-  hops = omega arith;
+  spends = omega arith;
   calm = λ o. refl;
 }
 
@@ -164,7 +162,7 @@ pub born_idle : (r : Rules) (o : Id) (s : State) → IsIdle r (Born o s)
 born_idle r o s = record {
   goes = by_rows (λ row. goes r row (Born o s) ≡ 0) refl refl refl refl refl refl refl (λ o. refl);
   causes = by_rows (λ row. causes r row (Born o s) ≡ 0) refl refl refl refl refl refl refl (λ o. refl);
-  hops = omega arith;
+  spends = omega arith;
   calm = λ o. refl;
 }
 
@@ -172,7 +170,7 @@ pub done_idle : (r : Rules) (a : Name) → IsIdle r (Done a false)
 done_idle r a = record {
   goes = by_rows (λ row. goes r row (Done a false) ≡ 0) refl refl refl refl refl refl refl (λ o. refl);
   causes = by_rows (λ row. causes r row (Done a false) ≡ 0) refl refl refl refl refl refl refl (λ o. refl);
-  hops = omega arith;
+  spends = omega arith;
   calm = λ o. refl;
 }
 
@@ -180,7 +178,7 @@ pub fail_idle : (r : Rules) (a : Name) → IsIdle r (Done a true)
 fail_idle r a = record {
   goes = by_rows (λ row. goes r row (Done a true) ≡ 0) refl refl refl refl refl refl refl (λ o. refl);
   causes = by_rows (λ row. causes r row (Done a true) ≡ 0) refl refl refl refl refl refl refl (λ o. refl);
-  hops = omega arith;
+  spends = omega arith;
   calm = λ o. refl;
 }
 
@@ -188,7 +186,7 @@ pub print_idle : (r : Rules) (bytes : List ℕ) → IsIdle r (Print bytes)
 print_idle r bytes = record {
   goes = by_rows (λ row. goes r row (Print bytes) ≡ 0) refl refl refl refl refl refl refl (λ o. refl);
   causes = by_rows (λ row. causes r row (Print bytes) ≡ 0) refl refl refl refl refl refl refl (λ o. refl);
-  hops = omega arith;
+  spends = omega arith;
   calm = λ o. refl;
 }
 
@@ -197,7 +195,7 @@ pub freed_costs : (r : Rules) (o : Id) → Costs r (Freed o) (λ row. owes row (
 freed_costs r o = record {
   goes = by_rows (λ row. goes r row (Freed o) ≡ owes row (Free o)) refl refl refl refl refl refl refl (λ x. refl);
   causes = by_rows (λ row. causes r row (Freed o) ≡ 0) refl refl refl refl refl refl refl (λ x. refl);
-  hops = omega arith;
+  spends = omega arith;
   calm = λ x. refl;
 }
 

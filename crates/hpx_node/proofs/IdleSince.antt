@@ -1,17 +1,19 @@
 -- From a passive moment on, the entries alone pay.
-use Rattle.std.proofs.Common.{List, [], ◌++◌, ◌≡◌, ◌≤◌, ◌+◌, map, refl, ap, ◌∙◌, arith}
+use Rattle.std.proofs.Common.{List, [], ◌++◌, ◌≡◌, ◌≤◌, ◌+◌, length, map, subst, refl, ap, ◌∙◌, arith}
 use Rattle.std.specs.List.{sum_by}
+use Rattle.std.proofs.lemmas.List.{map-append}
 use Rattle.std.proofs.lemmas.List.Sums.{sum_by-append}
 use Rattle.hpx_journal.specs.Data.{Parcel}
 use Rattle.hpx_journal.specs.Entries.{Rules}
 use Rattle.hpx_journal.specs.Whole.{part}
 use Rattle.hpx_journal.proofs.Grow.{part_append}
-use Rattle.hpx_part.specs.Data.{Entry}
+use Rattle.hpx_part.specs.Data.{Entry, Event}
 use Rattle.hpx_node.specs.declared.parts.Outgoing.{Outgoing}
 use Rattle.hpx_node.specs.Tables.{Tables, IsPassive, messages}
-use Rattle.hpx_node.specs.Idle.{Row, Actions, weight, goes, causes, hops, queued, unpaid}
+use Rattle.hpx_node.specs.Idle.{Row, Actions, weight, goes, causes, hops, sets_out, spends, fires_one, AreFired, queued, unpaid}
 use Rattle.hpx_node.specs.Stands.{StandsWith}
 use Rattle.hpx_node.proofs.IdleRows.{by_rows}
+use Rattle.hpx_node.proofs.IdleFired.{spends_sum, hops_sum, fired_first, fired_last, sum_events}
 
 none_queued : (row : Row) → queued row [] ≡ 0
 none_queued = by_rows (λ row. queued row [] ≡ 0) refl refl refl refl refl refl refl (λ o. refl)
@@ -44,5 +46,28 @@ paid_since r t t' entries later h passive h' here row =
     )
 
 pub hops_once : (r : Rules) (t : Tables) (entries : List Entry) → StandsWith r t [] [] entries
-    → sum_by (λ (e : Entry). hops r e.event) (part t.here entries) ≤ sum_by (λ (e : Entry). causes r Actions e.event) (part t.here entries)
-hops_once r t entries h = omega (arith, h.paid.once)
+    → sum_by (λ (e : Entry). hops r e.event) (part t.here entries) ≤ sum_by (λ (e : Entry). sets_out r e.event) (part t.here entries)
+hops_once r t entries h = omega (arith, h.paid.once, hops_sum r (part t.here entries))
+
+-- the events of entries
+abbrev events : List Entry → List Event
+events es = map (λ (e : Entry). e.event) es
+
+pub hops_since : (r : Rules) (t t' : Tables) (entries later : List Entry) → StandsWith r t [] [] entries → IsPassive t
+    → StandsWith r t' [] [] (entries ++ later) → t'.here ≡ t.here
+    → sum_by (λ (e : Entry). hops r e.event) (part t.here later) ≤ sum_by (λ (e : Entry). sets_out r e.event) (part t.here later)
+hops_since r t t' entries later h passive h' here =
+    let split : part t'.here (entries ++ later) ≡ part t.here entries ++ part t.here later =
+    ap (λ k. part k (entries ++ later)) here ∙ part_append t.here entries later in
+    let all : AreFired (length t'.accepted) (events (part t.here entries) ++ events (part t.here later)) =
+    subst (AreFired (length t'.accepted)) (ap events split ∙ map-append (λ (e : Entry). e.event) (part t.here entries) (part t.here later)) h'.paid.fired in
+    let these = fired_last (length t'.accepted) (events (part t.here entries)) (events (part t.here later)) all in
+    omega (
+      arith,
+      fired_first (length t'.accepted) (events (part t.here later)) these,
+      spends_sum r (events (part t.here later)),
+      paid_since r t t' entries later h passive h' here Actions,
+      sum_events (spends r) (part t.here later),
+      sum_events (goes r Actions) (part t.here later),
+      hops_sum r (part t.here later),
+    )

@@ -1,6 +1,7 @@
 -- Each step pays for what it does.
-use Rattle.std.proofs.Common.{ℕ, suc, List, [], ◌∷◌, ◌++◌, ◌≡◌, ◌+◌, ◌≤◌, Some, length, length-append, take, drop, refl, ap, arith}
+use Rattle.std.proofs.Common.{ℕ, suc, map, subst, sym, ◌∙◌, List, [], ◌∷◌, ◌++◌, ◌≡◌, ◌+◌, ◌≤◌, Some, length, length-append, take, drop, refl, ap, arith}
 use Rattle.std.specs.List.{sum_by, slice_get, remove, AllByRecursion}
+use Rattle.std.proofs.lemmas.List.{map-append}
 use Rattle.std.proofs.lemmas.List.Sums.{sum_by-cons, sum_by-append}
 use Rattle.hpx_journal.specs.Data.{Id, Act, Parcel, Return, Free}
 use Rattle.hpx_journal.specs.Entries.{Rules}
@@ -9,10 +10,11 @@ use Rattle.hpx_part.specs.Parts.{at_all}
 use Rattle.hpx_part.proofs.Keyed.{split_get}
 use Rattle.hpx_node.specs.Fit.{parcel_for}
 use Rattle.hpx_node.specs.Tables.{Tables, messages}
-use Rattle.hpx_node.specs.Idle.{Row, Returns, Asks, Gives, Frees, Counts, Refusals, Actions, FreesOf, kind_of, brings, weight, owes, goes, causes, hops, of_act, queued, unpaid, Pays, PaysFor, IsPaid}
+use Rattle.hpx_node.specs.Idle.{Row, Returns, Asks, Gives, Frees, Counts, Refusals, Actions, FreesOf, kind_of, brings, weight, owes, goes, causes, spends, of_act, queued, unpaid, joins, fires_one, AreFired, Pays, PaysFor, IsPaid}
 use Rattle.hpx_node.specs.Changes.{Mails}
 use Rattle.hpx_node.specs.Handled.{with_first}
-use Rattle.hpx_node.proofs.IdleRows.{Costs, nothing, IsIdle, none_sums, none_hops, act_weight, line_costs, sent_costs, fire_costs, up_costs, out_costs, in_goes, in_causes, in_frees, mail_costs, mail_hops, freed_costs, comes_to_free, frees_now, none_come}
+use Rattle.hpx_node.proofs.IdleRows.{Costs, nothing, IsIdle, none_sums, none_spends, act_weight, line_goes, line_causes, sent_costs, fire_costs, up_costs, out_costs, in_goes, in_causes, in_frees, mail_costs, mail_spends, freed_costs, comes_to_free, frees_now, none_come}
+use Rattle.hpx_node.proofs.IdleFired.{spends_sum, calm_fired, one_fired, fired_first, fired_then, fired_append, at_events}
 
 -- ---- what is unpaid
 
@@ -88,11 +90,16 @@ paid_more r t t' k es events paid pays = record {
     paid.once,
     pays.kept,
     pays.rows Actions,
-    sum_by-append (λ (e : Entry). hops r e.event) es (at_all k events),
+    sum_by-append (λ (e : Entry). spends r e.event) es (at_all k events),
     sum_by-append (λ (e : Entry). causes r Actions e.event) es (at_all k events),
-    sum_at (hops r) k events,
+    sum_at (spends r) k events,
     sum_at (causes r Actions) k events,
   );
+  fired =
+      subst (AreFired (length t'.accepted))
+      (sym (map-append (λ (e : Entry). e.event) es (at_all k events) ∙ ap (λ xs. map (λ (e : Entry). e.event) es ++ xs) (at_events k events)))
+      (fired_append (length t.accepted) (length t'.accepted) (map (λ (e : Entry). e.event) es) events paid.fired
+      (omega (arith, pays.kept, spends_sum r events)) pays.fired);
   frees = λ o. omega (
     arith,
     paid.frees o,
@@ -107,11 +114,12 @@ paid_more r t t' k es events paid pays = record {
 -- ---- steps
 
 pub pays_one : (r : Rules) (t t' : Tables) (e : Event) (g c : Row → ℕ) → Costs r e g c
-    → ((row : Row) → g row + unpaid row t' ≡ unpaid row t + c row) → hops r e + length t.accepted ≤ g Actions + length t'.accepted
-    → Pays r t t' (e ∷ [])
-pays_one r t t' e g c costs h few = record {
+    → ((row : Row) → g row + unpaid row t' ≡ unpaid row t + c row) → spends r e + length t.accepted ≤ g Actions + length t'.accepted
+    → joins e ≡ 0 → Pays r t t' (e ∷ [])
+pays_one r t t' e g c costs h few none = record {
   rows = λ row. omega (arith, h row, costs.goes row, costs.causes row, one_sum (goes r row) e, one_sum (causes r row) e);
-  kept = omega (arith, few, costs.goes Actions, one_sum (goes r Actions) e, one_sum (hops r) e);
+  kept = omega (arith, few, costs.goes Actions, one_sum (goes r Actions) e, one_sum (spends r) e);
+  fired = one_fired (length t'.accepted) e none;
   frees = λ o. omega (arith, costs.calm o, one_sum (comes_to_free r o) e);
 }
 
@@ -120,23 +128,36 @@ pub pays_idle : (r : Rules) (t t' : Tables) (es : List Event) → AllByRecursion
     → t'.accepted ≡ t.accepted → Pays r t t' es
 pays_idle r t t' es idle h same = record {
   rows = λ row. let sums = none_sums r es idle row in omega (arith, h row, sums.0, sums.1);
-  kept = omega (arith, none_hops r es idle, ap (λ (xs : List Act). length xs) same);
+  kept = omega (arith, none_spends r es idle, ap (λ (xs : List Act). length xs) same);
+  fired = calm_fired r (length t'.accepted) es (let none = (none_sums r es idle Actions).0 in omega (arith, none, none_spends r es idle));
   frees = λ o. omega (arith, none_come r es idle o);
 }
 
+-- a line, whose action is accepted at once
 pub pays_line : (r : Rules) (t t' : Tables) (a : Name) (bytes : List ℕ) → ((row : Row) → unpaid row t' ≡ unpaid row t + of_act row)
-    → length t.accepted ≤ length t'.accepted → Pays r t t' (Line a bytes ∷ [])
-pays_line r t t' a bytes more kept =
-    pays_one r t t' (Line a bytes) nothing of_act (line_costs r a bytes) (λ row. omega (arith, more row)) (omega (arith, kept))
+    → length t.accepted + 1 ≤ length t'.accepted → Pays r t t' (Line a bytes ∷ [])
+pays_line r t t' a bytes more kept = record {
+  rows = λ row. omega (
+    arith,
+    more row,
+    line_goes r a bytes row,
+    line_causes r a bytes row,
+    one_sum (goes r row) (Line a bytes),
+    one_sum (causes r row) (Line a bytes),
+  );
+  kept = omega (arith, kept, one_sum (goes r Actions) (Line a bytes), one_sum (spends r) (Line a bytes));
+  fired = (omega (arith, kept, one_sum joins (Line a bytes)), tt);
+  frees = λ o. omega (arith, one_sum (comes_to_free r o) (Line a bytes));
+}
 
 pub pays_sent : (r : Rules) (t t' : Tables) (a : Name) → ((row : Row) → unpaid row t' ≡ unpaid row t + of_act row)
     → length t.accepted ≤ length t'.accepted → Pays r t t' (Sent a ∷ [])
-pays_sent r t t' a more kept = pays_one r t t' (Sent a) nothing of_act (sent_costs r a) (λ row. omega (arith, more row)) (omega (arith, kept))
+pays_sent r t t' a more kept = pays_one r t t' (Sent a) nothing of_act (sent_costs r a) (λ row. omega (arith, more row)) (omega (arith, kept)) refl
 
 pub pays_up : (r : Rules) (t t' : Tables) (id o : Id) (log : ℕ) → Mails (Return id) t t' → Pays r t t' (Up o log ∷ [])
 pays_up r t t' id o log mails =
     pays_one r t t' (Up o log) nothing (λ row. weight row (Return id)) (up_costs r o id log)
-    (λ row. omega (arith, mails_pending (Return id) t t' mails row)) (omega (arith, ap (λ (x : Tables). length x.accepted) mails.rest))
+    (λ row. omega (arith, mails_pending (Return id) t t' mails row)) (omega (arith, ap (λ (x : Tables). length x.accepted) mails.rest)) refl
 
 pub pays_fire : (r : Rules) (t t' : Tables) (i : ℕ) (act : Act) (a : Name) → slice_get t.accepted i ≡ Some act → messages t' ≡ messages t
     → t'.accepted ≡ remove t.accepted i → Pays r t t' (Fire a ∷ [])
@@ -155,7 +176,7 @@ pays_fire r t t' i act a is same gone =
       ap (λ (xs : List Act). length xs) (split_get t.accepted i act is),
       length-append (take i t.accepted) (act ∷ drop (suc i) t.accepted),
       length-append (take i t.accepted) (drop (suc i) t.accepted),
-    ))
+    )) refl
 
 pub pays_out : (r : Rules) (t t' : Tables) (to : ℕ) (bytes : List ℕ) (p : Parcel) (front back : List Parcel) → r.parcel_of bytes ≡ Some p
     → messages t ≡ front ++ p ∷ back → messages t' ≡ front ++ back → t'.accepted ≡ t.accepted → Pays r t t' (Out to bytes ∷ [])
@@ -171,7 +192,7 @@ pays_out r t t' to bytes p front back spelled before after same =
       sum_by-append (weight row) front back,
       sum_by-cons (weight row) p back,
     ))
-    (omega (arith, costs.hops, costs.goes Actions, ap (λ (xs : List Act). length xs) same))
+    (omega (arith, costs.spends, costs.goes Actions, ap (λ (xs : List Act). length xs) same)) refl
 
 -- ---- a message is taken up
 
@@ -194,8 +215,9 @@ pays_in r t u t' p bytes events spelled same queue pays =
         in_goes r bytes Actions,
         ap (λ (xs : List Act). length xs) queue,
         sum_by-cons (goes r Actions) (In bytes) events,
-        sum_by-cons (hops r) (In bytes) events,
+        sum_by-cons (spends r) (In bytes) events,
       );
+      fired = fired_then (length t'.accepted) (In bytes) events refl pays.fired;
       frees = λ o. omega (
         arith,
         pays.frees o,
@@ -207,7 +229,7 @@ pays_in r t u t' p bytes events spelled same queue pays =
 
 -- from the desk, where an action is accepted
 pub pays_mail : (r : Rules) (t t' : Tables) (p : Parcel) (events : List Event) → brings p + length t.accepted ≤ length t'.accepted
-    → sum_by (hops r) events ≡ 0 → PaysFor r p t t' events → Pays r (with_first p t) t' (Mail (kind_of p) ∷ events)
+    → sum_by (spends r) events ≡ 0 → PaysFor r p t t' events → Pays r (with_first p t) t' (Mail (kind_of p) ∷ events)
 pays_mail r t t' p events kept none pays = record {
   rows = λ row. omega (
     arith,
@@ -217,7 +239,12 @@ pays_mail r t t' p events kept none pays = record {
     sum_by-cons (goes r row) (Mail (kind_of p)) events,
     sum_by-cons (causes r row) (Mail (kind_of p)) events,
   );
-  kept = omega (arith, kept, none, mail_hops r p, sum_by-cons (hops r) (Mail (kind_of p)) events);
+  kept = omega (arith, kept, none, mail_spends r p, sum_by-cons (spends r) (Mail (kind_of p)) events);
+  fired = (
+    (let later = fired_first 0 events (calm_fired r 0 events none) in
+        omega (arith, kept, later, mail_spends r p, sum_by-cons joins (Mail (kind_of p)) events, sum_by-cons fires_one (Mail (kind_of p)) events)),
+    calm_fired r (length t'.accepted) events none,
+  );
   frees = λ o. omega (
     arith,
     pays.frees o,
@@ -234,6 +261,7 @@ pub pays_for_act : (r : Rules) (t t' : Tables) (p : Parcel) → ((row : Row) →
 pays_for_act r t t' p owed more kept = record {
   rows = λ row. omega (arith, owed row, more row);
   kept = omega (arith, kept);
+  fired = tt;
   frees = λ o. omega (arith, owed (FreesOf o));
 }
 
@@ -247,7 +275,8 @@ pays_on r t m t' es fs a b = record {
     sum_by-append (goes r row) es fs,
     sum_by-append (causes r row) es fs,
   );
-  kept = omega (arith, a.kept, b.kept, sum_by-append (goes r Actions) es fs, sum_by-append (hops r) es fs);
+  kept = omega (arith, a.kept, b.kept, sum_by-append (goes r Actions) es fs, sum_by-append (spends r) es fs);
+  fired = fired_append (length m.accepted) (length t'.accepted) es fs a.fired (omega (arith, b.kept, spends_sum r fs)) b.fired;
   frees = λ o. omega (
     arith,
     a.frees o,
@@ -275,11 +304,12 @@ pays_freed r t m t' o events same queue pays =
         arith,
         pays.kept,
         costs.goes Actions,
-        costs.hops,
+        costs.spends,
         ap (λ (xs : List Act). length xs) queue,
         sum_by-cons (goes r Actions) (Freed o) events,
-        sum_by-cons (hops r) (Freed o) events,
+        sum_by-cons (spends r) (Freed o) events,
       );
+      fired = fired_then (length t'.accepted) (Freed o) events refl pays.fired;
       frees = λ x. omega (
         arith,
         pays.frees x,

@@ -100,3 +100,4 @@ pub mod OrderTurns
 pub mod OrderCalls
 pub mod AnsweredEntry
 pub mod Recounted
+pub mod IdleFired

@@ -38,6 +38,7 @@ module _ (t : Tables) (p : Parcel) (spare : ℕ) (fit : IsParcel p) (enough : t.
           fit = h.fit;
           moves = h.moves;
           targets = h.targets;
+          serves = h.serves;
           drawn = h.drawn;
           unborn = h.unborn;
           places = h.places;
@@ -69,6 +70,7 @@ module _ (t : Tables) (p : Parcel) (spare : ℕ) (fit : IsParcel p) (enough : t.
           fit = h.fit;
           moves = h.moves;
           targets = h.targets;
+          serves = h.serves;
           drawn = h.drawn;
           unborn = h.unborn;
           places = h.places;

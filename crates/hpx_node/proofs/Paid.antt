@@ -46,6 +46,7 @@ tidy_rest t x due serial h = record {
   fit = h.fit.1;
   moves = h.moves;
   targets = h.targets;
+  serves = h.serves;
   drawn = h.drawn;
   unborn = h.unborn;
   places = h.places;

@@ -47,6 +47,7 @@ accepted_posts act t spare enough fit stay =
         fit = h.fit;
         moves = all_append (λ a. IfSome (move_to (bare_act a)) (λ to. to ≡ t.here)) t.accepted (act ∷ []) h.moves (stay_moves t act stay, tt);
         targets = all_append (λ a. stands_here t (target_of a) ≡ true) t.accepted (act ∷ []) h.targets (stay_stands t act stay, tt);
+        serves = h.serves;
         drawn = h.drawn;
         unborn = h.unborn;
         places = h.places;

@@ -363,6 +363,7 @@ module _ (r : Rules) (t : Tables) (id : Id) (entry i n spare : ℕ) (w : Waits) 
     fit = tidy.fit;
     moves = tidy.moves;
     targets = tidy.targets;
+    serves = tidy.serves;
     drawn = tidy.drawn;
     unborn = tidy.unborn;
     places = tidy.places;

@@ -217,6 +217,7 @@ module _ (r : Rules) (t m : Tables) (id : Id) (log : ℕ) (rec : Record) (some :
     moves = tidy.moves;
     targets = tidy.targets;
     ways = tidy.ways;
+    serves = tidy.serves;
     drawn = tidy.drawn;
     unborn = none_unborn t.births id rec t.records m.records there others tidy.unborn;
     places = one_stays t.here id rec t.records m.records there others (λ x h. lowered_stays t.here id rec x (tidy.places id rec there) (sym left ∙ h)) tidy.places;

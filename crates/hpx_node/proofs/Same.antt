@@ -20,6 +20,7 @@ tidy_spare t due spare h = record {
   fit = h.fit;
   moves = h.moves;
   targets = h.targets;
+  serves = h.serves;
   drawn = h.drawn;
   unborn = h.unborn;
   places = h.places;
@@ -36,7 +37,7 @@ stands_spare r t due loose es spare h = record {
   asked = h.asked;
   sent = h.sent;
   taken = h.taken;
-  paid = record { rows = h.paid.rows; once = h.paid.once; frees = h.paid.frees };
+  paid = record { rows = h.paid.rows; once = h.paid.once; fired = h.paid.fired; frees = h.paid.frees };
   few_answers = h.few_answers;
   answered = h.answered;
 }

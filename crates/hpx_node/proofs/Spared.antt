@@ -42,6 +42,7 @@ spare_stands act_of t t' b b' same h =
         moves = h.tidy.moves;
         targets = h.tidy.targets;
         ways = h.tidy.ways;
+        serves = h.tidy.serves;
         drawn = h.tidy.drawn;
         unborn = h.tidy.unborn;
         places = h.tidy.places;
@@ -51,7 +52,7 @@ spare_stands act_of t t' b b' same h =
       born = h.born;
       sent = h.sent;
       taken = h.taken;
-      paid = record { rows = h.paid.rows; once = h.paid.once; frees = h.paid.frees };
+      paid = record { rows = h.paid.rows; once = h.paid.once; fired = h.paid.fired; frees = h.paid.frees };
       few_answers = h.few_answers;
       answered = h.answered;
     }))
@@ -154,6 +155,7 @@ first_stands act_of t p rest s entries first h =
         moves = h.tidy.moves;
         targets = h.tidy.targets;
         ways = h.tidy.ways;
+        serves = h.tidy.serves;
         drawn = h.tidy.drawn;
         unborn = h.tidy.unborn;
         places = h.tidy.places;
@@ -163,7 +165,7 @@ first_stands act_of t p rest s entries first h =
       born = h.born;
       sent = h.sent;
       taken = h.taken;
-      paid = record { rows = h.paid.rows; once = h.paid.once; frees = h.paid.frees };
+      paid = record { rows = h.paid.rows; once = h.paid.once; fired = h.paid.fired; frees = h.paid.frees };
       few_answers = h.few_answers;
       answered = h.answered;
     })

@@ -32,12 +32,12 @@ use Rattle.hpx_node.specs.Strange.{broken_near}
 use Rattle.hpx_parcel.specs.Reading.{parcel_of}
 use Rattle.hpx_node.proofs.InHand.{hand_sum}
 use Rattle.hpx_node.proofs.Returned.{any_behind}
-use Rattle.hpx_node.specs.Idle.{hops}
+use Rattle.hpx_node.specs.Idle.{spends}
 use Rattle.hpx_node.specs.Routes.{Accepts}
 use Rattle.hpx_node.proofs.Routed.{accepts_kept}
 use Rattle.hpx_node.proofs.Ended.{LeavesActs, answers_none}
 use Rattle.hpx_node.proofs.IdleSteps.{pays_in, pays_mail}
-use Rattle.hpx_node.proofs.IdleEffects.{effects_hops}
+use Rattle.hpx_node.proofs.IdleEffects.{effects_spends}
 
 -- ---- what is written behind the first entry is no frame
 
@@ -126,7 +126,7 @@ lets_mail r k (Free o) dead own = (refl, eqb-true o.home k own, rw (same_object-
 lets_mail r k _ dead own = tt
 
 pub mailed_stands : (r : Rules) (t t' : Tables) (p : Parcel) (entries : List Entry) (events : List Event) → StandsWith r (with_first p t) [] [] entries
-    → is_own t.here p ≡ true → NoFrame t.here events → sum_by (hops r) events ≡ 0 → Accepts p t t' → Handles r p t t' events
+    → is_own t.here p ≡ true → NoFrame t.here events → sum_by (spends r) events ≡ 0 → Accepts p t t' → Handles r p t t' events
     → StandsWith r t' [] [] (entries ++ at_all t.here (Mail (kind_of p) ∷ events))
 mailed_stands r t t' p entries events h own quiet none accepts handles =
     let leads : Leads r (view (with_first p t) [] []) (Mail (kind_of p) ∷ events) (view t' [] []) = (
@@ -186,6 +186,7 @@ taken_tidy t n tidy = record {
   moves = tidy.moves;
   targets = tidy.targets;
   ways = tidy.ways;
+  serves = tidy.serves;
   drawn = tidy.drawn;
   unborn = tidy.unborn;
   places = tidy.places;
@@ -218,7 +219,7 @@ mailed_by act_of t t' p kind before now after is h own accepts handles one grows
     subst (λ es. StandsWith (rules_of act_of t'.localities t'.profile) t' [] [] es) (sym e)
     (stands_by act_of t.localities t'.localities t.profile t'.profile t' [] [] _ (sym handles.localities) (sym handles.profile)
     (mailed_stands (rules_of act_of t.localities t.profile) t t' p before (effects t p) h own (effects_quiet t.here t p)
-    (effects_hops (rules_of act_of t.localities t.profile) t p) accepts handles))
+    (effects_spends (rules_of act_of t.localities t.profile) t p) accepts handles))
 
 -- what a message does is the same after the frame was counted
 pub effects_taken : (t : Tables) (n : ℕ) (p : Parcel) → effects (record t { taken = n }) p ≡ effects t p

@@ -20,7 +20,7 @@ module _ (p : Standing → Bool) where
   abbrev pub stand : List Standing → Bool
   stand xs = is_some (find p xs)
 
-  stand_set : (xs : List Standing) (j : ℕ) (x y : Standing) → slice_get xs j ≡ Some x → p y ≡ p x → stand xs ≡ true → stand (set xs j y) ≡ true
+  pub stand_set : (xs : List Standing) (j : ℕ) (x y : Standing) → slice_get xs j ≡ Some x → p y ≡ p x → stand xs ≡ true → stand (set xs j y) ≡ true
   stand_set [] j x y at same h = cc
   stand_set (z ∷ xs) zero x y at same h =
       let e : z ≡ x = some_same z x at in
@@ -33,14 +33,14 @@ module _ (p : Standing → Bool) where
     | inr f ↦ rw f (stand_set xs j x y at same (rw f at h))
   ]
 
-  stand_more : (xs ys : List Standing) → stand xs ≡ true → stand (xs ++ ys) ≡ true
+  pub stand_more : (xs ys : List Standing) → stand xs ≡ true → stand (xs ++ ys) ≡ true
   stand_more [] ys h = cc
   stand_more (z ∷ xs) ys h = elim (cases_Bool (p z)) [
     | inl t ↦ rw t refl
     | inr f ↦ rw f (stand_more xs ys (rw f at h))
   ]
 
-  stand_less : (xs : List Standing) (i : ℕ) (x : Standing) → slice_get xs i ≡ Some x → p x ≡ false → stand xs ≡ true → stand (remove xs i) ≡ true
+  pub stand_less : (xs : List Standing) (i : ℕ) (x : Standing) → slice_get xs i ≡ Some x → p x ≡ false → stand xs ≡ true → stand (remove xs i) ≡ true
   stand_less [] i x at other h = cc
   stand_less (z ∷ xs) zero x at other h = let e : z ≡ x = some_same z x at in (rw (e, other) at h)
   stand_less (z ∷ xs) (suc i) x at other h = elim (cases_Bool (p z)) [

@@ -8,6 +8,7 @@ use Rattle.hpx_value.specs.Values.{bare_state}
 use Rattle.hpx_commit.specs.Stocks.{Stock}
 use Rattle.hpx_value.specs.declared.acts.Job.{Job}
 use Rattle.hpx_agas.specs.declared.record.Record.{Record}
+use Rattle.hpx_value.specs.Hands.{session}
 use Rattle.hpx_journal.specs.Data.{Id, Act, State, Outcome}
 use Rattle.hpx_journal.proofs.Same.{same_object-true}
 use Rattle.hpx_part.specs.Data.{Standing}
@@ -23,7 +24,8 @@ use Rattle.hpx_node.specs.Stands.{IsTidy}
 use Rattle.hpx_node.specs.Tables.{Tables}
 use Rattle.hpx_node.proofs.Homes.{all_stay, records_stay}
 use Rattle.hpx_node.proofs.Alls.{all_append, all_at, all_set, get_before}
-use Rattle.hpx_node.proofs.Targets.{targets_set, targets_more}
+use Rattle.hpx_journal.specs.Local.{is_standing}
+use Rattle.hpx_node.proofs.Targets.{stand_set, stand_more, targets_set, targets_more}
 use Rattle.hpx_node.proofs.MadeLists.{bare_alone}
 use Rattle.hpx_node.proofs.Single.{single_made}
 use Rattle.hpx_node.proofs.Plain.{no_ids, plain_values, plain_conts, plain_same}
@@ -147,6 +149,9 @@ module _ (t : Tables) (j : ℕ) (job : Job) (out : Outcome) (standing : Standing
       moves = tidy.moves;
       targets = targets_set (t.objects ++ objects_of t.here t.births xs) j standing new t.accepted
           (get_before t.objects (objects_of t.here t.births xs) j standing stands) refl (targets_more t.objects (objects_of t.here t.births xs) t.accepted tidy.targets);
+      serves = λ first. stand_set (is_standing session) (t.objects ++ objects_of t.here t.births xs) j standing new
+          (get_before t.objects (objects_of t.here t.births xs) j standing stands) refl
+          (stand_more (is_standing session) t.objects (objects_of t.here t.births xs) (tidy.serves first));
       drawn = all_set (Drawn t.here (t.births + length xs)) (t.objects ++ objects_of t.here t.births xs) j new drawn_all
           (λ managed home. let low = all_at (Drawn t.here t.births) t.objects j standing tidy.drawn stands managed home in omega (arith, low));
       unborn = λ o late. find_none (λ (x : Record). same_object o x.gid) t.records (records_of t.here t.births t.profile.credit_log xs)

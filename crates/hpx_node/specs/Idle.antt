@@ -1,5 +1,5 @@
 -- Nothing idle: each message has its cause, and what was caused and has not gone yet is still here.
-use Rattle.std.specs.Prelude.{ℕ, Bool, true, false, cond, List, ◌≡◌, ◌≤◌, ◌+◌, ◌==◌, ◌&&◌, ◌||◌, length, Option, Some, None}
+use Rattle.std.specs.Prelude.{ℕ, Bool, true, false, cond, List, [], ◌∷◌, map, ◌≡◌, ◌≤◌, ◌+◌, ◌==◌, ◌&&◌, ◌||◌, length, Option, Some, None}
 use Rattle.std.specs.List.{sum_by, count_by}
 use Rattle.hpx_value.specs.Ids.{same_object}
 use Rattle.hpx_journal.specs.Data.{Id, Act, Parcel, Apply, Return, Ask, Give, Cached, Move, Go, Shipped, Arrived, Free}
@@ -126,6 +126,33 @@ hops r (Out to bytes) = weighed brings (r.parcel_of bytes)
 hops r (Mail kind) = one_if ((kind == 1) || (kind == 6))
 hops r _ = 0
 
+-- an action is sent, or comes
+abbrev pub sets_out : Rules → Event → ℕ
+sets_out r (In bytes) = weighed brings (r.parcel_of bytes)
+sets_out r (Sent action) = 1
+sets_out r _ = 0
+
+-- an action is accepted for good: that of a line, or one from the desk
+abbrev pub joins : Event → ℕ
+joins (Line action bytes) = 1
+joins (Mail kind) = one_if ((kind == 1) || (kind == 6))
+joins _ = 0
+
+-- an action is fired
+abbrev pub fires_one : Event → ℕ
+fires_one (Fire action) = 1
+fires_one _ = 0
+
+-- from each of these entries on, all actions but n at most that join are fired
+abbrev pub AreFired : ℕ → List Event → Type 0
+AreFired n [] = Unit {0}
+AreFired n (e ∷ es) = (sum_by joins (e ∷ es) ≤ sum_by fires_one (e ∷ es) + n) × AreFired n es
+
+-- what a cause of an action pays for: a line that it is accepted at once, and all else that it goes through one message
+abbrev pub spends : Rules → Event → ℕ
+spends r (Line action bytes) = 1
+spends r e = hops r e
+
 -- ---- tables
 
 -- what an action counts that waits or goes
@@ -146,20 +173,24 @@ unpaid row t = sum_by (weight row) (messages t) + queued row t.accepted
 -- accepted is run, and goes into no message again, as one from the desk is accepted; and what comes to be freed is freed
 pub record Pays (r : Rules) (t t' : Tables) (events : List Event) : Type 0 where
   pub rows : (row : Row) → sum_by (goes r row) events + unpaid row t' ≡ unpaid row t + sum_by (causes r row) events
-  pub kept : sum_by (hops r) events + length t.accepted ≤ sum_by (goes r Actions) events + length t'.accepted
+  pub kept : sum_by (spends r) events + length t.accepted ≤ sum_by (goes r Actions) events + length t'.accepted
+  pub fired : AreFired (length t'.accepted) events
   pub frees : (o : Id) → count_by (takes_such (is_free_of o) r) events ≤ count_by (is_freed o) events
 
 -- the same behind the entry that takes a message up: with what this message causes
 pub record PaysFor (r : Rules) (p : Parcel) (t t' : Tables) (events : List Event) : Type 0 where
   pub rows : (row : Row) → sum_by (goes r row) events + unpaid row t' ≡ unpaid row t + owes row p + sum_by (causes r row) events
-  pub kept : sum_by (hops r) events + length t.accepted ≤ sum_by (goes r Actions) events + length t'.accepted
+  pub kept : sum_by (spends r) events + length t.accepted ≤ sum_by (goes r Actions) events + length t'.accepted
+  pub fired : AreFired (length t'.accepted) events
   pub frees : (o : Id) → frees_one o p + count_by (takes_such (is_free_of o) r) events ≤ count_by (is_freed o) events
 
--- the entries of a part are paid for: in each row what has gone with them, and what is unpaid, is what they caused; each line,
--- each action that is sent and each that comes goes through one message at most; and each Free that came has freed its object
+-- the entries of a part are paid for: in each row what has gone with them, and what is unpaid, is what they caused; each line is
+-- accepted at once, and each action that is sent and each that comes goes through one message at most; from each entry on, what was
+-- accepted for good was fired, or waits still; and each Free that came has freed its object
 pub record IsPaid (r : Rules) (t : Tables) (entries : List Entry) : Type 0 where
   pub rows : (row : Row)
       → sum_by (λ (e : Entry). goes r row e.event) entries + unpaid row t ≡ sum_by (λ (e : Entry). causes r row e.event) entries
-  pub once : sum_by (λ (e : Entry). hops r e.event) entries + sum_by (weight Actions) (messages t)
+  pub once : sum_by (λ (e : Entry). spends r e.event) entries + sum_by (weight Actions) (messages t)
       ≤ sum_by (λ (e : Entry). causes r Actions e.event) entries
+  pub fired : AreFired (length t.accepted) (map (λ (e : Entry). e.event) entries)
   pub frees : (o : Id) → count_events (takes_such (is_free_of o) r) entries ≤ freeds o entries

@@ -5,6 +5,7 @@ use Rattle.std.specs.List.{AllByRecursion, count_by, find}
 use Rattle.hpx_value.specs.Ids.{same_object}
 use Rattle.std.specs.Prelude.{IfSome, Some, None, ◌<◌}
 use Rattle.hpx_value.specs.Values.{bare_act}
+use Rattle.hpx_value.specs.Hands.{session}
 use Rattle.hpx_agas.specs.Records.{find_record}
 use Rattle.hpx_agas.specs.declared.record.Record.{Record}
 use Rattle.hpx_parcel.specs.Parcels.{IsParcel}
@@ -43,7 +44,8 @@ abbrev pub StayAt : ℕ → List Record → Type 0
 StayAt k records = (o : Id) (x : Record) → find_record o records ≡ Some x → StaysAt k x
 
 -- all that is kept, due or on its way is well formed; a MOVE is accepted only to here, and an action only where its object
--- stands; what was born here has a number that was drawn; no object of this home is or goes elsewhere; messages are where they may be
+-- stands; the session stands at locality 0; what was born here has a number that was drawn; no object of this home is or goes
+-- elsewhere; messages are where they may be
 pub record IsTidy (t : Tables) (due : List Due) : Type 0 where
   pub accepted : AllByRecursion IsFit t.accepted
   pub running : AllByRecursion IsFit t.running
@@ -52,6 +54,7 @@ pub record IsTidy (t : Tables) (due : List Due) : Type 0 where
   pub fit : AllByRecursion IsFitDue due
   pub moves : AllByRecursion (λ act. IfSome (move_to (bare_act act)) (λ to. to ≡ t.here)) t.accepted
   pub targets : AllByRecursion (λ act. stands_here t (target_of act) ≡ true) t.accepted
+  pub serves : t.here ≡ 0 → stands_here t session ≡ true
   pub drawn : AllByRecursion (λ x. 16 ≤ x.object.kind → x.object.home ≡ t.here → x.object.number ≤ t.births) t.objects
   pub unborn : (o : Id) → t.births < o.number → find (λ x. same_object o x.gid) t.records ≡ None
   pub places : StayAt t.here t.records

@@ -13,7 +13,7 @@ ghost use Rattle.hpx_part.specs.Data.{Entry};
 ghost use Rattle.hpx_part.specs.Parts.{at_boot};
 ghost use Rattle.hpx_node.specs.Awaited.{awaited_here, awaited_at};
 ghost use Rattle.hpx_node.specs.Tables.{Tables, IsPassive, fired_acts};
-ghost use Rattle.hpx_node.specs.Idle.{Row, Actions, goes, causes, hops, unpaid};
+ghost use Rattle.hpx_node.specs.Idle.{Row, goes, causes, hops, sets_out, unpaid};
 ghost use Rattle.hpx_node.specs.Free.{NoneIsFree};
 ghost use Rattle.hpx_node.specs.Limits.{IsWithin, AddsATurn};
 ghost use Rattle.hpx_node.specs.Kept.{stands_here, held_here, owed_here, held_worth, owed_worth};
@@ -31,7 +31,7 @@ pub fn settled_law()
 {}
 
 /// Nothing idle: in each row what has gone and what is still here is what was caused, from boot on, and from any moment on
-/// at which the node was passive. Actions go through messages no more often than they came, were sent or are lines. An id goes or is
+/// at which the node was passive; and so actions go through messages no more often than they came or were sent. An id goes or is
 /// handed over with no more credit no more often than one came so or was refused here. Where the node is passive each dead object of
 /// its home was freed here or a Free of it was sent, and each Free that came has freed its object.
 pub fn idle_law()
@@ -43,7 +43,10 @@ pub fn idle_law()
         sum_by (λ (e : Entry). goes r row e.event) (part t.here later) + unpaid row t'
         ≡ sum_by (λ (e : Entry). causes r row e.event) (part t.here later) }
     ensures once { (r : Rules) (t : Tables) (entries : List Entry) → StandsWith r t [] [] entries →
-        sum_by (λ (e : Entry). hops r e.event) (part t.here entries) ≤ sum_by (λ (e : Entry). causes r Actions e.event) (part t.here entries) }
+        sum_by (λ (e : Entry). hops r e.event) (part t.here entries) ≤ sum_by (λ (e : Entry). sets_out r e.event) (part t.here entries) }
+    ensures once_since { (r : Rules) (t t' : Tables) (entries later : List Entry) → StandsWith r t [] [] entries → IsPassive t →
+        StandsWith r t' [] [] (entries ++ later) → t'.here ≡ t.here →
+        sum_by (λ (e : Entry). hops r e.event) (part t.here later) ≤ sum_by (λ (e : Entry). sets_out r e.event) (part t.here later) }
     ensures refuses { (r : Rules) (t : Tables) (entries : List Entry) → StandsWith r t [] [] entries → RefusesForCause r (part t.here entries) }
     ensures frees { (r : Rules) (t : Tables) (entries : List Entry) → StandsWith r t [] [] entries → IsPassive t →
         FreesTheDead r t.here (part t.here entries) }

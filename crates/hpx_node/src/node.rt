@@ -2,6 +2,7 @@
 ghost use Rattle.std.specs.Prelude.{◌≡◌, ◌≢◌, ◌≤◌, ◌<◌, ◌+◌, ◌-◌, ◌∷◌, ◌++◌, ◌↔◌, [], ℕ, List, Some, None, IsTrue, OnOk, OnErr, IfOk, IfSome, IfNone, length};
 ghost use Rattle.hpx_value.specs.Profiles.{IsValid};
 ghost use Rattle.hpx_journal.specs.Entries.{move_to};
+ghost use Rattle.hpx_journal.specs.Roots.{roots};
 ghost use Rattle.hpx_parcel.specs.Parcels.{IsParcel};
 ghost use Rattle.hpx_node.specs.Fit.{IsFit};
 ghost use Rattle.hpx_node.specs.Tables.{IsPassive};
@@ -108,6 +109,7 @@ impl<A: Acts + Copy> Node<A> {
         ensures here { IfOk result (λ n. n.here ≡ here) }
         ensures localities { IfOk result (λ n. n.localities ≡ A.count acts) }
         ensures profile { IfOk result (λ n. n.profile ≡ profile) }
+        ensures objects { IfOk result (λ n. n.objects ≡ roots n.localities n.here) }
         ensures passive { IfOk result IsPassive }
         ensures lacks { IfOk result Lacks }
         ensures orderly { IfOk result (λ n. KeepsOrder A.act_of n []) }

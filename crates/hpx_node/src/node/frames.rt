@@ -42,6 +42,7 @@ impl<A: Acts + Copy> Node<A> {
         ensures lacks { Lacks self.old → Lacks self.new }
         ensures orderly { KeepsOrder A.act_of self.old book.old.entries → KeepsOrder A.act_of self.new book.new.entries }
         ensures turn { AddsATurn book.old.entries book.new.entries }
+        ensures page { book.old.spare ≤ book.new.spare + 1 }
         ensures rest { (first : _) (rest : _) → self.old.outgoing ≡ first ∷ rest
             → self.new ≡ record self.old { outgoing = rest; sent = self.old.sent + 1; spare = self.new.spare } }
     {

@@ -1,4 +1,4 @@
-use Rattle.hpx_node.proofs.IdleSince.{paid_since, hops_once}
+use Rattle.hpx_node.proofs.IdleSince.{paid_since, hops_once, hops_since}
 use Rattle.hpx_node.proofs.RowLaws.{refuses_for_cause, frees_the_dead}
 use Rattle.hpx_node.proofs.law.idle_law.Goals as goal
 
@@ -16,3 +16,6 @@ returns-clause-refuses c = λ r t entries stands. refuses_for_cause r t entries 
 
 pub returns-clause-frees : goal.returns-clause-frees
 returns-clause-frees c = λ r t entries stands passive. frees_the_dead r t entries stands passive
+
+pub returns-clause-once_since : goal.returns-clause-once_since
+returns-clause-once_since c = λ r t t' entries later stands passive then here. hops_since r t t' entries later stands passive then here

@@ -7,9 +7,9 @@ use Rattle.hpx_node.specs.Tables.{Tables}
 use Rattle.hpx_node.specs.Handled.{answered}
 use Rattle.hpx_node.proofs.AnsweredEntry.{refused_by_entry, granted_by_entry}
 use Rattle.hpx_journal.specs.Data.{Parcel}
-use Rattle.hpx_node.proofs.Returned.{live_covers, recounted}
+use Rattle.hpx_node.proofs.Returned.{live_home, live_covers, recounted}
 use Rattle.hpx_node.proofs.Recounted.{leaves_asked}
-use Rattle.hpx_node.proofs.Answered.{refused_by, granted_by}
+use Rattle.hpx_node.proofs.Answered.{given_home, refused_by, granted_by}
 use Rattle.hpx_node.proofs.node.Node.answer.Goals as goal
 use Rattle.hpx_node.proofs.node.Node.answer.Goals.{in-Limit, in-Yes}
 
@@ -77,3 +77,16 @@ returns-clause-leaves g c =
     rw (← c.self.view_is)
     (leaves_asked _ _ c.args.id _ live (ap (λ (t : Tables). t.records) c.mail.ensures.mails.rest) c.in-Ok.ensures.others
     c.self.inside.records.profile c.self.invariant.5 c.in-Ok.ensures.record c.args.asker c.args.entry)
+
+pub mail-requires-clause-may : goal.mail-requires-clause-may
+mail-requires-clause-may g c =
+    let live = rw (← c.self.view_is) at c.requires.live in
+    let home : c.args.id.home ≡ c.self.inside.here = live_home c.self.inside.here c.self.inside.records.records c.args.id live in
+    let given : c.match-granted.why.1.home ≡ c.args.id.home = elim c.match-granted.branch [
+      | in-Limit w ↦ ap (λ (p : Reason × Id). p.1.home) w.why-is
+      | in-Yes w ↦
+          ap (λ (p : Reason × Id). p.1.home) w.why-is
+          ∙ given_home c.self.inside.here c.self.inside.records.records c.self.inside.records.profile c.args.id w.in-Yes.more live
+          (rw w.in-Yes.is at c.in-Ok.ensures.granted)
+    ] in
+    rw (c.new.ensures) (sym (given ∙ home))

@@ -15,6 +15,7 @@ use Rattle.hpx_node.specs.Tables.{Tables}
 use Rattle.hpx_node.proofs.Alls.{all_at, find_passes}
 use Rattle.hpx_node.proofs.Prepared.{made_long}
 use Rattle.hpx_node.proofs.ReadyStock.{last_is, brings_by, ready_stock, ready_long, ready_short}
+use Rattle.hpx_node.proofs.Refilled.{asked_within}
 use Rattle.hpx_node.proofs.Right.{give_right}
 use Rattle.hpx_node.proofs.WaitsCommit.{laws_by}
 use Rattle.hpx_node.proofs.node.Node.ready.Goals as goal
@@ -194,3 +195,14 @@ returns-clause-some g c =
       prepared = c.in_ok-prepared.ensures.prepared;
       stock = c.in_ok-prepared.ensures.stock ∙ ap (stock_with t w) (c.as_slice-3.ensures.value ∙ c.in_ok-hand.ensures);
     })
+
+pub hand_with-requires : goal.hand_with-requires
+hand_with-requires g c =
+    let t = c.args.self.now in
+    let w = c.index-waits.result.now in
+    let inside : c.in-Some.i < length c.self.inside.pending.items = rw (c.as_slice.ensures.value) at c.in-Some.ensures.inside in
+    let is : slice_get t.pending c.in-Some.i ≡ Some c.index-waits.result.now =
+    ap (λ (x : Tables). slice_get x.pending c.in-Some.i) (sym c.self.view_is)
+    ∙ slice_get_is c.self.inside.pending.items c.in-Some.i c.index-waits.result.now inside c.index-waits.ensures in
+    let was = all_at (IsPaused t.here t.localities t.profile.credit_log t.objects) t.pending c.in-Some.i w c.requires.tidy.paused.each is in
+    asked_within t.here t.localities t.profile.credit_log t.objects w was
