@@ -10,7 +10,7 @@ use Rattle.hpx_node.specs.Asks.{first_cuts}
 use Rattle.hpx_node.specs.Commits.{cuts, splits_from}
 use Rattle.hpx_node.proofs.Cutting.{at_all_append, cuts_long}
 
-plus_one : (n : ℕ) → suc n ≡ n + 1
+pub plus_one : (n : ℕ) → suc n ≡ n + 1
 plus_one n = omega arith
 
 -- what is written, and what is still to be
@@ -19,7 +19,7 @@ pub record IsCuttingFirst (here own : ℕ) (hand : List Id) (places : List ℕ) 
   pub page : length (first_cuts (own - p) p (drop p hand) places) ≤ spare
   pub used : spare + length (first_cuts own 0 hand places) ≡ first + length (first_cuts (own - p) p (drop p hand) places)
 
-drop_at : (xs : List Id) (p : ℕ) (d : Id) → p < length xs → drop p xs ≡ get_or xs p d ∷ drop (suc p) xs
+pub drop_at : (xs : List Id) (p : ℕ) (d : Id) → p < length xs → drop p xs ≡ get_or xs p d ∷ drop (suc p) xs
 drop_at [] p d lt = absurd (omega (arith, lt))
 drop_at (x ∷ xs) zero d lt = refl
 drop_at (x ∷ xs) (suc p) d lt = drop_at xs p d (omega (arith, lt))

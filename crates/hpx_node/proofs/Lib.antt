@@ -101,3 +101,4 @@ pub mod OrderCalls
 pub mod AnsweredEntry
 pub mod Recounted
 pub mod IdleFired
+pub mod AllCuts

@@ -1,5 +1,5 @@
 //! What it says of a locality's part that its tables stand for it.
-ghost use Rattle.std.specs.Prelude.{◌≡◌, ◌≤◌, ◌+◌, ◌++◌, [], List, is_some, length};
+ghost use Rattle.std.specs.Prelude.{◌≡◌, ◌≤◌, ◌+◌, ◌++◌, [], ℕ, List, is_some, length};
 ghost use Rattle.std.specs.List.{sum_by, count_by, find};
 ghost use Rattle.hpx_journal.specs.Data.{Id};
 ghost use Rattle.hpx_journal.specs.Entries.{Rules};
@@ -11,6 +11,10 @@ ghost use Rattle.hpx_journal.specs.Weights.{HasRoom};
 ghost use Rattle.hpx_journal.specs.Whole.{part, run_local, IsClean};
 ghost use Rattle.hpx_part.specs.Data.{Entry};
 ghost use Rattle.hpx_part.specs.Parts.{at_boot};
+ghost use Rattle.hpx_commit.specs.Deals.{AreWithin};
+ghost use Rattle.hpx_commit.specs.Stocks.{Stock, ahead};
+ghost use Rattle.hpx_node.specs.Asks.{first_cuts};
+ghost use Rattle.hpx_node.specs.Commits.{splits_from};
 ghost use Rattle.hpx_node.specs.Awaited.{awaited_here, awaited_at};
 ghost use Rattle.hpx_node.specs.Tables.{Tables, IsPassive, fired_acts};
 ghost use Rattle.hpx_node.specs.Idle.{Row, goes, causes, hops, sets_out, unpaid};
@@ -50,6 +54,13 @@ pub fn idle_law()
     ensures refuses { (r : Rules) (t : Tables) (entries : List Entry) → StandsWith r t [] [] entries → RefusesForCause r (part t.here entries) }
     ensures frees { (r : Rules) (t : Tables) (entries : List Entry) → StandsWith r t [] [] entries → IsPassive t →
         FreesTheDead r t.here (part t.here entries) }
+{}
+
+/// A commit that waits splits what it has ahead, and splits the rest once it goes on: together as often as one that does not wait,
+/// each id of its hand once less often than it is named.
+pub fn cuts_law()
+    ensures { (n : ℕ) (s : Stock) (hand : List Id) → n ≤ length s.hand → AreWithin s.hand s.places → length hand ≡ length (ahead n s).hand →
+        length (first_cuts n 0 s.hand s.places) + length (splits_from 0 hand (ahead n s).places) ≡ length (splits_from 0 s.hand s.places) }
 {}
 
 /// What calls tell of a node is so at its locality, where its part leads, up to a foreign arrival: which objects stand there, the
