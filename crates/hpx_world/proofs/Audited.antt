@@ -1,6 +1,6 @@
 -- What the lines of an audit tell of the space that the journal leads to.
 use Rattle.std.specs.Result.{IfOk, OnOk}
-use Rattle.std.proofs.Common.{Result, Ok, Err, ℕ, zero, suc, Bool, true, false, cond, List, [], ◌∷◌, ◌++◌, ◌≡◌, ◌≢◌, ◌<◌, ◌≤◌, ◌+◌, ◌-◌, ◌^◌, Some, None, Option, min, length, map, refl, sym, ap, ◌∙◌, subst, arith, inl, inr, zero-add, append-nil}
+use Rattle.std.proofs.Common.{Result, Ok, Err, ℕ, suc, Bool, true, false, cond, List, [], ◌∷◌, ◌≡◌, ◌≢◌, ◌<◌, ◌≤◌, ◌+◌, ◌^◌, Some, None, Option, length, map, refl, sym, ap, ◌∙◌, subst, arith, inl, inr, zero-add, append-nil}
 use Rattle.std.specs.Prelude.{flat_map, not, ◌&&◌, ◌==◌}
 use Rattle.std.specs.Option.{option_map_or}
 use Rattle.std.specs.List.{slice_get, sum_by, count_by, find, AllByRecursion}
@@ -12,14 +12,13 @@ use Rattle.hpx_value.specs.Profiles.{IsValid}
 use Rattle.hpx_value.specs.declared.profile.Profile.{Profile}
 use Rattle.hpx_agas.specs.Records.{find_record, Rises}
 use Rattle.hpx_agas.specs.declared.record.Record.{Record}
-use Rattle.hpx_agas.proofs.RecordsLemmas.{same_parts, find_same, find_like, apart}
+use Rattle.hpx_agas.proofs.RecordsLemmas.{same_parts, find_same, apart}
 use Rattle.hpx_journal.specs.Bags.{total}
 use Rattle.hpx_journal.specs.Data.{Id}
 use Rattle.hpx_journal.specs.Entries.{Rules, Frame}
-use Rattle.hpx_journal.specs.Frames.{tokens_in}
 use Rattle.hpx_journal.specs.Laws.{HasGrammar}
 use Rattle.hpx_journal.specs.Local.{recorded, count_in, is_recorded}
-use Rattle.hpx_journal.specs.Tokens.{worth, is_held, is_owed}
+use Rattle.hpx_journal.specs.Tokens.{worth}
 use Rattle.hpx_part.specs.Parts.{at_boot}
 use Rattle.hpx_journal.specs.Whole.{Space, run_local, IsLegal, IsCarried, replayed, part, road_after, credit_sum, recorded_in}
 use Rattle.hpx_journal.proofs.Bags.{total-same, total-add, total-zero, total-change}
@@ -130,11 +129,11 @@ pub all_each : {X : Type 0} (P : X → Type 0) (xs : List X) → ((i : ℕ) (x :
 all_each P [] h = tt
 all_each P (x ∷ xs) h = (h 0 x refl, all_each P xs (λ i y at. h (suc i) y at))
 
-all_map : {X Y : Type 0} (P : Y → Type 0) (f : X → Y) (xs : List X) → AllByRecursion (λ x. P (f x)) xs → AllByRecursion P (map f xs)
+pub all_map : {X Y : Type 0} (P : Y → Type 0) (f : X → Y) (xs : List X) → AllByRecursion (λ x. P (f x)) xs → AllByRecursion P (map f xs)
 all_map P f [] h = tt
 all_map P f (x ∷ xs) h = (h.0, all_map P f xs h.1)
 
-all_flat : {X Y : Type 0} (P : Y → Type 0) (f : X → List Y) (xs : List X) → AllByRecursion (λ x. AllByRecursion P (f x)) xs → AllByRecursion P (flat_map f xs)
+pub all_flat : {X Y : Type 0} (P : Y → Type 0) (f : X → List Y) (xs : List X) → AllByRecursion (λ x. AllByRecursion P (f x)) xs → AllByRecursion P (flat_map f xs)
 all_flat P f [] h = tt
 all_flat P f (x ∷ xs) h = all_append P (f x) (flat_map f xs) h.0 (all_flat P f xs h.1)
 

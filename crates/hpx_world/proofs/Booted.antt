@@ -48,6 +48,7 @@ booted_sound act_of profile n nodes h count some few = record {
   few = rw count few;
   some = rw count some;
   stand = rw count h.each;
+  within = record { entries = omega arith; weight = omega arith };
 }
 
 pub none_runs_more : (nodes : List Tables) (t : Tables) → NoneRuns nodes → IsPassive t → NoneRuns (nodes ++ t ∷ [])

@@ -2,19 +2,20 @@
 use Rattle.std.proofs.Common.{true, false, Bool, ℕ, zero, suc, List, [], ◌∷◌, ◌++◌, ◌≡◌, ◌<◌, Some, None, Ok, Err, Option, Result, refl, sym, ap, ◌∙◌, subst, arith, length, get_or, set, map, append-nil}
 use Rattle.std.specs.Option.{IfSome, IfNone}
 use Rattle.std.specs.Result.{IfOk, IfErr, OnOk, OnErr}
-use Rattle.std.specs.List.{slice_get, AllByRecursion}
+use Rattle.std.specs.List.{slice_get}
 use Rattle.hpx_value.specs.declared.acts.Job.{Job}
 use Rattle.hpx_value.specs.declared.profile.Profile.{Profile}
 use Rattle.hpx_journal.specs.Data.{Act, Outcome}
-use Rattle.hpx_journal.specs.Entries.{Rules, name_of}
+use Rattle.hpx_journal.specs.Entries.{name_of}
 use Rattle.hpx_journal.specs.Weights.{Book}
-use Rattle.hpx_part.specs.Data.{Name, Event, Entry, Line, Fire, In, Mail}
+use Rattle.hpx_part.specs.Data.{Name, Event, Entry, Line, Fire, Mail}
 use Rattle.hpx_part.proofs.Keyed.{slice_get_is}
 use Rattle.hpx_node.specs.Asks.{Begins, splits_before, asked_events, lacking}
 use Rattle.hpx_node.specs.Changes.{Writes, OnlySpare}
 use Rattle.hpx_node.specs.Commits.{committed}
-use Rattle.hpx_node.specs.Handled.{Takes, Clears, effects, kind_of}
+use Rattle.hpx_node.specs.Handled.{Clears, effects, kind_of}
 use Rattle.hpx_node.specs.Lacks.{Lacks}
+use Rattle.hpx_node.specs.Limits.{IsWithin}
 use Rattle.hpx_node.specs.Orders.{KeepsOrder}
 use Rattle.hpx_node.specs.Stands.{Stands, rules_of}
 use Rattle.hpx_node.specs.Tables.{Tables}
@@ -169,9 +170,9 @@ module _ (act_of : Meaning) (profile : Profile) (nodes : List Tables) (es : List
   within = rw here_at lt
 
   module _ (es' : List Entry) (w : WritesInside t t' es es') where
-    pub sound_inside : Stands act_of t' es' → (Lacks t → Lacks t') → (KeepsOrder act_of t es → KeepsOrder act_of t' es')
+    pub sound_inside : Stands act_of t' es' → (Lacks t → Lacks t') → (KeepsOrder act_of t es → KeepsOrder act_of t' es') → IsWithin es'
         → IsSound act_of profile (set nodes k t') es'
-    sound_inside stands lacks orderly = sound_grows act_of profile nodes es h k t t' w.events es' lt is w.writes stands lacks orderly
+    sound_inside stands lacks orderly within = sound_grows act_of profile nodes es h k t t' w.events es' lt is w.writes stands lacks orderly within
 
     pub inside_at : IsInside (rules_of act_of (length nodes) profile) es es'
     inside_at = inside_of t t' w.events es es' w.writes (rules_of act_of (length nodes) profile) within w.inner

@@ -1,6 +1,6 @@
 -- A live record is found by its own id, and its line tells of it.
 use Rattle.std.proofs.Common.{ℕ, zero, suc, List, [], ◌∷◌, ◌≡◌, ◌<◌, Some, None, Option, refl, sym, ap, ◌∙◌, subst, arith}
-use Rattle.std.specs.Prelude.{option_map, map, take, ◌++◌, ◌+◌, ◌-◌, length}
+use Rattle.std.specs.Prelude.{option_map, map, take, ◌++◌, ◌-◌, length}
 use Rattle.std.specs.Option.{option_map_or}
 use Rattle.std.specs.List.{slice_get}
 use Rattle.hpx_agas.specs.Records.{find_record, Rises}
@@ -12,7 +12,7 @@ use Rattle.hpx_node.specs.Tables.{Tables}
 use Rattle.hpx_world.specs.Audit.{held_in_all, audit_line}
 use Rattle.hpx_world.specs.declared.audit.AuditLine.{AuditLine}
 
-above : (low : ℕ) (rs : List Record) (i : ℕ) (r : Record) → Rises low rs → slice_get rs i ≡ Some r → low < r.gid.number
+pub above : (low : ℕ) (rs : List Record) (i : ℕ) (r : Record) → Rises low rs → slice_get rs i ≡ Some r → low < r.gid.number
 above low [] i r h at = absurd (cc)
 above low (x ∷ xs) zero r h at = let e : x ≡ r = cc in subst (λ (y : Record). low < y.gid.number) e h.0
 above low (x ∷ xs) (suc i) r h at = omega (arith, h.0, above x.gid.number xs i r h.1 at)

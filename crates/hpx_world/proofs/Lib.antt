@@ -12,6 +12,7 @@ pub mod Idle
 pub mod Jobs
 pub mod Worked
 pub mod Next
+pub mod Stepped
 pub mod Refused
 pub mod Never
 pub mod Handed
@@ -22,6 +23,7 @@ pub mod FewFrames
 pub mod Turned
 pub mod Found
 pub mod Audited
+pub mod Ordered
 pub mod Shown
 pub mod Welcome
 pub mod SentRight
@@ -32,3 +34,4 @@ pub mod Rightly
 pub mod Strange
 pub mod Lacking
 pub mod Settled
+pub mod AtHome

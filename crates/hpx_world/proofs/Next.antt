@@ -69,11 +69,11 @@ module _ (nodes nodes' : List Tables) (es es' : List Entry) where
   cleared_none k turned.Empty not h = h
   cleared_none k _ not h = absurd h
 
-  pub pumped_none : (k : ℕ) (x : Turned) → x ≢ turned.Moved → DidPump k x nodes nodes' es es'
-      → IsSame nodes nodes' es es' × ((t : Tables) → slice_get nodes k ≡ Some t → SendsNothing t)
-  pumped_none k turned.Moved not h = absurd (not refl)
-  pumped_none k turned.Empty not h = h
-  pumped_none k _ not h = absurd h
+  pub pumped_none : (Put : Option Frame → Type 0) (k : ℕ) (x : Turned) → x ≢ turned.Moved → DidPump Put k x nodes nodes' es es'
+      → Put None × IsSame nodes nodes' es es' × ((t : Tables) → slice_get nodes k ≡ Some t → SendsNothing t)
+  pumped_none Put k turned.Moved not h = absurd (not refl)
+  pumped_none Put k turned.Empty not h = h
+  pumped_none Put k _ not h = absurd h
 
   pub took_none : (Got : Option Frame → Type 0) (x : Turned) → x ≢ turned.Moved → DidTake Got x nodes nodes' es es'
       → Got None × (sum_by (λ t. t.taken) nodes ≡ sum_by (λ t. t.sent) nodes) × IsSame nodes nodes' es es'

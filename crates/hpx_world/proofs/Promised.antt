@@ -11,7 +11,7 @@ use Rattle.hpx_journal.proofs.Fronts.{legal_front, legal_rest}
 use Rattle.hpx_journal.proofs.Grow.{join_front}
 use Rattle.hpx_journal.proofs.Quiet.{legal_freed_once, legal_gone, legal_away, freed_managed}
 use Rattle.hpx_journal.proofs.SlotsWhole.{legal_slots}
-use Rattle.hpx_journal.proofs.Start.{first, joined_legal, joined_named, joined_asked, joined_backed, joined_dead, legal_sums, legal_dies, legal_freed_dead, legal_begun, legal_fires_begun, legal_dones, legal_dones_where, legal_stands, legal_commits, legal_fails}
+use Rattle.hpx_journal.proofs.Start.{first, joined_legal, joined_named, joined_asked, joined_backed, joined_dead, legal_sums, legal_dies, legal_freed_dead, legal_begun, legal_fires_begun, legal_dones, legal_dones_where, legal_running, legal_stands, legal_commits, legal_fails}
 use Rattle.hpx_part.specs.Data.{Entry, Done, Freed, Count, Granted, Refused}
 use Rattle.hpx_part.specs.Parts.{at_boot}
 use Rattle.hpx_node.specs.Stands.{rules_of}
@@ -60,6 +60,7 @@ module _ (r : Rules) (es : List Entry) (grammar : HasGrammar r) (join : IsJoin r
     fired_once = λ a. legal_fires_begun r es legal a;
     done_once = λ a. legal_dones r es legal a;
     done_where = λ a k. legal_dones_where r es legal k a;
+    runs = λ front later e k a. legal_running r front (legal_front r (first r) front later (legal_at front later e)) k a;
     stands = λ front later e k. legal_stands r front (legal_front r (first r) front later (legal_at front later e)) k;
     committed = λ front later k a e. legal_commits r front later k a (legal_at front (entry_at k (Done a false) ∷ later) e);
     failed = λ front later k a e. legal_fails r front later k a (legal_at front (entry_at k (Done a true) ∷ later) e);

@@ -1,5 +1,5 @@
 -- A call of one node keeps all localities sound.
-use Rattle.std.proofs.Common.{true, ℕ, zero, suc, List, [], ◌∷◌, ◌++◌, ◌≡◌, ◌≢◌, ◌<◌, ◌≤◌, ◌+◌, Some, refl, sym, ap, ◌∙◌, subst, arith, length, get_or, set, length-set, append-nil, inl, inr}
+use Rattle.std.proofs.Common.{ℕ, zero, suc, List, [], ◌∷◌, ◌++◌, ◌≡◌, ◌≢◌, ◌<◌, ◌+◌, Some, refl, sym, ap, ◌∙◌, subst, arith, length, get_or, set, length-set, append-nil, inl, inr}
 use Rattle.std.specs.List.{slice_get, count_by, AllByRecursion}
 use Rattle.std.proofs.lemmas.Bool.{cases_eq}
 use Rattle.std.proofs.lemmas.List.{length-append}
@@ -20,6 +20,7 @@ use Rattle.hpx_node.specs.Awaited.{is_answer}
 use Rattle.hpx_node.specs.Changes.{Writes}
 use Rattle.hpx_node.specs.Idle.{IsPaid}
 use Rattle.hpx_node.specs.Lacks.{Lacks}
+use Rattle.hpx_node.specs.Limits.{IsWithin}
 use Rattle.hpx_node.specs.Orders.{IsOrderly, KeepsOrder}
 use Rattle.hpx_node.specs.Seen.{view}
 use Rattle.hpx_node.specs.Stands.{Stands, StandsWith, rules_of}
@@ -107,7 +108,7 @@ module _ (act_of : Meaning) (profile : Profile) (nodes : List Tables) (es : List
 
   module _ (k : ℕ) (t t' : Tables) (events : List Event) (es' : List Entry) (lt : k < length nodes) (is : t ≡ get_or nodes k t)
       (writes : Writes events t t' es es') (stands : Stands act_of t' es') (lacks : Lacks t → Lacks t')
-      (orderly : KeepsOrder act_of t es → KeepsOrder act_of t' es') where
+      (orderly : KeepsOrder act_of t es → KeepsOrder act_of t' es') (within : IsWithin es') where
     own : StandsAt act_of (length nodes) profile k t es
     own = sound_at k t lt is
 
@@ -146,6 +147,7 @@ module _ (act_of : Meaning) (profile : Profile) (nodes : List Tables) (es : List
           few = rw n h.few;
           some = rw n h.some;
           stand = rw n nodes';
+          within = within;
         }
 
 pub get_some : (xs : List Tables) (k : ℕ) → k < length xs → (x : Tables) × (slice_get xs k ≡ Some x)

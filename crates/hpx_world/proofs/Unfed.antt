@@ -1,5 +1,5 @@
 -- What turns write, one after another: nothing is fed, and what is done is written.
-use Rattle.std.proofs.Common.{ℕ, List, [], ◌∷◌, ◌++◌, ◌≡◌, ◌+◌, ◌<◌, ◌≤◌, Ok, Err, Option, Result, refl, sym, ap, ◌∙◌, arith, length, append-nil, append_assoc, length-append}
+use Rattle.std.proofs.Common.{ℕ, List, [], ◌∷◌, ◌++◌, ◌≡◌, ◌+◌, ◌<◌, ◌≤◌, Ok, Err, Option, Result, sym, ap, ◌∙◌, arith, length, append-nil, append_assoc, length-append}
 use Rattle.std.specs.List.{AllByRecursion}
 use Rattle.std.specs.Result.{IfOk, OnErr}
 use Rattle.hpx_value.specs.declared.acts.Job.{Job}
@@ -11,7 +11,7 @@ use Rattle.hpx_part.specs.Parts.{at_all}
 use Rattle.hpx_node.specs.Asks.{splits_before, asked_events, lacking}
 use Rattle.hpx_node.specs.Changes.{Writes}
 use Rattle.hpx_node.specs.Commits.{committed}
-use Rattle.hpx_node.specs.Handled.{Takes, Clears, effects, kind_of}
+use Rattle.hpx_node.specs.Handled.{effects, kind_of}
 use Rattle.hpx_node.specs.Tables.{Tables}
 use Rattle.hpx_node.specs.declared.parts.Finished.TheVariants.{Committed, Asking, NotRunning}
 use Rattle.hpx_world.specs.declared.turns.Turned.{Turned}
@@ -92,18 +92,19 @@ module _ (nodes nodes' : List Tables) (es es' : List Entry) where
   cleared_unfed k turned.Empty h = unfed_none es es' h.0.journal
   cleared_unfed k _ h = absurd h
 
-  pub pumped_unfed : (k : ℕ) (x : Turned) → DidPump k x nodes nodes' es es' → IsUnfed es es'
-  pumped_unfed k turned.Moved h =
-      unfed_writes (Out h.does.first.to h.does.bytes ∷ []) h.before h.after es es' h.does.writes (tt, tt)
-  pumped_unfed k turned.Empty h = unfed_none es es' h.0.journal
-  pumped_unfed k _ h = absurd h
+  pub pumped_unfed : (Put : Option Frame → Type 0) (k : ℕ) (x : Turned) → DidPump Put k x nodes nodes' es es' → IsUnfed es es'
+  pumped_unfed Put k turned.Moved h =
+      let d = h.2 in
+      unfed_writes (Out h.0.0 h.0.1 ∷ []) d.before d.after es es' d.does.writes (tt, tt)
+  pumped_unfed Put k turned.Empty h = unfed_none es es' h.1.journal
+  pumped_unfed Put k _ h = absurd h
 
   -- where one is dealt with, sent or accepted
   pub cleared_longer : (k : ℕ) → DidDesk k turned.Moved nodes nodes' es es' → length es < length es'
   cleared_longer k h = let c = h.does in writes_longer (Mail (kind_of c.parcel)) (effects h.before c.parcel ++ c.more) h.before h.after es es' c.writes
 
-  pub pumped_longer : (k : ℕ) → DidPump k turned.Moved nodes nodes' es es' → length es < length es'
-  pumped_longer k h = writes_longer (Out h.does.first.to h.does.bytes) [] h.before h.after es es' h.does.writes
+  pub pumped_longer : (Put : Option Frame → Type 0) (k : ℕ) → DidPump Put k turned.Moved nodes nodes' es es' → length es < length es'
+  pumped_longer Put k h = let d = h.2 in writes_longer (Out h.0.0 h.0.1) [] d.before d.after es es' d.does.writes
 
   pub fired_longer : (k : ℕ) (job : Job) → DidFire k (turned.Fired job) nodes nodes' es es' → length es < length es'
   fired_longer k job h = writes_longer (Fire (name_of job.action)) [] h.before h.after es es' h.does.writes

@@ -1,5 +1,5 @@
 -- The audit of all localities.
-use Rattle.std.specs.Prelude.{ℕ, List, ◌≡◌, ◌≤◌, ◌<◌, ◌+◌, ◌-◌, ◌^◌, min, map, flat_map, true}
+use Rattle.std.specs.Prelude.{ℕ, List, [], ◌∷◌, ◌≡◌, ◌≤◌, ◌<◌, ◌⊎◌, ◌+◌, ◌-◌, ◌^◌, min, map, flat_map}
 use Rattle.std.specs.List.{sum_by, count_by, AllByRecursion}
 use Rattle.hpx_value.specs.Ids.{same_object}
 use Rattle.hpx_agas.specs.declared.record.Record.{Record}
@@ -7,6 +7,7 @@ use Rattle.hpx_journal.specs.Bags.{total}
 use Rattle.hpx_journal.specs.Data.{Id}
 use Rattle.hpx_journal.specs.Entries.{Rules}
 use Rattle.hpx_journal.specs.Frames.{tokens_in}
+use Rattle.hpx_journal.specs.Natives.{StandsAtHome}
 use Rattle.hpx_journal.specs.Tokens.{worth}
 use Rattle.hpx_journal.specs.Whole.{Space, recorded_in}
 use Rattle.hpx_node.specs.Kept.{HasRecords, held_here, held_worth, owed_worth}
@@ -39,6 +40,15 @@ audit_lines nodes = flat_map (lines_at nodes) nodes
 abbrev pub HaveRecords : List Tables → Type 0
 HaveRecords nodes = AllByRecursion HasRecords nodes
 
+-- a line goes before another: its home is lesser, or it is the same and its number is lesser
+abbrev pub IsBefore : AuditLine → AuditLine → Type 0
+IsBefore x y = (x.gid.home < y.gid.home) ⊎ ((x.gid.home ≡ y.gid.home) × (x.gid.number < y.gid.number))
+
+-- each line goes before all that come later
+abbrev pub AreOrdered : List AuditLine → Type 0
+AreOrdered [] = Unit {0}
+AreOrdered (x ∷ xs) = AllByRecursion (IsBefore x) xs × AreOrdered xs
+
 -- ---- what they say of the space
 
 -- the credits of o that are held at the localities
@@ -62,3 +72,7 @@ pub record Tells (r : Rules) (w : Space) (x : AuditLine) : Type 0 where
 pub record IsAudit (r : Rules) (w : Space) (lines : List AuditLine) : Type 0 where
   pub tell : AllByRecursion (Tells r w) lines
   pub each : (o : Id) → 1 ≤ recorded_in o w → count_by (λ x. same_object o x.gid) lines ≡ 1
+
+-- each object that they tell of stands at its home
+abbrev pub StandAtHome : Rules → Space → List AuditLine → Type 0
+StandAtHome r w lines = AllByRecursion (λ (x : AuditLine). StandsAtHome r.localities w x.gid) lines

@@ -47,6 +47,12 @@ abbrev pub Fetches : Option Frame → Option (List Frame) → Option (List Frame
 Fetches None flight flight' trace trace' got = Delivers flight flight' got × (trace' ≡ followed trace (events_of got))
 Fetches (Some frame) flight flight' trace trace' got = (got ≡ Some frame) × (flight' ≡ flight) × (trace' ≡ trace)
 
+-- a frame that k sends is taken by the fabric; without one nothing is sent
+abbrev pub Puts : ℕ → Option (List Frame) → Option (List Frame) → Option (List Wire) → Option (List Wire) → Option Frame → Type 0
+Puts k flight flight' trace trace' None = (flight' ≡ flight) × (trace' ≡ trace)
+Puts k flight flight' trace trace' (Some frame) =
+    (flight' ≡ followed flight (frame ∷ [])) × (trace' ≡ followed trace (SentWire k frame.0 frame.1 ∷ []))
+
 -- no frame was sent or accepted
 pub record IsInside (r : Rules) (entries entries' : List Entry) : Type 0 where
   pub carried : IsCarried r [] entries → IsCarried r [] entries'

@@ -4,7 +4,7 @@ use Rattle.hpx_value.specs.Hands.{Slot}
 use Rattle.hpx_journal.specs.Data.{Id}
 use Rattle.hpx_journal.specs.Entries.{Rules}
 use Rattle.hpx_journal.specs.Foreign.{kept}
-use Rattle.hpx_journal.specs.Laws.{IsBornIn, entry_at, begun, fires, fires_at, dones, dones_at, freeds, held_in, owed_in, asking_in, asked_in, given_in, travelling_in, count_events, is_failed, is_refused_count, Commits, Fails, TargetsStand}
+use Rattle.hpx_journal.specs.Laws.{IsBornIn, entry_at, begun, fires, fires_at, fired_here, dones, dones_at, freeds, held_in, owed_in, asking_in, asked_in, given_in, travelling_in, count_events, is_failed, is_refused_count, Commits, Fails, TargetsStand}
 use Rattle.hpx_journal.specs.Local.{recorded}
 use Rattle.hpx_journal.specs.Names.{IsBacked}
 use Rattle.hpx_journal.specs.Slots.{claims_in}
@@ -35,13 +35,15 @@ pub record KeepsLife (r : Rules) (es : List Entry) : Type 0 where
   pub gone : (o : Id) (k : ℕ) → k < r.localities → 1 ≤ freeds o es → kept o ((replayed r es).places k) ≡ 0
   pub away : (o : Id) → 1 ≤ freeds o es → travelling_in r o (replayed r es) ≡ 0
 
--- actions once: each is fed or sent, fired and done at most once, and done where it was fired; the target of each fired action
--- stands there; what a Done leaves is the outcome of its action, or its failure
+-- actions once: each is fed or sent, fired and done at most once, and done where it was fired; from its Fire to its Done it is fired
+-- there, where its target stands; what a Done leaves is the outcome of its action, or its failure
 pub record RunsOnce (r : Rules) (es : List Entry) : Type 0 where
   pub begun_once : (a : Name) → begun a es ≤ 1
   pub fired_once : (a : Name) → fires a es ≤ begun a es
   pub done_once : (a : Name) → dones a es ≤ 1
   pub done_where : (a : Name) (k : ℕ) → dones_at k a es ≤ fires_at k a es
+  pub runs : (front later : List Entry) → es ≡ front ++ later → (k : ℕ) (a : Name)
+      → fired_here a ((replayed r front).places k) + dones_at k a front ≡ fires_at k a front
   pub stands : (front later : List Entry) → es ≡ front ++ later → (k : ℕ) → TargetsStand ((replayed r front).places k)
   pub committed : (front later : List Entry) (k : ℕ) (a : Name) → es ≡ front ++ entry_at k (Done a false) ∷ later
       → Commits r a ((replayed r front).places k) ((replayed r (front ++ entry_at k (Done a false) ∷ [])).places k)

@@ -5,6 +5,7 @@ use Rattle.hpx_value.specs.declared.profile.Profile.{Profile}
 use Rattle.hpx_journal.specs.Data.{State, Act, Outcome}
 use Rattle.hpx_part.specs.Data.{Entry}
 use Rattle.hpx_node.specs.Lacks.{Lacks}
+use Rattle.hpx_node.specs.Limits.{IsWithin}
 use Rattle.hpx_node.specs.Orders.{KeepsOrder}
 use Rattle.hpx_node.specs.Stands.{Stands}
 use Rattle.hpx_node.specs.Tables.{Tables}
@@ -22,11 +23,12 @@ pub record StandsAt (act_of : Meaning) (n : ℕ) (profile : Profile) (k : ℕ) (
   pub lacks : Lacks t
   pub orderly : KeepsOrder act_of t entries
 
--- there are 1 to 64 nodes, and each stands for its part of the one journal
+-- there are 1 to 64 nodes, each stands for its part of the one journal, and the journal is within its limits
 pub record IsSound (act_of : Meaning) (profile : Profile) (nodes : List Tables) (entries : List Entry) : Type 0 where
   pub few : length nodes ≤ 64
   pub some : 1 ≤ length nodes
   pub stand : (k : ℕ) (t : Tables) → slice_get nodes k ≡ Some t → StandsAt act_of (length nodes) profile k t entries
+  pub within : IsWithin entries
 
 -- at k this was done, and nothing elsewhere
 pub record DoneAt (k : ℕ) (Does : Tables → Tables → Type 0) (nodes nodes' : List Tables) : Type 0 where

@@ -1,17 +1,16 @@
 -- What a turn does at its locality, and what it writes.
-use Rattle.std.specs.Prelude.{ℕ, List, [], ◌∷◌, ◌≡◌, ◌≢◌, ◌≤◌, ◌+◌, ◌⊎◌, Some, None, Option, length, sum_by}
+use Rattle.std.specs.Prelude.{ℕ, List, [], ◌∷◌, ◌≡◌, ◌≤◌, ◌+◌, ◌⊎◌, Some, None, Option, length, sum_by}
 use Rattle.std.specs.List.{slice_get}
 use Rattle.hpx_value.specs.declared.acts.Job.{Job}
 use Rattle.hpx_parcel.specs.Reading.{parcel_of, IsRefused}
 use Rattle.hpx_parcel.specs.declared.parcel.Why.{Why}
 use Rattle.hpx_journal.specs.Data.{Id, Outcome, Parcel}
 use Rattle.hpx_journal.specs.Entries.{Frame, name_of, line_act}
-use Rattle.hpx_part.specs.Data.{Name, Event, Entry, Line, Fire, Out}
+use Rattle.hpx_part.specs.Data.{Name, Entry, Line, Fire, Out}
 use Rattle.hpx_commit.specs.Deals.{AllLast}
 use Rattle.hpx_node.specs.Asks.{Begins}
 use Rattle.hpx_node.specs.Changes.{Writes}
 use Rattle.hpx_node.specs.Commits.{committed, hand_of, places_in_hand, Ends}
-use Rattle.hpx_node.specs.Frames.{IsFront}
 use Rattle.hpx_node.specs.Jobs.{IsRunning, Starts}
 use Rattle.hpx_node.specs.Routes.{with_act}
 use Rattle.hpx_node.specs.Handled.{Takes, Clears, NotTaken, NotCleared}
@@ -22,11 +21,9 @@ use Rattle.hpx_node.specs.declared.parts.Finished.TheVariants.{Committed, Asking
 use Rattle.hpx_node.specs.declared.parts.DeskFault.TheVariants as desk_faults
 use Rattle.hpx_node.specs.declared.parts.TakeFault.{TakeFault}
 use Rattle.hpx_node.specs.declared.parts.TakeFault.TheVariants as take_faults
-use Rattle.hpx_ports.specs.declared.fabric.Wire.{Wire}
 use Rattle.hpx_world.specs.declared.turns.Turned.{Turned}
 use Rattle.hpx_world.specs.declared.turns.Turned.TheVariants as turned
 use Rattle.hpx_world.specs.Sound.{DoneAt, IsSame}
-use Rattle.hpx_world.specs.Away.{Fetches}
 use Rattle.hpx_world.specs.Quiet.{IsStuck, HasNoMail, SendsNothing}
 
 -- the name that is drawn next
@@ -56,14 +53,14 @@ pub record Asks (job : Job) (out : Outcome) (entries entries' : List Entry) (t t
   pub short : AllLast (hand_of t job out) (places_in_hand t job out) → ⊥
   pub begins : Begins t t' job out entries entries'
 
--- the message that has waited longest on its way to another locality goes there in a frame, which spells it
-pub record Sends (entries entries' : List Entry) (t t' : Tables) : Type 0 where
+-- the message that has waited longest on its way to another locality goes there in this frame, which spells it
+pub record Sends (frame : Frame) (entries entries' : List Entry) (t t' : Tables) : Type 0 where
   pub first : Outgoing
   pub rest : List Outgoing
-  pub bytes : List ℕ
   pub is : t.outgoing ≡ first ∷ rest
-  pub spelled : parcel_of bytes ≡ Some first.parcel
-  pub writes : Writes (Out first.to bytes ∷ []) t t' entries entries'
+  pub place : frame.0 ≡ first.to
+  pub spelled : parcel_of frame.1 ≡ Some first.parcel
+  pub writes : Writes (Out frame.0 frame.1 ∷ []) t t' entries entries'
   pub leaves : t' ≡ record t { outgoing = rest; sent = t.sent + 1; spare = t'.spare }
 
 -- ---- turns, by what they answer
@@ -93,11 +90,13 @@ DidDesk k turned.Moved nodes nodes' es es' = DoneAt k (λ t t'. Clears t t' es e
 DidDesk k turned.Empty nodes nodes' es es' = IsSame nodes nodes' es es' × ((t : Tables) → slice_get nodes k ≡ Some t → HasNoMail t)
 DidDesk k _ nodes nodes' es es' = ⊥
 
--- a Pump of k: its oldest message to another locality is sent, or there is none
-abbrev pub DidPump : ℕ → Turned → List Tables → List Tables → List Entry → List Entry → Type 0
-DidPump k turned.Moved nodes nodes' es es' = DoneAt k (Sends es es') nodes nodes'
-DidPump k turned.Empty nodes nodes' es es' = IsSame nodes nodes' es es' × ((t : Tables) → slice_get nodes k ≡ Some t → SendsNothing t)
-DidPump k _ nodes nodes' es es' = ⊥
+-- a Pump of k: its oldest message to another locality is sent in a frame that the fabric takes, or there is none
+abbrev pub DidPump : (Option Frame → Type 0) → ℕ → Turned → List Tables → List Tables → List Entry → List Entry → Type 0
+DidPump Put k turned.Moved nodes nodes' es es' =
+    (frame : Frame) × Put (Some frame) × DoneAt k (Sends frame es es') nodes nodes'
+DidPump Put k turned.Empty nodes nodes' es es' =
+    Put None × IsSame nodes nodes' es es' × ((t : Tables) → slice_get nodes k ≡ Some t → SendsNothing t)
+DidPump Put k _ nodes nodes' es es' = ⊥
 
 -- a Take: the frame in hand, or one that is delivered, is accepted where it goes, or there is none while as many were taken as sent
 abbrev pub DidTake : (Option Frame → Type 0) → Turned → List Tables → List Tables → List Entry → List Entry → Type 0

@@ -86,4 +86,13 @@ impl<A: Acts + Copy> Locals<A> {
         }
         Ok(lines)
     }
+
+    /// The records of each node are its own.
+    pub fn records_law(&self)
+        ensures { HaveRecords self.now.nodes.items }
+    {
+        for node in self.nodes.iter() {
+            let _ = node.number();
+        }
+    }
 }

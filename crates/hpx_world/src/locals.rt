@@ -4,11 +4,12 @@ ghost use Rattle.std.specs.List.{AllByRecursion};
 ghost use Rattle.hpx_value.specs.Profiles.{IsValid};
 ghost use Rattle.hpx_journal.specs.Weights.{HasRoom};
 ghost use Rattle.hpx_node.specs.Handled.{Takes};
+ghost use Rattle.hpx_node.specs.Limits.{AddsATurn};
 ghost use Rattle.hpx_node.specs.Tables.{IsPassive};
 ghost use Rattle.hpx_node.specs.Stands.{rules_of};
 ghost use Rattle.hpx_ports.specs.Faults.{Rose};
 ghost use Rattle.hpx_world.specs.Sound.{IsSound, IsSame, DoneAt};
-ghost use Rattle.hpx_world.specs.Away.{IsCarrying, IsInside, Fetches, Keeps};
+ghost use Rattle.hpx_world.specs.Away.{IsCarrying, IsInside, Fetches, Puts, Keeps};
 ghost use Rattle.hpx_world.specs.Quiet.{IsQuiet, NoneRuns, running_in};
 ghost use Rattle.hpx_world.specs.Turns.{DidFeed, DidFire, DidFinish, DidDesk, DidPump, DidTake, IsBadFrame, IsStrangeFrame, IsStrangeMail, IsFarFault};
 
@@ -173,6 +174,7 @@ impl<A: Acts + Copy> Locals<A> {
         ensures sound { IsSound A.act_of self.new.profile self.new.nodes.items self.new.journal.entries }
         ensures count { length self.new.nodes.items ≡ length self.old.nodes.items }
         ensures profile { self.new.profile ≡ self.old.profile }
+        ensures turn { AddsATurn self.old.journal.entries self.new.journal.entries }
         ensures inside { IsInside (rules_of A.act_of (length self.old.nodes.items) self.old.profile) self.old.journal.entries self.new.journal.entries }
         ensures hand { self.new.hand ≡ self.old.hand }
         ensures did { IfOk result (λ turned. DidFeed line turned self.old.nodes.items self.new.nodes.items self.old.journal.entries self.new.journal.entries) }
@@ -194,6 +196,7 @@ impl<A: Acts + Copy> Locals<A> {
         ensures sound { IsSound A.act_of self.new.profile self.new.nodes.items self.new.journal.entries }
         ensures count { length self.new.nodes.items ≡ length self.old.nodes.items }
         ensures profile { self.new.profile ≡ self.old.profile }
+        ensures turn { AddsATurn self.old.journal.entries self.new.journal.entries }
         ensures inside { IsInside (rules_of A.act_of (length self.old.nodes.items) self.old.profile) self.old.journal.entries self.new.journal.entries }
         ensures hand { self.new.hand ≡ self.old.hand }
         ensures did { IfOk result (λ turned. DidFire k turned self.old.nodes.items self.new.nodes.items self.old.journal.entries self.new.journal.entries) }
@@ -221,6 +224,7 @@ impl<A: Acts + Copy> Locals<A> {
         ensures sound { IsSound A.act_of self.new.profile self.new.nodes.items self.new.journal.entries }
         ensures count { length self.new.nodes.items ≡ length self.old.nodes.items }
         ensures profile { self.new.profile ≡ self.old.profile }
+        ensures turn { AddsATurn self.old.journal.entries self.new.journal.entries }
         ensures inside { IsInside (rules_of A.act_of (length self.old.nodes.items) self.old.profile) self.old.journal.entries self.new.journal.entries }
         ensures hand { self.new.hand ≡ self.old.hand }
         ensures did { IfOk result (λ turned. DidFinish done.localities done.job done.outcome turned self.old.nodes.items self.new.nodes.items self.old.journal.entries self.new.journal.entries) }
@@ -243,6 +247,7 @@ impl<A: Acts + Copy> Locals<A> {
         ensures sound { IsSound A.act_of self.new.profile self.new.nodes.items self.new.journal.entries }
         ensures count { length self.new.nodes.items ≡ length self.old.nodes.items }
         ensures profile { self.new.profile ≡ self.old.profile }
+        ensures turn { AddsATurn self.old.journal.entries self.new.journal.entries }
         ensures inside { IsInside (rules_of A.act_of (length self.old.nodes.items) self.old.profile) self.old.journal.entries self.new.journal.entries }
         ensures hand { self.new.hand ≡ self.old.hand }
         ensures did { IfOk result (λ turned. DidDesk k turned self.old.nodes.items self.new.nodes.items self.old.journal.entries self.new.journal.entries) }
@@ -261,6 +266,7 @@ impl<A: Acts + Copy> Locals<A> {
     }
 
     /// The oldest message of locality k to another is spelled and sent.
+    #[tactic(auto, using(hpx_node::proofs::Turns::adds_none, hpx_node::proofs::Turns::turn_from))]
     pub fn pump<F: Fabric>(
         &mut self,
         alloc: Global,
@@ -273,13 +279,15 @@ impl<A: Acts + Copy> Locals<A> {
         ensures sound { IsSound A.act_of self.new.profile self.new.nodes.items self.new.journal.entries }
         ensures count { length self.new.nodes.items ≡ length self.old.nodes.items }
         ensures profile { self.new.profile ≡ self.old.profile }
+        ensures turn { AddsATurn self.old.journal.entries self.new.journal.entries }
         ensures carrying { let r = rules_of A.act_of (length self.old.nodes.items) self.old.profile in
             IsCarrying r self.old.hand (F.flight fabric.old) (F.trace fabric.old) self.old.journal.entries
             → IsCarrying r self.new.hand (F.flight fabric.new) (F.trace fabric.new) self.new.journal.entries }
         ensures hand { self.new.hand ≡ self.old.hand }
-        ensures did { IfOk result (λ turned. DidPump k turned self.old.nodes.items self.new.nodes.items self.old.journal.entries self.new.journal.entries) }
+        ensures did { IfOk result (λ turned. DidPump (Puts k (F.flight fabric.old) (F.flight fabric.new) (F.trace fabric.old) (F.trace fabric.new)) k turned self.old.nodes.items self.new.nodes.items self.old.journal.entries self.new.journal.entries) }
         ensures jobs { running_in self.new.nodes.items ≡ running_in self.old.nodes.items }
         ensures err { OnErr result (IsSame self.old.nodes.items self.new.nodes.items self.old.journal.entries self.new.journal.entries) }
+        ensures kept_out { OnErr result ((F.flight fabric.new ≡ F.flight fabric.old) × (F.trace fabric.new ≡ F.trace fabric.old)) }
         ensures which { IfErr result (λ e. (e ≡ WorldFault.Fabric) ⊎ (e ≡ WorldFault.OutOfMemory None)) }
         ensures cause { result ≡ Err WorldFault.Fabric → Rose (F.faults fabric.old) (F.faults fabric.new) }
         ensures stands { result ≢ Err WorldFault.Fabric → F.faults fabric.new ≡ F.faults fabric.old }
@@ -306,12 +314,14 @@ impl<A: Acts + Copy> Locals<A> {
     }
 
     /// A frame is accepted where it goes, or refused there. A frame to no locality is refused as its parcel would be.
+    #[tactic(auto, using(hpx_node::proofs::Turns::adds_none, hpx_node::proofs::Turns::turn_from))]
     fn accept(&mut self, alloc: Global, frame: &(u32, Bytes)) -> Result<(), WorldFault<A>>
         requires room { HasRoom self.old.journal.entries }
         requires sound { IsSound A.act_of self.old.profile self.old.nodes.items self.old.journal.entries }
         ensures sound { IsSound A.act_of self.new.profile self.new.nodes.items self.new.journal.entries }
         ensures count { length self.new.nodes.items ≡ length self.old.nodes.items }
         ensures profile { self.new.profile ≡ self.old.profile }
+        ensures turn { AddsATurn self.old.journal.entries self.new.journal.entries }
         ensures hand { self.new.hand ≡ self.old.hand }
         ensures ok { OnOk result (DoneAt frame.now.0 (λ t t'. Takes frame.now.1 t t' self.old.journal.entries self.new.journal.entries) self.old.nodes.items self.new.nodes.items) }
         ensures jobs { running_in self.new.nodes.items ≡ running_in self.old.nodes.items }
@@ -339,6 +349,7 @@ impl<A: Acts + Copy> Locals<A> {
         ensures same { self.new ≡ record self.old { hand = self.new.hand } }
         ensures ok { OnOk result (Fetches self.old.hand (F.flight fabric.old) (F.flight fabric.new) (F.trace fabric.old) (F.trace fabric.new) self.new.hand) }
         ensures err { OnErr result ((self.new.hand ≡ self.old.hand) × (F.flight fabric.new ≡ F.flight fabric.old) × (F.trace fabric.new ≡ F.trace fabric.old)) }
+        ensures held { (frame : _) → self.old.hand ≡ Some frame → fabric.new ≡ fabric.old }
         ensures cause { result ≡ Err FabricFault.Failed → Rose (F.faults fabric.old) (F.faults fabric.new) }
         ensures stands { result ≢ Err FabricFault.Failed → F.faults fabric.new ≡ F.faults fabric.old }
     {
@@ -368,6 +379,7 @@ impl<A: Acts + Copy> Locals<A> {
     }
 
     /// Accepts the frame in hand, or one that is delivered now. One that was delivered and not accepted stays in hand.
+    #[tactic(auto, using(hpx_node::proofs::Turns::adds_none, hpx_node::proofs::Turns::turn_from))]
     pub fn take<F: Fabric>(
         &mut self,
         alloc: Global,
@@ -378,6 +390,7 @@ impl<A: Acts + Copy> Locals<A> {
         ensures sound { IsSound A.act_of self.new.profile self.new.nodes.items self.new.journal.entries }
         ensures count { length self.new.nodes.items ≡ length self.old.nodes.items }
         ensures profile { self.new.profile ≡ self.old.profile }
+        ensures turn { AddsATurn self.old.journal.entries self.new.journal.entries }
         ensures carrying { let r = rules_of A.act_of (length self.old.nodes.items) self.old.profile in
             IsCarrying r self.old.hand (F.flight fabric.old) (F.trace fabric.old) self.old.journal.entries
             → IsCarrying r self.new.hand (F.flight fabric.new) (F.trace fabric.new) self.new.journal.entries }
@@ -391,13 +404,16 @@ impl<A: Acts + Copy> Locals<A> {
         ensures strange { (to : _) (frame : _) (rule : _) (object : _) (kept : _) → result ≡ Err (WorldFault.Strange to frame rule object kept) →
             (self.new.hand ≡ Some (to, frame)) × IsStrangeFrame self.old.nodes.items to frame rule object kept }
         ensures early { (sent : _) (taken : _) → result ≡ Err (WorldFault.EarlyEnd sent taken) →
-            (self.new.hand ≡ None) × (sent ≡ sum_by (λ t. t.sent) self.old.nodes.items) × (taken ≡ sum_by (λ t. t.taken) self.old.nodes.items) × (sent ≢ taken) }
+            (self.new.hand ≡ None) × (sent ≡ sum_by (λ t. t.sent) self.old.nodes.items) × (taken ≡ sum_by (λ t. t.taken) self.old.nodes.items) × (sent ≢ taken)
+            × Fetches self.old.hand (F.flight fabric.old) (F.flight fabric.new) (F.trace fabric.old) (F.trace fabric.new) None }
         ensures memory { (u : _) → result ≡ Err (WorldFault.OutOfMemory u) → u ≡ None }
         ensures room { (e : _) (w : _) (u : _) → result ≢ Err (WorldFault.JournalFull e w u) }
+        ensures runs_none { (job : _) → result ≢ Err (WorldFault.NotRun job) }
         ensures never_bad { IsCarrying (rules_of A.act_of (length self.old.nodes.items) self.old.profile) self.old.hand (F.flight fabric.old) (F.trace fabric.old) self.old.journal.entries →
             (to : _) (frame : _) (at : _) (why : _) → result ≢ Err (WorldFault.BadFrame to frame at why) }
         ensures never_early { IsCarrying (rules_of A.act_of (length self.old.nodes.items) self.old.profile) self.old.hand (F.flight fabric.old) (F.trace fabric.old) self.old.journal.entries →
             (sent : _) (taken : _) → result ≢ Err (WorldFault.EarlyEnd sent taken) }
+        ensures held { (frame : _) → self.old.hand ≡ Some frame → fabric.new ≡ fabric.old }
         ensures cause { result ≡ Err WorldFault.Fabric → Rose (F.faults fabric.old) (F.faults fabric.new) }
         ensures stands { result ≢ Err WorldFault.Fabric → F.faults fabric.new ≡ F.faults fabric.old }
     {

@@ -4,14 +4,14 @@ ghost use Rattle.std.specs.List.{AllByRecursion};
 ghost use Rattle.hpx_journal.specs.Weights.{HasRoom, total_weight};
 ghost use Rattle.hpx_ports.specs.Faults.{Rose};
 ghost use Rattle.hpx_node.specs.Stands.{rules_of};
-ghost use Rattle.hpx_world.specs.Away.{IsCarrying, IsInside};
+ghost use Rattle.hpx_world.specs.Away.{IsCarrying, IsInside, Fetches, Puts, Keeps};
 ghost use Rattle.hpx_world.specs.Quiet.{IsQuiet, IsStuck, HasNoMail, SendsNothing, NothingApplies, NoneRuns, running_in};
 ghost use Rattle.hpx_world.specs.Sound.{IsSound, IsSame};
-ghost use Rattle.hpx_world.specs.Steps.{IsUnfed, IsOut, IsEarly, IsHeld};
-ghost use Rattle.hpx_world.specs.Turns.{IsBadFrame, IsStrangeFrame, IsStrangeMail};
+ghost use Rattle.hpx_world.specs.Steps.{IsUnfed, IsOut, IsEarly, IsHeld, Tried, AtFirst, DidWork, DidHandOut, DidHandBack, DidStep};
+ghost use Rattle.hpx_world.specs.Turns.{DidDesk, DidPump, IsBadFrame, IsStrangeFrame, IsStrangeMail};
 
 use crate::locals::Locals;
-use crate::turns::WorldFault;
+use crate::turns::{Turned, WorldFault};
 use hpx_ports::fabric::Fabric;
 use hpx_value::acts::{Acts, Done};
 use std::alloc::Global;
@@ -40,6 +40,7 @@ impl<A: Acts + Copy> Locals<A> {
         ensures hand { self.new.hand ≡ self.old.hand }
         ensures inside { IsInside (rules_of A.act_of (length self.old.nodes.items) self.old.profile) self.old.journal.entries self.new.journal.entries }
         ensures unfed { IsUnfed self.old.journal.entries self.new.journal.entries }
+        ensures did { result ≡ Ok true → DidWork A.act_of k self.old.nodes.items self.new.nodes.items self.old.journal.entries self.new.journal.entries }
         ensures longer { result ≡ Ok true → length self.old.journal.entries < length self.new.journal.entries }
         ensures jobs { (worked : _) → result ≡ Ok worked → NoneRuns self.old.nodes.items → NoneRuns self.new.nodes.items }
         ensures none { result ≡ Ok false → IsSame self.old.nodes.items self.new.nodes.items self.old.journal.entries self.new.journal.entries
@@ -49,7 +50,15 @@ impl<A: Acts + Copy> Locals<A> {
             (e ≡ length self.new.journal.entries) × (w ≡ min (2 ^ 64 - 1) (total_weight self.new.journal.entries)) }
         ensures undone_full { (e w : ℕ) (done : _) → result ≡ Err (WorldFault.JournalFull e w (Some done)) → IsOut self.new.nodes.items done.localities done.job }
         ensures undone { (done : _) → result ≡ Err (WorldFault.OutOfMemory (Some done)) → IsOut self.new.nodes.items done.localities done.job }
-        ensures which { (e : _) → result ≡ Err e → ((u : _) × (e ≡ WorldFault.OutOfMemory u)) ⊎ ((n w : ℕ) × (u : _) × (e ≡ WorldFault.JournalFull n w u)) }
+        ensures not_run { (job : _) → result ≡ Err (WorldFault.NotRun job) → IsOut self.new.nodes.items (length self.new.nodes.items) job }
+        ensures handed_full { (e w : ℕ) (done : _) → result ≡ Err (WorldFault.JournalFull e w (Some done)) → DidHandOut done.job k self.old.nodes.items self.new.nodes.items self.old.journal.entries self.new.journal.entries }
+        ensures handed_memory { (done : _) → result ≡ Err (WorldFault.OutOfMemory (Some done)) → DidHandOut done.job k self.old.nodes.items self.new.nodes.items self.old.journal.entries self.new.journal.entries }
+        ensures handed_back { (job : _) → result ≡ Err (WorldFault.NotRun job) → DidHandOut job k self.old.nodes.items self.new.nodes.items self.old.journal.entries self.new.journal.entries }
+        ensures which { (e : _) → result ≡ Err e →
+            ((e ≡ WorldFault.OutOfMemory None) × IsSame self.old.nodes.items self.new.nodes.items self.old.journal.entries self.new.journal.entries)
+            ⊎ ((done : _) × (e ≡ WorldFault.OutOfMemory (Some done)))
+            ⊎ ((n w : ℕ) × (done : _) × (e ≡ WorldFault.JournalFull n w (Some done)))
+            ⊎ ((job : _) × (e ≡ WorldFault.NotRun job)) }
     {
         let job = match self.fire(alloc, k)?.job() {
             Some(job) => job,
@@ -57,7 +66,7 @@ impl<A: Acts + Copy> Locals<A> {
         };
         let done = match Done::compute(alloc, acts, job) {
             Ok(done) => done,
-            Err(_) => return Err(WorldFault::OutOfMemory { undone: None }),
+            Err(job) => return Err(WorldFault::NotRun { job }),
         };
         if !self.journal.room() {
             return Err(self.full(Some(done)));
@@ -77,6 +86,8 @@ impl<A: Acts + Copy> Locals<A> {
         ensures hand { self.new.hand ≡ self.old.hand }
         ensures inside { IsInside (rules_of A.act_of (length self.old.nodes.items) self.old.profile) self.old.journal.entries self.new.journal.entries }
         ensures unfed { IsUnfed self.old.journal.entries self.new.journal.entries }
+        ensures did { result ≡ Ok true → Tried (λ now. AtFirst IsStuck
+            (λ k. DidWork A.act_of k now self.new.nodes.items self.old.journal.entries self.new.journal.entries) now) self.old.nodes.items }
         ensures longer { result ≡ Ok true → length self.old.journal.entries < length self.new.journal.entries }
         ensures jobs { (worked : _) → result ≡ Ok worked → NoneRuns self.old.nodes.items → NoneRuns self.new.nodes.items }
         ensures none { result ≡ Ok false → IsSame self.old.nodes.items self.new.nodes.items self.old.journal.entries self.new.journal.entries
@@ -86,7 +97,15 @@ impl<A: Acts + Copy> Locals<A> {
             (e ≡ length self.new.journal.entries) × (w ≡ min (2 ^ 64 - 1) (total_weight self.new.journal.entries)) }
         ensures undone_full { (e w : ℕ) (done : _) → result ≡ Err (WorldFault.JournalFull e w (Some done)) → IsOut self.new.nodes.items done.localities done.job }
         ensures undone { (done : _) → result ≡ Err (WorldFault.OutOfMemory (Some done)) → IsOut self.new.nodes.items done.localities done.job }
-        ensures which { (e : _) → result ≡ Err e → ((u : _) × (e ≡ WorldFault.OutOfMemory u)) ⊎ ((n w : ℕ) × (u : _) × (e ≡ WorldFault.JournalFull n w u)) }
+        ensures not_run { (job : _) → result ≡ Err (WorldFault.NotRun job) → IsOut self.new.nodes.items (length self.new.nodes.items) job }
+        ensures handed_full { (e w : ℕ) (done : _) → result ≡ Err (WorldFault.JournalFull e w (Some done)) → DidHandBack done.job self.old.nodes.items self.new.nodes.items self.old.journal.entries self.new.journal.entries }
+        ensures handed_memory { (done : _) → result ≡ Err (WorldFault.OutOfMemory (Some done)) → DidHandBack done.job self.old.nodes.items self.new.nodes.items self.old.journal.entries self.new.journal.entries }
+        ensures handed_back { (job : _) → result ≡ Err (WorldFault.NotRun job) → DidHandBack job self.old.nodes.items self.new.nodes.items self.old.journal.entries self.new.journal.entries }
+        ensures which { (e : _) → result ≡ Err e →
+            ((e ≡ WorldFault.OutOfMemory None) × IsSame self.old.nodes.items self.new.nodes.items self.old.journal.entries self.new.journal.entries)
+            ⊎ ((done : _) × (e ≡ WorldFault.OutOfMemory (Some done)))
+            ⊎ ((n w : ℕ) × (done : _) × (e ≡ WorldFault.JournalFull n w (Some done)))
+            ⊎ ((job : _) × (e ≡ WorldFault.NotRun job)) }
     {
         for k in 0..self.nodes.len() {
             if self.work(alloc, acts, k)? {
@@ -106,11 +125,14 @@ impl<A: Acts + Copy> Locals<A> {
         ensures hand { self.new.hand ≡ self.old.hand }
         ensures inside { IsInside (rules_of A.act_of (length self.old.nodes.items) self.old.profile) self.old.journal.entries self.new.journal.entries }
         ensures unfed { IsUnfed self.old.journal.entries self.new.journal.entries }
+        ensures did { result ≡ Ok true → Tried (λ now. AtFirst HasNoMail
+            (λ k. DidDesk k Turned.Moved now self.new.nodes.items self.old.journal.entries self.new.journal.entries) now) self.old.nodes.items }
         ensures longer { result ≡ Ok true → length self.old.journal.entries < length self.new.journal.entries }
         ensures jobs { running_in self.new.nodes.items ≡ running_in self.old.nodes.items }
         ensures none { result ≡ Ok false → IsSame self.old.nodes.items self.new.nodes.items self.old.journal.entries self.new.journal.entries
             × AllByRecursion HasNoMail self.new.nodes.items }
         ensures err { OnErr result (self.new.journal.entries ≡ self.old.journal.entries) }
+        ensures same { OnErr result (IsSame self.old.nodes.items self.new.nodes.items self.old.journal.entries self.new.journal.entries) }
         ensures strange { (to : _) (frame : _) (rule : _) (object : _) (kept : _) → result ≡ Err (WorldFault.Strange to frame rule object kept) →
             (frame ≡ []) × IsStrangeMail self.new.nodes.items to rule object kept }
         ensures which { (e : _) → result ≡ Err e → (e ≡ WorldFault.OutOfMemory None)
@@ -140,11 +162,16 @@ impl<A: Acts + Copy> Locals<A> {
             IsCarrying r self.old.hand (F.flight fabric.old) (F.trace fabric.old) self.old.journal.entries
             → IsCarrying r self.new.hand (F.flight fabric.new) (F.trace fabric.new) self.new.journal.entries }
         ensures unfed { IsUnfed self.old.journal.entries self.new.journal.entries }
+        ensures did { result ≡ Ok true → Tried (λ now. AtFirst SendsNothing
+            (λ k. DidPump (Puts k (F.flight fabric.old) (F.flight fabric.new) (F.trace fabric.old) (F.trace fabric.new)) k Turned.Moved
+            now self.new.nodes.items self.old.journal.entries self.new.journal.entries) now) self.old.nodes.items }
+        ensures unsent { result ≢ Ok true → (F.flight fabric.new ≡ F.flight fabric.old) × (F.trace fabric.new ≡ F.trace fabric.old) }
         ensures longer { result ≡ Ok true → length self.old.journal.entries < length self.new.journal.entries }
         ensures jobs { running_in self.new.nodes.items ≡ running_in self.old.nodes.items }
         ensures none { result ≡ Ok false → IsSame self.old.nodes.items self.new.nodes.items self.old.journal.entries self.new.journal.entries
             × AllByRecursion SendsNothing self.new.nodes.items }
         ensures err { OnErr result (self.new.journal.entries ≡ self.old.journal.entries) }
+        ensures same { OnErr result (IsSame self.old.nodes.items self.new.nodes.items self.old.journal.entries self.new.journal.entries) }
         ensures which { (e : _) → result ≡ Err e → (e ≡ WorldFault.Fabric) ⊎ (e ≡ WorldFault.OutOfMemory None) }
         ensures cause { result ≡ Err WorldFault.Fabric → Rose (F.faults fabric.old) (F.faults fabric.new) }
         ensures stands { result ≢ Err WorldFault.Fabric → F.faults fabric.new ≡ F.faults fabric.old }
@@ -172,6 +199,12 @@ impl<A: Acts + Copy> Locals<A> {
         ensures carrying { let r = rules_of A.act_of (length self.old.nodes.items) self.old.profile in
             IsCarrying r self.old.hand (F.flight fabric.old) (F.trace fabric.old) self.old.journal.entries
             → IsCarrying r self.new.hand (F.flight fabric.new) (F.trace fabric.new) self.new.journal.entries }
+        ensures does { result ≡ Ok true → DidStep A.act_of
+            (record { hand = self.old.hand; flight = F.flight fabric.old; trace = F.trace fabric.old })
+            (record { hand = self.new.hand; flight = F.flight fabric.new; trace = F.trace fabric.new })
+            self.old.nodes.items self.new.nodes.items self.old.journal.entries self.new.journal.entries }
+        ensures same { result ≡ Ok false → IsSame self.old.nodes.items self.new.nodes.items self.old.journal.entries self.new.journal.entries }
+        ensures none_left { result ≡ Ok false → Fetches self.old.hand (F.flight fabric.old) (F.flight fabric.new) (F.trace fabric.old) (F.trace fabric.new) None }
         ensures unfed { IsUnfed self.old.journal.entries self.new.journal.entries }
         ensures longer { result ≡ Ok true → length self.old.journal.entries < length self.new.journal.entries }
         ensures jobs { (moved : _) → result ≡ Ok moved → NoneRuns self.old.nodes.items → NoneRuns self.new.nodes.items }
@@ -179,6 +212,9 @@ impl<A: Acts + Copy> Locals<A> {
         ensures room { result ≡ Ok true → HasRoom self.old.journal.entries }
         ensures stays { result ≡ Ok false → HasRoom self.new.journal.entries }
         ensures taken { result ≡ Ok false → sum_by (λ t. t.taken) self.new.nodes.items ≡ sum_by (λ t. t.sent) self.new.nodes.items }
+        ensures err { ((done : _) → result ≢ Err (WorldFault.OutOfMemory (Some done))) → ((e w : ℕ) (done : _) → result ≢ Err (WorldFault.JournalFull e w (Some done))) →
+            ((job : _) → result ≢ Err (WorldFault.NotRun job)) → OnErr result (IsSame self.old.nodes.items self.new.nodes.items self.old.journal.entries self.new.journal.entries
+            × Keeps self.old.hand (F.flight fabric.old) (F.flight fabric.new) (F.trace fabric.old) (F.trace fabric.new) self.new.hand) }
         ensures full_at_once { (HasRoom self.old.journal.entries → ⊥) → result ≡ Err (WorldFault.JournalFull
             (length self.old.journal.entries) (min (2 ^ 64 - 1) (total_weight self.old.journal.entries)) None) }
         ensures full { (e w : ℕ) (u : _) → result ≡ Err (WorldFault.JournalFull e w u) → HasRoom self.new.journal.entries → ⊥ }
@@ -186,13 +222,19 @@ impl<A: Acts + Copy> Locals<A> {
             (e ≡ length self.new.journal.entries) × (w ≡ min (2 ^ 64 - 1) (total_weight self.new.journal.entries)) }
         ensures undone_full { (e w : ℕ) (done : _) → result ≡ Err (WorldFault.JournalFull e w (Some done)) → IsOut self.new.nodes.items done.localities done.job }
         ensures undone { (done : _) → result ≡ Err (WorldFault.OutOfMemory (Some done)) → IsOut self.new.nodes.items done.localities done.job }
+        ensures not_run { (job : _) → result ≡ Err (WorldFault.NotRun job) → IsOut self.new.nodes.items (length self.new.nodes.items) job }
+        ensures handed_full { (e w : ℕ) (done : _) → result ≡ Err (WorldFault.JournalFull e w (Some done)) → DidHandBack done.job self.old.nodes.items self.new.nodes.items self.old.journal.entries self.new.journal.entries }
+        ensures handed_memory { (done : _) → result ≡ Err (WorldFault.OutOfMemory (Some done)) → DidHandBack done.job self.old.nodes.items self.new.nodes.items self.old.journal.entries self.new.journal.entries }
+        ensures handed_back { (job : _) → result ≡ Err (WorldFault.NotRun job) → DidHandBack job self.old.nodes.items self.new.nodes.items self.old.journal.entries self.new.journal.entries }
+        ensures room_err { (e : _) → result ≡ Err e → ((n w : ℕ) (u : _) → e ≢ WorldFault.JournalFull n w u) → ((u : _) → e ≢ WorldFault.OutOfMemory u) →
+            ((job : _) → e ≢ WorldFault.NotRun job) → HasRoom self.new.journal.entries }
         ensures bad_frame { (to : _) (frame : _) (at : _) (why : _) → result ≡ Err (WorldFault.BadFrame to frame at why) →
             (self.new.hand ≡ Some (to, frame)) × IsBadFrame frame at why }
         ensures strange { (to : _) (frame : _) (rule : _) (object : _) (kept : _) → result ≡ Err (WorldFault.Strange to frame rule object kept) →
             ((self.new.hand ≡ Some (to, frame)) × IsStrangeFrame self.new.nodes.items to frame rule object kept)
             ⊎ ((frame ≡ []) × IsStrangeMail self.new.nodes.items to rule object kept) }
         ensures early { (sent : _) (taken : _) → result ≡ Err (WorldFault.EarlyEnd sent taken) →
-            (self.new.hand ≡ None) × (sent ≡ sum_by (λ t. t.sent) self.new.nodes.items) × (taken ≡ sum_by (λ t. t.taken) self.new.nodes.items) × (sent ≢ taken) }
+            NothingApplies self.new.nodes.items self.new.hand (F.flight fabric.new) × (sent ≡ sum_by (λ t. t.sent) self.new.nodes.items) × (taken ≡ sum_by (λ t. t.taken) self.new.nodes.items) × (sent ≢ taken) }
         ensures never_early { IsCarrying (rules_of A.act_of (length self.old.nodes.items) self.old.profile) self.old.hand (F.flight fabric.old) (F.trace fabric.old) self.old.journal.entries →
             (sent : _) (taken : _) → result ≢ Err (WorldFault.EarlyEnd sent taken) }
         ensures fabric_room { result ≡ Err WorldFault.Fabric → HasRoom self.new.journal.entries }
@@ -263,6 +305,7 @@ impl<A: Acts + Copy> Locals<A> {
         ensures unfed { IsUnfed self.old.journal.entries self.new.journal.entries }
         ensures jobs { OnOk result (NoneRuns self.old.nodes.items → NoneRuns self.new.nodes.items) }
         ensures idle { OnOk result (NothingApplies self.new.nodes.items self.new.hand (F.flight fabric.new)) }
+        ensures taken { OnOk result (sum_by (λ t. t.taken) self.new.nodes.items ≡ sum_by (λ t. t.sent) self.new.nodes.items) }
         ensures quiet { OnOk result (NoneRuns self.old.nodes.items → IsQuiet self.new.nodes.items self.new.hand) }
         ensures room { OnOk result (HasRoom self.new.journal.entries) }
         ensures full_at_once { (HasRoom self.old.journal.entries → ⊥) → result ≡ Err (WorldFault.JournalFull
@@ -272,6 +315,11 @@ impl<A: Acts + Copy> Locals<A> {
             (e ≡ length self.new.journal.entries) × (w ≡ min (2 ^ 64 - 1) (total_weight self.new.journal.entries)) }
         ensures undone_full { (e w : ℕ) (done : _) → result ≡ Err (WorldFault.JournalFull e w (Some done)) → IsOut self.new.nodes.items done.localities done.job }
         ensures undone { (done : _) → result ≡ Err (WorldFault.OutOfMemory (Some done)) → IsOut self.new.nodes.items done.localities done.job }
+        ensures not_run { (job : _) → result ≡ Err (WorldFault.NotRun job) → IsOut self.new.nodes.items (length self.new.nodes.items) job }
+        ensures jobs_err { ((done : _) → result ≢ Err (WorldFault.OutOfMemory (Some done))) → ((e w : ℕ) (done : _) → result ≢ Err (WorldFault.JournalFull e w (Some done))) →
+            ((job : _) → result ≢ Err (WorldFault.NotRun job)) → OnErr result (NoneRuns self.old.nodes.items → NoneRuns self.new.nodes.items) }
+        ensures room_err { (e : _) → result ≡ Err e → ((n w : ℕ) (u : _) → e ≢ WorldFault.JournalFull n w u) → ((u : _) → e ≢ WorldFault.OutOfMemory u) →
+            ((job : _) → e ≢ WorldFault.NotRun job) → HasRoom self.new.journal.entries }
         ensures bad_frame { (to : _) (frame : _) (at : _) (why : _) → result ≡ Err (WorldFault.BadFrame to frame at why) →
             (self.new.hand ≡ Some (to, frame)) × IsBadFrame frame at why }
         ensures strange { (to : _) (frame : _) (rule : _) (object : _) (kept : _) → result ≡ Err (WorldFault.Strange to frame rule object kept) →

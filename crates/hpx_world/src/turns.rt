@@ -104,4 +104,8 @@ pub enum WorldFault<A: Acts> {
     OutOfMemory {
         undone: Option<Done<A>>,
     },
+    /// There was no memory to run a job that was handed out; here it is, to be run and finished.
+    NotRun {
+        job: Job,
+    },
 }

@@ -1,4 +1,4 @@
-use Rattle.std.proofs.Common.{ℕ, List, ◌≡◌, ◌⊎◌, ◌<◌, length, refl, sym, subst, inl, inr, arith}
+use Rattle.std.proofs.Common.{ℕ, ◌≡◌, ◌⊎◌, ◌<◌, length, refl, sym, subst, inl, inr, arith}
 use Rattle.hpx_parcel.specs.declared.parcel.Why.{Why}
 use Rattle.hpx_journal.specs.Data.{Id}
 use Rattle.hpx_journal.specs.Entries.{Frame}
@@ -6,6 +6,7 @@ use Rattle.hpx_part.proofs.Keyed.{slice_get_is}
 use Rattle.hpx_node.specs.Handled.{Takes, NotTaken}
 use Rattle.hpx_node.specs.declared.parts.TakeFault.{TakeFault}
 use Rattle.hpx_node.specs.declared.parts.TakeFault.TheVariants.{BadFrame, Strange, OutOfMemory}
+use Rattle.hpx_node.proofs.Turns.{turn_within}
 use Rattle.hpx_world.specs.Turns.{IsStrangeFrame}
 use Rattle.hpx_world.proofs.Sound.{sound_grows}
 use Rattle.hpx_world.proofs.Calls.{done_at, same_at, running_at, spare_inside, stands_at, sound_inside}
@@ -28,7 +29,7 @@ pub returns-in-Ok-clause-sound : goal.returns-in-Ok-clause-sound
 returns-in-Ok-clause-sound g c =
     let lt : c.args.frame.now.0 < length c.args.self.now.nodes.items = omega (arith, c.if-frame-n.false, c.len-n.ensures) in
     sound_grows _ _ _ _ c.requires.sound c.args.frame.now.0 c.index_mut.result.now c.take.new.self _ _ lt c.index_mut.ensures.value
-    c.in-Ok.ensures.ok.writes c.take.ensures.stands c.take.ensures.lacks c.take.ensures.orderly
+    c.in-Ok.ensures.ok.writes c.take.ensures.stands c.take.ensures.lacks c.take.ensures.orderly (turn_within _ _ c.requires.room c.take.ensures.turn)
 
 pub returns-in-Ok-clause-ok : goal.returns-in-Ok-clause-ok
 returns-in-Ok-clause-ok g c =
@@ -44,7 +45,7 @@ pub returns-in-Err-clause-sound : goal.returns-in-Err-clause-sound
 returns-in-Err-clause-sound g c =
     let lt : c.args.frame.now.0 < length c.args.self.now.nodes.items = omega (arith, c.if-frame-n.false, c.len-n.ensures) in
     sound_inside _ _ _ _ c.requires.sound c.args.frame.now.0 c.index_mut.result.now c.take.new.self lt c.index_mut.ensures.value _
-    (spare_inside _ _ c.args.self.now.journal c.take.new.book c.in-Err.ensures.err) c.take.ensures.stands c.take.ensures.lacks c.take.ensures.orderly
+    (spare_inside _ _ c.args.self.now.journal c.take.new.book c.in-Err.ensures.err) c.take.ensures.stands c.take.ensures.lacks c.take.ensures.orderly (turn_within _ _ c.requires.room c.take.ensures.turn)
 
 pub returns-in-Err-clause-jobs : goal.returns-in-Err-clause-jobs
 returns-in-Err-clause-jobs g c =

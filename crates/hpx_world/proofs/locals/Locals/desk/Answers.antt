@@ -1,11 +1,12 @@
-use Rattle.std.proofs.Common.{ℕ, ◌≡◌, false, Ok, ap, refl, subst, inl, inr, ◌⊎◌}
+use Rattle.std.proofs.Common.{ℕ, ◌≡◌, Ok, ap, refl, subst, inl, inr, ◌⊎◌}
 use Rattle.hpx_journal.specs.Data.{Id}
 use Rattle.hpx_part.proofs.Keyed.{slice_get_is}
 use Rattle.hpx_node.specs.Handled.{NotCleared}
 use Rattle.hpx_node.specs.declared.parts.DeskFault.{DeskFault}
 use Rattle.hpx_node.specs.declared.parts.DeskFault.TheVariants.{Strange, OutOfMemory}
+use Rattle.hpx_node.proofs.Turns.{turn_within}
 use Rattle.hpx_world.specs.Quiet.{HasNoMail}
-use Rattle.hpx_world.proofs.Calls.{done_at, same_at, at_own, running_at, desk_inside, stands_at, sound_inside, inside_at}
+use Rattle.hpx_world.proofs.Calls.{same_at, at_own, running_at, desk_inside, stands_at, sound_inside, inside_at}
 use Rattle.hpx_world.proofs.locals.Locals.desk.Goals as goal
 
 pub desk-requires-clause-stands : goal.desk-requires-clause-stands
@@ -16,7 +17,7 @@ pub returns-in-Ok-true-clause-sound : goal.returns-in-Ok-true-clause-sound
 returns-in-Ok-true-clause-sound g c =
     sound_inside _ _ _ _ c.requires.sound c.args.k c.index_mut.result.now c.desk.new.self c.requires.range c.index_mut.ensures.value _
     (desk_inside c.index_mut.result.now c.desk.new.self c.args.self.now.journal c.desk.new.book _ c.desk.result c.desk.ensures.cleared c.desk.ensures.empty c.desk.ensures.err)
-    c.desk.ensures.stands c.desk.ensures.lacks c.desk.ensures.orderly
+    c.desk.ensures.stands c.desk.ensures.lacks c.desk.ensures.orderly (turn_within _ _ c.requires.room c.desk.ensures.turn)
 
 pub returns-in-Ok-true-clause-inside : goal.returns-in-Ok-true-clause-inside
 returns-in-Ok-true-clause-inside g c =
@@ -31,7 +32,7 @@ pub returns-in-Ok-false-clause-sound : goal.returns-in-Ok-false-clause-sound
 returns-in-Ok-false-clause-sound g c =
     sound_inside _ _ _ _ c.requires.sound c.args.k c.index_mut.result.now c.desk.new.self c.requires.range c.index_mut.ensures.value _
     (desk_inside c.index_mut.result.now c.desk.new.self c.args.self.now.journal c.desk.new.book _ c.desk.result c.desk.ensures.cleared c.desk.ensures.empty c.desk.ensures.err)
-    c.desk.ensures.stands c.desk.ensures.lacks c.desk.ensures.orderly
+    c.desk.ensures.stands c.desk.ensures.lacks c.desk.ensures.orderly (turn_within _ _ c.requires.room c.desk.ensures.turn)
 
 pub returns-in-Ok-false-clause-inside : goal.returns-in-Ok-false-clause-inside
 returns-in-Ok-false-clause-inside g c =
@@ -46,7 +47,7 @@ pub returns-in-Err-clause-sound : goal.returns-in-Err-clause-sound
 returns-in-Err-clause-sound g c =
     sound_inside _ _ _ _ c.requires.sound c.args.k c.index_mut.result.now c.desk.new.self c.requires.range c.index_mut.ensures.value _
     (desk_inside c.index_mut.result.now c.desk.new.self c.args.self.now.journal c.desk.new.book _ c.desk.result c.desk.ensures.cleared c.desk.ensures.empty c.desk.ensures.err)
-    c.desk.ensures.stands c.desk.ensures.lacks c.desk.ensures.orderly
+    c.desk.ensures.stands c.desk.ensures.lacks c.desk.ensures.orderly (turn_within _ _ c.requires.room c.desk.ensures.turn)
 
 pub returns-in-Err-clause-inside : goal.returns-in-Err-clause-inside
 returns-in-Err-clause-inside g c =

@@ -1,11 +1,12 @@
-use Rattle.std.proofs.Common.{◌≢◌, Err, ap, sym, ◌∙◌, subst, inl, inr}
+use Rattle.std.proofs.Common.{◌≡◌, ◌≢◌, Err, ap, sym, ◌∙◌, subst, inl, inr}
 use Rattle.hpx_world.specs.Quiet.{HasNoMail}
-use Rattle.hpx_world.specs.Turns.{IsStrangeMail}
+use Rattle.hpx_world.specs.Turns.{DidDesk, IsStrangeMail}
 use Rattle.hpx_world.specs.declared.turns.Turned.TheVariants.{Moved}
 use Rattle.hpx_world.specs.declared.turns.WorldFault.TheVariants.{Strange}
 use Rattle.hpx_world.proofs.Idle.{passed, same_then, running_same}
 use Rattle.hpx_world.proofs.Next.{cleared_none, err_of, not_both}
 use Rattle.hpx_world.proofs.Refused.{strange_mail_same}
+use Rattle.hpx_world.proofs.Stepped.{on_err}
 use Rattle.hpx_world.proofs.Unfed.{unfed_none, unfed_then, cleared_unfed}
 use Rattle.hpx_world.proofs.locals.Locals.desk_first.Goals as goal
 
@@ -49,6 +50,24 @@ pub returns-then-moved-clause-unfed : goal.returns-then-moved-clause-unfed
 returns-then-moved-clause-unfed g c =
     unfed_then _ c.loop-k.self.journal.entries _ (unfed_none _ _ c.loop-k.invariant.entries)
     (cleared_unfed _ _ _ _ c.loop-k.k c.in_ok-desk.field-0 c.in_ok-desk.ensures.did)
+
+pub returns-in_err-desk-clause-same : goal.returns-in_err-desk-clause-same
+returns-in_err-desk-clause-same g c = on_err c.from_residual.result _ (same_then _ _ _ _ _ _ c.loop-k.invariant.same c.in_err-desk.ensures.err)
+
+pub returns-then-moved-clause-did : goal.returns-then-moved-clause-did
+returns-then-moved-clause-did g c = λ is.
+    let i = c.loop-k.invariant in
+    let x : c.in_ok-desk.field-0 ≡ Moved = c.moved.ensures.0 c.if-moved.true in
+    record {
+      now = c.loop-k.self.nodes.items;
+      same = i.same.tables;
+      did = record {
+        k = c.loop-k.k;
+        before = i.silent;
+        did = subst (λ es. DidDesk c.loop-k.k Moved c.loop-k.self.nodes.items c.desk.new.self.nodes.items es c.desk.new.self.journal.entries) i.entries
+            (rw x at c.in_ok-desk.ensures.did);
+      };
+    }
 
 pub returns-then-moved-clause-jobs : goal.returns-then-moved-clause-jobs
 returns-then-moved-clause-jobs g c = c.desk.ensures.jobs ∙ running_same _ _ c.loop-k.invariant.same.tables

@@ -3,6 +3,8 @@ use Rattle.std.specs.Prelude.{◌-◌, ◌^◌, min}
 use Rattle.hpx_journal.specs.Weights.{HasRoom, total_weight}
 use Rattle.hpx_world.specs.declared.turns.WorldFault.TheVariants as faults
 use Rattle.hpx_world.proofs.Next.{carrying_at, err_of, err_back, err_is, no_err}
+use Rattle.hpx_world.proofs.Idle.{none_at}
+use Rattle.hpx_world.proofs.Stepped.{on_err}
 use Rattle.hpx_world.proofs.Unfed.{unfed_then}
 use Rattle.hpx_world.proofs.locals.Locals.drain.Goals as goal
 
@@ -30,6 +32,15 @@ returns-in_err-step-clause-full_at_once g c = λ none.
     ∙ (ap (λ fault. Err fault) (err_is _ _ full)
     ∙ ap (λ es. Err (faults.JournalFull (length es) (min (2 ^ 64 - 1) (total_weight es)) None)) same)
 
+pub returns-in_err-step-clause-carrying : goal.returns-in_err-step-clause-carrying
+returns-in_err-step-clause-carrying g c = λ h.
+    let i = c.loop.invariant in
+    carrying_at g.A.Acts.act_of (length c.args.self.now.nodes.items) (length c.loop.self.nodes.items) c.args.self.now.profile c.loop.self.profile
+    _ _ _ _ _ _ _ _ i.count i.profile c.step.ensures.carrying (i.carrying h)
+
+pub returns-in_err-step-clause-unfed : goal.returns-in_err-step-clause-unfed
+returns-in_err-step-clause-unfed g c = unfed_then _ _ _ c.loop.invariant.unfed c.step.ensures.unfed
+
 pub returns-in_err-step-clause-undone_full : goal.returns-in_err-step-clause-undone_full
 returns-in_err-step-clause-undone_full g c = λ e w done is.
     c.in_err-step.ensures.undone_full e w done
@@ -54,3 +65,19 @@ pub returns-in_err-step-clause-fabric_room : goal.returns-in_err-step-clause-fab
 returns-in_err-step-clause-fabric_room g c = λ is.
     c.in_err-step.ensures.fabric_room
     (ap (λ fault. Err fault) (err_of c.from_residual.result c.in_err-step.field-0.0 faults.Fabric c.from_residual.ensures.1 is))
+
+-- ---- a refusal that hands no job back
+
+pub returns-in_err-step-clause-jobs_err : goal.returns-in_err-step-clause-jobs_err
+returns-in_err-step-clause-jobs_err g c = λ memory full run.
+    let is = err_back c.from_residual.result c.in_err-step.field-0.0 c.from_residual.ensures.1 in
+    let same = c.in_err-step.ensures.err (λ done e. memory done (is ∙ ap (λ fault. Err fault) (err_is _ _ e)))
+    (λ n w done e. full n w done (is ∙ ap (λ fault. Err fault) (err_is _ _ e))) (λ job e. run job (is ∙ ap (λ fault. Err fault) (err_is _ _ e))) in
+    on_err c.from_residual.result _ (λ none. none_at _ _ same.0.tables (c.loop.invariant.jobs none))
+
+pub returns-clause-jobs_err : goal.returns-clause-jobs_err
+returns-clause-jobs_err g c = λ memory full run. on_err c.settled.result _ (λ none. c.in_ok-step.ensures.jobs c.in_ok-step.field-0 refl (c.loop.invariant.jobs none))
+
+pub returns-in_err-step-clause-room_err : goal.returns-in_err-step-clause-room_err
+returns-in_err-step-clause-room_err g c = λ e is.
+    c.in_err-step.ensures.room_err e (ap (λ fault. Err fault) (err_of c.from_residual.result c.in_err-step.field-0.0 e c.from_residual.ensures.1 is))

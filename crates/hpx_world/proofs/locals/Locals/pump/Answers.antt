@@ -1,8 +1,8 @@
 use Rattle.std.proofs.Common.{subst, length, [], ◌∷◌, Some, refl, ap, ◌∙◌}
 use Rattle.hpx_part.specs.Data.{Out}
-use Rattle.hpx_node.specs.Changes.{Writes}
 use Rattle.hpx_node.specs.Stands.{rules_of}
 use Rattle.hpx_node.specs.Tables.{Tables}
+use Rattle.hpx_node.proofs.Turns.{turn_within}
 use Rattle.hpx_world.specs.Quiet.{SendsNothing}
 use Rattle.hpx_world.specs.Turns.{Sends}
 use Rattle.hpx_world.proofs.Growth.{SendsOne, sends_of}
@@ -13,6 +13,7 @@ use Rattle.hpx_world.proofs.locals.Locals.pump.Goals as goal
 
 pub returns-in-None-clause-did : goal.returns-in-None-clause-did
 returns-in-None-clause-did g c = (
+  (refl, refl),
   same_at _ c.args.k c.index_mut-node.result.now c.index_mut-node.result.now c.requires.range c.index_mut-node.ensures.value
       c.args.self.now.journal c.args.self.now.journal (record { tables = refl; entries = refl }),
   at_own _ c.args.k c.index_mut-node.result.now c.index_mut-node.result.now c.requires.range c.index_mut-node.ensures.value SendsNothing c.in-None.ensures.none,
@@ -26,7 +27,7 @@ gone-requires-clause-stands g c =
 pub returns-clause-sound : goal.returns-clause-sound
 returns-clause-sound g c =
     sound_grows _ _ _ _ c.requires.sound c.args.k c.index_mut-node.result.now _ (Out c.in-Some.to c.in-Ok.bytes ∷ []) _ c.requires.range c.index_mut-node.ensures.value
-    (rw c.reserve.ensures.entries at c.gone.ensures.writes) c.gone.ensures.stands c.gone.ensures.lacks (rw c.reserve.ensures.entries at c.gone.ensures.orderly)
+    (rw c.reserve.ensures.entries at c.gone.ensures.writes) c.gone.ensures.stands c.gone.ensures.lacks (rw c.reserve.ensures.entries at c.gone.ensures.orderly) (turn_within _ _ c.requires.room (rw c.reserve.ensures.entries at c.gone.ensures.turn))
 
 pub returns-clause-carrying : goal.returns-clause-carrying
 returns-clause-carrying g c = λ carrying.
@@ -42,20 +43,20 @@ returns-clause-carrying g c = λ carrying.
 
 pub returns-clause-did : goal.returns-clause-did
 returns-clause-did g c =
-    let next = c.in-Some.ensures.some in
-    let entries = c.args.self.now.journal.entries in
-    let writes = rw c.reserve.ensures.entries at c.gone.ensures.writes in
-    done_at _ c.args.k c.index_mut-node.result.now c.gone.new.self c.requires.range c.index_mut-node.ensures.value
-    (Sends c.args.self.now.journal.entries c.gone.new.book.entries) (record {
-      first = next.first;
-      rest = next.rest;
-      bytes = c.in-Ok.bytes;
-      is = next.is;
-      spelled = (rw c.in-Ok.is at c.encode.ensures.read) ∙ ap Some next.carried;
-      writes = subst (λ to. Writes (Out to c.in-Ok.bytes ∷ []) c.index_mut-node.result.now c.gone.new.self c.args.self.now.journal.entries c.gone.new.book.entries)
-          next.place (rw c.reserve.ensures.entries at c.gone.ensures.writes);
-      leaves = c.gone.ensures.rest next.first next.rest next.is;
-    })
+    let next = c.in-Some.ensures.some in (
+      (c.in-Some.to, c.in-Ok.bytes),
+      (rw c.as_slice.ensures at c.in-Ok-send.ensures.flight, rw c.as_slice.ensures at c.in-Ok-send.ensures.trace),
+      done_at _ c.args.k c.index_mut-node.result.now c.gone.new.self c.requires.range c.index_mut-node.ensures.value
+          (Sends (c.in-Some.to, c.in-Ok.bytes) c.args.self.now.journal.entries c.gone.new.book.entries) (record {
+            first = next.first;
+            rest = next.rest;
+            is = next.is;
+            place = next.place;
+            spelled = (rw c.in-Ok.is at c.encode.ensures.read) ∙ ap Some next.carried;
+            writes = rw c.reserve.ensures.entries at c.gone.ensures.writes;
+            leaves = c.gone.ensures.rest next.first next.rest next.is;
+          }),
+    )
 
 pub returns-clause-jobs : goal.returns-clause-jobs
 returns-clause-jobs g c =

@@ -18,6 +18,8 @@ invariant-loop-k g l = record {
   hand : l.self.hand ≡ l.fn.self.hand;
   carrying : IsCarrying (rules_of g.A.Acts.act_of (length l.fn.self.nodes.items) l.fn.self.profile) l.fn.self.hand (g.F.Fabric.flight l.fn.fabric) (g.F.Fabric.trace l.fn.fabric) l.fn.self.journal.entries
       → IsCarrying (rules_of g.A.Acts.act_of (length l.fn.self.nodes.items) l.fn.self.profile) l.self.hand (g.F.Fabric.flight l.fabric) (g.F.Fabric.trace l.fabric) l.self.journal.entries;
+  flight : g.F.Fabric.flight l.fabric ≡ g.F.Fabric.flight l.fn.fabric;
+  trace : g.F.Fabric.trace l.fabric ≡ g.F.Fabric.trace l.fn.fabric;
   stands : g.F.Fabric.faults l.fabric ≡ g.F.Fabric.faults l.fn.fabric;
   silent : AllByRecursion SendsNothing (take l.k l.self.nodes.items);
 }

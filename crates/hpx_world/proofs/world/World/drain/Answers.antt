@@ -41,3 +41,6 @@ returns-clause-never_early g c = rw (← c.self.view_is) (λ still carrying sent
       laws = λ n kind here s a some few h state act. g.met.A.Acts.keeps_laws n kind here s a some few h state act;
       still = still;
     }) (c.drain.ensures.carrying carrying) (c.drain.ensures.held carrying sent taken is))
+
+pub returns-clause-full_at_once : goal.returns-clause-full_at_once
+returns-clause-full_at_once g c = rw (← c.self.view_is) (λ none. c.drain.ensures.full_at_once none)

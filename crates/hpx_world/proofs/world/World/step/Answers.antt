@@ -10,6 +10,9 @@ returns-clause-promises g c = rw (← c.self.view_is) (λ carrying.
     (λ n kind here s a some few h state act. g.met.A.Acts.keeps_laws n kind here s a some few h state act)
     c.step.ensures.sound c.step.ensures.count c.step.ensures.profile (c.step.ensures.carrying carrying).carried)
 
+pub returns-clause-full_at_once : goal.returns-clause-full_at_once
+returns-clause-full_at_once g c = rw (← c.self.view_is) (λ none. c.step.ensures.full_at_once none)
+
 pub returns-clause-never_bad : goal.returns-clause-never_bad
 returns-clause-never_bad g c = rw (← c.self.view_is) (λ carrying to frame at why is.
     let bad = c.step.ensures.bad_frame to frame at why is in
@@ -25,3 +28,6 @@ returns-clause-never_strange g c = rw (← c.self.view_is) (λ still carrying to
       laws = λ n kind here s a some few h state act. g.met.A.Acts.keeps_laws n kind here s a some few h state act;
       still = still;
     }) _ _ _ (c.step.ensures.carrying carrying) to frame rule object kept (c.step.ensures.strange to frame rule object kept is))
+
+pub returns-clause-handed_full : goal.returns-clause-handed_full
+returns-clause-handed_full g c = rw (← c.self.view_is) (λ e w done is. c.step.ensures.handed_full e w done is)
