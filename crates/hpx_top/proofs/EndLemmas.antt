@@ -1,5 +1,5 @@
 -- What the end of a session says of the bytes of its input.
-use Rattle.std.specs.Prelude.{IfSome, Result, Err, ◌≢◌}
+use Rattle.std.specs.Prelude.{IfSome, Result, Err, ◌≢◌, ◌≤◌}
 use Rattle.std.specs.List.{list_any, slice_split}
 use Rattle.std.proofs.Common.{ℕ, Bool, true, false, List, [], ◌∷◌, ◌++◌, ◌≡◌, ◌+◌, ◌⊎◌, length, Option, Some, None, refl, sym, ap, ◌∙◌, subst, inl, inr, arith, append-nil, append_assoc, length-append}
 use Rattle.hpx_journal.specs.declared.entry.Entry.{Entry}
@@ -70,6 +70,7 @@ begun_at input entries old new u =
       theirs = u.written.begins;
       begins = front_then u.written.front (text_of u.lines) (text_of (lines_of input)) u.written.begins
           (subst (λ ls. IsFront (text_of u.lines) (text_of ls)) (sym first) (text_front u.lines (before_quit rest.0)));
+      almost = u.almost;
     }
 
 -- nothing was done yet
@@ -83,6 +84,7 @@ begun_nothing input entries old new empty same = record {
   is = same ∙ sym (followed_nothing old);
   theirs = record { later = text_of []; is = refl };
   begins = record { later = text_of (lines_of input); is = refl };
+  almost = inl (ap lines_fed empty);
 }
 
 pub read_up_at : (ended : Bool) (input : List ℕ) (reading : Reading) (left : Option (List ℕ)) (entries : List Entry) (old new : Option (List ℕ))
@@ -128,9 +130,9 @@ read_on_at n input reading left s h all =
 abbrev failed : (T : Type 0) → SessionFault → Result T SessionFault
 failed T f = Err f
 
-begun_cut : (most : ℕ) (input : List ℕ) (entries : List Entry) (old new : Option (List ℕ))
+begun_cut : (most : ℕ) (input : List ℕ) (entries : List Entry) (old new : Option (List ℕ)) → most ≤ 1
     → IsCut most (Some (lines_in (slice_split is_newline input))) old entries new → IsBegun input entries old new
-begun_cut most input entries old new c = begun_at input entries old new (under_cut most (Some (lines_in (slice_split is_newline input))) old new entries c)
+begun_cut most input entries old new one c = begun_at input entries old new (under_cut most (Some (lines_in (slice_split is_newline input))) old new entries one c)
 
 begun_in : (input : List ℕ) (entries : List Entry) (old new : Option (List ℕ))
     → IsCutIn (Some (lines_in (slice_split is_newline input))) old entries new → IsBegun input entries old new
@@ -150,13 +152,13 @@ ended_at OutOfMemory input entries old new c = inl (broken_at 1 input entries ol
 pub begun_by : (f : SessionFault) (input : List ℕ) (entries : List Entry) (old new : Option (List ℕ))
     → IsCutBy f (Some (lines_in (slice_split is_newline input))) old entries new → IsBegun input entries old new
 begun_by Write input entries old new c = begun_at input entries old new c
-begun_by Read input entries old new c = begun_cut 0 input entries old new c
-begun_by InputFull input entries old new c = begun_cut 0 input entries old new c
+begun_by Read input entries old new c = begun_cut 0 input entries old new (omega arith) c
+begun_by InputFull input entries old new c = begun_cut 0 input entries old new (omega arith) c
 begun_by Fabric input entries old new c = begun_in input entries old new c
 begun_by JournalFull input entries old new c = begun_in input entries old new c
 begun_by BadFrame input entries old new c = begun_in input entries old new c
 begun_by Strange input entries old new c = begun_in input entries old new c
-begun_by OutOfMemory input entries old new c = begun_cut 1 input entries old new c
+begun_by OutOfMemory input entries old new c = begun_cut 1 input entries old new (omega arith) c
 
 -- while the accumulator was made
 pub opening_broken : (entries : List Entry) (old new : Option (List ℕ)) → IsCutAtOpening old entries new → IsBrokenAtOpening entries old new

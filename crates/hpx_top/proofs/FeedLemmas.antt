@@ -1,7 +1,7 @@
 -- A text that is fed, and how serving it ends.
 use Rattle.std.specs.Prelude.{◌⊎◌, Result, Ok, Err, OnOk, OnErr, IfOk, IfErr, ◌≢◌, nat_lt, not, ◌&&◌, ◌==◌}
 use Rattle.std.specs.List.{concat, slice_get, AllByRecursion}
-use Rattle.std.proofs.Common.{ℕ, zero, suc, Bool, cond, List, [], ◌∷◌, ◌++◌, ◌≡◌, ◌+◌, ◌^◌, ◌≤◌, ◌<◌, length, drop, map, set, Option, Some, refl, sym, ap, ◌∙◌, subst, inl, inr, arith, append_assoc}
+use Rattle.std.proofs.Common.{ℕ, zero, suc, Bool, cond, List, [], ◌∷◌, ◌++◌, ◌≡◌, ◌+◌, ◌^◌, ◌≤◌, ◌<◌, length, drop, map, set, Option, Some, refl, sym, ap, ◌∙◌, subst, inl, inr, arith, lit≤, append_assoc}
 use Rattle.std.proofs.lemmas.Bool.{cond_both}
 use Rattle.hpx_value.specs.declared.profile.Profile.{Profile}
 use Rattle.hpx_journal.specs.declared.entry.Name.{Name}
@@ -17,6 +17,7 @@ use Rattle.hpx_journal.specs.Whole.{replayed}
 use Rattle.hpx_journal.specs.Weights.{HasRoom}
 use Rattle.hpx_journal.proofs.Ample.{legal_ample}
 use Rattle.hpx_journal.proofs.Sessions.{quiet_settled}
+use Rattle.hpx_journal.proofs.Start.{quiet_fires, quiet_dones}
 use Rattle.hpx_node.specs.Fit.{parcel_for}
 use Rattle.hpx_node.specs.Routes.{may_stay, is_other, with_accepted, with_mail, with_act}
 use Rattle.hpx_node.specs.Stands.{rules_of}
@@ -37,7 +38,7 @@ use Rattle.app_console.specs.PlainText.{opening}
 use Rattle.hpx_top.specs.declared.session.SessionFault.{SessionFault}
 use Rattle.hpx_top.specs.declared.session.SessionFault.TheVariants.{Read, Write, Fabric, JournalFull, OutOfMemory, BadFrame, Strange, InputFull}
 use Rattle.hpx_top.specs.Reader.{Reading, TakesLine, lines_left}
-use Rattle.hpx_top.specs.Session.{rules, IsAmple, lines_fed, FeedsAtMost, Feeds, WritesFront, IsServing, IsCutAtOpening, IsUnderWay, IsCutBy, IsLineEndedBy}
+use Rattle.hpx_top.specs.Session.{rules, profile, IsAmple, AllGranted, AllDone, lines_fed, FeedsAtMost, Feeds, WritesFront, IsServing, IsCutAtOpening, IsUnderWay, IsCutBy, IsLineEndedBy}
 use Rattle.hpx_top.proofs.LineLemmas.{lines_fed_append, block_line}
 use Rattle.hpx_top.proofs.SessionLemmas.{cut_line, cut_in, under_line}
 
@@ -129,10 +130,25 @@ still n p = record { codes = λ kind here s a low state act. nothing_moves n kin
 
 -- ---- no action fails
 
+pub ample_profile : IsAmple profile
+ample_profile = record { log = lit≤ tt; limit = lit≤ tt }
+
+-- each ask is granted
+pub all_granted : (n : ℕ) (p : Profile) (es : List Entry) → IsAmple p → length es ≤ 2097152 → KeepsPromises (rules_of act_of n p) es → AllGranted es
+all_granted n p es ample few promises =
+    let none = legal_ample (rules_of act_of n p) es promises.ledger.legal ample.log few ample.limit in
+    record { asks = none; actions = omega (arith, promises.limit.failures, none) }
+
 pub calm : (n : ℕ) (p : Profile) (es : List Entry) → IsAmple p → HasRoom es → KeepsPromises (rules_of act_of n p) es → NoneFails es
-calm n p es ample room promises =
-    let none = legal_ample (rules_of act_of n p) es promises.ledger.legal ample.log (omega (arith, room.entries)) ample.limit in
-    omega (arith, promises.limit.failures, none)
+calm n p es ample room promises = (all_granted n p es ample (omega (arith, room.entries)) promises).actions
+
+-- where nothing is under way, each action is done
+pub all_done : (n : ℕ) (p : Profile) (es : List Entry) → KeepsPromises (rules_of act_of n p) es
+    → IsAtRest (rules_of act_of n p) (replayed (rules_of act_of n p) es) → AllDone es
+all_done n p es promises rest = record {
+  fired = λ a. quiet_fires (rules_of act_of n p) es promises.ledger.legal rest.quiet a;
+  done = λ a. quiet_dones (rules_of act_of n p) es promises.ledger.legal rest.quiet a;
+}
 
 -- what was fed, and all that follows from it
 pub feeds : (n : ℕ) (p : Profile) (text : List ℕ) (old new : List Entry) → IsFed text old new → IsAmple p → HasRoom new → KeepsPromises (rules_of act_of n p) new

@@ -21,7 +21,7 @@ use Rattle.app_console.specs.Console.{commands, prompt, bad_command}
 use Rattle.app_console.specs.PlainText.{IsPiece, is_long, is_quit, is_newline, lines_in, before_quit, opening, fed, after_lines, lines_text, text_of, others_of, written}
 use Rattle.app_console.proofs.TextLaws.{law_whole}
 use Rattle.hpx_top.specs.Reader.{Reading, lines_left, input_left, bytes_left, TakesLine, TakesLong, TakesQuit, IsAtEnd, IsFull}
-use Rattle.hpx_top.specs.Session.{lines_fed, FeedsAtMost, HasFed, WritesFront, Feeds, IsJournalOf, HandsOut, IsServing, IsCut, IsCutIn, IsCutAtOpening, IsOver, IsUnderWay, IsStopped}
+use Rattle.hpx_top.specs.Session.{lines_fed, FeedsAtMost, HasFed, WritesFront, Feeds, IsJournalOf, HandsOut, IsServing, IsCut, IsCutIn, IsCutAtOpening, IsOver, IsUnderWay, IsStopped, AllButOne}
 use Rattle.hpx_top.proofs.LineLemmas.{followed_twice, preceded_nothing, preceded_twice, lines_text_more, long_text, front_all, text_front, fed_short, fed_long, goes_on_more, goes_on_less, long_goes_on, session_lines, session_count, others_count, others_more, line_shown}
 
 -- ---- the journal
@@ -294,6 +294,26 @@ stopped_full r all before now reading next left rest entries s full same =
 
 -- ---- what a failed write leaves
 
+-- the text of these lines was written, and more behind it
+almost_all : (lines : List (List ℕ)) (more : List ℕ) → AllButOne lines (commands ++ (lines_text (pos 0) lines ++ more))
+almost_all lines more = record {
+  done = lines;
+  last = [];
+  parts = sym (append-nil lines);
+  few = omega arith;
+  written = record { later = more; is = append_assoc commands (lines_text (pos 0) lines) more };
+}
+
+-- of all but the last
+almost_last : (lines last : List (List ℕ)) (more : List ℕ) → length last ≤ 1 → AllButOne (lines ++ last) (commands ++ (lines_text (pos 0) lines ++ more))
+almost_last lines last more few = record {
+  done = lines;
+  last = last;
+  parts = refl;
+  few = few;
+  written = record { later = more; is = append_assoc commands (lines_text (pos 0) lines) more };
+}
+
 -- the first text was not written whole
 pub under_start : (all : Option (List (List ℕ))) (before now : Option (List ℕ)) (entries : List Entry) → entries ≡ [] → WritesFront commands before now
     → IsUnderWay all before entries now
@@ -307,6 +327,7 @@ under_start all before now entries empty w = record {
     begins = record { later = w.begins.later ++ prompt; is = sym (append_assoc w.front w.begins.later prompt) ∙ ap (λ t. t ++ prompt) w.begins.is };
     held = w.held;
   };
+  almost = inl (ap lines_fed empty);
 }
 
 -- a prompt was not
@@ -325,14 +346,15 @@ under_prompt r all before now later reading left entries s w = record {
     };
     held = held_prompt before now later commands (lines_text (pos 0) s.lines) w.front s.held w.held;
   };
+  almost = inr (almost_all s.lines w.front);
 }
 
 -- the text of a line was not
-under_text : (all left : Option (List (List ℕ))) (before now mid later : Option (List ℕ)) (entries : List Entry) (lines more : List (List ℕ)) (text : List ℕ)
-    → HandsOut all left more → HasFed more entries → now ≡ followed before (commands ++ lines_text (pos 0) lines) → mid ≡ followed now prompt
-    → WritesFront text mid later → lines_text (pos 0) lines ++ (prompt ++ text) ≡ lines_text (pos 0) more → IsUnderWay all before entries later
-under_text all left before now mid later entries lines more text handled journal held prompted w is = record {
-  lines = more;
+under_text : (all left : Option (List (List ℕ))) (before now mid later : Option (List ℕ)) (entries : List Entry) (lines : List (List ℕ)) (line text : List ℕ)
+    → HandsOut all left (lines ++ line ∷ []) → HasFed (lines ++ line ∷ []) entries → now ≡ followed before (commands ++ lines_text (pos 0) lines) → mid ≡ followed now prompt
+    → WritesFront text mid later → lines_text (pos 0) lines ++ (prompt ++ text) ≡ lines_text (pos 0) (lines ++ line ∷ []) → IsUnderWay all before entries later
+under_text all left before now mid later entries lines line text handled journal held prompted w is = record {
+  lines = lines ++ line ∷ [];
   left = left;
   handled = handled;
   journal = journal;
@@ -345,6 +367,7 @@ under_text all left before now mid later entries lines more text handled journal
     };
     held = held_more before now mid later commands (lines_text (pos 0) lines) prompt w.front (lines_text (pos 0) lines ++ (prompt ++ w.front)) held prompted w.held refl;
   };
+  almost = inr (almost_last lines (line ∷ []) (prompt ++ w.front) (omega arith));
 }
 
 pub under_line : (n : ℕ) (p : Profile) (all : Option (List (List ℕ))) (before now mid later : Option (List ℕ)) (reading next : Reading) (left rest : Option (List ℕ))
@@ -353,7 +376,7 @@ pub under_line : (n : ℕ) (p : Profile) (all : Option (List (List ℕ))) (befor
     → WritesFront (concat (prints_of (drop (length old) new))) mid later → IsUnderWay all before new later
 under_line n p all before now mid later reading next left rest old new line some few s prompted takes f w =
     let r = rules_of act_of n p in
-    under_text all (lines_left next rest) before now mid later new s.lines (s.lines ++ line ∷ []) (concat (prints_of (drop (length old) new)))
+    under_text all (lines_left next rest) before now mid later new s.lines line (concat (prints_of (drop (length old) new)))
     (hands_more all (lines_left reading left) (lines_left next rest) s.lines line s.handled takes.first takes.goes_on)
     (inl (journal_lines r (s.lines ++ line ∷ []) new (journal_more r s.lines line old new takes.fits s.journal f))) s.held prompted w
     (line_prints n p s.lines line old new some few (omega (arith, s.few)) takes.fits s.journal f)
@@ -362,21 +385,22 @@ pub under_long : (r : Rules) (all : Option (List (List ℕ))) (before now mid la
     (entries : List Entry) → IsServing r all before reading left entries now → mid ≡ followed now prompt
     → TakesLong (lines_left reading left) (lines_left next rest) → WritesFront bad_command mid later → IsUnderWay all before entries later
 under_long r all before now mid later reading next left rest entries s prompted takes w =
-    under_text all (lines_left next rest) before now mid later entries s.lines (s.lines ++ takes.line ∷ []) bad_command
+    under_text all (lines_left next rest) before now mid later entries s.lines takes.line bad_command
     (hands_more all (lines_left reading left) (lines_left next rest) s.lines takes.line s.handled takes.first (long_goes_on takes.line takes.long))
     (inl (journal_lines r (s.lines ++ takes.line ∷ []) entries (journal_long r s.lines takes.line entries takes.long s.journal))) s.held prompted w
     (long_more s.lines takes.line takes.long)
 
 -- ---- each end is under way
 
-pub under_cut : (most : ℕ) (all : Option (List (List ℕ))) (before now : Option (List ℕ)) (entries : List Entry) → IsCut most all before entries now
+pub under_cut : (most : ℕ) (all : Option (List (List ℕ))) (before now : Option (List ℕ)) (entries : List Entry) → most ≤ 1 → IsCut most all before entries now
     → IsUnderWay all before entries now
-under_cut most all before now entries c = record {
+under_cut most all before now entries one c = record {
   lines = c.lines ++ c.next;
   left = c.left;
   handled = c.handled;
   journal = inl c.journal;
   written = record { front = text_of c.lines; begins = text_front c.lines c.next; held = c.held };
+  almost = inr (almost_last c.lines c.next prompt (omega (arith, one, c.few)));
 }
 
 pub under_in : (all : Option (List (List ℕ))) (before now : Option (List ℕ)) (entries : List Entry) → IsCutIn all before entries now
@@ -393,6 +417,7 @@ under_in all before now entries c = under c.journal
       };
       journal = inl same;
       written = record { front = text_of c.lines; begins = front_all (text_of c.lines); held = c.held };
+      almost = inr (almost_all c.lines prompt);
     }
     under (inr more) = record {
       lines = c.lines ++ c.line ∷ [];
@@ -400,6 +425,7 @@ under_in all before now entries c = under c.journal
       handled = c.handled;
       journal = inl more;
       written = record { front = text_of c.lines; begins = text_front c.lines (c.line ∷ []); held = c.held };
+      almost = inr (almost_last c.lines (c.line ∷ []) prompt (omega arith));
     }
 
 pub under_over : (ended : Bool) (all : Option (List (List ℕ))) (before now : Option (List ℕ)) (entries : List Entry) → IsOver ended all before entries now
@@ -410,6 +436,7 @@ under_over ended all before now entries o = record {
   handled = o.handled;
   journal = inl o.journal;
   written = record { front = text_of o.lines; begins = front_all (text_of o.lines); held = o.held };
+  almost = inr (almost_all o.lines prompt);
 }
 
 pub under_opening : (all : Option (List (List ℕ))) (before now : Option (List ℕ)) (entries : List Entry) → IsCutAtOpening before entries now
@@ -420,6 +447,13 @@ under_opening all before now entries c = record {
   handled = hands_none all;
   journal = opened c.journal;
   written = record { front = commands; begins = record { later = prompt; is = refl }; held = c.held };
+  almost = inr (record {
+    done = [];
+    last = [];
+    parts = refl;
+    few = omega arith;
+    written = record { later = []; is = append-nil (commands ++ []) ∙ append-nil commands };
+  });
 }
   where
     opened : (lines_fed entries ≡ []) ⊎ (lines_fed entries ≡ opening ∷ []) → HasFed [] entries

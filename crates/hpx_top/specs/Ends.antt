@@ -7,7 +7,7 @@ use Rattle.hpx_top.specs.declared.session.SessionFault.{SessionFault}
 use Rattle.hpx_top.specs.declared.session.SessionFault.TheVariants.{Read, Write, OutOfMemory, InputFull}
 use Rattle.app_console.specs.Console.{commands}
 use Rattle.app_console.specs.PlainText.{IsFront, is_long, is_quit, is_newline, IsPiece, lines_in, lines_of, quits, opening, fed, text_of}
-use Rattle.hpx_top.specs.Session.{lines_fed, HasFed}
+use Rattle.hpx_top.specs.Session.{lines_fed, HasFed, AllButOne}
 
 -- the lines of the input were fed, up to its end or to `quit`, and the whole text was written
 pub record IsWhole (input : List ℕ) (entries : List Entry) (old new : Option (List ℕ)) : Type 0 where
@@ -42,7 +42,8 @@ pub record IsBrokenAtOpening (entries : List Entry) (old new : Option (List ℕ)
   pub lines : (lines_fed entries ≡ []) ⊎ (lines_fed entries ≡ opening ∷ [])
   pub text : new ≡ followed old commands
 
--- The first lines of the input were fed. What was written begins the whole text, and comes of no line behind them.
+-- The first lines of the input were fed. What was written begins the whole text, and comes of no line behind them. It is whole for
+-- all of them but the last, or nothing was fed at all.
 pub record IsBegun (input : List ℕ) (entries : List Entry) (old new : Option (List ℕ)) : Type 0 where
   pub handled : List (List ℕ)
   pub later : List (List ℕ)
@@ -52,6 +53,7 @@ pub record IsBegun (input : List ℕ) (entries : List Entry) (old new : Option (
   pub is : new ≡ followed old text
   pub theirs : IsFront text (text_of handled)
   pub begins : IsFront text (text_of (lines_of input))
+  pub almost : (lines_fed entries ≡ []) ⊎ AllButOne handled text
 
 -- The first bytes of the input were read, as many as the count of the source rose by, and the others are left.
 pub record IsReadFrom (input : List ℕ) (left : Option (List ℕ)) (before after : ℕ) : Type 0 where

@@ -3,10 +3,12 @@ use Rattle.std.specs.Prelude.{ℕ, Bool, pos, true, false, Option, Some, None, I
 use Rattle.std.specs.List.{concat, list_any}
 use Rattle.hpx_value.specs.declared.profile.Profile.{Profile}
 use Rattle.hpx_journal.specs.declared.entry.Entry.{Entry}
+use Rattle.hpx_journal.specs.declared.entry.Name.{Name}
 use Rattle.hpx_journal.specs.declared.entry.Event.{Event}
 use Rattle.hpx_journal.specs.declared.entry.Event.TheVariants.{Line}
 use Rattle.hpx_journal.specs.Entries.{Rules}
 use Rattle.hpx_journal.specs.Whole.{IsLegal, replayed}
+use Rattle.hpx_journal.specs.Laws.{begun, fires, dones, count_events, is_refused_count}
 use Rattle.hpx_journal.specs.Pool.{NoneFails, prints_of}
 use Rattle.hpx_journal.specs.Sessions.{IsSession, IsSettled, BeginsWith, entries_of}
 use Rattle.hpx_ports.specs.Told.{preceded, followed}
@@ -29,6 +31,20 @@ rules w = rules_in act_of w
 pub record IsAmple (p : Profile) : Type 0 where
   pub log : p.credit_log ≤ 31
   pub limit : 2 ^ 53 ≤ p.credit_limit
+
+-- the credit of a new object is the most that an id can have, and no count comes near the greatest one
+abbrev pub profile : Profile
+profile = record { credit_log = 31; credit_limit = 2 ^ 62; cache = 64 }
+
+-- each ask was granted, and no action failed
+pub record AllGranted (entries : List Entry) : Type 0 where
+  pub asks : count_events is_refused_count entries ≡ 0
+  pub actions : NoneFails entries
+
+-- each action that was fed or sent was fired, and is done
+pub record AllDone (entries : List Entry) : Type 0 where
+  pub fired : (a : Name) → fires a entries ≡ begun a entries
+  pub done : (a : Name) → dones a entries ≡ begun a entries
 
 -- nothing is to be done anywhere, nothing is under way, and as many credits are held as objects are named
 pub record IsRested (w : Places) : Type 0 where
@@ -139,13 +155,22 @@ pub record IsOver (ended : Bool) (all : Option (List (List ℕ))) (before : Opti
   pub journal : lines_fed entries ≡ fed lines
   pub held : now ≡ followed before (text_of lines)
 
--- wherever a session ends: what was written is the front of what the lines that were fed print
+-- the text of these lines, or of all but the last of them, was written whole
+pub record AllButOne (lines : List (List ℕ)) (text : List ℕ) : Type 0 where
+  pub done : List (List ℕ)
+  pub last : List (List ℕ)
+  pub parts : lines ≡ done ++ last
+  pub few : length last ≤ 1
+  pub written : IsFront (commands ++ lines_text (pos 0) done) text
+
+-- wherever a session ends: what was written is the front of what the lines that were fed print, and is whole for all but the last
 pub record IsUnderWay (all : Option (List (List ℕ))) (before : Option (List ℕ)) (entries : List Entry) (now : Option (List ℕ)) : Type 0 where
   pub lines : List (List ℕ)
   pub left : Option (List (List ℕ))
   pub handled : HandsOut all left lines
   pub journal : HasFed lines entries
   pub written : WritesFront (text_of lines) before now
+  pub almost : (lines_fed entries ≡ []) ⊎ AllButOne lines written.front
 
 -- the bytes that may be read were read, and behind the lines that were handled they hold no whole line
 pub record IsStopped (all : Option (List (List ℕ))) (reading : Reading) (left : Option (List ℕ)) : Type 0 where

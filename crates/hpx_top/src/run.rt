@@ -1,12 +1,15 @@
 //! The top call: all that the program does, over ports that it is given.
 ghost use Rattle.std.specs.Prelude.{◌≡◌, ◌≢◌, ◌≤◌, ◌<◌, ◌+◌, ◌⊎◌, [], Ok, Some, None, Err, IfSome, IfErr, OnOk, OnErr, ℕ, length};
 ghost use Rattle.hpx_journal.specs.Weights.{HasRoom};
+ghost use Rattle.hpx_journal.specs.Whole.{replayed};
+ghost use Rattle.hpx_node.specs.Limits.{IsWithin};
 ghost use Rattle.hpx_ports.specs.Faults.{Rose};
 ghost use Rattle.hpx_ports.specs.Told.{followed};
+ghost use Rattle.hpx_world.specs.Audit.{audit_lines, IsAudit, StandAtHome};
 ghost use Rattle.hpx_world.specs.Away.{IsCarrying};
 ghost use Rattle.hpx_world.specs.Promises.{KeepsPromises};
 ghost use Rattle.hpx_top.specs.Ends.{IsWhole, IsBrokenOff, IsBrokenIn, IsBrokenAtOpening, IsBegun, IsEndedBy, IsReadFrom, IsReadUp, IsReadOn, IsInputFull};
-ghost use Rattle.hpx_top.specs.Session.{rules, IsRested, WritesFront, entries_in};
+ghost use Rattle.hpx_top.specs.Session.{rules, profile, AllGranted, AllDone, IsRested, WritesFront, entries_in};
 ghost use Rattle.hpx_top.specs.Statuses.{IsStatus, status_of, status_line, word_line};
 ghost use Rattle.hpx_top.specs.Usage.{bad_word};
 
@@ -123,8 +126,14 @@ fn serve_all<S: Source, K: Sink, F: Fabric>(
     ensures none { result.0 ≡ None → result.1 ≡ Err SessionFault.OutOfMemory }
     ensures untouched { result.0 ≡ None → (source.new ≡ source.old) × (sink.new ≡ sink.old) × (fabric.new ≡ fabric.old) }
     ensures localities { IfSome result.0 (λ w. length w.nodes ≡ 2) }
+    ensures profile { IfSome result.0 (λ w. w.profile ≡ profile) }
+    ensures granted { IfSome result.0 (λ w. AllGranted w.journal.entries) }
     ensures rest { OnOk result.1 (IfSome result.0 (λ w. IsRested w)) }
+    ensures all_done { OnOk result.1 (IfSome result.0 (λ w. AllDone w.journal.entries)) }
     ensures promises { IfSome result.0 (λ w. KeepsPromises (rules w) w.journal.entries) }
+    ensures within { IfSome result.0 (λ w. IsWithin w.journal.entries) }
+    ensures audit { IfSome result.0 (λ w. IsAudit (rules w) (replayed (rules w) w.journal.entries) (audit_lines w.nodes)) }
+    ensures at_home { IfSome result.0 (λ w. StandAtHome (rules w) (replayed (rules w) w.journal.entries) (audit_lines w.nodes)) }
     ensures carrying { IfSome result.0 (λ w. IsCarrying (rules w) w.hand (F.flight fabric.new) (F.trace fabric.new) w.journal.entries) }
     ensures no_frame { result.1 ≢ Err SessionFault.BadFrame }
     ensures no_parcel { result.1 ≢ Err SessionFault.Strange }
@@ -204,7 +213,13 @@ pub fn run<S: Source, K: Sink, E: Sink, F: Fabric>(
     ensures world { result.world ≡ None → (result.status ≡ 1) ⊎ (result.status ≡ 6) }
 
     ensures localities { IfSome result.world (λ w. length w.nodes ≡ 2) }
+    ensures profile { IfSome result.world (λ w. w.profile ≡ profile) }
+    ensures granted { IfSome result.world (λ w. AllGranted w.journal.entries) }
+    ensures all_done { result.status ≡ 0 → IfSome result.world (λ w. AllDone w.journal.entries) }
     ensures promises { IfSome result.world (λ w. KeepsPromises (rules w) w.journal.entries) }
+    ensures within { IfSome result.world (λ w. IsWithin w.journal.entries) }
+    ensures audit { IfSome result.world (λ w. IsAudit (rules w) (replayed (rules w) w.journal.entries) (audit_lines w.nodes)) }
+    ensures at_home { IfSome result.world (λ w. StandAtHome (rules w) (replayed (rules w) w.journal.entries) (audit_lines w.nodes)) }
     ensures carrying { IfSome result.world (λ w. IsCarrying (rules w) w.hand (F.flight result.fabric) (F.trace result.fabric) w.journal.entries) }
 
     ensures complete { bad_word words.now ≡ None → (Rose (S.faults source.old) (S.faults source.new) → ⊥) → (Rose (K.faults sink.old) (K.faults sink.new) → ⊥) →

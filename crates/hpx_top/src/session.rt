@@ -109,7 +109,7 @@ fn fault_of(fault: WorldFault<ConsoleActs>) -> SessionFault
     ensures fabric_too { fault ≡ WorldFault.Fabric → result ≡ SessionFault.Fabric }
     ensures full { result ≡ SessionFault.JournalFull → (e w : ℕ) × (u : _) × (fault ≡ WorldFault.JournalFull e w u) }
     ensures full_too { (e w : ℕ) (u : _) → fault ≡ WorldFault.JournalFull e w u → result ≡ SessionFault.JournalFull }
-    ensures memory { result ≡ SessionFault.OutOfMemory → (u : _) × (fault ≡ WorldFault.OutOfMemory u) }
+    ensures memory { result ≡ SessionFault.OutOfMemory → ((u : _) × (fault ≡ WorldFault.OutOfMemory u)) ⊎ ((job : _) × (fault ≡ WorldFault.NotRun job)) }
     ensures bad_frame { result ≡ SessionFault.BadFrame → (to : _) × (frame : _) × (at : _) × (why : _) × (fault ≡ WorldFault.BadFrame to frame at why) }
     ensures strange { result ≡ SessionFault.Strange →
         ((to : _) × (frame : _) × (rule : _) × (object : _) × (kept : _) × (fault ≡ WorldFault.Strange to frame rule object kept))
@@ -138,6 +138,7 @@ fn fault_of(fault: WorldFault<ConsoleActs>) -> SessionFault
             undone: _,
         } => SessionFault::JournalFull,
         WorldFault::OutOfMemory { undone: _ } => SessionFault::OutOfMemory,
+        WorldFault::NotRun { job: _ } => SessionFault::OutOfMemory,
     }
 }
 
