@@ -1,12 +1,14 @@
 -- The acts of the tests keep the laws of actions.
-use Rattle.std.proofs.Common.{ℕ, pos, Bool, true, false, cond, nat_lt, List, [], ◌∷◌, ◌++◌, ◌≡◌, ◌≢◌, ◌+◌, ◌-◌, ◌<◌, ◌≤◌, ◌==◌, ◌&&◌, Option, Some, None, length, map, refl, sym, ap, ◌∙◌, subst, inl, inr, arith, lit≤}
+use Rattle.std.proofs.Common.{ℕ, zero, suc, ℤ, pos, negsuc, Bool, true, false, cond, nat_lt, List, [], ◌∷◌, ◌++◌, ◌≡◌, ◌≢◌, ◌+◌, ◌-◌, ◌/◌, ◌%◌, ◌<◌, ◌≤◌, ◌==◌, ◌&&◌, Option, Some, None, codes, length, length-append, map, refl, sym, ap, ◌∙◌, subst, inl, inr, arith, lit≤}
 use Rattle.std.specs.List.{AllByRecursion, count_by, slice_index_or}
+use Rattle.std.specs.Int.{w64, int_wrapping_add}
+use Rattle.std.specs.Fmt.{digits, digits_onto, digit_glyph, decimal}
 use Rattle.std.proofs.lemmas.Bool.{cond_both, and_parts, eqb-true, le-ltb}
 use Rattle.std.proofs.lemmas.List.Sums.{count_by-le-length}
 use Rattle.hpx_value.specs.Ids.{bare}
 use Rattle.hpx_value.specs.Values.{refs_in, bare_act, bare_state, message_of, named}
 use Rattle.hpx_value.specs.Shapes.{IsAct, IsMessage, IsState, IsCount, places_of, listed}
-use Rattle.hpx_value.specs.Hands.{hand_slots, hand_ids, id_at, sent, state_after}
+use Rattle.hpx_value.specs.Hands.{hand_slots, hand_ids, id_at, sent, replied, state_after}
 use Rattle.hpx_value.specs.Kept.{numbers, answers}
 use Rattle.hpx_value.specs.Mentions.{mentions, cont_place}
 use Rattle.hpx_value.specs.Laws.{KeepsLaws, NamesItsHand, UsesEachOnce, IsMovable, IsTarget, MovesBelow, answered, handed_on, made_slots, drawn_slots, is_made_slot, target_kind, uses}
@@ -17,7 +19,7 @@ use Rattle.hpx_value.specs.declared.outcome.Target.TheVariants.{Place, Root}
 use Rattle.hpx_value.specs.declared.outcome.SendCont.TheVariants.{Nothing as NoCont, Here}
 use Rattle.hpx_value.specs.declared.outcome.Sending.{Sending}
 use Rattle.hpx_trial.specs.Data.{Id, Value, Nothing, Int, Ref, State, Act, Outcome}
-use Rattle.hpx_trial.specs.Trial.{said, told, one_send, line_outcome, byte_in, set_outcome, session_outcome, made_outcome, number_outcome, free_outcome, some_outcome, is_number, or_stays, trial}
+use Rattle.hpx_trial.specs.Trial.{said, told, one_send, line_outcome, byte_in, number_text, set_outcome, session_outcome, made_outcome, add_outcome, query_outcome, free_outcome, some_outcome, is_number, or_stays, trial}
 
 -- few places are named, and each is one of the hand
 few_places : (s : State) (a : Act) (out : Outcome) (m : ℕ) → m ≡ length s.ids + length a.ids + length out.makes
@@ -29,6 +31,21 @@ few_places s a out m is low few sends once = record {
   each = λ place _. omega (arith, count_by-le-length (λ p. p == place) (mentions s a out));
   all = let roots = few_roots out.sends in omega arith;
 }
+
+-- a number in digits is short
+length-digits_onto : (k base : ℕ) (upper : Bool) (n : ℕ) (acc : List ℕ) → length (digits_onto k base upper n acc) ≤ k + length acc
+length-digits_onto zero base upper n acc = omega arith
+length-digits_onto (suc k) base upper n acc =
+    cond_both (n / base == 0) _ _ (λ bytes. length bytes ≤ suc k + length acc) (λ e. omega arith)
+    (λ e. let more = length-digits_onto k base upper (n / base) (digit_glyph upper (n % base) ∷ acc) in omega arith)
+
+length-decimal : (n : ℕ) → length (decimal n) ≤ 64
+unfolding digits
+length-decimal n = length-digits_onto 64 10 false n []
+
+length-number_text : (z : ℤ) → length (number_text z) ≤ 16384
+length-number_text (pos n) = let digits_fit = length-decimal n in omega (arith, length-append (decimal n) (codes "\n"))
+length-number_text (negsuc n) = let digits_fit = length-decimal (suc n) in omega (arith, length-append (decimal (suc n)) (codes "\n"))
 
 no_counts : (make slot : ℕ) → count_by (is_made_slot make slot) [] ≤ 1
 no_counts make slot = lit≤ tt
@@ -42,18 +59,20 @@ record IsSpeaking (kind : ℕ) (s : State) (a : Act) : Type 0 where
   cont : a.cont ≡ None
 
 -- what it says is lawful
-record IsFine (n kind : ℕ) (s : State) (a : Act) (drawn : ℕ) (values : List Value) (sends : List Sending) : Type 0 where
-  places : AllByRecursion (λ place. place < length s.ids + length a.ids + 0) (mentions s a (said drawn values sends))
-  few : length (mentions s a (said drawn values sends)) ≤ 8
+record IsFine (n kind : ℕ) (s : State) (a : Act) (drawn : ℕ) (values : List Value) (sends : List Sending) (prints : List (List ℕ)) : Type 0 where
+  places : AllByRecursion (λ place. place < length s.ids + length a.ids + 0) (mentions s a (said drawn values sends prints))
+  few : length (mentions s a (said drawn values sends prints)) ≤ 8
   unused : handed_on sends ≡ []
   nothing_made : made_slots sends ≡ []
   slots : IsCount s.drawn (drawn_slots sends)
   counted : drawn ≡ s.drawn + length (drawn_slots sends)
   one : length sends ≤ 32
-  state : (made : List Id) → IsState (state_after s a made (said drawn values sends))
+  few_prints : length prints ≤ 16
+  short : AllByRecursion (λ bytes. length bytes ≤ 16384) prints
+  state : (made : List Id) → IsState (state_after s a made (said drawn values sends prints))
   messages : (made : List Id) → AllByRecursion (λ x. IsMessage (sent s a made x)) sends
   codes : AllByRecursion (λ x. (x.code ≢ 3) × (x.code ≢ 4)) sends
-  moves : AllByRecursion (λ x. x.code ≡ 1 → IsMovable (target_kind s a (said drawn values sends) x.target) × MovesBelow n x.args) sends
+  moves : AllByRecursion (λ x. x.code ≡ 1 → IsMovable (target_kind s a (said drawn values sends prints) x.target) × MovesBelow n x.args) sends
   roots : AllByRecursion (λ x. IsTarget n x.target) sends
 
 unused : (kind : ℕ) (s : State) (a : Act) → IsSpeaking kind s a → UsesEachOnce (length (hand_slots s a)) []
@@ -63,14 +82,14 @@ unused kind s a h i =
     let zero : cond (nat_lt i (length (hand_slots s a))) 1 0 ≡ 0 = ap (λ b. cond b 1 0) (le-ltb i (length (hand_slots s a)) (omega arith)) in
     sym zero
 
-said_keeps : (n kind here : ℕ) (s : State) (a : Act) (drawn : ℕ) (values : List Value) (sends : List Sending) → IsSpeaking kind s a
-    → IsFine n kind s a drawn values sends → KeepsLaws n kind here s a (said drawn values sends)
-said_keeps n kind here s a drawn values sends h fine =
+said_keeps : (n kind here : ℕ) (s : State) (a : Act) (drawn : ℕ) (values : List Value) (sends : List Sending) (prints : List (List ℕ)) → IsSpeaking kind s a
+    → IsFine n kind s a drawn values sends prints → KeepsLaws n kind here s a (said drawn values sends prints)
+said_keeps n kind here s a drawn values sends prints h fine =
     let session = h.session in
-    let once : UsesEachOnce (length (hand_slots s a)) (uses (said drawn values sends)) =
+    let once : UsesEachOnce (length (hand_slots s a)) (uses (said drawn values sends prints)) =
     let P : List ℕ → Type 0 = λ xs. UsesEachOnce (length (hand_slots s a)) (xs ++ []) in subst P (sym fine.unused) (unused kind s a h) in
     record {
-      names = few_places s a (said drawn values sends) (length s.ids + length a.ids + 0) refl fine.places fine.few fine.one once;
+      names = few_places s a (said drawn values sends prints) (length s.ids + length a.ids + 0) refl fine.places fine.few fine.one once;
       conts = once;
       slots = record {
         made =
@@ -80,7 +99,7 @@ said_keeps n kind here s a drawn values sends h fine =
         drawn = fine.slots;
         counted = fine.counted;
       };
-      few = record { makes = lit≤ tt; sends = fine.one; prints = lit≤ tt; managed = tt; session = λ _. refl; short = tt };
+      few = record { makes = lit≤ tt; sends = fine.one; prints = fine.few_prints; managed = tt; session = λ other. absurd (other session); short = fine.short };
       shapes = record { state = fine.state; births = tt; sends = fine.messages; replies = λ made. tt };
       moves = record {
         codes = fine.codes;
@@ -120,8 +139,8 @@ module _ (n kind here : ℕ) (s : State) (a : Act) (some : 1 ≤ n) (state : IsS
       → IsLawful n kind here s a (cond b x y)
   either b x y p q = cond_both b x y (IsLawful n kind here s a) p q
 
-  asks : IsSpeaking kind s a → KeepsLaws n kind here s a (said (s.drawn + 1) [] (one_send (Root 3 (n - 1)) 5 [] (Here s.drawn)))
-  asks h = said_keeps n kind here s a (s.drawn + 1) [] (one_send (Root 3 (n - 1)) 5 [] (Here s.drawn)) h (record {
+  asks : IsSpeaking kind s a → KeepsLaws n kind here s a (said (s.drawn + 1) [] (one_send (Root 3 (n - 1)) 5 [] (Here s.drawn)) [])
+  asks h = said_keeps n kind here s a (s.drawn + 1) [] (one_send (Root 3 (n - 1)) 5 [] (Here s.drawn)) [] h (record {
     places = tt;
     few = lit≤ tt;
     unused = refl;
@@ -129,6 +148,8 @@ module _ (n kind here : ℕ) (s : State) (a : Act) (some : 1 ≤ n) (state : IsS
     slots = (refl, tt);
     counted = refl;
     one = lit≤ tt;
+    few_prints = lit≤ tt;
+    short = tt;
     state = λ made. nothing_kept (s.drawn + 1);
     messages = λ made. (
       record { values = record { few = lit≤ tt; each = tt }; refs = tt; few_refs = lit≤ tt; cont = (refl, tt); ids = refl; short = lit≤ tt },
@@ -139,10 +160,10 @@ module _ (n kind here : ℕ) (s : State) (a : Act) (some : 1 ≤ n) (state : IsS
     roots = (inr (inl refl, omega arith), tt);
   })
 
-  takes : IsSpeaking kind s a → (slot place : _) → a.args ≡ Int slot ∷ Ref place ∷ [] → KeepsLaws n kind here s a (said s.drawn (Ref 1 ∷ []) [])
+  takes : IsSpeaking kind s a → (slot place : _) → a.args ≡ Int slot ∷ Ref place ∷ [] → KeepsLaws n kind here s a (said s.drawn (Ref 1 ∷ []) [] [])
   takes h slot place is =
       let many : length a.ids ≡ 2 + length (listed a.cont) = act.ids ∙ ap (λ args. 1 + length (refs_in args) + length (listed a.cont)) is in
-      said_keeps n kind here s a s.drawn (Ref 1 ∷ []) [] h (record {
+      said_keeps n kind here s a s.drawn (Ref 1 ∷ []) [] [] h (record {
         places = (omega arith, tt);
         few = lit≤ tt;
         unused = refl;
@@ -150,6 +171,8 @@ module _ (n kind here : ℕ) (s : State) (a : Act) (some : 1 ≤ n) (state : IsS
         slots = tt;
         counted = omega arith;
         one = lit≤ tt;
+        few_prints = lit≤ tt;
+        short = tt;
         state = λ made. one_kept s.drawn (id_at (hand_ids s a made) 1);
         messages = λ made. tt;
         codes = tt;
@@ -158,8 +181,8 @@ module _ (n kind here : ℕ) (s : State) (a : Act) (some : 1 ≤ n) (state : IsS
       })
 
   calls : IsSpeaking kind s a → length s.ids ≡ 1
-      → KeepsLaws n kind here s a (said (s.drawn + 1) (Ref 0 ∷ []) (one_send (Place 0) 16 (Int (pos 5) ∷ []) (Here s.drawn)))
-  calls h one = said_keeps n kind here s a (s.drawn + 1) (Ref 0 ∷ []) (one_send (Place 0) 16 (Int (pos 5) ∷ []) (Here s.drawn)) h (record {
+      → KeepsLaws n kind here s a (said (s.drawn + 1) (Ref 0 ∷ []) (one_send (Place 0) 16 (Int (pos 5) ∷ []) (Here s.drawn)) [])
+  calls h one = said_keeps n kind here s a (s.drawn + 1) (Ref 0 ∷ []) (one_send (Place 0) 16 (Int (pos 5) ∷ []) (Here s.drawn)) [] h (record {
     places = (omega arith, (omega arith, tt));
     few = lit≤ tt;
     unused = refl;
@@ -167,6 +190,8 @@ module _ (n kind here : ℕ) (s : State) (a : Act) (some : 1 ≤ n) (state : IsS
     slots = (refl, tt);
     counted = refl;
     one = lit≤ tt;
+    few_prints = lit≤ tt;
+    short = tt;
     state = λ made. one_kept (s.drawn + 1) (id_at (hand_ids s a made) 0);
     messages = λ made. (
       record { values = record { few = lit≤ tt; each = (tt, tt) }; refs = tt; few_refs = lit≤ tt; cont = (refl, tt); ids = refl; short = lit≤ tt },
@@ -177,11 +202,33 @@ module _ (n kind here : ℕ) (s : State) (a : Act) (some : 1 ≤ n) (state : IsS
     roots = (tt, tt);
   })
 
+  queries : IsSpeaking kind s a → length s.ids ≡ 1
+      → KeepsLaws n kind here s a (said (s.drawn + 1) (Ref 0 ∷ []) (one_send (Place 0) 17 [] (Here s.drawn)) [])
+  queries h one = said_keeps n kind here s a (s.drawn + 1) (Ref 0 ∷ []) (one_send (Place 0) 17 [] (Here s.drawn)) [] h (record {
+    places = (omega arith, (omega arith, tt));
+    few = lit≤ tt;
+    unused = refl;
+    nothing_made = refl;
+    slots = (refl, tt);
+    counted = refl;
+    one = lit≤ tt;
+    few_prints = lit≤ tt;
+    short = tt;
+    state = λ made. one_kept (s.drawn + 1) (id_at (hand_ids s a made) 0);
+    messages = λ made. (
+      record { values = record { few = lit≤ tt; each = tt }; refs = tt; few_refs = lit≤ tt; cont = (refl, tt); ids = refl; short = lit≤ tt },
+      tt,
+    );
+    codes = ((λ e. absurd (cc), λ e. absurd (cc)), tt);
+    moves = ((λ e. absurd (cc)), tt);
+    roots = (tt, tt);
+  })
+
   moves : IsSpeaking kind s a → length s.ids ≡ 1 → is_number s.ids ≡ true
-      → KeepsLaws n kind here s a (said s.drawn (Ref 0 ∷ []) (one_send (Place 0) 1 (Int (pos 0) ∷ []) NoCont))
+      → KeepsLaws n kind here s a (said s.drawn (Ref 0 ∷ []) (one_send (Place 0) 1 (Int (pos 0) ∷ []) NoCont) [])
   moves h one number =
       let movable = first_kind s.ids (map (λ id. id.kind) a.ids ++ []) number in
-      said_keeps n kind here s a s.drawn (Ref 0 ∷ []) (one_send (Place 0) 1 (Int (pos 0) ∷ []) NoCont) h (record {
+      said_keeps n kind here s a s.drawn (Ref 0 ∷ []) (one_send (Place 0) 1 (Int (pos 0) ∷ []) NoCont) [] h (record {
         places = (omega arith, (omega arith, tt));
         few = lit≤ tt;
         unused = refl;
@@ -189,6 +236,8 @@ module _ (n kind here : ℕ) (s : State) (a : Act) (some : 1 ≤ n) (state : IsS
         slots = tt;
         counted = omega arith;
         one = lit≤ tt;
+        few_prints = lit≤ tt;
+        short = tt;
         state = λ made. one_kept s.drawn (id_at (hand_ids s a made) 0);
         messages = λ made. (
           record { values = record { few = lit≤ tt; each = (tt, tt) }; refs = tt; few_refs = lit≤ tt; cont = tt; ids = refl; short = lit≤ tt },
@@ -199,8 +248,8 @@ module _ (n kind here : ℕ) (s : State) (a : Act) (some : 1 ≤ n) (state : IsS
         roots = (tt, tt);
       })
 
-  drops : IsSpeaking kind s a → KeepsLaws n kind here s a (said s.drawn [] [])
-  drops h = said_keeps n kind here s a s.drawn [] [] h (record {
+  drops : IsSpeaking kind s a → KeepsLaws n kind here s a (said s.drawn [] [] [])
+  drops h = said_keeps n kind here s a s.drawn [] [] [] h (record {
     places = tt;
     few = lit≤ tt;
     unused = refl;
@@ -208,7 +257,28 @@ module _ (n kind here : ℕ) (s : State) (a : Act) (some : 1 ≤ n) (state : IsS
     slots = tt;
     counted = omega arith;
     one = lit≤ tt;
+    few_prints = lit≤ tt;
+    short = tt;
     state = λ made. nothing_kept s.drawn;
+    messages = λ made. tt;
+    codes = tt;
+    moves = tt;
+    roots = tt;
+  })
+
+  shows : IsSpeaking kind s a → length s.ids ≡ 1 → (number : ℤ)
+      → KeepsLaws n kind here s a (said s.drawn (Ref 0 ∷ []) [] (number_text number ∷ []))
+  shows h one number = said_keeps n kind here s a s.drawn (Ref 0 ∷ []) [] (number_text number ∷ []) h (record {
+    places = (omega arith, tt);
+    few = lit≤ tt;
+    unused = refl;
+    nothing_made = refl;
+    slots = tt;
+    counted = omega arith;
+    one = lit≤ tt;
+    few_prints = lit≤ tt;
+    short = (length-number_text number, tt);
+    state = λ made. one_kept s.drawn (id_at (hand_ids s a made) 0);
     messages = λ made. tt;
     codes = tt;
     moves = tt;
@@ -221,18 +291,21 @@ module _ (n kind here : ℕ) (s : State) (a : Act) (some : 1 ≤ n) (state : IsS
   line_lawful h (Ref place ∷ []) is byte =
       let one = ids_of s state place is h.conts in
       either (byte == 97) _ _ (λ e. calls h one)
-      (λ e. either ((byte == 109) && is_number s.ids) _ _ (λ f. moves h one (and_parts (byte == 109) (is_number s.ids) f).1)
-      (λ f. either (byte == 100) _ None (λ g. drops h) (λ g. tt)))
+      (λ e. either (byte == 113) _ _ (λ f. queries h one)
+      (λ f. either ((byte == 109) && is_number s.ids) _ _ (λ g. moves h one (and_parts (byte == 109) (is_number s.ids) g).1)
+      (λ g. either (byte == 100) _ None (λ k. drops h) (λ k. tt))))
   line_lawful h _ is byte = tt
 
-  set_lawful : IsSpeaking kind s a → (values args : List Value) → a.args ≡ args → IsLawful n kind here s a (set_outcome s.drawn values args)
-  set_lawful h [] (Int slot ∷ Ref place ∷ []) is = takes h slot place is
-  set_lawful h _ _ is = tt
+  set_lawful : IsSpeaking kind s a → (values args : List Value) → s.values ≡ values → a.args ≡ args
+      → IsLawful n kind here s a (set_outcome s.drawn values args)
+  set_lawful h [] (Int slot ∷ Ref place ∷ []) kept is = takes h slot place is
+  set_lawful h (Ref place ∷ []) (Int slot ∷ Int number ∷ []) kept is = shows h (ids_of s state place kept h.conts) number
+  set_lawful h _ _ kept is = tt
 
   session_lawful : IsSpeaking kind s a → IsLawful n kind here s a (session_outcome n (is_number s.ids) s a)
   session_lawful h =
       either (a.code == 4) _ _ (λ e. line_lawful h s.values refl (byte_in a.args))
-      (λ e. either (a.code == 3) _ None (λ f. set_lawful h s.values a.args refl) (λ f. tt))
+      (λ e. either (a.code == 3) _ None (λ f. set_lawful h s.values a.args refl refl) (λ f. tt))
 
   -- ---- objects that answer
 
@@ -304,15 +377,19 @@ module _ (n kind here : ℕ) (s : State) (a : Act) (some : 1 ≤ n) (state : IsS
         roots = tt;
       }
 
-  holds : (c : Cont) → kind ≡ 16 → a.code ≡ 16 → s.conts ≡ [] → a.cont ≡ Some c → (new : _)
-      → KeepsLaws n kind here s a (told s.drawn (Int new ∷ []) [] Nothing)
-  holds c sixteen code none e new =
-      let out : Outcome = told s.drawn (Int new ∷ []) [] Nothing in
-      let place = own_place c none e in
-      let last = own_last c e in
+  -- what a number answers names nothing
+  record IsAnswer (new : ℤ) (value : Value) : Type 0 where
+    places : AllByRecursion (λ place. place < length s.ids + length a.ids + 0) (mentions s a (told s.drawn (Int new ∷ []) [] value))
+    few : length (mentions s a (told s.drawn (Int new ∷ []) [] value)) ≤ 8
+    message : (made : List Id) → IsMessage (replied s a made (record { cont = 0; value = value }))
+
+  holds : (c : Cont) → kind ≡ 16 → 16 ≤ a.code → s.conts ≡ [] → a.cont ≡ Some c → (new : ℤ) (value : Value) → IsAnswer new value
+      → KeepsLaws n kind here s a (told s.drawn (Int new ∷ []) [] value)
+  holds c sixteen code none e new value plain =
+      let out : Outcome = told s.drawn (Int new ∷ []) [] value in
       let used = once c none e in
       record {
-        names = few_places s a out (length s.ids + length a.ids + 0) refl (omega arith, tt) (lit≤ tt) (lit≤ tt) used;
+        names = few_places s a out (length s.ids + length a.ids + 0) refl plain.places plain.few (lit≤ tt) used;
         conts = used;
         slots = record { made = tt; made_once = no_counts; session = λ _. refl; drawn = tt; counted = omega arith };
         few = record { makes = lit≤ tt; sends = lit≤ tt; prints = lit≤ tt; managed = tt; session = λ _. refl; short = tt };
@@ -321,10 +398,7 @@ module _ (n kind here : ℕ) (s : State) (a : Act) (some : 1 ≤ n) (state : IsS
               record { values = record { few = lit≤ tt; each = (tt, tt) }; refs = tt; conts = tt; ids = refl; few = lit≤ tt; short = lit≤ tt };
           births = tt;
           sends = λ made. tt;
-          replies = λ made. (
-            record { values = record { few = lit≤ tt; each = (tt, (tt, tt)) }; refs = tt; few_refs = lit≤ tt; cont = tt; ids = refl; short = lit≤ tt },
-            tt,
-          );
+          replies = λ made. (plain.message made, tt);
         };
         moves = record {
           codes = tt;
@@ -336,15 +410,45 @@ module _ (n kind here : ℕ) (s : State) (a : Act) (some : 1 ≤ n) (state : IsS
         roots = tt;
       }
 
+  adds : (c : Cont) → kind ≡ 16 → a.code ≡ 16 → s.conts ≡ [] → a.cont ≡ Some c → (new : ℤ)
+      → KeepsLaws n kind here s a (told s.drawn (Int new ∷ []) [] Nothing)
+  adds c sixteen code none e new =
+      let place = own_place c none e in
+      let last = own_last c e in
+      holds c sixteen (omega arith) none e new Nothing (record {
+        places = (omega arith, tt);
+        few = lit≤ tt;
+        message = λ made.
+            record { values = record { few = lit≤ tt; each = (tt, (tt, tt)) }; refs = tt; few_refs = lit≤ tt; cont = tt; ids = refl; short = lit≤ tt };
+      })
+
+  tells : (c : Cont) → kind ≡ 16 → a.code ≡ 17 → s.conts ≡ [] → a.cont ≡ Some c → (held : ℤ)
+      → KeepsLaws n kind here s a (told s.drawn (Int held ∷ []) [] (Int held))
+  tells c sixteen code none e held =
+      let place = own_place c none e in
+      let last = own_last c e in
+      holds c sixteen (omega arith) none e held (Int held) (record {
+        places = (omega arith, tt);
+        few = lit≤ tt;
+        message = λ made.
+            record { values = record { few = lit≤ tt; each = (tt, (tt, tt)) }; refs = tt; few_refs = lit≤ tt; cont = tt; ids = refl; short = lit≤ tt };
+      })
+
   made_lawful : (c : Cont) → kind ≡ 3 → s.conts ≡ [] → a.cont ≡ Some c → (values args : List Value) → a.args ≡ args
       → IsLawful n kind here s a (made_outcome s.drawn values args)
   made_lawful c three none e [] [] is = makes c three none e is
   made_lawful c three none e _ _ is = tt
 
-  number_lawful : (c : Cont) → kind ≡ 16 → a.code ≡ 16 → s.conts ≡ [] → a.cont ≡ Some c → (values args : List Value)
-      → IsLawful n kind here s a (number_outcome s.drawn values args)
-  number_lawful c sixteen code none e (Int held ∷ []) (Int new ∷ []) = holds c sixteen code none e new
-  number_lawful c sixteen code none e _ _ = tt
+  add_lawful : (c : Cont) → kind ≡ 16 → a.code ≡ 16 → s.conts ≡ [] → a.cont ≡ Some c → (values args : List Value)
+      → IsLawful n kind here s a (add_outcome s.drawn values args)
+  add_lawful c sixteen code none e (Int held ∷ []) (Int more ∷ []) =
+      adds c sixteen code none e (int_wrapping_add w64 held more)
+  add_lawful c sixteen code none e _ _ = tt
+
+  query_lawful : (c : Cont) → kind ≡ 16 → a.code ≡ 17 → s.conts ≡ [] → a.cont ≡ Some c → (values args : List Value)
+      → IsLawful n kind here s a (query_outcome s.drawn values args)
+  query_lawful c sixteen code none e (Int held ∷ []) [] = tells c sixteen code none e held
+  query_lawful c sixteen code none e _ _ = tt
 
   free_lawful : s.conts ≡ [] → (cont : Option Cont) → a.cont ≡ cont → IsLawful n kind here s a (free_outcome n (is_number s.ids) kind s a cont)
   free_lawful none None e =
@@ -354,10 +458,13 @@ module _ (n kind here : ℕ) (s : State) (a : Act) (some : 1 ≤ n) (state : IsS
   free_lawful none (Some c) e =
       either ((kind == 3) && (a.code == 5)) _ _ (λ f.
       made_lawful c (eqb-true kind 3 (and_parts (kind == 3) (a.code == 5) f).0) none e s.values a.args refl)
-      (λ f. either ((kind == 16) && (a.code == 16)) _ None (λ g.
+      (λ f. either ((kind == 16) && (a.code == 16)) _ _ (λ g.
       let both = and_parts (kind == 16) (a.code == 16) g in
-      number_lawful c (eqb-true kind 16 both.0) (eqb-true a.code 16 both.1) none e s.values a.args)
-      (λ g. tt))
+      add_lawful c (eqb-true kind 16 both.0) (eqb-true a.code 16 both.1) none e s.values a.args)
+      (λ g. either ((kind == 16) && (a.code == 17)) _ None (λ k.
+      let both = and_parts (kind == 16) (a.code == 17) k in
+      query_lawful c (eqb-true kind 16 both.0) (eqb-true a.code 17 both.1) none e s.values a.args)
+      (λ k. tt)))
 
   some_lawful : (conts : List Cont) → s.conts ≡ conts → IsLawful n kind here s a (some_outcome n (is_number s.ids) kind s a conts)
   some_lawful [] is = free_lawful is a.cont refl

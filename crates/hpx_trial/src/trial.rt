@@ -1,22 +1,19 @@
-//! Acts that keep the laws of actions: a session that has an object made, calls it, moves it and drops it.
-ghost use Rattle.std.specs.Prelude.{◌≡◌, ◌<◌, ℕ, IfOk};
-ghost use Rattle.hpx_trial.specs.Trial.{said, told, one_send, first_line, later_line, line_outcome, byte_in, set_outcome, session_outcome, made_outcome, number_outcome, free_outcome, some_outcome, is_number};
+//! Acts that keep the laws of actions: a session that has a number made, adds to it, asks for it, moves it and drops it.
+ghost use Rattle.std.specs.Prelude.{◌≡◌, ◌<◌, ◌∷◌, [], ℕ, IfOk};
+ghost use Rattle.hpx_trial.specs.Trial.{said, told, one_send, first_line, later_line, line_outcome, byte_in, number_text, set_outcome, session_outcome, made_outcome, add_outcome, query_outcome, free_outcome, some_outcome, is_number};
 
 use crate::still::{one, stays};
 use hpx_value::acts::Acts;
-use hpx_value::codes::{COMPONENTS, LINE, SESSION, SET};
+use hpx_value::codes::{ADD, COMPONENTS, LINE, QUERY, SESSION, SET};
 use hpx_value::gid::Gid;
-use hpx_value::items::{Items, Numbers};
+use hpx_value::items::{Items, Numbers, Texts};
 use hpx_value::memory::OutOfMemory;
 use hpx_value::outcome::{Make, Makes, NewState, Outcome, Reply, SendCont, Sending, Sends, Target};
 use hpx_value::value::{Act, State, Value, Values};
 use std::alloc::Global;
 
-/// The code that asks for an object.
+/// The code that asks for a number to be made.
 const NEW: u16 = 5;
-
-/// The code that tells a number.
-const TELL: u16 = 16;
 
 /// The kind of a number.
 const NUMBER: u32 = 16;
@@ -28,9 +25,9 @@ const MOST_SLOTS: u32 = 100;
 #[derive(Clone, Copy)]
 pub struct Trial;
 
-/// The session keeps values, and sends.
-fn said(alloc: Global, drawn: u32, values: Values, sends: Sends) -> Outcome
-    ensures { result ≡ said drawn values sends }
+/// The session keeps values, sends, and prints.
+fn said(alloc: Global, drawn: u32, values: Values, sends: Sends, prints: Texts) -> Outcome
+    ensures { result ≡ said drawn values sends prints }
 {
     Outcome {
         state: NewState {
@@ -41,8 +38,15 @@ fn said(alloc: Global, drawn: u32, values: Values, sends: Sends) -> Outcome
         makes: Items::new(alloc),
         sends,
         replies: Items::new(alloc),
-        prints: Items::new(alloc),
+        prints,
     }
+}
+
+/// The session keeps values, and sends.
+fn sent(alloc: Global, drawn: u32, values: Values, sends: Sends) -> Option<Outcome>
+    ensures { result ≡ Some (said drawn values sends []) }
+{
+    Some(said(alloc, drawn, values, sends, Items::new(alloc)))
 }
 
 /// An object keeps values, makes, and answers.
@@ -103,7 +107,7 @@ fn first_line(alloc: Global, drawn: u32, byte: u8) -> Result<Option<Outcome>, Ou
     };
     let none = Items::new(alloc);
     let sends = send(alloc, target, NEW, none, SendCont::Here { slot: drawn })?;
-    Ok(Some(said(alloc, drawn + 1, Items::new(alloc), sends)))
+    Ok(sent(alloc, drawn + 1, Items::new(alloc), sends))
 }
 
 /// A line where the session keeps one id.
@@ -119,14 +123,18 @@ fn later_line(
     let target = Target::Place(0);
     if byte == b'a' {
         let args = one(alloc, Value::Int(5))?;
-        let sends = send(alloc, target, TELL, args, SendCont::Here { slot: drawn })?;
-        Ok(Some(said(alloc, drawn + 1, one(alloc, Value::Ref(0))?, sends)))
+        let sends = send(alloc, target, ADD, args, SendCont::Here { slot: drawn })?;
+        Ok(sent(alloc, drawn + 1, one(alloc, Value::Ref(0))?, sends))
+    } else if byte == b'q' {
+        let args = Items::new(alloc);
+        let sends = send(alloc, target, QUERY, args, SendCont::Here { slot: drawn })?;
+        Ok(sent(alloc, drawn + 1, one(alloc, Value::Ref(0))?, sends))
     } else if byte == b'm' && movable {
         let args = one(alloc, Value::Int(0))?;
         let sends = send(alloc, target, 1, args, SendCont::Nothing)?;
-        Ok(Some(said(alloc, drawn, one(alloc, Value::Ref(0))?, sends)))
+        Ok(sent(alloc, drawn, one(alloc, Value::Ref(0))?, sends))
     } else if byte == b'd' {
-        Ok(Some(said(alloc, drawn, Items::new(alloc), Items::new(alloc))))
+        Ok(sent(alloc, drawn, Items::new(alloc), Items::new(alloc)))
     } else {
         Ok(None)
     }
@@ -163,7 +171,15 @@ fn byte_in(args: &[Value]) -> u8
     }
 }
 
-/// An answer that is an id is kept, where nothing is.
+/// A number in digits, as a text alone.
+fn shown(alloc: Global, number: i64) -> Result<Texts, OutOfMemory>
+    ensures { IfOk result (λ texts. texts ≡ number_text number ∷ []) }
+{
+    let text = format!(in alloc; "{number}\n")?.into_bytes();
+    one(alloc, Items::from_vec(text))
+}
+
+/// An answer that is an id is kept, where nothing is; one that is a number is printed, where an id is kept.
 fn set(
     alloc: Global,
     drawn: u32,
@@ -175,7 +191,12 @@ fn set(
     match (values, args) {
         ([], [Value::Int(_), Value::Ref(_)]) => {
             let kept = one(alloc, Value::Ref(1))?;
-            Ok(Some(said(alloc, drawn, kept, Items::new(alloc))))
+            Ok(sent(alloc, drawn, kept, Items::new(alloc)))
+        }
+        ([Value::Ref(_)], [Value::Int(_), Value::Int(number)]) => {
+            let kept = one(alloc, Value::Ref(0))?;
+            let prints = shown(alloc, *number)?;
+            Ok(Some(said(alloc, drawn, kept, Items::new(alloc), prints)))
         }
         _ => Ok(None),
     }
@@ -220,19 +241,37 @@ fn made(
     Ok(Some(told(alloc, drawn, Items::new(alloc), makes, Value::Ref(2))?))
 }
 
-/// A number is told.
-fn number(
+/// A number is added to a number, in 64 bits.
+fn add(
     alloc: Global,
     drawn: u32,
     values: &[Value],
     args: &[Value],
 ) -> Result<Option<Outcome>, OutOfMemory>
-    ensures { IfOk result (λ out. out ≡ number_outcome drawn values.now args.now) }
+    ensures { IfOk result (λ out. out ≡ add_outcome drawn values.now args.now) }
 {
     match (values, args) {
-        ([Value::Int(_)], [Value::Int(new)]) => {
-            let kept = one(alloc, Value::Int(*new))?;
+        ([Value::Int(held)], [Value::Int(more)]) => {
+            let kept = one(alloc, Value::Int(held.wrapping_add(*more)))?;
             Ok(Some(told(alloc, drawn, kept, Items::new(alloc), Value::Unit)?))
+        }
+        _ => Ok(None),
+    }
+}
+
+/// A number is answered.
+fn query(
+    alloc: Global,
+    drawn: u32,
+    values: &[Value],
+    args: &[Value],
+) -> Result<Option<Outcome>, OutOfMemory>
+    ensures { IfOk result (λ out. out ≡ query_outcome drawn values.now args.now) }
+{
+    match (values, args) {
+        ([Value::Int(held)], []) => {
+            let kept = one(alloc, Value::Int(*held))?;
+            Ok(Some(told(alloc, drawn, kept, Items::new(alloc), Value::Int(*held))?))
         }
         _ => Ok(None),
     }
@@ -258,8 +297,10 @@ fn free(
     }
     if kind == COMPONENTS && action.code == NEW {
         made(alloc, state.drawn, values, args)
-    } else if kind == NUMBER && action.code == TELL {
-        number(alloc, state.drawn, values, args)
+    } else if kind == NUMBER && action.code == ADD {
+        add(alloc, state.drawn, values, args)
+    } else if kind == NUMBER && action.code == QUERY {
+        query(alloc, state.drawn, values, args)
     } else {
         Ok(None)
     }
