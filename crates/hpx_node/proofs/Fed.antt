@@ -19,6 +19,17 @@ use Rattle.hpx_node.proofs.Steps.{tells_leads, stands_then}
 use Rattle.hpx_node.proofs.Ended.{answers_none}
 use Rattle.hpx_node.proofs.IdleSteps.{pays_line}
 
+-- a line is accepted at once, where the session stands
+at_once : (t t' : Tables) (name : Name) (bytes : List ℕ) (n : ℕ) → stands_here t session ≡ true
+    → t' ≡ record (with_act (line_act name bytes) (record t { serial = n })) { spare = t'.spare } → t'.accepted ≡ t.accepted ++ line_act name bytes ∷ []
+at_once t t' name bytes n serves goes =
+    let act = line_act name bytes in
+    ap (λ (x : Tables). x.accepted) goes
+    ∙ ap (λ b. (cond b (with_accepted act (record t { serial = n })) (with_mail (target_of act).home (parcel_for act) (record t { serial = n }))).accepted) serves
+
+joined : (t t' : Tables) (act : Act) → t'.accepted ≡ t.accepted ++ act ∷ [] → length t.accepted + 1 ≤ length t'.accepted
+joined t t' act more = omega (arith, ap (λ (xs : List Act). length xs) more, length-append t.accepted (act ∷ []))
+
 module _ (r : Rules) (t t' : Tables) (entries : List Entry) (bytes : List ℕ) where
   abbrev name : Name
   name = record { origin = t.here; serial = t.serial + 1 }
@@ -26,15 +37,8 @@ module _ (r : Rules) (t t' : Tables) (entries : List Entry) (bytes : List ℕ) w
   abbrev drawn : Tables
   drawn = record t { serial = t.serial + 1 }
 
-  -- it is accepted at once, where the session stands
-  joined : stands_here t session ≡ true → t' ≡ record (with_act (line_act name bytes) drawn) { spare = t'.spare }
-      → length t.accepted + 1 ≤ length t'.accepted
-  joined serves goes =
-      let act = line_act name bytes in
-      let more : t'.accepted ≡ t.accepted ++ act ∷ [] =
-      ap (λ (x : Tables). x.accepted) goes
-      ∙ ap (λ b. (cond b (with_accepted act drawn) (with_mail (target_of act).home (parcel_for act) drawn)).accepted) serves in
-      omega (arith, ap (λ (xs : List Act). length xs) more, length-append t.accepted (act ∷ []))
+  pub accepts_line : t.here ≡ 0 → Posts (line_act name bytes) drawn t' → StandsWith r t [] [] entries → t'.accepted ≡ t.accepted ++ line_act name bytes ∷ []
+  accepts_line here posts h = at_once t t' name bytes (t.serial + 1) (h.tidy.serves here) posts.goes
 
   pub stands_line : t.here ≡ 0 → length bytes ≤ 1025 → Posts (line_act name bytes) drawn t' → StandsWith r t [] [] entries
       → StandsWith r t' [] [] (entries ++ at_all t.here (Line name bytes ∷ []))
@@ -69,7 +73,7 @@ module _ (r : Rules) (t t' : Tables) (entries : List Entry) (bytes : List ℕ) w
         asked = omega (arith, ap (λ (x : Tables). x.asked) posts.rest);
         sent = omega (arith, ap (λ (x : Tables). x.sent) posts.rest);
         taken = omega (arith, ap (λ (x : Tables). x.taken) posts.rest);
-        pays = pays_line r t t' name bytes posts.more (joined (h.tidy.serves here) posts.goes);
+        pays = pays_line r t t' name bytes posts.more (joined t t' (line_act name bytes) (accepts_line here posts h));
         answers = answers_none r t t' (Line name bytes ∷ []) (ap (λ (x : Tables). x.answered) posts.rest) ((λ s. (refl, refl)), tt);
       })
       leads

@@ -1,6 +1,6 @@
 -- An action that may be fired.
-use Rattle.std.specs.Prelude.{ℕ, false, List, [], ◌∷◌, Some, ◌≡◌, ◌≤◌, ◌⊎◌}
-use Rattle.std.specs.List.{find, AllByRecursion}
+use Rattle.std.specs.Prelude.{false, List, [], ◌∷◌, Some, ◌≡◌}
+use Rattle.std.specs.List.{find}
 use Rattle.hpx_journal.specs.Data.{Act}
 use Rattle.hpx_journal.specs.Entries.{target_of}
 use Rattle.hpx_part.specs.Data.{Standing}
@@ -16,11 +16,3 @@ pub record IsFree (fired : List Act) (objects : List Standing) (act : Act) : Typ
 abbrev pub NoneIsFree : List Act → List Standing → List Act → Type 0
 NoneIsFree fired objects [] = Unit {0}
 NoneIsFree fired objects (act ∷ acts) = (IsFree fired objects act → ⊥) × NoneIsFree fired objects acts
-
--- its object has its home here, or at no locality
-abbrev pub IsHere : ℕ → ℕ → Act → Type 0
-IsHere n here act = ((target_of act).home ≡ here) ⊎ (n ≤ (target_of act).home)
-
--- so it is with each of them
-abbrev pub AreHere : ℕ → ℕ → List Act → Type 0
-AreHere n here acts = AllByRecursion (IsHere n here) acts

@@ -185,7 +185,7 @@ pub record PaysFor (r : Rules) (p : Parcel) (t t' : Tables) (events : List Event
   pub frees : (o : Id) → frees_one o p + count_by (takes_such (is_free_of o) r) events ≤ count_by (is_freed o) events
 
 -- the entries of a part are paid for: in each row what has gone with them, and what is unpaid, is what they caused; each line is
--- accepted at once, and each action that is sent and each that comes goes through one message at most; from each entry on, what was
+-- accepted at once, and actions go through messages no more often in all than they came or were sent; from each entry on, what was
 -- accepted for good was fired, or waits still; and each Free that came has freed its object
 pub record IsPaid (r : Rules) (t : Tables) (entries : List Entry) : Type 0 where
   pub rows : (row : Row)

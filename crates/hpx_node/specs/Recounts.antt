@@ -14,8 +14,8 @@ pub record Recounts (o : Id) (made : Option Record) (t t' : Tables) : Type 0 whe
   pub own : record_here t' o ≡ made
   pub others : (x : Id) → same_object o x ≡ false → record_here t' x ≡ record_here t x
 
--- credit that comes home lowers the record of its object, which goes with the last; an ask raises it as far as the limit allows; a
--- dead object that is freed goes from here, and no other
+-- credit that comes home lowers the record of its object, which goes with the last; an ask raises it as far as the limit allows; an
+-- object that is freed goes from here, and no other
 abbrev pub Leaves : Parcel → Tables → Tables → Type 0
 Leaves (Return id) t t' = Recounts id (option_and_then (λ (r : Record). lowered r id) (record_here t id)) t t'
 Leaves (Ask id asker entry) t t' = Recounts id (option_map (asked t.profile) (record_here t id)) t t'

@@ -56,8 +56,8 @@ pub fn idle_law()
         FreesTheDead r t.here (part t.here entries) }
 {}
 
-/// A commit that waits splits what it has ahead, and splits the rest once it goes on: together as often as one that does not wait,
-/// each id of its hand once less often than it is named.
+/// A commit that waits splits what it has ahead, and splits the rest once it goes on: in all as often as one that does not wait,
+/// which splits each id of its hand once less often than it is named.
 pub fn cuts_law()
     ensures { (n : ℕ) (s : Stock) (hand : List Id) → n ≤ length s.hand → AreWithin s.hand s.places → length hand ≡ length (ahead n s).hand →
         length (first_cuts n 0 s.hand s.places) + length (splits_from 0 hand (ahead n s).places) ≡ length (splits_from 0 s.hand s.places) }

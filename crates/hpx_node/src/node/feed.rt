@@ -1,5 +1,5 @@
 //! Feeding: a line waits as an action on the session.
-ghost use Rattle.std.specs.Prelude.{◌≡◌, ◌≤◌, ◌<◌, ◌+◌, ◌^◌, ◌∷◌, [], OnOk, OnErr, IfOk, length};
+ghost use Rattle.std.specs.Prelude.{◌++◌, ◌≡◌, ◌≤◌, ◌<◌, ◌+◌, ◌^◌, ◌∷◌, [], OnOk, OnErr, IfOk, length};
 ghost use Rattle.hpx_journal.specs.Entries.{line_act};
 ghost use Rattle.hpx_journal.specs.Weights.{HasRoom};
 ghost use Rattle.hpx_part.specs.Data.{Line};
@@ -59,6 +59,7 @@ impl<A: Acts + Copy> Node<A> {
         ensures waits { self.new ≡ record (with_act act (record self.old { serial = self.old.serial + 1 })) { spare = self.new.spare } }
         ensures running { self.new.running ≡ self.old.running }
         ensures pending { self.new.pending ≡ self.old.pending }
+        ensures accepted { self.new.accepted ≡ self.old.accepted ++ act ∷ [] }
     {
         let at = self.here;
         self.serial += 1;
@@ -69,7 +70,7 @@ impl<A: Acts + Copy> Node<A> {
         });
     }
 
-    /// Accepts a line, as an action on the session: it waits here exactly where the session stands here. Nothing changes
+    /// Accepts a line, as an action on the session, the last in the queue: the session stands at locality 0 always. Nothing changes
     /// without memory.
     pub fn feed(&mut self, alloc: Global, book: &mut Journal, line: Text) -> Result<(), OutOfMemory>
         requires here { self.old.here ≡ 0 }
@@ -80,6 +81,7 @@ impl<A: Acts + Copy> Node<A> {
         ensures running { self.new.running ≡ self.old.running }
         ensures waits { OnOk result (self.new ≡ record (with_act (line_act (record { origin = self.old.here; serial = self.old.serial + 1 }) line)
             (record self.old { serial = self.old.serial + 1 })) { spare = self.new.spare }) }
+        ensures accepted { OnOk result (self.new.accepted ≡ self.old.accepted ++ line_act (record { origin = self.old.here; serial = self.old.serial + 1 }) line ∷ []) }
         ensures lacks { Lacks self.old → Lacks self.new }
         ensures orderly { KeepsOrder A.act_of self.old book.old.entries → KeepsOrder A.act_of self.new book.new.entries }
         ensures turn { AddsATurn book.old.entries book.new.entries }
