@@ -36,7 +36,7 @@ pub record IsAmple (p : Profile) : Type 0 where
 abbrev pub profile : Profile
 profile = record { credit_log = 31; credit_limit = 2 ^ 62; cache = 64 }
 
--- each ask was granted, and no action failed
+-- no ask for credit was refused, and no action failed
 pub record AllGranted (entries : List Entry) : Type 0 where
   pub asks : count_events is_refused_count entries ≡ 0
   pub actions : NoneFails entries

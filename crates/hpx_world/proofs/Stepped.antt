@@ -1,7 +1,7 @@
 -- What one step does, from what its attempts answered.
 use Rattle.std.proofs.Common.{List, ◌≡◌, ◌⊎◌, Ok, Err, Option, None, Some, Result, refl, ◌∙◌, subst, map, inl, inr}
 use Rattle.std.specs.List.{AllByRecursion}
-use Rattle.std.specs.Result.{OnErr}
+use Rattle.std.specs.Result.{OnOk, OnErr}
 use Rattle.hpx_journal.specs.Entries.{Frame}
 use Rattle.hpx_part.specs.Data.{Entry}
 use Rattle.hpx_ports.specs.declared.fabric.Wire.{Wire}
@@ -20,6 +20,10 @@ pub on_err : {T E : Type 0} (r : Result T E) (P : Type 0) → P → OnErr r P
 on_err (Ok x) P h = tt
 on_err (Err e) P h = h
 
+pub on_ok : {T E : Type 0} (r : Result T E) (P : Type 0) → P → OnOk r P
+on_ok (Ok x) P h = h
+on_ok (Err e) P h = tt
+
 -- one of four, of which three are not so
 pub first_of_four : {A B C D : Type 0} → A ⊎ B ⊎ C ⊎ D → (B → ⊥) → (C → ⊥) → (D → ⊥) → A
 first_of_four (inl a) b c d = a
@@ -27,8 +31,15 @@ first_of_four (inr (inl x)) b c d = absurd (b x)
 first_of_four (inr (inr (inl x))) b c d = absurd (c x)
 first_of_four (inr (inr (inr x))) b c d = absurd (d x)
 
+-- one of four, of which the first leads to one thing, and the others to another
+pub first_or_others : {A B C D P Q : Type 0} → A ⊎ B ⊎ C ⊎ D → (A → P) → (B → Q) → (C → Q) → (D → Q) → P ⊎ Q
+first_or_others (inl a) p q r s = inl (p a)
+first_or_others (inr (inl b)) p q r s = inr (q b)
+first_or_others (inr (inr (inl c))) p q r s = inr (r c)
+first_or_others (inr (inr (inr d))) p q r s = inr (s d)
+
 -- hand and fabric as they were
-outside_same : (h h' : Option Frame) (fl fl' : Option (List Frame)) (tr tr' : Option (List Wire)) → h' ≡ h → fl' ≡ fl → tr' ≡ tr
+pub outside_same : (h h' : Option Frame) (fl fl' : Option (List Frame)) (tr tr' : Option (List Wire)) → h' ≡ h → fl' ≡ fl → tr' ≡ tr
     → ◌≡◌ {A = Outside} (record { hand = h'; flight = fl'; trace = tr' }) (record { hand = h; flight = fl; trace = tr })
 outside_same h h' fl fl' tr tr' hand flight trace =
     subst (λ x. ◌≡◌ {A = Outside} (record { hand = h'; flight = fl'; trace = tr' }) (record { hand = x; flight = fl; trace = tr })) hand
@@ -53,11 +64,14 @@ module _ (h h' : Option Frame) (fl fl' fl2 : Option (List Frame)) (tr tr' tr2 : 
 
 -- ---- one step, by what was done
 
-abbrev stuck_then : (xs ys : List Tables) → map without_spare ys ≡ map without_spare xs → AllByRecursion IsStuck xs → AllByRecursion IsStuck ys
+pub stuck_then : (xs ys : List Tables) → map without_spare ys ≡ map without_spare xs → AllByRecursion IsStuck xs → AllByRecursion IsStuck ys
 stuck_then xs ys e h = same_all IsStuck (λ t h. h) (λ t h. h) xs ys e h
 
-abbrev silent_then : (xs ys : List Tables) → map without_spare ys ≡ map without_spare xs → AllByRecursion HasNoMail xs → AllByRecursion HasNoMail ys
+pub silent_then : (xs ys : List Tables) → map without_spare ys ≡ map without_spare xs → AllByRecursion HasNoMail xs → AllByRecursion HasNoMail ys
 silent_then xs ys e h = same_all HasNoMail (λ t h. h) (λ t h. h) xs ys e h
+
+pub unsent_then : (xs ys : List Tables) → map without_spare ys ≡ map without_spare xs → AllByRecursion SendsNothing xs → AllByRecursion SendsNothing ys
+unsent_then xs ys e h = same_all SendsNothing (λ t h. h) (λ t h. h) xs ys e h
 
 module _ (act_of : Meaning) (old new : List Tables) (es es' : List Entry) (h h' : Option Frame) (fl fl' : Option (List Frame)) (tr tr' : Option (List Wire)) where
   abbrev before : Outside

@@ -1,5 +1,5 @@
 -- What turns leave, one after another.
-use Rattle.std.specs.Prelude.{ℕ, List, ◌++◌, ◌≡◌, ◌≢◌, ◌⊎◌, Option, Some, None, length, map, sum_by, take}
+use Rattle.std.specs.Prelude.{ℕ, List, [], ◌∷◌, ◌++◌, ◌≡◌, ◌≢◌, ◌⊎◌, Option, Some, None, length, map, sum_by, take}
 use Rattle.std.specs.List.{slice_get, AllByRecursion}
 use Rattle.hpx_value.specs.declared.acts.Job.{Job}
 use Rattle.hpx_journal.specs.Sessions.{FeedsNothing}
@@ -11,9 +11,9 @@ use Rattle.hpx_node.specs.declared.parts.Finished.{Finished}
 use Rattle.hpx_node.specs.declared.parts.Finished.TheVariants.{NotRunning}
 use Rattle.hpx_ports.specs.declared.fabric.Wire.{Wire}
 use Rattle.hpx_world.specs.declared.turns.Turned.TheVariants as turned
-use Rattle.hpx_world.specs.Away.{Fetches, Puts}
+use Rattle.hpx_world.specs.Away.{Fetches, Puts, Keeps}
 use Rattle.hpx_world.specs.Quiet.{IsQuiet, IsStuck, HasNoMail, SendsNothing, NothingApplies, NoneRuns}
-use Rattle.hpx_world.specs.Sound.{Meaning, without_spare}
+use Rattle.hpx_world.specs.Sound.{Meaning, IsSame, without_spare}
 use Rattle.hpx_world.specs.Turns.{DidFire, DidFinish, DidDesk, DidPump, DidTake}
 
 -- the journal grew, if at all, by entries that feed nothing
@@ -95,3 +95,33 @@ DidFirst act_of out out' nodes nodes' es es' =
 -- one step
 abbrev pub DidStep : Meaning → Outside → Outside → List Tables → List Tables → List Entry → List Entry → Type 0
 DidStep act_of out out' nodes nodes' es es' = Tried (λ now. DidFirst act_of out out' now nodes' es es') nodes
+
+-- ---- steps, one after another
+
+-- what is seen of a world and of its fabric
+pub record Stage : Type 0 where
+  pub outside : Outside
+  pub nodes : List Tables
+  pub entries : List Entry
+
+-- steps lead from one stage to another, through these, the latest first
+abbrev pub AreSteps : Meaning → Stage → List Stage → Stage → Type 0
+AreSteps act_of x [] z = z ≡ x
+AreSteps act_of x (y ∷ ys) z = AreSteps act_of x ys y × DidStep act_of y.outside z.outside y.nodes z.nodes y.entries z.entries
+
+-- steps lead from one stage to another
+pub record Goes (act_of : Meaning) (x z : Stage) : Type 0 where
+  pub between : List Stage
+  pub steps : AreSteps act_of x between z
+
+-- behind a stage nothing could be done: nothing has changed but memory, and there was no frame
+pub record EndsAt (z : Stage) (out' : Outside) (nodes' : List Tables) (es' : List Entry) : Type 0 where
+  pub same : IsSame z.nodes nodes' z.entries es'
+  pub none : Fetches z.outside.hand z.outside.flight out'.flight z.outside.trace out'.trace None
+
+-- behind a stage a turn was refused: nothing has changed but memory, save that what was fetched is in hand; or the first action that
+-- can be was fired, and its job is handed back
+abbrev pub StopsAt : Stage → Outside → List Tables → List Entry → Type 0
+StopsAt z out' nodes' es' =
+    (IsSame z.nodes nodes' z.entries es' × Keeps z.outside.hand z.outside.flight out'.flight z.outside.trace out'.trace out'.hand)
+    ⊎ ((job : Job) × DidHandBack job z.nodes nodes' z.entries es' × (out' ≡ z.outside))

@@ -289,6 +289,7 @@ impl<A: Acts + Copy> Locals<A> {
         ensures err { OnErr result (IsSame self.old.nodes.items self.new.nodes.items self.old.journal.entries self.new.journal.entries) }
         ensures kept_out { OnErr result ((F.flight fabric.new ≡ F.flight fabric.old) × (F.trace fabric.new ≡ F.trace fabric.old)) }
         ensures which { IfErr result (λ e. (e ≡ WorldFault.Fabric) ⊎ (e ≡ WorldFault.OutOfMemory None)) }
+        ensures apart_empty { result ≡ Ok Turned.Empty → fabric.new ≡ fabric.old }
         ensures cause { result ≡ Err WorldFault.Fabric → Rose (F.faults fabric.old) (F.faults fabric.new) }
         ensures stands { result ≢ Err WorldFault.Fabric → F.faults fabric.new ≡ F.faults fabric.old }
     {
@@ -414,6 +415,7 @@ impl<A: Acts + Copy> Locals<A> {
         ensures never_early { IsCarrying (rules_of A.act_of (length self.old.nodes.items) self.old.profile) self.old.hand (F.flight fabric.old) (F.trace fabric.old) self.old.journal.entries →
             (sent : _) (taken : _) → result ≢ Err (WorldFault.EarlyEnd sent taken) }
         ensures held { (frame : _) → self.old.hand ≡ Some frame → fabric.new ≡ fabric.old }
+        ensures fabric_same { result ≡ Err WorldFault.Fabric → (self.new.hand ≡ self.old.hand) × (F.flight fabric.new ≡ F.flight fabric.old) × (F.trace fabric.new ≡ F.trace fabric.old) }
         ensures cause { result ≡ Err WorldFault.Fabric → Rose (F.faults fabric.old) (F.faults fabric.new) }
         ensures stands { result ≢ Err WorldFault.Fabric → F.faults fabric.new ≡ F.faults fabric.old }
     {

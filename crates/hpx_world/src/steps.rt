@@ -7,7 +7,7 @@ ghost use Rattle.hpx_node.specs.Stands.{rules_of};
 ghost use Rattle.hpx_world.specs.Away.{IsCarrying, IsInside, Fetches, Puts, Keeps};
 ghost use Rattle.hpx_world.specs.Quiet.{IsQuiet, IsStuck, HasNoMail, SendsNothing, NothingApplies, NoneRuns, running_in};
 ghost use Rattle.hpx_world.specs.Sound.{IsSound, IsSame};
-ghost use Rattle.hpx_world.specs.Steps.{IsUnfed, IsOut, IsEarly, IsHeld, Tried, AtFirst, DidWork, DidHandOut, DidHandBack, DidStep};
+ghost use Rattle.hpx_world.specs.Steps.{IsUnfed, IsOut, IsEarly, IsHeld, Tried, AtFirst, DidWork, DidHandOut, DidHandBack, DidStep, Stage, Goes, EndsAt, StopsAt};
 ghost use Rattle.hpx_world.specs.Turns.{DidDesk, DidPump, IsBadFrame, IsStrangeFrame, IsStrangeMail};
 
 use crate::locals::Locals;
@@ -226,6 +226,14 @@ impl<A: Acts + Copy> Locals<A> {
         ensures handed_full { (e w : ℕ) (done : _) → result ≡ Err (WorldFault.JournalFull e w (Some done)) → DidHandBack done.job self.old.nodes.items self.new.nodes.items self.old.journal.entries self.new.journal.entries }
         ensures handed_memory { (done : _) → result ≡ Err (WorldFault.OutOfMemory (Some done)) → DidHandBack done.job self.old.nodes.items self.new.nodes.items self.old.journal.entries self.new.journal.entries }
         ensures handed_back { (job : _) → result ≡ Err (WorldFault.NotRun job) → DidHandBack job self.old.nodes.items self.new.nodes.items self.old.journal.entries self.new.journal.entries }
+        ensures stops { OnErr result (StopsAt (record { outside = record { hand = self.old.hand; flight = F.flight fabric.old; trace = F.trace fabric.old }; nodes = self.old.nodes.items; entries = self.old.journal.entries })
+            (record { hand = self.new.hand; flight = F.flight fabric.new; trace = F.trace fabric.new }) self.new.nodes.items self.new.journal.entries) }
+        ensures fabric_same { result ≡ Err WorldFault.Fabric → (self.new.hand ≡ self.old.hand) × (F.flight fabric.new ≡ F.flight fabric.old) × (F.trace fabric.new ≡ F.trace fabric.old) }
+        ensures fabric_first { result ≡ Err WorldFault.Fabric → AllByRecursion IsStuck self.new.nodes.items × AllByRecursion HasNoMail self.new.nodes.items }
+        ensures strange_first { (to : _) (frame : _) (rule : _) (object : _) (kept : _) → result ≡ Err (WorldFault.Strange to frame rule object kept) →
+            AllByRecursion IsStuck self.new.nodes.items × (frame ≢ [] → AllByRecursion HasNoMail self.new.nodes.items × AllByRecursion SendsNothing self.new.nodes.items) }
+        ensures bad_first { (to : _) (frame : _) (at : _) (why : _) → result ≡ Err (WorldFault.BadFrame to frame at why) →
+            AllByRecursion IsStuck self.new.nodes.items × AllByRecursion HasNoMail self.new.nodes.items × AllByRecursion SendsNothing self.new.nodes.items }
         ensures room_err { (e : _) → result ≡ Err e → ((n w : ℕ) (u : _) → e ≢ WorldFault.JournalFull n w u) → ((u : _) → e ≢ WorldFault.OutOfMemory u) →
             ((job : _) → e ≢ WorldFault.NotRun job) → HasRoom self.new.journal.entries }
         ensures bad_frame { (to : _) (frame : _) (at : _) (why : _) → result ≡ Err (WorldFault.BadFrame to frame at why) →
@@ -318,6 +326,11 @@ impl<A: Acts + Copy> Locals<A> {
         ensures not_run { (job : _) → result ≡ Err (WorldFault.NotRun job) → IsOut self.new.nodes.items (length self.new.nodes.items) job }
         ensures jobs_err { ((done : _) → result ≢ Err (WorldFault.OutOfMemory (Some done))) → ((e w : ℕ) (done : _) → result ≢ Err (WorldFault.JournalFull e w (Some done))) →
             ((job : _) → result ≢ Err (WorldFault.NotRun job)) → OnErr result (NoneRuns self.old.nodes.items → NoneRuns self.new.nodes.items) }
+        ensures goes { OnOk result ((last : Stage) × Goes A.act_of (record { outside = record { hand = self.old.hand; flight = F.flight fabric.old; trace = F.trace fabric.old }; nodes = self.old.nodes.items; entries = self.old.journal.entries }) last
+            × EndsAt last (record { hand = self.new.hand; flight = F.flight fabric.new; trace = F.trace fabric.new }) self.new.nodes.items self.new.journal.entries) }
+        ensures stops { OnErr result ((last : Stage) × Goes A.act_of (record { outside = record { hand = self.old.hand; flight = F.flight fabric.old; trace = F.trace fabric.old }; nodes = self.old.nodes.items; entries = self.old.journal.entries }) last
+            × StopsAt last (record { hand = self.new.hand; flight = F.flight fabric.new; trace = F.trace fabric.new }) self.new.nodes.items self.new.journal.entries) }
+        ensures settled { OnOk result (NoneRuns self.new.nodes.items → IsQuiet self.new.nodes.items self.new.hand) }
         ensures room_err { (e : _) → result ≡ Err e → ((n w : ℕ) (u : _) → e ≢ WorldFault.JournalFull n w u) → ((u : _) → e ≢ WorldFault.OutOfMemory u) →
             ((job : _) → e ≢ WorldFault.NotRun job) → HasRoom self.new.journal.entries }
         ensures bad_frame { (to : _) (frame : _) (at : _) (why : _) → result ≡ Err (WorldFault.BadFrame to frame at why) →

@@ -1,5 +1,6 @@
 //! The world: all localities over a fabric, with what is promised of the journal that they write.
 ghost use Rattle.std.specs.Prelude.{◌≡◌, ◌≢◌, ◌≤◌, ◌<◌, ◌+◌, ◌-◌, ◌^◌, ◌∷◌, [], ℕ, length, min, OnOk, OnErr, IfOk, IfErr, IsTrue, ◌↔◌, ◌⊎◌, true, false, Ok, Err, Some, None, sum_by, slice_get};
+ghost use Rattle.std.specs.List.{AllByRecursion};
 ghost use Rattle.hpx_value.specs.Profiles.{IsValid};
 ghost use Rattle.hpx_journal.specs.Weights.{HasRoom, total_weight};
 ghost use Rattle.hpx_journal.specs.Natives.{NothingMoves};
@@ -10,10 +11,10 @@ ghost use Rattle.hpx_ports.specs.Faults.{Rose};
 ghost use Rattle.hpx_world.specs.Places.{rules_in};
 ghost use Rattle.hpx_world.specs.Sound.{IsSound, IsSame};
 ghost use Rattle.hpx_world.specs.Away.{IsCarrying, Fetches, Puts, Keeps};
-ghost use Rattle.hpx_world.specs.Quiet.{IsQuiet, IsAtRest, NothingApplies, NoneRuns};
+ghost use Rattle.hpx_world.specs.Quiet.{IsQuiet, IsAtRest, IsStuck, HasNoMail, SendsNothing, NothingApplies, NoneRuns};
 ghost use Rattle.hpx_world.specs.Promises.{KeepsPromises};
 ghost use Rattle.hpx_world.specs.Audit.{audit_lines, HaveRecords, AreOrdered, StandAtHome, IsAudit};
-ghost use Rattle.hpx_world.specs.Steps.{IsUnfed, IsOut, IsEarly, IsHeld, DidStep, DidHandBack};
+ghost use Rattle.hpx_world.specs.Steps.{IsUnfed, IsOut, IsEarly, IsHeld, DidStep, DidHandBack, Stage, Goes, EndsAt, StopsAt};
 ghost use Rattle.hpx_world.specs.Turns.{DidFeed, DidFire, DidFinish, DidDesk, DidPump, DidTake, IsBadFrame, IsStrangeFrame, IsStrangeMail};
 
 use crate::audit::AuditLines;
@@ -185,6 +186,7 @@ impl<A: Acts + Copy> World<A> {
         ensures clears { choice ≡ Choice.Take → OnOk result (self.new.hand ≡ None) }
         ensures hand { choice ≢ Choice.Take → self.new.hand ≡ self.old.hand }
         ensures apart { ((k : _) → choice ≢ Choice.Pump k) → choice ≢ Choice.Take → fabric.new ≡ fabric.old }
+        ensures apart_empty { (k : _) → choice ≡ Choice.Pump k → result ≡ Ok Turned.Empty → fabric.new ≡ fabric.old }
         ensures apart_held { (frame : _) → choice ≡ Choice.Take → self.old.hand ≡ Some frame → fabric.new ≡ fabric.old }
 
         ensures err { OnErr result (IsSame self.old.nodes self.new.nodes self.old.journal.entries self.new.journal.entries) }
@@ -214,6 +216,7 @@ impl<A: Acts + Copy> World<A> {
             (to : _) (frame : _) (rule : _) (object : _) (kept : _) → result ≢ Err (WorldFault.Strange to frame rule object kept) }
         ensures never_early { IsCarrying (rules_in A.act_of self.old) self.old.hand (F.flight fabric.old) (F.trace fabric.old) self.old.journal.entries →
             (sent : _) (taken : _) → result ≢ Err (WorldFault.EarlyEnd sent taken) }
+        ensures fabric_same { result ≡ Err WorldFault.Fabric → (self.new.hand ≡ self.old.hand) × (F.flight fabric.new ≡ F.flight fabric.old) × (F.trace fabric.new ≡ F.trace fabric.old) }
         ensures fabric_only { result ≡ Err WorldFault.Fabric → ((k : _) × (choice ≡ Choice.Pump k)) ⊎ (choice ≡ Choice.Take) }
         ensures cause { result ≡ Err WorldFault.Fabric → Rose (F.faults fabric.old) (F.faults fabric.new) }
         ensures stands { result ≢ Err WorldFault.Fabric → F.faults fabric.new ≡ F.faults fabric.old }
@@ -270,6 +273,14 @@ impl<A: Acts + Copy> World<A> {
         ensures handed_full { (e w : ℕ) (done : _) → result ≡ Err (WorldFault.JournalFull e w (Some done)) → DidHandBack done.job self.old.nodes self.new.nodes self.old.journal.entries self.new.journal.entries }
         ensures handed_memory { (done : _) → result ≡ Err (WorldFault.OutOfMemory (Some done)) → DidHandBack done.job self.old.nodes self.new.nodes self.old.journal.entries self.new.journal.entries }
         ensures handed_back { (job : _) → result ≡ Err (WorldFault.NotRun job) → DidHandBack job self.old.nodes self.new.nodes self.old.journal.entries self.new.journal.entries }
+        ensures stops { OnErr result (StopsAt (record { outside = record { hand = self.old.hand; flight = F.flight fabric.old; trace = F.trace fabric.old }; nodes = self.old.nodes; entries = self.old.journal.entries })
+            (record { hand = self.new.hand; flight = F.flight fabric.new; trace = F.trace fabric.new }) self.new.nodes self.new.journal.entries) }
+        ensures fabric_same { result ≡ Err WorldFault.Fabric → (self.new.hand ≡ self.old.hand) × (F.flight fabric.new ≡ F.flight fabric.old) × (F.trace fabric.new ≡ F.trace fabric.old) }
+        ensures fabric_first { result ≡ Err WorldFault.Fabric → AllByRecursion IsStuck self.new.nodes × AllByRecursion HasNoMail self.new.nodes }
+        ensures strange_first { (to : _) (frame : _) (rule : _) (object : _) (kept : _) → result ≡ Err (WorldFault.Strange to frame rule object kept) →
+            AllByRecursion IsStuck self.new.nodes × (frame ≢ [] → AllByRecursion HasNoMail self.new.nodes × AllByRecursion SendsNothing self.new.nodes) }
+        ensures bad_first { (to : _) (frame : _) (at : _) (why : _) → result ≡ Err (WorldFault.BadFrame to frame at why) →
+            AllByRecursion IsStuck self.new.nodes × AllByRecursion HasNoMail self.new.nodes × AllByRecursion SendsNothing self.new.nodes }
         ensures room_err { (e : _) → result ≡ Err e → ((n w : ℕ) (u : _) → e ≢ WorldFault.JournalFull n w u) → ((u : _) → e ≢ WorldFault.OutOfMemory u) →
             ((job : _) → e ≢ WorldFault.NotRun job) → HasRoom self.new.journal.entries }
         ensures bad_frame { (to : _) (frame : _) (at : _) (why : _) → result ≡ Err (WorldFault.BadFrame to frame at why) →
@@ -325,6 +336,11 @@ impl<A: Acts + Copy> World<A> {
         ensures not_run { (job : _) → result ≡ Err (WorldFault.NotRun job) → IsOut self.new.nodes (length self.new.nodes) job }
         ensures jobs_err { ((done : _) → result ≢ Err (WorldFault.OutOfMemory (Some done))) → ((e w : ℕ) (done : _) → result ≢ Err (WorldFault.JournalFull e w (Some done))) →
             ((job : _) → result ≢ Err (WorldFault.NotRun job)) → OnErr result (NoneRuns self.old.nodes → NoneRuns self.new.nodes) }
+        ensures goes { OnOk result ((last : Stage) × Goes A.act_of (record { outside = record { hand = self.old.hand; flight = F.flight fabric.old; trace = F.trace fabric.old }; nodes = self.old.nodes; entries = self.old.journal.entries }) last
+            × EndsAt last (record { hand = self.new.hand; flight = F.flight fabric.new; trace = F.trace fabric.new }) self.new.nodes self.new.journal.entries) }
+        ensures stops { OnErr result ((last : Stage) × Goes A.act_of (record { outside = record { hand = self.old.hand; flight = F.flight fabric.old; trace = F.trace fabric.old }; nodes = self.old.nodes; entries = self.old.journal.entries }) last
+            × StopsAt last (record { hand = self.new.hand; flight = F.flight fabric.new; trace = F.trace fabric.new }) self.new.nodes self.new.journal.entries) }
+        ensures settled { OnOk result (NoneRuns self.new.nodes → IsQuiet self.new.nodes self.new.hand) }
         ensures room_err { (e : _) → result ≡ Err e → ((n w : ℕ) (u : _) → e ≢ WorldFault.JournalFull n w u) → ((u : _) → e ≢ WorldFault.OutOfMemory u) →
             ((job : _) → e ≢ WorldFault.NotRun job) → HasRoom self.new.journal.entries }
         ensures bad_frame { (to : _) (frame : _) (at : _) (why : _) → result ≡ Err (WorldFault.BadFrame to frame at why) →

@@ -1,10 +1,12 @@
-use Rattle.std.proofs.Common.{Err, None, Some, length, refl, ap, ◌∙◌, subst}
+use Rattle.std.proofs.Common.{Ok, Err, None, Some, ◌∷◌, length, refl, sym, ap, ◌∙◌, subst, inl, inr}
 use Rattle.std.specs.Prelude.{◌-◌, ◌^◌, min}
 use Rattle.hpx_journal.specs.Weights.{HasRoom, total_weight}
 use Rattle.hpx_world.specs.declared.turns.WorldFault.TheVariants as faults
+use Rattle.hpx_world.specs.Away.{Fetches}
+use Rattle.hpx_world.specs.Steps.{Stage, Goes, EndsAt}
 use Rattle.hpx_world.proofs.Next.{carrying_at, err_of, err_back, err_is, no_err}
 use Rattle.hpx_world.proofs.Idle.{none_at}
-use Rattle.hpx_world.proofs.Stepped.{on_err}
+use Rattle.hpx_world.proofs.Stepped.{on_err, on_ok}
 use Rattle.hpx_world.proofs.Unfed.{unfed_then}
 use Rattle.hpx_world.proofs.locals.Locals.drain.Goals as goal
 
@@ -17,6 +19,14 @@ loop-preserved g c =
       profile = c.step.ensures.profile ∙ i.profile;
       carrying = λ h. carrying_at g.A.Acts.act_of (length c.args.self.now.nodes.items) (length c.loop.self.nodes.items) c.args.self.now.profile c.loop.self.profile
           _ _ _ _ _ _ _ _ i.count i.profile c.step.ensures.carrying (i.carrying h);
+      goes = record {
+        between = record {
+          outside = record { hand = c.loop.self.hand; flight = g.F.Fabric.flight c.loop.fabric; trace = g.F.Fabric.trace c.loop.fabric };
+          nodes = c.loop.self.nodes.items;
+          entries = c.loop.self.journal.entries;
+        } ∷ i.goes.between;
+        steps = (i.goes.steps, c.in_ok-step.ensures.does (ap (λ b. Ok b) c.if-branch.true));
+      };
       unfed = unfed_then _ _ _ i.unfed c.step.ensures.unfed;
       jobs = λ none. c.in_ok-step.ensures.jobs c.in_ok-step.field-0 refl (i.jobs none);
       stands = c.in_ok-step.ensures.stands (no_err _ _) ∙ i.stands;
@@ -81,3 +91,32 @@ returns-clause-jobs_err g c = λ memory full run. on_err c.settled.result _ (λ 
 pub returns-in_err-step-clause-room_err : goal.returns-in_err-step-clause-room_err
 returns-in_err-step-clause-room_err g c = λ e is.
     c.in_err-step.ensures.room_err e (ap (λ fault. Err fault) (err_of c.from_residual.result c.in_err-step.field-0.0 e c.from_residual.ensures.1 is))
+
+-- ---- the steps that were made
+
+pub returns-clause-goes : goal.returns-clause-goes
+returns-clause-goes g c =
+    on_ok c.settled.result _ (
+      _,
+      c.loop.invariant.goes,
+      record {
+        same = c.in_ok-step.ensures.same (ap (λ b. Ok b) c.if-branch.false);
+        none = c.in_ok-step.ensures.none_left (ap (λ b. Ok b) c.if-branch.false);
+      },
+    )
+
+pub returns-clause-stops : goal.returns-clause-stops
+returns-clause-stops g c =
+    let idle = c.in_ok-step.ensures.idle (ap (λ b. Ok b) c.if-branch.false) in
+    on_err c.settled.result _ (
+      _,
+      c.loop.invariant.goes,
+      inl (
+        c.in_ok-step.ensures.same (ap (λ b. Ok b) c.if-branch.false),
+        inr (subst (λ o. Fetches c.loop.self.hand (g.F.Fabric.flight c.loop.fabric) (g.F.Fabric.flight c.step.new.fabric) (g.F.Fabric.trace c.loop.fabric) (g.F.Fabric.trace c.step.new.fabric) o)
+            (sym idle.hand) (c.in_ok-step.ensures.none_left (ap (λ b. Ok b) c.if-branch.false))),
+      ),
+    )
+
+pub returns-in_err-step-clause-stops : goal.returns-in_err-step-clause-stops
+returns-in_err-step-clause-stops g c = on_err c.from_residual.result _ (_, c.loop.invariant.goes, c.in_err-step.ensures.stops)

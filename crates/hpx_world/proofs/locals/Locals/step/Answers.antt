@@ -7,7 +7,7 @@ use Rattle.hpx_world.proofs.Carrying.{carrying_same}
 use Rattle.hpx_world.proofs.Idle.{same_then}
 use Rattle.hpx_world.proofs.Next.{inside_at, err_of, err_back, err_is, no_err, not_both, took_none, nothing_left, sum_same}
 use Rattle.hpx_world.proofs.Refused.{strange_frame_same}
-use Rattle.hpx_world.proofs.Stepped.{on_err, first_of_four, ok_is, fetches_from, keeps_from, step_works, step_clears, step_sends, step_takes}
+use Rattle.hpx_world.proofs.Stepped.{on_err, first_of_four, first_or_others, outside_same, stuck_then, silent_then, unsent_then, ok_is, fetches_from, keeps_from, step_works, step_clears, step_sends, step_takes}
 use Rattle.hpx_world.proofs.Unfed.{inside_then, unfed_then, unfed_le, took_unfed, took_longer}
 use Rattle.hpx_world.proofs.locals.Locals.step.Goals as goal
 
@@ -207,3 +207,107 @@ pub returns-in_err-work_first-clause-handed_back : goal.returns-in_err-work_firs
 returns-in_err-work_first-clause-handed_back g c = λ job is.
     c.in_err-work_first.ensures.handed_back job
     (ap (λ fault. Err fault) (err_of c.from_residual.result c.in_err-work_first.field-0.0 (faults.NotRun job) c.from_residual.ensures.1 is))
+
+-- ---- where a step stops
+
+pub returns-then-not-room-clause-stops : goal.returns-then-not-room-clause-stops
+returns-then-not-room-clause-stops g c = inl (record { tables = refl; journal = refl }, inl (refl, refl, refl))
+
+pub returns-in_err-work_first-clause-stops : goal.returns-in_err-work_first-clause-stops
+returns-in_err-work_first-clause-stops g c =
+    let out = outside_same c.args.self.now.hand c.work_first.new.self.hand (g.F.Fabric.flight c.args.fabric.now) (g.F.Fabric.flight c.args.fabric.now)
+    (g.F.Fabric.trace c.args.fabric.now) (g.F.Fabric.trace c.args.fabric.now) c.work_first.ensures.hand refl refl in
+    on_err c.from_residual.result _
+    (first_or_others (c.in_err-work_first.ensures.which c.in_err-work_first.field-0.0 refl)
+    (λ a. (a.1, inl (c.work_first.ensures.hand, refl, refl)))
+    (λ b. (b.0.job, c.in_err-work_first.ensures.handed_memory b.0 (ap (λ fault. Err fault) b.1), out))
+    (λ d. (d.2.job, c.in_err-work_first.ensures.handed_full d.0 d.1 d.2 (ap (λ fault. Err fault) d.3), out))
+    (λ e. (e.0, c.in_err-work_first.ensures.handed_back e.0 (ap (λ fault. Err fault) e.1), out)))
+
+pub returns-in_err-desk_first-clause-stops : goal.returns-in_err-desk_first-clause-stops
+returns-in_err-desk_first-clause-stops g c =
+    let worked = c.in_ok-work_first.ensures.none (ap (λ b. Ok b) c.if-branch.false) in
+    on_err c.from_residual-in_err-desk_first.result _ (inl (
+      same_then _ _ _ _ _ _ worked.0 c.in_err-desk_first.ensures.same,
+      inl (c.desk_first.ensures.hand ∙ c.work_first.ensures.hand, refl, refl),
+    ))
+
+pub returns-in_err-pump_first-clause-stops : goal.returns-in_err-pump_first-clause-stops
+returns-in_err-pump_first-clause-stops g c =
+    let worked = c.in_ok-work_first.ensures.none (ap (λ b. Ok b) c.if-branch.false) in
+    let dealt = c.in_ok-desk_first.ensures.none (ap (λ b. Ok b) c.if-branch-2.false) in
+    let unsent = c.in_err-pump_first.ensures.unsent (λ e. no_err _ _ (sym e)) in
+    on_err c.from_residual-in_err-pump_first.result _ (inl (
+      same_then _ _ _ _ _ _ worked.0 (same_then _ _ _ _ _ _ dealt.0 c.in_err-pump_first.ensures.same),
+      inl ((c.pump_first.ensures.hand ∙ (c.desk_first.ensures.hand ∙ c.work_first.ensures.hand)), unsent.0, unsent.1),
+    ))
+
+pub returns-in_err-take-clause-stops : goal.returns-in_err-take-clause-stops
+returns-in_err-take-clause-stops g c =
+    let worked = c.in_ok-work_first.ensures.none (ap (λ b. Ok b) c.if-branch.false) in
+    let dealt = c.in_ok-desk_first.ensures.none (ap (λ b. Ok b) c.if-branch-2.false) in
+    let sent = c.in_ok-pump_first.ensures.none (ap (λ b. Ok b) c.if-branch-3.false) in
+    let unsent = c.in_ok-pump_first.ensures.unsent (λ e. not_both _ c.if-branch-3.false (ok_is _ _ e)) in
+    on_err c.from_residual-in_err-take.result _ (inl (
+      same_then _ _ _ _ _ _ worked.0 (same_then _ _ _ _ _ _ dealt.0 (same_then _ _ _ _ _ _ sent.0 c.in_err-take.ensures.err)),
+      keeps_from _ _ _ _ _ _ _ _ (c.pump_first.ensures.hand ∙ (c.desk_first.ensures.hand ∙ c.work_first.ensures.hand)) unsent.0 unsent.1 _ c.in_err-take.ensures.kept,
+    ))
+
+-- ---- what was tried before it stopped
+
+pub returns-in_err-pump_first-clause-fabric_same : goal.returns-in_err-pump_first-clause-fabric_same
+returns-in_err-pump_first-clause-fabric_same g c = λ is.
+    let unsent = c.in_err-pump_first.ensures.unsent (λ e. no_err _ _ (sym e)) in
+    (c.pump_first.ensures.hand ∙ (c.desk_first.ensures.hand ∙ c.work_first.ensures.hand), unsent.0, unsent.1)
+
+pub returns-in_err-take-clause-fabric_same : goal.returns-in_err-take-clause-fabric_same
+returns-in_err-take-clause-fabric_same g c = λ is.
+    let unsent = c.in_ok-pump_first.ensures.unsent (λ e. not_both _ c.if-branch-3.false (ok_is _ _ e)) in
+    let none = c.in_err-take.ensures.fabric_same
+    (ap (λ fault. Err fault) (err_of c.from_residual-in_err-take.result c.in_err-take.field-0.0 faults.Fabric c.from_residual-in_err-take.ensures.1 is)) in
+    (none.0 ∙ (c.pump_first.ensures.hand ∙ (c.desk_first.ensures.hand ∙ c.work_first.ensures.hand)), none.1 ∙ unsent.0, none.2 ∙ unsent.1)
+
+pub returns-in_err-pump_first-clause-fabric_first : goal.returns-in_err-pump_first-clause-fabric_first
+returns-in_err-pump_first-clause-fabric_first g c = λ is.
+    let worked = c.in_ok-work_first.ensures.none (ap (λ b. Ok b) c.if-branch.false) in
+    let dealt = c.in_ok-desk_first.ensures.none (ap (λ b. Ok b) c.if-branch-2.false) in
+    let sent = c.in_err-pump_first.ensures.same in
+    (stuck_then _ _ sent.tables (stuck_then _ _ dealt.0.tables worked.1), silent_then _ _ sent.tables dealt.1)
+
+pub returns-in_err-take-clause-fabric_first : goal.returns-in_err-take-clause-fabric_first
+returns-in_err-take-clause-fabric_first g c = λ is.
+    let worked = c.in_ok-work_first.ensures.none (ap (λ b. Ok b) c.if-branch.false) in
+    let dealt = c.in_ok-desk_first.ensures.none (ap (λ b. Ok b) c.if-branch-2.false) in
+    let sent = c.in_ok-pump_first.ensures.none (ap (λ b. Ok b) c.if-branch-3.false) in
+    let taken = c.in_err-take.ensures.err in (
+      stuck_then _ _ taken.tables (stuck_then _ _ sent.0.tables (stuck_then _ _ dealt.0.tables worked.1)),
+      silent_then _ _ taken.tables (silent_then _ _ sent.0.tables dealt.1),
+    )
+
+pub returns-in_err-desk_first-clause-strange_first : goal.returns-in_err-desk_first-clause-strange_first
+returns-in_err-desk_first-clause-strange_first g c = λ to frame rule object kept is.
+    let worked = c.in_ok-work_first.ensures.none (ap (λ b. Ok b) c.if-branch.false) in
+    let strange = c.in_err-desk_first.ensures.strange to frame rule object kept
+    (ap (λ fault. Err fault) (err_of c.from_residual-in_err-desk_first.result c.in_err-desk_first.field-0.0 (faults.Strange to frame rule object kept) c.from_residual-in_err-desk_first.ensures.1 is)) in
+    (stuck_then _ _ c.in_err-desk_first.ensures.same.tables worked.1, λ some. absurd (some strange.0))
+
+pub returns-in_err-take-clause-strange_first : goal.returns-in_err-take-clause-strange_first
+returns-in_err-take-clause-strange_first g c = λ to frame rule object kept is.
+    let worked = c.in_ok-work_first.ensures.none (ap (λ b. Ok b) c.if-branch.false) in
+    let dealt = c.in_ok-desk_first.ensures.none (ap (λ b. Ok b) c.if-branch-2.false) in
+    let sent = c.in_ok-pump_first.ensures.none (ap (λ b. Ok b) c.if-branch-3.false) in
+    let taken = c.in_err-take.ensures.err in (
+      stuck_then _ _ taken.tables (stuck_then _ _ sent.0.tables (stuck_then _ _ dealt.0.tables worked.1)),
+      λ some. (silent_then _ _ taken.tables (silent_then _ _ sent.0.tables dealt.1), unsent_then _ _ taken.tables sent.1),
+    )
+
+pub returns-in_err-take-clause-bad_first : goal.returns-in_err-take-clause-bad_first
+returns-in_err-take-clause-bad_first g c = λ to frame at why is.
+    let worked = c.in_ok-work_first.ensures.none (ap (λ b. Ok b) c.if-branch.false) in
+    let dealt = c.in_ok-desk_first.ensures.none (ap (λ b. Ok b) c.if-branch-2.false) in
+    let sent = c.in_ok-pump_first.ensures.none (ap (λ b. Ok b) c.if-branch-3.false) in
+    let taken = c.in_err-take.ensures.err in (
+      stuck_then _ _ taken.tables (stuck_then _ _ sent.0.tables (stuck_then _ _ dealt.0.tables worked.1)),
+      silent_then _ _ taken.tables (silent_then _ _ sent.0.tables dealt.1),
+      unsent_then _ _ taken.tables sent.1,
+    )
