@@ -182,7 +182,8 @@ fn at_asking(alloc: Global, text: &str, fault: TakeFault) -> Result<bool, Fail> 
     is_refused(alloc, site, text, fault)
 }
 
-/// Gives with too little credit, with too much, under another number, and of another object.
+/// Gives with too little credit, with too much, under another number, and of another object; and a Free of the number, which
+/// does not stand here.
 fn refuses_gives(alloc: Global) -> Result<bool, Fail> {
     Ok(
         at_asking(
@@ -201,6 +202,10 @@ fn refuses_gives(alloc: Global) -> Result<bool, Fail> {
             alloc,
             "0104 0000000248000021 0000000000000002 0000000000000001",
             strange(3, unborn(), 1),
+        )? && at_asking(
+            alloc,
+            "010a 0000000200000021 0000000000000001",
+            strange(7, number(), 0),
         )?,
     )
 }
@@ -208,6 +213,35 @@ fn refuses_gives(alloc: Global) -> Result<bool, Fail> {
 #[test]
 fn a_commit_that_asks_refuses_other_credit(rt: HostRuntime) -> Result<(), Fail> {
     assert!(rt; refuses_gives(rt.alloc())?);
+    Ok(())
+}
+
+/// Actions on the session, which is at locality 0, on the namespace of components there, and on a root of no kind.
+fn refuses_roots(alloc: Global) -> Result<bool, Fail> {
+    Ok(
+        at_home(
+            alloc,
+            "0101 0000 0000000000000003 0000000100000003 0000000000000001 0010 0000 00",
+            strange(8, Gid::new(0, 1, 1), 1),
+        )? && at_home(
+            alloc,
+            "0101 0000 0000000000000003 0000000100000007 0000000000000001 0005 0000 00",
+            strange(8, Gid::new(0, 3, 1), 1),
+        )? && at_home(
+            alloc,
+            "0101 0000 0000000000000003 000000020000000d 0000000000000001 0010 0000 00",
+            strange(8, Gid::new(1, 6, 1), 1),
+        )? && at_boot(
+            alloc,
+            "0101 0000 0000000000000003 0000000200000003 0000000000000001 0010 0000 00",
+            strange(8, Gid::new(1, 1, 1), 0),
+        )?,
+    )
+}
+
+#[test]
+fn roots_that_stand_elsewhere_or_nowhere_refuse(rt: HostRuntime) -> Result<(), Fail> {
+    assert!(rt; refuses_roots(rt.alloc())?);
     Ok(())
 }
 
@@ -324,6 +358,7 @@ fn free_stays(rt: &impl Abort, alloc: Global, mut site: Site) -> Result<(), Fail
         kept: 256,
     };
     assert!(rt; site.desk(alloc) == Err(strange));
+    assert!(rt; before.same(site.seen()));
     assert!(rt; site.desk(alloc) == Err(strange));
     assert!(rt; before.same(site.seen()));
     assert!(rt; site.send(alloc)?.is_some());
@@ -342,4 +377,73 @@ fn a_refused_free_stays_on_the_desk(rt: HostRuntime) -> Result<(), Fail> {
     )?;
     assert!(rt; site.seen().count == 0 && site.seen().holds);
     free_stays(&rt, alloc, site)
+}
+
+/// Whether the first message on the desk is refused so, and nothing changes.
+fn desk_refuses(alloc: Global, mut site: Site, fault: DeskFault) -> Result<bool, Fail> {
+    let before = site.seen();
+    let refused = site.desk(alloc) == Err(fault);
+    Ok(refused && before.same(site.seen()))
+}
+
+/// The home of the number, once it has taken a frame and done what there is to run.
+fn home_after(alloc: Global, text: &str) -> Result<Site, Fail> {
+    let mut site = home(alloc)?;
+    site.take(alloc, &hex(alloc, text)?)?;
+    site.run(alloc)?;
+    Ok(site)
+}
+
+/// The message that follows a frame is refused so.
+fn at_desk(alloc: Global, text: &str, rule: u8, object: Gid, kept: u128) -> Result<bool, Fail> {
+    let site = home_after(alloc, text)?;
+    desk_refuses(alloc, site, DeskFault::Strange { rule, object, kept })
+}
+
+/// An Ask in the name of the home itself, which asked for nothing; an action that pays more than the count; and a query
+/// whose answer is to go to an unborn number.
+fn desk_refuses_what_follows(alloc: Global) -> Result<bool, Fail> {
+    Ok(
+        at_desk(
+            alloc,
+            "0103 0000000240000021 0000000000000001 0001 0000000000000007",
+            3,
+            number(),
+            7,
+        )? && at_desk(
+            alloc,
+            "0101 0000 0000000000000003 0000000249000021 0000000000000001 0010 0000 00",
+            2,
+            number(),
+            256,
+        )? && at_desk(
+            alloc,
+            "0101 0000 0000000000000003 0000000247000021 0000000000000001 0011 0000 01 0000000248000021 0000000000000002 00000000",
+            8,
+            unborn(),
+            1,
+        )?,
+    )
+}
+
+/// The id of an unborn number is an argument that nobody keeps: its credit goes home after that of the target.
+fn desk_refuses_an_unborn_number(alloc: Global) -> Result<bool, Fail> {
+    let mut site = home_after(
+        alloc,
+        "0101 0000 0000000000000003 0000000247000021 0000000000000001 0010 0001 04 0000000248000021 0000000000000002 00",
+    )?;
+    let first = site.desk(alloc)? && site.seen().count == 128;
+    let strange = DeskFault::Strange {
+        rule: 1,
+        object: unborn(),
+        kept: 1,
+    };
+    Ok(first && desk_refuses(alloc, site, strange)?)
+}
+
+#[test]
+fn the_desk_refuses_what_foreign_frames_bring_about(rt: HostRuntime) -> Result<(), Fail> {
+    assert!(rt; desk_refuses_what_follows(rt.alloc())?);
+    assert!(rt; desk_refuses_an_unborn_number(rt.alloc())?);
+    Ok(())
 }

@@ -50,6 +50,10 @@ pub struct Seen {
     pub owed: u128,
     pub place: Option<u32>,
     pub live: Option<Gid>,
+    pub number: u32,
+    pub runs: bool,
+    pub awaited: u64,
+    pub front: Option<u32>,
 }
 
 impl Seen {
@@ -200,6 +204,18 @@ impl Site {
             owed: self.node.owed(number()),
             place: self.node.place(number()),
             live: self.node.live(0),
+            number: self.node.number(),
+            runs: self.node.runs(),
+            awaited: self.node.awaited(),
+            front: self.front(),
+        }
+    }
+
+    /// Where its first message goes, if there is one.
+    fn front(&self) -> Option<u32> {
+        match self.node.front() {
+            Some((to, _)) => Some(to),
+            None => None,
         }
     }
 }

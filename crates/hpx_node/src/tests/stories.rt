@@ -2,12 +2,67 @@
 use crate::parts::Finished;
 use crate::tests::pair::Pair;
 use crate::tests::site::{Site, compute};
+use hpx_journal::entry::Event;
 use hpx_trial::trial::Trial;
 use hpx_value::acts::{Done, Job};
 use hpx_value::exact::Exact;
 use hpx_value::memory::OutOfMemory;
 use std::alloc::Global;
 use std::test::Fail;
+
+/// Whether the last entry is that this was printed.
+fn has_printed(site: &Site, text: &[u8]) -> bool {
+    match site.event(0) {
+        Some(Event::Print { bytes }) => bytes.as_slice() == text,
+        _ => false,
+    }
+}
+
+/// What the number answers is printed at the session's locality.
+fn answers(alloc: Global, pair: &mut Pair, text: &[u8]) -> Result<bool, Fail> {
+    pair.line(alloc, b'q')?;
+    Ok(has_printed(&pair.first, text) && pair.first.seen().passive && pair.second.seen().passive)
+}
+
+/// A query before any add, one after three, and one after one more.
+fn adds_up(alloc: Global) -> Result<bool, Fail> {
+    let mut pair = Pair::with_number(alloc)?;
+    let none = answers(alloc, &mut pair, b"0\n")?;
+    pair.calls(alloc, 3)?;
+    let three = answers(alloc, &mut pair, b"15\n")?;
+    pair.calls(alloc, 1)?;
+    let four = answers(alloc, &mut pair, b"20\n")?;
+    Ok(none && three && four)
+}
+
+#[test]
+fn a_query_is_answered_the_sum(rt: HostRuntime) -> Result<(), Fail> {
+    assert!(rt; adds_up(rt.alloc())?);
+    Ok(())
+}
+
+/// An answer is awaited from the line's commit until it is there.
+fn awaits_the_answer(alloc: Global, mut pair: Pair) -> Result<bool, Fail> {
+    pair.first.feed(alloc, b'q')?;
+    let before = pair.first.seen().awaited;
+    pair.first.run(alloc)?;
+    let asked = pair.first.seen();
+    pair.settle(alloc)?;
+    let after = pair.first.seen().awaited;
+    Ok(before == 0 && asked.awaited == 1 && asked.front == Some(1) && after == 0)
+}
+
+/// So it is with a query.
+fn query_is_awaited(alloc: Global) -> Result<bool, Fail> {
+    let pair = Pair::with_number(alloc)?;
+    awaits_the_answer(alloc, pair)
+}
+
+#[test]
+fn an_answer_is_awaited(rt: HostRuntime) -> Result<(), Fail> {
+    assert!(rt; query_is_awaited(rt.alloc())?);
+    Ok(())
+}
 
 /// The ninth call's Ask goes to the home, and its count grows; the Give comes, and the call goes on.
 fn goes_on(alloc: Global, mut pair: Pair) -> Result<bool, Fail> {
