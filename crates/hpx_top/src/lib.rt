@@ -6,3 +6,5 @@ mod limit_tests;
 pub mod reader;
 pub mod run;
 pub mod session;
+#[cfg(test)]
+mod test_worlds;

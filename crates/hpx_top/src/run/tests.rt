@@ -1,18 +1,22 @@
-use crate::run::{End, PROFILE, run};
+mod generated;
+mod rows;
+
+use crate::run::{End, run};
+use app_console::acts::ConsoleActs;
 use hpx_ports::fabric::{Fabric, Wire};
 use hpx_ports::memory_fabric::{MemFabric, SureFabric};
 use hpx_ports::memory_sink::{MemSink, SureSink};
 use hpx_ports::memory_source::{MemSource, SureSource};
 use hpx_ports::order::Order;
-use hpx_replay::replay::replay;
-use hpx_value::gid::Gid;
 use hpx_value::items::{Bytes, Items, Lengths, Text, Texts};
+use hpx_value::memory::OutOfMemory;
+use hpx_world::world::World;
 use std::alloc::{AllocError, Global};
 use std::test::Fail;
 
 const WORDS: [&[u8]; 2] = [b"accumulator", b"--hpx:localities=2"];
 
-const ORDERS: [Order; 3] = [Order::FirstIn, Order::LastIn, Order::Scrambled(7)];
+pub const ORDERS: [Order; 3] = [Order::FirstIn, Order::LastIn, Order::Scrambled(7)];
 
 // The frame that asks for the accumulator, and that of `add 5`, in hexadecimal digits.
 const NEW_FRAME: &[u8] =
@@ -47,6 +51,48 @@ fn hexadecimal(alloc: Global, bytes: &[u8]) -> Result<Vec<u8>, AllocError> {
         text.push(digits[(*byte & 15) as usize])?;
     }
     Ok(text)
+}
+
+// A session over ports of which none fails, that has ended.
+#[derive(Drop)]
+pub struct Ended {
+    pub status: u8,
+    pub text: Vec<u8>,
+    pub world: World<ConsoleActs>,
+    pub fabric: SureFabric,
+}
+
+// The session over this input.
+pub fn sure(alloc: Global, input: Vec<u8>, order: Order) -> Result<Ended, OutOfMemory> {
+    let mut source = SureSource::new(Bytes::from_vec(input));
+    let mut sink = SureSink::new(alloc);
+    let mut err = SureSink::new(alloc);
+    let words = words(alloc, &WORDS)?;
+    let fabric = SureFabric::new(alloc, order);
+    let End {
+        status,
+        world,
+        fabric,
+    } = run(alloc, &words, &mut source, &mut sink, &mut err, fabric);
+    let text = Vec::from_slice(alloc, sink.bytes())?;
+    match world {
+        Some(world) => Ok(Ended {
+            status,
+            text,
+            world,
+            fabric,
+        }),
+        None => Err(OutOfMemory),
+    }
+}
+
+// So many lines `add 1`.
+pub fn adds(alloc: Global, lines: u32) -> Result<Vec<u8>, OutOfMemory> {
+    let mut input = Vec::new(alloc);
+    for _ in 0..lines {
+        input.extend_from_slice(b"add 1\n")?;
+    }
+    Ok(input)
 }
 
 // Status, text, and how many entries and frames there are, of a session over ports in memory of which none fails.
@@ -168,153 +214,6 @@ fn each_session_has_its_entries_and_frames(rt: HostRuntime) -> Result<(), Fail> 
     Ok(())
 }
 
-// What the audit says of a session of so many lines `add 1`: the object's number, and the three credits and the place.
-fn audited(alloc: Global, lines: u32) -> Result<(Gid, [u128; 3], u32), Fail> {
-    let mut input = Vec::new(alloc);
-    for _ in 0..lines {
-        input.extend_from_slice(b"add 1\n")?;
-    }
-    let mut source = SureSource::new(Bytes::from_vec(input));
-    let mut sink = SureSink::new(alloc);
-    let mut err = SureSink::new(alloc);
-    let fabric = SureFabric::new(alloc, Order::FirstIn);
-    let end = run(
-        alloc,
-        &words(alloc, &WORDS)?,
-        &mut source,
-        &mut sink,
-        &mut err,
-        fabric,
-    );
-    let none = (Gid::new(1, 1, 1), [0; 3], 0);
-    let Some(world) = &end.world else {
-        return Ok(none);
-    };
-    let Ok(lines) = world.audit(alloc) else {
-        return Ok(none);
-    };
-    match lines.as_slice() {
-        [line] => Ok((line.gid, [line.recorded, line.held, line.flight], line.at)),
-        _ => Ok(none),
-    }
-}
-
-// Each line halves the credit of the session's id, and half of it goes home again. The 32nd asks for more.
-#[test]
-fn the_audit_tells_the_credit_of_the_accumulator(rt: HostRuntime) -> Result<(), Fail> {
-    let alloc = rt.alloc();
-    let accumulator = Gid::new(1, 16, 1);
-    for (lines, credit) in [
-        (0u32, 2_147_483_648u128),
-        (1, 1_073_741_824),
-        (31, 1),
-        (32, 1_073_741_824),
-    ] {
-        assert_eq!(rt;
-            audited(alloc, lines)?,
-            (accumulator, [credit, credit, 0], 1)
-        );
-    }
-    Ok(())
-}
-
-// The text of one number, as the test itself makes it.
-#[derive(Drop)]
-struct Plain {
-    number: i64,
-    text: Vec<u8>,
-}
-
-impl Plain {
-    fn line(&mut self, alloc: Global, line: &[u8], amount: i64) -> Result<(), AllocError> {
-        self.text.extend_from_slice(b"> ")?;
-        match line {
-            b"query" => {
-                let number = self.number;
-                self.text
-                    .extend_from_slice(format!(in alloc; "{number}\n")?.as_bytes())?;
-            }
-            b"reset" => self.number = 0,
-            b"help" => self
-                .text
-                .extend_from_slice(b"commands: reset, add [amount], query, help, quit\n")?,
-            b"sum" => self.text.extend_from_slice(b"error: bad command\n")?,
-            _ => match self.number.checked_add(amount) {
-                Some(sum) => self.number = sum,
-                None => self.text.extend_from_slice(b"error: overflow\n")?,
-            },
-        }
-        Ok(())
-    }
-}
-
-// A session made from a number: its input, and its text.
-fn generated(alloc: Global, start: u64) -> Result<(Vec<u8>, Vec<u8>), AllocError> {
-    let mut x = start;
-    let mut input = Vec::new(alloc);
-    let mut plain = Plain {
-        number: 0,
-        text: Vec::from_slice(alloc, b"commands: reset, add [amount], query, help, quit\n")?,
-    };
-    for _ in 0..start % 7 {
-        x = x.wrapping_mul(1_103_515_245).wrapping_add(12_345) % 2_147_483_648;
-        let kind = (x / 65_536) % 8;
-        let amount = if kind == 7 {
-            i64::MAX
-        } else {
-            (x % 1000) as i64
-        };
-        let word: &[u8] = match kind {
-            0 => b"query",
-            1 => b"reset",
-            2 => b"help",
-            3 => b"sum",
-            _ => b"add",
-        };
-        input.extend_from_slice(word)?;
-        if kind > 3 {
-            input.extend_from_slice(format!(in alloc; " {amount}")?.as_bytes())?;
-        }
-        input.push(b'\n')?;
-        plain.line(alloc, word, amount)?;
-    }
-    plain.text.extend_from_slice(b"> ")?;
-    Ok((input, plain.text))
-}
-
-#[test]
-fn three_hundred_sessions_have_the_plain_text_and_a_legal_journal(
-    rt: HostRuntime,
-) -> Result<(), Fail> {
-    let alloc = rt.alloc();
-    for order in ORDERS {
-        for start in 1..101u64 {
-            let (input, text) = generated(alloc, start)?;
-            let mut source = SureSource::new(Bytes::from_vec(input));
-            let mut sink = SureSink::new(alloc);
-            let mut err = SureSink::new(alloc);
-            let end = run(
-                alloc,
-                &words(alloc, &WORDS)?,
-                &mut source,
-                &mut sink,
-                &mut err,
-                SureFabric::new(alloc, order),
-            );
-            assert_eq!(rt; end.status, 0);
-            assert_eq!(rt; sink.bytes(), text.as_slice());
-            match &end.world {
-                Some(world) => {
-                    let judged = replay(alloc, world.acts(), 2, PROFILE, world.journal());
-                    assert!(rt; judged.is_ok());
-                }
-                None => assert!(rt; false),
-            }
-        }
-    }
-    Ok(())
-}
-
 #[test]
 fn long_lines_are_not_fed(rt: HostRuntime) -> Result<(), Fail> {
     let alloc = rt.alloc();
@@ -360,7 +259,7 @@ fn failing(
 
 const WHOLE: &[u8] = b"commands: reset, add [amount], query, help, quit\n> > 5\n> ";
 
-const AT_OPENING: &[u8] = b"commands: reset, add [amount], query, help, quit\n";
+pub const AT_OPENING: &[u8] = b"commands: reset, add [amount], query, help, quit\n";
 
 const AT_FIRST_LINE: &[u8] = b"commands: reset, add [amount], query, help, quit\n> ";
 
@@ -526,39 +425,20 @@ fn other_words_are_refused(rt: HostRuntime) -> Result<(), Fail> {
 #[test]
 fn two_thousand_lines_are_two_thousand_times_one(rt: HostRuntime) -> Result<(), Fail> {
     let alloc = rt.alloc();
-    let mut input = Vec::new(alloc);
-    for _ in 0..2000 {
-        input.extend_from_slice(b"add 1\n")?;
-    }
-    let mut source = SureSource::new(Bytes::from_vec(input));
-    let mut sink = SureSink::new(alloc);
-    let mut err = SureSink::new(alloc);
-    let end = run(
-        alloc,
-        &words(alloc, &WORDS)?,
-        &mut source,
-        &mut sink,
-        &mut err,
-        SureFabric::new(alloc, Order::FirstIn),
-    );
-    assert_eq!(rt; end.status, 0);
-    assert_eq!(rt; end.fabric.in_flight(), 0);
-    assert_eq!(rt; end.fabric.trace().len(), 4 + 2000 * 4 + 64 * 4);
+    let ended = sure(alloc, adds(alloc, 2000)?, Order::FirstIn)?;
+    assert_eq!(rt; ended.status, 0);
+    assert_eq!(rt; ended.fabric.in_flight(), 0);
+    assert_eq!(rt; ended.fabric.trace().len(), 4 + 2000 * 4 + 64 * 4);
     // The commands line has 49 bytes, and there are 2,001 prompts.
-    assert_eq!(rt; sink.bytes().len(), 49 + 2001 * 2);
-    match &end.world {
-        Some(world) => {
-            let entries = 14 + 2000 * 17 + 64 * 7;
-            assert_eq!(rt; world.journal().entries(), entries);
-            assert_eq!(rt;
-                world.journal().weight(),
-                64 * entries
-                    + (5 + 17 + 2 * 67 + 2 * 59)
-                    + 2000 * (6 + 2 * 62 + 2 * 43)
-                    + 64 * (2 * 28 + 2 * 26)
-            );
-        }
-        None => assert_eq!(rt; true, false),
-    }
+    assert_eq!(rt; ended.text.len(), 49 + 2001 * 2);
+    let entries = 14 + 2000 * 17 + 64 * 7;
+    assert_eq!(rt; ended.world.journal().entries(), entries);
+    assert_eq!(rt;
+        ended.world.journal().weight(),
+        64 * entries
+            + (5 + 17 + 2 * 67 + 2 * 59)
+            + 2000 * (6 + 2 * 62 + 2 * 43)
+            + 64 * (2 * 28 + 2 * 26)
+    );
     Ok(())
 }
