@@ -12,8 +12,8 @@ use Rattle.hpx_part.specs.Data.{Event, Token, Recorded}
 use Rattle.hpx_part.specs.View.{View}
 use Rattle.hpx_part.specs.Shows.{SameTokens}
 use Rattle.hpx_part.proofs.Keyed.{counts_of, any_counted, counted_any}
-use Rattle.hpx_node.specs.Pending.{fired_of, asking_of, refusals_of}
-use Rattle.hpx_node.specs.Tables.{Tables, fired_acts}
+use Rattle.hpx_tables.specs.Pending.{fired_of, asking_of, refusals_of}
+use Rattle.hpx_tables.specs.Tables.{Tables, fired_acts}
 use Rattle.hpx_node.specs.Seen.{bare_standing, counted, waiting, asks, frees, frees_in, view}
 use Rattle.hpx_node.specs.Changes.{Mails}
 use Rattle.hpx_node.proofs.Messages.{mails_front, mails_back, mails_before, mails_after, middle_sum}

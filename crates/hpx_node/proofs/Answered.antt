@@ -23,13 +23,13 @@ use Rattle.hpx_part.specs.Shows.{Leads, SameTokens}
 use Rattle.hpx_part.proofs.CreditRows.{follows_granted, follows_refused}
 use Rattle.hpx_part.proofs.Credit.{token_own}
 use Rattle.hpx_part.proofs.Keyed.{counts_of, counts_true}
-use Rattle.hpx_node.specs.Pending.{asking_of, refusals_of}
-use Rattle.hpx_node.specs.Tables.{Tables}
+use Rattle.hpx_tables.specs.Pending.{asking_of, refusals_of}
+use Rattle.hpx_tables.specs.Tables.{Tables}
 use Rattle.hpx_node.specs.Seen.{counted, parcel_tokens, tokens, asks, frees, view}
 use Rattle.hpx_node.specs.Stands.{IsTidy, rules_of}
 use Rattle.hpx_node.specs.Changes.{Mails}
-use Rattle.hpx_node.specs.Kept.{count_here}
-use Rattle.hpx_node.specs.Strange.{is_live}
+use Rattle.hpx_tables.specs.Kept.{count_here}
+use Rattle.hpx_tables.specs.Strange.{is_live}
 use Rattle.hpx_node.specs.Handled.{answered, more_here, in_hand, TakesUp, Handles}
 use Rattle.hpx_node.proofs.Messages.{mails_tokens, mails_asks}
 use Rattle.hpx_node.proofs.Sums.{view_sum}

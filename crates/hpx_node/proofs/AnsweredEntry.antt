@@ -10,9 +10,9 @@ use Rattle.hpx_agas.specs.declared.records.Granted.TheVariants.{Limit, Yes}
 use Rattle.hpx_agas.specs.declared.record.Record.{Record}
 use Rattle.hpx_journal.specs.Data.{Id}
 use Rattle.hpx_part.specs.Data.{Count, Granted, Refused}
-use Rattle.hpx_node.specs.Tables.{Tables}
-use Rattle.hpx_node.specs.Kept.{count_here}
-use Rattle.hpx_node.specs.Strange.{is_live}
+use Rattle.hpx_tables.specs.Tables.{Tables}
+use Rattle.hpx_tables.specs.Kept.{count_here}
+use Rattle.hpx_tables.specs.Strange.{is_live}
 use Rattle.hpx_node.specs.Handled.{answered, more_here}
 use Rattle.hpx_node.proofs.Returned.{live_record}
 use Rattle.hpx_node.proofs.Answered.{limit_full, yes_free}

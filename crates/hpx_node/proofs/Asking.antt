@@ -12,13 +12,14 @@ use Rattle.hpx_journal.specs.Data.{Id, Parcel, Ask}
 use Rattle.hpx_journal.specs.Frames.{acts_in}
 use Rattle.hpx_journal.specs.Entries.{Rules}
 use Rattle.hpx_part.specs.Data.{Asked, Token}
-use Rattle.hpx_node.specs.Asks.{asked_events, with_asks, of_ask, AsksFor}
+use Rattle.hpx_tables.specs.Splits.{asked_events}
+use Rattle.hpx_node.specs.Asks.{with_asks, of_ask, AsksFor}
 use Rattle.hpx_node.specs.Changes.{Mails}
 use Rattle.hpx_node.specs.Idle.{Row, weight, goes, causes, spends, Pays}
 use Rattle.hpx_node.specs.Routes.{is_other, with_mail}
 use Rattle.hpx_node.specs.Seen.{frees_in, asks}
 use Rattle.hpx_node.specs.Stands.{IsTidy}
-use Rattle.hpx_node.specs.Tables.{Tables, messages}
+use Rattle.hpx_tables.specs.Tables.{Tables, messages}
 use Rattle.hpx_node.proofs.IdleFired.{calm_fired}
 use Rattle.hpx_node.proofs.IdleRows.{Costs, by_rows, nothing, comes_to_free}
 use Rattle.hpx_node.proofs.IdleSteps.{mails_pending}

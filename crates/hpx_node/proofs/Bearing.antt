@@ -15,9 +15,9 @@ use Rattle.hpx_part.specs.View.{View}
 use Rattle.hpx_part.specs.Shows.{IsWeight, Leads}
 use Rattle.hpx_part.proofs.Keyed.{find_miss}
 use Rattle.hpx_part.proofs.ObjectRows.{follows_born}
-use Rattle.hpx_node.specs.declared.node.settle.Birth.{Birth}
+use Rattle.hpx_tables.specs.declared.births.Birth.{Birth}
 use Rattle.hpx_node.specs.Seen.{counted}
-use Rattle.hpx_node.specs.Births.{IsBirth, births_of, objects_of, records_of, ids_of}
+use Rattle.hpx_tables.specs.Births.{IsBirth, births_of, objects_of, records_of, ids_of}
 use Rattle.hpx_node.proofs.Sums.{weigh, weigh_append}
 
 find_end : {X : Type 0} (p : X → Bool) (xs : List X) (y : X) → find p xs ≡ None → p y ≡ true → find p (xs ++ y ∷ []) ≡ Some y

@@ -27,17 +27,17 @@ use Rattle.hpx_part.proofs.Keyed.{split_get, split_set}
 use Rattle.hpx_commit.specs.Deals.{named, shares, Lasts, AreWithin}
 use Rattle.hpx_commit.specs.Stocks.{Stock, halvings, ahead, parts_from, short_places, stripped}
 use Rattle.hpx_commit.proofs.Ahead.{halvings_have}
-use Rattle.hpx_node.specs.declared.parts.Outgoing.{Outgoing}
-use Rattle.hpx_node.specs.Asks.{first_cuts, own_many, asked_events, AsksFor}
-use Rattle.hpx_node.specs.Commits.{cuts}
-use Rattle.hpx_node.specs.Fit.{IsFit, IsKept}
-use Rattle.hpx_node.specs.Jobs.{IsAt, IsFitJob}
+use Rattle.hpx_tables.specs.declared.kept.Outgoing.{Outgoing}
+use Rattle.hpx_tables.specs.Splits.{first_cuts, asked_events, cuts}
+use Rattle.hpx_node.specs.Asks.{own_many, AsksFor}
+use Rattle.hpx_tables.specs.Fit.{IsFit, IsKept}
+use Rattle.hpx_tables.specs.Jobs.{IsAt, IsFitJob}
 use Rattle.hpx_node.specs.Paused.{bare_names, Apart, IsPaused, ArePaused}
-use Rattle.hpx_node.specs.Pending.{Waits, action_of, fired_of, own_ids, is_asked, asked_at, waits_with, asking_of, refusal_of, refusals_of}
-use Rattle.hpx_node.specs.Tables.{Tables, fired_acts}
+use Rattle.hpx_tables.specs.Pending.{Waits, action_of, fired_of, own_ids, is_asked, asked_at, waits_with, asking_of, refusal_of, refusals_of}
+use Rattle.hpx_tables.specs.Tables.{Tables, fired_acts}
 use Rattle.hpx_node.specs.Seen.{bare_standing, counted, view}
 use Rattle.hpx_node.specs.Stands.{IsTidy, StandsWith}
-use Rattle.hpx_node.proofs.Alls.{all_append, all_remove, all_set, all_at}
+use Rattle.hpx_tables.proofs.Alls.{all_append, all_remove, all_set, all_at}
 use Rattle.hpx_node.proofs.Targets.{stand_set, targets_set}
 use Rattle.hpx_node.proofs.Asking.{asked_long, asked_stay, pays_asks}
 use Rattle.hpx_node.proofs.Bare.{bare_middle}

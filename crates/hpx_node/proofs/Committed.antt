@@ -4,11 +4,11 @@ use Rattle.hpx_agas.specs.declared.record.Record.{Record}
 use Rattle.hpx_journal.specs.Data.{Act}
 use Rattle.hpx_part.specs.Data.{Event, Entry, Standing}
 use Rattle.hpx_part.specs.Parts.{at_all}
-use Rattle.hpx_node.specs.declared.node.settle.Birth.{Birth}
-use Rattle.hpx_node.specs.Births.{Makes, objects_of, records_of}
-use Rattle.hpx_node.specs.Pending.{Waits}
-use Rattle.hpx_node.specs.Tables.{Tables}
-use Rattle.hpx_node.proofs.Cutting.{at_all_append}
+use Rattle.hpx_tables.specs.declared.births.Birth.{Birth}
+use Rattle.hpx_tables.specs.Births.{Makes, objects_of, records_of}
+use Rattle.hpx_tables.specs.Pending.{Waits}
+use Rattle.hpx_tables.specs.Tables.{Tables}
+use Rattle.hpx_tables.proofs.Cutting.{at_all_append}
 
 -- the tables once what is made is made and the job is done
 module _ (t t1 t2 : Tables) (xs : List Birth) (j : ℕ) (running : List Act) (pending : List Waits) (more : ℕ) (new : Standing) (made : Makes xs [] t t1)

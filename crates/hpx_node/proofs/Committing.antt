@@ -12,19 +12,20 @@ use Rattle.hpx_part.specs.Data.{Event, Entry, Done, Standing}
 use Rattle.hpx_part.specs.Parts.{at_all}
 use Rattle.hpx_part.proofs.Keyed.{slice_get_less}
 use Rattle.hpx_node.specs.declared.node.finish.Prepared.{Prepared}
-use Rattle.hpx_node.specs.declared.node.settle.Birth.{Birth}
-use Rattle.hpx_node.specs.Awaited.{answered_by}
-use Rattle.hpx_node.specs.Births.{Makes, birth_of, births_of, objects_of, records_of, ids_of}
+use Rattle.hpx_tables.specs.declared.births.Birth.{Birth}
+use Rattle.hpx_tables.specs.Awaited.{answered_by}
+use Rattle.hpx_tables.specs.Births.{Makes, birth_of, births_of, objects_of, records_of, ids_of}
 use Rattle.hpx_node.specs.Changes.{AreAlike}
-use Rattle.hpx_node.specs.Commits.{splits_from, written, ups, committed_from, state_dealt, due_dealt, with_settled, committed_to, IsPrepared}
-use Rattle.hpx_node.specs.Fit.{IsFit}
-use Rattle.hpx_node.specs.Jobs.{IsFitJob}
+use Rattle.hpx_tables.specs.Splits.{splits_from}
+use Rattle.hpx_node.specs.Commits.{written, ups, committed_from, state_dealt, due_dealt, with_settled, committed_to, IsPrepared}
+use Rattle.hpx_tables.specs.Fit.{IsFit}
+use Rattle.hpx_tables.specs.Jobs.{IsFitJob}
 use Rattle.hpx_node.specs.Paused.{ArePaused}
-use Rattle.hpx_node.specs.Pending.{Waits}
+use Rattle.hpx_tables.specs.Pending.{Waits}
 use Rattle.hpx_node.specs.Routes.{with_left}
 use Rattle.hpx_node.specs.Stands.{StandsWith, rules_of}
-use Rattle.hpx_node.specs.Tables.{Tables}
-use Rattle.hpx_node.proofs.Alls.{get_before}
+use Rattle.hpx_tables.specs.Tables.{Tables}
+use Rattle.hpx_tables.proofs.Alls.{get_before}
 use Rattle.hpx_node.proofs.Committed.{settled_is, written_on}
 use Rattle.hpx_node.proofs.Left.{left_from}
 use Rattle.hpx_node.proofs.OfPrepared.{tables_settled, stands_of, committed_is}

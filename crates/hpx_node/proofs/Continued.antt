@@ -12,11 +12,12 @@ use Rattle.hpx_commit.specs.Deals.{log_of}
 use Rattle.hpx_node.specs.declared.node.finish.Prepared.{Prepared}
 use Rattle.hpx_node.specs.declared.node.resume.Ready.{Ready}
 use Rattle.hpx_node.specs.Commits.{IsPrepared}
-use Rattle.hpx_node.specs.Pending.{Waits, Asked, awaits, is_asked_for, waits_for_one, put_for, hand_with, Refills}
+use Rattle.hpx_tables.specs.declared.pending.Asked.{Asked}
+use Rattle.hpx_tables.specs.Pending.{Waits, awaits, is_asked_for, waits_for_one, put_for, hand_with, Refills}
 use Rattle.hpx_node.specs.Resumes.{may_go_on, stock_with, is_last, MayResume, IsReady, IsReadyFor}
 use Rattle.hpx_node.specs.Routes.{Gives, DealsWith, Accepts}
-use Rattle.hpx_node.specs.Tables.{Tables}
-use Rattle.hpx_node.proofs.Alls.{some_same}
+use Rattle.hpx_tables.specs.Tables.{Tables}
+use Rattle.hpx_tables.proofs.Alls.{some_same}
 
 -- ---- lists
 

@@ -19,15 +19,14 @@ use Rattle.hpx_part.proofs.Keyed.{counts_of, Agree-found}
 use Rattle.hpx_part.proofs.Keys.{means, own}
 use Rattle.hpx_commit.specs.Deals.{half, named}
 use Rattle.hpx_commit.specs.Stocks.{halvings}
-use Rattle.hpx_node.specs.declared.node.settle.Birth.{Birth}
-use Rattle.hpx_node.specs.Asks.{first_cuts, asked_events}
-use Rattle.hpx_node.specs.Awaited.{is_answer, answered_by}
-use Rattle.hpx_node.specs.Births.{births_of}
-use Rattle.hpx_node.specs.Commits.{cuts, splits_from}
-use Rattle.hpx_node.specs.Tables.{Tables, fired_acts}
-use Rattle.hpx_node.proofs.Alls.{all_append}
+use Rattle.hpx_tables.specs.declared.births.Birth.{Birth}
+use Rattle.hpx_tables.specs.Splits.{first_cuts, asked_events, cuts, splits_from}
+use Rattle.hpx_tables.specs.Awaited.{is_answer, answered_by}
+use Rattle.hpx_tables.specs.Births.{births_of}
+use Rattle.hpx_tables.specs.Tables.{Tables, fired_acts}
+use Rattle.hpx_tables.proofs.Alls.{all_append}
 use Rattle.hpx_node.proofs.Bare.{target-bare}
-use Rattle.hpx_node.proofs.Cutting.{at_all_append}
+use Rattle.hpx_tables.proofs.Cutting.{at_all_append}
 
 -- ---- events that fire no action and end none
 

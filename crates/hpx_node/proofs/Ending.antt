@@ -12,13 +12,13 @@ use Rattle.hpx_journal.specs.Entries.{target_of}
 use Rattle.hpx_part.specs.Data.{Standing, Token}
 use Rattle.hpx_part.proofs.Keyed.{split_get}
 use Rattle.hpx_node.specs.declared.node.finish.Prepared.{Prepared}
-use Rattle.hpx_node.specs.Births.{objects_of}
+use Rattle.hpx_tables.specs.Births.{objects_of}
 use Rattle.hpx_node.specs.Commits.{IsPrepared}
-use Rattle.hpx_node.specs.Jobs.{IsAt, IsFitJob}
+use Rattle.hpx_tables.specs.Jobs.{IsAt, IsFitJob}
 use Rattle.hpx_node.specs.Paused.{Single, ArePaused}
-use Rattle.hpx_node.specs.Pending.{action_of}
+use Rattle.hpx_tables.specs.Pending.{action_of}
 use Rattle.hpx_node.specs.Stands.{IsTidy}
-use Rattle.hpx_node.specs.Tables.{Tables}
+use Rattle.hpx_tables.specs.Tables.{Tables}
 use Rattle.hpx_node.proofs.Bare.{bare_middle}
 use Rattle.hpx_node.proofs.OfPrepared.{state_has}
 use Rattle.hpx_node.proofs.Pausing.{found_passes, done_paused}

@@ -9,16 +9,16 @@ use Rattle.hpx_part.specs.Data.{Done, Entry, Standing}
 use Rattle.hpx_part.specs.Parts.{at_all}
 use Rattle.hpx_commit.specs.Failures.{action_ids}
 use Rattle.hpx_commit.specs.declared.plan.Plan.{Plan}
-use Rattle.hpx_node.specs.Awaited.{answered_by}
+use Rattle.hpx_tables.specs.Awaited.{answered_by}
 use Rattle.hpx_node.specs.Changes.{OnlySends, AreAlike, Writes}
 use Rattle.hpx_node.specs.Commits.{written, ups}
 use Rattle.hpx_node.specs.Fails.{state_left, due_left, ups_left, failed_events, MustFail, IsFailure, Fails}
-use Rattle.hpx_node.specs.Fit.{IsKept, IsFitDue}
-use Rattle.hpx_node.specs.Pending.{Waits, action_of}
+use Rattle.hpx_tables.specs.Fit.{IsKept, IsFitDue}
+use Rattle.hpx_tables.specs.Pending.{Waits, action_of}
 use Rattle.hpx_node.specs.Routes.{with_left}
 use Rattle.hpx_node.specs.Stands.{StandsWith, rules_of}
-use Rattle.hpx_node.specs.Tables.{Tables}
-use Rattle.hpx_node.proofs.Alls.{some_same}
+use Rattle.hpx_tables.specs.Tables.{Tables}
+use Rattle.hpx_tables.proofs.Alls.{some_same}
 use Rattle.hpx_node.proofs.FailedDue.{failed_few}
 use Rattle.hpx_node.proofs.FailedStep.{stands_failed, new_kept, due_fit, ups_have}
 use Rattle.hpx_node.proofs.Left.{left_from}

@@ -20,15 +20,16 @@ use Rattle.hpx_part.specs.View.{View}
 use Rattle.hpx_part.proofs.Keyed.{counts_of, any_counted, counted_any, split_get}
 use Rattle.hpx_part.proofs.ObjectRows.{follows_fail}
 use Rattle.hpx_commit.specs.Failures.{action_ids}
-use Rattle.hpx_node.specs.Awaited.{answered_by}
+use Rattle.hpx_tables.specs.Awaited.{answered_by}
 use Rattle.hpx_node.specs.Fails.{state_left, due_left, ups_left}
-use Rattle.hpx_node.specs.Fit.{IsKept, IsFitDue}
+use Rattle.hpx_tables.specs.Fit.{IsKept, IsFitDue}
 use Rattle.hpx_node.specs.Paused.{Single, IsPaused, ArePaused}
-use Rattle.hpx_node.specs.Pending.{Asked, Waits, ids_named, own_ids, is_asked, refusal_of, refusals_of}
+use Rattle.hpx_tables.specs.declared.pending.Asked.{Asked}
+use Rattle.hpx_tables.specs.Pending.{Waits, ids_named, own_ids, is_asked, refusal_of, refusals_of}
 use Rattle.hpx_node.specs.Seen.{bare_standing, view}
 use Rattle.hpx_node.specs.Stands.{IsTidy, StandsWith}
-use Rattle.hpx_node.specs.Tables.{Tables, fired_acts}
-use Rattle.hpx_node.proofs.Alls.{some_same, all_at, all_set}
+use Rattle.hpx_tables.specs.Tables.{Tables, fired_acts}
+use Rattle.hpx_tables.proofs.Alls.{some_same, all_at, all_set}
 use Rattle.hpx_node.proofs.Targets.{stand_set, targets_set}
 use Rattle.hpx_node.proofs.Bare.{target-bare, found-bare, bare_middle}
 use Rattle.hpx_node.proofs.Begun.{bare_twice}

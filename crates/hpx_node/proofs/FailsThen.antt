@@ -12,10 +12,11 @@ use Rattle.hpx_part.proofs.Keyed.{slice_get_less}
 use Rattle.hpx_commit.specs.Deals.{log_of}
 use Rattle.hpx_node.specs.declared.node.fail.Failing.{Failing}
 use Rattle.hpx_node.specs.Fails.{MustFail, IsFailure, IsFailing, IsFailingFor}
-use Rattle.hpx_node.specs.Pending.{Waits, Asked, awaits, is_asked_for, Refills}
+use Rattle.hpx_tables.specs.declared.pending.Asked.{Asked}
+use Rattle.hpx_tables.specs.Pending.{Waits, awaits, is_asked_for, Refills}
 use Rattle.hpx_node.specs.Routes.{Gives}
-use Rattle.hpx_node.specs.Tables.{Tables}
-use Rattle.hpx_node.proofs.Alls.{some_same}
+use Rattle.hpx_tables.specs.Tables.{Tables}
+use Rattle.hpx_tables.proofs.Alls.{some_same}
 use Rattle.hpx_node.proofs.Continued.{any_at, first_same, get_set}
 use Rattle.hpx_node.proofs.FailedPlan.{failure_then}
 

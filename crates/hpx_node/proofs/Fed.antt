@@ -7,12 +7,12 @@ use Rattle.hpx_part.specs.Data.{Name, Entry, Line}
 use Rattle.hpx_part.specs.Shows.{Leads}
 use Rattle.hpx_part.specs.Parts.{at_all}
 use Rattle.hpx_part.proofs.ActRows.{follows_line}
-use Rattle.hpx_node.specs.Tables.{Tables}
+use Rattle.hpx_tables.specs.Tables.{Tables}
 use Rattle.hpx_node.specs.Seen.{view}
 use Rattle.hpx_node.specs.Stands.{StandsWith}
 use Rattle.hpx_node.specs.Changes.{Posts}
-use Rattle.hpx_node.specs.Fit.{parcel_for}
-use Rattle.hpx_node.specs.Kept.{stands_here}
+use Rattle.hpx_tables.specs.Fit.{parcel_for}
+use Rattle.hpx_tables.specs.Kept.{stands_here}
 use Rattle.hpx_node.specs.Routes.{with_accepted, with_act, with_mail}
 use Rattle.hpx_node.proofs.Posted.{seen_posted, tells_posted}
 use Rattle.hpx_node.proofs.Steps.{tells_leads, stands_then}

@@ -6,7 +6,7 @@ use Rattle.hpx_journal.specs.Entries.{Rules}
 use Rattle.hpx_journal.specs.Whole.{part, arrives, arrives_at}
 use Rattle.hpx_journal.specs.Laws.{outs, ins, outs_by}
 use Rattle.hpx_part.specs.Data.{Event, Entry, In, Out}
-use Rattle.hpx_node.specs.Tables.{Tables}
+use Rattle.hpx_tables.specs.Tables.{Tables}
 use Rattle.hpx_node.specs.Stands.{StandsWith}
 
 outs_one : (k : ℕ) (e : Event) → length (outs_by k e) ≤ 1

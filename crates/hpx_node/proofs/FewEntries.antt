@@ -6,8 +6,8 @@ use Rattle.hpx_journal.specs.Data.{Id, Parcel, Return, Ask, Free}
 use Rattle.hpx_journal.specs.Local.{is_standing}
 use Rattle.hpx_part.specs.Data.{Entry, Event, Standing}
 use Rattle.hpx_part.specs.Parts.{at_all}
-use Rattle.hpx_node.specs.Fit.{IsKept}
-use Rattle.hpx_node.specs.Tables.{Tables}
+use Rattle.hpx_tables.specs.Fit.{IsKept}
+use Rattle.hpx_tables.specs.Tables.{Tables}
 use Rattle.hpx_node.specs.Stands.{IsTidy}
 use Rattle.hpx_node.specs.Handled.{effects, up_of, ups, returned, freed, with_first}
 

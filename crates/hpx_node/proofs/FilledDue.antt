@@ -19,8 +19,8 @@ use Rattle.hpx_commit.specs.Deals.{is_managed, named as named_times, managed_pla
 use Rattle.hpx_commit.proofs.Naming.{managed}
 use Rattle.hpx_commit.proofs.Fills.{Fits, filled_same, unused_rest, filled_all, unused_all}
 use Rattle.hpx_node.specs.Seen.{bare_due}
-use Rattle.hpx_node.specs.Fit.{IsFitDue}
-use Rattle.hpx_node.proofs.Alls.{all_append, all_set}
+use Rattle.hpx_tables.specs.Fit.{IsFitDue}
+use Rattle.hpx_tables.proofs.Alls.{all_append, all_set}
 use Rattle.hpx_node.proofs.HandFit.{credit_at}
 use Rattle.hpx_node.proofs.Sums.{weigh, weigh_append}
 

@@ -14,16 +14,16 @@ use Rattle.hpx_part.specs.Shows.{Leads}
 use Rattle.hpx_part.specs.Parts.{at_all}
 use Rattle.hpx_part.proofs.ActRows.{follows_fire}
 use Rattle.hpx_part.proofs.Keyed.{split_get}
-use Rattle.hpx_node.specs.Pending.{action_of}
-use Rattle.hpx_node.specs.Tables.{Tables, messages, fired_acts}
+use Rattle.hpx_tables.specs.Pending.{action_of}
+use Rattle.hpx_tables.specs.Tables.{Tables, messages, fired_acts}
 use Rattle.hpx_node.specs.Seen.{bare_standing, waiting, view}
-use Rattle.hpx_node.specs.Free.{IsFree}
+use Rattle.hpx_tables.specs.Free.{IsFree}
 use Rattle.hpx_node.specs.Stands.{IsTidy, StandsWith}
 use Rattle.hpx_node.proofs.Bare.{target-bare, found-bare, busy-bare, bare_middle}
 use Rattle.hpx_node.proofs.Sums.{weigh_remove, weigh_last, tokens_sum, view_sum}
-use Rattle.hpx_node.specs.Fit.{IsFit}
-use Rattle.hpx_node.specs.Kept.{stands_here}
-use Rattle.hpx_node.proofs.Alls.{all_append, all_remove, all_at}
+use Rattle.hpx_tables.specs.Fit.{IsFit}
+use Rattle.hpx_tables.specs.Kept.{stands_here}
+use Rattle.hpx_tables.proofs.Alls.{all_append, all_remove, all_at}
 use Rattle.hpx_node.proofs.Pausing.{fired_paused}
 use Rattle.hpx_node.proofs.Steps.{Tells, tells_leads, stands_then}
 use Rattle.hpx_node.proofs.Ended.{answers_fire}

@@ -14,11 +14,11 @@ use Rattle.hpx_node.specs.Changes.{Writes}
 use Rattle.hpx_node.specs.Commits.{committed_from, Commits}
 use Rattle.hpx_node.specs.Fails.{Fails, IsFailing, fails_first, dooms, failed_events}
 use Rattle.hpx_node.specs.Next.{IsNext, MayFollow, IfFollows, HasFollowed, Continues}
-use Rattle.hpx_node.specs.Pending.{Waits, awaits}
+use Rattle.hpx_tables.specs.Pending.{Waits, awaits}
 use Rattle.hpx_node.specs.Resumes.{full_stock, is_last, completes, IsReady}
 use Rattle.hpx_node.specs.Routes.{Gives}
-use Rattle.hpx_node.specs.Tables.{Tables}
-use Rattle.hpx_node.proofs.Alls.{some_same}
+use Rattle.hpx_tables.specs.Tables.{Tables}
+use Rattle.hpx_tables.proofs.Alls.{some_same}
 use Rattle.hpx_node.proofs.Continued.{IsGiven, only_give, same_place, now_there, waits_inside, may_given}
 use Rattle.hpx_node.proofs.FailsThen.{only_fails, must_then, plan_then}
 use Rattle.hpx_node.proofs.FailsThen.{same_place as fails_place, now_there as fails_there}

@@ -27,14 +27,14 @@ use Rattle.hpx_part.proofs.ObjectRows.{follows_freed_mailed, follows_freed_taken
 use Rattle.hpx_part.proofs.Covered.{act_names}
 use Rattle.hpx_part.proofs.Grown.{chain}
 use Rattle.hpx_part.proofs.Keyed.{split_get}
-use Rattle.hpx_node.specs.Fit.{IsFit, IsKept}
-use Rattle.hpx_node.specs.Pending.{Waits, action_of, fired_of}
-use Rattle.hpx_node.specs.Tables.{Tables, messages, fired_acts}
+use Rattle.hpx_tables.specs.Fit.{IsFit, IsKept}
+use Rattle.hpx_tables.specs.Pending.{Waits, action_of, fired_of}
+use Rattle.hpx_tables.specs.Tables.{Tables, messages, fired_acts}
 use Rattle.hpx_node.specs.Seen.{bare_standing, parcel_tokens, tokens, waiting, view}
 use Rattle.hpx_node.specs.Stands.{IsTidy}
-use Rattle.hpx_node.specs.Kept.{waits_here, credit_in, ids_held, held_here}
+use Rattle.hpx_tables.specs.Kept.{waits_here, credit_in, ids_held, held_here}
 use Rattle.hpx_node.specs.Handled.{LetsFree, ups, freed, in_hand, TakesUp, Handles, GivesUp}
-use Rattle.hpx_node.proofs.Alls.{all_at, all_remove}
+use Rattle.hpx_tables.proofs.Alls.{all_at, all_remove}
 use Rattle.hpx_node.proofs.Targets.{stand_less, targets_less}
 use Rattle.hpx_node.proofs.Sums.{weigh, weigh_append, weigh_remove, tokens_sum, view_sum}
 use Rattle.hpx_node.proofs.Steps.{Tells, tells_leads}

@@ -17,7 +17,7 @@ use Rattle.hpx_commit.proofs.Deals.{past_hand}
 use Rattle.hpx_commit.proofs.Later.{later_made}
 use Rattle.hpx_commit.proofs.Moved.{at_longer, unnamed_alike}
 use Rattle.hpx_commit.proofs.Short.{short_is, ahead_lasts, place_bare, refilled}
-use Rattle.hpx_node.proofs.Alls.{all_append, all_set}
+use Rattle.hpx_tables.proofs.Alls.{all_append, all_set}
 use Rattle.hpx_node.proofs.FilledDue.{share_credit}
 use Rattle.hpx_node.proofs.HandFit.{credit_at}
 use Rattle.hpx_node.proofs.LaterIds.{within_long}

@@ -17,7 +17,7 @@ use Rattle.hpx_part.proofs.CreditRows.{follows_up}
 use Rattle.hpx_part.proofs.Grown.{chain}
 use Rattle.hpx_part.proofs.Credit.{token_own}
 use Rattle.hpx_part.proofs.Keyed.{counts_of, counts_true}
-use Rattle.hpx_node.specs.Tables.{Tables}
+use Rattle.hpx_tables.specs.Tables.{Tables}
 use Rattle.hpx_node.specs.Seen.{counted, asks, frees, view}
 use Rattle.hpx_node.specs.Stands.{IsTidy, rules_of}
 use Rattle.hpx_node.specs.Changes.{Mails}

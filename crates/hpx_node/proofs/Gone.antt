@@ -16,12 +16,12 @@ use Rattle.hpx_part.specs.View.{View}
 use Rattle.hpx_part.specs.Shows.{Leads}
 use Rattle.hpx_part.specs.Parts.{at_all, MayLeave, Trades}
 use Rattle.hpx_part.proofs.FrameRows.{follows_out}
-use Rattle.hpx_node.specs.declared.parts.Outgoing.{Outgoing}
+use Rattle.hpx_tables.specs.declared.kept.Outgoing.{Outgoing}
 use Rattle.hpx_node.specs.Frames.{MayGoTo, IsOnItsWay}
-use Rattle.hpx_node.specs.Tables.{Tables, messages}
+use Rattle.hpx_tables.specs.Tables.{Tables, messages}
 use Rattle.hpx_node.specs.Seen.{parcel_tokens, waiting, asks, frees, frees_in, view}
 use Rattle.hpx_node.specs.Stands.{IsTidy, StandsWith}
-use Rattle.hpx_node.proofs.Alls.{all_parts, all_append}
+use Rattle.hpx_tables.proofs.Alls.{all_parts, all_append}
 use Rattle.hpx_node.proofs.Cover.{tidy_covers}
 use Rattle.hpx_node.proofs.Messages.{flat_append}
 use Rattle.hpx_node.proofs.Sums.{tokens_sum, view_sum}

@@ -16,8 +16,8 @@ use Rattle.hpx_value.specs.declared.outcome.Sending.{Sending}
 use Rattle.hpx_value.specs.declared.outcome.Reply.{Reply}
 use Rattle.hpx_parcel.specs.Parcels.{HasRightCredit, IsPlace}
 use Rattle.hpx_journal.specs.Data.{Id, Value, Int, Cont, State, Act, Outcome, MessageDue, PrintDue}
-use Rattle.hpx_node.specs.Fit.{IsFitDue}
-use Rattle.hpx_node.proofs.Alls.{all_append}
+use Rattle.hpx_tables.specs.Fit.{IsFitDue}
+use Rattle.hpx_tables.proofs.Alls.{all_append}
 
 -- ---- credits
 

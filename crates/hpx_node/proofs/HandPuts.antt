@@ -7,7 +7,7 @@ use Rattle.hpx_value.specs.Ids.{bare, same_object}
 use Rattle.hpx_value.specs.Hands.{id_at}
 use Rattle.hpx_journal.specs.Data.{Id}
 use Rattle.hpx_part.specs.Data.{Token}
-use Rattle.hpx_node.specs.Pending.{is_asked}
+use Rattle.hpx_tables.specs.Pending.{is_asked}
 use Rattle.hpx_node.proofs.Sums.{weigh, weigh_append}
 
 pub put_there : (ids : List Id) (p : ℕ) (y : Id) → p < length ids → id_at (set ids p y) p ≡ y

@@ -17,13 +17,13 @@ use Rattle.hpx_part.specs.Data.{Token}
 use Rattle.hpx_commit.specs.Deals.{is_managed, log_of, named, managed_places, places_named, AreWithin}
 use Rattle.hpx_commit.specs.Stocks.{Stock, ahead, replaced_from, Lasting, SameNames}
 use Rattle.hpx_commit.proofs.Ahead.{ahead_same}
-use Rattle.hpx_node.specs.Births.{birth_of, ids_of}
+use Rattle.hpx_tables.specs.Births.{birth_of, ids_of}
 use Rattle.hpx_node.specs.Commits.{IsStock, made_of, own_stock}
-use Rattle.hpx_node.specs.Jobs.{IsFitJob}
+use Rattle.hpx_tables.specs.Jobs.{IsFitJob}
 use Rattle.hpx_node.specs.Paused.{whole_stock, first_stock}
-use Rattle.hpx_node.specs.Pending.{Waits, ids_named, own_ids}
+use Rattle.hpx_tables.specs.Pending.{Waits, ids_named, own_ids}
 use Rattle.hpx_node.specs.Resumes.{full_stock}
-use Rattle.hpx_node.specs.Tables.{Tables}
+use Rattle.hpx_tables.specs.Tables.{Tables}
 use Rattle.hpx_node.proofs.FilledDue.{plain_named, managed_named, named_cons}
 use Rattle.hpx_node.proofs.FullStock.{full, full_own, full_bare, split_places, hand_long, full_size, full_names, full_right, full_few, full_lasts, full_weighs}
 use Rattle.hpx_node.proofs.HandFit.{kind_of, hand_kinds_are}

@@ -4,9 +4,9 @@ use Rattle.std.specs.List.{sum_by}
 use Rattle.std.proofs.lemmas.List.Sums.{sum_by-cons, sum_by-append}
 use Rattle.hpx_journal.specs.Data.{Id, Act, Parcel}
 use Rattle.hpx_part.specs.Data.{Standing}
-use Rattle.hpx_node.specs.Kept.{credit_in, ids_held}
-use Rattle.hpx_node.specs.Pending.{Waits}
-use Rattle.hpx_node.specs.declared.parts.Outgoing.{Outgoing}
+use Rattle.hpx_tables.specs.Kept.{credit_in, ids_held}
+use Rattle.hpx_tables.specs.Pending.{Waits}
+use Rattle.hpx_tables.specs.declared.kept.Outgoing.{Outgoing}
 
 sum_outgoing : (f : Parcel → ℕ) (xs : List Outgoing) → sum_by f (map (λ (x : Outgoing). x.parcel) xs) ≡ sum_by (λ (x : Outgoing). f x.parcel) xs
 sum_outgoing f [] = refl

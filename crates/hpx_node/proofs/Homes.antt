@@ -10,8 +10,8 @@ use Rattle.hpx_agas.specs.Registries.{lowered, grown, asked}
 use Rattle.hpx_agas.specs.declared.record.Record.{Record}
 use Rattle.hpx_journal.specs.Data.{Id}
 use Rattle.hpx_journal.proofs.Same.{same_object-true}
-use Rattle.hpx_node.specs.declared.node.settle.Birth.{Birth}
-use Rattle.hpx_node.specs.Births.{records_of}
+use Rattle.hpx_tables.specs.declared.births.Birth.{Birth}
+use Rattle.hpx_tables.specs.Births.{records_of}
 use Rattle.hpx_node.specs.Stands.{StaysAt, StayAt}
 
 -- the same place, and no move

@@ -6,7 +6,7 @@ use Rattle.hpx_value.specs.Ids.{same_object}
 use Rattle.hpx_journal.specs.Data.{Id, Act, Parcel, Return, Ask, Give, Free}
 use Rattle.hpx_journal.specs.Entries.{Rules}
 use Rattle.hpx_part.specs.Data.{Event, Given, Count, Returned, Granted, Refused}
-use Rattle.hpx_node.specs.Tables.{Tables}
+use Rattle.hpx_tables.specs.Tables.{Tables}
 use Rattle.hpx_node.specs.Idle.{Row, Returns, Asks, Gives, Frees, Counts, Refusals, Actions, FreesOf, frees_one, weight, owes, goes, causes, spends, one_if, is_least, unpaid, PaysFor}
 use Rattle.hpx_node.proofs.IdleRows.{by_rows, comes_to_free}
 use Rattle.hpx_node.proofs.IdleFired.{calm_fired}

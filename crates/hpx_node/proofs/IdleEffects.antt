@@ -8,8 +8,8 @@ use Rattle.hpx_journal.specs.Data.{Id, Parcel, Return, Ask, Free}
 use Rattle.hpx_journal.specs.Entries.{Rules}
 use Rattle.hpx_journal.specs.Local.{is_standing}
 use Rattle.hpx_part.specs.Data.{Event, Standing, Up, Count, Granted, Refused, Freed}
-use Rattle.hpx_node.specs.Tables.{Tables}
-use Rattle.hpx_node.specs.Kept.{count_here}
+use Rattle.hpx_tables.specs.Tables.{Tables}
+use Rattle.hpx_tables.specs.Kept.{count_here}
 use Rattle.hpx_node.specs.Idle.{spends}
 use Rattle.hpx_node.specs.Handled.{effects, up_of, ups, returned, more_here, freed}
 

@@ -9,14 +9,13 @@ use Rattle.hpx_journal.specs.Entries.{Rules}
 use Rattle.hpx_journal.specs.Laws.{takes_such, is_free_of, is_freed}
 use Rattle.hpx_part.specs.Data.{Name, Event, Line, Fire, Split, Born, Done, Sent, Print, Up, Freed, Mail, Out, In}
 use Rattle.hpx_commit.specs.Deals.{half, named}
-use Rattle.hpx_node.specs.declared.node.settle.Birth.{Birth}
-use Rattle.hpx_node.specs.Births.{births_of}
+use Rattle.hpx_tables.specs.declared.births.Birth.{Birth}
+use Rattle.hpx_tables.specs.Births.{births_of}
 use Rattle.hpx_commit.specs.Stocks.{halvings}
-use Rattle.hpx_node.specs.Asks.{first_cuts}
-use Rattle.hpx_node.specs.Commits.{cuts, splits_from}
-use Rattle.hpx_node.specs.Fit.{parcel_for}
+use Rattle.hpx_tables.specs.Splits.{first_cuts, cuts, splits_from}
+use Rattle.hpx_tables.specs.Fit.{parcel_for}
 use Rattle.hpx_node.specs.Idle.{Row, Returns, Asks, Gives, Frees, Counts, Refusals, Actions, FreesOf, kind_of, brings, frees_one, weight, owes, goes, causes, spends, of_act}
-use Rattle.hpx_node.proofs.Alls.{all_append}
+use Rattle.hpx_tables.proofs.Alls.{all_append}
 
 -- one row after the other
 pub by_rows : (P : Row → Type 0) → P Returns → P Asks → P Gives → P Frees → P Counts → P Refusals → P Actions

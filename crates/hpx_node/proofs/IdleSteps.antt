@@ -8,8 +8,8 @@ use Rattle.hpx_journal.specs.Entries.{Rules}
 use Rattle.hpx_part.specs.Data.{Name, Entry, Event, Line, Fire, Sent, Up, Freed, Mail, Out, In}
 use Rattle.hpx_part.specs.Parts.{at_all}
 use Rattle.hpx_part.proofs.Keyed.{split_get}
-use Rattle.hpx_node.specs.Fit.{parcel_for}
-use Rattle.hpx_node.specs.Tables.{Tables, messages}
+use Rattle.hpx_tables.specs.Fit.{parcel_for}
+use Rattle.hpx_tables.specs.Tables.{Tables, messages}
 use Rattle.hpx_node.specs.Idle.{Row, Returns, Asks, Gives, Frees, Counts, Refusals, Actions, FreesOf, kind_of, brings, weight, owes, goes, causes, spends, of_act, queued, unpaid, joins, fires_one, AreFired, Pays, PaysFor, IsPaid}
 use Rattle.hpx_node.specs.Changes.{Mails}
 use Rattle.hpx_node.specs.Handled.{with_first}

@@ -18,7 +18,7 @@ use Rattle.hpx_part.specs.Parts.{Trades}
 use Rattle.hpx_part.proofs.Keyed.{any_counted, counts_of, counts_true}
 use Rattle.hpx_part.proofs.Credit.{token_weighs, token_own}
 use Rattle.hpx_part.proofs.CreditRows.{follows_asked}
-use Rattle.hpx_node.specs.Asks.{asked_events}
+use Rattle.hpx_tables.specs.Splits.{asked_events}
 use Rattle.hpx_node.proofs.GivenUp.{weigh_some, owed_some}
 use Rattle.hpx_node.proofs.Splits.{Has}
 use Rattle.hpx_node.proofs.Sums.{weigh, weigh_append}

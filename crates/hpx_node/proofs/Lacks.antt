@@ -17,17 +17,18 @@ use Rattle.hpx_commit.specs.Deals.{log_of}
 use Rattle.hpx_node.specs.Asks.{split_stock, short_before, lacking, with_asks, Begins}
 use Rattle.hpx_node.specs.Changes.{OnlySpare}
 use Rattle.hpx_node.specs.Fails.{fails_first, dooms, state_left, due_left, ups_left}
-use Rattle.hpx_node.specs.Awaited.{answered_by}
-use Rattle.hpx_node.specs.Fit.{parcel_for}
+use Rattle.hpx_tables.specs.Awaited.{answered_by}
+use Rattle.hpx_tables.specs.Fit.{parcel_for}
 use Rattle.hpx_node.specs.Handled.{Takes, Clears}
-use Rattle.hpx_node.specs.Kept.{count_here}
+use Rattle.hpx_tables.specs.Kept.{count_here}
 use Rattle.hpx_node.specs.Lacks.{Lacks}
 use Rattle.hpx_node.specs.Next.{Continues}
-use Rattle.hpx_node.specs.Pending.{Waits, Asked, asked_at, awaits, is_asked_for}
+use Rattle.hpx_tables.specs.declared.pending.Asked.{Asked}
+use Rattle.hpx_tables.specs.Pending.{Waits, asked_at, awaits, is_asked_for}
 use Rattle.hpx_node.specs.Resumes.{is_last, completes}
 use Rattle.hpx_node.specs.Routes.{is_other, may_stay, with_mail, with_return, with_returns, with_free, with_act, with_due, with_left, place_or_0, given_here, ids_in, Gives, DealsWith, Accepts}
-use Rattle.hpx_node.specs.Tables.{Tables}
-use Rattle.hpx_node.proofs.Alls.{all_append, all_remove, all_set}
+use Rattle.hpx_tables.specs.Tables.{Tables}
+use Rattle.hpx_tables.proofs.Alls.{all_append, all_remove, all_set}
 use Rattle.hpx_node.proofs.Continued.{any_at, less_long}
 use Rattle.hpx_node.proofs.Followed.{find_at}
 

@@ -11,10 +11,10 @@ use Rattle.hpx_value.specs.declared.outcome.Make.{Make}
 use Rattle.hpx_parcel.specs.Parcels.{IsBare}
 use Rattle.hpx_journal.specs.Data.{Id, State, Act, Outcome}
 use Rattle.hpx_commit.specs.Deals.{is_managed, AreWithin, managed_places, places_named}
-use Rattle.hpx_node.specs.Births.{birth_of, ids_of}
+use Rattle.hpx_tables.specs.Births.{birth_of, ids_of}
 use Rattle.hpx_node.specs.Commits.{made_of, places_in_hand}
-use Rattle.hpx_node.specs.Jobs.{IsFitJob}
-use Rattle.hpx_node.specs.Tables.{Tables}
+use Rattle.hpx_tables.specs.Jobs.{IsFitJob}
+use Rattle.hpx_tables.specs.Tables.{Tables}
 use Rattle.hpx_node.proofs.Prepared.{makes_managed}
 
 -- ids of the objects that are made later, without credit, and the places that the outcome names then

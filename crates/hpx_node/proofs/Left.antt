@@ -5,9 +5,9 @@ use Rattle.hpx_value.specs.Values.{named}
 use Rattle.hpx_journal.specs.Data.{Id, Act, Message, Due, MessageDue, PrintDue, Parcel, Return}
 use Rattle.hpx_journal.specs.Entries.{target_of}
 use Rattle.hpx_node.specs.Changes.{Posts, AreAlike}
-use Rattle.hpx_node.specs.Fit.{parcel_for}
+use Rattle.hpx_tables.specs.Fit.{parcel_for}
 use Rattle.hpx_node.specs.Routes.{is_other, may_stay, with_mail, with_act, with_return, with_returns, with_due, with_left}
-use Rattle.hpx_node.specs.Tables.{Tables}
+use Rattle.hpx_tables.specs.Tables.{Tables}
 
 -- ---- with other memory
 

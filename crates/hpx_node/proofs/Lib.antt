@@ -1,13 +1,10 @@
-pub mod FreeLemmas
 pub mod Few
 pub mod Numbers
-pub mod FirstCuts
 pub mod Gone
 pub mod Made
 pub mod MadeLists
 pub mod Mailed
 pub mod Messages
-pub mod Cutting
 pub mod Settled
 pub mod LaterIds
 pub mod HandPuts
@@ -31,7 +28,6 @@ pub mod Sums
 pub mod Bare
 pub mod Bearing
 pub mod Begun
-pub mod Alls
 pub mod Cover
 pub mod Fed
 pub mod Fired
@@ -101,4 +97,3 @@ pub mod OrderCalls
 pub mod AnsweredEntry
 pub mod Recounted
 pub mod IdleFired
-pub mod AllCuts

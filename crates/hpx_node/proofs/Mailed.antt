@@ -4,11 +4,11 @@ use Rattle.std.specs.List.{AllByRecursion}
 use Rattle.std.proofs.lemmas.List.{map-append}
 use Rattle.hpx_parcel.specs.Parcels.{IsParcel}
 use Rattle.hpx_journal.specs.Data.{Parcel}
-use Rattle.hpx_node.specs.declared.parts.Outgoing.{Outgoing}
+use Rattle.hpx_tables.specs.declared.kept.Outgoing.{Outgoing}
 use Rattle.hpx_node.specs.Frames.{MayGoTo, IsOnItsWay, IsForHere}
-use Rattle.hpx_node.specs.Tables.{Tables, messages}
+use Rattle.hpx_tables.specs.Tables.{Tables, messages}
 use Rattle.hpx_node.specs.Changes.{Mails}
-use Rattle.hpx_node.proofs.Alls.{all_append, all_parts}
+use Rattle.hpx_tables.proofs.Alls.{all_append, all_parts}
 use Rattle.hpx_node.specs.Routes.{is_other}
 use Rattle.hpx_node.proofs.Routed.{other_is, own_is}
 use Rattle.std.proofs.Common.{◌≤◌, ◌+◌}

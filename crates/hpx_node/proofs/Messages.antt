@@ -12,8 +12,8 @@ use Rattle.hpx_journal.specs.Data.{Id, Act, Parcel, Apply, Move}
 use Rattle.hpx_journal.specs.Tokens.{held}
 use Rattle.hpx_journal.specs.Frames.{acts_in, asks_in}
 use Rattle.hpx_part.specs.Data.{Token}
-use Rattle.hpx_node.specs.Fit.{parcel_for}
-use Rattle.hpx_node.specs.Tables.{Tables, messages}
+use Rattle.hpx_tables.specs.Fit.{parcel_for}
+use Rattle.hpx_tables.specs.Tables.{Tables, messages}
 use Rattle.hpx_node.specs.Seen.{tokens_of, parcel_tokens, kept_ids, tokens, waiting, asks, frees_in}
 use Rattle.hpx_node.specs.Changes.{Mails, Posts}
 use Rattle.hpx_node.specs.Idle.{Row, weight, of_act}

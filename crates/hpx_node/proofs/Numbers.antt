@@ -21,11 +21,11 @@ use Rattle.hpx_part.specs.Shows.{IsWeight, Shows}
 use Rattle.hpx_part.proofs.Covered.{act_names, object_names, due_names}
 use Rattle.hpx_part.proofs.Keyed.{Agree-sum}
 use Rattle.hpx_part.proofs.Keys.{means, own, stood, means_object, own_object}
-use Rattle.hpx_node.specs.declared.parts.Outgoing.{Outgoing}
-use Rattle.hpx_node.specs.Awaited.{is_answer, drawn_by, awaited_here, awaited_at}
-use Rattle.hpx_node.specs.Kept.{stands_here, credit_in, ids_held, credit_owed, held_here, owed_here, held_worth, owed_worth}
-use Rattle.hpx_node.specs.Pending.{Waits, action_of}
-use Rattle.hpx_node.specs.Tables.{Tables, IsPassive, messages}
+use Rattle.hpx_tables.specs.declared.kept.Outgoing.{Outgoing}
+use Rattle.hpx_tables.specs.Awaited.{is_answer, drawn_by, awaited_here, awaited_at}
+use Rattle.hpx_tables.specs.Kept.{stands_here, credit_in, ids_held, credit_owed, held_here, owed_here, held_worth, owed_worth}
+use Rattle.hpx_tables.specs.Pending.{Waits, action_of}
+use Rattle.hpx_tables.specs.Tables.{Tables, IsPassive, messages}
 use Rattle.hpx_node.specs.Seen.{bare_standing, parcel_tokens, view}
 use Rattle.hpx_node.specs.Stands.{IsTidy}
 use Rattle.hpx_node.proofs.Cover.{held_counts, held_each}

@@ -12,16 +12,17 @@ use Rattle.hpx_part.specs.Data.{Event, Entry, Done, Standing}
 use Rattle.hpx_part.specs.Parts.{at_all}
 use Rattle.hpx_commit.specs.Deals.{dealt, unused, unnamed}
 use Rattle.hpx_node.specs.declared.node.finish.Prepared.{Prepared}
-use Rattle.hpx_node.specs.declared.node.settle.Birth.{Birth}
-use Rattle.hpx_node.specs.Awaited.{answered_by}
-use Rattle.hpx_node.specs.Births.{IsBirth, birth_of, births_of, objects_of, records_of, ids_of}
-use Rattle.hpx_node.specs.Commits.{IsPrepared, splits_from, written, ups, committed_from, made_of}
-use Rattle.hpx_node.specs.Fit.{IsFit, IsKept, IsFitDue}
-use Rattle.hpx_node.specs.Jobs.{IsFitJob}
+use Rattle.hpx_tables.specs.declared.births.Birth.{Birth}
+use Rattle.hpx_tables.specs.Awaited.{answered_by}
+use Rattle.hpx_tables.specs.Births.{IsBirth, birth_of, births_of, objects_of, records_of, ids_of}
+use Rattle.hpx_tables.specs.Splits.{splits_from}
+use Rattle.hpx_node.specs.Commits.{IsPrepared, written, ups, committed_from, made_of}
+use Rattle.hpx_tables.specs.Fit.{IsFit, IsKept, IsFitDue}
+use Rattle.hpx_tables.specs.Jobs.{IsFitJob}
 use Rattle.hpx_node.specs.Paused.{ArePaused}
-use Rattle.hpx_node.specs.Pending.{Waits}
+use Rattle.hpx_tables.specs.Pending.{Waits}
 use Rattle.hpx_node.specs.Stands.{StandsWith, rules_of}
-use Rattle.hpx_node.specs.Tables.{Tables}
+use Rattle.hpx_tables.specs.Tables.{Tables}
 use Rattle.hpx_node.proofs.Plain.{plain_values, plain_conts}
 use Rattle.hpx_node.proofs.Planned.{made_fit, state_fit, state_paid, due_may, ups_credit}
 use Rattle.hpx_node.proofs.PlanLimits.{makes_few, due_few, ups_few, cuts_limit}

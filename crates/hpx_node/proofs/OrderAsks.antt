@@ -14,9 +14,10 @@ use Rattle.hpx_commit.proofs.Stripped.{stripped_bare}
 use Rattle.hpx_node.specs.Asks.{split_stock, stock_before, short_before, lacking, with_asks, Pauses}
 use Rattle.hpx_node.specs.Idle.{one_if}
 use Rattle.hpx_node.specs.Orders.{asks_for, waits_for, IsOrderly}
-use Rattle.hpx_node.specs.Pending.{Waits, Asked, asked_at, is_asked_for, waits_with}
+use Rattle.hpx_tables.specs.declared.pending.Asked.{Asked}
+use Rattle.hpx_tables.specs.Pending.{Waits, asked_at, is_asked_for, waits_with}
 use Rattle.hpx_node.specs.Routes.{is_other, with_mail}
-use Rattle.hpx_node.specs.Tables.{Tables}
+use Rattle.hpx_tables.specs.Tables.{Tables}
 use Rattle.hpx_node.proofs.Orders.{bound_none, Over, over_any, no_give, to_desk, to_other}
 use Rattle.hpx_node.proofs.OrderMails.{waits_one}
 

@@ -14,16 +14,17 @@ use Rattle.hpx_journal.specs.Whole.{part}
 use Rattle.hpx_journal.proofs.Grow.{part_append, part_at}
 use Rattle.hpx_part.specs.Data.{Event, Entry, In, Out, Mail}
 use Rattle.hpx_part.specs.Parts.{at_all}
-use Rattle.hpx_node.specs.declared.parts.Outgoing.{Outgoing}
-use Rattle.hpx_node.specs.Asks.{own_many, hand_before, splits_before, lacking, asked_events, Begins}
+use Rattle.hpx_tables.specs.declared.kept.Outgoing.{Outgoing}
+use Rattle.hpx_tables.specs.Splits.{asked_events}
+use Rattle.hpx_node.specs.Asks.{own_many, hand_before, splits_before, lacking, Begins}
 use Rattle.hpx_node.specs.Changes.{OnlySpare, Writes}
 use Rattle.hpx_node.specs.Commits.{places_in_hand, own_stock, Ends, committed}
 use Rattle.hpx_node.specs.Handled.{effects, kind_of, Takes, Clears}
 use Rattle.hpx_node.specs.Orders.{IsOrderly, KeepsOrder}
 use Rattle.hpx_node.specs.Routes.{with_act}
 use Rattle.hpx_node.specs.Stands.{IsTidy, rules_of}
-use Rattle.hpx_node.specs.Tables.{Tables}
-use Rattle.hpx_node.proofs.Alls.{all_append, all_parts}
+use Rattle.hpx_tables.specs.Tables.{Tables}
+use Rattle.hpx_tables.proofs.Alls.{all_append, all_parts}
 use Rattle.hpx_node.proofs.Asking.{asked_stay}
 use Rattle.hpx_node.proofs.Begun.{first_stay}
 use Rattle.hpx_node.proofs.Orders.{stays_orderly, hand_in, hand_first, orderly_gone}

@@ -18,15 +18,16 @@ use Rattle.hpx_part.proofs.Lists.{sum_middle}
 use Rattle.hpx_agas.specs.declared.record.Record.{Record}
 use Rattle.hpx_commit.specs.Deals.{log_of}
 use Rattle.hpx_commit.proofs.Deals.{bare_set}
-use Rattle.hpx_node.specs.Fit.{parcel_for}
+use Rattle.hpx_tables.specs.Fit.{parcel_for}
 use Rattle.hpx_node.specs.Idle.{one_if}
-use Rattle.hpx_node.specs.Kept.{count_here}
+use Rattle.hpx_tables.specs.Kept.{count_here}
 use Rattle.hpx_node.specs.Orders.{gives_for, waits_for, IsOrderly}
-use Rattle.hpx_node.specs.Pending.{Waits, Asked, is_asked_for, refilled}
+use Rattle.hpx_tables.specs.declared.pending.Asked.{Asked}
+use Rattle.hpx_tables.specs.Pending.{Waits, is_asked_for, refilled}
 use Rattle.hpx_node.specs.Routes.{is_other, may_stay, with_mail, with_return, with_returns, with_free, with_accepted, with_act, with_due, with_left, place_or_0, more_here, given_here, Gives}
 use Rattle.hpx_node.specs.Stands.{StayAt}
-use Rattle.hpx_node.specs.Strange.{is_live}
-use Rattle.hpx_node.specs.Tables.{Tables}
+use Rattle.hpx_tables.specs.Strange.{is_live}
+use Rattle.hpx_tables.specs.Tables.{Tables}
 use Rattle.hpx_node.proofs.Orders.{over_none, over_any, no_ask, no_give, to_desk, to_other, mail_calm, act_calm, InHand, asks_in_hand, gives_in_hand}
 use Rattle.hpx_node.proofs.Refilled.{sum_less}
 use Rattle.hpx_node.proofs.Returned.{live_record}

@@ -7,14 +7,14 @@ use Rattle.hpx_journal.specs.Data.{Id, Act, Parcel, Apply, Ask, Give, Move, Free
 use Rattle.hpx_journal.specs.Entries.{Rules}
 use Rattle.hpx_part.specs.Data.{Event, Entry, In, Out}
 use Rattle.hpx_part.specs.Parts.{at_all}
-use Rattle.hpx_node.specs.declared.parts.Outgoing.{Outgoing}
-use Rattle.hpx_node.specs.Fit.{parcel_for}
+use Rattle.hpx_tables.specs.declared.kept.Outgoing.{Outgoing}
+use Rattle.hpx_tables.specs.Fit.{parcel_for}
 use Rattle.hpx_node.specs.Frames.{IsOnItsWay}
 use Rattle.hpx_node.specs.Orders.{IsOwn, FreesNone, asks_for, gives_for, bound_for, gone, gone_to, come, all_count, SendsOwn, waits_for, IsOrderly}
-use Rattle.hpx_node.specs.Pending.{Waits}
+use Rattle.hpx_tables.specs.Pending.{Waits}
 use Rattle.hpx_node.specs.Routes.{is_other, with_mail}
-use Rattle.hpx_node.specs.Tables.{Tables}
-use Rattle.hpx_node.proofs.Alls.{all_append}
+use Rattle.hpx_tables.specs.Tables.{Tables}
+use Rattle.hpx_tables.proofs.Alls.{all_append}
 use Rattle.hpx_node.proofs.IdleSteps.{sum_at}
 use Rattle.hpx_node.proofs.Stays.{Stays}
 

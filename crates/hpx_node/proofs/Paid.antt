@@ -20,8 +20,8 @@ use Rattle.hpx_part.proofs.CreditRows.{follows_up}
 use Rattle.hpx_part.proofs.Credit.{token_own}
 use Rattle.hpx_part.proofs.Keyed.{counts_of, counts_true}
 use Rattle.hpx_commit.specs.Deals.{log_of}
-use Rattle.hpx_node.specs.Pending.{asking_of, refusals_of}
-use Rattle.hpx_node.specs.Tables.{Tables, fired_acts}
+use Rattle.hpx_tables.specs.Pending.{asking_of, refusals_of}
+use Rattle.hpx_tables.specs.Tables.{Tables, fired_acts}
 use Rattle.hpx_node.specs.Seen.{bare_standing, bare_due, counted, parcel_tokens, waiting, frees, frees_in, tokens_of, view}
 use Rattle.hpx_node.specs.Stands.{IsTidy, StandsWith}
 use Rattle.hpx_node.specs.Changes.{Mails, Posts}

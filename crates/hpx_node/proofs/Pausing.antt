@@ -14,12 +14,12 @@ use Rattle.hpx_journal.specs.Local.{is_standing, acts_on, is_busy}
 use Rattle.hpx_journal.proofs.Same.{same_object-true, same_object-sym, same_object-from}
 use Rattle.hpx_part.specs.Data.{Standing}
 use Rattle.hpx_part.proofs.Keyed.{split_get}
-use Rattle.hpx_node.specs.Fit.{IsFit, IsKept}
-use Rattle.hpx_node.specs.Jobs.{IsFitJob}
-use Rattle.hpx_node.specs.Pending.{Waits, action_of, fired_of}
+use Rattle.hpx_tables.specs.Fit.{IsFit, IsKept}
+use Rattle.hpx_tables.specs.Jobs.{IsFitJob}
+use Rattle.hpx_tables.specs.Pending.{Waits, action_of, fired_of}
 use Rattle.hpx_node.specs.Paused.{bare_names, Apart, Single, IsPaused, ArePaused}
-use Rattle.hpx_node.proofs.Alls.{some_same, find_passes, all_append, all_remove, all_set, all_at, get_before}
-use Rattle.hpx_node.proofs.FreeLemmas.{any_over}
+use Rattle.hpx_tables.proofs.Alls.{some_same, find_passes, all_append, all_remove, all_set, all_at, get_before}
+use Rattle.hpx_tables.proofs.FreeLemmas.{any_over}
 use Rattle.hpx_node.proofs.MadeLists.{find_front}
 use Rattle.hpx_node.proofs.Single.{single_set, single_removed}
 

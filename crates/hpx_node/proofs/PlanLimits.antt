@@ -17,10 +17,11 @@ use Rattle.hpx_commit.specs.Deals.{is_managed, half, share, named, dealt, shares
 use Rattle.hpx_commit.specs.Stocks.{Stock}
 use Rattle.hpx_commit.proofs.Deals.{sums_dealt}
 use Rattle.std.specs.Prelude.{set, ◌&&◌, ◌==◌}
-use Rattle.hpx_node.specs.Births.{birth_of}
-use Rattle.hpx_node.specs.Commits.{IsStock, cuts, splits_from}
-use Rattle.hpx_node.specs.Jobs.{IsFitJob}
-use Rattle.hpx_node.specs.Tables.{Tables}
+use Rattle.hpx_tables.specs.Births.{birth_of}
+use Rattle.hpx_tables.specs.Splits.{cuts, splits_from}
+use Rattle.hpx_node.specs.Commits.{IsStock}
+use Rattle.hpx_tables.specs.Jobs.{IsFitJob}
+use Rattle.hpx_tables.specs.Tables.{Tables}
 use Rattle.hpx_node.proofs.FilledDue.{length-filled_due}
 use Rattle.hpx_node.proofs.Planned.{made, own, planned_due, outcome_state, outcome_due, deals, own_within, hand_has, ids_long}
 

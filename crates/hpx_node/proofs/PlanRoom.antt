@@ -8,11 +8,12 @@ use Rattle.hpx_journal.specs.Data.{Outcome}
 use Rattle.hpx_journal.specs.Entries.{name_of}
 use Rattle.hpx_part.specs.Data.{Event, Done, Up}
 use Rattle.hpx_commit.specs.Deals.{log_of, unnamed}
-use Rattle.hpx_node.specs.Births.{birth_of, births_of}
+use Rattle.hpx_tables.specs.Births.{birth_of, births_of}
 use Rattle.hpx_commit.specs.Stocks.{Stock}
-use Rattle.hpx_node.specs.Commits.{IsStock, splits_from, written, ups}
-use Rattle.hpx_node.specs.Jobs.{IsFitJob}
-use Rattle.hpx_node.specs.Tables.{Tables}
+use Rattle.hpx_tables.specs.Splits.{splits_from}
+use Rattle.hpx_node.specs.Commits.{IsStock, written, ups}
+use Rattle.hpx_tables.specs.Jobs.{IsFitJob}
+use Rattle.hpx_tables.specs.Tables.{Tables}
 use Rattle.hpx_node.proofs.Planned.{made, outcome_due, made_fit}
 use Rattle.hpx_node.proofs.PlanLimits.{makes_few, replies_few, ups_few, cuts_limit, few_due}
 use Rattle.hpx_node.proofs.PlanWeights.{written_few, weighs, weighs_append, weighs_cons, births_light, splits_light, ups_light, written_light}

@@ -10,10 +10,11 @@ use Rattle.hpx_journal.specs.Weights.{weight_of, total_weight, state_size}
 use Rattle.hpx_part.specs.Data.{Event, Born, Split, Sent, Print, Up}
 use Rattle.hpx_part.specs.Parts.{at_all}
 use Rattle.hpx_commit.specs.Deals.{half, log_of, named, filled_due, unused}
-use Rattle.hpx_node.specs.declared.node.settle.Birth.{Birth}
-use Rattle.hpx_node.specs.Births.{IsBirth, births_of}
-use Rattle.hpx_node.specs.Commits.{cuts, splits_from, written, ups}
-use Rattle.hpx_node.proofs.Cutting.{at_all_append}
+use Rattle.hpx_tables.specs.declared.births.Birth.{Birth}
+use Rattle.hpx_tables.specs.Births.{IsBirth, births_of}
+use Rattle.hpx_tables.specs.Splits.{cuts, splits_from}
+use Rattle.hpx_node.specs.Commits.{written, ups}
+use Rattle.hpx_tables.proofs.Cutting.{at_all_append}
 
 -- what is due, in the weight of its entries
 abbrev pub due_weight : Due → ℕ

@@ -20,14 +20,14 @@ use Rattle.hpx_commit.specs.Stocks.{Stock}
 use Rattle.hpx_commit.proofs.Naming.{managed, names_match, places_within}
 use Rattle.hpx_commit.proofs.Fills.{Fits, filled_same, unused_rest, filled_sums, due_filled, filled_all, unused_all}
 use Rattle.hpx_commit.proofs.Deals.{names_dealt, sums_dealt}
-use Rattle.hpx_node.specs.declared.node.settle.Birth.{Birth}
-use Rattle.hpx_node.specs.Births.{IsBirth, birth_of, ids_of}
+use Rattle.hpx_tables.specs.declared.births.Birth.{Birth}
+use Rattle.hpx_tables.specs.Births.{IsBirth, birth_of, ids_of}
 use Rattle.hpx_node.specs.Commits.{IsStock}
-use Rattle.hpx_node.specs.Fit.{IsFitDue}
-use Rattle.hpx_node.specs.Jobs.{IsFitJob}
+use Rattle.hpx_tables.specs.Fit.{IsFitDue}
+use Rattle.hpx_tables.specs.Jobs.{IsFitJob}
 use Rattle.hpx_node.specs.Seen.{bare_due}
 use Rattle.hpx_node.specs.Stands.{rules_of}
-use Rattle.hpx_node.specs.Tables.{Tables}
+use Rattle.hpx_tables.specs.Tables.{Tables}
 use Rattle.hpx_node.proofs.BareHands.{due-bare, state-bare, blind_of}
 use Rattle.hpx_node.proofs.FilledDue.{managed_append, due_same, length-filled, state_filled, due_fit, due_credit, same_ids, dealt_credit, unnamed_credit, managed_named, plain_named, weigh_one, each_weighs, weigh_managed}
 use Rattle.hpx_node.proofs.HandFit.{hand_credit, fit_due, state_credit}

@@ -12,13 +12,13 @@ use Rattle.hpx_part.specs.View.{View}
 use Rattle.hpx_part.specs.Shows.{IsWeight}
 use Rattle.hpx_journal.specs.Entries.{move_to, target_of}
 use Rattle.hpx_journal.specs.Frames.{acts_in}
-use Rattle.hpx_node.specs.Fit.{IsFit}
-use Rattle.hpx_node.specs.Pending.{asking_of, refusals_of}
-use Rattle.hpx_node.specs.Tables.{Tables, messages, fired_acts}
+use Rattle.hpx_tables.specs.Fit.{IsFit}
+use Rattle.hpx_tables.specs.Pending.{asking_of, refusals_of}
+use Rattle.hpx_tables.specs.Tables.{Tables, messages, fired_acts}
 use Rattle.hpx_node.specs.Seen.{bare_standing, counted, view}
 use Rattle.hpx_node.specs.Changes.{Posts}
-use Rattle.hpx_node.specs.Kept.{stands_here}
-use Rattle.hpx_node.proofs.Alls.{all_append}
+use Rattle.hpx_tables.specs.Kept.{stands_here}
+use Rattle.hpx_tables.proofs.Alls.{all_append}
 use Rattle.hpx_node.proofs.Sums.{weigh, tokens_sum, weigh_last, view_sum}
 use Rattle.hpx_node.proofs.Steps.{Tells, same_refusals}
 use Rattle.hpx_node.specs.Routes.{may_stay}

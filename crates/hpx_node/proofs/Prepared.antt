@@ -10,9 +10,9 @@ use Rattle.hpx_value.specs.declared.outcome.Make.{Make}
 use Rattle.hpx_journal.specs.Data.{Act, Outcome, Cont}
 use Rattle.hpx_commit.specs.Deals.{AreWithin, places_named}
 use Rattle.hpx_commit.proofs.Naming.{places_within}
-use Rattle.hpx_node.specs.Births.{birth_of, ids_of}
-use Rattle.hpx_node.specs.declared.node.settle.Birth.{Birth}
-use Rattle.hpx_node.specs.Jobs.{IsFitJob}
+use Rattle.hpx_tables.specs.Births.{birth_of, ids_of}
+use Rattle.hpx_tables.specs.declared.births.Birth.{Birth}
+use Rattle.hpx_tables.specs.Jobs.{IsFitJob}
 
 pub ids_long : (here n log : ℕ) (xs : List Birth) → length (ids_of here n log xs) ≡ length xs
 ids_long here n log [] = refl
@@ -53,6 +53,3 @@ module _ (n : ℕ) (job : Job) (out : Outcome) (laws : KeepsLaws n job.kind job.
   pub hand_within : (here births log : ℕ) → AreWithin (hand_ids job.state job.action (ids_of here births log (map birth_of out.makes)))
       (places_named job.state job.action (ids_of here births log (map birth_of out.makes)) out)
   hand_within here births log = places_within job.state job.action (ids_of here births log (map birth_of out.makes)) out (made_long here births log out.makes) laws.names.places
-
-pub some_more : {a n : ℕ} → a < n → 1 ≤ n
-some_more h = omega arith

@@ -10,16 +10,17 @@ use Rattle.hpx_part.specs.Data.{Entry, Done}
 use Rattle.hpx_part.specs.Parts.{at_all}
 use Rattle.hpx_commit.specs.Deals.{unnamed}
 use Rattle.hpx_commit.specs.Stocks.{Stock}
-use Rattle.hpx_node.specs.declared.node.settle.Birth.{Birth}
-use Rattle.hpx_node.specs.Awaited.{answered_by}
-use Rattle.hpx_node.specs.Births.{birth_of, births_of, objects_of, records_of, ids_of}
-use Rattle.hpx_node.specs.Commits.{IsStock, splits_from}
-use Rattle.hpx_node.specs.Fit.{IsFit}
-use Rattle.hpx_node.specs.Jobs.{IsFitJob}
+use Rattle.hpx_tables.specs.declared.births.Birth.{Birth}
+use Rattle.hpx_tables.specs.Awaited.{answered_by}
+use Rattle.hpx_tables.specs.Births.{birth_of, births_of, objects_of, records_of, ids_of}
+use Rattle.hpx_tables.specs.Splits.{splits_from}
+use Rattle.hpx_node.specs.Commits.{IsStock}
+use Rattle.hpx_tables.specs.Fit.{IsFit}
+use Rattle.hpx_tables.specs.Jobs.{IsFitJob}
 use Rattle.hpx_node.specs.Paused.{ArePaused}
-use Rattle.hpx_node.specs.Pending.{Waits}
+use Rattle.hpx_tables.specs.Pending.{Waits}
 use Rattle.hpx_node.specs.Stands.{IsTidy, StandsWith, rules_of}
-use Rattle.hpx_node.specs.Tables.{Tables}
+use Rattle.hpx_tables.specs.Tables.{Tables}
 use Rattle.hpx_node.proofs.Planned.{planned_state, planned_due, planned}
 use Rattle.hpx_node.proofs.Settled.{Plans, IsEnding, stands_settled}
 use Rattle.hpx_node.proofs.TidyPlan.{tidy_settled}

@@ -14,10 +14,10 @@ use Rattle.hpx_commit.specs.Deals.{is_managed, log_of}
 use Rattle.hpx_commit.specs.Stocks.{Lasting}
 use Rattle.hpx_node.specs.Commits.{IsStock, made_of}
 use Rattle.hpx_node.specs.Paused.{first_stock, IsShort, IsPaused}
-use Rattle.hpx_node.specs.Pending.{Waits, ids_named, is_asked, awaits, is_asked_for, waits_for_one, refilled, hand_with, put_for}
+use Rattle.hpx_tables.specs.Pending.{Waits, ids_named, is_asked, awaits, is_asked_for, waits_for_one, refilled, hand_with, put_for}
 use Rattle.hpx_node.specs.Resumes.{stock_with, is_last}
-use Rattle.hpx_node.specs.Strange.{brings_right}
-use Rattle.hpx_node.specs.Tables.{Tables}
+use Rattle.hpx_tables.specs.Strange.{brings_right}
+use Rattle.hpx_tables.specs.Tables.{Tables}
 use Rattle.hpx_node.proofs.Continued.{less_long, none_some, off}
 use Rattle.hpx_node.proofs.HasCome.{come_stock, come_long, come_short, waits_managed}
 use Rattle.hpx_node.proofs.Refilled.{still_paused}

@@ -12,10 +12,10 @@ use Rattle.hpx_journal.specs.Bags.{without}
 use Rattle.hpx_journal.specs.Data.{Id, Parcel, Apply, Return, Ask, Give, Cached, Move, Go, Shipped, Arrived, Free}
 use Rattle.hpx_journal.specs.Local.{is_standing}
 use Rattle.hpx_part.specs.Data.{Standing}
-use Rattle.hpx_node.specs.Strange.{is_live}
+use Rattle.hpx_tables.specs.Strange.{is_live}
 use Rattle.hpx_node.specs.Recounts.{Recounts, Leaves}
-use Rattle.hpx_node.specs.Tables.{Tables}
-use Rattle.hpx_node.proofs.Alls.{some_same, find_passes}
+use Rattle.hpx_tables.specs.Tables.{Tables}
+use Rattle.hpx_tables.proofs.Alls.{some_same, find_passes}
 use Rattle.hpx_node.proofs.Returned.{live_record}
 
 -- ---- records

@@ -23,14 +23,15 @@ use Rattle.hpx_part.proofs.Credit.{token_own}
 use Rattle.hpx_part.proofs.Lists.{sum_middle}
 use Rattle.hpx_part.proofs.Keyed.{counts_of, counts_true, any_counted, counted_any, split_get, find_step, get_slice_get}
 use Rattle.hpx_commit.specs.Deals.{is_managed, log_of}
-use Rattle.hpx_node.specs.Pending.{awaits, Asked, Waits, action_of, fired_of, ids_named, own_ids, is_asked, asking_of, refusal_of, refusals_of, is_asked_for, refilled, Refills}
+use Rattle.hpx_tables.specs.declared.pending.Asked.{Asked}
+use Rattle.hpx_tables.specs.Pending.{awaits, Waits, action_of, fired_of, ids_named, own_ids, is_asked, asking_of, refusal_of, refusals_of, is_asked_for, refilled, Refills}
 use Rattle.hpx_node.specs.Paused.{Apart, whole_stock, IsShort, HasSplit, IsPaused, ArePaused}
-use Rattle.hpx_node.specs.Tables.{Tables, fired_acts}
+use Rattle.hpx_tables.specs.Tables.{Tables, fired_acts}
 use Rattle.hpx_node.specs.Seen.{tokens, asks, view}
 use Rattle.hpx_node.specs.Stands.{IsTidy, rules_of}
-use Rattle.hpx_node.specs.Strange.{brings_right}
+use Rattle.hpx_tables.specs.Strange.{brings_right}
 use Rattle.hpx_node.specs.Handled.{in_hand, TakesUp, Handles}
-use Rattle.hpx_node.proofs.Alls.{some_same, find_passes, all_at, all_remove, all_set}
+use Rattle.hpx_tables.proofs.Alls.{some_same, find_passes, all_at, all_remove, all_set}
 use Rattle.hpx_node.proofs.HandPuts.{put_there, put_elsewhere, put_names, put_weighs, put_behind, put_asked}
 use Rattle.hpx_node.proofs.GivenUp.{weigh_none, weigh_some, owed_some}
 use Rattle.hpx_node.proofs.InHand.{hand_sum}
@@ -517,42 +518,3 @@ gives_handles act_of t id entry i spare w w' tidy credit brings there alone refi
       | inl a ↦ inl (eqb-true (log_of id.log) 0 a)
       | inr b ↦ inr (eqb-true (log_of id.log) t.profile.credit_log b)
     ]) refl refills.first alone)
-
--- what passes is found
-pub any_found : {X : Type 0} (p : X → Bool) (xs : List X) → list_any p xs ≡ true → find p xs ≡ None → ⊥
-any_found p [] h none = cc
-any_found p (z ∷ xs) h none = elim (cases_Bool (p z)) [
-  | inl t ↦ let e : Some z ≡ None = rw t at none in cc
-  | inr f ↦ any_found p xs (rw f at h) (rw f at none)
-]
-
-pub refills_by : (w w' : Waits) (id : Id) (entry k : ℕ) (ask : Asked) → slice_get w.asked k ≡ Some ask → find (is_asked_for w id entry) w.asked ≡ Some ask
-    → w' ≡ record w { hand = set w.hand ask.place id; asked = remove w.asked k; refused = w'.refused }
-    → w'.refused ≡ cond (log_of id.log == 0) (Some (bare id)) w.refused → Refills id entry w w'
-refills_by w w' id entry k ask there found rest refused = record {
-  k = k;
-  ask = ask;
-  first = found;
-  there = there;
-  for = find_passes (is_asked_for w id entry) w.asked ask found;
-  now = rest ∙ ap (λ o. record w { hand = set w.hand ask.place id; asked = remove w.asked k; refused = o }) refused;
-}
-
-pub refused_is : (id : Id) (o : Option Id) → log_of id.log ≡ 0 → Some (bare id) ≡ cond (log_of id.log == 0) (Some (bare id)) o
-refused_is id o e = sym (ap (λ b. cond b (Some (bare id)) o) (eq-eqb (log_of id.log) 0 e))
-
-pub refused_not : (id : Id) (o : Option Id) → (log_of id.log ≡ 0 → ⊥) → o ≡ cond (log_of id.log == 0) (Some (bare id)) o
-refused_not id o ne = elim (cases_Bool (log_of id.log == 0)) [
-  | inl t ↦ absurd (ne (eqb-true (log_of id.log) 0 t))
-  | inr f ↦ sym (ap (λ b. cond b (Some (bare id)) o) f)
-]
-
--- the first that passes, behind those that do not
-pub found_on : {X : Type 0} (p : X → Bool) (xs ys : List X) (k : ℕ) (d : X) → ys ≡ xs → k < length ys → p (get_or ys k d) ≡ true
-    → find p xs ≡ find p (drop k xs) → find p xs ≡ slice_get xs k
-found_on p xs ys k d same lt passes past =
-    let less : k < length xs = subst (λ (zs : List _). k < length zs) same lt in
-    let is : p (get_or xs k d) ≡ true = subst (λ (zs : List _). p (get_or zs k d) ≡ true) same passes in
-    past
-    ∙ (find_step p xs k d less
-    ∙ (ap (λ b. cond b (Some (get_or xs k d)) (find p (drop (k + 1) xs))) is ∙ sym (get_slice_get xs k d less)))

@@ -15,9 +15,9 @@ use Rattle.hpx_part.specs.Data.{Standing, Token}
 use Rattle.hpx_part.proofs.Keyed.{split_get, split_set}
 use Rattle.hpx_part.proofs.Lists.{sum_middle}
 use Rattle.hpx_node.specs.Paused.{bare_names, Apart, Single, IsPaused, ArePaused}
-use Rattle.hpx_node.specs.Pending.{Waits, action_of, fired_of, own_ids, is_asked, refusal_of}
-use Rattle.hpx_node.specs.Tables.{Tables}
-use Rattle.hpx_node.proofs.Alls.{all_append, all_remove, get_before}
+use Rattle.hpx_tables.specs.Pending.{Waits, action_of, fired_of, own_ids, is_asked, refusal_of}
+use Rattle.hpx_tables.specs.Tables.{Tables}
+use Rattle.hpx_tables.proofs.Alls.{all_append, all_remove, get_before}
 use Rattle.hpx_node.proofs.Bare.{bare_middle}
 use Rattle.hpx_node.proofs.Begun.{apart_alone, bare_counts}
 use Rattle.hpx_node.proofs.LaterIds.{bare_none}

@@ -21,13 +21,13 @@ use Rattle.hpx_part.specs.Shows.{Leads}
 use Rattle.hpx_part.proofs.CreditRows.{follows_returned}
 use Rattle.hpx_part.proofs.Credit.{token_own}
 use Rattle.hpx_part.proofs.Keyed.{counts_of, counts_true, any_counted, counted_any}
-use Rattle.hpx_node.specs.Pending.{asking_of, refusals_of}
-use Rattle.hpx_node.specs.Tables.{Tables}
+use Rattle.hpx_tables.specs.Pending.{asking_of, refusals_of}
+use Rattle.hpx_tables.specs.Tables.{Tables}
 use Rattle.hpx_node.specs.Seen.{counted, parcel_tokens, tokens, asks, frees, view}
 use Rattle.hpx_node.specs.Stands.{IsTidy}
 use Rattle.hpx_node.specs.Changes.{Mails}
-use Rattle.hpx_node.specs.Kept.{count_here}
-use Rattle.hpx_node.specs.Strange.{is_live}
+use Rattle.hpx_tables.specs.Kept.{count_here}
+use Rattle.hpx_tables.specs.Strange.{is_live}
 use Rattle.hpx_node.specs.Handled.{returned, in_hand, TakesUp, Handles}
 use Rattle.hpx_node.proofs.Messages.{mails_tokens, mails_asks}
 use Rattle.hpx_node.proofs.Sums.{view_sum}

@@ -10,11 +10,12 @@ use Rattle.hpx_journal.specs.Data.{Id, Act, Parcel, Apply, Move, Shipped, Free}
 use Rattle.hpx_journal.specs.Entries.{target_of}
 use Rattle.hpx_journal.specs.Frames.{travels_in}
 use Rattle.hpx_journal.proofs.Same.{and_true}
-use Rattle.hpx_node.specs.Fit.{IsFit}
-use Rattle.hpx_node.specs.Pending.{awaits}
-use Rattle.hpx_node.specs.Tables.{Tables, messages}
-use Rattle.hpx_node.specs.Kept.{stands_here, waits_here, held_here, count_here, credit_in, ids_held}
-use Rattle.hpx_node.specs.Strange.{Broken, breaks, is_far, is_live, is_to_here, brings_right, broken_return, broken_give, broken_go, broken_object, broken_landed, broken_free, broken_near, broken}
+use Rattle.hpx_tables.specs.Fit.{IsFit}
+use Rattle.hpx_tables.specs.Pending.{awaits}
+use Rattle.hpx_tables.specs.Tables.{Tables, messages}
+use Rattle.hpx_tables.specs.Kept.{stands_here, waits_here, held_here, count_here, credit_in, ids_held}
+use Rattle.hpx_tables.specs.declared.strange.Broken.{Broken}
+use Rattle.hpx_tables.specs.Strange.{breaks, is_far, is_live, is_to_here, brings_right, broken_return, broken_give, broken_go, broken_object, broken_landed, broken_free, broken_near, broken}
 use Rattle.hpx_node.specs.Handled.{with_first}
 
 pub applied_fit : (act : Act) → IsParcel (Apply act) → IsFit act

@@ -12,11 +12,11 @@ use Rattle.hpx_journal.specs.Data.{Id, Act, Parcel, Apply, Return, Ask, Give, Ca
 use Rattle.hpx_journal.specs.Entries.{target_of, move_to, is_movable, place_in}
 use Rattle.hpx_journal.specs.Rows.{is_to}
 use Rattle.hpx_journal.proofs.Same.{and_true}
-use Rattle.hpx_node.specs.Fit.{parcel_for}
+use Rattle.hpx_tables.specs.Fit.{parcel_for}
 use Rattle.hpx_node.specs.Frames.{MayGoTo, IsForHere}
-use Rattle.hpx_node.specs.Tables.{Tables}
-use Rattle.hpx_node.specs.Kept.{stands_here, record_here, count_here}
-use Rattle.hpx_node.specs.Strange.{breaks, are_far, is_far_act, moves_far, is_far, is_live, is_lost, is_to_here, broken_act, broken_move, broken_near}
+use Rattle.hpx_tables.specs.Tables.{Tables}
+use Rattle.hpx_tables.specs.Kept.{stands_here, record_here, count_here}
+use Rattle.hpx_tables.specs.Strange.{breaks, are_far, is_far_act, moves_far, is_far, is_live, is_lost, is_to_here, broken_act, broken_move, broken_near}
 use Rattle.hpx_node.specs.Routes.{is_other, moves_on, may_stay, with_mail, with_return, with_returns, place_or_0, with_free, given_here, ids_in, with_accepted, with_act, DealsWith, Accepts}
 use Rattle.hpx_node.specs.Idle.{brings}
 use Rattle.hpx_node.proofs.Bare.{target-bare}

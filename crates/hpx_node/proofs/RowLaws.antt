@@ -19,7 +19,7 @@ use Rattle.hpx_part.specs.Data.{Local, Entry, Event, Born, Given, Count, Returne
 use Rattle.hpx_parcel.specs.Reading.{is_least as is_credit_least}
 use Rattle.hpx_node.specs.Idle.{Refusals, FreesOf, frees_one, is_refusal, is_least, weighed, goes, causes, one_if}
 use Rattle.hpx_node.specs.Stands.{StandsWith}
-use Rattle.hpx_node.specs.Tables.{Tables, IsPassive}
+use Rattle.hpx_tables.specs.Tables.{Tables, IsPassive}
 use Rattle.hpx_node.proofs.IdleSince.{passive_unpaid}
 
 -- a sum over entries, where each counts what two tests count

@@ -11,17 +11,18 @@ use Rattle.hpx_part.specs.Data.{Entry, Done, Standing}
 use Rattle.hpx_part.specs.Parts.{at_all}
 use Rattle.hpx_commit.specs.Stocks.{Stock}
 use Rattle.hpx_node.specs.declared.node.finish.Prepared.{Prepared}
-use Rattle.hpx_node.specs.Awaited.{answered_by}
-use Rattle.hpx_node.specs.Births.{Makes, births_of, objects_of, ids_of}
+use Rattle.hpx_tables.specs.Awaited.{answered_by}
+use Rattle.hpx_tables.specs.Births.{Makes, births_of, objects_of, ids_of}
 use Rattle.hpx_node.specs.Changes.{AreAlike}
-use Rattle.hpx_node.specs.Commits.{splits_from, written, ups, committed, committed_from, own_stock, committed_to, IsPrepared, Commits}
-use Rattle.hpx_node.specs.Fit.{IsFit}
-use Rattle.hpx_node.specs.Jobs.{IsAt, IsFitJob}
+use Rattle.hpx_tables.specs.Splits.{splits_from}
+use Rattle.hpx_node.specs.Commits.{written, ups, committed, committed_from, own_stock, committed_to, IsPrepared, Commits}
+use Rattle.hpx_tables.specs.Fit.{IsFit}
+use Rattle.hpx_tables.specs.Jobs.{IsAt, IsFitJob}
 use Rattle.hpx_node.specs.Paused.{ArePaused}
 use Rattle.hpx_node.specs.Routes.{with_left}
 use Rattle.hpx_node.specs.Stands.{IsTidy, StandsWith, rules_of}
-use Rattle.hpx_node.specs.Tables.{Tables}
-use Rattle.hpx_node.proofs.Alls.{all_remove, some_same}
+use Rattle.hpx_tables.specs.Tables.{Tables}
+use Rattle.hpx_tables.proofs.Alls.{all_remove, some_same}
 use Rattle.hpx_node.proofs.Committing.{settled_stands, settled_here, settled_serial, settled_running, all_written, all_committed}
 use Rattle.hpx_node.proofs.Ending.{runs_ending, runs_paused}
 use Rattle.hpx_node.proofs.Settled.{IsEnding}

@@ -6,7 +6,7 @@ use Rattle.hpx_journal.specs.Entries.{Rules}
 use Rattle.hpx_journal.specs.Laws.{entry_at}
 use Rattle.hpx_part.specs.Data.{Event, Entry}
 use Rattle.hpx_part.specs.Parts.{at_all}
-use Rattle.hpx_node.specs.Tables.{Tables}
+use Rattle.hpx_tables.specs.Tables.{Tables}
 use Rattle.hpx_node.specs.Stands.{IsTidy, StandsWith, Stands}
 use Rattle.hpx_node.specs.Changes.{Writes}
 

@@ -7,7 +7,7 @@ use Rattle.hpx_commit.specs.Deals.{unnamed}
 use Rattle.hpx_commit.specs.Stocks.{Stock}
 use Rattle.hpx_node.specs.declared.node.finish.Prepared.{Prepared}
 use Rattle.hpx_node.specs.Commits.{own_stock, due_dealt, with_settled, IsPrepared, Commits, Ends}
-use Rattle.hpx_node.specs.Tables.{Tables}
+use Rattle.hpx_tables.specs.Tables.{Tables}
 use Rattle.hpx_node.proofs.Left.{left_spared}
 
 pub prepared_same : (t t' : Tables) (job : Job) (out : Outcome) (p : Prepared) → t' ≡ record t { spare = t'.spare } → IsPrepared t job out p

@@ -25,21 +25,21 @@ use Rattle.hpx_part.proofs.ObjectRows.{follows_done}
 use Rattle.hpx_part.proofs.Keyed.{split_get, split_set}
 use Rattle.hpx_commit.specs.Deals.{is_managed, named, shared_from, unnamed_from, Lasts}
 use Rattle.hpx_commit.specs.Stocks.{Stock}
-use Rattle.hpx_node.specs.declared.node.settle.Birth.{Birth}
-use Rattle.hpx_node.specs.Pending.{Waits, fired_of, asking_of, refusals_of}
-use Rattle.hpx_node.specs.Tables.{Tables}
+use Rattle.hpx_tables.specs.declared.births.Birth.{Birth}
+use Rattle.hpx_tables.specs.Pending.{Waits, fired_of, asking_of, refusals_of}
+use Rattle.hpx_tables.specs.Tables.{Tables}
 use Rattle.hpx_node.specs.Seen.{bare_standing, bare_due, counted, view}
 use Rattle.hpx_node.specs.Stands.{IsTidy, StandsWith}
-use Rattle.hpx_node.specs.Awaited.{answered_by}
-use Rattle.hpx_node.specs.Commits.{splits_from}
-use Rattle.hpx_node.specs.Births.{IsBirth, birth_of, births_of, objects_of, records_of, ids_of}
+use Rattle.hpx_tables.specs.Awaited.{answered_by}
+use Rattle.hpx_tables.specs.Splits.{splits_from}
+use Rattle.hpx_tables.specs.Births.{IsBirth, birth_of, births_of, objects_of, records_of, ids_of}
 use Rattle.hpx_node.proofs.Bare.{target-bare, found-bare}
 use Rattle.hpx_node.proofs.Bearing.{Bears, Unborn, bears}
 use Rattle.hpx_node.proofs.Cover.{tidy_covers}
 use Rattle.hpx_node.proofs.MadeLists.{object_of, fresh_ids, bare_made, find_front, are_made, set_front}
 use Rattle.hpx_node.proofs.Ended.{LeavesActs, births_leave, splits_leave, Answers, answers_done}
 use Rattle.hpx_node.proofs.Splits.{Has, Halves, splits_lead}
-use Rattle.hpx_node.proofs.Alls.{all_append}
+use Rattle.hpx_tables.proofs.Alls.{all_append}
 use Rattle.hpx_node.proofs.Stays.{Stays, births_stay, births_long, splits_stay, stays_out, stays_in}
 use Rattle.hpx_node.proofs.Steps.{Tells, same_refusals, tells_leads, tells_covered, stands_then}
 use Rattle.hpx_node.proofs.IdleRows.{IsIdle, births_idle, splits_idle, done_idle}

@@ -21,9 +21,10 @@ use Rattle.hpx_commit.proofs.Ahead.{ahead_is}
 use Rattle.hpx_commit.proofs.Deals.{named_cons, named_hit, named_miss}
 use Rattle.hpx_commit.proofs.Stripped.{short_lasting, short_once, short_least, short_each, stripped_places, stripped_else, stripped_at, stripped_behind, stripped_sums}
 use Rattle.hpx_node.specs.Asks.{own_many}
-use Rattle.hpx_node.specs.Jobs.{IsFitJob}
+use Rattle.hpx_tables.specs.Jobs.{IsFitJob}
 use Rattle.hpx_node.specs.Paused.{HasSplit, IsPaused}
-use Rattle.hpx_node.specs.Pending.{Asked, is_asked, asked_at, waits_with}
+use Rattle.hpx_tables.specs.declared.pending.Asked.{Asked}
+use Rattle.hpx_tables.specs.Pending.{is_asked, asked_at, waits_with}
 use Rattle.hpx_node.proofs.FilledDue.{weigh_one, each_weighs}
 use Rattle.hpx_node.proofs.GivenUp.{weigh_none}
 use Rattle.hpx_node.proofs.HandPuts.{put_there, put_elsewhere, put_names, put_asked, put_back}

@@ -9,10 +9,10 @@ use Rattle.hpx_journal.specs.Local.{is_standing}
 use Rattle.hpx_journal.specs.Roots.{root, roots, roots_of_first}
 use Rattle.hpx_journal.proofs.Same.{same_object-true, same_object-sym}
 use Rattle.hpx_part.specs.Data.{Standing}
-use Rattle.hpx_node.specs.declared.node.settle.Birth.{Birth}
-use Rattle.hpx_node.specs.Births.{IsBirth, objects_of}
+use Rattle.hpx_tables.specs.declared.births.Birth.{Birth}
+use Rattle.hpx_tables.specs.Births.{IsBirth, objects_of}
 use Rattle.hpx_node.specs.Paused.{Single}
-use Rattle.hpx_node.proofs.Alls.{some_same}
+use Rattle.hpx_tables.proofs.Alls.{some_same}
 use Rattle.hpx_node.proofs.MadeLists.{Drawn, false_if}
 
 -- ---- finding nothing

@@ -17,10 +17,10 @@ use Rattle.hpx_commit.proofs.Deals.{named_cons, all_last_seen}
 use Rattle.hpx_commit.proofs.Short.{ahead_short}
 use Rattle.hpx_commit.proofs.Stripped.{short_once}
 use Rattle.hpx_node.specs.Asks.{own_many, hand_before, split_stock, short_before, lacking}
-use Rattle.hpx_node.specs.Births.{birth_of, ids_of}
+use Rattle.hpx_tables.specs.Births.{birth_of, ids_of}
 use Rattle.hpx_node.specs.Commits.{made_of, hand_of, places_in_hand}
-use Rattle.hpx_node.specs.Jobs.{IsFitJob}
-use Rattle.hpx_node.specs.Tables.{Tables}
+use Rattle.hpx_tables.specs.Jobs.{IsFitJob}
+use Rattle.hpx_tables.specs.Tables.{Tables}
 use Rattle.hpx_node.proofs.Prepared.{hand_within}
 use Rattle.hpx_node.proofs.ShortHand.{managed_there}
 use Rattle.hpx_node.proofs.SplitHand.{fits, is_high}

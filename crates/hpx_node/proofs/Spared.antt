@@ -11,10 +11,11 @@ use Rattle.hpx_part.specs.Parts.{at_all}
 use Rattle.hpx_parcel.specs.Reading.{parcel_of}
 use Rattle.std.specs.List.{AllByRecursion}
 use Rattle.hpx_node.specs.Frames.{IsForHere}
-use Rattle.hpx_node.specs.Tables.{Tables}
+use Rattle.hpx_tables.specs.Tables.{Tables}
 use Rattle.hpx_node.specs.Changes.{OnlySpare, Writes}
 use Rattle.hpx_node.specs.Stands.{StandsWith, rules_of}
-use Rattle.hpx_node.specs.Strange.{Broken, breaks, is_far, broken, broken_near}
+use Rattle.hpx_tables.specs.declared.strange.Broken.{Broken}
+use Rattle.hpx_tables.specs.Strange.{breaks, is_far, broken, broken_near}
 use Rattle.hpx_node.specs.Handled.{is_own, effects, kind_of, Takes, Clears}
 use Rattle.hpx_node.specs.Next.{Continues}
 use Rattle.hpx_node.proofs.Same.{writes_then}

@@ -8,9 +8,9 @@ use Rattle.hpx_journal.specs.Entries.{target_of}
 use Rattle.hpx_journal.specs.Local.{is_standing}
 use Rattle.hpx_part.specs.Data.{Standing}
 use Rattle.hpx_agas.specs.declared.record.Record.{Record}
-use Rattle.hpx_node.specs.Fit.{parcel_for}
-use Rattle.hpx_node.specs.Kept.{count_here}
-use Rattle.hpx_node.specs.Tables.{Tables}
+use Rattle.hpx_tables.specs.Fit.{parcel_for}
+use Rattle.hpx_tables.specs.Kept.{count_here}
+use Rattle.hpx_tables.specs.Tables.{Tables}
 use Rattle.hpx_node.specs.Routes.{is_other, may_stay, with_mail, with_act, with_return, with_returns, place_or_0, with_free, given_here, ids_in, DealsWith, Accepts}
 
 -- the same tables but for memory, records and objects

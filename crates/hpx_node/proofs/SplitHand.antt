@@ -15,9 +15,9 @@ use Rattle.hpx_commit.proofs.Ahead.{ahead_is}
 use Rattle.hpx_commit.proofs.AheadSums.{ahead_sums}
 use Rattle.hpx_commit.proofs.Short.{place_bare, place_some, ahead_front, ahead_lasts, short_is}
 use Rattle.hpx_node.specs.Asks.{own_many}
-use Rattle.hpx_node.specs.Jobs.{IsFitJob}
-use Rattle.hpx_node.specs.Pending.{is_asked}
-use Rattle.hpx_node.proofs.Alls.{all_append}
+use Rattle.hpx_tables.specs.Jobs.{IsFitJob}
+use Rattle.hpx_tables.specs.Pending.{is_asked}
+use Rattle.hpx_tables.proofs.Alls.{all_append}
 use Rattle.hpx_node.proofs.FilledDue.{weigh_one, each_weighs}
 use Rattle.hpx_node.proofs.GivenUp.{weigh_none}
 use Rattle.hpx_node.proofs.Sums.{weigh, weigh_append}

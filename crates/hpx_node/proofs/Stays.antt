@@ -7,10 +7,10 @@ use Rattle.hpx_journal.specs.Laws.{outs, ins, outs_by}
 use Rattle.hpx_part.specs.Data.{Event}
 use Rattle.hpx_part.specs.Parts.{at_all}
 use Rattle.hpx_commit.specs.Deals.{half, named}
-use Rattle.hpx_node.specs.declared.node.settle.Birth.{Birth}
-use Rattle.hpx_node.specs.Births.{births_of}
-use Rattle.hpx_node.specs.Commits.{cuts, splits_from}
-use Rattle.hpx_node.proofs.Alls.{all_append}
+use Rattle.hpx_tables.specs.declared.births.Birth.{Birth}
+use Rattle.hpx_tables.specs.Births.{births_of}
+use Rattle.hpx_tables.specs.Splits.{cuts, splits_from}
+use Rattle.hpx_tables.proofs.Alls.{all_append}
 
 -- it sends none and takes none
 abbrev pub Stays : Event → Type 0

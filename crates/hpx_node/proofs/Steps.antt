@@ -19,9 +19,9 @@ use Rattle.hpx_part.specs.Shows.{SameTokens, Leads, same_refusal}
 use Rattle.hpx_part.specs.Parts.{at_boot, at_all}
 use Rattle.hpx_part.proofs.Grown.{grow}
 use Rattle.hpx_part.proofs.Weaken.{weaker_leads}
-use Rattle.hpx_node.specs.Tables.{Tables}
+use Rattle.hpx_tables.specs.Tables.{Tables}
 use Rattle.hpx_node.specs.Seen.{view}
-use Rattle.hpx_node.specs.Awaited.{is_answer}
+use Rattle.hpx_tables.specs.Awaited.{is_answer}
 use Rattle.hpx_node.specs.Idle.{Pays, IsPaid}
 use Rattle.hpx_node.proofs.Ended.{Answers, answered_then}
 use Rattle.hpx_node.proofs.IdleSteps.{paid_more}

@@ -20,15 +20,15 @@ use Rattle.hpx_part.specs.Parts.{at_all}
 use Rattle.hpx_part.proofs.FrameRows.{follows_in}
 use Rattle.hpx_part.proofs.ActRows.{follows_mail}
 use Rattle.hpx_part.proofs.Keyed.{counts_of}
-use Rattle.hpx_node.specs.Tables.{Tables, messages}
+use Rattle.hpx_tables.specs.Tables.{Tables, messages}
 use Rattle.hpx_node.specs.Seen.{asks, frees, frees_in, view}
 use Rattle.hpx_node.specs.Stands.{IsTidy, StandsWith, rules_of}
 use Rattle.hpx_node.specs.Handled.{LetsGo, Handles, with_first, in_hand, effects, up_of, ups, returned, more_here, freed, kind_of, is_own}
-use Rattle.hpx_node.specs.Kept.{count_here}
+use Rattle.hpx_tables.specs.Kept.{count_here}
 use Rattle.hpx_node.proofs.Sums.{view_sum}
 use Rattle.hpx_node.proofs.Steps.{stands_then, stands_by}
 use Rattle.hpx_node.proofs.Right.{no_travel}
-use Rattle.hpx_node.specs.Strange.{broken_near}
+use Rattle.hpx_tables.specs.Strange.{broken_near}
 use Rattle.hpx_parcel.specs.Reading.{parcel_of}
 use Rattle.hpx_node.proofs.InHand.{hand_sum}
 use Rattle.hpx_node.proofs.Returned.{any_behind}

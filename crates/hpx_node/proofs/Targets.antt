@@ -10,10 +10,10 @@ use Rattle.hpx_journal.specs.Local.{is_standing, is_busy, acts_on}
 use Rattle.hpx_journal.proofs.Bools.{false_from}
 use Rattle.hpx_journal.proofs.Same.{same_object-sym, same_object-through}
 use Rattle.hpx_part.specs.Data.{Standing}
-use Rattle.hpx_node.specs.Free.{IsFree, NoneIsFree}
-use Rattle.hpx_node.specs.Pending.{Waits, fired_of}
-use Rattle.hpx_node.specs.Tables.{Tables, fired_acts}
-use Rattle.hpx_node.proofs.Alls.{some_same}
+use Rattle.hpx_tables.specs.Free.{IsFree, NoneIsFree}
+use Rattle.hpx_tables.specs.Pending.{Waits, fired_of}
+use Rattle.hpx_tables.specs.Tables.{Tables, fired_acts}
+use Rattle.hpx_tables.proofs.Alls.{some_same}
 use Rattle.hpx_node.proofs.Pausing.{none_of}
 
 module _ (p : Standing → Bool) where

@@ -12,18 +12,18 @@ use Rattle.hpx_value.specs.Hands.{session}
 use Rattle.hpx_journal.specs.Data.{Id, Act, State, Outcome}
 use Rattle.hpx_journal.proofs.Same.{same_object-true}
 use Rattle.hpx_part.specs.Data.{Standing}
-use Rattle.hpx_node.specs.declared.node.settle.Birth.{Birth}
-use Rattle.hpx_node.specs.Awaited.{answered_by}
-use Rattle.hpx_node.specs.Births.{IsBirth, birth_of, objects_of, records_of}
-use Rattle.hpx_node.specs.Fit.{IsFit, IsKept}
+use Rattle.hpx_tables.specs.declared.births.Birth.{Birth}
+use Rattle.hpx_tables.specs.Awaited.{answered_by}
+use Rattle.hpx_tables.specs.Births.{IsBirth, birth_of, objects_of, records_of}
+use Rattle.hpx_tables.specs.Fit.{IsFit, IsKept}
 use Rattle.hpx_node.specs.Commits.{IsStock}
-use Rattle.hpx_node.specs.Jobs.{IsFitJob}
+use Rattle.hpx_tables.specs.Jobs.{IsFitJob}
 use Rattle.hpx_node.specs.Paused.{Single, ArePaused}
-use Rattle.hpx_node.specs.Pending.{Waits}
+use Rattle.hpx_tables.specs.Pending.{Waits}
 use Rattle.hpx_node.specs.Stands.{IsTidy}
-use Rattle.hpx_node.specs.Tables.{Tables}
+use Rattle.hpx_tables.specs.Tables.{Tables}
 use Rattle.hpx_node.proofs.Homes.{all_stay, records_stay}
-use Rattle.hpx_node.proofs.Alls.{all_append, all_at, all_set, get_before}
+use Rattle.hpx_tables.proofs.Alls.{all_append, all_at, all_set, get_before}
 use Rattle.hpx_journal.specs.Local.{is_standing}
 use Rattle.hpx_node.proofs.Targets.{stand_set, stand_more, targets_set, targets_more}
 use Rattle.hpx_node.proofs.MadeLists.{bare_alone}

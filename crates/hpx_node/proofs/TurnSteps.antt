@@ -18,18 +18,18 @@ use Rattle.hpx_commit.specs.Failures.{action_ids, due_failed}
 use Rattle.hpx_commit.specs.Stocks.{halvings}
 use Rattle.hpx_commit.specs.declared.plan.Plan.{Plan}
 use Rattle.hpx_node.specs.declared.node.finish.Prepared.{Prepared}
-use Rattle.hpx_node.specs.Asks.{first_cuts, asked_events}
+use Rattle.hpx_tables.specs.Splits.{first_cuts, asked_events, cuts}
 use Rattle.hpx_node.specs.Changes.{Writes}
-use Rattle.hpx_node.specs.Commits.{IsPrepared, cuts, written, ups as given_up, committed, committed_from, own_stock}
+use Rattle.hpx_node.specs.Commits.{IsPrepared, written, ups as given_up, committed, committed_from, own_stock}
 use Rattle.hpx_node.specs.Fails.{IsFailure, due_left, ups_left, failed_events}
 use Rattle.hpx_node.specs.Handled.{effects, up_of, ups, returned, more_here, freed}
-use Rattle.hpx_node.specs.Jobs.{IsFitJob}
-use Rattle.hpx_node.specs.Kept.{count_here}
+use Rattle.hpx_tables.specs.Jobs.{IsFitJob}
+use Rattle.hpx_tables.specs.Kept.{count_here}
 use Rattle.hpx_node.specs.Limits.{AddsATurn}
-use Rattle.hpx_node.specs.Pending.{Waits}
+use Rattle.hpx_tables.specs.Pending.{Waits}
 use Rattle.hpx_node.specs.Stands.{IsTidy}
-use Rattle.hpx_node.specs.Tables.{Tables}
-use Rattle.hpx_node.proofs.Alls.{all_append}
+use Rattle.hpx_tables.specs.Tables.{Tables}
+use Rattle.hpx_tables.proofs.Alls.{all_append}
 use Rattle.hpx_node.proofs.FewEntries.{effects_few}
 use Rattle.hpx_node.proofs.OfPrepared.{committed_few, committed_light}
 use Rattle.hpx_node.proofs.PlanWeights.{weighs, weighs_append, weighs_cons, weighs_due, due_weight, ups_light}

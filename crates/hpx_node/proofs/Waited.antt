@@ -18,17 +18,18 @@ use Rattle.hpx_commit.specs.Deals.{AreWithin, AllLast}
 use Rattle.hpx_commit.specs.Stocks.{Stock, ahead, short_places}
 use Rattle.hpx_commit.proofs.Stripped.{short_few}
 use Rattle.hpx_node.specs.declared.node.wait.Before.{Before}
-use Rattle.hpx_node.specs.Asks.{first_cuts, own_many, hand_before, splits_before, split_stock, short_before, lacking, asked_events, with_asks, AsksFor, stock_before, Pauses, IsBefore, Begins}
+use Rattle.hpx_tables.specs.Splits.{first_cuts, asked_events}
+use Rattle.hpx_node.specs.Asks.{own_many, hand_before, splits_before, split_stock, short_before, lacking, with_asks, AsksFor, stock_before, Pauses, IsBefore, Begins}
 use Rattle.hpx_node.specs.Commits.{made_of, hand_of, places_in_hand}
-use Rattle.hpx_node.specs.Fit.{IsKept}
-use Rattle.hpx_node.specs.Jobs.{IsAt, IsFitJob}
-use Rattle.hpx_node.specs.Pending.{Waits, asked_at, waits_with}
+use Rattle.hpx_tables.specs.Fit.{IsKept}
+use Rattle.hpx_tables.specs.Jobs.{IsAt, IsFitJob}
+use Rattle.hpx_tables.specs.Pending.{Waits, asked_at, waits_with}
 use Rattle.hpx_node.specs.Stands.{IsTidy, StandsWith, rules_of}
-use Rattle.hpx_node.specs.Tables.{Tables}
-use Rattle.hpx_node.proofs.Alls.{all_at, some_same}
+use Rattle.hpx_tables.specs.Tables.{Tables}
+use Rattle.hpx_tables.proofs.Alls.{all_at, some_same}
 use Rattle.hpx_node.proofs.Begun.{lent_kept, stands_waiting}
-use Rattle.hpx_node.proofs.Cutting.{at_all_append}
-use Rattle.hpx_node.proofs.FirstCuts.{first_few}
+use Rattle.hpx_tables.proofs.Cutting.{at_all_append}
+use Rattle.hpx_tables.proofs.FirstCuts.{first_few}
 use Rattle.hpx_node.proofs.LaterIds.{bare_none, within_long, hands_long, later_is}
 use Rattle.hpx_node.proofs.PlanLimits.{own_cuts}
 use Rattle.hpx_node.proofs.Prepared.{action_few, hand_within}

@@ -16,18 +16,20 @@ use Rattle.hpx_part.specs.Data.{Entry, Done, Standing, Token}
 use Rattle.hpx_part.specs.Parts.{at_all}
 use Rattle.hpx_commit.specs.Stocks.{Stock}
 use Rattle.hpx_node.specs.declared.node.finish.Prepared.{Prepared}
-use Rattle.hpx_node.specs.Fit.{IsKept, IsFitDue}
-use Rattle.hpx_node.specs.Awaited.{answered_by}
-use Rattle.hpx_node.specs.Births.{IsBirth, Makes, births_of, objects_of, ids_of}
+use Rattle.hpx_tables.specs.Fit.{IsKept, IsFitDue}
+use Rattle.hpx_tables.specs.Awaited.{answered_by}
+use Rattle.hpx_tables.specs.Births.{IsBirth, Makes, births_of, objects_of, ids_of}
 use Rattle.hpx_node.specs.Changes.{AreAlike}
-use Rattle.hpx_node.specs.Commits.{splits_from, written, ups, committed_from, committed_to, IsPrepared, Commits}
+use Rattle.hpx_tables.specs.Splits.{splits_from}
+use Rattle.hpx_node.specs.Commits.{written, ups, committed_from, committed_to, IsPrepared, Commits}
 use Rattle.hpx_node.specs.Paused.{IsPaused, ArePaused}
-use Rattle.hpx_node.specs.Pending.{Waits, action_of, ids_named, own_ids, is_asked, Asked}
+use Rattle.hpx_tables.specs.declared.pending.Asked.{Asked}
+use Rattle.hpx_tables.specs.Pending.{Waits, action_of, ids_named, own_ids, is_asked}
 use Rattle.hpx_node.specs.Resumes.{full_stock, MayResume}
 use Rattle.hpx_node.specs.Routes.{with_left}
 use Rattle.hpx_node.specs.Stands.{IsTidy, StandsWith, rules_of}
-use Rattle.hpx_node.specs.Tables.{Tables}
-use Rattle.hpx_node.proofs.Alls.{all_at, some_same}
+use Rattle.hpx_tables.specs.Tables.{Tables}
+use Rattle.hpx_tables.proofs.Alls.{all_at, some_same}
 use Rattle.hpx_node.proofs.SplitHand.{none_asked}
 use Rattle.hpx_node.proofs.Committing.{settled_stands, settled_here, settled_serial, all_written, all_committed}
 use Rattle.hpx_node.proofs.Ending.{prepared_alone, prepared_single, prepared_plain}

@@ -4,7 +4,7 @@ use Rattle.std.specs.List.{slice_get, remove}
 use Rattle.std.proofs.lemmas.List.{map-append}
 use Rattle.hpx_journal.specs.Data.{Act}
 use Rattle.hpx_part.proofs.Keyed.{split_get}
-use Rattle.hpx_node.specs.Pending.{Waits, action_of, fired_of}
+use Rattle.hpx_tables.specs.Pending.{Waits, action_of, fired_of}
 
 module _ (running : List Act) (pending : List Waits) (i : ℕ) (w : Waits) (there : slice_get pending i ≡ Some w) where
   -- those before it, and those behind

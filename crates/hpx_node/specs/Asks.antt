@@ -1,5 +1,5 @@
 -- A commit that has to wait: what it writes before, what it has in hand then, and what it asks for.
-use Rattle.std.specs.Prelude.{ℕ, zero, suc, List, [], ◌∷◌, ◌++◌, ◌+◌, ◌≡◌, ◌≤◌, map, length, set}
+use Rattle.std.specs.Prelude.{ℕ, List, [], ◌∷◌, ◌++◌, ◌+◌, ◌≡◌, ◌≤◌, map, length, set}
 use Rattle.std.specs.List.{sum_by, count_by, remove}
 use Rattle.hpx_value.specs.Ids.{bare, same_object}
 use Rattle.hpx_value.specs.Values.{bare_state}
@@ -9,27 +9,21 @@ use Rattle.hpx_value.specs.declared.outcome.Due.{Due}
 use Rattle.hpx_parcel.specs.Credits.{credits_of}
 use Rattle.hpx_journal.specs.Data.{Id, Outcome, Ask}
 use Rattle.hpx_journal.specs.Tokens.{owing}
-use Rattle.hpx_part.specs.Data.{Event, Entry, Asked, Token}
-use Rattle.hpx_commit.specs.Deals.{named}
-use Rattle.hpx_commit.specs.Stocks.{Stock, halvings, ahead, short_places, stripped}
-use Rattle.hpx_node.specs.Commits.{cuts, made_of, places_in_hand}
+use Rattle.hpx_part.specs.Data.{Event, Entry, Token}
+use Rattle.hpx_commit.specs.Stocks.{Stock, ahead, short_places, stripped}
+use Rattle.hpx_tables.specs.Splits.{first_cuts, asked_events}
+use Rattle.hpx_node.specs.Commits.{made_of, places_in_hand}
 use Rattle.hpx_node.specs.Idle.{Row, Asks, unpaid}
-use Rattle.hpx_node.specs.Jobs.{IsAt}
-use Rattle.hpx_node.specs.Pending.{Waits, asked_at, waits_with}
+use Rattle.hpx_tables.specs.Jobs.{IsAt}
+use Rattle.hpx_tables.specs.Pending.{Waits, asked_at, waits_with}
 use Rattle.hpx_node.specs.Routes.{with_mail}
 use Rattle.hpx_node.specs.Seen.{waiting, asks, frees, tokens}
 use Rattle.hpx_node.specs.Stands.{IsTidy}
-use Rattle.hpx_node.specs.Tables.{Tables}
+use Rattle.hpx_tables.specs.Tables.{Tables}
 use Rattle.hpx_node.specs.Changes.{Writes}
 use Rattle.hpx_node.specs.declared.node.wait.Before.{Before}
 
 -- ---- splits
-
--- the splits of so many places of a hand, from place p on: each id is halved for those who name it, as far as its log goes
-abbrev pub first_cuts : ℕ → ℕ → List Id → List ℕ → List Event
-first_cuts zero p ids places = []
-first_cuts (suc k) p [] places = []
-first_cuts (suc k) p (id ∷ ids) places = cuts id (suc (halvings id (named places p))) ++ first_cuts k (p + 1) ids places
 
 -- how many ids the object and the action have
 abbrev pub own_many : Job → ℕ
@@ -56,10 +50,6 @@ short_before t job out = short_places (own_many job) (split_stock t job out)
 -- the ids there, which are asked for
 abbrev pub lacking : Tables → Job → Outcome → List Id
 lacking t job out = map (id_at (split_stock t job out).hand) (short_before t job out)
-
--- the entries of these ids
-abbrev pub asked_events : List Id → List Event
-asked_events ids = map (λ id. Asked (bare id)) ids
 
 -- an Ask for each of these ids, to its home: from k, under the numbers behind n
 abbrev pub with_asks : ℕ → ℕ → List Id → Tables → Tables

@@ -6,7 +6,7 @@ use Rattle.hpx_journal.specs.Data.{Act, Parcel}
 use Rattle.hpx_journal.specs.Weights.{Book}
 use Rattle.hpx_part.specs.Data.{Event, Entry, Token}
 use Rattle.hpx_part.specs.Parts.{at_all}
-use Rattle.hpx_node.specs.Tables.{Tables, messages}
+use Rattle.hpx_tables.specs.Tables.{Tables, messages}
 use Rattle.hpx_value.specs.declared.outcome.Due.{Due}
 use Rattle.hpx_node.specs.Stands.{IsTidy}
 use Rattle.hpx_node.specs.Idle.{Row, unpaid, of_act}

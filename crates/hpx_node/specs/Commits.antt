@@ -1,5 +1,5 @@
 -- What a commit writes.
-use Rattle.std.specs.Prelude.{ℕ, zero, suc, false, List, [], ◌∷◌, ◌++◌, ◌+◌, ◌≡◌, ◌≤◌, Some, length, map, set}
+use Rattle.std.specs.Prelude.{ℕ, false, List, [], ◌∷◌, ◌++◌, ◌+◌, ◌≡◌, ◌≤◌, Some, length, map, set}
 use Rattle.std.specs.List.{AllByRecursion, find, slice_get, remove}
 use Rattle.hpx_value.specs.Ids.{bare}
 use Rattle.hpx_value.specs.Hands.{hand_ids, due_of, state_after}
@@ -8,27 +8,16 @@ use Rattle.hpx_parcel.specs.Parcels.{HasRightCredit}
 use Rattle.hpx_journal.specs.Data.{Id, State, Outcome, Due, MessageDue, PrintDue}
 use Rattle.hpx_journal.specs.Entries.{name_of, target_of}
 use Rattle.hpx_journal.specs.Local.{is_standing}
-use Rattle.hpx_part.specs.Data.{Event, Split, Done, Sent, Print, Up, Standing}
-use Rattle.hpx_node.specs.Awaited.{answered_by}
-use Rattle.hpx_node.specs.Births.{birth_of, births_of, objects_of, records_of, ids_of}
-use Rattle.hpx_commit.specs.Deals.{half, log_of, named, places_named, dealt, AllLast, unnamed, filled, unused, filled_due}
+use Rattle.hpx_part.specs.Data.{Event, Done, Sent, Print, Up, Standing}
+use Rattle.hpx_tables.specs.Awaited.{answered_by}
+use Rattle.hpx_tables.specs.Births.{birth_of, births_of, objects_of, records_of, ids_of}
+use Rattle.hpx_commit.specs.Deals.{log_of, places_named, dealt, AllLast, unnamed, filled, unused, filled_due}
 use Rattle.hpx_commit.specs.Stocks.{Stock, SameNames}
 use Rattle.hpx_node.specs.declared.node.finish.Prepared.{Prepared}
-use Rattle.hpx_node.specs.Jobs.{IsAt}
+use Rattle.hpx_tables.specs.Jobs.{IsAt}
 use Rattle.hpx_node.specs.Routes.{with_left}
-use Rattle.hpx_node.specs.Tables.{Tables}
-
--- ---- splits: an id that n name is halved n - 1 times
-
-abbrev pub cuts : Id → ℕ → List Event
-cuts id zero = []
-cuts id (suc zero) = []
-cuts id (suc (suc n)) = Split (bare id) (log_of id.log) ∷ cuts (half id) (suc n)
-
--- those of the hand, from place p on
-abbrev pub splits_from : ℕ → List Id → List ℕ → List Event
-splits_from p [] places = []
-splits_from p (id ∷ ids) places = cuts id (named places p) ++ splits_from (p + 1) ids places
+use Rattle.hpx_tables.specs.Splits.{splits_from}
+use Rattle.hpx_tables.specs.Tables.{Tables}
 
 -- ---- what is due, and what is given up
 

@@ -1,19 +1,18 @@
 -- An action that could get no credit: what it leaves, and what is written.
-use Rattle.std.specs.Prelude.{ℕ, Bool, true, false, List, [], ◌∷◌, ◌++◌, ◌≡◌, ◌≤◌, ◌+◌, ◌==◌, ◌&&◌, ◌||◌, is_some, Option, Some, None, set, take, length}
+use Rattle.std.specs.Prelude.{ℕ, Bool, true, false, List, [], ◌∷◌, ◌++◌, ◌≡◌, ◌≤◌, ◌+◌, Option, Some, None, set, take, length}
 use Rattle.std.specs.List.{find, slice_get, remove}
 use Rattle.hpx_journal.specs.Data.{Id, State, Due, Parcel, Give}
 use Rattle.hpx_journal.specs.Entries.{name_of, target_of}
 use Rattle.hpx_journal.specs.Local.{is_standing}
 use Rattle.hpx_part.specs.Data.{Event, Done, Standing}
 use Rattle.hpx_commit.specs.Failures.{action_ids, state_failed, due_failed, ups_failed}
-use Rattle.hpx_commit.specs.Deals.{log_of}
 use Rattle.hpx_commit.specs.declared.plan.Plan.{Plan}
 use Rattle.hpx_node.specs.declared.node.fail.Failing.{Failing}
-use Rattle.hpx_node.specs.Awaited.{answered_by}
+use Rattle.hpx_tables.specs.Awaited.{answered_by}
 use Rattle.hpx_node.specs.Commits.{written, ups}
-use Rattle.hpx_node.specs.Pending.{Waits, awaits, hand_with}
+use Rattle.hpx_tables.specs.Pending.{Waits, awaits, fails_with, hand_with}
 use Rattle.hpx_node.specs.Routes.{Gives, with_left}
-use Rattle.hpx_node.specs.Tables.{Tables}
+use Rattle.hpx_tables.specs.Tables.{Tables}
 
 -- the state of its object, as it was, with what is left of its credits
 abbrev pub state_left : Waits → State
@@ -63,10 +62,6 @@ pub record Fails (i j : ℕ) (t t' : Tables) : Type 0 where
   })) { spare = t'.spare }
 
 -- ---- a message that brings the last answer
-
--- a commit fails with this id: it waits for nothing else, and this or another has no more credit
-abbrev pub fails_with : Id → Waits → Bool
-fails_with id w = (length w.asked == 1) && ((log_of id.log == 0) || is_some w.refused)
 
 -- so does the first that waits for it
 abbrev pub fails_first : Id → Option Waits → Bool

@@ -9,7 +9,7 @@ use Rattle.hpx_part.specs.Data.{Entry, Event, In, Mail, Count, Returned, Granted
 use Rattle.hpx_part.specs.View.{View}
 use Rattle.hpx_part.specs.Shows.{Leads}
 use Rattle.hpx_commit.specs.Deals.{log_of}
-use Rattle.hpx_node.specs.Tables.{Tables}
+use Rattle.hpx_tables.specs.Tables.{Tables}
 use Rattle.hpx_node.specs.Seen.{view, frees}
 use Rattle.hpx_parcel.specs.Reading.{parcel_of, IsRefused}
 use Rattle.hpx_node.specs.declared.parts.TakeFault.{TakeFault}
@@ -17,8 +17,8 @@ use Rattle.hpx_node.specs.declared.parts.TakeFault.TheVariants as take_faults
 use Rattle.hpx_node.specs.declared.parts.DeskFault.{DeskFault}
 use Rattle.hpx_node.specs.declared.parts.DeskFault.TheVariants as desk_faults
 use Rattle.hpx_node.specs.Changes.{Writes}
-use Rattle.hpx_node.specs.Strange.{broken}
-use Rattle.hpx_node.specs.Kept.{count_here}
+use Rattle.hpx_tables.specs.Strange.{broken}
+use Rattle.hpx_tables.specs.Kept.{count_here}
 use Rattle.hpx_node.specs.Stands.{IsTidy}
 pub use Rattle.hpx_node.specs.Idle.{kind_of}
 use Rattle.hpx_node.specs.Idle.{Pays, PaysFor}

@@ -6,7 +6,7 @@ use Rattle.hpx_journal.specs.Data.{Id, Act, Parcel, Apply, Return, Ask, Give, Ca
 use Rattle.hpx_journal.specs.Entries.{Rules}
 use Rattle.hpx_journal.specs.Laws.{takes_such, is_free_of, is_freed, count_events, freeds}
 use Rattle.hpx_part.specs.Data.{Entry, Event, Line, Fire, Sent, Up, Asked, Given, Count, Refused, Reason, Freed, Mail, Out, In}
-use Rattle.hpx_node.specs.Tables.{Tables, messages}
+use Rattle.hpx_tables.specs.Tables.{Tables, messages}
 
 -- what is counted: messages of a kind, counts of objects, refusals of credit, actions, and what frees one object
 pub data Row : Type 0 where

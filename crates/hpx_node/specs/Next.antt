@@ -8,9 +8,9 @@ use Rattle.hpx_node.specs.declared.node.next.Next.TheVariants as nexts
 use Rattle.hpx_node.specs.Changes.{Writes}
 use Rattle.hpx_node.specs.Commits.{committed_from, Commits}
 use Rattle.hpx_node.specs.Fails.{MustFail, IsFailure, Fails, IsFailingFor, dooms, failed_events, FailsWith}
-use Rattle.hpx_node.specs.Pending.{Waits}
+use Rattle.hpx_tables.specs.Pending.{Waits}
 use Rattle.hpx_node.specs.Resumes.{MayResume, IsReadyFor, completes, full_stock, GoesWith}
-use Rattle.hpx_node.specs.Tables.{Tables}
+use Rattle.hpx_tables.specs.Tables.{Tables}
 
 -- what a message will be followed by
 abbrev pub IsNext : Tables → Parcel → Next → Type 0

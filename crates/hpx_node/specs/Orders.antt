@@ -7,12 +7,12 @@ use Rattle.hpx_journal.specs.Entries.{Rules}
 use Rattle.hpx_journal.specs.Whole.{part}
 use Rattle.hpx_part.specs.Data.{Event, Entry, Out, In}
 use Rattle.hpx_commit.specs.Deals.{log_of}
-use Rattle.hpx_node.specs.declared.parts.Outgoing.{Outgoing}
+use Rattle.hpx_tables.specs.declared.kept.Outgoing.{Outgoing}
 use Rattle.hpx_node.specs.Frames.{IsOnItsWay}
 use Rattle.hpx_node.specs.Idle.{one_if, weighed}
-use Rattle.hpx_node.specs.Pending.{Waits, is_asked_for}
+use Rattle.hpx_tables.specs.Pending.{Waits, is_asked_for}
 use Rattle.hpx_node.specs.Stands.{rules_of}
-use Rattle.hpx_node.specs.Tables.{Tables}
+use Rattle.hpx_tables.specs.Tables.{Tables}
 
 -- ---- a message
 

@@ -11,8 +11,8 @@ use Rattle.hpx_journal.specs.Local.{is_standing, is_busy}
 use Rattle.hpx_part.specs.Data.{Standing}
 use Rattle.hpx_commit.specs.Deals.{AreWithin, places_named}
 use Rattle.hpx_commit.specs.Stocks.{Stock, ahead, Lasting}
-use Rattle.hpx_node.specs.Pending.{Waits, action_of, fired_of, ids_named, own_ids, is_asked}
-use Rattle.hpx_node.specs.Jobs.{IsFitJob}
+use Rattle.hpx_tables.specs.Pending.{Waits, action_of, fired_of, ids_named, own_ids, is_asked}
+use Rattle.hpx_tables.specs.Jobs.{IsFitJob}
 
 -- how many of these ids name o and have no credit
 abbrev pub bare_names : Id → List Id → ℕ

@@ -6,8 +6,8 @@ use Rattle.hpx_agas.specs.declared.record.Record.{Record}
 use Rattle.hpx_journal.specs.Bags.{without}
 use Rattle.hpx_journal.specs.Data.{Id, Parcel, Return, Ask, Free}
 use Rattle.hpx_journal.specs.Local.{is_standing}
-use Rattle.hpx_node.specs.Kept.{record_here}
-use Rattle.hpx_node.specs.Tables.{Tables}
+use Rattle.hpx_tables.specs.Kept.{record_here}
+use Rattle.hpx_tables.specs.Tables.{Tables}
 
 -- the record of o is this one, or there is none; those of all other objects stay
 pub record Recounts (o : Id) (made : Option Record) (t t' : Tables) : Type 0 where

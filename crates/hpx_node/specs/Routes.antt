@@ -9,10 +9,10 @@ use Rattle.hpx_journal.specs.Entries.{target_of, move_to}
 use Rattle.hpx_journal.specs.Local.{is_standing}
 use Rattle.hpx_part.specs.Data.{Standing}
 use Rattle.hpx_agas.specs.declared.record.Record.{Record}
-use Rattle.hpx_node.specs.Fit.{parcel_for}
-use Rattle.hpx_node.specs.Kept.{stands_here, record_here, count_here}
-use Rattle.hpx_node.specs.Pending.{Waits, Refills, awaits}
-use Rattle.hpx_node.specs.Tables.{Tables}
+use Rattle.hpx_tables.specs.Fit.{parcel_for}
+use Rattle.hpx_tables.specs.Kept.{stands_here, record_here, count_here}
+use Rattle.hpx_tables.specs.Pending.{Waits, Refills, awaits}
+use Rattle.hpx_tables.specs.Tables.{Tables}
 
 -- ---- messages
 

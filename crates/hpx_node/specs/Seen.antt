@@ -12,8 +12,8 @@ use Rattle.hpx_journal.specs.Names.{due_ids}
 use Rattle.hpx_part.specs.Data.{Standing, Token, Recorded}
 use Rattle.hpx_part.specs.View.{View}
 use Rattle.hpx_agas.specs.declared.record.Record.{Record}
-use Rattle.hpx_node.specs.Pending.{asking_of, refusals_of}
-use Rattle.hpx_node.specs.Tables.{Tables, messages, fired_acts}
+use Rattle.hpx_tables.specs.Pending.{asking_of, refusals_of}
+use Rattle.hpx_tables.specs.Tables.{Tables, messages, fired_acts}
 
 abbrev pub bare_standing : Standing → Standing
 bare_standing x = record { object = bare x.object; state = bare_state x.state }

@@ -16,13 +16,13 @@ use Rattle.hpx_journal.specs.Whole.{part, run_local, IsClean}
 use Rattle.hpx_journal.specs.Laws.{outs, ins}
 use Rattle.hpx_part.specs.Data.{Entry}
 use Rattle.hpx_part.specs.Parts.{StandsFor, at_boot}
-use Rattle.hpx_node.specs.Fit.{IsFit, IsKept, IsFitDue}
+use Rattle.hpx_tables.specs.Fit.{IsFit, IsKept, IsFitDue}
 use Rattle.hpx_node.specs.Frames.{AreOnTheirWay}
 use Rattle.hpx_node.specs.Paused.{ArePaused}
 use Rattle.hpx_node.specs.Idle.{IsPaid}
-use Rattle.hpx_node.specs.Awaited.{is_answer}
-use Rattle.hpx_node.specs.Kept.{stands_here}
-use Rattle.hpx_node.specs.Tables.{Tables, messages}
+use Rattle.hpx_tables.specs.Awaited.{is_answer}
+use Rattle.hpx_tables.specs.Kept.{stands_here}
+use Rattle.hpx_tables.specs.Tables.{Tables, messages}
 use Rattle.hpx_node.specs.Seen.{view}
 
 -- what a journal is judged by, over these acts at n localities

@@ -2,13 +2,8 @@
 //! the objects that were born there.
 #![tactic(auto)]
 
-pub mod boot;
-pub mod find;
-pub mod kept;
 pub mod law;
 pub mod node;
 pub mod parts;
-pub mod pending;
-pub mod strange;
 #[cfg(test)]
 mod tests;

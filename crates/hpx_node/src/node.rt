@@ -1,29 +1,27 @@
 //! One locality: its tables, and what each call on them begins with.
-ghost use Rattle.std.specs.Prelude.{◌≡◌, ◌≢◌, ◌≤◌, ◌<◌, ◌+◌, ◌-◌, ◌∷◌, ◌++◌, ◌↔◌, [], ℕ, List, Some, None, IsTrue, OnOk, OnErr, IfOk, IfSome, IfNone, length};
+ghost use Rattle.std.specs.Prelude.{◌≡◌, ◌≢◌, ◌≤◌, ◌<◌, ◌+◌, ◌-◌, ◌↔◌, [], Some, None, IsTrue, OnOk, IfOk};
 ghost use Rattle.hpx_value.specs.Profiles.{IsValid};
 ghost use Rattle.hpx_journal.specs.Entries.{move_to};
 ghost use Rattle.hpx_journal.specs.Roots.{roots};
 ghost use Rattle.hpx_parcel.specs.Parcels.{IsParcel};
-ghost use Rattle.hpx_node.specs.Fit.{IsFit};
-ghost use Rattle.hpx_node.specs.Tables.{IsPassive};
+ghost use Rattle.hpx_tables.specs.Fit.{IsFit};
+ghost use Rattle.hpx_tables.specs.Tables.{IsPassive};
 ghost use Rattle.hpx_node.specs.Lacks.{Lacks};
 ghost use Rattle.hpx_node.specs.Orders.{KeepsOrder};
 ghost use Rattle.hpx_node.specs.Stands.{Stands};
-ghost use Rattle.hpx_node.specs.Changes.{OnlySpare, Mails, Posts};
+ghost use Rattle.hpx_node.specs.Changes.{Mails, Posts};
 ghost use Rattle.hpx_node.specs.Frames.{MayGoTo};
 ghost use Rattle.hpx_node.specs.Routes.{is_other, moves_on, may_stay, with_mail};
 
-use crate::boot::roots;
-use crate::find::target;
-use crate::kept::{Fit, Kept, Letter};
-use crate::parts::Outgoing;
-use crate::pending::Pending;
 use hpx_agas::records::Records;
 use hpx_journal::local::move_to;
 use hpx_parcel::parcel::Parcel;
+use hpx_tables::boot::roots;
+use hpx_tables::find::target;
+use hpx_tables::kept::{Fit, Kept, Letter, Outgoing};
+use hpx_tables::pending::Pending;
 use hpx_value::acts::Acts;
 use hpx_value::codes::MOVE;
-use hpx_value::gid::Gid;
 use hpx_value::memory::OutOfMemory;
 use hpx_value::profile::Profile;
 use hpx_value::value::Act;
@@ -70,7 +68,7 @@ impl<A: Acts + Copy> Model for Node<A> {
     ghost use Rattle.std.specs.Prelude.{◌≡◌, ◌<◌, ◌≤◌, ◌-◌, [], min, vec_len, vec_capacity};
     ghost use Rattle.std.specs.VecDeque.{deque_len, deque_capacity};
     ghost use Rattle.hpx_value.specs.Profiles.{IsValid};
-    ghost use Rattle.hpx_node.specs.Tables.{Tables};
+    ghost use Rattle.hpx_tables.specs.Tables.{Tables};
 
     ghost Value = { Tables };
 

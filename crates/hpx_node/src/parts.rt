@@ -1,15 +1,7 @@
-use crate::kept::Letter;
 use hpx_parcel::parcel::Why;
 use hpx_value::acts::{Acts, Done};
 use hpx_value::gid::Gid;
 use thiserror::Error;
-
-/// A message that goes to another locality.
-#[derive(Drop)]
-pub struct Outgoing {
-    pub to: u32,
-    pub parcel: Letter,
-}
 
 /// What became of a job that is done.
 #[derive(Clone, Copy, Debug, PartialEq, Eq)]

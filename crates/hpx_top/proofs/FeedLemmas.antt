@@ -18,10 +18,10 @@ use Rattle.hpx_journal.specs.Weights.{HasRoom}
 use Rattle.hpx_journal.proofs.Ample.{legal_ample}
 use Rattle.hpx_journal.proofs.Sessions.{quiet_settled}
 use Rattle.hpx_journal.proofs.Start.{quiet_fires, quiet_dones}
-use Rattle.hpx_node.specs.Fit.{parcel_for}
+use Rattle.hpx_tables.specs.Fit.{parcel_for}
 use Rattle.hpx_node.specs.Routes.{may_stay, is_other, with_accepted, with_mail, with_act}
 use Rattle.hpx_node.specs.Stands.{rules_of}
-use Rattle.hpx_node.specs.Tables.{Tables, IsPassive}
+use Rattle.hpx_tables.specs.Tables.{Tables, IsPassive}
 use Rattle.hpx_ports.specs.Told.{followed}
 use Rattle.hpx_world.specs.declared.turns.Turned.{Turned}
 use Rattle.hpx_world.specs.declared.turns.Turned.TheVariants as turned

@@ -21,9 +21,9 @@ use Rattle.hpx_part.specs.Data.{Entry}
 use Rattle.hpx_part.specs.Keyed.{Agree}
 use Rattle.hpx_part.proofs.Keyed.{Agree-found}
 use Rattle.hpx_part.proofs.Keys.{means, own}
-use Rattle.hpx_node.specs.Tables.{Tables, messages}
-use Rattle.hpx_node.specs.declared.parts.Outgoing.{Outgoing}
-use Rattle.hpx_node.proofs.Alls.{all_parts}
+use Rattle.hpx_tables.specs.Tables.{Tables, messages}
+use Rattle.hpx_tables.specs.declared.kept.Outgoing.{Outgoing}
+use Rattle.hpx_tables.proofs.Alls.{all_parts}
 use Rattle.hpx_world.proofs.Shown.{IsCalm, IsShown}
 use Rattle.hpx_world.proofs.Welcome.{IsActRight}
 

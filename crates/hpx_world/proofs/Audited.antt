@@ -27,11 +27,11 @@ use Rattle.hpx_journal.proofs.Joined.{part_other}
 use Rattle.hpx_journal.proofs.Start.{first, legal_sums}
 use Rattle.hpx_part.specs.Data.{Entry, Token}
 use Rattle.hpx_part.proofs.Keyed.{slice_get_less, counts_of, counts_true, counts_false}
-use Rattle.hpx_node.specs.Kept.{HasRecords, held_here, held_worth, owed_worth}
+use Rattle.hpx_tables.specs.Kept.{HasRecords, held_here, held_worth, owed_worth}
 use Rattle.hpx_node.specs.Seen.{counted}
 use Rattle.hpx_node.specs.Stands.{rules_of}
-use Rattle.hpx_node.specs.Tables.{Tables}
-use Rattle.hpx_node.proofs.Alls.{all_append, all_at}
+use Rattle.hpx_tables.specs.Tables.{Tables}
+use Rattle.hpx_tables.proofs.Alls.{all_append, all_at}
 use Rattle.hpx_node.proofs.Numbers.{held_shown}
 use Rattle.hpx_world.specs.Audit.{held_in_all, audit_line, lines_at, audit_lines, HaveRecords, held_at_all, away_of, Tells, IsAudit}
 use Rattle.hpx_world.specs.Sound.{Meaning, IsSound}

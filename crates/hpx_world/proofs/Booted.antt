@@ -6,7 +6,7 @@ use Rattle.hpx_value.specs.declared.profile.Profile.{Profile}
 use Rattle.hpx_node.specs.Lacks.{Lacks}
 use Rattle.hpx_node.specs.Orders.{KeepsOrder}
 use Rattle.hpx_node.specs.Stands.{Stands}
-use Rattle.hpx_node.specs.Tables.{Tables, IsPassive}
+use Rattle.hpx_tables.specs.Tables.{Tables, IsPassive}
 use Rattle.hpx_world.specs.Quiet.{NoneRuns}
 use Rattle.hpx_world.specs.Sound.{Meaning, StandsAt, IsSound}
 

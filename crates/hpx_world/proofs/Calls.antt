@@ -10,7 +10,8 @@ use Rattle.hpx_journal.specs.Entries.{name_of}
 use Rattle.hpx_journal.specs.Weights.{Book}
 use Rattle.hpx_part.specs.Data.{Name, Event, Entry, Line, Fire, Mail}
 use Rattle.hpx_part.proofs.Keyed.{slice_get_is}
-use Rattle.hpx_node.specs.Asks.{Begins, splits_before, asked_events, lacking}
+use Rattle.hpx_tables.specs.Splits.{asked_events}
+use Rattle.hpx_node.specs.Asks.{Begins, splits_before, lacking}
 use Rattle.hpx_node.specs.Changes.{Writes, OnlySpare}
 use Rattle.hpx_node.specs.Commits.{committed}
 use Rattle.hpx_node.specs.Handled.{Clears, effects, kind_of}
@@ -18,7 +19,7 @@ use Rattle.hpx_node.specs.Lacks.{Lacks}
 use Rattle.hpx_node.specs.Limits.{IsWithin}
 use Rattle.hpx_node.specs.Orders.{KeepsOrder}
 use Rattle.hpx_node.specs.Stands.{Stands, rules_of}
-use Rattle.hpx_node.specs.Tables.{Tables}
+use Rattle.hpx_tables.specs.Tables.{Tables}
 use Rattle.hpx_node.specs.declared.parts.Finished.{Finished}
 use Rattle.hpx_node.specs.declared.parts.Finished.TheVariants.{Committed, Asking, NotRunning}
 use Rattle.hpx_world.specs.Away.{IsInside}

@@ -18,7 +18,7 @@ use Rattle.hpx_part.proofs.Keyed.{counts_of, counts_true}
 use Rattle.hpx_ports.specs.Frames.{Delivers}
 use Rattle.hpx_ports.specs.declared.fabric.Wire.{Wire}
 use Rattle.hpx_node.specs.Stands.{rules_of}
-use Rattle.hpx_node.specs.Tables.{Tables}
+use Rattle.hpx_tables.specs.Tables.{Tables}
 use Rattle.hpx_world.specs.Away.{IsCarrying, Fetches, road_of, listed}
 use Rattle.hpx_world.specs.Sound.{Meaning, IsSound}
 use Rattle.hpx_world.proofs.Sound.{sound_legal}

@@ -10,7 +10,7 @@ use Rattle.hpx_journal.specs.Laws.{outs, outs_by}
 use Rattle.hpx_journal.specs.Weights.{HasRoom}
 use Rattle.hpx_part.specs.Data.{Event, Entry, Out}
 use Rattle.hpx_node.proofs.Taken.{ins_few}
-use Rattle.hpx_node.specs.Tables.{Tables}
+use Rattle.hpx_tables.specs.Tables.{Tables}
 use Rattle.hpx_world.specs.Sound.{Meaning, IsSound}
 
 out_few : (k : ℕ) (e : Event) → length (outs_by k e) ≤ 1

@@ -8,8 +8,8 @@ use Rattle.hpx_commit.specs.Deals.{AllLast}
 use Rattle.hpx_node.specs.Asks.{Begins}
 use Rattle.hpx_node.specs.Changes.{Writes, OnlySpare}
 use Rattle.hpx_node.specs.Commits.{committed, hand_of, places_in_hand, Ends}
-use Rattle.hpx_node.specs.Jobs.{IsRunning}
-use Rattle.hpx_node.specs.Tables.{Tables}
+use Rattle.hpx_tables.specs.Jobs.{IsRunning}
+use Rattle.hpx_tables.specs.Tables.{Tables}
 use Rattle.hpx_node.specs.declared.parts.Finished.{Finished}
 use Rattle.hpx_node.specs.declared.parts.Finished.TheVariants.{Committed, Asking, NotRunning}
 use Rattle.hpx_world.specs.declared.turns.Turned.TheVariants as turned

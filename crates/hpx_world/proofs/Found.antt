@@ -7,8 +7,8 @@ use Rattle.hpx_agas.specs.Records.{find_record, Rises}
 use Rattle.hpx_agas.specs.declared.record.Record.{Record}
 use Rattle.hpx_agas.proofs.RecordsLemmas.{apart, same_self}
 use Rattle.hpx_journal.specs.Data.{Id}
-use Rattle.hpx_node.specs.Kept.{HasRecords, record_here, count_here, place_here}
-use Rattle.hpx_node.specs.Tables.{Tables}
+use Rattle.hpx_tables.specs.Kept.{HasRecords, record_here, count_here, place_here}
+use Rattle.hpx_tables.specs.Tables.{Tables}
 use Rattle.hpx_world.specs.Audit.{held_in_all, audit_line}
 use Rattle.hpx_world.specs.declared.audit.AuditLine.{AuditLine}
 

@@ -31,12 +31,12 @@ use Rattle.hpx_part.proofs.Covered.{act_names}
 use Rattle.hpx_part.proofs.Keyed.{counts_of, Agree-sum}
 use Rattle.hpx_part.proofs.Keys.{means, own}
 use Rattle.hpx_node.specs.Idle.{FreesOf, IsPaid, weighed, weight, frees_one, goes, causes, unpaid}
-use Rattle.hpx_node.specs.Kept.{stands_here, waits_here, held_here}
+use Rattle.hpx_tables.specs.Kept.{stands_here, waits_here, held_here}
 use Rattle.hpx_node.specs.Orders.{FreesNone}
-use Rattle.hpx_node.specs.Pending.{Waits, action_of}
+use Rattle.hpx_tables.specs.Pending.{Waits, action_of}
 use Rattle.hpx_node.specs.Seen.{frees_in}
-use Rattle.hpx_node.specs.Tables.{Tables, fired_acts}
-use Rattle.hpx_node.specs.declared.parts.Outgoing.{Outgoing}
+use Rattle.hpx_tables.specs.Tables.{Tables, fired_acts}
+use Rattle.hpx_tables.specs.declared.kept.Outgoing.{Outgoing}
 use Rattle.hpx_world.proofs.SentRight.{IsSentRight, below, arrivals_right}
 use Rattle.hpx_world.proofs.Shown.{IsCalm, IsShown, AreShown, legal, stands, covered}
 

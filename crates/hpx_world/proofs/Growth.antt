@@ -10,7 +10,7 @@ use Rattle.hpx_journal.proofs.Grow.{carried_append}
 use Rattle.hpx_part.specs.Data.{Event, Entry, Out, In}
 use Rattle.hpx_part.specs.Parts.{at_all}
 use Rattle.hpx_node.specs.Changes.{Writes}
-use Rattle.hpx_node.specs.Tables.{Tables}
+use Rattle.hpx_tables.specs.Tables.{Tables}
 use Rattle.hpx_world.specs.Away.{IsInside, road_of}
 use Rattle.hpx_world.proofs.Plain.{IsPlain, ArePlain}
 

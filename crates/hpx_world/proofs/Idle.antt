@@ -3,8 +3,8 @@ use Rattle.std.proofs.Common.{ℕ, zero, suc, List, [], ◌∷◌, ◌++◌, ◌
 use Rattle.std.specs.List.{slice_get, remove, AllByRecursion}
 use Rattle.hpx_value.specs.declared.acts.Job.{Job}
 use Rattle.hpx_journal.specs.Data.{Act, Id, Outcome}
-use Rattle.hpx_node.specs.Jobs.{IsRunning}
-use Rattle.hpx_node.specs.Tables.{Tables}
+use Rattle.hpx_tables.specs.Jobs.{IsRunning}
+use Rattle.hpx_tables.specs.Tables.{Tables}
 use Rattle.hpx_part.specs.Data.{Entry}
 use Rattle.hpx_world.specs.Quiet.{NoneRuns, running_in}
 use Rattle.hpx_world.specs.Sound.{IsSame, without_spare}

@@ -8,7 +8,7 @@ use Rattle.hpx_parcel.proofs.Frames.{parcel_spelled}
 use Rattle.hpx_part.specs.Data.{Entry}
 use Rattle.hpx_ports.specs.declared.fabric.Wire.{Wire}
 use Rattle.hpx_node.specs.Stands.{rules_of}
-use Rattle.hpx_node.specs.Tables.{Tables}
+use Rattle.hpx_tables.specs.Tables.{Tables}
 use Rattle.hpx_world.specs.Away.{IsCarrying, Fetches}
 use Rattle.hpx_world.specs.Sound.{Meaning, IsSound}
 use Rattle.hpx_world.specs.Turns.{IsBadFrame}

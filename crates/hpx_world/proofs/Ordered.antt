@@ -5,9 +5,9 @@ use Rattle.std.specs.List.{slice_get, AllByRecursion}
 use Rattle.hpx_agas.specs.Records.{Rises}
 use Rattle.hpx_agas.specs.declared.record.Record.{Record}
 use Rattle.hpx_journal.specs.Data.{Id}
-use Rattle.hpx_node.specs.Kept.{HasRecords}
-use Rattle.hpx_node.specs.Tables.{Tables}
-use Rattle.hpx_node.proofs.Alls.{all_append, all_at}
+use Rattle.hpx_tables.specs.Kept.{HasRecords}
+use Rattle.hpx_tables.specs.Tables.{Tables}
+use Rattle.hpx_tables.proofs.Alls.{all_append, all_at}
 use Rattle.hpx_world.specs.Audit.{audit_line, lines_at, audit_lines, HaveRecords, IsBefore, AreOrdered}
 use Rattle.hpx_world.specs.declared.audit.AuditLine.{AuditLine}
 use Rattle.hpx_world.proofs.Audited.{all_each, all_map, all_flat}

@@ -13,18 +13,19 @@ use Rattle.hpx_journal.proofs.Alls.{all-append}
 use Rattle.hpx_part.specs.Data.{Event, Line, Out, In, Done, Count, Granted, Refused, Standing}
 use Rattle.hpx_commit.specs.Deals.{half, named, unnamed}
 use Rattle.hpx_commit.specs.Stocks.{Stock, halvings}
-use Rattle.hpx_node.specs.declared.node.settle.Birth.{Birth}
-use Rattle.hpx_node.specs.Asks.{first_cuts, own_many, hand_before, splits_before, asked_events, lacking}
-use Rattle.hpx_node.specs.Births.{birth_of, births_of}
-use Rattle.hpx_node.specs.Commits.{cuts, splits_from, written, made_of, own_stock, committed_from, committed, places_in_hand}
+use Rattle.hpx_tables.specs.declared.births.Birth.{Birth}
+use Rattle.hpx_tables.specs.Splits.{first_cuts, asked_events, cuts, splits_from}
+use Rattle.hpx_node.specs.Asks.{own_many, hand_before, splits_before, lacking}
+use Rattle.hpx_tables.specs.Births.{birth_of, births_of}
+use Rattle.hpx_node.specs.Commits.{written, made_of, own_stock, committed_from, committed, places_in_hand}
 use Rattle.hpx_node.specs.Commits.{ups as commit_ups}
 use Rattle.hpx_node.specs.Fails.{dooms, failed_events, due_left, ups_left, FailsWith}
 use Rattle.hpx_node.specs.Handled.{up_of, ups, returned, answered, freed, effects, more_here}
-use Rattle.hpx_node.specs.Kept.{count_here}
+use Rattle.hpx_tables.specs.Kept.{count_here}
 use Rattle.hpx_node.specs.Next.{Continues}
-use Rattle.hpx_node.specs.Pending.{Waits}
+use Rattle.hpx_tables.specs.Pending.{Waits}
 use Rattle.hpx_node.specs.Resumes.{completes, full_stock, GoesWith}
-use Rattle.hpx_node.specs.Tables.{Tables}
+use Rattle.hpx_tables.specs.Tables.{Tables}
 
 -- an event of no frame and no line
 abbrev pub IsPlain : Event → Type 0

@@ -15,7 +15,7 @@ use Rattle.hpx_journal.proofs.Start.{first, joined_legal, joined_named, joined_a
 use Rattle.hpx_part.specs.Data.{Entry, Done, Freed, Count, Granted, Refused}
 use Rattle.hpx_part.specs.Parts.{at_boot}
 use Rattle.hpx_node.specs.Stands.{rules_of}
-use Rattle.hpx_node.specs.Tables.{Tables}
+use Rattle.hpx_tables.specs.Tables.{Tables}
 use Rattle.hpx_node.proofs.RowLaws.{refuses_for_cause}
 use Rattle.hpx_world.specs.Sound.{Meaning, IsSound}
 use Rattle.hpx_world.proofs.Sound.{get_some, stands_all, sound_joins}

@@ -2,8 +2,8 @@
 use Rattle.std.proofs.Common.{ℕ, List, ◌≡◌, ◌≤◌, Some, sym, ap, ◌∙◌, subst, length, map, inl, inr}
 use Rattle.std.proofs.lemmas.List.{length-map}
 use Rattle.hpx_journal.specs.Data.{Id, Parcel}
-use Rattle.hpx_node.specs.Strange.{broken}
-use Rattle.hpx_node.specs.Tables.{Tables}
+use Rattle.hpx_tables.specs.Strange.{broken}
+use Rattle.hpx_tables.specs.Tables.{Tables}
 use Rattle.hpx_world.specs.Sound.{without_spare}
 use Rattle.hpx_world.specs.Turns.{IsStrangeFrame, IsStrangeMail}
 use Rattle.hpx_world.proofs.Idle.{alike}

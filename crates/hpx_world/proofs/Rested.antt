@@ -23,11 +23,11 @@ use Rattle.hpx_part.specs.Parts.{at_boot}
 use Rattle.hpx_part.specs.Shows.{IsWeight, Shows}
 use Rattle.hpx_part.proofs.Keyed.{counts_of, counts_true}
 use Rattle.hpx_part.proofs.Keys.{own}
-use Rattle.hpx_node.specs.Pending.{Waits}
+use Rattle.hpx_tables.specs.Pending.{Waits}
 use Rattle.hpx_node.specs.Seen.{view, tokens, tokens_of, kept_ids, parcel_tokens}
 use Rattle.hpx_node.specs.Stands.{IsTidy, rules_of}
-use Rattle.hpx_node.specs.Tables.{Tables, IsPassive, messages}
-use Rattle.hpx_node.specs.declared.parts.Outgoing.{Outgoing}
+use Rattle.hpx_tables.specs.Tables.{Tables, IsPassive, messages}
+use Rattle.hpx_tables.specs.declared.kept.Outgoing.{Outgoing}
 use Rattle.hpx_node.proofs.Numbers.{rest_shown}
 use Rattle.hpx_node.proofs.RowLaws.{frees_the_dead}
 use Rattle.hpx_world.specs.Sound.{Meaning, StandsAt, IsSound}

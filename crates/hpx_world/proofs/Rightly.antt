@@ -17,11 +17,11 @@ use Rattle.hpx_journal.proofs.Credited.{road_covered, credit_home}
 use Rattle.hpx_journal.proofs.Same.{same_object-refl}
 use Rattle.hpx_part.specs.Data.{Entry}
 use Rattle.hpx_node.specs.Frames.{MayGoTo, IsForHere}
-use Rattle.hpx_node.specs.Kept.{credit_in, credit_owed}
+use Rattle.hpx_tables.specs.Kept.{credit_in, credit_owed}
 use Rattle.hpx_node.specs.Orders.{IsOwn, FreesNone, gives_for}
-use Rattle.hpx_node.specs.Strange.{broken}
-use Rattle.hpx_node.specs.Tables.{Tables}
-use Rattle.hpx_node.specs.declared.parts.Outgoing.{Outgoing}
+use Rattle.hpx_tables.specs.Strange.{broken}
+use Rattle.hpx_tables.specs.Tables.{Tables}
+use Rattle.hpx_tables.specs.declared.kept.Outgoing.{Outgoing}
 use Rattle.hpx_node.proofs.Bare.{target-bare}
 use Rattle.hpx_world.proofs.ActsRight.{road_acts, desk_acts}
 use Rattle.hpx_world.proofs.Freeable.{up_here, none_waits, none_held}

@@ -11,9 +11,9 @@ use Rattle.hpx_journal.proofs.Start.{first}
 use Rattle.hpx_part.specs.Data.{Entry}
 use Rattle.hpx_ports.specs.declared.fabric.Wire.{Wire}
 use Rattle.hpx_node.specs.Stands.{rules_of}
-use Rattle.hpx_node.specs.Tables.{Tables, IsPassive, messages}
-use Rattle.hpx_node.specs.declared.parts.Outgoing.{Outgoing}
-use Rattle.hpx_node.proofs.Alls.{all_at}
+use Rattle.hpx_tables.specs.Tables.{Tables, IsPassive, messages}
+use Rattle.hpx_tables.specs.declared.kept.Outgoing.{Outgoing}
+use Rattle.hpx_tables.proofs.Alls.{all_at}
 use Rattle.hpx_node.proofs.Targets.{none_stuck}
 use Rattle.hpx_world.specs.Away.{IsCarrying}
 use Rattle.hpx_world.specs.Quiet.{IsQuiet, IsStuck, HasNoMail, SendsNothing, NothingApplies, NoneRuns}

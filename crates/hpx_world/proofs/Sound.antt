@@ -16,7 +16,7 @@ use Rattle.hpx_part.specs.Parts.{at_all, at_boot, StandsFor}
 use Rattle.hpx_part.specs.Shows.{Shows, HasForm}
 use Rattle.hpx_part.specs.View.{View}
 use Rattle.hpx_part.proofs.Keyed.{slice_get_is}
-use Rattle.hpx_node.specs.Awaited.{is_answer}
+use Rattle.hpx_tables.specs.Awaited.{is_answer}
 use Rattle.hpx_node.specs.Changes.{Writes}
 use Rattle.hpx_node.specs.Idle.{IsPaid}
 use Rattle.hpx_node.specs.Lacks.{Lacks}
@@ -24,7 +24,7 @@ use Rattle.hpx_node.specs.Limits.{IsWithin}
 use Rattle.hpx_node.specs.Orders.{IsOrderly, KeepsOrder}
 use Rattle.hpx_node.specs.Seen.{view}
 use Rattle.hpx_node.specs.Stands.{Stands, StandsWith, rules_of}
-use Rattle.hpx_node.specs.Tables.{Tables}
+use Rattle.hpx_tables.specs.Tables.{Tables}
 use Rattle.hpx_world.specs.Sound.{Meaning, StandsAt, IsSound}
 
 -- ---- the other nodes

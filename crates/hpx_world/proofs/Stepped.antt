@@ -6,7 +6,7 @@ use Rattle.hpx_journal.specs.Entries.{Frame}
 use Rattle.hpx_part.specs.Data.{Entry}
 use Rattle.hpx_ports.specs.declared.fabric.Wire.{Wire}
 use Rattle.hpx_node.specs.Handled.{Takes}
-use Rattle.hpx_node.specs.Tables.{Tables}
+use Rattle.hpx_tables.specs.Tables.{Tables}
 use Rattle.hpx_world.specs.declared.turns.Turned.TheVariants as turned
 use Rattle.hpx_world.specs.Away.{Fetches, Puts, Keeps}
 use Rattle.hpx_world.specs.Quiet.{IsStuck, HasNoMail, SendsNothing}

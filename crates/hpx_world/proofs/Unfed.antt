@@ -8,11 +8,12 @@ use Rattle.hpx_journal.specs.Entries.{Frame, Rules, name_of}
 use Rattle.hpx_journal.proofs.Alls.{all-append, all-map}
 use Rattle.hpx_part.specs.Data.{Event, Entry, Line, Fire, Out, In, Mail}
 use Rattle.hpx_part.specs.Parts.{at_all}
-use Rattle.hpx_node.specs.Asks.{splits_before, asked_events, lacking}
+use Rattle.hpx_tables.specs.Splits.{asked_events}
+use Rattle.hpx_node.specs.Asks.{splits_before, lacking}
 use Rattle.hpx_node.specs.Changes.{Writes}
 use Rattle.hpx_node.specs.Commits.{committed}
 use Rattle.hpx_node.specs.Handled.{effects, kind_of}
-use Rattle.hpx_node.specs.Tables.{Tables}
+use Rattle.hpx_tables.specs.Tables.{Tables}
 use Rattle.hpx_node.specs.declared.parts.Finished.TheVariants.{Committed, Asking, NotRunning}
 use Rattle.hpx_world.specs.declared.turns.Turned.{Turned}
 use Rattle.hpx_world.specs.declared.turns.Turned.TheVariants as turned

@@ -21,7 +21,7 @@ use Rattle.hpx_part.specs.Data.{Event, Entry, In, Out}
 use Rattle.hpx_node.specs.Frames.{MayGoTo}
 use Rattle.hpx_node.specs.Idle.{weighed}
 use Rattle.hpx_node.specs.Orders.{IsOwn, SendsOwn, asks_for, gives_for, gone, gone_to, come, all_count, waits_for}
-use Rattle.hpx_node.specs.Tables.{Tables}
+use Rattle.hpx_tables.specs.Tables.{Tables}
 use Rattle.hpx_world.proofs.SentRight.{IsSentRight, carried, sends_own, arrivals_right}
 use Rattle.hpx_world.proofs.Shown.{IsCalm, IsShown, AreShown}
 

@@ -9,7 +9,7 @@ use Rattle.hpx_part.specs.Data.{Entry}
 use Rattle.hpx_part.proofs.Keyed.{slice_get_less}
 use Rattle.hpx_node.specs.Asks.{with_asks, lacking}
 use Rattle.hpx_node.specs.Routes.{is_other, with_mail}
-use Rattle.hpx_node.specs.Tables.{Tables}
+use Rattle.hpx_tables.specs.Tables.{Tables}
 use Rattle.hpx_node.specs.declared.parts.Finished.{Finished}
 use Rattle.hpx_node.specs.declared.parts.Finished.TheVariants.{Committed, Asking, NotRunning}
 use Rattle.hpx_world.specs.declared.turns.Turned.{Turned}

@@ -10,8 +10,8 @@ use Rattle.hpx_journal.specs.Frames.{tokens_in}
 use Rattle.hpx_journal.specs.Natives.{StandsAtHome}
 use Rattle.hpx_journal.specs.Tokens.{worth}
 use Rattle.hpx_journal.specs.Whole.{Space, recorded_in}
-use Rattle.hpx_node.specs.Kept.{HasRecords, held_here, held_worth, owed_worth}
-use Rattle.hpx_node.specs.Tables.{Tables}
+use Rattle.hpx_tables.specs.Kept.{HasRecords, held_here, held_worth, owed_worth}
+use Rattle.hpx_tables.specs.Tables.{Tables}
 use Rattle.hpx_world.specs.declared.audit.AuditLine.{AuditLine}
 
 -- the credit of o that is held, at all nodes; no more than 2^128 - 1 is told

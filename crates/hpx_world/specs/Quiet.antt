@@ -6,8 +6,8 @@ use Rattle.hpx_journal.specs.Entries.{Frame, Rules}
 use Rattle.hpx_journal.specs.Names.{names}
 use Rattle.hpx_journal.specs.Tokens.{is_held}
 use Rattle.hpx_journal.specs.Whole.{Space, IsQuiet as IsQuietIn}
-use Rattle.hpx_node.specs.Free.{NoneIsFree}
-use Rattle.hpx_node.specs.Tables.{Tables, IsPassive, fired_acts}
+use Rattle.hpx_tables.specs.Free.{NoneIsFree}
+use Rattle.hpx_tables.specs.Tables.{Tables, IsPassive, fired_acts}
 
 -- nothing is to be done anywhere: each node is passive, no frame is in hand, and as many were accepted as sent
 pub record IsQuiet (nodes : List Tables) (hand : Option Frame) : Type 0 where

@@ -8,7 +8,7 @@ use Rattle.hpx_node.specs.Lacks.{Lacks}
 use Rattle.hpx_node.specs.Limits.{IsWithin}
 use Rattle.hpx_node.specs.Orders.{KeepsOrder}
 use Rattle.hpx_node.specs.Stands.{Stands}
-use Rattle.hpx_node.specs.Tables.{Tables}
+use Rattle.hpx_tables.specs.Tables.{Tables}
 
 -- the meaning of actions, by the number of localities
 abbrev pub Meaning : Type 0

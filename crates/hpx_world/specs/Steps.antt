@@ -4,9 +4,9 @@ use Rattle.std.specs.List.{slice_get, AllByRecursion}
 use Rattle.hpx_value.specs.declared.acts.Job.{Job}
 use Rattle.hpx_journal.specs.Sessions.{FeedsNothing}
 use Rattle.hpx_part.specs.Data.{Entry}
-use Rattle.hpx_node.specs.Jobs.{IsRunning}
+use Rattle.hpx_tables.specs.Jobs.{IsRunning}
 use Rattle.hpx_journal.specs.Entries.{Frame}
-use Rattle.hpx_node.specs.Tables.{Tables}
+use Rattle.hpx_tables.specs.Tables.{Tables}
 use Rattle.hpx_node.specs.declared.parts.Finished.{Finished}
 use Rattle.hpx_node.specs.declared.parts.Finished.TheVariants.{NotRunning}
 use Rattle.hpx_ports.specs.declared.fabric.Wire.{Wire}

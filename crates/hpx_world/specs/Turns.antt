@@ -11,12 +11,12 @@ use Rattle.hpx_commit.specs.Deals.{AllLast}
 use Rattle.hpx_node.specs.Asks.{Begins}
 use Rattle.hpx_node.specs.Changes.{Writes}
 use Rattle.hpx_node.specs.Commits.{committed, hand_of, places_in_hand, Ends}
-use Rattle.hpx_node.specs.Jobs.{IsRunning, Starts}
+use Rattle.hpx_tables.specs.Jobs.{IsRunning, Starts}
 use Rattle.hpx_node.specs.Routes.{with_act}
 use Rattle.hpx_node.specs.Handled.{Takes, Clears, NotTaken, NotCleared}
-use Rattle.hpx_node.specs.Strange.{object_of}
-use Rattle.hpx_node.specs.Tables.{Tables}
-use Rattle.hpx_node.specs.declared.parts.Outgoing.{Outgoing}
+use Rattle.hpx_tables.specs.Strange.{object_of}
+use Rattle.hpx_tables.specs.Tables.{Tables}
+use Rattle.hpx_tables.specs.declared.kept.Outgoing.{Outgoing}
 use Rattle.hpx_node.specs.declared.parts.Finished.TheVariants.{Committed, Asking, NotRunning}
 use Rattle.hpx_node.specs.declared.parts.DeskFault.TheVariants as desk_faults
 use Rattle.hpx_node.specs.declared.parts.TakeFault.{TakeFault}

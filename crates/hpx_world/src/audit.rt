@@ -1,6 +1,6 @@
 //! The audit: of each live object how much credit is out, and where.
 ghost use Rattle.std.specs.Prelude.{◌≡◌, ◌<◌, ◌≤◌, ◌++◌, ◌∷◌, [], length, map, take, IfOk, OnOk, slice_get, option_map, Some};
-ghost use Rattle.hpx_node.specs.Kept.{HasRecords};
+ghost use Rattle.hpx_tables.specs.Kept.{HasRecords};
 ghost use Rattle.hpx_world.specs.Audit.{held_in_all, audit_line, lines_at, audit_lines, HaveRecords};
 
 use crate::locals::Locals;

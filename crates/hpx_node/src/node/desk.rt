@@ -1,5 +1,5 @@
 //! Messages that are taken up: frames that come, and messages to the own locality.
-ghost use Rattle.std.specs.Prelude.{◌≡◌, ◌≤◌, ◌<◌, ◌+◌, ◌-◌, ◌^◌, ◌∷◌, ◌++◌, [], ℕ, true, false, Some, None, IsSome, OnOk, OnErr, IfOk, IfErr, Ok, length};
+ghost use Rattle.std.specs.Prelude.{◌≡◌, ◌≤◌, ◌<◌, ◌+◌, ◌-◌, ◌^◌, ◌∷◌, ◌++◌, [], true, false, Some, None, OnOk, OnErr, IfErr, Ok, length};
 ghost use Rattle.std.specs.List.{AllByRecursion, list_any};
 ghost use Rattle.hpx_value.specs.Ids.{bare, credit};
 ghost use Rattle.hpx_parcel.specs.Parcels.{IsParcel, HasRightCredit, HasCredit, HasLeastCredit, IsBare};
@@ -13,15 +13,13 @@ ghost use Rattle.hpx_node.specs.Orders.{KeepsOrder};
 ghost use Rattle.hpx_node.specs.Limits.{AddsATurn};
 ghost use Rattle.hpx_part.specs.Parts.{at_all};
 ghost use Rattle.hpx_node.specs.Stands.{IsTidy, Stands, rules_of};
-ghost use Rattle.hpx_node.specs.Kept.{stands_here, waits_here, held_here, count_here};
-ghost use Rattle.hpx_node.specs.Pending.{awaits};
-ghost use Rattle.hpx_node.specs.Strange.{is_live, brings_right, broken_near, is_far};
+ghost use Rattle.hpx_tables.specs.Kept.{stands_here, waits_here, held_here, count_here};
+ghost use Rattle.hpx_tables.specs.Pending.{awaits};
+ghost use Rattle.hpx_tables.specs.Strange.{is_live, brings_right, broken_near, is_far};
 ghost use Rattle.hpx_node.specs.Handled.{ups, effects, with_first, kind_of, is_own, Handles, GivesUp, Takes, Clears, NotTaken, NotCleared};
 ghost use Rattle.hpx_node.specs.Routes.{Gives, DealsWith, Accepts};
 ghost use Rattle.hpx_node.specs.Recounts.{Leaves};
 
-use crate::find::{place_of, waiting_at};
-use crate::kept::Letter;
 use crate::node::Node;
 use crate::parts::{DeskFault, TakeFault};
 use hpx_agas::records::{Granted, Left};
@@ -30,6 +28,8 @@ use hpx_journal::entry::{Entry, Event, Reason};
 use hpx_journal::journal::Journal;
 use hpx_parcel::parcel::{DecodeFault, Parcel};
 use hpx_parcel::read::decode;
+use hpx_tables::find::{place_of, waiting_at};
+use hpx_tables::kept::Letter;
 use hpx_value::acts::Acts;
 use hpx_value::exact::Exact;
 use hpx_value::gid::{Gid, Gids};

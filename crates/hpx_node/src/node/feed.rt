@@ -3,7 +3,7 @@ ghost use Rattle.std.specs.Prelude.{◌++◌, ◌≡◌, ◌≤◌, ◌<◌, ◌
 ghost use Rattle.hpx_journal.specs.Entries.{line_act};
 ghost use Rattle.hpx_journal.specs.Weights.{HasRoom};
 ghost use Rattle.hpx_part.specs.Data.{Line};
-ghost use Rattle.hpx_node.specs.Fit.{IsFit};
+ghost use Rattle.hpx_tables.specs.Fit.{IsFit};
 ghost use Rattle.hpx_node.specs.Lacks.{Lacks};
 ghost use Rattle.hpx_node.specs.Orders.{KeepsOrder};
 ghost use Rattle.hpx_node.specs.Stands.{Stands};

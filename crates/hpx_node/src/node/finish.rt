@@ -7,24 +7,25 @@ ghost use Rattle.hpx_commit.specs.Deals.{AllLast};
 ghost use Rattle.hpx_journal.specs.Entries.{target_of};
 ghost use Rattle.hpx_journal.specs.Local.{is_standing};
 ghost use Rattle.hpx_node.specs.Asks.{Begins};
-ghost use Rattle.hpx_node.specs.Births.{birth_of, ids_of};
+ghost use Rattle.hpx_tables.specs.Births.{birth_of, ids_of};
 ghost use Rattle.hpx_node.specs.Commits.{committed, made_of, hand_of, places_in_hand, own_stock, IsStock, IsPrepared, Ends};
-ghost use Rattle.hpx_node.specs.Jobs.{IsAt, IsRunning, IsFitJob};
+ghost use Rattle.hpx_tables.specs.Jobs.{IsAt, IsRunning, IsFitJob};
 ghost use Rattle.hpx_node.specs.Lacks.{Lacks};
 ghost use Rattle.hpx_node.specs.Orders.{KeepsOrder};
 ghost use Rattle.hpx_node.specs.Stands.{IsTidy, Stands};
 ghost use Rattle.hpx_node.specs.Changes.{OnlySpare, Writes};
 ghost use Rattle.hpx_node.specs.Limits.{AddsATurn};
 
-use crate::find::{index_of, place_of, target};
 use crate::node::Node;
-use crate::node::settle::{Birth, births};
 use crate::parts::{FinishFault, Finished};
 use hpx_commit::deal::all_last;
 use hpx_commit::hand::Hand;
 use hpx_commit::plan::{Plan, places_named, plan_stock};
 use hpx_commit::stock::Stock;
 use hpx_journal::journal::Journal;
+use hpx_tables::births::{Birth, births};
+use hpx_tables::find::{index_of, place_of, target};
+use hpx_tables::pending::lawful;
 use hpx_value::acts::{Acts, Done};
 use hpx_value::exact::Exact;
 use hpx_value::gid::Gid;
@@ -42,16 +43,6 @@ pub struct Prepared {
     pub births: VecDeque<Birth>,
     pub stock: Stock,
     pub plan: Plan,
-}
-
-/// The outcome of a job keeps the laws of actions.
-pub fn lawful<A: Acts>(done: &Done<A>)
-    requires localities { done.now.localities ≤ 64 }
-    requires at { done.now.job.at < done.now.localities }
-    requires fit { IsFitJob done.now.job }
-    ensures { KeepsLaws done.now.localities done.now.job.kind done.now.job.at done.now.job.state done.now.job.action done.now.outcome }
-{
-    let _at = done.job().at;
 }
 
 impl<A: Acts + Copy> Node<A> {

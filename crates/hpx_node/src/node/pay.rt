@@ -1,40 +1,25 @@
 //! Paying what a commit leaves: messages are sent, prints are printed, and ids that nobody names are given up.
-ghost use Rattle.std.specs.Prelude.{◌≡◌, ◌≤◌, ◌<◌, ◌+◌, ◌^◌, ◌∷◌, ◌++◌, [], length};
+ghost use Rattle.std.specs.Prelude.{◌≡◌, ◌≤◌, ◌<◌, ◌+◌, ◌^◌, ◌++◌, [], length};
 ghost use Rattle.std.specs.List.{AllByRecursion};
 ghost use Rattle.hpx_parcel.specs.Parcels.{HasCredit};
 ghost use Rattle.hpx_part.specs.Parts.{at_all};
 ghost use Rattle.hpx_node.specs.Changes.{OnlySends, AreAlike};
 ghost use Rattle.hpx_node.specs.Commits.{written, ups};
-ghost use Rattle.hpx_node.specs.Fit.{IsFitDue};
+ghost use Rattle.hpx_tables.specs.Fit.{IsFitDue};
 ghost use Rattle.hpx_node.specs.Routes.{with_due, with_returns, with_left};
 ghost use Rattle.hpx_node.specs.Stands.{Stands, StandsWith, rules_of};
 ghost use Rattle.hpx_value.specs.Values.{named};
 
-use crate::kept::Letter;
 use crate::node::Node;
 use hpx_commit::deal::log_of;
 use hpx_journal::entry::{Entry, Event, Name};
 use hpx_journal::journal::Journal;
 use hpx_parcel::parcel::Parcel;
+use hpx_tables::kept::{Letter, named};
 use hpx_value::acts::Acts;
 use hpx_value::gid::Gid;
 use hpx_value::outcome::Due;
-use hpx_value::value::{Act, Message};
 use std::collections::VecDeque;
-
-/// A message under a name.
-fn named(name: Name, message: Message) -> Act
-    ensures { result ≡ named name.origin name.serial message }
-{
-    Act {
-        origin: name.origin,
-        serial: name.serial,
-        code: message.code,
-        args: message.args,
-        cont: message.cont,
-        ids: message.ids,
-    }
-}
 
 impl<A: Acts + Copy> Node<A> {
     /// Writes the first of what is due.

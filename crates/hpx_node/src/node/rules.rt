@@ -1,79 +1,17 @@
 //! The rules that a message may break.
-ghost use Rattle.std.specs.Prelude.{◌≡◌, ◌-◌, ◌^◌, ◌<◌, ◌≤◌, ◌&&◌, ◌==◌, is_some, Option, Some, None, min};
-ghost use Rattle.std.specs.List.{list_any};
-ghost use Rattle.hpx_value.specs.Ids.{bare};
+ghost use Rattle.std.specs.Prelude.{◌≡◌, ◌-◌, ◌<◌, ◌&&◌, ◌==◌, Option, Some, None};
 ghost use Rattle.hpx_journal.specs.Entries.{move_to};
-ghost use Rattle.hpx_node.specs.Kept.{record_here};
-ghost use Rattle.hpx_node.specs.Pending.{awaits};
-ghost use Rattle.hpx_node.specs.Strange.{are_far, moves_far, is_far_act, is_far, is_live, is_lost, is_to_here, breaks, brings_right, broken_return, broken_act, broken_move, broken_go, broken_object, broken_landed, broken_give, broken_free, broken_near, broken};
+ghost use Rattle.hpx_tables.specs.Strange.{is_far, is_live, is_lost, is_to_here, breaks, brings_right, broken_return, broken_act, broken_move, broken_go, broken_object, broken_landed, broken_give, broken_free, broken_near, broken};
 
-use crate::find::{target, waits_on};
 use crate::node::Node;
-use crate::strange::{Broken, object_of};
 use hpx_commit::deal::log_of;
 use hpx_journal::local::move_to;
 use hpx_parcel::parcel::Parcel;
+use hpx_tables::find::{is_awaited, target, waits_on};
+use hpx_tables::strange::{Broken, breaks, is_far};
 use hpx_value::acts::Acts;
 use hpx_value::gid::Gid;
 use hpx_value::value::Act;
-
-/// A rule that is broken.
-fn breaks(rule: u8, parcel: &Parcel, kept: u128) -> Option<Broken>
-    ensures { result ≡ breaks rule parcel.now kept }
-{
-    Some(Broken {
-        rule,
-        object: object_of(parcel),
-        kept,
-    })
-}
-
-/// Whether the home of an id is none of n localities.
-fn are_far(n: u32, ids: &[Gid]) -> bool
-    ensures { result ≡ are_far n ids.now }
-{
-    ids.iter().any(|id| n <= id.home())
-}
-
-/// Whether a MOVE is to none of n localities.
-fn moves_far(n: u32, act: &Act) -> bool
-    ensures { result ≡ moves_far n (move_to act.now) }
-{
-    match move_to(act) {
-        Some(to) => n <= to,
-        None => false,
-    }
-}
-
-fn is_far_act(n: u32, act: &Act) -> bool
-    ensures { result ≡ is_far_act n act.now }
-{
-    n <= act.origin as u32 || are_far(n, act.ids.as_slice())
-}
-
-/// Whether a locality in a message, or the home of an id in it, is none of n.
-fn is_far(n: u32, parcel: &Parcel) -> bool
-    ensures { result ≡ is_far n parcel.now }
-{
-    match parcel {
-        Parcel::Apply(act) => is_far_act(n, act),
-        Parcel::Move(act) => is_far_act(n, act) || moves_far(n, act),
-        Parcel::Go(act) => is_far_act(n, act) || moves_far(n, act),
-        Parcel::Object { action, state } => {
-            is_far_act(n, action) || moves_far(n, action) || are_far(n, state.ids.as_slice())
-        }
-        Parcel::Return(id) => n <= id.home(),
-        Parcel::Ask {
-            id,
-            asker,
-            entry: _,
-        } => n <= id.home() || n <= *asker as u32,
-        Parcel::Give { id, entry: _ } => n <= id.home(),
-        Parcel::Cached { id, place } => n <= id.home() || n <= *place as u32,
-        Parcel::Landed { id, place } => n <= id.home() || n <= *place as u32,
-        Parcel::Free(o) => n <= o.home(),
-    }
-}
 
 impl<A: Acts + Copy> Node<A> {
     /// Whether an object is of this home, and lives.
@@ -161,13 +99,6 @@ impl<A: Acts + Copy> Node<A> {
         breaks(8, parcel, self.records.number() as u128)
     }
 
-    /// Whether a commit waits for an id of the object, asked for under a number.
-    fn awaits(&self, o: Gid, entry: u64) -> bool
-        ensures { result ≡ list_any (awaits o entry) self.now.pending }
-    {
-        self.pending.iter().any(|w| w.awaits(o, entry))
-    }
-
     /// Whether an id brings no more credit, or that of a new object.
     fn brings(&self, id: Gid) -> bool
         ensures { result ≡ brings_right self.now id }
@@ -180,7 +111,7 @@ impl<A: Acts + Copy> Node<A> {
     fn broken_give(&self, parcel: &Parcel, id: Gid, entry: u64) -> Option<Broken>
         ensures { result ≡ broken_give self.now parcel.now id entry }
     {
-        if self.awaits(id, entry) && self.brings(id) {
+        if is_awaited(self.pending.as_slice(), id, entry) && self.brings(id) {
             return None;
         }
         breaks(3, parcel, entry as u128)

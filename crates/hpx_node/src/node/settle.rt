@@ -1,133 +1,26 @@
 //! Settling a job: what it makes is made, the ids of its hand are halved, and it is done.
-ghost use Rattle.std.specs.Prelude.{◌≡◌, ◌≤◌, ◌<◌, ◌+◌, ◌^◌, ◌∷◌, ◌++◌, [], ℕ, false, Some, IfOk, length, map, set, slice_get};
+ghost use Rattle.std.specs.Prelude.{◌≡◌, ◌≤◌, ◌<◌, ◌+◌, ◌^◌, ◌∷◌, ◌++◌, [], false, Some, length, set, slice_get};
 ghost use Rattle.std.specs.List.{remove, AllByRecursion};
-ghost use Rattle.hpx_value.specs.Hands.{id_at};
-ghost use Rattle.hpx_value.specs.Laws.{birth_state};
 ghost use Rattle.hpx_journal.specs.Entries.{name_of};
 ghost use Rattle.hpx_part.specs.Parts.{at_all};
 ghost use Rattle.hpx_part.specs.Data.{Done};
-ghost use Rattle.hpx_commit.specs.Deals.{Lasts, AllLast, half, named};
-ghost use Rattle.hpx_node.specs.Births.{IsBirth, Makes, birth_of, births_of};
-ghost use Rattle.hpx_node.specs.Asks.{first_cuts};
-ghost use Rattle.hpx_node.specs.Awaited.{answered_by};
-ghost use Rattle.hpx_node.specs.Commits.{cuts, splits_from};
-ghost use Rattle.hpx_node.specs.Fit.{IsKept};
+ghost use Rattle.hpx_commit.specs.Deals.{AllLast};
+ghost use Rattle.hpx_tables.specs.Births.{IsBirth, Makes, births_of};
+ghost use Rattle.hpx_tables.specs.Splits.{splits_from};
+ghost use Rattle.hpx_tables.specs.Awaited.{answered_by};
+ghost use Rattle.hpx_tables.specs.Fit.{IsKept};
 
-use crate::find::answered_by;
-use crate::kept::Kept;
 use crate::node::Node;
-use hpx_commit::deal::named;
-use hpx_commit::stock::{Stock, halvings};
+use hpx_commit::stock::Stock;
 use hpx_journal::entry::{Entry, Event};
 use hpx_journal::journal::Journal;
+use hpx_tables::births::Birth;
+use hpx_tables::find::answered_by;
+use hpx_tables::kept::Kept;
+use hpx_tables::splits::push_splits;
 use hpx_value::acts::Acts;
-use hpx_value::exact::Exact;
-use hpx_value::gid::Gid;
-use hpx_value::items::Items;
-use hpx_value::memory::OutOfMemory;
-use hpx_value::outcome::Make;
 use hpx_value::value::State;
-use std::alloc::Global;
 use std::collections::VecDeque;
-
-/// Writes the splits of one id that so many name.
-fn push_cuts(book: &mut Journal, here: u32, id: Gid, n: usize)
-    requires lasts { Lasts id n }
-    requires page { length (cuts id n) ≤ book.old.spare }
-    ensures entries { book.new.entries ≡ book.old.entries ++ at_all here (cuts id n) }
-    ensures page { book.new.spare + length (cuts id n) ≡ book.old.spare }
-{
-    let times = n.saturating_sub(1);
-    let mut rest = id;
-    for _i in 0..times {
-        rest = push_cut(book, here, rest);
-    }
-}
-
-/// Writes one split, and answers a half.
-fn push_cut(book: &mut Journal, here: u32, id: Gid) -> Gid
-    requires lasts { Lasts id 2 }
-    requires page { 1 ≤ book.old.spare }
-    ensures half { result ≡ half id }
-    ensures entries { book.new.entries ≡ book.old.entries ++ at_all here (cuts id 2) }
-    ensures page { book.new.spare + 1 ≡ book.old.spare }
-{
-    match id.log() {
-        Some(log) => {
-            book.push(Entry {
-                at: here,
-                event: Event::Split {
-                    object: id.bare(),
-                    log,
-                },
-            });
-            id.with_log(log - 1)
-        }
-        None => id,
-    }
-}
-
-/// Writes the splits of a hand whose places are named.
-pub fn push_splits(book: &mut Journal, here: u32, hand: &[Gid], places: &[u32])
-    requires few { length hand.now < 2 ^ 32 }
-    requires lasts { (p : ℕ) → Lasts (id_at hand.now p) (named places.now p) }
-    requires page { length (splits_from 0 hand.now places.now) ≤ book.old.spare }
-    ensures entries { book.new.entries ≡ book.old.entries ++ at_all here (splits_from 0 hand.now places.now) }
-    ensures page { book.new.spare + length (splits_from 0 hand.now places.now) ≡ book.old.spare }
-{
-    for (p, id) in hand.iter().enumerate() {
-        push_cuts(book, here, *id, named(places, p as u32));
-    }
-}
-
-/// Writes the splits of the first so many of a hand, as far as their logs go.
-pub fn push_first_splits(book: &mut Journal, here: u32, hand: &[Gid], places: &[u32], own: u32)
-    requires own { own ≤ length hand.now }
-    requires page { length (first_cuts own 0 hand.now places.now) ≤ book.old.spare }
-    ensures entries { book.new.entries ≡ book.old.entries ++ at_all here (first_cuts own 0 hand.now places.now) }
-    ensures page { book.new.spare + length (first_cuts own 0 hand.now places.now) ≡ book.old.spare }
-{
-    for p in 0..own {
-        let id = hand[p as usize];
-        let times = halvings(id, named(places, p));
-        push_cuts(book, here, id, times + 1);
-    }
-}
-
-/// An object that is about to be made: its kind, its state, and the state once more for its entry.
-#[derive(Drop)]
-pub struct Birth {
-    pub kind: u32,
-    pub state: State,
-    pub entry: State,
-}
-
-/// The state of an object at its birth.
-fn birth_state(alloc: Global, make: &Make) -> Result<State, OutOfMemory>
-    ensures { IfOk result (λ state. state ≡ birth_state make.now) }
-{
-    Ok(State {
-        drawn: 0,
-        values: make.values.duplicate(alloc)?,
-        conts: Items::new(alloc),
-        ids: Items::new(alloc),
-    })
-}
-
-/// What is about to be made.
-pub fn births(alloc: Global, makes: &[Make]) -> Result<VecDeque<Birth>, OutOfMemory>
-    ensures { IfOk result (λ out. out.items ≡ map birth_of makes.now) }
-{
-    let mut out = VecDeque::new(alloc);
-    for make in makes {
-        out.push_back(Birth {
-            kind: make.kind,
-            state: birth_state(alloc, make)?,
-            entry: birth_state(alloc, make)?,
-        })?;
-    }
-    Ok(out)
-}
 
 impl<A: Acts + Copy> Node<A> {
     /// Makes the first of the objects that are about to be made.

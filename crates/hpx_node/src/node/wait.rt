@@ -1,5 +1,5 @@
 //! A commit whose ids do not last: what it has is split ahead, and it waits for credit that it asks for.
-ghost use Rattle.std.specs.Prelude.{◌≡◌, ◌≤◌, ◌<◌, ◌+◌, ◌++◌, ◌^◌, Some, None, IfOk, IfErr, length, map, take, find, slice_get};
+ghost use Rattle.std.specs.Prelude.{◌≡◌, ◌≤◌, ◌<◌, ◌+◌, ◌^◌, Some, None, IfOk, IfErr, length, map, take, find, slice_get};
 ghost use Rattle.std.specs.List.{AllByRecursion};
 ghost use Rattle.hpx_value.specs.Laws.{IsManaged, KeepsLaws};
 ghost use Rattle.hpx_journal.specs.Weights.{HasRoom};
@@ -8,36 +8,32 @@ ghost use Rattle.hpx_value.specs.Values.{bare_state};
 ghost use Rattle.hpx_journal.specs.Entries.{target_of};
 ghost use Rattle.hpx_journal.specs.Local.{is_standing};
 ghost use Rattle.hpx_parcel.specs.Parcels.{HasLeastCredit};
-ghost use Rattle.hpx_part.specs.Parts.{at_all};
-ghost use Rattle.hpx_node.specs.Asks.{asked_events, AsksFor, IsBefore, Pauses, Begins};
-ghost use Rattle.hpx_node.specs.Pending.{asked_at};
-ghost use Rattle.hpx_node.specs.Fit.{IsKept};
+ghost use Rattle.hpx_node.specs.Asks.{AsksFor, IsBefore, Pauses, Begins};
+ghost use Rattle.hpx_tables.specs.Pending.{asked_at};
+ghost use Rattle.hpx_tables.specs.Fit.{IsKept};
 ghost use Rattle.hpx_commit.specs.Deals.{AllLast};
 ghost use Rattle.hpx_node.specs.Commits.{hand_of, places_in_hand};
-ghost use Rattle.hpx_node.specs.Births.{birth_of, ids_of};
-ghost use Rattle.hpx_node.specs.Jobs.{IsAt, IsFitJob};
+ghost use Rattle.hpx_tables.specs.Births.{birth_of, ids_of};
+ghost use Rattle.hpx_tables.specs.Jobs.{IsAt, IsFitJob};
 ghost use Rattle.hpx_node.specs.Lacks.{Lacks};
 ghost use Rattle.hpx_node.specs.Orders.{KeepsOrder};
 ghost use Rattle.hpx_node.specs.Stands.{Stands};
 ghost use Rattle.hpx_node.specs.Changes.{OnlySpare};
 ghost use Rattle.hpx_node.specs.Limits.{AddsATurn};
 
-use crate::kept::{Kept, Letter};
 use crate::node::Node;
-use crate::node::finish::{MOST_ENTRIES, lawful};
-use crate::node::settle::push_first_splits;
+use crate::node::finish::MOST_ENTRIES;
 use crate::parts::{FinishFault, Finished};
-use crate::pending::{Asked, Pending};
 use hpx_commit::hand::Hand;
 use hpx_commit::plan::places_named;
 use hpx_commit::stock::{Stock, split_ahead};
-use hpx_journal::entry::{Entry, Event};
 use hpx_journal::journal::Journal;
 use hpx_parcel::parcel::Parcel;
+use hpx_tables::kept::{Kept, Letter, bare_state};
+use hpx_tables::pending::{Asked, Pending, lawful};
+use hpx_tables::splits::{push_asks, push_first_splits};
 use hpx_value::acts::{Acts, Done};
-use hpx_value::exact::Exact;
 use hpx_value::gid::Gid;
-use hpx_value::items::Items;
 use hpx_value::memory::OutOfMemory;
 use hpx_value::outcome::Make;
 use hpx_value::value::State;
@@ -54,35 +50,6 @@ struct Before {
     lacking: Vec<Gid>,
     asked: Vec<Asked>,
     state: State,
-}
-
-/// Writes that each of these ids is asked for.
-fn push_asks(book: &mut Journal, here: u32, ids: &[Gid])
-    requires page { length ids.now ≤ book.old.spare }
-    ensures entries { book.new.entries ≡ book.old.entries ++ at_all here (asked_events ids.now) }
-{
-    for id in ids {
-        book.push(Entry {
-            at: here,
-            event: Event::Asked { object: id.bare() },
-        });
-    }
-}
-
-/// A state without credits.
-fn bare_state(alloc: Global, state: &State) -> Result<State, OutOfMemory>
-    ensures { IfOk result (λ bare. bare ≡ bare_state state.now) }
-{
-    let mut ids = Vec::new(alloc);
-    for id in state.ids.as_slice() {
-        ids.push(id.bare())?;
-    }
-    Ok(State {
-        drawn: state.drawn,
-        values: state.values.duplicate(alloc)?,
-        conts: state.conts.duplicate(alloc)?,
-        ids: Items::from_vec(ids),
-    })
 }
 
 impl<A: Acts + Copy> Node<A> {

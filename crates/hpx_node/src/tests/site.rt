@@ -27,7 +27,7 @@ pub struct Site {
 impl Model for Site {
     ghost use Rattle.hpx_trial.specs.Trial.{trial};
     ghost use Rattle.hpx_node.specs.Stands.{Stands};
-    ghost use Rattle.hpx_node.specs.Tables.{Tables};
+    ghost use Rattle.hpx_tables.specs.Tables.{Tables};
 
     ghost Value = { Tables };
 

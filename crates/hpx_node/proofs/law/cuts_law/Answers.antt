@@ -1,4 +1,4 @@
-use Rattle.hpx_node.proofs.AllCuts.{all_cuts}
+use Rattle.hpx_tables.proofs.AllCuts.{all_cuts}
 use Rattle.hpx_node.proofs.law.cuts_law.Goals as goal
 
 pub returns : goal.returns

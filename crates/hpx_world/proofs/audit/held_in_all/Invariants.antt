@@ -1,7 +1,7 @@
 use Rattle.std.proofs.Common.{◌≡◌, ◌-◌, ◌^◌, min, take}
 use Rattle.std.specs.List.{sum_by}
-use Rattle.hpx_node.specs.Kept.{held_here}
-use Rattle.hpx_node.specs.Tables.{Tables}
+use Rattle.hpx_tables.specs.Kept.{held_here}
+use Rattle.hpx_tables.specs.Tables.{Tables}
 use Rattle.hpx_world.proofs.audit.held_in_all.Given as goal
 
 abbrev pub invariant-loop-i : goal.invariant-loop-i

@@ -1,5 +1,5 @@
 use Rattle.std.proofs.Common.{◌≡◌, ◌++◌, map, take}
-use Rattle.hpx_node.specs.Kept.{HasRecords}
+use Rattle.hpx_tables.specs.Kept.{HasRecords}
 use Rattle.hpx_world.specs.Audit.{audit_line}
 use Rattle.hpx_world.proofs.audit.push_lines.Given as goal
 

@@ -3,7 +3,7 @@ use Rattle.hpx_agas.specs.Registries.{Registry}
 use Rattle.hpx_value.specs.Ids.{Id, bare}
 use Rattle.hpx_part.specs.Data.{Reason, Count}
 use Rattle.hpx_part.specs.Parts.{at_all}
-use Rattle.hpx_node.specs.Tables.{Tables}
+use Rattle.hpx_tables.specs.Tables.{Tables}
 use Rattle.hpx_node.specs.Handled.{answered}
 use Rattle.hpx_node.proofs.AnsweredEntry.{refused_by_entry, granted_by_entry}
 use Rattle.hpx_journal.specs.Data.{Parcel}

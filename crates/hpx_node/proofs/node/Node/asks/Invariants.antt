@@ -1,5 +1,5 @@
 use Rattle.std.proofs.Common.{◌≡◌, ◌+◌, ◌++◌, drop}
-use Rattle.hpx_node.specs.Pending.{asked_at}
+use Rattle.hpx_tables.specs.Pending.{asked_at}
 use Rattle.hpx_node.proofs.node.Node.asks.Given as goal
 
 abbrev pub invariant-loop-place : goal.invariant-loop-place

@@ -2,8 +2,8 @@ use Rattle.std.proofs.Common.{◌≤◌, ◌++◌, ◌∙◌, ap, length, refl, 
 use Rattle.hpx_value.specs.Laws.{KeepsLaws}
 use Rattle.hpx_part.proofs.Keyed.{slice_get_less}
 use Rattle.hpx_part.specs.Parts.{at_all}
-use Rattle.hpx_node.specs.Asks.{first_cuts, asked_events}
-use Rattle.hpx_node.specs.Tables.{Tables}
+use Rattle.hpx_tables.specs.Splits.{first_cuts, asked_events}
+use Rattle.hpx_tables.specs.Tables.{Tables}
 use Rattle.hpx_node.proofs.SomeShort.{something}
 use Rattle.hpx_node.proofs.TurnSteps.{adds_asks}
 use Rattle.hpx_node.proofs.Waited.{before_short, before_own, before_least, lacks_few, kept_before, begins_by}

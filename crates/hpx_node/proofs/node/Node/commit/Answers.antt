@@ -4,9 +4,9 @@ use Rattle.hpx_value.specs.Laws.{KeepsLaws}
 use Rattle.hpx_value.specs.Values.{bare_state}
 use Rattle.hpx_part.specs.Data.{Standing}
 use Rattle.hpx_part.proofs.Keyed.{slice_get_less}
-use Rattle.hpx_node.specs.Fit.{IsKept}
-use Rattle.hpx_node.specs.Tables.{Tables}
-use Rattle.hpx_node.proofs.Alls.{all_at, some_same}
+use Rattle.hpx_tables.specs.Fit.{IsKept}
+use Rattle.hpx_tables.specs.Tables.{Tables}
+use Rattle.hpx_tables.proofs.Alls.{all_at, some_same}
 use Rattle.hpx_node.proofs.OfPrepared.{births_fit, births_few, state_kept, due_fits, due_short, ups_have, ups_short, splits_short}
 use Rattle.hpx_node.proofs.Committing.{stands_then, stands_less}
 use Rattle.hpx_node.proofs.TurnSteps.{adds_commit}

@@ -1,6 +1,6 @@
 use Rattle.std.proofs.Common.{◌∷◌, ◌≡◌, ◌≤◌, ◌∙◌, get_or, refl, sym, ap, arith}
 use Rattle.hpx_journal.specs.Data.{Parcel}
-use Rattle.hpx_node.specs.Tables.{Tables}
+use Rattle.hpx_tables.specs.Tables.{Tables}
 use Rattle.hpx_node.proofs.Continued.{given_mail}
 use Rattle.hpx_node.proofs.Followed.{next_first, may_follow, next_gives, is_continued}
 use Rattle.hpx_node.proofs.Spared.{spare_stands, mail_by, mail_near, first_own, first_stands, cleared, when_ok, spare_popped}

@@ -1,5 +1,5 @@
 use Rattle.std.proofs.Common.{◌+◌, ◌∙◌, ap, refl}
-use Rattle.hpx_node.specs.Tables.{Tables}
+use Rattle.hpx_tables.specs.Tables.{Tables}
 use Rattle.hpx_node.proofs.Taken.{taken_by, taken_tidy, taken_writes}
 use Rattle.hpx_node.proofs.FewEntries.{grows_few}
 use Rattle.hpx_node.proofs.Turns.{frame_short}

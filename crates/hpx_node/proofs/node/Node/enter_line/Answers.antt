@@ -1,5 +1,5 @@
 use Rattle.std.proofs.Common.{sym, ap}
-use Rattle.hpx_node.specs.Tables.{Tables}
+use Rattle.hpx_tables.specs.Tables.{Tables}
 use Rattle.hpx_node.proofs.Steps.{stands_by}
 use Rattle.hpx_node.proofs.Fed.{accepts_line, stands_line}
 use Rattle.hpx_node.proofs.node.Node.enter_line.Goals as goal

@@ -1,6 +1,6 @@
 use Rattle.std.proofs.Common.{ap, arith}
 use Rattle.hpx_part.proofs.Keyed.{slice_get_less}
-use Rattle.hpx_node.specs.Tables.{Tables}
+use Rattle.hpx_tables.specs.Tables.{Tables}
 use Rattle.hpx_node.proofs.FailedAll.{plan_due, plan_ups, plan_few, plan_kept, then_stands, then_fails, then_writes, then_few}
 use Rattle.hpx_node.proofs.TurnSteps.{fails_light}
 use Rattle.hpx_node.proofs.node.Node.fail.Goals as goal

@@ -1,7 +1,7 @@
 use Rattle.std.proofs.Common.{◌<◌, ◌∙◌, length, sym}
 use Rattle.hpx_part.proofs.Keyed.{slice_get_is}
-use Rattle.hpx_node.specs.Pending.{awaits}
-use Rattle.hpx_node.proofs.Alls.{find_passes}
+use Rattle.hpx_tables.specs.Pending.{awaits}
+use Rattle.hpx_tables.proofs.Alls.{find_passes}
 use Rattle.hpx_node.proofs.FailedPlan.{paused_at}
 use Rattle.hpx_node.proofs.node.Node.failing.Goals as goal
 

@@ -1,7 +1,7 @@
 use Rattle.std.proofs.Common.{refl, ap, ◌∙◌, arith}
 use Rattle.hpx_node.proofs.Same.{stands_same}
 use Rattle.hpx_node.proofs.Turns.{turn_from, adds_one}
-use Rattle.hpx_node.specs.Tables.{Tables}
+use Rattle.hpx_tables.specs.Tables.{Tables}
 use Rattle.hpx_node.proofs.Lacks.{lacks_same}
 use Rattle.hpx_node.proofs.OrderCalls.{orderly_same, act_keeps}
 use Rattle.hpx_node.proofs.node.Node.feed.Goals as goal

@@ -5,7 +5,7 @@ use Rattle.hpx_node.proofs.Same.{stands_same}
 use Rattle.hpx_node.proofs.Turns.{turn_from, adds_none}
 use Rattle.hpx_node.proofs.SameCommit.{prepared_same, ends_from}
 use Rattle.hpx_node.proofs.node.Node.finish.Goals.{then-is_err-via-then-is_err, then-is_err-via-else-is_err+then-is_err-2}
-use Rattle.hpx_node.specs.Tables.{Tables}
+use Rattle.hpx_tables.specs.Tables.{Tables}
 use Rattle.hpx_node.proofs.Lacks.{lacks_same}
 use Rattle.hpx_node.proofs.OrderCalls.{orderly_same, ends_keeps}
 use Rattle.hpx_node.proofs.node.Node.finish.Goals as goal

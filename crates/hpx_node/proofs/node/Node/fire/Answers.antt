@@ -1,11 +1,11 @@
 use Rattle.std.proofs.Common.{◌≡◌, Some, refl, sym, ap, ◌∙◌, arith}
 use Rattle.std.specs.List.{slice_get}
-use Rattle.hpx_node.specs.Free.{IsFree}
-use Rattle.hpx_node.specs.Pending.{fired_of}
-use Rattle.hpx_node.proofs.FreeLemmas.{started_runs}
+use Rattle.hpx_tables.specs.Free.{IsFree}
+use Rattle.hpx_tables.specs.Pending.{fired_of}
+use Rattle.hpx_tables.proofs.FreeLemmas.{started_runs}
 use Rattle.hpx_node.proofs.Same.{writes_from, stands_same}
 use Rattle.hpx_node.proofs.Turns.{turn_from, adds_one}
-use Rattle.hpx_node.specs.Tables.{Tables}
+use Rattle.hpx_tables.specs.Tables.{Tables}
 use Rattle.hpx_node.proofs.Lacks.{lacks_same}
 use Rattle.hpx_node.proofs.OrderCalls.{orderly_same, runs_keeps}
 use Rattle.hpx_node.proofs.node.Node.fire.Goals as goal

@@ -2,7 +2,7 @@ use Rattle.std.proofs.Common.{◌<◌, ◌≡◌, ◌∙◌, Some, length, sym, 
 use Rattle.std.specs.List.{find, slice_get, remove}
 use Rattle.hpx_journal.specs.Local.{is_standing}
 use Rattle.hpx_part.proofs.Keyed.{slice_get_is}
-use Rattle.hpx_node.specs.Tables.{Tables}
+use Rattle.hpx_tables.specs.Tables.{Tables}
 use Rattle.hpx_node.proofs.Recounted.{leaves_freed}
 use Rattle.hpx_node.proofs.Freed.{freed_handles, freed_grows, without_tidy, without_whole}
 use Rattle.hpx_node.proofs.node.Node.free.Goals as goal

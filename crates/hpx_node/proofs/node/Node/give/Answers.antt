@@ -1,9 +1,10 @@
 use Rattle.std.proofs.Common.{◌<◌, ◌∙◌, length, refl}
 use Rattle.hpx_part.proofs.Keyed.{slice_get_is}
 use Rattle.hpx_node.specs.Paused.{IsPaused}
-use Rattle.hpx_node.specs.Pending.{awaits}
-use Rattle.hpx_node.proofs.Alls.{all_at, find_passes}
-use Rattle.hpx_node.proofs.Refilled.{any_found, asked_within, gives_handles}
+use Rattle.hpx_tables.specs.Pending.{awaits}
+use Rattle.hpx_tables.proofs.Alls.{all_at, find_passes}
+use Rattle.hpx_tables.proofs.Refills.{any_found}
+use Rattle.hpx_node.proofs.Refilled.{asked_within, gives_handles}
 use Rattle.hpx_node.proofs.node.Node.give.Goals as goal
 
 pub returns-in_default-clause-gives : goal.returns-in_default-clause-gives

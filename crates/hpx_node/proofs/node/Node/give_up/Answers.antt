@@ -1,5 +1,5 @@
 use Rattle.std.proofs.Common.{◌≡◌, ◌∷◌, sym, ap}
-use Rattle.hpx_node.specs.Tables.{Tables}
+use Rattle.hpx_tables.specs.Tables.{Tables}
 use Rattle.hpx_node.proofs.Left.{up_goes}
 use Rattle.hpx_node.proofs.Steps.{stands_by}
 use Rattle.hpx_node.proofs.Paid.{stands_up, credit_log_is}

@@ -1,5 +1,5 @@
 use Rattle.std.proofs.Common.{◌<◌, ◌≡◌, arith, ap, length, get_or}
-use Rattle.hpx_node.specs.Tables.{Tables}
+use Rattle.hpx_tables.specs.Tables.{Tables}
 use Rattle.hpx_node.proofs.GivenUp.{gives_more, grows_more}
 use Rattle.hpx_node.proofs.node.Node.let_go_all.Goals as goal
 

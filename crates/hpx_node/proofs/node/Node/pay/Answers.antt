@@ -1,6 +1,6 @@
 use Rattle.std.proofs.Common.{◌≡◌, ◌∷◌, refl, sym, ap}
 use Rattle.hpx_journal.specs.Data.{MessageDue, PrintDue}
-use Rattle.hpx_node.specs.Tables.{Tables}
+use Rattle.hpx_tables.specs.Tables.{Tables}
 use Rattle.hpx_node.proofs.Left.{sent_goes}
 use Rattle.hpx_node.proofs.Steps.{stands_by}
 use Rattle.hpx_node.proofs.Paid.{stands_sent, stands_print}

@@ -3,7 +3,7 @@ use Rattle.std.specs.List.{AllByRecursion}
 use Rattle.hpx_part.specs.Parts.{at_all}
 use Rattle.hpx_node.specs.Changes.{OnlySends, AreAlike}
 use Rattle.hpx_node.specs.Commits.{written}
-use Rattle.hpx_node.specs.Fit.{IsFitDue}
+use Rattle.hpx_tables.specs.Fit.{IsFitDue}
 use Rattle.hpx_node.specs.Routes.{with_due}
 use Rattle.hpx_node.specs.Stands.{StandsWith, rules_of}
 use Rattle.hpx_node.proofs.node.Node.pay_all.Given as goal

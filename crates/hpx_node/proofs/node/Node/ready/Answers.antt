@@ -6,13 +6,13 @@ use Rattle.hpx_journal.specs.Data.{Give}
 use Rattle.hpx_journal.specs.Entries.{target_of}
 use Rattle.hpx_journal.specs.Local.{is_standing}
 use Rattle.hpx_part.proofs.Keyed.{slice_get_is}
-use Rattle.hpx_node.specs.Jobs.{IsFitJob}
+use Rattle.hpx_tables.specs.Jobs.{IsFitJob}
 use Rattle.hpx_node.specs.Paused.{IsPaused}
-use Rattle.hpx_node.specs.Pending.{awaits}
+use Rattle.hpx_tables.specs.Pending.{awaits}
 use Rattle.hpx_node.specs.Resumes.{stock_with, IsReadyFor}
-use Rattle.hpx_node.specs.Strange.{broken_near}
-use Rattle.hpx_node.specs.Tables.{Tables}
-use Rattle.hpx_node.proofs.Alls.{all_at, find_passes}
+use Rattle.hpx_tables.specs.Strange.{broken_near}
+use Rattle.hpx_tables.specs.Tables.{Tables}
+use Rattle.hpx_tables.proofs.Alls.{all_at, find_passes}
 use Rattle.hpx_node.proofs.Prepared.{made_long}
 use Rattle.hpx_node.proofs.ReadyStock.{last_is, brings_by, ready_stock, ready_long, ready_short}
 use Rattle.hpx_node.proofs.Refilled.{asked_within}

@@ -4,11 +4,11 @@ use Rattle.hpx_part.specs.Data.{Standing}
 use Rattle.hpx_part.proofs.Keyed.{slice_get_is}
 use Rattle.hpx_node.specs.Changes.{Writes}
 use Rattle.hpx_node.specs.Commits.{committed_from, Commits}
-use Rattle.hpx_node.specs.Fit.{IsKept}
-use Rattle.hpx_node.specs.Pending.{Waits}
+use Rattle.hpx_tables.specs.Fit.{IsKept}
+use Rattle.hpx_tables.specs.Pending.{Waits}
 use Rattle.hpx_node.specs.Resumes.{full_stock}
-use Rattle.hpx_node.specs.Tables.{Tables}
-use Rattle.hpx_node.proofs.Alls.{some_same}
+use Rattle.hpx_tables.specs.Tables.{Tables}
+use Rattle.hpx_tables.proofs.Alls.{some_same}
 use Rattle.hpx_node.proofs.Committing.{stands_then, stands_less}
 use Rattle.hpx_node.proofs.WaitsCommit.{known, stands, born_few, born_fit, cut_few, state_is_kept, due_is_fit, due_is_short, ups_are_paid, ups_are_short, waits_stands, waits_here, waits_serial, waits_written, waits_few, waits_light, waits_commits}
 use Rattle.hpx_node.proofs.node.Node.resume.Goals as goal

@@ -2,7 +2,7 @@ use Rattle.std.proofs.Common.{◌<◌, ◌≡◌, ◌∙◌, Some, length, sym, 
 use Rattle.std.specs.List.{slice_get}
 use Rattle.std.proofs.Common.{[], ◌∷◌, ◌++◌}
 use Rattle.hpx_part.specs.Data.{Fire}
-use Rattle.hpx_node.proofs.Alls.{some_same}
+use Rattle.hpx_tables.proofs.Alls.{some_same}
 use Rattle.hpx_journal.specs.Entries.{name_of}
 use Rattle.hpx_part.proofs.Keyed.{slice_get_is}
 use Rattle.hpx_node.proofs.Fired.{stands_fire}

@@ -1,7 +1,7 @@
 use Rattle.std.proofs.Common.{refl, sym, ap, ◌∙◌}
 use Rattle.hpx_agas.specs.Registries.{Registry}
 use Rattle.hpx_journal.specs.Data.{Parcel}
-use Rattle.hpx_node.specs.Tables.{Tables}
+use Rattle.hpx_tables.specs.Tables.{Tables}
 use Rattle.hpx_node.proofs.Recounted.{leaves_returned}
 use Rattle.hpx_node.proofs.Returned.{alive_by, dead_by, live_covers, recounted}
 use Rattle.hpx_node.proofs.node.Node.take_back.Goals as goal

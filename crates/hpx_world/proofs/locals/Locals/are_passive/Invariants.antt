@@ -1,6 +1,6 @@
 use Rattle.std.proofs.Common.{take}
 use Rattle.std.specs.List.{AllByRecursion}
-use Rattle.hpx_node.specs.Tables.{IsPassive}
+use Rattle.hpx_tables.specs.Tables.{IsPassive}
 use Rattle.hpx_world.proofs.locals.Locals.are_passive.Given as goal
 
 -- those so far are passive

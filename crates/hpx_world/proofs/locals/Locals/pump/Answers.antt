@@ -1,7 +1,7 @@
 use Rattle.std.proofs.Common.{subst, length, [], ◌∷◌, Some, refl, ap, ◌∙◌}
 use Rattle.hpx_part.specs.Data.{Out}
 use Rattle.hpx_node.specs.Stands.{rules_of}
-use Rattle.hpx_node.specs.Tables.{Tables}
+use Rattle.hpx_tables.specs.Tables.{Tables}
 use Rattle.hpx_node.proofs.Turns.{turn_within}
 use Rattle.hpx_world.specs.Quiet.{SendsNothing}
 use Rattle.hpx_world.specs.Turns.{Sends}

@@ -1,0 +1,10 @@
+pub mod Fit
+pub mod Pending
+pub mod Tables
+pub mod Free
+pub mod Jobs
+pub mod Births
+pub mod Splits
+pub mod Kept
+pub mod Awaited
+pub mod Strange

@@ -1,0 +1,140 @@
+//! The credit of an object in what a locality keeps, and in the messages on their way.
+ghost use Rattle.std.specs.Prelude.{◌≡◌, ◌-◌, ◌^◌, min, sum_by};
+ghost use Rattle.hpx_tables.specs.Kept.{credit_in, ids_held, credit_owed};
+
+use crate::kept::{Fit, Kept, Letter, Outgoing};
+use crate::pending::Pending;
+use hpx_parcel::parcel::Parcel;
+use hpx_value::acts::Acts;
+use hpx_value::gid::Gid;
+use std::collections::VecDeque;
+
+/// The credit of an object in ids.
+pub fn credit_in(ids: &[Gid], o: Gid) -> u128
+    ensures { result ≡ min (2 ^ 128 - 1) (credit_in o ids.now) }
+{
+    let mut sum = 0u128;
+    for i in 0..ids.len() {
+        let id = ids[i];
+        if o.names_same(id) {
+            sum = sum.saturating_add(id.credit());
+        }
+    }
+    sum
+}
+
+/// The same in states.
+pub fn held_in_states(objects: &[Kept], o: Gid) -> u128
+    ensures { result ≡ min (2 ^ 128 - 1) (sum_by (λ x. credit_in o x.state.ids) objects.now) }
+{
+    let mut sum = 0u128;
+    for i in 0..objects.len() {
+        sum = sum.saturating_add(credit_in(objects[i].state().ids.as_slice(), o));
+    }
+    sum
+}
+
+/// The same in actions that run.
+pub fn held_in_running(running: &[Fit], o: Gid) -> u128
+    ensures { result ≡ min (2 ^ 128 - 1) (sum_by (λ a. credit_in o a.ids) running.now) }
+{
+    let mut sum = 0u128;
+    for i in 0..running.len() {
+        sum = sum.saturating_add(credit_in(running[i].act().ids.as_slice(), o));
+    }
+    sum
+}
+
+/// The same in the hands of commits that wait.
+pub fn held_in_hands<A: Acts>(pending: &[Pending<A>], o: Gid) -> u128
+    ensures { result ≡ min (2 ^ 128 - 1) (sum_by (λ w. credit_in o w.hand) pending.now) }
+{
+    let mut sum = 0u128;
+    for i in 0..pending.len() {
+        sum = sum.saturating_add(credit_in(pending[i].hand(), o));
+    }
+    sum
+}
+
+/// The same in actions that wait.
+pub fn held_in_accepted(accepted: &VecDeque<Fit>, o: Gid) -> u128
+    ensures { result ≡ min (2 ^ 128 - 1) (sum_by (λ a. credit_in o a.ids) accepted.now.items) }
+{
+    let mut sum = 0u128;
+    for i in 0..accepted.len() {
+        sum = sum.saturating_add(credit_in(accepted[i].act().ids.as_slice(), o));
+    }
+    sum
+}
+
+/// The same in a message that holds its credits.
+pub fn held_in_parcel(parcel: &Parcel, o: Gid) -> u128
+    ensures { result ≡ min (2 ^ 128 - 1) (credit_in o (ids_held parcel.now)) }
+{
+    match parcel {
+        Parcel::Apply(act) => credit_in(act.ids.as_slice(), o),
+        Parcel::Move(act) => credit_in(act.ids.as_slice(), o),
+        Parcel::Go(act) => credit_in(act.ids.as_slice(), o),
+        Parcel::Object { action, state } => credit_in(action.ids.as_slice(), o).saturating_add(
+            credit_in(state.ids.as_slice(), o),
+        ),
+        _ => 0,
+    }
+}
+
+pub fn held_on_desk(desk: &VecDeque<Letter>, o: Gid) -> u128
+    ensures { result ≡ min (2 ^ 128 - 1) (sum_by (λ p. credit_in o (ids_held p)) desk.now.items) }
+{
+    let mut sum = 0u128;
+    for i in 0..desk.len() {
+        sum = sum.saturating_add(held_in_parcel(desk[i].parcel(), o));
+    }
+    sum
+}
+
+pub fn held_on_the_way(outgoing: &VecDeque<Outgoing>, o: Gid) -> u128
+    ensures { result ≡ min (2 ^ 128 - 1) (sum_by (λ x. credit_in o (ids_held x.parcel)) outgoing.now.items) }
+{
+    let mut sum = 0u128;
+    for i in 0..outgoing.len() {
+        sum = sum.saturating_add(held_in_parcel(outgoing[i].parcel.parcel(), o));
+    }
+    sum
+}
+
+/// The credit of an object in a message that owes it.
+pub fn owed_in_parcel(parcel: &Parcel, o: Gid) -> u128
+    ensures { result ≡ min (2 ^ 128 - 1) (credit_owed o parcel.now) }
+{
+    match parcel {
+        Parcel::Return(id) => credit_in(&[*id], o),
+        Parcel::Ask {
+            id,
+            asker: _,
+            entry: _,
+        } => credit_in(&[*id], o),
+        Parcel::Give { id, entry: _ } => credit_in(&[*id], o),
+        Parcel::Landed { id, place: _ } => credit_in(&[*id], o),
+        _ => 0,
+    }
+}
+
+pub fn owed_on_desk(desk: &VecDeque<Letter>, o: Gid) -> u128
+    ensures { result ≡ min (2 ^ 128 - 1) (sum_by (credit_owed o) desk.now.items) }
+{
+    let mut sum = 0u128;
+    for i in 0..desk.len() {
+        sum = sum.saturating_add(owed_in_parcel(desk[i].parcel(), o));
+    }
+    sum
+}
+
+pub fn owed_on_the_way(outgoing: &VecDeque<Outgoing>, o: Gid) -> u128
+    ensures { result ≡ min (2 ^ 128 - 1) (sum_by (λ x. credit_owed o x.parcel) outgoing.now.items) }
+{
+    let mut sum = 0u128;
+    for i in 0..outgoing.len() {
+        sum = sum.saturating_add(owed_in_parcel(outgoing[i].parcel.parcel(), o));
+    }
+    sum
+}

@@ -1,0 +1,197 @@
+//! Actions, objects and messages, each with the fact that it is well formed.
+ghost use Rattle.std.specs.Prelude.{◌≡◌, IfOk};
+ghost use Rattle.hpx_value.specs.Values.{bare_state, named};
+ghost use Rattle.hpx_journal.specs.Entries.{name_of};
+ghost use Rattle.hpx_parcel.specs.Parcels.{IsParcel};
+ghost use Rattle.hpx_tables.specs.Fit.{IsFit, IsKept, parcel_for};
+
+use hpx_journal::entry::{Name, Standing};
+use hpx_parcel::parcel::Parcel;
+use hpx_value::codes::MOVE;
+use hpx_value::exact::Exact;
+use hpx_value::gid::Gid;
+use hpx_value::items::Items;
+use hpx_value::memory::OutOfMemory;
+use hpx_value::value::{Act, Message, State};
+use std::alloc::Global;
+use std::marker::Model;
+
+/// An action that has a spelling.
+#[derive(Drop)]
+pub struct Fit {
+    act: Act,
+}
+
+impl Model for Fit {
+    ghost use Rattle.hpx_journal.specs.Data.{Act};
+    ghost use Rattle.hpx_tables.specs.Fit.{IsFit};
+
+    ghost Value = { Act };
+
+    ghost view = { λ f. f.act };
+
+    ghost invariant = { λ f. IsFit f.act };
+}
+
+impl Fit {
+    /// An action that is well formed.
+    pub fn new(act: Act) -> Fit
+        requires { IsFit act }
+        ensures { result ≡ act }
+    {
+        Fit { act }
+    }
+
+    /// The action, to be looked at.
+    pub fn act(&self) -> &Act
+        ensures act { result.now ≡ self.now }
+        ensures fit { IsFit self.now }
+    {
+        &self.act
+    }
+
+    /// What it is called.
+    pub fn name(&self) -> Name
+        ensures { result ≡ name_of self.now }
+    {
+        Name {
+            origin: self.act.origin,
+            serial: self.act.serial,
+        }
+    }
+
+    /// The message that carries it to its object.
+    pub fn into_letter(self) -> Letter
+        ensures { result ≡ parcel_for self }
+    {
+        if self.act.code == MOVE {
+            Letter::new(Parcel::Move(self.act))
+        } else {
+            Letter::new(Parcel::Apply(self.act))
+        }
+    }
+}
+
+/// A message that has a spelling.
+#[derive(Drop)]
+pub struct Letter {
+    parcel: Parcel,
+}
+
+impl Model for Letter {
+    ghost use Rattle.hpx_journal.specs.Data.{Parcel};
+    ghost use Rattle.hpx_parcel.specs.Parcels.{IsParcel};
+
+    ghost Value = { Parcel };
+
+    ghost view = { λ l. l.parcel };
+
+    ghost invariant = { λ l. IsParcel l.parcel };
+}
+
+impl Letter {
+    /// A parcel that is well formed.
+    pub fn new(parcel: Parcel) -> Letter
+        requires { IsParcel parcel }
+        ensures { result ≡ parcel }
+    {
+        Letter { parcel }
+    }
+
+    /// The parcel.
+    pub fn into_parcel(self) -> Parcel
+        ensures parcel { result ≡ self }
+        ensures fit { IsParcel self }
+    {
+        self.parcel
+    }
+
+    /// The parcel, to be looked at.
+    pub fn parcel(&self) -> &Parcel
+        ensures parcel { result.now ≡ self.now }
+        ensures fit { IsParcel self.now }
+    {
+        &self.parcel
+    }
+}
+
+/// A message that goes to another locality.
+#[derive(Drop)]
+pub struct Outgoing {
+    pub to: u32,
+    pub parcel: Letter,
+}
+
+/// An object whose state is well formed.
+#[derive(Drop)]
+pub struct Kept {
+    standing: Standing,
+}
+
+impl Model for Kept {
+    ghost use Rattle.hpx_part.specs.Data.{Standing};
+    ghost use Rattle.hpx_tables.specs.Fit.{IsKept};
+
+    ghost Value = { Standing };
+
+    ghost view = { λ k. k.standing };
+
+    ghost invariant = { λ k. IsKept k.standing };
+}
+
+impl Kept {
+    /// An object with a well-formed state.
+    pub fn new(object: Gid, state: State) -> Kept
+        requires { IsKept (record { object = object; state = state }) }
+        ensures { result ≡ record { object = object; state = state } }
+    {
+        Kept {
+            standing: Standing { object, state },
+        }
+    }
+
+    /// Its id.
+    pub fn object(&self) -> Gid
+        ensures { result ≡ self.now.object }
+    {
+        self.standing.object
+    }
+
+    /// What it keeps.
+    pub fn state(&self) -> &State
+        ensures state { result.now ≡ self.now.state }
+        ensures kept { IsKept self.now }
+    {
+        &self.standing.state
+    }
+}
+
+/// A state without credits.
+pub fn bare_state(alloc: Global, state: &State) -> Result<State, OutOfMemory>
+    ensures { IfOk result (λ bare. bare ≡ bare_state state.now) }
+{
+    let mut ids = Vec::new(alloc);
+    for id in state.ids.as_slice() {
+        ids.push(id.bare())?;
+    }
+    Ok(State {
+        drawn: state.drawn,
+        values: state.values.duplicate(alloc)?,
+        conts: state.conts.duplicate(alloc)?,
+        ids: Items::from_vec(ids),
+    })
+}
+
+/// A message under a name.
+pub fn named(name: Name, message: Message) -> Act
+    ensures { result ≡ named name.origin name.serial message }
+{
+    Act {
+        origin: name.origin,
+        serial: name.serial,
+        code: message.code,
+        args: message.args,
+        cont: message.cont,
+        ids: message.ids,
+    }
+}
