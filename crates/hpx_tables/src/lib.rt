@@ -10,3 +10,5 @@ pub mod kept;
 pub mod pending;
 pub mod splits;
 pub mod strange;
+#[cfg(test)]
+mod tests;
