@@ -1,26 +1,26 @@
 -- The line by which the console has its accumulator made, over the plain pool at boot.
 use Rattle.std.specs.Prelude.{pos, ◌%◌, ◌==◌, ◌&&◌, codes}
-use Rattle.std.proofs.Common.{ℕ, zero, suc, Bool, true, false, cond, List, [], ◌∷◌, ◌++◌, ◌≡◌, ◌+◌, ◌<◌, ◌≤◌, Option, Some, None, refl, sym, ap, ◌∙◌, subst, arith, inl, inr, ◌⊎◌}
+use Rattle.std.proofs.Common.{ℕ, zero, suc, Bool, true, false, cond, List, [], ◌∷◌, ◌++◌, ◌≡◌, ◌<◌, ◌≤◌, Option, Some, None, refl, sym, ap, ◌∙◌, subst, arith, inl, inr, ◌⊎◌}
 use Rattle.std.proofs.Math.Nat.{mod-lt}
 use Rattle.std.proofs.lemmas.Bool.{eq-eqb}
 use Rattle.std.specs.List.{find, list_any}
 use Rattle.std.specs.Option.{option_map}
 use Rattle.hpx_value.specs.Ids.{bare_id, same_object}
 use Rattle.hpx_value.specs.Values.{named, empty_state}
-use Rattle.hpx_value.specs.Hands.{session, state_after}
+use Rattle.hpx_value.specs.Hands.{session}
 use Rattle.hpx_parcel.specs.declared.parcel.Parcel.{Parcel}
 use Rattle.hpx_journal.specs.Entries.{line_message}
 use Rattle.hpx_journal.specs.Local.{is_standing}
 use Rattle.hpx_journal.specs.Roots.{root, roots_of_first}
-use Rattle.hpx_journal.specs.Pool.{Pool, target_in, outcome_in, sent_by, AreNew, boot_pool}
+use Rattle.hpx_journal.specs.Pool.{Pool, outcome_in, AreNew, boot_pool}
 use Rattle.hpx_journal.specs.Sessions.{Steps, at_rest}
 use Rattle.hpx_journal.proofs.Same.{same_object-refl}
-use Rattle.app_console.specs.Data.{Id, Value, Int, Text, Ref, State, Message, Outcome, Root}
+use Rattle.app_console.specs.Data.{Id, Int, Text, Ref, State, Message, Outcome, Root}
 use Rattle.app_console.specs.Acts.{act_of, question, spoken, told, accumulator}
 use Rattle.app_console.specs.PlainText.{opening}
 use Rattle.app_console.specs.TextLaw.{rules}
 use Rattle.app_console.proofs.Only.{IsNext, IsPlainNext, only, only_plain, none_acts}
-use Rattle.app_console.proofs.Phases.{session_state, At, IsWaiting, place, kind_apart}
+use Rattle.app_console.proofs.Phases.{At, IsWaiting, place, kind_apart}
 
 -- the namespace that makes accumulators
 abbrev components : ℕ → Id

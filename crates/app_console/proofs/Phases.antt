@@ -1,14 +1,13 @@
 -- A line of the console over the plain pool: it waits, the accumulator is asked, it answers, and it is over.
-use Rattle.std.specs.Prelude.{ℤ, pos, ◌%◌, ◌+ℤ◌, ◌==◌, if◌then◌else◌}
-use Rattle.std.proofs.Common.{ℕ, zero, suc, Bool, true, false, cond, List, [], ◌∷◌, ◌++◌, ◌≡◌, ◌≢◌, ◌+◌, ◌<◌, ◌≤◌, Option, Some, None, refl, sym, ap, ◌∙◌, subst, arith, inl, inr, ◌⊎◌}
+use Rattle.std.specs.Prelude.{ℤ, pos, ◌+ℤ◌, if◌then◌else◌}
+use Rattle.std.proofs.Common.{ℕ, zero, suc, Bool, true, false, List, [], ◌∷◌, ◌++◌, ◌≡◌, ◌≢◌, ◌+◌, ◌<◌, ◌≤◌, Option, Some, None, refl, sym, ap, ◌∙◌, subst, arith, inl, inr, ◌⊎◌}
 use Rattle.std.proofs.lemmas.Bool.{cases_Bool, lt-ltb, le-leb}
-use Rattle.std.specs.List.{list_any}
 use Rattle.hpx_value.specs.Ids.{same_object}
 use Rattle.hpx_value.specs.Values.{named}
 use Rattle.hpx_value.specs.Hands.{session, state_after}
 use Rattle.hpx_parcel.specs.declared.parcel.Parcel.{Parcel}
 use Rattle.hpx_journal.specs.Entries.{line_message}
-use Rattle.hpx_journal.specs.Pool.{Pool, target_in, outcome_in, sent_by, with_made}
+use Rattle.hpx_journal.specs.Pool.{Pool, target_in, outcome_in, sent_by}
 use Rattle.hpx_journal.specs.Sessions.{Steps}
 use Rattle.hpx_journal.proofs.Same.{same_object-true}
 use Rattle.app_console.specs.declared.console.Command.{Command}

@@ -1,11 +1,11 @@
 -- The acts keep the laws.
-use Rattle.std.specs.Prelude.{ℕ, zero, suc, ℤ, pos, negsuc, Bool, true, false, cond, nat_lt, nat_le, ◌/◌, List, [], ◌∷◌, ◌++◌, ◌≡◌, ◌≢◌, ◌+◌, ◌-◌, ◌+ℤ◌, ◌%◌, ◌<◌, ◌≤◌, ◌==◌, ◌&&◌, ◌⊎◌, Option, Some, None, length, map, flat_map, refl, if◌then◌else◌, codes}
+use Rattle.std.specs.Prelude.{ℕ, zero, suc, ℤ, pos, negsuc, Bool, true, false, cond, nat_lt, nat_le, ◌/◌, List, [], ◌∷◌, ◌++◌, ◌≡◌, ◌≢◌, ◌+◌, ◌+ℤ◌, ◌%◌, ◌<◌, ◌≤◌, ◌==◌, ◌&&◌, ◌⊎◌, Option, Some, None, length, map, flat_map, refl, if◌then◌else◌, codes}
 use Rattle.std.specs.List.{AllByRecursion, count_by}
 use Rattle.std.specs.Fmt.{digits, digits_onto, digit_glyph, decimal}
 use Rattle.std.specs.Str.{bytes_eq}
 use Rattle.std.proofs.Common.{sym, ◌∙◌, ap, subst, inl, inr, arith, length-append, lit≤, lit<}
 use Rattle.std.proofs.Math.Nat.{mod-lt}
-use Rattle.std.proofs.lemmas.Bool.{cond_both, and_parts, eqb-true, ne_eqb, le-ltb, lt-ltb, le-leb}
+use Rattle.std.proofs.lemmas.Bool.{cond_both, and_parts, eqb-true, le-ltb, lt-ltb, le-leb}
 use Rattle.std.proofs.lemmas.List.{length-map}
 use Rattle.std.proofs.lemmas.List.Sums.{count_by-le-length}
 use Rattle.hpx_value.specs.Ids.{bare, bare_id}
@@ -21,7 +21,7 @@ use Rattle.app_console.specs.declared.console.Command.{Command}
 use Rattle.app_console.specs.declared.console.Command.TheVariants.{Add, Query, Reset, Help, BadNumber, BadCommand}
 use Rattle.app_console.specs.declared.effect.Effect.{Effect}
 use Rattle.app_console.specs.declared.effect.Effect.TheVariants.{Unlisted, Tells, Asks, Opens, Prints, Takes, Makes, Keeps}
-use Rattle.app_console.specs.Console.{command_of, fits, commands, bad_number, bad_command, not_ready, number_text, fault_word, fault_text}
+use Rattle.app_console.specs.Console.{command_of, fits, number_text, fault_word, fault_text}
 use Rattle.app_console.specs.Data.{Id, Value, Nothing, Flag, Int, Text, Ref, Fault, Ints, Cont, State, Act, Place, Root, Sending, Outcome}
 use Rattle.app_console.specs.Acts
 

@@ -17,7 +17,7 @@ use Rattle.hpx_tables.specs.Awaited.{answered_by}
 use Rattle.hpx_tables.specs.Births.{Makes, birth_of, births_of, objects_of, records_of, ids_of}
 use Rattle.hpx_node.specs.Changes.{AreAlike}
 use Rattle.hpx_tables.specs.Splits.{splits_from}
-use Rattle.hpx_node.specs.Commits.{written, ups, committed_from, state_dealt, due_dealt, with_settled, committed_to, IsPrepared}
+use Rattle.hpx_node.specs.Commits.{written, ups, committed_from, due_dealt, with_settled, committed_to, IsPrepared}
 use Rattle.hpx_tables.specs.Fit.{IsFit}
 use Rattle.hpx_tables.specs.Jobs.{IsFitJob}
 use Rattle.hpx_node.specs.Paused.{ArePaused}

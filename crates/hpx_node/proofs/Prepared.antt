@@ -1,5 +1,5 @@
 -- What the laws of actions say of a commit before its first change.
-use Rattle.std.proofs.Common.{ℕ, suc, List, [], ◌∷◌, ◌++◌, ◌≡◌, ◌+◌, ◌<◌, ◌≤◌, Option, Some, None, length, map, length-append, refl, ap, arith}
+use Rattle.std.proofs.Common.{ℕ, suc, List, [], ◌∷◌, ◌++◌, ◌≡◌, ◌+◌, ◌≤◌, Option, Some, None, length, map, length-append, refl, ap, arith}
 use Rattle.std.specs.List.{AllByRecursion}
 use Rattle.hpx_value.specs.Hands.{hand_ids}
 use Rattle.hpx_value.specs.Laws.{KeepsLaws, IsManaged}

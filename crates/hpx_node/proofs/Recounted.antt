@@ -1,6 +1,6 @@
 -- Records after credit came home or was asked for, and the objects that are left.
-use Rattle.std.proofs.Common.{ℕ, zero, suc, Bool, true, false, cond, List, [], ◌∷◌, ◌≡◌, Option, Some, None, take, refl, sym, ap, ◌∙◌, inl, inr, subst}
-use Rattle.std.specs.Prelude.{IfSome, is_some, option_map, option_and_then}
+use Rattle.std.proofs.Common.{ℕ, zero, suc, Bool, true, false, List, [], ◌∷◌, ◌≡◌, Option, Some, None, take, refl, sym, ap, ◌∙◌, inl, inr, subst}
+use Rattle.std.specs.Prelude.{IfSome, option_map, option_and_then}
 use Rattle.std.specs.List.{find, slice_get, remove}
 use Rattle.std.proofs.lemmas.Bool.{cases_Bool}
 use Rattle.hpx_value.specs.Ids.{same_object}
@@ -13,7 +13,7 @@ use Rattle.hpx_journal.specs.Data.{Id, Parcel, Apply, Return, Ask, Give, Cached,
 use Rattle.hpx_journal.specs.Local.{is_standing}
 use Rattle.hpx_part.specs.Data.{Standing}
 use Rattle.hpx_tables.specs.Strange.{is_live}
-use Rattle.hpx_node.specs.Recounts.{Recounts, Leaves}
+use Rattle.hpx_node.specs.Recounts.{Leaves}
 use Rattle.hpx_tables.specs.Tables.{Tables}
 use Rattle.hpx_tables.proofs.Alls.{some_same, find_passes}
 use Rattle.hpx_node.proofs.Returned.{live_record}

@@ -1,5 +1,5 @@
 -- Credit that was asked for is given to a commit that waits for it.
-use Rattle.std.proofs.Common.{ℕ, zero, suc, Bool, true, false, cond, List, [], ◌∷◌, ◌++◌, ◌≡◌, ◌≢◌, ◌+◌, ◌≤◌, ◌<◌, ◌==◌, Option, Some, None, map, set, take, drop, length, length-append, get_or, refl, sym, ap, ◌∙◌, arith, inl, inr, subst}
+use Rattle.std.proofs.Common.{ℕ, zero, suc, Bool, true, false, cond, List, [], ◌∷◌, ◌++◌, ◌≡◌, ◌≢◌, ◌+◌, ◌≤◌, ◌<◌, ◌==◌, Option, Some, None, map, set, take, drop, length, length-append, refl, sym, ap, ◌∙◌, arith, inl, inr, subst}
 use Rattle.std.specs.Prelude.{flat_map, ◌&&◌, ◌⊎◌, not, is_some, MatchOption}
 use Rattle.std.specs.List.{sum_by, count_by, filter, find, list_any, slice_get, remove, AllByRecursion}
 use Rattle.std.proofs.lemmas.Bool.{cases_Bool, eqb-true, eq-eqb}
@@ -21,7 +21,7 @@ use Rattle.hpx_part.specs.Shows.{Leads, same_refusal}
 use Rattle.hpx_part.proofs.CreditRows.{follows_given}
 use Rattle.hpx_part.proofs.Credit.{token_own}
 use Rattle.hpx_part.proofs.Lists.{sum_middle}
-use Rattle.hpx_part.proofs.Keyed.{counts_of, counts_true, any_counted, counted_any, split_get, find_step, get_slice_get}
+use Rattle.hpx_part.proofs.Keyed.{counts_of, counts_true, any_counted, counted_any, split_get}
 use Rattle.hpx_commit.specs.Deals.{is_managed, log_of}
 use Rattle.hpx_tables.specs.declared.pending.Asked.{Asked}
 use Rattle.hpx_tables.specs.Pending.{awaits, Waits, action_of, fired_of, ids_named, own_ids, is_asked, asking_of, refusal_of, refusals_of, is_asked_for, refilled, Refills}
@@ -31,7 +31,7 @@ use Rattle.hpx_node.specs.Seen.{tokens, asks, view}
 use Rattle.hpx_node.specs.Stands.{IsTidy, rules_of}
 use Rattle.hpx_tables.specs.Strange.{brings_right}
 use Rattle.hpx_node.specs.Handled.{in_hand, TakesUp, Handles}
-use Rattle.hpx_tables.proofs.Alls.{some_same, find_passes, all_at, all_remove, all_set}
+use Rattle.hpx_tables.proofs.Alls.{some_same, all_at, all_remove, all_set}
 use Rattle.hpx_node.proofs.HandPuts.{put_there, put_elsewhere, put_names, put_weighs, put_behind, put_asked}
 use Rattle.hpx_node.proofs.GivenUp.{weigh_none, weigh_some, owed_some}
 use Rattle.hpx_node.proofs.InHand.{hand_sum}

@@ -1,5 +1,5 @@
 -- Each id of a hand is halved once less often than it is named, whether some of it is split ahead or not.
-use Rattle.std.proofs.Common.{ℕ, zero, suc, List, [], ◌∷◌, ◌++◌, ◌≡◌, ◌+◌, ◌-◌, ◌≤◌, ◌<◌, drop, length, length-append, refl, ap, arith}
+use Rattle.std.proofs.Common.{ℕ, zero, suc, List, [], ◌∷◌, ◌≡◌, ◌+◌, ◌-◌, ◌≤◌, drop, length, length-append, refl, ap, arith}
 use Rattle.hpx_value.specs.Hands.{session, id_at}
 use Rattle.hpx_journal.specs.Data.{Id}
 use Rattle.hpx_commit.specs.Deals.{named, AreWithin}

@@ -1,5 +1,5 @@
 -- What was asked for is found, and given.
-use Rattle.std.proofs.Common.{ℕ, Bool, true, List, [], ◌∷◌, ◌≡◌, ◌+◌, ◌<◌, ◌==◌, cond, Option, Some, None, set, drop, get_or, length, subst, refl, sym, ap, ◌∙◌, inl, inr}
+use Rattle.std.proofs.Common.{ℕ, Bool, true, List, [], ◌∷◌, ◌≡◌, ◌+◌, ◌<◌, ◌==◌, cond, Option, Some, None, set, drop, get_or, length, subst, sym, ap, ◌∙◌, inl, inr}
 use Rattle.std.proofs.lemmas.Bool.{cases_Bool, eqb-true, eq-eqb}
 use Rattle.std.specs.List.{find, list_any, slice_get, remove}
 use Rattle.hpx_value.specs.Ids.{bare}
@@ -8,6 +8,7 @@ use Rattle.hpx_part.proofs.Keyed.{find_step, get_slice_get}
 use Rattle.hpx_commit.specs.Deals.{log_of}
 use Rattle.hpx_tables.specs.Pending.{Asked, Waits, is_asked_for, Refills}
 use Rattle.hpx_tables.proofs.Alls.{find_passes}
+
 -- what passes is found
 pub any_found : {X : Type 0} (p : X → Bool) (xs : List X) → list_any p xs ≡ true → find p xs ≡ None → ⊥
 any_found p [] h none = cc

@@ -47,7 +47,12 @@ fn the_roots_stand_at_boot(rt: HostRuntime) -> Result<(), Fail> {
     let alloc = rt.alloc();
     let first = roots(alloc, 3, 0)?;
     assert!(rt; shown(first.as_slice(), &[1, 2, 4, 3, 5, 7]));
-    assert!(rt; matches!(first[2].state().values.as_slice().first(), Some(Value::Int(3))));
+    assert!(rt;
+        matches!(
+            first[2].state().values.as_slice().first(),
+            Some(Value::Int(3))
+        )
+    );
     let last = roots(alloc, 3, 2)?;
     assert!(rt; shown(last.as_slice(), &[3, 5, 7]));
     assert!(rt; last[0].object().home() == 2);
@@ -131,7 +136,12 @@ fn counts(alloc: Global, text: &[u8], held: u128, owed: u128) -> Result<bool, Fa
 #[test]
 fn credit_is_held_by_actions_and_owed_by_answers(rt: HostRuntime) -> Result<(), Fail> {
     let alloc = rt.alloc();
-    let ids = [number().with_log(8), Gid::new(0, 16, 1).with_log(6), number().with_log(7), number()];
+    let ids = [
+        number().with_log(8),
+        Gid::new(0, 16, 1).with_log(6),
+        number().with_log(7),
+        number(),
+    ];
     assert!(rt; credit_in(&ids, number()) == 384);
     assert!(rt; counts(alloc, ADD, 128, 0)?);
     assert!(rt; counts(alloc, RETURN, 0, 128)?);
@@ -215,7 +225,11 @@ fn an_action_is_free_where_its_object_stands_and_none_runs_on_it(
 /// What was written, in short: a split of a log, or an ask.
 fn written(book: &Journal) -> (Option<u8>, Option<u8>, bool) {
     match book.as_slice() {
-        [one, two, three] => (split(&one.event), split(&two.event), matches!(three.event, Event::Asked { object: _ })),
+        [one, two, three] => (
+            split(&one.event),
+            split(&two.event),
+            matches!(three.event, Event::Asked { object: _ }),
+        ),
         _ => (None, None, false),
     }
 }

@@ -1,5 +1,5 @@
 -- A fabric that tells, with nothing in flight and nothing in its trace, carries for an empty journal.
-use Rattle.std.proofs.Common.{ℕ, List, [], ◌≡◌, Option, Some, None, refl}
+use Rattle.std.proofs.Common.{List, [], ◌≡◌, Option, Some, None, refl}
 use Rattle.hpx_journal.specs.Entries.{Frame, Rules}
 use Rattle.hpx_journal.specs.declared.entry.Entry.{Entry}
 use Rattle.hpx_ports.specs.declared.fabric.Wire.{Wire}

@@ -8,7 +8,7 @@ use Rattle.app_console.specs.PlainText.{IsFront, is_quit, is_newline, before_qui
 use Rattle.hpx_top.specs.Reader.{Reading, HasRead, lines_left}
 use Rattle.hpx_top.specs.declared.session.SessionFault.{SessionFault}
 use Rattle.hpx_top.specs.declared.session.SessionFault.TheVariants.{Read, Write, Fabric, JournalFull, OutOfMemory, BadFrame, Strange, InputFull}
-use Rattle.hpx_top.specs.Session.{lines_fed, HasFed, IsCut, IsCutIn, IsCutAtOpening, IsCutBy, IsOver, IsUnderWay, IsStopped}
+use Rattle.hpx_top.specs.Session.{lines_fed, IsCut, IsCutIn, IsCutAtOpening, IsCutBy, IsOver, IsUnderWay, IsStopped}
 use Rattle.hpx_top.specs.Ends.{IsWhole, IsBrokenOff, IsBrokenIn, IsBrokenAtOpening, IsBegun, IsEndedBy, IsReadFrom, IsReadUp, IsReadOn}
 use Rattle.hpx_top.proofs.LineLemmas.{told_rest, before_quit_append, text_front, front_then, followed_nothing}
 use Rattle.hpx_top.proofs.SessionLemmas.{under_cut, under_in, under_opening, under_over}

@@ -1,7 +1,7 @@
 -- A text that is fed, and how serving it ends.
-use Rattle.std.specs.Prelude.{◌⊎◌, Result, Ok, Err, OnOk, OnErr, IfOk, IfErr, ◌≢◌, nat_lt, not, ◌&&◌, ◌==◌}
+use Rattle.std.specs.Prelude.{◌⊎◌, Result, Ok, Err, OnOk, OnErr, IfErr, ◌≢◌}
 use Rattle.std.specs.List.{concat, slice_get, AllByRecursion}
-use Rattle.std.proofs.Common.{ℕ, zero, suc, Bool, cond, List, [], ◌∷◌, ◌++◌, ◌≡◌, ◌+◌, ◌^◌, ◌≤◌, ◌<◌, length, drop, map, set, Option, Some, refl, sym, ap, ◌∙◌, subst, inl, inr, arith, lit≤, append_assoc}
+use Rattle.std.proofs.Common.{ℕ, zero, suc, Bool, cond, List, [], ◌∷◌, ◌++◌, ◌≡◌, ◌+◌, ◌≤◌, length, drop, set, Option, Some, refl, sym, ap, ◌∙◌, subst, inl, inr, arith, lit≤, append_assoc}
 use Rattle.std.proofs.lemmas.Bool.{cond_both}
 use Rattle.hpx_value.specs.declared.profile.Profile.{Profile}
 use Rattle.hpx_journal.specs.declared.entry.Name.{Name}
@@ -9,7 +9,6 @@ use Rattle.hpx_journal.specs.declared.entry.Entry.{Entry}
 use Rattle.hpx_journal.specs.declared.entry.Event.TheVariants.{Line}
 use Rattle.hpx_journal.specs.Data.{Act, Parcel}
 use Rattle.hpx_journal.specs.Entries.{Rules, target_of, line_act}
-use Rattle.hpx_journal.specs.Laws.{count_events, is_failed}
 use Rattle.hpx_journal.specs.Natives.{NothingMoves}
 use Rattle.hpx_journal.specs.Pool.{NoneFails, prints_of}
 use Rattle.hpx_journal.specs.Sessions.{BeginsWith}
@@ -27,7 +26,7 @@ use Rattle.hpx_world.specs.declared.turns.Turned.{Turned}
 use Rattle.hpx_world.specs.declared.turns.Turned.TheVariants as turned
 use Rattle.hpx_world.specs.Places.{Places}
 use Rattle.hpx_world.specs.Promises.{KeepsPromises}
-use Rattle.hpx_world.specs.Quiet.{NoneRuns, IsAtRest, running_in}
+use Rattle.hpx_world.specs.Quiet.{NoneRuns, IsAtRest}
 use Rattle.hpx_world.specs.Sound.{DoneAt}
 use Rattle.hpx_world.specs.Steps.{IsUnfed}
 use Rattle.hpx_world.specs.Turns.{Feeds as FeedsAt, next_name, DidFeed}

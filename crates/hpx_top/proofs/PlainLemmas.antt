@@ -1,8 +1,8 @@
 -- Inputs, lines and texts, one line after another.
-use Rattle.std.specs.Prelude.{ℕ, ℤ, Bool, true, false, cond, List, [], ◌∷◌, ◌++◌, ◌≡◌, ◌||◌, length, refl, if◌then◌else◌}
-use Rattle.std.specs.List.{slice_split, onto_first, concat, list_any, All}
+use Rattle.std.specs.Prelude.{ℕ, Bool, true, false, cond, List, [], ◌∷◌, ◌++◌, ◌≡◌, refl, if◌then◌else◌}
+use Rattle.std.specs.List.{slice_split, onto_first, list_any, All}
 use Rattle.std.specs.Str.Lines.{strip_carriage_return}
-use Rattle.std.proofs.Common.{sym, ap, ◌∙◌, arith, append_assoc, append-nil, zero, suc}
+use Rattle.std.proofs.Common.{sym, ap, ◌∙◌, arith, zero, suc}
 use Rattle.std.proofs.lemmas.Bool.{or_parts}
 use Rattle.std.proofs.lemmas.List.Splits.{slice_split_at, slice_split_none}
 use Rattle.app_console.specs.Console.{is_filled}

@@ -10,7 +10,7 @@ use Rattle.hpx_journal.specs.declared.entry.Entry.{Entry}
 use Rattle.hpx_journal.specs.Entries.{Rules}
 use Rattle.hpx_journal.specs.Whole.{IsLegal, replayed}
 use Rattle.hpx_journal.specs.Pool.{NoneFails, prints_of}
-use Rattle.hpx_journal.specs.Sessions.{IsSession, IsBlock, IsSettled, entries_of, shown}
+use Rattle.hpx_journal.specs.Sessions.{IsSession, IsSettled, entries_of, shown}
 use Rattle.hpx_journal.proofs.Sessions.{session_grows, entries_append, shown_append}
 use Rattle.hpx_node.specs.Stands.{rules_of}
 use Rattle.hpx_parcel.specs.Reading.{parcel_of}

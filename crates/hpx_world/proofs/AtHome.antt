@@ -1,10 +1,10 @@
 -- While nothing moves, what an audit tells of stands at its home.
-use Rattle.std.proofs.Common.{ℕ, List, [], ◌∷◌, ◌++◌, ◌≡◌, ◌≤◌, append-nil, sym, arith}
+use Rattle.std.proofs.Common.{List, [], ◌∷◌, ◌≤◌, append-nil, sym, arith}
 use Rattle.std.specs.List.{AllByRecursion}
 use Rattle.hpx_journal.specs.Entries.{Rules}
 use Rattle.hpx_journal.specs.Laws.{HasGrammar, KeepsActLaws}
 use Rattle.hpx_journal.specs.Natives.{NothingMoves, StandsAtHome}
-use Rattle.hpx_journal.specs.Whole.{replayed, credit_sum, recorded_in}
+use Rattle.hpx_journal.specs.Whole.{replayed, recorded_in}
 use Rattle.hpx_journal.proofs.Credited.{credit_alive}
 use Rattle.hpx_journal.proofs.Homes.{object_stands}
 use Rattle.hpx_journal.proofs.Still.{legal_no_left}

@@ -3,8 +3,7 @@ use Rattle.std.proofs.Common.{true, ℕ, List, [], ◌∷◌, ◌++◌, ◌≡�
 use Rattle.std.specs.List.{count_by, list_any}
 use Rattle.std.proofs.lemmas.List.Sums.{sum_by-cons, sum_by-append}
 use Rattle.hpx_journal.specs.Entries.{Frame, Rules, same_frame}
-use Rattle.hpx_journal.specs.Laws.{ins, outs}
-use Rattle.hpx_journal.specs.Whole.{IsCarried}
+use Rattle.hpx_journal.specs.Laws.{ins}
 use Rattle.hpx_journal.proofs.Bags.{sum_by-without}
 use Rattle.hpx_journal.proofs.Grow.{flight_on_road}
 use Rattle.hpx_journal.proofs.Same.{same_frame-true, same_frame-refl}

@@ -1,5 +1,5 @@
 -- How many frames went and came, at all localities together.
-use Rattle.std.proofs.Common.{ℕ, zero, suc, List, [], ◌∷◌, ◌++◌, ◌≡◌, ◌+◌, ◌<◌, Some, None, Option, refl, sym, ap, ◌∙◌, subst, arith, length, length-append}
+use Rattle.std.proofs.Common.{ℕ, zero, suc, List, [], ◌∷◌, ◌≡◌, ◌+◌, Some, None, Option, refl, ap, ◌∙◌, arith, length, length-append}
 use Rattle.std.specs.List.{slice_get, sum_by, count_by}
 use Rattle.std.proofs.lemmas.List.Sums.{sum_by-cons}
 use Rattle.hpx_value.specs.declared.profile.Profile.{Profile}
@@ -15,11 +15,10 @@ use Rattle.hpx_journal.proofs.Quiet.{legal_lengths}
 use Rattle.hpx_journal.proofs.Same.{same_frame-refl}
 use Rattle.hpx_part.specs.Data.{Entry}
 use Rattle.hpx_part.proofs.Keyed.{counts_of, counts_true}
-use Rattle.hpx_ports.specs.Frames.{Delivers}
 use Rattle.hpx_ports.specs.declared.fabric.Wire.{Wire}
 use Rattle.hpx_node.specs.Stands.{rules_of}
 use Rattle.hpx_tables.specs.Tables.{Tables}
-use Rattle.hpx_world.specs.Away.{IsCarrying, Fetches, road_of, listed}
+use Rattle.hpx_world.specs.Away.{IsCarrying, Fetches, road_of}
 use Rattle.hpx_world.specs.Sound.{Meaning, IsSound}
 use Rattle.hpx_world.proofs.Sound.{sound_legal}
 

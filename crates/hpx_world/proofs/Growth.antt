@@ -1,5 +1,5 @@
 -- What the entries of one call do to the road, and to what went and came.
-use Rattle.std.proofs.Common.{true, ℕ, List, [], ◌∷◌, ◌++◌, ◌≡◌, ◌<◌, ◌≤◌, refl, sym, ap, ◌∙◌, subst, arith, length, append-nil, append_assoc}
+use Rattle.std.proofs.Common.{true, ℕ, List, [], ◌∷◌, ◌++◌, ◌≡◌, ◌<◌, refl, sym, ap, ◌∙◌, subst, append-nil, append_assoc}
 use Rattle.std.specs.List.{list_any, AllByRecursion}
 use Rattle.hpx_journal.specs.Bags.{Covers, minus}
 use Rattle.hpx_journal.specs.Entries.{Rules, Frame, same_frame}

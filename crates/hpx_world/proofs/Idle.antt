@@ -1,8 +1,8 @@
 -- What holds of all nodes, whatever memory they have, and what jobs are out.
-use Rattle.std.proofs.Common.{ℕ, zero, suc, List, [], ◌∷◌, ◌++◌, ◌≡◌, ◌<◌, ◌+◌, add-one, Some, refl, sym, ap, ◌∙◌, subst, arith, length, map, take, set}
+use Rattle.std.proofs.Common.{ℕ, zero, suc, List, [], ◌∷◌, ◌≡◌, ◌+◌, add-one, Some, refl, sym, ap, ◌∙◌, subst, length, map, take, set}
 use Rattle.std.specs.List.{slice_get, remove, AllByRecursion}
 use Rattle.hpx_value.specs.declared.acts.Job.{Job}
-use Rattle.hpx_journal.specs.Data.{Act, Id, Outcome}
+use Rattle.hpx_journal.specs.Data.{Act}
 use Rattle.hpx_tables.specs.Jobs.{IsRunning}
 use Rattle.hpx_tables.specs.Tables.{Tables}
 use Rattle.hpx_part.specs.Data.{Entry}

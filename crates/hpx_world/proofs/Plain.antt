@@ -1,5 +1,5 @@
 -- What nodes write beside frames and lines: events that move no frame and feed nothing.
-use Rattle.std.proofs.Common.{ℕ, zero, suc, Bool, true, false, List, [], ◌∷◌, ◌++◌, ◌+◌, ◌≡◌, Option, Some, None, map, sym, subst, inl, inr}
+use Rattle.std.proofs.Common.{ℕ, zero, suc, Bool, true, false, List, [], ◌∷◌, ◌++◌, ◌+◌, Option, Some, None, map, sym, subst, inl, inr}
 use Rattle.std.specs.Prelude.{if◌then◌else◌, nat_lt}
 use Rattle.std.specs.List.{AllByRecursion, find}
 use Rattle.std.proofs.lemmas.Bool.{cases_Bool}
@@ -20,7 +20,7 @@ use Rattle.hpx_tables.specs.Births.{birth_of, births_of}
 use Rattle.hpx_node.specs.Commits.{written, made_of, own_stock, committed_from, committed, places_in_hand}
 use Rattle.hpx_node.specs.Commits.{ups as commit_ups}
 use Rattle.hpx_node.specs.Fails.{dooms, failed_events, due_left, ups_left, FailsWith}
-use Rattle.hpx_node.specs.Handled.{up_of, ups, returned, answered, freed, effects, more_here}
+use Rattle.hpx_node.specs.Handled.{up_of, ups, returned, freed, effects, more_here}
 use Rattle.hpx_tables.specs.Kept.{count_here}
 use Rattle.hpx_node.specs.Next.{Continues}
 use Rattle.hpx_tables.specs.Pending.{Waits}

@@ -1,11 +1,9 @@
 -- What all localities write keeps what is promised: by the laws of journals, for the join of their parts.
-use Rattle.std.proofs.Common.{◌≡◌, ◌∙◌, ◌<◌, ◌≤◌, ℕ, zero, suc, List, [], ◌∷◌, ◌++◌, length, Some, refl, sym, ap, subst, arith, append_assoc, true, false}
-use Rattle.std.specs.List.{slice_get}
+use Rattle.std.proofs.Common.{◌≡◌, ◌∙◌, ◌<◌, ℕ, List, [], ◌∷◌, ◌++◌, length, sym, subst, arith, append_assoc, true, false}
 use Rattle.hpx_value.specs.declared.profile.Profile.{Profile}
 use Rattle.hpx_journal.specs.Entries.{Rules}
-use Rattle.hpx_journal.specs.Foreign.{NodeKeeps}
 use Rattle.hpx_journal.specs.Laws.{HasGrammar, KeepsActLaws, RefusesForCause, entry_at}
-use Rattle.hpx_journal.specs.Whole.{IsLegal, IsJoin, IsCarried, replayed, part}
+use Rattle.hpx_journal.specs.Whole.{IsLegal, IsJoin, IsCarried, part}
 use Rattle.hpx_journal.proofs.Failures.{legal_refusals}
 use Rattle.hpx_journal.proofs.Fronts.{legal_front, legal_rest}
 use Rattle.hpx_journal.proofs.Grow.{join_front}
@@ -13,7 +11,6 @@ use Rattle.hpx_journal.proofs.Quiet.{legal_freed_once, legal_gone, legal_away, f
 use Rattle.hpx_journal.proofs.SlotsWhole.{legal_slots}
 use Rattle.hpx_journal.proofs.Start.{first, joined_legal, joined_named, joined_asked, joined_backed, joined_dead, legal_sums, legal_dies, legal_freed_dead, legal_begun, legal_fires_begun, legal_dones, legal_dones_where, legal_running, legal_stands, legal_commits, legal_fails}
 use Rattle.hpx_part.specs.Data.{Entry, Done, Freed, Count, Granted, Refused}
-use Rattle.hpx_part.specs.Parts.{at_boot}
 use Rattle.hpx_node.specs.Stands.{rules_of}
 use Rattle.hpx_tables.specs.Tables.{Tables}
 use Rattle.hpx_node.proofs.RowLaws.{refuses_for_cause}

@@ -1,5 +1,5 @@
 -- A refusal changes nothing, so its cause is in the tables still.
-use Rattle.std.proofs.Common.{ℕ, List, ◌≡◌, ◌≤◌, Some, sym, ap, ◌∙◌, subst, length, map, inl, inr}
+use Rattle.std.proofs.Common.{ℕ, List, ◌≡◌, sym, ap, ◌∙◌, length, map, inl, inr}
 use Rattle.std.proofs.lemmas.List.{length-map}
 use Rattle.hpx_journal.specs.Data.{Id, Parcel}
 use Rattle.hpx_tables.specs.Strange.{broken}

@@ -1,12 +1,11 @@
 -- Where nothing is to be done, nothing is under way, and as many credits are held as there are names.
-use Rattle.std.proofs.Common.{ℕ, zero, suc, Bool, true, false, cond, List, [], ◌∷◌, ◌++◌, ◌≡◌, ◌<◌, ◌≤◌, ◌+◌, length, map, Some, Option, refl, sym, ap, ◌∙◌, subst, arith, inl, inr}
+use Rattle.std.proofs.Common.{ℕ, zero, suc, Bool, true, false, cond, List, [], ◌∷◌, ◌++◌, ◌≡◌, ◌<◌, length, map, Some, Option, refl, sym, ap, ◌∙◌, subst, arith}
 use Rattle.std.specs.Prelude.{flat_map}
-use Rattle.std.specs.List.{slice_get, sum_by, count_by, AllByRecursion}
-use Rattle.std.proofs.lemmas.Bool.{cases_Bool}
+use Rattle.std.specs.List.{slice_get, sum_by, AllByRecursion}
 use Rattle.std.proofs.lemmas.List.Sums.{sum_by-cons, sum_by-append}
 use Rattle.hpx_value.specs.declared.profile.Profile.{Profile}
 use Rattle.hpx_parcel.specs.Credits.{Credit, credits_of}
-use Rattle.hpx_journal.specs.Data.{Id, Act}
+use Rattle.hpx_journal.specs.Data.{Act}
 use Rattle.hpx_journal.specs.Entries.{Rules, Frame, name_of}
 use Rattle.hpx_journal.specs.Laws.{HasGrammar, FreesTheDead, outs, ins}
 use Rattle.hpx_journal.specs.Local.{is_act}
@@ -23,14 +22,13 @@ use Rattle.hpx_part.specs.Parts.{at_boot}
 use Rattle.hpx_part.specs.Shows.{IsWeight, Shows}
 use Rattle.hpx_part.proofs.Keyed.{counts_of, counts_true}
 use Rattle.hpx_part.proofs.Keys.{own}
-use Rattle.hpx_tables.specs.Pending.{Waits}
 use Rattle.hpx_node.specs.Seen.{view, tokens, tokens_of, kept_ids, parcel_tokens}
-use Rattle.hpx_node.specs.Stands.{IsTidy, rules_of}
+use Rattle.hpx_node.specs.Stands.{rules_of}
 use Rattle.hpx_tables.specs.Tables.{Tables, IsPassive, messages}
 use Rattle.hpx_tables.specs.declared.kept.Outgoing.{Outgoing}
 use Rattle.hpx_node.proofs.Numbers.{rest_shown}
 use Rattle.hpx_node.proofs.RowLaws.{frees_the_dead}
-use Rattle.hpx_world.specs.Sound.{Meaning, StandsAt, IsSound}
+use Rattle.hpx_world.specs.Sound.{Meaning, IsSound}
 use Rattle.hpx_world.specs.Quiet.{IsQuiet, IsAtRest}
 use Rattle.hpx_world.proofs.Counts.{sent_all, taken_all}
 use Rattle.hpx_world.proofs.Sound.{get_some, stands_all, sound_legal}

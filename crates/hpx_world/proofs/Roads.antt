@@ -1,5 +1,5 @@
 -- What is on the road of a legal journal: each frame spells a parcel, and goes to a locality that there is.
-use Rattle.std.proofs.Common.{ℕ, Bool, true, false, List, [], ◌∷◌, ◌≡◌, ◌<◌, Some, refl, sym, subst, inl, inr}
+use Rattle.std.proofs.Common.{true, List, [], ◌∷◌, ◌≡◌, ◌<◌, Some, sym, subst, inl, inr}
 use Rattle.std.specs.Prelude.{◌||◌}
 use Rattle.std.specs.List.{list_any, AllByRecursion}
 use Rattle.std.proofs.lemmas.Bool.{cases_Bool}

@@ -1,6 +1,6 @@
 -- What is promised after a turn, and what is so where nothing is to be done then.
 use Rattle.std.specs.Prelude.{Result, Ok, Err, OnOk, Option}
-use Rattle.std.proofs.Common.{ℕ, List, [], ◌≡◌, ◌<◌, ◌≤◌, length, sym, subst}
+use Rattle.std.proofs.Common.{ℕ, List, [], ◌≡◌, ◌<◌, ◌≤◌, length, subst}
 use Rattle.hpx_value.specs.declared.profile.Profile.{Profile}
 use Rattle.hpx_value.specs.Laws.{KeepsLaws}
 use Rattle.hpx_value.specs.Shapes.{IsAct, IsState}

@@ -4,7 +4,7 @@ use Rattle.std.specs.List.{slice_get, remove}
 use Rattle.std.proofs.lemmas.Bool.{cases_Bool}
 use Rattle.hpx_value.specs.declared.acts.Job.{Job}
 use Rattle.hpx_value.specs.declared.profile.Profile.{Profile}
-use Rattle.hpx_journal.specs.Data.{Act, Id, Outcome, Parcel, Ask}
+use Rattle.hpx_journal.specs.Data.{Id, Outcome, Parcel, Ask}
 use Rattle.hpx_part.specs.Data.{Entry}
 use Rattle.hpx_part.proofs.Keyed.{slice_get_less}
 use Rattle.hpx_node.specs.Asks.{with_asks, lacking}
@@ -15,7 +15,7 @@ use Rattle.hpx_node.specs.declared.parts.Finished.TheVariants.{Committed, Asking
 use Rattle.hpx_world.specs.declared.turns.Turned.{Turned}
 use Rattle.hpx_world.specs.declared.turns.Turned.TheVariants as turned
 use Rattle.hpx_world.specs.Quiet.{NoneRuns}
-use Rattle.hpx_world.specs.Sound.{Meaning, IsSound, DoneAt}
+use Rattle.hpx_world.specs.Sound.{Meaning, IsSound}
 use Rattle.hpx_world.specs.Steps.{IsOut, DidWork}
 use Rattle.hpx_world.specs.Turns.{DidFire, DidFinish, Asks}
 use Rattle.hpx_world.proofs.Idle.{none_runs_at, none_twice, removed_one}

@@ -1,5 +1,5 @@
 -- When nothing is to be done.
-use Rattle.std.specs.Prelude.{ℕ, List, [], ◌∷◌, ◌≡◌, ◌≤◌, ◌<◌, Option, Some, None, sum_by, map}
+use Rattle.std.specs.Prelude.{ℕ, List, [], ◌≡◌, ◌≤◌, ◌<◌, Option, Some, None, sum_by, map}
 use Rattle.std.specs.List.{count_by, AllByRecursion}
 use Rattle.hpx_journal.specs.Data.{Id, Act}
 use Rattle.hpx_journal.specs.Entries.{Frame, Rules}

@@ -8,7 +8,10 @@ ghost use Rattle.hpx_tables.specs.Tables.{messages};
 ghost use Rattle.hpx_tables.specs.Kept.{stands_here, held_here, owed_here, count_here, place_here, HasRecords};
 
 use crate::node::Node;
-use hpx_tables::credit::{held_in_accepted, held_in_hands, held_in_running, held_in_states, held_on_desk, held_on_the_way, owed_on_desk, owed_on_the_way};
+use hpx_tables::credit::{
+    held_in_accepted, held_in_hands, held_in_running, held_in_states, held_on_desk,
+    held_on_the_way, owed_on_desk, owed_on_the_way,
+};
 use hpx_tables::find::place_of;
 use hpx_value::acts::Acts;
 use hpx_value::codes::SESSION;

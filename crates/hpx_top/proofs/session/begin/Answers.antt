@@ -1,4 +1,4 @@
-use Rattle.std.proofs.Common.{Err, length, refl, ap}
+use Rattle.std.proofs.Common.{Err, length, ap}
 use Rattle.hpx_top.proofs.FeedLemmas.{of_three, neither, still}
 use Rattle.hpx_top.proofs.session.begin.Goals as goal
 

@@ -1,10 +1,9 @@
-use Rattle.std.specs.Prelude.{◌≢◌, IfOk}
-use Rattle.std.proofs.Common.{◌≡◌, ◌∙◌, [], Ok, Err, length, refl, sym, ap, subst, inl, inr}
+use Rattle.std.proofs.Common.{◌∙◌, length, subst, inr}
 use Rattle.hpx_journal.specs.Whole.{replayed}
 use Rattle.hpx_world.specs.Promises.{KeepsPromises}
 use Rattle.hpx_world.specs.Quiet.{IsAtRest}
-use Rattle.hpx_top.specs.Session.{rules, IsAmple, IsRested}
-use Rattle.hpx_top.proofs.FeedLemmas.{IsFed, same_rules, fed_then, fed_once, none_out, feeds, on_ok}
+use Rattle.hpx_top.specs.Session.{IsRested}
+use Rattle.hpx_top.proofs.FeedLemmas.{same_rules, fed_then, fed_once, none_out, feeds, on_ok}
 use Rattle.hpx_top.proofs.session.feed.Goals as goal
 
 pub returns-clause-fed : goal.returns-clause-fed

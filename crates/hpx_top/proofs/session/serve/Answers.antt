@@ -1,6 +1,5 @@
-use Rattle.std.proofs.Common.{Ok, Err, length, refl, sym, ap, ◌∙◌, arith, subst}
+use Rattle.std.proofs.Common.{Ok, Err, refl, sym, ap, ◌∙◌, arith, subst}
 use Rattle.hpx_top.specs.declared.session.SessionFault.TheVariants.{Read, InputFull}
-use Rattle.hpx_journal.specs.Weights.{HasRoom}
 use Rattle.hpx_top.specs.Session.{IsAmple}
 use Rattle.hpx_top.proofs.ShowLemmas.{if_err_from, err_of, no_err}
 use Rattle.hpx_top.proofs.SessionLemmas.{serving_open, under_start}

@@ -1,5 +1,5 @@
 use Rattle.std.proofs.Common.{◌<◌, ◌≡◌, ◌∙◌, Some, length, sym, ap}
-use Rattle.std.specs.List.{find, slice_get, remove}
+use Rattle.std.specs.List.{find, slice_get}
 use Rattle.hpx_journal.specs.Local.{is_standing}
 use Rattle.hpx_part.proofs.Keyed.{slice_get_is}
 use Rattle.hpx_tables.specs.Tables.{Tables}

@@ -3,7 +3,6 @@ use Rattle.std.specs.Prelude.{◌-◌, ◌^◌, min}
 use Rattle.hpx_journal.specs.Weights.{HasRoom, total_weight}
 use Rattle.hpx_world.specs.declared.turns.WorldFault.TheVariants as faults
 use Rattle.hpx_world.specs.Away.{Fetches}
-use Rattle.hpx_world.specs.Steps.{Stage, Goes, EndsAt}
 use Rattle.hpx_world.proofs.Next.{carrying_at, err_of, err_back, err_is, no_err}
 use Rattle.hpx_world.proofs.Idle.{none_at}
 use Rattle.hpx_world.proofs.Stepped.{on_err, on_ok}

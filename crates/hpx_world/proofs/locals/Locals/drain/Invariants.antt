@@ -4,7 +4,7 @@ use Rattle.hpx_node.specs.Stands.{rules_of}
 use Rattle.hpx_world.specs.Away.{IsCarrying}
 use Rattle.hpx_world.specs.Quiet.{NoneRuns}
 use Rattle.hpx_world.specs.Sound.{IsSound}
-use Rattle.hpx_world.specs.Steps.{IsUnfed, Stage, Goes}
+use Rattle.hpx_world.specs.Steps.{IsUnfed, Goes}
 use Rattle.hpx_world.proofs.locals.Locals.drain.Given as goal
 
 -- each step so far kept what all localities keep
