@@ -82,6 +82,7 @@ pub fn held_in_parcel(parcel: &Parcel, o: Gid) -> u128
     }
 }
 
+/// The same in messages to the own locality.
 pub fn held_on_desk(desk: &VecDeque<Letter>, o: Gid) -> u128
     ensures { result ≡ min (2 ^ 128 - 1) (sum_by (λ p. credit_in o (ids_held p)) desk.now.items) }
 {
@@ -92,6 +93,7 @@ pub fn held_on_desk(desk: &VecDeque<Letter>, o: Gid) -> u128
     sum
 }
 
+/// The same in messages to others.
 pub fn held_on_the_way(outgoing: &VecDeque<Outgoing>, o: Gid) -> u128
     ensures { result ≡ min (2 ^ 128 - 1) (sum_by (λ x. credit_in o (ids_held x.parcel)) outgoing.now.items) }
 {
@@ -119,6 +121,7 @@ pub fn owed_in_parcel(parcel: &Parcel, o: Gid) -> u128
     }
 }
 
+/// The same in messages to the own locality.
 pub fn owed_on_desk(desk: &VecDeque<Letter>, o: Gid) -> u128
     ensures { result ≡ min (2 ^ 128 - 1) (sum_by (credit_owed o) desk.now.items) }
 {
@@ -129,6 +132,7 @@ pub fn owed_on_desk(desk: &VecDeque<Letter>, o: Gid) -> u128
     sum
 }
 
+/// The same in messages to others.
 pub fn owed_on_the_way(outgoing: &VecDeque<Outgoing>, o: Gid) -> u128
     ensures { result ≡ min (2 ^ 128 - 1) (sum_by (λ x. credit_owed o x.parcel) outgoing.now.items) }
 {

@@ -68,6 +68,7 @@ pub fn moves_far(n: u32, act: &Act) -> bool
     }
 }
 
+/// Whether an action is from none of n localities, or the home of an id in it is none.
 pub fn is_far_act(n: u32, act: &Act) -> bool
     ensures { result ≡ is_far_act n act.now }
 {
