@@ -20,7 +20,7 @@ pub struct Birth {
 }
 
 /// The state of an object at its birth.
-pub fn birth_state(alloc: Global, make: &Make) -> Result<State, OutOfMemory>
+fn birth_state(alloc: Global, make: &Make) -> Result<State, OutOfMemory>
     ensures { IfOk result (λ state. state ≡ birth_state make.now) }
 {
     Ok(State {

@@ -12,7 +12,7 @@ use hpx_journal::journal::Journal;
 use hpx_value::gid::Gid;
 
 /// Writes the splits of one id that so many name.
-pub fn push_cuts(book: &mut Journal, here: u32, id: Gid, n: usize)
+fn push_cuts(book: &mut Journal, here: u32, id: Gid, n: usize)
     requires lasts { Lasts id n }
     requires page { length (cuts id n) ≤ book.old.spare }
     ensures entries { book.new.entries ≡ book.old.entries ++ at_all here (cuts id n) }
@@ -26,7 +26,7 @@ pub fn push_cuts(book: &mut Journal, here: u32, id: Gid, n: usize)
 }
 
 /// Writes one split, and answers a half.
-pub fn push_cut(book: &mut Journal, here: u32, id: Gid) -> Gid
+fn push_cut(book: &mut Journal, here: u32, id: Gid) -> Gid
     requires lasts { Lasts id 2 }
     requires page { 1 ≤ book.old.spare }
     ensures half { result ≡ half id }

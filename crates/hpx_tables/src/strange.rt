@@ -52,14 +52,14 @@ pub fn breaks(rule: u8, parcel: &Parcel, kept: u128) -> Option<Broken>
 }
 
 /// Whether the home of an id is none of n localities.
-pub fn are_far(n: u32, ids: &[Gid]) -> bool
+fn are_far(n: u32, ids: &[Gid]) -> bool
     ensures { result ≡ are_far n ids.now }
 {
     ids.iter().any(|id| n <= id.home())
 }
 
 /// Whether a MOVE is to none of n localities.
-pub fn moves_far(n: u32, act: &Act) -> bool
+fn moves_far(n: u32, act: &Act) -> bool
     ensures { result ≡ moves_far n (move_to act.now) }
 {
     match move_to(act) {
@@ -69,7 +69,7 @@ pub fn moves_far(n: u32, act: &Act) -> bool
 }
 
 /// Whether an action is from none of n localities, or the home of an id in it is none.
-pub fn is_far_act(n: u32, act: &Act) -> bool
+fn is_far_act(n: u32, act: &Act) -> bool
     ensures { result ≡ is_far_act n act.now }
 {
     n <= act.origin as u32 || are_far(n, act.ids.as_slice())

@@ -94,42 +94,34 @@ fn a_state_loses_its_credits(rt: HostRuntime) -> Result<(), Fail> {
     Ok(())
 }
 
-/// A message in hexadecimal digits, with spaces between some pairs.
-fn parcel(alloc: Global, text: &[u8]) -> Result<Parcel, Fail>
+/// The message in a frame.
+fn parcel(alloc: Global, frame: &[u8]) -> Result<Parcel, Fail>
     ensures { IfOk result IsParcel }
 {
-    let mut bytes = Vec::new(alloc);
-    let mut high: Option<u8> = None;
-    for byte in text {
-        let digit = match *byte {
-            b'0'..=b'9' => *byte - b'0',
-            b'a'..=b'f' => *byte - b'a' + 10,
-            _ => continue,
-        };
-        high = match high {
-            Some(first) => {
-                bytes.push(first.wrapping_mul(16) | digit)?;
-                None
-            }
-            None => Some(digit),
-        };
-    }
-    Ok(decode(alloc, bytes.as_slice())?)
+    Ok(decode(alloc, frame)?)
 }
 
 /// `ADD 5` for the number with log 7, from locality 0, answered at slot 1 of the component namespace there.
-const ADD: &[u8] =
-    b"0101 0000 0000000000000004 0000000247000021 0000000000000001 0010 0001 02 0000000000000005 01 0000000100000003 0000000000000001 00000001";
+const ADD: &[u8] = &[
+    1, 1, 0, 0, 0, 0, 0, 0, 0, 0, 0, 4, 0, 0, 0, 2, 0x47, 0, 0, 0x21, 0, 0, 0, 0, 0, 0, 0, 1, 0,
+    0x10, 0, 1, 2, 0, 0, 0, 0, 0, 0, 0, 5, 1, 0, 0, 0, 1, 0, 0, 0, 3, 0, 0, 0, 0, 0, 0, 0, 1, 0, 0,
+    0, 1,
+];
 
-const RETURN: &[u8] = b"0102 0000000247000021 0000000000000001";
+/// A Return of the number with log 7.
+const RETURN: &[u8] = &[1, 2, 0, 0, 0, 2, 0x47, 0, 0, 0x21, 0, 0, 0, 0, 0, 0, 0, 1];
 
-const GIVE: &[u8] = b"0104 0000000248000021 0000000000000001 0000000000000000";
+/// A Give of the number with log 8, under number 0.
+const GIVE: &[u8] = &[
+    1, 4, 0, 0, 0, 2, 0x48, 0, 0, 0x21, 0, 0, 0, 0, 0, 0, 0, 1, 0, 0, 0, 0, 0, 0, 0, 0,
+];
 
-const FREE: &[u8] = b"010a 0000000200000021 0000000000000001";
+/// A Free of the number.
+const FREE: &[u8] = &[1, 10, 0, 0, 0, 2, 0, 0, 0, 0x21, 0, 0, 0, 0, 0, 0, 0, 1];
 
 /// Whether credit of the number is held, and owed, by a message.
-fn counts(alloc: Global, text: &[u8], held: u128, owed: u128) -> Result<bool, Fail> {
-    let parcel = parcel(alloc, text)?;
+fn counts(alloc: Global, frame: &[u8], held: u128, owed: u128) -> Result<bool, Fail> {
+    let parcel = parcel(alloc, frame)?;
     Ok(held_in_parcel(&parcel, number()) == held && owed_in_parcel(&parcel, number()) == owed)
 }
 
@@ -153,8 +145,8 @@ fn credit_is_held_by_actions_and_owed_by_answers(rt: HostRuntime) -> Result<(), 
 #[test]
 fn a_message_for_locality_1_is_far_from_one_alone(rt: HostRuntime) -> Result<(), Fail> {
     let alloc = rt.alloc();
-    for text in [ADD, RETURN, GIVE, FREE] {
-        let parcel = parcel(alloc, text)?;
+    for frame in [ADD, RETURN, GIVE, FREE] {
+        let parcel = parcel(alloc, frame)?;
         assert!(rt; is_far(1, &parcel) && !is_far(2, &parcel));
         assert!(rt; object_of(&parcel) == number());
     }
