@@ -6,3 +6,27 @@ pub mod Phases
 pub mod Opening
 pub mod TextSession
 pub mod TextLaws
+pub mod Layouts
+pub mod Rests
+mod Samples
+pub mod Alikes
+pub mod Comings
+pub mod Fit
+pub mod Kernel
+pub mod Slots
+pub mod Stills
+pub mod Named
+pub mod Called
+pub mod Effects
+pub mod Steps
+pub mod LineSteps
+pub mod LineRuns
+pub mod Boot
+pub mod SessionText
+pub mod JournalText
+pub mod Seen
+pub mod Lengths
+pub mod Namings
+pub mod Plans
+pub mod SessionKeeps
+pub mod SessionLaws

@@ -4,3 +4,10 @@ pub mod Acts
 pub mod ActsLaws
 pub mod PlainText
 pub mod TextLaw
+pub mod Types
+pub mod Commands
+pub mod Desks
+pub mod Session
+pub mod Plain
+pub mod Text
+pub mod Judging

@@ -53,7 +53,7 @@ fn word_command(word: &[u8]) -> Command
 }
 
 /// The words of a line.
-fn words(alloc: Global, line: &[u8]) -> Result<Vec<&[u8]>, OutOfMemory>
+pub fn words(alloc: Global, line: &[u8]) -> Result<Vec<&[u8]>, OutOfMemory>
     ensures { IfOk result (λ words. map (λ w. w.now) words.items ≡ words_of line.now) }
 {
     Ok(
@@ -64,7 +64,7 @@ fn words(alloc: Global, line: &[u8]) -> Result<Vec<&[u8]>, OutOfMemory>
 }
 
 /// The number that a word is, if it is one.
-fn number(word: &[u8]) -> Option<i64>
+pub fn number(word: &[u8]) -> Option<i64>
     ensures { result ≡ number_of word.now }
 {
     if word.starts_with(b"+") {

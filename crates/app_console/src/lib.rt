@@ -3,10 +3,20 @@
 #![tactic(auto)]
 
 pub mod accumulator;
+pub mod act;
 pub mod acts;
 pub mod components;
 pub mod console;
+pub mod desk;
 pub mod effect;
+pub mod keep;
+pub mod line;
 pub mod lines;
+pub mod plan;
+pub mod read;
+pub mod say;
 pub mod session;
+pub mod session_law;
+pub mod stay;
+pub mod table;
 pub mod text_law;

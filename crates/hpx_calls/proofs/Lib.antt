@@ -26,3 +26,5 @@ pub mod Flows
 pub mod Promised
 pub mod Lawful
 pub mod Blind
+pub mod OverNatural
+pub mod OverAlike

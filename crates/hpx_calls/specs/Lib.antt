@@ -7,3 +7,4 @@ pub mod Outcomes
 pub mod Sorts
 pub mod Histories
 pub mod Ids
+pub mod Mapped

@@ -1,16 +1,19 @@
 //! Laws of the outcomes that calls come to.
-ghost use Rattle.std.specs.Prelude.{◌≡◌, ◌≢◌, ◌<◌, ◌≤◌, ◌∷◌, ℕ, List, [], Option, pos};
+ghost use Rattle.std.specs.Prelude.{◌≡◌, ◌≢◌, ◌<◌, ◌≤◌, ◌∷◌, ℕ, Bool, List, [], Option, pos, map};
 ghost use Rattle.std.specs.List.{AllByRecursion};
 ghost use Rattle.hpx_value.specs.Ids.{Id};
 ghost use Rattle.hpx_value.specs.Values.{bare_act, bare_state, message_of, named};
 ghost use Rattle.hpx_value.specs.Shapes.{IsAct, IsState};
 ghost use Rattle.hpx_value.specs.Laws.{KeepsLaws, birth_state};
-ghost use Rattle.hpx_calls.specs.Values.{Value, plain};
-ghost use Rattle.hpx_calls.specs.Contents.{Content, layout};
+ghost use Rattle.hpx_calls.specs.Values.{Value, mapped, plain};
+ghost use Rattle.hpx_calls.specs.Contents.{Content, content_of, layout};
+ghost use Rattle.hpx_calls.specs.Requests.{request_of};
+ghost use Rattle.hpx_calls.specs.Tables.{called};
 ghost use Rattle.hpx_calls.specs.Outcomes.{outcome_of};
 ghost use Rattle.hpx_value.specs.Hands.{Slot};
 ghost use Rattle.hpx_calls.specs.Histories.{Call, Object, Setting, own, run, says};
 ghost use Rattle.hpx_calls.specs.Ids.{IsBirth, IsCalled, IsReadable, Turn, object_in, call_of, calls_of, due_for, due_then, lived, numbered, setting_of, state_of};
+ghost use Rattle.hpx_calls.specs.Mapped.{called_seen, content_seen, request_seen};
 
 use crate::request::Request;
 use hpx_value::value::{Act, State};
@@ -59,4 +62,16 @@ pub fn place_law<V, W>()
         → says g x h (record { request = Request.Where; waiter = w }) ≡ own w (g.sort.int (pos g.here)) }
     ensures stays { (g : Setting V) (x : Content V) (h : List (Call V W)) (w : Option W)
         → run g x (record { request = Request.Where; waiter = w } ∷ h) ≡ run g x h }
+{}
+
+/// The tables do not look at what values refer to: with other references in their stead, whatever those are, the same is
+/// asked (`asks`), the same content is shown (`shows`), and the same is done (`does`).
+pub fn map_law<Q, R>()
+    ensures asks { (see : Q → R) (code : ℕ) (waits : Bool) (vs : List (Value Q))
+        → request_of (plain R) code waits (map (mapped see) vs) ≡ request_seen see (request_of (plain Q) code waits vs) }
+    ensures shows { (see : Q → R) (n kind waiting : ℕ) (vs : List (Value Q))
+        → content_of (plain R) n kind waiting (map (mapped see) vs) ≡ content_seen see (content_of (plain Q) n kind waiting vs) }
+    ensures does { (see : Q → R) (here kind waiting : ℕ) (waits : Bool) (x : Content (Value Q)) (r : Request (Value Q))
+        → called (plain R) here kind waiting waits (content_seen see x) (request_seen see r)
+        ≡ called_seen see (called (plain Q) here kind waiting waits x r) }
 {}

@@ -14,7 +14,8 @@ use Rattle.hpx_part.specs.Shows.{SameTokens}
 use Rattle.hpx_part.proofs.Keyed.{counts_of, any_counted, counted_any}
 use Rattle.hpx_tables.specs.Pending.{fired_of, asking_of, refusals_of}
 use Rattle.hpx_tables.specs.Tables.{Tables, fired_acts}
-use Rattle.hpx_node.specs.Seen.{bare_standing, counted, waiting, asks, frees, frees_in, view}
+use Rattle.hpx_steps.specs.Turn.{bare_standing, counted, parcel_frees}
+use Rattle.hpx_steps.specs.Rest.{waiting, asks, frees, view}
 use Rattle.hpx_node.specs.Changes.{Mails}
 use Rattle.hpx_node.proofs.Messages.{mails_front, mails_back, mails_before, mails_after, middle_sum}
 use Rattle.hpx_node.proofs.Steps.{Tells, same_refusals}
@@ -53,15 +54,15 @@ stays_mailed p t t' mails quiet =
     }
 
 pub frees_mailed : (p : Parcel) (t t' : Tables) → Mails p t t' → (x : Id) → list_any (same_object x) (frees t') ≡ true
-    → list_any (same_object x) (frees_in p ++ frees t) ≡ true
+    → list_any (same_object x) (parcel_frees p ++ frees t) ≡ true
 frees_mailed p t t' mails x h =
-    any_counted (same_object x) (frees_in p ++ frees t) (omega (
+    any_counted (same_object x) (parcel_frees p ++ frees t) (omega (
       arith,
       counted_any (same_object x) (frees t') h,
-      ap (λ ps. count_by (same_object x) (flat_map frees_in ps)) mails.before,
-      ap (λ ps. count_by (same_object x) (flat_map frees_in ps)) mails.after,
-      middle_sum frees_in (counts_of (same_object x)) mails.front mails.back p,
-      sum_by-append (counts_of (same_object x)) (frees_in p) (frees t),
+      ap (λ ps. count_by (same_object x) (flat_map parcel_frees ps)) mails.before,
+      ap (λ ps. count_by (same_object x) (flat_map parcel_frees ps)) mails.after,
+      middle_sum parcel_frees (counts_of (same_object x)) mails.front mails.back p,
+      sum_by-append (counts_of (same_object x)) (parcel_frees p) (frees t),
     ))
 
 module _ (t t' : Tables) (stays : Stays t t') (loose loose' : List Id) (toks : List Token) (pending : List Id) (live : List Recorded) (dead : List Id)

@@ -25,19 +25,21 @@ use Rattle.hpx_part.proofs.Credit.{token_own}
 use Rattle.hpx_part.proofs.Keyed.{counts_of, counts_true}
 use Rattle.hpx_tables.specs.Pending.{asking_of, refusals_of}
 use Rattle.hpx_tables.specs.Tables.{Tables}
-use Rattle.hpx_node.specs.Seen.{counted, parcel_tokens, tokens, asks, frees, view}
-use Rattle.hpx_node.specs.Stands.{IsTidy, rules_of}
+use Rattle.hpx_steps.specs.Turn.{counted, parcel_tokens}
+use Rattle.hpx_steps.specs.Rest.{tokens, asks, frees, view, IsTidy, rules_of, unpaid}
 use Rattle.hpx_node.specs.Changes.{Mails}
 use Rattle.hpx_tables.specs.Kept.{count_here}
 use Rattle.hpx_tables.specs.Strange.{is_live}
-use Rattle.hpx_node.specs.Handled.{answered, more_here, in_hand, TakesUp, Handles}
+use Rattle.hpx_steps.specs.Calls.{answered, more_here, given_here}
+use Rattle.hpx_node.specs.Handled.{in_hand, TakesUp, Handles}
 use Rattle.hpx_node.proofs.Messages.{mails_tokens, mails_asks}
 use Rattle.hpx_node.proofs.Sums.{view_sum}
 use Rattle.hpx_node.proofs.Steps.{Tells, same_refusals, tells_leads}
 use Rattle.hpx_node.proofs.Alike.{fired_stay, stays_mailed, frees_mailed}
-use Rattle.hpx_node.specs.Idle.{Row, weight, unpaid, PaysFor}
-use Rattle.hpx_node.specs.Routes.{with_mail, given_here}
-use Rattle.hpx_node.proofs.Spareless.{mail_records}
+use Rattle.hpx_steps.specs.Rows.{Row, weight}
+use Rattle.hpx_node.specs.Idle.{PaysFor}
+use Rattle.hpx_steps.specs.Mail.{with_mail}
+use Rattle.hpx_node.proofs.Returns.{mail_records}
 use Rattle.hpx_node.proofs.IdleSteps.{mails_pending}
 use Rattle.hpx_node.proofs.IdleCounts.{pays_refused, pays_granted}
 use Rattle.hpx_value.specs.Profiles.{IsValid}
@@ -52,10 +54,10 @@ again false count old new is h = sym is
 
 module _ (act_of : ℕ → ℕ → ℕ → State → Act → Outcome) (t m t' : Tables) (id given : Id) (asker entry : ℕ) (rec : Record) (least : id.log ≡ Some 0)
     (home : id.home ≡ t.here) (there : find_record id t.records ≡ Some rec) (enough : credit id ≤ rec.count)
-    (rest : m ≡ record t { records = m.records; spare = m.spare }) (tidy : IsTidy t []) (now : find_record id m.records ≡ Some (asked t.profile rec))
+    (rest : m ≡ record t { records = m.records }) (tidy : IsTidy t []) (now : find_record id m.records ≡ Some (asked t.profile rec))
     (others : (o : Id) → same_object id o ≡ false → find_record o m.records ≡ find_record o t.records)
     (same : (x : Id) → same_object x given ≡ same_object x id) (mails : Mails (Give given entry) m t')
-    (goes : t' ≡ record (with_mail asker (Give given entry) m) { spare = t'.spare }) where
+    (goes : t' ≡ with_mail asker (Give given entry) m) where
   abbrev rules : Rules
   rules = rules_of act_of t.localities t.profile
 
@@ -148,7 +150,7 @@ module _ (act_of : ℕ → ℕ → ℕ → State → Act → Outcome) (t m t' : 
     leads = leads;
     pays = pays;
     deals = mail_records asker (Give given entry) t m t' rest goes
-        ∙ ap (λ o. record (with_mail asker (Give o entry) t) { records = t'.records; spare = t'.spare }) is;
+        ∙ ap (λ o. record (with_mail asker (Give o entry) t) { records = t'.records }) is;
   }
 
   one_more : (row : Row) → unpaid row t' ≡ unpaid row t + weight row (Give given entry)
@@ -274,10 +276,10 @@ given_home here records p id more live h =
     (subst (λ (o : Option Record). IfSome o (λ x. Yes more ≡ granted_of p x id)) found.1 h)
 
 module _ (act_of : ℕ → ℕ → ℕ → State → Act → Outcome) (t m t' : Tables) (id given : Id) (asker entry : ℕ) (least : id.log ≡ Some 0)
-    (live : is_live t id ≡ true) (enough : credit id ≤ count_here t id) (rest : m ≡ record t { records = m.records; spare = m.spare }) (tidy : IsTidy t [])
+    (live : is_live t id ≡ true) (enough : credit id ≤ count_here t id) (rest : m ≡ record t { records = m.records }) (tidy : IsTidy t [])
     (now : IfSome (find_record id t.records) (λ x. find_record id m.records ≡ Some (asked t.profile x)))
     (others : (o : Id) → same_object id o ≡ false → find_record o m.records ≡ find_record o t.records) (mails : Mails (Give given entry) m t')
-    (goes : t' ≡ record (with_mail asker (Give given entry) m) { spare = t'.spare }) where
+    (goes : t' ≡ with_mail asker (Give given entry) m) where
   found : (rec : Record) × (find_record id t.records ≡ Some rec)
   found = live_record t.here t.records id live
 
@@ -306,8 +308,8 @@ module _ (act_of : ℕ → ℕ → ℕ → State → Act → Outcome) (t m t' : 
       ∙ owed_some f (record id { log = Some t.profile.credit_log }) t.profile.credit_log refl)
 
 pub refused_by : (act_of : ℕ → ℕ → ℕ → State → Act → Outcome) (t m t' u : Tables) (p : Profile) (id given : Id) (asker entry : ℕ) → t ≡ u → IsTidy t []
-    → Mails (Give given entry) m t' → t' ≡ record (with_mail asker (Give given entry) m) { spare = t'.spare } → p ≡ t.profile → id.log ≡ Some 0 → is_live t id ≡ true → credit id ≤ count_here t id
-    → m ≡ record t { records = m.records; spare = m.spare }
+    → Mails (Give given entry) m t' → t' ≡ with_mail asker (Give given entry) m → p ≡ t.profile → id.log ≡ Some 0 → is_live t id ≡ true → credit id ≤ count_here t id
+    → m ≡ record t { records = m.records }
     → IfSome (find_record id t.records) (λ x. find_record id m.records ≡ Some (asked p x))
     → ((o : Id) → same_object id o ≡ false → find_record o m.records ≡ find_record o t.records)
     → given ≡ id → IfSome (find_record id t.records) (λ x. Limit ≡ granted_of p x id)
@@ -319,8 +321,8 @@ refused_by act_of t m t' u p id given asker entry seen_as tidy mails goes profil
     (subst (λ q. IfSome (find_record id t.records) (λ x. Limit ≡ granted_of q x id)) profile limit))
 
 pub granted_by : (act_of : ℕ → ℕ → ℕ → State → Act → Outcome) (t m t' u : Tables) (p : Profile) (id given more : Id) (asker entry : ℕ) → t ≡ u → IsTidy t []
-    → Mails (Give given entry) m t' → t' ≡ record (with_mail asker (Give given entry) m) { spare = t'.spare } → p ≡ t.profile → IsValid t.profile → id.log ≡ Some 0 → is_live t id ≡ true → credit id ≤ count_here t id
-    → m ≡ record t { records = m.records; spare = m.spare }
+    → Mails (Give given entry) m t' → t' ≡ with_mail asker (Give given entry) m → p ≡ t.profile → IsValid t.profile → id.log ≡ Some 0 → is_live t id ≡ true → credit id ≤ count_here t id
+    → m ≡ record t { records = m.records }
     → IfSome (find_record id t.records) (λ x. find_record id m.records ≡ Some (asked p x))
     → ((o : Id) → same_object id o ≡ false → find_record o m.records ≡ find_record o t.records)
     → given ≡ more → IfSome (find_record id t.records) (λ x. Yes more ≡ granted_of p x id)

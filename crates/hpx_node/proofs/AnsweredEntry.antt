@@ -13,7 +13,7 @@ use Rattle.hpx_part.specs.Data.{Count, Granted, Refused}
 use Rattle.hpx_tables.specs.Tables.{Tables}
 use Rattle.hpx_tables.specs.Kept.{count_here}
 use Rattle.hpx_tables.specs.Strange.{is_live}
-use Rattle.hpx_node.specs.Handled.{answered, more_here}
+use Rattle.hpx_steps.specs.Calls.{answered, more_here}
 use Rattle.hpx_node.proofs.Returned.{live_record}
 use Rattle.hpx_node.proofs.Answered.{limit_full, yes_free}
 

@@ -1,8 +1,7 @@
 -- Ids are asked for: an Ask for each goes to its home.
-use Rattle.std.proofs.Common.{ℕ, suc, cond, List, [], ◌∷◌, ◌++◌, ◌≡◌, ◌+◌, ◌<◌, Some, map, take, length, length-append, get_or, refl, sym, ap, ◌∙◌, arith, inl, inr, subst}
+use Rattle.std.proofs.Common.{ℕ, suc, cond, List, [], ◌∷◌, ◌++◌, ◌≡◌, ◌+◌, ◌<◌, Some, map, take, length, length-append, get_or, refl, sym, ap, ◌∙◌, arith, subst}
 use Rattle.std.specs.Prelude.{flat_map}
 use Rattle.std.specs.List.{sum_by, AllByRecursion}
-use Rattle.std.proofs.lemmas.Bool.{cases_Bool}
 use Rattle.std.proofs.lemmas.List.{take_more}
 use Rattle.std.proofs.lemmas.List.Sums.{sum_by-cons, sum_by-append}
 use Rattle.hpx_value.specs.Ids.{bare, same_object}
@@ -15,10 +14,11 @@ use Rattle.hpx_part.specs.Data.{Asked, Token}
 use Rattle.hpx_tables.specs.Splits.{asked_events}
 use Rattle.hpx_node.specs.Asks.{with_asks, of_ask, AsksFor}
 use Rattle.hpx_node.specs.Changes.{Mails}
-use Rattle.hpx_node.specs.Idle.{Row, weight, goes, causes, spends, Pays}
-use Rattle.hpx_node.specs.Routes.{is_other, with_mail}
-use Rattle.hpx_node.specs.Seen.{frees_in, asks}
-use Rattle.hpx_node.specs.Stands.{IsTidy}
+use Rattle.hpx_steps.specs.Rows.{Row, weight, goes, causes, spends}
+use Rattle.hpx_node.specs.Idle.{Pays}
+use Rattle.hpx_steps.specs.Mail.{with_mail}
+use Rattle.hpx_steps.specs.Turn.{parcel_frees}
+use Rattle.hpx_steps.specs.Rest.{asks, IsTidy}
 use Rattle.hpx_tables.specs.Tables.{Tables, messages}
 use Rattle.hpx_node.proofs.IdleFired.{calm_fired}
 use Rattle.hpx_node.proofs.IdleRows.{Costs, by_rows, nothing, comes_to_free}
@@ -27,22 +27,14 @@ use Rattle.hpx_node.proofs.Lacking.{owed, owed_cons}
 use Rattle.hpx_node.proofs.Stays.{Stays}
 use Rattle.hpx_node.proofs.Messages.{mails_tokens, mails_asks, mails_without}
 
--- ---- the same tables but for memory and how often was asked
+-- ---- the same tables but for how often was asked
 
-abbrev pub counted : Tables → ℕ → ℕ → Tables
-counted t a s = record t { asked = a; spare = s }
+abbrev pub counted : Tables → ℕ → Tables
+counted t a = record t { asked = a }
 
-mail_counted : (to : ℕ) (p : Parcel) (t : Tables) (a s : ℕ) → with_mail to p (counted t a s) ≡ counted (with_mail to p t) a s
-mail_counted to p t a s = elim (cases_Bool (is_other t to)) [
-  | inl b ↦ rw b refl
-  | inr b ↦ rw b refl
-]
-
-asks_counted : (k n : ℕ) (ids : List Id) (t : Tables) (a s : ℕ) → with_asks k n ids (counted t a s) ≡ counted (with_asks k n ids t) a s
-asks_counted k n [] t a s = refl
-asks_counted k n (id ∷ ids) t a s =
-    ap (with_asks k (n + 1) ids) (mail_counted id.home (Ask id k (n + 1)) t a s)
-    ∙ asks_counted k (n + 1) ids (with_mail id.home (Ask id k (n + 1)) t) a s
+asks_counted : (k n : ℕ) (ids : List Id) (t : Tables) (a : ℕ) → with_asks k n ids (counted t a) ≡ counted (with_asks k n ids t) a
+asks_counted k n [] t a = refl
+asks_counted k n (id ∷ ids) t a = asks_counted k (n + 1) ids (with_mail id.home (Ask id k (n + 1)) t) a
 
 asks_append : (k n : ℕ) (xs ys : List Id) (t : Tables) → with_asks k n (xs ++ ys) t ≡ with_asks k (n + length xs) ys (with_asks k n xs t)
 asks_append k n [] ys t = ap (λ m. with_asks k m ys t) (omega arith)
@@ -69,25 +61,11 @@ counted_tidy t a due h = record {
 
 -- ---- one after the other
 
-pub asks_nothing : (t : Tables) → AsksFor [] t t
-asks_nothing t =
-    let same : t ≡ record t { asked = t.asked + 0; spare = t.spare } = ap (λ a. record t { asked = a; spare = t.spare }) (omega arith) in record {
-      rest = same;
-      goes = same;
-      spare = omega arith;
-      tidy = λ due h. h;
-      waiting = refl;
-      frees = refl;
-      asks = λ o. omega arith;
-      tokens = λ f. omega arith;
-      more = λ row. omega arith;
-    }
-
 ask_weight : (id : Id) (k e : ℕ) (row : Row) → weight row (Ask id k e) ≡ of_ask row
 ask_weight id k e = by_rows (λ row. weight row (Ask id k e) ≡ of_ask row) refl refl refl refl refl refl refl (λ x. refl)
 
 module _ (t t' : Tables) (id : Id) (mails : Mails (Ask id t.here (t.asked + 1)) (record t { asked = t.asked + 1 }) t')
-    (goes : t' ≡ record (with_mail id.home (Ask id t.here (t.asked + 1)) (record t { asked = t.asked + 1 })) { spare = t'.spare }) where
+    (goes : t' ≡ with_mail id.home (Ask id t.here (t.asked + 1)) (record t { asked = t.asked + 1 })) where
   abbrev m : Tables
   m = record t { asked = t.asked + 1 }
 
@@ -97,13 +75,12 @@ module _ (t t' : Tables) (id : Id) (mails : Mails (Ask id t.here (t.asked + 1)) 
   pub asks_one : AsksFor (id ∷ []) t t'
   asks_one = record {
     rest = mails.rest;
-    goes = goes ∙ ap (λ (x : Tables). record x { spare = t'.spare }) (mail_counted id.home p t (t.asked + 1) t.spare);
-    spare = mails.spare;
+    goes = goes;
     tidy = λ due h. mails.tidy due (counted_tidy t (t.asked + 1) due h);
     waiting =
         ap (λ (x : Tables). map bare_act x.accepted ++ flat_map (λ q. acts_in (Some q)) (messages t')) mails.rest
         ∙ ap (λ xs. map bare_act t.accepted ++ xs) (mails_without p m t' mails (λ q. acts_in (Some q)) refl);
-    frees = mails_without p m t' mails frees_in refl;
+    frees = mails_without p m t' mails parcel_frees refl;
     asks = λ o. mails_asks p m t' mails o;
     tokens = λ f. mails_tokens p m t' mails f;
     more = λ row. omega (arith, mails_pending p m t' mails row, ask_weight id t.here (t.asked + 1) row, sum_by-cons (λ (x : Id). of_ask row) id []);
@@ -118,15 +95,14 @@ asks_on xs y t m t' a b =
     let first = with_asks t.here t.asked xs t in
     let first_here : first.here ≡ t.here = sym (ap (λ (x : Tables). x.here) a.goes) ∙ here in record {
       rest = b.rest
-          ∙ (ap (λ (x : Tables). record x { asked = m.asked + 1; desk = t'.desk; outgoing = t'.outgoing; spare = t'.spare }) a.rest
-          ∙ ap (λ n. record t { asked = n; desk = t'.desk; outgoing = t'.outgoing; spare = t'.spare }) all);
+          ∙ (ap (λ (x : Tables). record x { asked = m.asked + 1; desk = t'.desk; outgoing = t'.outgoing }) a.rest
+          ∙ ap (λ n. record t { asked = n; desk = t'.desk; outgoing = t'.outgoing }) all);
       goes = b.goes
-          ∙ (ap (λ (x : Tables). counted (with_asks x.here x.asked (y ∷ []) x) (m.asked + 1) t'.spare) a.goes
-          ∙ (ap (λ k. counted (with_asks k (t.asked + length xs) (y ∷ []) (counted first (t.asked + length xs) m.spare)) (m.asked + 1) t'.spare) first_here
-          ∙ (ap (λ (x : Tables). counted x (m.asked + 1) t'.spare) (asks_counted t.here (t.asked + length xs) (y ∷ []) first (t.asked + length xs) m.spare)
-          ∙ (ap (λ (x : Tables). counted x (m.asked + 1) t'.spare) (sym (asks_append t.here t.asked xs (y ∷ []) t))
-          ∙ ap (λ n. counted (with_asks t.here t.asked (xs ++ y ∷ []) t) n t'.spare) all))));
-      spare = omega (arith, a.spare, b.spare, long);
+          ∙ (ap (λ (x : Tables). counted (with_asks x.here x.asked (y ∷ []) x) (m.asked + 1)) a.goes
+          ∙ (ap (λ k. counted (with_asks k (t.asked + length xs) (y ∷ []) (counted first (t.asked + length xs))) (m.asked + 1)) first_here
+          ∙ (ap (λ (x : Tables). counted x (m.asked + 1)) (asks_counted t.here (t.asked + length xs) (y ∷ []) first (t.asked + length xs))
+          ∙ (ap (λ (x : Tables). counted x (m.asked + 1)) (sym (asks_append t.here t.asked xs (y ∷ []) t))
+          ∙ ap (λ n. counted (with_asks t.here t.asked (xs ++ y ∷ []) t) n) all))));
       tidy = λ due h. b.tidy due (a.tidy due h);
       waiting = b.waiting ∙ a.waiting;
       frees = b.frees ∙ a.frees;

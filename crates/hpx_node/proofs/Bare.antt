@@ -1,6 +1,6 @@
 -- What is found in a node's lists is found in them without credits.
-use Rattle.std.proofs.Common.{ℕ, zero, suc, false, cond, List, [], ◌∷◌, ◌++◌, ◌≡◌, ◌==◌, Option, Some, None, map, refl, ap, inl, inr}
-use Rattle.std.specs.List.{find, list_any}
+use Rattle.std.proofs.Common.{ℕ, zero, suc, List, [], ◌∷◌, ◌++◌, ◌≡◌, Option, Some, None, map, refl, ap, inl, inr}
+use Rattle.std.specs.List.{find}
 use Rattle.std.proofs.lemmas.Bool.{cases_Bool}
 use Rattle.std.proofs.lemmas.List.{map-append}
 use Rattle.hpx_value.specs.Ids.{bare}
@@ -8,9 +8,9 @@ use Rattle.hpx_value.specs.Values.{bare_act}
 use Rattle.hpx_value.specs.Hands.{id_at}
 use Rattle.hpx_journal.specs.Data.{Id, Act}
 use Rattle.hpx_journal.specs.Entries.{target_of}
-use Rattle.hpx_journal.specs.Local.{is_standing, acts_on, is_busy}
+use Rattle.hpx_journal.specs.Local.{is_standing}
 use Rattle.hpx_part.specs.Data.{Standing}
-use Rattle.hpx_node.specs.Seen.{bare_standing}
+use Rattle.hpx_steps.specs.Turn.{bare_standing}
 
 pub id_at-bare : (ids : List Id) (i : ℕ) → id_at (map bare ids) i ≡ bare (id_at ids i)
 id_at-bare [] i = refl
@@ -31,13 +31,6 @@ found-bare o (y ∷ ys) x h = elim (cases_Bool (is_standing o y)) [
     option_bare : Option Standing → Option Standing
     option_bare None = None
     option_bare (Some z) = Some (bare_standing z)
-
-any-bare : (o : Id) (xs : List Act) → list_any (acts_on (bare o)) (map bare_act xs) ≡ list_any (acts_on o) xs
-any-bare o [] = refl
-any-bare o (x ∷ xs) = rw (target-bare x, any-bare o xs) refl
-
-pub busy-bare : (o : Id) (xs : List Act) → is_busy (bare o) (map bare_act xs) ≡ is_busy o xs
-busy-bare o xs = ap (λ b. cond (o.kind == 7) false b) (any-bare o xs)
 
 -- lists without credits, taken apart
 pub bare_middle : (l : List Act) (act : Act) (m : List Act) → map bare_act (l ++ act ∷ m) ≡ map bare_act l ++ bare_act act ∷ map bare_act m

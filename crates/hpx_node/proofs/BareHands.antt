@@ -12,7 +12,7 @@ use Rattle.hpx_value.specs.declared.outcome.SendCont.TheVariants.{Nothing as NoC
 use Rattle.hpx_value.specs.declared.outcome.Sending.{Sending}
 use Rattle.hpx_value.specs.declared.outcome.Reply.{Reply}
 use Rattle.hpx_journal.specs.Data.{Id, Value, Int, Cont, State, Act, Outcome, MessageDue, PrintDue}
-use Rattle.hpx_node.specs.Seen.{bare_due}
+use Rattle.hpx_steps.specs.Turn.{bare_due}
 use Rattle.hpx_node.proofs.Bare.{id_at-bare}
 
 pub bare_twice : (ids : List Id) → map bare (map bare ids) ≡ map bare ids

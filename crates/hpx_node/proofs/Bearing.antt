@@ -16,7 +16,7 @@ use Rattle.hpx_part.specs.Shows.{IsWeight, Leads}
 use Rattle.hpx_part.proofs.Keyed.{find_miss}
 use Rattle.hpx_part.proofs.ObjectRows.{follows_born}
 use Rattle.hpx_tables.specs.declared.births.Birth.{Birth}
-use Rattle.hpx_node.specs.Seen.{counted}
+use Rattle.hpx_steps.specs.Turn.{counted}
 use Rattle.hpx_tables.specs.Births.{IsBirth, births_of, objects_of, records_of, ids_of}
 use Rattle.hpx_node.proofs.Sums.{weigh, weigh_append}
 

@@ -32,11 +32,11 @@ use Rattle.hpx_tables.specs.Splits.{first_cuts, asked_events, cuts}
 use Rattle.hpx_node.specs.Asks.{own_many, AsksFor}
 use Rattle.hpx_tables.specs.Fit.{IsFit, IsKept}
 use Rattle.hpx_tables.specs.Jobs.{IsAt, IsFitJob}
-use Rattle.hpx_node.specs.Paused.{bare_names, Apart, IsPaused, ArePaused}
+use Rattle.hpx_steps.specs.Paused.{bare_names, Apart}
+use Rattle.hpx_steps.specs.Rest.{IsPaused, ArePaused, view, IsTidy, StandsWith}
 use Rattle.hpx_tables.specs.Pending.{Waits, action_of, fired_of, own_ids, is_asked, asked_at, waits_with, asking_of, refusal_of, refusals_of}
 use Rattle.hpx_tables.specs.Tables.{Tables, fired_acts}
-use Rattle.hpx_node.specs.Seen.{bare_standing, counted, view}
-use Rattle.hpx_node.specs.Stands.{IsTidy, StandsWith}
+use Rattle.hpx_steps.specs.Turn.{bare_standing, counted}
 use Rattle.hpx_tables.proofs.Alls.{all_append, all_remove, all_set, all_at}
 use Rattle.hpx_node.proofs.Targets.{stand_set, targets_set}
 use Rattle.hpx_node.proofs.Asking.{asked_long, asked_stay, pays_asks}
@@ -204,7 +204,7 @@ apart_alone (x ∷ l) act m h =
     none_busy (target_of act) x (l ++ m) (keeps_both x act (busy_less (target_of x) l act m h.0).0) (apart_alone l act m h.1)
 
 module _ (r : Rules) (t : Tables) (entries : List Entry) (i j : ℕ) (job : Job) (out : Outcome) (later : List Id) (places : List ℕ)
-    (spare : ℕ) (at : IsAt t i j job) (first : find (is_standing (target_of job.action)) (take j t.objects) ≡ None) (fit : IsFitJob job)
+    (at : IsAt t i j job) (first : find (is_standing (target_of job.action)) (take j t.objects) ≡ None) (fit : IsFitJob job)
     (within : AreWithin (hand_ids job.state job.action later) places) (none : AllByRecursion (λ (id : Id). id.log ≡ None) later)
     (few : t.localities ≤ 64) (below : job.at < t.localities) (is_later : IsLater job out later places) (h : StandsWith r t [] [] entries) where
   abbrev pub split_ahead : Stock
@@ -223,7 +223,7 @@ module _ (r : Rules) (t : Tables) (entries : List Entry) (i j : ℕ) (job : Job)
   lent = record { object = at.standing.object; state = bare_state job.state }
 
   abbrev pub paused : Tables
-  paused = record t { running = remove t.running i; objects = set t.objects j lent; pending = t.pending ++ w ∷ []; spare = spare }
+  paused = record t { running = remove t.running i; objects = set t.objects j lent; pending = t.pending ++ w ∷ [] }
 
   same : same_object (target_of job.action) at.standing.object ≡ true
   same = found_passes (target_of job.action) t.objects at.standing at.found
@@ -422,18 +422,18 @@ module _ (r : Rules) (t : Tables) (entries : List Entry) (i j : ℕ) (job : Job)
   -- ---- once it has asked
 
   module _ (t' : Tables) (asks : AsksFor lacks paused t') where
-    stays : {X : Type 0} (f : Tables → X) → ((x : Tables) (a s : ℕ) (d : List Parcel) (o : List Outgoing)
-        → f (record x { asked = a; desk = d; outgoing = o; spare = s }) ≡ f x) → f t' ≡ f paused
-    stays f same = ap f asks.rest ∙ same paused (paused.asked + length lacks) t'.spare t'.desk t'.outgoing
+    stays : {X : Type 0} (f : Tables → X) → ((x : Tables) (a : ℕ) (d : List Parcel) (o : List Outgoing)
+        → f (record x { asked = a; desk = d; outgoing = o }) ≡ f x) → f t' ≡ f paused
+    stays f same = ap f asks.rest ∙ same paused (paused.asked + length lacks) t'.desk t'.outgoing
 
     tells : Tells moved_view (view t' [] [])
     tells = record {
-      here = sym (stays (λ x. x.here) (λ x a s d o. refl));
-      serial = sym (stays (λ x. x.serial) (λ x a s d o. refl));
-      number = sym (stays (λ x. x.births) (λ x a s d o. refl));
+      here = sym (stays (λ x. x.here) (λ x a d o. refl));
+      serial = sym (stays (λ x. x.serial) (λ x a d o. refl));
+      number = sym (stays (λ x. x.births) (λ x a d o. refl));
       waiting = sym asks.waiting;
-      fired = fired_then ∙ sym (stays (λ x. map bare_act (fired_acts x)) (λ x a s d o. refl));
-      objects = sym (stays (λ x. map bare_standing x.objects) (λ x a s d o. refl)
+      fired = fired_then ∙ sym (stays (λ x. map bare_act (fired_acts x)) (λ x a d o. refl));
+      objects = sym (stays (λ x. map bare_standing x.objects) (λ x a d o. refl)
           ∙ map_same bare_standing t.objects j at.standing lent at.stands
           (ap (λ ss. record { object = bare at.standing.object; state = ss }) (bare_again job.state ∙ ap bare_state (sym at.state))));
       fresh = refl;
@@ -458,14 +458,14 @@ module _ (r : Rules) (t : Tables) (entries : List Entry) (i j : ℕ) (job : Job)
         arith,
         a.more x,
         asking_then x,
-        stays (λ y. count_by (same_object x) (asking_of y.pending)) (λ y a s d o. refl),
+        stays (λ y. count_by (same_object x) (asking_of y.pending)) (λ y a d o. refl),
       );
       asks = λ x. omega (arith, a.pending x, asks.asks x);
-      live = λ x home. sym (stays (λ y. count_in (find (is_recorded x) (map counted y.records))) (λ y a s d o. refl));
+      live = λ x home. sym (stays (λ y. count_in (find (is_recorded x) (map counted y.records))) (λ y a d o. refl));
       dead = λ x d. subst (λ ids. list_any (same_object x) ids ≡ true) asks.frees d;
       refusals = same_refusals (refusals_of t.pending) (refusals_of t'.pending)
-          (sym (stays (λ x. refusals_of x.pending) (λ x a s d o. refl) ∙ refused_same));
-      failing = omega (arith, ap (λ xs. length xs) (stays (λ x. refusals_of x.pending) (λ x a s d o. refl)), ap (λ xs. length xs) refused_same);
+          (sym (stays (λ x. refusals_of x.pending) (λ x a d o. refl) ∙ refused_same));
+      failing = omega (arith, ap (λ xs. length xs) (stays (λ x. refusals_of x.pending) (λ x a d o. refl)), ap (λ xs. length xs) refused_same);
       last = refl;
     }
 
@@ -483,21 +483,21 @@ module _ (r : Rules) (t : Tables) (entries : List Entry) (i j : ℕ) (job : Job)
         all_append Stays events (asked_events lacks) (first_stay (own_many job) 0 (hand_ids job.state job.action later) places) (asked_stay lacks) in
         stands_then r t t' [] [] [] [] entries (events ++ asked_events lacks) h (asks.tidy [] paused_tidy)
         (record {
-          here = stays (λ x. x.here) (λ x a s d o. refl);
-          born = omega (arith, stays (λ x. x.births) (λ x a s d o. refl));
-          few = omega (arith, stays (λ x. x.serial) (λ x a s d o. refl));
+          here = stays (λ x. x.here) (λ x a d o. refl);
+          born = omega (arith, stays (λ x. x.births) (λ x a d o. refl));
+          few = omega (arith, stays (λ x. x.serial) (λ x a d o. refl));
           asked = omega (
             arith,
             ap (λ (x : Tables). x.asked) asks.rest,
             length-append events (asked_events lacks),
             asked_long lacks,
           );
-          sent = omega (arith, stays (λ x. x.sent) (λ x a s d o. refl), stays_out t.here (events ++ asked_events lacks) stay);
-          taken = omega (arith, stays (λ x. x.taken) (λ x a s d o. refl), stays_in t.here (events ++ asked_events lacks) stay);
+          sent = omega (arith, stays (λ x. x.sent) (λ x a d o. refl), stays_out t.here (events ++ asked_events lacks) stay);
+          taken = omega (arith, stays (λ x. x.taken) (λ x a d o. refl), stays_in t.here (events ++ asked_events lacks) stay);
           pays = pays_on r t paused t' events (asked_events lacks)
               (pays_idle r t paused events (first_idle r (own_many job) 0 (hand_ids job.state job.action later) places) (λ row. refl) refl)
               (pays_asks r paused t' lacks asks);
-          answers = answers_none r t t' (events ++ asked_events lacks) (stays (λ x. x.answered) (λ x a s d o. refl))
+          answers = answers_none r t t' (events ++ asked_events lacks) (stays (λ x. x.answered) (λ x a d o. refl))
               (all_append LeavesActs events (asked_events lacks) (first_leave (own_many job) 0 (hand_ids job.state job.action later) places) (asked_leave lacks));
         })
         leads

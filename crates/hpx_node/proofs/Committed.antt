@@ -13,7 +13,7 @@ use Rattle.hpx_tables.proofs.Cutting.{at_all_append}
 -- the tables once what is made is made and the job is done
 module _ (t t1 t2 : Tables) (xs : List Birth) (j : ℕ) (running : List Act) (pending : List Waits) (more : ℕ) (new : Standing) (made : Makes xs [] t t1)
     (objects : t2.objects ≡ set t1.objects j new)
-    (rest : t2 ≡ record t1 { running = running; pending = pending; objects = t2.objects; answered = t1.answered + more; spare = t2.spare }) where
+    (rest : t2 ≡ record t1 { running = running; pending = pending; objects = t2.objects; answered = t1.answered + more }) where
   births_then : t1.births ≡ t.births + length xs
   births_then = omega (arith, made.births)
 
@@ -24,7 +24,7 @@ module _ (t t1 t2 : Tables) (xs : List Birth) (j : ℕ) (running : List Act) (pe
   objects_then = objects ∙ ap (λ ys. set ys j new) (sym (append-nil t1.objects) ∙ made.objects)
 
   abbrev then : ℕ → List Record → List Standing → Tables
-  then n rs os = record t { births = n; records = rs; objects = os; running = running; pending = pending; answered = t.answered + more; spare = t2.spare }
+  then n rs os = record t { births = n; records = rs; objects = os; running = running; pending = pending; answered = t.answered + more }
 
   pub settled_is : t2 ≡ record t {
     births = t.births + length xs;
@@ -33,11 +33,10 @@ module _ (t t1 t2 : Tables) (xs : List Birth) (j : ℕ) (running : List Act) (pe
     running = running;
     pending = pending;
     answered = t.answered + more;
-    spare = t2.spare;
   }
   settled_is =
       rest
-      ∙ (ap (λ (x : Tables). record x { running = running; pending = pending; objects = t2.objects; answered = x.answered + more; spare = t2.spare }) made.rest
+      ∙ (ap (λ (x : Tables). record x { running = running; pending = pending; objects = t2.objects; answered = x.answered + more }) made.rest
       ∙ (ap (λ n. then n t1.records t2.objects) births_then
       ∙ (ap (λ rs. then (t.births + length xs) rs t2.objects) records_then
       ∙ ap (λ os. then (t.births + length xs) (t.records ++ records_of t.here t.births t.profile.credit_log xs) os) objects_then)))

@@ -15,19 +15,17 @@ use Rattle.hpx_node.specs.declared.node.finish.Prepared.{Prepared}
 use Rattle.hpx_tables.specs.declared.births.Birth.{Birth}
 use Rattle.hpx_tables.specs.Awaited.{answered_by}
 use Rattle.hpx_tables.specs.Births.{Makes, birth_of, births_of, objects_of, records_of, ids_of}
-use Rattle.hpx_node.specs.Changes.{AreAlike}
+use Rattle.hpx_node.specs.Changes.{}
 use Rattle.hpx_tables.specs.Splits.{splits_from}
 use Rattle.hpx_node.specs.Commits.{written, ups, committed_from, due_dealt, with_settled, committed_to, IsPrepared}
 use Rattle.hpx_tables.specs.Fit.{IsFit}
 use Rattle.hpx_tables.specs.Jobs.{IsFitJob}
-use Rattle.hpx_node.specs.Paused.{ArePaused}
+use Rattle.hpx_steps.specs.Rest.{ArePaused, StandsWith, rules_of}
 use Rattle.hpx_tables.specs.Pending.{Waits}
-use Rattle.hpx_node.specs.Routes.{with_left}
-use Rattle.hpx_node.specs.Stands.{StandsWith, rules_of}
+use Rattle.hpx_steps.specs.Calls.{with_left}
 use Rattle.hpx_tables.specs.Tables.{Tables}
 use Rattle.hpx_tables.proofs.Alls.{get_before}
 use Rattle.hpx_node.proofs.Committed.{settled_is, written_on}
-use Rattle.hpx_node.proofs.Left.{left_from}
 use Rattle.hpx_node.proofs.OfPrepared.{tables_settled, stands_of, committed_is}
 use Rattle.hpx_node.proofs.Settled.{IsEnding}
 
@@ -50,11 +48,11 @@ module _ (act_of : ℕ → ℕ → ℕ → State → Act → Outcome)
     (at : IsEnding t j job (ids_of t.here t.births t.profile.credit_log p.births.items) p.stock.hand running pending)
     (t1 t2 : Tables) (made : Makes p.births.items [] t t1)
     (objects : (x : Standing) → slice_get t1.objects j ≡ Some x → t2.objects ≡ set t1.objects j (record { object = x.object; state = p.plan.state }))
-    (rest : t2 ≡ record t1 { running = running; pending = pending; objects = t2.objects; answered = t1.answered + answered_by (Some job.action); spare = t2.spare })
+    (rest : t2 ≡ record t1 { running = running; pending = pending; objects = t2.objects; answered = t1.answered + answered_by (Some job.action) })
     (e0 e1 e2 : List Entry)
     (first : e1 ≡ e0 ++ at_all t.here (births_of t.here t.births p.births.items ++ splits_from 0 p.stock.hand p.stock.places))
     (done : e2 ≡ e1 ++ at_all t1.here (Done (name_of job.action) false ∷ [])) where
-  tables_are : t2 ≡ tables_settled t job out fit few laws p is j running pending at t2.spare
+  tables_are : t2 ≡ tables_settled t job out fit few laws p is j running pending at
   tables_are = settled_is t t1 t2 p.births.items j running pending (answered_by (Some job.action)) (record { object = at.standing.object; state = p.plan.state }) made
       (objects at.standing (stands_then t t1 p.births.items made j at.standing at.stands)) rest
 
@@ -84,8 +82,8 @@ module _ (act_of : ℕ → ℕ → ℕ → State → Act → Outcome)
       → StandsWith (rules_of act_of t2.localities t2.profile) t2 p.plan.due.items p.plan.ups.items e2
   settled_stands runs paused h =
       subst (λ (x : Tables). StandsWith (rules_of act_of x.localities x.profile) x p.plan.due.items p.plan.ups.items e2) (sym tables_are)
-      (subst (λ es. StandsWith (rules_of act_of t.localities t.profile) (tables_settled t job out fit few laws p is j running pending at t2.spare) p.plan.due.items p.plan.ups.items es)
-      (sym settled_written) (stands_of t job out fit few laws p is j running pending at t2.spare act_of blind right runs paused e0 h))
+      (subst (λ es. StandsWith (rules_of act_of t.localities t.profile) (tables_settled t job out fit few laws p is j running pending at) p.plan.due.items p.plan.ups.items es)
+      (sym settled_written) (stands_of t job out fit few laws p is j running pending at act_of blind right runs paused e0 h))
 
   pub settled_here : (t2.here ≡ t.here) × (t2.localities ≡ t.localities) × (t2.profile ≡ t.profile)
   settled_here = (
@@ -99,9 +97,6 @@ module _ (act_of : ℕ → ℕ → ℕ → State → Act → Outcome)
 
   pub settled_running : t2.running ≡ running
   settled_running = ap (λ (x : Tables). x.running) tables_are
-
-  pub settled_pending : t2.pending ≡ pending
-  settled_pending = ap (λ (x : Tables). x.pending) tables_are
 
   -- all of it is written
   pub all_written : (e3 : List Entry) → e3 ≡ e2 ++ at_all t2.here (written t2.here t2.serial p.plan.due.items ++ ups p.plan.ups.items)
@@ -125,10 +120,9 @@ module _ (act_of : ℕ → ℕ → ℕ → State → Act → Outcome)
     records = t.records ++ records_of t.here t.births t.profile.credit_log xs;
     objects = set (t.objects ++ objects_of t.here t.births xs) j (record { object = at.standing.object; state = state });
     answered = t.answered + answered_by (Some job.action);
-    spare = t2.spare;
   }
 
-  settled_to : t2 ≡ record (with_settled job out p.stock j at.standing less) { spare = t2.spare }
+  settled_to : t2 ≡ with_settled job out p.stock j at.standing less
   settled_to =
       let xs = map birth_of out.makes in
       tables_are
@@ -136,10 +130,11 @@ module _ (act_of : ℕ → ℕ → ℕ → State → Act → Outcome)
       ∙ (ap (λ (n : ℕ). to n xs p.plan.state) (length-map out.makes birth_of)
       ∙ ap (λ (state : State). to (length out.makes) xs state) is.state_left))
 
-  pub all_committed : (u : Tables) → AreAlike u (with_left p.plan.due.items p.plan.ups.items t2)
-      → u ≡ record (committed_to job out p.stock j at.standing less) { spare = u.spare }
+  pub all_committed : (u : Tables) → u ≡ with_left p.plan.due.items p.plan.ups.items t2
+      → u ≡ committed_to job out p.stock j at.standing less
   all_committed u alike =
-      left_from (due_dealt t job out p.stock) (unnamed p.stock.hand p.stock.places) (with_settled job out p.stock j at.standing less) t2 u settled_to
-      (alike
-      ∙ (ap (λ (ds : List Due). record (with_left ds p.plan.ups.items t2) { spare = 0 }) is.due_left
-      ∙ ap (λ (us : List Id). record (with_left (due_dealt t job out p.stock) us t2) { spare = 0 }) is.ups_left))
+      let ds = due_dealt t job out p.stock in
+      alike
+      ∙ (ap (λ (xs : List Due). with_left xs p.plan.ups.items t2) is.due_left
+      ∙ (ap (λ (us : List Id). with_left ds us t2) is.ups_left
+      ∙ ap (with_left ds (unnamed p.stock.hand p.stock.places)) settled_to))

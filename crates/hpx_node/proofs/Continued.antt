@@ -15,7 +15,7 @@ use Rattle.hpx_node.specs.Commits.{IsPrepared}
 use Rattle.hpx_tables.specs.declared.pending.Asked.{Asked}
 use Rattle.hpx_tables.specs.Pending.{Waits, awaits, is_asked_for, waits_for_one, put_for, hand_with, Refills}
 use Rattle.hpx_node.specs.Resumes.{may_go_on, stock_with, is_last, MayResume, IsReady, IsReadyFor}
-use Rattle.hpx_node.specs.Routes.{Gives, DealsWith, Accepts}
+use Rattle.hpx_steps.specs.Calls.{Gives, DealsWith, Accepts}
 use Rattle.hpx_tables.specs.Tables.{Tables}
 use Rattle.hpx_tables.proofs.Alls.{some_same}
 
@@ -112,9 +112,9 @@ module _ (id : Id) (entry : ℕ) (w w' : Waits) (refills : Refills id entry w w'
 -- ---- once it is given
 
 -- what was prepared is so whatever was taken and waits
-prepared_on : (t : Tables) (job : Job) (out : Outcome) (p : Prepared) (n s : ℕ) (d : List Parcel) (ws : List Waits) → IsPrepared t job out p
-    → IsPrepared (record t { taken = n; desk = d; pending = ws; spare = s }) job out p
-prepared_on t job out p n s d ws is = record {
+prepared_on : (t : Tables) (job : Job) (out : Outcome) (p : Prepared) (n : ℕ) (d : List Parcel) (ws : List Waits) → IsPrepared t job out p
+    → IsPrepared (record t { taken = n; desk = d; pending = ws }) job out p
+prepared_on t job out p n d ws is = record {
   births = is.births;
   stock = record { names = is.stock.names; credit = is.stock.credit; few = is.stock.few; lasts = is.stock.lasts };
   state_left = is.state_left;
@@ -122,8 +122,8 @@ prepared_on t job out p n s d ws is = record {
   ups_left = is.ups_left;
 }
 
-module _ (t : Tables) (n k : ℕ) (d : List Parcel) (mid : Tables) (id : Id) (entry : ℕ) (y : Ready) (ready : IsReady t id entry y)
-    (g : Gives id entry (record t { taken = n; desk = d; spare = k }) mid) where
+module _ (t : Tables) (n : ℕ) (d : List Parcel) (mid : Tables) (id : Id) (entry : ℕ) (y : Ready) (ready : IsReady t id entry y)
+    (g : Gives id entry (record t { taken = n; desk = d }) mid) where
   g_for : awaits id entry g.before ≡ true
   g_for = any_at (is_asked_for g.before id entry) g.before.asked g.refills.k g.refills.ask g.refills.there g.refills.for
 
@@ -136,7 +136,7 @@ module _ (t : Tables) (n k : ℕ) (d : List Parcel) (mid : Tables) (id : Id) (en
   refills : Refills id entry ready.before g.after
   refills = subst (λ v. Refills id entry v g.after) same_before g.refills
 
-  mid_is : mid ≡ record t { taken = n; desk = d; pending = set t.pending g.i g.after; spare = mid.spare }
+  mid_is : mid ≡ record t { taken = n; desk = d; pending = set t.pending g.i g.after }
   mid_is = g.rest
 
   inside : g.i < length t.pending
@@ -154,16 +154,13 @@ module _ (t : Tables) (n k : ℕ) (d : List Parcel) (mid : Tables) (id : Id) (en
     set_long t.pending g.i g.after,
   )
 
-  abbrev given_to : List Id → List Asked → Option Id → Waits
-  given_to hand asked refused = record ready.before { hand = hand; asked = asked; refused = refused }
-
   may_then : (hand : List Id) (asked : List Asked) (refused : Option Id) → may_go_on (record ready.before { hand = hand; asked = asked; refused = refused }) ≡ true
       → hand ≡ hand_with id entry ready.before
-      → MayResume (record t { taken = n; desk = d; pending = set t.pending g.i g.after; spare = mid.spare }) (record ready.before { hand = hand; asked = asked; refused = refused }) y.j y.prepared
+      → MayResume (record t { taken = n; desk = d; pending = set t.pending g.i g.after }) (record ready.before { hand = hand; asked = asked; refused = refused }) y.j y.prepared
   may_then hand asked refused complete is = record {
     complete = complete;
     object = ready.object;
-    prepared = prepared_on t ready.before.job ready.before.outcome y.prepared n mid.spare d (set t.pending g.i g.after) ready.prepared;
+    prepared = prepared_on t ready.before.job ready.before.outcome y.prepared n d (set t.pending g.i g.after) ready.prepared;
     stock = ready.stock ∙ ap (stock_with t ready.before) (sym is);
   }
 
@@ -176,7 +173,7 @@ module _ (t : Tables) (n k : ℕ) (d : List Parcel) (mid : Tables) (id : Id) (en
   may_after : MayResume mid g.after y.j y.prepared
   may_after =
       subst (λ (x : Tables). MayResume x g.after y.j y.prepared) (sym mid_is)
-      (subst (λ (v : Waits). MayResume (record t { taken = n; desk = d; pending = set t.pending g.i g.after; spare = mid.spare }) v y.j y.prepared) (sym after_is)
+      (subst (λ (v : Waits). MayResume (record t { taken = n; desk = d; pending = set t.pending g.i g.after }) v y.j y.prepared) (sym after_is)
       (may_then g.after.hand g.after.asked g.after.refused (subst (λ (v : Waits). may_go_on v ≡ true) after_is complete_now)
       (hand_then id entry ready.before g.after refills ready.last)))
 
@@ -205,14 +202,14 @@ only_give t (Free o) y ready P h = absurd ready
 abbrev pub IsGiven : Parcel → Tables → Tables → Type 0
 IsGiven p t mid = (id : Id) (entry : ℕ) → p ≡ Give id entry → Gives id entry t mid
 
-pub given_frame : (t s mid : Tables) (p : Parcel) → s ≡ record t { spare = s.spare } → DealsWith p (record s { taken = s.taken + 1 }) mid
-    → IsGiven p (record t { taken = t.taken + 1; desk = t.desk; spare = s.spare }) mid
+pub given_frame : (t s mid : Tables) (p : Parcel) → s ≡ t → DealsWith p (record s { taken = s.taken + 1 }) mid
+    → IsGiven p (record t { taken = t.taken + 1; desk = t.desk }) mid
 given_frame t s mid p same deals id entry e =
     subst (λ (u : Tables). Gives id entry (record u { taken = u.taken + 1 }) mid) same
     (subst (λ q. DealsWith q (record s { taken = s.taken + 1 }) mid) e deals)
 
-pub given_mail : (t s mid : Tables) (p : Parcel) (rest : List Parcel) (k : ℕ) → s ≡ record t { spare = s.spare }
-    → Accepts p (record s { desk = rest; spare = k }) mid → IsGiven p (record t { taken = t.taken; desk = rest; spare = k }) mid
-given_mail t s mid p rest k same accepts id entry e =
-    subst (λ (u : Tables). Gives id entry (record u { desk = rest; spare = k }) mid) same
-    (subst (λ q. Accepts q (record s { desk = rest; spare = k }) mid) e accepts)
+pub given_mail : (t s mid : Tables) (p : Parcel) (rest : List Parcel) → s ≡ t
+    → Accepts p (record s { desk = rest }) mid → IsGiven p (record t { taken = t.taken; desk = rest }) mid
+given_mail t s mid p rest same accepts id entry e =
+    subst (λ (u : Tables). Gives id entry (record u { desk = rest }) mid) same
+    (subst (λ q. Accepts q (record s { desk = rest }) mid) e accepts)

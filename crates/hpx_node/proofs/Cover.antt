@@ -24,11 +24,11 @@ use Rattle.hpx_part.proofs.Parcels.{acts_named, asks_owed}
 use Rattle.hpx_part.proofs.Covered.{owed_counts, act_names}
 use Rattle.hpx_commit.specs.Deals.{is_managed}
 use Rattle.hpx_tables.specs.Fit.{IsFit, IsFitDue}
-use Rattle.hpx_node.specs.Paused.{bare_names, IsPaused}
+use Rattle.hpx_steps.specs.Paused.{bare_names}
+use Rattle.hpx_steps.specs.Rest.{IsPaused, view, IsTidy}
 use Rattle.hpx_tables.specs.Pending.{Waits, action_of, fired_of, ids_named, own_ids, is_asked, asking_of}
 use Rattle.hpx_tables.specs.Tables.{Tables, messages}
-use Rattle.hpx_node.specs.Seen.{bare_standing, bare_due, parcel_tokens, view}
-use Rattle.hpx_node.specs.Stands.{IsTidy}
+use Rattle.hpx_steps.specs.Turn.{bare_standing, bare_due, parcel_tokens}
 use Rattle.hpx_node.proofs.Sums.{weigh, weigh_append, tokens_sum, view_sum}
 
 -- a held token of o, as a number

@@ -11,7 +11,7 @@ use Rattle.hpx_journal.specs.Data.{Id, Act}
 use Rattle.hpx_journal.specs.Entries.{Rules, name_of}
 use Rattle.hpx_journal.specs.Local.{is_act, fired_after, done_after, after}
 use Rattle.hpx_journal.specs.Whole.{run_local, IsClean}
-use Rattle.hpx_part.specs.Data.{Name, Event, Fire, Done, Entry, Local}
+use Rattle.hpx_part.specs.Data.{Event, Done, Entry, Local}
 use Rattle.hpx_part.specs.Keyed.{Agree}
 use Rattle.hpx_part.specs.Parts.{at_boot, at_all}
 use Rattle.hpx_part.proofs.Grown.{run_local_append, clean_front}
@@ -91,12 +91,6 @@ pub answers_none : (r : Rules) (t t' : Tables) (events : List Event) → t'.answ
 answers_none r t t' events same leave = record {
   few = omega (arith, same);
   done = λ s shown. omega (arith, same, ap (λ (acts : List Act). count_by is_answer acts) (acts_left r t.here s events leave).1);
-}
-
-pub answers_fire : (r : Rules) (t t' : Tables) (a : Name) → t'.answered ≡ t.answered → Answers r t t' (Fire a ∷ [])
-answers_fire r t t' a same = record {
-  few = omega (arith, same);
-  done = λ s shown. omega (arith, same, ap (λ (acts : List Act). count_by is_answer acts) (done_is r s (Fire a)));
 }
 
 -- an action without its credits answers the session as it did

@@ -15,9 +15,9 @@ use Rattle.hpx_node.specs.declared.node.finish.Prepared.{Prepared}
 use Rattle.hpx_tables.specs.Births.{objects_of}
 use Rattle.hpx_node.specs.Commits.{IsPrepared}
 use Rattle.hpx_tables.specs.Jobs.{IsAt, IsFitJob}
-use Rattle.hpx_node.specs.Paused.{Single, ArePaused}
+use Rattle.hpx_steps.specs.Paused.{Single}
+use Rattle.hpx_steps.specs.Rest.{ArePaused, IsTidy}
 use Rattle.hpx_tables.specs.Pending.{action_of}
-use Rattle.hpx_node.specs.Stands.{IsTidy}
 use Rattle.hpx_tables.specs.Tables.{Tables}
 use Rattle.hpx_node.proofs.Bare.{bare_middle}
 use Rattle.hpx_node.proofs.OfPrepared.{state_has}

@@ -10,18 +10,17 @@ use Rattle.hpx_part.specs.Parts.{at_all}
 use Rattle.hpx_commit.specs.Failures.{action_ids}
 use Rattle.hpx_commit.specs.declared.plan.Plan.{Plan}
 use Rattle.hpx_tables.specs.Awaited.{answered_by}
-use Rattle.hpx_node.specs.Changes.{OnlySends, AreAlike, Writes}
+use Rattle.hpx_node.specs.Changes.{OnlySends, Writes}
 use Rattle.hpx_node.specs.Commits.{written, ups}
 use Rattle.hpx_node.specs.Fails.{state_left, due_left, ups_left, failed_events, MustFail, IsFailure, Fails}
 use Rattle.hpx_tables.specs.Fit.{IsKept, IsFitDue}
 use Rattle.hpx_tables.specs.Pending.{Waits, action_of}
-use Rattle.hpx_node.specs.Routes.{with_left}
-use Rattle.hpx_node.specs.Stands.{StandsWith, rules_of}
+use Rattle.hpx_steps.specs.Calls.{with_left}
+use Rattle.hpx_steps.specs.Rest.{StandsWith, rules_of}
 use Rattle.hpx_tables.specs.Tables.{Tables}
 use Rattle.hpx_tables.proofs.Alls.{some_same}
 use Rattle.hpx_node.proofs.FailedDue.{failed_few}
 use Rattle.hpx_node.proofs.FailedStep.{stands_failed, new_kept, due_fit, ups_have}
-use Rattle.hpx_node.proofs.Left.{left_from}
 use Rattle.hpx_node.proofs.Steps.{at_all_length}
 
 written_long : (here serial : ℕ) (due : List Due) → length (written here serial due) ≡ length due
@@ -44,11 +43,11 @@ module _ (act_of : ℕ → ℕ → ℕ → State → Act → Outcome) (t : Table
 
   pub plan_due : AllByRecursion IsFitDue p.due.items
   plan_due = subst (AllByRecursion IsFitDue) (sym is.due)
-      (due_fit (rules_of act_of t.localities t.profile) t e0 i j must.commit must.standing must.refusal 0 must.there must.given must.refused must.stands must.found h)
+      (due_fit (rules_of act_of t.localities t.profile) t e0 i j must.commit must.standing must.refusal must.there must.given must.refused must.stands must.found h)
 
   pub plan_ups : AllByRecursion HasCredit p.ups.items
   plan_ups = subst (AllByRecursion HasCredit) (sym is.ups)
-      (ups_have (rules_of act_of t.localities t.profile) t e0 i j must.commit must.standing must.refusal 0 must.there must.given must.refused must.stands must.found h)
+      (ups_have (rules_of act_of t.localities t.profile) t e0 i j must.commit must.standing must.refusal must.there must.given must.refused must.stands must.found h)
 
   pub plan_few : length p.due.items ≤ 2
   plan_few = subst (λ (xs : List Due). length xs ≤ 2) (sym is.due) (failed_few (action_ids must.commit.job.state must.commit.job.action must.commit.hand) must.commit.job.action.cont)
@@ -57,11 +56,11 @@ module _ (act_of : ℕ → ℕ → ℕ → State → Act → Outcome) (t : Table
   plan_kept x there =
       subst (λ (y : Standing). IsKept (record { object = y.object; state = p.state })) (some_same must.standing x (sym must.stands ∙ there))
       (subst (λ s. IsKept (record { object = must.standing.object; state = s })) (sym is.state)
-      (new_kept (rules_of act_of t.localities t.profile) t e0 i j must.commit must.standing must.refusal 0 must.there must.given must.refused must.stands must.found h))
+      (new_kept (rules_of act_of t.localities t.profile) t e0 i j must.commit must.standing must.refusal must.there must.given must.refused must.stands must.found h))
 
   module _ (t1 : Tables) (e1 : List Entry) (pending : t1.pending ≡ remove t.pending i)
       (objects : (x : Standing) → slice_get t.objects j ≡ Some x → t1.objects ≡ set t.objects j (record { object = x.object; state = p.state }))
-      (rest : t1 ≡ record t { pending = t1.pending; objects = t1.objects; answered = t.answered + answered_by (option_map action_of (slice_get t.pending i)); spare = t1.spare })
+      (rest : t1 ≡ record t { pending = t1.pending; objects = t1.objects; answered = t.answered + answered_by (option_map action_of (slice_get t.pending i)) })
       (done : (v : Waits) → slice_get t.pending i ≡ Some v → e1 ≡ e0 ++ at_all t.here (Done (name_of v.job.action) true ∷ [])) where
     abbrev more : ℕ
     more = t.answered + answered_by (Some must.commit.job.action)
@@ -71,20 +70,19 @@ module _ (act_of : ℕ → ℕ → ℕ → State → Act → Outcome) (t : Table
       pending = remove t.pending i;
       objects = set t.objects j (record { object = must.standing.object; state = state_left must.commit });
       answered = more;
-      spare = t1.spare;
     }
 
     now_is : t1 ≡ now
     now_is =
         rest
-        ∙ (ap (λ o. record t { pending = t1.pending; objects = t1.objects; answered = t.answered + answered_by (option_map action_of o); spare = t1.spare }) must.there
-        ∙ (ap (λ ws. record t { pending = ws; objects = t1.objects; answered = more; spare = t1.spare }) pending
-        ∙ (ap (λ os. record t { pending = remove t.pending i; objects = os; answered = more; spare = t1.spare }) (objects must.standing must.stands)
-        ∙ ap (λ s. record t { pending = remove t.pending i; objects = set t.objects j (record { object = must.standing.object; state = s }); answered = more; spare = t1.spare }) is.state)))
+        ∙ (ap (λ o. record t { pending = t1.pending; objects = t1.objects; answered = t.answered + answered_by (option_map action_of o) }) must.there
+        ∙ (ap (λ ws. record t { pending = ws; objects = t1.objects; answered = more }) pending
+        ∙ (ap (λ os. record t { pending = remove t.pending i; objects = os; answered = more }) (objects must.standing must.stands)
+        ∙ ap (λ s. record t { pending = remove t.pending i; objects = set t.objects j (record { object = must.standing.object; state = s }); answered = more }) is.state)))
 
     pub then_stands : StandsWith (rules_of act_of t1.localities t1.profile) t1 p.due.items p.ups.items e1
     then_stands =
-        let one = stands_failed (rules_of act_of t.localities t.profile) t e0 i j must.commit must.standing must.refusal t1.spare must.there must.given must.refused must.stands must.found h in
+        let one = stands_failed (rules_of act_of t.localities t.profile) t e0 i j must.commit must.standing must.refusal must.there must.given must.refused must.stands must.found h in
         subst (λ (x : Tables). StandsWith (rules_of act_of x.localities x.profile) x p.due.items p.ups.items e1) (sym now_is)
         (subst (λ es. StandsWith (rules_of act_of t.localities t.profile) now p.due.items p.ups.items es) (sym (done must.commit must.there))
         (subst (λ ds. StandsWith (rules_of act_of t.localities t.profile) now ds p.ups.items (e0 ++ at_all t.here (Done (name_of must.commit.job.action) true ∷ []))) (sym is.due)
@@ -100,9 +98,8 @@ module _ (act_of : ℕ → ℕ → ℕ → State → Act → Outcome) (t : Table
         outgoing = t2.outgoing;
         objects = set t.objects j (record { object = must.standing.object; state = state_left must.commit });
         answered = t.answered + answered_by (Some must.commit.job.action);
-        spare = t2.spare;
       }
-      end_is = sends ∙ ap (λ (x : Tables). record x { serial = t2.serial; accepted = t2.accepted; desk = t2.desk; outgoing = t2.outgoing; spare = t2.spare }) now_is
+      end_is = sends ∙ ap (λ (x : Tables). record x { serial = t2.serial; accepted = t2.accepted; desk = t2.desk; outgoing = t2.outgoing }) now_is
 
       all_written : e2 ≡ e0 ++ at_all t.here (failed_events t must.commit)
       all_written =
@@ -115,19 +112,17 @@ module _ (act_of : ℕ → ℕ → ℕ → State → Act → Outcome) (t : Table
           ∙ append_assoc e0 (at_all t.here (Done (name_of must.commit.job.action) true ∷ []))
           (at_all t.here (written t.here t.serial (due_left must.commit) ++ ups (ups_left must.commit))))
 
-      pub then_fails : AreAlike t2 (with_left p.due.items p.ups.items t1) → Fails i j t t2
+      pub then_fails : t2 ≡ with_left p.due.items p.ups.items t1 → Fails i j t t2
       then_fails alike = record {
         commit = must.commit;
         there = must.there;
         standing = must.standing;
         stands = must.stands;
         found = must.found;
-        rest = left_from (due_left must.commit) (ups_left must.commit)
-            (record t { pending = remove t.pending i; objects = set t.objects j (record { object = must.standing.object; state = state_left must.commit }); answered = more })
-            t1 t2 now_is
-            (alike
-            ∙ (ap (λ ds. record (with_left ds p.ups.items t1) { spare = 0 }) is.due
-            ∙ ap (λ us. record (with_left (due_left must.commit) us t1) { spare = 0 }) is.ups));
+        rest = alike
+            ∙ (ap (λ ds. with_left ds p.ups.items t1) is.due
+            ∙ (ap (λ us. with_left (due_left must.commit) us t1) is.ups
+            ∙ ap (with_left (due_left must.commit) (ups_left must.commit)) now_is));
       }
 
       pub then_writes : (v : Waits) → slice_get t.pending i ≡ Some v → Writes (failed_events t v) t t2 e0 e2

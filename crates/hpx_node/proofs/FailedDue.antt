@@ -16,7 +16,7 @@ use Rattle.hpx_commit.specs.Deals.{is_managed, ids_due}
 use Rattle.hpx_commit.specs.Failures.{action_ids, halves_ahead, ids_had, state_failed, due_failed, unanswered, ups_failed}
 use Rattle.hpx_commit.proofs.Failed.{due_bare, failed_sums, all_unanswered}
 use Rattle.hpx_tables.specs.Fit.{IsFitDue}
-use Rattle.hpx_node.specs.Seen.{bare_due}
+use Rattle.hpx_steps.specs.Turn.{bare_due}
 use Rattle.hpx_tables.proofs.Alls.{all_append}
 use Rattle.hpx_node.proofs.FilledDue.{is_least, has_credit, due_credit, same_ids, weigh_one, each_weighs, weigh_managed}
 use Rattle.hpx_node.proofs.HandFit.{credit_at}

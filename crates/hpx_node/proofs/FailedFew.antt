@@ -13,7 +13,7 @@ use Rattle.hpx_journal.specs.Data.{Id, Cont}
 use Rattle.hpx_commit.specs.Deals.{is_managed, AreWithin}
 use Rattle.hpx_node.specs.Fails.{ups_left}
 use Rattle.hpx_tables.specs.Jobs.{IsFitJob}
-use Rattle.hpx_node.specs.Paused.{whole_stock, first_stock}
+use Rattle.hpx_steps.specs.Paused.{whole_stock, first_stock}
 use Rattle.hpx_tables.specs.Pending.{Waits, ids_named}
 use Rattle.hpx_node.proofs.FailedDue.{ups_few}
 use Rattle.hpx_node.proofs.HandLeft.{halves_few}

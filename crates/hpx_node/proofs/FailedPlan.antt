@@ -10,10 +10,9 @@ use Rattle.hpx_journal.specs.Data.{Id, Outcome}
 use Rattle.hpx_commit.specs.Failures.{action_ids, state_failed, due_failed, ups_failed}
 use Rattle.hpx_commit.specs.declared.plan.Plan.{Plan}
 use Rattle.hpx_node.specs.Fails.{ups_left, IsFailure}
-use Rattle.hpx_node.specs.Paused.{IsPaused}
+use Rattle.hpx_steps.specs.Rest.{IsPaused, IsTidy}
 use Rattle.hpx_tables.specs.declared.pending.Asked.{Asked}
 use Rattle.hpx_tables.specs.Pending.{Waits, ids_named, is_asked_for, put_for, hand_with, Refills}
-use Rattle.hpx_node.specs.Stands.{IsTidy}
 use Rattle.hpx_tables.specs.Tables.{Tables}
 use Rattle.hpx_tables.proofs.Alls.{some_same, all_at}
 use Rattle.hpx_node.proofs.FailedFew.{ups_limit}

@@ -23,11 +23,11 @@ use Rattle.hpx_commit.specs.Failures.{action_ids}
 use Rattle.hpx_tables.specs.Awaited.{answered_by}
 use Rattle.hpx_node.specs.Fails.{state_left, due_left, ups_left}
 use Rattle.hpx_tables.specs.Fit.{IsKept, IsFitDue}
-use Rattle.hpx_node.specs.Paused.{Single, IsPaused, ArePaused}
+use Rattle.hpx_steps.specs.Paused.{Single}
+use Rattle.hpx_steps.specs.Rest.{IsPaused, ArePaused, view, IsTidy, StandsWith}
 use Rattle.hpx_tables.specs.declared.pending.Asked.{Asked}
 use Rattle.hpx_tables.specs.Pending.{Waits, ids_named, own_ids, is_asked, refusal_of, refusals_of}
-use Rattle.hpx_node.specs.Seen.{bare_standing, view}
-use Rattle.hpx_node.specs.Stands.{IsTidy, StandsWith}
+use Rattle.hpx_steps.specs.Turn.{bare_standing}
 use Rattle.hpx_tables.specs.Tables.{Tables, fired_acts}
 use Rattle.hpx_tables.proofs.Alls.{some_same, all_at, all_set}
 use Rattle.hpx_node.proofs.Targets.{stand_set, targets_set}
@@ -111,7 +111,7 @@ none_left p asked false none h = refl
 
 -- ---- the step
 
-module _ (r : Rules) (t : Tables) (entries : List Entry) (i j : ℕ) (w : Waits) (x : Standing) (o : Id) (spare : ℕ)
+module _ (r : Rules) (t : Tables) (entries : List Entry) (i j : ℕ) (w : Waits) (x : Standing) (o : Id)
     (there : slice_get t.pending i ≡ Some w) (none : w.asked ≡ []) (refused : w.refused ≡ Some o)
     (stands : slice_get t.objects j ≡ Some x) (found : find (is_standing (target_of w.job.action)) t.objects ≡ Some x)
     (h : StandsWith r t [] [] entries) where
@@ -135,7 +135,6 @@ module _ (r : Rules) (t : Tables) (entries : List Entry) (i j : ℕ) (w : Waits)
     pending = remove t.pending i;
     objects = set t.objects j (record { object = x.object; state = state_left w });
     answered = t.answered + answered_by (Some w.job.action);
-    spare = spare;
   }
 
   credits : AllByRecursion HasRightCredit (state_left w).ids

@@ -14,7 +14,7 @@ use Rattle.hpx_node.specs.declared.node.fail.Failing.{Failing}
 use Rattle.hpx_node.specs.Fails.{MustFail, IsFailure, IsFailing, IsFailingFor}
 use Rattle.hpx_tables.specs.declared.pending.Asked.{Asked}
 use Rattle.hpx_tables.specs.Pending.{Waits, awaits, is_asked_for, Refills}
-use Rattle.hpx_node.specs.Routes.{Gives}
+use Rattle.hpx_steps.specs.Calls.{Gives}
 use Rattle.hpx_tables.specs.Tables.{Tables}
 use Rattle.hpx_tables.proofs.Alls.{some_same}
 use Rattle.hpx_node.proofs.Continued.{any_at, first_same, get_set}
@@ -31,8 +31,8 @@ some_of true new old h = (new, refl)
 some_of false new (Some o) h = (o, refl)
 some_of false new None h = absurd (cc)
 
-module _ (t : Tables) (n k : ℕ) (d : List Parcel) (mid : Tables) (id : Id) (entry : ℕ) (y : Failing) (fails : IsFailing t id entry y)
-    (g : Gives id entry (record t { taken = n; desk = d; spare = k }) mid) where
+module _ (t : Tables) (n : ℕ) (d : List Parcel) (mid : Tables) (id : Id) (entry : ℕ) (y : Failing) (fails : IsFailing t id entry y)
+    (g : Gives id entry (record t { taken = n; desk = d }) mid) where
   g_for : awaits id entry g.before ≡ true
   g_for = any_at (is_asked_for g.before id entry) g.before.asked g.refills.k g.refills.ask g.refills.there g.refills.for
 

@@ -7,7 +7,7 @@ use Rattle.hpx_journal.specs.Whole.{part, arrives, arrives_at}
 use Rattle.hpx_journal.specs.Laws.{outs, ins, outs_by}
 use Rattle.hpx_part.specs.Data.{Event, Entry, In, Out}
 use Rattle.hpx_tables.specs.Tables.{Tables}
-use Rattle.hpx_node.specs.Stands.{StandsWith}
+use Rattle.hpx_steps.specs.Rest.{StandsWith}
 
 outs_one : (k : ℕ) (e : Event) → length (outs_by k e) ≤ 1
 outs_one k (Out to bytes) = omega arith

@@ -8,8 +8,9 @@ use Rattle.hpx_part.specs.Data.{Entry, Event, Standing}
 use Rattle.hpx_part.specs.Parts.{at_all}
 use Rattle.hpx_tables.specs.Fit.{IsKept}
 use Rattle.hpx_tables.specs.Tables.{Tables}
-use Rattle.hpx_node.specs.Stands.{IsTidy}
-use Rattle.hpx_node.specs.Handled.{effects, up_of, ups, returned, freed, with_first}
+use Rattle.hpx_steps.specs.Rest.{IsTidy}
+use Rattle.hpx_steps.specs.Calls.{effects, up_of, ups, returned, freed}
+use Rattle.hpx_node.specs.Handled.{with_first}
 
 up_few : (id : Id) (log : Option ℕ) → length (up_of id log) ≤ 1
 up_few id None = omega arith

@@ -18,7 +18,7 @@ use Rattle.hpx_part.specs.Data.{Token}
 use Rattle.hpx_commit.specs.Deals.{is_managed, named as named_times, managed_places, share, dealt, filled, unused, filled_due, ids_due, unnamed_from}
 use Rattle.hpx_commit.proofs.Naming.{managed}
 use Rattle.hpx_commit.proofs.Fills.{Fits, filled_same, unused_rest, filled_all, unused_all}
-use Rattle.hpx_node.specs.Seen.{bare_due}
+use Rattle.hpx_steps.specs.Turn.{bare_due}
 use Rattle.hpx_tables.specs.Fit.{IsFitDue}
 use Rattle.hpx_tables.proofs.Alls.{all_append, all_set}
 use Rattle.hpx_node.proofs.HandFit.{credit_at}

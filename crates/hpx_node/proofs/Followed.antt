@@ -16,7 +16,7 @@ use Rattle.hpx_node.specs.Fails.{Fails, IsFailing, fails_first, dooms, failed_ev
 use Rattle.hpx_node.specs.Next.{IsNext, MayFollow, IfFollows, HasFollowed, Continues}
 use Rattle.hpx_tables.specs.Pending.{Waits, awaits}
 use Rattle.hpx_node.specs.Resumes.{full_stock, is_last, completes, IsReady}
-use Rattle.hpx_node.specs.Routes.{Gives}
+use Rattle.hpx_steps.specs.Calls.{Gives}
 use Rattle.hpx_tables.specs.Tables.{Tables}
 use Rattle.hpx_tables.proofs.Alls.{some_same}
 use Rattle.hpx_node.proofs.Continued.{IsGiven, only_give, same_place, now_there, waits_inside, may_given}
@@ -50,16 +50,16 @@ never_both id (Some w) g h = not_both (log_of id.log == 0) (length w.asked == 1)
 
 -- ---- once a message is dealt with, what follows may follow
 
-pub may_follow : (t : Tables) (n k : ℕ) (d : List Parcel) (mid : Tables) (p : Parcel) (x : Next) → IsNext t p x
-    → IsGiven p (record t { taken = n; desk = d; spare = k }) mid → MayFollow mid x
-may_follow t n k d mid p nexts.Rests is gives = tt
-may_follow t n k d mid p (nexts.GoesOn y) is gives = only_give t p y is (MayFollow mid (nexts.GoesOn y)) (λ id entry e ready.
-    (waits_inside t n k d mid id entry y ready (gives id entry e), may_given t n k d mid id entry y ready (gives id entry e)))
-may_follow t n k d mid p (nexts.Fails y) is gives = only_fails t p y is (MayFollow mid (nexts.Fails y)) (λ id entry e fails.
-    (must_then t n k d mid id entry y fails (gives id entry e), plan_then t n k d mid id entry y fails (gives id entry e), fails.few))
+pub may_follow : (t : Tables) (n : ℕ) (d : List Parcel) (mid : Tables) (p : Parcel) (x : Next) → IsNext t p x
+    → IsGiven p (record t { taken = n; desk = d }) mid → MayFollow mid x
+may_follow t n d mid p nexts.Rests is gives = tt
+may_follow t n d mid p (nexts.GoesOn y) is gives = only_give t p y is (MayFollow mid (nexts.GoesOn y)) (λ id entry e ready.
+    (waits_inside t n d mid id entry y ready (gives id entry e), may_given t n d mid id entry y ready (gives id entry e)))
+may_follow t n d mid p (nexts.Fails y) is gives = only_fails t p y is (MayFollow mid (nexts.Fails y)) (λ id entry e fails.
+    (must_then t n d mid id entry y fails (gives id entry e), plan_then t n d mid id entry y fails (gives id entry e), fails.few))
 
 -- the message that was looked at is the one that is taken up
-pub next_first : (t m : Tables) (p q : Parcel) (rest : List Parcel) (x : Next) → m ≡ record t { spare = m.spare } → m.desk ≡ p ∷ rest
+pub next_first : (t m : Tables) (p q : Parcel) (rest : List Parcel) (x : Next) → m ≡ t → m.desk ≡ p ∷ rest
     → q ≡ get_or t.desk 0 q → IsNext t q x → IsNext t p x
 next_first t m p q rest x same first is next =
     subst (λ z. IsNext t z x) (is ∙ ap (λ (d : List Parcel). get_or d 0 q) (sym (ap (λ (u : Tables). u.desk) same) ∙ first)) next
@@ -72,7 +72,7 @@ next_gives P t p (nexts.Fails y) is h = only_fails t p y is P (λ id entry e fai
 
 -- ---- it has followed
 
-module _ (t : Tables) (n k : ℕ) (d : List Parcel) (mid : Tables) (id : Id) (entry : ℕ) (g : Gives id entry (record t { taken = n; desk = d; spare = k }) mid)
+module _ (t : Tables) (n : ℕ) (d : List Parcel) (mid : Tables) (id : Id) (entry : ℕ) (g : Gives id entry (record t { taken = n; desk = d }) mid)
     (t' : Tables) (entries entries' : List Entry) where
   abbrev gave : Gives id entry (record t { taken = n; desk = d }) mid
   gave = record { i = g.i; before = g.before; after = g.after; there = g.there; first = g.first; refills = g.refills; rest = g.rest }
@@ -87,10 +87,10 @@ module _ (t : Tables) (n k : ℕ) (d : List Parcel) (mid : Tables) (id : Id) (en
     completes_is = ap (is_last id) (find_at (awaits id entry) t.pending y.i ready.before ready.there ready.for ready.first) ∙ ready.last
 
     place_is : g.i ≡ y.i
-    place_is = same_place t n k d mid id entry y ready g
+    place_is = same_place t n d mid id entry y ready g
 
     after_there : slice_get mid.pending y.i ≡ Some g.after
-    after_there = sym (ap (slice_get mid.pending) place_is) ∙ now_there t n k d mid id entry y ready g
+    after_there = sym (ap (slice_get mid.pending) place_is) ∙ now_there t n d mid id entry y ready g
 
     went_on : IsContinued (Give id entry) (record t { taken = n; desk = d }) mid t' entries entries'
     went_on = record {
@@ -128,11 +128,11 @@ module _ (t : Tables) (n k : ℕ) (d : List Parcel) (mid : Tables) (id : Id) (en
         fails = λ yes. record {
           gives = gave;
           j = y.j;
-          fails = subst (λ i. Fails i y.j mid t') (sym (fails_place t n k d mid id entry y is g)) fails;
+          fails = subst (λ i. Fails i y.j mid t') (sym (fails_place t n d mid id entry y is g)) fails;
           what = refl;
         };
       };
-      writes = writes g.after (fails_there t n k d mid id entry y is g);
+      writes = writes g.after (fails_there t n d mid id entry y is g);
     }
 
 -- nothing followed
@@ -166,16 +166,16 @@ alike (Shipped act state) t n d = (refl, refl)
 alike (Arrived id place) t n d = (refl, refl)
 alike (Free o) t n d = (refl, refl)
 
-module _ (t : Tables) (n k : ℕ) (d : List Parcel) (mid t' : Tables) (entries entries' : List Entry) where
-  pub is_continued : (p : Parcel) (x : Next) → IsNext t p x → IsGiven p (record t { taken = n; desk = d; spare = k }) mid → t'.running ≡ mid.running
+module _ (t : Tables) (n : ℕ) (d : List Parcel) (mid t' : Tables) (entries entries' : List Entry) where
+  pub is_continued : (p : Parcel) (x : Next) → IsNext t p x → IsGiven p (record t { taken = n; desk = d }) mid → t'.running ≡ mid.running
       → HasFollowed x mid t' entries entries' → IsContinued p (record t { taken = n; desk = d }) mid t' entries entries'
   is_continued p nexts.Rests is gives running followed =
       rested p (record t { taken = n; desk = d }) mid t' entries entries' ((alike p t n d).0 ∙ is.0) ((alike p t n d).1 ∙ is.1) followed.0 followed.1
   is_continued p (nexts.GoesOn y) is gives running followed =
       only_give t p y is (IsContinued p (record t { taken = n; desk = d }) mid t' entries entries') (λ id entry e ready.
       subst (λ q. IsContinued q (record t { taken = n; desk = d }) mid t' entries entries') (sym e)
-      (went_on t n k d mid id entry (gives id entry e) t' entries entries' y ready running followed.0 followed.1 followed.2))
+      (went_on t n d mid id entry (gives id entry e) t' entries entries' y ready running followed.0 followed.1 followed.2))
   is_continued p (nexts.Fails y) is gives running followed =
       only_fails t p y is (IsContinued p (record t { taken = n; desk = d }) mid t' entries entries') (λ id entry e fails.
       subst (λ q. IsContinued q (record t { taken = n; desk = d }) mid t' entries entries') (sym e)
-      (failed t n k d mid id entry (gives id entry e) t' entries entries' y fails followed.0 followed.1))
+      (failed t n d mid id entry (gives id entry e) t' entries entries' y fails followed.0 followed.1))

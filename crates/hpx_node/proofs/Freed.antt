@@ -30,10 +30,11 @@ use Rattle.hpx_part.proofs.Keyed.{split_get}
 use Rattle.hpx_tables.specs.Fit.{IsFit, IsKept}
 use Rattle.hpx_tables.specs.Pending.{Waits, action_of, fired_of}
 use Rattle.hpx_tables.specs.Tables.{Tables, messages, fired_acts}
-use Rattle.hpx_node.specs.Seen.{bare_standing, parcel_tokens, tokens, waiting, view}
-use Rattle.hpx_node.specs.Stands.{IsTidy}
+use Rattle.hpx_steps.specs.Turn.{bare_standing, parcel_tokens}
+use Rattle.hpx_steps.specs.Rest.{tokens, waiting, view, IsTidy}
 use Rattle.hpx_tables.specs.Kept.{waits_here, credit_in, ids_held, held_here}
-use Rattle.hpx_node.specs.Handled.{LetsFree, ups, freed, in_hand, TakesUp, Handles, GivesUp}
+use Rattle.hpx_steps.specs.Calls.{ups, freed, with_returns, ids_in}
+use Rattle.hpx_node.specs.Handled.{LetsFree, in_hand, TakesUp, Handles, GivesUp}
 use Rattle.hpx_tables.proofs.Alls.{all_at, all_remove}
 use Rattle.hpx_node.proofs.Targets.{stand_less, targets_less}
 use Rattle.hpx_node.proofs.Sums.{weigh, weigh_append, weigh_remove, tokens_sum, view_sum}
@@ -43,8 +44,7 @@ use Rattle.hpx_node.proofs.Bare.{target-bare}
 use Rattle.hpx_node.proofs.Cover.{held_acts, held_messages}
 use Rattle.hpx_node.proofs.Pausing.{none_of, or_false, found_passes, freed_whole, freed_paused}
 use Rattle.hpx_node.specs.Idle.{PaysFor}
-use Rattle.hpx_node.specs.Routes.{with_returns, ids_in}
-use Rattle.hpx_node.proofs.Spareless.{returns_freed}
+use Rattle.hpx_node.proofs.Returns.{returns_freed}
 use Rattle.hpx_node.proofs.IdleSteps.{pays_freed}
 
 -- ---- where no credit is held, there is no name
@@ -157,11 +157,11 @@ fired_none o (a ∷ running) ws h i =
 
 -- ---- the object goes
 
-module _ (r : Rules) (t t' : Tables) (o : Id) (x : Standing) (i spare : ℕ) (is_bare : IsBare o) (tidy : IsTidy t []) (idle : waits_here t o ≡ false) (none : held_here t o ≡ 0)
+module _ (r : Rules) (t t' : Tables) (o : Id) (x : Standing) (i : ℕ) (is_bare : IsBare o) (tidy : IsTidy t []) (idle : waits_here t o ≡ false) (none : held_here t o ≡ 0)
     (there : slice_get t.objects i ≡ Some x) (found : find (is_standing o) t.objects ≡ Some x)
-    (gives : GivesUp r x.state.ids (record t { objects = remove t.objects i; spare = spare }) t') where
+    (gives : GivesUp r x.state.ids (record t { objects = remove t.objects i }) t') where
   abbrev without_it : Tables
-  without_it = record t { objects = remove t.objects i; spare = spare }
+  without_it = record t { objects = remove t.objects i }
 
   same : same_object o x.object ≡ true
   same = found_passes o t.objects x found
@@ -263,8 +263,8 @@ module _ (r : Rules) (t t' : Tables) (o : Id) (x : Standing) (i spare : ℕ) (is
         asked = ap (λ (y : Tables). y.asked) rest;
         tidy = gives.tidy;
         pays = subst (PaysFor r (Free o) t t') (sym (ap (freed o) is)) (pays_freed r t without_it t' o (ups x.state.ids) (λ row. refl) refl gives.pays);
-        deals = subst (λ (z : Option Standing). t' ≡ record (with_returns (ids_in z) t) { objects = t'.objects; spare = t'.spare }) (sym found)
-            (returns_freed x.state.ids t t' (remove t.objects i) spare (ap (λ (y : Tables). y.objects) rest) gives.goes);
+        deals = subst (λ (z : Option Standing). t' ≡ record (with_returns (ids_in z) t) { objects = t'.objects }) (sym found)
+            (returns_freed x.state.ids t t' (remove t.objects i) (ap (λ (y : Tables). y.objects) rest) gives.goes);
         leads = λ dead e takes. subst (λ es. Leads r (in_hand (Free o) t dead e) es (view t' [] [])) (sym (ap (freed o) is)) (leads dead e takes);
       }
 
@@ -299,9 +299,9 @@ not_session o x managed same = elim (cases_Bool (same_object session x.object)) 
   | inr f ↦ f
 ]
 
-pub without_tidy : (t : Tables) (o : Id) (x : Standing) (i spare : ℕ) → slice_get t.objects i ≡ Some x → find (is_standing o) t.objects ≡ Some x
-    → IsBare o → waits_here t o ≡ false → held_here t o ≡ 0 → IsTidy t [] → IsTidy (record t { objects = remove t.objects i; spare = spare }) []
-without_tidy t o x i spare there found is_bare idle none tidy = record {
+pub without_tidy : (t : Tables) (o : Id) (x : Standing) (i : ℕ) → slice_get t.objects i ≡ Some x → find (is_standing o) t.objects ≡ Some x
+    → IsBare o → waits_here t o ≡ false → held_here t o ≡ 0 → IsTidy t [] → IsTidy (record t { objects = remove t.objects i }) []
+without_tidy t o x i there found is_bare idle none tidy = record {
   paused = freed_paused t.here t.localities t.profile.credit_log t.objects t.running t.pending i x there o (found_passes o t.objects x found) idle tidy.paused;
   accepted = tidy.accepted;
   running = tidy.running;

@@ -1,5 +1,5 @@
 -- Ids are given up.
-use Rattle.std.proofs.Common.{ℕ, List, [], ◌∷◌, ◌++◌, ◌≡◌, ◌+◌, ◌<◌, Some, None, map, length, take, get_or, length-append, append_assoc, refl, sym, ap, ◌∙◌, arith, subst}
+use Rattle.std.proofs.Common.{ℕ, List, [], ◌∷◌, ◌++◌, ◌≡◌, ◌+◌, ◌<◌, Some, None, map, length, take, get_or, append_assoc, refl, sym, ap, ◌∙◌, arith, subst}
 use Rattle.std.specs.List.{sum_by, find}
 use Rattle.std.proofs.lemmas.List.Sums.{sum_by-cons}
 use Rattle.hpx_value.specs.Ids.{bare}
@@ -18,18 +18,19 @@ use Rattle.hpx_part.proofs.Grown.{chain}
 use Rattle.hpx_part.proofs.Credit.{token_own}
 use Rattle.hpx_part.proofs.Keyed.{counts_of, counts_true}
 use Rattle.hpx_tables.specs.Tables.{Tables}
-use Rattle.hpx_node.specs.Seen.{counted, asks, frees, view}
-use Rattle.hpx_node.specs.Stands.{IsTidy, rules_of}
+use Rattle.hpx_steps.specs.Turn.{counted}
+use Rattle.hpx_steps.specs.Rest.{asks, frees, view, IsTidy, rules_of}
 use Rattle.hpx_node.specs.Changes.{Mails}
-use Rattle.hpx_node.specs.Handled.{up_of, ups, GivesUp}
+use Rattle.hpx_steps.specs.Calls.{up_of, ups}
+use Rattle.hpx_node.specs.Handled.{GivesUp}
 use Rattle.hpx_node.proofs.Messages.{flat_append, mails_tokens, mails_asks}
 use Rattle.hpx_node.proofs.Sums.{weigh, weigh_append, view_sum}
 use Rattle.hpx_node.proofs.Steps.{Tells, tells_leads, tells_covered}
 use Rattle.hpx_node.proofs.Alike.{stays_same, stays_mailed, frees_mailed, seen_so, tells_stays}
 use Rattle.hpx_node.proofs.Cover.{tidy_covers}
 use Rattle.hpx_node.specs.Idle.{Pays}
-use Rattle.hpx_node.specs.Routes.{with_mail, with_return}
-use Rattle.hpx_node.proofs.Spareless.{returns_on}
+use Rattle.hpx_steps.specs.Mail.{with_mail, with_return}
+use Rattle.hpx_node.proofs.Returns.{returns_on}
 use Rattle.hpx_node.proofs.IdleSteps.{pays_idle, pays_up, pays_on}
 
 pub weigh_none : (f : Token → ℕ) (id : Id) → id.log ≡ None → weigh f (id ∷ []) ≡ 0
@@ -48,10 +49,9 @@ owed_some f id log some =
 pub gives_none : (r : Rules) (t : Tables) (id : Id) → id.log ≡ None → IsTidy t [] → GivesUp r (id ∷ []) t t
 gives_none r t id none tidy = record {
   rest = refl;
-  spare = omega arith;
   tidy = tidy;
   pays = subst (Pays r t t) (sym (ap (λ l. up_of id l ++ []) none)) (pays_idle r t t [] tt (λ row. refl) refl);
-  goes = ap (λ l. record (with_return id l t) { spare = t.spare }) (sym none);
+  goes = ap (λ l. with_return id l t) (sym none);
   leads = λ loose. subst (λ es. Leads r (view t [] (id ∷ loose)) es (view t [] loose)) (sym (ap (λ l. up_of id l ++ []) none))
       (tells_leads r (view t [] (id ∷ loose)) (view t [] loose)
       (tells_stays t t (stays_same t) (id ∷ loose) loose (view t [] (id ∷ loose)).tokens (asks t) (map counted t.records) (frees t) None
@@ -61,7 +61,7 @@ gives_none r t id none tidy = record {
 
 -- an id with a credit, which goes home in a message
 module _ (r : Rules) (t t' : Tables) (id : Id) (log : ℕ) (some : id.log ≡ Some log) (tidy : IsTidy t []) (mails : Mails (Return id) t t')
-    (goes : t' ≡ record (with_mail id.home (Return id) t) { spare = t'.spare }) where
+    (goes : t' ≡ with_mail id.home (Return id) t) where
   one_up : (loose : List Id) → Leads r (view t [] (id ∷ loose)) (Up (bare id) log ∷ []) (view t' [] loose)
   one_up loose =
       let v = view t [] (id ∷ loose) in
@@ -107,31 +107,19 @@ module _ (r : Rules) (t t' : Tables) (id : Id) (log : ℕ) (some : id.log ≡ So
   pub gives_some : GivesUp r (id ∷ []) t t'
   gives_some = record {
     rest = mails.rest;
-    spare = omega (arith, mails.spare);
     tidy = mails.tidy [] tidy;
     pays = subst (Pays r t t') (sym (ap (λ l. up_of id l ++ []) some)) (pays_up r t t' id (bare id) log mails);
-    goes = goes ∙ ap (λ l. record (with_return id l t) { spare = t'.spare }) (sym some);
+    goes = goes ∙ ap (λ l. with_return id l t) (sym some);
     leads = λ loose. subst (λ es. Leads r (view t [] (id ∷ loose)) es (view t' [] loose)) (sym (ap (λ l. up_of id l ++ []) some)) (one_up loose);
   }
 
 pub ups_append : (xs ys : List Id) → ups (xs ++ ys) ≡ ups xs ++ ups ys
 ups_append xs ys = flat_append (λ (id : Id). up_of id id.log) xs ys
 
-pub gives_nothing : (r : Rules) (t : Tables) → IsTidy t [] → GivesUp r [] t t
-gives_nothing r t tidy = record {
-  rest = refl;
-  spare = omega arith;
-  tidy = tidy;
-  pays = pays_idle r t t [] tt (λ row. refl) refl;
-  goes = refl;
-  leads = λ loose. (refl, λ c. c, λ s h. h);
-}
-
 -- one after the other
 pub gives_on : (r : Rules) (xs ys : List Id) (t m t' : Tables) → GivesUp r xs t m → GivesUp r ys m t' → GivesUp r (xs ++ ys) t t'
 gives_on r xs ys t m t' a b = record {
-  rest = b.rest ∙ ap (λ (x : Tables). record x { desk = t'.desk; outgoing = t'.outgoing; spare = t'.spare }) a.rest;
-  spare = omega (arith, a.spare, b.spare, length-append xs ys);
+  rest = b.rest ∙ ap (λ (x : Tables). record x { desk = t'.desk; outgoing = t'.outgoing }) a.rest;
   tidy = b.tidy;
   pays = subst (Pays r t t') (sym (ups_append xs ys)) (pays_on r t m t' (ups xs) (ups ys) a.pays b.pays);
   goes = returns_on xs ys t m t' a.goes b.goes;

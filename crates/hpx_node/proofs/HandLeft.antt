@@ -21,7 +21,7 @@ use Rattle.hpx_commit.proofs.Failed.{front_parts}
 use Rattle.hpx_commit.proofs.Halves.{ahead_halves}
 use Rattle.hpx_commit.proofs.Short.{place_some}
 use Rattle.hpx_tables.specs.Jobs.{IsFitJob}
-use Rattle.hpx_node.specs.Paused.{whole_stock, first_stock, HasSplit}
+use Rattle.hpx_steps.specs.Paused.{whole_stock, first_stock, HasSplit}
 use Rattle.hpx_tables.specs.Pending.{Waits, ids_named, own_ids, is_asked}
 use Rattle.hpx_tables.proofs.Alls.{all_append, all_parts}
 use Rattle.hpx_node.proofs.FilledDue.{is_least, is_below}

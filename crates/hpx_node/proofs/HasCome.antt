@@ -20,7 +20,7 @@ use Rattle.hpx_commit.proofs.Ahead.{ahead_same}
 use Rattle.hpx_tables.specs.Births.{birth_of, ids_of}
 use Rattle.hpx_node.specs.Commits.{IsStock, made_of, own_stock}
 use Rattle.hpx_tables.specs.Jobs.{IsFitJob}
-use Rattle.hpx_node.specs.Paused.{whole_stock, first_stock}
+use Rattle.hpx_steps.specs.Paused.{whole_stock, first_stock}
 use Rattle.hpx_tables.specs.Pending.{Waits, ids_named, own_ids}
 use Rattle.hpx_node.specs.Resumes.{full_stock}
 use Rattle.hpx_tables.specs.Tables.{Tables}

@@ -11,7 +11,8 @@ use Rattle.hpx_journal.specs.Data.{Id}
 use Rattle.hpx_journal.proofs.Same.{same_object-true}
 use Rattle.hpx_tables.specs.declared.births.Birth.{Birth}
 use Rattle.hpx_tables.specs.Births.{records_of}
-use Rattle.hpx_node.specs.Stands.{StaysAt, StayAt}
+use Rattle.hpx_steps.specs.Sound.{StaysAt}
+use Rattle.hpx_steps.specs.Rest.{StayAt}
 
 -- the same place, and no move
 same_stays : (k : ℕ) (y x : Record) → Some y ≡ Some x → StaysAt k y → StaysAt k x

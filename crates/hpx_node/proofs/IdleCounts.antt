@@ -7,7 +7,9 @@ use Rattle.hpx_journal.specs.Data.{Id, Act, Parcel, Return, Ask, Give, Free}
 use Rattle.hpx_journal.specs.Entries.{Rules}
 use Rattle.hpx_part.specs.Data.{Event, Given, Count, Returned, Granted, Refused}
 use Rattle.hpx_tables.specs.Tables.{Tables}
-use Rattle.hpx_node.specs.Idle.{Row, Returns, Asks, Gives, Frees, Counts, Refusals, Actions, FreesOf, frees_one, weight, owes, goes, causes, spends, one_if, is_least, unpaid, PaysFor}
+use Rattle.hpx_steps.specs.Rows.{Row, Returns, Asks, Gives, Frees, Counts, Refusals, Actions, FreesOf, frees_one, weight, owes, goes, causes, spends, one_if, is_least}
+use Rattle.hpx_steps.specs.Rest.{unpaid}
+use Rattle.hpx_node.specs.Idle.{PaysFor}
 use Rattle.hpx_node.proofs.IdleRows.{by_rows, comes_to_free}
 use Rattle.hpx_node.proofs.IdleFired.{calm_fired}
 

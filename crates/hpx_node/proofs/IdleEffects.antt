@@ -10,8 +10,8 @@ use Rattle.hpx_journal.specs.Local.{is_standing}
 use Rattle.hpx_part.specs.Data.{Event, Standing, Up, Count, Granted, Refused, Freed}
 use Rattle.hpx_tables.specs.Tables.{Tables}
 use Rattle.hpx_tables.specs.Kept.{count_here}
-use Rattle.hpx_node.specs.Idle.{spends}
-use Rattle.hpx_node.specs.Handled.{effects, up_of, ups, returned, more_here, freed}
+use Rattle.hpx_steps.specs.Rows.{spends}
+use Rattle.hpx_steps.specs.Calls.{effects, up_of, ups, returned, more_here, freed}
 
 up_spends : (r : Rules) (id : Id) (log : Option ℕ) (rest : List Event) → sum_by (spends r) rest ≡ 0 → sum_by (spends r) (up_of id log ++ rest) ≡ 0
 up_spends r id None rest h = h

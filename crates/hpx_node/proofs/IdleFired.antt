@@ -6,7 +6,7 @@ use Rattle.hpx_journal.specs.Data.{Parcel}
 use Rattle.hpx_journal.specs.Entries.{Rules}
 use Rattle.hpx_part.specs.Data.{Entry, Event, Line, Fire, Split, Born, Done, Sent, Print, Up, Asked, Given, Count, Freed, Left, Landed, Looked, Mail, Out, In}
 use Rattle.hpx_part.specs.Parts.{at_all}
-use Rattle.hpx_node.specs.Idle.{Actions, brings, weight, owes, weighed, goes, causes, hops, sets_out, spends, joins, fires_one, AreFired}
+use Rattle.hpx_steps.specs.Rows.{Actions, brings, weight, owes, weighed, goes, causes, hops, sets_out, spends, joins, fires_one, AreFired}
 
 -- ---- entry by entry
 

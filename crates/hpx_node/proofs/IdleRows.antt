@@ -14,7 +14,7 @@ use Rattle.hpx_tables.specs.Births.{births_of}
 use Rattle.hpx_commit.specs.Stocks.{halvings}
 use Rattle.hpx_tables.specs.Splits.{first_cuts, cuts, splits_from}
 use Rattle.hpx_tables.specs.Fit.{parcel_for}
-use Rattle.hpx_node.specs.Idle.{Row, Returns, Asks, Gives, Frees, Counts, Refusals, Actions, FreesOf, kind_of, brings, frees_one, weight, owes, goes, causes, spends, of_act}
+use Rattle.hpx_steps.specs.Rows.{Row, Returns, Asks, Gives, Frees, Counts, Refusals, Actions, FreesOf, kind_of, brings, frees_one, weight, owes, goes, causes, spends, of_act}
 use Rattle.hpx_tables.proofs.Alls.{all_append}
 
 -- one row after the other

@@ -10,8 +10,8 @@ use Rattle.hpx_journal.proofs.Grow.{part_append}
 use Rattle.hpx_part.specs.Data.{Entry, Event}
 use Rattle.hpx_tables.specs.declared.kept.Outgoing.{Outgoing}
 use Rattle.hpx_tables.specs.Tables.{Tables, IsPassive, messages}
-use Rattle.hpx_node.specs.Idle.{Row, Actions, weight, goes, causes, hops, sets_out, spends, AreFired, queued, unpaid}
-use Rattle.hpx_node.specs.Stands.{StandsWith}
+use Rattle.hpx_steps.specs.Rows.{Row, Actions, weight, goes, causes, hops, sets_out, spends, AreFired}
+use Rattle.hpx_steps.specs.Rest.{queued, unpaid, StandsWith}
 use Rattle.hpx_node.proofs.IdleRows.{by_rows}
 use Rattle.hpx_node.proofs.IdleFired.{spends_sum, hops_sum, fired_first, fired_last, sum_events}
 

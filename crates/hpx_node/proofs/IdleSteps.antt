@@ -1,19 +1,19 @@
 -- Each step pays for what it does.
-use Rattle.std.proofs.Common.{ℕ, suc, map, subst, sym, ◌∙◌, List, [], ◌∷◌, ◌++◌, ◌≡◌, ◌+◌, ◌≤◌, Some, length, length-append, take, drop, refl, ap, arith}
-use Rattle.std.specs.List.{sum_by, slice_get, remove, AllByRecursion}
+use Rattle.std.proofs.Common.{ℕ, map, subst, sym, ◌∙◌, List, [], ◌∷◌, ◌++◌, ◌≡◌, ◌+◌, ◌≤◌, Some, length, length-append, refl, ap, arith}
+use Rattle.std.specs.List.{sum_by, AllByRecursion}
 use Rattle.std.proofs.lemmas.List.{map-append}
 use Rattle.std.proofs.lemmas.List.Sums.{sum_by-cons, sum_by-append}
 use Rattle.hpx_journal.specs.Data.{Id, Act, Parcel, Return, Free}
 use Rattle.hpx_journal.specs.Entries.{Rules}
-use Rattle.hpx_part.specs.Data.{Name, Entry, Event, Line, Fire, Sent, Up, Freed, Mail, Out, In}
+use Rattle.hpx_part.specs.Data.{Name, Entry, Event, Sent, Up, Freed, Mail, In}
 use Rattle.hpx_part.specs.Parts.{at_all}
-use Rattle.hpx_part.proofs.Keyed.{split_get}
-use Rattle.hpx_tables.specs.Fit.{parcel_for}
 use Rattle.hpx_tables.specs.Tables.{Tables, messages}
-use Rattle.hpx_node.specs.Idle.{Row, Returns, Asks, Gives, Frees, Counts, Refusals, Actions, FreesOf, kind_of, brings, weight, owes, goes, causes, spends, of_act, queued, unpaid, joins, fires_one, AreFired, Pays, PaysFor, IsPaid}
+use Rattle.hpx_steps.specs.Rows.{Row, Returns, Asks, Gives, Frees, Counts, Refusals, Actions, FreesOf, kind_of, brings, weight, owes, goes, causes, spends, of_act, joins, fires_one, AreFired}
+use Rattle.hpx_steps.specs.Rest.{queued, unpaid, IsPaid}
+use Rattle.hpx_node.specs.Idle.{Pays, PaysFor}
 use Rattle.hpx_node.specs.Changes.{Mails}
 use Rattle.hpx_node.specs.Handled.{with_first}
-use Rattle.hpx_node.proofs.IdleRows.{Costs, nothing, IsIdle, none_sums, none_spends, act_weight, line_goes, line_causes, sent_costs, fire_costs, up_costs, out_costs, in_goes, in_causes, in_frees, mail_costs, mail_spends, freed_costs, comes_to_free, frees_now, none_come}
+use Rattle.hpx_node.proofs.IdleRows.{Costs, nothing, IsIdle, none_sums, none_spends, sent_costs, up_costs, in_goes, in_causes, in_frees, mail_costs, mail_spends, freed_costs, comes_to_free, frees_now, none_come}
 use Rattle.hpx_node.proofs.IdleFired.{spends_sum, calm_fired, one_fired, fired_first, fired_then, fired_append, at_events}
 
 -- ---- what is unpaid
@@ -30,16 +30,6 @@ mails_pending p t t' mails row = omega (
   ap (λ (x : Tables). queued row x.accepted) mails.rest,
 )
 
-queued_more : (row : Row) (l : List Act) (act : Act) (m : List Act) → queued row (l ++ act ∷ m) ≡ queued row (l ++ m) + of_act row
-queued_more Actions l act m = omega (arith, length-append l (act ∷ m), length-append l m)
-queued_more Returns l act m = refl
-queued_more Asks l act m = refl
-queued_more Gives l act m = refl
-queued_more Frees l act m = refl
-queued_more Counts l act m = refl
-queued_more Refusals l act m = refl
-queued_more (FreesOf o) l act m = refl
-
 queued_last : (row : Row) (l : List Act) (act : Act) → queued row (l ++ act ∷ []) ≡ queued row l + of_act row
 queued_last Actions l act = omega (arith, length-append l (act ∷ []))
 queued_last Returns l act = refl
@@ -51,13 +41,9 @@ queued_last Refusals l act = refl
 queued_last (FreesOf o) l act = refl
 
 -- one more accepted action
-pub accepted_pending : (act : Act) (t : Tables) (spare : ℕ) (row : Row)
-    → unpaid row (record t { accepted = t.accepted ++ act ∷ []; spare = spare }) ≡ unpaid row t + of_act row
-accepted_pending act t spare row = omega (arith, queued_last row t.accepted act)
-
--- one more action in a message
-pub mailed_pending : (act : Act) (t t' : Tables) → Mails (parcel_for act) t t' → (row : Row) → unpaid row t' ≡ unpaid row t + of_act row
-mailed_pending act t t' mails row = omega (arith, mails_pending (parcel_for act) t t' mails row, act_weight act row)
+pub accepted_pending : (act : Act) (t : Tables) (row : Row)
+    → unpaid row (record t { accepted = t.accepted ++ act ∷ [] }) ≡ unpaid row t + of_act row
+accepted_pending act t row = omega (arith, queued_last row t.accepted act)
 
 -- ---- a journal that grows
 
@@ -133,23 +119,6 @@ pays_idle r t t' es idle h same = record {
   frees = λ o. omega (arith, none_come r es idle o);
 }
 
--- a line, whose action is accepted at once
-pub pays_line : (r : Rules) (t t' : Tables) (a : Name) (bytes : List ℕ) → ((row : Row) → unpaid row t' ≡ unpaid row t + of_act row)
-    → length t.accepted + 1 ≤ length t'.accepted → Pays r t t' (Line a bytes ∷ [])
-pays_line r t t' a bytes more kept = record {
-  rows = λ row. omega (
-    arith,
-    more row,
-    line_goes r a bytes row,
-    line_causes r a bytes row,
-    one_sum (goes r row) (Line a bytes),
-    one_sum (causes r row) (Line a bytes),
-  );
-  kept = omega (arith, kept, one_sum (goes r Actions) (Line a bytes), one_sum (spends r) (Line a bytes));
-  fired = (omega (arith, kept, one_sum joins (Line a bytes)), tt);
-  frees = λ o. omega (arith, one_sum (comes_to_free r o) (Line a bytes));
-}
-
 pub pays_sent : (r : Rules) (t t' : Tables) (a : Name) → ((row : Row) → unpaid row t' ≡ unpaid row t + of_act row)
     → length t.accepted ≤ length t'.accepted → Pays r t t' (Sent a ∷ [])
 pays_sent r t t' a more kept = pays_one r t t' (Sent a) nothing of_act (sent_costs r a) (λ row. omega (arith, more row)) (omega (arith, kept)) refl
@@ -158,41 +127,6 @@ pub pays_up : (r : Rules) (t t' : Tables) (id o : Id) (log : ℕ) → Mails (Ret
 pays_up r t t' id o log mails =
     pays_one r t t' (Up o log) nothing (λ row. weight row (Return id)) (up_costs r o id log)
     (λ row. omega (arith, mails_pending (Return id) t t' mails row)) (omega (arith, ap (λ (x : Tables). length x.accepted) mails.rest)) refl
-
-pub pays_fire : (r : Rules) (t t' : Tables) (i : ℕ) (act : Act) (a : Name) → slice_get t.accepted i ≡ Some act → messages t' ≡ messages t
-    → t'.accepted ≡ remove t.accepted i → Pays r t t' (Fire a ∷ [])
-pays_fire r t t' i act a is same gone =
-    pays_one r t t' (Fire a) of_act nothing (fire_costs r a)
-    (λ row. omega (
-      arith,
-      ap (sum_by (weight row)) same,
-      ap (queued row) gone,
-      ap (queued row) (split_get t.accepted i act is),
-      queued_more row (take i t.accepted) act (drop (suc i) t.accepted),
-    ))
-    (omega (
-      arith,
-      ap (λ (xs : List Act). length xs) gone,
-      ap (λ (xs : List Act). length xs) (split_get t.accepted i act is),
-      length-append (take i t.accepted) (act ∷ drop (suc i) t.accepted),
-      length-append (take i t.accepted) (drop (suc i) t.accepted),
-    )) refl
-
-pub pays_out : (r : Rules) (t t' : Tables) (to : ℕ) (bytes : List ℕ) (p : Parcel) (front back : List Parcel) → r.parcel_of bytes ≡ Some p
-    → messages t ≡ front ++ p ∷ back → messages t' ≡ front ++ back → t'.accepted ≡ t.accepted → Pays r t t' (Out to bytes ∷ [])
-pays_out r t t' to bytes p front back spelled before after same =
-    let costs = out_costs r to bytes p spelled in
-    pays_one r t t' (Out to bytes) (λ row. weight row p) nothing costs
-    (λ row. omega (
-      arith,
-      ap (sum_by (weight row)) before,
-      ap (sum_by (weight row)) after,
-      ap (queued row) same,
-      sum_by-append (weight row) front (p ∷ back),
-      sum_by-append (weight row) front back,
-      sum_by-cons (weight row) p back,
-    ))
-    (omega (arith, costs.spends, costs.goes Actions, ap (λ (xs : List Act). length xs) same)) refl
 
 -- ---- a message is taken up
 

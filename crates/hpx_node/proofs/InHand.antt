@@ -19,14 +19,14 @@ use Rattle.hpx_part.proofs.Lists.{sum_middle}
 use Rattle.hpx_part.proofs.Keyed.{counts_of, counts_true, count_middle, find_hit, find_miss}
 use Rattle.hpx_tables.specs.Pending.{asking_of, refusals_of}
 use Rattle.hpx_tables.specs.Tables.{Tables, messages, fired_acts}
-use Rattle.hpx_node.specs.Seen.{bare_standing, counted, parcel_tokens, tokens, asks, view}
-use Rattle.hpx_node.specs.Stands.{IsTidy}
+use Rattle.hpx_steps.specs.Turn.{bare_standing, counted, parcel_tokens}
+use Rattle.hpx_steps.specs.Rest.{tokens, asks, view, IsTidy}
 use Rattle.hpx_node.specs.Changes.{Posts}
 use Rattle.hpx_node.specs.Handled.{with_first, in_hand, Handles}
 use Rattle.hpx_node.proofs.Sums.{weigh, tokens_sum, view_sum}
 use Rattle.hpx_node.proofs.Steps.{same_refusals, tells_leads}
-use Rattle.hpx_node.specs.Idle.{Row, owes, of_act}
-use Rattle.hpx_node.specs.Routes.{DealsWith}
+use Rattle.hpx_steps.specs.Rows.{Row, owes, of_act}
+use Rattle.hpx_steps.specs.Calls.{DealsWith}
 use Rattle.hpx_node.proofs.IdleRows.{apply_owes, move_owes}
 use Rattle.hpx_node.proofs.IdleSteps.{pays_for_act}
 use Rattle.hpx_node.proofs.Routed.{act_kept}

@@ -4,12 +4,10 @@ use Rattle.std.specs.Prelude.{◌||◌, is_some}
 use Rattle.std.specs.List.{find, remove, slice_get, AllByRecursion}
 use Rattle.std.proofs.lemmas.Bool.{cases_Bool, eq-eqb}
 use Rattle.std.proofs.lemmas.List.{length-map}
-use Rattle.hpx_value.specs.Ids.{bare, credit}
 use Rattle.hpx_value.specs.Hands.{id_at}
 use Rattle.hpx_value.specs.declared.acts.Job.{Job}
 use Rattle.hpx_value.specs.Values.{named}
-use Rattle.hpx_journal.specs.Data.{Id, Act, Due, MessageDue, PrintDue, Parcel, Outcome, Apply, Return, Ask, Give, Cached, Move, Go, Shipped, Arrived, Free}
-use Rattle.hpx_journal.specs.Entries.{target_of}
+use Rattle.hpx_journal.specs.Data.{Id, Due, MessageDue, PrintDue, Parcel, Outcome, Apply, Return, Ask, Give, Cached, Move, Go, Shipped, Arrived, Free}
 use Rattle.hpx_journal.specs.Local.{is_standing}
 use Rattle.hpx_journal.specs.Weights.{Book}
 use Rattle.hpx_part.specs.Data.{Entry, Event}
@@ -18,15 +16,14 @@ use Rattle.hpx_node.specs.Asks.{split_stock, short_before, lacking, with_asks, B
 use Rattle.hpx_node.specs.Changes.{OnlySpare}
 use Rattle.hpx_node.specs.Fails.{fails_first, dooms, state_left, due_left, ups_left}
 use Rattle.hpx_tables.specs.Awaited.{answered_by}
-use Rattle.hpx_tables.specs.Fit.{parcel_for}
 use Rattle.hpx_node.specs.Handled.{Takes, Clears}
-use Rattle.hpx_tables.specs.Kept.{count_here}
-use Rattle.hpx_node.specs.Lacks.{Lacks}
+use Rattle.hpx_steps.specs.Rest.{Lacks}
 use Rattle.hpx_node.specs.Next.{Continues}
 use Rattle.hpx_tables.specs.declared.pending.Asked.{Asked}
 use Rattle.hpx_tables.specs.Pending.{Waits, asked_at, awaits, is_asked_for}
 use Rattle.hpx_node.specs.Resumes.{is_last, completes}
-use Rattle.hpx_node.specs.Routes.{is_other, may_stay, with_mail, with_return, with_returns, with_free, with_act, with_due, with_left, place_or_0, given_here, ids_in, Gives, DealsWith, Accepts}
+use Rattle.hpx_steps.specs.Mail.{with_mail, with_return, with_act}
+use Rattle.hpx_steps.specs.Calls.{with_returns, with_due, with_left, ids_in, Gives, DealsWith, Accepts}
 use Rattle.hpx_tables.specs.Tables.{Tables}
 use Rattle.hpx_tables.proofs.Alls.{all_append, all_remove, all_set}
 use Rattle.hpx_node.proofs.Continued.{any_at, less_long}
@@ -44,38 +41,20 @@ lacks_spare t t' b b' only h = lacks_same t.pending t'.pending (ap (λ (x : Tabl
 
 -- ---- messages and actions change no commit that waits
 
-mail_pending : (to : ℕ) (p : Parcel) (t : Tables) → (with_mail to p t).pending ≡ t.pending
-mail_pending to p t = elim (cases_Bool (is_other t to)) [
-  | inl b ↦ rw b refl
-  | inr b ↦ rw b refl
-]
-
 return_pending : (id : Id) (log : Option ℕ) (t : Tables) → (with_return id log t).pending ≡ t.pending
 return_pending id None t = refl
-return_pending id (Some log) t = mail_pending id.home (Return id) t
+return_pending id (Some log) t = refl
 
 returns_pending : (ids : List Id) (t : Tables) → (with_returns ids t).pending ≡ t.pending
 returns_pending [] t = refl
 returns_pending (id ∷ ids) t = returns_pending ids (with_return id id.log t) ∙ return_pending id id.log t
-
-free_pending : (id : Id) (t : Tables) → (with_free id t).pending ≡ t.pending
-free_pending id t = elim (cases_Bool (count_here t id == credit id)) [
-  | inl b ↦ rw b (mail_pending (place_or_0 t id) (Free (bare id)) t)
-  | inr b ↦ rw b refl
-]
-
-act_pending : (act : Act) (t : Tables) → (with_act act t).pending ≡ t.pending
-act_pending act t = elim (cases_Bool (may_stay t act)) [
-  | inl b ↦ rw b refl
-  | inr b ↦ rw b (mail_pending (target_of act).home (parcel_for act) t)
-]
 
 due_pending : (due : List Due) (t : Tables) → (with_due due t).pending ≡ t.pending
 due_pending [] t = refl
 due_pending (MessageDue m ∷ due) t =
     let drawn = record t { serial = t.serial + 1 } in
     let act = named t.here (t.serial + 1) m in
-    due_pending due (with_act act drawn) ∙ act_pending act drawn
+    due_pending due (with_act act drawn)
 due_pending (PrintDue bytes ∷ due) t = due_pending due t
 
 left_pending : (due : List Due) (ids : List Id) (t : Tables) → (with_left due ids t).pending ≡ t.pending
@@ -83,7 +62,7 @@ left_pending due ids t = returns_pending ids (with_due due t) ∙ due_pending du
 
 asks_pending : (k n : ℕ) (ids : List Id) (t : Tables) → (with_asks k n ids t).pending ≡ t.pending
 asks_pending k n [] t = refl
-asks_pending k n (id ∷ ids) t = asks_pending k (n + 1) ids (with_mail id.home (Ask id k (n + 1)) t) ∙ mail_pending id.home (Ask id k (n + 1)) t
+asks_pending k n (id ∷ ids) t = asks_pending k (n + 1) ids (with_mail id.home (Ask id k (n + 1)) t)
 
 -- ---- a commit gets what it asked for
 
@@ -154,11 +133,11 @@ rests_lacks t mid t' same e h = subst Lacks (sym e) (lacks_same t.pending mid.pe
 
 pub deals_lacks : (p : Parcel) (t mid t' : Tables) (more : List Event) → DealsWith p t mid → Continues p t mid t' more → Lacks t → Lacks t'
 deals_lacks (Give id entry) t mid t' more d k h = follows_lacks id entry t mid t' more d k h
-deals_lacks (Apply act) t mid t' more d k h = rests_lacks t mid t' (ap (λ (x : Tables). x.pending) d ∙ act_pending act t) (k.rests refl refl).0 h
-deals_lacks (Move act) t mid t' more d k h = rests_lacks t mid t' (ap (λ (x : Tables). x.pending) d ∙ act_pending act t) (k.rests refl refl).0 h
-deals_lacks (Return id) t mid t' more d k h = rests_lacks t mid t' (ap (λ (x : Tables). x.pending) d ∙ free_pending id t) (k.rests refl refl).0 h
+deals_lacks (Apply act) t mid t' more d k h = rests_lacks t mid t' (ap (λ (x : Tables). x.pending) d) (k.rests refl refl).0 h
+deals_lacks (Move act) t mid t' more d k h = rests_lacks t mid t' (ap (λ (x : Tables). x.pending) d) (k.rests refl refl).0 h
+deals_lacks (Return id) t mid t' more d k h = rests_lacks t mid t' (ap (λ (x : Tables). x.pending) d) (k.rests refl refl).0 h
 deals_lacks (Ask id asker entry) t mid t' more d k h =
-    rests_lacks t mid t' (ap (λ (x : Tables). x.pending) d ∙ mail_pending asker (Give (given_here t id) entry) t) (k.rests refl refl).0 h
+    rests_lacks t mid t' (ap (λ (x : Tables). x.pending) d) (k.rests refl refl).0 h
 deals_lacks (Free o) t mid t' more d k h =
     rests_lacks t mid t' (ap (λ (x : Tables). x.pending) d ∙ returns_pending (ids_in (find (is_standing o) t.objects)) t) (k.rests refl refl).0 h
 deals_lacks (Cached o place) t mid t' more d k h = rests_lacks t mid t' (ap (λ (x : Tables). x.pending) d) (k.rests refl refl).0 h

@@ -1,6 +1,5 @@
 pub mod Few
 pub mod Numbers
-pub mod Gone
 pub mod Made
 pub mod MadeLists
 pub mod Mailed
@@ -30,7 +29,6 @@ pub mod Bearing
 pub mod Begun
 pub mod Cover
 pub mod Fed
-pub mod Fired
 pub mod BareHands
 pub mod HandFit
 pub mod FilledDue
@@ -88,7 +86,7 @@ pub mod Routed
 pub mod RowLaws
 pub mod Targets
 pub mod Lacks
-pub mod Spareless
+pub mod Returns
 pub mod Orders
 pub mod OrderMails
 pub mod OrderAsks

@@ -9,7 +9,7 @@ makes_none xs t = record { rest = refl; objects = refl; records = refl; births =
 
 pub makes_then : (xs ys zs : List Birth) (t u v : Tables) → Makes xs ys t u → Makes ys zs u v → Makes xs zs t v
 makes_then xs ys zs t u v a b = record {
-  rest = b.rest ∙ ap (λ (x : Tables). record x { births = v.births; records = v.records; objects = v.objects; spare = v.spare }) a.rest;
+  rest = b.rest ∙ ap (λ (x : Tables). record x { births = v.births; records = v.records; objects = v.objects }) a.rest;
   objects = b.objects ∙ a.objects;
   records = b.records ∙ a.records;
   births = b.births ∙ a.births;

@@ -12,7 +12,7 @@ use Rattle.hpx_journal.specs.Rows.{AreMade}
 use Rattle.hpx_journal.proofs.Same.{same_object-true, same_object-refl}
 use Rattle.hpx_part.specs.Data.{Standing}
 use Rattle.hpx_tables.specs.declared.births.Birth.{Birth}
-use Rattle.hpx_node.specs.Seen.{bare_standing}
+use Rattle.hpx_steps.specs.Turn.{bare_standing}
 use Rattle.hpx_tables.specs.Births.{IsBirth, birth_of, objects_of, ids_of}
 use Rattle.hpx_tables.proofs.Alls.{all_append}
 

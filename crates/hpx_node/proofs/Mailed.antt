@@ -5,23 +5,21 @@ use Rattle.std.proofs.lemmas.List.{map-append}
 use Rattle.hpx_parcel.specs.Parcels.{IsParcel}
 use Rattle.hpx_journal.specs.Data.{Parcel}
 use Rattle.hpx_tables.specs.declared.kept.Outgoing.{Outgoing}
-use Rattle.hpx_node.specs.Frames.{MayGoTo, IsOnItsWay, IsForHere}
+use Rattle.hpx_steps.specs.Frames.{MayGoTo, IsOnItsWay, IsForHere}
 use Rattle.hpx_tables.specs.Tables.{Tables, messages}
 use Rattle.hpx_node.specs.Changes.{Mails}
 use Rattle.hpx_tables.proofs.Alls.{all_append, all_parts}
-use Rattle.hpx_node.specs.Routes.{is_other}
+use Rattle.hpx_steps.specs.Mail.{is_other}
 use Rattle.hpx_node.proofs.Routed.{other_is, own_is}
-use Rattle.std.proofs.Common.{◌≤◌, ◌+◌}
 
-module _ (t : Tables) (p : Parcel) (spare : ℕ) (fit : IsParcel p) (enough : t.spare ≤ spare + 1) where
+module _ (t : Tables) (p : Parcel) (fit : IsParcel p) where
   -- among those to others
   pub mails_out : (to : ℕ) → is_other t to ≡ true → MayGoTo t.here to p
-      → Mails p t (record t { outgoing = t.outgoing ++ record { to = to; parcel = p } ∷ []; spare = spare })
+      → Mails p t (record t { outgoing = t.outgoing ++ record { to = to; parcel = p } ∷ [] })
   mails_out to other may =
       let parts : (to < t.localities) × (to ≢ t.here) = other_is t to other in
       let outs = map (λ (x : Outgoing). x.parcel) t.outgoing in record {
         rest = refl;
-        spare = enough;
         front = messages t;
         back = [];
         before = sym (append-nil (messages t));
@@ -51,11 +49,10 @@ module _ (t : Tables) (p : Parcel) (spare : ℕ) (fit : IsParcel p) (enough : t.
       }
 
   -- on the own desk
-  pub mails_desk : (to : ℕ) → is_other t to ≡ false → MayGoTo t.here to p → Mails p t (record t { desk = t.desk ++ p ∷ []; spare = spare })
+  pub mails_desk : (to : ℕ) → is_other t to ≡ false → MayGoTo t.here to p → Mails p t (record t { desk = t.desk ++ p ∷ [] })
   mails_desk to own may =
       let outs = map (λ (x : Outgoing). x.parcel) t.outgoing in record {
         rest = refl;
-        spare = enough;
         front = t.desk;
         back = map (λ (x : Outgoing). x.parcel) t.outgoing;
         before = refl;

@@ -14,10 +14,11 @@ use Rattle.hpx_journal.specs.Frames.{acts_in, asks_in}
 use Rattle.hpx_part.specs.Data.{Token}
 use Rattle.hpx_tables.specs.Fit.{parcel_for}
 use Rattle.hpx_tables.specs.Tables.{Tables, messages}
-use Rattle.hpx_node.specs.Seen.{tokens_of, parcel_tokens, kept_ids, tokens, waiting, asks, frees_in}
+use Rattle.hpx_steps.specs.Turn.{tokens_of, parcel_tokens, parcel_frees}
+use Rattle.hpx_steps.specs.Rest.{kept_ids, tokens, waiting, asks}
 use Rattle.hpx_node.specs.Changes.{Mails, Posts}
-use Rattle.hpx_node.specs.Idle.{Row, weight, of_act}
-use Rattle.hpx_node.specs.Routes.{with_act}
+use Rattle.hpx_steps.specs.Rows.{Row, weight, of_act}
+use Rattle.hpx_steps.specs.Mail.{with_act}
 use Rattle.hpx_node.proofs.IdleRows.{apply_weight, move_weight}
 use Rattle.hpx_node.proofs.IdleSteps.{mails_pending}
 
@@ -101,24 +102,23 @@ module _ (p : Parcel) (t t' : Tables) (mails : Mails p t t') where
 
 -- an action that is mailed
 posted : (act : Act) (t t' : Tables) (p : Parcel) → Mails p t t' → acts_in (Some p) ≡ bare_act act ∷ [] → asks_in (Some p) ≡ []
-    → frees_in p ≡ [] → parcel_tokens p ≡ tokens_of act.ids → ((row : Row) → weight row p ≡ of_act row)
-    → t' ≡ record (with_act act t) { spare = t'.spare } → Posts act t t'
+    → parcel_frees p ≡ [] → parcel_tokens p ≡ tokens_of act.ids → ((row : Row) → weight row p ≡ of_act row)
+    → t' ≡ with_act act t → Posts act t t'
 posted act t t' p mails one no_asks no_frees toks weighs waits = record {
-  rest = mails.rest ∙ ap (λ xs. record t { accepted = xs; desk = t'.desk; outgoing = t'.outgoing; spare = t'.spare }) (sym (ap (λ (x : Tables). x.accepted) mails.rest));
-  spare = mails.spare;
+  rest = mails.rest ∙ ap (λ xs. record t { accepted = xs; desk = t'.desk; outgoing = t'.outgoing }) (sym (ap (λ (x : Tables). x.accepted) mails.rest));
   front = mails_front p t t' mails;
   back = mails_back p t t' mails;
   before = mails_before p t t' mails;
   after = mails_after p t t' mails ∙ ap (λ xs. mails_front p t t' mails ++ (xs ++ mails_back p t t' mails)) one;
   tidy = mails.tidy;
   asks = mails_without p t t' mails (λ q. asks_in (Some q)) no_asks;
-  frees = mails_without p t t' mails frees_in no_frees;
+  frees = mails_without p t t' mails parcel_frees no_frees;
   tokens = λ f. mails_tokens p t t' mails f ∙ ap (λ xs. sum_by f (tokens t) + sum_by f xs) toks;
   more = λ row. omega (arith, mails_pending p t t' mails row, weighs row);
   goes = waits;
 }
 
-pub mailed_posts : (act : Act) (t t' : Tables) → Mails (parcel_for act) t t' → t' ≡ record (with_act act t) { spare = t'.spare } → Posts act t t'
+pub mailed_posts : (act : Act) (t t' : Tables) → Mails (parcel_for act) t t' → t' ≡ with_act act t → Posts act t t'
 mailed_posts act t t' mails waits = elim (cases_Bool (act.code == 1)) [
   | inl e ↦
       posted act t t' (Move act) (subst (λ (b : Bool). Mails (cond b (Move act) (Apply act)) t t') e mails) refl refl refl refl (move_weight act) waits

@@ -26,8 +26,8 @@ use Rattle.hpx_tables.specs.Awaited.{is_answer, drawn_by, awaited_here, awaited_
 use Rattle.hpx_tables.specs.Kept.{stands_here, credit_in, ids_held, credit_owed, held_here, owed_here, held_worth, owed_worth}
 use Rattle.hpx_tables.specs.Pending.{Waits, action_of}
 use Rattle.hpx_tables.specs.Tables.{Tables, IsPassive, messages}
-use Rattle.hpx_node.specs.Seen.{bare_standing, parcel_tokens, view}
-use Rattle.hpx_node.specs.Stands.{IsTidy}
+use Rattle.hpx_steps.specs.Turn.{bare_standing, parcel_tokens}
+use Rattle.hpx_steps.specs.Rest.{view, IsTidy}
 use Rattle.hpx_node.proofs.Cover.{held_counts, held_each}
 use Rattle.hpx_node.proofs.Sums.{weigh, weigh_append, tokens_sum, view_sum}
 

@@ -19,9 +19,8 @@ use Rattle.hpx_tables.specs.Splits.{splits_from}
 use Rattle.hpx_node.specs.Commits.{IsPrepared, written, ups, committed_from, made_of}
 use Rattle.hpx_tables.specs.Fit.{IsFit, IsKept, IsFitDue}
 use Rattle.hpx_tables.specs.Jobs.{IsFitJob}
-use Rattle.hpx_node.specs.Paused.{ArePaused}
+use Rattle.hpx_steps.specs.Rest.{ArePaused, StandsWith, rules_of}
 use Rattle.hpx_tables.specs.Pending.{Waits}
-use Rattle.hpx_node.specs.Stands.{StandsWith, rules_of}
 use Rattle.hpx_tables.specs.Tables.{Tables}
 use Rattle.hpx_node.proofs.Plain.{plain_values, plain_conts}
 use Rattle.hpx_node.proofs.Planned.{made_fit, state_fit, state_paid, due_may, ups_credit}
@@ -95,7 +94,7 @@ module _ (t : Tables) (job : Job) (out : Outcome) (fit : IsFitJob job) (few : t.
   -- ---- once it is settled, where this ends then
 
   module _ (j : ℕ) (running : List Act) (pending : List Waits)
-      (at : IsEnding t j job (ids_of t.here t.births t.profile.credit_log p.births.items) p.stock.hand running pending) (spare : ℕ) where
+      (at : IsEnding t j job (ids_of t.here t.births t.profile.credit_log p.births.items) p.stock.hand running pending) where
     -- the tables
     abbrev pub tables_settled : Tables
     tables_settled = record t {
@@ -105,7 +104,6 @@ module _ (t : Tables) (job : Job) (out : Outcome) (fit : IsFitJob job) (few : t.
       running = running;
       pending = pending;
       answered = t.answered + answered_by (Some job.action);
-      spare = spare;
     }
 
     -- births, splits and the Done lead from view to view
@@ -120,4 +118,4 @@ module _ (t : Tables) (job : Job) (out : Outcome) (fit : IsFitJob job) (few : t.
         ++ (splits_from 0 p.stock.hand p.stock.places ++ Done (name_of job.action) false ∷ [])))
     stands_of act_of blind right runs paused entries h =
         prepared_stands t job out fit few laws p.stock is.stock p.births.items p.plan.state p.plan.due.items p.plan.ups.items
-        is.births is.state_left is.due_left is.ups_left j running pending at runs paused spare act_of blind right entries h
+        is.births is.state_left is.due_left is.ups_left j running pending at runs paused act_of blind right entries h

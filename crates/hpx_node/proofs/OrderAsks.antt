@@ -1,8 +1,8 @@
 -- A commit that begins to wait: it waits for what it asks for.
-use Rattle.std.proofs.Common.{ℕ, List, [], ◌∷◌, ◌++◌, ◌≡◌, ◌+◌, ◌==◌, ◌&&◌, map, refl, sym, ap, ◌∙◌, arith, subst}
+use Rattle.std.proofs.Common.{ℕ, List, [], ◌∷◌, ◌++◌, ◌≡◌, ◌+◌, ◌==◌, ◌&&◌, map, refl, sym, ap, arith, subst}
 use Rattle.std.specs.List.{count_by}
 use Rattle.std.proofs.lemmas.List.Sums.{sum_by-cons, sum_by_push}
-use Rattle.std.proofs.lemmas.Bool.{cond_both, eq-eqb}
+use Rattle.std.proofs.lemmas.Bool.{eq-eqb}
 use Rattle.hpx_value.specs.Ids.{bare, same_object}
 use Rattle.hpx_value.specs.Hands.{id_at}
 use Rattle.hpx_value.specs.declared.acts.Job.{Job}
@@ -12,14 +12,16 @@ use Rattle.hpx_part.specs.Data.{Entry}
 use Rattle.hpx_commit.specs.Stocks.{Stock}
 use Rattle.hpx_commit.proofs.Stripped.{stripped_bare}
 use Rattle.hpx_node.specs.Asks.{split_stock, stock_before, short_before, lacking, with_asks, Pauses}
-use Rattle.hpx_node.specs.Idle.{one_if}
-use Rattle.hpx_node.specs.Orders.{asks_for, waits_for, IsOrderly}
+use Rattle.hpx_steps.specs.Rows.{one_if}
+use Rattle.hpx_steps.specs.Sound.{asks_for}
+use Rattle.hpx_steps.specs.Rest.{waits_for, IsOrderly}
 use Rattle.hpx_tables.specs.declared.pending.Asked.{Asked}
 use Rattle.hpx_tables.specs.Pending.{Waits, asked_at, is_asked_for, waits_with}
-use Rattle.hpx_node.specs.Routes.{is_other, with_mail}
+use Rattle.hpx_steps.specs.Mail.{with_mail}
 use Rattle.hpx_tables.specs.Tables.{Tables}
 use Rattle.hpx_node.proofs.Orders.{bound_none, Over, over_any, no_give, to_desk, to_other}
 use Rattle.hpx_node.proofs.OrderMails.{waits_one}
+use Rattle.hpx_node.proofs.Routed.{mail_both}
 
 -- how many of these ids, asked for under the numbers behind m, are asked for so
 abbrev pub asks_among : ℕ → List Id → Id → ℕ → ℕ
@@ -45,21 +47,16 @@ ask_over r t es k m id ids at h =
     let b = asks_among (m + 1) ids in
     let asks : (o : Id) (n : ℕ) → asks_for t.here o n p ≡ one_if ((m + 1 == n) && same_object o id) = λ o n.
     ap {B = ℕ} (λ c. one_if (c && ((m + 1 == n) && same_object o id))) (eq-eqb k t.here (sym at)) in
-    cond_both (is_other t id.home) (record t { outgoing = t.outgoing ++ record { to = id.home; parcel = p } ∷ [] }) (record t { desk = t.desk ++ p ∷ [] })
-    (λ (u : Tables). Over r u es b no_give)
+    mail_both id.home p t (λ (u : Tables). Over r u es b no_give)
     (λ c. to_other r t es id.home p a b no_give no_give (sym at) tt (λ o n. omega (arith, asks o n)) (λ j d o n. omega (arith, bound_none (id.home == j) 0 refl)) h)
     (λ c. to_desk r t es p a b no_give (sym at) (λ o n. omega (arith, asks o n)) h)
-
-mail_here : (to : ℕ) (p : Parcel) (t : Tables) → (with_mail to p t).here ≡ t.here
-mail_here to p t = cond_both (is_other t to) (record t { outgoing = t.outgoing ++ record { to = to; parcel = p } ∷ [] }) (record t { desk = t.desk ++ p ∷ [] })
-    (λ (u : Tables). u.here ≡ t.here) (λ c. refl) (λ c. refl)
 
 pub asks_orderly : (r : Rules) (es : List Entry) (k : ℕ) (ids : List Id) (m : ℕ) (t : Tables) → t.here ≡ k → Over r t es (asks_among m ids) no_give
     → IsOrderly r (with_asks k m ids t) es
 asks_orderly r es k [] m t at h = over_any r t es (asks_among m []) no_give h
 asks_orderly r es k (id ∷ ids) m t at h =
     let p : Parcel = Ask id k (m + 1) in
-    asks_orderly r es k ids (m + 1) (with_mail id.home p t) (mail_here id.home p t ∙ at) (ask_over r t es k m id ids at h)
+    asks_orderly r es k ids (m + 1) (with_mail id.home p t) at (ask_over r t es k m id ids at h)
 
 module _ (r : Rules) (t t' : Tables) (job : Job) (out : Outcome) (es : List Entry) where
   abbrev short : List ℕ

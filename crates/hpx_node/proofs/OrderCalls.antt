@@ -1,10 +1,9 @@
 -- A node and its part stay in order.
-use Rattle.std.proofs.Common.{ℕ, List, [], ◌∷◌, ◌++◌, ◌≡◌, ◌+◌, Some, map, refl, sym, ap, ◌∙◌, arith, subst, append_assoc}
+use Rattle.std.proofs.Common.{ℕ, List, [], ◌∷◌, ◌++◌, ◌≡◌, ◌+◌, map, refl, sym, ap, ◌∙◌, subst, append_assoc}
 use Rattle.std.specs.List.{remove, AllByRecursion}
 use Rattle.hpx_value.specs.declared.acts.Job.{Job}
 use Rattle.hpx_value.specs.declared.profile.Profile.{Profile}
 use Rattle.hpx_parcel.specs.Parcels.{IsParcel}
-use Rattle.hpx_parcel.specs.Reading.{parcel_of}
 use Rattle.hpx_parcel.proofs.Frames.{parcel_spelled}
 use Rattle.hpx_journal.specs.Data.{State, Act, Outcome}
 use Rattle.hpx_journal.specs.Entries.{Rules}
@@ -12,30 +11,30 @@ use Rattle.hpx_journal.specs.Laws.{AreAt}
 use Rattle.hpx_journal.specs.Weights.{Book}
 use Rattle.hpx_journal.specs.Whole.{part}
 use Rattle.hpx_journal.proofs.Grow.{part_append, part_at}
-use Rattle.hpx_part.specs.Data.{Event, Entry, In, Out, Mail}
+use Rattle.hpx_part.specs.Data.{Event, Entry, In, Mail}
 use Rattle.hpx_part.specs.Parts.{at_all}
 use Rattle.hpx_tables.specs.declared.kept.Outgoing.{Outgoing}
 use Rattle.hpx_tables.specs.Splits.{asked_events}
 use Rattle.hpx_node.specs.Asks.{own_many, hand_before, splits_before, lacking, Begins}
 use Rattle.hpx_node.specs.Changes.{OnlySpare, Writes}
 use Rattle.hpx_node.specs.Commits.{places_in_hand, own_stock, Ends, committed}
-use Rattle.hpx_node.specs.Handled.{effects, kind_of, Takes, Clears}
-use Rattle.hpx_node.specs.Orders.{IsOrderly, KeepsOrder}
-use Rattle.hpx_node.specs.Routes.{with_act}
-use Rattle.hpx_node.specs.Stands.{IsTidy, rules_of}
+use Rattle.hpx_steps.specs.Calls.{effects}
+use Rattle.hpx_steps.specs.Rows.{kind_of}
+use Rattle.hpx_node.specs.Handled.{Takes, Clears}
+use Rattle.hpx_steps.specs.Rest.{IsOrderly, IsTidy, rules_of}
+use Rattle.hpx_node.specs.Orders.{KeepsOrder}
 use Rattle.hpx_tables.specs.Tables.{Tables}
 use Rattle.hpx_tables.proofs.Alls.{all_append, all_parts}
 use Rattle.hpx_node.proofs.Asking.{asked_stay}
 use Rattle.hpx_node.proofs.Begun.{first_stay}
-use Rattle.hpx_node.proofs.Orders.{stays_orderly, hand_in, hand_first, orderly_gone}
+use Rattle.hpx_node.proofs.Orders.{stays_orderly, hand_in, hand_first}
 use Rattle.hpx_node.proofs.OrderAsks.{asks_orderly, paused_over}
-use Rattle.hpx_node.proofs.OrderMails.{act_orderly}
 use Rattle.hpx_node.proofs.OrderTurns.{is_right, deals_orderly, accepts_orderly, commits_orderly, committed_stay, effects_stay}
 use Rattle.hpx_node.proofs.Stays.{Stays}
 
 -- ---- the same but for memory
 
-pub orderly_same : (act_of : ℕ → ℕ → ℕ → State → Act → Outcome) (t t' : Tables) (es es' : List Entry) → t' ≡ record t { spare = t'.spare } → es' ≡ es
+pub orderly_same : (act_of : ℕ → ℕ → ℕ → State → Act → Outcome) (t t' : Tables) (es es' : List Entry) → t' ≡ t → es' ≡ es
     → KeepsOrder act_of t es → KeepsOrder act_of t' es'
 orderly_same act_of t t' es es' same e h = subst (KeepsOrder act_of t') (sym e) (subst (λ (u : Tables). KeepsOrder act_of u es) (sym same) h)
 
@@ -85,31 +84,9 @@ module _ (act_of : ℕ → ℕ → ℕ → State → Act → Outcome) (t t' : Ta
 
 -- ---- calls
 
--- at boot
-pub boot_orderly : (act_of : ℕ → ℕ → ℕ → State → Act → Outcome) (t : Tables) → t.desk ≡ [] → t.outgoing ≡ [] → KeepsOrder act_of t []
-boot_orderly act_of t none nor = record {
-  sent = tt;
-  own = rw none tt;
-  away = rw nor tt;
-  asked = λ o n. rw (none, nor) (omega arith);
-  given = λ j d o n. rw nor (omega arith);
-}
-
 module _ (act_of : ℕ → ℕ → ℕ → State → Act → Outcome) (t t' : Tables) (entries entries' : List Entry) (h : KeepsOrder act_of t entries) where
   abbrev rules : Rules
   rules = rules_of act_of t.localities t.profile
-
-  -- an action waits
-  pub act_keeps : (events : List Event) → Writes events t t' entries entries' → AllByRecursion Stays events → (act : Act) (serial : ℕ)
-      → t' ≡ record (with_act act (record t { serial = serial })) { spare = t'.spare } → KeepsOrder act_of t' entries'
-  act_keeps events w stay act serial is = still_orderly act_of t t' entries entries' events w stay
-      (subst (λ (u : Tables). IsOrderly rules u (part t.here entries)) (sym is) (act_orderly rules (record t { serial = serial }) (part t.here entries) act h))
-
-  -- an action runs
-  pub runs_keeps : (events : List Event) → Writes events t t' entries entries' → AllByRecursion Stays events
-      → t' ≡ record t { accepted = t'.accepted; running = t'.running; spare = t'.spare } → KeepsOrder act_of t' entries'
-  runs_keeps events w stay is = still_orderly act_of t t' entries entries' events w stay
-      (subst (λ (u : Tables). IsOrderly rules u (part t.here entries)) (sym is) h)
 
   -- a job commits
   pub ends_keeps : (job : Job) (out : Outcome) → Writes (committed t job out) t t' entries entries' → Ends t t' job out → KeepsOrder act_of t' entries'
@@ -136,15 +113,6 @@ module _ (act_of : ℕ → ℕ → ℕ → State → Act → Outcome) (t t' : Ta
       let done = accepts_orderly rules t t.taken k.rest (part t.here entries) tidy.places k.mid t' k.more k.parcel right k.accepts k.continues popped.hand in
       still_orderly act_of t t' entries entries' (Mail (kind_of k.parcel) ∷ (effects t k.parcel ++ k.more)) k.writes
       ((λ j. refl, λ j. refl), all_append Stays (effects t k.parcel) k.more (effects_stay t k.parcel) done.1) done.0
-
--- the oldest message for another goes
-pub gone_keeps : (act_of : ℕ → ℕ → ℕ → State → Act → Outcome) (t : Tables) (entries : List Entry) (first : Outgoing) (rest : List Outgoing) (bytes : List ℕ) (spare : ℕ)
-    → t.outgoing ≡ first ∷ rest → parcel_of bytes ≡ Some first.parcel → IsTidy t [] → KeepsOrder act_of t entries
-    → KeepsOrder act_of (record t { outgoing = rest; sent = t.sent + 1; spare = spare }) (entries ++ at_all t.here (Out first.to bytes ∷ []))
-gone_keeps act_of t entries first rest bytes spare is spelled tidy h =
-    first_orderly act_of t (record t { outgoing = rest; sent = t.sent + 1; spare = spare }) entries (entries ++ at_all t.here (Out first.to bytes ∷ []))
-    (Out first.to bytes) [] (record { here = refl; localities = refl; profile = refl; grows = refl }) tt
-    (orderly_gone (rules_of act_of t.localities t.profile) t (part t.here entries) first rest bytes spare (t.sent + 1) is spelled tidy.ways.0 h)
 
 -- a commit begins to wait
 pub begins_keeps : (act_of : ℕ → ℕ → ℕ → State → Act → Outcome) (t t' : Tables) (job : Job) (out : Outcome) (entries entries' : List Entry)

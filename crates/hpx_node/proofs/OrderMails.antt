@@ -3,7 +3,7 @@ use Rattle.std.proofs.Common.{ℕ, suc, Bool, true, false, cond, not, List, [], 
 use Rattle.std.specs.Prelude.{nat_lt, ◌⊎◌}
 use Rattle.std.specs.Option.{option_map_or}
 use Rattle.std.specs.List.{sum_by, count_by, slice_get, remove}
-use Rattle.std.proofs.lemmas.Bool.{cond_both, eqb-true, eq-eqb}
+use Rattle.std.proofs.lemmas.Bool.{eqb-true, eq-eqb}
 use Rattle.std.proofs.lemmas.List.Sums.{sum_by-cons}
 use Rattle.hpx_value.specs.Ids.{bare, credit, same_object}
 use Rattle.hpx_value.specs.Hands.{id_at}
@@ -19,17 +19,19 @@ use Rattle.hpx_agas.specs.declared.record.Record.{Record}
 use Rattle.hpx_commit.specs.Deals.{log_of}
 use Rattle.hpx_commit.proofs.Deals.{bare_set}
 use Rattle.hpx_tables.specs.Fit.{parcel_for}
-use Rattle.hpx_node.specs.Idle.{one_if}
+use Rattle.hpx_steps.specs.Rows.{one_if}
 use Rattle.hpx_tables.specs.Kept.{count_here}
-use Rattle.hpx_node.specs.Orders.{gives_for, waits_for, IsOrderly}
+use Rattle.hpx_steps.specs.Sound.{gives_for}
+use Rattle.hpx_steps.specs.Rest.{waits_for, IsOrderly, StayAt}
 use Rattle.hpx_tables.specs.declared.pending.Asked.{Asked}
 use Rattle.hpx_tables.specs.Pending.{Waits, is_asked_for, refilled}
-use Rattle.hpx_node.specs.Routes.{is_other, may_stay, with_mail, with_return, with_returns, with_free, with_accepted, with_act, with_due, with_left, place_or_0, more_here, given_here, Gives}
-use Rattle.hpx_node.specs.Stands.{StayAt}
+use Rattle.hpx_steps.specs.Mail.{is_other, with_mail, with_return, with_act}
+use Rattle.hpx_steps.specs.Calls.{with_returns, with_free, with_due, with_left, place_or_0, more_here, given_here, Gives}
 use Rattle.hpx_tables.specs.Strange.{is_live}
 use Rattle.hpx_tables.specs.Tables.{Tables}
 use Rattle.hpx_node.proofs.Orders.{over_none, over_any, no_ask, no_give, to_desk, to_other, mail_calm, act_calm, InHand, asks_in_hand, gives_in_hand}
 use Rattle.hpx_node.proofs.Refilled.{sum_less}
+use Rattle.hpx_node.proofs.Routed.{act_both, mail_both, mail_if_both}
 use Rattle.hpx_node.proofs.Returned.{live_record}
 
 -- ---- actions, and what is given up
@@ -37,8 +39,7 @@ use Rattle.hpx_node.proofs.Returned.{live_record}
 module _ (r : Rules) where
   pub act_orderly : (t : Tables) (es : List Entry) (act : Act) → IsOrderly r t es → IsOrderly r (with_act act t) es
   act_orderly t es act h =
-      cond_both (may_stay t act) (with_accepted act t) (with_mail (target_of act).home (parcel_for act) t) (λ (u : Tables). IsOrderly r u es)
-      (λ b. h) (λ b. mail_calm r t es (target_of act).home (parcel_for act) (act_calm act) h)
+      act_both act t (λ (u : Tables). IsOrderly r u es) (λ b. h) (λ b. mail_calm r t es (target_of act).home (parcel_for act) (act_calm act) h)
 
   return_orderly : (t : Tables) (es : List Entry) (id : Id) (log : Option ℕ) → IsOrderly r t es → IsOrderly r (with_return id log t) es
   return_orderly t es id None h = h
@@ -72,9 +73,8 @@ free_orderly r t es id live stay h =
     let place : place_or_0 t id ≡ t.here = ap (λ o. option_map_or (λ (x : Record). x.place) o 0) found.1 ∙ (stay id found.0 found.1).0 in
     let p : Parcel = Free (bare id) in
     let desk : Tables = record t { desk = t.desk ++ p ∷ [] } in
-    let away : Tables = record t { outgoing = t.outgoing ++ record { to = place_or_0 t id; parcel = p } ∷ [] } in
-    cond_both (count_here t id == credit id) (with_mail (place_or_0 t id) p t) t (λ (u : Tables). IsOrderly r u es)
-    (λ c. cond_both (is_other t (place_or_0 t id)) away desk (λ (u : Tables). IsOrderly r u es)
+    mail_if_both (count_here t id == credit id) (place_or_0 t id) p t (λ (u : Tables). IsOrderly r u es)
+    (λ c. mail_both (place_or_0 t id) p t (λ (u : Tables). IsOrderly r u es)
     (λ b. absurd (here_is_no_other t (place_or_0 t id) place b))
     (λ b. over_any r desk es no_ask no_give (to_desk r t es p no_ask no_ask no_give tt (λ o n. omega arith) (over_none r t es h)))) (λ c. h)
 
@@ -116,7 +116,7 @@ ask_orderly r t es id asker entry least near h =
     let desk : Tables = record t { desk = t.desk ++ q ∷ [] } in
     let away : Tables = record t { outgoing = t.outgoing ++ record { to = asker; parcel = q } ∷ [] } in
     let same : (o : Id) (n : ℕ) → gives_for o n q ≡ one_if ((entry == n) && same_object o id) = λ o n. ap (λ b. one_if ((entry == n) && b)) (given_same t id o) in
-    cond_both (is_other t asker) away desk (λ (u : Tables). IsOrderly r u es)
+    mail_both asker q t (λ (u : Tables). IsOrderly r u es)
     (λ b. over_any r away es no_ask no_give
     (to_other r t es asker q (asks_in_hand t.here p) no_ask (gives_in_hand p) no_give (given_own t id least) tt (λ o n. omega arith)
     (λ j d o n. omega (

@@ -19,15 +19,12 @@ use Rattle.hpx_tables.specs.Awaited.{answered_by}
 use Rattle.hpx_tables.specs.Births.{birth_of}
 use Rattle.hpx_node.specs.Commits.{written, ups, made_of, committed_from, due_dealt, with_settled, Commits}
 use Rattle.hpx_node.specs.Fails.{fails_first, dooms, state_left, due_left, ups_left, failed_events, Fails}
-use Rattle.hpx_node.specs.Handled.{up_of, returned, freed, effects, more_here}
-use Rattle.hpx_node.specs.Handled.{ups as all_ups}
+use Rattle.hpx_steps.specs.Calls.{up_of, returned, freed, effects, more_here, ups as all_ups, ids_in, Gives, DealsWith, Accepts}
 use Rattle.hpx_tables.specs.Kept.{count_here}
 use Rattle.hpx_node.specs.Next.{Continues}
-use Rattle.hpx_node.specs.Orders.{IsOrderly}
+use Rattle.hpx_steps.specs.Rest.{IsOrderly, StayAt}
 use Rattle.hpx_tables.specs.Pending.{Waits, awaits, is_asked_for}
 use Rattle.hpx_node.specs.Resumes.{is_last, completes, full_stock}
-use Rattle.hpx_node.specs.Routes.{ids_in, Gives, DealsWith, Accepts}
-use Rattle.hpx_node.specs.Stands.{StayAt}
 use Rattle.hpx_tables.specs.Strange.{breaks, is_far, is_live, broken}
 use Rattle.hpx_tables.specs.Tables.{Tables}
 use Rattle.hpx_tables.proofs.Alls.{some_same, all_append}

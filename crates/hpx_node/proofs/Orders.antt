@@ -1,7 +1,7 @@
 -- Messages in order: what one more message, and one more entry, needs and leaves.
 use Rattle.std.proofs.Common.{ℕ, Bool, true, false, cond, List, [], ◌∷◌, ◌++◌, ◌≡◌, ◌≢◌, ◌+◌, ◌≤◌, ◌==◌, Some, refl, sym, ap, ◌∙◌, arith, subst}
 use Rattle.std.specs.List.{sum_by, AllByRecursion}
-use Rattle.std.proofs.lemmas.Bool.{cond_both, ne_eqb}
+use Rattle.std.proofs.lemmas.Bool.{ne_eqb}
 use Rattle.std.proofs.lemmas.List.Sums.{sum_by-cons, sum_by-append, sum_by_push}
 use Rattle.hpx_journal.specs.Data.{Id, Act, Parcel, Apply, Ask, Give, Move, Free}
 use Rattle.hpx_journal.specs.Entries.{Rules}
@@ -9,13 +9,15 @@ use Rattle.hpx_part.specs.Data.{Event, Entry, In, Out}
 use Rattle.hpx_part.specs.Parts.{at_all}
 use Rattle.hpx_tables.specs.declared.kept.Outgoing.{Outgoing}
 use Rattle.hpx_tables.specs.Fit.{parcel_for}
-use Rattle.hpx_node.specs.Frames.{IsOnItsWay}
-use Rattle.hpx_node.specs.Orders.{IsOwn, FreesNone, asks_for, gives_for, bound_for, gone, gone_to, come, all_count, SendsOwn, waits_for, IsOrderly}
+use Rattle.hpx_steps.specs.Frames.{IsOnItsWay}
+use Rattle.hpx_steps.specs.Sound.{IsOwn, FreesNone, asks_for, gives_for, gone, gone_to, come, all_count, SendsOwn}
+use Rattle.hpx_steps.specs.Rest.{bound_for, waits_for, IsOrderly}
 use Rattle.hpx_tables.specs.Pending.{Waits}
-use Rattle.hpx_node.specs.Routes.{is_other, with_mail}
+use Rattle.hpx_steps.specs.Mail.{with_mail}
 use Rattle.hpx_tables.specs.Tables.{Tables}
 use Rattle.hpx_tables.proofs.Alls.{all_append}
 use Rattle.hpx_node.proofs.IdleSteps.{sum_at}
+use Rattle.hpx_node.proofs.Routed.{mail_both}
 use Rattle.hpx_node.proofs.Stays.{Stays}
 
 -- ---- with some left over
@@ -134,8 +136,7 @@ mail_calm r t es to p calm h =
     let c = calm_counts p calm in
     let over = over_none r t es h in
     let x : Outgoing = record { to = to; parcel = p } in
-    cond_both (is_other t to) (record t { outgoing = t.outgoing ++ record { to = to; parcel = p } ∷ [] }) (record t { desk = t.desk ++ p ∷ [] })
-    (λ (u : Tables). IsOrderly r u es)
+    mail_both to p t (λ (u : Tables). IsOrderly r u es)
     (λ b. over_any r (record t { outgoing = t.outgoing ++ x ∷ [] }) es no_ask no_give
     (to_other r t es to p no_ask no_ask no_give no_give (c.own t.here t.profile.credit_log) c.stays (λ o n. omega (arith, c.asks t.here o n))
     (λ j d o n. omega (arith, bound_none (to == j) (gives_for o n p) (c.gives o n))) over))
@@ -280,10 +281,10 @@ hand_first r t es p rest first h =
 
 -- ---- the oldest message for another locality goes
 
-pub orderly_gone : (r : Rules) (t : Tables) (es : List Entry) (first : Outgoing) (rest : List Outgoing) (bytes : List ℕ) (s m : ℕ) → t.outgoing ≡ first ∷ rest
+pub orderly_gone : (r : Rules) (t : Tables) (es : List Entry) (first : Outgoing) (rest : List Outgoing) (bytes : List ℕ) (m : ℕ) → t.outgoing ≡ first ∷ rest
     → r.parcel_of bytes ≡ Some first.parcel → AllByRecursion (IsOnItsWay t.localities t.here) t.outgoing → IsOrderly r t es
-    → IsOrderly r (record t { outgoing = rest; sent = m; spare = s }) (es ++ at_all t.here (Out first.to bytes ∷ []))
-orderly_gone r t es first rest bytes s m is spelled ways h =
+    → IsOrderly r (record t { outgoing = rest; sent = m }) (es ++ at_all t.here (Out first.to bytes ∷ []))
+orderly_gone r t es first rest bytes m is spelled ways h =
     let e : Event = Out first.to bytes in
     let way : AllByRecursion (IsOnItsWay t.localities t.here) (first ∷ rest) = subst (AllByRecursion (IsOnItsWay t.localities t.here)) is ways in
     let away = subst (AllByRecursion (λ (y : Outgoing). IsOwn t.here t.profile.credit_log y.parcel × FreesNone y.parcel)) is h.away in

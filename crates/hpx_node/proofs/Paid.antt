@@ -22,8 +22,8 @@ use Rattle.hpx_part.proofs.Keyed.{counts_of, counts_true}
 use Rattle.hpx_commit.specs.Deals.{log_of}
 use Rattle.hpx_tables.specs.Pending.{asking_of, refusals_of}
 use Rattle.hpx_tables.specs.Tables.{Tables, fired_acts}
-use Rattle.hpx_node.specs.Seen.{bare_standing, bare_due, counted, parcel_tokens, waiting, frees, frees_in, tokens_of, view}
-use Rattle.hpx_node.specs.Stands.{IsTidy, StandsWith}
+use Rattle.hpx_steps.specs.Turn.{bare_standing, bare_due, counted, parcel_tokens, parcel_frees, tokens_of}
+use Rattle.hpx_steps.specs.Rest.{waiting, frees, view, IsTidy, StandsWith}
 use Rattle.hpx_node.specs.Changes.{Mails, Posts}
 use Rattle.hpx_node.proofs.Cover.{tidy_covers}
 use Rattle.hpx_node.proofs.Messages.{flat_append, mails_tokens, mails_asks, mails_before, mails_after}
@@ -129,9 +129,9 @@ module _ (r : Rules) (t t' : Tables) (entries : List Entry) (id : Id) (log : ℕ
 
   up_frees : frees t' ≡ frees t
   up_frees =
-      ap (flat_map frees_in) mails.after
-      ∙ (flat_append frees_in mails.front (Return id ∷ mails.back)
-      ∙ (sym (flat_append frees_in mails.front mails.back) ∙ ap (flat_map frees_in) (sym mails.before)))
+      ap (flat_map parcel_frees) mails.after
+      ∙ (flat_append parcel_frees mails.front (Return id ∷ mails.back)
+      ∙ (sym (flat_append parcel_frees mails.front mails.back) ∙ ap (flat_map parcel_frees) (sym mails.before)))
 
   held_is : tokens_of (id ∷ []) ≡ held_token (bare id) log ∷ []
   held_is = rw e refl

@@ -17,7 +17,8 @@ use Rattle.hpx_part.proofs.Keyed.{split_get}
 use Rattle.hpx_tables.specs.Fit.{IsFit, IsKept}
 use Rattle.hpx_tables.specs.Jobs.{IsFitJob}
 use Rattle.hpx_tables.specs.Pending.{Waits, action_of, fired_of}
-use Rattle.hpx_node.specs.Paused.{bare_names, Apart, Single, IsPaused, ArePaused}
+use Rattle.hpx_steps.specs.Paused.{bare_names, Apart, Single}
+use Rattle.hpx_steps.specs.Rest.{IsPaused, ArePaused}
 use Rattle.hpx_tables.proofs.Alls.{some_same, find_passes, all_append, all_remove, all_set, all_at, get_before}
 use Rattle.hpx_tables.proofs.FreeLemmas.{any_over}
 use Rattle.hpx_node.proofs.MadeLists.{find_front}
@@ -108,17 +109,6 @@ apart_behind [] act m h = h.0
 apart_behind (x ∷ l) act m h = apart_behind l act m h.1
 
 -- ---- an action is fired
-
-pub fired_paused : (here n log : ℕ) (objects : List Standing) (running : List Act) (pending : List Waits) (act : Act)
-    → is_busy (target_of act) (fired_of running pending) ≡ false → ArePaused here n log objects running pending
-    → ArePaused here n log objects (running ++ act ∷ []) pending
-fired_paused here n log objects running pending act free h = record {
-  each = h.each;
-  single = h.single;
-  apart = subst Apart (sym (append_assoc running (act ∷ []) (map action_of pending))) (apart_more running act (map action_of pending) h.apart free);
-  whole = h.whole;
-  lent = h.lent;
-}
 
 -- what is found is of the object
 pub found_passes : (o : Id) (xs : List Standing) (x : Standing) → find (is_standing o) xs ≡ Some x → same_object o x.object ≡ true

@@ -25,8 +25,8 @@ use Rattle.hpx_tables.specs.Births.{IsBirth, birth_of, ids_of}
 use Rattle.hpx_node.specs.Commits.{IsStock}
 use Rattle.hpx_tables.specs.Fit.{IsFitDue}
 use Rattle.hpx_tables.specs.Jobs.{IsFitJob}
-use Rattle.hpx_node.specs.Seen.{bare_due}
-use Rattle.hpx_node.specs.Stands.{rules_of}
+use Rattle.hpx_steps.specs.Turn.{bare_due}
+use Rattle.hpx_steps.specs.Rest.{rules_of}
 use Rattle.hpx_tables.specs.Tables.{Tables}
 use Rattle.hpx_node.proofs.BareHands.{due-bare, state-bare, blind_of}
 use Rattle.hpx_node.proofs.FilledDue.{managed_append, due_same, length-filled, state_filled, due_fit, due_credit, same_ids, dealt_credit, unnamed_credit, managed_named, plain_named, weigh_one, each_weighs, weigh_managed}

@@ -1,5 +1,5 @@
 -- An action waits, here or on its way.
-use Rattle.std.proofs.Common.{ℕ, true, List, [], ◌∷◌, ◌++◌, ◌≡◌, ◌+◌, ◌≤◌, Option, Some, subst, map, length, append_assoc, refl, sym, ap, ◌∙◌, arith}
+use Rattle.std.proofs.Common.{ℕ, true, List, [], ◌∷◌, ◌++◌, ◌≡◌, ◌+◌, Option, Some, subst, map, length, append_assoc, refl, sym, ap, ◌∙◌, arith}
 use Rattle.std.specs.Prelude.{flat_map, IfSome}
 use Rattle.std.proofs.lemmas.List.{map-append}
 use Rattle.hpx_value.specs.Values.{bare_act}
@@ -15,23 +15,23 @@ use Rattle.hpx_journal.specs.Frames.{acts_in}
 use Rattle.hpx_tables.specs.Fit.{IsFit}
 use Rattle.hpx_tables.specs.Pending.{asking_of, refusals_of}
 use Rattle.hpx_tables.specs.Tables.{Tables, messages, fired_acts}
-use Rattle.hpx_node.specs.Seen.{bare_standing, counted, view}
+use Rattle.hpx_steps.specs.Turn.{bare_standing, counted}
+use Rattle.hpx_steps.specs.Rest.{view}
 use Rattle.hpx_node.specs.Changes.{Posts}
 use Rattle.hpx_tables.specs.Kept.{stands_here}
 use Rattle.hpx_tables.proofs.Alls.{all_append}
 use Rattle.hpx_node.proofs.Sums.{weigh, tokens_sum, weigh_last, view_sum}
 use Rattle.hpx_node.proofs.Steps.{Tells, same_refusals}
-use Rattle.hpx_node.specs.Routes.{may_stay}
+use Rattle.hpx_steps.specs.Mail.{may_stay}
 use Rattle.hpx_node.proofs.IdleSteps.{accepted_pending}
-use Rattle.hpx_node.proofs.Routed.{accepted_waits, stay_moves, stay_stands}
+use Rattle.hpx_node.proofs.Routed.{act_stays, stay_moves, stay_stands}
 
 -- an action that is accepted
-pub accepted_posts : (act : Act) (t : Tables) (spare : ℕ) → t.spare ≤ spare + 1 → IsFit act → may_stay t act ≡ true
-    → Posts act t (record t { accepted = t.accepted ++ act ∷ []; spare = spare })
-accepted_posts act t spare enough fit stay =
+pub accepted_posts : (act : Act) (t : Tables) → IsFit act → may_stay t act ≡ true
+    → Posts act t (record t { accepted = t.accepted ++ act ∷ [] })
+accepted_posts act t fit stay =
     let rest = flat_map (λ q. acts_in (Some q)) (messages t) in record {
       rest = refl;
-      spare = enough;
       front = map bare_act t.accepted;
       back = flat_map (λ q. acts_in (Some q)) (messages t);
       before = refl;
@@ -56,11 +56,11 @@ accepted_posts act t spare enough fit stay =
       tokens = λ f. omega (
         arith,
         tokens_sum f t,
-        tokens_sum f (record t { accepted = t.accepted ++ act ∷ []; spare = spare }),
+        tokens_sum f (record t { accepted = t.accepted ++ act ∷ [] }),
         weigh_last f (λ (a : Act). a.ids) t.accepted act,
       );
-      more = accepted_pending act t spare;
-      goes = accepted_waits act t spare stay;
+      more = accepted_pending act t;
+      goes = sym (act_stays act t stay);
     }
 
 -- what is seen once it waits

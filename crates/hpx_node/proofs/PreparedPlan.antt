@@ -17,9 +17,8 @@ use Rattle.hpx_tables.specs.Splits.{splits_from}
 use Rattle.hpx_node.specs.Commits.{IsStock}
 use Rattle.hpx_tables.specs.Fit.{IsFit}
 use Rattle.hpx_tables.specs.Jobs.{IsFitJob}
-use Rattle.hpx_node.specs.Paused.{ArePaused}
+use Rattle.hpx_steps.specs.Rest.{ArePaused, IsTidy, StandsWith, rules_of}
 use Rattle.hpx_tables.specs.Pending.{Waits}
-use Rattle.hpx_node.specs.Stands.{IsTidy, StandsWith, rules_of}
 use Rattle.hpx_tables.specs.Tables.{Tables}
 use Rattle.hpx_node.proofs.Planned.{planned_state, planned_due, planned}
 use Rattle.hpx_node.proofs.Settled.{Plans, IsEnding, stands_settled}
@@ -46,8 +45,7 @@ module _ (t : Tables) (job : Job) (out : Outcome) (fit : IsFitJob job) (few : t.
 
   module _ (j : ℕ) (running : List Act) (pending : List Waits) (at : IsEnding t j job (ids_of t.here t.births t.profile.credit_log xs) s.hand running pending)
       (runs : AllByRecursion IsFit running)
-      (paused : ArePaused t.here t.localities t.profile.credit_log (set (t.objects ++ objects_of t.here t.births xs) j (record { object = at.standing.object; state = state })) running pending)
-      (spare : ℕ) where
+      (paused : ArePaused t.here t.localities t.profile.credit_log (set (t.objects ++ objects_of t.here t.births xs) j (record { object = at.standing.object; state = state })) running pending) where
     abbrev pub settled : Tables
     settled = record t {
       births = t.births + length xs;
@@ -56,7 +54,6 @@ module _ (t : Tables) (job : Job) (out : Outcome) (fit : IsFitJob job) (few : t.
       running = running;
       pending = pending;
       answered = t.answered + answered_by (Some job.action);
-      spare = spare;
     }
 
     prepared_tidy : IsTidy t [] → IsTidy settled due
@@ -68,7 +65,6 @@ module _ (t : Tables) (job : Job) (out : Outcome) (fit : IsFitJob job) (few : t.
           running = running;
           pending = pending;
           answered = t.answered + answered_by (Some job.action);
-          spare = spare;
         } in
         let beside : ArePaused t.here t.localities t.profile.credit_log (set (t.objects ++ objects_of t.here t.births (map birth_of out.makes)) j
         (record { object = at.standing.object; state = planned_state t job out fit few laws s is })) running pending =
@@ -78,7 +74,7 @@ module _ (t : Tables) (job : Job) (out : Outcome) (fit : IsFitJob job) (few : t.
         subst (λ ys. IsTidy (with ys state) due) (sym births_are)
         (subst (λ x. IsTidy (with (map birth_of out.makes) x) due) (sym state_is)
         (subst (λ ds. IsTidy (with (map birth_of out.makes) (planned_state t job out fit few laws s is)) ds) (sym due_is)
-        (tidy_settled t j job out at.standing at.stands at.kind at.state fit few laws s is tidy running pending spare runs beside)))
+        (tidy_settled t j job out at.standing at.stands at.kind at.state fit few laws s is tidy running pending runs beside)))
 
     -- so a commit leads from view to view
     pub prepared_stands : (act_of : ℕ → ℕ → ℕ → State → Act → Outcome)
@@ -88,5 +84,5 @@ module _ (t : Tables) (job : Job) (out : Outcome) (fit : IsFitJob job) (few : t.
         → StandsWith (rules_of act_of t.localities t.profile) settled due ups
         (entries ++ at_all t.here (births_of t.here t.births xs ++ (splits_from 0 s.hand s.places ++ Done (name_of job.action) false ∷ [])))
     prepared_stands act_of blind right entries h =
-        stands_settled (rules_of act_of t.localities t.profile) t entries j job out xs s running pending at state due ups spare
+        stands_settled (rules_of act_of t.localities t.profile) t entries j job out xs s running pending at state due ups
         (prepared_plans act_of blind right) h (prepared_tidy h.tidy)

@@ -13,7 +13,8 @@ use Rattle.hpx_part.specs.Data.{Standing}
 use Rattle.hpx_commit.specs.Deals.{is_managed, log_of}
 use Rattle.hpx_commit.specs.Stocks.{Lasting}
 use Rattle.hpx_node.specs.Commits.{IsStock, made_of}
-use Rattle.hpx_node.specs.Paused.{first_stock, IsShort, IsPaused}
+use Rattle.hpx_steps.specs.Paused.{first_stock, IsShort}
+use Rattle.hpx_steps.specs.Rest.{IsPaused}
 use Rattle.hpx_tables.specs.Pending.{Waits, ids_named, is_asked, awaits, is_asked_for, waits_for_one, refilled, hand_with, put_for}
 use Rattle.hpx_node.specs.Resumes.{stock_with, is_last}
 use Rattle.hpx_tables.specs.Strange.{brings_right}

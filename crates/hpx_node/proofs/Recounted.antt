@@ -13,7 +13,7 @@ use Rattle.hpx_journal.specs.Data.{Id, Parcel, Apply, Return, Ask, Give, Cached,
 use Rattle.hpx_journal.specs.Local.{is_standing}
 use Rattle.hpx_part.specs.Data.{Standing}
 use Rattle.hpx_tables.specs.Strange.{is_live}
-use Rattle.hpx_node.specs.Recounts.{Leaves}
+use Rattle.hpx_steps.specs.Calls.{Leaves}
 use Rattle.hpx_tables.specs.Tables.{Tables}
 use Rattle.hpx_tables.proofs.Alls.{some_same, find_passes}
 use Rattle.hpx_node.proofs.Returned.{live_record}

@@ -25,10 +25,9 @@ use Rattle.hpx_part.proofs.Keyed.{counts_of, counts_true, any_counted, counted_a
 use Rattle.hpx_commit.specs.Deals.{is_managed, log_of}
 use Rattle.hpx_tables.specs.declared.pending.Asked.{Asked}
 use Rattle.hpx_tables.specs.Pending.{awaits, Waits, action_of, fired_of, ids_named, own_ids, is_asked, asking_of, refusal_of, refusals_of, is_asked_for, refilled, Refills}
-use Rattle.hpx_node.specs.Paused.{Apart, whole_stock, IsShort, HasSplit, IsPaused, ArePaused}
+use Rattle.hpx_steps.specs.Paused.{Apart, whole_stock, IsShort, HasSplit}
+use Rattle.hpx_steps.specs.Rest.{IsPaused, ArePaused, tokens, asks, view, IsTidy, rules_of}
 use Rattle.hpx_tables.specs.Tables.{Tables, fired_acts}
-use Rattle.hpx_node.specs.Seen.{tokens, asks, view}
-use Rattle.hpx_node.specs.Stands.{IsTidy, rules_of}
 use Rattle.hpx_tables.specs.Strange.{brings_right}
 use Rattle.hpx_node.specs.Handled.{in_hand, TakesUp, Handles}
 use Rattle.hpx_tables.proofs.Alls.{some_same, all_at, all_remove, all_set}
@@ -325,7 +324,7 @@ module _ (k l log : ℕ) (objects : List Standing) (running : List Act) (pending
         );
   }
 
-module _ (r : Rules) (t : Tables) (id : Id) (entry i n spare : ℕ) (w : Waits) (ask : Asked) (tidy : IsTidy t []) (there : slice_get t.pending i ≡ Some w)
+module _ (r : Rules) (t : Tables) (id : Id) (entry i n : ℕ) (w : Waits) (ask : Asked) (tidy : IsTidy t []) (there : slice_get t.pending i ≡ Some w)
     (asked : slice_get w.asked n ≡ Some ask) (for : is_asked_for w id entry ask ≡ true) (credit : HasCredit id)
     (brings : (log_of id.log ≡ 0) ⊎ (log_of id.log ≡ t.profile.credit_log)) (rules : t.profile.credit_log ≡ r.credit_log) where
   abbrev log : ℕ
@@ -335,7 +334,7 @@ module _ (r : Rules) (t : Tables) (id : Id) (entry i n spare : ℕ) (w : Waits) 
   now = refilled n ask.place id w
 
   abbrev pub given : Tables
-  given = record t { pending = set t.pending i (refilled n ask.place id w); spare = spare }
+  given = record t { pending = set t.pending i (refilled n ask.place id w) }
 
   was : IsPaused t.here t.localities t.profile.credit_log t.objects w
   was = all_at (IsPaused t.here t.localities t.profile.credit_log t.objects) t.pending i w tidy.paused.each there
@@ -506,14 +505,14 @@ module _ (r : Rules) (t : Tables) (id : Id) (entry i n spare : ℕ) (w : Waits) 
 
 -- ---- as the call does it
 
-pub gives_handles : (act_of : ℕ → ℕ → ℕ → State → Act → Outcome) (t : Tables) (id : Id) (entry i spare : ℕ) (w w' : Waits) → IsTidy t [] → HasCredit id
+pub gives_handles : (act_of : ℕ → ℕ → ℕ → State → Act → Outcome) (t : Tables) (id : Id) (entry i : ℕ) (w w' : Waits) → IsTidy t [] → HasCredit id
     → brings_right t id ≡ true → slice_get t.pending i ≡ Some w → find (awaits id entry) (take i t.pending) ≡ None
-    → Refills id entry w w' → Handles (rules_of act_of t.localities t.profile) (Give id entry) t (record t { pending = set t.pending i w'; spare = spare })
+    → Refills id entry w w' → Handles (rules_of act_of t.localities t.profile) (Give id entry) t (record t { pending = set t.pending i w' })
     (Given (bare id) (log_of id.log) ∷ [])
-gives_handles act_of t id entry i spare w w' tidy credit brings there alone refills =
-    subst (λ v. Handles (rules_of act_of t.localities t.profile) (Give id entry) t (record t { pending = set t.pending i v; spare = spare }) (Given (bare id) (log_of id.log) ∷ []))
+gives_handles act_of t id entry i w w' tidy credit brings there alone refills =
+    subst (λ v. Handles (rules_of act_of t.localities t.profile) (Give id entry) t (record t { pending = set t.pending i v }) (Given (bare id) (log_of id.log) ∷ []))
     (sym refills.now)
-    (given_handles (rules_of act_of t.localities t.profile) t id entry i refills.k spare w refills.ask tidy there refills.there refills.for credit
+    (given_handles (rules_of act_of t.localities t.profile) t id entry i refills.k w refills.ask tidy there refills.there refills.for credit
     (elim (or_cases (log_of id.log == 0) (log_of id.log == t.profile.credit_log) brings) [
       | inl a ↦ inl (eqb-true (log_of id.log) 0 a)
       | inr b ↦ inr (eqb-true (log_of id.log) t.profile.credit_log b)

@@ -14,7 +14,8 @@ use Rattle.hpx_journal.proofs.Same.{same_object-true}
 use Rattle.hpx_part.specs.Data.{Standing, Token}
 use Rattle.hpx_part.proofs.Keyed.{split_get, split_set}
 use Rattle.hpx_part.proofs.Lists.{sum_middle}
-use Rattle.hpx_node.specs.Paused.{bare_names, Apart, Single, IsPaused, ArePaused}
+use Rattle.hpx_steps.specs.Paused.{bare_names, Apart, Single}
+use Rattle.hpx_steps.specs.Rest.{IsPaused, ArePaused}
 use Rattle.hpx_tables.specs.Pending.{Waits, action_of, fired_of, own_ids, is_asked, refusal_of}
 use Rattle.hpx_tables.specs.Tables.{Tables}
 use Rattle.hpx_tables.proofs.Alls.{all_append, all_remove, get_before}

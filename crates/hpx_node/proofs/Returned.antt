@@ -23,12 +23,13 @@ use Rattle.hpx_part.proofs.Credit.{token_own}
 use Rattle.hpx_part.proofs.Keyed.{counts_of, counts_true, any_counted, counted_any}
 use Rattle.hpx_tables.specs.Pending.{asking_of, refusals_of}
 use Rattle.hpx_tables.specs.Tables.{Tables}
-use Rattle.hpx_node.specs.Seen.{counted, parcel_tokens, tokens, asks, frees, view}
-use Rattle.hpx_node.specs.Stands.{IsTidy}
+use Rattle.hpx_steps.specs.Turn.{counted, parcel_tokens}
+use Rattle.hpx_steps.specs.Rest.{tokens, asks, frees, view, IsTidy, unpaid}
 use Rattle.hpx_node.specs.Changes.{Mails}
 use Rattle.hpx_tables.specs.Kept.{count_here}
 use Rattle.hpx_tables.specs.Strange.{is_live}
-use Rattle.hpx_node.specs.Handled.{returned, in_hand, TakesUp, Handles}
+use Rattle.hpx_steps.specs.Calls.{returned, place_or_0, DealsWith}
+use Rattle.hpx_node.specs.Handled.{in_hand, TakesUp, Handles}
 use Rattle.hpx_node.proofs.Messages.{mails_tokens, mails_asks}
 use Rattle.hpx_node.proofs.Sums.{view_sum}
 use Rattle.hpx_node.proofs.Steps.{Tells, same_refusals, tells_leads, tells_covered}
@@ -37,9 +38,11 @@ use Rattle.hpx_node.proofs.InHand.{hand_sum}
 use Rattle.hpx_node.proofs.GivenUp.{owed_some}
 use Rattle.hpx_node.proofs.Cover.{tidy_covers}
 use Rattle.hpx_node.proofs.Homes.{one_stays, lowered_stays}
-use Rattle.hpx_node.specs.Idle.{Row, unpaid, PaysFor}
-use Rattle.hpx_node.specs.Routes.{place_or_0, with_mail, DealsWith}
-use Rattle.hpx_node.proofs.Spareless.{mail_records}
+use Rattle.hpx_steps.specs.Rows.{Row}
+use Rattle.hpx_node.specs.Idle.{PaysFor}
+use Rattle.hpx_steps.specs.Mail.{with_mail, with_mail_if}
+use Rattle.hpx_node.proofs.Routed.{no_mail}
+use Rattle.hpx_node.proofs.Returns.{mail_records}
 use Rattle.hpx_node.proofs.IdleSteps.{mails_pending}
 use Rattle.hpx_node.proofs.IdleCounts.{pays_returned, pays_last}
 
@@ -106,7 +109,7 @@ any_first p o xs ys more h = elim (cases_Bool (p o)) [
 -- ---- the credit of an id comes home
 
 module _ (r : Rules) (t m : Tables) (id : Id) (log : ℕ) (rec : Record) (some : id.log ≡ Some log) (home : id.home ≡ t.here)
-    (there : find_record id t.records ≡ Some rec) (enough : credit id ≤ rec.count) (rest : m ≡ record t { records = m.records; spare = m.spare })
+    (there : find_record id t.records ≡ Some rec) (enough : credit id ≤ rec.count) (rest : m ≡ record t { records = m.records })
     (left : find_record id m.records ≡ lowered rec id)
     (others : (o : Id) → same_object id o ≡ false → find_record o m.records ≡ find_record o t.records) where
   abbrev count : ℕ
@@ -238,8 +241,8 @@ module _ (r : Rules) (t m : Tables) (id : Id) (log : ℕ) (rec : Record) (some :
   -- and there is more out
   pub returned_alive : (rec.count == credit id) ≡ false → IsTidy t [] → Handles r (Return id) t m (returned t id id.log)
   returned_alive more tidy = handles_at m refl refl refl refl refl refl refl refl refl refl
-      (rest ∙ ap (λ b. record (cond b (with_mail (place_or_0 t id) (Free (bare id)) t) t) { records = m.records; spare = m.spare })
-      (sym (ap (λ n. n == credit id) was ∙ more))) (still_tidy tidy)
+      (rest ∙ (ap (λ (x : Tables). record x { records = m.records }) (sym (no_mail (place_or_0 t id) (Free (bare id)) t))
+      ∙ ap (λ b. record (with_mail_if b (place_or_0 t id) (Free (bare id)) t) { records = m.records }) (sym (ap (λ n. n == credit id) was ∙ more)))) (still_tidy tidy)
       (subst (PaysFor r (Return id) t m) (sym events)
       (pays_returned r t m id (bare id) count log (let d = eqb-false rec.count (credit id) more in omega (arith, was, worth, enough, d)) pending_stays (ap (λ (x : Tables). x.accepted) rest)))
       (λ dead e takes. returned_leads m dead e (stays_same m) (still_tidy tidy) (λ f. refl) asks_stay
@@ -248,7 +251,7 @@ module _ (r : Rules) (t m : Tables) (id : Id) (log : ℕ) (rec : Record) (some :
 
   -- and that was all: the object is to be freed
   pub returned_dead : (t' : Tables) → (rec.count == credit id) ≡ true → Mails (Free (bare id)) m t'
-      → t' ≡ record (with_mail rec.place (Free (bare id)) m) { spare = t'.spare } → IsTidy t [] → Handles r (Return id) t t' (returned t id id.log)
+      → t' ≡ with_mail rec.place (Free (bare id)) m → IsTidy t [] → Handles r (Return id) t t' (returned t id id.log)
   returned_dead t' all mails goes tidy =
       let zero : count ≡ 0 = let e = eqb-true rec.count (credit id) all in omega (arith, was, worth, e) in
       let on = mails.rest in
@@ -256,8 +259,8 @@ module _ (r : Rules) (t m : Tables) (id : Id) (log : ℕ) (rec : Record) (some :
       (ap (λ (x : Tables). x.serial) on) (ap (λ (x : Tables). x.births) on) (ap (λ (x : Tables). x.sent) on) (ap (λ (x : Tables). x.taken) on) (ap (λ (x : Tables). x.answered) on) (ap (λ (x : Tables). x.running) on)
       (ap (λ (x : Tables). x.asked) on)
       (mail_records rec.place (Free (bare id)) t m t' rest goes
-      ∙ (ap (λ n. record (with_mail n (Free (bare id)) t) { records = t'.records; spare = t'.spare }) (sym place_is)
-      ∙ ap (λ b. record (cond b (with_mail (place_or_0 t id) (Free (bare id)) t) t) { records = t'.records; spare = t'.spare })
+      ∙ (ap (λ n. record (with_mail n (Free (bare id)) t) { records = t'.records }) (sym place_is)
+      ∙ ap (λ b. record (with_mail_if b (place_or_0 t id) (Free (bare id)) t) { records = t'.records })
       (sym (ap (λ n. n == credit id) was ∙ all)))) (mails.tidy [] (still_tidy tidy))
       (subst (PaysFor r (Return id) t t') (sym events)
       (pays_last r t t' id (bare id) count log zero (λ row. omega (arith, mails_pending (Free (bare id)) m t' mails row, pending_stays row))
@@ -302,12 +305,12 @@ dead_all place rec id h = elim (cases_Bool (rec.count == credit id)) [
   | inr t ↦ absurd (let e : Dead place ≡ Alive = rw t at h in cc)
 ]
 
-pub recounted : (t : Tables) (births spare : ℕ) (records : List Record) → IsTidy t [] → births ≡ t.births
-    → record t { births = births; records = records; spare = spare } ≡ record t { records = records; spare = spare }
-recounted t births spare records tidy e = ap (λ n. record t { births = n; records = records; spare = spare }) e
+pub recounted : (t : Tables) (births : ℕ) (records : List Record) → IsTidy t [] → births ≡ t.births
+    → record t { births = births; records = records } ≡ record t { records = records }
+recounted t births records tidy e = ap (λ n. record t { births = n; records = records }) e
 
 module _ (r : Rules) (t m : Tables) (id : Id) (log : ℕ) (some : id.log ≡ Some log) (live : is_live t id ≡ true) (enough : credit id ≤ count_here t id)
-    (tidy : IsTidy t []) (rest : m ≡ record t { records = m.records; spare = m.spare })
+    (tidy : IsTidy t []) (rest : m ≡ record t { records = m.records })
     (left : IfSome (find_record id t.records) (λ x. find_record id m.records ≡ lowered x id))
     (others : (o : Id) → same_object id o ≡ false → find_record o m.records ≡ find_record o t.records) where
   found : (rec : Record) × (find_record id t.records ≡ Some rec)
@@ -325,14 +328,14 @@ module _ (r : Rules) (t m : Tables) (id : Id) (log : ℕ) (some : id.log ≡ Som
       (alive_some found.0 id (subst (λ (o : Option Record). IfSome o (λ x. Alive ≡ left_of x id)) found.1 alive)) tidy
 
   dead_handles : (t' : Tables) (place : ℕ) → IfSome (find_record id t.records) (λ x. Dead place ≡ left_of x id) → Mails (Free (bare id)) m t'
-      → t' ≡ record (with_mail place (Free (bare id)) m) { spare = t'.spare } → Handles r (Return id) t t' (returned t id id.log)
+      → t' ≡ with_mail place (Free (bare id)) m → Handles r (Return id) t t' (returned t id id.log)
   dead_handles t' place dead mails goes =
       let last = dead_all place found.0 id (subst (λ (o : Option Record). IfSome o (λ x. Dead place ≡ left_of x id)) found.1 dead) in
       returned_dead r t m id log found.0 some (live_home t.here t.records id live) found.1 covered rest lowered_is others t' last.0 mails
-      (goes ∙ ap (λ n. record (with_mail n (Free (bare id)) m) { spare = t'.spare }) last.1) tidy
+      (goes ∙ ap (λ n. with_mail n (Free (bare id)) m) last.1) tidy
 
 pub alive_by : (r : Rules) (t m u : Tables) (id : Id) (log : ℕ) → t ≡ u → IsTidy t [] → id.log ≡ Some log → is_live t id ≡ true
-    → credit id ≤ count_here t id → m ≡ record t { records = m.records; spare = m.spare }
+    → credit id ≤ count_here t id → m ≡ record t { records = m.records }
     → IfSome (find_record id t.records) (λ x. find_record id m.records ≡ lowered x id)
     → ((o : Id) → same_object id o ≡ false → find_record o m.records ≡ find_record o t.records)
     → IfSome (find_record id t.records) (λ x. Alive ≡ left_of x id) → Handles r (Return id) t m (returned u id id.log)
@@ -340,8 +343,8 @@ alive_by r t m u id log seen_as tidy some live enough rest left others alive =
     subst (λ y. Handles r (Return id) t m (returned y id id.log)) seen_as (alive_handles r t m id log some live enough tidy rest left others alive)
 
 pub dead_by : (r : Rules) (t m t' u : Tables) (id : Id) (log place : ℕ) → t ≡ u → IsTidy t [] → Mails (Free (bare id)) m t'
-    → t' ≡ record (with_mail place (Free (bare id)) m) { spare = t'.spare } → id.log ≡ Some log
-    → is_live t id ≡ true → credit id ≤ count_here t id → m ≡ record t { records = m.records; spare = m.spare }
+    → t' ≡ with_mail place (Free (bare id)) m → id.log ≡ Some log
+    → is_live t id ≡ true → credit id ≤ count_here t id → m ≡ record t { records = m.records }
     → IfSome (find_record id t.records) (λ x. find_record id m.records ≡ lowered x id)
     → ((o : Id) → same_object id o ≡ false → find_record o m.records ≡ find_record o t.records)
     → IfSome (find_record id t.records) (λ x. Dead place ≡ left_of x id) → Handles r (Return id) t t' (returned u id id.log)

@@ -2,27 +2,19 @@
 use Rattle.std.specs.List.{list_any}
 use Rattle.std.proofs.Common.{ℕ, Bool, true, false, [], ◌≡◌, ◌≤◌, Option, Some, None, refl, arith, inl, inr, subst}
 use Rattle.std.specs.Prelude.{◌&&◌, ◌==◌, ◌-◌, ◌^◌, min, not, nat_lt, if◌then◌else◌, length}
-use Rattle.std.proofs.lemmas.Bool.{cases_Bool, eqb-true}
+use Rattle.std.proofs.lemmas.Bool.{cases_Bool}
 use Rattle.std.proofs.lemmas.List.Sums.{sum_by-cons}
 use Rattle.hpx_value.specs.Ids.{credit}
-use Rattle.hpx_parcel.specs.Parcels.{IsParcel}
-use Rattle.hpx_journal.specs.Data.{Id, Act, Parcel, Apply, Move, Shipped, Free}
+use Rattle.hpx_journal.specs.Data.{Id, Act, Parcel, Shipped, Free}
 use Rattle.hpx_journal.specs.Entries.{target_of}
 use Rattle.hpx_journal.specs.Frames.{travels_in}
 use Rattle.hpx_journal.proofs.Same.{and_true}
-use Rattle.hpx_tables.specs.Fit.{IsFit}
 use Rattle.hpx_tables.specs.Pending.{awaits}
 use Rattle.hpx_tables.specs.Tables.{Tables, messages}
 use Rattle.hpx_tables.specs.Kept.{stands_here, waits_here, held_here, count_here, credit_in, ids_held}
 use Rattle.hpx_tables.specs.declared.strange.Broken.{Broken}
-use Rattle.hpx_tables.specs.Strange.{breaks, is_far, is_live, is_to_here, brings_right, broken_return, broken_give, broken_go, broken_object, broken_landed, broken_free, broken_near, broken}
+use Rattle.hpx_tables.specs.Strange.{breaks, is_far, is_live, brings_right, broken_return, broken_give, broken_object, broken_near, broken}
 use Rattle.hpx_node.specs.Handled.{with_first}
-
-pub applied_fit : (act : Act) → IsParcel (Apply act) → IsFit act
-applied_fit act h = record { sent = h.sent; moves = λ e. absurd (h.code e) }
-
-pub move_fit : (act : Act) → IsParcel (Move act) → IsFit act
-move_fit act h = record { sent = h.sent; moves = λ e. (h.target, h.args) }
 
 pub not_broken : {X : Type 0} (x : X) → Some x ≡ None → ⊥
 not_broken x e = cc
@@ -44,14 +36,6 @@ not_true : (b : Bool) → not b ≡ true → b ≡ false
 not_true true h = absurd (cc)
 not_true false h = refl
 
-pub free_right : (t : Tables) (p : Parcel) (o : Id) → broken_free t p o ≡ None → (stands_here t o ≡ true) × (waits_here t o ≡ false) × (held_here t o ≡ 0)
-free_right t p o h = elim (cases_Bool (stands_here t o && (not (waits_here t o) && (held_here t o == 0)))) [
-  | inl b ↦
-      let parts = and_true (stands_here t o) (not (waits_here t o) && (held_here t o == 0)) b in
-      let more = and_true (not (waits_here t o)) (held_here t o == 0) parts.1 in (parts.0, not_true (waits_here t o) more.0, eqb-true (held_here t o) 0 more.1)
-  | inr b ↦ absurd (not_broken _ (rw b at h))
-]
-
 pub give_right : (t : Tables) (p : Parcel) (id : Id) (entry : ℕ) → broken_give t p id entry ≡ None
     → (list_any (awaits id entry) t.pending ≡ true) × (brings_right t id ≡ true)
 give_right t p id entry h = elim (cases_Bool (list_any (awaits id entry) t.pending && brings_right t id)) [
@@ -59,20 +43,11 @@ give_right t p id entry h = elim (cases_Bool (list_any (awaits id entry) t.pendi
   | inr b ↦ absurd (not_broken _ (rw b at h))
 ]
 
-pub go_wrong : (t : Tables) (p : Parcel) (act : Act) → broken_go t p act ≡ None → ⊥
-go_wrong t p act h = elim (cases_Bool (stands_here t (target_of act) && not (is_to_here t act))) [
-  | inl b ↦ not_broken _ (rw b at h)
-  | inr b ↦ not_broken _ (rw b at h)
-]
-
 pub object_wrong : (t : Tables) (p : Parcel) (act : Act) → broken_object t p act ≡ None → ⊥
 object_wrong t p act h = elim (cases_Bool (stands_here t (target_of act))) [
   | inl b ↦ not_broken _ (rw b at h)
   | inr b ↦ not_broken _ (rw b at h)
 ]
-
-pub landed_wrong : (t : Tables) (p : Parcel) (id : Id) → broken_landed t p id ≡ None → ⊥
-landed_wrong t p id h = not_broken _ (return_right t p id _ h).2
 
 -- all that it names is near
 pub near_right : (t : Tables) (p : Parcel) → broken t p ≡ None → broken_near t p ≡ None

@@ -1,8 +1,7 @@
 -- Where messages and actions go.
-use Rattle.std.proofs.Common.{ℕ, Bool, true, false, not, cond, List, [], ◌∷◌, ◌++◌, ◌≡◌, ◌≢◌, ◌+◌, ◌≤◌, ◌<◌, ◌==◌, Option, Some, None, refl, sym, ap, ◌∙◌, arith, inl, inr, subst, length-append}
+use Rattle.std.proofs.Common.{ℕ, Bool, true, false, not, cond, List, [], ◌∷◌, ◌++◌, ◌≡◌, ◌≢◌, ◌+◌, ◌≤◌, ◌<◌, ◌==◌, Option, Some, None, refl, sym, ap, ◌∙◌, arith, inl, inr, subst, length-append, append-nil}
 use Rattle.std.specs.Prelude.{nat_lt, nat_le, is_some, ◌&&◌, ◌||◌, IfSome, length}
 use Rattle.std.specs.List.{find}
-use Rattle.hpx_value.specs.Ids.{bare, credit}
 use Rattle.hpx_journal.specs.Local.{is_standing}
 use Rattle.std.proofs.lemmas.Bool.{cases_Bool, eqb-true}
 use Rattle.hpx_value.specs.Values.{bare_act}
@@ -13,12 +12,13 @@ use Rattle.hpx_journal.specs.Entries.{target_of, move_to, is_movable, place_in}
 use Rattle.hpx_journal.specs.Rows.{is_to}
 use Rattle.hpx_journal.proofs.Same.{and_true}
 use Rattle.hpx_tables.specs.Fit.{parcel_for}
-use Rattle.hpx_node.specs.Frames.{MayGoTo, IsForHere}
+use Rattle.hpx_steps.specs.Frames.{MayGoTo, IsForHere}
 use Rattle.hpx_tables.specs.Tables.{Tables}
-use Rattle.hpx_tables.specs.Kept.{stands_here, record_here, count_here}
+use Rattle.hpx_tables.specs.Kept.{stands_here, record_here}
 use Rattle.hpx_tables.specs.Strange.{breaks, are_far, is_far_act, moves_far, is_far, is_live, is_lost, is_to_here, broken_act, broken_move, broken_near}
-use Rattle.hpx_node.specs.Routes.{is_other, moves_on, may_stay, with_mail, with_return, with_returns, place_or_0, with_free, given_here, ids_in, with_accepted, with_act, DealsWith, Accepts}
-use Rattle.hpx_node.specs.Idle.{brings}
+use Rattle.hpx_steps.specs.Mail.{is_other, moves_on, may_stay, going, with_mail, with_mail_if, with_return, with_act}
+use Rattle.hpx_steps.specs.Calls.{with_returns, ids_in, with_accepted, DealsWith, Accepts}
+use Rattle.hpx_steps.specs.Rows.{brings}
 use Rattle.hpx_node.proofs.Bare.{target-bare}
 
 -- ---- where a message goes
@@ -77,50 +77,69 @@ stay_moves t act h =
 pub stay_stands : (t : Tables) (act : Act) → may_stay t act ≡ true → stands_here t (target_of act) ≡ true
 stay_stands t act h = (and_true (not (moves_on t.here (move_to act))) (stands_here t (target_of act)) h).1
 
-pub accepted_waits : (act : Act) (t : Tables) (spare : ℕ) → may_stay t act ≡ true
-    → record t { accepted = t.accepted ++ act ∷ []; spare = spare } ≡ record (with_act act t) { spare = spare }
-accepted_waits act t spare stay = ap (λ b. record (cond b (with_accepted act t) (with_mail (target_of act).home (parcel_for act) t)) { spare = spare }) (sym stay)
+-- no message more
+pub no_mail : (to : ℕ) (p : Parcel) (t : Tables) → with_mail_if false to p t ≡ t
+no_mail to p t =
+    ap (λ xs. record t { desk = xs; outgoing = t.outgoing ++ [] }) (append-nil t.desk)
+    ∙ ap (λ xs. record t { outgoing = xs }) (append-nil t.outgoing)
 
-pub forwarded_waits : (act : Act) (t t' : Tables) → may_stay t act ≡ false
-    → t' ≡ record (with_mail (target_of act).home (parcel_for act) t) { spare = t'.spare } → t' ≡ record (with_act act t) { spare = t'.spare }
-forwarded_waits act t t' go is =
-    is ∙ ap (λ b. record (cond b (with_accepted act t) (with_mail (target_of act).home (parcel_for act) t)) { spare = t'.spare }) (sym go)
+-- where it is accepted, and where it goes to another
+pub act_stays : (act : Act) (t : Tables) → may_stay t act ≡ true → with_act act t ≡ with_accepted act t
+act_stays act t stay =
+    ap (λ b. record (with_mail_if (not b) (target_of act).home (parcel_for act) t) { accepted = t.accepted ++ cond b (act ∷ []) [] }) stay
+    ∙ ap (with_accepted act) (no_mail (target_of act).home (parcel_for act) t)
+
+pub act_goes : (act : Act) (t : Tables) → may_stay t act ≡ false → with_act act t ≡ with_mail (target_of act).home (parcel_for act) t
+act_goes act t go =
+    ap (λ b. record (with_mail_if (not b) (target_of act).home (parcel_for act) t) { accepted = t.accepted ++ cond b (act ∷ []) [] }) go
+    ∙ ap (λ xs. record (with_mail (target_of act).home (parcel_for act) t) { accepted = xs }) (append-nil t.accepted)
+
+pub act_both : (act : Act) (t : Tables) (P : Tables → Type 0) → (may_stay t act ≡ true → P (with_accepted act t))
+    → (may_stay t act ≡ false → P (with_mail (target_of act).home (parcel_for act) t)) → P (with_act act t)
+act_both act t P here there = elim (cases_Bool (may_stay t act)) [
+  | inl b ↦ subst P (sym (act_stays act t b)) (here b)
+  | inr b ↦ subst P (sym (act_goes act t b)) (there b)
+]
+
+-- where a message goes
+mail_away : (to : ℕ) (p : Parcel) (t : Tables) → is_other t to ≡ true → with_mail to p t ≡ record t { outgoing = t.outgoing ++ going to p ∷ [] }
+mail_away to p t b =
+    ap (λ other. record t { desk = t.desk ++ cond other [] (p ∷ []); outgoing = t.outgoing ++ cond other (going to p ∷ []) [] }) b
+    ∙ ap (λ xs. record t { desk = xs; outgoing = t.outgoing ++ going to p ∷ [] }) (append-nil t.desk)
+
+mail_desk : (to : ℕ) (p : Parcel) (t : Tables) → is_other t to ≡ false → with_mail to p t ≡ record t { desk = t.desk ++ p ∷ [] }
+mail_desk to p t b =
+    ap (λ other. record t { desk = t.desk ++ cond other [] (p ∷ []); outgoing = t.outgoing ++ cond other (going to p ∷ []) [] }) b
+    ∙ ap (λ xs. record t { desk = t.desk ++ p ∷ []; outgoing = xs }) (append-nil t.outgoing)
+
+pub mail_both : (to : ℕ) (p : Parcel) (t : Tables) (P : Tables → Type 0)
+    → (is_other t to ≡ true → P (record t { outgoing = t.outgoing ++ going to p ∷ [] }))
+    → (is_other t to ≡ false → P (record t { desk = t.desk ++ p ∷ [] })) → P (with_mail to p t)
+mail_both to p t P away desk = elim (cases_Bool (is_other t to)) [
+  | inl b ↦ subst P (sym (mail_away to p t b)) (away b)
+  | inr b ↦ subst P (sym (mail_desk to p t b)) (desk b)
+]
+
+pub mail_if_both : (b : Bool) (to : ℕ) (p : Parcel) (t : Tables) (P : Tables → Type 0) → (b ≡ true → P (with_mail to p t)) → (b ≡ false → P t)
+    → P (with_mail_if b to p t)
+mail_if_both true to p t P some none = some refl
+mail_if_both false to p t P some none = subst P (sym (no_mail to p t)) (none refl)
 
 -- ---- what is accepted meanwhile
 
-pub mail_accepted : (to : ℕ) (p : Parcel) (t : Tables) → (with_mail to p t).accepted ≡ t.accepted
-mail_accepted to p t = elim (cases_Bool (is_other t to)) [
-  | inl b ↦ rw b refl
-  | inr b ↦ rw b refl
-]
-
 return_accepted : (id : Id) (log : Option ℕ) (t : Tables) → (with_return id log t).accepted ≡ t.accepted
 return_accepted id None t = refl
-return_accepted id (Some log) t = mail_accepted id.home (Return id) t
+return_accepted id (Some log) t = refl
 
 returns_accepted : (ids : List Id) (t : Tables) → (with_returns ids t).accepted ≡ t.accepted
 returns_accepted [] t = refl
 returns_accepted (id ∷ ids) t = returns_accepted ids (with_return id id.log t) ∙ return_accepted id id.log t
 
-free_accepted : (id : Id) (t : Tables) → (with_free id t).accepted ≡ t.accepted
-free_accepted id t = elim (cases_Bool (count_here t id == credit id)) [
-  | inl b ↦ rw b (mail_accepted (place_or_0 t id) (Free (bare id)) t)
-  | inr b ↦ rw b refl
-]
-
 -- an action that waits puts none out of the queue
-pub act_kept : (act : Act) (t t' : Tables) → t' ≡ record (with_act act t) { spare = t'.spare } → length t.accepted ≤ length t'.accepted
-act_kept act t t' is = elim (cases_Bool (may_stay t act)) [
-  | inl b ↦
-      let e : (with_act act t).accepted ≡ t.accepted ++ act ∷ [] =
-      ap (λ b. (cond b (with_accepted act t) (with_mail (target_of act).home (parcel_for act) t)).accepted) b in
-      omega (arith, ap (λ (x : Tables). length x.accepted) is, ap (λ (xs : List Act). length xs) e, length-append t.accepted (act ∷ []))
-  | inr b ↦
-      let e : (with_act act t).accepted ≡ t.accepted =
-      ap (λ b. (cond b (with_accepted act t) (with_mail (target_of act).home (parcel_for act) t)).accepted) b
-      ∙ mail_accepted (target_of act).home (parcel_for act) t in
-      omega (arith, ap (λ (x : Tables). length x.accepted) is, ap (λ (xs : List Act). length xs) e)
-]
+pub act_kept : (act : Act) (t t' : Tables) → t' ≡ with_act act t → length t.accepted ≤ length t'.accepted
+act_kept act t t' is =
+    let more : List Act = cond (may_stay t act) (act ∷ []) [] in
+    omega (arith, ap (λ (x : Tables). length x.accepted) is, length-append t.accepted more)
 
 same_long : (xs ys : List Act) → xs ≡ ys → 0 + length ys ≤ length xs
 same_long xs ys e = omega (arith, ap (λ (zs : List Act). length zs) e)
@@ -132,9 +151,8 @@ one_longer xs ys act e = omega (arith, ap (λ (zs : List Act). length zs) e, len
 pub accepts_kept : (p : Parcel) (t t' : Tables) → Accepts p t t' → brings p + length t.accepted ≤ length t'.accepted
 accepts_kept (Apply act) t t' h = one_longer t'.accepted t.accepted act (ap (λ (x : Tables). x.accepted) h)
 accepts_kept (Move act) t t' h = one_longer t'.accepted t.accepted act (ap (λ (x : Tables). x.accepted) h)
-accepts_kept (Return id) t t' h = same_long t'.accepted t.accepted (ap (λ (x : Tables). x.accepted) h ∙ free_accepted id t)
-accepts_kept (Ask id asker entry) t t' h =
-    same_long t'.accepted t.accepted (ap (λ (x : Tables). x.accepted) h ∙ mail_accepted asker (Give (given_here t id) entry) t)
+accepts_kept (Return id) t t' h = same_long t'.accepted t.accepted (ap (λ (x : Tables). x.accepted) h)
+accepts_kept (Ask id asker entry) t t' h = same_long t'.accepted t.accepted (ap (λ (x : Tables). x.accepted) h)
 accepts_kept (Free o) t t' h =
     same_long t'.accepted t.accepted (ap (λ (x : Tables). x.accepted) h ∙ returns_accepted (ids_in (find (is_standing o) t.objects)) t)
 accepts_kept (Give id entry) t t' h = same_long t'.accepted t.accepted (ap (λ (x : Tables). x.accepted) h.rest)
@@ -196,11 +214,10 @@ both_stay t act moves stands = rw (moves, stands) refl
 
 -- the first message on the desk, which is for here and breaks no rule
 accept : (t t' : Tables) (act : Act) → moves_on t.here (move_to act) ≡ false → is_lost t (target_of act) ≡ false
-    → (16 ≤ (target_of act).kind → (target_of act).home ≡ t.here) → t' ≡ record (with_act act t) { spare = t'.spare }
-    → t' ≡ record (with_accepted act t) { spare = t'.spare }
+    → (16 ≤ (target_of act).kind → (target_of act).home ≡ t.here) → t' ≡ with_act act t
+    → t' ≡ with_accepted act t
 accept t t' act moves right home is =
-    let stay : may_stay t act ≡ true = both_stay t act moves (lost_not t (target_of act) right home) in
-    is ∙ ap (λ b. record (cond b (with_accepted act t) (with_mail (target_of act).home (parcel_for act) t)) { spare = t'.spare }) stay
+    is ∙ act_stays act t (both_stay t act moves (lost_not t (target_of act) right home))
 
 home_here : (t : Tables) (act : Act) (to : ℕ) → to ≡ (target_of act).home → (to < t.localities → to ≡ t.here) → are_far t.localities act.ids ≡ false
     → 16 ≤ (target_of act).kind → (target_of act).home ≡ t.here

@@ -17,8 +17,8 @@ use Rattle.hpx_journal.proofs.Bools.{or_cases}
 use Rattle.hpx_journal.proofs.Same.{and_true}
 use Rattle.hpx_part.specs.Data.{Local, Entry, Event, Born, Given, Count, Returned, Granted, Refused, Freed, Out, In}
 use Rattle.hpx_parcel.specs.Reading.{is_least as is_credit_least}
-use Rattle.hpx_node.specs.Idle.{Refusals, FreesOf, frees_one, is_refusal, is_least, weighed, goes, causes, one_if}
-use Rattle.hpx_node.specs.Stands.{StandsWith}
+use Rattle.hpx_steps.specs.Rows.{Refusals, FreesOf, frees_one, is_refusal, is_least, weighed, goes, causes, one_if}
+use Rattle.hpx_steps.specs.Rest.{StandsWith}
 use Rattle.hpx_tables.specs.Tables.{Tables, IsPassive}
 use Rattle.hpx_node.proofs.IdleSince.{passive_unpaid}
 

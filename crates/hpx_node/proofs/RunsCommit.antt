@@ -13,14 +13,13 @@ use Rattle.hpx_commit.specs.Stocks.{Stock}
 use Rattle.hpx_node.specs.declared.node.finish.Prepared.{Prepared}
 use Rattle.hpx_tables.specs.Awaited.{answered_by}
 use Rattle.hpx_tables.specs.Births.{Makes, births_of, objects_of, ids_of}
-use Rattle.hpx_node.specs.Changes.{AreAlike}
+use Rattle.hpx_node.specs.Changes.{}
 use Rattle.hpx_tables.specs.Splits.{splits_from}
 use Rattle.hpx_node.specs.Commits.{written, ups, committed, committed_from, own_stock, committed_to, IsPrepared, Commits}
 use Rattle.hpx_tables.specs.Fit.{IsFit}
 use Rattle.hpx_tables.specs.Jobs.{IsAt, IsFitJob}
-use Rattle.hpx_node.specs.Paused.{ArePaused}
-use Rattle.hpx_node.specs.Routes.{with_left}
-use Rattle.hpx_node.specs.Stands.{IsTidy, StandsWith, rules_of}
+use Rattle.hpx_steps.specs.Rest.{ArePaused, IsTidy, StandsWith, rules_of}
+use Rattle.hpx_steps.specs.Calls.{with_left}
 use Rattle.hpx_tables.specs.Tables.{Tables}
 use Rattle.hpx_tables.proofs.Alls.{all_remove, some_same}
 use Rattle.hpx_node.proofs.Committing.{settled_stands, settled_here, settled_serial, settled_running, all_written, all_committed}
@@ -34,7 +33,7 @@ module _ (act_of : ℕ → ℕ → ℕ → State → Act → Outcome)
     (p : Prepared) (is : IsPrepared t job out p) (own : p.stock ≡ own_stock t job out) (i j : ℕ) (at : IsAt t i j job)
     (t1 t2 : Tables) (made : Makes p.births.items [] t t1) (running : t2.running ≡ remove t1.running i)
     (objects : (x : Standing) → slice_get t1.objects j ≡ Some x → t2.objects ≡ set t1.objects j (record { object = x.object; state = p.plan.state }))
-    (rest : t2 ≡ record t1 { running = t2.running; objects = t2.objects; answered = t1.answered + answered_by (slice_get t1.running i); spare = t2.spare })
+    (rest : t2 ≡ record t1 { running = t2.running; objects = t2.objects; answered = t1.answered + answered_by (slice_get t1.running i) })
     (e0 e1 e2 : List Entry)
     (first : e1 ≡ e0 ++ at_all t.here (births_of t.here t.births p.births.items ++ splits_from 0 p.stock.hand p.stock.places))
     (done : (act : Act) → slice_get t1.running i ≡ Some act → e2 ≡ e1 ++ at_all t1.here (Done (name_of act) false ∷ [])) where
@@ -49,12 +48,12 @@ module _ (act_of : ℕ → ℕ → ℕ → State → Act → Outcome)
   still_runs : slice_get t1.running i ≡ Some job.action
   still_runs = ap (λ (x : Tables). slice_get x.running i) made.rest ∙ at.runs
 
-  rest_is : t2 ≡ record t1 { running = remove t.running i; pending = t.pending; objects = t2.objects; answered = t1.answered + answered_by (Some job.action); spare = t2.spare }
+  rest_is : t2 ≡ record t1 { running = remove t.running i; pending = t.pending; objects = t2.objects; answered = t1.answered + answered_by (Some job.action) }
   rest_is =
       rest
-      ∙ (ap (λ o. record t1 { running = t2.running; objects = t2.objects; answered = t1.answered + answered_by o; spare = t2.spare }) still_runs
-      ∙ (ap (λ rs. record t1 { running = rs; objects = t2.objects; answered = t1.answered + answered_by (Some job.action); spare = t2.spare }) (running ∙ ap (λ (x : Tables). remove x.running i) made.rest)
-      ∙ ap (λ ws. record t1 { running = remove t.running i; pending = ws; objects = t2.objects; answered = t1.answered + answered_by (Some job.action); spare = t2.spare }) (ap (λ (x : Tables). x.pending) made.rest)))
+      ∙ (ap (λ o. record t1 { running = t2.running; objects = t2.objects; answered = t1.answered + answered_by o }) still_runs
+      ∙ (ap (λ rs. record t1 { running = rs; objects = t2.objects; answered = t1.answered + answered_by (Some job.action) }) (running ∙ ap (λ (x : Tables). remove x.running i) made.rest)
+      ∙ ap (λ ws. record t1 { running = remove t.running i; pending = ws; objects = t2.objects; answered = t1.answered + answered_by (Some job.action) }) (ap (λ (x : Tables). x.pending) made.rest)))
 
   done_is : e2 ≡ e1 ++ at_all t1.here (Done (name_of job.action) false ∷ [])
   done_is = done job.action still_runs
@@ -86,7 +85,7 @@ module _ (act_of : ℕ → ℕ → ℕ → State → Act → Outcome)
       all_written act_of blind t job out fit few laws right p is j (remove t.running i) t.pending ends t1 t2 made objects rest_is e0 e1 e2 first done_is e3 left
       ∙ ap (λ s. e0 ++ at_all t.here (committed_from t job out s)) own
 
-  pub runs_commits : (u : Tables) → AreAlike u (with_left p.plan.due.items p.plan.ups.items t2)
+  pub runs_commits : (u : Tables) → u ≡ with_left p.plan.due.items p.plan.ups.items t2
       → Commits job out (own_stock t job out) j (record t { running = remove t.running i }) u
   runs_commits u alike =
       let less = record t { running = remove t.running i } in
@@ -95,6 +94,6 @@ module _ (act_of : ℕ → ℕ → ℕ → State → Act → Outcome)
         stands = at.stands;
         found = at.found;
         goes = all_committed act_of blind t job out fit few laws right p is j (remove t.running i) t.pending ends t1 t2 made objects rest_is e0 e1 e2 first done_is u alike
-            ∙ (ap (λ (x : Standing). record (committed_to job out p.stock j x less) { spare = u.spare }) same
-            ∙ ap (λ (s : Stock). record (committed_to job out s j at.standing less) { spare = u.spare }) own);
+            ∙ (ap (λ (x : Standing). committed_to job out p.stock j x less) same
+            ∙ ap (λ (s : Stock). committed_to job out s j at.standing less) own);
       }

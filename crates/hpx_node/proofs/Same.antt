@@ -1,54 +1,25 @@
--- Memory is no part of what a node stands for, nor of what it wrote.
-use Rattle.std.proofs.Common.{ℕ, List, [], ◌++◌, ◌≡◌, sym, ap, ◌∙◌, subst, append_assoc}
+-- What a node stands for and what it wrote, where its tables are the same.
+use Rattle.std.proofs.Common.{ℕ, List, ◌++◌, ◌≡◌, sym, ap, ◌∙◌, subst, append_assoc}
 use Rattle.std.proofs.lemmas.List.{map-append}
-use Rattle.hpx_journal.specs.Data.{Id, Due, State, Act, Outcome}
-use Rattle.hpx_journal.specs.Entries.{Rules}
+use Rattle.hpx_journal.specs.Data.{State, Act, Outcome}
 use Rattle.hpx_journal.specs.Laws.{entry_at}
 use Rattle.hpx_part.specs.Data.{Event, Entry}
 use Rattle.hpx_part.specs.Parts.{at_all}
 use Rattle.hpx_tables.specs.Tables.{Tables}
-use Rattle.hpx_node.specs.Stands.{IsTidy, StandsWith, Stands}
+use Rattle.hpx_node.specs.Stands.{Stands}
 use Rattle.hpx_node.specs.Changes.{Writes}
 
-tidy_spare : (t : Tables) (due : List Due) (spare : ℕ) → IsTidy t due → IsTidy (record t { spare = spare }) due
-tidy_spare t due spare h = record {
-  accepted = h.accepted;
-  running = h.running;
-  paused = h.paused;
-  objects = h.objects;
-  messages = h.messages;
-  fit = h.fit;
-  moves = h.moves;
-  targets = h.targets;
-  serves = h.serves;
-  drawn = h.drawn;
-  unborn = h.unborn;
-  places = h.places;
-  ways = h.ways;
-}
-
-pub stands_spare : (r : Rules) (t : Tables) (due : List Due) (loose : List Id) (es : List Entry) (spare : ℕ) → StandsWith r t due loose es
-    → StandsWith r (record t { spare = spare }) due loose es
-stands_spare r t due loose es spare h = record {
-  keeps = h.keeps;
-  tidy = tidy_spare t due spare h.tidy;
-  born = h.born;
-  few = h.few;
-  asked = h.asked;
-  sent = h.sent;
-  taken = h.taken;
-  paid = record { rows = h.paid.rows; once = h.paid.once; fired = h.paid.fired; frees = h.paid.frees };
-  few_answers = h.few_answers;
-  answered = h.answered;
-}
-
 pub stands_same : (act_of : ℕ → ℕ → ℕ → State → Act → Outcome) (t t' : Tables) (es es' : List Entry) → Stands act_of t es
-    → t' ≡ record t { spare = t'.spare } → es' ≡ es → Stands act_of t' es'
+    → t' ≡ t → es' ≡ es → Stands act_of t' es'
 stands_same act_of t t' es es' h same e =
     subst (Stands act_of t') (sym e)
-    (subst (λ x. Stands act_of x es) (sym same) (stands_spare _ t [] [] es t'.spare h))
+    (subst (λ x. Stands act_of x es) (sym same) h)
 
-pub writes_from : (first : List Event) (s t u : Tables) (a b c : List Entry) → t ≡ record s { spare = t.spare } → b ≡ a → Writes first t u b c
+-- what is said of tables and entries is said of the same
+pub same_too : (P : Tables → List Entry → Type 0) (t t' : Tables) (es es' : List Entry) → P t es → t' ≡ t → es' ≡ es → P t' es'
+same_too P t t' es es' h same e = subst (P t') (sym e) (subst (λ x. P x es) (sym same) h)
+
+pub writes_from : (first : List Event) (s t u : Tables) (a b c : List Entry) → t ≡ s → b ≡ a → Writes first t u b c
     → Writes first s u a c
 writes_from first s t u a b c same e h = record {
   here = h.here ∙ ap (λ (x : Tables). x.here) same;

@@ -28,8 +28,8 @@ use Rattle.hpx_commit.specs.Stocks.{Stock}
 use Rattle.hpx_tables.specs.declared.births.Birth.{Birth}
 use Rattle.hpx_tables.specs.Pending.{Waits, fired_of, asking_of, refusals_of}
 use Rattle.hpx_tables.specs.Tables.{Tables}
-use Rattle.hpx_node.specs.Seen.{bare_standing, bare_due, counted, view}
-use Rattle.hpx_node.specs.Stands.{IsTidy, StandsWith}
+use Rattle.hpx_steps.specs.Turn.{bare_standing, bare_due, counted}
+use Rattle.hpx_steps.specs.Rest.{view, IsTidy, StandsWith}
 use Rattle.hpx_tables.specs.Awaited.{answered_by}
 use Rattle.hpx_tables.specs.Splits.{splits_from}
 use Rattle.hpx_tables.specs.Births.{IsBirth, birth_of, births_of, objects_of, records_of, ids_of}
@@ -79,7 +79,7 @@ pub record IsEnding (t : Tables) (j : ℕ) (job : Job) (made hand : List Id) (ru
 
 module _ (r : Rules) (t : Tables) (entries : List Entry) (j : ℕ) (job : Job) (out : Outcome) (xs : List Birth) (s : Stock)
     (running : List Act) (pending : List Waits) (at : IsEnding t j job (ids_of t.here t.births r.credit_log xs) s.hand running pending)
-    (state : State) (due : List Due) (ups : List Id) (spare : ℕ) (plans : Plans r t job out xs s state due ups)
+    (state : State) (due : List Due) (ups : List Id) (plans : Plans r t job out xs s state due ups)
     (h : StandsWith r t [] [] entries) where
   abbrev made : List Id
   made = ids_of t.here t.births r.credit_log xs
@@ -101,7 +101,6 @@ module _ (r : Rules) (t : Tables) (entries : List Entry) (j : ℕ) (job : Job) (
     running = running;
     pending = pending;
     answered = t.answered + answered_by (Some job.action);
-    spare = spare;
   }
 
   -- ---- what is made

@@ -22,7 +22,8 @@ use Rattle.hpx_commit.proofs.Deals.{named_cons, named_hit, named_miss}
 use Rattle.hpx_commit.proofs.Stripped.{short_lasting, short_once, short_least, short_each, stripped_places, stripped_else, stripped_at, stripped_behind, stripped_sums}
 use Rattle.hpx_node.specs.Asks.{own_many}
 use Rattle.hpx_tables.specs.Jobs.{IsFitJob}
-use Rattle.hpx_node.specs.Paused.{HasSplit, IsPaused}
+use Rattle.hpx_steps.specs.Paused.{HasSplit}
+use Rattle.hpx_steps.specs.Rest.{IsPaused}
 use Rattle.hpx_tables.specs.declared.pending.Asked.{Asked}
 use Rattle.hpx_tables.specs.Pending.{is_asked, asked_at, waits_with}
 use Rattle.hpx_node.proofs.FilledDue.{weigh_one, each_weighs}

@@ -1,17 +1,15 @@
 -- No object stands twice.
-use Rattle.std.proofs.Common.{ℕ, zero, suc, Bool, true, false, cond, List, [], ◌∷◌, ◌++◌, ◌≡◌, ◌≤◌, ◌+◌, ◌==◌, Some, None, set, pos, refl, sym, ap, ◌∙◌, arith, inl, inr}
-use Rattle.std.specs.Prelude.{◌&&◌}
+use Rattle.std.proofs.Common.{ℕ, zero, suc, Bool, true, false, List, [], ◌∷◌, ◌++◌, ◌≡◌, ◌≤◌, ◌+◌, Some, None, set, refl, sym, ap, ◌∙◌, arith, inl, inr}
 use Rattle.std.specs.List.{find, slice_get, remove, AllByRecursion}
 use Rattle.std.proofs.lemmas.Bool.{cases_Bool}
 use Rattle.hpx_value.specs.Ids.{bare_id, same_object}
-use Rattle.hpx_journal.specs.Data.{Id, Int}
+use Rattle.hpx_journal.specs.Data.{Id}
 use Rattle.hpx_journal.specs.Local.{is_standing}
-use Rattle.hpx_journal.specs.Roots.{root, roots, roots_of_first}
 use Rattle.hpx_journal.proofs.Same.{same_object-true, same_object-sym}
 use Rattle.hpx_part.specs.Data.{Standing}
 use Rattle.hpx_tables.specs.declared.births.Birth.{Birth}
 use Rattle.hpx_tables.specs.Births.{IsBirth, objects_of}
-use Rattle.hpx_node.specs.Paused.{Single}
+use Rattle.hpx_steps.specs.Paused.{Single}
 use Rattle.hpx_tables.proofs.Alls.{some_same}
 use Rattle.hpx_node.proofs.MadeLists.{Drawn, false_if}
 
@@ -126,41 +124,3 @@ single_made here n xs ys single drawn fit = single_append xs (objects_of here n 
     apart : (zs : List Standing) → AllByRecursion (Drawn here n) zs → AllByRecursion (λ (z : Standing). find (is_standing z.object) (objects_of here n ys) ≡ None) zs
     apart [] d = tt
     apart (z ∷ zs) d = (none_made here n z.object d.0 ys fit, apart zs d.1)
-
--- ---- at boot
-
-other_kind : (a b k l m n : ℕ) → (k == l) ≡ false → same_object (bare_id a k m) (bare_id b l n) ≡ false
-other_kind a b k l m n e = ap (λ c. (a == b) && (c && (m == n))) e ∙ no (a == b)
-  where
-    no : (c : Bool) → (c && false) ≡ false
-    no true = refl
-    no false = refl
-
-none_of_kind : (a k m : ℕ) (x : Standing) (xs : List Standing) → same_object (bare_id a k m) x.object ≡ false → find (is_standing (bare_id a k m)) xs ≡ None
-    → find (is_standing (bare_id a k m)) (x ∷ xs) ≡ None
-none_of_kind a k m x xs other none = rw other none
-
-pub single_roots : (n k : ℕ) → Single (roots n k)
-single_roots n k = at (k == 0)
-  where
-    each : Single (root k 3 [] ∷ root k 5 [] ∷ root k 7 [] ∷ [])
-    each = (
-      none_of_kind k 3 1 (root k 5 []) (root k 7 [] ∷ []) (other_kind k k 3 5 1 1 refl) (none_of_kind k 3 1 (root k 7 []) [] (other_kind k k 3 7 1 1 refl) refl),
-      (none_of_kind k 5 1 (root k 7 []) [] (other_kind k k 5 7 1 1 refl) refl, (refl, tt)),
-    )
-
-    past : (a : ℕ) → (a == 3) ≡ false → (a == 5) ≡ false → (a == 7) ≡ false → find (is_standing (bare_id 0 a 1)) (root k 3 [] ∷ root k 5 [] ∷ root k 7 [] ∷ []) ≡ None
-    past a three five seven =
-        none_of_kind 0 a 1 (root k 3 []) (root k 5 [] ∷ root k 7 [] ∷ []) (other_kind 0 k a 3 1 1 three)
-        (none_of_kind 0 a 1 (root k 5 []) (root k 7 [] ∷ []) (other_kind 0 k a 5 1 1 five)
-        (none_of_kind 0 a 1 (root k 7 []) [] (other_kind 0 k a 7 1 1 seven) refl))
-
-    past_first : find (is_standing (bare_id 0 1 1)) (root 0 2 [] ∷ root 0 4 (Int (pos n) ∷ []) ∷ root k 3 [] ∷ root k 5 [] ∷ root k 7 [] ∷ []) ≡ None
-    past_first = past 1 refl refl refl
-
-    past_second : find (is_standing (bare_id 0 2 1)) (root 0 4 (Int (pos n) ∷ []) ∷ root k 3 [] ∷ root k 5 [] ∷ root k 7 [] ∷ []) ≡ None
-    past_second = past 2 refl refl refl
-
-    at : (b : Bool) → Single (cond b (roots_of_first n) [] ++ (root k 3 [] ∷ root k 5 [] ∷ root k 7 [] ∷ []))
-    at false = each
-    at true = (past_first, (past_second, (past 4 refl refl refl, each)))

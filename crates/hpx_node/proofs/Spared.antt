@@ -10,53 +10,26 @@ use Rattle.hpx_part.specs.Data.{Event, Entry, Mail, In}
 use Rattle.hpx_part.specs.Parts.{at_all}
 use Rattle.hpx_parcel.specs.Reading.{parcel_of}
 use Rattle.std.specs.List.{AllByRecursion}
-use Rattle.hpx_node.specs.Frames.{IsForHere}
+use Rattle.hpx_steps.specs.Frames.{IsForHere}
 use Rattle.hpx_tables.specs.Tables.{Tables}
 use Rattle.hpx_node.specs.Changes.{OnlySpare, Writes}
-use Rattle.hpx_node.specs.Stands.{StandsWith, rules_of}
+use Rattle.hpx_steps.specs.Rest.{StandsWith, rules_of}
 use Rattle.hpx_tables.specs.declared.strange.Broken.{Broken}
 use Rattle.hpx_tables.specs.Strange.{breaks, is_far, broken, broken_near}
-use Rattle.hpx_node.specs.Handled.{is_own, effects, kind_of, Takes, Clears}
+use Rattle.hpx_steps.specs.Calls.{effects, DealsWith, Accepts, Leaves}
+use Rattle.hpx_steps.specs.Rows.{kind_of}
+use Rattle.hpx_node.specs.Handled.{is_own, Takes, Clears}
 use Rattle.hpx_node.specs.Next.{Continues}
 use Rattle.hpx_node.proofs.Same.{writes_then}
 use Rattle.hpx_node.proofs.Right.{not_broken, near_right, near_popped}
 use Rattle.hpx_node.proofs.Taken.{taken_few}
-use Rattle.hpx_node.specs.Routes.{DealsWith, Accepts}
-use Rattle.hpx_node.specs.Recounts.{Leaves}
-use Rattle.hpx_node.proofs.Spareless.{waits_from, accepts_from}
 use Rattle.hpx_node.proofs.Recounted.{leaves_from}
 
 pub spare_stands : (act_of : ℕ → ℕ → ℕ → State → Act → Outcome) (t t' : Tables) (b b' : Book) → OnlySpare t t' b b'
     → StandsWith (rules_of act_of t.localities t.profile) t [] [] b.entries → StandsWith (rules_of act_of t'.localities t'.profile) t' [] [] b'.entries
 spare_stands act_of t t' b b' same h =
     subst (λ (u : Tables). StandsWith (rules_of act_of u.localities u.profile) u [] [] b'.entries) (sym same.tables)
-    (subst (λ es. StandsWith (rules_of act_of t.localities t.profile) (record t { spare = t'.spare }) [] [] es) (sym same.entries)
-    (record {
-      keeps = h.keeps;
-      tidy = record {
-        accepted = h.tidy.accepted;
-        running = h.tidy.running;
-        paused = h.tidy.paused;
-        objects = h.tidy.objects;
-        messages = h.tidy.messages;
-        fit = h.tidy.fit;
-        moves = h.tidy.moves;
-        targets = h.tidy.targets;
-        ways = h.tidy.ways;
-        serves = h.tidy.serves;
-        drawn = h.tidy.drawn;
-        unborn = h.tidy.unborn;
-        places = h.tidy.places;
-      };
-      few = h.few;
-      asked = h.asked;
-      born = h.born;
-      sent = h.sent;
-      taken = h.taken;
-      paid = record { rows = h.paid.rows; once = h.paid.once; fired = h.paid.fired; frees = h.paid.frees };
-      few_answers = h.few_answers;
-      answered = h.answered;
-    }))
+    (subst (λ es. StandsWith (rules_of act_of t.localities t.profile) t [] [] es) (sym same.entries) h)
 
 -- what is said of an answer that is no error
 pub when_ok : {X E : Type 0} (answer : Result X E) (P : Type 0) → is_err answer ≡ false → OnOk answer P → P
@@ -101,25 +74,13 @@ first_own n k desk p rest first ways = own n k p (subst (λ (d : List Parcel). A
     own n k (Shipped act state) way = refl
     own n k (Arrived id place) way = refl
 
-near_spare : (t : Tables) (s : ℕ) (p : Parcel) → broken_near (record t { spare = s }) p ≡ broken_near t p
-near_spare t s (Apply act) = refl
-near_spare t s (Return id) = refl
-near_spare t s (Ask id asker entry) = refl
-near_spare t s (Give id entry) = refl
-near_spare t s (Cached id place) = refl
-near_spare t s (Move act) = refl
-near_spare t s (Go act) = refl
-near_spare t s (Shipped act state) = refl
-near_spare t s (Arrived id place) = refl
-near_spare t s (Free o) = refl
+effects_desk : (t : Tables) (desk : List Parcel) (p : Parcel) → effects (record t { desk = desk }) p ≡ effects t p
+effects_desk t desk (Return id) = refl
+effects_desk t desk (Ask id asker entry) = refl
+effects_desk t desk (Free o) = refl
+effects_desk t desk _ = refl
 
-effects_spare : (t : Tables) (desk : List Parcel) (s : ℕ) (p : Parcel) → effects (record t { desk = desk; spare = s }) p ≡ effects t p
-effects_spare t desk s (Return id) = refl
-effects_spare t desk s (Ask id asker entry) = refl
-effects_spare t desk s (Free o) = refl
-effects_spare t desk s _ = refl
-
-module _ (t m : Tables) (p q : Parcel) (rest : List Parcel) (x : Option Broken) (same : m ≡ record t { spare = m.spare }) (first : m.desk ≡ p ∷ rest)
+module _ (t m : Tables) (p q : Parcel) (rest : List Parcel) (x : Option Broken) (same : m ≡ t) (first : m.desk ≡ p ∷ rest)
     (is : q ≡ get_or t.desk 0 q) (told : x ≡ broken t q) (none : x ≡ None) where
   pub first_there : t.desk ≡ p ∷ rest
   first_there = sym (ap (λ (u : Tables). u.desk) same) ∙ first
@@ -130,56 +91,27 @@ module _ (t m : Tables) (p q : Parcel) (rest : List Parcel) (x : Option Broken) 
   pub none_here : broken t p ≡ None
   none_here = subst (λ (y : Parcel). broken t y ≡ None) one (sym told ∙ none)
 
-  pub mail_right : (s : ℕ) → broken_near (record m { desk = rest; spare = s }) p ≡ None
-  mail_right s =
-      let near : broken_near t p ≡ None = near_right t p none_here in
+  pub mail_right : broken_near (record m { desk = rest }) p ≡ None
+  mail_right =
       let at : broken_near (record t { desk = p ∷ rest }) p ≡ None =
-      subst (λ (d : List Parcel). broken_near (record t { desk = d }) p ≡ None) first_there near in
-      let u : Tables = record t { desk = rest; spare = s } in
-      subst (λ (y : Tables). broken_near (record y { desk = rest; spare = s }) p ≡ None) (sym same)
-      (near_popped (record t { desk = rest; spare = s }) p (near_spare (record t { desk = p ∷ rest }) s p ∙ at))
+      subst (λ (d : List Parcel). broken_near (record t { desk = d }) p ≡ None) first_there (near_right t p none_here) in
+      subst (λ (y : Tables). broken_near (record y { desk = rest }) p ≡ None) (sym same) (near_popped (record t { desk = rest }) p at)
 
-pub first_stands : (act_of : ℕ → ℕ → ℕ → State → Act → Outcome) (t : Tables) (p : Parcel) (rest : List Parcel) (s : ℕ) (entries : List Entry) → t.desk ≡ p ∷ rest
+pub first_stands : (act_of : ℕ → ℕ → ℕ → State → Act → Outcome) (t : Tables) (p : Parcel) (rest : List Parcel) (entries : List Entry) → t.desk ≡ p ∷ rest
     → StandsWith (rules_of act_of t.localities t.profile) t [] [] entries
-    → StandsWith (rules_of act_of t.localities t.profile) (record t { desk = p ∷ rest; spare = s }) [] [] entries
-first_stands act_of t p rest s entries first h =
-    subst (λ (d : List Parcel). StandsWith (rules_of act_of t.localities t.profile) (record t { desk = d; spare = s }) [] [] entries) first
-    (record {
-      keeps = h.keeps;
-      tidy = record {
-        accepted = h.tidy.accepted;
-        running = h.tidy.running;
-        paused = h.tidy.paused;
-        objects = h.tidy.objects;
-        messages = h.tidy.messages;
-        fit = h.tidy.fit;
-        moves = h.tidy.moves;
-        targets = h.tidy.targets;
-        ways = h.tidy.ways;
-        serves = h.tidy.serves;
-        drawn = h.tidy.drawn;
-        unborn = h.tidy.unborn;
-        places = h.tidy.places;
-      };
-      few = h.few;
-      asked = h.asked;
-      born = h.born;
-      sent = h.sent;
-      taken = h.taken;
-      paid = record { rows = h.paid.rows; once = h.paid.once; fired = h.paid.fired; frees = h.paid.frees };
-      few_answers = h.few_answers;
-      answered = h.answered;
-    })
+    → StandsWith (rules_of act_of t.localities t.profile) (record t { desk = p ∷ rest }) [] [] entries
+first_stands act_of t p rest entries first h =
+    subst (λ (d : List Parcel). StandsWith (rules_of act_of t.localities t.profile) (record t { desk = d }) [] [] entries) first h
 
-pub cleared : (t m t' : Tables) (b n : Book) (p q : Parcel) (rest : List Parcel) (s : ℕ) (x : Option Broken) (entries : List Entry) → OnlySpare t m b n
+pub cleared : (t m t' : Tables) (b n : Book) (p q : Parcel) (rest : List Parcel) (x : Option Broken) (entries : List Entry) → OnlySpare t m b n
     → m.desk ≡ p ∷ rest → q ≡ get_or t.desk 0 q → x ≡ broken t q → x ≡ None
-    → Writes (Mail (kind_of p) ∷ effects (record m { desk = rest; spare = s }) p) (record m { desk = rest; spare = s }) t' n.entries entries
-    → Accepts p (record m { desk = rest; spare = s }) t' → Leaves p (record m { desk = rest; spare = s }) t' → t'.taken ≡ m.taken → t'.sent ≡ m.sent
+    → Writes (Mail (kind_of p) ∷ effects (record m { desk = rest }) p) (record m { desk = rest }) t' n.entries entries
+    → Accepts p (record m { desk = rest }) t' → Leaves p (record m { desk = rest }) t' → t'.taken ≡ m.taken → t'.sent ≡ m.sent
     → (u : Tables) (more : List Event) (later : List Entry) → Continues p (record t { desk = rest }) t' u more → Writes more t' u entries later
     → u.taken ≡ t'.taken → u.sent ≡ t'.sent → Clears t u b.entries later
-cleared t m t' b n p q rest s x entries same first is told none writes accepts leaves taken sent u more later continues wrote still_taken still_sent =
-    let events : effects (record m { desk = rest; spare = s }) p ≡ effects t p =
-    effects_spare m rest s p ∙ (ap (λ (y : Tables). effects y p) same.tables ∙ effects_spare t t.desk m.spare p) in
+cleared t m t' b n p q rest x entries same first is told none writes accepts leaves taken sent u more later continues wrote still_taken still_sent =
+    let events : effects (record m { desk = rest }) p ≡ effects t p =
+    effects_desk m rest p ∙ ap (λ (y : Tables). effects y p) same.tables in
     let here : m.here ≡ t.here = ap (λ (u : Tables). u.here) same.tables in record {
       parcel = p;
       rest = rest;
@@ -193,22 +125,22 @@ cleared t m t' b n p q rest s x entries same first is told none writes accepts l
             localities = writes.localities ∙ ap (λ (v : Tables). v.localities) same.tables;
             profile = writes.profile ∙ ap (λ (v : Tables). v.profile) same.tables;
             grows = writes.grows
-                ∙ (ap (λ es. es ++ at_all m.here (Mail (kind_of p) ∷ effects (record m { desk = rest; spare = s }) p)) same.entries
-                ∙ (ap (λ k. b.entries ++ at_all k (Mail (kind_of p) ∷ effects (record m { desk = rest; spare = s }) p)) here
+                ∙ (ap (λ es. es ++ at_all m.here (Mail (kind_of p) ∷ effects (record m { desk = rest }) p)) same.entries
+                ∙ (ap (λ k. b.entries ++ at_all k (Mail (kind_of p) ∷ effects (record m { desk = rest }) p)) here
                 ∙ ap (λ es. b.entries ++ at_all t.here (Mail (kind_of p) ∷ es)) events));
           })
           wrote;
-      accepts = accepts_from p t m t' rest s same.tables accepts;
-      leaves = leaves_from p t (record m { desk = rest; spare = s }) t' (ap (λ (v : Tables). v.records) same.tables)
+      accepts = subst (λ (y : Tables). Accepts p (record y { desk = rest }) t') same.tables accepts;
+      leaves = leaves_from p t (record m { desk = rest }) t' (ap (λ (v : Tables). v.records) same.tables)
           (ap (λ (v : Tables). v.profile) same.tables) (ap (λ (v : Tables). v.objects) same.tables) leaves;
       continues = continues;
       taken = still_taken ∙ (taken ∙ ap (λ (v : Tables). v.taken) same.tables);
       sent = still_sent ∙ (sent ∙ ap (λ (v : Tables). v.sent) same.tables);
     }
 
-pub mail_by : (t m : Tables) (b n : Book) (p q : Parcel) (rest : List Parcel) (s : ℕ) (x : Option Broken) → OnlySpare t m b n
-    → m.desk ≡ p ∷ rest → q ≡ get_or t.desk 0 q → x ≡ broken t q → x ≡ None → broken_near (record m { desk = rest; spare = s }) p ≡ None
-mail_by t m b n p q rest s x same first is told none = mail_right t m p q rest x same.tables first is told none s
+pub mail_by : (t m : Tables) (b n : Book) (p q : Parcel) (rest : List Parcel) (x : Option Broken) → OnlySpare t m b n
+    → m.desk ≡ p ∷ rest → q ≡ get_or t.desk 0 q → x ≡ broken t q → x ≡ None → broken_near (record m { desk = rest }) p ≡ None
+mail_by t m b n p q rest x same first is told none = mail_right t m p q rest x same.tables first is told none
 
 pub mail_near : (t m : Tables) (b n : Book) (p q : Parcel) (rest : List Parcel) (x : Option Broken) → OnlySpare t m b n
     → m.desk ≡ p ∷ rest → q ≡ get_or t.desk 0 q → x ≡ broken t q → x ≡ None → is_far m.localities p ≡ false
@@ -223,8 +155,7 @@ pub took : (t m t' : Tables) (b n : Book) (p : Parcel) (bytes frame : List ℕ) 
     → (u : Tables) (more : List Event) (later : List Entry) → Continues p (record t { taken = t.taken + 1 }) t' u more → Writes more t' u entries later
     → u.taken ≡ t'.taken → u.sent ≡ t'.sent → Takes frame t u b.entries later
 took t m t' b n p bytes frame entries same copy spelled right writes deals leaves taken sent u more later continues wrote still_taken still_sent =
-    let events : effects m p ≡ effects t p =
-    ap (λ (y : Tables). effects y p) same.tables ∙ effects_spare t t.desk m.spare p in
+    let events : effects m p ≡ effects t p = ap (λ (y : Tables). effects y p) same.tables in
     let here : m.here ≡ t.here = ap (λ (u : Tables). u.here) same.tables in record {
       parcel = p;
       spelled = spelled;
@@ -243,7 +174,7 @@ took t m t' b n p bytes frame entries same copy spelled right writes deals leave
                 ∙ ap (λ (bs : List ℕ). b.entries ++ at_all t.here (In bs ∷ effects t p)) copy)));
           })
           wrote;
-      deals = waits_from p t m t' same.tables deals;
+      deals = subst (λ (y : Tables). DealsWith p (record y { taken = y.taken + 1 }) t') same.tables deals;
       leaves = leaves_from p t m t' (ap (λ (v : Tables). v.records) same.tables) (ap (λ (v : Tables). v.profile) same.tables)
           (ap (λ (v : Tables). v.objects) same.tables) leaves;
       continues = continues;

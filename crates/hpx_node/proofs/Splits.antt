@@ -23,7 +23,7 @@ use Rattle.hpx_part.proofs.Credit.{token_weighs, token_own}
 use Rattle.hpx_part.proofs.CreditRows.{follows_split}
 use Rattle.hpx_part.proofs.Grown.{chain}
 use Rattle.hpx_commit.specs.Deals.{is_managed, half, log_of, named, shares, shared_from, unnamed_from, Lasts}
-use Rattle.hpx_node.specs.Seen.{tokens_of}
+use Rattle.hpx_steps.specs.Turn.{tokens_of}
 use Rattle.hpx_tables.specs.Splits.{cuts, splits_from}
 use Rattle.hpx_node.proofs.Sums.{weigh, weigh_append}
 

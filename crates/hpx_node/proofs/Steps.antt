@@ -20,12 +20,11 @@ use Rattle.hpx_part.specs.Parts.{at_boot, at_all}
 use Rattle.hpx_part.proofs.Grown.{grow}
 use Rattle.hpx_part.proofs.Weaken.{weaker_leads}
 use Rattle.hpx_tables.specs.Tables.{Tables}
-use Rattle.hpx_node.specs.Seen.{view}
+use Rattle.hpx_steps.specs.Rest.{view, IsPaid, IsTidy, StandsWith, rules_of}
 use Rattle.hpx_tables.specs.Awaited.{is_answer}
-use Rattle.hpx_node.specs.Idle.{Pays, IsPaid}
+use Rattle.hpx_node.specs.Idle.{Pays}
 use Rattle.hpx_node.proofs.Ended.{Answers, answered_then}
 use Rattle.hpx_node.proofs.IdleSteps.{paid_more}
-use Rattle.hpx_node.specs.Stands.{IsTidy, StandsWith, rules_of}
 
 -- w says no more than v: the same lists, the same tokens and asks as bags, the same counts, and no more that are dead, refusals and failures
 pub record Tells (v w : View) : Type 0 where

@@ -10,7 +10,8 @@ use Rattle.hpx_part.specs.Data.{Standing, Token}
 use Rattle.hpx_part.proofs.Keyed.{split_get, split_set}
 use Rattle.hpx_tables.specs.Pending.{Waits}
 use Rattle.hpx_tables.specs.Tables.{Tables, messages}
-use Rattle.hpx_node.specs.Seen.{tokens_of, parcel_tokens, kept_ids, tokens, view}
+use Rattle.hpx_steps.specs.Turn.{tokens_of, parcel_tokens}
+use Rattle.hpx_steps.specs.Rest.{kept_ids, tokens, view}
 use Rattle.hpx_node.proofs.Messages.{flat_append, tokens_append}
 
 module _ (f : Token → ℕ) where

@@ -21,9 +21,11 @@ use Rattle.hpx_part.proofs.FrameRows.{follows_in}
 use Rattle.hpx_part.proofs.ActRows.{follows_mail}
 use Rattle.hpx_part.proofs.Keyed.{counts_of}
 use Rattle.hpx_tables.specs.Tables.{Tables, messages}
-use Rattle.hpx_node.specs.Seen.{asks, frees, frees_in, view}
-use Rattle.hpx_node.specs.Stands.{IsTidy, StandsWith, rules_of}
-use Rattle.hpx_node.specs.Handled.{LetsGo, Handles, with_first, in_hand, effects, up_of, ups, returned, more_here, freed, kind_of, is_own}
+use Rattle.hpx_steps.specs.Rest.{asks, frees, view, IsTidy, StandsWith, rules_of}
+use Rattle.hpx_steps.specs.Turn.{parcel_frees}
+use Rattle.hpx_steps.specs.Calls.{effects, up_of, ups, returned, more_here, freed, Accepts}
+use Rattle.hpx_steps.specs.Rows.{kind_of, spends}
+use Rattle.hpx_node.specs.Handled.{LetsGo, Handles, with_first, in_hand, is_own}
 use Rattle.hpx_tables.specs.Kept.{count_here}
 use Rattle.hpx_node.proofs.Sums.{view_sum}
 use Rattle.hpx_node.proofs.Steps.{stands_then, stands_by}
@@ -32,8 +34,6 @@ use Rattle.hpx_tables.specs.Strange.{broken_near}
 use Rattle.hpx_parcel.specs.Reading.{parcel_of}
 use Rattle.hpx_node.proofs.InHand.{hand_sum}
 use Rattle.hpx_node.proofs.Returned.{any_behind}
-use Rattle.hpx_node.specs.Idle.{spends}
-use Rattle.hpx_node.specs.Routes.{Accepts}
 use Rattle.hpx_node.proofs.Routed.{accepts_kept}
 use Rattle.hpx_node.proofs.Ended.{LeavesActs, answers_none}
 use Rattle.hpx_node.proofs.IdleSteps.{pays_in, pays_mail}
@@ -121,7 +121,7 @@ kinds (Shipped act state) = (omega arith, omega arith)
 kinds (Arrived id place) = (omega arith, omega arith)
 kinds (Free o) = (omega arith, omega arith)
 
-lets_mail : (r : Rules) (k : ℕ) (p : Parcel) (dead : List Id) → is_own k p ≡ true → LetsGo r k p (frees_in p ++ dead) (Mail (kind_of p))
+lets_mail : (r : Rules) (k : ℕ) (p : Parcel) (dead : List Id) → is_own k p ≡ true → LetsGo r k p (parcel_frees p ++ dead) (Mail (kind_of p))
 lets_mail r k (Free o) dead own = (refl, eqb-true o.home k own, rw (same_object-refl o) refl)
 lets_mail r k _ dead own = tt
 
@@ -133,7 +133,7 @@ mailed_stands r t t' p entries events h own quiet none accepts handles =
       in_hand p t (frees (with_first p t)) (Mail (kind_of p)),
       follows_mail r (view (with_first p t) [] []) (kind_of p) refl refl (kinds p).0 (kinds p).1,
       handles.leads (frees (with_first p t)) (Mail (kind_of p))
-          (record { among = λ x i. any_behind (same_object x) (frees_in p) (frees t) i; lets = lets_mail r t.here p (frees t) own }),
+          (record { among = λ x i. any_behind (same_object x) (parcel_frees p) (frees t) i; lets = lets_mail r t.here p (frees t) own }),
     ) in
     stands_then r (with_first p t) t' [] [] [] [] entries (Mail (kind_of p) ∷ events) h handles.tidy
     (record {

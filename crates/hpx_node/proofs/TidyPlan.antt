@@ -18,9 +18,9 @@ use Rattle.hpx_tables.specs.Births.{IsBirth, birth_of, objects_of, records_of}
 use Rattle.hpx_tables.specs.Fit.{IsFit, IsKept}
 use Rattle.hpx_node.specs.Commits.{IsStock}
 use Rattle.hpx_tables.specs.Jobs.{IsFitJob}
-use Rattle.hpx_node.specs.Paused.{Single, ArePaused}
+use Rattle.hpx_steps.specs.Paused.{Single}
+use Rattle.hpx_steps.specs.Rest.{ArePaused, IsTidy}
 use Rattle.hpx_tables.specs.Pending.{Waits}
-use Rattle.hpx_node.specs.Stands.{IsTidy}
 use Rattle.hpx_tables.specs.Tables.{Tables}
 use Rattle.hpx_node.proofs.Homes.{all_stay, records_stay}
 use Rattle.hpx_tables.proofs.Alls.{all_append, all_at, all_set, get_before}
@@ -119,7 +119,7 @@ module _ (t : Tables) (j : ℕ) (job : Job) (out : Outcome) (standing : Standing
       ap (λ x. record { object = standing.object; state = x })
       (plain_same t job out fit few laws s is (sym kind ∙ e) none.0 none.1 ∙ (sym own ∙ (sym state ∙ old)))
 
-  module _ (running : List Act) (pending : List Waits) (spare : ℕ) (runs : AllByRecursion IsFit running)
+  module _ (running : List Act) (pending : List Waits) (runs : AllByRecursion IsFit running)
       (paused : ArePaused t.here t.localities t.profile.credit_log (set (t.objects ++ objects_of t.here t.births (map birth_of out.makes)) j
       (record { object = standing.object; state = planned_state t job out fit few laws s is })) running pending) where
     abbrev pub settled : Tables
@@ -130,7 +130,6 @@ module _ (t : Tables) (j : ℕ) (job : Job) (out : Outcome) (standing : Standing
       running = running;
       pending = pending;
       answered = t.answered + answered_by (Some job.action);
-      spare = spare;
     }
 
     pub tidy_settled : IsTidy settled (planned_due t job out fit few laws s is)

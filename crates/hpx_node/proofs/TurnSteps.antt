@@ -22,12 +22,12 @@ use Rattle.hpx_tables.specs.Splits.{first_cuts, asked_events, cuts}
 use Rattle.hpx_node.specs.Changes.{Writes}
 use Rattle.hpx_node.specs.Commits.{IsPrepared, written, ups as given_up, committed, committed_from, own_stock}
 use Rattle.hpx_node.specs.Fails.{IsFailure, due_left, ups_left, failed_events}
-use Rattle.hpx_node.specs.Handled.{effects, up_of, ups, returned, more_here, freed}
+use Rattle.hpx_steps.specs.Calls.{effects, up_of, ups, returned, more_here, freed}
 use Rattle.hpx_tables.specs.Jobs.{IsFitJob}
 use Rattle.hpx_tables.specs.Kept.{count_here}
-use Rattle.hpx_node.specs.Limits.{AddsATurn}
+use Rattle.hpx_steps.specs.Limits.{AddsATurn}
 use Rattle.hpx_tables.specs.Pending.{Waits}
-use Rattle.hpx_node.specs.Stands.{IsTidy}
+use Rattle.hpx_steps.specs.Rest.{IsTidy}
 use Rattle.hpx_tables.specs.Tables.{Tables}
 use Rattle.hpx_tables.proofs.Alls.{all_append}
 use Rattle.hpx_node.proofs.FewEntries.{effects_few}

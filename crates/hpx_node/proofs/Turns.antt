@@ -9,7 +9,7 @@ use Rattle.hpx_journal.specs.Data.{Parcel}
 use Rattle.hpx_journal.specs.Weights.{bytes_in, weight_of, total_weight, HasRoom}
 use Rattle.hpx_part.specs.Data.{Event, Entry, Out}
 use Rattle.hpx_part.specs.Parts.{at_all}
-use Rattle.hpx_node.specs.Limits.{IsWithin, AddsATurn}
+use Rattle.hpx_steps.specs.Limits.{IsWithin, AddsATurn}
 use Rattle.hpx_node.proofs.PlanWeights.{weighs, weighs_cons}
 use Rattle.hpx_node.proofs.Steps.{at_all_length}
 

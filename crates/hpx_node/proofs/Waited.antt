@@ -24,7 +24,7 @@ use Rattle.hpx_node.specs.Commits.{made_of, hand_of, places_in_hand}
 use Rattle.hpx_tables.specs.Fit.{IsKept}
 use Rattle.hpx_tables.specs.Jobs.{IsAt, IsFitJob}
 use Rattle.hpx_tables.specs.Pending.{Waits, asked_at, waits_with}
-use Rattle.hpx_node.specs.Stands.{IsTidy, StandsWith, rules_of}
+use Rattle.hpx_steps.specs.Rest.{IsTidy, StandsWith, rules_of}
 use Rattle.hpx_tables.specs.Tables.{Tables}
 use Rattle.hpx_tables.proofs.Alls.{all_at, some_same}
 use Rattle.hpx_node.proofs.Begun.{lent_kept, stands_waiting}
@@ -41,7 +41,6 @@ pub pauses_by : (t t' : Tables) (i j : ℕ) (job : Job) (w : Waits) (at : IsAt t
       running = remove t.running i;
       objects = set t.objects j (record { object = x.object; state = bare_state job.state });
       pending = t.pending ++ w ∷ [];
-      spare = t'.spare;
     } → Pauses i j job w t t'
 pauses_by t t' i j job w at x stands e = record {
   at = at;
@@ -49,7 +48,6 @@ pauses_by t t' i j job w at x stands e = record {
     running = remove t.running i;
     objects = set t.objects j (record { object = y.object; state = bare_state job.state });
     pending = t.pending ++ w ∷ [];
-    spare = t'.spare;
   }) (some_same x at.standing (sym stands ∙ at.stands));
 }
 
@@ -162,9 +160,8 @@ begins_by act_of t m t' job out localities b i j w e0 e1 fit few laws is n below
       running = remove t.running i;
       objects = set t.objects j (record { object = now.at.standing.object; state = bare_state job.state });
       pending = t.pending ++ waits_with job out t.localities (asked_at t.asked (short_before t job out)) (stock_before t job out) ∷ [];
-      spare = m.spare;
     }) t' = subst (λ x. AsksFor (lacking t job out) x t') now.rest mailed in
-    let stands = stands_waiting (rules_of act_of t.localities t.profile) t e0 i j job out later places m.spare now.at first fit within (bare_none (made_of t out)) few
+    let stands = stands_waiting (rules_of act_of t.localities t.profile) t e0 i j job out later places now.at first fit within (bare_none (made_of t out)) few
     low (later_is t.localities t job out laws fit) h t' asks in
     let localities : t.localities ≡ t'.localities = sym (ap (λ (x : Tables). x.localities) asks.rest) in
     let profile : t.profile ≡ t'.profile = sym (ap (λ (x : Tables). x.profile) asks.rest) in (
@@ -176,7 +173,7 @@ begins_by act_of t m t' job out localities b i j w e0 e1 fit few laws is n below
         paused = m;
         pauses = now;
         asks = asks.goes
-            ∙ ap (λ x. record (with_asks t.here t.asked (lacking t job out) x) { asked = t.asked + length (lacking t job out); spare = t'.spare }) (sym now.rest);
+            ∙ ap (λ x. record (with_asks t.here t.asked (lacking t job out) x) { asked = t.asked + length (lacking t job out) }) (sym now.rest);
         some = some;
         writes = record {
           here = ap (λ (x : Tables). x.here) asks.rest;
@@ -187,53 +184,18 @@ begins_by act_of t m t' job out localities b i j w e0 e1 fit few laws is n below
       },
     )
 
--- memory is no part of it
-pub before_same : (t t' : Tables) (job : Job) (out : Outcome) (b : Before) → t' ≡ record t { spare = t'.spare } → IsBefore t job out b → IsBefore t' job out b
-before_same t t' job out b same is = subst (λ x. IsBefore x job out b) (sym same)
-    (record { hand = is.hand; places = is.places; own = is.own; stock = is.stock; lacking = is.lacking; asked = is.asked; state = is.state })
+-- where the tables are the same
+pub before_same : (t t' : Tables) (job : Job) (out : Outcome) (b : Before) → t' ≡ t → IsBefore t job out b → IsBefore t' job out b
+before_same t t' job out b same is = subst (λ x. IsBefore x job out b) (sym same) is
 
-pub short_same : (t t' : Tables) (job : Job) (out : Outcome) → t' ≡ record t { spare = t'.spare } → (AllLast (hand_of t job out) (places_in_hand t job out) → ⊥)
+pub short_same : (t t' : Tables) (job : Job) (out : Outcome) → t' ≡ t → (AllLast (hand_of t job out) (places_in_hand t job out) → ⊥)
     → AllLast (hand_of t' job out) (places_in_hand t' job out) → ⊥
 short_same t t' job out same short = subst (λ x. AllLast (hand_of x job out) (places_in_hand x job out) → ⊥) (sym same) short
 
-pub at_same : (t t' : Tables) (i j : ℕ) (job : Job) → t' ≡ record t { spare = t'.spare } → IsAt t i j job → IsAt t' i j job
-at_same t t' i j job same at = subst (λ x. IsAt x i j job) (sym same) (record {
-  standing = at.standing;
-  here = at.here;
-  runs = at.runs;
-  stands = at.stands;
-  found = at.found;
-  kind = at.kind;
-  state = at.state;
-})
-
-begins_spare : (s u : Tables) (k : ℕ) (job : Job) (out : Outcome) (e0 e1 : List Entry) → Begins (record s { spare = k }) u job out e0 e1 → Begins s u job out e0 e1
-begins_spare s u k job out e0 e1 h = record {
-  i = h.i;
-  j = h.j;
-  paused = h.paused;
-  pauses = record {
-    at = record {
-      standing = h.pauses.at.standing;
-      here = h.pauses.at.here;
-      runs = h.pauses.at.runs;
-      stands = h.pauses.at.stands;
-      found = h.pauses.at.found;
-      kind = h.pauses.at.kind;
-      state = h.pauses.at.state;
-    };
-    rest = h.pauses.rest;
-  };
-  asks = h.asks;
-  some = h.some;
-  writes = record { here = h.writes.here; localities = h.writes.localities; profile = h.writes.profile; grows = h.writes.grows };
-}
-
-pub begins_from : (s t u : Tables) (job : Job) (out : Outcome) (e e0 e1 : List Entry) → t ≡ record s { spare = t.spare } → e0 ≡ e
+pub begins_from : (s t u : Tables) (job : Job) (out : Outcome) (e e0 e1 : List Entry) → t ≡ s → e0 ≡ e
     → Begins t u job out e0 e1 → Begins s u job out e e1
 begins_from s t u job out e e0 e1 same is h =
-    begins_spare s u t.spare job out e e1
-    (subst (λ x. Begins x u job out e e1) same (subst (λ es. Begins t u job out es e1) is h))
+    subst (λ x. Begins x u job out e e1) same (subst (λ es. Begins t u job out es e1) is h)
 
 pub ok_map : {X E : Type 0} (r : Result X E) (P Q : X → Type 0) → IfOk r P → ((x : X) → P x → Q x) → IfOk r Q
 ok_map (Ok x) P Q h f = f x h

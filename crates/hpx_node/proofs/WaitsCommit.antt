@@ -19,15 +19,14 @@ use Rattle.hpx_node.specs.declared.node.finish.Prepared.{Prepared}
 use Rattle.hpx_tables.specs.Fit.{IsKept, IsFitDue}
 use Rattle.hpx_tables.specs.Awaited.{answered_by}
 use Rattle.hpx_tables.specs.Births.{IsBirth, Makes, births_of, objects_of, ids_of}
-use Rattle.hpx_node.specs.Changes.{AreAlike}
+use Rattle.hpx_node.specs.Changes.{}
 use Rattle.hpx_tables.specs.Splits.{splits_from}
 use Rattle.hpx_node.specs.Commits.{written, ups, committed_from, committed_to, IsPrepared, Commits}
-use Rattle.hpx_node.specs.Paused.{IsPaused, ArePaused}
+use Rattle.hpx_steps.specs.Rest.{IsPaused, ArePaused, IsTidy, StandsWith, rules_of}
 use Rattle.hpx_tables.specs.declared.pending.Asked.{Asked}
 use Rattle.hpx_tables.specs.Pending.{Waits, action_of, ids_named, own_ids, is_asked}
 use Rattle.hpx_node.specs.Resumes.{full_stock, MayResume}
-use Rattle.hpx_node.specs.Routes.{with_left}
-use Rattle.hpx_node.specs.Stands.{IsTidy, StandsWith, rules_of}
+use Rattle.hpx_steps.specs.Calls.{with_left}
 use Rattle.hpx_tables.specs.Tables.{Tables}
 use Rattle.hpx_tables.proofs.Alls.{all_at, some_same}
 use Rattle.hpx_node.proofs.SplitHand.{none_asked}
@@ -175,19 +174,19 @@ module _ (act_of : ℕ → ℕ → ℕ → State → Act → Outcome)
 
   module _ (t1 t2 : Tables) (made : Makes p.births.items [] t t1) (pending : t2.pending ≡ remove t1.pending i)
       (objects : (x : Standing) → slice_get t1.objects j ≡ Some x → t2.objects ≡ set t1.objects j (record { object = x.object; state = p.plan.state }))
-      (rest : t2 ≡ record t1 { pending = t2.pending; objects = t2.objects; answered = t1.answered + answered_by (option_map action_of (slice_get t1.pending i)); spare = t2.spare })
+      (rest : t2 ≡ record t1 { pending = t2.pending; objects = t2.objects; answered = t1.answered + answered_by (option_map action_of (slice_get t1.pending i)) })
       (e0 e1 e2 : List Entry)
       (first : e1 ≡ e0 ++ at_all t.here (births_of t.here t.births p.births.items ++ splits_from 0 p.stock.hand p.stock.places))
       (done : (v : Waits) → slice_get t1.pending i ≡ Some v → e2 ≡ e1 ++ at_all t1.here (Done (name_of v.job.action) false ∷ [])) where
     still_waits : slice_get t1.pending i ≡ Some w
     still_waits = ap (λ (x : Tables). slice_get x.pending i) made.rest ∙ k.there
 
-    rest_is : t2 ≡ record t1 { running = t.running; pending = remove t.pending i; objects = t2.objects; answered = t1.answered + answered_by (Some w.job.action); spare = t2.spare }
+    rest_is : t2 ≡ record t1 { running = t.running; pending = remove t.pending i; objects = t2.objects; answered = t1.answered + answered_by (Some w.job.action) }
     rest_is =
         rest
-        ∙ (ap (λ o. record t1 { pending = t2.pending; objects = t2.objects; answered = t1.answered + answered_by (option_map action_of o); spare = t2.spare }) still_waits
-        ∙ (ap (λ ws. record t1 { pending = ws; objects = t2.objects; answered = t1.answered + answered_by (Some w.job.action); spare = t2.spare }) (pending ∙ ap (λ (x : Tables). remove x.pending i) made.rest)
-        ∙ ap (λ rs. record t1 { running = rs; pending = remove t.pending i; objects = t2.objects; answered = t1.answered + answered_by (Some w.job.action); spare = t2.spare }) (ap (λ (x : Tables). x.running) made.rest)))
+        ∙ (ap (λ o. record t1 { pending = t2.pending; objects = t2.objects; answered = t1.answered + answered_by (option_map action_of o) }) still_waits
+        ∙ (ap (λ ws. record t1 { pending = ws; objects = t2.objects; answered = t1.answered + answered_by (Some w.job.action) }) (pending ∙ ap (λ (x : Tables). remove x.pending i) made.rest)
+        ∙ ap (λ rs. record t1 { running = rs; pending = remove t.pending i; objects = t2.objects; answered = t1.answered + answered_by (Some w.job.action) }) (ap (λ (x : Tables). x.running) made.rest)))
 
     done_is : e2 ≡ e1 ++ at_all t1.here (Done (name_of w.job.action) false ∷ [])
     done_is = done w still_waits
@@ -242,7 +241,7 @@ module _ (act_of : ℕ → ℕ → ℕ → State → Act → Outcome)
           committed_light t w.job w.outcome k.was.job few k.laws p is t.here,
         )
 
-    pub waits_commits : (u : Tables) → AreAlike u (with_left p.plan.due.items p.plan.ups.items t2)
+    pub waits_commits : (u : Tables) → u ≡ with_left p.plan.due.items p.plan.ups.items t2
         → Commits w.job w.outcome (full_stock t w) j (record t { pending = remove t.pending i }) u
     waits_commits u alike =
         let less = record t { pending = remove t.pending i } in
@@ -252,6 +251,6 @@ module _ (act_of : ℕ → ℕ → ℕ → State → Act → Outcome)
           found = k.was.found;
           goes = all_committed act_of blind t w.job w.outcome k.was.job few k.laws k.right p is j t.running (remove t.pending i) ends t1 t2 made objects rest_is e0 e1 e2
               first done_is u alike
-              ∙ (ap (λ (x : Standing). record (committed_to w.job w.outcome p.stock j x less) { spare = u.spare }) same
-              ∙ ap (λ (s : Stock). record (committed_to w.job w.outcome s j k.was.standing less) { spare = u.spare }) k.may.stock);
+              ∙ (ap (λ (x : Standing). committed_to w.job w.outcome p.stock j x less) same
+              ∙ ap (λ (s : Stock). committed_to w.job w.outcome s j k.was.standing less) k.may.stock);
         }

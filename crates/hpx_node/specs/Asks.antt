@@ -13,12 +13,11 @@ use Rattle.hpx_part.specs.Data.{Event, Entry, Token}
 use Rattle.hpx_commit.specs.Stocks.{Stock, ahead, short_places, stripped}
 use Rattle.hpx_tables.specs.Splits.{first_cuts, asked_events}
 use Rattle.hpx_node.specs.Commits.{made_of, places_in_hand}
-use Rattle.hpx_node.specs.Idle.{Row, Asks, unpaid}
+use Rattle.hpx_steps.specs.Rows.{Row, Asks}
+use Rattle.hpx_steps.specs.Rest.{unpaid, waiting, asks, frees, tokens, IsTidy}
 use Rattle.hpx_tables.specs.Jobs.{IsAt}
 use Rattle.hpx_tables.specs.Pending.{Waits, asked_at, waits_with}
-use Rattle.hpx_node.specs.Routes.{with_mail}
-use Rattle.hpx_node.specs.Seen.{waiting, asks, frees, tokens}
-use Rattle.hpx_node.specs.Stands.{IsTidy}
+use Rattle.hpx_steps.specs.Mail.{with_mail}
 use Rattle.hpx_tables.specs.Tables.{Tables}
 use Rattle.hpx_node.specs.Changes.{Writes}
 use Rattle.hpx_node.specs.declared.node.wait.Before.{Before}
@@ -63,9 +62,8 @@ of_ask _ = 0
 
 -- these ids are asked for: an Ask for each is on its way to its home, and nothing else that is seen changes
 pub record AsksFor (ids : List Id) (t t' : Tables) : Type 0 where
-  pub rest : t' ≡ record t { asked = t.asked + length ids; desk = t'.desk; outgoing = t'.outgoing; spare = t'.spare }
-  pub goes : t' ≡ record (with_asks t.here t.asked ids t) { asked = t.asked + length ids; spare = t'.spare }
-  pub spare : t.spare ≤ t'.spare + length ids
+  pub rest : t' ≡ record t { asked = t.asked + length ids; desk = t'.desk; outgoing = t'.outgoing }
+  pub goes : t' ≡ record (with_asks t.here t.asked ids t) { asked = t.asked + length ids }
   pub tidy : (due : List Due) → IsTidy t due → IsTidy t' due
   pub waiting : waiting t' ≡ waiting t
   pub frees : frees t' ≡ frees t
@@ -86,7 +84,6 @@ pub record Pauses (i j : ℕ) (job : Job) (w : Waits) (t t' : Tables) : Type 0 w
     running = remove t.running i;
     objects = set t.objects j (record { object = at.standing.object; state = bare_state job.state });
     pending = t.pending ++ w ∷ [];
-    spare = t'.spare;
   }
 
 -- before a commit waits: its hand, the places that are named there, how many of it are its own, its stock, and what it asks for
@@ -105,6 +102,6 @@ pub record Begins (t t' : Tables) (job : Job) (out : Outcome) (entries entries' 
   pub j : ℕ
   pub paused : Tables
   pub pauses : Pauses i j job (waits_with job out t.localities (asked_at t.asked (short_before t job out)) (stock_before t job out)) t paused
-  pub asks : t' ≡ record (with_asks t.here t.asked (lacking t job out) paused) { asked = t.asked + length (lacking t job out); spare = t'.spare }
+  pub asks : t' ≡ record (with_asks t.here t.asked (lacking t job out) paused) { asked = t.asked + length (lacking t job out) }
   pub some : 1 ≤ length (lacking t job out)
   pub writes : Writes (splits_before t job out ++ asked_events (lacking t job out)) t t' entries entries'

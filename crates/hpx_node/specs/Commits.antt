@@ -15,7 +15,7 @@ use Rattle.hpx_commit.specs.Deals.{log_of, places_named, dealt, AllLast, unnamed
 use Rattle.hpx_commit.specs.Stocks.{Stock, SameNames}
 use Rattle.hpx_node.specs.declared.node.finish.Prepared.{Prepared}
 use Rattle.hpx_tables.specs.Jobs.{IsAt}
-use Rattle.hpx_node.specs.Routes.{with_left}
+use Rattle.hpx_steps.specs.Calls.{with_left}
 use Rattle.hpx_tables.specs.Splits.{splits_from}
 use Rattle.hpx_tables.specs.Tables.{Tables}
 
@@ -107,7 +107,7 @@ pub record Commits (job : Job) (out : Outcome) (s : Stock) (j : ℕ) (t t' : Tab
   pub standing : Standing
   pub stands : slice_get t.objects j ≡ Some standing
   pub found : find (is_standing (target_of job.action)) t.objects ≡ Some standing
-  pub goes : t' ≡ record (committed_to job out s j standing t) { spare = t'.spare }
+  pub goes : t' ≡ committed_to job out s j standing t
 
 -- the job, whose action runs at i, is no longer among those that run: it commits with the stock of its hand
 pub record Ends (t t' : Tables) (job : Job) (out : Outcome) : Type 0 where

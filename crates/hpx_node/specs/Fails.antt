@@ -11,7 +11,7 @@ use Rattle.hpx_node.specs.declared.node.fail.Failing.{Failing}
 use Rattle.hpx_tables.specs.Awaited.{answered_by}
 use Rattle.hpx_node.specs.Commits.{written, ups}
 use Rattle.hpx_tables.specs.Pending.{Waits, awaits, fails_with, hand_with}
-use Rattle.hpx_node.specs.Routes.{Gives, with_left}
+use Rattle.hpx_steps.specs.Calls.{Gives, with_left}
 use Rattle.hpx_tables.specs.Tables.{Tables}
 
 -- the state of its object, as it was, with what is left of its credits
@@ -55,11 +55,11 @@ pub record Fails (i j : ℕ) (t t' : Tables) : Type 0 where
   pub standing : Standing
   pub stands : slice_get t.objects j ≡ Some standing
   pub found : find (is_standing (target_of commit.job.action)) t.objects ≡ Some standing
-  pub rest : t' ≡ record (with_left (due_left commit) (ups_left commit) (record t {
+  pub rest : t' ≡ with_left (due_left commit) (ups_left commit) (record t {
     pending = remove t.pending i;
     objects = set t.objects j (record { object = standing.object; state = state_left commit });
     answered = t.answered + answered_by (Some commit.job.action);
-  })) { spare = t'.spare }
+  })
 
 -- ---- a message that brings the last answer
 

@@ -1,16 +1,14 @@
 -- What a node does with a message that it takes up.
-use Rattle.std.specs.Prelude.{ℕ, Bool, true, List, [], ◌∷◌, ◌++◌, ◌≡◌, ◌≤◌, ◌-◌, ◌+◌, ◌^◌, ◌==◌, nat_lt, if◌then◌else◌, flat_map, length, Option, Some, None}
-use Rattle.std.specs.List.{list_any, find}
-use Rattle.hpx_value.specs.Ids.{bare, same_object}
-use Rattle.hpx_journal.specs.Data.{Id, Parcel, Return, Ask, Give, Free}
+use Rattle.std.specs.Prelude.{ℕ, Bool, true, List, [], ◌∷◌, ◌++◌, ◌≡◌, ◌+◌, ◌==◌, Some, None}
+use Rattle.std.specs.List.{list_any}
+use Rattle.hpx_value.specs.Ids.{same_object}
+use Rattle.hpx_journal.specs.Data.{Id, Parcel, Free}
 use Rattle.hpx_journal.specs.Entries.{Rules}
-use Rattle.hpx_journal.specs.Local.{is_standing}
-use Rattle.hpx_part.specs.Data.{Entry, Event, In, Mail, Count, Returned, Granted, Refused, Given, Freed, Up, Standing}
+use Rattle.hpx_part.specs.Data.{Entry, Event, In, Mail}
 use Rattle.hpx_part.specs.View.{View}
 use Rattle.hpx_part.specs.Shows.{Leads}
-use Rattle.hpx_commit.specs.Deals.{log_of}
 use Rattle.hpx_tables.specs.Tables.{Tables}
-use Rattle.hpx_node.specs.Seen.{view, frees}
+use Rattle.hpx_steps.specs.Rest.{view, frees, IsTidy}
 use Rattle.hpx_parcel.specs.Reading.{parcel_of, IsRefused}
 use Rattle.hpx_node.specs.declared.parts.TakeFault.{TakeFault}
 use Rattle.hpx_node.specs.declared.parts.TakeFault.TheVariants as take_faults
@@ -18,50 +16,10 @@ use Rattle.hpx_node.specs.declared.parts.DeskFault.{DeskFault}
 use Rattle.hpx_node.specs.declared.parts.DeskFault.TheVariants as desk_faults
 use Rattle.hpx_node.specs.Changes.{Writes}
 use Rattle.hpx_tables.specs.Strange.{broken}
-use Rattle.hpx_tables.specs.Kept.{count_here}
-use Rattle.hpx_node.specs.Stands.{IsTidy}
-pub use Rattle.hpx_node.specs.Idle.{kind_of}
+use Rattle.hpx_steps.specs.Rows.{kind_of}
 use Rattle.hpx_node.specs.Idle.{Pays, PaysFor}
-pub use Rattle.hpx_node.specs.Routes.{more_here}
-use Rattle.hpx_node.specs.Routes.{with_returns, DealsWith, Accepts}
+use Rattle.hpx_steps.specs.Calls.{with_returns, DealsWith, Accepts, Leaves, effects, ups}
 use Rattle.hpx_node.specs.Next.{Continues}
-use Rattle.hpx_node.specs.Recounts.{Leaves}
-
--- ---- what it writes
-
--- an id is given up, if it has a credit
-abbrev pub up_of : Id → Option ℕ → List Event
-up_of id None = []
-up_of id (Some log) = Up (bare id) log ∷ []
-
--- these ids are given up
-abbrev pub ups : List Id → List Event
-ups ids = flat_map (λ id. up_of id id.log) ids
-
--- an id came home
-abbrev pub returned : Tables → Id → Option ℕ → List Event
-returned t id None = []
-returned t id (Some log) = Count (bare id) (count_here t id - 2 ^ log) (Returned log) ∷ []
-
--- more credit was asked for
-abbrev pub answered : Tables → Id → List Event
-answered t id =
-    (if nat_lt t.profile.credit_limit (more_here t id)
-    then Count (bare id) (count_here t id) Refused
-    else Count (bare id) (more_here t id) Granted) ∷ []
-
--- a dead object is freed, and the ids of its state are given up
-abbrev pub freed : Id → Option Standing → List Event
-freed o None = []
-freed o (Some x) = Freed o ∷ ups x.state.ids
-
--- what is written behind the entry that takes up the message
-abbrev pub effects : Tables → Parcel → List Event
-effects t (Return id) = returned t id id.log
-effects t (Ask id asker entry) = answered t id
-effects t (Give id entry) = Given (bare id) (log_of id.log) ∷ []
-effects t (Free o) = freed o (find (is_standing o) t.objects)
-effects t _ = []
 
 -- ---- what is seen meanwhile
 
@@ -108,12 +66,11 @@ pub record Handles (r : Rules) (p : Parcel) (t t' : Tables) (events : List Event
 
 -- these ids, which were named nowhere, are given up: each is in a message to its home
 pub record GivesUp (r : Rules) (ids : List Id) (t t' : Tables) : Type 0 where
-  pub rest : t' ≡ record t { desk = t'.desk; outgoing = t'.outgoing; spare = t'.spare }
-  pub spare : t.spare ≤ t'.spare + length ids
+  pub rest : t' ≡ record t { desk = t'.desk; outgoing = t'.outgoing }
   pub tidy : IsTidy t' []
   pub leads : (loose : List Id) → Leads r (view t [] (ids ++ loose)) (ups ids) (view t' [] loose)
   pub pays : Pays r t t' (ups ids)
-  pub goes : t' ≡ record (with_returns ids t) { spare = t'.spare }
+  pub goes : t' ≡ with_returns ids t
 
 -- ---- frames and messages to the own locality
 

@@ -11,7 +11,7 @@ use Rattle.hpx_node.specs.declared.node.finish.Prepared.{Prepared}
 use Rattle.hpx_node.specs.declared.node.resume.Ready.{Ready}
 use Rattle.hpx_node.specs.Commits.{made_of, committed_from, IsPrepared, Commits}
 use Rattle.hpx_tables.specs.Pending.{Waits, ids_named, awaits, waits_for_one, hand_with}
-use Rattle.hpx_node.specs.Routes.{Gives}
+use Rattle.hpx_steps.specs.Calls.{Gives}
 use Rattle.hpx_tables.specs.Tables.{Tables}
 
 -- ---- a commit for which all has come

@@ -16,11 +16,11 @@ ghost use Rattle.hpx_commit.specs.Stocks.{Stock, ahead};
 ghost use Rattle.hpx_tables.specs.Splits.{first_cuts, splits_from};
 ghost use Rattle.hpx_tables.specs.Awaited.{awaited_here, awaited_at};
 ghost use Rattle.hpx_tables.specs.Tables.{Tables, IsPassive, fired_acts};
-ghost use Rattle.hpx_node.specs.Idle.{Row, goes, causes, hops, sets_out, unpaid};
+ghost use Rattle.hpx_steps.specs.Rows.{Row, goes, causes, hops, sets_out};
+ghost use Rattle.hpx_steps.specs.Rest.{unpaid, StandsWith};
 ghost use Rattle.hpx_tables.specs.Free.{NoneIsFree};
-ghost use Rattle.hpx_node.specs.Limits.{IsWithin, AddsATurn};
+ghost use Rattle.hpx_steps.specs.Limits.{IsWithin, AddsATurn};
 ghost use Rattle.hpx_tables.specs.Kept.{stands_here, held_here, owed_here, held_worth, owed_worth};
-ghost use Rattle.hpx_node.specs.Stands.{StandsWith};
 
 /// Between calls nothing of the part is fresh, and nothing is due, up to a foreign arrival. Nothing accepted is stuck: where nothing
 /// runs and no commit waits, some accepted action is free, if there is one.

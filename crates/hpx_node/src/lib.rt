@@ -5,5 +5,3 @@
 pub mod law;
 pub mod node;
 pub mod parts;
-#[cfg(test)]
-mod tests;

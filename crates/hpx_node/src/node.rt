@@ -6,12 +6,12 @@ ghost use Rattle.hpx_journal.specs.Roots.{roots};
 ghost use Rattle.hpx_parcel.specs.Parcels.{IsParcel};
 ghost use Rattle.hpx_tables.specs.Fit.{IsFit};
 ghost use Rattle.hpx_tables.specs.Tables.{IsPassive};
-ghost use Rattle.hpx_node.specs.Lacks.{Lacks};
+ghost use Rattle.hpx_steps.specs.Rest.{Lacks};
 ghost use Rattle.hpx_node.specs.Orders.{KeepsOrder};
 ghost use Rattle.hpx_node.specs.Stands.{Stands};
 ghost use Rattle.hpx_node.specs.Changes.{Mails, Posts};
-ghost use Rattle.hpx_node.specs.Frames.{MayGoTo};
-ghost use Rattle.hpx_node.specs.Routes.{is_other, moves_on, may_stay, with_mail};
+ghost use Rattle.hpx_steps.specs.Frames.{MayGoTo};
+ghost use Rattle.hpx_steps.specs.Mail.{is_other, moves_on, may_stay, with_mail};
 
 use hpx_agas::records::Records;
 use hpx_journal::local::move_to;
@@ -68,27 +68,29 @@ impl<A: Acts + Copy> Model for Node<A> {
     ghost use Rattle.std.specs.Prelude.{◌≡◌, ◌<◌, ◌≤◌, ◌-◌, [], min, vec_len, vec_capacity};
     ghost use Rattle.std.specs.VecDeque.{deque_len, deque_capacity};
     ghost use Rattle.hpx_value.specs.Profiles.{IsValid};
-    ghost use Rattle.hpx_tables.specs.Tables.{Tables};
+    ghost use Rattle.hpx_node.specs.Locality.{Locality};
 
-    ghost Value = { Tables };
+    ghost Value = { Locality };
 
     ghost view = { λ n. record {
-      here = n.here;
-      localities = n.localities;
-      profile = n.profile;
-      serial = n.serial;
-      accepted = n.accepted.items;
-      running = n.running.items;
-      pending = n.pending.items;
-      asked = n.asked;
-      desk = n.desk.items;
-      outgoing = n.outgoing.items;
-      objects = n.objects.items;
-      births = n.records.births;
-      records = n.records.records;
-      sent = n.sent;
-      taken = n.taken;
-      answered = n.answered;
+      tables = record {
+        here = n.here;
+        localities = n.localities;
+        profile = n.profile;
+        serial = n.serial;
+        accepted = n.accepted.items;
+        running = n.running.items;
+        pending = n.pending.items;
+        asked = n.asked;
+        desk = n.desk.items;
+        outgoing = n.outgoing.items;
+        objects = n.objects.items;
+        births = n.records.births;
+        records = n.records.records;
+        sent = n.sent;
+        taken = n.taken;
+        answered = n.answered;
+      };
       spare = min (min (deque_capacity n.accepted - deque_len n.accepted) (deque_capacity n.desk - deque_len n.desk))
           (min (deque_capacity n.outgoing - deque_len n.outgoing) (min (vec_capacity n.running - vec_len n.running)
           (min (vec_capacity n.pending - vec_len n.pending) (min (vec_capacity n.objects - vec_len n.objects) n.records.spare))));
@@ -104,15 +106,15 @@ impl<A: Acts + Copy> Node<A> {
         requires here { here < A.count acts }
         requires few { A.count acts ≤ 64 }
         requires profile { IsValid profile }
-        ensures here { IfOk result (λ n. n.here ≡ here) }
-        ensures localities { IfOk result (λ n. n.localities ≡ A.count acts) }
-        ensures profile { IfOk result (λ n. n.profile ≡ profile) }
-        ensures objects { IfOk result (λ n. n.objects ≡ roots n.localities n.here) }
-        ensures passive { IfOk result IsPassive }
-        ensures lacks { IfOk result Lacks }
-        ensures orderly { IfOk result (λ n. KeepsOrder A.act_of n []) }
-        ensures frames { IfOk result (λ n. (n.sent ≡ 0) × (n.taken ≡ 0)) }
-        ensures stands { IfOk result (λ n. Stands A.act_of n []) }
+        ensures here { IfOk result (λ n. n.tables.here ≡ here) }
+        ensures localities { IfOk result (λ n. n.tables.localities ≡ A.count acts) }
+        ensures profile { IfOk result (λ n. n.tables.profile ≡ profile) }
+        ensures objects { IfOk result (λ n. n.tables.objects ≡ roots n.tables.localities n.tables.here) }
+        ensures passive { IfOk result (λ n. IsPassive n.tables) }
+        ensures lacks { IfOk result (λ n. Lacks n.tables) }
+        ensures orderly { IfOk result (λ n. KeepsOrder A.act_of n.tables []) }
+        ensures frames { IfOk result (λ n. (n.tables.sent ≡ 0) × (n.tables.taken ≡ 0)) }
+        ensures stands { IfOk result (λ n. Stands A.act_of n.tables []) }
     {
         let localities = acts.localities();
         let objects = roots(alloc, localities, here)?;
@@ -138,7 +140,7 @@ impl<A: Acts + Copy> Node<A> {
 
     /// Makes memory for so many more of each.
     fn reserve(&mut self, n: u32) -> Result<(), OutOfMemory>
-        ensures same { self.new ≡ record self.old { spare = self.new.spare } }
+        ensures same { self.new.tables ≡ self.old.tables }
         ensures ok { OnOk result (n ≤ self.new.spare) }
     {
         let more = n as usize;
@@ -154,7 +156,7 @@ impl<A: Acts + Copy> Node<A> {
 
     /// Whether there is another locality of this number.
     fn is_other(&self, to: u32) -> bool
-        ensures { result ≡ is_other self.now to }
+        ensures { result ≡ is_other self.now.tables to }
     {
         to < self.localities && to != self.here
     }
@@ -162,10 +164,11 @@ impl<A: Acts + Copy> Node<A> {
     /// Sends a message: to another locality if there is one of this number, else to the own desk.
     fn mail(&mut self, to: u32, letter: Letter)
         requires fit { IsParcel letter }
-        requires may { MayGoTo self.old.here to letter }
+        requires may { MayGoTo self.old.tables.here to letter }
         requires spare { 1 ≤ self.old.spare }
-        ensures mails { Mails letter self.old self.new }
-        ensures goes { self.new ≡ record (with_mail to letter self.old) { spare = self.new.spare } }
+        ensures mails { Mails letter self.old.tables self.new.tables }
+        ensures goes { self.new.tables ≡ with_mail to letter self.old.tables }
+        ensures spare { self.old.spare ≤ self.new.spare + 1 }
     {
         if self.is_other(to) {
             self.outgoing
@@ -177,7 +180,7 @@ impl<A: Acts + Copy> Node<A> {
 
     /// Whether an action is a MOVE to elsewhere.
     fn moves_on(&self, act: &Act) -> bool
-        ensures { result ≡ moves_on self.now.here (move_to act.now) }
+        ensures { result ≡ moves_on self.now.tables.here (move_to act.now) }
     {
         match move_to(act) {
             Some(to) => to != self.here,
@@ -187,7 +190,7 @@ impl<A: Acts + Copy> Node<A> {
 
     /// Whether an action may be accepted: its object stands here, and a MOVE is to here.
     fn may_stay(&self, act: &Act) -> bool
-        ensures { result ≡ may_stay self.now act.now }
+        ensures { result ≡ may_stay self.now.tables act.now }
     {
         !self.moves_on(act) && self.holds(target(act))
     }
@@ -196,7 +199,8 @@ impl<A: Acts + Copy> Node<A> {
     fn post(&mut self, act: Act)
         requires fit { IsFit act }
         requires spare { 1 ≤ self.old.spare }
-        ensures { Posts act self.old self.new }
+        ensures posts { Posts act self.old.tables self.new.tables }
+        ensures spare { self.old.spare ≤ self.new.spare + 1 }
     {
         let home = target(&act).home();
         let stays = self.may_stay(&act);
@@ -210,7 +214,7 @@ impl<A: Acts + Copy> Node<A> {
 
     /// Whether nothing is to be done here: no action waits or runs, no commit waits, and no message is on its way.
     pub fn is_passive(&self) -> bool
-        ensures { IsTrue result ↔ IsPassive self.now }
+        ensures { IsTrue result ↔ IsPassive self.now.tables }
     {
         self.accepted.is_empty()
             && self.running.is_empty()
@@ -221,28 +225,28 @@ impl<A: Acts + Copy> Node<A> {
 
     /// Which locality it is.
     pub fn here(&self) -> u32
-        ensures { result ≡ self.now.here }
+        ensures { result ≡ self.now.tables.here }
     {
         self.here
     }
 
     /// Whether an action runs here: its job is out.
     pub fn runs(&self) -> bool
-        ensures { IsTrue result ↔ (self.now.running ≢ []) }
+        ensures { IsTrue result ↔ (self.now.tables.running ≢ []) }
     {
         !self.running.is_empty()
     }
 
     /// How many frames have gone.
     pub fn sent(&self) -> u64
-        ensures { result ≡ self.now.sent }
+        ensures { result ≡ self.now.tables.sent }
     {
         self.sent
     }
 
     /// How many frames were accepted.
     pub fn taken(&self) -> u64
-        ensures { result ≡ self.now.taken }
+        ensures { result ≡ self.now.tables.taken }
     {
         self.taken
     }

@@ -8,3 +8,5 @@ pub mod Frames
 pub mod Orders
 pub mod Carriage
 pub mod Counted
+pub mod Words
+pub mod Links

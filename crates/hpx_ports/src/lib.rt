@@ -1,11 +1,13 @@
-//! The outside as traits: sources and sinks of bytes, and fabrics that carry frames.
+//! The outside as traits: sources and sinks of bytes, fabrics that carry frames, and links between members.
 #![tactic(auto)]
 
 pub mod adapters;
 pub mod fabric;
 pub mod fault;
 mod flight;
+pub mod link;
 pub mod memory_fabric;
+pub mod memory_link;
 pub mod memory_sink;
 pub mod memory_source;
 pub mod order;
@@ -15,3 +17,4 @@ pub mod source;
 #[cfg(test)]
 mod tests;
 mod unread;
+pub mod words;

@@ -1,14 +1,19 @@
 use crate::adapters::{ReaderSource, WriterSink};
 use crate::fabric::{Fabric, Wire};
 use crate::fault::{FabricFault, Failed};
+use crate::link::{Link, LinkFault, Post};
 use crate::memory_fabric::{MemFabric, SureFabric};
+use crate::memory_link::MemLink;
 use crate::memory_sink::{MemSink, SureSink};
 use crate::memory_source::{MemSource, SureSource};
 use crate::order::Order;
 use crate::sink::{Sink, write_all};
 use crate::source::Source;
+use crate::words::{EnvWords, all_words};
 use hpx_value::items::{Bytes, Lengths};
 use std::alloc::{AllocError, Global};
+use std::collections::VecDeque;
+use std::env::{Env, FillError};
 use std::test::Fail;
 
 fn bytes(alloc: Global, text: &[u8]) -> Result<Bytes, AllocError> {
@@ -161,5 +166,69 @@ fn faults_are_printed(rt: HostRuntime) -> Result<(), Fail> {
         FabricFault::OutOfMemory
     )?;
     assert_eq!(rt; text.as_str(), "failed, failed, out of memory");
+    Ok(())
+}
+
+// Behind the name there is a word of each of these lengths, all of one letter.
+#[derive(Drop)]
+struct Started([usize; 7]);
+
+impl Env for Started {
+    fn arg(&self, i: usize, buf: &mut [u8]) -> Result<usize, FillError> {
+        let len = match i.checked_sub(1) {
+            None => 3,
+            Some(place) => *self.0.get(place).ok_or(FillError::NotPresent)?,
+        };
+        if len > buf.len() {
+            return Err(FillError::TooLong);
+        }
+        buf[..len].fill(b'w');
+        Ok(len)
+    }
+
+    fn var(&self, _name: &str, _buf: &mut [u8]) -> Result<usize, FillError> {
+        Err(FillError::NotPresent)
+    }
+
+    fn var_at(&self, _i: usize, _buf: &mut [u8]) -> Result<usize, FillError> {
+        Err(FillError::NotPresent)
+    }
+}
+
+#[test]
+fn words_come_whole_and_in_order(rt: HostRuntime) -> Result<(), Fail> {
+    let lengths = [64, 0, 65, 1, 63, 5000, 0];
+    let started = Started(lengths);
+    let words = all_words(rt.alloc(), &EnvWords::new(&started))?;
+    assert_eq!(rt; words.len(), lengths.len());
+    for (word, length) in words.as_slice().iter().zip(&lengths) {
+        assert_eq!(rt; word.len(), *length);
+        assert!(rt; word.as_slice().iter().all(|byte| *byte == b'w'));
+    }
+    Ok(())
+}
+
+// Who sent the next body, and its first byte; 99 where the receive failed.
+fn received(link: &mut MemLink) -> (u32, u8) {
+    match link.recv() {
+        Ok((from, body)) => (from, body.as_slice().first().copied().unwrap_or(98)),
+        Err(_) => (99, 99),
+    }
+}
+
+#[test]
+fn a_link_gives_what_comes_in_order(rt: HostRuntime) -> Result<(), Fail> {
+    let alloc = rt.alloc();
+    let mut coming = VecDeque::new(alloc);
+    coming.push_back((2, bytes(alloc, &[7])?))?;
+    coming.push_back((1, bytes(alloc, &[8])?))?;
+    let mut link = MemLink::new(alloc, coming, calls(alloc, &[2])?, calls(alloc, &[2])?);
+    assert_eq!(rt; link.send(1, &[5]), Ok(()));
+    assert_eq!(rt; link.send(1, &[6]), Err(LinkFault::Failed));
+    for want in [(2, 7), (99, 99), (1, 8), (99, 99)] {
+        assert_eq!(rt; received(&mut link), want);
+    }
+    assert_eq!(rt; link.trace().len(), 3);
+    assert!(rt; matches!(link.trace().first(), Some(Post::Sent { to: 1, body: _ })));
     Ok(())
 }

@@ -42,7 +42,7 @@ records_of here n log (x ∷ xs) =
 
 -- some of these objects were made, and some are left
 pub record Makes (xs left : List Birth) (t t' : Tables) : Type 0 where
-  pub rest : t' ≡ record t { births = t'.births; records = t'.records; objects = t'.objects; spare = t'.spare }
+  pub rest : t' ≡ record t { births = t'.births; records = t'.records; objects = t'.objects }
   pub objects : t'.objects ++ objects_of t'.here t'.births left ≡ t.objects ++ objects_of t.here t.births xs
   pub records : t'.records ++ records_of t'.here t'.births t'.profile.credit_log left
       ≡ t.records ++ records_of t.here t.births t.profile.credit_log xs

@@ -46,5 +46,5 @@ pub record Starts (t t' : Tables) (job : Job) : Type 0 where
   pub state : job.state ≡ standing.state
   pub accepted : t'.accepted ≡ remove t.accepted i
   pub running : t'.running ≡ t.running ++ job.action ∷ []
-  pub rest : t' ≡ record t { accepted = t'.accepted; running = t'.running; spare = t'.spare }
+  pub rest : t' ≡ record t { accepted = t'.accepted; running = t'.running }
   pub runs : IsRunning t' job

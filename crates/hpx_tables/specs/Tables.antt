@@ -1,4 +1,4 @@
--- A node as clauses see it: what it keeps, and for how much more it has memory.
+-- A node as clauses see it: what it keeps.
 use Rattle.std.specs.Prelude.{ℕ, List, [], ◌++◌, ◌≡◌, map}
 use Rattle.hpx_value.specs.declared.profile.Profile.{Profile}
 use Rattle.hpx_journal.specs.Data.{Act, Parcel}
@@ -24,7 +24,6 @@ pub record Tables : Type 0 where
   pub sent : ℕ  -- frames gone
   pub taken : ℕ  -- frames accepted
   pub answered : ℕ  -- answers that the session has had
-  pub spare : ℕ
 
 -- the messages that are on their way, to here or to others
 abbrev pub messages : Tables → List Parcel

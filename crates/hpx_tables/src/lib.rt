@@ -10,5 +10,3 @@ pub mod kept;
 pub mod pending;
 pub mod splits;
 pub mod strange;
-#[cfg(test)]
-mod tests;

@@ -1,14 +1,12 @@
 -- A text that is fed, and how serving it ends.
 use Rattle.std.specs.Prelude.{◌⊎◌, Result, Ok, Err, OnOk, OnErr, IfErr, ◌≢◌}
 use Rattle.std.specs.List.{concat, slice_get, AllByRecursion}
-use Rattle.std.proofs.Common.{ℕ, zero, suc, Bool, cond, List, [], ◌∷◌, ◌++◌, ◌≡◌, ◌+◌, ◌≤◌, length, drop, set, Option, Some, refl, sym, ap, ◌∙◌, subst, inl, inr, arith, lit≤, append_assoc}
-use Rattle.std.proofs.lemmas.Bool.{cond_both}
+use Rattle.std.proofs.Common.{ℕ, zero, suc, List, [], ◌∷◌, ◌++◌, ◌≡◌, ◌≤◌, length, drop, set, Option, Some, refl, sym, ap, ◌∙◌, subst, inl, inr, arith, lit≤, append_assoc}
 use Rattle.hpx_value.specs.declared.profile.Profile.{Profile}
 use Rattle.hpx_journal.specs.declared.entry.Name.{Name}
 use Rattle.hpx_journal.specs.declared.entry.Entry.{Entry}
 use Rattle.hpx_journal.specs.declared.entry.Event.TheVariants.{Line}
-use Rattle.hpx_journal.specs.Data.{Act, Parcel}
-use Rattle.hpx_journal.specs.Entries.{Rules, target_of, line_act}
+use Rattle.hpx_journal.specs.Entries.{Rules}
 use Rattle.hpx_journal.specs.Natives.{NothingMoves}
 use Rattle.hpx_journal.specs.Pool.{NoneFails, prints_of}
 use Rattle.hpx_journal.specs.Sessions.{BeginsWith}
@@ -17,9 +15,7 @@ use Rattle.hpx_journal.specs.Weights.{HasRoom}
 use Rattle.hpx_journal.proofs.Ample.{legal_ample}
 use Rattle.hpx_journal.proofs.Sessions.{quiet_settled}
 use Rattle.hpx_journal.proofs.Start.{quiet_fires, quiet_dones}
-use Rattle.hpx_tables.specs.Fit.{parcel_for}
-use Rattle.hpx_node.specs.Routes.{may_stay, is_other, with_accepted, with_mail, with_act}
-use Rattle.hpx_node.specs.Stands.{rules_of}
+use Rattle.hpx_steps.specs.Rest.{rules_of}
 use Rattle.hpx_tables.specs.Tables.{Tables, IsPassive}
 use Rattle.hpx_ports.specs.Told.{followed}
 use Rattle.hpx_world.specs.declared.turns.Turned.{Turned}
@@ -84,15 +80,6 @@ fed_once text old new f =
 
 -- ---- feeding hands no job out
 
-mail_running : (b : Bool) (to : ℕ) (p : Parcel) (t : Tables)
-    → (cond b (record t { outgoing = t.outgoing ++ record { to = to; parcel = p } ∷ [] }) (record t { desk = t.desk ++ p ∷ [] })).running ≡ t.running
-mail_running b to p t = cond_both b _ _ (λ (x : Tables). x.running ≡ t.running) (λ e. refl) (λ e. refl)
-
-act_running : (act : Act) (t : Tables) → (with_act act t).running ≡ t.running
-act_running act t =
-    cond_both (may_stay t act) (with_accepted act t) (with_mail (target_of act).home (parcel_for act) t) (λ (x : Tables). x.running ≡ t.running) (λ e. refl)
-    (λ e. mail_running (is_other t (target_of act).home) (target_of act).home (parcel_for act) t)
-
 passive_runs : (nodes : List Tables) → AllByRecursion IsPassive nodes → NoneRuns nodes
 passive_runs [] h = tt
 passive_runs (t ∷ ts) h = ((h.0).running, passive_runs ts h.1)
@@ -110,7 +97,7 @@ get_runs (x ∷ xs) (suc k) t h at = get_runs xs k t h.1 at
 fed_runs : (text : List ℕ) (nodes nodes' : List Tables) (old new : List Entry) → DoneAt 0 (FeedsAt text old new) nodes nodes' → NoneRuns nodes → NoneRuns nodes'
 fed_runs text nodes nodes' old new d none =
     let same : d.after.running ≡ d.before.running =
-    ap (λ (x : Tables). x.running) d.does.waits ∙ act_running (line_act (next_name d.before) text) (record d.before { serial = d.before.serial + 1 }) in
+    ap (λ (x : Tables). x.running) d.does.waits in
     subst NoneRuns (sym d.others) (set_runs nodes 0 d.after none (same ∙ get_runs nodes 0 d.before none d.there))
 
 pub none_out : (text : List ℕ) (t : Turned) (nodes nodes' : List Tables) (old new : List Entry) → DidFeed text t nodes nodes' old new

@@ -7,3 +7,4 @@ pub mod FeedLemmas
 pub mod ShowLemmas
 pub mod EndLemmas
 pub mod RunLemmas
+pub mod WorldFaults

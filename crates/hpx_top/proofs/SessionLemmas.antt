@@ -12,7 +12,7 @@ use Rattle.hpx_journal.specs.Whole.{IsLegal, replayed}
 use Rattle.hpx_journal.specs.Pool.{NoneFails, prints_of}
 use Rattle.hpx_journal.specs.Sessions.{IsSession, IsSettled, entries_of, shown}
 use Rattle.hpx_journal.proofs.Sessions.{session_grows, entries_append, shown_append}
-use Rattle.hpx_node.specs.Stands.{rules_of}
+use Rattle.hpx_steps.specs.Rest.{rules_of}
 use Rattle.hpx_parcel.specs.Reading.{parcel_of}
 use Rattle.hpx_ports.specs.Told.{preceded, followed}
 use Rattle.hpx_world.proofs.Sound.{spells_well}

@@ -1,5 +1,5 @@
 -- What a run answers, and what it says of it.
-use Rattle.std.specs.Prelude.{ℕ, List, [], ◌∷◌, ◌++◌, ◌+◌, ◌==◌, ◌≢◌, ◌≤◌, codes, Result, Ok, Err, if◌then◌else◌}
+use Rattle.std.specs.Prelude.{ℕ, List, [], ◌==◌, ◌≢◌, ◌≤◌, codes, Result, Ok, Err, if◌then◌else◌}
 use Rattle.hpx_top.specs.declared.session.SessionFault.{SessionFault}
 use Rattle.hpx_top.specs.declared.session.SessionFault.TheVariants.{Read, Write, Fabric, JournalFull, OutOfMemory, BadFrame, Strange, InputFull}
 
@@ -24,10 +24,6 @@ pub record IsStatus (status : ℕ) : Type 0 where
   pub last : status ≤ 9
   pub no_frame : status ≢ 7
   pub no_parcel : status ≢ 8
-
--- the line for a word that is refused, by its place
-abbrev pub word_line : ℕ → List ℕ
-word_line place = codes "hpx: bad word " ++ (48 + place) ∷ 10 ∷ []
 
 -- the line for a status, none for 0
 abbrev pub status_line : ℕ → List ℕ

@@ -2,7 +2,7 @@
 ghost use Rattle.std.specs.Prelude.{◌≡◌, ◌≢◌, ◌≤◌, ◌<◌, ◌+◌, ◌⊎◌, [], Ok, Some, None, Err, IfSome, IfErr, OnOk, OnErr, ℕ, length};
 ghost use Rattle.hpx_journal.specs.Weights.{HasRoom};
 ghost use Rattle.hpx_journal.specs.Whole.{replayed};
-ghost use Rattle.hpx_node.specs.Limits.{IsWithin};
+ghost use Rattle.hpx_steps.specs.Limits.{IsWithin};
 ghost use Rattle.hpx_ports.specs.Faults.{Rose};
 ghost use Rattle.hpx_ports.specs.Told.{followed};
 ghost use Rattle.hpx_world.specs.Audit.{audit_lines, IsAudit, StandAtHome};
@@ -10,18 +10,22 @@ ghost use Rattle.hpx_world.specs.Away.{IsCarrying};
 ghost use Rattle.hpx_world.specs.Promises.{KeepsPromises};
 ghost use Rattle.hpx_top.specs.Ends.{IsWhole, IsBrokenOff, IsBrokenIn, IsBrokenAtOpening, IsBegun, IsEndedBy, IsReadFrom, IsReadUp, IsReadOn, IsInputFull};
 ghost use Rattle.hpx_top.specs.Session.{rules, profile, AllGranted, AllDone, IsRested, WritesFront, entries_in};
-ghost use Rattle.hpx_top.specs.Statuses.{IsStatus, status_of, status_line, word_line};
-ghost use Rattle.hpx_top.specs.Usage.{bad_word};
+ghost use Rattle.hpx_options.specs.Texts.{bad_word_text};
+ghost use Rattle.hpx_top.specs.Statuses.{IsStatus, status_of, status_line};
+ghost use Rattle.hpx_top.specs.Usage.{is_usual, is_built, bad_word};
 
 #[cfg(test)]
 mod tests;
 
 use crate::session::{SessionFault, serve};
 use app_console::acts::ConsoleActs;
+use hpx_options::options::read;
+use hpx_options::settings::{App, Mode, OptionFault, Settings};
+use hpx_options::texts;
 use hpx_ports::fabric::Fabric;
 use hpx_ports::sink::{Sink, write_all};
 use hpx_ports::source::Source;
-use hpx_value::items::{Text, Texts};
+use hpx_value::items::Texts;
 use hpx_value::profile::Profile;
 use hpx_world::world::World;
 use std::alloc::Global;
@@ -34,11 +38,6 @@ pub struct End<F: Fabric> {
     pub fabric: F,
 }
 
-/// The words of the one application that there is.
-const ACCUMULATOR: &[u8] = b"accumulator";
-
-const TWO_LOCALITIES: &[u8] = b"--hpx:localities=2";
-
 /// A new object has the most credit that an id can have, and no count comes near the greatest one.
 const PROFILE: Profile = Profile {
     credit_log: 31,
@@ -46,30 +45,36 @@ const PROFILE: Profile = Profile {
     cache: 64,
 };
 
-/// The place, from 1, of the first word that is not what it must be; 0 where a word is missing.
-pub fn bad_word(words: &[Text]) -> Option<u8>
-    ensures { result ≡ bad_word words.now }
+/// Whether what the words mean is built: the accumulator over two localities, with all else as usual.
+fn is_built(settings: &Settings) -> bool
+    ensures { result ≡ is_built settings.now }
 {
-    match words {
-        [] => Some(0),
-        [first, ..] if first.as_slice() != ACCUMULATOR => Some(1),
-        [_] => Some(0),
-        [_, second, ..] if second.as_slice() != TWO_LOCALITIES => Some(2),
-        [_, _] => None,
-        _ => Some(3),
-    }
+    matches!(settings.app, App::Accumulator)
+        && settings.localities == 2
+        && settings.threads == 1
+        && matches!(settings.mode, Mode::Hosted)
+        && is_usual(settings.profile)
+        && settings.counters.is_empty()
+        && !settings.settle
+        && !settings.journal
 }
 
-/// The line for words that are refused.
-fn usage_line(place: u8) -> &'static [u8]
-    requires { place ≤ 3 }
-    ensures { result.now ≡ word_line place }
+/// Whether credit and cache are as usual. No count comes near the greatest one, which is that of `PROFILE` in a world.
+fn is_usual(profile: Profile) -> bool
+    ensures { result ≡ is_usual profile }
 {
-    match place {
-        0 => b"hpx: bad word 0\n",
-        1 => b"hpx: bad word 1\n",
-        2 => b"hpx: bad word 2\n",
-        _ => b"hpx: bad word 3\n",
+    profile.credit_log == 31 && profile.credit_limit == 1 << 100 && profile.cache == 64
+}
+
+/// The place, from 1, of a word that does not fit; 0 where a word is missing, words clash, or what they mean is not built.
+pub fn bad_word(alloc: Global, words: &Texts) -> Option<u32>
+    ensures { result ≡ bad_word words.now }
+{
+    match read(alloc, words) {
+        Ok(settings) => (!is_built(&settings)).then_some(0),
+        Err(OptionFault::Usage { place }) => Some(place),
+        // Counters alone take memory, and they are not built.
+        Err(OptionFault::OutOfMemory) => Some(0),
     }
 }
 
@@ -173,10 +178,10 @@ pub fn run<S: Source, K: Sink, E: Sink, F: Fabric>(
         × (result.world ≡ None) × (source.new ≡ source.old) × (sink.new ≡ sink.old) × (result.fabric ≡ fabric) }
     ensures usage_only { bad_word words.now ≡ None → result.status ≢ 1 }
     ensures usage_line { (place : ℕ) → bad_word words.now ≡ Some place → (Rose (E.faults err.old) (E.faults err.new) → ⊥) →
-        E.held err.new ≡ followed (E.held err.old) (word_line place) }
+        E.held err.new ≡ followed (E.held err.old) (bad_word_text place) }
     ensures status_line { bad_word words.now ≡ None → (Rose (E.faults err.old) (E.faults err.new) → ⊥) →
         E.held err.new ≡ followed (E.held err.old) (status_line result.status) }
-    ensures usage_front { (place : ℕ) → bad_word words.now ≡ Some place → WritesFront (word_line place) (E.held err.old) (E.held err.new) }
+    ensures usage_front { (place : ℕ) → bad_word words.now ≡ Some place → WritesFront (bad_word_text place) (E.held err.old) (E.held err.new) }
     ensures status_front { bad_word words.now ≡ None → WritesFront (status_line result.status) (E.held err.old) (E.held err.new) }
     ensures silent { result.status ≡ 0 → err.new ≡ err.old }
     ensures no_other { IsStatus result.status }
@@ -226,8 +231,8 @@ pub fn run<S: Source, K: Sink, E: Sink, F: Fabric>(
         (Rose (F.faults fabric) (F.faults result.fabric) → ⊥) → S.taken source.new < S.taken source.old + 67108864 →
         IfSome result.world (λ w. HasRoom w.journal.entries) → (result.status ≡ 0) ⊎ (result.status ≡ 6) }
 {
-    if let Some(place) = bad_word(words.as_slice()) {
-        say(err, usage_line(place));
+    if let Some(place) = bad_word(alloc, words) {
+        say(err, texts::bad_word(place).as_str().as_bytes());
         return End {
             status: 1,
             world: None,

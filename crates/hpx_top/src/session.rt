@@ -191,7 +191,9 @@ fn settle<F: Fabric>(
     ensures cause { IfErr result (λ fault. (fault ≡ SessionFault.Fabric) ⊎ (fault ≡ SessionFault.JournalFull) ⊎ (fault ≡ SessionFault.OutOfMemory)) }
     ensures stands { result ≢ Err SessionFault.Fabric → F.faults fabric.new ≡ F.faults fabric.old }
 {
-    match world.drain(alloc, fabric) {
+    let drained = world.drain(alloc, fabric);
+    world.law();
+    match drained {
         Ok(()) => Ok(()),
         Err(fault) => Err(fault_of(fault)),
     }

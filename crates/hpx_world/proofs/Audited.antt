@@ -28,8 +28,8 @@ use Rattle.hpx_journal.proofs.Start.{first, legal_sums}
 use Rattle.hpx_part.specs.Data.{Entry, Token}
 use Rattle.hpx_part.proofs.Keyed.{slice_get_less, counts_of, counts_true, counts_false}
 use Rattle.hpx_tables.specs.Kept.{HasRecords, held_here, held_worth, owed_worth}
-use Rattle.hpx_node.specs.Seen.{counted}
-use Rattle.hpx_node.specs.Stands.{rules_of}
+use Rattle.hpx_steps.specs.Turn.{counted}
+use Rattle.hpx_steps.specs.Rest.{rules_of}
 use Rattle.hpx_tables.specs.Tables.{Tables}
 use Rattle.hpx_tables.proofs.Alls.{all_append, all_at}
 use Rattle.hpx_node.proofs.Numbers.{held_shown}

@@ -1,14 +1,20 @@
 -- Nodes at boot.
 use Rattle.std.proofs.Common.{ℕ, zero, suc, List, [], ◌∷◌, ◌++◌, ◌≡◌, ◌≤◌, Some, length, refl, sym, ap, ◌∙◌, subst, inl, inr, ◌⊎◌, arith}
 use Rattle.std.specs.List.{slice_get, sum_by, AllByRecursion}
+use Rattle.std.proofs.lemmas.List.{map-append}
 use Rattle.std.proofs.lemmas.List.Sums.{sum_by-cons, sum_by-append}
 use Rattle.hpx_value.specs.declared.profile.Profile.{Profile}
-use Rattle.hpx_node.specs.Lacks.{Lacks}
+use Rattle.hpx_steps.specs.Rest.{Lacks}
+use Rattle.hpx_node.specs.Locality.{Locality, tables_of}
 use Rattle.hpx_node.specs.Orders.{KeepsOrder}
 use Rattle.hpx_node.specs.Stands.{Stands}
 use Rattle.hpx_tables.specs.Tables.{Tables, IsPassive}
 use Rattle.hpx_world.specs.Quiet.{NoneRuns}
 use Rattle.hpx_world.specs.Sound.{Meaning, StandsAt, IsSound}
+
+-- one node more
+pub tables_push : (xs : List Locality) (v : Locality) → tables_of (xs ++ v ∷ []) ≡ tables_of xs ++ v.tables ∷ []
+tables_push xs v = map-append (λ (n : Locality). n.tables) xs (v ∷ [])
 
 pub record AreBooted (act_of : Meaning) (profile : Profile) (n : ℕ) (nodes : List Tables) : Type 0 where
   pub each : (k : ℕ) (t : Tables) → slice_get nodes k ≡ Some t → StandsAt act_of n profile k t []

@@ -1,5 +1,5 @@
 -- What a call of one node says, said of all localities.
-use Rattle.std.proofs.Common.{true, false, Bool, ℕ, zero, suc, List, [], ◌∷◌, ◌++◌, ◌≡◌, ◌<◌, Some, None, Ok, Err, Option, Result, refl, sym, ap, ◌∙◌, subst, arith, length, get_or, set, map, append-nil}
+use Rattle.std.proofs.Common.{true, false, Bool, ℕ, zero, suc, List, [], ◌∷◌, ◌++◌, ◌≡◌, ◌<◌, Some, None, Ok, Err, Option, Result, refl, sym, ap, ◌∙◌, subst, arith, length, get_or, set, append-nil}
 use Rattle.std.specs.Option.{IfSome, IfNone}
 use Rattle.std.specs.Result.{IfOk, IfErr, OnOk, OnErr}
 use Rattle.std.specs.List.{slice_get}
@@ -14,19 +14,24 @@ use Rattle.hpx_tables.specs.Splits.{asked_events}
 use Rattle.hpx_node.specs.Asks.{Begins, splits_before, lacking}
 use Rattle.hpx_node.specs.Changes.{Writes, OnlySpare}
 use Rattle.hpx_node.specs.Commits.{committed}
-use Rattle.hpx_node.specs.Handled.{Clears, effects, kind_of}
-use Rattle.hpx_node.specs.Lacks.{Lacks}
-use Rattle.hpx_node.specs.Limits.{IsWithin}
+use Rattle.hpx_steps.specs.Calls.{effects}
+use Rattle.hpx_steps.specs.Rows.{kind_of}
+use Rattle.hpx_node.specs.Handled.{Clears}
+use Rattle.hpx_steps.specs.Rest.{Lacks, rules_of, Stands as RestsSound}
+use Rattle.hpx_steps.proofs.AtRest.{rest_stands, sound_at_rest}
+use Rattle.hpx_steps.specs.Limits.{IsWithin}
+use Rattle.hpx_node.specs.Locality.{Locality, tables_of}
 use Rattle.hpx_node.specs.Orders.{KeepsOrder}
-use Rattle.hpx_node.specs.Stands.{Stands, rules_of}
+use Rattle.hpx_node.specs.Stands.{Stands}
 use Rattle.hpx_tables.specs.Tables.{Tables}
 use Rattle.hpx_node.specs.declared.parts.Finished.{Finished}
 use Rattle.hpx_node.specs.declared.parts.Finished.TheVariants.{Committed, Asking, NotRunning}
 use Rattle.hpx_world.specs.Away.{IsInside}
 use Rattle.hpx_world.specs.Quiet.{running_in}
-use Rattle.hpx_world.specs.Sound.{Meaning, IsSound, IsSame, DoneAt, without_spare}
+use Rattle.hpx_world.specs.Sound.{Meaning, StandsAt, IsSound, IsSame, DoneAt}
 use Rattle.hpx_world.proofs.Growth.{AreInner, plain_inner, inside_of}
 use Rattle.hpx_world.proofs.Plain.{committed_plain, begins_plain, dealt_plain}
+use Rattle.hpx_world.proofs.Tabled.{tables_get}
 use Rattle.hpx_world.proofs.Sound.{some_is, sound_at, sound_grows}
 
 -- ---- results
@@ -41,11 +46,15 @@ IfErr-map (Err e) P Q f h = f e h
 
 -- ---- a list with one node changed
 
-same_set : (xs : List Tables) (k : ℕ) (t t' : Tables) → t ≡ get_or xs k t → k < length xs → without_spare t' ≡ without_spare t
-    → map without_spare (set xs k t') ≡ map without_spare xs
-same_set [] k t t' is lt h = absurd (omega arith)
-same_set (x ∷ xs) zero t t' is lt h = ap (λ y. y ∷ map without_spare xs) (h ∙ ap without_spare is)
-same_set (x ∷ xs) (suc k) t t' is lt h = ap (λ ys. without_spare x ∷ ys) (same_set xs k t t' is (omega arith) h)
+tables_set : (xs : List Locality) (k : ℕ) (v : Locality) → tables_of (set xs k v) ≡ set (tables_of xs) k v.tables
+tables_set [] k v = refl
+tables_set (x ∷ xs) zero v = refl
+tables_set (x ∷ xs) (suc k) v = ap (λ ys. x.tables ∷ ys) (tables_set xs k v)
+
+set_back : (xs : List Tables) (k : ℕ) (t : Tables) → t ≡ get_or xs k t → set xs k t ≡ xs
+set_back [] k t is = refl
+set_back (x ∷ xs) zero t is = ap (λ y. y ∷ xs) is
+set_back (x ∷ xs) (suc k) t is = ap (λ ys. x ∷ ys) (set_back xs k t is)
 
 set_running : (xs : List Tables) (k : ℕ) (t : Tables) → running_in (set xs k t) ≡ set (running_in xs) k t.running
 set_running [] k t = refl
@@ -64,29 +73,34 @@ set_own (x ∷ xs) (suc k) = ap (λ ys. x ∷ ys) (set_own xs k)
 
 -- ---- the node at k, which a call changes
 
-module _ (nodes : List Tables) (k : ℕ) (t t' : Tables) (lt : k < length nodes) (is : t ≡ get_or nodes k t) where
-  there : slice_get nodes k ≡ Some t
-  there = slice_get_is nodes k t lt is
+module _ (nodes : List Locality) (k : ℕ) (v v' : Locality) (lt : k < length (tables_of nodes)) (is : v ≡ get_or nodes k v) where
+  abbrev ts : List Tables
+  ts = tables_of nodes
 
-  pub got_at : (x : Tables) → slice_get nodes k ≡ Some x → t ≡ x
-  got_at x g = some_is t x (sym there ∙ g)
+  pub there_at : slice_get ts k ≡ Some v.tables
+  there_at = slice_get_is ts k v.tables lt (tables_get nodes k v lt is)
+
+  pub got_at : (x : Tables) → slice_get ts k ≡ Some x → v.tables ≡ x
+  got_at x g = some_is v.tables x (sym there_at ∙ g)
 
   -- what is said of it alone
-  pub at_own : (P : Tables → Type 0) → P t → (x : Tables) → slice_get nodes k ≡ Some x → P x
+  pub at_own : (P : Tables → Type 0) → P v.tables → (x : Tables) → slice_get ts k ≡ Some x → P x
   at_own P h x g = subst P (got_at x g) h
 
-  pub done_at : (Does : Tables → Tables → Type 0) → Does t t' → DoneAt k Does nodes (set nodes k t')
-  done_at Does h = record { before = t; after = t'; there = there; does = h; others = refl }
+  pub done_at : (Does : Tables → Tables → Type 0) → Does v.tables v'.tables → DoneAt k Does ts (tables_of (set nodes k v'))
+  done_at Does h = record { before = v.tables; after = v'.tables; there = there_at; does = h; others = tables_set nodes k v' }
 
-  pub same_at : (b b' : Book) → OnlySpare t t' b b' → IsSame nodes (set nodes k t') b.entries b'.entries
+  pub same_at : (b b' : Book) → OnlySpare v.tables v'.tables b b' → IsSame ts (tables_of (set nodes k v')) b.entries b'.entries
   same_at b b' s = record {
-    tables = same_set nodes k t t' is lt (ap without_spare s.tables);
+    tables = tables_set nodes k v' ∙ (ap (set ts k) s.tables ∙ set_back ts k v.tables (tables_get nodes k v lt is));
     journal = s.entries;
   }
 
-  pub running_at : t'.running ≡ t.running → running_in (set nodes k t') ≡ running_in nodes
+  pub running_at : v'.tables.running ≡ v.tables.running → running_in (tables_of (set nodes k v')) ≡ running_in ts
   running_at h =
-      set_running nodes k t' ∙ (ap (λ xs. set (running_in nodes) k xs) (h ∙ sym (get_running nodes k t lt is)) ∙ set_own (running_in nodes) k)
+      ap running_in (tables_set nodes k v')
+      ∙ (set_running ts k v'.tables
+      ∙ (ap (λ xs. set (running_in ts) k xs) (h ∙ sym (get_running ts k v.tables lt (tables_get nodes k v lt is))) ∙ set_own (running_in ts) k))
 
 -- ---- what a call wrote
 
@@ -107,9 +121,6 @@ writes_spare t t' b b' h = record {
 pub spare_inside : (t t' : Tables) (b b' : Book) → OnlySpare t t' b b' → WritesInside t t' b.entries b'.entries
 spare_inside t t' b b' h = record { events = []; inner = tt; writes = writes_spare t t' b b' h }
 
-pub spare_running : (t t' : Tables) (b b' : Book) → OnlySpare t t' b b' → t'.running ≡ t.running
-spare_running t t' b b' h = ap (λ (x : Tables). x.running) h.tables
-
 clears_inside : (t t' : Tables) (es es' : List Entry) → Clears t t' es es' → WritesInside t t' es es'
 clears_inside t t' es es' c = record {
   events = Mail (kind_of c.parcel) ∷ (effects t c.parcel ++ c.more);
@@ -117,63 +128,86 @@ clears_inside t t' es es' c = record {
   writes = c.writes;
 }
 
-module _ {E : Type 0} (t t' : Tables) (b b' : Book) where
-  pub feed_inside : (action : Name) (line : List ℕ) (r : Result (Unit {0}) E) → OnOk r (Writes (Line action line ∷ []) t t' b.entries b'.entries)
-      → OnErr r (OnlySpare t t' b b') → WritesInside t t' b.entries b'.entries
+module _ {E : Type 0} (v v' : Locality) (b b' : Book) where
+  pub feed_inside : (action : Name) (line : List ℕ) (r : Result (Unit {0}) E) → OnOk r (Writes (Line action line ∷ []) v.tables v'.tables b.entries b'.entries)
+      → OnErr r (OnlySpare v.tables v'.tables b b') → WritesInside v.tables v'.tables b.entries b'.entries
   feed_inside action line (Ok x) fed err = record { events = Line action line ∷ []; inner = (tt, tt); writes = fed }
-  feed_inside action line (Err e) fed err = spare_inside t t' b b' err
+  feed_inside action line (Err e) fed err = spare_inside v.tables v'.tables b b' err
 
   pub fire_inside : (N : Type 0) (r : Result (Option Job) E)
-      → IfOk r (λ o. IfSome o (λ job. Writes (Fire (name_of job.action) ∷ []) t t' b.entries b'.entries))
-      → IfOk r (λ o. IfNone o (N × OnlySpare t t' b b')) → OnErr r (OnlySpare t t' b b') → WritesInside t t' b.entries b'.entries
+      → IfOk r (λ o. IfSome o (λ job. Writes (Fire (name_of job.action) ∷ []) v.tables v'.tables b.entries b'.entries))
+      → IfOk r (λ o. IfNone o (N × OnlySpare v.tables v'.tables b b')) → OnErr r (OnlySpare v.tables v'.tables b b') → WritesInside v.tables v'.tables b.entries b'.entries
   fire_inside N (Ok (Some job)) fired none err = record { events = Fire (name_of job.action) ∷ []; inner = (tt, tt); writes = fired }
-  fire_inside N (Ok None) fired none err = spare_inside t t' b b' none.1
-  fire_inside N (Err e) fired none err = spare_inside t t' b b' err
+  fire_inside N (Ok None) fired none err = spare_inside v.tables v'.tables b b' none.1
+  fire_inside N (Err e) fired none err = spare_inside v.tables v'.tables b b' err
 
   pub finish_inside : (N M : Type 0) (Q : E → Type 0) (job : Job) (out : Outcome) (r : Result Finished E)
-      → IfOk r (λ f. f ≡ Committed → Writes (committed t job out) t t' b.entries b'.entries)
-      → IfOk r (λ f. f ≡ Asking → M × Begins t t' job out b.entries b'.entries)
-      → IfOk r (λ f. f ≡ NotRunning → N × OnlySpare t t' b b') → IfErr r (λ e. Q e × OnlySpare t t' b b')
-      → WritesInside t t' b.entries b'.entries
+      → IfOk r (λ f. f ≡ Committed → Writes (committed v.tables job out) v.tables v'.tables b.entries b'.entries)
+      → IfOk r (λ f. f ≡ Asking → M × Begins v.tables v'.tables job out b.entries b'.entries)
+      → IfOk r (λ f. f ≡ NotRunning → N × OnlySpare v.tables v'.tables b b') → IfErr r (λ e. Q e × OnlySpare v.tables v'.tables b b')
+      → WritesInside v.tables v'.tables b.entries b'.entries
   finish_inside N M Q job out (Ok Committed) done asks none err = record {
-    events = committed t job out;
-    inner = plain_inner (committed t job out) (committed_plain t job out);
+    events = committed v.tables job out;
+    inner = plain_inner (committed v.tables job out) (committed_plain v.tables job out);
     writes = done refl;
   }
   finish_inside N M Q job out (Ok Asking) done asks none err = record {
-    events = splits_before t job out ++ asked_events (lacking t job out);
-    inner = plain_inner (splits_before t job out ++ asked_events (lacking t job out)) (begins_plain t job out);
+    events = splits_before v.tables job out ++ asked_events (lacking v.tables job out);
+    inner = plain_inner (splits_before v.tables job out ++ asked_events (lacking v.tables job out)) (begins_plain v.tables job out);
     writes = (asks refl).1.writes;
   }
-  finish_inside N M Q job out (Ok NotRunning) done asks none err = spare_inside t t' b b' (none refl).1
-  finish_inside N M Q job out (Err e) done asks none err = spare_inside t t' b b' err.1
+  finish_inside N M Q job out (Ok NotRunning) done asks none err = spare_inside v.tables v'.tables b b' (none refl).1
+  finish_inside N M Q job out (Err e) done asks none err = spare_inside v.tables v'.tables b b' err.1
 
-  pub desk_inside : (N : Type 0) (r : Result Bool E) → (r ≡ Ok true → Clears t t' b.entries b'.entries) → (r ≡ Ok false → N × OnlySpare t t' b b')
-      → OnErr r (OnlySpare t t' b b') → WritesInside t t' b.entries b'.entries
-  desk_inside N (Ok true) cleared empty err = clears_inside t t' b.entries b'.entries (cleared refl)
-  desk_inside N (Ok false) cleared empty err = spare_inside t t' b b' (empty refl).1
-  desk_inside N (Err e) cleared empty err = spare_inside t t' b b' err
+  pub desk_inside : (N : Type 0) (r : Result Bool E) → (r ≡ Ok true → Clears v.tables v'.tables b.entries b'.entries) → (r ≡ Ok false → N × OnlySpare v.tables v'.tables b b')
+      → OnErr r (OnlySpare v.tables v'.tables b b') → WritesInside v.tables v'.tables b.entries b'.entries
+  desk_inside N (Ok true) cleared empty err = clears_inside v.tables v'.tables b.entries b'.entries (cleared refl)
+  desk_inside N (Ok false) cleared empty err = spare_inside v.tables v'.tables b b' (empty refl).1
+  desk_inside N (Err e) cleared empty err = spare_inside v.tables v'.tables b b' err
 
 -- ---- all localities after it
 
-module _ (act_of : Meaning) (profile : Profile) (nodes : List Tables) (es : List Entry) (h : IsSound act_of profile nodes es)
-    (k : ℕ) (t t' : Tables) (lt : k < length nodes) (is : t ≡ get_or nodes k t) where
-  pub here_at : t.here ≡ k
-  here_at = (sound_at act_of profile nodes es h k t lt is).here
+module _ (act_of : Meaning) (profile : Profile) (nodes : List Locality) (es : List Entry) (h : IsSound act_of profile (tables_of nodes) es)
+    (k : ℕ) (v v' : Locality) (lt : k < length (tables_of nodes)) (is : v ≡ get_or nodes k v) where
+  own : StandsAt act_of (length (tables_of nodes)) profile k v.tables es
+  own = sound_at act_of profile (tables_of nodes) es h k v.tables lt (tables_get nodes k v lt is)
 
-  pub localities_at : t.localities ≡ length nodes
-  localities_at = (sound_at act_of profile nodes es h k t lt is).localities
+  pub here_at : v.tables.here ≡ k
+  here_at = own.here
 
-  pub stands_at : Stands act_of t es
-  stands_at = (sound_at act_of profile nodes es h k t lt is).stands
+  pub localities_at : v.tables.localities ≡ length (tables_of nodes)
+  localities_at = own.localities
 
-  pub within : t.here < length nodes
+  pub stands_at : Stands act_of v.tables es
+  stands_at = own.stands
+
+  pub rest_at : RestsSound act_of v.tables es
+  rest_at = sound_at_rest v.tables (rules_of act_of v.tables.localities v.tables.profile) es (record { localities = refl; credit_log = refl; credit_limit = refl })
+      (record { stands = own.stands; orderly = own.orderly; lacks = own.lacks })
+
+  pub within : v.tables.here < length (tables_of nodes)
   within = rw here_at lt
 
-  module _ (es' : List Entry) (w : WritesInside t t' es es') where
-    pub sound_inside : Stands act_of t' es' → (Lacks t → Lacks t') → (KeepsOrder act_of t es → KeepsOrder act_of t' es') → IsWithin es'
-        → IsSound act_of profile (set nodes k t') es'
-    sound_inside stands lacks orderly within = sound_grows act_of profile nodes es h k t t' w.events es' lt is w.writes stands lacks orderly within
+  pub sound_wrote : (events : List Event) (es' : List Entry) → Writes events v.tables v'.tables es es' → Stands act_of v'.tables es'
+      → (Lacks v.tables → Lacks v'.tables) → (KeepsOrder act_of v.tables es → KeepsOrder act_of v'.tables es') → IsWithin es'
+      → IsSound act_of profile (tables_of (set nodes k v')) es'
+  sound_wrote events es' writes stands lacks orderly within =
+      subst (λ ns. IsSound act_of profile ns es') (sym (tables_set nodes k v'))
+      (sound_grows act_of profile (tables_of nodes) es h k v.tables v'.tables events es' lt (tables_get nodes k v lt is) writes stands lacks orderly within)
 
-    pub inside_at : IsInside (rules_of act_of (length nodes) profile) es es'
-    inside_at = inside_of t t' w.events es es' w.writes (rules_of act_of (length nodes) profile) within w.inner
+  pub rest_wrote : (events : List Event) (es' : List Entry) → Writes events v.tables v'.tables es es' → RestsSound act_of v'.tables es' → IsWithin es'
+      → IsSound act_of profile (tables_of (set nodes k v')) es'
+  rest_wrote events es' writes stands within =
+      let told = rest_stands v'.tables (rules_of act_of v'.tables.localities v'.tables.profile) es' stands in
+      sound_wrote events es' writes told.stands (λ l. told.lacks) (λ o. told.orderly) within
+
+  module _ (es' : List Entry) (w : WritesInside v.tables v'.tables es es') where
+    pub sound_inside : Stands act_of v'.tables es' → (Lacks v.tables → Lacks v'.tables)
+        → (KeepsOrder act_of v.tables es → KeepsOrder act_of v'.tables es') → IsWithin es' → IsSound act_of profile (tables_of (set nodes k v')) es'
+    sound_inside stands lacks orderly within = sound_wrote w.events es' w.writes stands lacks orderly within
+
+    pub rest_inside : RestsSound act_of v'.tables es' → IsWithin es' → IsSound act_of profile (tables_of (set nodes k v')) es'
+    rest_inside stands within = rest_wrote w.events es' w.writes stands within
+
+    pub inside_at : IsInside (rules_of act_of (length (tables_of nodes)) profile) es es'
+    inside_at = inside_of v.tables v'.tables w.events es es' w.writes (rules_of act_of (length (tables_of nodes)) profile) within w.inner

@@ -16,7 +16,7 @@ use Rattle.hpx_journal.proofs.Same.{same_frame-refl}
 use Rattle.hpx_part.specs.Data.{Entry}
 use Rattle.hpx_part.proofs.Keyed.{counts_of, counts_true}
 use Rattle.hpx_ports.specs.declared.fabric.Wire.{Wire}
-use Rattle.hpx_node.specs.Stands.{rules_of}
+use Rattle.hpx_steps.specs.Rest.{rules_of}
 use Rattle.hpx_tables.specs.Tables.{Tables}
 use Rattle.hpx_world.specs.Away.{IsCarrying, Fetches, road_of}
 use Rattle.hpx_world.specs.Sound.{Meaning, IsSound}

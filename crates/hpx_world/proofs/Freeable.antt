@@ -30,11 +30,12 @@ use Rattle.hpx_part.specs.Data.{Event, Entry, Count, Freed, In}
 use Rattle.hpx_part.proofs.Covered.{act_names}
 use Rattle.hpx_part.proofs.Keyed.{counts_of, Agree-sum}
 use Rattle.hpx_part.proofs.Keys.{means, own}
-use Rattle.hpx_node.specs.Idle.{FreesOf, IsPaid, weighed, weight, frees_one, goes, causes, unpaid}
+use Rattle.hpx_steps.specs.Rows.{FreesOf, weighed, weight, frees_one, goes, causes}
+use Rattle.hpx_steps.specs.Rest.{IsPaid, unpaid}
 use Rattle.hpx_tables.specs.Kept.{stands_here, waits_here, held_here}
-use Rattle.hpx_node.specs.Orders.{FreesNone}
+use Rattle.hpx_steps.specs.Sound.{FreesNone}
 use Rattle.hpx_tables.specs.Pending.{Waits, action_of}
-use Rattle.hpx_node.specs.Seen.{frees_in}
+use Rattle.hpx_steps.specs.Turn.{parcel_frees}
 use Rattle.hpx_tables.specs.Tables.{Tables, fired_acts}
 use Rattle.hpx_tables.specs.declared.kept.Outgoing.{Outgoing}
 use Rattle.hpx_world.proofs.SentRight.{IsSentRight, below, arrivals_right}
@@ -91,7 +92,7 @@ module _ (r : Rules) (log : ℕ) (es : List Entry) (calm : IsCalm r es) (each : 
   dead : IsDeadIn o (replayed r es)
   dead =
       subst (λ j. IsDead o ((replayed r es).places j)) home
-      (subst (λ d. AllByRecursion (λ x. IsDead x ((replayed r es).places k)) (flat_map frees_in (d ++ map (λ (x : Outgoing). x.parcel) t.outgoing))) first
+      (subst (λ d. AllByRecursion (λ x. IsDead x ((replayed r es).places k)) (flat_map parcel_frees (d ++ map (λ (x : Outgoing). x.parcel) t.outgoing))) first
       s.shows.counts.dead).0
 
   gone : IsBornIn o (replayed r es) × (credit_sum r o (replayed r es) ≡ 0)

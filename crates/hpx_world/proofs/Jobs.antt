@@ -1,7 +1,6 @@
 -- No job is out: of each node, and of all.
-use Rattle.std.proofs.Common.{ℕ, zero, suc, List, [], ◌∷◌, ◌≡◌, ◌≢◌, ◌<◌, Some, length, refl, sym, ap, arith}
-use Rattle.std.specs.List.{slice_get, AllByRecursion}
-use Rattle.std.specs.Prelude.{slice_index_or}
+use Rattle.std.proofs.Common.{List, [], ◌∷◌, ◌≡◌, ◌≢◌, refl}
+use Rattle.std.specs.List.{AllByRecursion}
 use Rattle.hpx_journal.specs.Data.{Act}
 use Rattle.hpx_tables.specs.Tables.{Tables}
 use Rattle.hpx_world.specs.Quiet.{NoneRuns}
@@ -21,8 +20,3 @@ none_all (x ∷ xs) h = (h.0, none_all xs h.1)
 pub empty_of : (xs : List Act) → (xs ≢ [] → ⊥) → xs ≡ []
 empty_of [] h = refl
 empty_of (x ∷ xs) h = absurd (h (λ e. cc))
-
-pub got : (xs : List Tables) (k : ℕ) (x : Tables) → k < length xs → x ≡ slice_index_or xs k x → slice_get xs k ≡ Some x
-got [] k x lt e = absurd (omega (arith, lt))
-got (y ∷ ys) zero x lt e = ap (λ t. Some t) (sym e)
-got (y ∷ ys) (suc k) x lt e = got ys k x (omega (arith, lt)) e

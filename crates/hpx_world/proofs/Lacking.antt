@@ -21,8 +21,7 @@ use Rattle.hpx_journal.proofs.Start.{joined_asked}
 use Rattle.hpx_part.specs.Data.{Entry, Standing, Token}
 use Rattle.hpx_part.proofs.Keyed.{counts_of, counts_true}
 use Rattle.hpx_tables.specs.Kept.{credit_owed, owed_worth}
-use Rattle.hpx_node.specs.Lacks.{Lacks}
-use Rattle.hpx_node.specs.Paused.{IsPaused}
+use Rattle.hpx_steps.specs.Rest.{Lacks, IsPaused}
 use Rattle.hpx_tables.specs.Pending.{Waits, own_ids, ids_named, is_asked, asking_of}
 use Rattle.hpx_tables.specs.Tables.{Tables, messages}
 use Rattle.hpx_node.proofs.Numbers.{owed_shown}

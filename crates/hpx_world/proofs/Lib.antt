@@ -12,8 +12,9 @@ pub mod Idle
 pub mod Jobs
 pub mod Worked
 pub mod Next
-pub mod Stepped
 pub mod Refused
+pub mod Refusing
+pub mod FirstSteps
 pub mod Never
 pub mod Handed
 pub mod Promised
@@ -35,3 +36,4 @@ pub mod Strange
 pub mod Lacking
 pub mod Settled
 pub mod AtHome
+pub mod Tabled

@@ -1,23 +1,21 @@
 -- What one turn after another leaves, by what each answered.
-use Rattle.std.proofs.Common.{ℕ, Bool, true, false, List, [], ◌∷◌, ◌≡◌, ◌≢◌, Ok, Err, Option, None, Some, Result, refl, sym, ap, ◌∙◌, subst, arith, map}
+use Rattle.std.proofs.Common.{ℕ, Bool, true, false, List, ◌≡◌, ◌≢◌, Ok, Err, Option, None, Some, Result, refl, sym, ap, ◌∙◌, subst}
 use Rattle.std.specs.List.{slice_get, sum_by, AllByRecursion}
 use Rattle.std.specs.Result.{IsErrAnd}
-use Rattle.std.proofs.lemmas.List.Sums.{sum_by-cons}
 use Rattle.hpx_value.specs.declared.acts.Job.{Job}
 use Rattle.hpx_value.specs.declared.profile.Profile.{Profile}
 use Rattle.hpx_journal.specs.Entries.{Frame, Rules}
 use Rattle.hpx_part.specs.Data.{Entry}
 use Rattle.hpx_ports.specs.declared.fabric.Wire.{Wire}
-use Rattle.hpx_node.specs.Stands.{rules_of}
+use Rattle.hpx_steps.specs.Rest.{rules_of}
 use Rattle.hpx_tables.specs.Tables.{Tables}
 use Rattle.hpx_world.specs.declared.turns.Turned.{Turned}
 use Rattle.hpx_world.specs.declared.turns.Turned.TheVariants as turned
 use Rattle.hpx_world.specs.Away.{IsCarrying, IsInside, Fetches}
 use Rattle.hpx_world.specs.Quiet.{IsStuck, HasNoMail, SendsNothing, NothingApplies}
-use Rattle.hpx_world.specs.Sound.{Meaning, IsSame, without_spare}
+use Rattle.hpx_world.specs.Sound.{Meaning, IsSame}
 use Rattle.hpx_world.specs.Turns.{DidFire, DidDesk, DidPump, DidTake}
 use Rattle.hpx_world.proofs.Counts.{none_fetched}
-use Rattle.hpx_world.proofs.Idle.{same_all}
 
 -- the rules are the same where the number of localities and the profile are
 pub under : (act_of : Meaning) (n n' : ℕ) (p p' : Profile) (P : Rules → Type 0) → n' ≡ n → p' ≡ p → P (rules_of act_of n' p') → P (rules_of act_of n p)
@@ -83,25 +81,17 @@ module _ (nodes nodes' : List Tables) (es es' : List Entry) where
 
 -- ---- where none of the four did anything
 
-pub sum_same : (f : Tables → ℕ) → ((t : Tables) → f (without_spare t) ≡ f t) → (xs ys : List Tables) → map without_spare ys ≡ map without_spare xs
-    → sum_by f ys ≡ sum_by f xs
-sum_same f h [] [] e = refl
-sum_same f h [] (y ∷ ys) e = cc
-sum_same f h (x ∷ xs) [] e = cc
-sum_same f h (x ∷ xs) (y ∷ ys) e =
-    let first : without_spare y ≡ without_spare x = cc in
-    let rest : map without_spare ys ≡ map without_spare xs = cc in
-    let one : f y ≡ f x = sym (h y) ∙ (ap f first ∙ h x) in
-    omega (arith, sum_by-cons f x xs, sum_by-cons f y ys, one, sum_same f h xs ys rest)
+pub sum_same : (f : Tables → ℕ) (xs ys : List Tables) → ys ≡ xs → sum_by f ys ≡ sum_by f xs
+sum_same f xs ys e = ap (sum_by f) e
 
 module _ (n1 n2 n3 n4 : List Tables) (h3 h4 : Option Frame) (fl fl' : Option (List Frame)) (tr tr' : Option (List Wire)) where
-  pub nothing_left : map without_spare n2 ≡ map without_spare n1 → map without_spare n3 ≡ map without_spare n2 → map without_spare n4 ≡ map without_spare n3
+  pub nothing_left : n2 ≡ n1 → n3 ≡ n2 → n4 ≡ n3
       → AllByRecursion IsStuck n1 → AllByRecursion HasNoMail n2 → AllByRecursion SendsNothing n3 → h4 ≡ None → Fetches h3 fl fl' tr tr' None
       → NothingApplies n4 h4 fl'
   nothing_left e2 e3 e4 stuck desk pump hand f = record {
-    fire = same_all IsStuck (λ t h. h) (λ t h. h) n3 n4 e4 (same_all IsStuck (λ t h. h) (λ t h. h) n2 n3 e3 (same_all IsStuck (λ t h. h) (λ t h. h) n1 n2 e2 stuck));
-    desk = same_all HasNoMail (λ t h. h) (λ t h. h) n3 n4 e4 (same_all HasNoMail (λ t h. h) (λ t h. h) n2 n3 e3 desk);
-    pump = same_all SendsNothing (λ t h. h) (λ t h. h) n3 n4 e4 pump;
+    fire = subst (AllByRecursion IsStuck) (sym (e4 ∙ (e3 ∙ e2))) stuck;
+    desk = subst (AllByRecursion HasNoMail) (sym (e4 ∙ e3)) desk;
+    pump = subst (AllByRecursion SendsNothing) (sym e4) pump;
     hand = hand;
     flight = none_fetched h3 fl fl' tr tr' f;
   }

@@ -20,7 +20,7 @@ use Rattle.hpx_tables.specs.Births.{birth_of, births_of}
 use Rattle.hpx_node.specs.Commits.{written, made_of, own_stock, committed_from, committed, places_in_hand}
 use Rattle.hpx_node.specs.Commits.{ups as commit_ups}
 use Rattle.hpx_node.specs.Fails.{dooms, failed_events, due_left, ups_left, FailsWith}
-use Rattle.hpx_node.specs.Handled.{up_of, ups, returned, freed, effects, more_here}
+use Rattle.hpx_steps.specs.Calls.{up_of, ups, returned, freed, effects, more_here}
 use Rattle.hpx_tables.specs.Kept.{count_here}
 use Rattle.hpx_node.specs.Next.{Continues}
 use Rattle.hpx_tables.specs.Pending.{Waits}

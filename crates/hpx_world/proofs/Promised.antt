@@ -11,7 +11,7 @@ use Rattle.hpx_journal.proofs.Quiet.{legal_freed_once, legal_gone, legal_away, f
 use Rattle.hpx_journal.proofs.SlotsWhole.{legal_slots}
 use Rattle.hpx_journal.proofs.Start.{first, joined_legal, joined_named, joined_asked, joined_backed, joined_dead, legal_sums, legal_dies, legal_freed_dead, legal_begun, legal_fires_begun, legal_dones, legal_dones_where, legal_running, legal_stands, legal_commits, legal_fails}
 use Rattle.hpx_part.specs.Data.{Entry, Done, Freed, Count, Granted, Refused}
-use Rattle.hpx_node.specs.Stands.{rules_of}
+use Rattle.hpx_steps.specs.Rest.{rules_of}
 use Rattle.hpx_tables.specs.Tables.{Tables}
 use Rattle.hpx_node.proofs.RowLaws.{refuses_for_cause}
 use Rattle.hpx_world.specs.Sound.{Meaning, IsSound}

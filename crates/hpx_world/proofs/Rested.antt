@@ -22,8 +22,8 @@ use Rattle.hpx_part.specs.Parts.{at_boot}
 use Rattle.hpx_part.specs.Shows.{IsWeight, Shows}
 use Rattle.hpx_part.proofs.Keyed.{counts_of, counts_true}
 use Rattle.hpx_part.proofs.Keys.{own}
-use Rattle.hpx_node.specs.Seen.{view, tokens, tokens_of, kept_ids, parcel_tokens}
-use Rattle.hpx_node.specs.Stands.{rules_of}
+use Rattle.hpx_steps.specs.Rest.{view, tokens, kept_ids, rules_of}
+use Rattle.hpx_steps.specs.Turn.{tokens_of, parcel_tokens}
 use Rattle.hpx_tables.specs.Tables.{Tables, IsPassive, messages}
 use Rattle.hpx_tables.specs.declared.kept.Outgoing.{Outgoing}
 use Rattle.hpx_node.proofs.Numbers.{rest_shown}

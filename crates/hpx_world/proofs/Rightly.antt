@@ -16,9 +16,9 @@ use Rattle.hpx_journal.specs.Whole.{replayed, credit_sum}
 use Rattle.hpx_journal.proofs.Credited.{road_covered, credit_home}
 use Rattle.hpx_journal.proofs.Same.{same_object-refl}
 use Rattle.hpx_part.specs.Data.{Entry}
-use Rattle.hpx_node.specs.Frames.{MayGoTo, IsForHere}
+use Rattle.hpx_steps.specs.Frames.{MayGoTo, IsForHere}
 use Rattle.hpx_tables.specs.Kept.{credit_in, credit_owed}
-use Rattle.hpx_node.specs.Orders.{IsOwn, FreesNone, gives_for}
+use Rattle.hpx_steps.specs.Sound.{IsOwn, FreesNone, gives_for}
 use Rattle.hpx_tables.specs.Strange.{broken}
 use Rattle.hpx_tables.specs.Tables.{Tables}
 use Rattle.hpx_tables.specs.declared.kept.Outgoing.{Outgoing}

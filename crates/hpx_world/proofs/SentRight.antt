@@ -11,7 +11,7 @@ use Rattle.hpx_journal.proofs.Grow.{run_road}
 use Rattle.hpx_journal.proofs.PoolMoves.{arrived}
 use Rattle.hpx_journal.proofs.Start.{first}
 use Rattle.hpx_part.specs.Data.{Event, Entry, Out}
-use Rattle.hpx_node.specs.Orders.{IsOwnFrame, SendsOwn}
+use Rattle.hpx_steps.specs.Sound.{IsOwnFrame, SendsOwn}
 use Rattle.hpx_world.proofs.Shown.{IsCalm, AreShown}
 
 -- a locality that there is sent it, as its own

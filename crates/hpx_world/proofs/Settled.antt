@@ -10,7 +10,7 @@ use Rattle.hpx_journal.proofs.Grow.{run_road}
 use Rattle.hpx_journal.proofs.Start.{first}
 use Rattle.hpx_part.specs.Data.{Entry}
 use Rattle.hpx_ports.specs.declared.fabric.Wire.{Wire}
-use Rattle.hpx_node.specs.Stands.{rules_of}
+use Rattle.hpx_steps.specs.Rest.{rules_of}
 use Rattle.hpx_tables.specs.Tables.{Tables, IsPassive, messages}
 use Rattle.hpx_tables.specs.declared.kept.Outgoing.{Outgoing}
 use Rattle.hpx_tables.proofs.Alls.{all_at}

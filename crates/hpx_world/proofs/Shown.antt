@@ -15,11 +15,8 @@ use Rattle.hpx_journal.proofs.Credited.{place_covered}
 use Rattle.hpx_journal.proofs.Start.{joined_legal, legal_whole}
 use Rattle.hpx_part.specs.Data.{Entry}
 use Rattle.hpx_part.specs.Shows.{Shows}
-use Rattle.hpx_node.specs.Idle.{IsPaid}
+use Rattle.hpx_steps.specs.Rest.{IsPaid, AreInOrder, view, IsTidy}
 use Rattle.hpx_tables.specs.Kept.{stands_here, record_here, count_here, held_here, owed_here}
-use Rattle.hpx_node.specs.Orders.{AreInOrder}
-use Rattle.hpx_node.specs.Seen.{view}
-use Rattle.hpx_node.specs.Stands.{IsTidy}
 use Rattle.hpx_tables.specs.Strange.{is_live}
 use Rattle.hpx_tables.specs.Tables.{Tables}
 use Rattle.hpx_node.proofs.Numbers.{held_shown, owed_shown, holds_shown}

@@ -18,12 +18,10 @@ use Rattle.hpx_part.specs.View.{View}
 use Rattle.hpx_part.proofs.Keyed.{slice_get_is}
 use Rattle.hpx_tables.specs.Awaited.{is_answer}
 use Rattle.hpx_node.specs.Changes.{Writes}
-use Rattle.hpx_node.specs.Idle.{IsPaid}
-use Rattle.hpx_node.specs.Lacks.{Lacks}
-use Rattle.hpx_node.specs.Limits.{IsWithin}
-use Rattle.hpx_node.specs.Orders.{IsOrderly, KeepsOrder}
-use Rattle.hpx_node.specs.Seen.{view}
-use Rattle.hpx_node.specs.Stands.{Stands, StandsWith, rules_of}
+use Rattle.hpx_steps.specs.Rest.{IsPaid, Lacks, IsOrderly, view, StandsWith, rules_of}
+use Rattle.hpx_steps.specs.Limits.{IsWithin}
+use Rattle.hpx_node.specs.Orders.{KeepsOrder}
+use Rattle.hpx_node.specs.Stands.{Stands}
 use Rattle.hpx_tables.specs.Tables.{Tables}
 use Rattle.hpx_world.specs.Sound.{Meaning, StandsAt, IsSound}
 

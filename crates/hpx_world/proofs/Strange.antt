@@ -12,9 +12,7 @@ use Rattle.hpx_journal.proofs.Start.{first}
 use Rattle.hpx_part.specs.Data.{Entry}
 use Rattle.hpx_part.proofs.Keyed.{slice_get_less}
 use Rattle.hpx_ports.specs.declared.fabric.Wire.{Wire}
-use Rattle.hpx_node.specs.Idle.{IsPaid}
-use Rattle.hpx_node.specs.Orders.{AreInOrder}
-use Rattle.hpx_node.specs.Stands.{rules_of}
+use Rattle.hpx_steps.specs.Rest.{IsPaid, AreInOrder, rules_of}
 use Rattle.hpx_tables.specs.Tables.{Tables}
 use Rattle.hpx_world.specs.Away.{IsCarrying}
 use Rattle.hpx_world.specs.Sound.{Meaning, IsSound}

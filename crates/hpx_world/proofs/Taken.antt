@@ -4,8 +4,9 @@ use Rattle.hpx_value.specs.declared.profile.Profile.{Profile}
 use Rattle.hpx_journal.specs.Entries.{Frame}
 use Rattle.hpx_part.specs.Data.{Entry}
 use Rattle.hpx_part.proofs.Keyed.{slice_get_less}
-use Rattle.hpx_node.specs.Handled.{Takes, effects}
-use Rattle.hpx_node.specs.Stands.{rules_of}
+use Rattle.hpx_steps.specs.Calls.{effects}
+use Rattle.hpx_node.specs.Handled.{Takes}
+use Rattle.hpx_steps.specs.Rest.{rules_of}
 use Rattle.hpx_tables.specs.Tables.{Tables}
 use Rattle.hpx_ports.specs.Told.{followed}
 use Rattle.hpx_ports.specs.Frames.{Delivers, events_of}

@@ -8,7 +8,7 @@ use Rattle.hpx_journal.specs.Data.{State, Act}
 use Rattle.hpx_journal.specs.Entries.{Frame}
 use Rattle.hpx_journal.specs.Whole.{IsCarried, replayed}
 use Rattle.hpx_part.specs.Data.{Entry}
-use Rattle.hpx_node.specs.Stands.{rules_of}
+use Rattle.hpx_steps.specs.Rest.{rules_of}
 use Rattle.hpx_tables.specs.Tables.{Tables}
 use Rattle.hpx_world.specs.Promises.{KeepsPromises}
 use Rattle.hpx_world.specs.Quiet.{IsQuiet, IsAtRest}

@@ -12,7 +12,8 @@ use Rattle.hpx_tables.specs.Splits.{asked_events}
 use Rattle.hpx_node.specs.Asks.{splits_before, lacking}
 use Rattle.hpx_node.specs.Changes.{Writes}
 use Rattle.hpx_node.specs.Commits.{committed}
-use Rattle.hpx_node.specs.Handled.{effects, kind_of}
+use Rattle.hpx_steps.specs.Calls.{effects}
+use Rattle.hpx_steps.specs.Rows.{kind_of}
 use Rattle.hpx_tables.specs.Tables.{Tables}
 use Rattle.hpx_node.specs.declared.parts.Finished.TheVariants.{Committed, Asking, NotRunning}
 use Rattle.hpx_world.specs.declared.turns.Turned.{Turned}

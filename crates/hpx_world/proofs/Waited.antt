@@ -18,9 +18,10 @@ use Rattle.hpx_journal.proofs.PoolMoves.{arrived}
 use Rattle.hpx_journal.proofs.Same.{same_object-refl}
 use Rattle.hpx_journal.proofs.Start.{first, zero_all}
 use Rattle.hpx_part.specs.Data.{Event, Entry, In, Out}
-use Rattle.hpx_node.specs.Frames.{MayGoTo}
-use Rattle.hpx_node.specs.Idle.{weighed}
-use Rattle.hpx_node.specs.Orders.{IsOwn, SendsOwn, asks_for, gives_for, gone, gone_to, come, all_count, waits_for}
+use Rattle.hpx_steps.specs.Frames.{MayGoTo}
+use Rattle.hpx_steps.specs.Rows.{weighed}
+use Rattle.hpx_steps.specs.Sound.{IsOwn, SendsOwn, asks_for, gives_for, gone, gone_to, come, all_count}
+use Rattle.hpx_steps.specs.Rest.{waits_for}
 use Rattle.hpx_tables.specs.Tables.{Tables}
 use Rattle.hpx_world.proofs.SentRight.{IsSentRight, carried, sends_own, arrivals_right}
 use Rattle.hpx_world.proofs.Shown.{IsCalm, IsShown, AreShown}

@@ -18,7 +18,7 @@ use Rattle.hpx_part.specs.Data.{Entry}
 use Rattle.hpx_part.proofs.Keyed.{any_counted}
 use Rattle.hpx_commit.specs.Deals.{log_of}
 use Rattle.hpx_tables.specs.Kept.{stands_here, waits_here, count_here, held_here}
-use Rattle.hpx_node.specs.Orders.{waits_for}
+use Rattle.hpx_steps.specs.Rest.{waits_for}
 use Rattle.hpx_tables.specs.Pending.{Waits, awaits, is_asked_for}
 use Rattle.hpx_tables.specs.Strange.{broken, broken_near, is_far, are_far, is_lost, is_live, brings_right}
 use Rattle.hpx_tables.specs.Tables.{Tables}

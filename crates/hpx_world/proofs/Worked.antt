@@ -1,14 +1,13 @@
 -- A job that is handed out, run and taken back.
-use Rattle.std.proofs.Common.{ℕ, List, [], ◌∷◌, ◌++◌, ◌+◌, ◌≡◌, ◌≢◌, ◌<◌, Some, refl, sym, ap, ◌∙◌, subst, length, set, inl, inr}
+use Rattle.std.proofs.Common.{ℕ, List, [], ◌∷◌, ◌++◌, ◌+◌, ◌≡◌, ◌≢◌, ◌<◌, Some, refl, sym, ap, ◌∙◌, subst, length, set}
 use Rattle.std.specs.List.{slice_get, remove}
-use Rattle.std.proofs.lemmas.Bool.{cases_Bool}
 use Rattle.hpx_value.specs.declared.acts.Job.{Job}
 use Rattle.hpx_value.specs.declared.profile.Profile.{Profile}
-use Rattle.hpx_journal.specs.Data.{Id, Outcome, Parcel, Ask}
+use Rattle.hpx_journal.specs.Data.{Id, Outcome, Ask}
 use Rattle.hpx_part.specs.Data.{Entry}
 use Rattle.hpx_part.proofs.Keyed.{slice_get_less}
 use Rattle.hpx_node.specs.Asks.{with_asks, lacking}
-use Rattle.hpx_node.specs.Routes.{is_other, with_mail}
+use Rattle.hpx_steps.specs.Mail.{with_mail}
 use Rattle.hpx_tables.specs.Tables.{Tables}
 use Rattle.hpx_node.specs.declared.parts.Finished.{Finished}
 use Rattle.hpx_node.specs.declared.parts.Finished.TheVariants.{Committed, Asking, NotRunning}
@@ -16,21 +15,15 @@ use Rattle.hpx_world.specs.declared.turns.Turned.{Turned}
 use Rattle.hpx_world.specs.declared.turns.Turned.TheVariants as turned
 use Rattle.hpx_world.specs.Quiet.{NoneRuns}
 use Rattle.hpx_world.specs.Sound.{Meaning, IsSound}
+use Rattle.hpx_world.specs.Stages.{Outside, Stage}
 use Rattle.hpx_world.specs.Steps.{IsOut, DidWork}
 use Rattle.hpx_world.specs.Turns.{DidFire, DidFinish, Asks}
 use Rattle.hpx_world.proofs.Idle.{none_runs_at, none_twice, removed_one}
 use Rattle.hpx_world.proofs.Sound.{set_same, some_is}
 
-mail_running : (to : ℕ) (p : Parcel) (t : Tables) → (with_mail to p t).running ≡ t.running
-mail_running to p t = elim (cases_Bool (is_other t to)) [
-  | inl b ↦ rw b refl
-  | inr b ↦ rw b refl
-]
-
 asks_running : (k n : ℕ) (ids : List Id) (t : Tables) → (with_asks k n ids t).running ≡ t.running
 asks_running k n [] t = refl
-asks_running k n (id ∷ ids) t =
-    asks_running k (n + 1) ids (with_mail id.home (Ask id k (n + 1)) t) ∙ mail_running id.home (Ask id k (n + 1)) t
+asks_running k n (id ∷ ids) t = asks_running k (n + 1) ids (with_mail id.home (Ask id k (n + 1)) t)
 
 module _ (act_of : Meaning) (profile : Profile) (old mid : List Tables) (e0 e1 : List Entry) (sound : IsSound act_of profile old e0)
     (k : ℕ) (job : Job) (fired : DidFire k (turned.Fired job) old mid e0 e1) where
@@ -91,22 +84,29 @@ module _ (act_of : Meaning) (profile : Profile) (old mid : List Tables) (e0 e1 :
       absurd (h.1 fired.after (same ∙ sym count) (subst (λ j. slice_get mid j ≡ Some fired.after) (sym fired_at) there_now) fired.does.starts.runs)
   worked n out _ new e2 same count h none = absurd h
 
-  -- what was done, in all
-  did_then : (how : Finished) (new : List Tables) (e2 : List Entry) → how ≢ NotRunning
-      → DidFinish (length old) job (act_of (length old) job.kind job.at job.state job.action) (turned.Finished how) mid new e1 e2 → DidWork act_of k old new e0 e2
-  did_then how new e2 runs h = record { job = job; mid = mid; between = e1; how = how; fired = fired; finished = h; runs = runs }
+  -- what was done, in all, and nothing outside
+  module _ (out0 out1 : Outside) where
+    abbrev from : Stage
+    from = record { outside = out0; nodes = old; entries = e0 }
 
-  did_by : (x : Turned) (new : List Tables) (e2 : List Entry) → length mid ≡ length old
-      → DidFinish (length old) job (act_of (length old) job.kind job.at job.state job.action) x mid new e1 e2 → DidWork act_of k old new e0 e2
-  did_by (turned.Finished Committed) new e2 count h = did_then Committed new e2 (λ e. cc) h
-  did_by (turned.Finished Asking) new e2 count h = did_then Asking new e2 (λ e. cc) h
-  did_by (turned.Finished NotRunning) new e2 count h =
-      absurd (h.1 fired.after (sym count) (subst (λ j. slice_get mid j ≡ Some fired.after) (sym fired_at) there_now) fired.does.starts.runs)
-  did_by _ new e2 count h = absurd h
+    abbrev onto : List Tables → List Entry → Stage
+    onto new e2 = record { outside = out1; nodes = new; entries = e2 }
 
-  pub did_work : (n : ℕ) (out : Outcome) (x : Turned) (new : List Tables) (e2 : List Entry) → n ≡ length old → length mid ≡ length old
-      → out ≡ act_of n job.kind job.at job.state job.action → DidFinish n job out x mid new e1 e2 → DidWork act_of k old new e0 e2
-  did_work n out x new e2 same count means h =
-      did_by x new e2 count
-      (subst (λ o. DidFinish (length old) job o x mid new e1 e2) (means ∙ ap (λ m. act_of m job.kind job.at job.state job.action) same)
-      (subst (λ m. DidFinish m job out x mid new e1 e2) same h))
+    did_then : (how : Finished) (new : List Tables) (e2 : List Entry) → how ≢ NotRunning
+        → DidFinish (length old) job (act_of (length old) job.kind job.at job.state job.action) (turned.Finished how) mid new e1 e2 → DidWork act_of k from (onto new e2)
+    did_then how new e2 runs h = record { job = job; mid = mid; between = e1; how = how; fired = fired; finished = h; runs = runs }
+
+    did_by : (x : Turned) (new : List Tables) (e2 : List Entry) → length mid ≡ length old
+        → DidFinish (length old) job (act_of (length old) job.kind job.at job.state job.action) x mid new e1 e2 → DidWork act_of k from (onto new e2)
+    did_by (turned.Finished Committed) new e2 count h = did_then Committed new e2 (λ e. cc) h
+    did_by (turned.Finished Asking) new e2 count h = did_then Asking new e2 (λ e. cc) h
+    did_by (turned.Finished NotRunning) new e2 count h =
+        absurd (h.1 fired.after (sym count) (subst (λ j. slice_get mid j ≡ Some fired.after) (sym fired_at) there_now) fired.does.starts.runs)
+    did_by _ new e2 count h = absurd h
+
+    pub did_work : (n : ℕ) (out : Outcome) (x : Turned) (new : List Tables) (e2 : List Entry) → n ≡ length old → length mid ≡ length old
+        → out ≡ act_of n job.kind job.at job.state job.action → DidFinish n job out x mid new e1 e2 → DidWork act_of k from (onto new e2)
+    did_work n out x new e2 same count means h =
+        did_by x new e2 count
+        (subst (λ o. DidFinish (length old) job o x mid new e1 e2) (means ∙ ap (λ m. act_of m job.kind job.at job.state job.action) same)
+        (subst (λ m. DidFinish m job out x mid new e1 e2) same h))

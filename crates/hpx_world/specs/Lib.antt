@@ -4,5 +4,7 @@ pub mod Away
 pub mod Quiet
 pub mod Promises
 pub mod Turns
+pub mod Stages
 pub mod Steps
+pub mod Refusals
 pub mod Audit

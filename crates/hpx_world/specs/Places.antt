@@ -3,7 +3,7 @@ use Rattle.std.specs.Prelude.{List, Option, length}
 use Rattle.hpx_value.specs.declared.profile.Profile.{Profile}
 use Rattle.hpx_journal.specs.Entries.{Frame, Rules}
 use Rattle.hpx_journal.specs.Weights.{Book}
-use Rattle.hpx_node.specs.Stands.{rules_of}
+use Rattle.hpx_steps.specs.Rest.{rules_of}
 use Rattle.hpx_tables.specs.Tables.{Tables}
 use Rattle.hpx_world.specs.Sound.{Meaning}
 

@@ -1,11 +1,11 @@
 -- What holds of all localities together, after each turn.
-use Rattle.std.specs.Prelude.{ℕ, List, ◌≡◌, ◌≤◌, Some, length, map, set}
+use Rattle.std.specs.Prelude.{ℕ, List, ◌≡◌, ◌≤◌, Some, length, set}
 use Rattle.std.specs.List.{slice_get}
 use Rattle.hpx_value.specs.declared.profile.Profile.{Profile}
 use Rattle.hpx_journal.specs.Data.{State, Act, Outcome}
 use Rattle.hpx_part.specs.Data.{Entry}
-use Rattle.hpx_node.specs.Lacks.{Lacks}
-use Rattle.hpx_node.specs.Limits.{IsWithin}
+use Rattle.hpx_steps.specs.Rest.{Lacks}
+use Rattle.hpx_steps.specs.Limits.{IsWithin}
 use Rattle.hpx_node.specs.Orders.{KeepsOrder}
 use Rattle.hpx_node.specs.Stands.{Stands}
 use Rattle.hpx_tables.specs.Tables.{Tables}
@@ -38,11 +38,7 @@ pub record DoneAt (k : ℕ) (Does : Tables → Tables → Type 0) (nodes nodes' 
   pub does : Does before after
   pub others : nodes' ≡ set nodes k after
 
--- a node apart from the memory that it has
-abbrev pub without_spare : Tables → Tables
-without_spare t = record t { spare = 0 }
-
 -- nothing changed but the memory that nodes have
 pub record IsSame (nodes nodes' : List Tables) (entries entries' : List Entry) : Type 0 where
-  pub tables : map without_spare nodes' ≡ map without_spare nodes
+  pub tables : nodes' ≡ nodes
   pub journal : entries' ≡ entries

@@ -1,19 +1,20 @@
--- What turns leave, one after another.
-use Rattle.std.specs.Prelude.{ℕ, List, [], ◌∷◌, ◌++◌, ◌≡◌, ◌≢◌, ◌⊎◌, Option, Some, None, length, map, sum_by, take}
+-- One step, the first turn that can be made, and steps one after another.
+use Rattle.std.specs.Prelude.{ℕ, List, [], ◌∷◌, ◌++◌, ◌≡◌, ◌≢◌, ◌⊎◌, Option, Some, None, length, take, sum_by}
 use Rattle.std.specs.List.{slice_get, AllByRecursion}
 use Rattle.hpx_value.specs.declared.acts.Job.{Job}
 use Rattle.hpx_journal.specs.Sessions.{FeedsNothing}
+use Rattle.hpx_journal.specs.Weights.{HasRoom}
 use Rattle.hpx_part.specs.Data.{Entry}
 use Rattle.hpx_tables.specs.Jobs.{IsRunning}
 use Rattle.hpx_journal.specs.Entries.{Frame}
 use Rattle.hpx_tables.specs.Tables.{Tables}
 use Rattle.hpx_node.specs.declared.parts.Finished.{Finished}
 use Rattle.hpx_node.specs.declared.parts.Finished.TheVariants.{NotRunning}
-use Rattle.hpx_ports.specs.declared.fabric.Wire.{Wire}
 use Rattle.hpx_world.specs.declared.turns.Turned.TheVariants as turned
-use Rattle.hpx_world.specs.Away.{Fetches, Puts, Keeps}
+use Rattle.hpx_world.specs.Away.{Fetches, Puts}
 use Rattle.hpx_world.specs.Quiet.{IsQuiet, IsStuck, HasNoMail, SendsNothing, NothingApplies, NoneRuns}
-use Rattle.hpx_world.specs.Sound.{Meaning, IsSame, without_spare}
+use Rattle.hpx_world.specs.Sound.{Meaning, IsSame}
+use Rattle.hpx_world.specs.Stages.{Stage}
 use Rattle.hpx_world.specs.Turns.{DidFire, DidFinish, DidDesk, DidPump, DidTake}
 
 -- the journal grew, if at all, by entries that feed nothing
@@ -44,17 +45,17 @@ pub record IsEarly (nodes : List Tables) (held : Option Frame) (frames : Option 
 
 -- ---- one step
 
--- what is outside of the nodes: the frame in hand, and what the fabric tells
-pub record Outside : Type 0 where
-  pub hand : Option Frame
-  pub flight : Option (List Frame)
-  pub trace : Option (List Wire)
+-- no locality can fire
+abbrev pub NoneFires : Stage → Type 0
+NoneFires x = AllByRecursion IsStuck x.nodes
 
--- this was done after what was tried in vain, which left the nodes as they were, but for their memory
-pub record Tried (Did : List Tables → Type 0) (nodes : List Tables) : Type 0 where
-  pub now : List Tables
-  pub same : map without_spare now ≡ map without_spare nodes
-  pub did : Did now
+-- nor has one a message to itself
+abbrev pub NoneClears : Stage → Type 0
+NoneClears x = NoneFires x × AllByRecursion HasNoMail x.nodes
+
+-- nor one to another
+abbrev pub NonePumps : Stage → Type 0
+NonePumps x = NoneClears x × AllByRecursion SendsNothing x.nodes
 
 -- this was done at the first locality that can: none before it could
 pub record AtFirst (Cannot : Tables → Type 0) (Did : ℕ → Type 0) (nodes : List Tables) : Type 0 where
@@ -63,65 +64,62 @@ pub record AtFirst (Cannot : Tables → Type 0) (Did : ℕ → Type 0) (nodes : 
   pub did : Did k
 
 -- a Fire at k, and the Finish of its job, which was run: it is committed, or waits for credit
-pub record DidWork (act_of : Meaning) (k : ℕ) (nodes nodes' : List Tables) (es es' : List Entry) : Type 0 where
+pub record DidWork (act_of : Meaning) (k : ℕ) (x z : Stage) : Type 0 where
   pub job : Job
   pub mid : List Tables
   pub between : List Entry
   pub how : Finished
-  pub fired : DidFire k (turned.Fired job) nodes mid es between
-  pub finished : DidFinish (length nodes) job (act_of (length nodes) job.kind job.at job.state job.action) (turned.Finished how) mid nodes' between es'
+  pub fired : DidFire k (turned.Fired job) x.nodes mid x.entries between
+  pub finished : DidFinish (length x.nodes) job (act_of (length x.nodes) job.kind job.at job.state job.action) (turned.Finished how) mid z.nodes between z.entries
   pub runs : how ≢ NotRunning
 
--- a Fire at k, whose job is handed back, to be run or to be finished: nothing else came of it
-pub record DidHandOut (job : Job) (k : ℕ) (nodes nodes' : List Tables) (es es' : List Entry) : Type 0 where
-  pub mid : List Tables
-  pub fired : DidFire k (turned.Fired job) nodes mid es es'
-  pub same : map without_spare nodes' ≡ map without_spare mid
+-- a Fire at k, and nothing else: its job is handed back, to be run or to be finished, and runs where it was handed out
+pub record DidHandOut (n : ℕ) (job : Job) (k : ℕ) (x z : Stage) : Type 0 where
+  pub fired : DidFire k (turned.Fired job) x.nodes z.nodes x.entries z.entries
+  pub out : IsOut z.nodes n job
+  pub outside : z.outside ≡ x.outside
 
 -- so it is with the first action that can be fired
-abbrev pub DidHandBack : Job → List Tables → List Tables → List Entry → List Entry → Type 0
-DidHandBack job nodes nodes' es es' = Tried (λ now. AtFirst IsStuck (λ k. DidHandOut job k now nodes' es es') now) nodes
+abbrev pub DidHandBack : ℕ → Job → Stage → Stage → Type 0
+DidHandBack n job x z = AtFirst IsStuck (λ k. DidHandOut n job k x z) x.nodes
 
--- the first that can be done of these: a Fire with its Finish, a Desk, a Pump, a Take; each at the first locality that can
-abbrev pub DidFirst : Meaning → Outside → Outside → List Tables → List Tables → List Entry → List Entry → Type 0
-DidFirst act_of out out' nodes nodes' es es' =
-    (AtFirst IsStuck (λ k. DidWork act_of k nodes nodes' es es') nodes × (out' ≡ out))
-    ⊎ (AllByRecursion IsStuck nodes × AtFirst HasNoMail (λ k. DidDesk k turned.Moved nodes nodes' es es') nodes × (out' ≡ out))
-    ⊎ (AllByRecursion IsStuck nodes × AllByRecursion HasNoMail nodes
-    × AtFirst SendsNothing (λ k. DidPump (Puts k out.flight out'.flight out.trace out'.trace) k turned.Moved nodes nodes' es es') nodes × (out'.hand ≡ out.hand))
-    ⊎ (AllByRecursion IsStuck nodes × AllByRecursion HasNoMail nodes × AllByRecursion SendsNothing nodes
-    × DidTake (Fetches out.hand out.flight out'.flight out.trace out'.trace) turned.Moved nodes nodes' es es' × (out'.hand ≡ None))
+-- one step where there is room, the first that can be made of these: a Fire with its Finish, a Desk, a Pump, a Take; each at the
+-- first locality that can
+abbrev pub DidFirst : Meaning → Stage → Stage → Type 0
+DidFirst act_of x z =
+    (AtFirst IsStuck (λ k. DidWork act_of k x z) x.nodes × (z.outside ≡ x.outside))
+    ⊎ (NoneFires x × AtFirst HasNoMail (λ k. DidDesk k turned.Moved x.nodes z.nodes x.entries z.entries) x.nodes × (z.outside ≡ x.outside))
+    ⊎ (NoneClears x
+    × AtFirst SendsNothing (λ k. DidPump (Puts k x.outside.flight z.outside.flight x.outside.trace z.outside.trace) k turned.Moved x.nodes z.nodes x.entries z.entries) x.nodes
+    × (z.outside.hand ≡ x.outside.hand))
+    ⊎ (NonePumps x × DidTake (Fetches x.outside.hand x.outside.flight z.outside.flight x.outside.trace z.outside.trace) turned.Moved x.nodes z.nodes x.entries z.entries
+    × (z.outside.hand ≡ None))
 
--- one step
-abbrev pub DidStep : Meaning → Outside → Outside → List Tables → List Tables → List Entry → List Entry → Type 0
-DidStep act_of out out' nodes nodes' es es' = Tried (λ now. DidFirst act_of out out' now nodes' es es') nodes
+abbrev pub DidStep : Meaning → Stage → Stage → Type 0
+DidStep act_of x z = HasRoom x.entries × DidFirst act_of x z
+
+-- there is room and no step can be made: nothing has changed, no frame was there, and as many were accepted as sent
+pub record IsIdle (x z : Stage) : Type 0 where
+  pub room : HasRoom x.entries
+  pub same : IsSame x.nodes z.nodes x.entries z.entries
+  pub none : Fetches x.outside.hand x.outside.flight z.outside.flight x.outside.trace z.outside.trace None
+  pub applies : NothingApplies z.nodes z.outside.hand z.outside.flight
+  pub taken : sum_by (λ t. t.taken) z.nodes ≡ sum_by (λ t. t.sent) z.nodes
 
 -- ---- steps, one after another
-
--- what is seen of a world and of its fabric
-pub record Stage : Type 0 where
-  pub outside : Outside
-  pub nodes : List Tables
-  pub entries : List Entry
 
 -- steps lead from one stage to another, through these, the latest first
 abbrev pub AreSteps : Meaning → Stage → List Stage → Stage → Type 0
 AreSteps act_of x [] z = z ≡ x
-AreSteps act_of x (y ∷ ys) z = AreSteps act_of x ys y × DidStep act_of y.outside z.outside y.nodes z.nodes y.entries z.entries
+AreSteps act_of x (y ∷ ys) z = AreSteps act_of x ys y × DidStep act_of y z
 
 -- steps lead from one stage to another
 pub record Goes (act_of : Meaning) (x z : Stage) : Type 0 where
   pub between : List Stage
   pub steps : AreSteps act_of x between z
 
--- behind a stage nothing could be done: nothing has changed but memory, and there was no frame
-pub record EndsAt (z : Stage) (out' : Outside) (nodes' : List Tables) (es' : List Entry) : Type 0 where
-  pub same : IsSame z.nodes nodes' z.entries es'
-  pub none : Fetches z.outside.hand z.outside.flight out'.flight z.outside.trace out'.trace None
-
--- behind a stage a turn was refused: nothing has changed but memory, save that what was fetched is in hand; or the first action that
--- can be was fired, and its job is handed back
-abbrev pub StopsAt : Stage → Outside → List Tables → List Entry → Type 0
-StopsAt z out' nodes' es' =
-    (IsSame z.nodes nodes' z.entries es' × Keeps z.outside.hand z.outside.flight out'.flight z.outside.trace out'.trace out'.hand)
-    ⊎ ((job : Job) × DidHandBack job z.nodes nodes' z.entries es' × (out' ≡ z.outside))
+-- steps lead to a stage behind which this is so
+pub record GoesTo (act_of : Meaning) (x : Stage) (Then : Stage → Type 0) : Type 0 where
+  pub last : Stage
+  pub goes : Goes act_of x last
+  pub thus : Then last

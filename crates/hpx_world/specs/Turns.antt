@@ -12,7 +12,7 @@ use Rattle.hpx_node.specs.Asks.{Begins}
 use Rattle.hpx_node.specs.Changes.{Writes}
 use Rattle.hpx_node.specs.Commits.{committed, hand_of, places_in_hand, Ends}
 use Rattle.hpx_tables.specs.Jobs.{IsRunning, Starts}
-use Rattle.hpx_node.specs.Routes.{with_act}
+use Rattle.hpx_steps.specs.Mail.{with_act}
 use Rattle.hpx_node.specs.Handled.{Takes, Clears, NotTaken, NotCleared}
 use Rattle.hpx_tables.specs.Strange.{object_of}
 use Rattle.hpx_tables.specs.Tables.{Tables}
@@ -33,7 +33,7 @@ next_name t = record { origin = t.here; serial = t.serial + 1 }
 -- a line is accepted, as an action on the session
 pub record Feeds (line : List ℕ) (entries entries' : List Entry) (t t' : Tables) : Type 0 where
   pub writes : Writes (Line (next_name t) line ∷ []) t t' entries entries'
-  pub waits : t' ≡ record (with_act (line_act (next_name t) line) (record t { serial = t.serial + 1 })) { spare = t'.spare }
+  pub waits : t' ≡ with_act (line_act (next_name t) line) (record t { serial = t.serial + 1 })
 
 -- the first accepted action that is free is fired
 pub record Fires (job : Job) (entries entries' : List Entry) (t t' : Tables) : Type 0 where
@@ -61,7 +61,7 @@ pub record Sends (frame : Frame) (entries entries' : List Entry) (t t' : Tables)
   pub place : frame.0 ≡ first.to
   pub spelled : parcel_of frame.1 ≡ Some first.parcel
   pub writes : Writes (Out frame.0 frame.1 ∷ []) t t' entries entries'
-  pub leaves : t' ≡ record t { outgoing = rest; sent = t.sent + 1; spare = t'.spare }
+  pub leaves : t' ≡ record t { outgoing = rest; sent = t.sent + 1 }
 
 -- ---- turns, by what they answer
 

@@ -1,6 +1,7 @@
 //! The audit: of each live object how much credit is out, and where.
 ghost use Rattle.std.specs.Prelude.{◌≡◌, ◌<◌, ◌≤◌, ◌++◌, ◌∷◌, [], length, map, take, IfOk, OnOk, slice_get, option_map, Some};
 ghost use Rattle.hpx_tables.specs.Kept.{HasRecords};
+ghost use Rattle.hpx_node.specs.Locality.{tables_of};
 ghost use Rattle.hpx_world.specs.Audit.{held_in_all, audit_line, lines_at, audit_lines, HaveRecords};
 
 use crate::locals::Locals;
@@ -30,7 +31,7 @@ pub type AuditLines = Items<AuditLine>;
 
 /// The credit of an object that is held, at all localities.
 fn held_in_all<A: Acts + Copy>(nodes: &[Node<A>], o: Gid) -> u128
-    ensures { result ≡ held_in_all o nodes.now }
+    ensures { result ≡ held_in_all o (tables_of nodes.now) }
 {
     let mut sum = 0u128;
     for i in 0..nodes.len() {
@@ -41,8 +42,8 @@ fn held_in_all<A: Acts + Copy>(nodes: &[Node<A>], o: Gid) -> u128
 
 /// The line of the live object at place i of a node.
 fn line_of<A: Acts + Copy>(nodes: &[Node<A>], node: &Node<A>, i: u32) -> Option<AuditLine>
-    requires records { HasRecords node.now }
-    ensures { result ≡ option_map (audit_line nodes.now) (slice_get node.now.records i) }
+    requires records { HasRecords node.now.tables }
+    ensures { result ≡ option_map (audit_line (tables_of nodes.now)) (slice_get node.now.tables.records i) }
 {
     let gid = node.live(i)?;
     let recorded = node.count(gid);
@@ -62,8 +63,8 @@ fn push_lines<A: Acts + Copy>(
     node: &Node<A>,
     lines: &mut AuditLines,
 ) -> Result<(), OutOfMemory>
-    ensures lines { OnOk result (lines.new ≡ lines.old ++ lines_at nodes.now node.now) }
-    ensures records { OnOk result (HasRecords node.now) }
+    ensures lines { OnOk result (lines.new ≡ lines.old ++ lines_at (tables_of nodes.now) node.now.tables) }
+    ensures records { OnOk result (HasRecords node.now.tables) }
 {
     for i in 0..node.number() {
         match line_of(nodes, node, i) {
@@ -77,8 +78,8 @@ fn push_lines<A: Acts + Copy>(
 impl<A: Acts + Copy> Locals<A> {
     /// A line for each live object, by home, and then by number.
     pub fn audit(&self, alloc: Global) -> Result<AuditLines, OutOfMemory>
-        ensures lines { IfOk result (λ lines. lines ≡ audit_lines self.now.nodes.items) }
-        ensures records { OnOk result (HaveRecords self.now.nodes.items) }
+        ensures lines { IfOk result (λ lines. lines ≡ audit_lines (tables_of self.now.nodes.items)) }
+        ensures records { OnOk result (HaveRecords (tables_of self.now.nodes.items)) }
     {
         let mut lines = Items::new(alloc);
         for node in self.nodes.iter() {
@@ -89,7 +90,7 @@ impl<A: Acts + Copy> Locals<A> {
 
     /// The records of each node are its own.
     pub fn records_law(&self)
-        ensures { HaveRecords self.now.nodes.items }
+        ensures { HaveRecords (tables_of self.now.nodes.items) }
     {
         for node in self.nodes.iter() {
             let _ = node.number();

@@ -1,13 +1,14 @@
 //! All localities, and each turn of them.
-ghost use Rattle.std.specs.Prelude.{◌≡◌, ◌≢◌, ◌≤◌, ◌<◌, ◌+◌, ◌^◌, ◌∷◌, ◌⊎◌, [], ℕ, length, OnOk, OnErr, IfOk, IfErr, IfSome, IfNone, IsTrue, ◌↔◌, true, false, Ok, Err, Some, None, sum_by, min, slice_get};
+ghost use Rattle.std.specs.Prelude.{◌≡◌, ◌≢◌, ◌≤◌, ◌<◌, ◌+◌, ◌-◌, ◌^◌, ◌∷◌, ◌⊎◌, [], ℕ, length, OnOk, OnErr, IfOk, IfErr, IfSome, IfNone, IsTrue, ◌↔◌, true, false, Ok, Err, Some, None, sum_by, min, slice_get};
 ghost use Rattle.std.specs.List.{AllByRecursion};
 ghost use Rattle.hpx_value.specs.Profiles.{IsValid};
-ghost use Rattle.hpx_journal.specs.Weights.{HasRoom};
+ghost use Rattle.hpx_journal.specs.Weights.{HasRoom, total_weight};
 ghost use Rattle.hpx_node.specs.Handled.{Takes};
-ghost use Rattle.hpx_node.specs.Limits.{AddsATurn};
+ghost use Rattle.hpx_steps.specs.Limits.{AddsATurn};
 ghost use Rattle.hpx_tables.specs.Tables.{IsPassive};
-ghost use Rattle.hpx_node.specs.Stands.{rules_of};
+ghost use Rattle.hpx_steps.specs.Rest.{rules_of};
 ghost use Rattle.hpx_ports.specs.Faults.{Rose};
+ghost use Rattle.hpx_node.specs.Locality.{tables_of};
 ghost use Rattle.hpx_world.specs.Sound.{IsSound, IsSame, DoneAt};
 ghost use Rattle.hpx_world.specs.Away.{IsCarrying, IsInside, Fetches, Puts, Keeps};
 ghost use Rattle.hpx_world.specs.Quiet.{IsQuiet, NoneRuns, running_in};
@@ -104,19 +105,30 @@ fn mail_refusal<A: Acts>(alloc: Global, at: u32, fault: DeskFault) -> WorldFault
 }
 
 impl<A: Acts + Copy> Locals<A> {
+    /// Why the journal is full.
+    pub fn full(&self, undone: Option<Done<A>>) -> WorldFault<A>
+        ensures { result ≡ WorldFault.JournalFull (length self.now.journal.entries) (min (2 ^ 64 - 1) (total_weight self.now.journal.entries)) undone }
+    {
+        WorldFault::JournalFull {
+            entries: self.journal.entries(),
+            weight: self.journal.weight(),
+            undone,
+        }
+    }
+
     /// All localities at boot.
     #[tactic(auto, using(crate::proofs::Booted::booted_none, crate::proofs::Booted::idle_none))]
     pub fn boot(alloc: Global, acts: A, profile: Profile) -> Result<Locals<A>, OutOfMemory>
         requires some { 1 ≤ A.count acts }
         requires few { A.count acts ≤ 64 }
         requires profile { IsValid profile }
-        ensures sound { IfOk result (λ w. IsSound A.act_of w.profile w.nodes.items w.journal.entries) }
-        ensures count { IfOk result (λ w. length w.nodes.items ≡ A.count acts) }
+        ensures sound { IfOk result (λ w. IsSound A.act_of w.profile (tables_of w.nodes.items) w.journal.entries) }
+        ensures count { IfOk result (λ w. length (tables_of w.nodes.items) ≡ A.count acts) }
         ensures profile { IfOk result (λ w. w.profile ≡ profile) }
         ensures empty { IfOk result (λ w. w.journal.entries ≡ []) }
         ensures hand { IfOk result (λ w. w.hand ≡ None) }
-        ensures jobs { IfOk result (λ w. NoneRuns w.nodes.items) }
-        ensures quiet { IfOk result (λ w. IsQuiet w.nodes.items w.hand) }
+        ensures jobs { IfOk result (λ w. NoneRuns (tables_of w.nodes.items)) }
+        ensures quiet { IfOk result (λ w. IsQuiet (tables_of w.nodes.items) w.hand) }
     {
         let mut nodes = Vec::new(alloc);
         for k in 0..acts.localities() {
@@ -132,9 +144,9 @@ impl<A: Acts + Copy> Locals<A> {
 
     /// How many frames were sent, and how many accepted, in all.
     pub(crate) fn frames(&self) -> (u128, u128)
-        requires few { length self.now.nodes.items ≤ 64 }
-        ensures sent { result.0 ≡ sum_by (λ t. t.sent) self.now.nodes.items }
-        ensures taken { result.1 ≡ sum_by (λ t. t.taken) self.now.nodes.items }
+        requires few { length (tables_of self.now.nodes.items) ≤ 64 }
+        ensures sent { result.0 ≡ sum_by (λ t. t.sent) (tables_of self.now.nodes.items) }
+        ensures taken { result.1 ≡ sum_by (λ t. t.taken) (tables_of self.now.nodes.items) }
     {
         let mut sent = 0;
         let mut taken = 0;
@@ -147,7 +159,7 @@ impl<A: Acts + Copy> Locals<A> {
 
     /// Whether each node is passive.
     fn are_passive(&self) -> bool
-        ensures { IsTrue result ↔ AllByRecursion IsPassive self.now.nodes.items }
+        ensures { IsTrue result ↔ AllByRecursion IsPassive (tables_of self.now.nodes.items) }
     {
         for node in self.nodes.iter() {
             if !node.is_passive() {
@@ -157,10 +169,23 @@ impl<A: Acts + Copy> Locals<A> {
         true
     }
 
+    /// Whether no job is out anywhere.
+    #[tactic(auto, using(crate::proofs::Jobs::all_none, crate::proofs::Jobs::none_all))]
+    pub(crate) fn none_runs(&self) -> bool
+        ensures { IsTrue result ↔ NoneRuns (tables_of self.now.nodes.items) }
+    {
+        for node in self.nodes.iter() {
+            if node.runs() {
+                return false;
+            }
+        }
+        true
+    }
+
     /// Whether nothing is to be done anywhere: each node is passive, and each frame that was sent was accepted.
     pub fn quiet(&self) -> bool
-        requires few { length self.now.nodes.items ≤ 64 }
-        ensures { IsTrue result ↔ IsQuiet self.now.nodes.items self.now.hand }
+        requires few { length (tables_of self.now.nodes.items) ≤ 64 }
+        ensures { IsTrue result ↔ IsQuiet (tables_of self.now.nodes.items) self.now.hand }
     {
         let (sent, taken) = self.frames();
         sent == taken && self.hand.is_none() && self.are_passive()
@@ -170,16 +195,16 @@ impl<A: Acts + Copy> Locals<A> {
     pub fn feed(&mut self, alloc: Global, line: Text) -> Result<Turned, WorldFault<A>>
         requires short { length line ≤ 1025 }
         requires room { HasRoom self.old.journal.entries }
-        requires sound { IsSound A.act_of self.old.profile self.old.nodes.items self.old.journal.entries }
-        ensures sound { IsSound A.act_of self.new.profile self.new.nodes.items self.new.journal.entries }
-        ensures count { length self.new.nodes.items ≡ length self.old.nodes.items }
+        requires sound { IsSound A.act_of self.old.profile (tables_of self.old.nodes.items) self.old.journal.entries }
+        ensures sound { IsSound A.act_of self.new.profile (tables_of self.new.nodes.items) self.new.journal.entries }
+        ensures count { length (tables_of self.new.nodes.items) ≡ length (tables_of self.old.nodes.items) }
         ensures profile { self.new.profile ≡ self.old.profile }
         ensures turn { AddsATurn self.old.journal.entries self.new.journal.entries }
-        ensures inside { IsInside (rules_of A.act_of (length self.old.nodes.items) self.old.profile) self.old.journal.entries self.new.journal.entries }
+        ensures inside { IsInside (rules_of A.act_of (length (tables_of self.old.nodes.items)) self.old.profile) self.old.journal.entries self.new.journal.entries }
         ensures hand { self.new.hand ≡ self.old.hand }
-        ensures did { IfOk result (λ turned. DidFeed line turned self.old.nodes.items self.new.nodes.items self.old.journal.entries self.new.journal.entries) }
-        ensures jobs { running_in self.new.nodes.items ≡ running_in self.old.nodes.items }
-        ensures err { OnErr result (IsSame self.old.nodes.items self.new.nodes.items self.old.journal.entries self.new.journal.entries) }
+        ensures did { IfOk result (λ turned. DidFeed line turned (tables_of self.old.nodes.items) (tables_of self.new.nodes.items) self.old.journal.entries self.new.journal.entries) }
+        ensures jobs { running_in (tables_of self.new.nodes.items) ≡ running_in (tables_of self.old.nodes.items) }
+        ensures err { OnErr result (IsSame (tables_of self.old.nodes.items) (tables_of self.new.nodes.items) self.old.journal.entries self.new.journal.entries) }
         ensures memory { IfErr result (λ e. e ≡ WorldFault.OutOfMemory None) }
     {
         match self.nodes[0].feed(alloc, &mut self.journal, line) {
@@ -190,17 +215,17 @@ impl<A: Acts + Copy> Locals<A> {
 
     /// The locality k fires its first action that can be.
     pub fn fire(&mut self, alloc: Global, k: usize) -> Result<Turned, WorldFault<A>>
-        requires range { k < length self.old.nodes.items }
+        requires range { k < length (tables_of self.old.nodes.items) }
         requires room { HasRoom self.old.journal.entries }
-        requires sound { IsSound A.act_of self.old.profile self.old.nodes.items self.old.journal.entries }
-        ensures sound { IsSound A.act_of self.new.profile self.new.nodes.items self.new.journal.entries }
-        ensures count { length self.new.nodes.items ≡ length self.old.nodes.items }
+        requires sound { IsSound A.act_of self.old.profile (tables_of self.old.nodes.items) self.old.journal.entries }
+        ensures sound { IsSound A.act_of self.new.profile (tables_of self.new.nodes.items) self.new.journal.entries }
+        ensures count { length (tables_of self.new.nodes.items) ≡ length (tables_of self.old.nodes.items) }
         ensures profile { self.new.profile ≡ self.old.profile }
         ensures turn { AddsATurn self.old.journal.entries self.new.journal.entries }
-        ensures inside { IsInside (rules_of A.act_of (length self.old.nodes.items) self.old.profile) self.old.journal.entries self.new.journal.entries }
+        ensures inside { IsInside (rules_of A.act_of (length (tables_of self.old.nodes.items)) self.old.profile) self.old.journal.entries self.new.journal.entries }
         ensures hand { self.new.hand ≡ self.old.hand }
-        ensures did { IfOk result (λ turned. DidFire k turned self.old.nodes.items self.new.nodes.items self.old.journal.entries self.new.journal.entries) }
-        ensures err { OnErr result (IsSame self.old.nodes.items self.new.nodes.items self.old.journal.entries self.new.journal.entries) }
+        ensures did { IfOk result (λ turned. DidFire k turned (tables_of self.old.nodes.items) (tables_of self.new.nodes.items) self.old.journal.entries self.new.journal.entries) }
+        ensures err { OnErr result (IsSame (tables_of self.old.nodes.items) (tables_of self.new.nodes.items) self.old.journal.entries self.new.journal.entries) }
         ensures memory { IfErr result (λ e. e ≡ WorldFault.OutOfMemory None) }
     {
         match self.nodes[k].fire(alloc, &mut self.journal) {
@@ -217,18 +242,18 @@ impl<A: Acts + Copy> Locals<A> {
         k: usize,
         done: Done<A>,
     ) -> Result<Turned, WorldFault<A>>
-        requires range { k < length self.old.nodes.items }
+        requires range { k < length (tables_of self.old.nodes.items) }
         requires own { done.job.at ≡ k }
         requires room { HasRoom self.old.journal.entries }
-        requires sound { IsSound A.act_of self.old.profile self.old.nodes.items self.old.journal.entries }
-        ensures sound { IsSound A.act_of self.new.profile self.new.nodes.items self.new.journal.entries }
-        ensures count { length self.new.nodes.items ≡ length self.old.nodes.items }
+        requires sound { IsSound A.act_of self.old.profile (tables_of self.old.nodes.items) self.old.journal.entries }
+        ensures sound { IsSound A.act_of self.new.profile (tables_of self.new.nodes.items) self.new.journal.entries }
+        ensures count { length (tables_of self.new.nodes.items) ≡ length (tables_of self.old.nodes.items) }
         ensures profile { self.new.profile ≡ self.old.profile }
         ensures turn { AddsATurn self.old.journal.entries self.new.journal.entries }
-        ensures inside { IsInside (rules_of A.act_of (length self.old.nodes.items) self.old.profile) self.old.journal.entries self.new.journal.entries }
+        ensures inside { IsInside (rules_of A.act_of (length (tables_of self.old.nodes.items)) self.old.profile) self.old.journal.entries self.new.journal.entries }
         ensures hand { self.new.hand ≡ self.old.hand }
-        ensures did { IfOk result (λ turned. DidFinish done.localities done.job done.outcome turned self.old.nodes.items self.new.nodes.items self.old.journal.entries self.new.journal.entries) }
-        ensures err { OnErr result (IsSame self.old.nodes.items self.new.nodes.items self.old.journal.entries self.new.journal.entries) }
+        ensures did { IfOk result (λ turned. DidFinish done.localities done.job done.outcome turned (tables_of self.old.nodes.items) (tables_of self.new.nodes.items) self.old.journal.entries self.new.journal.entries) }
+        ensures err { OnErr result (IsSame (tables_of self.old.nodes.items) (tables_of self.new.nodes.items) self.old.journal.entries self.new.journal.entries) }
         ensures memory { IfErr result (λ e. e ≡ WorldFault.OutOfMemory (Some done)) }
     {
         match self.nodes[k].finish(alloc, &mut self.journal, done) {
@@ -241,20 +266,20 @@ impl<A: Acts + Copy> Locals<A> {
 
     /// The locality k deals with the oldest message to itself.
     pub fn desk(&mut self, alloc: Global, k: usize) -> Result<Turned, WorldFault<A>>
-        requires range { k < length self.old.nodes.items }
+        requires range { k < length (tables_of self.old.nodes.items) }
         requires room { HasRoom self.old.journal.entries }
-        requires sound { IsSound A.act_of self.old.profile self.old.nodes.items self.old.journal.entries }
-        ensures sound { IsSound A.act_of self.new.profile self.new.nodes.items self.new.journal.entries }
-        ensures count { length self.new.nodes.items ≡ length self.old.nodes.items }
+        requires sound { IsSound A.act_of self.old.profile (tables_of self.old.nodes.items) self.old.journal.entries }
+        ensures sound { IsSound A.act_of self.new.profile (tables_of self.new.nodes.items) self.new.journal.entries }
+        ensures count { length (tables_of self.new.nodes.items) ≡ length (tables_of self.old.nodes.items) }
         ensures profile { self.new.profile ≡ self.old.profile }
         ensures turn { AddsATurn self.old.journal.entries self.new.journal.entries }
-        ensures inside { IsInside (rules_of A.act_of (length self.old.nodes.items) self.old.profile) self.old.journal.entries self.new.journal.entries }
+        ensures inside { IsInside (rules_of A.act_of (length (tables_of self.old.nodes.items)) self.old.profile) self.old.journal.entries self.new.journal.entries }
         ensures hand { self.new.hand ≡ self.old.hand }
-        ensures did { IfOk result (λ turned. DidDesk k turned self.old.nodes.items self.new.nodes.items self.old.journal.entries self.new.journal.entries) }
-        ensures jobs { running_in self.new.nodes.items ≡ running_in self.old.nodes.items }
-        ensures err { OnErr result (IsSame self.old.nodes.items self.new.nodes.items self.old.journal.entries self.new.journal.entries) }
+        ensures did { IfOk result (λ turned. DidDesk k turned (tables_of self.old.nodes.items) (tables_of self.new.nodes.items) self.old.journal.entries self.new.journal.entries) }
+        ensures jobs { running_in (tables_of self.new.nodes.items) ≡ running_in (tables_of self.old.nodes.items) }
+        ensures err { OnErr result (IsSame (tables_of self.old.nodes.items) (tables_of self.new.nodes.items) self.old.journal.entries self.new.journal.entries) }
         ensures strange { (to : _) (frame : _) (rule : _) (object : _) (kept : _) → result ≡ Err (WorldFault.Strange to frame rule object kept) →
-            (to ≡ k) × (frame ≡ []) × IsStrangeMail self.old.nodes.items k rule object kept }
+            (to ≡ k) × (frame ≡ []) × IsStrangeMail (tables_of self.old.nodes.items) k rule object kept }
         ensures which { IfErr result (λ e. (e ≡ WorldFault.OutOfMemory None)
             ⊎ ((rule : _) × (object : _) × (kept : _) × (e ≡ WorldFault.Strange k [] rule object kept))) }
     {
@@ -273,20 +298,20 @@ impl<A: Acts + Copy> Locals<A> {
         k: usize,
         fabric: &mut F,
     ) -> Result<Turned, WorldFault<A>>
-        requires range { k < length self.old.nodes.items }
+        requires range { k < length (tables_of self.old.nodes.items) }
         requires room { HasRoom self.old.journal.entries }
-        requires sound { IsSound A.act_of self.old.profile self.old.nodes.items self.old.journal.entries }
-        ensures sound { IsSound A.act_of self.new.profile self.new.nodes.items self.new.journal.entries }
-        ensures count { length self.new.nodes.items ≡ length self.old.nodes.items }
+        requires sound { IsSound A.act_of self.old.profile (tables_of self.old.nodes.items) self.old.journal.entries }
+        ensures sound { IsSound A.act_of self.new.profile (tables_of self.new.nodes.items) self.new.journal.entries }
+        ensures count { length (tables_of self.new.nodes.items) ≡ length (tables_of self.old.nodes.items) }
         ensures profile { self.new.profile ≡ self.old.profile }
         ensures turn { AddsATurn self.old.journal.entries self.new.journal.entries }
-        ensures carrying { let r = rules_of A.act_of (length self.old.nodes.items) self.old.profile in
+        ensures carrying { let r = rules_of A.act_of (length (tables_of self.old.nodes.items)) self.old.profile in
             IsCarrying r self.old.hand (F.flight fabric.old) (F.trace fabric.old) self.old.journal.entries
             → IsCarrying r self.new.hand (F.flight fabric.new) (F.trace fabric.new) self.new.journal.entries }
         ensures hand { self.new.hand ≡ self.old.hand }
-        ensures did { IfOk result (λ turned. DidPump (Puts k (F.flight fabric.old) (F.flight fabric.new) (F.trace fabric.old) (F.trace fabric.new)) k turned self.old.nodes.items self.new.nodes.items self.old.journal.entries self.new.journal.entries) }
-        ensures jobs { running_in self.new.nodes.items ≡ running_in self.old.nodes.items }
-        ensures err { OnErr result (IsSame self.old.nodes.items self.new.nodes.items self.old.journal.entries self.new.journal.entries) }
+        ensures did { IfOk result (λ turned. DidPump (Puts k (F.flight fabric.old) (F.flight fabric.new) (F.trace fabric.old) (F.trace fabric.new)) k turned (tables_of self.old.nodes.items) (tables_of self.new.nodes.items) self.old.journal.entries self.new.journal.entries) }
+        ensures jobs { running_in (tables_of self.new.nodes.items) ≡ running_in (tables_of self.old.nodes.items) }
+        ensures err { OnErr result (IsSame (tables_of self.old.nodes.items) (tables_of self.new.nodes.items) self.old.journal.entries self.new.journal.entries) }
         ensures kept_out { OnErr result ((F.flight fabric.new ≡ F.flight fabric.old) × (F.trace fabric.new ≡ F.trace fabric.old)) }
         ensures which { IfErr result (λ e. (e ≡ WorldFault.Fabric) ⊎ (e ≡ WorldFault.OutOfMemory None)) }
         ensures apart_empty { result ≡ Ok Turned.Empty → fabric.new ≡ fabric.old }
@@ -318,19 +343,19 @@ impl<A: Acts + Copy> Locals<A> {
     #[tactic(auto, using(hpx_node::proofs::Turns::adds_none, hpx_node::proofs::Turns::turn_from))]
     fn accept(&mut self, alloc: Global, frame: &(u32, Bytes)) -> Result<(), WorldFault<A>>
         requires room { HasRoom self.old.journal.entries }
-        requires sound { IsSound A.act_of self.old.profile self.old.nodes.items self.old.journal.entries }
-        ensures sound { IsSound A.act_of self.new.profile self.new.nodes.items self.new.journal.entries }
-        ensures count { length self.new.nodes.items ≡ length self.old.nodes.items }
+        requires sound { IsSound A.act_of self.old.profile (tables_of self.old.nodes.items) self.old.journal.entries }
+        ensures sound { IsSound A.act_of self.new.profile (tables_of self.new.nodes.items) self.new.journal.entries }
+        ensures count { length (tables_of self.new.nodes.items) ≡ length (tables_of self.old.nodes.items) }
         ensures profile { self.new.profile ≡ self.old.profile }
         ensures turn { AddsATurn self.old.journal.entries self.new.journal.entries }
         ensures hand { self.new.hand ≡ self.old.hand }
-        ensures ok { OnOk result (DoneAt frame.now.0 (λ t t'. Takes frame.now.1 t t' self.old.journal.entries self.new.journal.entries) self.old.nodes.items self.new.nodes.items) }
-        ensures jobs { running_in self.new.nodes.items ≡ running_in self.old.nodes.items }
-        ensures err { OnErr result (IsSame self.old.nodes.items self.new.nodes.items self.old.journal.entries self.new.journal.entries) }
+        ensures ok { OnOk result (DoneAt frame.now.0 (λ t t'. Takes frame.now.1 t t' self.old.journal.entries self.new.journal.entries) (tables_of self.old.nodes.items) (tables_of self.new.nodes.items)) }
+        ensures jobs { running_in (tables_of self.new.nodes.items) ≡ running_in (tables_of self.old.nodes.items) }
+        ensures err { OnErr result (IsSame (tables_of self.old.nodes.items) (tables_of self.new.nodes.items) self.old.journal.entries self.new.journal.entries) }
         ensures bad_frame { (to : _) (bytes : _) (at : _) (why : _) → result ≡ Err (WorldFault.BadFrame to bytes at why) →
             ((to, bytes) ≡ frame.now) × IsBadFrame bytes at why }
         ensures strange { (to : _) (bytes : _) (rule : _) (object : _) (kept : _) → result ≡ Err (WorldFault.Strange to bytes rule object kept) →
-            ((to, bytes) ≡ frame.now) × IsStrangeFrame self.old.nodes.items to bytes rule object kept }
+            ((to, bytes) ≡ frame.now) × IsStrangeFrame (tables_of self.old.nodes.items) to bytes rule object kept }
         ensures which { (e : _) → result ≡ Err e → (e ≡ WorldFault.OutOfMemory None)
             ⊎ (((at : _) × (why : _) × (e ≡ WorldFault.BadFrame frame.now.0 frame.now.1 at why))
             ⊎ ((rule : _) × (object : _) × (kept : _) × (e ≡ WorldFault.Strange frame.now.0 frame.now.1 rule object kept))) }
@@ -362,12 +387,12 @@ impl<A: Acts + Copy> Locals<A> {
 
     /// What it says that no frame is left: nothing to take, or an early end.
     fn ended(&self) -> Result<Turned, WorldFault<A>>
-        requires few { length self.now.nodes.items ≤ 64 }
+        requires few { length (tables_of self.now.nodes.items) ≤ 64 }
         requires room { HasRoom self.now.journal.entries }
-        requires sound { IsSound A.act_of self.now.profile self.now.nodes.items self.now.journal.entries }
-        ensures empty { IfOk result (λ turned. (turned ≡ Turned.Empty) × (sum_by (λ t. t.taken) self.now.nodes.items ≡ sum_by (λ t. t.sent) self.now.nodes.items)) }
-        ensures early { IfErr result (λ e. (e ≡ WorldFault.EarlyEnd (sum_by (λ t. t.sent) self.now.nodes.items) (sum_by (λ t. t.taken) self.now.nodes.items))
-            × (sum_by (λ t. t.taken) self.now.nodes.items ≢ sum_by (λ t. t.sent) self.now.nodes.items)) }
+        requires sound { IsSound A.act_of self.now.profile (tables_of self.now.nodes.items) self.now.journal.entries }
+        ensures empty { IfOk result (λ turned. (turned ≡ Turned.Empty) × (sum_by (λ t. t.taken) (tables_of self.now.nodes.items) ≡ sum_by (λ t. t.sent) (tables_of self.now.nodes.items))) }
+        ensures early { IfErr result (λ e. (e ≡ WorldFault.EarlyEnd (sum_by (λ t. t.sent) (tables_of self.now.nodes.items)) (sum_by (λ t. t.taken) (tables_of self.now.nodes.items)))
+            × (sum_by (λ t. t.taken) (tables_of self.now.nodes.items) ≢ sum_by (λ t. t.sent) (tables_of self.now.nodes.items))) }
     {
         let (sent, taken) = self.frames();
         if sent == taken {
@@ -387,32 +412,32 @@ impl<A: Acts + Copy> Locals<A> {
         fabric: &mut F,
     ) -> Result<Turned, WorldFault<A>>
         requires room { HasRoom self.old.journal.entries }
-        requires sound { IsSound A.act_of self.old.profile self.old.nodes.items self.old.journal.entries }
-        ensures sound { IsSound A.act_of self.new.profile self.new.nodes.items self.new.journal.entries }
-        ensures count { length self.new.nodes.items ≡ length self.old.nodes.items }
+        requires sound { IsSound A.act_of self.old.profile (tables_of self.old.nodes.items) self.old.journal.entries }
+        ensures sound { IsSound A.act_of self.new.profile (tables_of self.new.nodes.items) self.new.journal.entries }
+        ensures count { length (tables_of self.new.nodes.items) ≡ length (tables_of self.old.nodes.items) }
         ensures profile { self.new.profile ≡ self.old.profile }
         ensures turn { AddsATurn self.old.journal.entries self.new.journal.entries }
-        ensures carrying { let r = rules_of A.act_of (length self.old.nodes.items) self.old.profile in
+        ensures carrying { let r = rules_of A.act_of (length (tables_of self.old.nodes.items)) self.old.profile in
             IsCarrying r self.old.hand (F.flight fabric.old) (F.trace fabric.old) self.old.journal.entries
             → IsCarrying r self.new.hand (F.flight fabric.new) (F.trace fabric.new) self.new.journal.entries }
-        ensures did { IfOk result (λ turned. DidTake (Fetches self.old.hand (F.flight fabric.old) (F.flight fabric.new) (F.trace fabric.old) (F.trace fabric.new)) turned self.old.nodes.items self.new.nodes.items self.old.journal.entries self.new.journal.entries) }
+        ensures did { IfOk result (λ turned. DidTake (Fetches self.old.hand (F.flight fabric.old) (F.flight fabric.new) (F.trace fabric.old) (F.trace fabric.new)) turned (tables_of self.old.nodes.items) (tables_of self.new.nodes.items) self.old.journal.entries self.new.journal.entries) }
         ensures clears { OnOk result (self.new.hand ≡ None) }
-        ensures jobs { running_in self.new.nodes.items ≡ running_in self.old.nodes.items }
-        ensures err { OnErr result (IsSame self.old.nodes.items self.new.nodes.items self.old.journal.entries self.new.journal.entries) }
+        ensures jobs { running_in (tables_of self.new.nodes.items) ≡ running_in (tables_of self.old.nodes.items) }
+        ensures err { OnErr result (IsSame (tables_of self.old.nodes.items) (tables_of self.new.nodes.items) self.old.journal.entries self.new.journal.entries) }
         ensures kept { OnErr result (Keeps self.old.hand (F.flight fabric.old) (F.flight fabric.new) (F.trace fabric.old) (F.trace fabric.new) self.new.hand) }
         ensures bad_frame { (to : _) (frame : _) (at : _) (why : _) → result ≡ Err (WorldFault.BadFrame to frame at why) →
             (self.new.hand ≡ Some (to, frame)) × IsBadFrame frame at why }
         ensures strange { (to : _) (frame : _) (rule : _) (object : _) (kept : _) → result ≡ Err (WorldFault.Strange to frame rule object kept) →
-            (self.new.hand ≡ Some (to, frame)) × IsStrangeFrame self.old.nodes.items to frame rule object kept }
+            (self.new.hand ≡ Some (to, frame)) × IsStrangeFrame (tables_of self.old.nodes.items) to frame rule object kept }
         ensures early { (sent : _) (taken : _) → result ≡ Err (WorldFault.EarlyEnd sent taken) →
-            (self.new.hand ≡ None) × (sent ≡ sum_by (λ t. t.sent) self.old.nodes.items) × (taken ≡ sum_by (λ t. t.taken) self.old.nodes.items) × (sent ≢ taken)
+            (self.new.hand ≡ None) × (sent ≡ sum_by (λ t. t.sent) (tables_of self.old.nodes.items)) × (taken ≡ sum_by (λ t. t.taken) (tables_of self.old.nodes.items)) × (sent ≢ taken)
             × Fetches self.old.hand (F.flight fabric.old) (F.flight fabric.new) (F.trace fabric.old) (F.trace fabric.new) None }
         ensures memory { (u : _) → result ≡ Err (WorldFault.OutOfMemory u) → u ≡ None }
         ensures room { (e : _) (w : _) (u : _) → result ≢ Err (WorldFault.JournalFull e w u) }
         ensures runs_none { (job : _) → result ≢ Err (WorldFault.NotRun job) }
-        ensures never_bad { IsCarrying (rules_of A.act_of (length self.old.nodes.items) self.old.profile) self.old.hand (F.flight fabric.old) (F.trace fabric.old) self.old.journal.entries →
+        ensures never_bad { IsCarrying (rules_of A.act_of (length (tables_of self.old.nodes.items)) self.old.profile) self.old.hand (F.flight fabric.old) (F.trace fabric.old) self.old.journal.entries →
             (to : _) (frame : _) (at : _) (why : _) → result ≢ Err (WorldFault.BadFrame to frame at why) }
-        ensures never_early { IsCarrying (rules_of A.act_of (length self.old.nodes.items) self.old.profile) self.old.hand (F.flight fabric.old) (F.trace fabric.old) self.old.journal.entries →
+        ensures never_early { IsCarrying (rules_of A.act_of (length (tables_of self.old.nodes.items)) self.old.profile) self.old.hand (F.flight fabric.old) (F.trace fabric.old) self.old.journal.entries →
             (sent : _) (taken : _) → result ≢ Err (WorldFault.EarlyEnd sent taken) }
         ensures held { (frame : _) → self.old.hand ≡ Some frame → fabric.new ≡ fabric.old }
         ensures fabric_same { result ≡ Err WorldFault.Fabric → (self.new.hand ≡ self.old.hand) × (F.flight fabric.new ≡ F.flight fabric.old) × (F.trace fabric.new ≡ F.trace fabric.old) }

@@ -8,17 +8,17 @@ ghost use Rattle.hpx_parcel.specs.Reading.{parcel_of};
 ghost use Rattle.hpx_journal.specs.Weights.{HasRoom, total_weight};
 ghost use Rattle.hpx_part.specs.Data.{In, Mail};
 ghost use Rattle.hpx_node.specs.Changes.{OnlySpare, Writes};
-ghost use Rattle.hpx_node.specs.Lacks.{Lacks};
+ghost use Rattle.hpx_steps.specs.Rest.{Lacks, IsTidy, rules_of};
 ghost use Rattle.hpx_node.specs.Orders.{KeepsOrder};
-ghost use Rattle.hpx_node.specs.Limits.{AddsATurn};
+ghost use Rattle.hpx_steps.specs.Limits.{AddsATurn};
 ghost use Rattle.hpx_part.specs.Parts.{at_all};
-ghost use Rattle.hpx_node.specs.Stands.{IsTidy, Stands, rules_of};
+ghost use Rattle.hpx_node.specs.Stands.{Stands};
 ghost use Rattle.hpx_tables.specs.Kept.{stands_here, waits_here, held_here, count_here};
 ghost use Rattle.hpx_tables.specs.Pending.{awaits};
 ghost use Rattle.hpx_tables.specs.Strange.{is_live, brings_right, broken_near, is_far};
-ghost use Rattle.hpx_node.specs.Handled.{ups, effects, with_first, kind_of, is_own, Handles, GivesUp, Takes, Clears, NotTaken, NotCleared};
-ghost use Rattle.hpx_node.specs.Routes.{Gives, DealsWith, Accepts};
-ghost use Rattle.hpx_node.specs.Recounts.{Leaves};
+ghost use Rattle.hpx_steps.specs.Calls.{ups, effects, Gives, DealsWith, Accepts, Leaves};
+ghost use Rattle.hpx_steps.specs.Rows.{kind_of};
+ghost use Rattle.hpx_node.specs.Handled.{with_first, is_own, Handles, GivesUp, Takes, Clears, NotTaken, NotCleared};
 
 use crate::node::Node;
 use crate::parts::{DeskFault, TakeFault};
@@ -66,11 +66,12 @@ impl<A: Acts + Copy> Node<A> {
     /// Gives an id up: its credit goes home.
     fn let_go(&mut self, book: &mut Journal, id: Gid)
         requires right { HasRightCredit id }
-        requires tidy { IsTidy self.old [] }
+        requires tidy { IsTidy self.old.tables [] }
         requires spare { 1 ≤ self.old.spare }
         requires page { 1 ≤ book.old.spare }
-        ensures gives { GivesUp (rules_of A.act_of self.old.localities self.old.profile) (id ∷ []) self.old self.new }
-        ensures grows { book.new.entries ≡ book.old.entries ++ at_all self.old.here (ups (id ∷ [])) }
+        ensures gives { GivesUp (rules_of A.act_of self.old.tables.localities self.old.tables.profile) (id ∷ []) self.old.tables self.new.tables }
+        ensures spare { self.old.spare ≤ self.new.spare + 1 }
+        ensures grows { book.new.entries ≡ book.old.entries ++ at_all self.old.tables.here (ups (id ∷ [])) }
         ensures page { book.old.spare ≤ book.new.spare + 1 }
     {
         let at = self.here;
@@ -89,11 +90,12 @@ impl<A: Acts + Copy> Node<A> {
     /// Gives ids up, one after the other.
     fn let_go_all(&mut self, book: &mut Journal, ids: &Gids)
         requires right { AllByRecursion HasRightCredit ids.now }
-        requires tidy { IsTidy self.old [] }
+        requires tidy { IsTidy self.old.tables [] }
         requires spare { length ids.now ≤ self.old.spare }
         requires page { length ids.now ≤ book.old.spare }
-        ensures gives { GivesUp (rules_of A.act_of self.old.localities self.old.profile) ids.now self.old self.new }
-        ensures grows { book.new.entries ≡ book.old.entries ++ at_all self.old.here (ups ids.now) }
+        ensures gives { GivesUp (rules_of A.act_of self.old.tables.localities self.old.tables.profile) ids.now self.old.tables self.new.tables }
+        ensures spare { self.old.spare ≤ self.new.spare + length ids.now }
+        ensures grows { book.new.entries ≡ book.old.entries ++ at_all self.old.tables.here (ups ids.now) }
     {
         for i in 0..ids.len() {
             self.let_go(book, ids.as_slice()[i]);
@@ -103,14 +105,14 @@ impl<A: Acts + Copy> Node<A> {
     /// Takes the credit of an id back. An object that has none left is to be freed.
     fn take_back(&mut self, book: &mut Journal, id: Gid)
         requires credit { HasCredit id }
-        requires live { is_live self.old id ≡ true }
-        requires enough { credit id ≤ count_here self.old id }
-        requires tidy { IsTidy self.old [] }
+        requires live { is_live self.old.tables id ≡ true }
+        requires enough { credit id ≤ count_here self.old.tables id }
+        requires tidy { IsTidy self.old.tables [] }
         requires spare { 1 ≤ self.old.spare }
         requires page { 1 ≤ book.old.spare }
-        ensures handles { Handles (rules_of A.act_of self.old.localities self.old.profile) (Return id) self.old self.new (effects self.old (Return id)) }
-        ensures leaves { Leaves (Return id) self.old self.new }
-        ensures grows { book.new.entries ≡ book.old.entries ++ at_all self.old.here (effects self.old (Return id)) }
+        ensures handles { Handles (rules_of A.act_of self.old.tables.localities self.old.tables.profile) (Return id) self.old.tables self.new.tables (effects self.old.tables (Return id)) }
+        ensures leaves { Leaves (Return id) self.old.tables self.new.tables }
+        ensures grows { book.new.entries ≡ book.old.entries ++ at_all self.old.tables.here (effects self.old.tables (Return id)) }
     {
         let at = self.here;
         let object = id.bare();
@@ -137,14 +139,14 @@ impl<A: Acts + Copy> Node<A> {
     /// Answers an ask for more credit.
     fn answer(&mut self, book: &mut Journal, id: Gid, asker: u16, entry: u64)
         requires credit { HasLeastCredit id }
-        requires live { is_live self.old id ≡ true }
-        requires enough { credit id ≤ count_here self.old id }
-        requires tidy { IsTidy self.old [] }
+        requires live { is_live self.old.tables id ≡ true }
+        requires enough { credit id ≤ count_here self.old.tables id }
+        requires tidy { IsTidy self.old.tables [] }
         requires spare { 1 ≤ self.old.spare }
         requires page { 1 ≤ book.old.spare }
-        ensures handles { Handles (rules_of A.act_of self.old.localities self.old.profile) (Ask id asker entry) self.old self.new (effects self.old (Ask id asker entry)) }
-        ensures leaves { Leaves (Ask id asker entry) self.old self.new }
-        ensures grows { book.new.entries ≡ book.old.entries ++ at_all self.old.here (effects self.old (Ask id asker entry)) }
+        ensures handles { Handles (rules_of A.act_of self.old.tables.localities self.old.tables.profile) (Ask id asker entry) self.old.tables self.new.tables (effects self.old.tables (Ask id asker entry)) }
+        ensures leaves { Leaves (Ask id asker entry) self.old.tables self.new.tables }
+        ensures grows { book.new.entries ≡ book.old.entries ++ at_all self.old.tables.here (effects self.old.tables (Ask id asker entry)) }
     {
         let at = self.here;
         let object = id.bare();
@@ -166,15 +168,15 @@ impl<A: Acts + Copy> Node<A> {
     /// Frees a dead object: the ids of its state are given up.
     fn free(&mut self, book: &mut Journal, o: Gid)
         requires bare { IsBare o }
-        requires stands { stands_here self.old o ≡ true }
-        requires idle { waits_here self.old o ≡ false }
-        requires none { held_here self.old o ≡ 0 }
-        requires tidy { IsTidy self.old [] }
+        requires stands { stands_here self.old.tables o ≡ true }
+        requires idle { waits_here self.old.tables o ≡ false }
+        requires none { held_here self.old.tables o ≡ 0 }
+        requires tidy { IsTidy self.old.tables [] }
         requires spare { 128 ≤ self.old.spare }
         requires page { 129 ≤ book.old.spare }
-        ensures handles { Handles (rules_of A.act_of self.old.localities self.old.profile) (Free o) self.old self.new (effects self.old (Free o)) }
-        ensures leaves { Leaves (Free o) self.old self.new }
-        ensures grows { book.new.entries ≡ book.old.entries ++ at_all self.old.here (effects self.old (Free o)) }
+        ensures handles { Handles (rules_of A.act_of self.old.tables.localities self.old.tables.profile) (Free o) self.old.tables self.new.tables (effects self.old.tables (Free o)) }
+        ensures leaves { Leaves (Free o) self.old.tables self.new.tables }
+        ensures grows { book.new.entries ≡ book.old.entries ++ at_all self.old.tables.here (effects self.old.tables (Free o)) }
     {
         let at = self.here;
         let Some(i) = place_of(self.objects.as_slice(), o) else {
@@ -191,15 +193,15 @@ impl<A: Acts + Copy> Node<A> {
     /// Gives credit that was asked for to the commit that waits for it.
     fn give(&mut self, book: &mut Journal, id: Gid, entry: u64)
         requires credit { HasCredit id }
-        requires waits { list_any (awaits id entry) self.old.pending ≡ true }
-        requires brings { brings_right self.old id ≡ true }
-        requires tidy { IsTidy self.old [] }
+        requires waits { list_any (awaits id entry) self.old.tables.pending ≡ true }
+        requires brings { brings_right self.old.tables id ≡ true }
+        requires tidy { IsTidy self.old.tables [] }
         requires page { 1 ≤ book.old.spare }
-        ensures gives { Gives id entry self.old self.new }
+        ensures gives { Gives id entry self.old.tables self.new.tables }
         ensures spare { self.old.spare ≤ self.new.spare }
         ensures page { book.old.spare ≤ book.new.spare + 1 }
-        ensures handles { Handles (rules_of A.act_of self.old.localities self.old.profile) (Give id entry) self.old self.new (effects self.old (Give id entry)) }
-        ensures grows { book.new.entries ≡ book.old.entries ++ at_all self.old.here (effects self.old (Give id entry)) }
+        ensures handles { Handles (rules_of A.act_of self.old.tables.localities self.old.tables.profile) (Give id entry) self.old.tables self.new.tables (effects self.old.tables (Give id entry)) }
+        ensures grows { book.new.entries ≡ book.old.entries ++ at_all self.old.tables.here (effects self.old.tables (Give id entry)) }
     {
         let at = self.here;
         let Some(i) = waiting_at(self.pending.as_slice(), id, entry) else {
@@ -218,13 +220,13 @@ impl<A: Acts + Copy> Node<A> {
     /// Does what a message says that breaks no rule.
     fn handle(&mut self, book: &mut Journal, parcel: Parcel)
         requires fit { IsParcel parcel }
-        requires right { broken_near self.old parcel ≡ None }
-        requires tidy { IsTidy self.old [] }
+        requires right { broken_near self.old.tables parcel ≡ None }
+        requires tidy { IsTidy self.old.tables [] }
         requires spare { 128 ≤ self.old.spare }
         requires page { 129 ≤ book.old.spare }
-        ensures handles { Handles (rules_of A.act_of self.old.localities self.old.profile) parcel self.old self.new (effects self.old parcel) }
-        ensures leaves { Leaves parcel self.old self.new }
-        ensures grows { book.new.entries ≡ book.old.entries ++ at_all self.old.here (effects self.old parcel) }
+        ensures handles { Handles (rules_of A.act_of self.old.tables.localities self.old.tables.profile) parcel self.old.tables self.new.tables (effects self.old.tables parcel) }
+        ensures leaves { Leaves parcel self.old.tables self.new.tables }
+        ensures grows { book.new.entries ≡ book.old.entries ++ at_all self.old.tables.here (effects self.old.tables parcel) }
         ensures spare { (id : _) (entry : _) → parcel ≡ Give id entry → self.old.spare ≤ self.new.spare }
         ensures page { (id : _) (entry : _) → parcel ≡ Give id entry → book.old.spare ≤ book.new.spare + 1 }
     {
@@ -249,18 +251,18 @@ impl<A: Acts + Copy> Node<A> {
     fn enter_frame(&mut self, book: &mut Journal, bytes: Bytes, parcel: Parcel)
         requires fit { IsParcel parcel }
         requires spelled { parcel_of bytes ≡ Some parcel }
-        requires right { broken_near self.old parcel ≡ None }
-        requires few { self.old.taken + 1 < 2 ^ 64 }
+        requires right { broken_near self.old.tables parcel ≡ None }
+        requires few { self.old.tables.taken + 1 < 2 ^ 64 }
         requires spare { 1280 ≤ self.old.spare }
         requires page { 1280 ≤ book.old.spare }
-        requires stands { Stands A.act_of self.old book.old.entries }
-        ensures stands { Stands A.act_of self.new book.new.entries }
-        ensures writes { Writes (In bytes ∷ effects self.old parcel) self.old self.new book.old.entries book.new.entries }
-        ensures deals { DealsWith parcel (record self.old { taken = self.old.taken + 1 }) self.new }
-        ensures leaves { Leaves parcel self.old self.new }
-        ensures running { self.new.running ≡ self.old.running }
-        ensures taken { self.new.taken ≡ self.old.taken + 1 }
-        ensures sent { self.new.sent ≡ self.old.sent }
+        requires stands { Stands A.act_of self.old.tables book.old.entries }
+        ensures stands { Stands A.act_of self.new.tables book.new.entries }
+        ensures writes { Writes (In bytes ∷ effects self.old.tables parcel) self.old.tables self.new.tables book.old.entries book.new.entries }
+        ensures deals { DealsWith parcel (record self.old.tables { taken = self.old.tables.taken + 1 }) self.new.tables }
+        ensures leaves { Leaves parcel self.old.tables self.new.tables }
+        ensures running { self.new.tables.running ≡ self.old.tables.running }
+        ensures taken { self.new.tables.taken ≡ self.old.tables.taken + 1 }
+        ensures sent { self.new.tables.sent ≡ self.old.tables.sent }
         ensures spare { (id : _) (entry : _) → parcel ≡ Give id entry → 1024 ≤ self.new.spare }
         ensures page { (id : _) (entry : _) → parcel ≡ Give id entry → 1024 ≤ book.new.spare }
         ensures few { length book.new.entries ≤ length book.old.entries + 130 }
@@ -278,19 +280,19 @@ impl<A: Acts + Copy> Node<A> {
     /// Writes that a message to the own locality is taken up, and does what it says.
     fn enter_mail(&mut self, book: &mut Journal, parcel: Parcel)
         requires fit { IsParcel parcel }
-        requires own { is_own self.old.here parcel ≡ true }
-        requires near { is_far self.old.localities parcel ≡ false }
-        requires right { broken_near self.old parcel ≡ None }
+        requires own { is_own self.old.tables.here parcel ≡ true }
+        requires near { is_far self.old.tables.localities parcel ≡ false }
+        requires right { broken_near self.old.tables parcel ≡ None }
         requires spare { 1280 ≤ self.old.spare }
         requires page { 1280 ≤ book.old.spare }
-        requires stands { Stands A.act_of (with_first parcel self.old) book.old.entries }
-        ensures stands { Stands A.act_of self.new book.new.entries }
-        ensures writes { Writes (Mail (kind_of parcel) ∷ effects self.old parcel) self.old self.new book.old.entries book.new.entries }
-        ensures accepts { Accepts parcel self.old self.new }
-        ensures leaves { Leaves parcel self.old self.new }
-        ensures running { self.new.running ≡ self.old.running }
-        ensures taken { self.new.taken ≡ self.old.taken }
-        ensures sent { self.new.sent ≡ self.old.sent }
+        requires stands { Stands A.act_of (with_first parcel self.old.tables) book.old.entries }
+        ensures stands { Stands A.act_of self.new.tables book.new.entries }
+        ensures writes { Writes (Mail (kind_of parcel) ∷ effects self.old.tables parcel) self.old.tables self.new.tables book.old.entries book.new.entries }
+        ensures accepts { Accepts parcel self.old.tables self.new.tables }
+        ensures leaves { Leaves parcel self.old.tables self.new.tables }
+        ensures running { self.new.tables.running ≡ self.old.tables.running }
+        ensures taken { self.new.tables.taken ≡ self.old.tables.taken }
+        ensures sent { self.new.tables.sent ≡ self.old.tables.sent }
         ensures spare { (id : _) (entry : _) → parcel ≡ Give id entry → 1024 ≤ self.new.spare }
         ensures page { (id : _) (entry : _) → parcel ≡ Give id entry → 1024 ≤ book.new.spare }
         ensures few { length book.new.entries ≤ length book.old.entries + 130 }
@@ -307,7 +309,7 @@ impl<A: Acts + Copy> Node<A> {
 
     /// Makes memory for a message that is dealt with, and for what follows it.
     fn reserve_turn(&mut self, book: &mut Journal) -> Result<(), OutOfMemory>
-        ensures same { OnlySpare self.old self.new book.old book.new }
+        ensures same { OnlySpare self.old.tables self.new.tables book.old book.new }
         ensures spare { OnOk result (1280 ≤ self.new.spare) }
         ensures page { OnOk result (1280 ≤ book.new.spare) }
     {
@@ -324,15 +326,15 @@ impl<A: Acts + Copy> Node<A> {
         frame: &Bytes,
     ) -> Result<(), TakeFault>
         requires room { HasRoom book.old.entries }
-        requires stands { Stands A.act_of self.old book.old.entries }
-        ensures stands { Stands A.act_of self.new book.new.entries }
-        ensures running { self.new.running ≡ self.old.running }
-        ensures lacks { Lacks self.old → Lacks self.new }
-        ensures orderly { KeepsOrder A.act_of self.old book.old.entries → KeepsOrder A.act_of self.new book.new.entries }
+        requires stands { Stands A.act_of self.old.tables book.old.entries }
+        ensures stands { Stands A.act_of self.new.tables book.new.entries }
+        ensures running { self.new.tables.running ≡ self.old.tables.running }
+        ensures lacks { Lacks self.old.tables → Lacks self.new.tables }
+        ensures orderly { KeepsOrder A.act_of self.old.tables book.old.entries → KeepsOrder A.act_of self.new.tables book.new.entries }
         ensures turn { AddsATurn book.old.entries book.new.entries }
-        ensures ok { OnOk result (Takes frame.now self.old self.new book.old.entries book.new.entries) }
-        ensures err { OnErr result (OnlySpare self.old self.new book.old book.new) }
-        ensures cause { IfErr result (NotTaken self.old frame.now) }
+        ensures ok { OnOk result (Takes frame.now self.old.tables self.new.tables book.old.entries book.new.entries) }
+        ensures err { OnErr result (OnlySpare self.old.tables self.new.tables book.old book.new) }
+        ensures cause { IfErr result (NotTaken self.old.tables frame.now) }
     {
         let parcel = match decode(alloc, frame.as_slice()) {
             Ok(parcel) => parcel,
@@ -365,16 +367,16 @@ impl<A: Acts + Copy> Node<A> {
     /// Deals with the oldest message to the own locality, if there is one; nothing changes at a refusal.
     pub fn desk(&mut self, alloc: Global, book: &mut Journal) -> Result<bool, DeskFault>
         requires room { HasRoom book.old.entries }
-        requires stands { Stands A.act_of self.old book.old.entries }
-        ensures stands { Stands A.act_of self.new book.new.entries }
-        ensures running { self.new.running ≡ self.old.running }
-        ensures lacks { Lacks self.old → Lacks self.new }
-        ensures orderly { KeepsOrder A.act_of self.old book.old.entries → KeepsOrder A.act_of self.new book.new.entries }
+        requires stands { Stands A.act_of self.old.tables book.old.entries }
+        ensures stands { Stands A.act_of self.new.tables book.new.entries }
+        ensures running { self.new.tables.running ≡ self.old.tables.running }
+        ensures lacks { Lacks self.old.tables → Lacks self.new.tables }
+        ensures orderly { KeepsOrder A.act_of self.old.tables book.old.entries → KeepsOrder A.act_of self.new.tables book.new.entries }
         ensures turn { AddsATurn book.old.entries book.new.entries }
-        ensures cleared { result ≡ Ok true → Clears self.old self.new book.old.entries book.new.entries }
-        ensures empty { result ≡ Ok false → (self.old.desk ≡ []) × (OnlySpare self.old self.new book.old book.new) }
-        ensures err { OnErr result (OnlySpare self.old self.new book.old book.new) }
-        ensures cause { IfErr result (NotCleared self.old) }
+        ensures cleared { result ≡ Ok true → Clears self.old.tables self.new.tables book.old.entries book.new.entries }
+        ensures empty { result ≡ Ok false → (self.old.tables.desk ≡ []) × (OnlySpare self.old.tables self.new.tables book.old book.new) }
+        ensures err { OnErr result (OnlySpare self.old.tables self.new.tables book.old book.new) }
+        ensures cause { IfErr result (NotCleared self.old.tables) }
     {
         if self.desk.len() == 0 {
             return Ok(false);

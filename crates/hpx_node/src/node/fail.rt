@@ -10,7 +10,8 @@ ghost use Rattle.hpx_node.specs.Fails.{MustFail, IsFailure, Fails, IsFailingFor,
 ghost use Rattle.hpx_node.specs.Changes.{Writes};
 ghost use Rattle.hpx_tables.specs.Fit.{IsKept};
 ghost use Rattle.hpx_tables.specs.Pending.{hand_with, action_of};
-ghost use Rattle.hpx_node.specs.Stands.{IsTidy, Stands};
+ghost use Rattle.hpx_steps.specs.Rest.{IsTidy};
+ghost use Rattle.hpx_node.specs.Stands.{Stands};
 
 use crate::node::Node;
 use hpx_commit::failure::plan_failure;
@@ -39,9 +40,9 @@ pub struct Failing {
 impl<A: Acts + Copy> Node<A> {
     /// What the action leaves that fails, whose commit waits at i, with this id in its hand.
     fn failure(&self, alloc: Global, i: usize, id: Gid, entry: u64) -> Result<Plan, OutOfMemory>
-        requires there { i < length self.now.pending }
-        requires tidy { IsTidy self.now [] }
-        ensures plan { IfOk result (λ p. (w : _) → slice_get self.now.pending i ≡ Some w → IsFailure (record w { hand = hand_with id entry w }) p) }
+        requires there { i < length self.now.tables.pending }
+        requires tidy { IsTidy self.now.tables [] }
+        ensures plan { IfOk result (λ p. (w : _) → slice_get self.now.tables.pending i ≡ Some w → IsFailure (record w { hand = hand_with id entry w }) p) }
         ensures few { IfOk result (λ p. length p.ups.items ≤ 256) }
     {
         let waits = &self.pending[i];
@@ -60,9 +61,9 @@ impl<A: Acts + Copy> Node<A> {
         alloc: Global,
         parcel: &Parcel,
     ) -> Result<Option<Failing>, OutOfMemory>
-        requires tidy { IsTidy self.now [] }
-        ensures some { IfOk result (λ o. IfSome o (IsFailingFor self.now parcel.now)) }
-        ensures none { IfOk result (λ o. IfNone o (dooms self.now parcel.now ≡ false)) }
+        requires tidy { IsTidy self.now.tables [] }
+        ensures some { IfOk result (λ o. IfSome o (IsFailingFor self.now.tables parcel.now)) }
+        ensures none { IfOk result (λ o. IfNone o (dooms self.now.tables parcel.now ≡ false)) }
     {
         let (id, entry) = match parcel {
             Parcel::Give { id, entry } => (*id, *entry),
@@ -84,22 +85,21 @@ impl<A: Acts + Copy> Node<A> {
 
     /// The commit at i waits no more: its action is done, and failed. Its object, at j, has this state.
     fn abandon(&mut self, book: &mut Journal, i: usize, j: usize, state: State)
-        requires waits { i < length self.old.pending }
-        requires object { j < length self.old.objects }
-        requires kept { (x : _) → slice_get self.old.objects j ≡ Some x → IsKept (record { object = x.object; state = state }) }
-        requires answers { self.old.answered + 1 < 2 ^ 64 }
+        requires waits { i < length self.old.tables.pending }
+        requires object { j < length self.old.tables.objects }
+        requires kept { (x : _) → slice_get self.old.tables.objects j ≡ Some x → IsKept (record { object = x.object; state = state }) }
+        requires answers { self.old.tables.answered + 1 < 2 ^ 64 }
         requires page { 1 ≤ book.old.spare }
-        ensures pending { self.new.pending ≡ remove self.old.pending i }
-        ensures objects { (x : _) → slice_get self.old.objects j ≡ Some x → self.new.objects ≡ set self.old.objects j (record { object = x.object; state = state }) }
-        ensures rest { self.new ≡ record self.old {
-          pending = self.new.pending;
-          objects = self.new.objects;
-          answered = self.old.answered + answered_by (option_map action_of (slice_get self.old.pending i));
-          spare = self.new.spare;
+        ensures pending { self.new.tables.pending ≡ remove self.old.tables.pending i }
+        ensures objects { (x : _) → slice_get self.old.tables.objects j ≡ Some x → self.new.tables.objects ≡ set self.old.tables.objects j (record { object = x.object; state = state }) }
+        ensures rest { self.new.tables ≡ record self.old.tables {
+          pending = self.new.tables.pending;
+          objects = self.new.tables.objects;
+          answered = self.old.tables.answered + answered_by (option_map action_of (slice_get self.old.tables.pending i));
         } }
         ensures spare { self.old.spare ≤ self.new.spare }
         ensures page { book.new.spare + 1 ≡ book.old.spare }
-        ensures entries { (w : _) → slice_get self.old.pending i ≡ Some w → book.new.entries ≡ book.old.entries ++ at_all self.old.here (Done (name_of w.job.action) true ∷ []) }
+        ensures entries { (w : _) → slice_get self.old.tables.pending i ≡ Some w → book.new.entries ≡ book.old.entries ++ at_all self.old.tables.here (Done (name_of w.job.action) true ∷ []) }
     {
         let waits = self.pending.remove(i);
         self.answered += answered_by(waits.action());
@@ -116,20 +116,20 @@ impl<A: Acts + Copy> Node<A> {
 
     /// Fails the action whose commit is at i, and whose object stands at j. It takes no memory.
     pub(crate) fn fail(&mut self, book: &mut Journal, i: usize, j: usize, plan: Plan)
-        requires must { MustFail i j self.old }
-        requires plan { (w : _) → slice_get self.old.pending i ≡ Some w → IsFailure w plan }
+        requires must { MustFail i j self.old.tables }
+        requires plan { (w : _) → slice_get self.old.tables.pending i ≡ Some w → IsFailure w plan }
         requires few { length plan.ups.items ≤ 256 }
-        requires serial { self.old.serial + 2 < 2 ^ 64 }
-        requires answers { self.old.answered + 1 < 2 ^ 64 }
+        requires serial { self.old.tables.serial + 2 < 2 ^ 64 }
+        requires answers { self.old.tables.answered + 1 < 2 ^ 64 }
         requires spare { 512 ≤ self.old.spare }
         requires page { 512 ≤ book.old.spare }
-        requires stands { Stands A.act_of self.old book.old.entries }
-        ensures stands { Stands A.act_of self.new book.new.entries }
-        ensures running { self.new.running ≡ self.old.running }
-        ensures taken { self.new.taken ≡ self.old.taken }
-        ensures sent { self.new.sent ≡ self.old.sent }
-        ensures fails { Fails i j self.old self.new }
-        ensures writes { (w : _) → slice_get self.old.pending i ≡ Some w → Writes (failed_events self.old w) self.old self.new book.old.entries book.new.entries }
+        requires stands { Stands A.act_of self.old.tables book.old.entries }
+        ensures stands { Stands A.act_of self.new.tables book.new.entries }
+        ensures running { self.new.tables.running ≡ self.old.tables.running }
+        ensures taken { self.new.tables.taken ≡ self.old.tables.taken }
+        ensures sent { self.new.tables.sent ≡ self.old.tables.sent }
+        ensures fails { Fails i j self.old.tables self.new.tables }
+        ensures writes { (w : _) → slice_get self.old.tables.pending i ≡ Some w → Writes (failed_events self.old.tables w) self.old.tables self.new.tables book.old.entries book.new.entries }
         ensures few { length book.new.entries ≤ length book.old.entries + 259 }
         ensures light { total_weight book.new.entries ≤ total_weight book.old.entries + 16640 }
     {

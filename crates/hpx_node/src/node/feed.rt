@@ -4,12 +4,10 @@ ghost use Rattle.hpx_journal.specs.Entries.{line_act};
 ghost use Rattle.hpx_journal.specs.Weights.{HasRoom};
 ghost use Rattle.hpx_part.specs.Data.{Line};
 ghost use Rattle.hpx_tables.specs.Fit.{IsFit};
-ghost use Rattle.hpx_node.specs.Lacks.{Lacks};
-ghost use Rattle.hpx_node.specs.Orders.{KeepsOrder};
-ghost use Rattle.hpx_node.specs.Stands.{Stands};
+ghost use Rattle.hpx_steps.specs.Rest.{Stands};
 ghost use Rattle.hpx_node.specs.Changes.{OnlySpare, Writes};
-ghost use Rattle.hpx_node.specs.Limits.{AddsATurn};
-ghost use Rattle.hpx_node.specs.Routes.{with_act};
+ghost use Rattle.hpx_steps.specs.Limits.{AddsATurn};
+ghost use Rattle.hpx_steps.specs.Mail.{with_act};
 
 use crate::node::Node;
 use hpx_journal::entry::{Entry, Event, Name};
@@ -45,21 +43,15 @@ fn line_act(alloc: Global, action: Name, line: &Text) -> Result<Act, OutOfMemory
 
 impl<A: Acts + Copy> Node<A> {
     fn enter_line(&mut self, book: &mut Journal, action: Name, act: Act, bytes: Text)
-        requires here { self.old.here ≡ 0 }
-        requires short { length bytes ≤ 1025 }
-        requires action { action ≡ record { origin = self.old.here; serial = self.old.serial + 1 } }
+        requires action { action ≡ record { origin = self.old.tables.here; serial = self.old.tables.serial + 1 } }
         requires act { act ≡ line_act action bytes }
         requires fit { IsFit act }
         requires spare { 1 ≤ self.old.spare }
         requires page { 1 ≤ book.old.spare }
-        requires few { self.old.serial + 1 < 2 ^ 64 }
-        requires stands { Stands A.act_of self.old book.old.entries }
-        ensures stands { Stands A.act_of self.new book.new.entries }
-        ensures line { Writes (Line action bytes ∷ []) self.old self.new book.old.entries book.new.entries }
-        ensures waits { self.new ≡ record (with_act act (record self.old { serial = self.old.serial + 1 })) { spare = self.new.spare } }
-        ensures running { self.new.running ≡ self.old.running }
-        ensures pending { self.new.pending ≡ self.old.pending }
-        ensures accepted { self.new.accepted ≡ self.old.accepted ++ act ∷ [] }
+        requires few { self.old.tables.serial + 1 < 2 ^ 64 }
+        ensures line { Writes (Line action bytes ∷ []) self.old.tables self.new.tables book.old.entries book.new.entries }
+        ensures waits { self.new.tables ≡ with_act act (record self.old.tables { serial = self.old.tables.serial + 1 }) }
+        ensures running { self.new.tables.running ≡ self.old.tables.running }
     {
         let at = self.here;
         self.serial += 1;
@@ -73,20 +65,18 @@ impl<A: Acts + Copy> Node<A> {
     /// Accepts a line, as an action on the session, the last in the queue: the session stands at locality 0 always. Nothing changes
     /// without memory.
     pub fn feed(&mut self, alloc: Global, book: &mut Journal, line: Text) -> Result<(), OutOfMemory>
-        requires here { self.old.here ≡ 0 }
+        requires here { self.old.tables.here ≡ 0 }
         requires short { length line ≤ 1025 }
         requires room { HasRoom book.old.entries }
-        requires stands { Stands A.act_of self.old book.old.entries }
-        ensures stands { Stands A.act_of self.new book.new.entries }
-        ensures running { self.new.running ≡ self.old.running }
-        ensures waits { OnOk result (self.new ≡ record (with_act (line_act (record { origin = self.old.here; serial = self.old.serial + 1 }) line)
-            (record self.old { serial = self.old.serial + 1 })) { spare = self.new.spare }) }
-        ensures accepted { OnOk result (self.new.accepted ≡ self.old.accepted ++ line_act (record { origin = self.old.here; serial = self.old.serial + 1 }) line ∷ []) }
-        ensures lacks { Lacks self.old → Lacks self.new }
-        ensures orderly { KeepsOrder A.act_of self.old book.old.entries → KeepsOrder A.act_of self.new book.new.entries }
+        requires stands { Stands A.act_of self.old.tables book.old.entries }
+        ensures stands { Stands A.act_of self.new.tables book.new.entries }
+        ensures running { self.new.tables.running ≡ self.old.tables.running }
+        ensures waits { OnOk result (self.new.tables ≡ with_act (line_act (record { origin = self.old.tables.here; serial = self.old.tables.serial + 1 }) line)
+            (record self.old.tables { serial = self.old.tables.serial + 1 })) }
+        ensures accepted { OnOk result (self.new.tables.accepted ≡ self.old.tables.accepted ++ line_act (record { origin = self.old.tables.here; serial = self.old.tables.serial + 1 }) line ∷ []) }
         ensures turn { AddsATurn book.old.entries book.new.entries }
-        ensures line { OnOk result (Writes (Line (record { origin = self.old.here; serial = self.old.serial + 1 }) line ∷ []) self.old self.new book.old.entries book.new.entries) }
-        ensures err { OnErr result (OnlySpare self.old self.new book.old book.new) }
+        ensures line { OnOk result (Writes (Line (record { origin = self.old.tables.here; serial = self.old.tables.serial + 1 }) line ∷ []) self.old.tables self.new.tables book.old.entries book.new.entries) }
+        ensures err { OnErr result (OnlySpare self.old.tables self.new.tables book.old book.new) }
     {
         let action = Name {
             origin: self.here as u16,

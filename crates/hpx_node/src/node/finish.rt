@@ -10,11 +10,11 @@ ghost use Rattle.hpx_node.specs.Asks.{Begins};
 ghost use Rattle.hpx_tables.specs.Births.{birth_of, ids_of};
 ghost use Rattle.hpx_node.specs.Commits.{committed, made_of, hand_of, places_in_hand, own_stock, IsStock, IsPrepared, Ends};
 ghost use Rattle.hpx_tables.specs.Jobs.{IsAt, IsRunning, IsFitJob};
-ghost use Rattle.hpx_node.specs.Lacks.{Lacks};
+ghost use Rattle.hpx_steps.specs.Rest.{Lacks, IsTidy};
 ghost use Rattle.hpx_node.specs.Orders.{KeepsOrder};
-ghost use Rattle.hpx_node.specs.Stands.{IsTidy, Stands};
+ghost use Rattle.hpx_node.specs.Stands.{Stands};
 ghost use Rattle.hpx_node.specs.Changes.{OnlySpare, Writes};
-ghost use Rattle.hpx_node.specs.Limits.{AddsATurn};
+ghost use Rattle.hpx_steps.specs.Limits.{AddsATurn};
 
 use crate::node::Node;
 use crate::parts::{FinishFault, Finished};
@@ -48,13 +48,13 @@ pub struct Prepared {
 impl<A: Acts + Copy> Node<A> {
     /// Where the action of a job runs, and where its object stands.
     fn spot(&self, done: &Done<A>) -> Option<(usize, usize)>
-        requires tidy { IsTidy self.now [] }
-        ensures found { IfSome result (λ p. (done.now.localities ≡ self.now.localities) × IsAt self.now p.0 p.1 done.now.job) }
-        ensures first { IfSome result (λ p. find (is_standing (target_of done.now.job.action)) (take p.1 self.now.objects) ≡ None) }
+        requires tidy { IsTidy self.now.tables [] }
+        ensures found { IfSome result (λ p. (done.now.localities ≡ self.now.tables.localities) × IsAt self.now.tables p.0 p.1 done.now.job) }
+        ensures first { IfSome result (λ p. find (is_standing (target_of done.now.job.action)) (take p.1 self.now.tables.objects) ≡ None) }
         ensures fit { IfSome result (λ p. IsFitJob done.now.job) }
         ensures few { IfSome result (λ p. done.now.localities ≤ 64) }
         ensures here { IfSome result (λ p. done.now.job.at < done.now.localities) }
-        ensures none { IfNone result (done.now.localities ≡ self.now.localities → IsRunning self.now done.now.job → ⊥) }
+        ensures none { IfNone result (done.now.localities ≡ self.now.tables.localities → IsRunning self.now.tables done.now.job → ⊥) }
     {
         let job = done.job();
         if job.at != self.here || done.localities() != self.localities {
@@ -76,8 +76,8 @@ impl<A: Acts + Copy> Node<A> {
     /// The ids of the objects that an outcome makes.
     pub(crate) fn made(&self, alloc: Global, makes: &[Make]) -> Result<Vec<Gid>, OutOfMemory>
         requires managed { AllByRecursion (λ make. IsManaged make.kind) makes.now }
-        requires few { self.now.births + length makes.now < 2 ^ 32 }
-        ensures { IfOk result (λ ids. ids.items ≡ ids_of self.now.here self.now.births self.now.profile.credit_log (map birth_of makes.now)) }
+        requires few { self.now.tables.births + length makes.now < 2 ^ 32 }
+        ensures { IfOk result (λ ids. ids.items ≡ ids_of self.now.tables.here self.now.tables.births self.now.tables.profile.credit_log (map birth_of makes.now)) }
     {
         let mut number = self.records.births() as u64;
         let mut ids = Vec::new(alloc);
@@ -98,9 +98,9 @@ impl<A: Acts + Copy> Node<A> {
     ) -> Result<Prepared, OutOfMemory>
         requires state { hand.now.state.now ≡ done.now.job.state }
         requires action { hand.now.action.now ≡ done.now.job.action }
-        requires made { hand.now.made.now ≡ made_of self.now done.now.outcome }
-        requires stock { IsStock self.now done.now.job done.now.outcome stock }
-        ensures prepared { IfOk result (IsPrepared self.now done.now.job done.now.outcome) }
+        requires made { hand.now.made.now ≡ made_of self.now.tables done.now.outcome }
+        requires stock { IsStock self.now.tables done.now.job done.now.outcome stock }
+        ensures prepared { IfOk result (IsPrepared self.now.tables done.now.job done.now.outcome) }
         ensures stock { IfOk result (λ p. p.stock ≡ stock) }
     {
         let outcome = done.outcome();
@@ -117,11 +117,11 @@ impl<A: Acts + Copy> Node<A> {
         requires localities { done.now.localities ≤ 64 }
         requires at { done.now.job.at < done.now.localities }
         requires fit { IsFitJob done.now.job }
-        requires few { self.now.births + 1024 < 2 ^ 32 }
+        requires few { self.now.tables.births + 1024 < 2 ^ 32 }
         ensures laws { KeepsLaws done.now.localities done.now.job.kind done.now.job.at done.now.job.state done.now.job.action done.now.outcome }
-        ensures some { IfOk result (λ o. IfSome o (λ p. IsPrepared self.now done.now.job done.now.outcome p)) }
-        ensures own { IfOk result (λ o. IfSome o (λ p. p.stock ≡ own_stock self.now done.now.job done.now.outcome)) }
-        ensures none { IfOk result (λ o. IfNone o (AllLast (hand_of self.now done.now.job done.now.outcome) (places_in_hand self.now done.now.job done.now.outcome) → ⊥)) }
+        ensures some { IfOk result (λ o. IfSome o (λ p. IsPrepared self.now.tables done.now.job done.now.outcome p)) }
+        ensures own { IfOk result (λ o. IfSome o (λ p. p.stock ≡ own_stock self.now.tables done.now.job done.now.outcome)) }
+        ensures none { IfOk result (λ o. IfNone o (AllLast (hand_of self.now.tables done.now.job done.now.outcome) (places_in_hand self.now.tables done.now.job done.now.outcome) → ⊥)) }
     {
         lawful(done);
         let job = done.job();
@@ -138,22 +138,22 @@ impl<A: Acts + Copy> Node<A> {
 
     /// Writes a commit that is prepared. It takes no memory.
     fn commit(&mut self, book: &mut Journal, i: usize, j: usize, done: &Done<A>, prepared: Prepared)
-        requires at { IsAt self.old i j done.now.job }
-        requires localities { done.now.localities ≡ self.old.localities }
-        requires few { self.old.localities ≤ 64 }
+        requires at { IsAt self.old.tables i j done.now.job }
+        requires localities { done.now.localities ≡ self.old.tables.localities }
+        requires few { self.old.tables.localities ≤ 64 }
         requires fit { IsFitJob done.now.job }
         requires laws { KeepsLaws done.now.localities done.now.job.kind done.now.job.at done.now.job.state done.now.job.action done.now.outcome }
-        requires prepared { IsPrepared self.old done.now.job done.now.outcome prepared }
-        requires own { prepared.stock ≡ own_stock self.old done.now.job done.now.outcome }
+        requires prepared { IsPrepared self.old.tables done.now.job done.now.outcome prepared }
+        requires own { prepared.stock ≡ own_stock self.old.tables done.now.job done.now.outcome }
         requires room { HasRoom book.old.entries }
         requires spare { 1024 ≤ self.old.spare }
         requires page { 1024 ≤ book.old.spare }
-        requires stands { Stands A.act_of self.old book.old.entries }
-        ensures stands { Stands A.act_of self.new book.new.entries }
+        requires stands { Stands A.act_of self.old.tables book.old.entries }
+        ensures stands { Stands A.act_of self.new.tables book.new.entries }
         ensures turn { AddsATurn book.old.entries book.new.entries }
-        ensures committed { Writes (committed self.old done.now.job done.now.outcome) self.old self.new book.old.entries book.new.entries }
-        ensures ends { Ends self.old self.new done.now.job done.now.outcome }
-        ensures pending { self.new.pending ≡ self.old.pending }
+        ensures committed { Writes (committed self.old.tables done.now.job done.now.outcome) self.old.tables self.new.tables book.old.entries book.new.entries }
+        ensures ends { Ends self.old.tables self.new.tables done.now.job done.now.outcome }
+        ensures pending { self.new.tables.pending ≡ self.old.tables.pending }
     {
         let Prepared {
             births,
@@ -174,23 +174,23 @@ impl<A: Acts + Copy> Node<A> {
         done: Done<A>,
     ) -> Result<Finished, FinishFault<A>>
         requires room { HasRoom book.old.entries }
-        requires stands { Stands A.act_of self.old book.old.entries }
-        ensures stands { Stands A.act_of self.new book.new.entries }
-        ensures lacks { Lacks self.old → Lacks self.new }
-        ensures orderly { KeepsOrder A.act_of self.old book.old.entries → KeepsOrder A.act_of self.new book.new.entries }
+        requires stands { Stands A.act_of self.old.tables book.old.entries }
+        ensures stands { Stands A.act_of self.new.tables book.new.entries }
+        ensures lacks { Lacks self.old.tables → Lacks self.new.tables }
+        ensures orderly { KeepsOrder A.act_of self.old.tables book.old.entries → KeepsOrder A.act_of self.new.tables book.new.entries }
         ensures turn { AddsATurn book.old.entries book.new.entries }
         ensures committed { IfOk result (λ f. f ≡ Finished.Committed →
-            Writes (committed self.old done.job done.outcome) self.old self.new book.old.entries book.new.entries) }
+            Writes (committed self.old.tables done.job done.outcome) self.old.tables self.new.tables book.old.entries book.new.entries) }
         ensures lasts { IfOk result (λ f. f ≡ Finished.Committed →
-            AllLast (hand_of self.old done.job done.outcome) (places_in_hand self.old done.job done.outcome)) }
+            AllLast (hand_of self.old.tables done.job done.outcome) (places_in_hand self.old.tables done.job done.outcome)) }
         ensures asks { IfOk result (λ f. f ≡ Finished.Asking →
-            (AllLast (hand_of self.old done.job done.outcome) (places_in_hand self.old done.job done.outcome) → ⊥)
-            × Begins self.old self.new done.job done.outcome book.old.entries book.new.entries) }
+            (AllLast (hand_of self.old.tables done.job done.outcome) (places_in_hand self.old.tables done.job done.outcome) → ⊥)
+            × Begins self.old.tables self.new.tables done.job done.outcome book.old.entries book.new.entries) }
         ensures not_running { IfOk result (λ f. f ≡ Finished.NotRunning →
-            (done.localities ≡ self.old.localities → IsRunning self.old done.job → ⊥) × OnlySpare self.old self.new book.old book.new) }
-        ensures running { IfOk result (λ f. (f ≡ Finished.NotRunning → ⊥) → (done.localities ≡ self.old.localities) × IsRunning self.old done.job) }
-        ensures ends { IfOk result (λ f. f ≡ Finished.Committed → Ends self.old self.new done.job done.outcome) }
-        ensures err { IfErr result (λ e. (e.undone ≡ done) × OnlySpare self.old self.new book.old book.new) }
+            (done.localities ≡ self.old.tables.localities → IsRunning self.old.tables done.job → ⊥) × OnlySpare self.old.tables self.new.tables book.old book.new) }
+        ensures running { IfOk result (λ f. (f ≡ Finished.NotRunning → ⊥) → (done.localities ≡ self.old.tables.localities) × IsRunning self.old.tables done.job) }
+        ensures ends { IfOk result (λ f. f ≡ Finished.Committed → Ends self.old.tables self.new.tables done.job done.outcome) }
+        ensures err { IfErr result (λ e. (e.undone ≡ done) × OnlySpare self.old.tables self.new.tables book.old book.new) }
     {
         let (i, j) = match self.spot(&done) {
             Some(spot) => spot,

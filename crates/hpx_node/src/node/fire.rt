@@ -4,14 +4,12 @@ ghost use Rattle.std.specs.List.{remove};
 ghost use Rattle.hpx_journal.specs.Entries.{name_of};
 ghost use Rattle.hpx_journal.specs.Weights.{HasRoom};
 ghost use Rattle.hpx_part.specs.Data.{Fire};
-ghost use Rattle.hpx_tables.specs.Free.{NoneIsFree, IsFree};
+ghost use Rattle.hpx_tables.specs.Free.{NoneIsFree};
 ghost use Rattle.hpx_tables.specs.Jobs.{Starts};
 ghost use Rattle.hpx_tables.specs.Tables.{fired_acts};
-ghost use Rattle.hpx_node.specs.Lacks.{Lacks};
-ghost use Rattle.hpx_node.specs.Orders.{KeepsOrder};
-ghost use Rattle.hpx_node.specs.Stands.{Stands};
+ghost use Rattle.hpx_steps.specs.Rest.{Stands};
 ghost use Rattle.hpx_node.specs.Changes.{OnlySpare, Writes};
-ghost use Rattle.hpx_node.specs.Limits.{AddsATurn};
+ghost use Rattle.hpx_steps.specs.Limits.{AddsATurn};
 
 use crate::node::Node;
 use hpx_journal::entry::{Entry, Event};
@@ -24,11 +22,11 @@ use std::alloc::Global;
 
 impl<A: Acts + Copy> Node<A> {
     fn job(&self, alloc: Global, i: usize, j: usize) -> Result<Job, OutOfMemory>
-        requires action { i < length self.now.accepted }
-        requires object { j < length self.now.objects }
-        ensures here { IfOk result (λ job. job.at ≡ self.now.here) }
-        ensures action { IfOk result (λ job. slice_get self.now.accepted i ≡ Some job.action) }
-        ensures object { IfOk result (λ job. (x : _) → slice_get self.now.objects j ≡ Some x → (job.kind ≡ x.object.kind) × (job.state ≡ x.state)) }
+        requires action { i < length self.now.tables.accepted }
+        requires object { j < length self.now.tables.objects }
+        ensures here { IfOk result (λ job. job.at ≡ self.now.tables.here) }
+        ensures action { IfOk result (λ job. slice_get self.now.tables.accepted i ≡ Some job.action) }
+        ensures object { IfOk result (λ job. (x : _) → slice_get self.now.tables.objects j ≡ Some x → (job.kind ≡ x.object.kind) × (job.state ≡ x.state)) }
     {
         let kept = &self.objects[j];
         let accepted = &self.accepted[i];
@@ -41,18 +39,12 @@ impl<A: Acts + Copy> Node<A> {
     }
 
     fn start(&mut self, book: &mut Journal, i: usize)
-        requires inside { i < length self.old.accepted }
-        requires free { (act : _) → slice_get self.old.accepted i ≡ Some act → IsFree (fired_acts self.old) self.old.objects act }
+        requires inside { i < length self.old.tables.accepted }
         requires spare { 1 ≤ self.old.spare }
         requires page { 1 ≤ book.old.spare }
-        requires stands { Stands A.act_of self.old book.old.entries }
-        ensures stands { Stands A.act_of self.new book.new.entries }
-        ensures fired { (act : _) → slice_get self.old.accepted i ≡ Some act → Writes (Fire (name_of act) ∷ []) self.old self.new book.old.entries book.new.entries }
-        ensures objects { self.new.objects ≡ self.old.objects }
-        ensures pending { self.new.pending ≡ self.old.pending }
-        ensures rest { self.new ≡ record self.old { accepted = self.new.accepted; running = self.new.running; spare = self.new.spare } }
-        ensures accepted { self.new.accepted ≡ remove self.old.accepted i }
-        ensures running { (act : _) → slice_get self.old.accepted i ≡ Some act → self.new.running ≡ self.old.running ++ act ∷ [] }
+        ensures fired { (act : _) → slice_get self.old.tables.accepted i ≡ Some act → Writes (Fire (name_of act) ∷ []) self.old.tables self.new.tables book.old.entries book.new.entries }
+        ensures started { (act : _) → slice_get self.old.tables.accepted i ≡ Some act → self.new.tables
+            ≡ record self.old.tables { accepted = remove self.old.tables.accepted i; running = self.old.tables.running ++ act ∷ [] } }
     {
         if let Some(act) = self.accepted.remove(i) {
             let action = act.name();
@@ -67,15 +59,13 @@ impl<A: Acts + Copy> Node<A> {
     /// Takes the first accepted action whose object is free, to be run. Nothing changes without memory.
     pub fn fire(&mut self, alloc: Global, book: &mut Journal) -> Result<Option<Job>, OutOfMemory>
         requires room { HasRoom book.old.entries }
-        requires stands { Stands A.act_of self.old book.old.entries }
-        ensures stands { Stands A.act_of self.new book.new.entries }
-        ensures lacks { Lacks self.old → Lacks self.new }
-        ensures orderly { KeepsOrder A.act_of self.old book.old.entries → KeepsOrder A.act_of self.new book.new.entries }
+        requires stands { Stands A.act_of self.old.tables book.old.entries }
+        ensures stands { Stands A.act_of self.new.tables book.new.entries }
         ensures turn { AddsATurn book.old.entries book.new.entries }
-        ensures fired { IfOk result (λ o. IfSome o (λ job. Writes (Fire (name_of job.action) ∷ []) self.old self.new book.old.entries book.new.entries)) }
-        ensures job { IfOk result (λ o. IfSome o (Starts self.old self.new)) }
-        ensures none { IfOk result (λ o. IfNone o (NoneIsFree (fired_acts self.old) self.old.objects self.old.accepted × OnlySpare self.old self.new book.old book.new)) }
-        ensures err { OnErr result (OnlySpare self.old self.new book.old book.new) }
+        ensures fired { IfOk result (λ o. IfSome o (λ job. Writes (Fire (name_of job.action) ∷ []) self.old.tables self.new.tables book.old.entries book.new.entries)) }
+        ensures job { IfOk result (λ o. IfSome o (Starts self.old.tables self.new.tables)) }
+        ensures none { IfOk result (λ o. IfNone o (NoneIsFree (fired_acts self.old.tables) self.old.tables.objects self.old.tables.accepted × OnlySpare self.old.tables self.new.tables book.old book.new)) }
+        ensures err { OnErr result (OnlySpare self.old.tables self.new.tables book.old book.new) }
     {
         let (i, j) = match first_free(
             &self.accepted,

@@ -20,7 +20,7 @@ use hpx_value::gid::Gid;
 impl<A: Acts + Copy> Node<A> {
     /// Whether an object stands here.
     pub fn holds(&self, o: Gid) -> bool
-        ensures { result ≡ stands_here self.now o }
+        ensures { result ≡ stands_here self.now.tables o }
     {
         match place_of(self.objects.as_slice(), o) {
             Some(_) => true,
@@ -30,36 +30,36 @@ impl<A: Acts + Copy> Node<A> {
 
     /// The credit of an object of this home that is out, 0 without a live record.
     pub fn count(&self, o: Gid) -> u128
-        ensures { result ≡ count_here self.now o }
+        ensures { result ≡ count_here self.now.tables o }
     {
         self.records.count(o)
     }
 
     /// Where an object of this home was last said to be.
     pub fn place(&self, o: Gid) -> Option<u32>
-        ensures { result ≡ place_here self.now o }
+        ensures { result ≡ place_here self.now.tables o }
     {
         self.records.place(o)
     }
 
     /// How many objects of this home are live.
     pub fn number(&self) -> u32
-        ensures value { result ≡ length self.now.records }
-        ensures sound { HasRecords self.now }
+        ensures value { result ≡ length self.now.tables.records }
+        ensures sound { HasRecords self.now.tables }
     {
         self.records.number()
     }
 
     /// The id of the live object at a place, by rising number, from 0.
     pub fn live(&self, i: u32) -> Option<Gid>
-        ensures { result ≡ option_map (λ (r : Record). r.gid) (slice_get self.now.records i) }
+        ensures { result ≡ option_map (λ (r : Record). r.gid) (slice_get self.now.tables.records i) }
     {
         self.records.live(i)
     }
 
     /// The credit of an object in states, actions and the hands of commits here, what is in messages included.
     pub fn held(&self, o: Gid) -> u128
-        ensures { result ≡ min (2 ^ 128 - 1) (held_here self.now o) }
+        ensures { result ≡ min (2 ^ 128 - 1) (held_here self.now.tables o) }
     {
         held_in_states(self.objects.as_slice(), o)
             .saturating_add(held_in_accepted(&self.accepted, o))
@@ -71,13 +71,13 @@ impl<A: Acts + Copy> Node<A> {
 
     /// The credit of an object in messages here that bring it home, or ask for more.
     pub fn owed(&self, o: Gid) -> u128
-        ensures { result ≡ min (2 ^ 128 - 1) (owed_here self.now o) }
+        ensures { result ≡ min (2 ^ 128 - 1) (owed_here self.now.tables o) }
     {
         owed_on_desk(&self.desk, o).saturating_add(owed_on_the_way(&self.outgoing, o))
     }
     /// How many slots the session has drawn, where it stands here.
     fn drawn(&self) -> u64
-        ensures { result ≡ drawn_by (find (is_standing session) self.now.objects) }
+        ensures { result ≡ drawn_by (find (is_standing session) self.now.tables.objects) }
     {
         match place_of(self.objects.as_slice(), Gid::new(0, SESSION, 1)) {
             Some(j) => self.objects[j].state().drawn as u64,
@@ -87,7 +87,7 @@ impl<A: Acts + Copy> Node<A> {
 
     /// How many answers the session still waits for: 0 elsewhere than at locality 0.
     pub fn awaited(&self) -> u64
-        ensures { result ≡ awaited_here self.now }
+        ensures { result ≡ awaited_here self.now.tables }
     {
         if self.here != 0 {
             return 0;

@@ -3,7 +3,8 @@ ghost use Rattle.std.specs.Prelude.{◌≡◌, ◌≤◌, ◌<◌, ◌+◌, ◌^
 ghost use Rattle.hpx_parcel.specs.Parcels.{IsParcel};
 ghost use Rattle.hpx_journal.specs.Weights.{total_weight};
 ghost use Rattle.hpx_node.specs.Next.{IsNext, MayFollow, IfFollows, HasFollowed};
-ghost use Rattle.hpx_node.specs.Stands.{IsTidy, Stands};
+ghost use Rattle.hpx_steps.specs.Rest.{IsTidy};
+ghost use Rattle.hpx_node.specs.Stands.{Stands};
 ghost use Rattle.hpx_tables.specs.Strange.{broken_near};
 
 use crate::node::Node;
@@ -30,10 +31,10 @@ impl<A: Acts + Copy> Node<A> {
     /// What follows once a message is dealt with.
     pub(crate) fn next(&self, alloc: Global, parcel: &Parcel) -> Result<Next, OutOfMemory>
         requires fit { IsParcel parcel.now }
-        requires tidy { IsTidy self.now [] }
-        requires right { broken_near self.now parcel.now ≡ None }
-        requires few { self.now.births + 1024 < 2 ^ 32 }
-        ensures { IfOk result (IsNext self.now parcel.now) }
+        requires tidy { IsTidy self.now.tables [] }
+        requires right { broken_near self.now.tables parcel.now ≡ None }
+        requires few { self.now.tables.births + 1024 < 2 ^ 32 }
+        ensures { IfOk result (IsNext self.now.tables parcel.now) }
     {
         if let Some(failing) = self.failing(alloc, parcel)? {
             return Ok(Next::Fails(failing));
@@ -46,18 +47,18 @@ impl<A: Acts + Copy> Node<A> {
 
     /// Does what follows. It takes no memory.
     pub(crate) fn follow(&mut self, book: &mut Journal, next: Next)
-        requires may { MayFollow self.old next }
+        requires may { MayFollow self.old.tables next }
         requires room { length book.old.entries + 800 ≤ 2097152 }
         requires spare { IfFollows next (1024 ≤ self.old.spare) }
         requires page { IfFollows next (1024 ≤ book.old.spare) }
-        requires stands { Stands A.act_of self.old book.old.entries }
-        ensures stands { Stands A.act_of self.new book.new.entries }
-        ensures running { self.new.running ≡ self.old.running }
-        ensures taken { self.new.taken ≡ self.old.taken }
-        ensures sent { self.new.sent ≡ self.old.sent }
+        requires stands { Stands A.act_of self.old.tables book.old.entries }
+        ensures stands { Stands A.act_of self.new.tables book.new.entries }
+        ensures running { self.new.tables.running ≡ self.old.tables.running }
+        ensures taken { self.new.tables.taken ≡ self.old.tables.taken }
+        ensures sent { self.new.tables.sent ≡ self.old.tables.sent }
         ensures few { length book.new.entries ≤ length book.old.entries + 596 }
         ensures light { total_weight book.new.entries ≤ total_weight book.old.entries + 2380288 }
-        ensures followed { HasFollowed next self.old self.new book.old.entries book.new.entries }
+        ensures followed { HasFollowed next self.old.tables self.new.tables book.old.entries book.new.entries }
     {
         match next {
             Next::Rests => (),

@@ -3,11 +3,12 @@ ghost use Rattle.std.specs.Prelude.{◌≡◌, ◌≤◌, ◌<◌, ◌+◌, ◌^
 ghost use Rattle.std.specs.List.{AllByRecursion};
 ghost use Rattle.hpx_parcel.specs.Parcels.{HasCredit};
 ghost use Rattle.hpx_part.specs.Parts.{at_all};
-ghost use Rattle.hpx_node.specs.Changes.{OnlySends, AreAlike};
+ghost use Rattle.hpx_node.specs.Changes.{OnlySends};
 ghost use Rattle.hpx_node.specs.Commits.{written, ups};
 ghost use Rattle.hpx_tables.specs.Fit.{IsFitDue};
-ghost use Rattle.hpx_node.specs.Routes.{with_due, with_returns, with_left};
-ghost use Rattle.hpx_node.specs.Stands.{Stands, StandsWith, rules_of};
+ghost use Rattle.hpx_steps.specs.Calls.{with_due, with_returns, with_left};
+ghost use Rattle.hpx_steps.specs.Rest.{StandsWith, rules_of};
+ghost use Rattle.hpx_node.specs.Stands.{Stands};
 ghost use Rattle.hpx_value.specs.Values.{named};
 
 use crate::node::Node;
@@ -28,20 +29,20 @@ impl<A: Acts + Copy> Node<A> {
         requires fit { AllByRecursion IsFitDue due.old.items }
         requires spare { length due.old.items ≤ self.old.spare }
         requires page { length due.old.items ≤ book.old.spare }
-        requires few { self.old.serial + 1 < 2 ^ 64 }
-        requires stands { StandsWith (rules_of A.act_of self.old.localities self.old.profile) self.old due.old.items loose.now book.old.entries }
-        ensures stands { StandsWith (rules_of A.act_of self.new.localities self.new.profile) self.new due.new.items loose.now book.new.entries }
+        requires few { self.old.tables.serial + 1 < 2 ^ 64 }
+        requires stands { StandsWith (rules_of A.act_of self.old.tables.localities self.old.tables.profile) self.old.tables due.old.items loose.now book.old.entries }
+        ensures stands { StandsWith (rules_of A.act_of self.new.tables.localities self.new.tables.profile) self.new.tables due.new.items loose.now book.new.entries }
         ensures fewer { length due.new.items + 1 ≡ length due.old.items }
         ensures fit { AllByRecursion IsFitDue due.new.items }
         ensures spare { self.old.spare ≤ self.new.spare + 1 }
         ensures page { book.new.spare + 1 ≡ book.old.spare }
-        ensures serial { self.new.serial ≤ self.old.serial + 1 }
-        ensures here { (self.new.here ≡ self.old.here) × (self.new.localities ≡ self.old.localities) × (self.new.profile ≡ self.old.profile) }
-        ensures running { self.new.running ≡ self.old.running }
-        ensures rest { OnlySends self.old self.new }
-        ensures goes { AreAlike (with_due due.new.items self.new) (with_due due.old.items self.old) }
-        ensures writes { book.new.entries ++ at_all self.new.here (written self.new.here self.new.serial due.new.items)
-            ≡ book.old.entries ++ at_all self.old.here (written self.old.here self.old.serial due.old.items) }
+        ensures serial { self.new.tables.serial ≤ self.old.tables.serial + 1 }
+        ensures here { (self.new.tables.here ≡ self.old.tables.here) × (self.new.tables.localities ≡ self.old.tables.localities) × (self.new.tables.profile ≡ self.old.tables.profile) }
+        ensures running { self.new.tables.running ≡ self.old.tables.running }
+        ensures rest { OnlySends self.old.tables self.new.tables }
+        ensures goes { with_due due.new.items self.new.tables ≡ with_due due.old.items self.old.tables }
+        ensures writes { book.new.entries ++ at_all self.new.tables.here (written self.new.tables.here self.new.tables.serial due.new.items)
+            ≡ book.old.entries ++ at_all self.old.tables.here (written self.old.tables.here self.old.tables.serial due.old.items) }
     {
         let at = self.here;
         match due.pop_front() {
@@ -71,17 +72,17 @@ impl<A: Acts + Copy> Node<A> {
         requires credit { AllByRecursion HasCredit loose.old.items }
         requires spare { length loose.old.items ≤ self.old.spare }
         requires page { length loose.old.items ≤ book.old.spare }
-        requires stands { StandsWith (rules_of A.act_of self.old.localities self.old.profile) self.old [] loose.old.items book.old.entries }
-        ensures stands { StandsWith (rules_of A.act_of self.new.localities self.new.profile) self.new [] loose.new.items book.new.entries }
+        requires stands { StandsWith (rules_of A.act_of self.old.tables.localities self.old.tables.profile) self.old.tables [] loose.old.items book.old.entries }
+        ensures stands { StandsWith (rules_of A.act_of self.new.tables.localities self.new.tables.profile) self.new.tables [] loose.new.items book.new.entries }
         ensures fewer { length loose.new.items + 1 ≡ length loose.old.items }
         ensures credit { AllByRecursion HasCredit loose.new.items }
         ensures spare { self.old.spare ≤ self.new.spare + 1 }
         ensures page { book.new.spare + 1 ≡ book.old.spare }
-        ensures here { (self.new.here ≡ self.old.here) × (self.new.localities ≡ self.old.localities) × (self.new.profile ≡ self.old.profile) }
-        ensures running { self.new.running ≡ self.old.running }
-        ensures rest { OnlySends self.old self.new }
-        ensures goes { AreAlike (with_returns loose.new.items self.new) (with_returns loose.old.items self.old) }
-        ensures writes { book.new.entries ++ at_all self.new.here (ups loose.new.items) ≡ book.old.entries ++ at_all self.old.here (ups loose.old.items) }
+        ensures here { (self.new.tables.here ≡ self.old.tables.here) × (self.new.tables.localities ≡ self.old.tables.localities) × (self.new.tables.profile ≡ self.old.tables.profile) }
+        ensures running { self.new.tables.running ≡ self.old.tables.running }
+        ensures rest { OnlySends self.old.tables self.new.tables }
+        ensures goes { with_returns loose.new.items self.new.tables ≡ with_returns loose.old.items self.old.tables }
+        ensures writes { book.new.entries ++ at_all self.new.tables.here (ups loose.new.items) ≡ book.old.entries ++ at_all self.old.tables.here (ups loose.old.items) }
     {
         let at = self.here;
         if let Some(id) = loose.pop_front() {
@@ -102,16 +103,16 @@ impl<A: Acts + Copy> Node<A> {
         requires fit { AllByRecursion IsFitDue due.items }
         requires spare { length due.items ≤ self.old.spare }
         requires page { length due.items ≤ book.old.spare }
-        requires few { self.old.serial + length due.items < 2 ^ 64 }
-        requires stands { StandsWith (rules_of A.act_of self.old.localities self.old.profile) self.old due.items loose.now book.old.entries }
-        ensures stands { StandsWith (rules_of A.act_of self.new.localities self.new.profile) self.new [] loose.now book.new.entries }
+        requires few { self.old.tables.serial + length due.items < 2 ^ 64 }
+        requires stands { StandsWith (rules_of A.act_of self.old.tables.localities self.old.tables.profile) self.old.tables due.items loose.now book.old.entries }
+        ensures stands { StandsWith (rules_of A.act_of self.new.tables.localities self.new.tables.profile) self.new.tables [] loose.now book.new.entries }
         ensures spare { self.old.spare ≤ self.new.spare + length due.items }
         ensures page { book.new.spare + length due.items ≡ book.old.spare }
-        ensures here { (self.new.here ≡ self.old.here) × (self.new.localities ≡ self.old.localities) × (self.new.profile ≡ self.old.profile) }
-        ensures running { self.new.running ≡ self.old.running }
-        ensures rest { OnlySends self.old self.new }
-        ensures goes { AreAlike self.new (with_due due.items self.old) }
-        ensures writes { book.new.entries ≡ book.old.entries ++ at_all self.old.here (written self.old.here self.old.serial due.items) }
+        ensures here { (self.new.tables.here ≡ self.old.tables.here) × (self.new.tables.localities ≡ self.old.tables.localities) × (self.new.tables.profile ≡ self.old.tables.profile) }
+        ensures running { self.new.tables.running ≡ self.old.tables.running }
+        ensures rest { OnlySends self.old.tables self.new.tables }
+        ensures goes { self.new.tables ≡ with_due due.items self.old.tables }
+        ensures writes { book.new.entries ≡ book.old.entries ++ at_all self.old.tables.here (written self.old.tables.here self.old.tables.serial due.items) }
     {
         while !due.is_empty() {
             self.pay(book, &mut due, loose);
@@ -123,13 +124,13 @@ impl<A: Acts + Copy> Node<A> {
         requires credit { AllByRecursion HasCredit loose.items }
         requires spare { length loose.items ≤ self.old.spare }
         requires page { length loose.items ≤ book.old.spare }
-        requires stands { StandsWith (rules_of A.act_of self.old.localities self.old.profile) self.old [] loose.items book.old.entries }
-        ensures stands { Stands A.act_of self.new book.new.entries }
-        ensures here { (self.new.here ≡ self.old.here) × (self.new.localities ≡ self.old.localities) × (self.new.profile ≡ self.old.profile) }
-        ensures running { self.new.running ≡ self.old.running }
-        ensures rest { OnlySends self.old self.new }
-        ensures goes { AreAlike self.new (with_returns loose.items self.old) }
-        ensures writes { book.new.entries ≡ book.old.entries ++ at_all self.old.here (ups loose.items) }
+        requires stands { StandsWith (rules_of A.act_of self.old.tables.localities self.old.tables.profile) self.old.tables [] loose.items book.old.entries }
+        ensures stands { Stands A.act_of self.new.tables book.new.entries }
+        ensures here { (self.new.tables.here ≡ self.old.tables.here) × (self.new.tables.localities ≡ self.old.tables.localities) × (self.new.tables.profile ≡ self.old.tables.profile) }
+        ensures running { self.new.tables.running ≡ self.old.tables.running }
+        ensures rest { OnlySends self.old.tables self.new.tables }
+        ensures goes { self.new.tables ≡ with_returns loose.items self.old.tables }
+        ensures writes { book.new.entries ≡ book.old.entries ++ at_all self.old.tables.here (ups loose.items) }
     {
         while !loose.is_empty() {
             self.give_up(book, &mut loose);
@@ -142,14 +143,14 @@ impl<A: Acts + Copy> Node<A> {
         requires credit { AllByRecursion HasCredit loose.items }
         requires spare { length due.items + length loose.items ≤ self.old.spare }
         requires page { length due.items + length loose.items ≤ book.old.spare }
-        requires few { self.old.serial + length due.items < 2 ^ 64 }
-        requires stands { StandsWith (rules_of A.act_of self.old.localities self.old.profile) self.old due.items loose.items book.old.entries }
-        ensures stands { Stands A.act_of self.new book.new.entries }
-        ensures here { (self.new.here ≡ self.old.here) × (self.new.localities ≡ self.old.localities) × (self.new.profile ≡ self.old.profile) }
-        ensures running { self.new.running ≡ self.old.running }
-        ensures rest { OnlySends self.old self.new }
-        ensures goes { AreAlike self.new (with_left due.items loose.items self.old) }
-        ensures writes { book.new.entries ≡ book.old.entries ++ at_all self.old.here (written self.old.here self.old.serial due.items ++ ups loose.items) }
+        requires few { self.old.tables.serial + length due.items < 2 ^ 64 }
+        requires stands { StandsWith (rules_of A.act_of self.old.tables.localities self.old.tables.profile) self.old.tables due.items loose.items book.old.entries }
+        ensures stands { Stands A.act_of self.new.tables book.new.entries }
+        ensures here { (self.new.tables.here ≡ self.old.tables.here) × (self.new.tables.localities ≡ self.old.tables.localities) × (self.new.tables.profile ≡ self.old.tables.profile) }
+        ensures running { self.new.tables.running ≡ self.old.tables.running }
+        ensures rest { OnlySends self.old.tables self.new.tables }
+        ensures goes { self.new.tables ≡ with_left due.items loose.items self.old.tables }
+        ensures writes { book.new.entries ≡ book.old.entries ++ at_all self.old.tables.here (written self.old.tables.here self.old.tables.serial due.items ++ ups loose.items) }
     {
         self.pay_all(book, due, loose.as_slice());
         self.give_up_all(book, VecDeque::from_vec(loose));

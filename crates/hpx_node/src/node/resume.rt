@@ -12,7 +12,8 @@ ghost use Rattle.hpx_tables.specs.Fit.{IsKept};
 ghost use Rattle.hpx_tables.specs.Jobs.{IsFitJob};
 ghost use Rattle.hpx_tables.specs.Pending.{ids_named, action_of};
 ghost use Rattle.hpx_node.specs.Resumes.{full_stock, stock_with, MayResume, IsReadyFor, completes};
-ghost use Rattle.hpx_node.specs.Stands.{Stands, IsTidy};
+ghost use Rattle.hpx_steps.specs.Rest.{IsTidy};
+ghost use Rattle.hpx_node.specs.Stands.{Stands};
 ghost use Rattle.hpx_tables.specs.Strange.{broken_near};
 ghost use Rattle.hpx_node.specs.Changes.{Writes};
 
@@ -54,12 +55,12 @@ impl<A: Acts + Copy> Node<A> {
         requires localities { waits.now.localities ≤ 64 }
         requires at { waits.now.job.at < waits.now.localities }
         requires fit { IsFitJob waits.now.job }
-        requires few { self.now.births + 1024 < 2 ^ 32 }
+        requires few { self.now.tables.births + 1024 < 2 ^ 32 }
         requires fits { length (ids_named waits.now) + length waits.now.outcome.makes ≤ length hand.now }
         requires short { length hand.now ≤ 1024 }
-        requires stock { IsStock self.now waits.now.job waits.now.outcome (stock_with self.now waits.now hand.now) }
-        ensures prepared { IfOk result (IsPrepared self.now waits.now.job waits.now.outcome) }
-        ensures stock { IfOk result (λ p. p.stock ≡ stock_with self.now waits.now hand.now) }
+        requires stock { IsStock self.now.tables waits.now.job waits.now.outcome (stock_with self.now.tables waits.now hand.now) }
+        ensures prepared { IfOk result (IsPrepared self.now.tables waits.now.job waits.now.outcome) }
+        ensures stock { IfOk result (λ p. p.stock ≡ stock_with self.now.tables waits.now hand.now) }
     {
         lawful(waits.done());
         let job = waits.done().job();
@@ -74,11 +75,11 @@ impl<A: Acts + Copy> Node<A> {
     /// What goes on once a message is dealt with: the commit for which it brings the last credit.
     pub(crate) fn ready(&self, alloc: Global, parcel: &Parcel) -> Result<Option<Ready>, OutOfMemory>
         requires fit { IsParcel parcel.now }
-        requires tidy { IsTidy self.now [] }
-        requires right { broken_near self.now parcel.now ≡ None }
-        requires few { self.now.births + 1024 < 2 ^ 32 }
-        ensures some { IfOk result (λ o. IfSome o (IsReadyFor self.now parcel.now)) }
-        ensures none { IfOk result (λ o. IfNone o (completes self.now parcel.now ≡ false)) }
+        requires tidy { IsTidy self.now.tables [] }
+        requires right { broken_near self.now.tables parcel.now ≡ None }
+        requires few { self.now.tables.births + 1024 < 2 ^ 32 }
+        ensures some { IfOk result (λ o. IfSome o (IsReadyFor self.now.tables parcel.now)) }
+        ensures none { IfOk result (λ o. IfNone o (completes self.now.tables parcel.now ≡ false)) }
     {
         let (id, entry) = match parcel {
             Parcel::Give { id, entry } => (*id, *entry),
@@ -102,23 +103,22 @@ impl<A: Acts + Copy> Node<A> {
 
     /// Commits the job of a commit that waited: it waits no more, and its object has the new state.
     fn settle_waiting(&mut self, book: &mut Journal, i: usize, j: usize, state: State)
-        requires waits { i < length self.old.pending }
-        requires object { j < length self.old.objects }
-        requires kept { (x : _) → slice_get self.old.objects j ≡ Some x → IsKept (record { object = x.object; state = state }) }
-        requires answers { self.old.answered + 1 < 2 ^ 64 }
+        requires waits { i < length self.old.tables.pending }
+        requires object { j < length self.old.tables.objects }
+        requires kept { (x : _) → slice_get self.old.tables.objects j ≡ Some x → IsKept (record { object = x.object; state = state }) }
+        requires answers { self.old.tables.answered + 1 < 2 ^ 64 }
         requires page { 1 ≤ book.old.spare }
-        ensures pending { self.new.pending ≡ remove self.old.pending i }
-        ensures objects { (x : _) → slice_get self.old.objects j ≡ Some x → self.new.objects ≡ set self.old.objects j (record { object = x.object; state = state }) }
-        ensures rest { self.new ≡ record self.old {
-          pending = self.new.pending;
-          objects = self.new.objects;
-          answered = self.old.answered + answered_by (option_map action_of (slice_get self.old.pending i));
-          spare = self.new.spare;
+        ensures pending { self.new.tables.pending ≡ remove self.old.tables.pending i }
+        ensures objects { (x : _) → slice_get self.old.tables.objects j ≡ Some x → self.new.tables.objects ≡ set self.old.tables.objects j (record { object = x.object; state = state }) }
+        ensures rest { self.new.tables ≡ record self.old.tables {
+          pending = self.new.tables.pending;
+          objects = self.new.tables.objects;
+          answered = self.old.tables.answered + answered_by (option_map action_of (slice_get self.old.tables.pending i));
         } }
         ensures spare { self.old.spare ≤ self.new.spare }
         ensures page { book.new.spare + 1 ≡ book.old.spare }
-        ensures entries { (w : _) → slice_get self.old.pending i ≡ Some w
-            → book.new.entries ≡ book.old.entries ++ at_all self.old.here (Done (name_of w.job.action) false ∷ []) }
+        ensures entries { (w : _) → slice_get self.old.tables.pending i ≡ Some w
+            → book.new.entries ≡ book.old.entries ++ at_all self.old.tables.here (Done (name_of w.job.action) false ∷ []) }
     {
         let waits = self.pending.remove(i);
         self.answered += answered_by(waits.action());
@@ -135,23 +135,23 @@ impl<A: Acts + Copy> Node<A> {
 
     /// Writes a commit that waited. It takes no memory.
     pub(crate) fn resume(&mut self, book: &mut Journal, ready: Ready)
-        requires waits { ready.i < length self.old.pending }
-        requires may { (w : _) → slice_get self.old.pending ready.i ≡ Some w → MayResume self.old w ready.j ready.prepared }
+        requires waits { ready.i < length self.old.tables.pending }
+        requires may { (w : _) → slice_get self.old.tables.pending ready.i ≡ Some w → MayResume self.old.tables w ready.j ready.prepared }
         requires room { length book.old.entries + 800 ≤ 2097152 }
         requires spare { 1024 ≤ self.old.spare }
         requires page { 1024 ≤ book.old.spare }
-        requires stands { Stands A.act_of self.old book.old.entries }
-        ensures stands { Stands A.act_of self.new book.new.entries }
-        ensures running { self.new.running ≡ self.old.running }
-        ensures pending { self.new.pending ≡ remove self.old.pending ready.i }
-        ensures taken { self.new.taken ≡ self.old.taken }
-        ensures sent { self.new.sent ≡ self.old.sent }
+        requires stands { Stands A.act_of self.old.tables book.old.entries }
+        ensures stands { Stands A.act_of self.new.tables book.new.entries }
+        ensures running { self.new.tables.running ≡ self.old.tables.running }
+        ensures pending { self.new.tables.pending ≡ remove self.old.tables.pending ready.i }
+        ensures taken { self.new.tables.taken ≡ self.old.tables.taken }
+        ensures sent { self.new.tables.sent ≡ self.old.tables.sent }
         ensures few { length book.new.entries ≤ length book.old.entries + 596 }
         ensures light { total_weight book.new.entries ≤ total_weight book.old.entries + 2380288 }
-        ensures writes { (w : _) → slice_get self.old.pending ready.i ≡ Some w
-            → Writes (committed_from self.old w.job w.outcome (full_stock self.old w)) self.old self.new book.old.entries book.new.entries }
-        ensures commits { (w : _) → slice_get self.old.pending ready.i ≡ Some w
-            → Commits w.job w.outcome (full_stock self.old w) ready.j (record self.old { pending = remove self.old.pending ready.i }) self.new }
+        ensures writes { (w : _) → slice_get self.old.tables.pending ready.i ≡ Some w
+            → Writes (committed_from self.old.tables w.job w.outcome (full_stock self.old.tables w)) self.old.tables self.new.tables book.old.entries book.new.entries }
+        ensures commits { (w : _) → slice_get self.old.tables.pending ready.i ≡ Some w
+            → Commits w.job w.outcome (full_stock self.old.tables w) ready.j (record self.old.tables { pending = remove self.old.tables.pending ready.i }) self.new.tables }
     {
         let Ready { i, j, prepared } = ready;
         let Prepared {

@@ -16,7 +16,7 @@ use hpx_value::value::Act;
 impl<A: Acts + Copy> Node<A> {
     /// Whether an object is of this home, and lives.
     fn is_live(&self, o: Gid) -> bool
-        ensures { result ≡ is_live self.now o }
+        ensures { result ≡ is_live self.now.tables o }
     {
         match self.records.place(o) {
             Some(_) => o.home() == self.here,
@@ -26,7 +26,7 @@ impl<A: Acts + Copy> Node<A> {
 
     /// Whether an action on it has no place to go to.
     fn is_lost(&self, o: Gid) -> bool
-        ensures { result ≡ is_lost self.now o }
+        ensures { result ≡ is_lost self.now.tables o }
     {
         if o.kind() < 16 {
             return !self.holds(o);
@@ -36,7 +36,7 @@ impl<A: Acts + Copy> Node<A> {
 
     /// Whether a MOVE is to this locality.
     fn is_to_here(&self, act: &Act) -> bool
-        ensures { result ≡ is_to_here self.now act.now }
+        ensures { result ≡ is_to_here self.now.tables act.now }
     {
         match move_to(act) {
             Some(to) => to == self.here,
@@ -46,7 +46,7 @@ impl<A: Acts + Copy> Node<A> {
 
     /// What an id that comes home breaks.
     fn broken_return(&self, parcel: &Parcel, id: Gid, other: Option<Broken>) -> Option<Broken>
-        ensures { result ≡ broken_return self.now parcel.now id other }
+        ensures { result ≡ broken_return self.now.tables parcel.now id other }
     {
         if !self.is_live(id) {
             return breaks(1, parcel, self.records.number() as u128);
@@ -60,7 +60,7 @@ impl<A: Acts + Copy> Node<A> {
 
     /// What an action breaks.
     fn broken_act(&self, parcel: &Parcel, act: &Act) -> Option<Broken>
-        ensures { result ≡ broken_act self.now parcel.now act.now }
+        ensures { result ≡ broken_act self.now.tables parcel.now act.now }
     {
         if self.is_lost(target(act)) {
             return breaks(8, parcel, self.records.number() as u128);
@@ -70,7 +70,7 @@ impl<A: Acts + Copy> Node<A> {
 
     /// What a MOVE breaks.
     fn broken_move(&self, parcel: &Parcel, act: &Act) -> Option<Broken>
-        ensures { result ≡ broken_move self.now parcel.now act.now }
+        ensures { result ≡ broken_move self.now.tables parcel.now act.now }
     {
         let o = target(act);
         if self.is_lost(o) || (o.home() == self.here && !self.is_to_here(act)) {
@@ -81,7 +81,7 @@ impl<A: Acts + Copy> Node<A> {
 
     /// What a MOVE that its home granted breaks.
     fn broken_go(&self, parcel: &Parcel, act: &Act) -> Option<Broken>
-        ensures { result ≡ broken_go self.now parcel.now act.now }
+        ensures { result ≡ broken_go self.now.tables parcel.now act.now }
     {
         if self.holds(target(act)) && !self.is_to_here(act) {
             return breaks(8, parcel, self.records.number() as u128);
@@ -91,7 +91,7 @@ impl<A: Acts + Copy> Node<A> {
 
     /// What an object that comes breaks.
     fn broken_object(&self, parcel: &Parcel, act: &Act) -> Option<Broken>
-        ensures { result ≡ broken_object self.now parcel.now act.now }
+        ensures { result ≡ broken_object self.now.tables parcel.now act.now }
     {
         if self.holds(target(act)) {
             return breaks(4, parcel, self.here as u128);
@@ -101,7 +101,7 @@ impl<A: Acts + Copy> Node<A> {
 
     /// Whether an id brings no more credit, or that of a new object.
     fn brings(&self, id: Gid) -> bool
-        ensures { result ≡ brings_right self.now id }
+        ensures { result ≡ brings_right self.now.tables id }
     {
         let log = log_of(id);
         log == 0 || log == self.profile.credit_log
@@ -109,7 +109,7 @@ impl<A: Acts + Copy> Node<A> {
 
     /// What credit breaks that is given.
     fn broken_give(&self, parcel: &Parcel, id: Gid, entry: u64) -> Option<Broken>
-        ensures { result ≡ broken_give self.now parcel.now id entry }
+        ensures { result ≡ broken_give self.now.tables parcel.now id entry }
     {
         if is_awaited(self.pending.as_slice(), id, entry) && self.brings(id) {
             return None;
@@ -119,7 +119,7 @@ impl<A: Acts + Copy> Node<A> {
 
     /// What an object that is to be freed breaks.
     fn broken_free(&self, parcel: &Parcel, o: Gid) -> Option<Broken>
-        ensures { result ≡ broken_free self.now parcel.now o }
+        ensures { result ≡ broken_free self.now.tables parcel.now o }
     {
         let held = self.held(o);
         let waits = waits_on(self.pending.as_slice(), o);
@@ -131,7 +131,7 @@ impl<A: Acts + Copy> Node<A> {
 
     /// Where a record says that its object is.
     fn broken_landed(&self, parcel: &Parcel, id: Gid) -> Option<Broken>
-        ensures { result ≡ broken_landed self.now parcel.now id }
+        ensures { result ≡ broken_landed self.now.tables parcel.now id }
     {
         let place = match self.records.place(id) {
             Some(place) => place,
@@ -143,7 +143,7 @@ impl<A: Acts + Copy> Node<A> {
 
     /// What a message breaks whose localities are all there.
     fn broken_near(&self, parcel: &Parcel) -> Option<Broken>
-        ensures { result ≡ broken_near self.now parcel.now }
+        ensures { result ≡ broken_near self.now.tables parcel.now }
     {
         match parcel {
             Parcel::Apply(act) => self.broken_act(parcel, act),
@@ -167,7 +167,7 @@ impl<A: Acts + Copy> Node<A> {
 
     /// The rule that a message breaks first, if it breaks one.
     pub(crate) fn broken(&self, parcel: &Parcel) -> Option<Broken>
-        ensures { result ≡ broken self.now parcel.now }
+        ensures { result ≡ broken self.now.tables parcel.now }
     {
         if is_far(self.localities, parcel) {
             return breaks(9, parcel, self.localities as u128);

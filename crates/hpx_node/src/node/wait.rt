@@ -15,11 +15,11 @@ ghost use Rattle.hpx_commit.specs.Deals.{AllLast};
 ghost use Rattle.hpx_node.specs.Commits.{hand_of, places_in_hand};
 ghost use Rattle.hpx_tables.specs.Births.{birth_of, ids_of};
 ghost use Rattle.hpx_tables.specs.Jobs.{IsAt, IsFitJob};
-ghost use Rattle.hpx_node.specs.Lacks.{Lacks};
+ghost use Rattle.hpx_steps.specs.Rest.{Lacks};
 ghost use Rattle.hpx_node.specs.Orders.{KeepsOrder};
 ghost use Rattle.hpx_node.specs.Stands.{Stands};
 ghost use Rattle.hpx_node.specs.Changes.{OnlySpare};
-ghost use Rattle.hpx_node.specs.Limits.{AddsATurn};
+ghost use Rattle.hpx_steps.specs.Limits.{AddsATurn};
 
 use crate::node::Node;
 use crate::node::finish::MOST_ENTRIES;
@@ -56,8 +56,8 @@ impl<A: Acts + Copy> Node<A> {
     /// The ids of the objects that an outcome makes, without credit.
     fn later(&self, alloc: Global, makes: &[Make]) -> Result<Vec<Gid>, OutOfMemory>
         requires managed { AllByRecursion (λ make. IsManaged make.kind) makes.now }
-        requires few { self.now.births + length makes.now < 2 ^ 32 }
-        ensures { IfOk result (λ ids. ids.items ≡ map bare (ids_of self.now.here self.now.births self.now.profile.credit_log (map birth_of makes.now))) }
+        requires few { self.now.tables.births + length makes.now < 2 ^ 32 }
+        ensures { IfOk result (λ ids. ids.items ≡ map bare (ids_of self.now.tables.here self.now.tables.births self.now.tables.profile.credit_log (map birth_of makes.now))) }
     {
         let mut last = self.records.births() as u64;
         let mut ids = Vec::new(alloc);
@@ -70,8 +70,8 @@ impl<A: Acts + Copy> Node<A> {
 
     /// What is asked for at these places: each under the next number.
     fn asks(&self, alloc: Global, places: &[u32]) -> Result<Vec<Asked>, OutOfMemory>
-        requires few { self.now.asked + length places.now < 2 ^ 64 }
-        ensures { IfOk result (λ asked. asked.items ≡ asked_at self.now.asked places.now) }
+        requires few { self.now.tables.asked + length places.now < 2 ^ 64 }
+        ensures { IfOk result (λ asked. asked.items ≡ asked_at self.now.tables.asked places.now) }
     {
         let mut entry = self.asked;
         let mut asked = Vec::new(alloc);
@@ -90,9 +90,9 @@ impl<A: Acts + Copy> Node<A> {
         requires localities { done.now.localities ≤ 64 }
         requires at { done.now.job.at < done.now.localities }
         requires fit { IsFitJob done.now.job }
-        requires few { self.now.births + 1024 < 2 ^ 32 }
-        requires asked { self.now.asked + 1024 < 2 ^ 64 }
-        ensures { IfOk result (IsBefore self.now done.now.job done.now.outcome) }
+        requires few { self.now.tables.births + 1024 < 2 ^ 32 }
+        requires asked { self.now.tables.asked + 1024 < 2 ^ 64 }
+        ensures { IfOk result (IsBefore self.now.tables done.now.job done.now.outcome) }
     {
         lawful(done);
         let job = done.job();
@@ -121,12 +121,12 @@ impl<A: Acts + Copy> Node<A> {
 
     /// Lets the action at i wait for credit; its object, at j, keeps its state without credits.
     fn pause(&mut self, i: usize, j: usize, state: State, waits: Pending<A>)
-        requires at { IsAt self.old i j waits.job }
-        requires object { j < length self.old.objects }
-        requires kept { (x : _) → slice_get self.old.objects j ≡ Some x → IsKept (record { object = x.object; state = state }) }
+        requires at { IsAt self.old.tables i j waits.job }
+        requires object { j < length self.old.tables.objects }
+        requires kept { (x : _) → slice_get self.old.tables.objects j ≡ Some x → IsKept (record { object = x.object; state = state }) }
         requires state { state ≡ bare_state waits.job.state }
         requires spare { 1 ≤ self.old.spare }
-        ensures pauses { Pauses i j waits.job waits self.old self.new }
+        ensures pauses { Pauses i j waits.job waits self.old.tables self.new.tables }
         ensures spare { self.old.spare ≤ self.new.spare + 1 }
     {
         let _ = self.running.remove(i);
@@ -138,9 +138,10 @@ impl<A: Acts + Copy> Node<A> {
     /// Asks for more of each of these ids at its home.
     fn ask_all(&mut self, ids: &[Gid])
         requires least { AllByRecursion HasLeastCredit ids.now }
-        requires few { self.old.asked + length ids.now < 2 ^ 64 }
+        requires few { self.old.tables.asked + length ids.now < 2 ^ 64 }
         requires spare { length ids.now ≤ self.old.spare }
-        ensures { AsksFor ids.now self.old self.new }
+        ensures asks { AsksFor ids.now self.old.tables self.new.tables }
+        ensures spare { self.old.spare ≤ self.new.spare + length ids.now }
     {
         for id in ids {
             self.asked += 1;
@@ -155,22 +156,22 @@ impl<A: Acts + Copy> Node<A> {
 
     /// Splits what a commit has, lets it wait, and asks for what it lacks. It takes no memory.
     fn begin(&mut self, book: &mut Journal, i: usize, j: usize, done: Done<A>, before: Before)
-        requires at { IsAt self.old i j done.job }
-        requires first { find (is_standing (target_of done.job.action)) (take j self.old.objects) ≡ None }
-        requires localities { done.localities ≡ self.old.localities }
-        requires few { self.old.localities ≤ 64 }
+        requires at { IsAt self.old.tables i j done.job }
+        requires first { find (is_standing (target_of done.job.action)) (take j self.old.tables.objects) ≡ None }
+        requires localities { done.localities ≡ self.old.tables.localities }
+        requires few { self.old.tables.localities ≤ 64 }
         requires fit { IsFitJob done.job }
         requires here { done.job.at < done.localities }
         requires laws { KeepsLaws done.localities done.job.kind done.job.at done.job.state done.job.action done.outcome }
-        requires short { AllLast (hand_of self.old done.job done.outcome) (places_in_hand self.old done.job done.outcome) → ⊥ }
-        requires before { IsBefore self.old done.job done.outcome before }
-        requires asked { self.old.asked + 1024 < 2 ^ 64 }
+        requires short { AllLast (hand_of self.old.tables done.job done.outcome) (places_in_hand self.old.tables done.job done.outcome) → ⊥ }
+        requires before { IsBefore self.old.tables done.job done.outcome before }
+        requires asked { self.old.tables.asked + 1024 < 2 ^ 64 }
         requires spare { 1024 ≤ self.old.spare }
         requires page { 1024 ≤ book.old.spare }
-        requires stands { Stands A.act_of self.old book.old.entries }
-        ensures stands { Stands A.act_of self.new book.new.entries }
+        requires stands { Stands A.act_of self.old.tables book.old.entries }
+        ensures stands { Stands A.act_of self.new.tables book.new.entries }
         ensures turn { AddsATurn book.old.entries book.new.entries }
-        ensures begins { Begins self.old self.new done.job done.outcome book.old.entries book.new.entries }
+        ensures begins { Begins self.old.tables self.new.tables done.job done.outcome book.old.entries book.new.entries }
     {
         let Before {
             hand,
@@ -196,21 +197,21 @@ impl<A: Acts + Copy> Node<A> {
         j: usize,
         done: Done<A>,
     ) -> Result<Finished, FinishFault<A>>
-        requires at { IsAt self.old i j done.job }
-        requires first { find (is_standing (target_of done.job.action)) (take j self.old.objects) ≡ None }
-        requires localities { done.localities ≡ self.old.localities }
-        requires few { self.old.localities ≤ 64 }
+        requires at { IsAt self.old.tables i j done.job }
+        requires first { find (is_standing (target_of done.job.action)) (take j self.old.tables.objects) ≡ None }
+        requires localities { done.localities ≡ self.old.tables.localities }
+        requires few { self.old.tables.localities ≤ 64 }
         requires fit { IsFitJob done.job }
         requires here { done.job.at < done.localities }
-        requires short { AllLast (hand_of self.old done.job done.outcome) (places_in_hand self.old done.job done.outcome) → ⊥ }
+        requires short { AllLast (hand_of self.old.tables done.job done.outcome) (places_in_hand self.old.tables done.job done.outcome) → ⊥ }
         requires room { HasRoom book.old.entries }
-        requires stands { Stands A.act_of self.old book.old.entries }
-        ensures stands { Stands A.act_of self.new book.new.entries }
-        ensures lacks { Lacks self.old → Lacks self.new }
-        ensures orderly { KeepsOrder A.act_of self.old book.old.entries → KeepsOrder A.act_of self.new book.new.entries }
+        requires stands { Stands A.act_of self.old.tables book.old.entries }
+        ensures stands { Stands A.act_of self.new.tables book.new.entries }
+        ensures lacks { Lacks self.old.tables → Lacks self.new.tables }
+        ensures orderly { KeepsOrder A.act_of self.old.tables book.old.entries → KeepsOrder A.act_of self.new.tables book.new.entries }
         ensures turn { AddsATurn book.old.entries book.new.entries }
-        ensures asks { IfOk result (λ f. (f ≡ Finished.Asking) × Begins self.old self.new done.job done.outcome book.old.entries book.new.entries) }
-        ensures err { IfErr result (λ e. (e.undone ≡ done) × OnlySpare self.old self.new book.old book.new) }
+        ensures asks { IfOk result (λ f. (f ≡ Finished.Asking) × Begins self.old.tables self.new.tables done.job done.outcome book.old.entries book.new.entries) }
+        ensures err { IfErr result (λ e. (e.undone ≡ done) × OnlySpare self.old.tables self.new.tables book.old book.new) }
     {
         lawful(&done);
         let before = match self.before(alloc, &done) {

@@ -389,14 +389,47 @@ fn other_words_are_refused(rt: HostRuntime) -> Result<(), Fail> {
     for (given, want) in [
         (&[] as &[&[u8]], b"hpx: bad word 0\n".as_slice()),
         (&[b"accumulator"], b"hpx: bad word 0\n"),
-        (&[b"fib"], b"hpx: bad word 1\n"),
+        (&[b"fob"], b"hpx: bad word 1\n"),
+        // What is not built yet.
+        (&[b"fib"], b"hpx: bad word 0\n"),
         (
             &[b"accumulator", b"--hpx:localities=3"],
+            b"hpx: bad word 0\n",
+        ),
+        (
+            &[b"accumulator", b"--hpx:localities=2", b"--hpx:threads=2"],
+            b"hpx: bad word 0\n",
+        ),
+        (
+            &[
+                b"accumulator",
+                b"--hpx:localities=2",
+                b"--hpx:print-counter=/parcels{locality#0/total}/count/sent",
+            ],
+            b"hpx: bad word 0\n",
+        ),
+        (
+            &[b"accumulator", b"--hpx:localities=65"],
             b"hpx: bad word 2\n",
         ),
         (
             &[b"accumulator", b"--hpx:localities=2", b"more"],
             b"hpx: bad word 3\n",
+        ),
+        (
+            &[
+                b"accumulator",
+                b"--hpx:localities",
+                b"2",
+                b"--hpx:ini",
+                b"hpx.agas.cache_size=64",
+                b"--hpx:threads=1",
+                b"--hpx:ini=hpx.agas.credit_log=31",
+                b"--hpx:ini",
+                b"hpx.journal=0",
+                b"--hpx:ini=hpx.agas.cache_size=64",
+            ],
+            b"hpx: bad word 10\n",
         ),
     ] {
         let mut source = SureSource::new(bytes(alloc, b"add 5\n")?);
@@ -414,6 +447,47 @@ fn other_words_are_refused(rt: HostRuntime) -> Result<(), Fail> {
         assert_eq!(rt; status, 1);
         assert_eq!(rt; sink.bytes(), b"".as_slice());
         assert_eq!(rt; err.bytes(), want);
+    }
+    Ok(())
+}
+
+// The same settings in other words.
+#[test]
+fn other_words_mean_the_same(rt: HostRuntime) -> Result<(), Fail> {
+    let alloc = rt.alloc();
+    for given in [
+        &[b"--hpx:localities=2".as_slice(), b"accumulator"] as &[&[u8]],
+        &[
+            b"accumulator",
+            b"--hpx:localities",
+            b"02",
+            b"--hpx:threads=1",
+        ],
+        &[
+            b"--hpx:ini",
+            b"hpx.agas.credit_limit=1267650600228229401496703205376",
+            b"accumulator",
+            b"--hpx:localities=2",
+        ],
+    ] {
+        let mut source = SureSource::new(bytes(alloc, b"add 5\nquery\n")?);
+        let mut sink = SureSink::new(alloc);
+        let mut err = SureSink::new(alloc);
+        let fabric = SureFabric::new(alloc, Order::FirstIn);
+        let End { status, .. } = run(
+            alloc,
+            &words(alloc, given)?,
+            &mut source,
+            &mut sink,
+            &mut err,
+            fabric,
+        );
+        assert_eq!(rt; status, 0);
+        assert_eq!(rt;
+            sink.bytes(),
+            b"commands: reset, add [amount], query, help, quit\n> > 5\n> ".as_slice()
+        );
+        assert_eq!(rt; err.bytes(), b"".as_slice());
     }
     Ok(())
 }

@@ -1,6 +1,7 @@
 use Rattle.std.proofs.Common.{ℕ, [], Some, ◌≡◌, ◌⊎◌, inl, inr, refl, sym, ap, ◌∙◌}
 use Rattle.hpx_ports.specs.Told.{followed}
-use Rattle.hpx_top.specs.Statuses.{status_after, word_line}
+use Rattle.hpx_options.specs.Texts.{bad_word_text}
+use Rattle.hpx_top.specs.Statuses.{status_after}
 use Rattle.hpx_top.specs.Usage.{bad_word}
 use Rattle.hpx_top.proofs.ShowLemmas.{nothing_said}
 use Rattle.hpx_top.proofs.EndLemmas.{begun_nothing}
@@ -57,9 +58,11 @@ returns-clause-at_most_a_line g c =
 
 pub returns-in-Some-clause-usage_line : goal.returns-in-Some-clause-usage_line
 returns-in-Some-clause-usage_line g c = λ place bad calm.
-    let is : Some c.in-Some.place ≡ Some place = sym c.in-Some.is ∙ (c.bad_word.ensures ∙ (ap bad_word c.as_slice.ensures ∙ bad)) in
+    let is : Some c.in-Some.place ≡ Some place = sym c.in-Some.is ∙ (c.bad_word.ensures ∙ bad) in
     let same : c.in-Some.place ≡ place = cc in
-    c.say.ensures.whole calm ∙ ap (λ line. followed (g.E.Sink.held c.args.err.now) line) (c.usage_line.ensures ∙ ap word_line same)
+    c.say.ensures.whole calm
+    ∙ ap (λ line. followed (g.E.Sink.held c.args.err.now) line)
+    (c.as_bytes.ensures.value ∙ c.as_str.ensures.value ∙ c.bad_word-in-Some.ensures ∙ ap bad_word_text same)
 
 pub returns-clause-status_front : goal.returns-clause-status_front
 returns-clause-status_front g c = λ good. elim c.match-served.branch [

@@ -4,12 +4,13 @@ use Rattle.hpx_value.specs.Ids.{Id, bare}
 use Rattle.hpx_part.specs.Data.{Reason, Count}
 use Rattle.hpx_part.specs.Parts.{at_all}
 use Rattle.hpx_tables.specs.Tables.{Tables}
-use Rattle.hpx_node.specs.Handled.{answered}
+use Rattle.hpx_steps.specs.Calls.{answered}
 use Rattle.hpx_node.proofs.AnsweredEntry.{refused_by_entry, granted_by_entry}
 use Rattle.hpx_journal.specs.Data.{Parcel}
 use Rattle.hpx_node.proofs.Returned.{live_home, live_covers, recounted}
 use Rattle.hpx_node.proofs.Recounted.{leaves_asked}
 use Rattle.hpx_node.proofs.Answered.{given_home, refused_by, granted_by}
+use Rattle.hpx_node.specs.Locality.{Locality}
 use Rattle.hpx_node.proofs.node.Node.answer.Goals as goal
 use Rattle.hpx_node.proofs.node.Node.answer.Goals.{in-Limit, in-Yes}
 
@@ -32,38 +33,38 @@ returns-clause-handles g c =
       | in-Limit w ↦
           refused_by g.A.Acts.act_of _ _ _ _ c.self.inside.records.profile c.args.id c.match-granted.why.1 c.args.asker c.args.entry
           refl tidy mails goes profile c.requires.credit.0 live enough
-          (recounted _ _ _ _ tidy (ap (λ (x : Registry Parcel). x.births) c.in-Ok.ensures.rest))
+          (recounted _ _ _ tidy (ap (λ (x : Registry Parcel). x.births) c.in-Ok.ensures.rest))
           c.in-Ok.ensures.record c.in-Ok.ensures.others (ap (λ (p : Reason × Id). p.1) w.why-is) (rw w.in-Limit.is at c.in-Ok.ensures.granted)
       | in-Yes w ↦
           granted_by g.A.Acts.act_of _ _ _ _ c.self.inside.records.profile c.args.id c.match-granted.why.1 w.in-Yes.more
           c.args.asker c.args.entry refl tidy mails goes profile c.self.invariant.3 c.requires.credit.0 live enough
-          (recounted _ _ _ _ tidy (ap (λ (x : Registry Parcel). x.births) c.in-Ok.ensures.rest))
+          (recounted _ _ _ tidy (ap (λ (x : Registry Parcel). x.births) c.in-Ok.ensures.rest))
           c.in-Ok.ensures.record c.in-Ok.ensures.others (ap (λ (p : Reason × Id). p.1) w.why-is) (rw w.in-Yes.is at c.in-Ok.ensures.granted)
     ])
 
 pub returns-clause-grows : goal.returns-clause-grows
 returns-clause-grows g c =
     let before = c.args.book.now.entries in
-    let records : c.args.self.now.records ≡ c.self.inside.records.records = ap (λ (t : Tables). t.records) (sym c.self.view_is) in
-    let profile : c.args.self.now.profile ≡ c.self.inside.records.profile =
-    ap (λ (t : Tables). t.profile) (sym c.self.view_is) ∙ sym c.self.invariant.5 in
-    let entry : Count (bare c.args.id) c.count-count.result c.match-granted.why.0 ∷ [] ≡ answered c.args.self.now c.args.id =
+    let records : c.args.self.now.tables.records ≡ c.self.inside.records.records = ap (λ (t : Locality). t.tables.records) (sym c.self.view_is) in
+    let profile : c.args.self.now.tables.profile ≡ c.self.inside.records.profile =
+    ap (λ (t : Locality). t.tables.profile) (sym c.self.view_is) ∙ sym c.self.invariant.5 in
+    let entry : Count (bare c.args.id) c.count-count.result c.match-granted.why.0 ∷ [] ≡ answered c.args.self.now.tables c.args.id =
     elim c.match-granted.branch [
       | in-Limit w ↦
           ap (λ (p : Reason × Id). Count (bare c.args.id) c.count-count.result p.0 ∷ []) w.why-is
-          ∙ refused_by_entry c.args.self.now c.args.id c.self.inside.records.profile c.self.inside.records.records c.ask.new.self.records
+          ∙ refused_by_entry c.args.self.now.tables c.args.id c.self.inside.records.profile c.self.inside.records.records c.ask.new.self.records
           c.count-count.result records profile c.requires.live c.in-Ok.ensures.record c.count-count.ensures
           (rw w.in-Limit.is at c.in-Ok.ensures.granted)
       | in-Yes w ↦
           ap (λ (p : Reason × Id). Count (bare c.args.id) c.count-count.result p.0 ∷ []) w.why-is
-          ∙ granted_by_entry c.args.self.now c.args.id c.self.inside.records.profile c.self.inside.records.records c.ask.new.self.records
+          ∙ granted_by_entry c.args.self.now.tables c.args.id c.self.inside.records.profile c.self.inside.records.records c.ask.new.self.records
           c.count-count.result records profile c.requires.live c.in-Ok.ensures.record c.count-count.ensures w.in-Yes.more
           (rw w.in-Yes.is at c.in-Ok.ensures.granted)
     ] in
     c.push.ensures.entries
     ∙ (ap (λ o. before ++ record { at = c.self.inside.here; event = Count o c.count-count.result c.match-granted.why.0 } ∷ []) c.bare-object.ensures
-    ∙ (ap (λ k. before ++ record { at = k; event = Count (bare c.args.id) c.count-count.result c.match-granted.why.0 } ∷ []) (ap (λ (t : Tables). t.here) c.self.view_is)
-    ∙ ap (λ es. before ++ at_all c.args.self.now.here es) entry))
+    ∙ (ap (λ k. before ++ record { at = k; event = Count (bare c.args.id) c.count-count.result c.match-granted.why.0 } ∷ []) (ap (λ (t : Locality). t.tables.here) c.self.view_is)
+    ∙ ap (λ es. before ++ at_all c.args.self.now.tables.here es) entry))
 
 pub returns-in_default-clause-leaves : goal.returns-in_default-clause-leaves
 returns-in_default-clause-leaves g c =

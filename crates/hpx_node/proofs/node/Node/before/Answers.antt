@@ -10,16 +10,16 @@ use Rattle.hpx_node.proofs.node.Node.before.Goals as goal
 pub asks-requires : goal.asks-requires
 asks-requires g c =
     let d = c.args.done.now in
-    let t = c.args.self.now in
-    let hand : c.ids.result.now ≡ hand_before c.args.self.now c.args.done.now.job c.args.done.now.outcome =
+    let t = c.args.self.now.tables in
+    let hand : c.ids.result.now ≡ hand_before c.args.self.now.tables c.args.done.now.job c.args.done.now.outcome =
     rw (c.ids.ensures, c.in_ok-hand-2.ensures.0, c.in_ok-hand-2.ensures.1, c.in_ok-hand-2.ensures.2, c.as_slice-4.ensures.value, c.in_ok-later.ensures, c.as_slice-3.ensures, c.job-job.ensures, c.outcome-outcome.ensures) refl in
-    let places : c.as_slice-5.result.now ≡ places_in_hand c.args.self.now c.args.done.now.job c.args.done.now.outcome =
+    let places : c.as_slice-5.result.now ≡ places_in_hand c.args.self.now.tables c.args.done.now.job c.args.done.now.outcome =
     rw (c.as_slice-5.ensures.value, c.in_ok-places.ensures, c.in_ok-hand.ensures.0, c.in_ok-hand.ensures.1, c.in_ok-hand.ensures.2, c.as_slice-2.ensures.value, c.in_ok-made.ensures, c.as_slice.ensures, c.job-job.ensures, c.outcome-outcome.ensures) refl in
     let own : c.len.result + c.len-2.result ≡ own_many c.args.done.now.job =
     rw (c.len.ensures, c.len-2.ensures, c.job-job.ensures) (sym (length-append c.args.done.now.job.state.ids c.args.done.now.job.action.ids)) in
-    let split : c.in_ok-stock.stock ≡ split_stock c.args.self.now c.args.done.now.job c.args.done.now.outcome =
+    let split : c.in_ok-stock.stock ≡ split_stock c.args.self.now.tables c.args.done.now.job c.args.done.now.outcome =
     split_by t d.job d.outcome _ c.ids.result.now c.as_slice-5.result.now c.in_ok-stock.stock c.in_ok-stock.ensures own hand places in
-    let short : c.in_ok-short.short.items ≡ short_before c.args.self.now c.args.done.now.job c.args.done.now.outcome =
+    let short : c.in_ok-short.short.items ≡ short_before c.args.self.now.tables c.args.done.now.job c.args.done.now.outcome =
     short_by t d.job d.outcome _ c.in_ok-stock.stock c.in_ok-short.short.items c.in_ok-short.ensures own split in
     let few : length c.as_slice-7.result.now ≤ 162 =
     rw (c.as_slice-7.ensures.value, short) (short_many d.localities t d.job d.outcome c.lawful.ensures c.requires.fit) in
@@ -28,34 +28,34 @@ asks-requires g c =
 pub strip-requires : goal.strip-requires
 strip-requires g c =
     let d = c.args.done.now in
-    let t = c.args.self.now in
-    let hand : c.ids.result.now ≡ hand_before c.args.self.now c.args.done.now.job c.args.done.now.outcome =
+    let t = c.args.self.now.tables in
+    let hand : c.ids.result.now ≡ hand_before c.args.self.now.tables c.args.done.now.job c.args.done.now.outcome =
     rw (c.ids.ensures, c.in_ok-hand-2.ensures.0, c.in_ok-hand-2.ensures.1, c.in_ok-hand-2.ensures.2, c.as_slice-4.ensures.value, c.in_ok-later.ensures, c.as_slice-3.ensures, c.job-job.ensures, c.outcome-outcome.ensures) refl in
-    let places : c.as_slice-5.result.now ≡ places_in_hand c.args.self.now c.args.done.now.job c.args.done.now.outcome =
+    let places : c.as_slice-5.result.now ≡ places_in_hand c.args.self.now.tables c.args.done.now.job c.args.done.now.outcome =
     rw (c.as_slice-5.ensures.value, c.in_ok-places.ensures, c.in_ok-hand.ensures.0, c.in_ok-hand.ensures.1, c.in_ok-hand.ensures.2, c.as_slice-2.ensures.value, c.in_ok-made.ensures, c.as_slice.ensures, c.job-job.ensures, c.outcome-outcome.ensures) refl in
     let own : c.len.result + c.len-2.result ≡ own_many c.args.done.now.job =
     rw (c.len.ensures, c.len-2.ensures, c.job-job.ensures) (sym (length-append c.args.done.now.job.state.ids c.args.done.now.job.action.ids)) in
-    let split : c.in_ok-stock.stock ≡ split_stock c.args.self.now c.args.done.now.job c.args.done.now.outcome =
+    let split : c.in_ok-stock.stock ≡ split_stock c.args.self.now.tables c.args.done.now.job c.args.done.now.outcome =
     split_by t d.job d.outcome _ c.ids.result.now c.as_slice-5.result.now c.in_ok-stock.stock c.in_ok-stock.ensures own hand places in
-    let short : c.in_ok-short.short.items ≡ short_before c.args.self.now c.args.done.now.job c.args.done.now.outcome =
+    let short : c.in_ok-short.short.items ≡ short_before c.args.self.now.tables c.args.done.now.job c.args.done.now.outcome =
     short_by t d.job d.outcome _ c.in_ok-stock.stock c.in_ok-short.short.items c.in_ok-short.ensures own split in
     rw (c.as_slice-8.ensures.value, short, split) (within_split d.localities t d.job d.outcome c.lawful.ensures c.requires.fit)
 
 pub returns : goal.returns
 returns g c =
     let d = c.args.done.now in
-    let t = c.args.self.now in
-    let hand : c.ids.result.now ≡ hand_before c.args.self.now c.args.done.now.job c.args.done.now.outcome =
+    let t = c.args.self.now.tables in
+    let hand : c.ids.result.now ≡ hand_before c.args.self.now.tables c.args.done.now.job c.args.done.now.outcome =
     rw (c.ids.ensures, c.in_ok-hand-2.ensures.0, c.in_ok-hand-2.ensures.1, c.in_ok-hand-2.ensures.2, c.as_slice-4.ensures.value, c.in_ok-later.ensures, c.as_slice-3.ensures, c.job-job.ensures, c.outcome-outcome.ensures) refl in
-    let places : c.as_slice-5.result.now ≡ places_in_hand c.args.self.now c.args.done.now.job c.args.done.now.outcome =
+    let places : c.as_slice-5.result.now ≡ places_in_hand c.args.self.now.tables c.args.done.now.job c.args.done.now.outcome =
     rw (c.as_slice-5.ensures.value, c.in_ok-places.ensures, c.in_ok-hand.ensures.0, c.in_ok-hand.ensures.1, c.in_ok-hand.ensures.2, c.as_slice-2.ensures.value, c.in_ok-made.ensures, c.as_slice.ensures, c.job-job.ensures, c.outcome-outcome.ensures) refl in
     let own : c.len.result + c.len-2.result ≡ own_many c.args.done.now.job =
     rw (c.len.ensures, c.len-2.ensures, c.job-job.ensures) (sym (length-append c.args.done.now.job.state.ids c.args.done.now.job.action.ids)) in
-    let split : c.in_ok-stock.stock ≡ split_stock c.args.self.now c.args.done.now.job c.args.done.now.outcome =
+    let split : c.in_ok-stock.stock ≡ split_stock c.args.self.now.tables c.args.done.now.job c.args.done.now.outcome =
     split_by t d.job d.outcome _ c.ids.result.now c.as_slice-5.result.now c.in_ok-stock.stock c.in_ok-stock.ensures own hand places in
-    let short : c.in_ok-short.short.items ≡ short_before c.args.self.now c.args.done.now.job c.args.done.now.outcome =
+    let short : c.in_ok-short.short.items ≡ short_before c.args.self.now.tables c.args.done.now.job c.args.done.now.outcome =
     short_by t d.job d.outcome _ c.in_ok-stock.stock c.in_ok-short.short.items c.in_ok-short.ensures own split in
-    let kept : c.ids-2.result.now ≡ hand_before c.args.self.now c.args.done.now.job c.args.done.now.outcome =
+    let kept : c.ids-2.result.now ≡ hand_before c.args.self.now.tables c.args.done.now.job c.args.done.now.outcome =
     rw (c.ids-2.ensures, c.in_ok-hand-2.ensures.0, c.in_ok-hand-2.ensures.1, c.in_ok-hand-2.ensures.2, c.as_slice-4.ensures.value, c.in_ok-later.ensures, c.as_slice-3.ensures, c.job-job.ensures, c.outcome-outcome.ensures) refl in
     record {
       hand = c.in_ok-from_slice.ensures.items ∙ kept;

@@ -7,16 +7,17 @@ use Rattle.hpx_tables.specs.Tables.{Tables}
 use Rattle.hpx_node.proofs.SomeShort.{something}
 use Rattle.hpx_node.proofs.TurnSteps.{adds_asks}
 use Rattle.hpx_node.proofs.Waited.{before_short, before_own, before_least, lacks_few, kept_before, begins_by}
+use Rattle.hpx_node.specs.Locality.{Locality}
 use Rattle.hpx_node.proofs.node.Node.begin.Goals as goal
 
 pub push_first_splits-requires-clause-own : goal.push_first_splits-requires-clause-own
 push_first_splits-requires-clause-own g c =
-    rw c.as_slice.ensures.value (before_own c.args.self.now c.args.done.job c.args.done.outcome c.args.before c.requires.before)
+    rw c.as_slice.ensures.value (before_own c.args.self.now.tables c.args.done.job c.args.done.outcome c.args.before c.requires.before)
 
 pub push_first_splits-requires-clause-page : goal.push_first_splits-requires-clause-page
 push_first_splits-requires-clause-page g c =
     let d = c.args.done in
-    let t = c.args.self.now in
+    let t = c.args.self.now.tables in
     let laws = subst (λ n. KeepsLaws n d.job.kind d.job.at d.job.state d.job.action d.outcome) c.requires.localities c.requires.laws in
     let short : length (first_cuts c.args.before.own 0 c.as_slice.result.now c.as_slice-2.result.now) ≤ 192 =
     rw (c.as_slice.ensures.value, c.as_slice-2.ensures.value) (before_short t d.job d.outcome c.args.before c.requires.before c.requires.fit c.requires.few laws) in
@@ -25,7 +26,7 @@ push_first_splits-requires-clause-page g c =
 pub push_asks-requires : goal.push_asks-requires
 push_asks-requires g c =
     let d = c.args.done in
-    let t = c.args.self.now in
+    let t = c.args.self.now.tables in
     let laws = subst (λ n. KeepsLaws n d.job.kind d.job.at d.job.state d.job.action d.outcome) c.requires.localities c.requires.laws in
     let short : length (first_cuts c.args.before.own 0 c.as_slice.result.now c.as_slice-2.result.now) ≤ 192 =
     rw (c.as_slice.ensures.value, c.as_slice-2.ensures.value) (before_short t d.job d.outcome c.args.before c.requires.before c.requires.fit c.requires.few laws) in
@@ -34,23 +35,23 @@ push_asks-requires g c =
     omega (arith, short, few, c.push_first_splits.ensures.page, c.requires.page)
 
 pub pause-requires-clause-object : goal.pause-requires-clause-object
-pause-requires-clause-object g c = slice_get_less c.args.self.now.objects c.args.j c.requires.at.standing c.requires.at.stands
+pause-requires-clause-object g c = slice_get_less c.args.self.now.tables.objects c.args.j c.requires.at.standing c.requires.at.stands
 
 pub pause-requires-clause-kept : goal.pause-requires-clause-kept
 pause-requires-clause-kept g c =
-    kept_before c.args.self.now c.args.done.job c.args.done.outcome c.args.before c.requires.before c.args.i c.args.j c.requires.at c.requires.fit c.requires.stands.tidy
+    kept_before c.args.self.now.tables c.args.done.job c.args.done.outcome c.args.before c.requires.before c.args.i c.args.j c.requires.at c.requires.fit c.requires.stands.tidy
 
 pub ask_all-requires-clause-least : goal.ask_all-requires-clause-least
 ask_all-requires-clause-least g c =
     let d = c.args.done in
     let laws = subst (λ n. KeepsLaws n d.job.kind d.job.at d.job.state d.job.action d.outcome) c.requires.localities c.requires.laws in
     rw c.as_slice-4.ensures.value
-    (before_least c.args.self.now d.job d.outcome c.args.before c.requires.before c.requires.fit c.requires.few laws)
+    (before_least c.args.self.now.tables d.job d.outcome c.args.before c.requires.before c.requires.fit c.requires.few laws)
 
 pub ask_all-requires-clause-few : goal.ask_all-requires-clause-few
 ask_all-requires-clause-few g c =
     let d = c.args.done in
-    let t = c.args.self.now in
+    let t = c.args.self.now.tables in
     let laws = subst (λ n. KeepsLaws n d.job.kind d.job.at d.job.state d.job.action d.outcome) c.requires.localities c.requires.laws in
     let few : length c.as_slice-4.result.now ≤ 162 =
     rw c.as_slice-4.ensures.value (lacks_few t d.job d.outcome c.args.before c.requires.before c.requires.fit c.requires.few laws) in
@@ -59,7 +60,7 @@ ask_all-requires-clause-few g c =
 pub ask_all-requires-clause-spare : goal.ask_all-requires-clause-spare
 ask_all-requires-clause-spare g c =
     let d = c.args.done in
-    let t = c.args.self.now in
+    let t = c.args.self.now.tables in
     let laws = subst (λ n. KeepsLaws n d.job.kind d.job.at d.job.state d.job.action d.outcome) c.requires.localities c.requires.laws in
     let few : length c.as_slice-4.result.now ≤ 162 =
     rw c.as_slice-4.ensures.value (lacks_few t d.job d.outcome c.args.before c.requires.before c.requires.fit c.requires.few laws) in
@@ -68,39 +69,39 @@ ask_all-requires-clause-spare g c =
 pub returns-clause-stands : goal.returns-clause-stands
 returns-clause-stands g c =
     let d = c.args.done in
-    let t = c.args.self.now in
+    let t = c.args.self.now.tables in
     let laws = subst (λ n. KeepsLaws n d.job.kind d.job.at d.job.state d.job.action d.outcome) c.requires.localities c.requires.laws in
     let pauses = rw c.new.ensures at c.pause.ensures.pauses in
-    let asks = rw c.as_slice-4.ensures.value at c.ask_all.ensures in
-    let here = ap (λ (x : Tables). x.here) c.self.view_is in
+    let asks = rw c.as_slice-4.ensures.value at c.ask_all.ensures.asks in
+    let here = ap (λ (x : Locality). x.tables.here) c.self.view_is in
     let cut = rw (c.as_slice.ensures.value, c.as_slice-2.ensures.value, here) at c.push_first_splits.ensures.entries in
     let asked = rw (c.as_slice-3.ensures.value, here) at c.push_asks.ensures.entries in
-    let valid = rw (ap (λ (x : Tables). x.profile) c.self.view_is) at c.self.invariant.3 in
+    let valid = rw (ap (λ (x : Locality). x.tables.profile) c.self.view_is) at c.self.invariant.3 in
     let some = something d.localities t d.job d.outcome c.requires.laws c.requires.fit valid.log_least c.requires.short in
-    (begins_by g.A.Acts.act_of t c.pause.new.self c.ask_all.new.self d.job d.outcome d.localities c.args.before c.args.i c.args.j _ c.args.book.now.entries
+    (begins_by g.A.Acts.act_of t c.pause.new.self.tables c.ask_all.new.self.tables d.job d.outcome d.localities c.args.before c.args.i c.args.j _ c.args.book.now.entries
     c.push_asks.new.book.entries c.requires.fit c.requires.few laws c.requires.before c.requires.localities c.requires.here refl pauses asks
     c.requires.first (asked ∙ ap (λ es. es ++ at_all t.here (asked_events c.args.before.lacking.items)) cut) some c.requires.stands).0
 
 pub returns-clause-begins : goal.returns-clause-begins
 returns-clause-begins g c =
     let d = c.args.done in
-    let t = c.args.self.now in
+    let t = c.args.self.now.tables in
     let laws = subst (λ n. KeepsLaws n d.job.kind d.job.at d.job.state d.job.action d.outcome) c.requires.localities c.requires.laws in
     let pauses = rw c.new.ensures at c.pause.ensures.pauses in
-    let asks = rw c.as_slice-4.ensures.value at c.ask_all.ensures in
-    let here = ap (λ (x : Tables). x.here) c.self.view_is in
+    let asks = rw c.as_slice-4.ensures.value at c.ask_all.ensures.asks in
+    let here = ap (λ (x : Locality). x.tables.here) c.self.view_is in
     let cut = rw (c.as_slice.ensures.value, c.as_slice-2.ensures.value, here) at c.push_first_splits.ensures.entries in
     let asked = rw (c.as_slice-3.ensures.value, here) at c.push_asks.ensures.entries in
-    let valid = rw (ap (λ (x : Tables). x.profile) c.self.view_is) at c.self.invariant.3 in
+    let valid = rw (ap (λ (x : Locality). x.tables.profile) c.self.view_is) at c.self.invariant.3 in
     let some = something d.localities t d.job d.outcome c.requires.laws c.requires.fit valid.log_least c.requires.short in
-    (begins_by g.A.Acts.act_of t c.pause.new.self c.ask_all.new.self d.job d.outcome d.localities c.args.before c.args.i c.args.j _ c.args.book.now.entries
+    (begins_by g.A.Acts.act_of t c.pause.new.self.tables c.ask_all.new.self.tables d.job d.outcome d.localities c.args.before c.args.i c.args.j _ c.args.book.now.entries
     c.push_asks.new.book.entries c.requires.fit c.requires.few laws c.requires.before c.requires.localities c.requires.here refl pauses asks
     c.requires.first (asked ∙ ap (λ es. es ++ at_all t.here (asked_events c.args.before.lacking.items)) cut) some c.requires.stands).1
 
 pub returns-clause-turn : goal.returns-clause-turn
 returns-clause-turn g c =
     let d = c.args.done in
-    let t = c.args.self.now in
+    let t = c.args.self.now.tables in
     let laws = subst (λ n. KeepsLaws n d.job.kind d.job.at d.job.state d.job.action d.outcome) c.requires.localities c.requires.laws in
     let short : length (first_cuts c.args.before.own 0 c.as_slice.result.now c.as_slice-2.result.now) ≤ 192 =
     rw (c.as_slice.ensures.value, c.as_slice-2.ensures.value) (before_short t d.job d.outcome c.args.before c.requires.before c.requires.fit c.requires.few laws) in

@@ -1,10 +1,10 @@
 use Rattle.std.proofs.Common.{◌+◌, ◌∙◌, ap, refl}
-use Rattle.hpx_tables.specs.Tables.{Tables}
 use Rattle.hpx_node.proofs.Taken.{taken_by, taken_tidy, taken_writes}
 use Rattle.hpx_node.proofs.FewEntries.{grows_few}
 use Rattle.hpx_node.proofs.Turns.{frame_short}
 use Rattle.hpx_node.proofs.Recounted.{leaves_from}
 use Rattle.hpx_node.proofs.TurnSteps.{grows_light}
+use Rattle.hpx_node.specs.Locality.{Locality}
 use Rattle.hpx_node.proofs.node.Node.enter_frame.Goals as goal
 
 pub handle-requires-clause-tidy : goal.handle-requires-clause-tidy
@@ -26,10 +26,10 @@ pub returns-clause-writes : goal.returns-clause-writes
 returns-clause-writes g c =
     let h = c.handle.ensures.handles in
     record {
-      here = h.here ∙ ap (λ (t : Tables). t.here) c.self.view_is;
-      localities = h.localities ∙ ap (λ (t : Tables). t.localities) c.self.view_is;
-      profile = h.profile ∙ ap (λ (t : Tables). t.profile) c.self.view_is;
-      grows = taken_writes _ c.args.self.now (c.self.inside.taken + 1) c.args.parcel c.args.bytes _ _ _ c.self.view_is c.push.ensures.entries c.handle.ensures.grows;
+      here = h.here ∙ ap (λ (t : Locality). t.tables.here) c.self.view_is;
+      localities = h.localities ∙ ap (λ (t : Locality). t.tables.localities) c.self.view_is;
+      profile = h.profile ∙ ap (λ (t : Locality). t.tables.profile) c.self.view_is;
+      grows = taken_writes _ c.args.self.now.tables (c.self.inside.taken + 1) c.args.parcel c.args.bytes _ _ _ (ap (λ (x : Locality). x.tables) c.self.view_is) c.push.ensures.entries c.handle.ensures.grows;
     }
 
 pub returns-clause-light : goal.returns-clause-light

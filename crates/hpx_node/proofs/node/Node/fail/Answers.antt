@@ -7,64 +7,64 @@ use Rattle.hpx_node.proofs.node.Node.fail.Goals as goal
 
 pub abandon-requires-clause-waits : goal.abandon-requires-clause-waits
 abandon-requires-clause-waits g c =
-    slice_get_less c.args.self.now.pending c.args.i c.requires.must.commit c.requires.must.there
+    slice_get_less c.args.self.now.tables.pending c.args.i c.requires.must.commit c.requires.must.there
 
 pub abandon-requires-clause-object : goal.abandon-requires-clause-object
 abandon-requires-clause-object g c =
-    slice_get_less c.args.self.now.objects c.args.j c.requires.must.standing c.requires.must.stands
+    slice_get_less c.args.self.now.tables.objects c.args.j c.requires.must.standing c.requires.must.stands
 
 pub abandon-requires-clause-kept : goal.abandon-requires-clause-kept
 abandon-requires-clause-kept g c =
-    plan_kept g.A.Acts.act_of c.args.self.now c.args.i c.args.j c.requires.must c.args.plan c.requires.plan c.args.book.now.entries c.requires.stands
+    plan_kept g.A.Acts.act_of c.args.self.now.tables c.args.i c.args.j c.requires.must c.args.plan c.requires.plan c.args.book.now.entries c.requires.stands
 
 pub leave-requires-clause-fit : goal.leave-requires-clause-fit
 leave-requires-clause-fit g c =
-    plan_due g.A.Acts.act_of c.args.self.now c.args.i c.args.j c.requires.must c.args.plan c.requires.plan c.args.book.now.entries c.requires.stands
+    plan_due g.A.Acts.act_of c.args.self.now.tables c.args.i c.args.j c.requires.must c.args.plan c.requires.plan c.args.book.now.entries c.requires.stands
 
 pub leave-requires-clause-credit : goal.leave-requires-clause-credit
 leave-requires-clause-credit g c =
-    plan_ups g.A.Acts.act_of c.args.self.now c.args.i c.args.j c.requires.must c.args.plan c.requires.plan c.args.book.now.entries c.requires.stands
+    plan_ups g.A.Acts.act_of c.args.self.now.tables c.args.i c.args.j c.requires.must c.args.plan c.requires.plan c.args.book.now.entries c.requires.stands
 
 pub leave-requires-clause-spare : goal.leave-requires-clause-spare
 leave-requires-clause-spare g c =
-    let few = plan_few g.A.Acts.act_of c.args.self.now c.args.i c.args.j c.requires.must c.args.plan c.requires.plan c.args.book.now.entries c.requires.stands in
+    let few = plan_few g.A.Acts.act_of c.args.self.now.tables c.args.i c.args.j c.requires.must c.args.plan c.requires.plan c.args.book.now.entries c.requires.stands in
     omega (arith, few, c.abandon.ensures.spare, c.requires.few, c.requires.spare)
 
 pub leave-requires-clause-page : goal.leave-requires-clause-page
 leave-requires-clause-page g c =
-    let few = plan_few g.A.Acts.act_of c.args.self.now c.args.i c.args.j c.requires.must c.args.plan c.requires.plan c.args.book.now.entries c.requires.stands in
+    let few = plan_few g.A.Acts.act_of c.args.self.now.tables c.args.i c.args.j c.requires.must c.args.plan c.requires.plan c.args.book.now.entries c.requires.stands in
     omega (arith, few, c.abandon.ensures.page, c.requires.few, c.requires.page)
 
 pub leave-requires-clause-few : goal.leave-requires-clause-few
 leave-requires-clause-few g c =
-    let few = plan_few g.A.Acts.act_of c.args.self.now c.args.i c.args.j c.requires.must c.args.plan c.requires.plan c.args.book.now.entries c.requires.stands in
+    let few = plan_few g.A.Acts.act_of c.args.self.now.tables c.args.i c.args.j c.requires.must c.args.plan c.requires.plan c.args.book.now.entries c.requires.stands in
     omega (arith, few, ap (λ (x : Tables). x.serial) c.abandon.ensures.rest, c.requires.serial)
 
 pub leave-requires-clause-stands : goal.leave-requires-clause-stands
 leave-requires-clause-stands g c =
-    then_stands g.A.Acts.act_of c.args.self.now c.args.i c.args.j c.requires.must c.args.plan c.requires.plan c.args.book.now.entries c.requires.stands
-    c.abandon.new.self c.abandon.new.book.entries c.abandon.ensures.pending c.abandon.ensures.objects c.abandon.ensures.rest c.abandon.ensures.entries
+    then_stands g.A.Acts.act_of c.args.self.now.tables c.args.i c.args.j c.requires.must c.args.plan c.requires.plan c.args.book.now.entries c.requires.stands
+    c.abandon.new.self.tables c.abandon.new.book.entries c.abandon.ensures.pending c.abandon.ensures.objects c.abandon.ensures.rest c.abandon.ensures.entries
 
 pub returns-clause-fails : goal.returns-clause-fails
 returns-clause-fails g c =
-    then_fails g.A.Acts.act_of c.args.self.now c.args.i c.args.j c.requires.must c.args.plan c.requires.plan c.args.book.now.entries c.requires.stands
-    c.abandon.new.self c.abandon.new.book.entries c.abandon.ensures.pending c.abandon.ensures.objects c.abandon.ensures.rest c.abandon.ensures.entries
-    c.leave.new.self c.leave.new.book.entries c.leave.ensures.rest c.leave.ensures.writes c.leave.ensures.goes
+    then_fails g.A.Acts.act_of c.args.self.now.tables c.args.i c.args.j c.requires.must c.args.plan c.requires.plan c.args.book.now.entries c.requires.stands
+    c.abandon.new.self.tables c.abandon.new.book.entries c.abandon.ensures.pending c.abandon.ensures.objects c.abandon.ensures.rest c.abandon.ensures.entries
+    c.leave.new.self.tables c.leave.new.book.entries c.leave.ensures.rest c.leave.ensures.writes c.leave.ensures.goes
 
 pub returns-clause-writes : goal.returns-clause-writes
 returns-clause-writes g c =
-    then_writes g.A.Acts.act_of c.args.self.now c.args.i c.args.j c.requires.must c.args.plan c.requires.plan c.args.book.now.entries c.requires.stands
-    c.abandon.new.self c.abandon.new.book.entries c.abandon.ensures.pending c.abandon.ensures.objects c.abandon.ensures.rest c.abandon.ensures.entries
-    c.leave.new.self c.leave.new.book.entries c.leave.ensures.rest c.leave.ensures.writes
+    then_writes g.A.Acts.act_of c.args.self.now.tables c.args.i c.args.j c.requires.must c.args.plan c.requires.plan c.args.book.now.entries c.requires.stands
+    c.abandon.new.self.tables c.abandon.new.book.entries c.abandon.ensures.pending c.abandon.ensures.objects c.abandon.ensures.rest c.abandon.ensures.entries
+    c.leave.new.self.tables c.leave.new.book.entries c.leave.ensures.rest c.leave.ensures.writes
 
 pub returns-clause-few : goal.returns-clause-few
 returns-clause-few g c =
-    then_few g.A.Acts.act_of c.args.self.now c.args.i c.args.j c.requires.must c.args.plan c.requires.plan c.args.book.now.entries c.requires.stands
-    c.abandon.new.self c.abandon.new.book.entries c.abandon.ensures.pending c.abandon.ensures.objects c.abandon.ensures.rest c.abandon.ensures.entries
-    c.leave.new.self c.leave.new.book.entries c.leave.ensures.rest c.leave.ensures.writes c.requires.few
+    then_few g.A.Acts.act_of c.args.self.now.tables c.args.i c.args.j c.requires.must c.args.plan c.requires.plan c.args.book.now.entries c.requires.stands
+    c.abandon.new.self.tables c.abandon.new.book.entries c.abandon.ensures.pending c.abandon.ensures.objects c.abandon.ensures.rest c.abandon.ensures.entries
+    c.leave.new.self.tables c.leave.new.book.entries c.leave.ensures.rest c.leave.ensures.writes c.requires.few
 
 pub returns-clause-light : goal.returns-clause-light
 returns-clause-light g c =
     let must = c.requires.must in
-    fails_light c.args.self.now c.leave.new.self must.commit c.args.plan c.args.book.now.entries c.leave.new.book.entries
+    fails_light c.args.self.now.tables c.leave.new.self.tables must.commit c.args.plan c.args.book.now.entries c.leave.new.book.entries
     (c.requires.plan must.commit must.there) c.requires.few (returns-clause-writes g c must.commit must.there)

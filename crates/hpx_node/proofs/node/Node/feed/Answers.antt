@@ -1,43 +1,34 @@
-use Rattle.std.proofs.Common.{refl, ap, ◌∙◌, arith}
-use Rattle.hpx_node.proofs.Same.{stands_same}
+use Rattle.std.proofs.Common.{sym, subst, refl, arith}
+use Rattle.hpx_steps.proofs.TurnOf.{line_stands}
+use Rattle.hpx_steps.specs.Rest.{Stands}
+use Rattle.hpx_node.proofs.Fed.{accepts_line}
+use Rattle.hpx_node.proofs.Same.{same_too}
 use Rattle.hpx_node.proofs.Turns.{turn_from, adds_one}
-use Rattle.hpx_tables.specs.Tables.{Tables}
-use Rattle.hpx_node.proofs.Lacks.{lacks_same}
-use Rattle.hpx_node.proofs.OrderCalls.{orderly_same, act_keeps}
 use Rattle.hpx_node.proofs.node.Node.feed.Goals as goal
 
 pub returns-in_err-reserve-clause-stands : goal.returns-in_err-reserve-clause-stands
 returns-in_err-reserve-clause-stands g c =
-    stands_same g.A.Acts.act_of c.args.self.now _ _ _ c.requires.stands c.in_err-reserve.ensures.same refl
+    same_too (Stands g.A.Acts.act_of) c.args.self.now.tables _ _ _ c.requires.stands c.in_err-reserve.ensures.same refl
 
 pub returns-in_err-reserve-2-clause-stands : goal.returns-in_err-reserve-2-clause-stands
 returns-in_err-reserve-2-clause-stands g c =
-    stands_same g.A.Acts.act_of c.args.self.now _ _ _ c.requires.stands c.in_ok-reserve.ensures.same c.in_err-reserve-2.ensures.entries
+    same_too (Stands g.A.Acts.act_of) c.args.self.now.tables _ _ _ c.requires.stands c.in_ok-reserve.ensures.same c.in_err-reserve-2.ensures.entries
 
-pub enter_line-requires-clause-stands : goal.enter_line-requires-clause-stands
-enter_line-requires-clause-stands g c =
-    stands_same g.A.Acts.act_of c.args.self.now _ _ _ c.requires.stands c.in_ok-reserve.ensures.same c.in_ok-reserve-2.ensures.entries
+pub returns-clause-stands : goal.returns-clause-stands
+returns-clause-stands g c =
+    let stands = rw (← c.self.view_is) at c.requires.stands in
+    let line = rw (c.in_ok-reserve.ensures.same, c.in_ok-reserve-2.ensures.entries, ← c.self.view_is) at c.enter_line.ensures.line in
+    subst (Stands g.A.Acts.act_of c.enter_line.new.self.tables) (sym line.grows)
+    (line_stands g.A.Acts.act_of _ c.enter_line.new.self.tables _ stands (omega (arith, c.self.invariant.3.log_least)) c.args.line
+    (rw (← c.self.view_is) at c.requires.here) c.requires.short
+    (rw (c.in_ok-reserve.ensures.same, c.in_ok-act.ensures.act, ← c.self.view_is) at c.enter_line.ensures.waits))
+
+pub returns-clause-accepted : goal.returns-clause-accepted
+returns-clause-accepted g c =
+    let stands = rw (← c.self.view_is) at c.requires.stands in
+    rw (← c.self.view_is) (accepts_line g.A.Acts.act_of _ c.enter_line.new.self.tables _ _ c.args.line _ stands (rw (← c.self.view_is) at c.requires.here)
+    (rw (c.in_ok-reserve.ensures.same, c.in_ok-act.ensures.act, ← c.self.view_is) at c.enter_line.ensures.waits))
 
 pub returns-clause-turn : goal.returns-clause-turn
 returns-clause-turn g c = turn_from _ _ _ c.in_ok-reserve-2.ensures.entries
     (adds_one _ _ _ _ c.enter_line.ensures.line.grows (omega (arith, c.requires.short)))
-
-pub returns-in_err-reserve-clause-lacks : goal.returns-in_err-reserve-clause-lacks
-returns-in_err-reserve-clause-lacks g c = λ h. lacks_same _ _ (ap (λ (x : Tables). x.pending) c.in_err-reserve.ensures.same) h
-
-pub returns-in_err-reserve-2-clause-lacks : goal.returns-in_err-reserve-2-clause-lacks
-returns-in_err-reserve-2-clause-lacks g c = λ h. lacks_same _ _ (ap (λ (x : Tables). x.pending) c.in_ok-reserve.ensures.same) h
-
-pub returns-clause-lacks : goal.returns-clause-lacks
-returns-clause-lacks g c = λ h. lacks_same _ _ (c.enter_line.ensures.pending ∙ ap (λ (x : Tables). x.pending) c.in_ok-reserve.ensures.same) h
-
-pub returns-in_err-reserve-clause-orderly : goal.returns-in_err-reserve-clause-orderly
-returns-in_err-reserve-clause-orderly g c = λ h. orderly_same g.A.Acts.act_of c.args.self.now _ c.args.book.now.entries _ c.in_err-reserve.ensures.same refl h
-
-pub returns-in_err-reserve-2-clause-orderly : goal.returns-in_err-reserve-2-clause-orderly
-returns-in_err-reserve-2-clause-orderly g c = λ h. orderly_same g.A.Acts.act_of c.args.self.now _ c.args.book.now.entries _ c.in_ok-reserve.ensures.same c.in_err-reserve-2.ensures.entries h
-
-pub returns-clause-orderly : goal.returns-clause-orderly
-returns-clause-orderly g c = λ h. act_keeps g.A.Acts.act_of _ _ _ _
-    (orderly_same g.A.Acts.act_of c.args.self.now _ c.args.book.now.entries _ c.in_ok-reserve.ensures.same c.in_ok-reserve-2.ensures.entries h)
-    _ c.enter_line.ensures.line ((λ k. refl, λ k. refl), tt) c.in_ok-act.act _ c.enter_line.ensures.waits

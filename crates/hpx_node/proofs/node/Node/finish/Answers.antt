@@ -13,22 +13,22 @@ use Rattle.hpx_node.proofs.node.Node.finish.Goals as goal
 pub returns-then-is_err-clause-stands : goal.returns-then-is_err-clause-stands
 returns-then-is_err-clause-stands g c = elim c.then-is_err.branch [
   | then-is_err-via-then-is_err w ↦
-      stands_same g.A.Acts.act_of c.args.self.now _ _ _ c.requires.stands c.reserve.ensures.same (ap (λ (b : Book). b.entries) w.book-is)
+      stands_same g.A.Acts.act_of c.args.self.now.tables _ _ _ c.requires.stands c.reserve.ensures.same (ap (λ (b : Book). b.entries) w.book-is)
   | then-is_err-via-else-is_err+then-is_err-2 w ↦
-      stands_same g.A.Acts.act_of c.args.self.now _ _ _ c.requires.stands c.reserve.ensures.same
+      stands_same g.A.Acts.act_of c.args.self.now.tables _ _ _ c.requires.stands c.reserve.ensures.same
       (ap (λ (b : Book). b.entries) w.book-is ∙ w.reserve-else-is_err.ensures.entries)
 ]
 
 pub commit-requires-clause-prepared : goal.commit-requires-clause-prepared
-commit-requires-clause-prepared g c = prepared_same c.args.self.now _ _ _ _ c.reserve.ensures.same
+commit-requires-clause-prepared g c = prepared_same c.args.self.now.tables _ _ _ _ c.reserve.ensures.same
     (rw c.in-Ok-Some.field-0-is at c.in-Ok-Some.ensures.some)
 
 pub commit-requires-clause-stands : goal.commit-requires-clause-stands
 commit-requires-clause-stands g c =
-    stands_same g.A.Acts.act_of c.args.self.now _ _ _ c.requires.stands c.reserve.ensures.same c.reserve-else-is_err.ensures.entries
+    stands_same g.A.Acts.act_of c.args.self.now.tables _ _ _ c.requires.stands c.reserve.ensures.same c.reserve-else-is_err.ensures.entries
 
 pub returns-clause-ends : goal.returns-clause-ends
-returns-clause-ends g c = λ done. ends_from c.args.self.now _ _ _ _ c.reserve.ensures.same c.commit.ensures.ends
+returns-clause-ends g c = λ done. ends_from c.args.self.now.tables _ _ _ _ c.reserve.ensures.same c.commit.ensures.ends
 
 pub wait-requires-clause-short : goal.wait-requires-clause-short
 wait-requires-clause-short g c = rw c.in-Ok-None.field-0-is at c.in-Ok-None.ensures.none
@@ -58,12 +58,12 @@ returns-clause-lacks g c = λ h. lacks_same _ _ (c.commit.ensures.pending ∙ ap
 
 pub returns-then-is_err-clause-orderly : goal.returns-then-is_err-clause-orderly
 returns-then-is_err-clause-orderly g c = elim c.then-is_err.branch [
-  | then-is_err-via-then-is_err w ↦ λ h. orderly_same g.A.Acts.act_of c.args.self.now _ _ _ c.reserve.ensures.same (ap (λ (b : Book). b.entries) w.book-is) h
-  | then-is_err-via-else-is_err+then-is_err-2 w ↦ λ h. orderly_same g.A.Acts.act_of c.args.self.now _ _ _ c.reserve.ensures.same
+  | then-is_err-via-then-is_err w ↦ λ h. orderly_same g.A.Acts.act_of c.args.self.now.tables _ _ _ c.reserve.ensures.same (ap (λ (b : Book). b.entries) w.book-is) h
+  | then-is_err-via-else-is_err+then-is_err-2 w ↦ λ h. orderly_same g.A.Acts.act_of c.args.self.now.tables _ _ _ c.reserve.ensures.same
       (ap (λ (b : Book). b.entries) w.book-is ∙ w.reserve-else-is_err.ensures.entries) h
 ]
 
 pub returns-clause-orderly : goal.returns-clause-orderly
 returns-clause-orderly g c = λ h. ends_keeps g.A.Acts.act_of _ _ _ _
-    (orderly_same g.A.Acts.act_of c.args.self.now _ c.args.book.now.entries _ c.reserve.ensures.same c.reserve-else-is_err.ensures.entries h)
+    (orderly_same g.A.Acts.act_of c.args.self.now.tables _ c.args.book.now.entries _ c.reserve.ensures.same c.reserve-else-is_err.ensures.entries h)
     _ _ c.commit.ensures.committed c.commit.ensures.ends

@@ -5,6 +5,7 @@ use Rattle.hpx_part.proofs.Keyed.{slice_get_is}
 use Rattle.hpx_tables.specs.Tables.{Tables}
 use Rattle.hpx_node.proofs.Recounted.{leaves_freed}
 use Rattle.hpx_node.proofs.Freed.{freed_handles, freed_grows, without_tidy, without_whole}
+use Rattle.hpx_node.specs.Locality.{Locality}
 use Rattle.hpx_node.proofs.node.Node.free.Goals as goal
 
 pub let_go_all-requires-clause-tidy : goal.let_go_all-requires-clause-tidy
@@ -17,7 +18,7 @@ let_go_all-requires-clause-tidy g c =
     slice_get_is c.self.inside.objects.items c.in-Some.i c.remove-kept.result inside c.remove-kept.ensures.value in
     let found : find (is_standing c.args.o) c.self.inside.objects.items ≡ Some c.remove-kept.result =
     (rw (c.as_slice.ensures.value) at c.in-Some.ensures.found) ∙ there in
-    rw (c.remove-kept.ensures.items) (without_tidy _ c.args.o c.remove-kept.result c.in-Some.i _ there found c.requires.bare idle none tidy)
+    rw (c.remove-kept.ensures.items) (without_tidy _ c.args.o c.remove-kept.result c.in-Some.i there found c.requires.bare idle none tidy)
 
 pub let_go_all-requires-clause-right : goal.let_go_all-requires-clause-right
 let_go_all-requires-clause-right g c =
@@ -42,7 +43,7 @@ returns-clause-handles g c =
     (rw (c.as_slice.ensures.value) at c.in-Some.ensures.found) ∙ there in
     let gives = rw (c.state.ensures.state, c.remove-kept.ensures.items) at c.let_go_all.ensures.gives in
     rw (← c.self.view_is)
-    (freed_handles _ _ _ c.args.o c.remove-kept.result c.in-Some.i _ c.requires.bare tidy idle none there found gives _ found)
+    (freed_handles _ _ _ c.args.o c.remove-kept.result c.in-Some.i c.requires.bare tidy idle none there found gives _ found)
 
 pub returns-clause-grows : goal.returns-clause-grows
 returns-clause-grows g c =
@@ -51,9 +52,9 @@ returns-clause-grows g c =
     slice_get_is c.self.inside.objects.items c.in-Some.i c.remove-kept.result inside c.remove-kept.ensures.value in
     let found : find (is_standing c.args.o) c.self.inside.objects.items ≡ Some c.remove-kept.result =
     (rw (c.as_slice.ensures.value) at c.in-Some.ensures.found) ∙ there in
-    let seen : find (is_standing c.args.o) c.args.self.now.objects ≡ Some c.remove-kept.result =
-    ap (λ (t : Tables). find (is_standing c.args.o) t.objects) (sym c.self.view_is) ∙ found in
-    let here = ap (λ (t : Tables). t.here) (sym c.self.view_is) in
+    let seen : find (is_standing c.args.o) c.args.self.now.tables.objects ≡ Some c.remove-kept.result =
+    ap (λ (t : Locality). find (is_standing c.args.o) t.tables.objects) (sym c.self.view_is) ∙ found in
+    let here = ap (λ (t : Locality). t.tables.here) (sym c.self.view_is) in
     rw here
     (freed_grows c.self.inside.here c.args.o c.remove-kept.result c.state.result.now.ids _ c.args.book.now.entries c.push.new.self.entries _
     seen (ap (λ s. s.ids) c.state.ensures.state) c.push.ensures.entries c.let_go_all.ensures.grows)

@@ -1,6 +1,6 @@
 use Rattle.std.proofs.Common.{◌<◌, ◌∙◌, length, refl}
 use Rattle.hpx_part.proofs.Keyed.{slice_get_is}
-use Rattle.hpx_node.specs.Paused.{IsPaused}
+use Rattle.hpx_steps.specs.Rest.{IsPaused}
 use Rattle.hpx_tables.specs.Pending.{awaits}
 use Rattle.hpx_tables.proofs.Alls.{all_at, find_passes}
 use Rattle.hpx_tables.proofs.Refills.{any_found}
@@ -65,4 +65,4 @@ returns-clause-handles g c =
     let there = slice_get_is c.self.inside.pending.items c.in-Some.i c.index_mut.result.now inside c.index_mut.ensures.value in
     let alone = rw (c.as_slice.ensures.value) at c.in-Some.ensures.first in
     rw (← c.self.view_is)
-    (gives_handles g.A.Acts.act_of _ c.args.id c.args.entry c.in-Some.i _ c.index_mut.result.now c.refill.new.self tidy c.requires.credit brings there alone c.refill.ensures)
+    (gives_handles g.A.Acts.act_of _ c.args.id c.args.entry c.in-Some.i c.index_mut.result.now c.refill.new.self tidy c.requires.credit brings there alone c.refill.ensures)

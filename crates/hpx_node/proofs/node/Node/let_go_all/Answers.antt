@@ -9,7 +9,8 @@ loop-i-preserved g c =
     rw (c.as_slice.ensures) at c.index-as_slice-i.is in
     let lt : c.loop-i.i < length c.args.ids.now = omega (arith, c.loop-i-test.true, c.len-i-end.ensures) in record {
       gives = gives_more g.A.Acts.act_of c.args.ids.now c.loop-i.i _ _ _ _ lt is c.loop-i.invariant.gives c.let_go.ensures.gives;
-      grows = grows_more c.args.ids.now c.loop-i.i _ c.args.self.now.here c.loop-i.self.here _ _ _ lt is
+      grows = grows_more c.args.ids.now c.loop-i.i _ c.args.self.now.tables.here c.loop-i.self.tables.here _ _ _ lt is
           (ap (λ (t : Tables). t.here) c.loop-i.invariant.gives.rest) c.loop-i.invariant.grows c.let_go.ensures.grows;
+      spare = omega (arith, c.loop-i.invariant.spare, c.let_go.ensures.spare);
       page = omega (arith, c.loop-i.invariant.page, c.let_go.ensures.page);
     }

@@ -7,7 +7,7 @@ use Rattle.hpx_node.proofs.node.Node.made.Given as goal
 abbrev pub invariant-loop-make : goal.invariant-loop-make
 invariant-loop-make g l = record {
   managed : AllByRecursion (λ make. IsManaged make.kind) (drop l.make-index l.makes);
-  number : l.number ≡ l.fn.self.births + l.make-index;
-  ids : l.ids.items ++ ids_of l.self.here l.number l.self.profile.credit_log (map birth_of (drop l.make-index l.makes))
-      ≡ ids_of l.self.here l.self.births l.self.profile.credit_log (map birth_of l.makes);
+  number : l.number ≡ l.fn.self.tables.births + l.make-index;
+  ids : l.ids.items ++ ids_of l.self.tables.here l.number l.self.tables.profile.credit_log (map birth_of (drop l.make-index l.makes))
+      ≡ ids_of l.self.tables.here l.self.tables.births l.self.tables.profile.credit_log (map birth_of l.makes);
 }

@@ -11,7 +11,7 @@ returns-in-Some-Message-clause-stands g c =
     let stands = rw (← c.self.view_is) at c.requires.stands in
     let is : c.args.due.now.items ≡ MessageDue c.in-Some-Message.message ∷ c.pop_front.new.self.items =
     rw c.in-Some-Message.field-0-is at c.in-Some-Message.ensures.items in
-    let posts = rw (c.named.ensures) at c.post.ensures in
+    let posts = rw (c.named.ensures) at c.post.ensures.posts in
     rw (c.push.ensures.entries)
     (stands_by g.A.Acts.act_of _ _ _ _ _ _ _ _ (sym (ap (λ (x : Tables). x.localities) posts.rest)) (sym (ap (λ (x : Tables). x.profile) posts.rest))
     (stands_sent _ _ _ _ _ c.in-Some-Message.message c.pop_front.new.self.items posts (rw is at stands)))
@@ -28,7 +28,7 @@ pub returns-in-Some-Message-clause-goes : goal.returns-in-Some-Message-clause-go
 returns-in-Some-Message-clause-goes g c =
     let is : c.args.due.now.items ≡ MessageDue c.in-Some-Message.message ∷ c.pop_front.new.self.items =
     rw c.in-Some-Message.field-0-is at c.in-Some-Message.ensures.items in
-    let posts = rw (c.named.ensures) at c.post.ensures in
+    let posts = rw (c.named.ensures) at c.post.ensures.posts in
     rw (is, ← c.self.view_is) (sent_goes c.in-Some-Message.message c.pop_front.new.self.items _ _ posts)
 
 pub returns-in-Some-Print-clause-goes : goal.returns-in-Some-Print-clause-goes

@@ -15,7 +15,7 @@ made-requires-clause-few g c =
 pub all_last-requires-clause-few : goal.all_last-requires-clause-few
 all_last-requires-clause-few g c =
     let d = c.args.done.now in
-    let t = c.args.self.now in
+    let t = c.args.self.now.tables in
     let few = hand_few d.localities d.job d.outcome c.lawful.ensures c.requires.fit t.here t.births t.profile.credit_log in
     rw (c.ids.ensures, c.in_ok-hand.ensures.0, c.in_ok-hand.ensures.1, c.in_ok-hand.ensures.2, c.as_slice-2.ensures.value, c.in_ok-made.ensures, c.as_slice.ensures, c.job-job.ensures, c.outcome-outcome.ensures)
     (omega (arith, few))
@@ -23,7 +23,7 @@ all_last-requires-clause-few g c =
 pub all_last-requires-clause-within : goal.all_last-requires-clause-within
 all_last-requires-clause-within g c =
     let d = c.args.done.now in
-    let t = c.args.self.now in
+    let t = c.args.self.now.tables in
     rw (c.as_slice-3.ensures.value, c.in_ok-places.ensures, c.ids.ensures, c.in_ok-hand.ensures.0, c.in_ok-hand.ensures.1, c.in_ok-hand.ensures.2, c.as_slice-2.ensures.value, c.in_ok-made.ensures, c.as_slice.ensures, c.job-job.ensures, c.outcome-outcome.ensures)
     (hand_within d.localities d.job d.outcome c.lawful.ensures c.requires.fit t.here t.births t.profile.credit_log)
 
@@ -35,7 +35,7 @@ returns-then-not-all_last-clause-none g c =
 pub prepare_from-requires-clause-stock : goal.prepare_from-requires-clause-stock
 prepare_from-requires-clause-stock g c =
     let d = c.args.done.now in
-    let t = record c.args.self.now { localities = d.localities } in
+    let t = record c.args.self.now.tables { localities = d.localities } in
     let test = rw (c.as_slice-3.ensures.value, c.in_ok-places.ensures, c.ids.ensures, c.in_ok-hand.ensures.0, c.in_ok-hand.ensures.1, c.in_ok-hand.ensures.2, c.as_slice-2.ensures.value, c.in_ok-made.ensures, c.as_slice.ensures, c.job-job.ensures, c.outcome-outcome.ensures) at c.all_last.ensures in
     let is : c.all_last.result ≡ true = let no = c.if-not-all_last.false in cc in
     let own = own_is t d.job d.outcome c.requires.fit c.requires.localities c.lawful.ensures (test.0 is) in

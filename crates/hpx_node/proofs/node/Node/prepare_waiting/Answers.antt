@@ -9,7 +9,7 @@ use Rattle.std.proofs.Common.{List}
 pub replace_from-requires-clause-fits : goal.replace_from-requires-clause-fits
 replace_from-requires-clause-fits g c =
     let w = c.args.waits.now in
-    let t = c.args.self.now in
+    let t = c.args.self.now.tables in
     let state : c.len.result ≡ length w.job.state.ids = c.len.ensures ∙ ap (λ (j : Job). length j.state.ids) (c.job-job.ensures ∙ c.done-2.ensures.job) in
     let action : c.len-2.result ≡ length w.job.action.ids = c.len-2.ensures ∙ ap (λ (j : Job). length j.action.ids) (c.job-job.ensures ∙ c.done-2.ensures.job) in
     let makes = c.as_slice.ensures ∙ ap (λ (o : Outcome). o.makes) (c.outcome-outcome.ensures ∙ c.done-3.ensures.outcome) in

@@ -7,7 +7,7 @@ use Rattle.hpx_journal.specs.Entries.{target_of}
 use Rattle.hpx_journal.specs.Local.{is_standing}
 use Rattle.hpx_part.proofs.Keyed.{slice_get_is}
 use Rattle.hpx_tables.specs.Jobs.{IsFitJob}
-use Rattle.hpx_node.specs.Paused.{IsPaused}
+use Rattle.hpx_steps.specs.Rest.{IsPaused}
 use Rattle.hpx_tables.specs.Pending.{awaits}
 use Rattle.hpx_node.specs.Resumes.{stock_with, IsReadyFor}
 use Rattle.hpx_tables.specs.Strange.{broken_near}
@@ -18,81 +18,82 @@ use Rattle.hpx_node.proofs.ReadyStock.{last_is, brings_by, ready_stock, ready_lo
 use Rattle.hpx_node.proofs.Refilled.{asked_within}
 use Rattle.hpx_node.proofs.Right.{give_right}
 use Rattle.hpx_node.proofs.WaitsCommit.{laws_by}
+use Rattle.hpx_node.specs.Locality.{Locality}
 use Rattle.hpx_node.proofs.node.Node.ready.Goals as goal
 
 pub lawful-requires-clause-localities : goal.lawful-requires-clause-localities
 lawful-requires-clause-localities g c =
-    let t = c.args.self.now in
+    let t = c.args.self.now.tables in
     let w = c.index-waits.result.now in
     let inside : c.in-Some.i < length c.self.inside.pending.items = rw (c.as_slice.ensures.value) at c.in-Some.ensures.inside in
     let is : slice_get t.pending c.in-Some.i ≡ Some c.index-waits.result.now =
-    ap (λ (x : Tables). slice_get x.pending c.in-Some.i) (sym c.self.view_is)
+    ap (λ (x : Locality). slice_get x.tables.pending c.in-Some.i) (sym c.self.view_is)
     ∙ slice_get_is c.self.inside.pending.items c.in-Some.i c.index-waits.result.now inside c.index-waits.ensures in
     let was = all_at (IsPaused t.here t.localities t.profile.credit_log t.objects) t.pending c.in-Some.i w c.requires.tidy.paused.each is in
     omega (arith, c.done.ensures.localities, was.localities, was.few.0)
 
 pub lawful-requires-clause-at : goal.lawful-requires-clause-at
 lawful-requires-clause-at g c =
-    let t = c.args.self.now in
+    let t = c.args.self.now.tables in
     let w = c.index-waits.result.now in
     let inside : c.in-Some.i < length c.self.inside.pending.items = rw (c.as_slice.ensures.value) at c.in-Some.ensures.inside in
     let is : slice_get t.pending c.in-Some.i ≡ Some c.index-waits.result.now =
-    ap (λ (x : Tables). slice_get x.pending c.in-Some.i) (sym c.self.view_is)
+    ap (λ (x : Locality). slice_get x.tables.pending c.in-Some.i) (sym c.self.view_is)
     ∙ slice_get_is c.self.inside.pending.items c.in-Some.i c.index-waits.result.now inside c.index-waits.ensures in
     let was = all_at (IsPaused t.here t.localities t.profile.credit_log t.objects) t.pending c.in-Some.i w c.requires.tidy.paused.each is in
     omega (arith, c.done.ensures.localities, was.localities, was.few.1, ap (λ (x : Job). x.at) c.done.ensures.job)
 
 pub lawful-requires-clause-fit : goal.lawful-requires-clause-fit
 lawful-requires-clause-fit g c =
-    let t = c.args.self.now in
+    let t = c.args.self.now.tables in
     let w = c.index-waits.result.now in
     let inside : c.in-Some.i < length c.self.inside.pending.items = rw (c.as_slice.ensures.value) at c.in-Some.ensures.inside in
     let is : slice_get t.pending c.in-Some.i ≡ Some c.index-waits.result.now =
-    ap (λ (x : Tables). slice_get x.pending c.in-Some.i) (sym c.self.view_is)
+    ap (λ (x : Locality). slice_get x.tables.pending c.in-Some.i) (sym c.self.view_is)
     ∙ slice_get_is c.self.inside.pending.items c.in-Some.i c.index-waits.result.now inside c.index-waits.ensures in
     let was = all_at (IsPaused t.here t.localities t.profile.credit_log t.objects) t.pending c.in-Some.i w c.requires.tidy.paused.each is in
     subst IsFitJob (sym c.done.ensures.job) was.job
 
 pub prepare_waiting-requires-clause-localities : goal.prepare_waiting-requires-clause-localities
 prepare_waiting-requires-clause-localities g c =
-    let t = c.args.self.now in
+    let t = c.args.self.now.tables in
     let w = c.index-waits.result.now in
     let inside : c.in-Some.i < length c.self.inside.pending.items = rw (c.as_slice.ensures.value) at c.in-Some.ensures.inside in
     let is : slice_get t.pending c.in-Some.i ≡ Some c.index-waits.result.now =
-    ap (λ (x : Tables). slice_get x.pending c.in-Some.i) (sym c.self.view_is)
+    ap (λ (x : Locality). slice_get x.tables.pending c.in-Some.i) (sym c.self.view_is)
     ∙ slice_get_is c.self.inside.pending.items c.in-Some.i c.index-waits.result.now inside c.index-waits.ensures in
     let was = all_at (IsPaused t.here t.localities t.profile.credit_log t.objects) t.pending c.in-Some.i w c.requires.tidy.paused.each is in
     omega (arith, was.localities, was.few.0)
 
 pub prepare_waiting-requires-clause-at : goal.prepare_waiting-requires-clause-at
 prepare_waiting-requires-clause-at g c =
-    let t = c.args.self.now in
+    let t = c.args.self.now.tables in
     let w = c.index-waits.result.now in
     let inside : c.in-Some.i < length c.self.inside.pending.items = rw (c.as_slice.ensures.value) at c.in-Some.ensures.inside in
     let is : slice_get t.pending c.in-Some.i ≡ Some c.index-waits.result.now =
-    ap (λ (x : Tables). slice_get x.pending c.in-Some.i) (sym c.self.view_is)
+    ap (λ (x : Locality). slice_get x.tables.pending c.in-Some.i) (sym c.self.view_is)
     ∙ slice_get_is c.self.inside.pending.items c.in-Some.i c.index-waits.result.now inside c.index-waits.ensures in
     let was = all_at (IsPaused t.here t.localities t.profile.credit_log t.objects) t.pending c.in-Some.i w c.requires.tidy.paused.each is in
     omega (arith, was.localities, was.few.1)
 
 pub prepare_waiting-requires-clause-fit : goal.prepare_waiting-requires-clause-fit
 prepare_waiting-requires-clause-fit g c =
-    let t = c.args.self.now in
+    let t = c.args.self.now.tables in
     let w = c.index-waits.result.now in
     let inside : c.in-Some.i < length c.self.inside.pending.items = rw (c.as_slice.ensures.value) at c.in-Some.ensures.inside in
     let is : slice_get t.pending c.in-Some.i ≡ Some c.index-waits.result.now =
-    ap (λ (x : Tables). slice_get x.pending c.in-Some.i) (sym c.self.view_is)
+    ap (λ (x : Locality). slice_get x.tables.pending c.in-Some.i) (sym c.self.view_is)
     ∙ slice_get_is c.self.inside.pending.items c.in-Some.i c.index-waits.result.now inside c.index-waits.ensures in
     let was = all_at (IsPaused t.here t.localities t.profile.credit_log t.objects) t.pending c.in-Some.i w c.requires.tidy.paused.each is in
     was.job
 
 pub prepare_waiting-requires-clause-fits : goal.prepare_waiting-requires-clause-fits
 prepare_waiting-requires-clause-fits g c =
-    let t = c.args.self.now in
+    let t = c.args.self.now.tables in
     let w = c.index-waits.result.now in
     let inside : c.in-Some.i < length c.self.inside.pending.items = rw (c.as_slice.ensures.value) at c.in-Some.ensures.inside in
     let is : slice_get t.pending c.in-Some.i ≡ Some c.index-waits.result.now =
-    ap (λ (x : Tables). slice_get x.pending c.in-Some.i) (sym c.self.view_is)
+    ap (λ (x : Locality). slice_get x.tables.pending c.in-Some.i) (sym c.self.view_is)
     ∙ slice_get_is c.self.inside.pending.items c.in-Some.i c.index-waits.result.now inside c.index-waits.ensures in
     let was = all_at (IsPaused t.here t.localities t.profile.credit_log t.objects) t.pending c.in-Some.i w c.requires.tidy.paused.each is in
     let o = c.in-Give.id in
@@ -101,24 +102,24 @@ prepare_waiting-requires-clause-fits g c =
     let credit : HasCredit c.in-Give.id = subst IsParcel c.in-Give.is c.requires.fit in
     let found = rw (c.as_slice.ensures.value) at c.in-Some.ensures.found in
     let there : find (awaits c.in-Give.id c.in-Give.entry) t.pending ≡ Some c.index-waits.result.now =
-    ap (λ (x : Tables). find (awaits o n) x.pending) (sym c.self.view_is) ∙ (found ∙ (ap (λ (x : Tables). slice_get x.pending c.in-Some.i) c.self.view_is ∙ is)) in
+    ap (λ (x : Locality). find (awaits o n) x.tables.pending) (sym c.self.view_is) ∙ (found ∙ (ap (λ (x : Locality). slice_get x.tables.pending c.in-Some.i) c.self.view_is ∙ is)) in
     let for = find_passes (awaits o n) t.pending w there in
     let yes : c.waits_for_one.result ≡ true = let no = c.if-not-waits_for_one.false in cc in
     let last = last_is o w c.log_of.result c.waits_for_one.result c.log_of.ensures.log c.waits_for_one.ensures c.if-log_of-eq0.false yes in
     let laws = laws_by c.done.result.now.localities t.localities c.done.result.now.job w.job c.done.result.now.outcome w.outcome (c.done.ensures.localities ∙ was.localities)
     c.done.ensures.job c.done.ensures.outcome c.lawful.ensures in
-    let log = subst (λ (x : Tables). 8 ≤ x.profile.credit_log) c.self.view_is c.self.invariant.3.log_least in
+    let log = subst (λ (x : Tables). 8 ≤ x.profile.credit_log) (ap (λ (x : Locality). x.tables) c.self.view_is) c.self.invariant.3.log_least in
     let brings = brings_by t o right.1 in
     rw (c.as_slice-3.ensures.value, c.in_ok-hand.ensures)
     (omega (arith, ready_long t w o n was was.few.0 laws log credit brings for last, made_long t.here t.births t.profile.credit_log w.outcome.makes))
 
 pub prepare_waiting-requires-clause-short : goal.prepare_waiting-requires-clause-short
 prepare_waiting-requires-clause-short g c =
-    let t = c.args.self.now in
+    let t = c.args.self.now.tables in
     let w = c.index-waits.result.now in
     let inside : c.in-Some.i < length c.self.inside.pending.items = rw (c.as_slice.ensures.value) at c.in-Some.ensures.inside in
     let is : slice_get t.pending c.in-Some.i ≡ Some c.index-waits.result.now =
-    ap (λ (x : Tables). slice_get x.pending c.in-Some.i) (sym c.self.view_is)
+    ap (λ (x : Locality). slice_get x.tables.pending c.in-Some.i) (sym c.self.view_is)
     ∙ slice_get_is c.self.inside.pending.items c.in-Some.i c.index-waits.result.now inside c.index-waits.ensures in
     let was = all_at (IsPaused t.here t.localities t.profile.credit_log t.objects) t.pending c.in-Some.i w c.requires.tidy.paused.each is in
     let o = c.in-Give.id in
@@ -127,23 +128,23 @@ prepare_waiting-requires-clause-short g c =
     let credit : HasCredit c.in-Give.id = subst IsParcel c.in-Give.is c.requires.fit in
     let found = rw (c.as_slice.ensures.value) at c.in-Some.ensures.found in
     let there : find (awaits c.in-Give.id c.in-Give.entry) t.pending ≡ Some c.index-waits.result.now =
-    ap (λ (x : Tables). find (awaits o n) x.pending) (sym c.self.view_is) ∙ (found ∙ (ap (λ (x : Tables). slice_get x.pending c.in-Some.i) c.self.view_is ∙ is)) in
+    ap (λ (x : Locality). find (awaits o n) x.tables.pending) (sym c.self.view_is) ∙ (found ∙ (ap (λ (x : Locality). slice_get x.tables.pending c.in-Some.i) c.self.view_is ∙ is)) in
     let for = find_passes (awaits o n) t.pending w there in
     let yes : c.waits_for_one.result ≡ true = let no = c.if-not-waits_for_one.false in cc in
     let last = last_is o w c.log_of.result c.waits_for_one.result c.log_of.ensures.log c.waits_for_one.ensures c.if-log_of-eq0.false yes in
     let laws = laws_by c.done.result.now.localities t.localities c.done.result.now.job w.job c.done.result.now.outcome w.outcome (c.done.ensures.localities ∙ was.localities)
     c.done.ensures.job c.done.ensures.outcome c.lawful.ensures in
-    let log = subst (λ (x : Tables). 8 ≤ x.profile.credit_log) c.self.view_is c.self.invariant.3.log_least in
+    let log = subst (λ (x : Tables). 8 ≤ x.profile.credit_log) (ap (λ (x : Locality). x.tables) c.self.view_is) c.self.invariant.3.log_least in
     let brings = brings_by t o right.1 in
     rw (c.as_slice-3.ensures.value, c.in_ok-hand.ensures) (ready_short t w o n was was.few.0 laws log credit brings for last)
 
 pub prepare_waiting-requires-clause-stock : goal.prepare_waiting-requires-clause-stock
 prepare_waiting-requires-clause-stock g c =
-    let t = c.args.self.now in
+    let t = c.args.self.now.tables in
     let w = c.index-waits.result.now in
     let inside : c.in-Some.i < length c.self.inside.pending.items = rw (c.as_slice.ensures.value) at c.in-Some.ensures.inside in
     let is : slice_get t.pending c.in-Some.i ≡ Some c.index-waits.result.now =
-    ap (λ (x : Tables). slice_get x.pending c.in-Some.i) (sym c.self.view_is)
+    ap (λ (x : Locality). slice_get x.tables.pending c.in-Some.i) (sym c.self.view_is)
     ∙ slice_get_is c.self.inside.pending.items c.in-Some.i c.index-waits.result.now inside c.index-waits.ensures in
     let was = all_at (IsPaused t.here t.localities t.profile.credit_log t.objects) t.pending c.in-Some.i w c.requires.tidy.paused.each is in
     let o = c.in-Give.id in
@@ -152,23 +153,23 @@ prepare_waiting-requires-clause-stock g c =
     let credit : HasCredit c.in-Give.id = subst IsParcel c.in-Give.is c.requires.fit in
     let found = rw (c.as_slice.ensures.value) at c.in-Some.ensures.found in
     let there : find (awaits c.in-Give.id c.in-Give.entry) t.pending ≡ Some c.index-waits.result.now =
-    ap (λ (x : Tables). find (awaits o n) x.pending) (sym c.self.view_is) ∙ (found ∙ (ap (λ (x : Tables). slice_get x.pending c.in-Some.i) c.self.view_is ∙ is)) in
+    ap (λ (x : Locality). find (awaits o n) x.tables.pending) (sym c.self.view_is) ∙ (found ∙ (ap (λ (x : Locality). slice_get x.tables.pending c.in-Some.i) c.self.view_is ∙ is)) in
     let for = find_passes (awaits o n) t.pending w there in
     let yes : c.waits_for_one.result ≡ true = let no = c.if-not-waits_for_one.false in cc in
     let last = last_is o w c.log_of.result c.waits_for_one.result c.log_of.ensures.log c.waits_for_one.ensures c.if-log_of-eq0.false yes in
     let laws = laws_by c.done.result.now.localities t.localities c.done.result.now.job w.job c.done.result.now.outcome w.outcome (c.done.ensures.localities ∙ was.localities)
     c.done.ensures.job c.done.ensures.outcome c.lawful.ensures in
-    let log = subst (λ (x : Tables). 8 ≤ x.profile.credit_log) c.self.view_is c.self.invariant.3.log_least in
+    let log = subst (λ (x : Tables). 8 ≤ x.profile.credit_log) (ap (λ (x : Locality). x.tables) c.self.view_is) c.self.invariant.3.log_least in
     let brings = brings_by t o right.1 in
     rw (c.as_slice-3.ensures.value, c.in_ok-hand.ensures) (ready_stock t w o n was was.few.0 laws log credit brings for last)
 
 pub returns-clause-some : goal.returns-clause-some
 returns-clause-some g c =
-    let t = c.args.self.now in
+    let t = c.args.self.now.tables in
     let w = c.index-waits.result.now in
     let inside : c.in-Some.i < length c.self.inside.pending.items = rw (c.as_slice.ensures.value) at c.in-Some.ensures.inside in
     let is : slice_get t.pending c.in-Some.i ≡ Some c.index-waits.result.now =
-    ap (λ (x : Tables). slice_get x.pending c.in-Some.i) (sym c.self.view_is)
+    ap (λ (x : Locality). slice_get x.tables.pending c.in-Some.i) (sym c.self.view_is)
     ∙ slice_get_is c.self.inside.pending.items c.in-Some.i c.index-waits.result.now inside c.index-waits.ensures in
     let was = all_at (IsPaused t.here t.localities t.profile.credit_log t.objects) t.pending c.in-Some.i w c.requires.tidy.paused.each is in
     let o = c.in-Give.id in
@@ -177,7 +178,7 @@ returns-clause-some g c =
     let credit : HasCredit c.in-Give.id = subst IsParcel c.in-Give.is c.requires.fit in
     let found = rw (c.as_slice.ensures.value) at c.in-Some.ensures.found in
     let there : find (awaits c.in-Give.id c.in-Give.entry) t.pending ≡ Some c.index-waits.result.now =
-    ap (λ (x : Tables). find (awaits o n) x.pending) (sym c.self.view_is) ∙ (found ∙ (ap (λ (x : Tables). slice_get x.pending c.in-Some.i) c.self.view_is ∙ is)) in
+    ap (λ (x : Locality). find (awaits o n) x.tables.pending) (sym c.self.view_is) ∙ (found ∙ (ap (λ (x : Locality). slice_get x.tables.pending c.in-Some.i) c.self.view_is ∙ is)) in
     let for = find_passes (awaits o n) t.pending w there in
     let yes : c.waits_for_one.result ≡ true = let no = c.if-not-waits_for_one.false in cc in
     let last = last_is o w c.log_of.result c.waits_for_one.result c.log_of.ensures.log c.waits_for_one.ensures c.if-log_of-eq0.false yes in
@@ -187,22 +188,22 @@ returns-clause-some g c =
     (record {
       before = w;
       there = is;
-      first = ap (λ (x : Tables). find (awaits o n) (take c.in-Some.i x.pending)) (sym c.self.view_is) ∙ alone;
+      first = ap (λ (x : Locality). find (awaits o n) (take c.in-Some.i x.tables.pending)) (sym c.self.view_is) ∙ alone;
       for = for;
       last = last;
-      object = ap (λ (x : Tables). find (is_standing (target_of w.job.action)) x.objects) (sym c.self.view_is)
-          ∙ (stands ∙ ap (λ (x : Tables). slice_get x.objects c.in-Some-place_of.j) c.self.view_is);
+      object = ap (λ (x : Locality). find (is_standing (target_of w.job.action)) x.tables.objects) (sym c.self.view_is)
+          ∙ (stands ∙ ap (λ (x : Locality). slice_get x.tables.objects c.in-Some-place_of.j) c.self.view_is);
       prepared = c.in_ok-prepared.ensures.prepared;
       stock = c.in_ok-prepared.ensures.stock ∙ ap (stock_with t w) (c.as_slice-3.ensures.value ∙ c.in_ok-hand.ensures);
     })
 
 pub hand_with-requires : goal.hand_with-requires
 hand_with-requires g c =
-    let t = c.args.self.now in
+    let t = c.args.self.now.tables in
     let w = c.index-waits.result.now in
     let inside : c.in-Some.i < length c.self.inside.pending.items = rw (c.as_slice.ensures.value) at c.in-Some.ensures.inside in
     let is : slice_get t.pending c.in-Some.i ≡ Some c.index-waits.result.now =
-    ap (λ (x : Tables). slice_get x.pending c.in-Some.i) (sym c.self.view_is)
+    ap (λ (x : Locality). slice_get x.tables.pending c.in-Some.i) (sym c.self.view_is)
     ∙ slice_get_is c.self.inside.pending.items c.in-Some.i c.index-waits.result.now inside c.index-waits.ensures in
     let was = all_at (IsPaused t.here t.localities t.profile.credit_log t.objects) t.pending c.in-Some.i w c.requires.tidy.paused.each is in
     asked_within t.here t.localities t.profile.credit_log t.objects w was

@@ -11,16 +11,17 @@ use Rattle.hpx_tables.specs.Tables.{Tables}
 use Rattle.hpx_tables.proofs.Alls.{some_same}
 use Rattle.hpx_node.proofs.Committing.{stands_then, stands_less}
 use Rattle.hpx_node.proofs.WaitsCommit.{known, stands, born_few, born_fit, cut_few, state_is_kept, due_is_fit, due_is_short, ups_are_paid, ups_are_short, waits_stands, waits_here, waits_serial, waits_written, waits_few, waits_light, waits_commits}
+use Rattle.hpx_node.specs.Locality.{Locality}
 use Rattle.hpx_node.proofs.node.Node.resume.Goals as goal
 
 pub make-requires-clause-fit : goal.make-requires-clause-fit
 make-requires-clause-fit g c =
     let w = c.index.result.now in
     let d = c.done.result.now in
-    let t = c.args.self.now in
+    let t = c.args.self.now.tables in
     let inside = rw (← c.self.view_is) at c.requires.waits in
     let is : slice_get t.pending c.args.ready.i ≡ Some c.index.result.now =
-    ap (λ (x : Tables). slice_get x.pending c.args.ready.i) (sym c.self.view_is)
+    ap (λ (x : Locality). slice_get x.tables.pending c.args.ready.i) (sym c.self.view_is)
     ∙ slice_get_is c.self.inside.pending.items c.args.ready.i c.index.result.now inside c.index.ensures in
     let k = known g.A.Acts.act_of t w c.args.ready.i c.args.ready.j c.args.ready.prepared d.localities d.job d.outcome is (c.requires.may w is)
     c.requires.stands.tidy c.done.ensures.localities c.done.ensures.job c.done.ensures.outcome c.lawful.ensures d.right in
@@ -30,10 +31,10 @@ pub make-requires-clause-few : goal.make-requires-clause-few
 make-requires-clause-few g c =
     let w = c.index.result.now in
     let d = c.done.result.now in
-    let t = c.args.self.now in
+    let t = c.args.self.now.tables in
     let inside = rw (← c.self.view_is) at c.requires.waits in
     let is : slice_get t.pending c.args.ready.i ≡ Some c.index.result.now =
-    ap (λ (x : Tables). slice_get x.pending c.args.ready.i) (sym c.self.view_is)
+    ap (λ (x : Locality). slice_get x.tables.pending c.args.ready.i) (sym c.self.view_is)
     ∙ slice_get_is c.self.inside.pending.items c.args.ready.i c.index.result.now inside c.index.ensures in
     let k = known g.A.Acts.act_of t w c.args.ready.i c.args.ready.j c.args.ready.prepared d.localities d.job d.outcome is (c.requires.may w is)
     c.requires.stands.tidy c.done.ensures.localities c.done.ensures.job c.done.ensures.outcome c.lawful.ensures d.right in
@@ -43,10 +44,10 @@ pub make-requires-clause-short : goal.make-requires-clause-short
 make-requires-clause-short g c =
     let w = c.index.result.now in
     let d = c.done.result.now in
-    let t = c.args.self.now in
+    let t = c.args.self.now.tables in
     let inside = rw (← c.self.view_is) at c.requires.waits in
     let is : slice_get t.pending c.args.ready.i ≡ Some c.index.result.now =
-    ap (λ (x : Tables). slice_get x.pending c.args.ready.i) (sym c.self.view_is)
+    ap (λ (x : Locality). slice_get x.tables.pending c.args.ready.i) (sym c.self.view_is)
     ∙ slice_get_is c.self.inside.pending.items c.args.ready.i c.index.result.now inside c.index.ensures in
     let k = known g.A.Acts.act_of t w c.args.ready.i c.args.ready.j c.args.ready.prepared d.localities d.job d.outcome is (c.requires.may w is)
     c.requires.stands.tidy c.done.ensures.localities c.done.ensures.job c.done.ensures.outcome c.lawful.ensures d.right in
@@ -56,10 +57,10 @@ pub make-requires-clause-lasts : goal.make-requires-clause-lasts
 make-requires-clause-lasts g c =
     let w = c.index.result.now in
     let d = c.done.result.now in
-    let t = c.args.self.now in
+    let t = c.args.self.now.tables in
     let inside = rw (← c.self.view_is) at c.requires.waits in
     let is : slice_get t.pending c.args.ready.i ≡ Some c.index.result.now =
-    ap (λ (x : Tables). slice_get x.pending c.args.ready.i) (sym c.self.view_is)
+    ap (λ (x : Locality). slice_get x.tables.pending c.args.ready.i) (sym c.self.view_is)
     ∙ slice_get_is c.self.inside.pending.items c.args.ready.i c.index.result.now inside c.index.ensures in
     let k = known g.A.Acts.act_of t w c.args.ready.i c.args.ready.j c.args.ready.prepared d.localities d.job d.outcome is (c.requires.may w is)
     c.requires.stands.tidy c.done.ensures.localities c.done.ensures.job c.done.ensures.outcome c.lawful.ensures d.right in
@@ -69,10 +70,10 @@ pub make-requires-clause-spare : goal.make-requires-clause-spare
 make-requires-clause-spare g c =
     let w = c.index.result.now in
     let d = c.done.result.now in
-    let t = c.args.self.now in
+    let t = c.args.self.now.tables in
     let inside = rw (← c.self.view_is) at c.requires.waits in
     let is : slice_get t.pending c.args.ready.i ≡ Some c.index.result.now =
-    ap (λ (x : Tables). slice_get x.pending c.args.ready.i) (sym c.self.view_is)
+    ap (λ (x : Locality). slice_get x.tables.pending c.args.ready.i) (sym c.self.view_is)
     ∙ slice_get_is c.self.inside.pending.items c.args.ready.i c.index.result.now inside c.index.ensures in
     let k = known g.A.Acts.act_of t w c.args.ready.i c.args.ready.j c.args.ready.prepared d.localities d.job d.outcome is (c.requires.may w is)
     c.requires.stands.tidy c.done.ensures.localities c.done.ensures.job c.done.ensures.outcome c.lawful.ensures d.right in
@@ -82,10 +83,10 @@ pub make-requires-clause-page : goal.make-requires-clause-page
 make-requires-clause-page g c =
     let w = c.index.result.now in
     let d = c.done.result.now in
-    let t = c.args.self.now in
+    let t = c.args.self.now.tables in
     let inside = rw (← c.self.view_is) at c.requires.waits in
     let is : slice_get t.pending c.args.ready.i ≡ Some c.index.result.now =
-    ap (λ (x : Tables). slice_get x.pending c.args.ready.i) (sym c.self.view_is)
+    ap (λ (x : Locality). slice_get x.tables.pending c.args.ready.i) (sym c.self.view_is)
     ∙ slice_get_is c.self.inside.pending.items c.args.ready.i c.index.result.now inside c.index.ensures in
     let k = known g.A.Acts.act_of t w c.args.ready.i c.args.ready.j c.args.ready.prepared d.localities d.job d.outcome is (c.requires.may w is)
     c.requires.stands.tidy c.done.ensures.localities c.done.ensures.job c.done.ensures.outcome c.lawful.ensures d.right in
@@ -95,27 +96,27 @@ pub settle_waiting-requires-clause-object : goal.settle_waiting-requires-clause-
 settle_waiting-requires-clause-object g c =
     let w = c.index.result.now in
     let d = c.done.result.now in
-    let t = c.args.self.now in
+    let t = c.args.self.now.tables in
     let inside = rw (← c.self.view_is) at c.requires.waits in
     let is : slice_get t.pending c.args.ready.i ≡ Some c.index.result.now =
-    ap (λ (x : Tables). slice_get x.pending c.args.ready.i) (sym c.self.view_is)
+    ap (λ (x : Locality). slice_get x.tables.pending c.args.ready.i) (sym c.self.view_is)
     ∙ slice_get_is c.self.inside.pending.items c.args.ready.i c.index.result.now inside c.index.ensures in
     let k = known g.A.Acts.act_of t w c.args.ready.i c.args.ready.j c.args.ready.prepared d.localities d.job d.outcome is (c.requires.may w is)
     c.requires.stands.tidy c.done.ensures.localities c.done.ensures.job c.done.ensures.outcome c.lawful.ensures d.right in
-    stands_less t c.make.new.self c.args.ready.prepared.births.items c.make.ensures.made c.args.ready.j k.was.standing (stands g.A.Acts.act_of g.met.A.Acts.is_blind t w c.args.ready.i c.args.ready.j c.args.ready.prepared k)
+    stands_less t c.make.new.self.tables c.args.ready.prepared.births.items c.make.ensures.made c.args.ready.j k.was.standing (stands g.A.Acts.act_of g.met.A.Acts.is_blind t w c.args.ready.i c.args.ready.j c.args.ready.prepared k)
 
 pub settle_waiting-requires-clause-kept : goal.settle_waiting-requires-clause-kept
 settle_waiting-requires-clause-kept g c =
     let w = c.index.result.now in
     let d = c.done.result.now in
-    let t = c.args.self.now in
+    let t = c.args.self.now.tables in
     let inside = rw (← c.self.view_is) at c.requires.waits in
     let is : slice_get t.pending c.args.ready.i ≡ Some c.index.result.now =
-    ap (λ (x : Tables). slice_get x.pending c.args.ready.i) (sym c.self.view_is)
+    ap (λ (x : Locality). slice_get x.tables.pending c.args.ready.i) (sym c.self.view_is)
     ∙ slice_get_is c.self.inside.pending.items c.args.ready.i c.index.result.now inside c.index.ensures in
     let k = known g.A.Acts.act_of t w c.args.ready.i c.args.ready.j c.args.ready.prepared d.localities d.job d.outcome is (c.requires.may w is)
     c.requires.stands.tidy c.done.ensures.localities c.done.ensures.job c.done.ensures.outcome c.lawful.ensures d.right in
-    let there = stands_then t c.make.new.self c.args.ready.prepared.births.items c.make.ensures.made c.args.ready.j k.was.standing (stands g.A.Acts.act_of g.met.A.Acts.is_blind t w c.args.ready.i c.args.ready.j c.args.ready.prepared k) in
+    let there = stands_then t c.make.new.self.tables c.args.ready.prepared.births.items c.make.ensures.made c.args.ready.j k.was.standing (stands g.A.Acts.act_of g.met.A.Acts.is_blind t w c.args.ready.i c.args.ready.j c.args.ready.prepared k) in
     λ x h. let e : k.was.standing ≡ x = some_same k.was.standing x (sym there ∙ h) in
     subst (λ (y : Standing). IsKept (record { object = y.object; state = c.args.ready.prepared.plan.state })) e (state_is_kept g.A.Acts.act_of g.met.A.Acts.is_blind t w c.args.ready.i c.args.ready.j c.args.ready.prepared k)
 
@@ -127,10 +128,10 @@ pub settle_waiting-requires-clause-page : goal.settle_waiting-requires-clause-pa
 settle_waiting-requires-clause-page g c =
     let w = c.index.result.now in
     let d = c.done.result.now in
-    let t = c.args.self.now in
+    let t = c.args.self.now.tables in
     let inside = rw (← c.self.view_is) at c.requires.waits in
     let is : slice_get t.pending c.args.ready.i ≡ Some c.index.result.now =
-    ap (λ (x : Tables). slice_get x.pending c.args.ready.i) (sym c.self.view_is)
+    ap (λ (x : Locality). slice_get x.tables.pending c.args.ready.i) (sym c.self.view_is)
     ∙ slice_get_is c.self.inside.pending.items c.args.ready.i c.index.result.now inside c.index.ensures in
     let k = known g.A.Acts.act_of t w c.args.ready.i c.args.ready.j c.args.ready.prepared d.localities d.job d.outcome is (c.requires.may w is)
     c.requires.stands.tidy c.done.ensures.localities c.done.ensures.job c.done.ensures.outcome c.lawful.ensures d.right in
@@ -140,10 +141,10 @@ pub leave-requires-clause-fit : goal.leave-requires-clause-fit
 leave-requires-clause-fit g c =
     let w = c.index.result.now in
     let d = c.done.result.now in
-    let t = c.args.self.now in
+    let t = c.args.self.now.tables in
     let inside = rw (← c.self.view_is) at c.requires.waits in
     let is : slice_get t.pending c.args.ready.i ≡ Some c.index.result.now =
-    ap (λ (x : Tables). slice_get x.pending c.args.ready.i) (sym c.self.view_is)
+    ap (λ (x : Locality). slice_get x.tables.pending c.args.ready.i) (sym c.self.view_is)
     ∙ slice_get_is c.self.inside.pending.items c.args.ready.i c.index.result.now inside c.index.ensures in
     let k = known g.A.Acts.act_of t w c.args.ready.i c.args.ready.j c.args.ready.prepared d.localities d.job d.outcome is (c.requires.may w is)
     c.requires.stands.tidy c.done.ensures.localities c.done.ensures.job c.done.ensures.outcome c.lawful.ensures d.right in
@@ -153,10 +154,10 @@ pub leave-requires-clause-credit : goal.leave-requires-clause-credit
 leave-requires-clause-credit g c =
     let w = c.index.result.now in
     let d = c.done.result.now in
-    let t = c.args.self.now in
+    let t = c.args.self.now.tables in
     let inside = rw (← c.self.view_is) at c.requires.waits in
     let is : slice_get t.pending c.args.ready.i ≡ Some c.index.result.now =
-    ap (λ (x : Tables). slice_get x.pending c.args.ready.i) (sym c.self.view_is)
+    ap (λ (x : Locality). slice_get x.tables.pending c.args.ready.i) (sym c.self.view_is)
     ∙ slice_get_is c.self.inside.pending.items c.args.ready.i c.index.result.now inside c.index.ensures in
     let k = known g.A.Acts.act_of t w c.args.ready.i c.args.ready.j c.args.ready.prepared d.localities d.job d.outcome is (c.requires.may w is)
     c.requires.stands.tidy c.done.ensures.localities c.done.ensures.job c.done.ensures.outcome c.lawful.ensures d.right in
@@ -166,10 +167,10 @@ pub leave-requires-clause-spare : goal.leave-requires-clause-spare
 leave-requires-clause-spare g c =
     let w = c.index.result.now in
     let d = c.done.result.now in
-    let t = c.args.self.now in
+    let t = c.args.self.now.tables in
     let inside = rw (← c.self.view_is) at c.requires.waits in
     let is : slice_get t.pending c.args.ready.i ≡ Some c.index.result.now =
-    ap (λ (x : Tables). slice_get x.pending c.args.ready.i) (sym c.self.view_is)
+    ap (λ (x : Locality). slice_get x.tables.pending c.args.ready.i) (sym c.self.view_is)
     ∙ slice_get_is c.self.inside.pending.items c.args.ready.i c.index.result.now inside c.index.ensures in
     let k = known g.A.Acts.act_of t w c.args.ready.i c.args.ready.j c.args.ready.prepared d.localities d.job d.outcome is (c.requires.may w is)
     c.requires.stands.tidy c.done.ensures.localities c.done.ensures.job c.done.ensures.outcome c.lawful.ensures d.right in
@@ -179,10 +180,10 @@ pub leave-requires-clause-page : goal.leave-requires-clause-page
 leave-requires-clause-page g c =
     let w = c.index.result.now in
     let d = c.done.result.now in
-    let t = c.args.self.now in
+    let t = c.args.self.now.tables in
     let inside = rw (← c.self.view_is) at c.requires.waits in
     let is : slice_get t.pending c.args.ready.i ≡ Some c.index.result.now =
-    ap (λ (x : Tables). slice_get x.pending c.args.ready.i) (sym c.self.view_is)
+    ap (λ (x : Locality). slice_get x.tables.pending c.args.ready.i) (sym c.self.view_is)
     ∙ slice_get_is c.self.inside.pending.items c.args.ready.i c.index.result.now inside c.index.ensures in
     let k = known g.A.Acts.act_of t w c.args.ready.i c.args.ready.j c.args.ready.prepared d.localities d.job d.outcome is (c.requires.may w is)
     c.requires.stands.tidy c.done.ensures.localities c.done.ensures.job c.done.ensures.outcome c.lawful.ensures d.right in
@@ -192,16 +193,16 @@ pub leave-requires-clause-few : goal.leave-requires-clause-few
 leave-requires-clause-few g c =
     let w = c.index.result.now in
     let d = c.done.result.now in
-    let t = c.args.self.now in
+    let t = c.args.self.now.tables in
     let inside = rw (← c.self.view_is) at c.requires.waits in
     let is : slice_get t.pending c.args.ready.i ≡ Some c.index.result.now =
-    ap (λ (x : Tables). slice_get x.pending c.args.ready.i) (sym c.self.view_is)
+    ap (λ (x : Locality). slice_get x.tables.pending c.args.ready.i) (sym c.self.view_is)
     ∙ slice_get_is c.self.inside.pending.items c.args.ready.i c.index.result.now inside c.index.ensures in
     let k = known g.A.Acts.act_of t w c.args.ready.i c.args.ready.j c.args.ready.prepared d.localities d.job d.outcome is (c.requires.may w is)
     c.requires.stands.tidy c.done.ensures.localities c.done.ensures.job c.done.ensures.outcome c.lawful.ensures d.right in
     omega (
       arith,
-      waits_serial g.A.Acts.act_of g.met.A.Acts.is_blind t w c.args.ready.i c.args.ready.j c.args.ready.prepared k c.make.new.self c.settle_waiting.new.self c.make.ensures.made c.settle_waiting.ensures.pending
+      waits_serial g.A.Acts.act_of g.met.A.Acts.is_blind t w c.args.ready.i c.args.ready.j c.args.ready.prepared k c.make.new.self.tables c.settle_waiting.new.self.tables c.make.ensures.made c.settle_waiting.ensures.pending
           c.settle_waiting.ensures.objects c.settle_waiting.ensures.rest c.args.book.now.entries c.make.new.book.entries c.settle_waiting.new.book.entries
           c.make.ensures.entries c.settle_waiting.ensures.entries,
       due_is_short g.A.Acts.act_of g.met.A.Acts.is_blind t w c.args.ready.i c.args.ready.j c.args.ready.prepared k,
@@ -213,14 +214,14 @@ pub leave-requires-clause-stands : goal.leave-requires-clause-stands
 leave-requires-clause-stands g c =
     let w = c.index.result.now in
     let d = c.done.result.now in
-    let t = c.args.self.now in
+    let t = c.args.self.now.tables in
     let inside = rw (← c.self.view_is) at c.requires.waits in
     let is : slice_get t.pending c.args.ready.i ≡ Some c.index.result.now =
-    ap (λ (x : Tables). slice_get x.pending c.args.ready.i) (sym c.self.view_is)
+    ap (λ (x : Locality). slice_get x.tables.pending c.args.ready.i) (sym c.self.view_is)
     ∙ slice_get_is c.self.inside.pending.items c.args.ready.i c.index.result.now inside c.index.ensures in
     let k = known g.A.Acts.act_of t w c.args.ready.i c.args.ready.j c.args.ready.prepared d.localities d.job d.outcome is (c.requires.may w is)
     c.requires.stands.tidy c.done.ensures.localities c.done.ensures.job c.done.ensures.outcome c.lawful.ensures d.right in
-    waits_stands g.A.Acts.act_of g.met.A.Acts.is_blind t w c.args.ready.i c.args.ready.j c.args.ready.prepared k c.make.new.self c.settle_waiting.new.self c.make.ensures.made c.settle_waiting.ensures.pending
+    waits_stands g.A.Acts.act_of g.met.A.Acts.is_blind t w c.args.ready.i c.args.ready.j c.args.ready.prepared k c.make.new.self.tables c.settle_waiting.new.self.tables c.make.ensures.made c.settle_waiting.ensures.pending
     c.settle_waiting.ensures.objects c.settle_waiting.ensures.rest c.args.book.now.entries c.make.new.book.entries c.settle_waiting.new.book.entries
     c.make.ensures.entries c.settle_waiting.ensures.entries c.requires.stands
 
@@ -228,14 +229,14 @@ pub returns-clause-few : goal.returns-clause-few
 returns-clause-few g c =
     let w = c.index.result.now in
     let d = c.done.result.now in
-    let t = c.args.self.now in
+    let t = c.args.self.now.tables in
     let inside = rw (← c.self.view_is) at c.requires.waits in
     let is : slice_get t.pending c.args.ready.i ≡ Some c.index.result.now =
-    ap (λ (x : Tables). slice_get x.pending c.args.ready.i) (sym c.self.view_is)
+    ap (λ (x : Locality). slice_get x.tables.pending c.args.ready.i) (sym c.self.view_is)
     ∙ slice_get_is c.self.inside.pending.items c.args.ready.i c.index.result.now inside c.index.ensures in
     let k = known g.A.Acts.act_of t w c.args.ready.i c.args.ready.j c.args.ready.prepared d.localities d.job d.outcome is (c.requires.may w is)
     c.requires.stands.tidy c.done.ensures.localities c.done.ensures.job c.done.ensures.outcome c.lawful.ensures d.right in
-    waits_few g.A.Acts.act_of g.met.A.Acts.is_blind t w c.args.ready.i c.args.ready.j c.args.ready.prepared k c.make.new.self c.settle_waiting.new.self c.make.ensures.made c.settle_waiting.ensures.pending
+    waits_few g.A.Acts.act_of g.met.A.Acts.is_blind t w c.args.ready.i c.args.ready.j c.args.ready.prepared k c.make.new.self.tables c.settle_waiting.new.self.tables c.make.ensures.made c.settle_waiting.ensures.pending
     c.settle_waiting.ensures.objects c.settle_waiting.ensures.rest c.args.book.now.entries c.make.new.book.entries c.settle_waiting.new.book.entries
     c.make.ensures.entries c.settle_waiting.ensures.entries c.leave.new.book.entries c.leave.ensures.writes
 
@@ -243,14 +244,14 @@ pub returns-clause-light : goal.returns-clause-light
 returns-clause-light g c =
     let w = c.index.result.now in
     let d = c.done.result.now in
-    let t = c.args.self.now in
+    let t = c.args.self.now.tables in
     let inside = rw (← c.self.view_is) at c.requires.waits in
     let is : slice_get t.pending c.args.ready.i ≡ Some c.index.result.now =
-    ap (λ (x : Tables). slice_get x.pending c.args.ready.i) (sym c.self.view_is)
+    ap (λ (x : Locality). slice_get x.tables.pending c.args.ready.i) (sym c.self.view_is)
     ∙ slice_get_is c.self.inside.pending.items c.args.ready.i c.index.result.now inside c.index.ensures in
     let k = known g.A.Acts.act_of t w c.args.ready.i c.args.ready.j c.args.ready.prepared d.localities d.job d.outcome is (c.requires.may w is)
     c.requires.stands.tidy c.done.ensures.localities c.done.ensures.job c.done.ensures.outcome c.lawful.ensures d.right in
-    waits_light g.A.Acts.act_of g.met.A.Acts.is_blind t w c.args.ready.i c.args.ready.j c.args.ready.prepared k c.make.new.self c.settle_waiting.new.self c.make.ensures.made c.settle_waiting.ensures.pending
+    waits_light g.A.Acts.act_of g.met.A.Acts.is_blind t w c.args.ready.i c.args.ready.j c.args.ready.prepared k c.make.new.self.tables c.settle_waiting.new.self.tables c.make.ensures.made c.settle_waiting.ensures.pending
     c.settle_waiting.ensures.objects c.settle_waiting.ensures.rest c.args.book.now.entries c.make.new.book.entries c.settle_waiting.new.book.entries
     c.make.ensures.entries c.settle_waiting.ensures.entries c.leave.new.book.entries c.leave.ensures.writes
 
@@ -258,23 +259,23 @@ pub returns-clause-writes : goal.returns-clause-writes
 returns-clause-writes g c =
     let w = c.index.result.now in
     let d = c.done.result.now in
-    let t = c.args.self.now in
+    let t = c.args.self.now.tables in
     let inside = rw (← c.self.view_is) at c.requires.waits in
     let is : slice_get t.pending c.args.ready.i ≡ Some c.index.result.now =
-    ap (λ (x : Tables). slice_get x.pending c.args.ready.i) (sym c.self.view_is)
+    ap (λ (x : Locality). slice_get x.tables.pending c.args.ready.i) (sym c.self.view_is)
     ∙ slice_get_is c.self.inside.pending.items c.args.ready.i c.index.result.now inside c.index.ensures in
     let k = known g.A.Acts.act_of t w c.args.ready.i c.args.ready.j c.args.ready.prepared d.localities d.job d.outcome is (c.requires.may w is)
     c.requires.stands.tidy c.done.ensures.localities c.done.ensures.job c.done.ensures.outcome c.lawful.ensures d.right in
-    let same = waits_here g.A.Acts.act_of g.met.A.Acts.is_blind t w c.args.ready.i c.args.ready.j c.args.ready.prepared k c.make.new.self c.settle_waiting.new.self c.make.ensures.made c.settle_waiting.ensures.pending
+    let same = waits_here g.A.Acts.act_of g.met.A.Acts.is_blind t w c.args.ready.i c.args.ready.j c.args.ready.prepared k c.make.new.self.tables c.settle_waiting.new.self.tables c.make.ensures.made c.settle_waiting.ensures.pending
     c.settle_waiting.ensures.objects c.settle_waiting.ensures.rest c.args.book.now.entries c.make.new.book.entries c.settle_waiting.new.book.entries
     c.make.ensures.entries c.settle_waiting.ensures.entries in
     λ v h. let e : c.index.result.now ≡ v = some_same w v (sym is ∙ h) in
-    subst (λ (x : Waits). Writes (committed_from t x.job x.outcome (full_stock t x)) t c.leave.new.self c.args.book.now.entries c.leave.new.book.entries) e
+    subst (λ (x : Waits). Writes (committed_from t x.job x.outcome (full_stock t x)) t c.leave.new.self.tables c.args.book.now.entries c.leave.new.book.entries) e
     (record {
       here = c.leave.ensures.here.0 ∙ same.0;
       localities = c.leave.ensures.here.1 ∙ same.1;
       profile = c.leave.ensures.here.2 ∙ same.2;
-      grows = waits_written g.A.Acts.act_of g.met.A.Acts.is_blind t w c.args.ready.i c.args.ready.j c.args.ready.prepared k c.make.new.self c.settle_waiting.new.self c.make.ensures.made c.settle_waiting.ensures.pending
+      grows = waits_written g.A.Acts.act_of g.met.A.Acts.is_blind t w c.args.ready.i c.args.ready.j c.args.ready.prepared k c.make.new.self.tables c.settle_waiting.new.self.tables c.make.ensures.made c.settle_waiting.ensures.pending
           c.settle_waiting.ensures.objects c.settle_waiting.ensures.rest c.args.book.now.entries c.make.new.book.entries c.settle_waiting.new.book.entries
           c.make.ensures.entries c.settle_waiting.ensures.entries c.leave.new.book.entries c.leave.ensures.writes;
     })
@@ -283,15 +284,15 @@ pub returns-clause-commits : goal.returns-clause-commits
 returns-clause-commits g c =
     let w = c.index.result.now in
     let d = c.done.result.now in
-    let t = c.args.self.now in
+    let t = c.args.self.now.tables in
     let inside = rw (← c.self.view_is) at c.requires.waits in
     let is : slice_get t.pending c.args.ready.i ≡ Some c.index.result.now =
-    ap (λ (x : Tables). slice_get x.pending c.args.ready.i) (sym c.self.view_is)
+    ap (λ (x : Locality). slice_get x.tables.pending c.args.ready.i) (sym c.self.view_is)
     ∙ slice_get_is c.self.inside.pending.items c.args.ready.i c.index.result.now inside c.index.ensures in
     let k = known g.A.Acts.act_of t w c.args.ready.i c.args.ready.j c.args.ready.prepared d.localities d.job d.outcome is (c.requires.may w is)
     c.requires.stands.tidy c.done.ensures.localities c.done.ensures.job c.done.ensures.outcome c.lawful.ensures d.right in
     λ v h. let e : c.index.result.now ≡ v = some_same w v (sym is ∙ h) in
-    subst (λ (x : Waits). Commits x.job x.outcome (full_stock t x) c.args.ready.j (record t { pending = remove t.pending c.args.ready.i }) c.leave.new.self) e
-    (waits_commits g.A.Acts.act_of g.met.A.Acts.is_blind t w c.args.ready.i c.args.ready.j c.args.ready.prepared k c.make.new.self c.settle_waiting.new.self c.make.ensures.made c.settle_waiting.ensures.pending
+    subst (λ (x : Waits). Commits x.job x.outcome (full_stock t x) c.args.ready.j (record t { pending = remove t.pending c.args.ready.i }) c.leave.new.self.tables) e
+    (waits_commits g.A.Acts.act_of g.met.A.Acts.is_blind t w c.args.ready.i c.args.ready.j c.args.ready.prepared k c.make.new.self.tables c.settle_waiting.new.self.tables c.make.ensures.made c.settle_waiting.ensures.pending
     c.settle_waiting.ensures.objects c.settle_waiting.ensures.rest c.args.book.now.entries c.make.new.book.entries c.settle_waiting.new.book.entries
-    c.make.ensures.entries c.settle_waiting.ensures.entries c.leave.new.self c.leave.ensures.goes)
+    c.make.ensures.entries c.settle_waiting.ensures.entries c.leave.new.self.tables c.leave.ensures.goes)

@@ -5,18 +5,7 @@ use Rattle.hpx_part.specs.Data.{Fire}
 use Rattle.hpx_tables.proofs.Alls.{some_same}
 use Rattle.hpx_journal.specs.Entries.{name_of}
 use Rattle.hpx_part.proofs.Keyed.{slice_get_is}
-use Rattle.hpx_node.proofs.Fired.{stands_fire}
 use Rattle.hpx_node.proofs.node.Node.start.Goals as goal
-
-pub returns-in-Some-clause-stands : goal.returns-in-Some-clause-stands
-returns-in-Some-clause-stands g c =
-    let inside : c.args.i < length c.self.inside.accepted.items = rw (← c.self.view_is) at c.requires.inside in
-    let stands = rw (← c.self.view_is) at c.requires.stands in
-    let is : slice_get c.self.inside.accepted.items c.args.i ≡ Some c.in-Some.act =
-    slice_get_is c.self.inside.accepted.items c.args.i c.in-Some.act inside c.in-Some.ensures.value in
-    let free = rw (← c.self.view_is) at c.requires.free in
-    rw (c.push.ensures.entries, c.in-Some.ensures.items, c.push_reserved.ensures.items, c.name-action.ensures)
-    (stands_fire _ _ _ c.args.i c.in-Some.act _ is (free c.in-Some.act is) stands.tidy stands)
 
 pub returns-in-Some-clause-fired : goal.returns-in-Some-clause-fired
 returns-in-Some-clause-fired g c =
@@ -31,10 +20,10 @@ returns-in-Some-clause-fired g c =
       grows = c.push.ensures.entries ∙ ap (λ n. c.args.book.now.entries ++ record { at = c.self.inside.here; event = Fire n } ∷ []) (c.name-action.ensures ∙ ap name_of e);
     })
 
-pub returns-in-Some-clause-running : goal.returns-in-Some-clause-running
-returns-in-Some-clause-running g c =
+pub returns-in-Some-clause-started : goal.returns-in-Some-clause-started
+returns-in-Some-clause-started g c =
     let inside : c.args.i < length c.self.inside.accepted.items = rw (← c.self.view_is) at c.requires.inside in
     let is : slice_get c.self.inside.accepted.items c.args.i ≡ Some c.in-Some.act =
     slice_get_is c.self.inside.accepted.items c.args.i c.in-Some.act inside c.in-Some.ensures.value in
     λ act h. let e : c.in-Some.act ≡ act = some_same c.in-Some.act act (sym is ∙ (rw (← c.self.view_is) at h)) in
-    rw (← c.self.view_is) (c.push_reserved.ensures.items ∙ ap (λ a. c.self.inside.running.items ++ a ∷ []) e)
+    rw (← c.self.view_is, c.in-Some.ensures.items, c.push_reserved.ensures.items, e) refl

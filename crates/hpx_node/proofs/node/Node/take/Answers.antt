@@ -17,19 +17,19 @@ enter_frame-requires-clause-stands g c = spare_stands g.A.Acts.act_of _ _ _ _ c.
 
 pub follow-requires-clause-may : goal.follow-requires-clause-may
 follow-requires-clause-may g c =
-    let t = c.args.self.now in
-    let s = c.reserve_turn.new.self in
-    may_follow t (t.taken + 1) s.spare t.desk c.enter_frame.new.self c.in-Ok.parcel c.in-Ok-next.next c.in-Ok-next.ensures
-    (given_frame t s c.enter_frame.new.self c.in-Ok.parcel c.reserve_turn.ensures.same.tables c.enter_frame.ensures.deals)
+    let t = c.args.self.now.tables in
+    let s = c.reserve_turn.new.self.tables in
+    may_follow t (t.taken + 1) t.desk c.enter_frame.new.self.tables c.in-Ok.parcel c.in-Ok-next.next c.in-Ok-next.ensures
+    (given_frame t s c.enter_frame.new.self.tables c.in-Ok.parcel c.reserve_turn.ensures.same.tables c.enter_frame.ensures.deals)
 
 pub follow-requires-clause-spare : goal.follow-requires-clause-spare
 follow-requires-clause-spare g c =
-    next_gives (1024 ≤ c.enter_frame.new.self.spare) c.args.self.now c.in-Ok.parcel c.in-Ok-next.next c.in-Ok-next.ensures
+    next_gives (1024 ≤ c.enter_frame.new.self.spare) c.args.self.now.tables c.in-Ok.parcel c.in-Ok-next.next c.in-Ok-next.ensures
     (λ id entry e. c.enter_frame.ensures.spare id entry e)
 
 pub follow-requires-clause-page : goal.follow-requires-clause-page
 follow-requires-clause-page g c =
-    next_gives (1024 ≤ c.enter_frame.new.book.spare) c.args.self.now c.in-Ok.parcel c.in-Ok-next.next c.in-Ok-next.ensures
+    next_gives (1024 ≤ c.enter_frame.new.book.spare) c.args.self.now.tables c.in-Ok.parcel c.in-Ok-next.next c.in-Ok-next.ensures
     (λ id entry e. c.enter_frame.ensures.page id entry e)
 
 pub returns-then-is_err-clause-stands : goal.returns-then-is_err-clause-stands
@@ -37,17 +37,17 @@ returns-then-is_err-clause-stands g c = spare_stands g.A.Acts.act_of _ _ _ _ c.r
 
 pub returns-clause-ok : goal.returns-clause-ok
 returns-clause-ok g c =
-    let t = c.args.self.now in
-    let s = c.reserve_turn.new.self in
+    let t = c.args.self.now.tables in
+    let s = c.reserve_turn.new.self.tables in
     let spelled : parcel_of c.args.frame.now ≡ Some c.in-Ok.parcel = rw (c.as_slice.ensures) at c.in-Ok.ensures.read in
-    let k = is_continued t (t.taken + 1) s.spare t.desk c.enter_frame.new.self c.follow.new.self c.enter_frame.new.book.entries c.follow.new.book.entries
+    let k = is_continued t (t.taken + 1) t.desk c.enter_frame.new.self.tables c.follow.new.self.tables c.enter_frame.new.book.entries c.follow.new.book.entries
     c.in-Ok.parcel c.in-Ok-next.next c.in-Ok-next.ensures
-    (given_frame t s c.enter_frame.new.self c.in-Ok.parcel c.reserve_turn.ensures.same.tables c.enter_frame.ensures.deals)
+    (given_frame t s c.enter_frame.new.self.tables c.in-Ok.parcel c.reserve_turn.ensures.same.tables c.enter_frame.ensures.deals)
     c.follow.ensures.running c.follow.ensures.followed in
-    took t s c.enter_frame.new.self c.args.book.now c.reserve_turn.new.book c.in-Ok.parcel
+    took t s c.enter_frame.new.self.tables c.args.book.now c.reserve_turn.new.book c.in-Ok.parcel
     c.in-Ok-duplicate.bytes c.args.frame.now c.enter_frame.new.book.entries c.reserve_turn.ensures.same c.in-Ok-duplicate.ensures spelled
     (sym c.broken.ensures ∙ c.in_default.is) c.enter_frame.ensures.writes c.enter_frame.ensures.deals c.enter_frame.ensures.leaves c.enter_frame.ensures.taken
-    c.enter_frame.ensures.sent c.follow.new.self k.more c.follow.new.book.entries k.continues k.writes c.follow.ensures.taken c.follow.ensures.sent
+    c.enter_frame.ensures.sent c.follow.new.self.tables k.more c.follow.new.book.entries k.continues k.writes c.follow.ensures.taken c.follow.ensures.sent
 
 pub returns-then-is_err-clause-turn : goal.returns-then-is_err-clause-turn
 returns-then-is_err-clause-turn g c = adds_none _ _ c.reserve_turn.ensures.same.entries

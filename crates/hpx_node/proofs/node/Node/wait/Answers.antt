@@ -12,25 +12,25 @@ use Rattle.hpx_node.proofs.node.Node.wait.Goals as goal
 pub returns-then-is_err-clause-stands : goal.returns-then-is_err-clause-stands
 returns-then-is_err-clause-stands g c = elim c.then-is_err.branch [
   | then-is_err-via-then-is_err w ↦
-      stands_same g.A.Acts.act_of c.args.self.now _ _ _ c.requires.stands c.reserve.ensures.same (ap (λ (b : Book). b.entries) w.book-is)
+      stands_same g.A.Acts.act_of c.args.self.now.tables _ _ _ c.requires.stands c.reserve.ensures.same (ap (λ (b : Book). b.entries) w.book-is)
   | then-is_err-via-else-is_err+then-is_err-2 w ↦
-      stands_same g.A.Acts.act_of c.args.self.now _ _ _ c.requires.stands c.reserve.ensures.same
+      stands_same g.A.Acts.act_of c.args.self.now.tables _ _ _ c.requires.stands c.reserve.ensures.same
       (ap (λ (b : Book). b.entries) w.book-is ∙ w.reserve-else-is_err.ensures.entries)
 ]
 
 pub begin-requires-clause-stands : goal.begin-requires-clause-stands
 begin-requires-clause-stands g c =
-    stands_same g.A.Acts.act_of c.args.self.now _ _ _ c.requires.stands c.reserve.ensures.same c.reserve-else-is_err.ensures.entries
+    stands_same g.A.Acts.act_of c.args.self.now.tables _ _ _ c.requires.stands c.reserve.ensures.same c.reserve-else-is_err.ensures.entries
 
 pub begin-requires-clause-before : goal.begin-requires-clause-before
-begin-requires-clause-before g c = before_same c.args.self.now _ _ _ _ c.reserve.ensures.same c.in-Ok.ensures
+begin-requires-clause-before g c = before_same c.args.self.now.tables _ _ _ _ c.reserve.ensures.same c.in-Ok.ensures
 
 pub begin-requires-clause-short : goal.begin-requires-clause-short
-begin-requires-clause-short g c = short_same c.args.self.now _ c.args.done.job c.args.done.outcome c.reserve.ensures.same c.requires.short
+begin-requires-clause-short g c = short_same c.args.self.now.tables _ c.args.done.job c.args.done.outcome c.reserve.ensures.same c.requires.short
 
 pub returns-clause-asks : goal.returns-clause-asks
 returns-clause-asks g c =
-    (refl, begins_from c.args.self.now _ _ _ _ _ _ _ c.reserve.ensures.same c.reserve-else-is_err.ensures.entries c.begin.ensures.begins)
+    (refl, begins_from c.args.self.now.tables _ _ _ _ _ _ _ c.reserve.ensures.same c.reserve-else-is_err.ensures.entries c.begin.ensures.begins)
 
 pub returns-then-is_err-clause-turn : goal.returns-then-is_err-clause-turn
 returns-then-is_err-clause-turn g c = elim c.then-is_err.branch [
@@ -49,11 +49,11 @@ returns-clause-lacks g c = λ h. begins_lacks _ _ _ _ _ _ c.begin.ensures.begins
 
 pub returns-then-is_err-clause-orderly : goal.returns-then-is_err-clause-orderly
 returns-then-is_err-clause-orderly g c = elim c.then-is_err.branch [
-  | then-is_err-via-then-is_err w ↦ λ h. orderly_same g.A.Acts.act_of c.args.self.now _ _ _ c.reserve.ensures.same (ap (λ (b : Book). b.entries) w.book-is) h
-  | then-is_err-via-else-is_err+then-is_err-2 w ↦ λ h. orderly_same g.A.Acts.act_of c.args.self.now _ _ _ c.reserve.ensures.same
+  | then-is_err-via-then-is_err w ↦ λ h. orderly_same g.A.Acts.act_of c.args.self.now.tables _ _ _ c.reserve.ensures.same (ap (λ (b : Book). b.entries) w.book-is) h
+  | then-is_err-via-else-is_err+then-is_err-2 w ↦ λ h. orderly_same g.A.Acts.act_of c.args.self.now.tables _ _ _ c.reserve.ensures.same
       (ap (λ (b : Book). b.entries) w.book-is ∙ w.reserve-else-is_err.ensures.entries) h
 ]
 
 pub returns-clause-orderly : goal.returns-clause-orderly
 returns-clause-orderly g c = λ h. begins_keeps g.A.Acts.act_of _ _ _ _ _ _ c.begin.ensures.begins
-    (orderly_same g.A.Acts.act_of c.args.self.now _ c.args.book.now.entries _ c.reserve.ensures.same c.reserve-else-is_err.ensures.entries h)
+    (orderly_same g.A.Acts.act_of c.args.self.now.tables _ c.args.book.now.entries _ c.reserve.ensures.same c.reserve-else-is_err.ensures.entries h)

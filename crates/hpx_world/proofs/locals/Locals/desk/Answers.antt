@@ -1,12 +1,11 @@
 use Rattle.std.proofs.Common.{ℕ, ◌≡◌, Ok, ap, refl, subst, inl, inr, ◌⊎◌}
 use Rattle.hpx_journal.specs.Data.{Id}
-use Rattle.hpx_part.proofs.Keyed.{slice_get_is}
-use Rattle.hpx_node.specs.Handled.{NotCleared}
+use Rattle.hpx_node.specs.Handled.{Clears, NotCleared}
 use Rattle.hpx_node.specs.declared.parts.DeskFault.{DeskFault}
 use Rattle.hpx_node.specs.declared.parts.DeskFault.TheVariants.{Strange, OutOfMemory}
 use Rattle.hpx_node.proofs.Turns.{turn_within}
 use Rattle.hpx_world.specs.Quiet.{HasNoMail}
-use Rattle.hpx_world.proofs.Calls.{same_at, at_own, running_at, desk_inside, stands_at, sound_inside, inside_at}
+use Rattle.hpx_world.proofs.Calls.{done_at, same_at, at_own, there_at, running_at, desk_inside, stands_at, sound_inside, inside_at}
 use Rattle.hpx_world.proofs.locals.Locals.desk.Goals as goal
 
 pub desk-requires-clause-stands : goal.desk-requires-clause-stands
@@ -81,9 +80,14 @@ returns-in-Err-clause-strange g c = λ to frame rule object kept is. elim (mail_
         cc,
         cc,
         (
-          c.index_mut.result.now,
-          slice_get_is _ c.args.k c.index_mut.result.now c.requires.range c.index_mut.ensures.value,
-          subst (NotCleared c.index_mut.result.now) same c.in-Err.ensures.cause,
+          c.index_mut.result.now.tables,
+          there_at _ c.args.k c.index_mut.result.now c.index_mut.result.now c.requires.range c.index_mut.ensures.value,
+          subst (NotCleared c.index_mut.result.now.tables) same c.in-Err.ensures.cause,
         ),
       )
 ]
+
+pub returns-in-Ok-true-clause-did : goal.returns-in-Ok-true-clause-did
+returns-in-Ok-true-clause-did g c =
+    done_at _ c.args.k c.index_mut.result.now c.desk.new.self c.requires.range c.index_mut.ensures.value (λ t t'. Clears t t' _ _)
+    (c.in-Ok-true.ensures.cleared (ap (λ b. Ok b) c.in-Ok-true.field-0-test))

@@ -1,14 +1,14 @@
 use Rattle.std.proofs.Common.{subst, length, [], ◌∷◌, Some, refl, ap, ◌∙◌}
 use Rattle.hpx_part.specs.Data.{Out}
-use Rattle.hpx_node.specs.Stands.{rules_of}
+use Rattle.hpx_steps.specs.Rest.{rules_of}
 use Rattle.hpx_tables.specs.Tables.{Tables}
 use Rattle.hpx_node.proofs.Turns.{turn_within}
+use Rattle.hpx_node.specs.Locality.{tables_of}
 use Rattle.hpx_world.specs.Quiet.{SendsNothing}
 use Rattle.hpx_world.specs.Turns.{Sends}
 use Rattle.hpx_world.proofs.Growth.{SendsOne, sends_of}
-use Rattle.hpx_world.proofs.Sound.{sound_grows}
 use Rattle.hpx_world.proofs.Carrying.{carrying_sent}
-use Rattle.hpx_world.proofs.Calls.{done_at, same_at, at_own, running_at, here_at, stands_at, within}
+use Rattle.hpx_world.proofs.Calls.{done_at, same_at, at_own, running_at, here_at, rest_at, rest_wrote, within}
 use Rattle.hpx_world.proofs.locals.Locals.pump.Goals as goal
 
 pub returns-in-None-clause-did : goal.returns-in-None-clause-did
@@ -22,21 +22,21 @@ returns-in-None-clause-did g c = (
 pub gone-requires-clause-stands : goal.gone-requires-clause-stands
 gone-requires-clause-stands g c =
     rw c.reserve.ensures.entries
-    (stands_at _ _ _ _ c.requires.sound c.args.k c.index_mut-node.result.now c.index_mut-node.result.now c.requires.range c.index_mut-node.ensures.value)
+    (rest_at _ _ _ _ c.requires.sound c.args.k c.index_mut-node.result.now c.index_mut-node.result.now c.requires.range c.index_mut-node.ensures.value)
 
 pub returns-clause-sound : goal.returns-clause-sound
 returns-clause-sound g c =
-    sound_grows _ _ _ _ c.requires.sound c.args.k c.index_mut-node.result.now _ (Out c.in-Some.to c.in-Ok.bytes ∷ []) _ c.requires.range c.index_mut-node.ensures.value
-    (rw c.reserve.ensures.entries at c.gone.ensures.writes) c.gone.ensures.stands c.gone.ensures.lacks (rw c.reserve.ensures.entries at c.gone.ensures.orderly) (turn_within _ _ c.requires.room (rw c.reserve.ensures.entries at c.gone.ensures.turn))
+    rest_wrote _ _ _ _ c.requires.sound c.args.k c.index_mut-node.result.now c.gone.new.self c.requires.range c.index_mut-node.ensures.value (Out c.in-Some.to c.in-Ok.bytes ∷ []) _
+    (rw c.reserve.ensures.entries at c.gone.ensures.writes) c.gone.ensures.stands (turn_within _ _ c.requires.room (rw c.reserve.ensures.entries at c.gone.ensures.turn))
 
 pub returns-clause-carrying : goal.returns-clause-carrying
 returns-clause-carrying g c = λ carrying.
-    let r = rules_of g.A.Acts.act_of (length c.args.self.now.nodes.items) c.args.self.now.profile in
+    let r = rules_of g.A.Acts.act_of (length (tables_of c.args.self.now.nodes.items)) c.args.self.now.profile in
     carrying_sent r _ _ _ _ _ _ _ c.args.k c.in-Some.to c.in-Ok.bytes
     (rw c.as_slice.ensures at c.in-Ok-send.ensures.flight) (rw c.as_slice.ensures at c.in-Ok-send.ensures.trace)
     (subst (λ k. SendsOne r k (c.in-Some.to, c.in-Ok.bytes) c.args.self.now.journal.entries c.gone.new.book.entries)
     (here_at _ _ _ _ c.requires.sound c.args.k c.index_mut-node.result.now c.gone.new.self c.requires.range c.index_mut-node.ensures.value)
-    (sends_of r c.index_mut-node.result.now c.gone.new.self _ _ c.in-Some.to c.in-Ok.bytes
+    (sends_of r c.index_mut-node.result.now.tables c.gone.new.self.tables _ _ c.in-Some.to c.in-Ok.bytes
     (within _ _ _ _ c.requires.sound c.args.k c.index_mut-node.result.now c.gone.new.self c.requires.range c.index_mut-node.ensures.value)
     (rw c.reserve.ensures.entries at c.gone.ensures.writes)))
     carrying

@@ -1,6 +1,7 @@
 use Rattle.std.proofs.Common.{◌≡◌, None, Some, Err, length, refl, sym, ap, ◌∙◌, subst}
 use Rattle.hpx_journal.specs.Entries.{Frame}
-use Rattle.hpx_node.specs.Stands.{rules_of}
+use Rattle.hpx_steps.specs.Rest.{rules_of}
+use Rattle.hpx_node.specs.Locality.{tables_of}
 use Rattle.hpx_world.specs.Away.{Fetches}
 use Rattle.hpx_world.specs.Turns.{IsBadFrame}
 use Rattle.hpx_world.specs.declared.turns.WorldFault.TheVariants.{BadFrame}
@@ -22,18 +23,18 @@ pub returns-in-Ok-accept-clause-carrying : goal.returns-in-Ok-accept-clause-carr
 returns-in-Ok-accept-clause-carrying g c = λ carrying.
     let held : c.fill.new.self.hand ≡ Some c.in-Some.frame = sym c.take.ensures.value ∙ c.in-Some.is in
     let got = subst (λ o. Fetches c.args.self.now.hand (g.F.Fabric.flight c.args.fabric.now) (g.F.Fabric.flight c.fill.new.fabric) (g.F.Fabric.trace c.args.fabric.now) (g.F.Fabric.trace c.fill.new.fabric) o) held c.in-Ok.ensures.ok in
-    let filled = carrying_fetched (rules_of g.A.Acts.act_of (length c.args.self.now.nodes.items) c.args.self.now.profile) c.args.self.now.hand (Some c.in-Some.frame) (g.F.Fabric.flight c.args.fabric.now) (g.F.Fabric.flight c.fill.new.fabric) (g.F.Fabric.trace c.args.fabric.now) (g.F.Fabric.trace c.fill.new.fabric) c.args.self.now.journal.entries got carrying in
+    let filled = carrying_fetched (rules_of g.A.Acts.act_of (length (tables_of c.args.self.now.nodes.items)) c.args.self.now.profile) c.args.self.now.hand (Some c.in-Some.frame) (g.F.Fabric.flight c.args.fabric.now) (g.F.Fabric.flight c.fill.new.fabric) (g.F.Fabric.trace c.args.fabric.now) (g.F.Fabric.trace c.fill.new.fabric) c.args.self.now.journal.entries got carrying in
     let ok = rw c.fill.ensures.same at c.in-Ok-accept.ensures.ok in
     rw (c.accept.ensures.hand, c.take.ensures.after)
-    (carrying_taken (rules_of g.A.Acts.act_of (length c.args.self.now.nodes.items) c.args.self.now.profile) c.in-Some.frame _ _ _ _ (took_one g.A.Acts.act_of c.args.self.now.profile c.args.self.now.nodes.items _ _ _ c.in-Some.frame.0 c.in-Some.frame.1 c.requires.sound ok) filled)
+    (carrying_taken (rules_of g.A.Acts.act_of (length (tables_of c.args.self.now.nodes.items)) c.args.self.now.profile) c.in-Some.frame _ _ _ _ (took_one g.A.Acts.act_of c.args.self.now.profile (tables_of c.args.self.now.nodes.items) _ _ _ c.in-Some.frame.0 c.in-Some.frame.1 c.requires.sound ok) filled)
 
 pub returns-in-Err-clause-carrying : goal.returns-in-Err-clause-carrying
 returns-in-Err-clause-carrying g c = λ carrying.
     let held : c.fill.new.self.hand ≡ Some c.in-Some.frame = sym c.take.ensures.value ∙ c.in-Some.is in
     let got = subst (λ o. Fetches c.args.self.now.hand (g.F.Fabric.flight c.args.fabric.now) (g.F.Fabric.flight c.fill.new.fabric) (g.F.Fabric.trace c.args.fabric.now) (g.F.Fabric.trace c.fill.new.fabric) o) held c.in-Ok.ensures.ok in
-    let filled = carrying_fetched (rules_of g.A.Acts.act_of (length c.args.self.now.nodes.items) c.args.self.now.profile) c.args.self.now.hand (Some c.in-Some.frame) (g.F.Fabric.flight c.args.fabric.now) (g.F.Fabric.flight c.fill.new.fabric) (g.F.Fabric.trace c.args.fabric.now) (g.F.Fabric.trace c.fill.new.fabric) c.args.self.now.journal.entries got carrying in
+    let filled = carrying_fetched (rules_of g.A.Acts.act_of (length (tables_of c.args.self.now.nodes.items)) c.args.self.now.profile) c.args.self.now.hand (Some c.in-Some.frame) (g.F.Fabric.flight c.args.fabric.now) (g.F.Fabric.flight c.fill.new.fabric) (g.F.Fabric.trace c.args.fabric.now) (g.F.Fabric.trace c.fill.new.fabric) c.args.self.now.journal.entries got carrying in
     let same = rw c.fill.ensures.same at c.in-Err.ensures.err.journal in
-    carrying_same (rules_of g.A.Acts.act_of (length c.args.self.now.nodes.items) c.args.self.now.profile) _ _ _ _ _ _ _ _ refl refl refl (inside_none (rules_of g.A.Acts.act_of (length c.args.self.now.nodes.items) c.args.self.now.profile) _ _ same) filled
+    carrying_same (rules_of g.A.Acts.act_of (length (tables_of c.args.self.now.nodes.items)) c.args.self.now.profile) _ _ _ _ _ _ _ _ refl refl refl (inside_none (rules_of g.A.Acts.act_of (length (tables_of c.args.self.now.nodes.items)) c.args.self.now.profile) _ _ same) filled
 
 pub returns-in-Err-clause-bad_frame : goal.returns-in-Err-clause-bad_frame
 returns-in-Err-clause-bad_frame g c = λ to frame at why is.
@@ -45,7 +46,7 @@ pub returns-in-Err-clause-never_bad : goal.returns-in-Err-clause-never_bad
 returns-in-Err-clause-never_bad g c = λ carrying to frame at why is.
     let held : c.fill.new.self.hand ≡ Some c.in-Some.frame = sym c.take.ensures.value ∙ c.in-Some.is in
     let got = subst (λ o. Fetches c.args.self.now.hand (g.F.Fabric.flight c.args.fabric.now) (g.F.Fabric.flight c.fill.new.fabric) (g.F.Fabric.trace c.args.fabric.now) (g.F.Fabric.trace c.fill.new.fabric) o) held c.in-Ok.ensures.ok in
-    let filled = carrying_fetched (rules_of g.A.Acts.act_of (length c.args.self.now.nodes.items) c.args.self.now.profile) c.args.self.now.hand (Some c.in-Some.frame) (g.F.Fabric.flight c.args.fabric.now) (g.F.Fabric.flight c.fill.new.fabric) (g.F.Fabric.trace c.args.fabric.now) (g.F.Fabric.trace c.fill.new.fabric) c.args.self.now.journal.entries got carrying in
+    let filled = carrying_fetched (rules_of g.A.Acts.act_of (length (tables_of c.args.self.now.nodes.items)) c.args.self.now.profile) c.args.self.now.hand (Some c.in-Some.frame) (g.F.Fabric.flight c.args.fabric.now) (g.F.Fabric.flight c.fill.new.fabric) (g.F.Fabric.trace c.args.fabric.now) (g.F.Fabric.trace c.fill.new.fabric) c.args.self.now.journal.entries got carrying in
     let e : c.in-Err.fault ≡ BadFrame to frame at why = cc in
     let bad = c.in-Err.ensures.bad_frame to frame at why (ap (λ fault. Err fault) e) in
     never_refused _ _ _ _ c.requires.sound c.in-Some.frame _ _ at why filled (subst (λ (f : Frame). IsBadFrame f.1 at why) bad.0 bad.1)

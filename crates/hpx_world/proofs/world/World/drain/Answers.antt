@@ -1,46 +1,50 @@
-use Rattle.std.proofs.Common.{length}
-use Rattle.hpx_world.proofs.Handed.{never_handed}
+use Rattle.std.proofs.Common.{◌∷◌, Ok, length, sym, ap, ◌∙◌}
+use Rattle.hpx_world.specs.Places.{rules_in}
+use Rattle.hpx_world.specs.Stages.{stage}
+use Rattle.hpx_world.proofs.FirstSteps.{step_fewer, drain_refuses}
+use Rattle.hpx_world.proofs.Next.{carrying_at}
+use Rattle.hpx_world.proofs.Refusing.{err_then, ends_early}
 use Rattle.hpx_world.proofs.Settled.{never_held}
-use Rattle.hpx_world.proofs.Strange.{none_strange}
-use Rattle.hpx_world.proofs.Turned.{promised_then, rests_then}
+use Rattle.hpx_world.proofs.Unfed.{unfed_then}
 use Rattle.hpx_world.proofs.world.World.drain.Goals as goal
 
-pub returns-clause-promises : goal.returns-clause-promises
-returns-clause-promises g c = rw (← c.self.view_is) (λ carrying.
-    promised_then g.A.Acts.act_of c.self.inside.locals.profile c.drain.new.self.profile c.self.inside.locals.nodes.items c.drain.new.self.nodes.items c.drain.new.self.journal.entries
-    (λ n kind here s a some few h state act. g.met.A.Acts.keeps_laws n kind here s a some few h state act)
-    c.drain.ensures.sound c.drain.ensures.count c.drain.ensures.profile (c.drain.ensures.carrying carrying).carried)
+pub loop-preserved : goal.loop-preserved
+loop-preserved g c =
+    let i = c.loop.invariant in
+    record {
+      count = c.step.ensures.count ∙ i.count;
+      profile = c.step.ensures.profile ∙ i.profile;
+      goes = record {
+        between = stage c.loop.self (g.F.Fabric.flight c.loop.fabric) (g.F.Fabric.trace c.loop.fabric) ∷ i.goes.between;
+        steps = (i.goes.steps, c.in_ok-step.ensures.did (ap (λ b. Ok b) c.if-branch.true));
+      };
+      faults = c.in_ok-step.ensures.faults ∙ i.faults;
+      unfed = unfed_then _ _ _ i.unfed c.step.ensures.unfed;
+      jobs = λ none. c.in_ok-step.ensures.jobs tt (i.jobs none);
+      carrying = λ h. carrying_at g.A.Acts.act_of (length c.args.self.now.nodes) (length c.loop.self.nodes) c.args.self.now.profile c.loop.self.profile
+          _ _ _ _ _ _ _ _ i.count i.profile c.step.ensures.carrying (i.carrying h);
+    }
 
-pub returns-clause-never_bad : goal.returns-clause-never_bad
-returns-clause-never_bad g c = rw (← c.self.view_is) (λ carrying to frame at why is.
-    let bad = c.drain.ensures.bad_frame to frame at why is in
-    never_handed g.A.Acts.act_of c.drain.new.self.profile c.drain.new.self.nodes.items c.drain.new.self.journal.entries c.drain.ensures.sound
-    (length c.self.inside.locals.nodes.items) c.self.inside.locals.profile _ _ _ (to, frame) at why
-    c.drain.ensures.count c.drain.ensures.profile (c.drain.ensures.carrying carrying) bad.0 bad.1)
+pub loop-smaller : goal.loop-smaller
+loop-smaller g c = step_fewer g.A.Acts.act_of _ _ (c.in_ok-step.ensures.did (ap (λ b. Ok b) c.if-branch.true))
 
-pub returns-clause-rest : goal.returns-clause-rest
-returns-clause-rest g c = rw (← c.self.view_is) (λ carrying.
-    rests_then g.A.Acts.act_of c.self.inside.locals.profile c.drain.new.self.profile c.self.inside.locals.nodes.items c.drain.new.self.nodes.items
-    c.drain.new.self.journal.entries c.drain.new.self.hand c.drain.result _ c.drain.ensures.sound c.drain.ensures.count c.drain.ensures.profile
-    (c.drain.ensures.carrying carrying).carried c.drain.ensures.quiet)
+pub returns-in_err-step-clause-stops : goal.returns-in_err-step-clause-stops
+returns-in_err-step-clause-stops g c =
+    err_then c.from_residual.result c.in_err-step.field-0.0 _ c.from_residual.ensures.1
+    (drain_refuses g.A.Acts.act_of _ _ _ c.loop.invariant.goes c.in_err-step.field-0.0 c.in_err-step.ensures.stops)
 
-pub returns-clause-never_strange : goal.returns-clause-never_strange
-returns-clause-never_strange g c = rw (← c.self.view_is) (λ still carrying to frame rule object kept is.
-    none_strange g.A.Acts.act_of c.drain.new.self.profile c.drain.new.self.nodes.items c.drain.new.self.journal.entries c.drain.ensures.sound
-    (length c.self.inside.locals.nodes.items) c.self.inside.locals.profile c.drain.ensures.count c.drain.ensures.profile
+pub returns-clause-never : goal.returns-clause-never
+returns-clause-never g c = λ carrying.
+    let i = c.loop.invariant in
+    let idle = c.in_ok-step.ensures.idle (ap (λ b. Ok b) c.if-branch.false) in
+    let count = c.step.ensures.count ∙ i.count in
+    let profile = c.step.ensures.profile ∙ i.profile in
+    let carried = carrying_at g.A.Acts.act_of (length c.args.self.now.nodes) (length c.loop.self.nodes) c.args.self.now.profile c.loop.self.profile
+    _ _ _ _ _ _ _ _ i.count i.profile c.step.ensures.carrying (i.carrying carrying) in
+    ends_early c.settled.result (rules_in g.A.Acts.act_of c.args.self.now) _ _ c.settled.ensures.early (sym idle.taken)
+    (λ still jobs waits. never_held g.A.Acts.act_of c.step.new.self.profile c.step.new.self.nodes c.step.new.self.journal.entries c.standing.ensures
+    (length c.args.self.now.nodes) c.args.self.now.profile _ _ _ count profile
     (record {
       laws = λ n kind here s a some few h state act. g.met.A.Acts.keeps_laws n kind here s a some few h state act;
       still = still;
-    }) _ _ _ (c.drain.ensures.carrying carrying) to frame rule object kept (c.drain.ensures.strange to frame rule object kept is))
-
-pub returns-clause-never_early : goal.returns-clause-never_early
-returns-clause-never_early g c = rw (← c.self.view_is) (λ still carrying sent taken is.
-    never_held g.A.Acts.act_of c.drain.new.self.profile c.drain.new.self.nodes.items c.drain.new.self.journal.entries c.drain.ensures.sound
-    (length c.self.inside.locals.nodes.items) c.self.inside.locals.profile _ _ _ c.drain.ensures.count c.drain.ensures.profile
-    (record {
-      laws = λ n kind here s a some few h state act. g.met.A.Acts.keeps_laws n kind here s a some few h state act;
-      still = still;
-    }) (c.drain.ensures.carrying carrying) (c.drain.ensures.held carrying sent taken is))
-
-pub returns-clause-full_at_once : goal.returns-clause-full_at_once
-returns-clause-full_at_once g c = rw (← c.self.view_is) (λ none. c.drain.ensures.full_at_once none)
+    }) carried (record { idle = idle.applies; jobs = jobs; waits = waits }))

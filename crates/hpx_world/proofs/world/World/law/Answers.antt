@@ -1,8 +1,8 @@
 use Rattle.hpx_journal.specs.Laws.{KeepsActLaws}
 use Rattle.std.proofs.Common.{length, subst}
 use Rattle.hpx_journal.specs.Whole.{part}
-use Rattle.hpx_node.specs.Idle.{IsPaid}
-use Rattle.hpx_node.specs.Stands.{rules_of}
+use Rattle.hpx_steps.specs.Rest.{IsPaid, rules_of}
+use Rattle.hpx_node.specs.Locality.{tables_of}
 use Rattle.hpx_world.specs.Audit.{audit_lines}
 use Rattle.hpx_world.proofs.AtHome.{at_home}
 use Rattle.hpx_world.proofs.Audited.{audited}
@@ -15,27 +15,27 @@ use Rattle.hpx_world.proofs.world.World.law.Goals as goal
 pub returns-clause-promises : goal.returns-clause-promises
 returns-clause-promises g c = rw (← c.self.view_is) (λ carried.
     let sound = c.self.invariant.1 in
-    promised g.A.Acts.act_of c.self.inside.locals.profile c.self.inside.locals.nodes.items c.self.inside.locals.journal.entries c.self.invariant.1
-    (spells_well g.A.Acts.act_of (length c.self.inside.locals.nodes.items) c.self.inside.locals.profile)
+    promised g.A.Acts.act_of c.self.inside.locals.profile (tables_of c.self.inside.locals.nodes.items) c.self.inside.locals.journal.entries c.self.invariant.1
+    (spells_well g.A.Acts.act_of (length (tables_of c.self.inside.locals.nodes.items)) c.self.inside.locals.profile)
     (record { laws = λ kind here s a h state act. g.met.A.Acts.keeps_laws _ kind here s a sound.some sound.few h state act }) carried)
 
 pub returns-clause-rest : goal.returns-clause-rest
 returns-clause-rest g c = rw (← c.self.view_is) (λ carried quiet.
-    quiet_rests g.A.Acts.act_of c.self.inside.locals.profile c.self.inside.locals.nodes.items c.self.inside.locals.journal.entries c.self.invariant.1
-    (spells_well g.A.Acts.act_of (length c.self.inside.locals.nodes.items) c.self.inside.locals.profile) carried c.self.inside.locals.hand quiet)
+    quiet_rests g.A.Acts.act_of c.self.inside.locals.profile (tables_of c.self.inside.locals.nodes.items) c.self.inside.locals.journal.entries c.self.invariant.1
+    (spells_well g.A.Acts.act_of (length (tables_of c.self.inside.locals.nodes.items)) c.self.inside.locals.profile) carried c.self.inside.locals.hand quiet)
 
 pub returns-clause-ordered : goal.returns-clause-ordered
 returns-clause-ordered g c = rw (← c.self.view_is) (
-    ordered c.self.inside.locals.nodes.items c.records_law.ensures (λ k t at. (c.self.invariant.1.stand k t at).here))
+    ordered (tables_of c.self.inside.locals.nodes.items) c.records_law.ensures (λ k t at. (c.self.invariant.1.stand k t at).here))
 
 pub returns-clause-audit : goal.returns-clause-audit
 returns-clause-audit g c = rw (← c.self.view_is) (λ carried.
-    audited g.A.Acts.act_of c.self.inside.locals.profile c.self.inside.locals.nodes.items c.self.inside.locals.journal.entries c.self.invariant.1
-    (spells_well g.A.Acts.act_of (length c.self.inside.locals.nodes.items) c.self.inside.locals.profile) carried c.self.invariant.2 c.records_law.ensures)
+    audited g.A.Acts.act_of c.self.inside.locals.profile (tables_of c.self.inside.locals.nodes.items) c.self.inside.locals.journal.entries c.self.invariant.1
+    (spells_well g.A.Acts.act_of (length (tables_of c.self.inside.locals.nodes.items)) c.self.inside.locals.profile) carried c.self.invariant.2 c.records_law.ensures)
 
 pub returns-clause-paid : goal.returns-clause-paid
 returns-clause-paid g c = rw (← c.self.view_is) (λ k t at.
-    let nodes = c.self.inside.locals.nodes.items in
+    let nodes = (tables_of c.self.inside.locals.nodes.items) in
     let profile = c.self.inside.locals.profile in
     let entries = c.self.inside.locals.journal.entries in
     subst (λ j. IsPaid (rules_of g.A.Acts.act_of (length nodes) profile) t (part j entries)) (c.self.invariant.1.stand k t at).here
@@ -44,11 +44,11 @@ returns-clause-paid g c = rw (← c.self.view_is) (λ k t at.
 pub returns-clause-at_home : goal.returns-clause-at_home
 returns-clause-at_home g c = rw (← c.self.view_is) (λ still carried.
     let sound = c.self.invariant.1 in
-    let nodes = c.self.inside.locals.nodes.items in
+    let nodes = (tables_of c.self.inside.locals.nodes.items) in
     let profile = c.self.inside.locals.profile in
     let entries = c.self.inside.locals.journal.entries in
     let grammar = spells_well g.A.Acts.act_of (length nodes) profile in
-    let laws : KeepsActLaws (rules_of g.A.Acts.act_of (length c.self.inside.locals.nodes.items) c.self.inside.locals.profile) =
+    let laws : KeepsActLaws (rules_of g.A.Acts.act_of (length (tables_of c.self.inside.locals.nodes.items)) c.self.inside.locals.profile) =
     record { laws = λ kind here s a h state act. g.met.A.Acts.keeps_laws _ kind here s a sound.some sound.few h state act } in
     at_home (rules_of g.A.Acts.act_of (length nodes) profile) entries grammar laws still
     (promised g.A.Acts.act_of profile nodes entries c.self.invariant.1 grammar laws carried).ledger (audit_lines nodes)

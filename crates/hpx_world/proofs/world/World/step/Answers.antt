@@ -1,33 +1,32 @@
-use Rattle.std.proofs.Common.{length}
-use Rattle.hpx_world.proofs.Handed.{never_handed}
-use Rattle.hpx_world.proofs.Turned.{promised_then}
-use Rattle.hpx_world.proofs.Strange.{none_strange}
+use Rattle.std.proofs.Common.{◌≡◌, Ok, true, sym, ap, ◌∙◌, subst}
+use Rattle.hpx_world.specs.Away.{Fetches}
+use Rattle.hpx_world.specs.Stages.{stage}
+use Rattle.hpx_world.specs.Steps.{DidStep, NonePumps}
+use Rattle.hpx_world.specs.Turns.{DidTake}
+use Rattle.hpx_world.proofs.FirstSteps.{first_takes}
 use Rattle.hpx_world.proofs.world.World.step.Goals as goal
 
-pub returns-clause-promises : goal.returns-clause-promises
-returns-clause-promises g c = rw (← c.self.view_is) (λ carrying.
-    promised_then g.A.Acts.act_of c.self.inside.locals.profile c.step.new.self.profile c.self.inside.locals.nodes.items c.step.new.self.nodes.items c.step.new.self.journal.entries
-    (λ n kind here s a some few h state act. g.met.A.Acts.keeps_laws n kind here s a some few h state act)
-    c.step.ensures.sound c.step.ensures.count c.step.ensures.profile (c.step.ensures.carrying carrying).carried)
+pub returns-then-branch-2-clause-did : goal.returns-then-branch-2-clause-did
+returns-then-branch-2-clause-did g c = λ is.
+    let worked = c.in_ok-work_first.ensures.none (ap (λ b. Ok b) c.if-branch.false) in
+    subst (λ s. DidStep g.A.Acts.act_of s (stage c.desk_first.new.self (g.F.Fabric.flight c.desk_first.new.fabric) (g.F.Fabric.trace c.desk_first.new.fabric))) worked.0
+    (c.in_ok-desk_first.ensures.did (ap (λ b. Ok b) c.if-branch-2.true))
 
-pub returns-clause-full_at_once : goal.returns-clause-full_at_once
-returns-clause-full_at_once g c = rw (← c.self.view_is) (λ none. c.step.ensures.full_at_once none)
+pub returns-then-branch-3-clause-did : goal.returns-then-branch-3-clause-did
+returns-then-branch-3-clause-did g c = λ is.
+    let worked = c.in_ok-work_first.ensures.none (ap (λ b. Ok b) c.if-branch.false) in
+    let dealt = c.in_ok-desk_first.ensures.none (ap (λ b. Ok b) c.if-branch-2.false) in
+    subst (λ s. DidStep g.A.Acts.act_of s (stage c.pump_first.new.self (g.F.Fabric.flight c.pump_first.new.fabric) (g.F.Fabric.trace c.pump_first.new.fabric))) (dealt.0 ∙ worked.0)
+    (c.in_ok-pump_first.ensures.did (ap (λ b. Ok b) c.if-branch-3.true))
 
-pub returns-clause-never_bad : goal.returns-clause-never_bad
-returns-clause-never_bad g c = rw (← c.self.view_is) (λ carrying to frame at why is.
-    let bad = c.step.ensures.bad_frame to frame at why is in
-    never_handed g.A.Acts.act_of c.step.new.self.profile c.step.new.self.nodes.items c.step.new.self.journal.entries c.step.ensures.sound
-    (length c.self.inside.locals.nodes.items) c.self.inside.locals.profile _ _ _ (to, frame) at why
-    c.step.ensures.count c.step.ensures.profile (c.step.ensures.carrying carrying) bad.0 bad.1)
-
-pub returns-clause-never_strange : goal.returns-clause-never_strange
-returns-clause-never_strange g c = rw (← c.self.view_is) (λ still carrying to frame rule object kept is.
-    none_strange g.A.Acts.act_of c.step.new.self.profile c.step.new.self.nodes.items c.step.new.self.journal.entries c.step.ensures.sound
-    (length c.self.inside.locals.nodes.items) c.self.inside.locals.profile c.step.ensures.count c.step.ensures.profile
-    (record {
-      laws = λ n kind here s a some few h state act. g.met.A.Acts.keeps_laws n kind here s a some few h state act;
-      still = still;
-    }) _ _ _ (c.step.ensures.carrying carrying) to frame rule object kept (c.step.ensures.strange to frame rule object kept is))
-
-pub returns-clause-handed_full : goal.returns-clause-handed_full
-returns-clause-handed_full g c = rw (← c.self.view_is) (λ e w done is. c.step.ensures.handed_full e w done is)
+pub returns-clause-did : goal.returns-clause-did
+returns-clause-did g c = λ is.
+    let worked = c.in_ok-work_first.ensures.none (ap (λ b. Ok b) c.if-branch.false) in
+    let dealt = c.in_ok-desk_first.ensures.none (ap (λ b. Ok b) c.if-branch-2.false) in
+    let sent = c.in_ok-pump_first.ensures.none (ap (λ b. Ok b) c.if-branch-3.false) in
+    let moved : c.moved.result ≡ true = cc in
+    let did = subst (λ t. DidTake (Fetches c.pump_first.new.self.hand (g.F.Fabric.flight c.pump_first.new.fabric) (g.F.Fabric.flight c.turn.new.fabric) (g.F.Fabric.trace c.pump_first.new.fabric) (g.F.Fabric.trace c.turn.new.fabric)) t
+    c.pump_first.new.self.nodes c.turn.new.self.nodes c.pump_first.new.self.journal.entries c.turn.new.self.journal.entries) (c.moved.ensures.0 moved) c.in_ok-turn.ensures.did.1.0 in
+    first_takes g.A.Acts.act_of _ (stage c.pump_first.new.self (g.F.Fabric.flight c.pump_first.new.fabric) (g.F.Fabric.trace c.pump_first.new.fabric))
+    (stage c.turn.new.self (g.F.Fabric.flight c.turn.new.fabric) (g.F.Fabric.trace c.turn.new.fabric))
+    (sent.0 ∙ (dealt.0 ∙ worked.0)) (subst NonePumps (sym sent.0) sent.1) c.in_ok-turn.ensures.did.0 did c.in_ok-turn.ensures.did.1.1

@@ -1,0 +1,104 @@
+-- All actions keep the laws, and look neither at names nor at credits.
+use Rattle.std.specs.Prelude.{ℕ, zero, suc, pos, negsuc, Bool, true, false, nat_lt, nat_le, List, [], ◌∷◌, ◌++◌, ◌+◌, ◌≡◌, ◌≢◌, ◌<◌, ◌≤◌, ◌==◌, ◌&&◌, Option, Some, None, length, map, refl, if◌then◌else◌}
+use Rattle.std.proofs.Common.{sym, ap, ◌∙◌, subst, arith, lit≤, inl, inr}
+use Rattle.std.specs.List.{AllByRecursion, slice_index_or}
+use Rattle.std.proofs.lemmas.Bool.{cond_both, eqb-true, eqb-false, le-leb, lt-ltb}
+use Rattle.std.proofs.lemmas.List.{length-map}
+use Rattle.hpx_value.specs.Ids.{Id, bare}
+use Rattle.hpx_value.specs.Values.{named, message_of, bare_act, bare_state}
+use Rattle.hpx_value.specs.declared.value.State.{State}
+use Rattle.hpx_value.specs.declared.value.Act.{Act}
+use Rattle.hpx_value.specs.declared.outcome.Outcome.{Outcome}
+use Rattle.hpx_value.specs.Shapes.{IsAct, IsState}
+use Rattle.hpx_value.specs.Hands.{id_at, session}
+use Rattle.hpx_value.specs.Laws.{KeepsLaws, IsMovable, IsManaged}
+use Rattle.hpx_value.specs.Kept.{stays}
+use Rattle.hpx_value.proofs.Kept.{stays_keeps}
+use Rattle.hpx_calls.specs.Outcomes.{outcome_of}
+use Rattle.hpx_calls.specs.Values.{spelled, shifted}
+use Rattle.hpx_calls.proofs.Lawful.{every_keeps}
+use Rattle.hpx_calls.proofs.Blind.{outcome_blind}
+use Rattle.app_console.specs.Types.{Spelled, SpelledUnit, SpelledInt, SpelledText, SpelledRef, SpelledFault, Cont, Naming, What, Await, Desk, Consoles, Console, Status, Plan}
+use Rattle.app_console.specs.Commands.{Sight, plan_of}
+use Rattle.app_console.specs.Desks.{status_in, status_by, held_at}
+use Rattle.app_console.specs.Session
+use Rattle.app_console.proofs.SessionKeeps.{session_keeps, refusal_keeps}
+
+pub place : (n here : ℕ) → n ≤ 64 → here < n → Session.is_place n here ≡ true
+place n here few h = rw (lt-ltb here n h, le-leb n 64 few) refl
+
+-- ---- all
+
+pub keeps_laws : (cs : Consoles) (n kind here : ℕ) (s : State) (a : Act) → 1 ≤ n → n ≤ 64 → here < n → IsState s → IsAct a → KeepsLaws n kind here s a (Session.act_of cs n kind here s a)
+unfolding Session.act_of
+keeps_laws cs n kind here s a some few low h act =
+    rw (place n here few low)
+    (cond_both (kind == 1) _ _ (KeepsLaws n kind here s a)
+    (λ e. subst (λ k. KeepsLaws n k here s a (Session.session_outcome cs n s a)) (sym (eqb-true kind 1 e)) (session_keeps cs n here s a some few low h act))
+    (λ e. cond_both (kind == 7) _ _ (KeepsLaws n kind here s a)
+    (λ f. let seven = eqb-true kind 7 f in refusal_keeps n kind here s a (omega arith) h act)
+    (λ f. every_keeps n kind here s a low (eqb-false kind 7 f) h act)))
+
+-- ---- blindness
+
+abbrev blind : Act → Act
+blind a = named 0 0 (message_of (bare_act a))
+
+kind_bare : (ids : List Id) (p : ℕ) → (id_at (map bare ids) p).kind ≡ (id_at ids p).kind
+kind_bare [] p = refl
+kind_bare (x ∷ ids) zero = refl
+kind_bare (x ∷ ids) (suc p) = kind_bare ids p
+
+by_same : (kind kind' : Spelled → ℕ) → ((v : Spelled) → kind v ≡ kind' v) → (o : Option Spelled) → status_by kind o ≡ status_by kind' o
+by_same kind kind' h None = refl
+by_same kind kind' h (Some v) = ap (λ k. status_by (λ u. k) (Some v)) (h v)
+
+pub status_same : (kind kind' : Spelled → ℕ) → ((v : Spelled) → kind v ≡ kind' v) → (xs : List (Naming Spelled)) (name : List ℕ) → status_in kind xs name ≡ status_in kind' xs name
+status_same kind kind' h [] name = refl
+status_same kind kind' h (x ∷ xs) name = rw (by_same kind kind' h x.to, status_same kind kind' h xs name) refl
+
+funext : {X Y : Type 0} {f g : X → Y} → ((x : X) → f x ≡ g x) → f ≡ g
+funext h = λ i x. h x i
+
+kinds_same : (s : State) (v : Spelled) → Session.kind_of s v ≡ Session.kind_of (bare_state s) v
+kinds_same s v = sym (kind_bare s.ids (Session.place_of v))
+
+sight_same : (n : ℕ) (s : State) (d : Desk Spelled) → Session.sight n (Session.kind_of s) d ≡ Session.sight n (Session.kind_of (bare_state s)) d
+sight_same n s d =
+    let same : status_in (Session.kind_of s) d.names ≡ status_in (Session.kind_of (bare_state s)) d.names =
+    funext (λ name. status_same (Session.kind_of s) (Session.kind_of (bare_state s)) (kinds_same s) d.names name) in
+    ap (λ f. let x : Sight = record { localities = n; status = f; names = length d.names; awaited = length d.awaits } in x) same
+
+line_blind : (n : ℕ) (s : State) (a : Act) (d : Desk Spelled) (line : List ℕ) (c : Option Console)
+    → Session.line_of n s a d line c ≡ Session.line_of n (bare_state s) (blind a) d line c
+line_blind n s a d line None = refl
+line_blind n s a d line (Some c) = ap (λ x. Session.planned c s.drawn d (plan_of c x line)) (sight_same n s d)
+
+taken_blind : (s : State) (a : Act) (d : Desk Spelled) (slot : ℕ) (v : Spelled) (w : Option What)
+    → Session.taken s a d slot v w ≡ Session.taken (bare_state s) (blind a) d slot v w
+taken_blind s a d slot v None = refl
+taken_blind s a d slot v (Some w) = ap (λ m. Session.taken_by s.drawn d slot v w m) (sym (length-map s.ids bare))
+
+args_blind : (cs : Consoles) (n : ℕ) (s : State) (a : Act) (d : Desk Spelled) (code : ℕ) (args : List Spelled)
+    → Session.session_args cs n s a d code args ≡ Session.session_args cs n (bare_state s) (blind a) d code args
+args_blind cs n s a d code (SpelledText (mark ∷ line) ∷ []) =
+    ap (λ o. if code == 4 then o else stays s a (SpelledFault 11)) (line_blind n s a d line (Session.console_of cs mark))
+args_blind cs n s a d code (SpelledInt (pos slot) ∷ v ∷ []) =
+    ap (λ o. if code == 3 then o else stays s a (SpelledFault 11)) (taken_blind s a d slot v (held_at slot d.awaits))
+args_blind cs n s a d code _ = refl
+
+cont_blind : (cs : Consoles) (n : ℕ) (s : State) (a : Act) (d : Desk Spelled) (c : Option Cont) → Session.session_cont cs n s a d c ≡ Session.session_cont cs n (bare_state s) (blind a) d c
+cont_blind cs n s a d None = args_blind cs n s a d a.code a.args
+cont_blind cs n s a d (Some c) = refl
+
+by_blind : (cs : Consoles) (n : ℕ) (s : State) (a : Act) (d : Option (Desk Spelled)) → Session.session_by cs n s a d ≡ Session.session_by cs n (bare_state s) (blind a) d
+by_blind cs n s a None = refl
+by_blind cs n s a (Some d) = cont_blind cs n s a d a.cont
+
+pub is_blind : (cs : Consoles) (n kind here : ℕ) (s : State) (a : Act) → Session.act_of cs n kind here s a ≡ Session.act_of cs n kind here (bare_state s) (blind a)
+unfolding Session.act_of Session.session_outcome
+is_blind cs n kind here s a =
+    ap (λ o. if Session.is_place n here then (if kind == 1 then o else if kind == 7 then stays s a (SpelledFault 11) else outcome_of n kind here s a) else stays s a (SpelledFault 11))
+    (by_blind cs n s a (Session.desk_at s))
+    ∙ ap (λ o. if Session.is_place n here then (if kind == 1 then Session.session_outcome cs n (bare_state s) (blind a) else if kind == 7 then stays s a (SpelledFault 11) else o) else stays s a (SpelledFault 11))
+    (outcome_blind n kind here s a)

@@ -1,0 +1,161 @@
+//! What the values of a session's state show, and how they are laid out.
+ghost use Rattle.std.specs.Prelude.{◌≡◌, ◌∷◌, ◌++◌, [], ◌≤◌, IfOk, IfSome};
+ghost use Rattle.hpx_calls.specs.Values.{spelled};
+ghost use Rattle.app_console.specs.Desks.{awaits_in, awaits_out, desk_in, desk_out, desk_shown, names_out, slot_in, what_in, what_out, to_in, to_out, fits_name, erased, held_at, without};
+ghost use Rattle.app_console.specs.Session.{desk_at};
+
+use crate::desk::{Await, Desk, Naming, What};
+use hpx_value::exact::Exact;
+use hpx_value::items::{Items, Text};
+use hpx_value::memory::OutOfMemory;
+use hpx_value::value::{State, Value, Values};
+use std::alloc::Global;
+
+const MOST: usize = 100;
+
+const MOST_NAME: usize = 32;
+
+const MOST_DRAWN: u32 = 4_000_000_000;
+
+/// The number of a slot.
+fn slot_in(number: i64) -> Option<u32>
+    ensures { result ≡ slot_in number }
+{
+    match u32::try_from(number) {
+        Ok(slot) => Some(slot),
+        Err(_) => None,
+    }
+}
+
+/// Whether a text can be a name.
+fn fits_name(name: &Text) -> bool
+    ensures { result ≡ fits_name name.now }
+{
+    name.len() <= MOST_NAME
+}
+
+/// What is done with an answer, as a value shows it.
+fn what_in(alloc: Global, value: &Value) -> Result<Option<What>, OutOfMemory>
+    ensures { IfOk result (λ what. what ≡ what_in (spelled.look value.now)) }
+{
+    Ok(match value {
+        Value::Int(0) => Some(What::Silent),
+        Value::Int(1) => Some(What::Tells),
+        Value::Int(2) => Some(What::Releases),
+        Value::Text(name) if fits_name(name) => Some(What::Binds(name.duplicate(alloc)?)),
+        _ => None,
+    })
+}
+
+/// What a name stands for, as a value shows it.
+fn to_in(value: &Value) -> Option<Option<Value>>
+    ensures { result ≡ to_in (spelled.look value.now) value.now }
+{
+    match value {
+        Value::Unit => Some(None),
+        Value::Ref(place) => Some(Some(Value::Ref(*place))),
+        _ => None,
+    }
+}
+
+/// An item before others.
+pub fn before<T: Drop>(item: T, items: Items<T>) -> Result<Items<T>, OutOfMemory>
+    ensures { IfOk result (λ all. all ≡ item ∷ items) }
+{
+    let mut items = items.into_vec();
+    items.insert(0, item)?;
+    Ok(Items::from_vec(items))
+}
+
+/// The answers that values show.
+fn awaits_in(alloc: Global, values: &[Value]) -> Result<Option<Items<Await>>, OutOfMemory>
+    ensures { IfOk result (λ read. read ≡ awaits_in spelled values.now) }
+{
+    match values {
+        [] => Ok(Some(Items::new(alloc))),
+        [_] => Ok(None),
+        [Value::Int(number), value, rest @ ..] => {
+            let slot = slot_in(*number);
+            let what = what_in(alloc, value)?;
+            let behind = awaits_in(alloc, rest)?;
+            match (slot, what, behind) {
+                (Some(slot), Some(what), Some(behind)) => {
+                    Ok(Some(before(Await { slot, what }, behind)?))
+                }
+                _ => Ok(None),
+            }
+        }
+        [_, _, ..] => Ok(None),
+    }
+}
+
+/// The names that values show, and then the answers.
+fn desk_in(alloc: Global, values: &[Value]) -> Result<Option<Desk<Value>>, OutOfMemory>
+    ensures { IfOk result (λ read. read ≡ desk_in spelled values.now) }
+{
+    match values {
+        [] => Ok(Some(Desk {
+            names: Items::new(alloc),
+            awaits: Items::new(alloc),
+        })),
+        [_] => Ok(None),
+        [Value::Text(name), value, rest @ ..] => {
+            let to = to_in(value);
+            let behind = desk_in(alloc, rest)?;
+            match (to, behind) {
+                (Some(to), Some(behind)) if fits_name(name) => {
+                    let name = name.duplicate(alloc)?;
+                    let names = before(Naming { name, to }, behind.names)?;
+                    Ok(Some(Desk {
+                        names,
+                        awaits: behind.awaits,
+                    }))
+                }
+                _ => Ok(None),
+            }
+        }
+        [_, _, ..] => match awaits_in(alloc, values)? {
+            Some(awaits) => Ok(Some(Desk {
+                names: Items::new(alloc),
+                awaits,
+            })),
+            None => Ok(None),
+        },
+    }
+}
+
+/// What a session keeps, where a state is one of a session that can draw another slot.
+pub fn desk_at(alloc: Global, state: &State) -> Result<Option<Desk<Value>>, OutOfMemory>
+    ensures desk { IfOk result (λ desk. desk ≡ desk_at state.now) }
+    ensures drawn { IfOk result (λ desk. IfSome desk (λ desk. state.now.drawn ≤ 4000000000)) }
+{
+    if !state.conts.is_empty() || state.drawn > MOST_DRAWN {
+        return Ok(None);
+    }
+    match desk_in(alloc, state.values.as_slice())? {
+        Some(desk) if desk.names.len() <= MOST && desk.awaits.len() <= MOST => Ok(Some(desk)),
+        _ => Ok(None),
+    }
+}
+
+/// The value of what is done with an answer.
+pub fn what_out(what: What) -> Value
+    ensures { result ≡ what_out spelled what }
+{
+    match what {
+        What::Silent => Value::Int(0),
+        What::Tells => Value::Int(1),
+        What::Releases => Value::Int(2),
+        What::Binds(name) => Value::Text(name),
+    }
+}
+
+/// The value of what a name stands for.
+pub fn to_out(to: Option<Value>) -> Value
+    ensures { result ≡ to_out spelled to }
+{
+    match to {
+        Some(value) => value,
+        None => Value::Unit,
+    }
+}

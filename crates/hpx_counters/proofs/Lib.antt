@@ -1,0 +1,3 @@
+mod CounterLemmas
+mod Digits
+mod Samples

@@ -1,0 +1,5 @@
+//! The names of counters, and what they count.
+#![tactic(auto)]
+
+pub mod counter;
+pub mod counters;

@@ -1,0 +1,5 @@
+//! Tests of the waves of a round, as tables.
+#![tactic(auto)]
+
+#[cfg(test)]
+mod tests;

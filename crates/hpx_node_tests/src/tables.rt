@@ -1,0 +1,245 @@
+//! What stands at boot, what is made, what is found and counted, what is far, and what is written of a hand.
+ghost use Rattle.std.specs.Prelude.{IfOk};
+ghost use Rattle.hpx_parcel.specs.Parcels.{IsParcel};
+
+use hpx_journal::entry::{Event, Name};
+use hpx_journal::journal::Journal;
+use hpx_parcel::parcel::Parcel;
+use hpx_parcel::read::decode;
+use hpx_tables::births::births;
+use hpx_tables::boot::roots;
+use hpx_tables::credit::{credit_in, held_in_parcel, owed_in_parcel};
+use hpx_tables::find::{answered_by, first_free, target};
+use hpx_tables::kept::{Fit, Kept, bare_state, named};
+use hpx_tables::pending::Pending;
+use hpx_tables::splits::{push_asks, push_first_splits};
+use hpx_tables::strange::{is_far, object_of};
+use hpx_trial::trial::Trial;
+use hpx_value::gid::Gid;
+use hpx_value::items::Items;
+use hpx_value::outcome::Make;
+use hpx_value::value::{Act, Message, State, Value};
+use std::alloc::Global;
+use std::collections::VecDeque;
+use std::process::Abort;
+use std::test::Fail;
+
+/// The number: the first object that is made at locality 1.
+fn number() -> Gid {
+    Gid::new(1, 16, 1)
+}
+
+/// What stands somewhere: the kind of each, and its values.
+fn shown(objects: &[Kept], kinds: &[u32]) -> bool {
+    if objects.len() != kinds.len() {
+        return false;
+    }
+    for (i, x) in objects.iter().enumerate() {
+        if x.object().kind() != kinds[i] || x.object().number() != 1 {
+            return false;
+        }
+    }
+    true
+}
+
+#[test]
+fn the_roots_stand_at_boot(rt: HostRuntime) -> Result<(), Fail> {
+    let alloc = rt.alloc();
+    let first = roots(alloc, 3, 0)?;
+    assert!(rt; shown(first.as_slice(), &[1, 2, 4, 3, 5, 7]));
+    assert!(rt;
+        matches!(
+            first[2].state().values.as_slice().first(),
+            Some(Value::Int(3))
+        )
+    );
+    let last = roots(alloc, 3, 2)?;
+    assert!(rt; shown(last.as_slice(), &[3, 5, 7]));
+    assert!(rt; last[0].object().home() == 2);
+    Ok(())
+}
+
+#[test]
+fn what_is_made_keeps_its_values(rt: HostRuntime) -> Result<(), Fail> {
+    let alloc = rt.alloc();
+    let mut values = Items::new(alloc);
+    values.push(Value::Int(5))?;
+    let makes = [Make { kind: 16, values }];
+    let mut made = births(alloc, &makes)?;
+    assert!(rt; made.len() == 1);
+    if let Some(birth) = made.pop_front() {
+        assert!(rt; birth.kind == 16 && birth.state.ids.is_empty());
+        assert!(rt; matches!(birth.state.values.as_slice().first(), Some(Value::Int(5))));
+        assert!(rt; matches!(birth.entry.values.as_slice().first(), Some(Value::Int(5))));
+    }
+    Ok(())
+}
+
+#[test]
+fn a_state_loses_its_credits(rt: HostRuntime) -> Result<(), Fail> {
+    let alloc = rt.alloc();
+    let mut ids = Items::new(alloc);
+    ids.push(number().with_log(8))?;
+    let mut values = Items::new(alloc);
+    values.push(Value::Ref(0))?;
+    let conts = Items::new(alloc);
+    let state = State {
+        drawn: 7,
+        values,
+        conts,
+        ids,
+    };
+    let bare = bare_state(alloc, &state)?;
+    assert!(rt; bare.drawn == 7 && bare.ids.as_slice() == [number()].as_slice());
+    Ok(())
+}
+
+/// The message in a frame.
+fn parcel(alloc: Global, frame: &[u8]) -> Result<Parcel, Fail>
+    ensures { IfOk result IsParcel }
+{
+    Ok(decode(alloc, frame)?)
+}
+
+/// `ADD 5` for the number with log 7, from locality 0, answered at slot 1 of the component namespace there.
+const ADD: &[u8] = &[
+    1, 1, 0, 0, 0, 0, 0, 0, 0, 0, 0, 4, 0, 0, 0, 2, 0x47, 0, 0, 0x21, 0, 0, 0, 0, 0, 0, 0, 1, 0,
+    0x10, 0, 1, 2, 0, 0, 0, 0, 0, 0, 0, 5, 1, 0, 0, 0, 1, 0, 0, 0, 3, 0, 0, 0, 0, 0, 0, 0, 1, 0, 0,
+    0, 1,
+];
+
+/// A Return of the number with log 7.
+const RETURN: &[u8] = &[1, 2, 0, 0, 0, 2, 0x47, 0, 0, 0x21, 0, 0, 0, 0, 0, 0, 0, 1];
+
+/// A Give of the number with log 8, under number 0.
+const GIVE: &[u8] = &[
+    1, 4, 0, 0, 0, 2, 0x48, 0, 0, 0x21, 0, 0, 0, 0, 0, 0, 0, 1, 0, 0, 0, 0, 0, 0, 0, 0,
+];
+
+/// A Free of the number.
+const FREE: &[u8] = &[1, 10, 0, 0, 0, 2, 0, 0, 0, 0x21, 0, 0, 0, 0, 0, 0, 0, 1];
+
+/// Whether credit of the number is held, and owed, by a message.
+fn counts(alloc: Global, frame: &[u8], held: u128, owed: u128) -> Result<bool, Fail> {
+    let parcel = parcel(alloc, frame)?;
+    Ok(held_in_parcel(&parcel, number()) == held && owed_in_parcel(&parcel, number()) == owed)
+}
+
+#[test]
+fn credit_is_held_by_actions_and_owed_by_answers(rt: HostRuntime) -> Result<(), Fail> {
+    let alloc = rt.alloc();
+    let ids = [
+        number().with_log(8),
+        Gid::new(0, 16, 1).with_log(6),
+        number().with_log(7),
+        number(),
+    ];
+    assert!(rt; credit_in(&ids, number()) == 384);
+    assert!(rt; counts(alloc, ADD, 128, 0)?);
+    assert!(rt; counts(alloc, RETURN, 0, 128)?);
+    assert!(rt; counts(alloc, GIVE, 0, 256)?);
+    assert!(rt; counts(alloc, FREE, 0, 0)?);
+    Ok(())
+}
+
+#[test]
+fn a_message_for_locality_1_is_far_from_one_alone(rt: HostRuntime) -> Result<(), Fail> {
+    let alloc = rt.alloc();
+    for frame in [ADD, RETURN, GIVE, FREE] {
+        let parcel = parcel(alloc, frame)?;
+        assert!(rt; is_far(1, &parcel) && !is_far(2, &parcel));
+        assert!(rt; object_of(&parcel) == number());
+    }
+    Ok(())
+}
+
+/// An answer to the session.
+fn answer(alloc: Global) -> Result<Act, Fail> {
+    let mut ids = Items::new(alloc);
+    ids.push(Gid::new(0, 1, 1))?;
+    let args = Items::new(alloc);
+    let message = Message {
+        code: 3,
+        args,
+        cont: None,
+        ids,
+    };
+    let name = Name {
+        origin: 1,
+        serial: 9,
+    };
+    Ok(named(name, message))
+}
+
+#[test]
+fn a_set_answers_the_session(rt: HostRuntime) -> Result<(), Fail> {
+    let alloc = rt.alloc();
+    let act = answer(alloc)?;
+    assert!(rt; act.origin == 1 && act.serial == 9);
+    assert!(rt; answered_by(&act) == 1);
+    if let Parcel::Apply(add) = parcel(alloc, ADD)? {
+        assert!(rt; answered_by(&add) == 0 && target(&add) == number().with_log(7));
+    }
+    Ok(())
+}
+
+/// Where an add for the number is free, where these stand and none waits; the number stands at 1.
+fn found(alloc: Global, running: &[Fit], objects: &[Kept]) -> Result<Option<(usize, usize)>, Fail> {
+    let mut accepted = VecDeque::new(alloc);
+    if let Parcel::Apply(add) = parcel(alloc, ADD)? {
+        accepted.push_back(Fit::new(add))?;
+    }
+    let pending: Vec<Pending<Trial>> = Vec::new(alloc);
+    Ok(first_free(&accepted, running, pending.as_slice(), objects))
+}
+
+#[test]
+fn an_action_is_free_where_its_object_stands_and_none_runs_on_it(
+    rt: HostRuntime,
+) -> Result<(), Fail> {
+    let alloc = rt.alloc();
+    let mut objects = roots(alloc, 2, 1)?;
+    assert!(rt; found(alloc, &[], objects.as_slice())? == None);
+    let state = State {
+        drawn: 0,
+        values: Items::new(alloc),
+        conts: Items::new(alloc),
+        ids: Items::new(alloc),
+    };
+    objects.push(Kept::new(Gid::new(1, 16, 1), state))?;
+    assert!(rt; found(alloc, &[], objects.as_slice())? == Some((0, 3)));
+    if let Parcel::Apply(add) = parcel(alloc, ADD)? {
+        assert!(rt; found(alloc, &[Fit::new(add)], objects.as_slice())? == None);
+    }
+    Ok(())
+}
+
+/// What was written, in short: a split of a log, or an ask.
+fn written(book: &Journal) -> (Option<u8>, Option<u8>, bool) {
+    match book.as_slice() {
+        [one, two, three] => (
+            split(&one.event),
+            split(&two.event),
+            matches!(three.event, Event::Asked { object: _ }),
+        ),
+        _ => (None, None, false),
+    }
+}
+
+fn split(event: &Event) -> Option<u8> {
+    match event {
+        Event::Split { object: _, log } => Some(*log),
+        _ => None,
+    }
+}
+
+#[test]
+fn an_id_is_halved_as_far_as_its_log_goes(rt: HostRuntime) -> Result<(), Fail> {
+    let alloc = rt.alloc();
+    let mut book = Journal::new(alloc);
+    book.reserve(8)?;
+    push_first_splits(&mut book, 1, &[number().with_log(2)], &[0, 0, 0, 0], 1);
+    push_asks(&mut book, 1, &[number()]);
+    assert!(rt; written(&book) == (Some(2), Some(1), true));
+    Ok(())
+}

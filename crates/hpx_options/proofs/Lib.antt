@@ -1,0 +1,5 @@
+mod Finds
+mod Growth
+mod Numbers
+mod WordsLeft
+mod Samples

@@ -1,0 +1,30 @@
+-- What links pass on.
+use Rattle.std.specs.Prelude.{ℕ, List, [], ◌∷◌, Result, Ok, Err}
+use Rattle.hpx_ports.specs.declared.link.Post.{Post}
+use Rattle.hpx_ports.specs.declared.link.Post.TheVariants.{Received}
+use Rattle.hpx_ports.specs.declared.link.Latest.{Latest}
+use Rattle.hpx_ports.specs.declared.link.Latest.TheVariants.{Got, Fault}
+use Rattle.hpx_ports.specs.declared.link.LinkFault.{LinkFault}
+use Rattle.hpx_ports.specs.declared.plan.Plan.{Plan}
+
+-- a body, and the locality where it comes from
+abbrev pub Body : Type 0
+Body = ℕ × List ℕ
+
+-- what a receive answered
+abbrev pub latest_of : Result Body LinkFault → Latest
+latest_of (Ok body) = Got body.0 body.1
+latest_of (Err fault) = Fault
+
+-- what it adds to the trace
+abbrev pub posts_of : Body → List Post
+posts_of body = Received body.0 body.1 ∷ []
+
+-- what a link in memory has: the bodies that are still to come, the trace, the latest, the calls that are to fail, and how many did
+pub record LinkState : Type 0 where
+  pub coming : List Body
+  pub trace : List Post
+  pub latest : Latest
+  pub sends : Plan
+  pub receives : Plan
+  pub faults : ℕ

@@ -1,0 +1,339 @@
+-- An ask is answered: more credit is granted, or refused.
+use Rattle.std.proofs.Common.{Bool, List, Option, Some, [], ap, arith, cond, false, inl, inr, map, refl, subst, sym, true, ℕ, ◌+◌, ◌-◌, ◌<◌, ◌∙◌, ◌∷◌, ◌≡◌, ◌≢◌, ◌≤◌}
+use Rattle.std.proofs.Math.Pow.{pow_pos}
+use Rattle.std.proofs.lemmas.Bool.{cases_Bool, eq-eqb, ne_eqb}
+use Rattle.std.proofs.lemmas.Bool.Decides.{nat_tests}
+use Rattle.std.proofs.lemmas.List.Sums.{sum_by-cons}
+use Rattle.std.specs.List.{count_by, find, sum_by}
+use Rattle.std.specs.Option.{option_map_or}
+use Rattle.std.specs.Prelude.{MatchOption, flat_map, nat_lt, ◌&&◌, ◌==◌, ◌^◌, ◌⊎◌}
+use Rattle.hpx_value.specs.Ids.{bare, same_object}
+use Rattle.hpx_parcel.specs.Parcels.{HasCredit, HasLeastCredit}
+use Rattle.hpx_journal.proofs.Same.{same_object-true}
+use Rattle.hpx_journal.specs.Data.{Ask, Give, Id, Parcel}
+use Rattle.hpx_journal.specs.Entries.{Rules}
+use Rattle.hpx_journal.specs.Local.{count_in, is_recorded}
+use Rattle.hpx_journal.specs.Tokens.{owed_token, same_token}
+use Rattle.hpx_part.proofs.Credit.{token_own}
+use Rattle.hpx_part.proofs.CreditRows.{follows_granted, follows_refused}
+use Rattle.hpx_part.proofs.Keyed.{counts_of, counts_true}
+use Rattle.hpx_part.specs.Data.{Count, Entry, Granted, Reason, Refused, Token}
+use Rattle.hpx_part.specs.Shows.{Leads}
+use Rattle.hpx_part.specs.View.{View}
+use Rattle.hpx_agas.specs.Records.{find_record}
+use Rattle.hpx_agas.specs.Registries.{asked as raised}
+use Rattle.hpx_agas.specs.declared.record.Record.{Record}
+use Rattle.hpx_commit.specs.Deals.{log_of}
+use Rattle.hpx_tables.proofs.Alls.{some_same}
+use Rattle.hpx_tables.specs.Tables.{Tables}
+use Rattle.hpx_steps.specs.Items.{Came, Going, Item, Mailed, OnDesk, weigh}
+use Rattle.hpx_steps.specs.Mail.{going, is_other, mails, wrote}
+use Rattle.hpx_steps.specs.Numbered.{asks_under}
+use Rattle.hpx_steps.specs.Rows.{Row, causes, freeing, goes, hopping, is_least, is_refusal, is_refused, joined, one_if, owes, unpaid, weight}
+use Rattle.hpx_steps.specs.Sound.{HasPlaces, IsSound, IsTidy, StaysAt, TidyAt, asked_by, asks_for, given_to, gives_for, waits_for, worth}
+use Rattle.hpx_steps.specs.Steps.{Grants, HasInHand, Recounts, Refuses, drops, with_records}
+use Rattle.hpx_steps.specs.Turn.{Turn, bare_due, counted, parcel_asks, parcel_frees, parcel_tokens, parcels, tokens, view, waiting}
+use Rattle.hpx_steps.proofs.ByRows.{by_rows}
+use Rattle.hpx_steps.proofs.Calm.{bound_none, counts_still, same_dead, same_seen}
+use Rattle.hpx_steps.proofs.Changes.{Changes, drop_change, holding, in_hand, is_frame, mail_change, sent_if, then, total}
+use Rattle.hpx_steps.proofs.Mails.{hand_fit, mail_tidy, owed_by, own_is}
+use Rattle.hpx_steps.proofs.Records.{found_counted, one_recounted, places_still}
+use Rattle.hpx_steps.proofs.Seen.{Sees, sees_leads}
+use Rattle.hpx_steps.proofs.Sums.{by_own, by_parcel, view_worth}
+use Rattle.hpx_steps.proofs.Then.{Keeps, fewer}
+use Rattle.hpx_steps.proofs.Waits.{drop_waits, mail_waits}
+
+-- what a message weighs that is sent, on the desk or away
+sent_either : (w : Item → ℕ) (b : Bool) (to : ℕ) (p : Parcel) → total w (sent_if true b to p) ≡ cond b (w (Going (going to p))) (w (OnDesk p))
+sent_either w true to p = omega arith
+sent_either w false to p = omega arith
+
+not_less : (a b : ℕ) → b ≤ a → nat_lt a b ≡ false
+not_less a b h = grind (arith, nat_tests)
+
+asker_here : (t : Tables) (asker : ℕ) → asker < t.localities → is_other t asker ≡ false → asker ≡ t.here
+asker_here t asker near same = own_is t asker same near
+
+module _ (r : Rules) (s : Turn) (entries : List Entry) (h : IsSound r s entries) (id : Id) (asker entry count : ℕ) (l : Option ℕ) (why : Reason) (records : List Record)
+    (hand : HasInHand (Ask id asker entry) s) (near : asker < s.tables.localities) (home : id.home ≡ s.tables.here) (credit : HasCredit (record id { log = l }))
+    (brings : (log_of l ≡ 0) ⊎ (log_of l ≡ s.tables.profile.credit_log)) (some : 1 ≤ count)
+    (answers : is_refusal (Give (record id { log = l }) entry) ≡ one_if (is_refused why)) where
+  abbrev give : Parcel
+  give = Give (record id { log = l }) entry
+
+  abbrev pub now : Turn
+  now = wrote (Count (bare id) count why) (mails asker (Give (record id { log = l }) entry) (with_records records (drops s)))
+
+  abbrev was : Item
+  was = in_hand (is_frame (Ask id asker entry) s hand) (Ask id asker entry)
+
+  abbrev other : Bool
+  other = is_other s.tables asker
+
+  change : Changes (in_hand (is_frame (Ask id asker entry) s hand) (Ask id asker entry) ∷ []) (sent_if true (is_other s.tables asker) asker (Give (record id { log = l }) entry)) s now
+  change = then (was ∷ []) [] [] (sent_if true other asker give) s (with_records records (drops s)) now
+      (drop_change (Ask id asker entry) s hand) (mail_change true asker give (with_records records (drops s)))
+
+  -- a weight before and after
+  turns : (w : Item → ℕ) → weigh w now + w was ≡ weigh w s + cond other (w (Going (going asker give))) (w (OnDesk give))
+  turns w =
+      let k : weigh w now + (w was + 0) ≡ weigh w s + total w (sent_if true other asker give) = change.0 w in
+      omega (arith, k, sent_either w other asker give)
+
+  -- where messages weigh the same wherever they are
+  pub moves : (w : Item → ℕ) (m n : ℕ) → w (Came (Ask id asker entry)) ≡ m → w (Mailed (Ask id asker entry)) ≡ m → w (OnDesk give) ≡ n
+      → w (Going (going asker give)) ≡ n → weigh w now + m ≡ weigh w s + n
+  moves w m n a b c d = omega (arith, turns w, hand_is_so (is_frame (Ask id asker entry) s hand), sent_so other)
+    where
+      hand_is_so : (from : Bool) → w (in_hand from (Ask id asker entry)) ≡ m
+      hand_is_so true = a
+      hand_is_so false = b
+
+      sent_so : (o : Bool) → cond o (w (Going (going asker give))) (w (OnDesk give)) ≡ n
+      sent_so true = d
+      sent_so false = c
+
+  pub tidy : IsTidy now
+  tidy = holding (TidyAt s) (sent_if true other asker give) s now change.1 h.tidy
+      (mail_tidy s.tables true asker give (λ b. credit) (λ b. sym home) (λ b. brings) (λ b c. tt))
+
+  -- a message asks for k what it is for
+  abbrev for_one : Id → ℕ → ℕ → Bool
+  for_one o n e = (e == n) && same_object o id
+
+  asked_less : (o : Id) (n : ℕ) → cond other 0 (0 + gives_for o n give) ≤ asks_for s.tables.here o n (Ask id asker entry)
+  asked_less o n = each other refl
+    where
+      each : (b : Bool) → is_other s.tables asker ≡ b → cond b 0 (0 + gives_for o n give) ≤ asks_for s.tables.here o n (Ask id asker entry)
+      each true e = omega arith
+      each false e = rw (eq-eqb asker s.tables.here (asker_here s.tables asker near e)) (omega arith)
+
+  given_less : (j : ℕ) (o : Id) (n : ℕ) → cond other (cond (asker == j) (gives_for o n give) 0) 0 ≤ asks_for j o n (Ask id asker entry)
+  given_less j o n = each other (asker == j)
+    where
+      each : (b c : Bool) → cond b (cond c (gives_for o n give) 0) 0 ≤ one_if (c && ((entry == n) && same_object o id))
+      each true true = omega arith
+      each true false = omega arith
+      each false c = omega arith
+
+  -- an Ask that is in hand from the own desk is the own
+  given_was : (j : ℕ) → j ≢ s.tables.here → (o : Id) (n : ℕ) → given_to j o n was ≡ asks_for j o n (Ask id asker entry)
+  given_was j d o n = each (is_frame (Ask id asker entry) s hand)
+    where
+      each : (b : Bool) → given_to j o n (in_hand b (Ask id asker entry)) ≡ asks_for j o n (Ask id asker entry)
+      each true = refl
+      each false = refl
+
+  asked_was : (o : Id) (n : ℕ) → asked_by s.tables.here o n was ≡ asks_for s.tables.here o n (Ask id asker entry)
+  asked_was o n = each (is_frame (Ask id asker entry) s hand)
+    where
+      each : (b : Bool) → asked_by s.tables.here o n (in_hand b (Ask id asker entry)) ≡ asks_for s.tables.here o n (Ask id asker entry)
+      each true = omega arith
+      each false = omega arith
+
+  pub waits : waiting now ≡ waiting s
+  waits = mail_waits true asker give (with_records records (drops s)) refl ∙ drop_waits (Ask id asker entry) s hand refl
+
+  pub asks : (x : Id) → count_by (same_object x) (flat_map parcel_asks (parcels s)) ≡ count_by (same_object x) (flat_map parcel_asks (parcels now))
+  asks x = same_seen x parcel_asks s now (omega (
+    arith,
+    moves (by_parcel (λ p. count_by (same_object x) (parcel_asks p))) (count_by (same_object x) (id ∷ [])) (count_by (same_object x) (id ∷ [])) refl refl refl refl,
+  ))
+
+  pub dead : (x : Id) → count_by (same_object x) (view now).dead ≤ count_by (same_object x) (view s).dead
+  dead x = same_dead x s now (omega (arith, moves (by_own (λ p. count_by (same_object x) (parcel_frees p))) 0 0 refl refl refl refl))
+
+  pub answered_keeps : Leads r (view s) (Count (bare id) count why ∷ []) (view now) → HasPlaces s.tables.here s.tables.births s.tables.objects records
+      → Keeps r s now (Count (bare id) count why)
+  answered_keeps leads places = record {
+    leads = leads;
+    tidy = tidy;
+    places = places;
+    commits = h.commits;
+    numbered = fewer s now (omega arith) (λ n. omega (arith, turns (asks_under n), bound_none other 0 refl));
+    pays = record {
+      rows = λ row. omega (arith, moves (unpaid row) (owes row (Ask id asker entry)) (weight row give) refl refl refl refl, costs row);
+      once = omega (arith, moves hopping 0 0 refl refl refl refl);
+      fired = omega (arith, moves joined 0 0 refl refl refl refl);
+      frees = λ o. omega (arith, moves (freeing o) 0 0 refl refl refl refl);
+    };
+    orders = record {
+      sent = tt;
+      asked = λ o n.
+          let t : weigh (asked_by s.tables.here o n) now + asked_by s.tables.here o n was ≡ weigh (asked_by s.tables.here o n) s + cond other 0 (0 + gives_for o n give) =
+          turns (asked_by s.tables.here o n) in
+          omega (arith, t, asked_was o n, asked_less o n, moves (waits_for o n) 0 0 refl refl refl refl);
+      given = λ j d o n.
+          let t : weigh (given_to j o n) now + given_to j o n was ≡ weigh (given_to j o n) s + cond other (cond (asker == j) (gives_for o n give) 0) 0 = turns (given_to j o n) in
+          omega (arith, t, given_was j d o n, given_less j o n);
+    };
+    counts = counts_still s now (Count (bare id) count why) refl refl refl (λ x. refl);
+  }
+    where
+      alive : (count == 0) ≡ false
+      alive = ne_eqb count 0 (λ e. absurd (omega (arith, e, some)))
+
+      costs : (row : Row) → goes r row (Count (bare id) count why) + weight row give ≡ owes row (Ask id asker entry) + causes r row (Count (bare id) count why)
+      costs = by_rows (λ row. goes r row (Count (bare id) count why) + weight row give ≡ owes row (Ask id asker entry) + causes r row (Count (bare id) count why))
+          refl refl refl (rw alive refl) refl (omega (arith, answers)) refl (λ o. rw alive refl)
+
+module _ (r : Rules) (s : Turn) (entries : List Entry) (h : IsSound r s entries) (id : Id) (asker entry count : ℕ) (old : Record) (due : s.due ≡ []) (fresh : s.fresh ≡ [])
+    (hand : HasInHand (Ask id asker entry) s) (near : asker < s.tables.localities) (home : id.home ≡ s.tables.here) (live : 1 ≤ old.count) where
+  least : HasLeastCredit id
+  least = hand_fit (Ask id asker entry) s h.tidy hand
+
+  -- the Ask owes its credit
+  one_owed : 1 ≤ count_by (same_token (owed_token (bare id) 0)) (tokens s)
+  one_owed =
+      let f : Token → ℕ = counts_of (same_token (owed_token (bare id) 0)) in
+      let k : weigh (worth f) (drops s) + (worth f (in_hand (is_frame (Ask id asker entry) s hand) (Ask id asker entry)) + 0) ≡ weigh (worth f) s + 0 = (drop_change (Ask id asker entry) s hand).0 (worth f) in
+      omega (
+        arith,
+        k,
+        each f (is_frame (Ask id asker entry) s hand),
+        view_worth f s,
+        owed_by f id 0 least.0,
+        counts_true (same_token (owed_token (bare id) 0)) (owed_token (bare id) 0) (token_own (owed_token (bare id) 0)),
+      )
+    where
+      each : (f : Token → ℕ) (b : Bool) → worth f (in_hand b (Ask id asker entry)) ≡ sum_by f (parcel_tokens (Ask id asker entry))
+      each f true = refl
+      each f false = refl
+
+  was_counted : count_in (find (is_recorded (bare id)) (map counted s.tables.records)) ≡ option_map_or (λ (x : Record). x.count) (find_record id s.tables.records) 0
+  was_counted = found_counted id s.tables.records
+
+  module _ (records : List Record) (lasts : 1 ≤ s.tables.profile.credit_log) (sum : count + 1 ≡ old.count + 2 ^ s.tables.profile.credit_log)
+      (limit : count ≤ s.tables.profile.credit_limit) (recounts : Recounts id old (Some (raised s.tables.profile old)) s.tables.records records) where
+    abbrev log : ℕ
+    log = s.tables.profile.credit_log
+
+    none : is_refusal (Give (record id { log = Some log }) entry) ≡ 0
+    none = ap one_if (ne_eqb log 0 (λ e. absurd (omega (arith, e, lasts))))
+
+    some : 1 ≤ count
+    some = omega (arith, sum, live, pow_pos log)
+
+    abbrev grants : Turn
+    grants = wrote (Count (bare id) count Granted) (mails asker (Give (record id { log = Some s.tables.profile.credit_log }) entry) (with_records records (drops s)))
+
+    tidy_then : IsTidy grants
+    tidy_then = tidy r s entries h id asker entry count (Some log) Granted records hand near home least.1 (inr refl) some none
+
+    traded : (f : Token → ℕ) → sum_by f (tokens grants) + f (owed_token (bare id) 0) ≡ sum_by f (tokens s) + f (owed_token (bare id) log)
+    traded f = omega (
+      arith,
+      view_worth f s,
+      view_worth f grants,
+      moves r s entries h id asker entry count (Some log) Granted records hand near home least.1 (inr refl) some none (worth f) (f (owed_token (bare id) 0)) (f (owed_token (bare id) log))
+          (owed_by f id 0 least.0) (owed_by f id 0 least.0) (owed_by f (record id { log = Some log }) log refl) (owed_by f (record id { log = Some log }) log refl),
+    )
+
+    abbrev seen : View
+    seen = record (view s) { tokens = tokens grants; live = map counted records; last = Some (Count (bare id) count Granted) }
+
+    sees : Sees seen grants
+    sees = record {
+      rest = ap (λ ws. record (view grants) { waiting = ws }) (sym (waits r s entries h id asker entry count (Some log) Granted records hand near home least.1 (inr refl) some none));
+      tokens = λ f weight. refl;
+      asking = λ x. refl;
+      asks = λ x. asks r s entries h id asker entry count (Some log) Granted records hand near home least.1 (inr refl) some none x;
+      live = λ x at. refl;
+      dead = λ x. dead r s entries h id asker entry count (Some log) Granted records hand near home least.1 (inr refl) some none x;
+      refusals = λ x k. k;
+      failing = omega arith;
+    }
+
+    raised_is : raised s.tables.profile old ≡ record old { count = old.count + 2 ^ log - 1 }
+    raised_is = let e : nat_lt s.tables.profile.credit_limit (old.count + 2 ^ log - 1) ≡ false = not_less s.tables.profile.credit_limit (old.count + 2 ^ log - 1) (omega (arith, sum, limit)) in rw e refl
+
+    raised_count : (raised s.tables.profile old).count ≡ count
+    raised_count = ap (λ (x : Record). x.count) raised_is ∙ omega (arith, sum)
+
+    pub granted_keeps : Keeps r s grants (Count (bare id) count Granted)
+    granted_keeps = answered_keeps r s entries h id asker entry count (Some log) Granted records hand near home least.1 (inr refl) some none (
+      seen,
+      follows_granted r (view s) (bare id) refl home old.count count (tokens grants) (map counted records) (ap (map bare_due) due) fresh
+          (was_counted ∙ ap (λ (o : Option Record). option_map_or (λ (x : Record). x.count) o 0) recounts.was) live
+          (sum ∙ ap (λ n. old.count + 2 ^ n) (sym h.rules.credit_log)) (subst (λ n. count ≤ n) (sym h.rules.credit_limit) limit) one_owed
+          (record {
+            sums = λ f weight. omega (
+              arith,
+              traded f,
+              ap (λ n. f (owed_token (bare id) n)) h.rules.credit_log,
+              sum_by-cons f (owed_token (bare id) 0) [],
+              sum_by-cons f (owed_token (bare id) r.credit_log) [],
+            );
+          })
+          (λ x at. one_recounted id old (Some (raised s.tables.profile old)) s.tables.records records recounts x
+          ∙ ap (λ n. cond (same_object x (bare id)) n (count_in (find (is_recorded x) (map counted s.tables.records)))) raised_count),
+      sees_leads r seen grants sees,
+    )
+        (places_still s.tables id old (Some (raised s.tables.profile old)) records recounts
+        (λ x is at. subst (StaysAt s.tables.here) (sym raised_is ∙ some_same (raised s.tables.profile old) x is) (at.0, at.1)) h.places)
+
+  module _ (records : List Record) (same : count ≡ old.count) (limit : s.tables.profile.credit_limit + 1 < count + 2 ^ s.tables.profile.credit_log)
+      (recounts : Recounts id old (Some old) s.tables.records records) where
+    more : 1 ≤ count
+    more = omega (arith, same, live)
+
+    abbrev refuses : Turn
+    refuses = wrote (Count (bare id) count Refused) (mails asker (Give id entry) (with_records records (drops s)))
+
+    is_least_log : log_of id.log ≡ 0
+    is_least_log = ap log_of least.0
+
+    refusal : is_refusal (Give id entry) ≡ 1
+    refusal = ap (λ o. one_if (is_least o)) least.0
+
+    pub refused_keeps : Keeps r s refuses (Count (bare id) count Refused)
+    refused_keeps =
+        let sees : Sees (record (view s) { last = Some (Count (bare id) count Refused) }) refuses = record {
+          rest = ap (λ ws. record (view refuses) { waiting = ws }) (sym (waits r s entries h id asker entry count id.log Refused records hand near home credit (inl is_least_log) more refusal));
+          tokens = λ f weight. omega (
+            arith,
+            view_worth f s,
+            view_worth f refuses,
+            moves r s entries h id asker entry count id.log Refused records hand near home credit (inl is_least_log) more refusal (worth f)
+                (sum_by f (parcel_tokens (Ask id asker entry))) (sum_by f (parcel_tokens (Ask id asker entry))) refl refl refl refl,
+          );
+          asking = λ x. refl;
+          asks = λ x. asks r s entries h id asker entry count id.log Refused records hand near home credit (inl is_least_log) more refusal x;
+          live = λ x at. sym (one_recounted id old (Some old) s.tables.records records recounts x ∙ own_count x);
+          dead = λ x. dead r s entries h id asker entry count id.log Refused records hand near home credit (inl is_least_log) more refusal x;
+          refusals = λ x k. k;
+          failing = omega arith;
+        } in
+        answered_keeps r s entries h id asker entry count id.log Refused records hand near home credit (inl is_least_log) more refusal (
+          record (view s) { last = Some (Count (bare id) count Refused) },
+          follows_refused r (view s) (bare id) refl home count (ap (map bare_due) due) fresh
+              (was_counted ∙ (ap (λ (o : Option Record). option_map_or (λ (x : Record). x.count) o 0) recounts.was ∙ sym same)) more
+              (omega (arith, limit, h.rules.credit_limit, ap (λ n. 2 ^ n) h.rules.credit_log)) one_owed,
+          sees_leads r (record (view s) { last = Some (Count (bare id) count Refused) }) refuses sees,
+        )
+        (places_still s.tables id old (Some old) records recounts (λ x is at. subst (StaysAt s.tables.here) (some_same old x is) at) h.places)
+      where
+        own_count : (x : Id) → cond (same_object x (bare id)) old.count (count_in (find (is_recorded x) (map counted s.tables.records)))
+            ≡ count_in (find (is_recorded x) (map counted s.tables.records))
+        own_count x = elim (cases_Bool (same_object x (bare id))) [
+          | inl t ↦ rw t (sym (ap (λ (y : Id). count_in (find (is_recorded y) (map counted s.tables.records))) (same_object-true x (bare id) t)
+              ∙ (was_counted ∙ ap (λ (o : Option Record). option_map_or (λ (y : Record). y.count) o 0) recounts.was)))
+          | inr f ↦ rw f refl
+        ]
+
+        credit : HasCredit id
+        credit = subst (λ o. MatchOption o ⊥ (λ n. 16 ≤ id.kind)) (sym least.0) least.1
+
+pub granted_step : (r : Rules) (s s' : Turn) (entries : List Entry) (o : Id) (count : ℕ) → IsSound r s entries → Grants s o count s' → Keeps r s s' (Count o count Granted)
+granted_step r s s' entries o count h g = subst (λ x. Keeps r s s' (Count x count Granted)) (sym g.object) (subst (λ x. Keeps r s x (Count (bare g.id) count Granted)) (sym again)
+    (granted_keeps r s entries h g.id g.asker g.entry count g.old g.calm.due g.calm.fresh g.hand g.near g.home g.live g.records g.lasts g.sum g.limit g.recounts))
+  where
+    again : s' ≡ wrote (Count (bare g.id) count Granted) (mails g.asker (Give (record g.id { log = Some s.tables.profile.credit_log }) g.entry) (with_records g.records (drops s)))
+    again = g.now ∙ ap (λ x. wrote (Count x count Granted) (mails g.asker (Give (record g.id { log = Some s.tables.profile.credit_log }) g.entry) (with_records g.records (drops s)))) g.object
+
+pub refused_step : (r : Rules) (s s' : Turn) (entries : List Entry) (o : Id) (count : ℕ) → IsSound r s entries → Refuses s o count s' → Keeps r s s' (Count o count Refused)
+refused_step r s s' entries o count h g = subst (λ x. Keeps r s s' (Count x count Refused)) (sym g.object) (subst (λ x. Keeps r s x (Count (bare g.id) count Refused)) (sym again)
+    (refused_keeps r s entries h g.id g.asker g.entry count g.old g.calm.due g.calm.fresh g.hand g.near g.home g.live g.records g.same g.limit g.recounts))
+  where
+    again : s' ≡ wrote (Count (bare g.id) count Refused) (mails g.asker (Give g.id g.entry) (with_records g.records (drops s)))
+    again = g.now ∙ ap (λ x. wrote (Count x count Refused) (mails g.asker (Give g.id g.entry) (with_records g.records (drops s)))) g.object

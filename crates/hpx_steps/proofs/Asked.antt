@@ -1,0 +1,294 @@
+-- An id is asked for.
+use Rattle.std.proofs.Common.{Bool, List, Some, [], ap, arith, cond, false, inl, inr, length, map, refl, set, subst, sym, true, ℕ, ◌++◌, ◌+◌, ◌<◌, ◌∙◌, ◌∷◌, ◌≡◌, ◌≤◌}
+use Rattle.std.proofs.lemmas.Bool.{cases_Bool, eq-eqb, eqb-true}
+use Rattle.std.proofs.lemmas.Bool.Decides.{nat_tests}
+use Rattle.std.proofs.lemmas.List.Sums.{sum_by-append, sum_by-cons}
+use Rattle.std.specs.List.{count_by, list_any, slice_get, sum_by}
+use Rattle.std.specs.Prelude.{nat_le, ◌&&◌, ◌==◌}
+use Rattle.hpx_value.specs.Hands.{id_at}
+use Rattle.hpx_value.specs.Ids.{bare, same_object}
+use Rattle.hpx_value.specs.Values.{bare_act}
+use Rattle.hpx_parcel.specs.Parcels.{HasLeastCredit}
+use Rattle.hpx_journal.specs.Data.{Ask, Id, Parcel}
+use Rattle.hpx_journal.specs.Entries.{Rules}
+use Rattle.hpx_journal.specs.Tokens.{held_token, owed_token, same_token}
+use Rattle.hpx_part.proofs.Credit.{token_own}
+use Rattle.hpx_part.proofs.CreditRows.{follows_asked}
+use Rattle.hpx_part.proofs.Keyed.{counts_of, counts_true}
+use Rattle.hpx_part.specs.Data.{Asked, Entry, Token}
+use Rattle.hpx_part.specs.Shows.{same_refusal}
+use Rattle.hpx_part.specs.View.{View}
+use Rattle.hpx_tables.proofs.Alls.{all_append}
+use Rattle.hpx_tables.specs.Pending.{Waits, fired_of, ids_named, is_asked, is_asked_for, refusals_of}
+use Rattle.hpx_tables.specs.declared.pending.Asked.{Asked as AskedFor}
+use Rattle.hpx_steps.specs.Items.{Going, Item, OnDesk, Working, weigh}
+use Rattle.hpx_steps.specs.Mail.{going, is_other, mails, wrote}
+use Rattle.hpx_steps.specs.Numbered.{AreNumbered, asks_as, asks_under}
+use Rattle.hpx_steps.specs.Paused.{HasCommits, IsCommit}
+use Rattle.hpx_steps.specs.Rows.{Row, causes, freeing, goes, hopping, joined, one_if, unpaid, weight}
+use Rattle.hpx_steps.specs.Sound.{IsSound, IsTidy, TidyAt, asked_by, asking, asks_for, given_to, waits_for, worth}
+use Rattle.hpx_steps.specs.Steps.{AsksFor}
+use Rattle.hpx_steps.specs.Turn.{Turn, bare_due, parcel_asks, parcel_frees, tokens, tokens_of, view, waiting}
+use Rattle.hpx_steps.proofs.Bare.{has_not_asked, no_tokens}
+use Rattle.hpx_steps.proofs.ByRows.{by_rows}
+use Rattle.hpx_steps.proofs.Calm.{bound_none, same_dead}
+use Rattle.hpx_steps.proofs.Changes.{Changes, first_turns, holding, mail_change, sent_if, then, total, working_change}
+use Rattle.hpx_steps.proofs.Hands.{at_place, put_asked, put_bare, put_elsewhere, put_for, put_names, put_there}
+use Rattle.hpx_steps.proofs.Lists.{less_sum, set_sum}
+use Rattle.hpx_steps.proofs.Mails.{held_by, mail_tidy, owed_by, sent_total}
+use Rattle.hpx_steps.proofs.Recommit.{same_commits}
+use Rattle.hpx_steps.proofs.Seen.{Sees, sees_leads}
+use Rattle.hpx_steps.proofs.Sums.{by_own, by_parcel, ids_each, seen_sum, view_asking, view_worth}
+use Rattle.hpx_steps.proofs.Then.{Keeps}
+use Rattle.hpx_steps.proofs.Waits.{mail_waits}
+
+module _ (r : Rules) (s : Turn) (entries : List Entry) (h : IsSound r s entries) (w : Waits) (rest : List Waits) (p : ℕ) (id : Id) (due : s.due ≡ []) (fresh : s.fresh ≡ [])
+    (works : s.working ≡ w ∷ rest) (low : p < length (ids_named w)) (at : slice_get w.hand p ≡ Some id) (least : HasLeastCredit id) where
+  abbrev number : ℕ
+  number = s.tables.asked + 1
+
+  abbrev ask : Parcel
+  ask = Ask id s.tables.here (s.tables.asked + 1)
+
+  abbrev asker : Waits
+  asker = record w { hand = set w.hand p (bare id); asked = w.asked ++ record { entry = s.tables.asked + 1; place = p } ∷ [] }
+
+  abbrev before : Turn
+  before = record s {
+    working = record w { hand = set w.hand p (bare id); asked = w.asked ++ record { entry = s.tables.asked + 1; place = p } ∷ [] } ∷ rest;
+    tables = record s.tables { asked = s.tables.asked + 1 };
+  }
+
+  abbrev now : Turn
+  now = wrote (Asked (bare id)) (mails id.home (Ask id s.tables.here (s.tables.asked + 1)) (record s {
+    working = record w { hand = set w.hand p (bare id); asked = w.asked ++ record { entry = s.tables.asked + 1; place = p } ∷ [] } ∷ rest;
+    tables = record s.tables { asked = s.tables.asked + 1 };
+  }))
+
+  abbrev other : Bool
+  other = is_other s.tables id.home
+
+  change : Changes (Working w ∷ []) (Working asker ∷ sent_if true (is_other s.tables id.home) id.home (Ask id s.tables.here (s.tables.asked + 1))) s now
+  change = then (Working w ∷ []) (Working asker ∷ []) [] (sent_if true other id.home ask) s before now
+      (working_change (Working w ∷ []) (Working asker ∷ []) s (asker ∷ rest) (first_turns (λ x. Working x) s.working w asker rest works))
+      (mail_change true id.home ask before)
+
+  -- a weight before and after, where an Ask weighs the same everywhere
+  moves : (f : Item → ℕ) (n : ℕ) → f (OnDesk ask) ≡ n → f (Going (going id.home ask)) ≡ n → weigh f now + f (Working w) ≡ weigh f s + (f (Working asker) + n)
+  moves f n a b =
+      let k : weigh f now + (f (Working w) + 0) ≡ weigh f s + (f (Working asker) + total f (sent_if true other id.home ask)) = change.0 f in
+      omega (arith, k, sent_total f true other id.home ask n a b)
+
+  its : IsCommit s.tables.here s.tables.localities w
+  its = h.tidy (Working w) (rw works (inl refl))
+
+  there : (p < length w.hand) × (id_at w.hand p ≡ id)
+  there = at_place w.hand p id at
+
+  was_not : is_asked id ≡ false
+  was_not = has_not_asked id 0 least.0
+
+  is_now : is_asked (bare id) ≡ true
+  is_now = each id.kind least.1
+    where
+      each : (kind : ℕ) → 16 ≤ kind → (nat_le 16 kind && true) ≡ true
+      each kind le = grind (arith, nat_tests)
+
+  fit_commit : IsCommit s.tables.here s.tables.localities asker
+  fit_commit = record {
+    job = its.job;
+    here = its.here;
+    localities = its.localities;
+    few = its.few;
+    hand = put_names (length (ids_named w)) w.hand p id (bare id) at refl ∙ its.hand;
+    within = all_append (λ (x : AskedFor). x.place < length (ids_named w)) w.asked (record { entry = number; place = p } ∷ []) its.within (low, tt);
+    refused = its.refused;
+    once = λ q lt. one_more q lt ∙ sym (counted_so q);
+  }
+    where
+      -- what is asked for is asked for once
+      counted_so : (q : ℕ) → cond (is_asked (id_at asker.hand q)) 1 0 ≡ cond (is_asked (id_at w.hand q)) 1 0 + cond (p == q) 1 0
+      counted_so q = elim (cases_Bool (p == q)) [
+        | inl t ↦
+            let e : p ≡ q = eqb-true p q t in
+            rw t (subst (λ k. cond (is_asked (id_at asker.hand k)) 1 0 ≡ cond (is_asked (id_at w.hand k)) 1 0 + 1) e
+            (omega (
+              arith,
+              ap {B = ℕ} (λ (x : Id). cond (is_asked x) 1 0) (put_there w.hand p (bare id) there.0),
+              ap {B = ℕ} (λ b. cond b 1 0) is_now,
+              ap {B = ℕ} (λ (x : Id). cond (is_asked x) 1 0) there.1,
+              ap {B = ℕ} (λ b. cond b 1 0) was_not,
+            )))
+        | inr f ↦
+            rw f (omega (arith, ap {B = ℕ} (λ (x : Id). cond (is_asked x) 1 0) (put_elsewhere w.hand p q (bare id) (λ e. let t : true ≡ false = sym (eq-eqb p q (sym e)) ∙ f in cc))))
+      ]
+
+      one_more : (q : ℕ) → q < length (ids_named w) → count_by (λ (x : AskedFor). x.place == q) asker.asked ≡ cond (is_asked (id_at w.hand q)) 1 0 + cond (p == q) 1 0
+      one_more q lt = omega (
+        arith,
+        its.once q lt,
+        sum_by-append (λ (x : AskedFor). cond (x.place == q) 1 0) w.asked (record { entry = number; place = p } ∷ []),
+        sum_by-cons (λ (x : AskedFor). cond (x.place == q) 1 0) (record { entry = number; place = p }) [],
+      )
+
+  tidy : IsTidy now
+  tidy = holding (TidyAt s) (Working asker ∷ sent_if true other id.home ask) s now change.1 h.tidy
+      (fit_commit, mail_tidy s.tables true id.home ask (λ b. least) (λ b. refl) (λ b. refl) (λ b c. tt))
+
+  -- the id gives its credit up
+  tokens_hand : (f : Token → ℕ) → sum_by f (tokens_of asker.hand) + f (held_token (bare id) 0) ≡ sum_by f (tokens_of w.hand)
+  tokens_hand f = omega (
+    arith,
+    ids_each f (set w.hand p (bare id)),
+    ids_each f w.hand,
+    set_sum (λ y. sum_by f (tokens_of (y ∷ []))) w.hand p id (bare id) at,
+    held_by f id 0 least.0,
+    no_tokens f (id ∷ []),
+  )
+
+  traded : (f : Token → ℕ) → sum_by f (tokens now) + f (held_token (bare id) 0) ≡ sum_by f (tokens s) + f (owed_token (bare id) 0)
+  traded f = omega (
+    arith,
+    view_worth f s,
+    view_worth f now,
+    tokens_hand f,
+    moves (worth f) (f (owed_token (bare id) 0)) (owed_by f id 0 least.0) (owed_by f id 0 least.0),
+  )
+
+  abbrev seen : View
+  seen = record (view s) { tokens = tokens now; asking = (view now).asking; asks = (view now).asks; last = Some (Asked (bare id)) }
+
+  fires : (view s).fired ≡ (view now).fired
+  fires = ap (λ ws. map bare_act (fired_of s.tables.running (ws ++ s.tables.pending))) works
+
+  waits : waiting now ≡ waiting s
+  waits = mail_waits true id.home ask before refl
+
+  sees : Sees seen now
+  sees = record {
+    rest = ap (λ fs. record (view now) { fired = fs; waiting = waiting s }) fires ∙ ap (λ ws. record (view now) { waiting = ws }) (sym waits);
+    tokens = λ f fair. refl;
+    asking = λ o. refl;
+    asks = λ o. refl;
+    live = λ o home. refl;
+    dead = λ o. same_dead o s now (omega (arith, moves (by_own (λ q. count_by (same_object o) (parcel_frees q))) 0 refl refl));
+    refusals = λ y k. subst (λ ws. list_any (same_refusal y) (refusals_of (ws ++ s.tables.pending)) ≡ true) (sym works) k;
+    failing = omega (arith, ap (λ ws. length (refusals_of (ws ++ s.tables.pending))) works);
+  }
+
+  -- one more is asked for
+  asked_more : (o : Id) → count_by (same_object o) (view now).asking ≡ count_by (same_object o) (view s).asking + count_by (same_object o) (bare id ∷ [])
+  asked_more o = omega (
+    arith,
+    view_asking o s,
+    view_asking o now,
+    moves (asking o) 0 refl refl,
+    put_asked o (length (ids_named w)) w.hand p id (bare id) low at,
+    ap {B = ℕ} (λ b. cond b (cond (same_object o id) 1 0) 0) was_not,
+    ap {B = ℕ} (λ b. cond b (cond (same_object o id) 1 0) 0) is_now,
+    sum_by-cons (λ x. cond (same_object o x) 1 0) (bare id) [],
+  )
+
+  asks_more : (o : Id) → count_by (same_object o) (view now).asks ≡ count_by (same_object o) (view s).asks + count_by (same_object o) (bare id ∷ [])
+  asks_more o = omega (
+    arith,
+    seen_sum (counts_of (same_object o)) parcel_asks s,
+    seen_sum (counts_of (same_object o)) parcel_asks now,
+    moves (by_parcel (λ q. count_by (same_object o) (parcel_asks q))) (count_by (same_object o) (bare id ∷ [])) refl refl,
+  )
+
+  pub asked_keeps : Keeps r s now (Asked (bare id))
+  asked_keeps = record {
+    leads = (
+      seen,
+      follows_asked r (view s) (bare id) refl (tokens now) (view now).asking (view now).asks (ap (map bare_due) due) fresh
+          (omega (
+            arith,
+            view_worth (counts_of (same_token (held_token (bare id) 0))) s,
+            ap (sum_by (λ y. worth (counts_of (same_token (held_token (bare id) 0))) (Working y))) works,
+            sum_by-cons (λ y. worth (counts_of (same_token (held_token (bare id) 0))) (Working y)) w rest,
+            less_sum (λ y. sum_by (counts_of (same_token (held_token (bare id) 0))) (tokens_of (y ∷ []))) w.hand p id at,
+            ids_each (counts_of (same_token (held_token (bare id) 0))) w.hand,
+            held_by (counts_of (same_token (held_token (bare id) 0))) id 0 least.0,
+            counts_true (same_token (held_token (bare id) 0)) (held_token (bare id) 0) (token_own (held_token (bare id) 0)),
+          ))
+          (record { sums = λ f fair. omega (arith, traded f, sum_by-cons f (held_token (bare id) 0) [], sum_by-cons f (owed_token (bare id) 0) []) }) asked_more asks_more,
+      sees_leads r seen now sees,
+    );
+    tidy = tidy;
+    places = h.places;
+    commits = same_commits s.tables.objects s.tables.running w asker (rest ++ s.tables.pending) refl
+        (subst (λ ws. HasCommits s.tables.objects s.tables.running (ws ++ s.tables.pending)) works h.commits);
+    numbered = λ once n. numbered_one once n;
+    pays = record {
+      rows = λ row. omega (arith, moves (unpaid row) (weight row ask) refl refl, costs row);
+      once = omega (arith, moves hopping 0 refl refl);
+      fired = omega (arith, moves joined 0 refl refl);
+      frees = λ o. omega (arith, moves (freeing o) 0 refl refl);
+    };
+    orders = record {
+      sent = tt;
+      asked = λ o n. omega (arith, own_ask o n, moves (waits_for o n) 0 refl refl, waits_more o n);
+      given = λ j d o n. omega (arith, moves (given_to j o n) 0 refl (bound_none (id.home == j) 0 refl));
+    };
+    counts = record {
+      here = refl;
+      localities = refl;
+      profile = refl;
+      born = omega arith;
+      few = omega arith;
+      asked = omega arith;
+      sent = omega arith;
+      taken = omega arith;
+      few_answers = omega arith;
+      answered = λ l shown. refl;
+    };
+  }
+    where
+      costs : (row : Row) → goes r row (Asked (bare id)) + weight row ask ≡ causes r row (Asked (bare id))
+      costs = by_rows (λ row. goes r row (Asked (bare id)) + weight row ask ≡ causes r row (Asked (bare id))) refl refl refl refl refl refl refl (λ o. refl)
+
+      -- the Ask has the next number
+      numbered_one : AreNumbered s → AreNumbered now
+      numbered_one once n = elim (cases_Bool (number == n)) [
+        | inl t ↦
+            let e : number ≡ n = eqb-true number n t in
+            let k : weigh (asks_under n) s ≡ 0 = (once n).1 (omega (arith, e)) in
+            let one : asks_as n ask ≡ 1 = ap one_if t in (
+              omega (arith, moves (asks_under n) (asks_as n ask) refl refl, k, one),
+              λ late. absurd (omega (arith, late, e)),
+            )
+        | inr f ↦
+            let none : asks_as n ask ≡ 0 = ap one_if f in (
+              omega (arith, moves (asks_under n) (asks_as n ask) refl refl, none, (once n).0),
+              λ late. let k : weigh (asks_under n) s ≡ 0 = (once n).1 (omega (arith, late)) in omega (arith, moves (asks_under n) (asks_as n ask) refl refl, none, k),
+            )
+      ]
+
+      -- the Ask is the own, and is waited for
+      own_ask : (o : Id) (n : ℕ) → weigh (asked_by s.tables.here o n) now ≡ weigh (asked_by s.tables.here o n) s + cond ((number == n) && same_object o id) 1 0
+      own_ask o n =
+          let own : asks_for s.tables.here o n ask ≡ cond ((number == n) && same_object o id) 1 0 = rw (eq-eqb s.tables.here s.tables.here refl) refl in
+          omega (arith, moves (asked_by s.tables.here o n) (asks_for s.tables.here o n ask) (omega arith) refl, own)
+
+      waits_more : (o : Id) (n : ℕ) → count_by (is_asked_for asker o n) asker.asked ≡ count_by (is_asked_for w o n) w.asked + cond ((number == n) && same_object o id) 1 0
+      waits_more o n = omega (
+        arith,
+        sum_by-append (λ (x : AskedFor). cond (is_asked_for asker o n x) 1 0) w.asked (record { entry = number; place = p } ∷ []),
+        sum_by-cons (λ (x : AskedFor). cond (is_asked_for asker o n x) 1 0) (record { entry = number; place = p }) [],
+        put_for w asker o n (put_bare w.hand p id (bare id) at refl) w.asked,
+        ap {B = ℕ} (λ (x : Id). cond ((number == n) && same_object o x) 1 0) (put_there w.hand p (bare id) there.0),
+      )
+
+pub asked_step : (r : Rules) (s s' : Turn) (entries : List Entry) (o : Id) → IsSound r s entries → AsksFor s o s' → Keeps r s s' (Asked o)
+asked_step r s s' entries o h g = subst (λ x. Keeps r s s' (Asked x)) (sym g.object) (subst (λ x. Keeps r s x (Asked (bare g.id))) (sym again)
+    (asked_keeps r s entries h g.w g.rest g.p g.id g.calm.due g.calm.fresh g.works g.low g.holds g.least))
+  where
+    again : s' ≡ wrote (Asked (bare g.id)) (mails g.id.home (Ask g.id s.tables.here (s.tables.asked + 1)) (record s {
+      working = record g.w { hand = set g.w.hand g.p (bare g.id); asked = g.w.asked ++ record { entry = s.tables.asked + 1; place = g.p } ∷ [] } ∷ g.rest;
+      tables = record s.tables { asked = s.tables.asked + 1 };
+    }))
+    again = g.now ∙ ap (λ x. wrote (Asked x) (mails g.id.home (Ask g.id s.tables.here (s.tables.asked + 1)) (record s {
+      working = record g.w { hand = set g.w.hand g.p (bare g.id); asked = g.w.asked ++ record { entry = s.tables.asked + 1; place = g.p } ∷ [] } ∷ g.rest;
+      tables = record s.tables { asked = s.tables.asked + 1 };
+    }))) g.object

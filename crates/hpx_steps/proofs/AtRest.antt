@@ -1,0 +1,275 @@
+-- Between turns all that holds of a turn is what holds of the tables, and the other way round.
+use Rattle.std.proofs.Common.{List, [], ap, append-nil, arith, length, map, refl, subst, sym, true, ℕ, ◌++◌, ◌+◌, ◌∙◌, ◌∷◌, ◌≡◌, ◌≢◌, ◌≤◌}
+use Rattle.std.proofs.lemmas.List.Sums.{sum_by-append, sum_by-cons}
+use Rattle.std.specs.List.{AllByRecursion, sum_by}
+use Rattle.std.specs.Prelude.{IfSome, flat_map}
+use Rattle.hpx_value.specs.Values.{bare_act}
+use Rattle.hpx_parcel.specs.Parcels.{IsParcel}
+use Rattle.hpx_journal.specs.Data.{Act, Id, Parcel}
+use Rattle.hpx_journal.specs.Entries.{Rules, move_to, target_of}
+use Rattle.hpx_journal.specs.Whole.{part}
+use Rattle.hpx_part.specs.Data.{Entry, Standing}
+use Rattle.hpx_part.specs.Parts.{StandsFor}
+use Rattle.hpx_tables.proofs.Alls.{all_append, all_parts}
+use Rattle.hpx_tables.specs.Fit.{IsFit, IsKept}
+use Rattle.hpx_tables.specs.Kept.{stands_here}
+use Rattle.hpx_tables.specs.Pending.{Waits}
+use Rattle.hpx_tables.specs.Tables.{Tables, messages}
+use Rattle.hpx_tables.specs.declared.kept.Outgoing.{Outgoing}
+use Rattle.hpx_steps.specs.Frames.{IsForHere, IsOnItsWay}
+use Rattle.hpx_steps.specs.Items.{Accepted, Came, Going, IsDue, Item, Loose, Mailed, OnDesk, Pending, Running, StandsHere, Working, weigh}
+use Rattle.hpx_steps.specs.Paused.{HasObject}
+use Rattle.hpx_steps.specs.Rest.{ArePaused, IsPaused, IsTidy, StandsAtRest, bound_for, kept_ids, queued, tokens, unpaid, view, waits_for}
+use Rattle.hpx_steps.specs.Rows.{Actions, AreFired, Row, freeing, hopping, joined, of_act, unpaid as turn_unpaid, weight}
+use Rattle.hpx_steps.specs.Sound.{AreRules, FreesNone, IsOwn, IsSound, IsTidy as turn_tidy, TidyAt, asked_by, asks_for, given_to, gives_for, waits_for as turn_waits_for}
+use Rattle.hpx_steps.specs.Turn.{at_rest, ids_here, parcel_tokens, tokens_of, view as turn_view}
+use Rattle.hpx_steps.proofs.ByRows.{by_rows}
+use Rattle.hpx_steps.proofs.Changes.{all_among, among_all}
+use Rattle.hpx_steps.proofs.Lists.{long_sum}
+use Rattle.hpx_steps.proofs.Sums.{map_sum, zeros}
+
+alls : {X : Type 0} (P Q R : X → Type 0) (xs : List X) → ((x : X) → P x → Q x → R x) → AllByRecursion P xs → AllByRecursion Q xs → AllByRecursion R xs
+alls P Q R [] f a b = tt
+alls P Q R (x ∷ xs) f a b = (f x a.0 b.0, alls P Q R xs f a.1 b.1)
+
+one_all : {X : Type 0} (P Q : X → Type 0) (xs : List X) → ((x : X) → P x → Q x) → AllByRecursion P xs → AllByRecursion Q xs
+one_all P Q xs f a = alls P P Q xs (λ x p q. f x p) a a
+
+all_carried : (P : Parcel → Type 0) (xs : List Outgoing) → AllByRecursion (λ (x : Outgoing). P x.parcel) xs → AllByRecursion P (map (λ (x : Outgoing). x.parcel) xs)
+all_carried P [] h = tt
+all_carried P (x ∷ xs) h = (h.0, all_carried P xs h.1)
+
+carried_all : (P : Parcel → Type 0) (xs : List Outgoing) → AllByRecursion P (map (λ (x : Outgoing). x.parcel) xs) → AllByRecursion (λ (x : Outgoing). P x.parcel) xs
+carried_all P [] h = tt
+carried_all P (x ∷ xs) h = (h.0, carried_all P xs h.1)
+
+ones : {X : Type 0} (xs : List X) → sum_by (λ x. 1) xs ≡ length xs
+ones xs = sym (long_sum xs)
+
+module _ (t : Tables) where
+  -- what is seen is the same
+  view_is : turn_view (at_rest t) ≡ view t [] []
+  view_is =
+      let ids : ids_here (at_rest t) ≡ kept_ids t =
+      ap (λ hands. flat_map (λ (x : Standing). x.state.ids) t.objects ++ (flat_map (λ (a : Act). a.ids) t.accepted ++ (flat_map (λ (a : Act). a.ids) t.running ++ hands)))
+      (append-nil (flat_map (λ (w : Waits). w.hand) t.pending)) in
+      ap (λ ks. record (turn_view (at_rest t)) { tokens = tokens_of ks ++ flat_map parcel_tokens (messages t) }) ids
+      ∙ ap (λ ks. record (turn_view (at_rest t)) { tokens = ks }) (sym (append-nil (tokens t)))
+
+  -- ---- what weighs
+
+  rows_is : (row : Row) → weigh (turn_unpaid row) (at_rest t) ≡ unpaid row t
+  rows_is row = omega (
+    arith,
+    sum_by-append (weight row) t.desk (map (λ (x : Outgoing). x.parcel) t.outgoing),
+    map_sum (weight row) (λ (x : Outgoing). x.parcel) t.outgoing,
+    acts row,
+    zeros t.running,
+    zeros t.pending,
+    zeros t.objects,
+  )
+    where
+      acts : (row : Row) → sum_by (λ (a : Act). of_act row) t.accepted ≡ queued row t.accepted
+      acts = by_rows (λ row. sum_by (λ (a : Act). of_act row) t.accepted ≡ queued row t.accepted) (zeros t.accepted) (zeros t.accepted) (zeros t.accepted) (zeros t.accepted)
+          (zeros t.accepted) (zeros t.accepted) (ones t.accepted) (λ o. zeros t.accepted)
+
+  hopping_is : weigh hopping (at_rest t) ≡ sum_by (weight Actions) (messages t)
+  hopping_is = omega (
+    arith,
+    sum_by-append (weight Actions) t.desk (map (λ (x : Outgoing). x.parcel) t.outgoing),
+    map_sum (weight Actions) (λ (x : Outgoing). x.parcel) t.outgoing,
+    zeros t.accepted,
+    zeros t.running,
+    zeros t.pending,
+    zeros t.objects,
+  )
+
+  joined_is : weigh joined (at_rest t) ≡ length t.accepted
+  joined_is = omega (arith, zeros t.desk, zeros t.outgoing, ones t.accepted, zeros t.running, zeros t.pending, zeros t.objects)
+
+  freeing_is : (o : Id) → weigh (freeing o) (at_rest t) ≡ 0
+  freeing_is o = omega (arith, zeros t.desk, zeros t.outgoing, zeros t.accepted, zeros t.running, zeros t.pending, zeros t.objects)
+
+  asked_is : (k : ℕ) (o : Id) (n : ℕ) → weigh (asked_by k o n) (at_rest t)
+      ≡ sum_by (asks_for k o n) t.desk + sum_by (λ (x : Outgoing). asks_for k o n x.parcel) t.outgoing + sum_by (gives_for o n) t.desk
+  asked_is k o n = omega (arith, two_sums (asks_for k o n) (gives_for o n) t.desk, zeros t.accepted, zeros t.running, zeros t.pending, zeros t.objects)
+    where
+      two_sums : (f g : Parcel → ℕ) (ps : List Parcel) → sum_by (λ p. f p + g p) ps ≡ sum_by f ps + sum_by g ps
+      two_sums f g [] = refl
+      two_sums f g (p ∷ ps) = omega (arith, two_sums f g ps, sum_by-cons (λ q. f q + g q) p ps, sum_by-cons f p ps, sum_by-cons g p ps)
+
+  waits_is : (o : Id) (n : ℕ) → weigh (turn_waits_for o n) (at_rest t) ≡ waits_for o n t.pending
+  waits_is o n = omega (arith, zeros t.desk, zeros t.outgoing, zeros t.accepted, zeros t.running, zeros t.objects)
+
+  given_is : (j : ℕ) (o : Id) (n : ℕ) → weigh (given_to j o n) (at_rest t) ≡ sum_by (bound_for j (gives_for o n)) t.outgoing
+  given_is j o n = omega (arith, zeros t.desk, zeros t.accepted, zeros t.running, zeros t.pending, zeros t.objects)
+
+  -- ---- from a turn
+
+  module _ (r : Rules) (entries : List Entry) (h : IsSound r (at_rest t) entries) where
+    abbrev P : Item → Type 0
+    P = TidyAt (at_rest t)
+
+    paused : ArePaused t.here t.localities t.profile.credit_log t.objects t.running t.pending
+    paused = record {
+      each = alls (λ w. P (Pending w)) (HasObject t.objects) (IsPaused t.here t.localities t.profile.credit_log t.objects) t.pending
+          (λ w a b. record {
+            job = a.0.job;
+            here = a.0.here;
+            localities = a.0.localities;
+            few = a.0.few;
+            standing = b.standing;
+            found = b.found;
+            kind = b.kind;
+            state = b.state;
+            hand = a.0.hand;
+            within = a.0.within;
+            refused = a.0.refused;
+            once = a.0.once;
+            split = a.1;
+          })
+          (all_among (λ w. P (Pending w)) t.pending (λ w m. h.tidy (Pending w) m)) h.commits.each;
+      single = h.places.single;
+      apart = h.commits.apart;
+      whole = h.commits.whole;
+      lent = h.commits.lent;
+    }
+
+    tidy : IsTidy t []
+    tidy = record {
+      accepted = all_among IsFit t.accepted (λ a m. (h.tidy (Accepted a) m).0);
+      running = all_among IsFit t.running (λ a m. h.tidy (Running a) m);
+      objects = all_among IsKept t.objects (λ x m. (h.tidy (StandsHere x) m).0);
+      messages = all_append IsParcel t.desk (map (λ (x : Outgoing). x.parcel) t.outgoing) (all_among IsParcel t.desk (λ p m. (h.tidy (OnDesk p) m).0))
+          (all_carried IsParcel t.outgoing (all_among (λ (x : Outgoing). IsParcel x.parcel) t.outgoing (λ x m. (h.tidy (Going x) m).0)));
+      fit = tt;
+      moves = all_among (λ a. IfSome (move_to (bare_act a)) (λ to. to ≡ t.here)) t.accepted (λ a m. (h.tidy (Accepted a) m).1);
+      targets = all_among (λ a. stands_here t (target_of a) ≡ true) t.accepted (λ a m. (h.tidy (Accepted a) m).2);
+      serves = h.places.serves;
+      drawn = all_among (λ (x : Standing). 16 ≤ x.object.kind → x.object.home ≡ t.here → x.object.number ≤ t.births) t.objects (λ x m. (h.tidy (StandsHere x) m).1);
+      unborn = h.places.unborn;
+      places = h.places.places;
+      ways = (
+        all_among (IsOnItsWay t.localities t.here) t.outgoing (λ x m. (h.tidy (Going x) m).1),
+        all_among (IsForHere t.localities t.here) t.desk (λ p m. (h.tidy (OnDesk p) m).1),
+      );
+      paused = paused;
+    }
+
+    pub rest_stands : StandsAtRest r t entries
+    rest_stands = record {
+      stands = record {
+        keeps = subst (λ v. StandsFor r v entries) view_is h.keeps;
+        tidy = tidy;
+        born = h.numbers.born;
+        few = h.numbers.few;
+        asked = h.numbers.asked;
+        sent = h.numbers.sent;
+        taken = h.numbers.taken;
+        paid = record {
+          rows = λ row. omega (arith, h.paid.rows row, rows_is row);
+          once = omega (arith, h.paid.once, hopping_is);
+          fired = subst (λ n. AreFired n (map (λ (e : Entry). e.event) (part t.here entries))) joined_is h.paid.fired;
+          frees = λ o. omega (arith, h.paid.frees o, freeing_is o);
+        };
+        few_answers = h.numbers.few_answers;
+        answered = h.numbers.answered;
+      };
+      orderly = record {
+        sent = h.orderly.sent;
+        own = all_among (IsOwn t.here t.profile.credit_log) t.desk (λ p m. (h.tidy (OnDesk p) m).2);
+        away = all_among (λ (x : Outgoing). IsOwn t.here t.profile.credit_log x.parcel × FreesNone x.parcel) t.outgoing
+            (λ x m. let k = h.tidy (Going x) m in (k.2, k.3));
+        asked = λ o n. omega (arith, h.orderly.asked o n, asked_is t.here o n, waits_is o n);
+        given = λ j d o n. omega (arith, h.orderly.given j d o n, given_is j o n);
+      };
+      lacks = all_among (λ (w : Waits). w.asked ≢ []) t.pending (λ w m. (h.tidy (Pending w) m).2);
+    }
+
+  -- ---- and back
+
+  module _ (r : Rules) (entries : List Entry) (rules : AreRules r t) (h : StandsAtRest r t entries) where
+    tidies : turn_tidy (at_rest t)
+    tidies (Came p) m = absurd m
+    tidies (Mailed p) m = absurd m
+    tidies (OnDesk p) m = (
+      among_all IsParcel p t.desk m (all_parts IsParcel t.desk (map (λ (x : Outgoing). x.parcel) t.outgoing) h.stands.tidy.messages).0,
+      among_all (IsForHere t.localities t.here) p t.desk m h.stands.tidy.ways.1,
+      among_all (IsOwn t.here t.profile.credit_log) p t.desk m h.orderly.own,
+    )
+    tidies (Going x) m =
+        let own = among_all (λ (y : Outgoing). IsOwn t.here t.profile.credit_log y.parcel × FreesNone y.parcel) x t.outgoing m h.orderly.away in (
+          among_all (λ (y : Outgoing). IsParcel y.parcel) x t.outgoing m
+              (carried_all IsParcel t.outgoing (all_parts IsParcel t.desk (map (λ (y : Outgoing). y.parcel) t.outgoing) h.stands.tidy.messages).1),
+          among_all (IsOnItsWay t.localities t.here) x t.outgoing m h.stands.tidy.ways.0,
+          own.0,
+          own.1,
+        )
+    tidies (Accepted a) m = (
+      among_all IsFit a t.accepted m h.stands.tidy.accepted,
+      among_all (λ b. IfSome (move_to (bare_act b)) (λ to. to ≡ t.here)) a t.accepted m h.stands.tidy.moves,
+      among_all (λ b. stands_here t (target_of b) ≡ true) a t.accepted m h.stands.tidy.targets,
+    )
+    tidies (Running a) m = among_all IsFit a t.running m h.stands.tidy.running
+    tidies (Pending w) m =
+        let p = among_all (IsPaused t.here t.localities t.profile.credit_log t.objects) w t.pending m h.stands.tidy.paused.each in (
+          record {
+            job = p.job;
+            here = p.here;
+            localities = p.localities;
+            few = p.few;
+            hand = p.hand;
+            within = p.within;
+            refused = p.refused;
+            once = p.once;
+          },
+          p.split,
+          among_all (λ (v : Waits). v.asked ≢ []) w t.pending m h.lacks,
+        )
+    tidies (Working w) m = absurd m
+    tidies (StandsHere x) m = (
+      among_all IsKept x t.objects m h.stands.tidy.objects,
+      among_all (λ (y : Standing). 16 ≤ y.object.kind → y.object.home ≡ t.here → y.object.number ≤ t.births) x t.objects m h.stands.tidy.drawn,
+    )
+    tidies (IsDue d) m = absurd m
+    tidies (Loose id) m = absurd m
+
+    pub sound_at_rest : IsSound r (at_rest t) entries
+    sound_at_rest = record {
+      rules = rules;
+      keeps = subst (λ v. StandsFor r v entries) (sym view_is) h.stands.keeps;
+      tidy = tidies;
+      places = record {
+        serves = h.stands.tidy.serves;
+        unborn = h.stands.tidy.unborn;
+        places = h.stands.tidy.places;
+        single = h.stands.tidy.paused.single;
+      };
+      commits = record {
+        each = one_all (IsPaused t.here t.localities t.profile.credit_log t.objects) (HasObject t.objects) t.pending
+            (λ w p. record { standing = p.standing; found = p.found; kind = p.kind; state = p.state }) h.stands.tidy.paused.each;
+        apart = h.stands.tidy.paused.apart;
+        whole = h.stands.tidy.paused.whole;
+        lent = h.stands.tidy.paused.lent;
+      };
+      paid = record {
+        rows = λ row. omega (arith, h.stands.paid.rows row, rows_is row);
+        once = omega (arith, h.stands.paid.once, hopping_is);
+        fired = subst (λ n. AreFired n (map (λ (e : Entry). e.event) (part t.here entries))) (sym joined_is) h.stands.paid.fired;
+        frees = λ o. omega (arith, h.stands.paid.frees o);
+      };
+      orderly = record {
+        sent = h.orderly.sent;
+        asked = λ o n. omega (arith, h.orderly.asked o n, asked_is t.here o n, waits_is o n);
+        given = λ j d o n. omega (arith, h.orderly.given j d o n, given_is j o n);
+      };
+      numbers = record {
+        born = h.stands.born;
+        few = h.stands.few;
+        asked = h.stands.asked;
+        sent = h.stands.sent;
+        taken = h.stands.taken;
+        few_answers = h.stands.few_answers;
+        answered = h.stands.answered;
+      };
+    }

@@ -1,0 +1,111 @@
+-- Ids with their credits, and without.
+use Rattle.std.proofs.Common.{Bool, List, None, Option, Some, [], ap, arith, cond, false, map, refl, suc, sym, take, true, zero, ℕ, ◌++◌, ◌<◌, ◌∙◌, ◌∷◌, ◌≡◌, ◌≤◌}
+use Rattle.std.proofs.lemmas.Bool.Decides.{nat_tests}
+use Rattle.std.proofs.lemmas.List.Sums.{sum_by-cons}
+use Rattle.std.specs.List.{AllByRecursion, filter, sum_by}
+use Rattle.std.specs.Prelude.{MatchOption, is_some, nat_le, not, ◌&&◌}
+use Rattle.hpx_value.specs.Ids.{bare, same_object}
+use Rattle.hpx_value.specs.Values.{bare_state}
+use Rattle.hpx_parcel.specs.Credits.{credit_list}
+use Rattle.hpx_parcel.specs.Parcels.{HasRightCredit}
+use Rattle.hpx_journal.proofs.Same.{and_true}
+use Rattle.hpx_journal.specs.Data.{Id, State}
+use Rattle.hpx_journal.specs.Tokens.{held}
+use Rattle.hpx_part.specs.Data.{Token}
+use Rattle.hpx_commit.proofs.Naming.{managed}
+use Rattle.hpx_tables.specs.Pending.{is_asked}
+use Rattle.hpx_steps.specs.Paused.{bare_names, names_of}
+use Rattle.hpx_steps.specs.Steps.{with_credit}
+use Rattle.hpx_steps.specs.Turn.{tokens_of}
+use Rattle.hpx_steps.proofs.Cover.{held_ids, held_or_bare}
+use Rattle.hpx_steps.proofs.Sums.{ids_append}
+
+is_below : (kind : ℕ) → kind < 16 → nat_le 16 kind ≡ false
+is_below kind e = grind (arith, nat_tests)
+
+pub not_asked : (id : Id) → HasRightCredit id → is_asked id ≡ false
+not_asked id h = each id.log h (nat_le 16 id.kind) refl
+  where
+    each : (l : Option ℕ) → MatchOption l (id.kind < 16) (λ x. 16 ≤ id.kind) → (b : Bool) → nat_le 16 id.kind ≡ b → (b && not (is_some l)) ≡ false
+    each None low true e = absurd (let f : true ≡ false = sym e ∙ is_below id.kind low in cc)
+    each None low false e = refl
+    each (Some x) right true e = refl
+    each (Some x) right false e = refl
+
+-- an id with a credit was not asked for
+pub has_not_asked : (id : Id) (l : ℕ) → id.log ≡ Some l → is_asked id ≡ false
+has_not_asked id l e = ap (λ k. nat_le 16 id.kind && not (is_some k)) e ∙ none (nat_le 16 id.kind)
+  where
+    none : (b : Bool) → (b && false) ≡ false
+    none true = refl
+    none false = refl
+
+pub none_asked : (ids : List Id) (n : ℕ) → AllByRecursion HasRightCredit ids → filter is_asked (take n ids) ≡ []
+none_asked [] zero h = refl
+none_asked [] (suc n) h = refl
+none_asked (id ∷ ids) zero h = refl
+none_asked (id ∷ ids) (suc n) h = rw (not_asked id h.0) (none_asked ids n h.1)
+
+pub no_bare : (o : Id) → 16 ≤ o.kind → (ids : List Id) → AllByRecursion HasRightCredit ids → bare_names o ids ≡ 0
+no_bare o managed ids h = omega (arith, held_or_bare o ids, held_ids o managed ids h)
+
+one_lent : (b : Bool) → ◌≡◌ {A = ℕ} (cond (b && true) 1 0) (cond b 1 0)
+one_lent true = refl
+one_lent false = refl
+
+pub lent_all : (o : Id) (ids : List Id) → bare_names o (map bare ids) ≡ names_of o ids
+lent_all o [] = refl
+lent_all o (id ∷ ids) = omega (
+  arith,
+  lent_all o ids,
+  one_lent (same_object o id),
+  sum_by-cons (λ (y : Id). cond (same_object o y && not (is_some y.log)) 1 0) (bare id) (map bare ids),
+  sum_by-cons (λ (y : Id). cond (same_object o y) 1 0) id ids,
+)
+
+pub no_tokens : (f : Token → ℕ) (ids : List Id) → sum_by f (tokens_of (map bare ids)) ≡ 0
+no_tokens f [] = refl
+no_tokens f (id ∷ ids) = no_tokens f ids
+
+pub bare_all : (ids : List Id) → map bare (map bare ids) ≡ map bare ids
+bare_all [] = refl
+bare_all (id ∷ ids) = ap (λ xs. bare id ∷ xs) (bare_all ids)
+
+-- a state without credits
+pub bare_lent : (x y : State) → x ≡ bare_state y → bare_state x ≡ x
+bare_lent x y is = ap bare_state is ∙ (ap (λ ids. record y { ids = ids }) (bare_all y.ids) ∙ sym is)
+
+pub none_tokens : (f : Token → ℕ) (ids : List Id) → AllByRecursion (λ (id : Id). id.log ≡ None) ids → sum_by f (tokens_of ids) ≡ 0
+none_tokens f [] h = refl
+none_tokens f (id ∷ ids) h = omega (arith, ids_append f (id ∷ []) ids, ap (λ l. sum_by f (map held (credit_list id l ++ []))) h.0, none_tokens f ids h.1)
+
+-- of ids with their credits none was asked for
+pub all_none : (ids : List Id) → AllByRecursion HasRightCredit ids → filter is_asked ids ≡ []
+all_none [] h = refl
+all_none (id ∷ ids) h = rw (not_asked id h.0) (all_none ids h.1)
+
+-- an id that was asked for has no credit
+pub bare_tokens : (f : Token → ℕ) (id : Id) → is_asked id ≡ true → sum_by f (tokens_of (id ∷ [])) ≡ 0
+bare_tokens f id h = each id.log (and_true (nat_le 16 id.kind) (not (is_some id.log)) h).1
+  where
+    each : (l : Option ℕ) → not (is_some l) ≡ true → sum_by f (map held (credit_list id l ++ [])) ≡ 0
+    each None e = refl
+    each (Some l) e = absurd (cc)
+
+-- those that have a credit have all the tokens
+pub credit_tokens : (f : Token → ℕ) (ids : List Id) → sum_by f (tokens_of (with_credit ids)) ≡ sum_by f (tokens_of ids)
+credit_tokens f [] = refl
+credit_tokens f (id ∷ ids) = each (credit_tokens f ids) id.log refl
+  where
+    each : sum_by f (tokens_of (with_credit ids)) ≡ sum_by f (tokens_of ids) → (l : Option ℕ) → id.log ≡ l
+        → sum_by f (tokens_of (cond (is_some l) (id ∷ with_credit ids) (with_credit ids))) ≡ sum_by f (tokens_of (id ∷ ids))
+    each rest None e = omega (arith, ids_append f (id ∷ []) ids, rest, ap (λ k. sum_by f (map held (credit_list id k ++ []))) e)
+    each rest (Some l) e = omega (arith, ids_append f (id ∷ []) (with_credit ids), ids_append f (id ∷ []) ids, rest)
+
+pub all_with : (ids : List Id) → AllByRecursion HasRightCredit ids → AllByRecursion HasRightCredit (with_credit ids)
+all_with [] h = tt
+all_with (id ∷ ids) h = each (is_some id.log) (all_with ids h.1)
+  where
+    each : (b : Bool) → AllByRecursion HasRightCredit (with_credit ids) → AllByRecursion HasRightCredit (cond b (id ∷ with_credit ids) (with_credit ids))
+    each true rest = (h.0, rest)
+    each false rest = rest

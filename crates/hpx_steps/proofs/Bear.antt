@@ -1,0 +1,267 @@
+-- A commit makes an object.
+use Rattle.std.proofs.Common.{Bool, List, None, Option, Some, [], ap, append-nil, arith, cond, false, inl, inr, length, map, refl, subst, sym, take, true, ℕ, ◌++◌, ◌+◌, ◌∙◌, ◌∷◌, ◌≡◌, ◌≤◌}
+use Rattle.std.proofs.lemmas.Bool.{cases_Bool}
+use Rattle.std.proofs.lemmas.List.{map-append}
+use Rattle.std.proofs.lemmas.List.Sums.{sum_by-cons}
+use Rattle.std.specs.List.{count_by, filter, find, list_any, sum_by}
+use Rattle.std.specs.Option.{option_map_or}
+use Rattle.std.specs.Prelude.{◌^◌}
+use Rattle.hpx_value.specs.Hands.{id_at, session}
+use Rattle.hpx_value.specs.Ids.{bare, bare_id, same_object}
+use Rattle.hpx_value.specs.Laws.{birth_state}
+use Rattle.hpx_value.specs.Values.{bare_act}
+use Rattle.hpx_value.specs.declared.outcome.Make.{Make}
+use Rattle.hpx_journal.proofs.Bools.{false_from}
+use Rattle.hpx_journal.proofs.Same.{same_object-true}
+use Rattle.hpx_journal.specs.Data.{Id, State}
+use Rattle.hpx_journal.specs.Entries.{Rules}
+use Rattle.hpx_journal.specs.Local.{count_in, is_recorded, is_standing}
+use Rattle.hpx_journal.specs.Tokens.{held_token}
+use Rattle.hpx_part.proofs.ObjectRows.{follows_born}
+use Rattle.hpx_part.specs.Data.{Born, Entry, Event, Standing, Token}
+use Rattle.hpx_part.specs.Shows.{same_refusal}
+use Rattle.hpx_part.specs.View.{View}
+use Rattle.hpx_agas.specs.Records.{find_record}
+use Rattle.hpx_agas.specs.declared.record.Record.{Record}
+use Rattle.hpx_tables.proofs.Alls.{some_same}
+use Rattle.hpx_tables.specs.Births.{IsBirth, birth_of}
+use Rattle.hpx_tables.specs.Pending.{Waits, fired_of, ids_named, is_asked, is_asked_for, refusals_of}
+use Rattle.hpx_steps.specs.Items.{Item, StandsHere, Working, weigh}
+use Rattle.hpx_steps.specs.Mail.{wrote}
+use Rattle.hpx_steps.specs.Numbered.{asks_under}
+use Rattle.hpx_steps.specs.Paused.{HasCommits, IsCommit, names_of}
+use Rattle.hpx_steps.specs.Rows.{Row, causes, freeing, goes, hopping, joined, unpaid}
+use Rattle.hpx_steps.specs.Sound.{HasPlaces, IsSound, IsTidy, StaysAt, TidyAt, asked_by, asking, given_to, waits_for, worth}
+use Rattle.hpx_steps.specs.Steps.{Bears, works_on}
+use Rattle.hpx_steps.specs.Turn.{Turn, bare_due, bare_standing, counted, tokens, tokens_of, view}
+use Rattle.hpx_steps.proofs.Beside.{more_commits}
+use Rattle.hpx_steps.proofs.ByRows.{by_rows}
+use Rattle.hpx_steps.proofs.Changes.{Changes, all_among, first_turns, holding, more_come, objects_change, then, working_change}
+use Rattle.hpx_steps.proofs.Hands.{take_place}
+use Rattle.hpx_steps.proofs.Objects.{single_more, stand_more}
+use Rattle.hpx_steps.proofs.Recommit.{same_commits}
+use Rattle.hpx_steps.proofs.Records.{found_counted}
+use Rattle.hpx_steps.proofs.Seen.{Sees, sees_leads}
+use Rattle.hpx_steps.proofs.Sums.{view_asking, view_worth}
+use Rattle.hpx_steps.proofs.Then.{Keeps, fewer}
+use Rattle.hpx_steps.proofs.Tidy.{retidy}
+
+module _ (r : Rules) (s : Turn) (entries : List Entry) (h : IsSound r s entries) (w : Waits) (rest : List Waits) (make : Make) (hand : List Id) (due : s.due ≡ [])
+    (works : s.working ≡ w ∷ rest) (fit : IsBirth (birth_of make)) (lacks : w.asked ≡ []) (own : take (length (ids_named w)) hand ≡ take (length (ids_named w)) w.hand)
+    (more : (f : Token → ℕ) → sum_by f (tokens_of hand)
+    ≡ sum_by f (tokens_of w.hand) + f (held_token (bare_id s.tables.here make.kind (s.tables.births + 1)) s.tables.profile.credit_log)) where
+  abbrev o : Id
+  o = bare_id s.tables.here make.kind (s.tables.births + 1)
+
+  abbrev new : Standing
+  new = record { object = bare_id s.tables.here make.kind (s.tables.births + 1); state = birth_state make }
+
+  abbrev made : Record
+  made = record { gid = bare_id s.tables.here make.kind (s.tables.births + 1); count = 2 ^ s.tables.profile.credit_log; place = s.tables.here; moving = None }
+
+  abbrev bearer : Waits
+  bearer = record w { hand = hand }
+
+  abbrev e : Event
+  e = Born (bare_id s.tables.here make.kind (s.tables.births + 1)) (birth_state make)
+
+  abbrev now : Turn
+  now = wrote (Born (bare_id s.tables.here make.kind (s.tables.births + 1)) (birth_state make)) (record s {
+    fresh = s.fresh ++ bare_id s.tables.here make.kind (s.tables.births + 1) ∷ [];
+    working = record w { hand = hand } ∷ rest;
+    tables = record s.tables {
+      births = s.tables.births + 1;
+      records = s.tables.records ++ record { gid = bare_id s.tables.here make.kind (s.tables.births + 1); count = 2 ^ s.tables.profile.credit_log; place = s.tables.here; moving = None } ∷ [];
+      objects = s.tables.objects ++ record { object = bare_id s.tables.here make.kind (s.tables.births + 1); state = birth_state make } ∷ [];
+    };
+  })
+
+  change : Changes (Working w ∷ []) (Working bearer ∷ StandsHere new ∷ []) s now
+  change = then (Working w ∷ []) (Working bearer ∷ []) [] (StandsHere new ∷ []) s (works_on bearer rest s) now
+      (working_change (Working w ∷ []) (Working bearer ∷ []) s (bearer ∷ rest) (first_turns (λ x. Working x) s.working w bearer rest works))
+      (objects_change [] (StandsHere new ∷ []) (works_on bearer rest s) (s.tables.objects ++ new ∷ []) (more_come (λ x. StandsHere x) s.tables.objects (new ∷ [])))
+
+  moves : (f : Item → ℕ) → weigh f now + f (Working w) ≡ weigh f s + (f (Working bearer) + f (StandsHere new))
+  moves f = let k : weigh f now + (f (Working w) + 0) ≡ weigh f s + (f (Working bearer) + (f (StandsHere new) + 0)) = change.0 f in omega (arith, k)
+
+  its : IsCommit s.tables.here s.tables.localities w
+  its = h.tidy (Working w) (rw works (inl refl))
+
+  fit_commit : IsCommit s.tables.here s.tables.localities bearer
+  fit_commit = record {
+    job = its.job;
+    here = its.here;
+    localities = its.localities;
+    few = its.few;
+    hand = ap (map bare) own ∙ its.hand;
+    within = its.within;
+    refused = its.refused;
+    once = λ p lt. its.once p lt ∙ ap {B = ℕ} (λ (x : Id). cond (is_asked x) 1 0)
+        (sym (take_place (length (ids_named w)) w.hand p lt) ∙ (ap (λ ids. id_at ids p) (sym own) ∙ take_place (length (ids_named w)) hand p lt));
+  }
+
+  -- none of its number stands here
+  other : (x : Standing) → TidyAt s (StandsHere x) → same_object x.object o ≡ false
+  other x k = false_from (same_object x.object o) (λ t.
+      let same : bare x.object ≡ o = same_object-true x.object o t in
+      let kind : x.object.kind ≡ make.kind = ap (λ (y : Id). y.kind) same in
+      let home : x.object.home ≡ s.tables.here = ap (λ (y : Id). y.home) same in
+      let number : x.object.number ≡ s.tables.births + 1 = ap (λ (y : Id). y.number) same in
+      let least : 16 ≤ make.kind = fit.least in
+      let low : x.object.number ≤ s.tables.births = k.1 (omega (arith, kind, least)) home in
+      absurd (omega (arith, low, number)))
+
+  tidy : IsTidy now
+  tidy = holding (TidyAt now) (Working bearer ∷ StandsHere new ∷ []) s now change.1
+      (λ y m. retidy s.tables.here s.tables.localities s.tables.profile.credit_log s.tables.births (s.tables.births + 1) s.tables.objects (s.tables.objects ++ new ∷ []) (omega arith)
+      (λ q. stand_more (is_standing q) s.tables.objects (new ∷ [])) y (h.tidy y m))
+      (fit_commit, ((record { kind = fit.most; state = fit.state; plain = λ k. let least : 16 ≤ make.kind = fit.least in absurd (omega (arith, least, k)) }, λ kind home. omega arith), tt))
+
+  commits_now : HasCommits (s.tables.objects ++ new ∷ []) s.tables.running (bearer ∷ rest ++ s.tables.pending)
+  commits_now = more_commits s.tables.objects s.tables.running (bearer ∷ rest ++ s.tables.pending) new refl
+      (same_commits s.tables.objects s.tables.running w bearer (rest ++ s.tables.pending) refl
+      (subst (λ ws. HasCommits s.tables.objects s.tables.running (ws ++ s.tables.pending)) works h.commits))
+
+  -- ---- records
+
+  found_more : (x : Id) → find_record x (s.tables.records ++ made ∷ []) ≡ cond (same_object x o) (Some made) (find_record x s.tables.records)
+  found_more x = elim (cases_Bool (same_object x o)) [
+    | inl t ↦ rw t (past s.tables.records t (ap (λ (y : Id). find_record y s.tables.records) (same_object-true x o t) ∙ h.places.unborn o (omega arith)))
+    | inr f ↦ rw f (before s.tables.records f)
+  ]
+    where
+      past : (rs : List Record) → same_object x o ≡ true → find_record x rs ≡ None → find_record x (rs ++ made ∷ []) ≡ Some made
+      past [] t none = rw t refl
+      past (y ∷ ys) t none = elim (cases_Bool (same_object x y.gid)) [
+        | inl a ↦ absurd (let k : Some y ≡ None = rw a at none in cc)
+        | inr b ↦ rw b (past ys t (rw b at none))
+      ]
+
+      before : (rs : List Record) → same_object x o ≡ false → find_record x (rs ++ made ∷ []) ≡ find_record x rs
+      before [] f = rw f refl
+      before (y ∷ ys) f = ap (λ k. cond (same_object x y.gid) (Some y) k) (before ys f)
+
+  counts_more : (x : Id) → x.home ≡ s.tables.here → count_in (find (is_recorded x) (map counted (s.tables.records ++ made ∷ [])))
+      ≡ cond (same_object x o) (2 ^ r.credit_log) (count_in (find (is_recorded x) (map counted s.tables.records)))
+  counts_more x at = found_counted x (s.tables.records ++ made ∷ []) ∙ (ap (λ (k : Option Record). option_map_or (λ (y : Record). y.count) k 0) (found_more x)
+      ∙ (each (same_object x o) ∙ ap (λ n. cond (same_object x o) (2 ^ r.credit_log) n) (sym (found_counted x s.tables.records))))
+    where
+      each : (b : Bool) → option_map_or (λ (y : Record). y.count) (cond b (Some made) (find_record x s.tables.records)) 0
+          ≡ cond b (2 ^ r.credit_log) (option_map_or (λ (y : Record). y.count) (find_record x s.tables.records) 0)
+      each true = ap (λ n. 2 ^ n) (sym h.rules.credit_log)
+      each false = refl
+
+  places_now : HasPlaces s.tables.here (s.tables.births + 1) (s.tables.objects ++ new ∷ []) (s.tables.records ++ made ∷ [])
+  places_now = record {
+    serves = λ zero. stand_more (is_standing session) s.tables.objects (new ∷ []) (h.places.serves zero);
+    unborn = λ x late.
+        let off : same_object x o ≡ false = false_from (same_object x o) (λ t. let n : x.number ≡ s.tables.births + 1 = ap (λ (y : Id). y.number) (same_object-true x o t) in absurd (omega (arith, n, late))) in
+        found_more x ∙ (ap (λ b. cond b (Some made) (find_record x s.tables.records)) off ∙ h.places.unborn x (omega (arith, late)));
+    places = λ x y is. at x y (same_object x o) refl (sym (found_more x) ∙ is);
+    single = single_more s.tables.objects new h.places.single
+        (all_among (λ (x : Standing). same_object x.object o ≡ false) s.tables.objects (λ x m. other x (h.tidy (StandsHere x) m)));
+  }
+    where
+      at : (x : Id) (y : Record) (b : Bool) → same_object x o ≡ b → cond (same_object x o) (Some made) (find_record x s.tables.records) ≡ Some y → StaysAt s.tables.here y
+      at x y true t is = let k : Some made ≡ Some y = rw t at is in subst (StaysAt s.tables.here) (some_same made y k) (refl, refl)
+      at x y false f is = h.places.places x y (rw f at is)
+
+  -- ---- what is seen
+
+  abbrev seen : View
+  seen = record (view s) {
+    number = s.tables.births + 1;
+    objects = map bare_standing s.tables.objects ++ new ∷ [];
+    fresh = s.fresh ++ o ∷ [];
+    tokens = tokens now;
+    live = map counted (s.tables.records ++ made ∷ []);
+    last = Some e;
+  }
+
+  sees : Sees seen now
+  sees = record {
+    rest = ap (λ ws. record (view now) { fired = map bare_act (fired_of s.tables.running (ws ++ s.tables.pending)); objects = map bare_standing s.tables.objects ++ new ∷ [] }) works
+        ∙ ap (λ os. record (view now) { objects = os }) (sym (map-append bare_standing s.tables.objects (new ∷ [])));
+    tokens = λ f fair. refl;
+    asking = λ x. omega (arith, view_asking x s, view_asking x now, moves (asking x), ap (λ ids. names_of x (filter is_asked ids)) own);
+    asks = λ x. refl;
+    live = λ x home. refl;
+    dead = λ x. omega arith;
+    refusals = λ y k. subst (λ ws. list_any (same_refusal y) (refusals_of (ws ++ s.tables.pending)) ≡ true) (sym works) k;
+    failing = omega (arith, ap (λ ws. length (refusals_of (ws ++ s.tables.pending))) works);
+  }
+
+  pub bear_keeps : Keeps r s now e
+  bear_keeps = record {
+    leads = (
+      seen,
+      follows_born r (view s) o (birth_state make) (map bare_standing s.tables.objects) [] (tokens now) (map counted (s.tables.records ++ made ∷ [])) (ap (map bare_due) due)
+          refl refl (fit.least, fit.most) refl refl refl refl fit.state (sym (append-nil (map bare_standing s.tables.objects)))
+          (record {
+            sums = λ f fair. omega (
+              arith,
+              view_worth f s,
+              view_worth f now,
+              moves (worth f),
+              more f,
+              ap (λ n. f (held_token o n)) h.rules.credit_log,
+              sum_by-cons f (held_token o r.credit_log) [],
+            );
+          })
+          counts_more,
+      sees_leads r seen now sees,
+    );
+    tidy = tidy;
+    places = places_now;
+    commits = commits_now;
+    numbered = fewer s now (omega arith) (λ n. omega (arith, moves (asks_under n)));
+    pays = record {
+      rows = λ row. omega (arith, moves (unpaid row), costs row);
+      once = omega (arith, moves hopping);
+      fired = omega (arith, moves joined);
+      frees = λ x. omega (arith, moves (freeing x));
+    };
+    orders = record {
+      sent = tt;
+      asked = λ x n. omega (arith, moves (asked_by s.tables.here x n), moves (waits_for x n), ap (λ ys. count_by (is_asked_for w x n) ys) lacks, ap (λ ys. count_by (is_asked_for bearer x n) ys) lacks);
+      given = λ k d x n. omega (arith, moves (given_to k x n));
+    };
+    counts = record {
+      here = refl;
+      localities = refl;
+      profile = refl;
+      born = omega arith;
+      few = omega arith;
+      asked = omega arith;
+      sent = omega arith;
+      taken = omega arith;
+      few_answers = omega arith;
+      answered = λ l shown. refl;
+    };
+  }
+    where
+      costs : (row : Row) → goes r row e ≡ causes r row e
+      costs = by_rows (λ row. goes r row e ≡ causes r row e) refl refl refl refl refl refl refl (λ x. refl)
+
+pub bear_step : (r : Rules) (s s' : Turn) (entries : List Entry) (o : Id) (state : State) → IsSound r s entries → Bears s o state s' → Keeps r s s' (Born o state)
+bear_step r s s' entries o state h g =
+    subst (λ x. Keeps r s s' (Born x state)) (sym g.object) (subst (λ y. Keeps r s s' (Born born y)) (sym g.begins) (subst (λ t. Keeps r s t (Born born (birth_state g.make))) (sym again)
+    (bear_keeps r s entries h g.w g.rest g.make g.hand g.due g.works g.fit g.lacks g.own
+    (subst (λ x. (f : Token → ℕ) → sum_by f (tokens_of g.hand) ≡ sum_by f (tokens_of g.w.hand) + f (held_token x s.tables.profile.credit_log)) g.object g.more))))
+  where
+    born : Id
+    born = bare_id s.tables.here g.make.kind (s.tables.births + 1)
+
+    with_born : Id → State → Turn
+    with_born x y = wrote (Born x y) (record s {
+      fresh = s.fresh ++ x ∷ [];
+      working = record g.w { hand = g.hand } ∷ g.rest;
+      tables = record s.tables {
+        births = s.tables.births + 1;
+        records = s.tables.records ++ record { gid = x; count = 2 ^ s.tables.profile.credit_log; place = s.tables.here; moving = None } ∷ [];
+        objects = s.tables.objects ++ record { object = x; state = y } ∷ [];
+      };
+    })
+
+    again : s' ≡ with_born born (birth_state g.make)
+    again = g.now ∙ (ap (λ x. with_born x state) g.object ∙ ap (with_born born) g.begins)

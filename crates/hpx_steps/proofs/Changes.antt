@@ -1,0 +1,401 @@
+-- The primitive changes of a turn: what all weights are then, and what is there that was not there before.
+use Rattle.std.proofs.Common.{Bool, List, Some, [], ap, arith, cond, false, inl, inr, map, refl, set, suc, sym, true, zero, ℕ, ◌++◌, ◌+◌, ◌∷◌, ◌≡◌}
+use Rattle.std.proofs.lemmas.List.Sums.{sum_by-append, sum_by-cons}
+use Rattle.std.specs.List.{AllByRecursion, remove, sum_by}
+use Rattle.std.specs.Prelude.{not, slice_get, ◌⊎◌}
+use Rattle.hpx_journal.specs.Data.{Act, Due, Id, Parcel}
+use Rattle.hpx_journal.specs.Entries.{target_of}
+use Rattle.hpx_part.specs.Data.{Standing}
+use Rattle.hpx_tables.proofs.Alls.{some_same}
+use Rattle.hpx_tables.specs.Fit.{parcel_for}
+use Rattle.hpx_tables.specs.Pending.{Waits}
+use Rattle.hpx_tables.specs.declared.kept.Outgoing.{Outgoing}
+use Rattle.hpx_steps.specs.Items.{Accepted, Among, Came, Going, Has, Holds, IsDue, Item, Loose, Mailed, OnDesk, Pending, Running, StandsHere, Working, weigh}
+use Rattle.hpx_steps.specs.Mail.{going, is_other, mails_if, may_stay, posts, sent_as}
+use Rattle.hpx_steps.specs.Steps.{HasInHand, drops}
+use Rattle.hpx_steps.specs.Turn.{Turn}
+
+-- ---- what is among others
+
+pub among_all : {X : Type 0} (P : X → Type 0) (x : X) (xs : List X) → Among x xs → AllByRecursion P xs → P x
+among_all P x [] m h = absurd m
+among_all P x (y ∷ ys) (inl e) h = all_here e h.0
+  where
+    all_here : y ≡ x → P y → P x
+    all_here e k = rw (sym e) k
+among_all P x (y ∷ ys) (inr m) h = among_all P x ys m h.1
+
+pub all_among : {X : Type 0} (P : X → Type 0) (xs : List X) → ((x : X) → Among x xs → P x) → AllByRecursion P xs
+all_among P [] h = tt
+all_among P (x ∷ xs) h = (h x (inl refl), all_among P xs (λ y m. h y (inr m)))
+
+pub among_at : {X : Type 0} (xs : List X) (i : ℕ) (x : X) → slice_get xs i ≡ Some x → Among x xs
+among_at [] i x h = cc
+among_at (y ∷ ys) zero x h = inl (some_same y x h)
+among_at (y ∷ ys) (suc i) x h = inr (among_at ys i x h)
+
+pub among_left : {X : Type 0} (x : X) (xs ys : List X) → Among x xs → Among x (xs ++ ys)
+among_left x [] ys m = absurd m
+among_left x (z ∷ zs) ys (inl e) = inl e
+among_left x (z ∷ zs) ys (inr m) = inr (among_left x zs ys m)
+
+pub among_right : {X : Type 0} (x : X) (xs ys : List X) → Among x ys → Among x (xs ++ ys)
+among_right x [] ys m = m
+among_right x (z ∷ zs) ys m = inr (among_right x zs ys m)
+
+pub among_either : {X : Type 0} (x : X) (xs ys : List X) → Among x (xs ++ ys) → Among x xs ⊎ Among x ys
+among_either x [] ys m = inr m
+among_either x (z ∷ zs) ys (inl e) = inl (inl e)
+among_either x (z ∷ zs) ys (inr m) = elim (among_either x zs ys m) [
+  | inl a ↦ inl (inr a)
+  | inr b ↦ inr b
+]
+
+among_removed : {X : Type 0} (xs : List X) (i : ℕ) (x : X) → Among x (remove xs i) → Among x xs
+among_removed [] zero x m = m
+among_removed [] (suc i) x m = m
+among_removed (y ∷ ys) zero x m = inr m
+among_removed (y ∷ ys) (suc i) x (inl e) = inl e
+among_removed (y ∷ ys) (suc i) x (inr m) = inr (among_removed ys i x m)
+
+among_set : {X : Type 0} (xs : List X) (i : ℕ) (y x : X) → Among x (set xs i y) → Among x xs ⊎ (y ≡ x)
+among_set [] i y x m = absurd m
+among_set (z ∷ zs) zero y x (inl e) = inr e
+among_set (z ∷ zs) zero y x (inr m) = inl (inr m)
+among_set (z ∷ zs) (suc i) y x (inl e) = inl (inl e)
+among_set (z ∷ zs) (suc i) y x (inr m) = elim (among_set zs i y x m) [
+  | inl a ↦ inl (inr a)
+  | inr e ↦ inr e
+]
+
+among_map : {X : Type 0} (c : X → Item) (x : X) (xs : List X) → Among x xs → Among (c x) (map c xs)
+among_map c x [] m = m
+among_map c x (y ∷ ys) (inl e) = inl (ap c e)
+among_map c x (y ∷ ys) (inr m) = inr (among_map c x ys m)
+
+-- ---- changes
+
+-- what these weigh
+abbrev pub total : (Item → ℕ) → List Item → ℕ
+total w [] = 0
+total w (i ∷ is) = w i + total w is
+
+pub total_append : (w : Item → ℕ) (xs ys : List Item) → total w (xs ++ ys) ≡ total w xs + total w ys
+total_append w [] ys = omega arith
+total_append w (x ∷ xs) ys = let e : total w (xs ++ ys) ≡ total w xs + total w ys = total_append w xs ys in omega (arith, e)
+
+pub total_map : {X : Type 0} (c : X → Item) (w : Item → ℕ) (xs : List X) → total w (map c xs) ≡ sum_by (λ x. w (c x)) xs
+total_map c w [] = refl
+total_map c w (x ∷ xs) = let e : total w (map c xs) ≡ sum_by (λ y. w (c y)) xs = total_map c w xs in omega (arith, e, sum_by-cons (λ y. w (c y)) x xs)
+
+-- what all weights are where some things go and others come
+abbrev pub Sums : List Item → List Item → Turn → Turn → Type 0
+Sums out into s s' = (w : Item → ℕ) → weigh w s' + total w out ≡ weigh w s + total w into
+
+-- what is there then was there, or comes
+abbrev pub Comes : List Item → Turn → Turn → Type 0
+Comes into s s' = (i : Item) → Has s' i → Has s i ⊎ Among i into
+
+-- some things go, and others come
+abbrev pub Changes : List Item → List Item → Turn → Turn → Type 0
+Changes out into s s' = Sums out into s s' × Comes into s s'
+
+-- what holds of all, and of those that come, holds of all then
+pub holding : (P : Item → Type 0) (into : List Item) (s s' : Turn) → Comes into s s' → Holds P s → AllByRecursion P into → Holds P s'
+holding P into s s' k h new i m = elim (k i m) [
+  | inl a ↦ h i a
+  | inr b ↦ among_all P i into b new
+]
+
+-- one change after another
+pub then : (out into out' into' : List Item) (s m s' : Turn) → Changes out into s m → Changes out' into' m s' → Changes (out ++ out') (into ++ into') s s'
+then out into out' into' s m s' a b = (
+  λ w. omega (arith, a.0 w, b.0 w, total_append w out out', total_append w into into'),
+  λ i h. elim (b.1 i h) [
+    | inr new ↦ inr (among_right i into into' new)
+    | inl was ↦ elim (a.1 i was) [
+      | inl old ↦ inl old
+      | inr new ↦ inr (among_left i into into' new)
+    ]
+  ],
+)
+
+-- ---- things of one kind
+
+-- of a list of things of one kind some go, and others come
+pub record Trade {X : Type 0} (c : X → Item) (out into : List Item) (xs ys : List X) : Type 0 where
+  pub sums : (w : Item → ℕ) → sum_by (λ x. w (c x)) ys + total w out ≡ sum_by (λ x. w (c x)) xs + total w into
+  pub there : (x : X) → Among x ys → Among x xs ⊎ Among (c x) into
+
+module _ {X : Type 0} (c : X → Item) where
+  pub first_goes : (xs : List X) (x : X) (rest : List X) → xs ≡ x ∷ rest → Trade c (c x ∷ []) [] xs rest
+  first_goes xs x rest is = record { sums = λ w. omega (arith, ap (sum_by (λ y. w (c y))) is, sum_by-cons (λ y. w (c y)) x rest); there = λ y m. inl (rw is (inr m)) }
+
+  pub first_comes : (xs : List X) (x : X) → Trade c [] (c x ∷ []) xs (x ∷ xs)
+  first_comes xs x = record { sums = λ w. omega (arith, sum_by-cons (λ y. w (c y)) x xs); there = comes }
+    where
+      comes : (y : X) → Among y (x ∷ xs) → Among y xs ⊎ Among (c y) (c x ∷ [])
+      comes y (inl e) = inr (inl (ap c e))
+      comes y (inr m) = inl m
+
+  pub one_comes : (xs : List X) (x : X) → xs ≡ [] → Trade c [] (c x ∷ []) xs (x ∷ [])
+  one_comes xs x is = record { sums = λ w. omega (arith, ap (sum_by (λ y. w (c y))) is, sum_by-cons (λ y. w (c y)) x []); there = comes }
+    where
+      comes : (y : X) → Among y (x ∷ []) → Among y xs ⊎ Among (c y) (c x ∷ [])
+      comes y (inl e) = inr (inl (ap c e))
+      comes y (inr m) = absurd m
+
+  pub first_turns : (xs : List X) (x y : X) (rest : List X) → xs ≡ x ∷ rest → Trade c (c x ∷ []) (c y ∷ []) xs (y ∷ rest)
+  first_turns xs x y rest is = record {
+    sums = λ w. omega (arith, ap (sum_by (λ z. w (c z))) is, sum_by-cons (λ z. w (c z)) x rest, sum_by-cons (λ z. w (c z)) y rest);
+    there = turns;
+  }
+    where
+      turns : (z : X) → Among z (y ∷ rest) → Among z xs ⊎ Among (c z) (c y ∷ [])
+      turns z (inl e) = inr (inl (ap c e))
+      turns z (inr m) = inl (rw is (inr m))
+
+  pub more_come : (xs ys : List X) → Trade c [] (map c ys) xs (xs ++ ys)
+  more_come xs ys = record {
+    sums = λ w. omega (arith, sum_by-append (λ y. w (c y)) xs ys, total_map c w ys);
+    there = λ y m. elim (among_either y xs ys m) [
+      | inl a ↦ inl a
+      | inr b ↦ inr (among_map c y ys b)
+    ];
+  }
+
+  pub all_come : (xs ys : List X) → xs ≡ [] → Trade c [] (map c ys) xs ys
+  all_come xs ys is = record {
+    sums = λ w. omega (arith, ap (sum_by (λ y. w (c y))) is, total_map c w ys);
+    there = λ y m. inr (among_map c y ys m);
+  }
+
+  pub one_goes : (xs : List X) (i : ℕ) (x : X) → slice_get xs i ≡ Some x → Trade c (c x ∷ []) [] xs (remove xs i)
+  one_goes xs i x h = record { sums = λ w. omega (arith, less (λ y. w (c y)) xs i h); there = λ y m. inl (among_removed xs i y m) }
+    where
+      less : (f : X → ℕ) (xs : List X) (i : ℕ) → slice_get xs i ≡ Some x → sum_by f (remove xs i) + f x ≡ sum_by f xs
+      less f [] i e = cc
+      less f (y ∷ ys) zero e = omega (arith, sum_by-cons f y ys, ap f (some_same y x e))
+      less f (y ∷ ys) (suc i) e = omega (arith, sum_by-cons f y ys, sum_by-cons f y (remove ys i), less f ys i e)
+
+  pub one_turns : (xs : List X) (i : ℕ) (x y : X) → slice_get xs i ≡ Some x → Trade c (c x ∷ []) (c y ∷ []) xs (set xs i y)
+  one_turns xs i x y h = record {
+    sums = λ w. omega (arith, turned (λ z. w (c z)) xs i h);
+    there = λ z m. elim (among_set xs i y z m) [
+      | inl a ↦ inl a
+      | inr e ↦ inr (inl (ap c e))
+    ];
+  }
+    where
+      turned : (f : X → ℕ) (xs : List X) (i : ℕ) → slice_get xs i ≡ Some x → sum_by f (set xs i y) + f x ≡ sum_by f xs + f y
+      turned f [] i e = cc
+      turned f (z ∷ zs) zero e = omega (arith, sum_by-cons f z zs, sum_by-cons f y zs, ap f (some_same z x e))
+      turned f (z ∷ zs) (suc i) e = omega (arith, sum_by-cons f z zs, sum_by-cons f z (set zs i y), turned f zs i e)
+
+-- ---- the same in a turn
+
+module _ (out into : List Item) (s : Turn) where
+  pub came_change : (ys : List Parcel) → Trade Came out into s.came ys → Changes out into s (record s { came = ys })
+  came_change ys k = (λ w. omega (arith, k.sums w), has)
+    where
+      has : (i : Item) → Has (record s { came = ys }) i → Has s i ⊎ Among i into
+      has (Came x) m = k.there x m
+      has i m = inl m
+
+  pub mailed_change : (ys : List Parcel) → Trade Mailed out into s.mailed ys → Changes out into s (record s { mailed = ys })
+  mailed_change ys k = (λ w. omega (arith, k.sums w), has)
+    where
+      has : (i : Item) → Has (record s { mailed = ys }) i → Has s i ⊎ Among i into
+      has (Mailed x) m = k.there x m
+      has i m = inl m
+
+  pub working_change : (ys : List Waits) → Trade Working out into s.working ys → Changes out into s (record s { working = ys })
+  working_change ys k = (λ w. omega (arith, k.sums w), has)
+    where
+      has : (i : Item) → Has (record s { working = ys }) i → Has s i ⊎ Among i into
+      has (Working x) m = k.there x m
+      has i m = inl m
+
+  pub due_change : (ys : List Due) → Trade IsDue out into s.due ys → Changes out into s (record s { due = ys })
+  due_change ys k = (λ w. omega (arith, k.sums w), has)
+    where
+      has : (i : Item) → Has (record s { due = ys }) i → Has s i ⊎ Among i into
+      has (IsDue x) m = k.there x m
+      has i m = inl m
+
+  pub loose_change : (ys : List Id) → Trade Loose out into s.loose ys → Changes out into s (record s { loose = ys })
+  loose_change ys k = (λ w. omega (arith, k.sums w), has)
+    where
+      has : (i : Item) → Has (record s { loose = ys }) i → Has s i ⊎ Among i into
+      has (Loose x) m = k.there x m
+      has i m = inl m
+
+  pub desk_change : (ys : List Parcel) → Trade OnDesk out into s.tables.desk ys → Changes out into s (record s { tables = record s.tables { desk = ys } })
+  desk_change ys k = (λ w. omega (arith, k.sums w), has)
+    where
+      has : (i : Item) → Has (record s { tables = record s.tables { desk = ys } }) i → Has s i ⊎ Among i into
+      has (OnDesk x) m = k.there x m
+      has i m = inl m
+
+  pub outgoing_change : (ys : List Outgoing) → Trade Going out into s.tables.outgoing ys → Changes out into s (record s { tables = record s.tables { outgoing = ys } })
+  outgoing_change ys k = (λ w. omega (arith, k.sums w), has)
+    where
+      has : (i : Item) → Has (record s { tables = record s.tables { outgoing = ys } }) i → Has s i ⊎ Among i into
+      has (Going x) m = k.there x m
+      has i m = inl m
+
+  pub accepted_change : (ys : List Act) → Trade Accepted out into s.tables.accepted ys → Changes out into s (record s { tables = record s.tables { accepted = ys } })
+  accepted_change ys k = (λ w. omega (arith, k.sums w), has)
+    where
+      has : (i : Item) → Has (record s { tables = record s.tables { accepted = ys } }) i → Has s i ⊎ Among i into
+      has (Accepted x) m = k.there x m
+      has i m = inl m
+
+  pub running_change : (ys : List Act) → Trade Running out into s.tables.running ys → Changes out into s (record s { tables = record s.tables { running = ys } })
+  running_change ys k = (λ w. omega (arith, k.sums w), has)
+    where
+      has : (i : Item) → Has (record s { tables = record s.tables { running = ys } }) i → Has s i ⊎ Among i into
+      has (Running x) m = k.there x m
+      has i m = inl m
+
+  pub pending_change : (ys : List Waits) → Trade Pending out into s.tables.pending ys → Changes out into s (record s { tables = record s.tables { pending = ys } })
+  pending_change ys k = (λ w. omega (arith, k.sums w), has)
+    where
+      has : (i : Item) → Has (record s { tables = record s.tables { pending = ys } }) i → Has s i ⊎ Among i into
+      has (Pending x) m = k.there x m
+      has i m = inl m
+
+  pub objects_change : (ys : List Standing) → Trade StandsHere out into s.tables.objects ys → Changes out into s (record s { tables = record s.tables { objects = ys } })
+  objects_change ys k = (λ w. omega (arith, k.sums w), has)
+    where
+      has : (i : Item) → Has (record s { tables = record s.tables { objects = ys } }) i → Has s i ⊎ Among i into
+      has (StandsHere x) m = k.there x m
+      has i m = inl m
+
+-- ---- one more message
+
+-- what is new then
+abbrev pub sent_if : Bool → Bool → ℕ → Parcel → List Item
+sent_if b other to p = cond b (sent_as other to p ∷ []) []
+
+pub mail_change : (b : Bool) (to : ℕ) (p : Parcel) (s : Turn) → Changes [] (sent_if b (is_other s.tables to) to p) s (mails_if b to p s)
+mail_change b to p s = (
+  λ w. omega (
+    arith,
+    sum_by-append (λ x. w (OnDesk x)) s.tables.desk (cond b (cond other [] (p ∷ [])) []),
+    sum_by-append (λ x. w (Going x)) s.tables.outgoing (cond b (cond other (going to p ∷ []) []) []),
+    both b other w,
+  ),
+  has b other,
+)
+  where
+    other : Bool
+    other = is_other s.tables to
+
+    both : (b o : Bool) (w : Item → ℕ)
+        → sum_by (λ x. w (OnDesk x)) (cond b (cond o [] (p ∷ [])) []) + sum_by (λ x. w (Going x)) (cond b (cond o (going to p ∷ []) []) []) ≡ total w (sent_if b o to p)
+    both true true w = omega (arith, sum_by-cons (λ x. w (Going x)) (going to p) [])
+    both true false w = omega (arith, sum_by-cons (λ x. w (OnDesk x)) p [])
+    both false o w = refl
+
+    desk : (b o : Bool) (x : Parcel) → Among x (cond b (cond o [] (p ∷ [])) []) → Among (OnDesk x) (sent_if b o to p)
+    desk true true x m = absurd m
+    desk true false x (inl e) = inl (ap (λ q. OnDesk q) e)
+    desk true false x (inr m) = absurd m
+    desk false o x m = absurd m
+
+    out : (b o : Bool) (x : Outgoing) → Among x (cond b (cond o (going to p ∷ []) []) []) → Among (Going x) (sent_if b o to p)
+    out true true x (inl e) = inl (ap (λ q. Going q) e)
+    out true true x (inr m) = absurd m
+    out true false x m = absurd m
+    out false o x m = absurd m
+
+    then_sent : Bool → Bool → Turn
+    then_sent b o = record s {
+      tables = record s.tables {
+        desk = s.tables.desk ++ cond b (cond o [] (p ∷ [])) [];
+        outgoing = s.tables.outgoing ++ cond b (cond o (going to p ∷ []) []) [];
+      };
+    }
+
+    has : (b o : Bool) (i : Item) → Has (then_sent b o) i → Has s i ⊎ Among i (sent_if b o to p)
+    has b o (OnDesk x) m = elim (among_either x s.tables.desk (cond b (cond o [] (p ∷ [])) []) m) [
+      | inl a ↦ inl a
+      | inr k ↦ inr (desk b o x k)
+    ]
+    has b o (Going x) m = elim (among_either x s.tables.outgoing (cond b (cond o (going to p ∷ []) []) []) m) [
+      | inl a ↦ inl a
+      | inr k ↦ inr (out b o x k)
+    ]
+    has b o i m = inl m
+
+-- ---- one more action
+
+-- what is new then: an accepted action, or a message
+abbrev pub put_as : Bool → Bool → Act → Item
+put_as stay other act = cond stay (Accepted act) (sent_as other (target_of act).home (parcel_for act))
+
+pub post_change : (act : Act) (s : Turn) → Changes [] (put_as (may_stay s.tables act) (is_other s.tables (target_of act).home) act ∷ []) s (posts act s)
+post_change act s =
+    let stay : Bool = may_stay s.tables act in
+    let other : Bool = is_other s.tables (target_of act).home in
+    let mailed : Turn = mails_if (not stay) (target_of act).home (parcel_for act) s in
+    let mail = mail_change (not stay) (target_of act).home (parcel_for act) s in
+    let more = accepted_change [] (map (λ x. Accepted x) (cond stay (act ∷ []) [])) mailed
+    (s.tables.accepted ++ cond stay (act ∷ []) []) (more_come (λ x. Accepted x) s.tables.accepted (cond stay (act ∷ []) [])) in (
+      λ w. omega (arith, mail.0 w, more.0 w, sums stay other w),
+      λ i m. elim (more.1 i m) [
+        | inr a ↦ inr (inl_of stay other i a)
+        | inl h ↦ elim (mail.1 i h) [
+          | inl k ↦ inl k
+          | inr b ↦ inr (inr_of stay other i b)
+        ]
+      ],
+    )
+  where
+    sums : (stay other : Bool) (w : Item → ℕ)
+        → total w (map (λ x. Accepted x) (cond stay (act ∷ []) [])) + total w (sent_if (not stay) other (target_of act).home (parcel_for act)) ≡ total w (put_as stay other act ∷ [])
+    sums true other w = omega arith
+    sums false other w = omega arith
+
+    inl_of : (stay other : Bool) (i : Item) → Among i (map (λ x. Accepted x) (cond stay (act ∷ []) [])) → Among i (put_as stay other act ∷ [])
+    inl_of true other i m = m
+    inl_of false other i m = absurd m
+
+    inr_of : (stay other : Bool) (i : Item) → Among i (sent_if (not stay) other (target_of act).home (parcel_for act)) → Among i (put_as stay other act ∷ [])
+    inr_of true other i m = absurd m
+    inr_of false other i m = m
+
+-- ---- the message in hand
+
+-- wherever it is from
+abbrev pub in_hand : Bool → Parcel → Item
+in_hand from_frame p = cond from_frame (Came p) (Mailed p)
+
+abbrev pub is_frame : (p : Parcel) (s : Turn) → HasInHand p s → Bool
+is_frame p s (inl h) = true
+is_frame p s (inr h) = false
+
+pub hand_is : (p : Parcel) (s : Turn) (hand : HasInHand p s) → Has s (in_hand (is_frame p s hand) p)
+hand_is p s (inl h) = rw h.0 (inl refl)
+hand_is p s (inr h) = rw h.1 (inl refl)
+
+pub drop_change : (p : Parcel) (s : Turn) (hand : HasInHand p s) → Changes (in_hand (is_frame p s hand) p ∷ []) [] s (drops s)
+drop_change p s (inl h) = (
+  λ w. omega (arith, ap (sum_by (λ x. w (Came x))) h.0, ap (sum_by (λ x. w (Mailed x))) h.1, sum_by-cons (λ x. w (Came x)) p []),
+  has,
+)
+  where
+    has : (i : Item) → Has (drops s) i → Has s i ⊎ Among i []
+    has (Came x) m = absurd m
+    has (Mailed x) m = absurd m
+    has i m = inl m
+drop_change p s (inr h) = (
+  λ w. omega (arith, ap (sum_by (λ x. w (Came x))) h.0, ap (sum_by (λ x. w (Mailed x))) h.1, sum_by-cons (λ x. w (Mailed x)) p []),
+  has,
+)
+  where
+    has : (i : Item) → Has (drops s) i → Has s i ⊎ Among i []
+    has (Came x) m = absurd m
+    has (Mailed x) m = absurd m
+    has i m = inl m

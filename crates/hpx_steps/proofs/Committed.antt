@@ -1,0 +1,333 @@
+-- A commit in work is done, or fails: its objects are made, its ids are halved, it ends, what is due is sent, and what nobody names is given up.
+use Rattle.std.proofs.Common.{List, None, Option, Some, [], ap, append-nil, append_assoc, arith, cond, false, length, map, refl, set, subst, suc, sym, zero, ℕ, ◌++◌, ◌+◌, ◌<◌, ◌∙◌, ◌∷◌, ◌≡◌, ◌≤◌}
+use Rattle.std.proofs.lemmas.List.{length-map, map-append}
+use Rattle.std.specs.List.{AllByRecursion, find, remove, slice_get}
+use Rattle.std.specs.Prelude.{MatchOption, is_some}
+use Rattle.hpx_value.specs.Hands.{due_of, hand_ids, id_at, state_after}
+use Rattle.hpx_value.specs.Ids.{bare}
+use Rattle.hpx_value.specs.Values.{bare_act, bare_state}
+use Rattle.hpx_value.specs.declared.acts.Job.{Job}
+use Rattle.hpx_value.specs.declared.outcome.Outcome.{Outcome}
+use Rattle.hpx_parcel.specs.Parcels.{HasCredit, HasRightCredit}
+use Rattle.hpx_journal.specs.Data.{Act, Due, Id, State}
+use Rattle.hpx_journal.specs.Entries.{Rules, name_of, target_of}
+use Rattle.hpx_journal.specs.Local.{failure, is_standing}
+use Rattle.hpx_journal.specs.Rows.{AreMade}
+use Rattle.hpx_part.specs.Data.{Done, Entry, Event, Standing}
+use Rattle.hpx_part.specs.Parts.{at_all}
+use Rattle.hpx_commit.specs.Deals.{AreWithin, Lasts, named}
+use Rattle.hpx_commit.specs.Stocks.{Stock}
+use Rattle.hpx_tables.proofs.Alls.{all_at, all_set, find_passes, get_before}
+use Rattle.hpx_tables.specs.Awaited.{answered_by}
+use Rattle.hpx_tables.specs.Births.{IsBirth, birth_of, births_of, ids_of, objects_of, records_of}
+use Rattle.hpx_tables.specs.Fit.{IsFitDue, IsKept}
+use Rattle.hpx_tables.specs.Pending.{Waits, ids_named, waits_with}
+use Rattle.hpx_tables.specs.Splits.{splits_from}
+use Rattle.hpx_tables.specs.Tables.{Tables}
+use Rattle.hpx_tables.specs.declared.births.Birth.{Birth}
+use Rattle.hpx_steps.specs.Calls.{ups, with_due, with_left, written_due}
+use Rattle.hpx_steps.specs.Mail.{wrote}
+use Rattle.hpx_steps.specs.Rest.{Stands, rules_of}
+use Rattle.hpx_steps.specs.Steps.{Commits, Deals, Remains, Step, Steps, Suspend, Writes, ends, with_credit}
+use Rattle.hpx_steps.specs.Turn.{Turn, at_rest, bare_due, bare_standing}
+use Rattle.hpx_steps.specs.Items.{StandsHere}
+use Rattle.hpx_steps.proofs.Changes.{all_among}
+use Rattle.hpx_steps.proofs.Made.{Drawn, made_so}
+use Rattle.hpx_steps.proofs.Handled.{due_steps, let_go, steps_append, ups_steps, with_loose, written_events}
+use Rattle.hpx_steps.proofs.Objects.{find_more, get_set, single_found, single_set}
+use Rattle.hpx_steps.proofs.TurnOf.{turn_stands}
+use Rattle.hpx_steps.proofs.Work.{births_steps, halved_from, splits_steps, with_births, with_hand}
+
+-- ids that all have a credit
+with_all : (ids : List Id) → AllByRecursion HasCredit ids → with_credit ids ≡ ids
+with_all [] h = refl
+with_all (id ∷ ids) h = each id.log h.0 (with_all ids h.1)
+  where
+    each : (l : Option ℕ) → MatchOption l ⊥ (λ x. 16 ≤ id.kind) → with_credit ids ≡ ids → cond (is_some l) (id ∷ with_credit ids) (with_credit ids) ≡ id ∷ ids
+    each None k rest = absurd k
+    each (Some l) k rest = ap (λ is. id ∷ is) rest
+
+-- what an action left is sent and given up
+pub left_steps : (r : Rules) (s : Turn) (due : List Due) (loose : List Id) → s.fresh ≡ [] → AllByRecursion HasCredit loose
+    → (l : Option Event) × Steps r (record s { due = due; loose = loose }) (map (λ e. Writes e) (written_due s.tables.here s.tables.serial due ++ ups loose))
+    (record s { due = []; loose = []; tables = with_left due loose s.tables; last = l })
+left_steps r s due loose fresh credit =
+    let one = due_steps r (record s { loose = loose }) due fresh in
+    let m : Turn = record s { due = []; tables = with_due due s.tables; last = one.0 } in
+    let two = ups_steps r m loose refl fresh in (
+      two.0,
+      subst (λ labels. Steps r (record s { due = due; loose = loose }) labels (record s { due = []; loose = []; tables = with_left due loose s.tables; last = two.0 }))
+          (sym (map-append (λ e. Writes e) (written_due s.tables.here s.tables.serial due) (ups loose)))
+          (steps_append r (record s { due = due; loose = loose }) (record m { loose = loose }) (record s { due = []; loose = []; tables = with_left due loose s.tables; last = two.0 })
+          (map (λ e. Writes e) (written_due s.tables.here s.tables.serial due)) (map (λ e. Writes e) (ups loose)) one.1
+          (subst (λ ids. Steps r (with_loose ids m) (map (λ e. Writes e) (ups loose)) (let_go loose two.0 m)) (with_all loose credit) two.1)),
+    )
+
+-- ---- what a commit leaves
+
+-- what a commit that is in work here leaves, once its objects are made and this is in its hand; its object is x
+pub record IsLeftBy (r : Rules) (t : Tables) (w : Waits) (x : Standing) (hand made : List Id) (left : Remains) : Type 0 where
+  pub right : w.outcome ≡ r.outcome_of x.object.kind t.here x.state (bare_act w.job.action)
+  pub says : bare_state left.state ≡ state_after x.state (bare_act w.job.action) made w.outcome
+  pub leaves : map bare_due left.due ≡ due_of x.state (bare_act w.job.action) made w.outcome
+  pub kept : IsKept (record { object = x.object; state = left.state })
+  pub plain : x.object.kind ≡ 7 → left.state ≡ x.state
+  pub credit : AllByRecursion HasRightCredit left.state.ids
+  pub fits : AllByRecursion IsFitDue left.due
+  pub given_up : AllByRecursion HasCredit left.loose
+  pub deals : Deals hand left.state left.due left.loose
+
+-- what a commit leaves that fails; its object is x
+pub record IsLeftFailed (w : Waits) (x : Standing) (left : Remains) : Type 0 where
+  pub says : bare_state left.state ≡ bare_state w.job.state
+  pub leaves : map bare_due left.due ≡ failure (bare_act w.job.action)
+  pub kept : IsKept (record { object = x.object; state = left.state })
+  pub plain : x.object.kind ≡ 7 → left.state ≡ x.state
+  pub credit : AllByRecursion HasRightCredit left.state.ids
+  pub fits : AllByRecursion IsFitDue left.due
+  pub given_up : AllByRecursion HasCredit left.loose
+  pub deals : Deals w.hand left.state left.due left.loose
+
+pub all_right : (ids : List Id) → AllByRecursion HasCredit ids → AllByRecursion HasRightCredit ids
+all_right [] h = tt
+all_right (id ∷ ids) h = (each id.log h.0, all_right ids h.1)
+  where
+    each : (l : Option ℕ) → MatchOption l ⊥ (λ x. 16 ≤ id.kind) → MatchOption l (id.kind < 16) (λ x. 16 ≤ id.kind)
+    each None k = absurd k
+    each (Some l) k = k
+
+-- ---- a commit with this in its hand, and these places named there
+
+module _ (r : Rules) (s : Turn) (w : Waits) (rest : List Waits) (front later back : List Id) (places : List ℕ) (due : s.due ≡ []) (fresh : s.fresh ≡ []) (loose : s.loose ≡ [])
+    (lacks : w.asked ≡ []) (none : AllByRecursion (λ (id : Id). id.log ≡ None) later) (many : length later ≡ length w.outcome.makes)
+    (long : length (ids_named w) ≤ length front) (fit : AllByRecursion IsBirth (map birth_of w.outcome.makes)) where
+  abbrev ids : List Id
+  ids = ids_of s.tables.here s.tables.births s.tables.profile.credit_log (map birth_of w.outcome.makes)
+
+  -- the hand, once all objects are made
+  abbrev pub full_hand : List Id
+  full_hand = front ++ (ids_of s.tables.here s.tables.births s.tables.profile.credit_log (map birth_of w.outcome.makes) ++ back)
+
+  abbrev stock : Stock
+  stock = record { hand = full_hand; places = places }
+
+  -- and once all ids are halved
+  abbrev pub halved_hand : List Id
+  halved_hand = (halved_from (length full_hand) 0 stock).hand
+
+  abbrev born : Turn
+  born = with_births w rest front back w.outcome.makes None s
+
+  -- before its Done
+  abbrev pub ready : Option Event → Turn
+  ready l = record (with_births w rest front back w.outcome.makes l s) { working = record w { hand = halved_hand } ∷ rest }
+
+  abbrev pub events : List Event
+  events = births_of s.tables.here s.tables.births (map birth_of w.outcome.makes) ++ splits_from 0 full_hand places
+
+  pub ready_steps : AreWithin full_hand places → ((q : ℕ) → q < length full_hand → Lasts (id_at full_hand q) (named places q))
+      → (l : Option Event) × Steps r (with_hand w rest (front ++ (later ++ back)) s) (map (λ e. Writes e) events) (ready l)
+  ready_steps within lasts =
+      let one = births_steps r s w rest front later back [] w.outcome.makes due lacks refl (ap (λ (xs : List Id). length xs) (sym fresh)) many none long fit in
+      let m : Turn = with_births w rest front back w.outcome.makes one.0 s in
+      let two = splits_steps r w rest full_hand places lacks m (length full_hand) 0 stock due (omega arith) within (omega arith) (λ q le lt. (refl, refl)) lasts in (
+        two.0,
+        subst (λ labels. Steps r (with_hand w rest (front ++ (later ++ back)) s) labels (ready two.0))
+            (sym (map-append (λ e. Writes e) (births_of s.tables.here s.tables.births (map birth_of w.outcome.makes)) (splits_from 0 full_hand places)))
+            (steps_append r (with_hand w rest (front ++ (later ++ back)) s) m (ready two.0)
+            (map (λ e. Writes e) (births_of s.tables.here s.tables.births (map birth_of w.outcome.makes))) (map (λ e. Writes e) (splits_from 0 full_hand places)) one.1 two.1),
+      )
+
+  -- the whole commit, where its Done may be written
+  pub commit_steps : (j : ℕ) (x : Standing) (left : Remains) → AreWithin full_hand places → ((q : ℕ) → q < length full_hand → Lasts (id_at full_hand q) (named places q))
+      → AllByRecursion HasCredit left.loose
+      → ((l : Option Event) → Commits r (ready l) (name_of w.job.action) (wrote (Done (name_of w.job.action) false) (ends j (record w { hand = halved_hand }) rest x left (ready l))))
+      → (l : Option Event) × Steps r (with_hand w rest (front ++ (later ++ back)) s)
+      (map (λ e. Writes e) (events ++ (Done (name_of w.job.action) false ∷ (written_due s.tables.here s.tables.serial left.due ++ ups left.loose))))
+      (record (ends j (record w { hand = halved_hand }) rest x left (ready l)) {
+        due = [];
+        loose = [];
+        tables = with_left left.due left.loose (ends j (record w { hand = halved_hand }) rest x left (ready l)).tables;
+        last = l;
+      })
+  commit_steps j x left within lasts credit done =
+      let one = ready_steps within lasts in
+      let d : Turn = wrote (Done (name_of w.job.action) false) (ends j (record w { hand = halved_hand }) rest x left (ready one.0)) in
+      let two = left_steps r (record d { due = []; loose = [] }) left.due left.loose refl credit in
+      let start : d ≡ record d { due = left.due; loose = left.loose } = ap (λ is. record d { loose = is ++ left.loose }) loose in (
+        two.0,
+        subst (λ labels. Steps r (with_hand w rest (front ++ (later ++ back)) s) labels (record d { due = []; loose = []; tables = with_left left.due left.loose d.tables; last = two.0 }))
+            (sym (map-append (λ e. Writes e) events (Done (name_of w.job.action) false ∷ (written_due s.tables.here s.tables.serial left.due ++ ups left.loose))))
+            (steps_append r (with_hand w rest (front ++ (later ++ back)) s) (ready one.0) (record d { due = []; loose = []; tables = with_left left.due left.loose d.tables; last = two.0 })
+            (map (λ e. Writes e) events) (map (λ e. Writes e) (Done (name_of w.job.action) false ∷ (written_due s.tables.here s.tables.serial left.due ++ ups left.loose))) one.1 (
+              d,
+              done one.0,
+              subst (λ z. Steps r z (map (λ e. Writes e) (written_due s.tables.here s.tables.serial left.due ++ ups left.loose))
+                  (record d { due = []; loose = []; tables = with_left left.due left.loose d.tables; last = two.0 })) (sym start) two.1,
+            )),
+      )
+
+  -- where its object is x, at j
+  pub done_steps : (j : ℕ) (x : Standing) (left : Remains) → AreWithin full_hand places → ((q : ℕ) → q < length full_hand → Lasts (id_at full_hand q) (named places q))
+      → slice_get s.tables.objects j ≡ Some x → find (is_standing (target_of w.job.action)) s.tables.objects ≡ Some x
+      → AllByRecursion (Drawn s.tables.here s.tables.births) s.tables.objects
+      → IsLeftBy r s.tables w x halved_hand (map bare (ids_of s.tables.here s.tables.births s.tables.profile.credit_log (map birth_of w.outcome.makes))) left
+      → (l : Option Event) × Steps r (with_hand w rest (front ++ (later ++ back)) s)
+      (map (λ e. Writes e) (events ++ (Done (name_of w.job.action) false ∷ (written_due s.tables.here s.tables.serial left.due ++ ups left.loose))))
+      (record (ends j (record w { hand = halved_hand }) rest x left (ready l)) {
+        due = [];
+        loose = [];
+        tables = with_left left.due left.loose (ends j (record w { hand = halved_hand }) rest x left (ready l)).tables;
+        last = l;
+      })
+  done_steps j x left within lasts stands found drawn by =
+      let born : List Id = map bare (ids_of s.tables.here s.tables.births s.tables.profile.credit_log (map birth_of w.outcome.makes)) in
+      let is_fresh : born ≡ s.fresh ++ born = ap (λ os. os ++ born) (sym fresh) in
+      commit_steps j x left within lasts by.given_up (λ l. record {
+        w = record w { hand = halved_hand };
+        rest = rest;
+        j = j;
+        x = x;
+        left = left;
+        ending = record {
+          due = due;
+          works = refl;
+          lacks = lacks;
+          name = refl;
+          stands = get_before s.tables.objects (objects_of s.tables.here s.tables.births (map birth_of w.outcome.makes)) j x stands;
+          found = find_more (is_standing (target_of w.job.action)) s.tables.objects (objects_of s.tables.here s.tables.births (map birth_of w.outcome.makes)) x found;
+          kept = by.kept;
+          plain = by.plain;
+          credit = by.credit;
+          fits = by.fits;
+          given_up = all_right left.loose by.given_up;
+          deals = by.deals;
+        };
+        right = by.right;
+        made = subst (λ os. AreMade w.outcome.makes os (map bare_standing (s.tables.objects ++ objects_of s.tables.here s.tables.births (map birth_of w.outcome.makes)))) is_fresh
+            (made_so s.tables.here s.tables.births s.tables.profile.credit_log w.outcome.makes s.tables.objects fit drawn);
+        says = by.says ∙ ap (λ os. state_after x.state (bare_act w.job.action) os w.outcome) is_fresh;
+        leaves = by.leaves ∙ ap (λ os. due_of x.state (bare_act w.job.action) os w.outcome) is_fresh;
+        now = refl;
+      })
+
+-- ---- a job commits, from rest to rest
+
+set_twice : (xs ys : List Standing) (j : ℕ) (x y z : Standing) → slice_get xs j ≡ Some x → set (set xs j y ++ ys) j z ≡ set (xs ++ ys) j z
+set_twice [] ys j x y z h = cc
+set_twice (v ∷ xs) ys zero x y z h = refl
+set_twice (v ∷ xs) ys (suc j) x y z h = ap (λ os. v ∷ os) (set_twice xs ys j x y z h)
+
+module _ (act_of : ℕ → ℕ → ℕ → State → Act → Outcome) (t : Tables) (entries : List Entry) (h : Stands act_of t entries) (i j : ℕ) (job : Job) (out : Outcome) (x : Standing)
+    (runs : slice_get t.running i ≡ Some job.action) (stands : slice_get t.objects j ≡ Some x) (found : find (is_standing (target_of job.action)) t.objects ≡ Some x)
+    (at : job.at ≡ t.here) (kind : job.kind ≡ x.object.kind) (state : job.state ≡ x.state) (few : (t.localities ≤ 64) × (job.at < t.localities))
+    (places : List ℕ) (fit : AllByRecursion IsBirth (map birth_of out.makes)) where
+  abbrev r : Rules
+  r = rules_of act_of t.localities t.profile
+
+  -- the ids of what it makes
+  abbrev made : List Id
+  made = ids_of t.here t.births t.profile.credit_log (map birth_of out.makes)
+
+  abbrev own : List Id
+  own = job.state.ids ++ job.action.ids
+
+  abbrev later : List Id
+  later = map bare made
+
+  -- its hand, with those of what it makes
+  abbrev pub hand : List Id
+  hand = (job.state.ids ++ job.action.ids) ++ (ids_of t.here t.births t.profile.credit_log (map birth_of out.makes) ++ [])
+
+  abbrev pub cut : List Id
+  cut = (halved_from (length hand) 0 (record { hand = hand; places = places })).hand
+
+  abbrev lent : Standing
+  lent = record { object = x.object; state = bare_state x.state }
+
+  -- it is in work
+  abbrev w : Waits
+  w = waits_with job out t.localities [] (record { hand = hand_ids job.state job.action later; places = places })
+
+  abbrev begun : Turn
+  begun = record (at_rest (record t { running = remove t.running i; objects = set t.objects j lent })) { working = w ∷ [] }
+
+  begins : Step r (at_rest t) Suspend begun
+  begins = record {
+    calm = record { due = refl; fresh = refl };
+    i = i;
+    j = j;
+    job = job;
+    outcome = out;
+    x = x;
+    runs = runs;
+    stands = stands;
+    found = found;
+    here = at;
+    kind = kind;
+    state = state;
+    few = few;
+    later = later;
+    none = bare_none made;
+    places = places;
+    now = refl;
+  }
+    where
+      bare_none : (ids : List Id) → AllByRecursion (λ (id : Id). id.log ≡ None) (map bare ids)
+      bare_none [] = tt
+      bare_none (id ∷ ids) = (refl, bare_none ids)
+
+  hand_is : hand_ids job.state job.action later ≡ own ++ (later ++ [])
+  hand_is = sym (append_assoc job.state.ids job.action.ids later) ∙ ap (λ ids. own ++ ids) (sym (append-nil later))
+
+  -- where it leads
+  abbrev pub committed : Remains → Tables
+  committed left = with_left left.due left.loose (record t {
+    running = remove t.running i;
+    births = t.births + length out.makes;
+    records = t.records ++ records_of t.here t.births t.profile.credit_log (map birth_of out.makes);
+    objects = set (t.objects ++ objects_of t.here t.births (map birth_of out.makes)) j (record { object = x.object; state = left.state });
+    answered = t.answered + answered_by (Some job.action);
+  })
+
+  pub commit_stands : (left : Remains) → AreWithin hand places → ((q : ℕ) → q < length hand → Lasts (id_at hand q) (named places q))
+      → IsLeftBy r (record t { running = remove t.running i; objects = set t.objects j (record { object = x.object; state = bare_state x.state }) })
+      (waits_with job out t.localities [] (record { hand = hand_ids job.state job.action (map bare made); places = places })) (record { object = x.object; state = bare_state x.state }) cut (map bare made) left
+      → Stands act_of (committed left) (entries ++ at_all t.here (births_of t.here t.births (map birth_of out.makes)
+      ++ (splits_from 0 hand places ++ (Done (name_of job.action) false ∷ (written_due t.here t.serial left.due ++ ups left.loose)))))
+  commit_stands left within lasts by =
+      let s : Turn = record begun { working = [] } in
+      let drawn : AllByRecursion (Drawn t.here t.births) t.objects = all_among (Drawn t.here t.births) t.objects (λ y m. (h.tidy (StandsHere y) m).1) in
+      let more = done_steps r s w [] own later [] places refl refl refl refl (all_none_log made) (omega (arith, length-map made bare, made_long t.here t.births t.profile.credit_log (map birth_of out.makes), length-map out.makes birth_of))
+      (omega arith) fit j lent left within lasts (get_set t.objects j x lent stands)
+      (single_found (set t.objects j lent) j lent (target_of job.action) (single_set t.objects j x lent stands refl h.places.single) (get_set t.objects j x lent stands)
+      (find_passes (is_standing (target_of job.action)) t.objects x found))
+      (all_set (Drawn t.here t.births) t.objects j lent drawn (all_at (Drawn t.here t.births) t.objects j x drawn stands)) by in
+      let events : List Event = (births_of t.here t.births (map birth_of out.makes) ++ splits_from 0 hand places) ++ (Done (name_of job.action) false ∷ (written_due t.here t.serial left.due ++ ups left.loose)) in
+      let ends : Turn = record (at_rest (committed left)) { last = more.0 } in
+      let objects : set (set t.objects j lent ++ objects_of t.here t.births (map birth_of out.makes)) j (record { object = x.object; state = left.state })
+      ≡ set (t.objects ++ objects_of t.here t.births (map birth_of out.makes)) j (record { object = x.object; state = left.state }) =
+      set_twice t.objects (objects_of t.here t.births (map birth_of out.makes)) j x lent (record { object = x.object; state = left.state }) stands in
+      subst (λ es. Stands act_of (committed left) (entries ++ at_all t.here es))
+      (written_events events ∙ append_assoc (births_of t.here t.births (map birth_of out.makes)) (splits_from 0 hand places) (Done (name_of job.action) false ∷ (written_due t.here t.serial left.due ++ ups left.loose)))
+      (turn_stands act_of t (committed left) entries (Suspend ∷ map (λ e. Writes e) events) more.0 h (
+        begun,
+        begins,
+        subst (λ z. Steps r z (map (λ e. Writes e) events) ends) (ap (λ ids. record s { working = record w { hand = ids } ∷ [] }) (sym hand_is))
+            (subst (λ os. Steps r (with_hand w [] (own ++ (later ++ [])) s) (map (λ e. Writes e) events)
+            (record (at_rest (with_left left.due left.loose (record t {
+              running = remove t.running i;
+              births = t.births + length out.makes;
+              records = t.records ++ records_of t.here t.births t.profile.credit_log (map birth_of out.makes);
+              objects = os;
+              answered = t.answered + answered_by (Some job.action);
+            }))) { last = more.0 })) objects more.1),
+      ))
+    where
+      all_none_log : (ids : List Id) → AllByRecursion (λ (id : Id). id.log ≡ None) (map bare ids)
+      all_none_log [] = tt
+      all_none_log (id ∷ ids) = (refl, all_none_log ids)
+
+      made_long : (here n log : ℕ) (xs : List Birth) → length (ids_of here n log xs) ≡ length xs
+      made_long here n log [] = refl
+      made_long here n log (y ∷ ys) = ap (λ k. suc k) (made_long here (n + 1) log ys)

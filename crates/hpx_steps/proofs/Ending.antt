@@ -1,0 +1,257 @@
+-- An action ends: what holds of what it leaves, whether it is done or fails.
+use Rattle.std.proofs.Common.{Bool, List, Option, Some, [], ap, arith, cond, false, inl, length, length-append, map, refl, set, subst, suc, sym, take, true, zero, ℕ, ◌++◌, ◌+◌, ◌<◌, ◌∙◌, ◌∷◌, ◌≡◌, ◌≤◌}
+use Rattle.std.proofs.lemmas.List.{map-append}
+use Rattle.std.proofs.lemmas.List.Sums.{sum_by-append, sum_by-cons}
+use Rattle.std.specs.List.{AllByRecursion, count_by, filter, find, list_any, sum_by}
+use Rattle.std.specs.Option.{option_to_list}
+use Rattle.std.specs.Prelude.{◌&&◌, ◌==◌}
+use Rattle.hpx_value.specs.Hands.{id_at, session}
+use Rattle.hpx_value.specs.Ids.{same_object}
+use Rattle.hpx_value.specs.Values.{bare_act, bare_state}
+use Rattle.hpx_journal.specs.Data.{Act, Due, Id, State}
+use Rattle.hpx_journal.specs.Entries.{Rules, name_of, target_of}
+use Rattle.hpx_journal.specs.Local.{is_act, is_standing}
+use Rattle.hpx_journal.specs.Names.{due_ids}
+use Rattle.hpx_part.proofs.Keyed.{Agree-found, any_counted, counted_any, counts_of}
+use Rattle.hpx_part.proofs.Keys.{means, own}
+use Rattle.hpx_part.specs.Data.{Done, Entry, Name, Refusal, Standing, Token}
+use Rattle.hpx_part.specs.Keyed.{Agree}
+use Rattle.hpx_part.specs.Shows.{Leads, same_refusal}
+use Rattle.hpx_tables.proofs.Alls.{all_append, find_passes, some_same}
+use Rattle.hpx_tables.specs.Awaited.{answered_by, is_answer}
+use Rattle.hpx_tables.specs.Pending.{Waits, action_of, fired_of, ids_named, is_asked, is_asked_for, own_ids, refusal_of, refusals_of}
+use Rattle.hpx_tables.specs.declared.pending.Asked.{Asked as AskedFor}
+use Rattle.hpx_steps.specs.Items.{IsDue, Item, Loose, StandsHere, Working, weigh}
+use Rattle.hpx_steps.specs.Mail.{wrote}
+use Rattle.hpx_steps.specs.Numbered.{asks_under}
+use Rattle.hpx_steps.specs.Paused.{HasCommits, IsCommit, names_of}
+use Rattle.hpx_steps.specs.Rows.{Row, causes, freeing, goes, hopping, joined, unpaid}
+use Rattle.hpx_steps.specs.Sound.{HasPlaces, IsSound, IsTidy, TidyAt, asked_by, asking, given_to, waits_for, worth}
+use Rattle.hpx_steps.specs.Steps.{Ends, Remains, ends}
+use Rattle.hpx_steps.specs.Turn.{Turn, bare_standing, commits, tokens, tokens_of, view}
+use Rattle.hpx_steps.proofs.Bare.{bare_lent, no_tokens}
+use Rattle.hpx_steps.proofs.Beside.{end_commits}
+use Rattle.hpx_steps.proofs.Busy.{found-bare}
+use Rattle.hpx_steps.proofs.ByRows.{by_rows}
+use Rattle.hpx_steps.proofs.Changes.{Changes, all_come, among_at, due_change, first_goes, holding, loose_change, more_come, objects_change, one_turns, then, total, total_append, total_map, working_change}
+use Rattle.hpx_steps.proofs.Lists.{none_sum}
+use Rattle.hpx_steps.proofs.Objects.{single_set, stand_set}
+use Rattle.hpx_steps.proofs.Puts.{target-bare}
+use Rattle.hpx_steps.proofs.Sums.{ids_each, ids_flat, view_asking, view_worth}
+use Rattle.hpx_steps.proofs.Then.{Keeps, fewer}
+use Rattle.hpx_steps.proofs.Tidy.{retidy}
+
+module _ (r : Rules) (s : Turn) (entries : List Entry) (h : IsSound r s entries) (w : Waits) (rest : List Waits) (j : ℕ) (x : Standing) (left : Remains)
+    (g : Ends s (name_of w.job.action) w rest j x left) where
+  abbrev act : Act
+  act = w.job.action
+
+  abbrev new : Standing
+  new = record { object = x.object; state = left.state }
+
+  abbrev pub now : Turn
+  now = ends j w rest x left s
+
+  abbrev dues : List Item
+  dues = map (λ d. IsDue d) left.due
+
+  abbrev looses : List Item
+  looses = map (λ i. Loose i) left.loose
+
+  abbrev less : Turn
+  less = record s { working = rest }
+
+  abbrev settled : Turn
+  settled = record less { tables = record s.tables { objects = set s.tables.objects j new } }
+
+  abbrev owing : Turn
+  owing = record settled { due = left.due }
+
+  change : Changes (Working w ∷ StandsHere x ∷ []) (StandsHere new ∷ (dues ++ looses)) s now
+  change = then (Working w ∷ []) [] (StandsHere x ∷ []) (StandsHere new ∷ (dues ++ looses)) s less now
+      (working_change (Working w ∷ []) [] s rest (first_goes (λ y. Working y) s.working w rest g.works))
+      (then (StandsHere x ∷ []) (StandsHere new ∷ []) [] (dues ++ looses) less settled now
+      (objects_change (StandsHere x ∷ []) (StandsHere new ∷ []) less (set s.tables.objects j new) (one_turns (λ y. StandsHere y) s.tables.objects j x new g.stands))
+      (then [] dues [] looses settled owing now
+      (due_change [] dues settled left.due (all_come (λ y. IsDue y) s.due left.due g.due))
+      (loose_change [] looses owing (s.loose ++ left.loose) (more_come (λ y. Loose y) s.loose left.loose))))
+
+  -- a weight before and after
+  pub moves : (f : Item → ℕ) → weigh f now + (f (Working w) + f (StandsHere x)) ≡ weigh f s + (f (StandsHere new) + (sum_by (λ d. f (IsDue d)) left.due + sum_by (λ i. f (Loose i)) left.loose))
+  moves f =
+      let k : weigh f now + (f (Working w) + (f (StandsHere x) + 0)) ≡ weigh f s + (f (StandsHere new) + total f (dues ++ looses)) = change.0 f in
+      omega (arith, k, total_append f dues looses, total_map (λ d. IsDue d) f left.due, total_map (λ i. Loose i) f left.loose)
+
+  -- one that sees none of these
+  pub stays : (f : Item → ℕ) → f (Working w) ≡ 0 → f (StandsHere x) ≡ 0 → f (StandsHere new) ≡ 0 → ((d : Due) → f (IsDue d) ≡ 0) → ((i : Id) → f (Loose i) ≡ 0) → weigh f now ≡ weigh f s
+  stays f a b c d e = omega (arith, moves f, a, b, c, none_sum (λ y. f (IsDue y)) left.due d, none_sum (λ y. f (Loose y)) left.loose e)
+
+  pub its : IsCommit s.tables.here s.tables.localities w
+  its = h.tidy (Working w) (rw g.works (inl refl))
+
+  kept : TidyAt s (StandsHere x)
+  kept = h.tidy (StandsHere x) (among_at s.tables.objects j x g.stands)
+
+  pub tidy : IsTidy now
+  tidy = holding (TidyAt now) (StandsHere new ∷ (dues ++ looses)) s now change.1
+      (λ y m. retidy s.tables.here s.tables.localities s.tables.profile.credit_log s.tables.births s.tables.births s.tables.objects (set s.tables.objects j new) (omega arith)
+      (λ o. stand_set (is_standing o) s.tables.objects j x new g.stands refl) y (h.tidy y m))
+      ((g.kept, kept.1), all_append (TidyAt now) dues looses (all_of (λ d. IsDue d) left.due g.fits) (all_of (λ i. Loose i) left.loose g.given_up))
+    where
+      all_of : {X : Type 0} (c : X → Item) (xs : List X) → AllByRecursion (λ y. TidyAt now (c y)) xs → AllByRecursion (TidyAt now) (map c xs)
+      all_of c [] k = tt
+      all_of c (y ∷ ys) k = (k.0, all_of c ys k.1)
+
+  pub same : same_object (target_of w.job.action) x.object ≡ true
+  same = find_passes (is_standing (target_of w.job.action)) s.tables.objects x g.found
+
+  pub was : HasCommits s.tables.objects s.tables.running (w ∷ rest ++ s.tables.pending)
+  was = subst (λ ws. HasCommits s.tables.objects s.tables.running (ws ++ s.tables.pending)) g.works h.commits
+
+  -- its object stood as its job found it, without credits
+  pub lends : x.state ≡ bare_state w.job.state
+  lends = ap (λ (y : Standing). y.state) (some_same x was.each.0.standing (sym g.found ∙ was.each.0.found)) ∙ was.each.0.state
+
+  pub commits_now : HasCommits (set s.tables.objects j new) s.tables.running (rest ++ s.tables.pending)
+  commits_now = end_commits s.tables.objects s.tables.running w (rest ++ s.tables.pending) was h.places.single j x new g.stands same refl
+      (λ k. ap (λ y. record { object = x.object; state = y }) (g.plain k)) g.credit lends
+
+  pub places_now : HasPlaces s.tables.here s.tables.births (set s.tables.objects j new) s.tables.records
+  places_now = record {
+    serves = λ zero. stand_set (is_standing session) s.tables.objects j x new g.stands refl (h.places.serves zero);
+    unborn = h.places.unborn;
+    places = h.places.places;
+    single = single_set s.tables.objects j x new g.stands refl h.places.single;
+  }
+
+  pub dealt : (f : Token → ℕ) → sum_by f (tokens s) ≡ sum_by f (tokens now)
+  dealt f = omega (
+    arith,
+    view_worth f s,
+    view_worth f now,
+    moves (worth f),
+    ap (λ (y : State). sum_by f (tokens_of y.ids)) lends,
+    no_tokens f w.job.state.ids,
+    g.deals f,
+    ids_each f left.loose,
+    ids_flat f due_ids left.due,
+  )
+
+  abbrev pub front : List Act
+  front = map bare_act s.tables.running
+
+  abbrev pub back : List Act
+  back = map bare_act (map action_of (rest ++ s.tables.pending))
+
+  pub fires : (view s).fired ≡ front ++ bare_act w.job.action ∷ back
+  fires = ap (λ ws. map bare_act (fired_of s.tables.running (ws ++ s.tables.pending))) g.works ∙ map-append bare_act s.tables.running (w.job.action ∷ map action_of (rest ++ s.tables.pending))
+
+  pub fires_then : front ++ back ≡ (view now).fired
+  fires_then = sym (map-append bare_act s.tables.running (map action_of (rest ++ s.tables.pending)))
+
+  pub bare_x : bare_state x.state ≡ x.state
+  bare_x = bare_lent x.state w.job.state lends
+
+  pub found : find (is_standing (target_of (bare_act w.job.action))) (map bare_standing s.tables.objects) ≡ Some (bare_standing x)
+  found = ap (λ o. find (is_standing o) (map bare_standing s.tables.objects)) (target-bare w.job.action) ∙ found-bare (target_of w.job.action) s.tables.objects x g.found
+
+  -- nothing more is asked for
+  pub none_left : filter is_asked (own_ids w) ≡ []
+  none_left = none_of_these (length (ids_named w)) w.hand (λ p lt. unasked p lt)
+    where
+      unasked : (p : ℕ) → p < length (ids_named w) → is_asked (id_at w.hand p) ≡ false
+      unasked p lt = each (is_asked (id_at w.hand p)) (sym (its.once p lt) ∙ ap (λ (xs : List AskedFor). count_by (λ (y : AskedFor). y.place == p) xs) g.lacks)
+        where
+          each : (b : Bool) → ◌≡◌ {A = ℕ} (cond b 1 0) 0 → b ≡ false
+          each true e = absurd (omega (arith, e))
+          each false e = refl
+
+      none_of_these : (n : ℕ) (ids : List Id) → ((p : ℕ) → p < n → is_asked (id_at ids p) ≡ false) → filter is_asked (take n ids) ≡ []
+      none_of_these zero ids k = refl
+      none_of_these (suc n) [] k = refl
+      none_of_these (suc n) (y ∷ ys) k = let first : is_asked y ≡ false = k 0 (omega arith) in rw first (none_of_these n ys (λ p lt. k (suc p) (omega (arith, lt))))
+
+  pub asking_same : (o : Id) → count_by (same_object o) (view s).asking ≡ count_by (same_object o) (view now).asking
+  asking_same o = omega (
+    arith,
+    view_asking o s,
+    view_asking o now,
+    stays (asking o) (ap (names_of o) none_left) refl refl (λ d. refl) (λ i. refl),
+  )
+
+  abbrev pub refused : List Refusal
+  refused = refusal_of w.job.action w.refused
+
+  pub refusals_split : refusals_of (commits s) ≡ refused ++ refusals_of (rest ++ s.tables.pending)
+  refusals_split = ap (λ ws. refusals_of (ws ++ s.tables.pending)) g.works
+
+  pub refusals_less : (y : Refusal) → list_any (same_refusal y) (refusals_of (rest ++ s.tables.pending)) ≡ true → list_any (same_refusal y) (refusals_of (commits s)) ≡ true
+  refusals_less y k = any_counted (same_refusal y) (refusals_of (commits s)) (omega (
+    arith,
+    counted_any (same_refusal y) (refusals_of (rest ++ s.tables.pending)) k,
+    ap (sum_by (counts_of (same_refusal y))) refusals_split,
+    sum_by-append (counts_of (same_refusal y)) refused (refusals_of (rest ++ s.tables.pending)),
+  ))
+
+  pub failing_less : length (refusals_of (commits s)) ≡ length refused + length (refusals_of (rest ++ s.tables.pending))
+  failing_less = ap (λ (xs : List Refusal). length xs) refusals_split ∙ length-append refused (refusals_of (rest ++ s.tables.pending))
+
+  -- so it is with its Done
+  pub done_keeps : (failed : Bool) → Leads r (view s) (Done (name_of w.job.action) failed ∷ []) (view (wrote (Done (name_of w.job.action) failed) now))
+      → Keeps r s (wrote (Done (name_of w.job.action) failed) now) (Done (name_of w.job.action) failed)
+  done_keeps failed leads = record {
+    leads = leads;
+    tidy = tidy;
+    places = places_now;
+    commits = commits_now;
+    numbered = fewer s (wrote (Done (name_of w.job.action) failed) now) (omega arith) (λ n. omega (arith, stays (asks_under n) refl refl refl (λ d. refl) (λ i. refl)));
+    pays = record {
+      rows = λ row. omega (arith, stays (unpaid row) refl refl refl (λ d. refl) (λ i. refl), costs row);
+      once = omega (arith, stays hopping refl refl refl (λ d. refl) (λ i. refl));
+      fired = omega (arith, stays joined refl refl refl (λ d. refl) (λ i. refl));
+      frees = λ o. omega (arith, stays (freeing o) refl refl refl (λ d. refl) (λ i. refl));
+    };
+    orders = record {
+      sent = tt;
+      asked = λ o n. omega (
+        arith,
+        stays (asked_by s.tables.here o n) refl refl refl (λ d. refl) (λ i. refl),
+        stays (waits_for o n) (ap (λ ys. count_by (is_asked_for w o n) ys) g.lacks) refl refl (λ d. refl) (λ i. refl),
+      );
+      given = λ k d o n. omega (arith, stays (given_to k o n) refl refl refl (λ y. refl) (λ i. refl));
+    };
+    counts = record {
+      here = refl;
+      localities = refl;
+      profile = refl;
+      born = omega arith;
+      few = omega arith;
+      asked = omega arith;
+      sent = omega arith;
+      taken = omega arith;
+      few_answers = omega (arith, one_at_most (is_answer w.job.action));
+      answered = λ l shown.
+          let k : find (is_act (name_of w.job.action)) l.fired ≡ Some (bare_act w.job.action) =
+          Agree-found is_act name_of means own l.fired front back (bare_act w.job.action) (subst (Agree is_act l.fired) fires shown) in
+          omega (arith, one_done (find (is_act (name_of w.job.action)) l.fired) l.done k, answer-bare w.job.action);
+    };
+  }
+    where
+      one_done : (o : Option Act) (done : List Act) → o ≡ Some (bare_act w.job.action)
+          → count_by is_answer (option_to_list o ++ done) ≡ answered_by (Some (bare_act w.job.action)) + count_by is_answer done
+      one_done o done e = ap (λ y. count_by is_answer (option_to_list y ++ done)) e ∙ sum_by-cons (counts_of is_answer) (bare_act w.job.action) done
+
+      answer-bare : (a : Act) → answered_by (Some (bare_act a)) ≡ answered_by (Some a)
+      answer-bare a = ap (λ o. cond ((a.code == 3) && same_object session o) 1 0) (target-bare a)
+
+      one_at_most : (b : Bool) → cond b 1 0 ≤ 1
+      one_at_most true = omega arith
+      one_at_most false = omega arith
+
+      costs : (row : Row) → goes r row (Done (name_of w.job.action) failed) ≡ causes r row (Done (name_of w.job.action) failed)
+      costs = by_rows (λ row. goes r row (Done (name_of w.job.action) failed) ≡ causes r row (Done (name_of w.job.action) failed)) refl refl refl refl refl refl refl (λ o. refl)
+
+-- under the name of its own action
+pub own_ends : (s : Turn) (a : Name) (w : Waits) (rest : List Waits) (j : ℕ) (x : Standing) (left : Remains) → Ends s a w rest j x left
+    → Ends s (name_of w.job.action) w rest j x left
+own_ends s a w rest j x left g = subst (λ n. Ends s n w rest j x left) g.name g

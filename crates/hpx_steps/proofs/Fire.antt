@@ -1,0 +1,133 @@
+-- An accepted action runs.
+use Rattle.std.proofs.Common.{List, Some, [], ap, append_assoc, arith, drop, map, refl, subst, suc, sym, take, ℕ, ◌++◌, ◌+◌, ◌∙◌, ◌∷◌, ◌≡◌}
+use Rattle.std.proofs.lemmas.List.{map-append}
+use Rattle.std.specs.List.{find, remove}
+use Rattle.std.specs.Prelude.{false, flat_map, slice_get}
+use Rattle.hpx_value.specs.Values.{bare_act}
+use Rattle.hpx_journal.specs.Data.{Act}
+use Rattle.hpx_journal.specs.Entries.{Rules, name_of, target_of}
+use Rattle.hpx_journal.specs.Local.{is_busy, is_standing}
+use Rattle.hpx_part.proofs.ActRows.{follows_fire}
+use Rattle.hpx_part.proofs.Keyed.{split_get}
+use Rattle.hpx_part.specs.Data.{Entry, Fire, Name, Standing}
+use Rattle.hpx_part.specs.View.{View}
+use Rattle.hpx_tables.specs.Pending.{action_of, fired_of}
+use Rattle.hpx_steps.specs.Items.{Accepted, Item, Running, weigh}
+use Rattle.hpx_steps.specs.Mail.{wrote}
+use Rattle.hpx_steps.specs.Numbered.{asks_under}
+use Rattle.hpx_steps.specs.Paused.{Apart}
+use Rattle.hpx_steps.specs.Rows.{Row, causes, freeing, goes, hopping, joined, of_act, unpaid}
+use Rattle.hpx_steps.specs.Sound.{IsSound, IsTidy, TidyAt, asked_by, given_to, waits_for, worth}
+use Rattle.hpx_steps.specs.Steps.{Fires}
+use Rattle.hpx_steps.specs.Turn.{Turn, bare_due, bare_standing, commits, parcel_acts, parcels, view, waiting}
+use Rattle.hpx_steps.proofs.Busy.{apart_more, bare_middle, busy-bare, found-bare}
+use Rattle.hpx_steps.proofs.ByRows.{by_rows}
+use Rattle.hpx_steps.proofs.Calm.{counts_still}
+use Rattle.hpx_steps.proofs.Changes.{Changes, accepted_change, among_at, holding, more_come, one_goes, running_change, then}
+use Rattle.hpx_steps.proofs.Puts.{target-bare}
+use Rattle.hpx_steps.proofs.Seen.{Sees, sees_leads}
+use Rattle.hpx_steps.proofs.Sums.{view_worth}
+use Rattle.hpx_steps.proofs.Then.{Keeps, fewer}
+
+module _ (r : Rules) (s : Turn) (entries : List Entry) (h : IsSound r s entries) (i : ℕ) (act : Act) (x : Standing) (due : s.due ≡ []) (fresh : s.fresh ≡ [])
+    (there : slice_get s.tables.accepted i ≡ Some act) (stands : find (is_standing (target_of act)) s.tables.objects ≡ Some x)
+    (idle : is_busy (target_of act) (fired_of s.tables.running (commits s)) ≡ false) where
+  abbrev now : Turn
+  now = wrote (Fire (name_of act)) (record s { tables = record s.tables { accepted = remove s.tables.accepted i; running = s.tables.running ++ act ∷ [] } })
+
+  change : Changes (Accepted act ∷ []) (Running act ∷ []) s now
+  change =
+      let less : Turn = record s { tables = record s.tables { accepted = remove s.tables.accepted i } } in
+      then (Accepted act ∷ []) [] [] (Running act ∷ []) s less now
+      (accepted_change (Accepted act ∷ []) [] s (remove s.tables.accepted i) (one_goes (λ x. Accepted x) s.tables.accepted i act there))
+      (running_change [] (Running act ∷ []) less (s.tables.running ++ act ∷ []) (more_come (λ x. Running x) s.tables.running (act ∷ [])))
+
+  moves : (w : Item → ℕ) → weigh w now + w (Accepted act) ≡ weigh w s + w (Running act)
+  moves w = let k : weigh w now + (w (Accepted act) + 0) ≡ weigh w s + (w (Running act) + 0) = change.0 w in omega (arith, k)
+
+  its : TidyAt s (Accepted act)
+  its = h.tidy (Accepted act) (among_at s.tables.accepted i act there)
+
+  tidy : IsTidy now
+  tidy = holding (TidyAt s) (Running act ∷ []) s now change.1 h.tidy (its.0, tt)
+
+  abbrev front : List Act
+  front = map bare_act (take i s.tables.accepted)
+
+  abbrev back : List Act
+  back = map bare_act (drop (suc i) s.tables.accepted) ++ flat_map parcel_acts (parcels s)
+
+  waits : waiting s ≡ front ++ bare_act act ∷ back
+  waits =
+      ap (λ xs. map bare_act xs ++ flat_map parcel_acts (parcels s)) (split_get s.tables.accepted i act there)
+      ∙ (ap (λ xs. xs ++ flat_map parcel_acts (parcels s)) (bare_middle (take i s.tables.accepted) act (drop (suc i) s.tables.accepted))
+      ∙ append_assoc front (bare_act act ∷ map bare_act (drop (suc i) s.tables.accepted)) (flat_map parcel_acts (parcels s)))
+
+  waits_then : front ++ back ≡ waiting now
+  waits_then = sym (append_assoc front (map bare_act (drop (suc i) s.tables.accepted)) (flat_map parcel_acts (parcels s)))
+      ∙ ap (λ xs. xs ++ flat_map parcel_acts (parcels s)) (sym (map-append bare_act (take i s.tables.accepted) (drop (suc i) s.tables.accepted)))
+
+  abbrev running : List Act
+  running = map bare_act s.tables.running ++ bare_act act ∷ map bare_act (map action_of (commits s))
+
+  fires_then : running ≡ (view now).fired
+  fires_then = sym (ap (map bare_act) (append_assoc s.tables.running (act ∷ []) (map action_of (commits s))) ∙ bare_middle s.tables.running act (map action_of (commits s)))
+
+  abbrev seen : View
+  seen = record (view s) { waiting = front ++ back; fired = running; last = Some (Fire (name_of act)) }
+
+  sees : Sees seen now
+  sees = record {
+    rest = ap (λ ws. record (view now) { waiting = ws; fired = running }) waits_then ∙ ap (λ fs. record (view now) { fired = fs }) fires_then;
+    tokens = λ f weight. omega (arith, view_worth f s, view_worth f now, moves (worth f));
+    asking = λ y. refl;
+    asks = λ y. refl;
+    live = λ y home. refl;
+    dead = λ y. omega arith;
+    refusals = λ y k. k;
+    failing = omega arith;
+  }
+
+  pub fire_keeps : Keeps r s now (Fire (name_of act))
+  fire_keeps = record {
+    leads = (
+      seen,
+      follows_fire r (view s) front back (map bare_act s.tables.running) (map bare_act (map action_of (commits s))) (bare_act act) (bare_standing x)
+          (ap (map bare_due) due) fresh waits (map-append bare_act s.tables.running (map action_of (commits s)))
+          (ap (λ o. find (is_standing o) (map bare_standing s.tables.objects)) (target-bare act) ∙ found-bare (target_of act) s.tables.objects x stands)
+          (ap (λ o. is_busy o (map bare_act (fired_of s.tables.running (commits s)))) (target-bare act) ∙ (busy-bare (target_of act) (fired_of s.tables.running (commits s)) ∙ idle)) its.1,
+      sees_leads r seen now sees,
+    );
+    tidy = tidy;
+    places = h.places;
+    commits = record {
+      each = h.commits.each;
+      apart = subst Apart (sym (append_assoc s.tables.running (act ∷ []) (map action_of (commits s))))
+          (apart_more s.tables.running act (map action_of (commits s)) h.commits.apart idle);
+      whole = h.commits.whole;
+      lent = h.commits.lent;
+    };
+    numbered = fewer s now (omega arith) (λ n. omega (arith, moves (asks_under n)));
+    pays = record {
+      rows = λ row. omega (arith, moves (unpaid row), costs row);
+      once = omega (arith, moves hopping);
+      fired = omega (arith, moves joined);
+      frees = λ o. omega (arith, moves (freeing o));
+    };
+    orders = record {
+      sent = tt;
+      asked = λ o n. omega (arith, moves (asked_by s.tables.here o n), moves (waits_for o n));
+      given = λ j d o n. omega (arith, moves (given_to j o n));
+    };
+    counts = counts_still s now (Fire (name_of act)) refl refl refl (λ l. refl);
+  }
+    where
+      costs : (row : Row) → goes r row (Fire (name_of act)) ≡ of_act row + causes r row (Fire (name_of act))
+      costs = by_rows (λ row. goes r row (Fire (name_of act)) ≡ of_act row + causes r row (Fire (name_of act))) (omega arith) (omega arith) (omega arith) (omega arith) (omega arith) (omega arith) (omega arith) (λ o. omega arith)
+
+pub fire_step : (r : Rules) (s s' : Turn) (entries : List Entry) (a : Name) → IsSound r s entries → Fires s a s' → Keeps r s s' (Fire a)
+fire_step r s s' entries a h g = subst (λ n. Keeps r s s' (Fire n)) (sym g.name) (subst (λ y. Keeps r s y (Fire (name_of g.act))) (sym again)
+    (fire_keeps r s entries h g.i g.act g.x g.calm.due g.calm.fresh g.there g.stands g.idle))
+  where
+    again : s' ≡ wrote (Fire (name_of g.act)) (record s { tables = record s.tables { accepted = remove s.tables.accepted g.i; running = s.tables.running ++ g.act ∷ [] } })
+    again = g.now ∙ ap (λ n. wrote (Fire n) (record s { tables = record s.tables { accepted = remove s.tables.accepted g.i; running = s.tables.running ++ g.act ∷ [] } })) g.name

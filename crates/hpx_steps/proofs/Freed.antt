@@ -1,0 +1,240 @@
+-- A dead object goes.
+use Rattle.std.proofs.Common.{Bool, List, None, Some, [], ap, arith, cond, drop, false, inl, inr, map, refl, subst, suc, sym, take, true, ℕ, ◌++◌, ◌+◌, ◌∙◌, ◌∷◌, ◌≡◌, ◌≤◌}
+use Rattle.std.proofs.lemmas.List.{map-append}
+use Rattle.std.proofs.lemmas.List.Sums.{sum_by-cons}
+use Rattle.std.specs.List.{AllByRecursion, count_by, find, list_any, remove, slice_get, sum_by}
+use Rattle.std.specs.Prelude.{flat_map, is_some}
+use Rattle.hpx_value.specs.Hands.{session}
+use Rattle.hpx_value.specs.Ids.{same_object}
+use Rattle.hpx_value.specs.Values.{bare_act}
+use Rattle.hpx_parcel.specs.Credits.{credit_list}
+use Rattle.hpx_parcel.specs.Parcels.{HasRightCredit}
+use Rattle.hpx_journal.proofs.Bools.{false_from}
+use Rattle.hpx_journal.proofs.Same.{same_object-from, same_object-refl, same_object-sym, same_object-true}
+use Rattle.hpx_journal.specs.Data.{Act, Free, Id}
+use Rattle.hpx_journal.specs.Entries.{Rules, target_of}
+use Rattle.hpx_journal.specs.Local.{acts_on, is_standing}
+use Rattle.hpx_journal.specs.Rows.{IsManaged}
+use Rattle.hpx_journal.specs.Tokens.{held}
+use Rattle.hpx_part.proofs.Keyed.{any_counted, split_get}
+use Rattle.hpx_part.proofs.ObjectRows.{follows_freed_mailed, follows_freed_taken}
+use Rattle.hpx_part.specs.Data.{Entry, Freed, Standing, Token}
+use Rattle.hpx_part.specs.Shows.{Follows}
+use Rattle.hpx_part.specs.View.{View}
+use Rattle.hpx_tables.proofs.Alls.{find_passes}
+use Rattle.hpx_tables.specs.Kept.{held_here, waits_here}
+use Rattle.hpx_tables.specs.Pending.{Waits}
+use Rattle.hpx_tables.specs.declared.kept.Outgoing.{Outgoing}
+use Rattle.hpx_steps.specs.Frames.{IsForHere}
+use Rattle.hpx_steps.specs.Items.{Accepted, Came, Going, Has, IsDue, Item, Loose, Mailed, OnDesk, Pending, Running, StandsHere, Working, weigh}
+use Rattle.hpx_steps.specs.Mail.{wrote}
+use Rattle.hpx_steps.specs.Numbered.{asks_under}
+use Rattle.hpx_steps.specs.Rows.{Row, causes, freeing, goes, hopping, joined, owes, unpaid}
+use Rattle.hpx_steps.specs.Sound.{IsSound, IsTidy, TidyAt, asked_by, given_to, waits_for, worth}
+use Rattle.hpx_steps.specs.Steps.{Frees, HasInHand, IsTold, drops, with_credit}
+use Rattle.hpx_steps.specs.Turn.{Turn, bare_due, bare_standing, commits, parcel_asks, parcel_frees, view, waiting}
+use Rattle.hpx_steps.proofs.Bare.{all_with, credit_tokens}
+use Rattle.hpx_steps.proofs.Beside.{freed_whole, less_commits}
+use Rattle.hpx_steps.proofs.Busy.{none_of}
+use Rattle.hpx_steps.proofs.ByRows.{by_rows}
+use Rattle.hpx_steps.proofs.Calm.{counts_still, same_dead, same_seen}
+use Rattle.hpx_steps.proofs.Changes.{Changes, among_all, among_at, drop_change, holding, in_hand, is_frame, loose_change, more_come, objects_change, one_goes, then, total, total_map}
+use Rattle.hpx_steps.proofs.Lists.{none_sum}
+use Rattle.hpx_steps.proofs.Mails.{hand_fit}
+use Rattle.hpx_steps.proofs.Objects.{single_less, stand_less}
+use Rattle.hpx_steps.proofs.Puts.{target-bare}
+use Rattle.hpx_steps.proofs.Seen.{Sees, sees_leads}
+use Rattle.hpx_steps.proofs.Sums.{by_own, by_parcel, ids_each, view_worth, zeros}
+use Rattle.hpx_steps.proofs.Then.{Keeps, fewer, frees_now}
+use Rattle.hpx_steps.proofs.Unheld.{none_accepted, none_fired, none_waits}
+use Rattle.hpx_steps.proofs.Waits.{drop_waits}
+
+module _ (r : Rules) (s : Turn) (entries : List Entry) (h : IsSound r s entries) (o : Id) (i : ℕ) (x : Standing) (due : s.due ≡ []) (fresh : s.fresh ≡ []) (alone : s.working ≡ [])
+    (told : IsTold r (Free o) s) (there : slice_get s.tables.objects i ≡ Some x) (found : find (is_standing o) s.tables.objects ≡ Some x)
+    (idle : waits_here s.tables o ≡ false) (unheld : held_here s.tables o ≡ 0) where
+  hand : HasInHand (Free o) s
+  hand = elim told [
+    | inl k ↦ inr (k.0, k.1)
+    | inr k ↦ inl (k.0, k.1)
+  ]
+
+  abbrev now : Turn
+  now = wrote (Freed o) (record (drops s) { loose = s.loose ++ with_credit x.state.ids; tables = record s.tables { objects = remove s.tables.objects i } })
+
+  abbrev was : Item
+  was = in_hand (is_frame (Free o) s hand) (Free o)
+
+  abbrev looses : List Item
+  looses = map (λ id. Loose id) (with_credit x.state.ids)
+
+  abbrev less : Turn
+  less = record (drops s) { tables = record s.tables { objects = remove s.tables.objects i } }
+
+  change : Changes (in_hand (is_frame (Free o) s hand) (Free o) ∷ StandsHere x ∷ []) (map (λ id. Loose id) (with_credit x.state.ids)) s now
+  change = then (was ∷ []) [] (StandsHere x ∷ []) looses s (drops s) now (drop_change (Free o) s hand)
+      (then (StandsHere x ∷ []) [] [] looses (drops s) less now
+      (objects_change (StandsHere x ∷ []) [] (drops s) (remove s.tables.objects i) (one_goes (λ y. StandsHere y) s.tables.objects i x there))
+      (loose_change [] looses less (s.loose ++ with_credit x.state.ids) (more_come (λ y. Loose y) s.loose (with_credit x.state.ids))))
+
+  moves : (f : Item → ℕ) → weigh f now + (f was + f (StandsHere x)) ≡ weigh f s + sum_by (λ id. f (Loose id)) (with_credit x.state.ids)
+  moves f =
+      let k : weigh f now + (f was + (f (StandsHere x) + 0)) ≡ weigh f s + total f looses = change.0 f in
+      omega (arith, k, total_map (λ id. Loose id) f (with_credit x.state.ids))
+
+  -- one that sees neither the Free nor the object
+  stays : (f : Item → ℕ) → f (Came (Free o)) ≡ 0 → f (Mailed (Free o)) ≡ 0 → f (StandsHere x) ≡ 0 → ((id : Id) → f (Loose id) ≡ 0) → weigh f now ≡ weigh f s
+  stays f a b c d = omega (arith, moves f, from (is_frame (Free o) s hand), c, none_sum (λ id. f (Loose id)) (with_credit x.state.ids) d)
+    where
+      from : (k : Bool) → f (in_hand k (Free o)) ≡ 0
+      from true = a
+      from false = b
+
+  bare_o : (o.log ≡ None) × (16 ≤ o.kind)
+  bare_o = hand_fit (Free o) s h.tidy hand
+
+  same : same_object o x.object ≡ true
+  same = find_passes (is_standing o) s.tables.objects x found
+
+  kept : TidyAt s (StandsHere x)
+  kept = h.tidy (StandsHere x) (among_at s.tables.objects i x there)
+
+  managed : IsManaged o
+  managed = let kind : o.kind ≡ x.object.kind = ap (λ (y : Id). y.kind) (same_object-true o x.object same) in
+      let most : x.object.kind ≤ 63 = kept.0.kind in (bare_o.1, omega (arith, kind, most))
+
+  all_idle : list_any (λ (w : Waits). acts_on o w.job.action) (commits s) ≡ false
+  all_idle = ap (λ ws. list_any (λ (w : Waits). acts_on o w.job.action) (ws ++ s.tables.pending)) alone ∙ idle
+
+  credit : AllByRecursion HasRightCredit x.state.ids
+  credit = freed_whole s.tables.objects s.tables.running (commits s) i x there o same all_idle h.commits
+
+  -- another object that stands here still does
+  other : (q : Id) → same_object q x.object ≡ false → is_some (find (is_standing q) s.tables.objects) ≡ true → is_some (find (is_standing q) (remove s.tables.objects i)) ≡ true
+  other q off = stand_less (is_standing q) s.tables.objects i x there off
+
+  accepted_off : (xs : List Act) → list_any (acts_on o) (map bare_act xs) ≡ false → AllByRecursion (λ (a : Act). same_object (target_of a) x.object ≡ false) xs
+  accepted_off [] none = tt
+  accepted_off (a ∷ rest) none =
+      let parts = none_of (acts_on o (bare_act a)) (list_any (acts_on o) (map bare_act rest)) none in (
+        false_from (same_object (target_of a) x.object) (λ t.
+            let e : true ≡ false = sym (same_object-from o x.object (target_of a) same ∙ same_object-sym (target_of a) x.object t)
+            ∙ (sym (ap (same_object o) (target-bare a)) ∙ parts.0) in cc),
+        accepted_off rest parts.1,
+      )
+
+  retidied : (y : Item) → Has s y → TidyAt now y
+  retidied (Accepted a) m =
+      let k = h.tidy (Accepted a) m in (
+        k.0,
+        k.1,
+        other (target_of a) (among_all (λ (b : Act). same_object (target_of b) x.object ≡ false) a s.tables.accepted m
+            (accepted_off s.tables.accepted (none_accepted o s h.tidy bare_o.1 unheld))) k.2,
+      )
+  retidied (Came p) m = h.tidy (Came p) m
+  retidied (Mailed p) m = h.tidy (Mailed p) m
+  retidied (OnDesk p) m = h.tidy (OnDesk p) m
+  retidied (Going p) m = h.tidy (Going p) m
+  retidied (Running p) m = h.tidy (Running p) m
+  retidied (Pending p) m = h.tidy (Pending p) m
+  retidied (Working p) m = h.tidy (Working p) m
+  retidied (StandsHere p) m = h.tidy (StandsHere p) m
+  retidied (IsDue p) m = h.tidy (IsDue p) m
+  retidied (Loose p) m = h.tidy (Loose p) m
+
+  tidy : IsTidy now
+  tidy = holding (TidyAt now) looses s now change.1 retidied (all_of (with_credit x.state.ids) (all_with x.state.ids credit))
+    where
+      all_of : (ids : List Id) → AllByRecursion HasRightCredit ids → AllByRecursion (TidyAt now) (map (λ id. Loose id) ids)
+      all_of [] k = tt
+      all_of (id ∷ ids) k = (k.0, all_of ids k.1)
+
+  abbrev l : List Standing
+  l = map bare_standing (take i s.tables.objects)
+
+  abbrev m : List Standing
+  m = map bare_standing (drop (suc i) s.tables.objects)
+
+  objects_are : map bare_standing s.tables.objects ≡ l ++ bare_standing x ∷ m
+  objects_are = ap (map bare_standing) (split_get s.tables.objects i x there) ∙ map-append bare_standing (take i s.tables.objects) (x ∷ drop (suc i) s.tables.objects)
+
+  abbrev seen : View
+  seen = record (view s) { objects = l ++ m; last = Some (Freed o) }
+
+  sees : Sees seen now
+  sees = record {
+    rest = ap (λ os. record (view now) { objects = os; waiting = waiting s }) (sym (map-append bare_standing (take i s.tables.objects) (drop (suc i) s.tables.objects)))
+        ∙ ap (λ ws. record (view now) { waiting = ws }) (sym (drop_waits (Free o) s hand refl));
+    tokens = λ f fair. omega (arith, view_worth f s, view_worth f now, moves (worth f), freed_tokens f (is_frame (Free o) s hand), ids_each f (with_credit x.state.ids), credit_tokens f x.state.ids);
+    asking = λ q. refl;
+    asks = λ q. same_seen q parcel_asks s now (omega (arith, stays (by_parcel (λ p. count_by (same_object q) (parcel_asks p))) refl refl refl (λ id. refl)));
+    live = λ q home. refl;
+    dead = λ q. same_dead q s now (omega (arith, moves (by_own (λ p. count_by (same_object q) (parcel_frees p))), zeros (with_credit x.state.ids)));
+    refusals = λ y k. k;
+    failing = omega arith;
+  }
+    where
+      -- a Free has no credit
+      freed_tokens : (f : Token → ℕ) (b : Bool) → worth f (in_hand b (Free o)) ≡ 0
+      freed_tokens f true = ap (λ lg. sum_by f (map held (credit_list o lg ++ []))) bare_o.0
+      freed_tokens f false = ap (λ lg. sum_by f (map held (credit_list o lg ++ []))) bare_o.0
+
+  follows : Follows r (view s) (Freed o) (record (view s) { objects = l ++ m; last = Some (Freed o) })
+  follows = elim told [
+    | inl k ↦ follows_freed_mailed r (view s) o (bare_standing x) l m (ap (map bare_due) due) fresh managed bare_o.0 objects_are same
+        (none_waits o s h.tidy bare_o.1 unheld (Free o) hand refl) (none_fired o s h.tidy bare_o.1 unheld idle alone) k.2
+        (let home : IsForHere s.tables.localities s.tables.here (Free o) = (h.tidy (Mailed (Free o)) (rw k.1 (inl refl))).1 in sym home.may)
+        (any_counted (same_object o) (view s).dead (dead_one k.1))
+    | inr k ↦ follows_freed_taken r (view s) o (bare_standing x) l m (ap (map bare_due) due) fresh managed bare_o.0 objects_are same
+        (none_waits o s h.tidy bare_o.1 unheld (Free o) hand refl) (none_fired o s h.tidy bare_o.1 unheld idle alone) k.2.0 k.2.1 k.2.2
+  ]
+    where
+      dead_one : s.mailed ≡ Free o ∷ [] → 1 ≤ count_by (same_object o) (view s).dead
+      dead_one is = subst (λ ps. 1 ≤ count_by (same_object o) (flat_map parcel_frees (ps ++ (s.tables.desk ++ map (λ (y : Outgoing). y.parcel) s.tables.outgoing)))) (sym is)
+          (omega (
+            arith,
+            sum_by-cons (λ q. cond (same_object o q) 1 0) o (flat_map parcel_frees (s.tables.desk ++ map (λ (y : Outgoing). y.parcel) s.tables.outgoing)),
+            ap {B = ℕ} (λ b. cond b 1 0) (same_object-refl o),
+          ))
+
+  pub freed_keeps : Keeps r s now (Freed o)
+  freed_keeps = record {
+    leads = (seen, follows, sees_leads r seen now sees);
+    tidy = tidy;
+    places = record {
+      serves = λ zero. other session (false_from (same_object session x.object) (λ t.
+          let kind : 1 ≡ x.object.kind = ap (λ (y : Id). y.kind) (same_object-true session x.object t) in
+          let kind_o : o.kind ≡ x.object.kind = ap (λ (y : Id). y.kind) (same_object-true o x.object same) in
+          let least : 16 ≤ o.kind = bare_o.1 in absurd (omega (arith, kind, kind_o, least)))) (h.places.serves zero);
+      unborn = h.places.unborn;
+      places = h.places.places;
+      single = single_less s.tables.objects i h.places.single;
+    };
+    commits = less_commits s.tables.objects s.tables.running (commits s) i x there o same all_idle h.commits;
+    numbered = fewer s now (omega arith) (λ n. omega (arith, stays (asks_under n) refl refl refl (λ id. refl)));
+    pays = record {
+      rows = λ row. omega (arith, moves (unpaid row), zeros (with_credit x.state.ids), costs row (is_frame (Free o) s hand));
+      once = omega (arith, stays hopping refl refl refl (λ id. refl));
+      fired = omega (arith, stays joined refl refl refl (λ id. refl));
+      frees = λ q. omega (arith, moves (freeing q), zeros (with_credit x.state.ids), freed_so q (is_frame (Free o) s hand));
+    };
+    orders = record {
+      sent = tt;
+      asked = λ q n. omega (arith, stays (asked_by s.tables.here q n) refl refl refl (λ id. refl), stays (waits_for q n) refl refl refl (λ id. refl));
+      given = λ k d q n. omega (arith, stays (given_to k q n) refl refl refl (λ id. refl));
+    };
+    counts = counts_still s now (Freed o) refl refl refl (λ lc. refl);
+  }
+    where
+      costs : (row : Row) (b : Bool) → goes r row (Freed o) ≡ unpaid row (in_hand b (Free o)) + causes r row (Freed o)
+      costs row true = by_rows (λ row. goes r row (Freed o) ≡ owes row (Free o) + causes r row (Freed o))
+          (omega arith) (omega arith) (omega arith) (omega arith) (omega arith) (omega arith) (omega arith) (λ q. omega arith) row
+      costs row false = by_rows (λ row. goes r row (Freed o) ≡ owes row (Free o) + causes r row (Freed o))
+          (omega arith) (omega arith) (omega arith) (omega arith) (omega arith) (omega arith) (omega arith) (λ q. omega arith) row
+
+      freed_so : (q : Id) (b : Bool) → freeing q (in_hand b (Free o)) ≤ frees_now q (Freed o)
+      freed_so q true = omega arith
+      freed_so q false = omega arith
+
+pub freed_step : (r : Rules) (s s' : Turn) (entries : List Entry) (o : Id) → IsSound r s entries → Frees r s o s' → Keeps r s s' (Freed o)
+freed_step r s s' entries o h g = subst (λ x. Keeps r s x (Freed o)) (sym g.now)
+    (freed_keeps r s entries h o g.i g.x g.calm.due g.calm.fresh g.alone g.told g.there g.found g.idle g.unheld)

@@ -1,0 +1,400 @@
+-- Credit that was asked for is given to a commit that waits for it.
+use Rattle.std.proofs.Common.{Bool, List, Some, [], ap, append_assoc, arith, cond, drop, false, length, map, refl, set, subst, suc, sym, take, true, ℕ, ◌++◌, ◌+◌, ◌∙◌, ◌∷◌, ◌≡◌, ◌≤◌}
+use Rattle.std.proofs.lemmas.Bool.{eqb-true}
+use Rattle.std.proofs.lemmas.List.Sums.{sum_by-append, sum_by-cons}
+use Rattle.std.specs.List.{count_by, remove, slice_get, sum_by}
+use Rattle.std.specs.Prelude.{◌&&◌, ◌==◌, ◌⊎◌}
+use Rattle.hpx_value.specs.Hands.{id_at}
+use Rattle.hpx_value.specs.Ids.{bare, same_object}
+use Rattle.hpx_value.specs.Values.{bare_act}
+use Rattle.hpx_parcel.specs.Parcels.{HasCredit}
+use Rattle.hpx_journal.proofs.Same.{and_true}
+use Rattle.hpx_journal.specs.Data.{Act, Give, Id}
+use Rattle.hpx_journal.specs.Entries.{Rules, name_of}
+use Rattle.hpx_journal.specs.Tokens.{held_token, owed_token, same_token}
+use Rattle.hpx_part.proofs.Credit.{token_own}
+use Rattle.hpx_part.proofs.CreditRows.{follows_given}
+use Rattle.hpx_part.proofs.Keyed.{any_counted, counted_any, counts_false, counts_of, counts_true, split_get, split_set}
+use Rattle.hpx_part.proofs.Lists.{sum_middle}
+use Rattle.hpx_part.specs.Data.{Entry, Given, Refusal, Token}
+use Rattle.hpx_part.specs.Shows.{same_refusal}
+use Rattle.hpx_part.specs.View.{View}
+use Rattle.hpx_commit.specs.Deals.{log_of}
+use Rattle.hpx_tables.specs.Pending.{Waits, action_of, fired_of, ids_named, is_asked, is_asked_for, refilled, refusal_of, refusals_of}
+use Rattle.hpx_tables.specs.declared.pending.Asked.{Asked as AskedFor}
+use Rattle.hpx_steps.specs.Items.{Came, Item, Mailed, Pending, Working, weigh}
+use Rattle.hpx_steps.specs.Mail.{wrote}
+use Rattle.hpx_steps.specs.Numbered.{asks_under}
+use Rattle.hpx_steps.specs.Paused.{HasCommits, IsCommit}
+use Rattle.hpx_steps.specs.Rows.{Row, causes, freeing, goes, hopping, is_least, joined, one_if, owes, unpaid}
+use Rattle.hpx_steps.specs.Sound.{IsSound, IsTidy, TidyAt, asked_by, asking, given_to, gives_for, waits_for, worth}
+use Rattle.hpx_steps.specs.Steps.{HasInHand, IsGiven, drops, goes_on}
+use Rattle.hpx_steps.specs.Turn.{Turn, bare_due, commits, parcel_asks, parcel_frees, tokens, tokens_of, view, waiting}
+use Rattle.hpx_steps.proofs.Bare.{bare_tokens, has_not_asked}
+use Rattle.hpx_steps.proofs.Beside.{is_fired, move_commits, same_fired, was_fired}
+use Rattle.hpx_steps.proofs.ByRows.{by_rows}
+use Rattle.hpx_steps.proofs.Calm.{counts_still, same_dead}
+use Rattle.hpx_steps.proofs.Changes.{Changes, among_at, drop_change, first_comes, holding, in_hand, is_frame, one_goes, one_turns, pending_change, then, working_change}
+use Rattle.hpx_steps.proofs.Hands.{put_asked, put_bare, put_for}
+use Rattle.hpx_steps.proofs.Lists.{less_sum, long_sum, set_sum}
+use Rattle.hpx_steps.proofs.Mails.{hand_fit, held_by, owed_by}
+use Rattle.hpx_steps.proofs.Moved.{fired_leads, leads_on}
+use Rattle.hpx_steps.proofs.Refilled.{asked_at_place, asked_low, asked_same, still_commit, still_split, was_asked}
+use Rattle.hpx_steps.proofs.Seen.{Sees, sees_leads}
+use Rattle.hpx_steps.proofs.Sums.{by_own, by_parcel, flat_sum, ids_each, map_sum, seen_sum, view_asking, view_worth}
+use Rattle.hpx_steps.proofs.Then.{Keeps, fewer}
+use Rattle.hpx_steps.proofs.Waits.{drop_waits}
+
+-- a commit that waited stands elsewhere, or where it stood
+pub record Goes (i : ℕ) (w w' : Waits) (working pending working' pending' : List Waits) : Type 0 where
+  pub l : List Waits
+  pub m : List Waits
+  pub l' : List Waits
+  pub m' : List Waits
+  pub was : working ++ pending ≡ l ++ w ∷ m
+  pub is : working' ++ pending' ≡ l' ++ w' ∷ m'
+  pub same : l ++ m ≡ l' ++ m'
+
+goes_so : (i : ℕ) (w w' : Waits) (working pending : List Waits) → slice_get pending i ≡ Some w → (b : Bool)
+    → Goes i w w' working pending (cond b (w' ∷ working) working) (cond b (remove pending i) (set pending i w'))
+goes_so i w w' working pending there b =
+    let was : working ++ pending ≡ (working ++ take i pending) ++ w ∷ drop (suc i) pending =
+    ap (λ xs. working ++ xs) (split_get pending i w there) ∙ sym (append_assoc working (take i pending) (w ∷ drop (suc i) pending)) in
+    each b was
+  where
+    each : (b : Bool) → working ++ pending ≡ (working ++ take i pending) ++ w ∷ drop (suc i) pending
+        → Goes i w w' working pending (cond b (w' ∷ working) working) (cond b (remove pending i) (set pending i w'))
+    each true was = record {
+      l = working ++ take i pending;
+      m = drop (suc i) pending;
+      l' = [];
+      m' = working ++ remove pending i;
+      was = was;
+      is = refl;
+      same = append_assoc working (take i pending) (drop (suc i) pending);
+    }
+    each false was = record {
+      l = working ++ take i pending;
+      m = drop (suc i) pending;
+      l' = working ++ take i pending;
+      m' = drop (suc i) pending;
+      was = was;
+      is = ap (λ xs. working ++ xs) (split_set pending i w w' there) ∙ sym (append_assoc working (take i pending) (w' ∷ drop (suc i) pending));
+      same = refl;
+    }
+
+module _ (r : Rules) (s : Turn) (entries : List Entry) (h : IsSound r s entries) (id : Id) (entry log i n : ℕ) (w : Waits) (ask : AskedFor) (due : s.due ≡ []) (fresh : s.fresh ≡ [])
+    (hand : HasInHand (Give id entry) s) (has : id.log ≡ Some log) (right : (log ≡ 0) ⊎ (log ≡ s.tables.profile.credit_log))
+    (there : slice_get s.tables.pending i ≡ Some w) (asked : slice_get w.asked n ≡ Some ask) (for : is_asked_for w id entry ask ≡ true) where
+  abbrev given : Waits
+  given = refilled n ask.place id w
+
+  abbrev now : Turn
+  now = wrote (Given (bare id) log) (goes_on i (refilled n ask.place id w) (drops s))
+
+  abbrev last : Bool
+  last = length given.asked == 0
+
+  abbrev was : Item
+  was = in_hand (is_frame (Give id entry) s hand) (Give id entry)
+
+  -- the commit then
+  abbrev item : Bool → Item
+  item b = cond b (Working given) (Pending given)
+
+  turned : (b : Bool) → Changes (Pending w ∷ []) (item b ∷ []) (drops s) (record (drops s) {
+    working = cond b (given ∷ s.working) s.working;
+    tables = record s.tables { pending = cond b (remove s.tables.pending i) (set s.tables.pending i given) };
+  })
+  turned true = then (Pending w ∷ []) [] [] (Working given ∷ []) (drops s) (record (drops s) { tables = record s.tables { pending = remove s.tables.pending i } })
+      (record (drops s) { working = given ∷ s.working; tables = record s.tables { pending = remove s.tables.pending i } })
+      (pending_change (Pending w ∷ []) [] (drops s) (remove s.tables.pending i) (one_goes (λ x. Pending x) s.tables.pending i w there))
+      (working_change [] (Working given ∷ []) (record (drops s) { tables = record s.tables { pending = remove s.tables.pending i } }) (given ∷ s.working) (first_comes (λ x. Working x) s.working given))
+  turned false = pending_change (Pending w ∷ []) (Pending given ∷ []) (drops s) (set s.tables.pending i given) (one_turns (λ x. Pending x) s.tables.pending i w given there)
+
+  change : Changes (in_hand (is_frame (Give id entry) s hand) (Give id entry) ∷ Pending w ∷ [])
+      (cond (length (refilled n ask.place id w).asked == 0) (Working (refilled n ask.place id w)) (Pending (refilled n ask.place id w)) ∷ []) s now
+  change = then (was ∷ []) [] (Pending w ∷ []) (item last ∷ []) s (drops s) now (drop_change (Give id entry) s hand) (turned last)
+
+  -- a weight before and after, that sees no difference between commits in work and those that wait
+  moves : (f : Item → ℕ) (m : ℕ) → f (Came (Give id entry)) ≡ m → f (Mailed (Give id entry)) ≡ m → f (Working given) ≡ f (Pending given)
+      → weigh f now + (m + f (Pending w)) ≡ weigh f s + f (Pending given)
+  moves f m a b same =
+      let k : weigh f now + (f was + (f (Pending w) + 0)) ≡ weigh f s + (f (item last) + 0) = change.0 f in
+      omega (arith, k, from (is_frame (Give id entry) s hand), either last)
+    where
+      from : (c : Bool) → f (in_hand c (Give id entry)) ≡ m
+      from true = a
+      from false = b
+
+      either : (c : Bool) → f (item c) ≡ f (Pending given)
+      either true = same
+      either false = refl
+
+  its : TidyAt s (Pending w)
+  its = h.tidy (Pending w) (among_at s.tables.pending i w there)
+
+  credit : HasCredit id
+  credit = hand_fit (Give id entry) s h.tidy hand
+
+  log_is : log_of id.log ≡ log
+  log_is = ap log_of has
+
+  brings : (log_of id.log ≡ 0) ⊎ (log_of id.log ≡ s.tables.profile.credit_log)
+  brings = subst (λ k. (k ≡ 0) ⊎ (k ≡ s.tables.profile.credit_log)) (sym log_is) right
+
+  fit_commit : IsCommit s.tables.here s.tables.localities given
+  fit_commit = still_commit s.tables.here s.tables.localities s.tables.profile.credit_log w n ask id entry its.0 its.1 asked for credit brings
+
+  tidy : IsTidy now
+  tidy = holding (TidyAt s) (item last ∷ []) s now change.1 h.tidy (each last refl, tt)
+    where
+      each : (b : Bool) → last ≡ b → TidyAt s (item b)
+      each true e = fit_commit
+      each false e = (
+        fit_commit,
+        still_split s.tables.here s.tables.localities s.tables.profile.credit_log w n ask id entry its.0 its.1 asked for credit brings,
+        λ none. absurd (let t : true ≡ false = sym (ap (λ (xs : List AskedFor). length xs == 0) none) ∙ e in cc),
+      )
+
+  old : Id
+  old = id_at w.hand ask.place
+
+  at : slice_get w.hand ask.place ≡ Some (id_at w.hand ask.place)
+  at = asked_at_place s.tables.here s.tables.localities s.tables.profile.credit_log w n ask id entry its.0 its.1 asked for credit brings
+
+  same_id : bare id ≡ bare (id_at w.hand ask.place)
+  same_id = asked_same s.tables.here s.tables.localities s.tables.profile.credit_log w n ask id entry its.0 its.1 asked for credit brings
+
+  gave : is_asked (id_at w.hand ask.place) ≡ true
+  gave = was_asked s.tables.here s.tables.localities s.tables.profile.credit_log w n ask id entry its.0 its.1 asked for credit brings
+
+  goes_now : Goes i w given s.working s.tables.pending now.working now.tables.pending
+  goes_now = goes_so i w given s.working s.tables.pending there last
+
+  -- the credit comes into the hand
+  tokens_hand : (f : Token → ℕ) → sum_by f (tokens_of given.hand) ≡ sum_by f (tokens_of w.hand) + f (held_token (bare id) log)
+  tokens_hand f = omega (
+    arith,
+    ids_each f (set w.hand ask.place id),
+    ids_each f w.hand,
+    set_sum (λ y. sum_by f (tokens_of (y ∷ []))) w.hand ask.place (id_at w.hand ask.place) id at,
+    held_by f id log has,
+    bare_tokens f (id_at w.hand ask.place) gave,
+  )
+
+  traded : (f : Token → ℕ) → sum_by f (tokens now) + f (owed_token (bare id) log) ≡ sum_by f (tokens s) + f (held_token (bare id) log)
+  traded f = omega (
+    arith,
+    view_worth f s,
+    view_worth f now,
+    tokens_hand f,
+    moves (worth f) (f (owed_token (bare id) log)) (owed_by f id log has) (owed_by f id log has) refl,
+  )
+
+  asking_less : (o : Id) → count_by (same_object o) (view s).asking ≡ count_by (same_object o) (view now).asking + count_by (same_object o) (bare id ∷ [])
+  asking_less o = omega (
+    arith,
+    view_asking o s,
+    view_asking o now,
+    moves (asking o) 0 refl refl refl,
+    put_asked o (length (ids_named w)) w.hand ask.place (id_at w.hand ask.place) id
+        (asked_low s.tables.here s.tables.localities s.tables.profile.credit_log w n ask id entry its.0 its.1 asked for credit brings) at,
+    ap {B = ℕ} (λ b. cond b (cond (same_object o (id_at w.hand ask.place)) 1 0) 0) gave,
+    ap {B = ℕ} (λ b. cond b (cond (same_object o id) 1 0) 0) (has_not_asked id log has),
+    ap {B = ℕ} (λ (x : Id). cond (same_object o x) 1 0) same_id,
+    sum_by-cons (λ x. cond (same_object o x) 1 0) (bare id) [],
+  )
+
+  asks_less : (o : Id) → count_by (same_object o) (view s).asks ≡ count_by (same_object o) (view now).asks + count_by (same_object o) (bare id ∷ [])
+  asks_less o = omega (
+    arith,
+    seen_sum (counts_of (same_object o)) parcel_asks s,
+    seen_sum (counts_of (same_object o)) parcel_asks now,
+    moves (by_parcel (λ q. count_by (same_object o) (parcel_asks q))) (count_by (same_object o) (bare id ∷ [])) refl refl refl,
+  )
+
+  -- ---- refusals
+
+  abbrev k : Goes i w given s.working s.tables.pending now.working now.tables.pending
+  k = goes_now
+
+  split_refusals : (f : Refusal → ℕ) (ls ms : List Waits) (v : Waits)
+      → sum_by f (refusals_of (ls ++ v ∷ ms)) ≡ sum_by f (refusals_of (ls ++ ms)) + sum_by f (refusal_of v.job.action v.refused)
+  split_refusals f ls ms v = omega (
+    arith,
+    flat_sum f (λ (y : Waits). refusal_of y.job.action y.refused) (ls ++ v ∷ ms),
+    flat_sum f (λ (y : Waits). refusal_of y.job.action y.refused) (ls ++ ms),
+    sum_middle (λ (y : Waits). sum_by f (refusal_of y.job.action y.refused)) ls v ms,
+  )
+
+  turned_refusals : (f : Refusal → ℕ) → sum_by f (refusals_of (commits now)) + sum_by f (refusal_of w.job.action w.refused)
+      ≡ sum_by f (refusals_of (commits s)) + sum_by f (refusal_of w.job.action given.refused)
+  turned_refusals f = omega (
+    arith,
+    ap (λ ws. sum_by f (refusals_of ws)) k.is,
+    ap (λ ws. sum_by f (refusals_of ws)) k.was,
+    split_refusals f k.l k.m w,
+    split_refusals f k.l' k.m' given,
+    ap (λ ws. sum_by f (refusals_of ws)) k.same,
+  )
+
+  -- a refusal of each fired action
+  abbrev refusing : Act → Refusal
+  refusing act = record { action = name_of act; object = bare id }
+
+  among_fired : (f : Refusal → ℕ) → f (refusing (bare_act w.job.action)) ≤ sum_by f (map refusing (view s).fired)
+  among_fired f =
+      let front : List Act = map bare_act (s.tables.running ++ map action_of k.l) in
+      let back : List Act = map bare_act (map action_of k.m) in
+      let fires : (view s).fired ≡ map bare_act ((s.tables.running ++ map action_of k.l) ++ w.job.action ∷ map action_of k.m) =
+      ap (λ ws. map bare_act (fired_of s.tables.running ws)) k.was
+      ∙ ap (map bare_act) (was_fired s.tables.objects s.tables.running k.l k.m k.l' k.m' w given refl k.same) in
+      omega (
+        arith,
+        ap (λ acts. sum_by f (map refusing acts)) fires,
+        map_sum f refusing (map bare_act ((s.tables.running ++ map action_of k.l) ++ w.job.action ∷ map action_of k.m)),
+        map_sum (λ a. f (refusing a)) bare_act ((s.tables.running ++ map action_of k.l) ++ w.job.action ∷ map action_of k.m),
+        sum_middle (λ a. f (refusing (bare_act a))) (s.tables.running ++ map action_of k.l) w.job.action (map action_of k.m),
+      )
+
+  refused_more : (f : Refusal → ℕ) → sum_by f (refusals_of (commits now))
+      ≤ sum_by f (cond (log == 0) (map refusing (view s).fired) [] ++ refusals_of (commits s))
+  refused_more f = omega (
+    arith,
+    turned_refusals f,
+    among_fired f,
+    each (log == 0) (ap (λ l. cond (l == 0) (Some (bare id)) w.refused) log_is),
+    sum_by-append f (cond (log == 0) (map refusing (view s).fired) []) (refusals_of (commits s)),
+  )
+    where
+      each : (b : Bool) → given.refused ≡ cond b (Some (bare id)) w.refused
+          → sum_by f (refusal_of w.job.action given.refused)
+          ≤ sum_by f (refusal_of w.job.action w.refused) + sum_by f (cond b (map refusing (view s).fired) [])
+      each true e = omega (arith, ap (λ o. sum_by f (refusal_of w.job.action o)) e, among_fired f, sum_by-cons f (refusing w.job.action) [])
+      each false e = omega (arith, ap (λ o. sum_by f (refusal_of w.job.action o)) e)
+
+  failing_more : length (refusals_of (commits now)) ≤ cond (log == 0) (length (refusals_of (commits s)) + 1) (length (refusals_of (commits s)))
+  failing_more = each (log == 0) (ap (λ l. cond (l == 0) (Some (bare id)) w.refused) log_is)
+    where
+      each : (b : Bool) → given.refused ≡ cond b (Some (bare id)) w.refused
+          → length (refusals_of (commits now)) ≤ cond b (length (refusals_of (commits s)) + 1) (length (refusals_of (commits s)))
+      each true e = omega (
+        arith,
+        turned_refusals (λ x. 1),
+        long_sum (refusals_of (commits now)),
+        long_sum (refusals_of (commits s)),
+        ap (λ o. sum_by (λ x. 1) (refusal_of w.job.action o)) e,
+        sum_by-cons (λ x. 1) (refusing w.job.action) [],
+      )
+      each false e = omega (
+        arith,
+        turned_refusals (λ x. 1),
+        long_sum (refusals_of (commits now)),
+        long_sum (refusals_of (commits s)),
+        ap (λ o. sum_by (λ x. 1) (refusal_of w.job.action o)) e,
+      )
+
+  -- ---- what is seen
+
+  abbrev told : View
+  told = record (view s) {
+    tokens = tokens now;
+    asking = (view now).asking;
+    asks = (view now).asks;
+    refusals = cond (log == 0) (map (λ (act : Act). record { action = name_of act; object = bare id }) (view s).fired) [] ++ (view s).refusals;
+    failing = cond (log == 0) ((view s).failing + 1) (view s).failing;
+    last = Some (Given (bare id) log);
+  }
+
+  abbrev seen : View
+  seen = record told { fired = map bare_act ((s.tables.running ++ map action_of k.l') ++ w.job.action ∷ map action_of k.m') }
+
+  sees : Sees seen now
+  sees = record {
+    rest = ap (λ fs. record (view now) { fired = fs; waiting = waiting s })
+        (ap (map bare_act) (sym (is_fired s.tables.objects s.tables.running k.l k.m k.l' k.m' w given refl k.same)) ∙ ap (λ ws. map bare_act (fired_of s.tables.running ws)) (sym k.is))
+        ∙ ap (λ ws. record (view now) { waiting = ws }) (sym (drop_waits (Give id entry) s hand refl));
+    tokens = λ f fair. refl;
+    asking = λ o. refl;
+    asks = λ o. refl;
+    live = λ o home. refl;
+    dead = λ o. same_dead o s now (omega (arith, moves (by_own (λ q. count_by (same_object o) (parcel_frees q))) 0 refl refl refl));
+    refusals = λ y t. any_counted (same_refusal y) seen.refusals (omega (arith, counted_any (same_refusal y) (refusals_of (commits now)) t, refused_more (counts_of (same_refusal y))));
+    failing = failing_more;
+  }
+
+  one_owed : 1 ≤ count_by (same_token (owed_token (bare id) log)) (tokens s)
+  one_owed = omega (
+    arith,
+    traded (counts_of (same_token (owed_token (bare id) log))),
+    counts_true (same_token (owed_token (bare id) log)) (owed_token (bare id) log) (token_own (owed_token (bare id) log)),
+    counts_false (same_token (owed_token (bare id) log)) (held_token (bare id) log) (apart (same_object id id) (log == log)),
+  )
+    where
+      apart : (a b : Bool) → (a && (b && false)) ≡ false
+      apart true true = refl
+      apart true false = refl
+      apart false b = refl
+
+  pub given_keeps : Keeps r s now (Given (bare id) log)
+  given_keeps = record {
+    leads = (
+      told,
+      follows_given r (view s) (bare id) refl log (tokens now) (view now).asking (view now).asks (ap (map bare_due) due) fresh
+          (subst (λ c. (log ≡ 0) ⊎ (log ≡ c)) (sym h.rules.credit_log) right) one_owed
+          (record { sums = λ f fair. omega (arith, traded f, sum_by-cons f (owed_token (bare id) log) [], sum_by-cons f (held_token (bare id) log) []) }) asking_less asks_less,
+      leads_on r told seen (view now)
+          (fired_leads r told (s.tables.running ++ map action_of k.l) (map action_of k.m) (s.tables.running ++ map action_of k.l') (map action_of k.m') w.job.action
+          (ap (λ ws. map bare_act (fired_of s.tables.running ws)) k.was
+          ∙ ap (map bare_act) (was_fired s.tables.objects s.tables.running k.l k.m k.l' k.m' w given refl k.same))
+          (same_fired s.tables.objects s.tables.running k.l k.m k.l' k.m' w given refl k.same))
+          (sees_leads r seen now sees),
+    );
+    tidy = tidy;
+    places = h.places;
+    commits = subst (HasCommits s.tables.objects s.tables.running) (sym k.is) (move_commits s.tables.objects s.tables.running k.l k.m k.l' k.m' w given refl k.same
+        (subst (HasCommits s.tables.objects s.tables.running) k.was h.commits));
+    numbered = fewer s now (omega arith) (λ n. omega (arith, moves (asks_under n) 0 refl refl refl));
+    pays = record {
+      rows = λ row. omega (arith, moves (unpaid row) (owes row (Give id entry)) refl refl refl, costs row);
+      once = omega (arith, moves hopping 0 refl refl refl);
+      fired = omega (arith, moves joined 0 refl refl refl);
+      frees = λ o. omega (arith, moves (freeing o) 0 refl refl refl);
+    };
+    orders = record {
+      sent = tt;
+      asked = λ o m. omega (
+        arith,
+        moves (asked_by s.tables.here o m) (0 + gives_for o m (Give id entry)) refl refl refl,
+        moves (waits_for o m) 0 refl refl refl,
+        less_asked o m,
+      );
+      given = λ j d o m. omega (arith, moves (given_to j o m) 0 refl refl refl);
+    };
+    counts = counts_still s now (Given (bare id) log) refl refl refl (λ l. refl);
+  }
+    where
+      costs : (row : Row) → goes r row (Given (bare id) log) ≡ owes row (Give id entry) + causes r row (Given (bare id) log)
+      costs = by_rows (λ row. goes r row (Given (bare id) log) ≡ owes row (Give id entry) + causes r row (Given (bare id) log))
+          refl refl refl refl refl (sym (omega (arith, ap (λ o. one_if (is_least o)) has))) refl (λ o. refl)
+
+      -- one less is waited for
+      less_asked : (o : Id) (m : ℕ) → count_by (is_asked_for w o m) w.asked ≡ count_by (is_asked_for given o m) given.asked + gives_for o m (Give id entry)
+      less_asked o m =
+          let parts = and_true (ask.entry == entry) (same_object id (id_at w.hand ask.place)) for in
+          omega (
+            arith,
+            less_sum (λ (x : AskedFor). cond (is_asked_for w o m x) 1 0) w.asked n ask asked,
+            put_for w given o m (put_bare w.hand ask.place (id_at w.hand ask.place) id at same_id) (remove w.asked n),
+            ap {B = ℕ} (λ e. cond ((e == m) && same_object o (id_at w.hand ask.place)) 1 0) (eqb-true ask.entry entry parts.0),
+            ap {B = ℕ} (λ (x : Id). cond ((entry == m) && same_object o x) 1 0) same_id,
+          )
+
+pub given_step : (r : Rules) (s s' : Turn) (entries : List Entry) (o : Id) (log : ℕ) → IsSound r s entries → IsGiven s o log s' → Keeps r s s' (Given o log)
+given_step r s s' entries o log h g = subst (λ x. Keeps r s s' (Given x log)) (sym g.object) (subst (λ x. Keeps r s x (Given (bare g.id) log)) (sym again)
+    (given_keeps r s entries h g.id g.entry log g.i g.refills.k g.before g.refills.ask g.calm.due g.calm.fresh g.hand g.has g.right g.there g.refills.there g.refills.for))
+  where
+    again : s' ≡ wrote (Given (bare g.id) log) (goes_on g.i (refilled g.refills.k g.refills.ask.place g.id g.before) (drops s))
+    again = g.now ∙ (ap (λ x. wrote (Given x log) (goes_on g.i g.after (drops s))) g.object
+        ∙ ap (λ v. wrote (Given (bare g.id) log) (goes_on g.i v (drops s))) g.refills.now)

@@ -1,0 +1,385 @@
+-- What calls do is one step after another.
+use Rattle.std.proofs.Common.{Bool, List, None, Option, Some, [], ap, append-nil, arith, cond, false, inl, inr, length, map, refl, set, subst, suc, sym, true, ℕ, ◌++◌, ◌+◌, ◌-◌, ◌<◌, ◌∙◌, ◌∷◌, ◌≡◌, ◌≢◌, ◌≤◌}
+use Rattle.std.proofs.Math.Pow.{pow_pos}
+use Rattle.std.proofs.lemmas.Bool.{cases_Bool, eq-eqb, eqb-false, eqb-true, ne_eqb}
+use Rattle.std.proofs.lemmas.Bool.Decides.{nat_tests}
+use Rattle.std.specs.List.{find, remove, slice_get}
+use Rattle.std.specs.Option.{option_and_then, option_map_or}
+use Rattle.std.specs.Prelude.{MatchOption, is_some, nat_lt, not, option_map, ◌==◌, ◌^◌, ◌⊎◌}
+use Rattle.hpx_value.specs.Ids.{bare, credit, credit_of_log}
+use Rattle.hpx_value.specs.Values.{named}
+use Rattle.hpx_parcel.specs.Parcels.{HasCredit, HasLeastCredit}
+use Rattle.hpx_journal.proofs.Bools.{or_cases}
+use Rattle.hpx_journal.proofs.Same.{and_true}
+use Rattle.hpx_journal.specs.Bags.{without}
+use Rattle.hpx_journal.specs.Data.{Act, Apply, Ask, Due, Free, Give, Id, MessageDue, Move, Parcel, PrintDue, Return}
+use Rattle.hpx_journal.specs.Entries.{Rules, target_of}
+use Rattle.hpx_journal.specs.Local.{is_standing}
+use Rattle.hpx_part.specs.Data.{Count, Event, Freed, Given, Granted, Print, Refused, Returned, Sent, Standing, Up}
+use Rattle.hpx_agas.specs.Records.{find_record}
+use Rattle.hpx_agas.specs.Registries.{asked as raised, lowered}
+use Rattle.hpx_agas.specs.declared.record.Record.{Record}
+use Rattle.hpx_commit.specs.Deals.{log_of}
+use Rattle.hpx_tables.specs.Fit.{parcel_for}
+use Rattle.hpx_tables.specs.Kept.{count_here, held_here, record_here, stands_here, waits_here}
+use Rattle.hpx_tables.specs.Strange.{brings_right, broken_free, is_live}
+use Rattle.hpx_tables.specs.Tables.{Tables}
+use Rattle.hpx_steps.specs.Calls.{DealsWith, Gives, Leaves, answered, freed, ids_in, more_here, place_or_0, returned, up_of, ups, with_accepted, with_due, with_returns, written_due}
+use Rattle.hpx_steps.specs.Mail.{draws, going, is_other, mails, may_stay, posts, with_act, with_mail, with_mail_if, with_return, wrote}
+use Rattle.hpx_steps.specs.Steps.{HasInHand, IsCalm, IsTold, Label, Place, Step, Steps, Writes, drops, goes_on, with_credit, written, written_by}
+use Rattle.hpx_steps.specs.Turn.{Turn}
+use Rattle.hpx_steps.proofs.Right.{free_right}
+use Rattle.hpx_steps.proofs.Sums.{flat_append}
+
+pub steps_append : (r : Rules) (s m s' : Turn) (xs ys : List Label) → Steps r s xs m → Steps r m ys s' → Steps r s (xs ++ ys) s'
+steps_append r s m s' [] ys a b = subst (λ x. Steps r x ys s') a b
+steps_append r s m s' (x ∷ xs) ys a b = (a.0, a.1, steps_append r a.0 m s' xs ys a.2 b)
+
+pub written_events : (es : List Event) → written (map (λ e. Writes e) es) ≡ es
+written_events [] = refl
+written_events (e ∷ es) = ap (λ xs. e ∷ xs) (written_events es)
+
+pub written_append : (xs ys : List Label) → written (xs ++ ys) ≡ written xs ++ written ys
+written_append xs ys = flat_append written_by xs ys
+
+-- ---- ids are given up
+
+-- with these ids loose; and where they have gone
+abbrev pub with_loose : List Id → Turn → Turn
+with_loose ids s = record s { loose = ids }
+
+abbrev pub let_go : List Id → Option Event → Turn → Turn
+let_go ids l s = record s { loose = []; tables = with_returns ids s.tables; last = l }
+
+pub ups_steps : (r : Rules) (s : Turn) (ids : List Id) → s.due ≡ [] → s.fresh ≡ []
+    → (l : Option Event) × Steps r (with_loose (with_credit ids) s) (map (λ e. Writes e) (ups ids)) (let_go ids l s)
+ups_steps r s [] due fresh = (s.last, refl)
+ups_steps r s (id ∷ ids) due fresh = each id.log refl (λ t e. ups_steps r (record s { tables = t; last = e }) ids due fresh)
+  where
+    each : (lg : Option ℕ) → id.log ≡ lg
+        → ((t : Tables) (e : Option Event) → (l : Option Event) × Steps r (with_loose (with_credit ids) (record s { tables = t; last = e })) (map (λ e. Writes e) (ups ids)) (let_go ids l (record s { tables = t; last = e })))
+        → (l : Option Event) × Steps r (with_loose (cond (is_some lg) (id ∷ with_credit ids) (with_credit ids)) s) (map (λ e. Writes e) (up_of id lg ++ ups ids))
+        (record s { loose = []; tables = with_returns ids (with_return id lg s.tables); last = l })
+    each None is rest = rest s.tables s.last
+    each (Some log) is rest =
+        let now : Turn = wrote (Up (bare id) log) (mails id.home (Return id) (with_loose (with_credit ids) s)) in
+        let more = rest (with_mail id.home (Return id) s.tables) (Some (Up (bare id) log)) in (
+          more.0,
+          (
+            now,
+            record { calm = record { due = due; fresh = fresh }; id = id; rest = with_credit ids; first = refl; object = refl; has = is; now = refl },
+            more.1,
+          ),
+        )
+
+-- ---- what is due is sent and printed
+
+pub due_steps : (r : Rules) (s : Turn) (due : List Due) → s.fresh ≡ []
+    → (l : Option Event) × Steps r (record s { due = due }) (map (λ e. Writes e) (written_due s.tables.here s.tables.serial due)) (record s { due = []; tables = with_due due s.tables; last = l })
+due_steps r s [] fresh = (s.last, refl)
+due_steps r s (MessageDue m ∷ due) fresh =
+    let now : Turn = wrote (Sent (record { origin = s.tables.here; serial = s.tables.serial + 1 })) (posts (named s.tables.here (s.tables.serial + 1) m) (draws (record s { due = due }))) in
+    let more = due_steps r (record s { tables = now.tables; last = now.last }) due fresh in (
+      more.0,
+      (now, record { fresh = fresh; message = m; rest = due; due = refl; name = refl; now = refl }, more.1),
+    )
+due_steps r s (PrintDue bytes ∷ due) fresh =
+    let now : Turn = wrote (Print bytes) (record s { due = due }) in
+    let more = due_steps r (record s { last = now.last }) due fresh in (
+      more.0,
+      (now, record { fresh = fresh; rest = due; due = refl; now = refl }, more.1),
+    )
+
+-- ---- a message in hand is dealt with
+
+-- one step after another leads to these tables, with no message in hand, and writes these entries
+pub record Leads (r : Rules) (s : Turn) (t' : Tables) (events : List Event) : Type 0 where
+  pub last : Option Event
+  pub labels : List Label
+  pub writes : written labels ≡ events
+  pub steps : Steps r s labels (record (drops s) { tables = t'; last = last })
+
+module _ (r : Rules) (s : Turn) (calm : IsCalm s) (t' : Tables) where
+  -- an action that may go on
+  pub act_leads : (act : Act) (p : Parcel) → (p ≡ Apply act) ⊎ (p ≡ Move act) → HasInHand p s → (s.mailed ≢ [] → may_stay s.tables act ≡ true)
+      → t' ≡ with_act act s.tables → Leads r s t' []
+  act_leads act p carries hand stays is = record {
+    last = s.last;
+    labels = Place ∷ [];
+    writes = refl;
+    steps = (
+      record (drops s) { tables = t' },
+      record { act = act; parcel = p; brings = carries; hand = hand; stays = stays; now = ap (λ t. record (drops s) { tables = t }) is },
+      refl,
+    );
+  }
+
+  -- one that is accepted
+  pub accepted_leads : (act : Act) (p : Parcel) → (p ≡ Apply act) ⊎ (p ≡ Move act) → HasInHand p s → may_stay s.tables act ≡ true
+      → t' ≡ with_accepted act s.tables → Leads r s t' []
+  accepted_leads act p carries hand stay is = act_leads act p carries hand (λ m. stay) (is ∙ sym kept)
+    where
+      kept : with_act act s.tables ≡ with_accepted act s.tables
+      kept = ap (λ b. record s.tables {
+        accepted = s.tables.accepted ++ cond b (act ∷ []) [];
+        desk = s.tables.desk ++ cond (not b) (cond (is_other s.tables (target_of act).home) [] (parcel_for act ∷ [])) [];
+        outgoing = s.tables.outgoing ++ cond (not b) (cond (is_other s.tables (target_of act).home) (going (target_of act).home (parcel_for act) ∷ []) []) [];
+      }) stay
+          ∙ (ap (λ ds. record s.tables { accepted = s.tables.accepted ++ act ∷ []; desk = ds; outgoing = s.tables.outgoing ++ [] }) (append-nil s.tables.desk)
+          ∙ ap (λ os. record s.tables { accepted = s.tables.accepted ++ act ∷ []; outgoing = os }) (append-nil s.tables.outgoing))
+
+  -- ---- records
+
+  record_of_live : (o : Id) → is_live s.tables o ≡ true → (x : Record) × (find_record o s.tables.records ≡ Some x)
+  record_of_live o live = each (find_record o s.tables.records) (and_true (o.home == s.tables.here) (is_some (record_here s.tables o)) live).1
+    where
+      each : (k : Option Record) → is_some k ≡ true → (x : Record) × (k ≡ Some x)
+      each None e = absurd (cc)
+      each (Some x) e = (x, refl)
+
+  home_of_live : (o : Id) → is_live s.tables o ≡ true → o.home ≡ s.tables.here
+  home_of_live o live = eqb-true o.home s.tables.here (and_true (o.home == s.tables.here) (is_some (record_here s.tables o)) live).0
+
+  same_last : (a b c : ℕ) → c + b ≡ a → (c == 0) ≡ (a == b)
+  same_last a b c e = elim (cases_Bool (a == b)) [
+    | inl t ↦ let i = eqb-true a b t in eq-eqb c 0 (omega (arith, i, e)) ∙ sym t
+    | inr t ↦ let i = eqb-false a b t in ne_eqb c 0 (λ z. i (omega (arith, z, e))) ∙ sym t
+  ]
+
+  -- credit that comes home
+  pub returned_leads : (id : Id) → HasInHand (Return id) s → HasCredit id → is_live s.tables id ≡ true → credit id ≤ count_here s.tables id
+      → DealsWith (Return id) s.tables t' → Leaves (Return id) s.tables t' → Leads r s t' (returned s.tables id id.log)
+  returned_leads id hand has live enough deals leaves = each id.log refl has
+    where
+      each : (lg : Option ℕ) → id.log ≡ lg → MatchOption lg ⊥ (λ x. 16 ≤ id.kind) → Leads r s t' (returned s.tables id lg)
+      each None e k = absurd k
+      each (Some log) e k =
+          let old = record_of_live id live in
+          let was : count_here s.tables id ≡ old.0.count = ap (λ (o : Option Record). option_map_or (λ (x : Record). x.count) o 0) old.1 in
+          let worth : credit id ≡ 2 ^ log = ap credit_of_log e in
+          let event : Event = Count (bare id) (count_here s.tables id - 2 ^ log) (Returned log) in
+          let count : ℕ = count_here s.tables id - 2 ^ log in record {
+            last = Some event;
+            labels = Writes event ∷ [];
+            writes = refl;
+            steps = (
+              record (drops s) { tables = t'; last = Some event },
+              record {
+                calm = calm;
+                id = id;
+                old = old.0;
+                records = t'.records;
+                hand = hand;
+                object = refl;
+                home = home_of_live id live;
+                has = e;
+                sum = omega (arith, was, worth, enough);
+                recounts = record {
+                  was = old.1;
+                  own = leaves.own ∙ ap (option_and_then (λ (x : Record). lowered x id)) old.1;
+                  others = leaves.others;
+                };
+                now = ap (λ t. record (drops s) { tables = t; last = Some event })
+                    (deals ∙ (ap (λ b. record (with_mail_if b (place_or_0 s.tables id) (Free (bare id)) s.tables) { records = t'.records })
+                    (sym (same_last (count_here s.tables id) (credit id) (count_here s.tables id - 2 ^ log) (omega (arith, worth, enough))))
+                    ∙ ap (λ (o : Option Record). record (with_mail_if ((count_here s.tables id - 2 ^ log) == 0) (option_map_or (λ (x : Record). x.place) o 0) (Free (bare id)) s.tables) { records = t'.records }) old.1));
+              },
+              refl,
+            );
+          }
+
+  -- an ask
+  pub asked_leads : (id : Id) (asker entry : ℕ) → HasInHand (Ask id asker entry) s → HasLeastCredit id → asker < s.tables.localities → 1 ≤ s.tables.profile.credit_log
+      → is_live s.tables id ≡ true → credit id ≤ count_here s.tables id → DealsWith (Ask id asker entry) s.tables t' → Leaves (Ask id asker entry) s.tables t'
+      → Leads r s t' (answered s.tables id)
+  asked_leads id asker entry hand least near lasts live enough deals leaves = each (nat_lt s.tables.profile.credit_limit (more_here s.tables id)) refl
+    where
+      is_less : (a b : ℕ) → nat_lt a b ≡ true → a < b
+      is_less a b k = search (arith, nat_tests, k)
+
+      is_at_most : (a b : ℕ) → nat_lt a b ≡ false → b ≤ a
+      is_at_most a b k = search (arith, nat_tests, k)
+
+      old : (x : Record) × (find_record id s.tables.records ≡ Some x)
+      old = record_of_live id live
+
+      was : count_here s.tables id ≡ old.0.count
+      was = ap (λ (o : Option Record). option_map_or (λ (x : Record). x.count) o 0) old.1
+
+      one : credit id ≡ 1
+      one = ap credit_of_log least.0
+
+      own : find_record id t'.records ≡ Some (raised s.tables.profile old.0)
+      own = leaves.own ∙ ap (option_map (raised s.tables.profile)) old.1
+
+      lim : nat_lt s.tables.profile.credit_limit (old.0.count + 2 ^ s.tables.profile.credit_log - 1) ≡ nat_lt s.tables.profile.credit_limit (more_here s.tables id)
+      lim = ap (λ n. nat_lt s.tables.profile.credit_limit (n + 2 ^ s.tables.profile.credit_log - 1)) (sym was)
+
+      each : (b : Bool) → nat_lt s.tables.profile.credit_limit (more_here s.tables id) ≡ b
+          → Leads r s t' (cond b (Count (bare id) (count_here s.tables id) Refused) (Count (bare id) (more_here s.tables id) Granted) ∷ [])
+      each true e =
+          let event : Event = Count (bare id) (count_here s.tables id) Refused in record {
+            last = Some event;
+            labels = Writes event ∷ [];
+            writes = refl;
+            steps = (
+              record (drops s) { tables = t'; last = Some event },
+              record {
+                calm = calm;
+                id = id;
+                asker = asker;
+                entry = entry;
+                old = old.0;
+                records = t'.records;
+                live = omega (arith, was, one, enough);
+                hand = hand;
+                near = near;
+                object = refl;
+                home = home_of_live id live;
+                same = was;
+                limit = let l : s.tables.profile.credit_limit < more_here s.tables id = is_less s.tables.profile.credit_limit (more_here s.tables id) e in omega (arith, l, pow_pos s.tables.profile.credit_log);
+                recounts = record {
+                  was = old.1;
+                  own = own ∙ ap (λ c. Some (cond c old.0 (record old.0 { count = old.0.count + 2 ^ s.tables.profile.credit_log - 1 }))) (lim ∙ e);
+                  others = leaves.others;
+                };
+                now = ap (λ t. record (drops s) { tables = t; last = Some event })
+                    (deals ∙ ap (λ c. record (with_mail asker (Give (cond c id (record id { log = Some s.tables.profile.credit_log })) entry) s.tables) { records = t'.records }) e);
+              },
+              refl,
+            );
+          }
+      each false e =
+          let event : Event = Count (bare id) (more_here s.tables id) Granted in record {
+            last = Some event;
+            labels = Writes event ∷ [];
+            writes = refl;
+            steps = (
+              record (drops s) { tables = t'; last = Some event },
+              record {
+                calm = calm;
+                id = id;
+                asker = asker;
+                entry = entry;
+                old = old.0;
+                records = t'.records;
+                live = omega (arith, was, one, enough);
+                lasts = lasts;
+                hand = hand;
+                near = near;
+                object = refl;
+                home = home_of_live id live;
+                sum = omega (arith, was, one, enough);
+                limit = is_at_most s.tables.profile.credit_limit (more_here s.tables id) e;
+                recounts = record { was = old.1; own = own; others = leaves.others };
+                now = ap (λ t. record (drops s) { tables = t; last = Some event })
+                    (deals ∙ ap (λ c. record (with_mail asker (Give (cond c id (record id { log = Some s.tables.profile.credit_log })) entry) s.tables) { records = t'.records }) e);
+              },
+              refl,
+            );
+          }
+
+-- ---- an object is freed
+
+returns_objects : (ids : List Id) (t : Tables) (os : List Standing) → with_returns ids (record t { objects = os }) ≡ record (with_returns ids t) { objects = os }
+returns_objects [] t os = refl
+returns_objects (id ∷ ids) t os = each id.log (λ u. returns_objects ids u os)
+  where
+    each : (lg : Option ℕ) → ((u : Tables) → with_returns ids (record u { objects = os }) ≡ record (with_returns ids u) { objects = os })
+        → with_returns ids (with_return id lg (record t { objects = os })) ≡ record (with_returns ids (with_return id lg t)) { objects = os }
+    each None rest = rest t
+    each (Some log) rest = rest (with_mail id.home (Return id) t)
+
+-- what is found has a place
+pub record Found (p : Standing → Bool) (xs : List Standing) (x : Standing) : Type 0 where
+  pub i : ℕ
+  pub there : slice_get xs i ≡ Some x
+  pub less : remove xs i ≡ without p xs
+
+found_place : (p : Standing → Bool) (xs : List Standing) (x : Standing) → find p xs ≡ Some x → Found p xs x
+found_place p [] x h = cc
+found_place p (y ∷ ys) x h = elim (cases_Bool (p y)) [
+  | inl t ↦ record { i = 0; there = rw t at h; less = rw t refl }
+  | inr f ↦
+      let k = found_place p ys x (rw f at h) in
+      record { i = suc k.i; there = k.there; less = rw f (ap (λ zs. y ∷ zs) k.less) }
+]
+
+pub freed_leads : (r : Rules) (s : Turn) (t' : Tables) (o : Id) → IsCalm s → s.working ≡ [] → s.loose ≡ [] → IsTold r (Free o) s → broken_free s.tables (Free o) o ≡ None
+    → DealsWith (Free o) s.tables t' → Leaves (Free o) s.tables t' → Leads r s t' (freed o (find (is_standing o) s.tables.objects))
+freed_leads r s t' o calm alone empty told right deals leaves = each (find (is_standing o) s.tables.objects) refl facts.0
+  where
+    facts : (stands_here s.tables o ≡ true) × (waits_here s.tables o ≡ false) × (held_here s.tables o ≡ 0)
+    facts = free_right s.tables (Free o) o right
+
+    each : (k : Option Standing) → find (is_standing o) s.tables.objects ≡ k → is_some k ≡ true → Leads r s t' (freed o k)
+    each None is some = absurd (cc)
+    each (Some x) is some =
+        let at : Found (is_standing o) s.tables.objects x = found_place (is_standing o) s.tables.objects x is in
+        let gone : Turn = wrote (Freed o) (record (drops s) { loose = s.loose ++ with_credit x.state.ids; tables = record s.tables { objects = remove s.tables.objects at.i } }) in
+        let more = ups_steps r gone x.state.ids calm.due calm.fresh in
+        let loose : gone ≡ with_loose (with_credit x.state.ids) gone = ap (λ ids. record gone { loose = ids ++ with_credit x.state.ids }) empty in
+        let left : with_returns x.state.ids (record s.tables { objects = remove s.tables.objects at.i }) ≡ t' =
+        returns_objects x.state.ids s.tables (remove s.tables.objects at.i)
+        ∙ (ap (λ os. record (with_returns x.state.ids s.tables) { objects = os }) (at.less ∙ sym leaves)
+        ∙ sym (deals ∙ ap (λ q. record (with_returns (ids_in q) s.tables) { objects = t'.objects }) is)) in
+        let ends : let_go x.state.ids more.0 gone ≡ record (drops s) { tables = t'; last = more.0 } =
+        ap (λ t. record (drops s) { loose = []; tables = t; last = more.0 }) left ∙ ap (λ ids. record (drops s) { loose = ids; tables = t'; last = more.0 }) (sym empty) in record {
+          last = more.0;
+          labels = Writes (Freed o) ∷ map (λ e. Writes e) (ups x.state.ids);
+          writes = ap (λ es. Freed o ∷ es) (written_events (ups x.state.ids));
+          steps = (
+            with_loose (with_credit x.state.ids) gone,
+            record { calm = calm; alone = alone; told = told; i = at.i; x = x; there = at.there; found = is; idle = facts.1; unheld = facts.2; now = sym loose },
+            subst (λ z. Steps r (with_loose (with_credit x.state.ids) gone) (map (λ e. Writes e) (ups x.state.ids)) z) ends more.1,
+          );
+        }
+
+-- ---- credit is given
+
+-- the commit that gets it is as it is then, and goes on where it waits for nothing more
+pub given_leads : (r : Rules) (s : Turn) (t' : Tables) (id : Id) (entry : ℕ) → IsCalm s → HasInHand (Give id entry) s → HasCredit id → brings_right s.tables id ≡ true
+    → (g : Gives id entry s.tables t')
+    → Step r s (Writes (Given (bare id) (log_of id.log))) (wrote (Given (bare id) (log_of id.log)) (goes_on g.i g.after (drops s)))
+given_leads r s t' id entry calm hand credit right g = record {
+  calm = calm;
+  id = id;
+  entry = entry;
+  hand = hand;
+  object = refl;
+  has = logged id.log credit;
+  right = elim (or_cases (log_of id.log == 0) (log_of id.log == s.tables.profile.credit_log) right) [
+    | inl a ↦ inl (eqb-true (log_of id.log) 0 a)
+    | inr b ↦ inr (eqb-true (log_of id.log) s.tables.profile.credit_log b)
+  ];
+  i = g.i;
+  before = g.before;
+  after = g.after;
+  there = g.there;
+  first = g.first;
+  refills = g.refills;
+  now = refl;
+}
+  where
+    logged : (l : Option ℕ) → MatchOption l ⊥ (λ x. 16 ≤ id.kind) → l ≡ Some (log_of l)
+    logged None h = absurd h
+    logged (Some log) h = refl
+
+-- where it waits on
+pub given_waits : (r : Rules) (s : Turn) (t' : Tables) (id : Id) (entry : ℕ) → IsCalm s → HasInHand (Give id entry) s → HasCredit id → brings_right s.tables id ≡ true
+    → (g : Gives id entry s.tables t') → (length g.after.asked == 0) ≡ false → Leads r s t' (Given (bare id) (log_of id.log) ∷ [])
+given_waits r s t' id entry calm hand credit right g waits =
+    let event : Event = Given (bare id) (log_of id.log) in record {
+      last = Some event;
+      labels = Writes event ∷ [];
+      writes = refl;
+      steps = (wrote event (goes_on g.i g.after (drops s)), given_leads r s t' id entry calm hand credit right g, sym then_is);
+    }
+  where
+    then_is : wrote (Given (bare id) (log_of id.log)) (goes_on g.i g.after (drops s)) ≡ record (drops s) { tables = t'; last = Some (Given (bare id) (log_of id.log)) }
+    then_is =
+        ap (λ b. wrote (Given (bare id) (log_of id.log)) (record (drops s) {
+          working = cond b (g.after ∷ s.working) s.working;
+          tables = record s.tables { pending = cond b (remove s.tables.pending g.i) (set s.tables.pending g.i g.after) };
+        })) waits
+        ∙ ap (λ t. record (drops s) { tables = t; last = Some (Given (bare id) (log_of id.log)) }) (sym g.rest)

@@ -1,0 +1,41 @@
+-- Sums over lists, where one element goes, and where another stands in its place.
+use Rattle.std.proofs.Common.{List, Some, [], ap, arith, drop, length, length-append, map, refl, set, suc, sym, take, ℕ, ◌++◌, ◌+◌, ◌∙◌, ◌∷◌, ◌≡◌}
+use Rattle.std.proofs.lemmas.List.{map-append}
+use Rattle.std.proofs.lemmas.List.Sums.{sum_by-cons}
+use Rattle.std.specs.List.{remove, sum_by}
+use Rattle.std.specs.Prelude.{flat_map, slice_get}
+use Rattle.hpx_part.proofs.Keyed.{split_get, split_set}
+use Rattle.hpx_part.proofs.Lists.{sum_middle}
+
+pub less_sum : {X : Type 0} (f : X → ℕ) (xs : List X) (i : ℕ) (x : X) → slice_get xs i ≡ Some x → sum_by f xs ≡ sum_by f (remove xs i) + f x
+less_sum f xs i x there = ap (sum_by f) (split_get xs i x there) ∙ sum_middle f (take i xs) x (drop (suc i) xs)
+
+pub set_sum : {X : Type 0} (f : X → ℕ) (xs : List X) (i : ℕ) (x y : X) → slice_get xs i ≡ Some x → sum_by f (set xs i y) + f x ≡ sum_by f xs + f y
+set_sum f xs i x y h = omega (
+  arith,
+  ap (sum_by f) (split_get xs i x h),
+  ap (sum_by f) (split_set xs i x y h),
+  sum_middle f (take i xs) x (drop (suc i) xs),
+  sum_middle f (take i xs) y (drop (suc i) xs),
+)
+
+pub long_flat : {X Y : Type 0} (g : X → List Y) (xs : List X) → length (flat_map g xs) ≡ sum_by (λ x. length (g x)) xs
+long_flat g [] = refl
+long_flat g (x ∷ xs) = omega (arith, length-append (g x) (flat_map g xs), long_flat g xs, sum_by-cons (λ y. length (g y)) x xs)
+
+-- one of a list is another that is seen the same
+pub same_map : {X Y : Type 0} (g : X → Y) (xs : List X) (i : ℕ) (x y : X) → slice_get xs i ≡ Some x → g y ≡ g x → map g (set xs i y) ≡ map g xs
+same_map g xs i x y h same =
+    ap (map g) (split_set xs i x y h)
+    ∙ (map-append g (take i xs) (y ∷ drop (suc i) xs)
+    ∙ (ap (λ z. map g (take i xs) ++ z ∷ map g (drop (suc i) xs)) same
+    ∙ (sym (map-append g (take i xs) (x ∷ drop (suc i) xs)) ∙ ap (map g) (sym (split_get xs i x h)))))
+
+-- as many as there are
+pub long_sum : {X : Type 0} (xs : List X) → length xs ≡ sum_by (λ x. 1) xs
+long_sum [] = refl
+long_sum (x ∷ xs) = omega (arith, long_sum xs, sum_by-cons (λ y. 1) x xs)
+
+pub none_sum : {X : Type 0} (f : X → ℕ) (xs : List X) → ((x : X) → f x ≡ 0) → sum_by f xs ≡ 0
+none_sum f [] none = refl
+none_sum f (x ∷ xs) none = omega (arith, none x, none_sum f xs none, sum_by-cons f x xs)

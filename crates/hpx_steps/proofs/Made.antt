@@ -1,0 +1,87 @@
+-- What a commit makes stands as it was made, behind what stood before.
+use Rattle.std.proofs.Common.{Bool, List, [], ap, append_assoc, arith, false, inl, inr, map, refl, subst, sym, true, ℕ, ◌++◌, ◌+◌, ◌<◌, ◌∙◌, ◌∷◌, ◌≡◌, ◌≤◌}
+use Rattle.std.proofs.lemmas.Bool.{cases_Bool}
+use Rattle.std.proofs.lemmas.List.{map-append}
+use Rattle.std.specs.List.{AllByRecursion, find}
+use Rattle.hpx_value.specs.Ids.{bare, bare_id}
+use Rattle.hpx_value.specs.Laws.{birth_state}
+use Rattle.hpx_value.specs.Values.{bare_state}
+use Rattle.hpx_value.specs.declared.outcome.Make.{Make}
+use Rattle.hpx_journal.proofs.Same.{same_object-refl, same_object-true}
+use Rattle.hpx_journal.specs.Data.{Id, State}
+use Rattle.hpx_journal.specs.Local.{is_standing}
+use Rattle.hpx_journal.specs.Rows.{AreMade}
+use Rattle.hpx_part.specs.Data.{Standing}
+use Rattle.hpx_tables.proofs.Alls.{all_append}
+use Rattle.hpx_tables.specs.Births.{IsBirth, birth_of, ids_of, objects_of}
+use Rattle.hpx_tables.specs.declared.births.Birth.{Birth}
+use Rattle.hpx_steps.specs.Turn.{bare_standing}
+
+-- it has a number that was drawn, if it was born here
+abbrev pub Drawn : ℕ → ℕ → Standing → Type 0
+Drawn here n x = 16 ≤ x.object.kind → x.object.home ≡ here → x.object.number ≤ n
+
+bare_alone : (s : State) → s.ids ≡ [] → bare_state s ≡ s
+bare_alone s none = ap (λ ids. record { drawn = s.drawn; values = s.values; conts = s.conts; ids = ids }) (ap (map bare) none ∙ sym none)
+
+-- what is made shows no credit
+bare_made : (here n : ℕ) (xs : List Birth) → AllByRecursion IsBirth xs → map bare_standing (objects_of here n xs) ≡ objects_of here n xs
+bare_made here n [] h = refl
+bare_made here n (x ∷ xs) h =
+    ap (λ s. record { object = bare_id here x.kind (n + 1); state = s } ∷ map bare_standing (objects_of here (n + 1) xs)) (bare_alone x.state h.0.none)
+    ∙ ap (λ ys. record { object = bare_id here x.kind (n + 1); state = x.state } ∷ ys) (bare_made here (n + 1) xs h.1)
+
+find_past : (p : Standing → Bool) (xs ys : List Standing) → AllByRecursion (λ x. p x ≡ false) xs → find p (xs ++ ys) ≡ find p ys
+find_past p [] ys h = refl
+find_past p (x ∷ xs) ys h = let e = h.0 in rw e (find_past p xs ys h.1)
+
+-- what has a later number is none of these
+other_than : (here n : ℕ) (o : Id) → 16 ≤ o.kind → o.home ≡ here → n < o.number → (xs : List Standing) → AllByRecursion (Drawn here n) xs
+    → AllByRecursion (λ x. is_standing o x ≡ false) xs
+other_than here n o managed home late [] h = tt
+other_than here n o managed home late (x ∷ xs) h = (
+  elim (cases_Bool (is_standing o x)) [
+    | inl t ↦
+        let same = same_object-true o x.object t in
+        let kind : o.kind ≡ x.object.kind = ap (λ (y : Id). y.kind) same in
+        let there : o.home ≡ x.object.home = ap (λ (y : Id). y.home) same in
+        let number : o.number ≡ x.object.number = ap (λ (y : Id). y.number) same in
+        let low : x.object.number ≤ n = h.0 (omega (arith, kind, managed)) (sym there ∙ home) in
+        absurd (omega (arith, low, number, late))
+    | inr f ↦ f
+  ],
+  other_than here n o managed home late xs h.1,
+)
+
+are_made : (here n log : ℕ) (makes : List Make) (before : List Standing) → AllByRecursion IsBirth (map birth_of makes) → AllByRecursion (Drawn here n) before
+    → AreMade makes (map bare (ids_of here n log (map birth_of makes))) (before ++ objects_of here n (map birth_of makes))
+are_made here n log [] before fit drawn = tt
+are_made here n log (make ∷ makes) before fit drawn =
+    let o : Id = bare_id here make.kind (n + 1) in
+    let new : Standing = record { object = bare_id here make.kind (n + 1); state = birth_state make } in
+    let rest : List Standing = objects_of here (n + 1) (map birth_of makes) in
+    let past : find (is_standing (bare_id here make.kind (n + 1))) (before ++ (new ∷ objects_of here (n + 1) (map birth_of makes)))
+    ≡ find (is_standing (bare_id here make.kind (n + 1))) (new ∷ objects_of here (n + 1) (map birth_of makes)) =
+    find_past (is_standing o) before (new ∷ rest) (other_than here n o fit.0.least refl (omega arith) before drawn) in
+    let own : is_standing (bare_id here make.kind (n + 1)) new ≡ true = same_object-refl o in (
+      refl,
+      past ∙ rw own refl,
+      subst (AreMade makes (map bare (ids_of here (n + 1) log (map birth_of makes)))) (append_assoc before (new ∷ []) rest)
+          (are_made here (n + 1) log makes (before ++ new ∷ []) fit.1
+          (all_append (Drawn here (n + 1)) before (new ∷ []) (more before drawn) ((λ managed home. omega arith), tt))),
+    )
+  where
+    more : (xs : List Standing) → AllByRecursion (Drawn here n) xs → AllByRecursion (Drawn here (n + 1)) xs
+    more [] h = tt
+    more (x ∷ xs) h = ((λ managed home. let low = h.0 managed home in omega (arith, low)), more xs h.1)
+
+bare_drawn : (here n : ℕ) (xs : List Standing) → AllByRecursion (Drawn here n) xs → AllByRecursion (Drawn here n) (map bare_standing xs)
+bare_drawn here n [] h = tt
+bare_drawn here n (x ∷ xs) h = (h.0, bare_drawn here n xs h.1)
+
+pub made_so : (here n log : ℕ) (makes : List Make) (before : List Standing) → AllByRecursion IsBirth (map birth_of makes) → AllByRecursion (Drawn here n) before
+    → AreMade makes (map bare (ids_of here n log (map birth_of makes))) (map bare_standing (before ++ objects_of here n (map birth_of makes)))
+made_so here n log makes before fit drawn =
+    subst (AreMade makes (map bare (ids_of here n log (map birth_of makes))))
+    (sym (map-append bare_standing before (objects_of here n (map birth_of makes)) ∙ ap (λ xs. map bare_standing before ++ xs) (bare_made here n (map birth_of makes) fit)))
+    (are_made here n log makes (map bare_standing before) fit (bare_drawn here n before drawn))

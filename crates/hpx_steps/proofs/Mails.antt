@@ -1,0 +1,63 @@
+-- One more message: what it weighs and that it is tidy, wherever it is put.
+use Rattle.std.proofs.Common.{Bool, Some, [], ap, arith, cond, false, inl, inr, map, refl, true, ℕ, ◌++◌, ◌<◌, ◌∙◌, ◌∷◌, ◌≡◌, ◌≢◌}
+use Rattle.std.proofs.lemmas.Bool.Decides.{nat_tests}
+use Rattle.std.proofs.lemmas.List.Sums.{sum_by-cons}
+use Rattle.std.specs.List.{AllByRecursion, sum_by}
+use Rattle.hpx_value.specs.Ids.{bare}
+use Rattle.hpx_parcel.specs.Credits.{credit_list}
+use Rattle.hpx_parcel.specs.Parcels.{IsParcel}
+use Rattle.hpx_journal.specs.Data.{Id, Parcel}
+use Rattle.hpx_journal.specs.Tokens.{held, held_token, owed_token, owing}
+use Rattle.hpx_part.proofs.Keys.{own}
+use Rattle.hpx_part.specs.Data.{Token}
+use Rattle.hpx_tables.specs.Tables.{Tables}
+use Rattle.hpx_steps.specs.Frames.{MayGoTo}
+use Rattle.hpx_steps.specs.Items.{Came, Going, Item, Mailed, OnDesk}
+use Rattle.hpx_steps.specs.Mail.{going, is_other}
+use Rattle.hpx_steps.specs.Sound.{FreesNone, IsOwn, IsTidy, IsTidyIn}
+use Rattle.hpx_steps.specs.Steps.{HasInHand}
+use Rattle.hpx_steps.specs.Turn.{Turn, tokens_of}
+use Rattle.hpx_steps.proofs.Changes.{sent_if, total}
+
+-- a message that weighs the same on the desk and away
+pub sent_total : (w : Item → ℕ) (b other : Bool) (to : ℕ) (p : Parcel) (n : ℕ) → w (OnDesk p) ≡ n → w (Going (going to p)) ≡ n
+    → total w (sent_if b other to p) ≡ cond b n 0
+sent_total w true true to p n a e = omega (arith, e)
+sent_total w true false to p n a e = omega (arith, a)
+sent_total w false other to p n a e = refl
+
+sent_all : (P : Item → Type 0) (b other : Bool) (to : ℕ) (p : Parcel) → (b ≡ true → other ≡ false → P (OnDesk p))
+    → (b ≡ true → other ≡ true → P (Going (going to p))) → AllByRecursion P (sent_if b other to p)
+sent_all P true true to p desk out = (out refl refl, tt)
+sent_all P true false to p desk out = (desk refl refl, tt)
+sent_all P false other to p desk out = tt
+
+pub other_is : (t : Tables) (to : ℕ) → is_other t to ≡ true → (to < t.localities) × (to ≢ t.here)
+other_is t to h = search (arith, nat_tests, h)
+
+pub own_is : (t : Tables) (to : ℕ) → is_other t to ≡ false → to < t.localities → to ≡ t.here
+own_is t to h lt = grind (arith, nat_tests)
+
+pub mail_tidy : (t : Tables) (b : Bool) (to : ℕ) (p : Parcel) → (b ≡ true → IsParcel p) → (b ≡ true → MayGoTo t.here to p)
+    → (b ≡ true → IsOwn t.here t.profile.credit_log p) → (b ≡ true → is_other t to ≡ true → FreesNone p)
+    → AllByRecursion (IsTidyIn t.here t.localities t.profile.credit_log t.births t.objects) (sent_if b (is_other t to) to p)
+mail_tidy t b to p fit may own stays = sent_all (IsTidyIn t.here t.localities t.profile.credit_log t.births t.objects) b (is_other t to) to p
+    (λ c e. (fit c, record { to = to; may = may c; here = own_is t to e }, own c))
+    (λ c e. (fit c, record { somewhere = (other_is t to e).0; away = (other_is t to e).1; may = may c }, own c, stays c e))
+
+-- ---- the token of an id
+
+pub held_by : (f : Token → ℕ) (id : Id) (log : ℕ) → id.log ≡ Some log → sum_by f (tokens_of (id ∷ [])) ≡ f (held_token (bare id) log)
+held_by f id log some =
+    ap (λ l. sum_by f (map held (credit_list id l ++ []))) some ∙ omega (arith, sum_by-cons f (held_token (bare id) log) [])
+
+pub owed_by : (f : Token → ℕ) (id : Id) (log : ℕ) → id.log ≡ Some log
+    → sum_by f (map owing (credit_list id id.log ++ [])) ≡ f (owed_token (bare id) log)
+owed_by f id log some =
+    ap (λ l. sum_by f (map owing (credit_list id l ++ []))) some ∙ omega (arith, sum_by-cons f (owed_token (bare id) log) [])
+
+-- ---- the message in hand is well formed
+
+pub hand_fit : (p : Parcel) (s : Turn) → IsTidy s → HasInHand p s → IsParcel p
+hand_fit p s h (inl k) = h (Came p) (rw k.0 (inl refl))
+hand_fit p s h (inr k) = (h (Mailed p) (rw k.1 (inl refl))).0

@@ -1,0 +1,126 @@
+-- A commit begins to wait.
+use Rattle.std.proofs.Common.{List, [], ap, append-nil, append_assoc, arith, inl, map, refl, subst, sym, ℕ, ◌++◌, ◌+◌, ◌∙◌, ◌∷◌, ◌≡◌, ◌≢◌}
+use Rattle.std.proofs.lemmas.List.Sums.{sum_by-append}
+use Rattle.std.specs.List.{sum_by}
+use Rattle.hpx_value.specs.Values.{bare_act}
+use Rattle.hpx_journal.specs.Entries.{Rules}
+use Rattle.hpx_part.proofs.Keyed.{any_counted, counted_any, counts_of}
+use Rattle.hpx_part.specs.Data.{Entry, Refusal}
+use Rattle.hpx_part.specs.Shows.{same_refusal}
+use Rattle.hpx_part.specs.View.{View}
+use Rattle.hpx_tables.specs.Pending.{Waits, action_of, fired_of, refusal_of, refusals_of}
+use Rattle.hpx_steps.specs.Items.{Item, Pending, Working, weigh}
+use Rattle.hpx_steps.specs.Numbered.{asks_under}
+use Rattle.hpx_steps.specs.Paused.{HasCommits, HasSplit, IsCommit}
+use Rattle.hpx_steps.specs.Rows.{freeing, hopping, joined, unpaid}
+use Rattle.hpx_steps.specs.Sound.{IsSound, TidyAt, asked_by, asking, given_to, waits_for, worth}
+use Rattle.hpx_steps.specs.Steps.{Pauses}
+use Rattle.hpx_steps.specs.Turn.{Turn, commits, view}
+use Rattle.hpx_steps.proofs.Beside.{is_fired, move_commits, same_fired, was_fired}
+use Rattle.hpx_steps.proofs.Changes.{Changes, first_goes, holding, more_come, pending_change, then, working_change}
+use Rattle.hpx_steps.proofs.Lists.{long_sum}
+use Rattle.hpx_steps.proofs.Moved.{fired_leads, leads_on}
+use Rattle.hpx_steps.proofs.Seen.{Sees, sees_leads}
+use Rattle.hpx_steps.proofs.Still.{Stills}
+use Rattle.hpx_steps.proofs.Sums.{flat_append, view_asking, view_worth}
+use Rattle.hpx_steps.proofs.Then.{fewer}
+
+module _ (r : Rules) (s : Turn) (entries : List Entry) (h : IsSound r s entries) (w : Waits) (rest : List Waits) (places : List ℕ) (works : s.working ≡ w ∷ rest)
+    (lacks : w.asked ≢ []) (split : HasSplit s.tables.profile.credit_log (record w { places = places })) where
+  abbrev waiter : Waits
+  waiter = record w { places = places }
+
+  abbrev now : Turn
+  now = record s { working = rest; tables = record s.tables { pending = s.tables.pending ++ record w { places = places } ∷ [] } }
+
+  change : Changes (Working w ∷ []) (Pending waiter ∷ []) s now
+  change = then (Working w ∷ []) [] [] (Pending waiter ∷ []) s (record s { working = rest }) now
+      (working_change (Working w ∷ []) [] s rest (first_goes (λ x. Working x) s.working w rest works))
+      (pending_change [] (Pending waiter ∷ []) (record s { working = rest }) (s.tables.pending ++ waiter ∷ []) (more_come (λ x. Pending x) s.tables.pending (waiter ∷ [])))
+
+  moves : (f : Item → ℕ) → weigh f now + f (Working w) ≡ weigh f s + f (Pending waiter)
+  moves f = let k : weigh f now + (f (Working w) + 0) ≡ weigh f s + (f (Pending waiter) + 0) = change.0 f in omega (arith, k)
+
+  its : IsCommit s.tables.here s.tables.localities w
+  its = h.tidy (Working w) (rw works (inl refl))
+
+  fit_commit : IsCommit s.tables.here s.tables.localities waiter
+  fit_commit = record {
+    job = its.job;
+    here = its.here;
+    localities = its.localities;
+    few = its.few;
+    hand = its.hand;
+    within = its.within;
+    refused = its.refused;
+    once = its.once;
+  }
+
+  abbrev others : List Waits
+  others = rest ++ s.tables.pending
+
+  same : [] ++ others ≡ others ++ []
+  same = sym (append-nil others)
+
+  behind : others ++ waiter ∷ [] ≡ commits now
+  behind = append_assoc rest s.tables.pending (waiter ∷ [])
+
+  was : HasCommits s.tables.objects s.tables.running (w ∷ rest ++ s.tables.pending)
+  was = subst (λ ws. HasCommits s.tables.objects s.tables.running (ws ++ s.tables.pending)) works h.commits
+
+  abbrev seen : View
+  seen = record (view s) { fired = map bare_act ((s.tables.running ++ map action_of others) ++ w.job.action ∷ map action_of []) }
+
+  fires : (view s).fired ≡ map bare_act ((s.tables.running ++ map action_of []) ++ w.job.action ∷ map action_of others)
+  fires = ap (λ ws. map bare_act (fired_of s.tables.running (ws ++ s.tables.pending))) works
+      ∙ ap (map bare_act) (was_fired s.tables.objects s.tables.running [] others others [] w waiter refl same)
+
+  refusals : refusals_of (commits s) ≡ refusals_of (w ∷ others)
+  refusals = ap (λ ws. refusals_of (ws ++ s.tables.pending)) works
+
+  -- in another order
+  refused : (f : Refusal → ℕ) → sum_by f (refusals_of (commits now)) ≡ sum_by f (refusals_of (commits s))
+  refused f = omega (
+    arith,
+    ap (λ ws. sum_by f (refusals_of ws)) (sym behind),
+    ap (sum_by f) (flat_append (λ (x : Waits). refusal_of x.job.action x.refused) others (waiter ∷ [])),
+    sum_by-append f (refusals_of others) (refusal_of w.job.action w.refused ++ []),
+    sum_by-append f (refusal_of w.job.action w.refused) [],
+    sum_by-append f (refusal_of w.job.action w.refused) (refusals_of others),
+    ap (sum_by f) refusals,
+  )
+
+  sees : Sees (record seen { last = s.last }) now
+  sees = record {
+    rest = ap (λ fs. record (view now) { fired = fs })
+        (ap (map bare_act) (sym (is_fired s.tables.objects s.tables.running [] others others [] w waiter refl same)) ∙ ap (λ ws. map bare_act (fired_of s.tables.running ws)) behind);
+    tokens = λ f fair. omega (arith, view_worth f s, view_worth f now, moves (worth f));
+    asking = λ o. omega (arith, view_asking o s, view_asking o now, moves (asking o));
+    asks = λ o. refl;
+    live = λ o home. refl;
+    dead = λ o. omega arith;
+    refusals = λ y k. any_counted (same_refusal y) (refusals_of (commits s))
+        (omega (arith, counted_any (same_refusal y) (refusals_of (commits now)) k, refused (counts_of (same_refusal y))));
+    failing = omega (arith, long_sum (refusals_of (commits s)), long_sum (refusals_of (commits now)), refused (λ x. 1));
+  }
+
+  pub pause_stills : Stills r s now
+  pause_stills = record {
+    same = refl;
+    leads = leads_on r (view s) seen (view now)
+        (fired_leads r (view s) (s.tables.running ++ map action_of []) (map action_of others) (s.tables.running ++ map action_of others) (map action_of []) w.job.action fires
+        (same_fired s.tables.objects s.tables.running [] others others [] w waiter refl same)) (sees_leads r seen now sees);
+    tidy = holding (TidyAt s) (Pending waiter ∷ []) s now change.1 h.tidy ((fit_commit, split, lacks), tt);
+    places = h.places;
+    commits = subst (HasCommits s.tables.objects s.tables.running) behind (move_commits s.tables.objects s.tables.running [] others others [] w waiter refl same was);
+    numbered = fewer s now (omega arith) (λ n. omega (arith, moves (asks_under n)));
+    rows = λ row. omega (arith, moves (unpaid row));
+    once = omega (arith, moves hopping);
+    fired = omega (arith, moves joined);
+    frees = λ o. omega (arith, moves (freeing o));
+    asked = λ o n. omega (arith, moves (asked_by s.tables.here o n), moves (waits_for o n));
+    given = λ k d o n. omega (arith, moves (given_to k o n));
+  }
+
+pub pause_step : (r : Rules) (s s' : Turn) (entries : List Entry) → IsSound r s entries → Pauses s s' → Stills r s s'
+pause_step r s s' entries h g = subst (Stills r s) (sym g.now) (pause_stills r s entries h g.w g.rest g.places g.works g.lacks g.split)

@@ -1,0 +1,181 @@
+-- An action that is in hand waits here, or goes on.
+use Rattle.std.proofs.Common.{Bool, List, [], ap, arith, false, inl, inr, refl, subst, sym, true, ℕ, ◌++◌, ◌+◌, ◌∙◌, ◌∷◌, ◌≡◌, ◌≢◌, ◌≤◌}
+use Rattle.std.specs.List.{count_by, sum_by}
+use Rattle.std.specs.Prelude.{◌==◌, ◌||◌, ◌⊎◌}
+use Rattle.hpx_value.specs.Ids.{same_object}
+use Rattle.hpx_value.specs.Values.{bare_act}
+use Rattle.hpx_parcel.specs.Parcels.{IsApplied, IsMove, IsParcel}
+use Rattle.hpx_journal.specs.Data.{Act, Apply, Move, Parcel}
+use Rattle.hpx_journal.specs.Entries.{Rules, target_of}
+use Rattle.hpx_part.specs.Data.{Entry}
+use Rattle.hpx_part.specs.View.{View}
+use Rattle.hpx_tables.specs.Fit.{IsFit}
+use Rattle.hpx_steps.specs.Items.{Accepted, Came, Going, Item, Mailed, OnDesk, weigh}
+use Rattle.hpx_steps.specs.Mail.{going, is_other, may_stay, posts}
+use Rattle.hpx_steps.specs.Numbered.{asks_as, asks_under}
+use Rattle.hpx_steps.specs.Rows.{Row, brings, freeing, frees_one, hopping, joined, kind_of, of_act, one_if, owes, unpaid, weight}
+use Rattle.hpx_steps.specs.Sound.{IsSound, TidyAt, asked_by, asks_for, given_to, gives_for, waits_for, worth}
+use Rattle.hpx_steps.specs.Steps.{HasInHand, Places, drops}
+use Rattle.hpx_steps.specs.Turn.{Turn, parcel_acts, parcel_asks, parcel_frees, parcel_tokens, tokens_of, view, waiting}
+use Rattle.hpx_steps.proofs.ByRows.{by_rows}
+use Rattle.hpx_steps.proofs.Calm.{bound_none, same_dead, same_seen}
+use Rattle.hpx_steps.proofs.Changes.{Changes, drop_change, holding, in_hand, is_frame, post_change, put_as, then}
+use Rattle.hpx_steps.proofs.Mails.{hand_fit}
+use Rattle.hpx_steps.proofs.Moved.{leads_on, waits_leads, waits_moved}
+use Rattle.hpx_steps.proofs.Puts.{put_less, put_sum, put_tidy}
+use Rattle.hpx_steps.proofs.Seen.{Sees, sees_leads}
+use Rattle.hpx_steps.proofs.Still.{Stills}
+use Rattle.hpx_steps.proofs.Sums.{by_own, by_parcel, view_worth}
+use Rattle.hpx_steps.proofs.Then.{fewer}
+use Rattle.hpx_steps.proofs.Waits.{Put, hand_waits, post_waits}
+
+module _ (r : Rules) (s : Turn) (entries : List Entry) (h : IsSound r s entries) (act : Act) (p : Parcel) (carries : (p ≡ Apply act) ⊎ (p ≡ Move act))
+    (hand : HasInHand p s) (stays : s.mailed ≢ [] → may_stay s.tables act ≡ true) where
+  -- what holds of both holds of it
+  of_both : (P : Parcel → Type 0) → P (Apply act) → P (Move act) → P p
+  of_both P a b = elim carries [
+    | inl e ↦ subst P (sym e) a
+    | inr e ↦ subst P (sym e) b
+  ]
+
+  abbrev now : Turn
+  now = posts act (drops s)
+
+  abbrev was : Item
+  was = in_hand (is_frame p s hand) p
+
+  abbrev item : Item
+  item = put_as (may_stay s.tables act) (is_other s.tables (target_of act).home) act
+
+  change : Changes (in_hand (is_frame p s hand) p ∷ []) (put_as (may_stay s.tables act) (is_other s.tables (target_of act).home) act ∷ []) s now
+  change = then (was ∷ []) [] [] (item ∷ []) s (drops s) now (drop_change p s hand) (post_change act (drops s))
+
+  turns : (w : Item → ℕ) → weigh w now + w was ≡ weigh w s + w item
+  turns w = let k : weigh w now + (w was + 0) ≡ weigh w s + (w item + 0) = change.0 w in omega (arith, k)
+
+  -- a weight that sees an action wherever it is
+  moves : (w : Item → ℕ) (n : ℕ) → w (Came p) ≡ n → w (Mailed p) ≡ n → w (Accepted act) ≡ n
+      → ((q : Parcel) → (q ≡ Apply act) ⊎ (q ≡ Move act) → (w (OnDesk q) ≡ n) × ((to : ℕ) → w (Going (going to q)) ≡ n)) → weigh w now ≡ weigh w s
+  moves w n a b c d = omega (arith, turns w, from (is_frame p s hand), put_sum w (may_stay s.tables act) (is_other s.tables (target_of act).home) act n c d)
+    where
+      from : (b : Bool) → w (in_hand b p) ≡ n
+      from true = a
+      from false = b
+
+  -- by what messages weigh
+  carried : (f : Parcel → ℕ) (n : ℕ) → f (Apply act) ≡ n → f (Move act) ≡ n → (q : Parcel) → (q ≡ Apply act) ⊎ (q ≡ Move act) → f q ≡ n
+  carried f n a b q (inl e) = ap f e ∙ a
+  carried f n a b q (inr e) = ap f e ∙ b
+
+  both : (f : Parcel → ℕ) (n : ℕ) → f (Apply act) ≡ n → f (Move act) ≡ n → (q : Parcel) → (q ≡ Apply act) ⊎ (q ≡ Move act) → (f q ≡ n) × ((to : ℕ) → f q ≡ n)
+  both f n a b q e = (carried f n a b q e, λ to. carried f n a b q e)
+
+  fit : IsFit act
+  fit = elim carries [
+    | inl e ↦ let k : IsApplied act = subst IsParcel e (hand_fit p s h.tidy hand) in record { sent = k.sent; moves = λ c. absurd (k.code c) }
+    | inr e ↦ let k : IsMove act = subst IsParcel e (hand_fit p s h.tidy hand) in record { sent = k.sent; moves = λ c. (k.target, k.args) }
+  ]
+
+  from_hand : Put act (waiting (drops s)) (waiting s)
+  from_hand = hand_waits act p s hand (of_both (λ q. parcel_acts q ≡ bare_act act ∷ []) refl refl)
+
+  put : Put act (waiting (drops s)) (waiting now)
+  put = post_waits act (drops s)
+
+  same : from_hand.front ++ from_hand.back ≡ put.front ++ put.back
+  same = sym from_hand.was ∙ put.was
+
+  abbrev seen : View
+  seen = waits_moved r (view s) from_hand.front from_hand.back put.front put.back (bare_act act) from_hand.is same
+
+  none : (f : Parcel → ℕ) → f (Apply act) ≡ 0 → f (Move act) ≡ 0 → f p ≡ 0
+  none f a b = carried f 0 a b p carries
+
+  sees : Sees (record seen { last = s.last }) now
+  sees = record {
+    rest = ap (λ ws. record (view now) { waiting = ws }) (sym put.is);
+    tokens = λ f weight. omega (
+      arith,
+      view_worth f s,
+      view_worth f now,
+      moves (worth f) (sum_by f (tokens_of act.ids)) (of_both (λ q. sum_by f (parcel_tokens q) ≡ sum_by f (tokens_of act.ids)) refl refl)
+          (of_both (λ q. sum_by f (parcel_tokens q) ≡ sum_by f (tokens_of act.ids)) refl refl) refl
+          (both (λ q. sum_by f (parcel_tokens q)) (sum_by f (tokens_of act.ids)) refl refl),
+    );
+    asking = λ x. refl;
+    asks = λ x.
+        let f : Parcel → ℕ = λ q. count_by (same_object x) (parcel_asks q) in
+        same_seen x parcel_asks s now (omega (arith, moves (by_parcel f) 0 (none f refl refl) (none f refl refl) refl (both f 0 refl refl)));
+    live = λ x home. refl;
+    dead = λ x.
+        let f : Parcel → ℕ = λ q. count_by (same_object x) (parcel_frees q) in
+        same_dead x s now (omega (arith, moves (by_own f) 0 refl (none f refl refl) refl (both f 0 refl refl)));
+    refusals = λ x k. k;
+    failing = omega arith;
+  }
+
+  -- each action counts as one, wherever it is
+  weighs_one : (row : Row) → weight row p ≡ of_act row
+  weighs_one row = of_both (λ q. weight row q ≡ of_act row)
+      (by_rows (λ x. weight x (Apply act) ≡ of_act x) refl refl refl refl refl refl refl (λ o. refl) row)
+      (by_rows (λ x. weight x (Move act) ≡ of_act x) refl refl refl refl refl refl refl (λ o. refl) row)
+
+  owes_one : (row : Row) → owes row p ≡ of_act row
+  owes_one row = of_both (λ q. owes row q ≡ of_act row)
+      (by_rows (λ x. owes x (Apply act) ≡ of_act x) refl refl refl refl refl refl refl (λ o. refl) row)
+      (by_rows (λ x. owes x (Move act) ≡ of_act x) refl refl refl refl refl refl refl (λ o. refl) row)
+
+  sent_one : (row : Row) (q : Parcel) → (q ≡ Apply act) ⊎ (q ≡ Move act) → (weight row q ≡ of_act row) × ((to : ℕ) → weight row q ≡ of_act row)
+  sent_one row = both (weight row) (of_act row) (by_rows (λ x. weight x (Apply act) ≡ of_act x) refl refl refl refl refl refl refl (λ o. refl) row)
+      (by_rows (λ x. weight x (Move act) ≡ of_act x) refl refl refl refl refl refl refl (λ o. refl) row)
+
+  one : brings p ≡ 1
+  one = of_both (λ q. brings q ≡ 1) refl refl
+
+  -- from a frame it may go on, from the desk it is accepted
+  from_where : (hopping item ≤ hopping was) × (joined was ≤ joined item)
+  from_where = elim hand as (λ k. (hopping item ≤ hopping (in_hand (is_frame p s k) p)) × (joined (in_hand (is_frame p s k) p) ≤ joined item)) [
+    | inl k ↦ (omega (arith, put_less hopping (may_stay s.tables act) (is_other s.tables (target_of act).home) act 1 (omega arith) (λ q. (few q, λ to. few q)), one), omega arith)
+    | inr k ↦
+        let stay : may_stay s.tables act ≡ true = stays (λ e. absurd (let z : p ∷ [] ≡ [] = sym k.1 ∙ e in cc)) in (
+          subst (λ b. hopping (put_as b (is_other s.tables (target_of act).home) act) ≤ 0) (sym stay) (omega arith),
+          subst (λ b. brings p ≤ joined (put_as b (is_other s.tables (target_of act).home) act)) (sym stay) (omega (arith, one)),
+        )
+  ]
+    where
+      few : (q : Parcel) → brings q ≤ 1
+      few q = each ((kind_of q == 1) || (kind_of q == 6))
+        where
+          each : (b : Bool) → one_if b ≤ 1
+          each true = omega arith
+          each false = omega arith
+
+  pub place_stills : Stills r s now
+  place_stills = record {
+    same = refl;
+    leads = leads_on r (view s) seen (view now)
+        (waits_leads r (view s) from_hand.front from_hand.back put.front put.back (bare_act act) from_hand.is same) (sees_leads r seen now sees);
+    tidy = holding (TidyAt s) (item ∷ []) s now change.1 h.tidy (put_tidy s.tables act fit, tt);
+    places = h.places;
+    commits = h.commits;
+    numbered = fewer s now (omega arith) (λ n. omega (arith, moves (asks_under n) 0 refl (none (asks_as n) refl refl) refl (both (asks_as n) 0 refl refl)));
+    rows = λ row. moves (unpaid row) (of_act row) (owes_one row) (owes_one row) refl (sent_one row);
+    once = omega (arith, turns hopping, from_where.0);
+    fired = omega (arith, turns joined, from_where.1);
+    frees = λ o. omega (arith, moves (freeing o) 0 (none (frees_one o) refl refl) refl refl (both (λ q. 0) 0 refl refl));
+    asked = λ o n.
+        let f : Parcel → ℕ = λ q. asks_for s.tables.here o n q + gives_for o n q in
+        omega (
+          arith,
+          moves (asked_by s.tables.here o n) 0 (none f refl refl) (none f refl refl) refl (λ q e. (carried f 0 refl refl q e, λ to. carried (asks_for s.tables.here o n) 0 refl refl q e)),
+          moves (waits_for o n) 0 refl refl refl (both (λ q. 0) 0 refl refl),
+        );
+    given = λ j d o n. omega (
+      arith,
+      moves (given_to j o n) 0 (none (asks_for j o n) refl refl) (none (asks_for j o n) refl refl) refl
+          (λ q e. (refl, λ to. bound_none (to == j) (gives_for o n q) (carried (gives_for o n) 0 refl refl q e))),
+    );
+  }
+
+pub place_step : (r : Rules) (s s' : Turn) (entries : List Entry) → IsSound r s entries → Places s s' → Stills r s s'
+place_step r s s' entries h g = subst (Stills r s) (sym g.now) (place_stills r s entries h g.act g.parcel g.brings g.hand g.stays)

@@ -1,0 +1,98 @@
+-- One more action: what it weighs and that it is tidy, whether it is accepted or goes in a message.
+use Rattle.std.proofs.Common.{Bool, List, None, Option, Some, [], ap, cond, false, inl, inr, refl, subst, sym, true, ℕ, ◌∷◌, ◌≡◌, ◌≤◌}
+use Rattle.std.proofs.lemmas.Bool.{cases_Bool, eqb-false, eqb-true}
+use Rattle.std.specs.List.{AllByRecursion}
+use Rattle.std.specs.Prelude.{IfSome, map, not, ◌&&◌, ◌==◌, ◌⊎◌}
+use Rattle.hpx_value.specs.Hands.{id_at}
+use Rattle.hpx_value.specs.Ids.{bare}
+use Rattle.hpx_value.specs.Values.{bare_act}
+use Rattle.hpx_parcel.specs.Parcels.{IsParcel}
+use Rattle.hpx_journal.proofs.Same.{and_true}
+use Rattle.hpx_journal.specs.Data.{Act, Apply, Id, Move, Parcel}
+use Rattle.hpx_journal.specs.Entries.{is_movable, move_to, place_in, target_of}
+use Rattle.hpx_journal.specs.Foreign.{kept}
+use Rattle.hpx_tables.specs.Fit.{IsFit, parcel_for}
+use Rattle.hpx_tables.specs.Kept.{stands_here}
+use Rattle.hpx_tables.specs.Tables.{Tables}
+use Rattle.hpx_steps.specs.Frames.{MayGoTo}
+use Rattle.hpx_steps.specs.Items.{Accepted, Going, Item, OnDesk}
+use Rattle.hpx_steps.specs.Mail.{going, is_other, may_stay, moves_on}
+use Rattle.hpx_steps.specs.Sound.{FreesNone, IsOwn, IsTidyIn}
+use Rattle.hpx_steps.proofs.Changes.{put_as, sent_if}
+use Rattle.hpx_steps.proofs.Mails.{mail_tidy}
+
+-- an action as a message is an Apply or a Move
+pub as_parcel : (P : Parcel → Type 0) (act : Act) → P (Apply act) → P (Move act) → P (parcel_for act)
+as_parcel P act a b = each (act.code == 1)
+  where
+    each : (c : Bool) → P (cond c (Move act) (Apply act))
+    each true = b
+    each false = a
+
+pub put_sum : (w : Item → ℕ) (stay other : Bool) (act : Act) (n : ℕ) → w (Accepted act) ≡ n
+    → ((p : Parcel) → (p ≡ Apply act) ⊎ (p ≡ Move act) → (w (OnDesk p) ≡ n) × ((to : ℕ) → w (Going (going to p)) ≡ n)) → w (put_as stay other act) ≡ n
+put_sum w stay other act n kept sent = each stay other
+  where
+    parcel : (w (OnDesk (parcel_for act)) ≡ n) × ((to : ℕ) → w (Going (going to (parcel_for act))) ≡ n)
+    parcel = as_parcel (λ p. (w (OnDesk p) ≡ n) × ((to : ℕ) → w (Going (going to p)) ≡ n)) act (sent (Apply act) (inl refl)) (sent (Move act) (inr refl))
+
+    each : (a b : Bool) → w (put_as a b act) ≡ n
+    each true b = kept
+    each false true = parcel.1 (target_of act).home
+    each false false = parcel.0
+
+-- no more than n
+pub put_less : (w : Item → ℕ) (stay other : Bool) (act : Act) (n : ℕ) → w (Accepted act) ≤ n
+    → ((p : Parcel) → (w (OnDesk p) ≤ n) × ((to : ℕ) → w (Going (going to p)) ≤ n)) → w (put_as stay other act) ≤ n
+put_less w stay other act n kept sent = each stay other
+  where
+    each : (a b : Bool) → w (put_as a b act) ≤ n
+    each true b = kept
+    each false true = (sent (parcel_for act)).1 (target_of act).home
+    each false false = (sent (parcel_for act)).0
+
+-- ---- it is tidy
+
+pub target-bare : (act : Act) → target_of (bare_act act) ≡ bare (target_of act)
+target-bare act = each act.ids
+  where
+    each : (ids : List Id) → id_at (map bare ids) 0 ≡ bare (id_at ids 0)
+    each [] = refl
+    each (x ∷ xs) = refl
+
+move_to-bare : (act : Act) → move_to (bare_act act) ≡ move_to act
+move_to-bare act = ap (λ (o : Id). cond ((act.code == 1) && is_movable o.kind) (place_in act.args) None) (target-bare act)
+
+here_only : (k : ℕ) (to : Option ℕ) → moves_on k to ≡ false → IfSome to (λ x. x ≡ k)
+here_only k None h = tt
+here_only k (Some x) h = elim (cases_Bool (x == k)) [
+  | inl b ↦ eqb-true x k b
+  | inr b ↦ absurd (let e : not false ≡ false = rw b at h in cc)
+]
+
+not_false : (b : Bool) → not b ≡ true → b ≡ false
+not_false true h = cc
+not_false false h = refl
+
+fit_parcel : (act : Act) → IsFit act → IsParcel (parcel_for act)
+fit_parcel act fit = elim (cases_Bool (act.code == 1)) [
+  | inl b ↦ rw b (let e = eqb-true act.code 1 b in record { sent = fit.sent; code = e; target = (fit.moves e).0; args = (fit.moves e).1 })
+  | inr b ↦ rw b (record { sent = fit.sent; code = eqb-false act.code 1 b })
+]
+
+pub put_tidy : (t : Tables) (act : Act) → IsFit act
+    → IsTidyIn t.here t.localities t.profile.credit_log t.births t.objects (put_as (may_stay t act) (is_other t (target_of act).home) act)
+put_tidy t act fit = each (may_stay t act) refl
+  where
+    sent : AllByRecursion (IsTidyIn t.here t.localities t.profile.credit_log t.births t.objects) (sent_if true (is_other t (target_of act).home) (target_of act).home (parcel_for act))
+    sent = mail_tidy t true (target_of act).home (parcel_for act) (λ b. fit_parcel act fit) (λ b. as_parcel (MayGoTo t.here (target_of act).home) act refl refl)
+        (λ b. as_parcel (IsOwn t.here t.profile.credit_log) act tt tt) (λ b c. as_parcel FreesNone act tt tt)
+
+    each : (b : Bool) → may_stay t act ≡ b → IsTidyIn t.here t.localities t.profile.credit_log t.births t.objects (put_as b (is_other t (target_of act).home) act)
+    each true stay =
+        let parts = and_true (not (moves_on t.here (move_to act))) (stands_here t (target_of act)) stay in (
+          fit,
+          subst (λ (to : Option ℕ). IfSome to (λ x. x ≡ t.here)) (sym (move_to-bare act)) (here_only t.here (move_to act) (not_false (moves_on t.here (move_to act)) parts.0)),
+          parts.1,
+        )
+    each false stay = sent.0

@@ -1,0 +1,171 @@
+-- What was asked for is put into the hand of the commit that waits for it.
+use Rattle.std.proofs.Common.{Bool, List, None, Option, Some, ap, append_assoc, arith, cond, false, inl, inr, length, length-append, refl, set, subst, sym, true, ℕ, ◌++◌, ◌+◌, ◌<◌, ◌∙◌, ◌≡◌, ◌≢◌, ◌≤◌}
+use Rattle.std.proofs.lemmas.Bool.{cases_Bool, eq-eqb, eqb-true}
+use Rattle.std.specs.List.{count_by, list_any, remove, slice_get}
+use Rattle.std.specs.Prelude.{MatchOption, is_some, nat_le, not, ◌&&◌, ◌==◌, ◌⊎◌}
+use Rattle.hpx_value.specs.Hands.{id_at}
+use Rattle.hpx_value.specs.Ids.{bare, same_object}
+use Rattle.hpx_parcel.specs.Parcels.{HasCredit, HasRightCredit}
+use Rattle.hpx_journal.proofs.Same.{and_true, same_object-true}
+use Rattle.hpx_journal.specs.Data.{Id}
+use Rattle.hpx_commit.proofs.Short.{place_bare, place_some}
+use Rattle.hpx_commit.specs.Deals.{log_of}
+use Rattle.hpx_tables.proofs.Alls.{all_append, all_at, all_remove, some_same}
+use Rattle.hpx_tables.specs.Pending.{Waits, ids_named, is_asked, is_asked_for, own_ids, refilled}
+use Rattle.hpx_tables.specs.declared.pending.Asked.{Asked as AskedFor}
+use Rattle.hpx_steps.specs.Paused.{HasSplit, IsCommit, IsShort, first_stock, whole_stock}
+use Rattle.hpx_steps.proofs.Bare.{has_not_asked, not_asked}
+use Rattle.hpx_steps.proofs.Hands.{any_place, front_place, names_place, place_at, put_behind, put_elsewhere, put_names, put_there, take_place}
+use Rattle.hpx_steps.proofs.Lists.{less_sum}
+use Rattle.hpx_steps.proofs.Recommit.{hand_long}
+
+own_log : (id : Id) → HasCredit id → id.log ≡ Some (log_of id.log)
+own_log id h = at id.log refl h
+  where
+    at : (log : Option ℕ) → id.log ≡ log → MatchOption log ⊥ (λ l. 16 ≤ id.kind) → id.log ≡ Some (log_of id.log)
+    at None e n = absurd n
+    at (Some l) e n = e ∙ ap (λ o. Some (log_of o)) (sym e)
+
+-- one of log 0 is refused
+refused_some : (b : Bool) (o : Id) (was : Option Id) → b ≡ true → cond b (Some o) was ≢ None
+refused_some true o was e = λ none. cc
+refused_some false o was e = absurd (cc)
+
+-- and stays so
+refused_still : (b : Bool) (o : Id) (was : Option Id) → was ≢ None → cond b (Some o) was ≢ None
+refused_still true o was h = λ none. cc
+refused_still false o was h = h
+
+short_still : (log : ℕ) (b : Bool) (o : Id) (was : Option Id) (id : Id) → IsShort log was id → IsShort log (cond b (Some o) was) id
+short_still log b o was id (inl none) = inl none
+short_still log b o was id (inr (inl more)) = inr (inl more)
+short_still log b o was id (inr (inr least)) = inr (inr (least.0, refused_still b o was least.1))
+
+module _ (k l log : ℕ) (w : Waits) (n : ℕ) (ask : AskedFor) (id : Id) (entry : ℕ) (its : IsCommit k l w) (held : HasSplit log w)
+    (there : slice_get w.asked n ≡ Some ask) (for : is_asked_for w id entry ask ≡ true) (credit : HasCredit id)
+    (brings : (log_of id.log ≡ 0) ⊎ (log_of id.log ≡ log)) where
+  abbrev filled : Waits
+  filled = refilled n ask.place id w
+
+  pub asked_low : ask.place < length (ids_named w)
+  asked_low = all_at (λ (x : AskedFor). x.place < length (ids_named w)) w.asked n ask its.within there
+
+  inside : ask.place < length w.hand
+  inside = omega (arith, asked_low, hand_long k l w its)
+
+  pub asked_at_place : slice_get w.hand ask.place ≡ Some (id_at w.hand ask.place)
+  asked_at_place = place_at w.hand ask.place inside
+
+  pub asked_same : bare id ≡ bare (id_at w.hand ask.place)
+  asked_same = same_object-true id (id_at w.hand ask.place) (and_true (ask.entry == entry) (same_object id (id_at w.hand ask.place)) for).1
+
+  left : (q : ℕ) → count_by (λ (x : AskedFor). x.place == q) (remove w.asked n) + cond (ask.place == q) 1 0 ≡ count_by (λ (x : AskedFor). x.place == q) w.asked
+  left q = omega (arith, less_sum (λ (x : AskedFor). cond (x.place == q) 1 0) w.asked n ask there)
+
+  one : ◌≡◌ {A = ℕ} (cond (ask.place == ask.place) 1 0) 1
+  one = ap {B = ℕ} (λ b. cond b 1 0) (eq-eqb ask.place ask.place refl)
+
+  pub was_asked : is_asked (id_at w.hand ask.place) ≡ true
+  was_asked = elim (cases_Bool (is_asked (id_at w.hand ask.place))) [
+    | inl t ↦ t
+    | inr f ↦ absurd (omega (arith, left ask.place, one, its.once ask.place asked_low, ap {B = ℕ} (λ b. cond b 1 0) f))
+  ]
+
+  pub asked_no_more : is_asked id ≡ false
+  asked_no_more = has_not_asked id (log_of id.log) (own_log id credit)
+
+  once_then : (q : ℕ) → q < length (ids_named w)
+      → count_by (λ (x : AskedFor). x.place == q) (remove w.asked n) ≡ cond (is_asked (id_at (set w.hand ask.place id) q)) 1 0
+  once_then q lt = elim (cases_Bool (ask.place == q)) [
+    | inl t ↦
+        let e : ask.place ≡ q = eqb-true ask.place q t in
+        let now : is_asked (id_at (set w.hand ask.place id) q) ≡ false =
+        subst (λ r. is_asked (id_at (set w.hand ask.place id) r) ≡ false) e (ap is_asked (put_there w.hand ask.place id inside) ∙ asked_no_more) in
+        let was : is_asked (id_at w.hand q) ≡ true = subst (λ r. is_asked (id_at w.hand r) ≡ true) e was_asked in
+        omega (
+          arith,
+          left q,
+          ap {B = ℕ} (λ b. cond b 1 0) t,
+          its.once q lt,
+          ap {B = ℕ} (λ b. cond b 1 0) was,
+          ap {B = ℕ} (λ b. cond b 1 0) now,
+        )
+    | inr f ↦
+        let other : id_at (set w.hand ask.place id) q ≡ id_at w.hand q =
+        put_elsewhere w.hand ask.place q id (λ e. let t : true ≡ false = sym (eq-eqb ask.place q (sym e)) ∙ f in cc) in
+        omega (
+          arith,
+          left q,
+          ap {B = ℕ} (λ b. cond b 1 0) f,
+          its.once q lt,
+          ap {B = ℕ} (λ (x : Id). cond (is_asked x) 1 0) other,
+        )
+  ]
+
+  -- what the job had has its credit, where it was split ahead too
+  first_unasked : (p : ℕ) → p < length (ids_named w) → is_asked (id_at (first_stock w held.made).hand p) ≡ false
+  first_unasked p lt =
+      let start = whole_stock w held.made in
+      let own : List Id = ids_named w in
+      let hand_is : start.hand ≡ own ++ held.made = sym (append_assoc w.job.state.ids w.job.action.ids held.made) in
+      let fits : length own ≤ length start.hand = omega (arith, length-append own held.made, ap (λ (xs : List Id). length xs) hand_is) in
+      let inside : p < length start.hand = omega (arith, lt, fits) in
+      let right : HasRightCredit (id_at start.hand p) = subst (λ (xs : List Id). HasRightCredit (id_at xs p)) (sym hand_is)
+      (front_place HasRightCredit own held.made p (all_append HasRightCredit w.job.state.ids w.job.action.ids its.job.credit its.job.action.sent.credit) lt) in
+      let kind : (id_at (first_stock w held.made).hand p).kind ≡ (id_at start.hand p).kind = ap (λ (x : Id). x.kind) (place_bare (length own) start fits held.within p inside) in
+      ap (λ c. nat_le 16 c && not (is_some (id_at (first_stock w held.made).hand p).log)) kind
+      ∙ (ap (λ b. nat_le 16 (id_at start.hand p).kind && not b) (place_some (length own) start fits held.within p inside) ∙ not_asked (id_at start.hand p) right)
+
+  given_short : IsShort log filled.refused id
+  given_short = elim brings [
+    | inl z ↦ inr (inr (own_log id credit ∙ ap Some z, refused_some (log_of id.log == 0) (bare id) w.refused (eq-eqb (log_of id.log) 0 z)))
+    | inr e ↦ inr (inl (own_log id credit ∙ ap Some e))
+  ]
+
+  -- its hand is still that of its job, split ahead
+  pub still_split : HasSplit log (refilled n ask.place id w)
+  still_split = record {
+    made = held.made;
+    kinds = held.kinds;
+    bare = held.bare;
+    within = held.within;
+    places = held.places;
+    rest = put_behind (length (ids_named w)) w.hand ask.place id asked_low ∙ held.rest;
+    own = λ p lt lasting. elim (cases_Bool (p == ask.place)) [
+      | inl t ↦
+          let e : p ≡ ask.place = eqb-true p ask.place t in
+          let was : is_asked (id_at w.hand p) ≡ true = subst (λ q. is_asked (id_at w.hand q) ≡ true) (sym e) was_asked in
+          absurd (let no : true ≡ false = sym was ∙ (ap is_asked (held.own p lt lasting) ∙ first_unasked p lt) in cc)
+      | inr f ↦
+          put_elsewhere w.hand ask.place p id (λ e. let t : true ≡ false = sym (eq-eqb p ask.place e) ∙ f in cc) ∙ held.own p lt lasting
+    ];
+    short = λ p lt none. elim (cases_Bool (p == ask.place)) [
+      | inl t ↦
+          subst (λ q. IsShort log filled.refused (id_at filled.hand q)) (sym (eqb-true p ask.place t))
+          (subst (IsShort log filled.refused) (sym (put_there w.hand ask.place id inside)) given_short)
+      | inr f ↦
+          subst (IsShort log filled.refused)
+          (sym (put_elsewhere w.hand ask.place p id (λ e. let t : true ≡ false = sym (eq-eqb p ask.place e) ∙ f in cc)))
+          (short_still log (log_of id.log == 0) (bare id) w.refused (id_at w.hand p) (held.short p lt none))
+    ];
+  }
+
+  -- what has no more credit is named
+  refused_then : (o : Id) (b : Bool) → cond b (Some (bare id)) w.refused ≡ Some o → list_any (same_object o) (ids_named w) ≡ true
+  refused_then o true e =
+      let named : bare (id_at w.hand ask.place) ≡ bare (id_at (ids_named w) ask.place) =
+      ap bare (sym (take_place (length (ids_named w)) w.hand ask.place asked_low)) ∙ names_place (own_ids w) (ids_named w) its.hand ask.place in
+      subst (λ q. list_any (same_object q) (ids_named w) ≡ true) (some_same (bare id) o e) (any_place (bare id) (ids_named w) ask.place asked_low (asked_same ∙ named))
+  refused_then o false e = its.refused o e
+
+  pub still_commit : IsCommit k l (refilled n ask.place id w)
+  still_commit = record {
+    job = its.job;
+    here = its.here;
+    localities = its.localities;
+    few = its.few;
+    hand = put_names (length (ids_named w)) w.hand ask.place (id_at w.hand ask.place) id asked_at_place asked_same ∙ its.hand;
+    within = all_remove (λ (x : AskedFor). x.place < length (ids_named w)) w.asked n its.within;
+    refused = λ o e. refused_then o (log_of id.log == 0) e;
+    once = once_then;
+  }

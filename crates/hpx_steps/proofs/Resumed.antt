@@ -1,0 +1,162 @@
+-- Credit that was asked for is given to a commit that waits for nothing more then: it goes on, and ends or fails.
+use Rattle.std.proofs.Common.{List, None, Option, Some, [], ap, cond, false, length, map, refl, set, subst, sym, true, ℕ, ◌++◌, ◌+◌, ◌<◌, ◌∷◌, ◌≡◌, ◌≤◌}
+use Rattle.std.specs.List.{AllByRecursion, find, remove, slice_get}
+use Rattle.std.specs.Prelude.{◌==◌}
+use Rattle.hpx_value.specs.Hands.{id_at}
+use Rattle.hpx_value.specs.Ids.{bare}
+use Rattle.hpx_parcel.specs.Parcels.{HasCredit}
+use Rattle.hpx_journal.specs.Data.{Give, Id, Parcel}
+use Rattle.hpx_journal.specs.Entries.{Rules, name_of, target_of}
+use Rattle.hpx_journal.specs.Local.{is_standing}
+use Rattle.hpx_part.specs.Data.{Done, Event, Given, Standing}
+use Rattle.hpx_commit.specs.Deals.{AreWithin, Lasts, log_of, named}
+use Rattle.hpx_tables.specs.Awaited.{answered_by}
+use Rattle.hpx_tables.specs.Births.{IsBirth, birth_of, births_of, ids_of, objects_of, records_of}
+use Rattle.hpx_tables.specs.Pending.{Waits, ids_named}
+use Rattle.hpx_tables.specs.Splits.{splits_from}
+use Rattle.hpx_tables.specs.Strange.{brings_right}
+use Rattle.hpx_tables.specs.Tables.{Tables}
+use Rattle.hpx_tables.specs.declared.pending.Asked.{Asked as AskedFor}
+use Rattle.hpx_steps.specs.Calls.{Gives, ups, with_left, written_due}
+use Rattle.hpx_steps.specs.Mail.{wrote}
+use Rattle.hpx_steps.specs.Steps.{HasInHand, Remains, Steps, Writes, drops, ends, goes_on, works_on}
+use Rattle.hpx_steps.specs.Turn.{Turn, at_rest}
+use Rattle.hpx_steps.proofs.Committed.{IsLeftBy, IsLeftFailed, all_right, done_steps, left_steps}
+use Rattle.hpx_steps.proofs.Handled.{Leads, given_leads, written_events}
+use Rattle.hpx_steps.proofs.Made.{Drawn}
+use Rattle.hpx_steps.proofs.Work.{halved_from}
+
+-- ---- an action fails
+
+-- its Done, what is due, and what is given up
+pub fail_steps : (r : Rules) (s : Turn) (w : Waits) (rest : List Waits) (refusal : Id) (j : ℕ) (x : Standing) (left : Remains) → s.due ≡ [] → s.fresh ≡ [] → s.loose ≡ []
+    → w.asked ≡ [] → w.refused ≡ Some refusal → slice_get s.tables.objects j ≡ Some x → find (is_standing (target_of w.job.action)) s.tables.objects ≡ Some x → IsLeftFailed w x left
+    → (l : Option Event) × Steps r (works_on w rest s)
+    (map (λ e. Writes e) (Done (name_of w.job.action) true ∷ (written_due s.tables.here s.tables.serial left.due ++ ups left.loose)))
+    (record (ends j w rest x left s) { due = []; loose = []; tables = with_left left.due left.loose (ends j w rest x left s).tables; last = l })
+fail_steps r s w rest refusal j x left due fresh loose lacks refused stands found by =
+    let d : Turn = wrote (Done (name_of w.job.action) true) (ends j w rest x left s) in
+    let more = left_steps r (record d { due = []; loose = [] }) left.due left.loose refl by.given_up in
+    let start : d ≡ record d { due = left.due; loose = left.loose } = ap (λ is. record d { loose = is ++ left.loose }) loose in (
+      more.0,
+      (
+        d,
+        record {
+          w = w;
+          rest = rest;
+          j = j;
+          x = x;
+          left = left;
+          ending = record {
+            due = due;
+            works = refl;
+            lacks = lacks;
+            name = refl;
+            stands = stands;
+            found = found;
+            kept = by.kept;
+            plain = by.plain;
+            credit = by.credit;
+            fits = by.fits;
+            given_up = all_right left.loose by.given_up;
+            deals = by.deals;
+          };
+          fresh = fresh;
+          refusal = refusal;
+          refused = refused;
+          says = by.says;
+          leaves = by.leaves;
+          now = refl;
+        },
+        subst (λ z. Steps r z (map (λ e. Writes e) (written_due s.tables.here s.tables.serial left.due ++ ups left.loose))
+            (record d { due = []; loose = []; tables = with_left left.due left.loose d.tables; last = more.0 })) (sym start) more.1,
+      ),
+    )
+
+-- ---- a message brings the last credit
+
+-- while this message is in hand, and nothing else is done
+abbrev pub in_hand : Tables → List Parcel → List Parcel → Option Event → Turn
+in_hand t came mailed l = record (at_rest t) { came = came; mailed = mailed; last = l }
+
+-- its entry
+abbrev pub given_event : Id → Event
+given_event id = Given (bare id) (log_of id.log)
+
+module _ (r : Rules) (t mid : Tables) (came mailed : List Parcel) (before : Option Event) (id : Id) (entry : ℕ) (hand : HasInHand (Give id entry) (in_hand t came mailed before))
+    (credit : HasCredit id) (right : brings_right t id ≡ true) (g : Gives id entry t mid) (complete : g.after.asked ≡ []) where
+  -- where the commit is in work
+  abbrev pub resumed : Turn
+  resumed = record (at_rest (record t { pending = remove t.pending g.i })) { working = g.after ∷ []; last = Some (given_event id) }
+
+  -- the commit goes on so
+  pub given_ends : (t' : Tables) (events : List Event) → ((l : Option Event) × Steps r resumed (map (λ e. Writes e) events) (record (at_rest t') { last = l }))
+      → Leads r (in_hand t came mailed before) t' (given_event id ∷ events)
+  given_ends t' events more = record {
+    last = more.0;
+    labels = Writes (given_event id) ∷ map (λ e. Writes e) events;
+    writes = ap (λ es. given_event id ∷ es) (written_events events);
+    steps = (
+      wrote (given_event id) (goes_on g.i g.after (drops (in_hand t came mailed before))),
+      given_leads r (in_hand t came mailed before) mid id entry (record { due = refl; fresh = refl }) hand credit right g,
+      subst (λ z. Steps r z (map (λ e. Writes e) events) (record (at_rest t') { last = more.0 })) (sym then_is) more.1,
+    );
+  }
+    where
+      then_is : wrote (given_event id) (goes_on g.i g.after (drops (in_hand t came mailed before))) ≡ resumed
+      then_is =
+          ap (λ (asked : List AskedFor). record (at_rest (record t { pending = cond (length asked == 0) (remove t.pending g.i) (set t.pending g.i g.after) })) {
+            working = cond (length asked == 0) (g.after ∷ []) [];
+            last = Some (given_event id);
+          }) complete
+
+  -- where it fails
+  abbrev pub failed : ℕ → Standing → Remains → Tables
+  failed j x left = with_left left.due left.loose (record t {
+    pending = remove t.pending g.i;
+    objects = set t.objects j (record { object = x.object; state = left.state });
+    answered = t.answered + answered_by (Some g.after.job.action);
+  })
+
+  pub given_fails : (refusal : Id) (j : ℕ) (x : Standing) (left : Remains) → g.after.refused ≡ Some refusal → slice_get t.objects j ≡ Some x
+      → find (is_standing (target_of g.after.job.action)) t.objects ≡ Some x → IsLeftFailed g.after x left
+      → Leads r (in_hand t came mailed before) (failed j x left) (given_event id ∷ (Done (name_of g.after.job.action) true ∷ (written_due t.here t.serial left.due ++ ups left.loose)))
+  given_fails refusal j x left refused stands found by =
+      given_ends (failed j x left) (Done (name_of g.after.job.action) true ∷ (written_due t.here t.serial left.due ++ ups left.loose))
+      (fail_steps r resumed g.after [] refusal j x left refl refl refl complete refused stands found by)
+
+  -- where it is done
+  abbrev pub done : ℕ → Standing → Remains → Tables
+  done j x left = with_left left.due left.loose (record t {
+    pending = remove t.pending g.i;
+    births = t.births + length g.after.outcome.makes;
+    records = t.records ++ records_of t.here t.births t.profile.credit_log (map birth_of g.after.outcome.makes);
+    objects = set (t.objects ++ objects_of t.here t.births (map birth_of g.after.outcome.makes)) j (record { object = x.object; state = left.state });
+    answered = t.answered + answered_by (Some g.after.job.action);
+  })
+
+  abbrev made : List Id
+  made = ids_of t.here t.births t.profile.credit_log (map birth_of g.after.outcome.makes)
+
+  module _ (front later back : List Id) (places : List ℕ) (is : g.after.hand ≡ front ++ (later ++ back)) (none : AllByRecursion (λ (o : Id). o.log ≡ None) later)
+      (many : length later ≡ length g.after.outcome.makes) (long : length (ids_named g.after) ≤ length front) (fit : AllByRecursion IsBirth (map birth_of g.after.outcome.makes)) where
+    -- its hand, with what it makes
+    abbrev pub full : List Id
+    full = front ++ (ids_of t.here t.births t.profile.credit_log (map birth_of g.after.outcome.makes) ++ back)
+
+    abbrev pub full_cut : List Id
+    full_cut = (halved_from (length full) 0 (record { hand = full; places = places })).hand
+
+    pub given_done : (j : ℕ) (x : Standing) (left : Remains) → AreWithin full places → ((q : ℕ) → q < length full → Lasts (id_at full q) (named places q))
+        → slice_get t.objects j ≡ Some x → find (is_standing (target_of g.after.job.action)) t.objects ≡ Some x
+        → AllByRecursion (Drawn t.here t.births) t.objects
+        → IsLeftBy r (record t { pending = remove t.pending g.i }) g.after x full_cut (map bare made) left
+        → Leads r (in_hand t came mailed before) (done j x left) (given_event id ∷ ((births_of t.here t.births (map birth_of g.after.outcome.makes) ++ splits_from 0 full places)
+        ++ (Done (name_of g.after.job.action) false ∷ (written_due t.here t.serial left.due ++ ups left.loose))))
+    given_done j x left within lasts stands found drawn by =
+        let s : Turn = record resumed { working = [] } in
+        let events : List Event = (births_of t.here t.births (map birth_of g.after.outcome.makes) ++ splits_from 0 full places)
+        ++ (Done (name_of g.after.job.action) false ∷ (written_due t.here t.serial left.due ++ ups left.loose)) in
+        let more = done_steps r s g.after [] front later back places refl refl refl complete none many long fit j x left within lasts stands found drawn by in
+        given_ends (done j x left) events
+        (more.0, subst (λ ids. Steps r (record s { working = record g.after { hand = ids } ∷ [] }) (map (λ e. Writes e) events) (record (at_rest (done j x left)) { last = more.0 })) (sym is) more.1)

@@ -1,0 +1,221 @@
+-- Credit comes home.
+use Rattle.std.proofs.Common.{Bool, List, None, Option, Some, [], ap, arith, cond, false, inl, inr, map, refl, subst, sym, true, ℕ, ◌++◌, ◌+◌, ◌-◌, ◌^◌, ◌∙◌, ◌∷◌, ◌≡◌, ◌≤◌}
+use Rattle.std.proofs.lemmas.Bool.{cases_Bool, eqb-true}
+use Rattle.std.proofs.lemmas.List.Sums.{sum_by-cons}
+use Rattle.std.specs.List.{count_by, find, sum_by}
+use Rattle.std.specs.Option.{option_map_or}
+use Rattle.std.specs.Prelude.{MatchOption, ◌&&◌, ◌==◌}
+use Rattle.hpx_value.specs.Ids.{bare, credit, credit_of_log, same_object}
+use Rattle.hpx_parcel.specs.Parcels.{IsParcel}
+use Rattle.hpx_journal.specs.Data.{Free, Id, Return}
+use Rattle.hpx_journal.specs.Entries.{Rules}
+use Rattle.hpx_journal.specs.Local.{count_in, is_recorded}
+use Rattle.hpx_journal.specs.Tokens.{owed_token, same_token}
+use Rattle.hpx_part.proofs.Credit.{token_own}
+use Rattle.hpx_part.proofs.CreditRows.{follows_returned}
+use Rattle.hpx_part.proofs.Keyed.{counts_of, counts_true}
+use Rattle.hpx_part.specs.Data.{Count, Entry, Event, Returned, Token}
+use Rattle.hpx_part.specs.View.{View}
+use Rattle.hpx_agas.specs.Registries.{lowered}
+use Rattle.hpx_agas.specs.declared.record.Record.{Record}
+use Rattle.hpx_tables.proofs.Alls.{some_same}
+use Rattle.hpx_tables.specs.Tables.{Tables}
+use Rattle.hpx_steps.specs.Items.{Came, Going, Item, Mailed, OnDesk, weigh}
+use Rattle.hpx_steps.specs.Mail.{going, is_other, mails_if, wrote}
+use Rattle.hpx_steps.specs.Numbered.{asks_under}
+use Rattle.hpx_steps.specs.Rows.{Row, causes, freeing, goes, hopping, joined, one_if, owes, unpaid, weight}
+use Rattle.hpx_steps.specs.Sound.{IsSound, IsTidy, StaysAt, TidyAt, asked_by, given_to, waits_for, worth}
+use Rattle.hpx_steps.specs.Steps.{HasInHand, Recounts, TakesBack, drops, with_records}
+use Rattle.hpx_steps.specs.Turn.{Turn, bare_due, counted, parcel_asks, parcel_frees, tokens, view}
+use Rattle.hpx_steps.proofs.ByRows.{by_rows}
+use Rattle.hpx_steps.proofs.Calm.{bound_none, counts_still, same_seen}
+use Rattle.hpx_steps.proofs.Changes.{Changes, drop_change, holding, in_hand, is_frame, mail_change, sent_if, then, total}
+use Rattle.hpx_steps.proofs.Cover.{view_covered}
+use Rattle.hpx_steps.proofs.Mails.{hand_fit, mail_tidy, other_is, owed_by, sent_total}
+use Rattle.hpx_steps.proofs.Records.{found_counted, one_recounted, places_still}
+use Rattle.hpx_steps.proofs.Seen.{Sees, sees_covers, sees_leads}
+use Rattle.hpx_steps.proofs.Sums.{by_own, by_parcel, own_sum, view_worth}
+use Rattle.hpx_steps.proofs.Then.{Keeps, fewer}
+use Rattle.hpx_steps.proofs.Waits.{drop_waits, mail_waits}
+
+lowered_stays : (k : ℕ) (old x : Record) (id : Id) → lowered old id ≡ Some x → StaysAt k old → StaysAt k x
+lowered_stays k old x id is at = elim (cases_Bool (old.count == credit id)) [
+  | inl t ↦ absurd (let e : None ≡ Some x = rw t at is in cc)
+  | inr t ↦ let e : Some (record old { count = old.count - credit id }) ≡ Some x = rw t at is in
+      subst (StaysAt k) (some_same _ x e) (at.0, at.1)
+]
+
+lowered_count : (old : Record) (id : Id) (count : ℕ) → count + credit id ≡ old.count → option_map_or (λ (r : Record). r.count) (lowered old id) 0 ≡ count
+lowered_count old id count sum = elim (cases_Bool (old.count == credit id)) [
+  | inl t ↦ rw t (let e = eqb-true old.count (credit id) t in omega (arith, e, sum))
+  | inr t ↦ rw t (omega (arith, sum))
+]
+
+here_is_no_other : (t : Tables) (to : ℕ) → to ≡ t.here → is_other t to ≡ true → ⊥
+here_is_no_other t to same other = (other_is t to other).1 same
+
+module _ (r : Rules) (s : Turn) (entries : List Entry) (h : IsSound r s entries) (id : Id) (log count : ℕ) (old : Record) (records : List Record)
+    (due : s.due ≡ []) (fresh : s.fresh ≡ []) (hand : HasInHand (Return id) s) (home : id.home ≡ s.tables.here) (has : id.log ≡ Some log)
+    (sum : count + 2 ^ log ≡ old.count) (recounts : Recounts id old (lowered old id) s.tables.records records) where
+  abbrev e : Event
+  e = Count (bare id) count (Returned log)
+
+  abbrev dead : Bool
+  dead = count == 0
+
+  abbrev before : Turn
+  before = with_records records (drops s)
+
+  abbrev now : Turn
+  now = wrote (Count (bare id) count (Returned log)) (mails_if (count == 0) old.place (Free (bare id)) (with_records records (drops s)))
+
+  abbrev other : Bool
+  other = is_other s.tables old.place
+
+  abbrev was : Item
+  was = in_hand (is_frame (Return id) s hand) (Return id)
+
+  change : Changes (in_hand (is_frame (Return id) s hand) (Return id) ∷ []) (sent_if (count == 0) (is_other s.tables old.place) old.place (Free (bare id))) s now
+  change = then (was ∷ []) [] [] (sent_if dead other old.place (Free (bare id))) s before now
+      (drop_change (Return id) s hand) (mail_change dead old.place (Free (bare id)) before)
+
+  -- a weight before and after, where messages weigh the same wherever they are
+  moves : (w : Item → ℕ) (m n : ℕ) → w (Came (Return id)) ≡ m → w (Mailed (Return id)) ≡ m → w (OnDesk (Free (bare id))) ≡ n
+      → w (Going (going old.place (Free (bare id)))) ≡ n → weigh w now + m ≡ weigh w s + cond dead n 0
+  moves w m n a b c d =
+      let k : weigh w now + (w was + 0) ≡ weigh w s + total w (sent_if dead other old.place (Free (bare id))) = change.0 w in
+      omega (arith, k, hand_sum (is_frame (Return id) s hand), sent_total w dead other old.place (Free (bare id)) n c d)
+    where
+      hand_sum : (from : Bool) → w (in_hand from (Return id)) ≡ m
+      hand_sum true = a
+      hand_sum false = b
+
+  -- one that does not count the Free
+  leaves : (w : Item → ℕ) (m : ℕ) → w (Came (Return id)) ≡ m → w (Mailed (Return id)) ≡ m → w (OnDesk (Free (bare id))) ≡ 0
+      → w (Going (going old.place (Free (bare id)))) ≡ 0 → weigh w now + m ≡ weigh w s
+  leaves w m a b c d = omega (arith, moves w m 0 a b c d, none (count == 0))
+    where
+      none : (b : Bool) → ◌≡◌ {A = ℕ} (cond b 0 0) 0
+      none b = bound_none b 0 refl
+
+  in_tidy : IsParcel (Return id)
+  in_tidy = hand_fit (Return id) s h.tidy hand
+
+  managed : 16 ≤ id.kind
+  managed = subst (λ l. MatchOption l ⊥ (λ x. 16 ≤ id.kind)) has in_tidy
+
+  stays : StaysAt s.tables.here old
+  stays = h.places.places id old recounts.was
+
+  tidy : IsTidy now
+  tidy = holding (TidyAt s) (sent_if dead other old.place (Free (bare id))) s now change.1 h.tidy
+      (mail_tidy s.tables dead old.place (Free (bare id)) (λ b. (refl, managed)) (λ b. sym home) (λ b. tt) (λ b c. here_is_no_other s.tables old.place stays.0 c))
+
+  gone : (f : Token → ℕ) → sum_by f (tokens now) + f (owed_token (bare id) log) ≡ sum_by f (tokens s)
+  gone f = omega (
+    arith,
+    view_worth f s,
+    view_worth f now,
+    leaves (worth f) (f (owed_token (bare id) log)) (owed_by f id log has) (owed_by f id log has) refl refl,
+  )
+
+  abbrev seen : View
+  seen = record (view s) {
+    tokens = tokens now;
+    live = map counted records;
+    dead = cond (count == 0) (bare id ∷ []) [] ++ (view s).dead;
+    last = Some (Count (bare id) count (Returned log));
+  }
+
+  sees : Sees seen now
+  sees = record {
+    rest = ap (λ ws. record (view now) { waiting = ws }) (sym (mail_waits dead old.place (Free (bare id)) before refl ∙ drop_waits (Return id) s hand refl));
+    tokens = λ f weight. refl;
+    asking = λ x. refl;
+    asks = λ x. same_seen x parcel_asks s now (omega (arith, leaves (by_parcel (λ p. count_by (same_object x) (parcel_asks p))) 0 refl refl refl refl));
+    live = λ x at. refl;
+    dead = λ x. omega (
+      arith,
+      own_sum (counts_of (same_object x)) parcel_frees s,
+      own_sum (counts_of (same_object x)) parcel_frees now,
+      dies x,
+      if_dead (count == 0) x,
+    );
+    refusals = λ x k. k;
+    failing = omega arith;
+  }
+    where
+      dies : (x : Id) → weigh (by_own (λ p. count_by (same_object x) (parcel_frees p))) now + by_own (λ p. count_by (same_object x) (parcel_frees p)) was
+          ≡ weigh (by_own (λ p. count_by (same_object x) (parcel_frees p))) s + cond dead (count_by (same_object x) (bare id ∷ [])) 0
+      dies x =
+          let w : Item → ℕ = by_own (λ p. count_by (same_object x) (parcel_frees p)) in
+          let k : weigh w now + (w was + 0) ≡ weigh w s + total w (sent_if dead other old.place (Free (bare id))) = change.0 w in
+          omega (arith, k, sent_total w dead other old.place (Free (bare id)) (count_by (same_object x) (bare id ∷ [])) refl refl)
+
+      if_dead : (b : Bool) (x : Id) → count_by (same_object x) (cond b (bare id ∷ []) [] ++ (view s).dead) ≡ cond b (count_by (same_object x) (bare id ∷ [])) 0 + count_by (same_object x) (view s).dead
+      if_dead true x = omega (arith, sum_by-cons (counts_of (same_object x)) (bare id) (view s).dead, sum_by-cons (counts_of (same_object x)) (bare id) [])
+      if_dead false x = omega arith
+
+  worth_all : credit id ≡ 2 ^ log
+  worth_all = ap credit_of_log has
+
+  made : option_map_or (λ (x : Record). x.count) (lowered old id) 0 ≡ count
+  made = lowered_count old id count (omega (arith, sum, worth_all))
+
+  pub returned_keeps : Keeps r s now e
+  returned_keeps = record {
+    leads = (
+      seen,
+      follows_returned r (view s) (bare id) refl home log count (tokens now) (map counted records) (ap (map bare_due) due) fresh
+          (found_counted id s.tables.records ∙ (ap (λ (o : Option Record). option_map_or (λ (x : Record). x.count) o 0) recounts.was ∙ omega (arith, sum)))
+          (omega (
+            arith,
+            gone (counts_of (same_token (owed_token (bare id) log))),
+            counts_true (same_token (owed_token (bare id) log)) (owed_token (bare id) log) (token_own (owed_token (bare id) log)),
+          ))
+          (record { sums = λ f weight. omega (arith, gone f, sum_by-cons f (owed_token (bare id) log) []) })
+          (λ x at. one_recounted id old (lowered old id) s.tables.records records recounts x
+          ∙ ap (λ n. cond (same_object x (bare id)) n (count_in (find (is_recorded x) (map counted s.tables.records)))) made)
+          (λ b. sees_covers r seen now sees (view_covered now tidy h.commits.lent)),
+      sees_leads r seen now sees,
+    );
+    tidy = tidy;
+    places = places_still s.tables id old (lowered old id) records recounts (λ x is at. lowered_stays s.tables.here old x id is at) h.places;
+    commits = h.commits;
+    numbered = fewer s now (omega arith) (λ n. omega (arith, leaves (asks_under n) 0 refl refl refl refl));
+    pays = record {
+      rows = λ row. omega (arith, moves (unpaid row) (owes row (Return id)) (weight row (Free (bare id))) refl refl refl refl, costs row);
+      once = omega (arith, leaves hopping 0 refl refl refl refl);
+      fired = omega (arith, leaves joined 0 refl refl refl refl);
+      frees = λ o. omega (arith, leaves (freeing o) 0 refl refl refl refl);
+    };
+    orders = record {
+      sent = tt;
+      asked = λ o n. omega (arith, leaves (asked_by s.tables.here o n) 0 refl refl refl refl, leaves (waits_for o n) 0 refl refl refl refl);
+      given = λ j d o n. omega (arith, leaves (given_to j o n) 0 refl refl refl (bound_none (old.place == j) 0 refl));
+    };
+    counts = counts_still s now e refl refl refl (λ l. refl);
+  }
+    where
+      if_last : (b c : Bool) → one_if (b && c) ≡ cond b (one_if c) 0
+      if_last true c = refl
+      if_last false c = refl
+
+      none : (b : Bool) → ◌≡◌ {A = ℕ} (cond b 0 0) 0
+      none b = bound_none b 0 refl
+
+      costs : (row : Row) → goes r row (Count (bare id) count (Returned log)) + cond (count == 0) (weight row (Free (bare id))) 0
+          ≡ owes row (Return id) + causes r row (Count (bare id) count (Returned log))
+      costs = by_rows (λ row. goes r row (Count (bare id) count (Returned log)) + cond (count == 0) (weight row (Free (bare id))) 0
+          ≡ owes row (Return id) + causes r row (Count (bare id) count (Returned log)))
+          (omega (arith, none dead)) (omega (arith, none dead)) (omega (arith, none dead)) (omega arith) (omega (arith, none dead)) (omega (arith, none dead)) (omega (arith, none dead))
+          (λ o. omega (arith, if_last dead (same_object o (bare id))))
+
+pub returned_step : (r : Rules) (s s' : Turn) (entries : List Entry) (o : Id) (count log : ℕ) → IsSound r s entries → TakesBack s o count log s'
+    → Keeps r s s' (Count o count (Returned log))
+returned_step r s s' entries o count log h g = subst (λ x. Keeps r s s' (Count x count (Returned log))) (sym g.object)
+    (subst (λ x. Keeps r s x (Count (bare g.id) count (Returned log))) (sym again)
+    (returned_keeps r s entries h g.id log count g.old g.records g.calm.due g.calm.fresh g.hand g.home g.has g.sum g.recounts))
+  where
+    again : s' ≡ wrote (Count (bare g.id) count (Returned log)) (mails_if (count == 0) g.old.place (Free (bare g.id)) (with_records g.records (drops s)))
+    again = g.now ∙ ap (λ x. wrote (Count x count (Returned log)) (mails_if (count == 0) g.old.place (Free (bare g.id)) (with_records g.records (drops s)))) g.object

@@ -1,0 +1,68 @@
+-- What a message breaks no rule says of the tables.
+use Rattle.std.proofs.Common.{Bool, None, Option, Some, arith, false, inl, inr, length, refl, true, ℕ, ◌≡◌, ◌≤◌}
+use Rattle.std.proofs.lemmas.Bool.{cases_Bool, eqb-true}
+use Rattle.std.specs.List.{list_any}
+use Rattle.std.specs.Prelude.{if◌then◌else◌, nat_lt, not, ◌&&◌, ◌==◌}
+use Rattle.hpx_value.specs.Ids.{credit}
+use Rattle.hpx_journal.proofs.Same.{and_true}
+use Rattle.hpx_journal.specs.Data.{Act, Id, Parcel}
+use Rattle.hpx_journal.specs.Entries.{target_of}
+use Rattle.hpx_tables.specs.Kept.{count_here, held_here, stands_here, waits_here}
+use Rattle.hpx_tables.specs.Pending.{awaits}
+use Rattle.hpx_tables.specs.Strange.{breaks, brings_right, broken, broken_free, broken_give, broken_go, broken_near, broken_object, broken_return, is_far, is_live, is_to_here}
+use Rattle.hpx_tables.specs.Tables.{Tables}
+use Rattle.hpx_tables.specs.declared.strange.Broken.{Broken}
+
+not_broken : {X : Type 0} (x : X) → Some x ≡ None → ⊥
+not_broken x e = cc
+
+-- an id that comes home
+pub return_right : (t : Tables) (p : Parcel) (id : Id) (other : Option Broken) → broken_return t p id other ≡ None
+    → (is_live t id ≡ true) × (credit id ≤ count_here t id) × (other ≡ None)
+return_right t p id other h = elim (cases_Bool (is_live t id)) [
+  | inr l ↦ absurd (let e : breaks 1 p (length t.records) ≡ None = rw l at h in not_broken _ e)
+  | inl l ↦
+      let e : (if nat_lt (count_here t id) (credit id) then breaks 2 p (count_here t id) else other) ≡ None = rw l at h in
+      elim (cases_Bool (nat_lt (count_here t id) (credit id))) [
+        | inl b ↦ absurd (let f : breaks 2 p (count_here t id) ≡ None = rw b at e in not_broken _ f)
+        | inr b ↦ (l, search (arith, b), rw b at e)
+      ]
+]
+
+not_true : (b : Bool) → not b ≡ true → b ≡ false
+not_true true h = absurd (cc)
+not_true false h = refl
+
+pub free_right : (t : Tables) (p : Parcel) (o : Id) → broken_free t p o ≡ None → (stands_here t o ≡ true) × (waits_here t o ≡ false) × (held_here t o ≡ 0)
+free_right t p o h = elim (cases_Bool (stands_here t o && (not (waits_here t o) && (held_here t o == 0)))) [
+  | inl b ↦
+      let parts = and_true (stands_here t o) (not (waits_here t o) && (held_here t o == 0)) b in
+      let more = and_true (not (waits_here t o)) (held_here t o == 0) parts.1 in (parts.0, not_true (waits_here t o) more.0, eqb-true (held_here t o) 0 more.1)
+  | inr b ↦ absurd (not_broken _ (rw b at h))
+]
+
+pub give_right : (t : Tables) (p : Parcel) (id : Id) (entry : ℕ) → broken_give t p id entry ≡ None
+    → (list_any (awaits id entry) t.pending ≡ true) × (brings_right t id ≡ true)
+give_right t p id entry h = elim (cases_Bool (list_any (awaits id entry) t.pending && brings_right t id)) [
+  | inl b ↦ and_true (list_any (awaits id entry) t.pending) (brings_right t id) b
+  | inr b ↦ absurd (not_broken _ (rw b at h))
+]
+
+pub go_wrong : (t : Tables) (p : Parcel) (act : Act) → broken_go t p act ≡ None → ⊥
+go_wrong t p act h = elim (cases_Bool (stands_here t (target_of act) && not (is_to_here t act))) [
+  | inl b ↦ not_broken _ (rw b at h)
+  | inr b ↦ not_broken _ (rw b at h)
+]
+
+pub object_wrong : (t : Tables) (p : Parcel) (act : Act) → broken_object t p act ≡ None → ⊥
+object_wrong t p act h = elim (cases_Bool (stands_here t (target_of act))) [
+  | inl b ↦ not_broken _ (rw b at h)
+  | inr b ↦ not_broken _ (rw b at h)
+]
+
+-- all that it names is near
+pub near_right : (t : Tables) (p : Parcel) → broken t p ≡ None → (is_far t.localities p ≡ false) × (broken_near t p ≡ None)
+near_right t p h = elim (cases_Bool (is_far t.localities p)) [
+  | inl b ↦ absurd (let e : breaks 9 p t.localities ≡ None = rw b at h in not_broken _ e)
+  | inr b ↦ (b, rw b at h)
+]

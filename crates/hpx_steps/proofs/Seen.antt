@@ -1,0 +1,85 @@
+-- A turn that is seen as a view says; and that its names are covered.
+use Rattle.std.proofs.Common.{None, [], ap, arith, cond, refl, subst, true, ◌≡◌, ◌≤◌}
+use Rattle.std.specs.List.{count_by, find, list_any}
+use Rattle.hpx_value.specs.Ids.{same_object}
+use Rattle.hpx_journal.proofs.Same.{held-Counts, owed-Counts}
+use Rattle.hpx_journal.specs.Data.{Id}
+use Rattle.hpx_journal.specs.Entries.{Rules}
+use Rattle.hpx_journal.specs.Local.{count_in, is_recorded}
+use Rattle.hpx_journal.specs.Tokens.{is_held, is_owed}
+use Rattle.hpx_part.proofs.Keyed.{any_counted, counted_any}
+use Rattle.hpx_part.proofs.Weaken.{weaker_leads}
+use Rattle.hpx_part.specs.Data.{Local, Refusal}
+use Rattle.hpx_part.specs.Shows.{Leads, SameTokens, Shows, same_refusal}
+use Rattle.hpx_part.specs.View.{IsCovered, View, names_in_view}
+use Rattle.hpx_commit.proofs.Naming.{managed}
+use Rattle.hpx_steps.specs.Turn.{Turn, view}
+
+-- v with what may be told otherwise as it is seen of s
+abbrev pub as_seen : View → Turn → View
+as_seen v s = record v {
+  tokens = (view s).tokens;
+  asking = (view s).asking;
+  asks = (view s).asks;
+  live = (view s).live;
+  dead = (view s).dead;
+  refusals = (view s).refusals;
+  failing = (view s).failing;
+}
+
+-- s is seen as v says: the same tokens and asks as bags, the same counts, and no more that are dead, refusals and failures
+pub record Sees (v : View) (s : Turn) : Type 0 where
+  pub rest : as_seen v s ≡ view s
+  pub tokens : SameTokens v.tokens (view s).tokens
+  pub asking : (x : Id) → count_by (same_object x) v.asking ≡ count_by (same_object x) (view s).asking
+  pub asks : (x : Id) → count_by (same_object x) v.asks ≡ count_by (same_object x) (view s).asks
+  pub live : (x : Id) → x.home ≡ v.here → count_in (find (is_recorded x) v.live) ≡ count_in (find (is_recorded x) (view s).live)
+  pub dead : (x : Id) → count_by (same_object x) (view s).dead ≤ count_by (same_object x) v.dead
+  pub refusals : (x : Refusal) → list_any (same_refusal x) (view s).refusals ≡ true → list_any (same_refusal x) v.refusals ≡ true
+  pub failing : (view s).failing ≤ v.failing
+
+module _ (r : Rules) (v : View) (s : Turn) (sees : Sees v s) where
+  weak : Leads r v [] (record (as_seen v s) { last = None })
+  weak = weaker_leads r v (view s).tokens (view s).asking (view s).asks (view s).live (view s).dead (view s).refusals (view s).failing
+      sees.tokens sees.asking sees.asks sees.live
+      (λ x h. any_counted (same_object x) v.dead (omega (arith, sees.dead x, counted_any (same_object x) (view s).dead h))) sees.refusals sees.failing
+
+  seen_shows : (l : Local) → Shows v l → Shows (as_seen v s) l
+  seen_shows l h =
+      let w = weak.2 l h in record {
+        acts = record {
+          here = w.acts.here;
+          serial = w.acts.serial;
+          waiting = w.acts.waiting;
+          fired = w.acts.fired;
+          due = w.acts.due;
+        };
+        objects = record {
+          number = w.objects.number;
+          objects = w.objects.objects;
+          travels = w.objects.travels;
+          fresh = w.objects.fresh;
+        };
+        credit = record { tokens = w.credit.tokens; asking = w.credit.asking; asks = w.credit.asks };
+        counts = record {
+          live = w.counts.live;
+          dead = w.counts.dead;
+          refusals = w.counts.refusals;
+          failing = w.counts.failing;
+        };
+        last = h.last;
+      }
+
+  seen_covered : IsCovered v → IsCovered (as_seen v s)
+  seen_covered h o managed = record { named = (weak.1 h o managed).named; pending = (weak.1 h o managed).pending }
+
+  pub sees_leads : Leads r v [] (view s)
+  sees_leads = subst (Leads r v []) sees.rest (refl, seen_covered, seen_shows)
+
+  pub sees_covers : IsCovered (view s) → IsCovered v
+  sees_covers covered o managed =
+      let c = covered o managed in
+      let names : names_in_view o v ≡ names_in_view o (view s) = ap (names_in_view o) sees.rest in record {
+        named = omega (arith, c.named, names, sees.tokens (λ t. cond (is_held o t) 1 0) (held-Counts o), sees.asking o);
+        pending = omega (arith, c.pending, sees.tokens (λ t. cond (is_owed o t) 1 0) (owed-Counts o), sees.asks o);
+      }

@@ -1,0 +1,179 @@
+-- The first of what is due is sent.
+use Rattle.std.proofs.Common.{Bool, List, Some, [], ap, arith, false, inl, inr, map, refl, subst, sym, true, ℕ, ◌++◌, ◌+◌, ◌∙◌, ◌∷◌, ◌≡◌, ◌≤◌}
+use Rattle.std.specs.List.{count_by, sum_by}
+use Rattle.std.specs.Prelude.{◌==◌, ◌||◌, ◌⊎◌}
+use Rattle.hpx_value.specs.Ids.{same_object}
+use Rattle.hpx_value.specs.Values.{bare_message, named as named_act}
+use Rattle.hpx_journal.specs.Data.{Act, Apply, Due, Message, MessageDue, Move, Parcel}
+use Rattle.hpx_journal.specs.Entries.{Rules, target_of}
+use Rattle.hpx_part.proofs.ActRows.{follows_sent}
+use Rattle.hpx_part.specs.Data.{Entry, Name, Sent}
+use Rattle.hpx_part.specs.View.{View}
+use Rattle.hpx_tables.specs.Fit.{IsFit}
+use Rattle.hpx_steps.specs.Items.{Accepted, Going, IsDue, Item, OnDesk, weigh}
+use Rattle.hpx_steps.specs.Mail.{draws, going, is_other, may_stay, posts, wrote}
+use Rattle.hpx_steps.specs.Numbered.{asks_as, asks_under}
+use Rattle.hpx_steps.specs.Rows.{Row, brings, causes, freeing, goes, hopping, joined, kind_of, of_act, one_if, unpaid, weight}
+use Rattle.hpx_steps.specs.Sound.{IsSound, IsTidy, TidyAt, asked_by, asks_for, given_to, gives_for, waits_for, worth}
+use Rattle.hpx_steps.specs.Steps.{Sends}
+use Rattle.hpx_steps.specs.Turn.{Turn, bare_due, parcel_asks, parcel_frees, parcel_tokens, tokens_of, view, waiting}
+use Rattle.hpx_steps.proofs.ByRows.{by_rows}
+use Rattle.hpx_steps.proofs.Calm.{bound_none, same_dead, same_seen}
+use Rattle.hpx_steps.proofs.Changes.{Changes, due_change, first_goes, holding, post_change, put_as, then}
+use Rattle.hpx_steps.proofs.Puts.{put_less, put_sum, put_tidy}
+use Rattle.hpx_steps.proofs.Seen.{Sees, sees_leads}
+use Rattle.hpx_steps.proofs.Sums.{by_own, by_parcel, view_worth}
+use Rattle.hpx_steps.proofs.Then.{Keeps, fewer}
+use Rattle.hpx_steps.proofs.Waits.{Put, post_waits}
+
+module _ (r : Rules) (s : Turn) (entries : List Entry) (h : IsSound r s entries) (m : Message) (rest : List Due) (fresh : s.fresh ≡ []) (due : s.due ≡ MessageDue m ∷ rest) where
+  abbrev name : Name
+  name = record { origin = s.tables.here; serial = s.tables.serial + 1 }
+
+  abbrev act : Act
+  act = named_act s.tables.here (s.tables.serial + 1) m
+
+  abbrev before : Turn
+  before = draws (record s { due = rest })
+
+  abbrev now : Turn
+  now = wrote (Sent (record { origin = s.tables.here; serial = s.tables.serial + 1 }))
+      (posts (named_act s.tables.here (s.tables.serial + 1) m) (draws (record s { due = rest })))
+
+  abbrev item : Item
+  item = put_as (may_stay s.tables act) (is_other s.tables (target_of act).home) act
+
+  change : Changes (IsDue (MessageDue m) ∷ [])
+      (put_as (may_stay s.tables (named_act s.tables.here (s.tables.serial + 1) m)) (is_other s.tables (target_of (named_act s.tables.here (s.tables.serial + 1) m)).home) (named_act s.tables.here (s.tables.serial + 1) m) ∷ []) s now
+  change = then (IsDue (MessageDue m) ∷ []) [] [] (item ∷ []) s before now
+      (due_change (IsDue (MessageDue m) ∷ []) [] s rest (first_goes (λ x. IsDue x) s.due (MessageDue m) rest due)) (post_change act before)
+
+  turned : (w : Item → ℕ) → weigh w now + w (IsDue (MessageDue m)) ≡ weigh w s + w item
+  turned w = let k : weigh w now + (w (IsDue (MessageDue m)) + 0) ≡ weigh w s + (w item + 0) = change.0 w in omega (arith, k)
+
+  -- a weight before and after, where an action weighs the same wherever it waits
+  moves : (w : Item → ℕ) (n : ℕ) → w (Accepted act) ≡ n
+      → ((p : Parcel) → (p ≡ Apply act) ⊎ (p ≡ Move act) → (w (OnDesk p) ≡ n) × ((to : ℕ) → w (Going (going to p)) ≡ n))
+      → weigh w now + w (IsDue (MessageDue m)) ≡ weigh w s + n
+  moves w n a b = omega (arith, turned w, put_sum w (may_stay s.tables act) (is_other s.tables (target_of act).home) act n a b)
+
+  -- by what messages weigh
+  carried : (f : Parcel → ℕ) (n : ℕ) → f (Apply act) ≡ n → f (Move act) ≡ n → (p : Parcel) → (p ≡ Apply act) ⊎ (p ≡ Move act) → f p ≡ n
+  carried f n a b p (inl e) = ap f e ∙ a
+  carried f n a b p (inr e) = ap f e ∙ b
+
+  both : (f : Parcel → ℕ) (n : ℕ) → f (Apply act) ≡ n → f (Move act) ≡ n → (p : Parcel) → (p ≡ Apply act) ⊎ (p ≡ Move act) → (f p ≡ n) × ((to : ℕ) → f p ≡ n)
+  both f n a b p e = (carried f n a b p e, λ to. carried f n a b p e)
+
+  fit : IsFit act
+  fit = let d = h.tidy (IsDue (MessageDue m)) (rw due (inl refl)) in record { sent = record { shape = d.sent.shape; credit = d.sent.credit }; moves = d.moves }
+
+  tidy : IsTidy now
+  tidy = holding (TidyAt s) (item ∷ []) s now change.1 h.tidy (put_tidy s.tables act fit, tt)
+
+  put : Put act (waiting before) (waiting now)
+  put = post_waits act before
+
+  abbrev seen : View
+  seen = record (view s) {
+    serial = s.tables.serial + 1;
+    waiting = put.front ++ named_act s.tables.here (s.tables.serial + 1) (bare_message m) ∷ put.back;
+    due = map bare_due rest;
+    last = Some (Sent (record { origin = s.tables.here; serial = s.tables.serial + 1 }));
+  }
+
+  sees : Sees seen now
+  sees = record {
+    rest = ap (λ ws. record (view now) { waiting = ws }) (sym put.is);
+    tokens = λ f weight. omega (
+      arith,
+      view_worth f s,
+      view_worth f now,
+      moves (worth f) (sum_by f (tokens_of m.ids)) refl (both (λ p. sum_by f (parcel_tokens p)) (sum_by f (tokens_of m.ids)) refl refl),
+    );
+    asking = λ x. refl;
+    asks = λ x. same_seen x parcel_asks s now (omega (
+      arith,
+      moves (by_parcel (λ p. count_by (same_object x) (parcel_asks p))) 0 refl (both (λ p. count_by (same_object x) (parcel_asks p)) 0 refl refl),
+    ));
+    live = λ x home. refl;
+    dead = λ x. same_dead x s now (omega (
+      arith,
+      moves (by_own (λ p. count_by (same_object x) (parcel_frees p))) 0 refl (both (λ p. count_by (same_object x) (parcel_frees p)) 0 refl refl),
+    ));
+    refusals = λ x k. k;
+    failing = omega arith;
+  }
+
+  pub sent_keeps : Keeps r s now (Sent name)
+  sent_keeps = record {
+    leads = (
+      seen,
+      follows_sent r (view s) (bare_message m) (map bare_due rest) put.front put.back fresh (ap (map bare_due) due) put.was,
+      sees_leads r seen now sees,
+    );
+    tidy = tidy;
+    places = h.places;
+    commits = h.commits;
+    numbered = fewer s now (omega arith) (λ n. omega (arith, moves (asks_under n) 0 refl (both (asks_as n) 0 refl refl)));
+    pays = record {
+      rows = λ row. omega (arith, moves (unpaid row) (of_act row) refl (both (weight row) (of_act row) (applied row) (moved row)), costs row);
+      once = omega (
+        arith,
+        turned hopping,
+        put_less hopping (may_stay s.tables act) (is_other s.tables (target_of act).home) act 1 (omega arith) (λ p. (few p, λ to. few p)),
+      );
+      fired = omega (arith, turned joined);
+      frees = λ o. omega (arith, moves (freeing o) 0 refl (both (λ p. 0) 0 refl refl));
+    };
+    orders = record {
+      sent = tt;
+      asked = λ o n. omega (
+        arith,
+        moves (asked_by s.tables.here o n) 0 refl (λ p e. (carried (λ q. asks_for s.tables.here o n q + gives_for o n q) 0 refl refl p e, λ to. carried (asks_for s.tables.here o n) 0 refl refl p e)),
+        moves (waits_for o n) 0 refl (both (λ p. 0) 0 refl refl),
+      );
+      given = λ j d o n. omega (
+        arith,
+        moves (given_to j o n) 0 refl (λ p e. (refl, λ to. bound_none (to == j) (gives_for o n p) (carried (gives_for o n) 0 refl refl p e))),
+      );
+    };
+    counts = record {
+      here = refl;
+      localities = refl;
+      profile = refl;
+      born = omega arith;
+      few = omega arith;
+      asked = omega arith;
+      sent = omega arith;
+      taken = omega arith;
+      few_answers = omega arith;
+      answered = λ l shown. refl;
+    };
+  }
+    where
+      few : (p : Parcel) → brings p ≤ 1
+      few p = each ((kind_of p == 1) || (kind_of p == 6))
+        where
+          each : (b : Bool) → one_if b ≤ 1
+          each true = omega arith
+          each false = omega arith
+
+      applied : (row : Row) → weight row (Apply act) ≡ of_act row
+      applied = by_rows (λ row. weight row (Apply act) ≡ of_act row) refl refl refl refl refl refl refl (λ o. refl)
+
+      moved : (row : Row) → weight row (Move act) ≡ of_act row
+      moved = by_rows (λ row. weight row (Move act) ≡ of_act row) refl refl refl refl refl refl refl (λ o. refl)
+
+      costs : (row : Row) → goes r row (Sent name) + of_act row ≡ causes r row (Sent name)
+      costs = by_rows (λ row. goes r row (Sent name) + of_act row ≡ causes r row (Sent name)) refl refl refl refl refl refl refl (λ o. refl)
+
+pub sent_step : (r : Rules) (s s' : Turn) (entries : List Entry) (a : Name) → IsSound r s entries → Sends s a s' → Keeps r s s' (Sent a)
+sent_step r s s' entries a h g = subst (λ n. Keeps r s s' (Sent n)) (sym g.name) (subst (λ x. Keeps r s x (Sent first)) (sym again)
+    (sent_keeps r s entries h g.message g.rest g.fresh g.due))
+  where
+    first : Name
+    first = record { origin = s.tables.here; serial = s.tables.serial + 1 }
+
+    again : s' ≡ wrote (Sent (record { origin = s.tables.here; serial = s.tables.serial + 1 })) (posts (named_act s.tables.here (s.tables.serial + 1) g.message) (draws (record s { due = g.rest })))
+    again = g.now ∙ ap (λ n. wrote (Sent n) (posts (named_act s.tables.here (s.tables.serial + 1) g.message) (draws (record s { due = g.rest })))) g.name

@@ -1,0 +1,168 @@
+-- An id in the hand of a commit is halved.
+use Rattle.std.proofs.Common.{List, Some, [], ap, arith, cond, false, inl, length, map, refl, set, subst, sym, true, ℕ, ◌++◌, ◌+◌, ◌-◌, ◌∙◌, ◌∷◌, ◌≡◌, ◌≤◌}
+use Rattle.std.proofs.lemmas.List.Sums.{sum_by-cons}
+use Rattle.std.specs.List.{count_by, list_any, slice_get, sum_by}
+use Rattle.std.specs.Prelude.{option_map}
+use Rattle.hpx_value.specs.Ids.{bare}
+use Rattle.hpx_value.specs.Values.{bare_act}
+use Rattle.hpx_journal.specs.Data.{Id}
+use Rattle.hpx_journal.specs.Entries.{Rules}
+use Rattle.hpx_journal.specs.Tokens.{held_token, same_token}
+use Rattle.hpx_part.proofs.Credit.{token_own}
+use Rattle.hpx_part.proofs.CreditRows.{follows_split}
+use Rattle.hpx_part.proofs.Keyed.{counts_of, counts_true}
+use Rattle.hpx_part.specs.Data.{Entry, Split, Token}
+use Rattle.hpx_part.specs.Shows.{same_refusal}
+use Rattle.hpx_part.specs.View.{View}
+use Rattle.hpx_commit.specs.Deals.{half}
+use Rattle.hpx_tables.specs.Pending.{Waits, fired_of, ids_named, is_asked, is_asked_for, refusals_of}
+use Rattle.hpx_steps.specs.Items.{Item, Working, weigh}
+use Rattle.hpx_steps.specs.Mail.{wrote}
+use Rattle.hpx_steps.specs.Numbered.{asks_under}
+use Rattle.hpx_steps.specs.Paused.{HasCommits, IsCommit, names_of}
+use Rattle.hpx_steps.specs.Rows.{Row, causes, freeing, goes, hopping, joined, unpaid}
+use Rattle.hpx_steps.specs.Sound.{IsSound, TidyAt, asked_by, asking, given_to, waits_for, worth}
+use Rattle.hpx_steps.specs.Steps.{Splits, works_on}
+use Rattle.hpx_steps.specs.Turn.{Turn, bare_due, tokens, tokens_of, view}
+use Rattle.hpx_steps.proofs.Bare.{has_not_asked}
+use Rattle.hpx_steps.proofs.ByRows.{by_rows}
+use Rattle.hpx_steps.proofs.Calm.{counts_still}
+use Rattle.hpx_steps.proofs.Changes.{Changes, first_turns, holding, working_change}
+use Rattle.hpx_steps.proofs.Lists.{less_sum, set_sum}
+use Rattle.hpx_steps.proofs.Mails.{held_by}
+use Rattle.hpx_steps.proofs.Recommit.{first_asked, first_at, first_map, hand_long, same_commits}
+use Rattle.hpx_steps.proofs.Seen.{Sees, sees_leads}
+use Rattle.hpx_steps.proofs.Sums.{ids_append, ids_each, view_asking, view_worth}
+use Rattle.hpx_steps.proofs.Then.{Keeps, fewer}
+
+module _ (r : Rules) (s : Turn) (entries : List Entry) (h : IsSound r s entries) (w : Waits) (rest : List Waits) (p : ℕ) (id : Id) (log : ℕ) (due : s.due ≡ [])
+    (works : s.working ≡ w ∷ rest) (at : slice_get w.hand p ≡ Some id) (has : id.log ≡ Some log) (enough : 1 ≤ log) (lacks : w.asked ≡ []) where
+  abbrev split : Waits
+  split = record w { hand = set w.hand p (half id) ++ half id ∷ [] }
+
+  abbrev now : Turn
+  now = wrote (Split (bare id) log) (works_on (record w { hand = set w.hand p (half id) ++ half id ∷ [] }) rest s)
+
+  change : Changes (Working w ∷ []) (Working split ∷ []) s now
+  change = working_change (Working w ∷ []) (Working split ∷ []) s (split ∷ rest) (first_turns (λ x. Working x) s.working w split rest works)
+
+  moves : (f : Item → ℕ) → weigh f now + f (Working w) ≡ weigh f s + f (Working split)
+  moves f = let k : weigh f now + (f (Working w) + 0) ≡ weigh f s + (f (Working split) + 0) = change.0 f in omega (arith, k)
+
+  its : IsCommit s.tables.here s.tables.localities w
+  its = h.tidy (Working w) (rw works (inl refl))
+
+  halved : (half id).log ≡ Some (log - 1)
+  halved = ap (λ l. option_map (λ (n : ℕ). n - 1) l) has
+
+  -- the id goes, and two halves come
+  tokens_hand : (f : Token → ℕ) → sum_by f (tokens_of split.hand) + f (held_token (bare id) log) ≡ sum_by f (tokens_of w.hand) + (f (held_token (bare id) (log - 1)) + f (held_token (bare id) (log - 1)))
+  tokens_hand f = omega (
+    arith,
+    ids_append f (set w.hand p (half id)) (half id ∷ []),
+    ids_each f (set w.hand p (half id)),
+    ids_each f w.hand,
+    set_sum (λ y. sum_by f (tokens_of (y ∷ []))) w.hand p id (half id) at,
+    held_by f id log has,
+    held_by f (half id) (log - 1) halved,
+  )
+
+  abbrev many : ℕ
+  many = length (ids_named w)
+
+  long : length (ids_named w) ≤ length w.hand
+  long = hand_long s.tables.here s.tables.localities w its
+
+  unasked : (is_asked id ≡ false) × (is_asked (half id) ≡ false)
+  unasked = (has_not_asked id log has, has_not_asked (half id) (log - 1) halved)
+
+  fit_commit : IsCommit s.tables.here s.tables.localities split
+  fit_commit = record {
+    job = its.job;
+    here = its.here;
+    localities = its.localities;
+    few = its.few;
+    hand = first_map bare many p w.hand (half id ∷ []) id (half id) at refl long ∙ its.hand;
+    within = its.within;
+    refused = its.refused;
+    once = λ q lt. its.once q lt ∙ ap {B = ℕ} (λ b. cond b 1 0) (sym (first_at many p q w.hand (half id ∷ []) id (half id) at (unasked.1 ∙ sym unasked.0) lt long));
+  }
+
+  abbrev seen : View
+  seen = record (view s) { tokens = tokens now; last = Some (Split (bare id) log) }
+
+  sees : Sees seen now
+  sees = record {
+    rest = ap (λ ws. record (view now) { fired = map bare_act (fired_of s.tables.running (ws ++ s.tables.pending)) }) works;
+    tokens = λ f fair. refl;
+    asking = λ o. omega (
+      arith,
+      view_asking o s,
+      view_asking o now,
+      moves (asking o),
+      ap (names_of o) (first_asked many p w.hand (half id ∷ []) id (half id) at unasked.0 unasked.1 long),
+    );
+    asks = λ o. refl;
+    live = λ o home. refl;
+    dead = λ o. omega arith;
+    refusals = λ y k. subst (λ ws. list_any (same_refusal y) (refusals_of (ws ++ s.tables.pending)) ≡ true) (sym works) k;
+    failing = omega (arith, ap (λ ws. length (refusals_of (ws ++ s.tables.pending))) works);
+  }
+
+  pub split_keeps : Keeps r s now (Split (bare id) log)
+  split_keeps = record {
+    leads = (
+      seen,
+      follows_split r (view s) (bare id) refl log (tokens now) (ap (map bare_due) due) enough
+          (omega (
+            arith,
+            view_worth (counts_of (same_token (held_token (bare id) log))) s,
+            ap (sum_by (λ y. worth (counts_of (same_token (held_token (bare id) log))) (Working y))) works,
+            sum_by-cons (λ y. worth (counts_of (same_token (held_token (bare id) log))) (Working y)) w rest,
+            less_sum (λ y. sum_by (counts_of (same_token (held_token (bare id) log))) (tokens_of (y ∷ []))) w.hand p id at,
+            ids_each (counts_of (same_token (held_token (bare id) log))) w.hand,
+            held_by (counts_of (same_token (held_token (bare id) log))) id log has,
+            counts_true (same_token (held_token (bare id) log)) (held_token (bare id) log) (token_own (held_token (bare id) log)),
+          ))
+          (record {
+            sums = λ f fair. omega (
+              arith,
+              view_worth f s,
+              view_worth f now,
+              moves (worth f),
+              tokens_hand f,
+              sum_by-cons f (held_token (bare id) log) [],
+              sum_by-cons f (held_token (bare id) (log - 1)) [],
+              sum_by-cons f (held_token (bare id) (log - 1)) (held_token (bare id) (log - 1) ∷ []),
+            );
+          }),
+      sees_leads r seen now sees,
+    );
+    tidy = holding (TidyAt s) (Working split ∷ []) s now change.1 h.tidy (fit_commit, tt);
+    places = h.places;
+    commits = same_commits s.tables.objects s.tables.running w split (rest ++ s.tables.pending) refl
+        (subst (λ ws. HasCommits s.tables.objects s.tables.running (ws ++ s.tables.pending)) works h.commits);
+    numbered = fewer s now (omega arith) (λ n. omega (arith, moves (asks_under n)));
+    pays = record {
+      rows = λ row. omega (arith, moves (unpaid row), costs row);
+      once = omega (arith, moves hopping);
+      fired = omega (arith, moves joined);
+      frees = λ o. omega (arith, moves (freeing o));
+    };
+    orders = record {
+      sent = tt;
+      asked = λ o n. omega (arith, moves (asked_by s.tables.here o n), moves (waits_for o n), ap (λ ys. count_by (is_asked_for w o n) ys) lacks, ap (λ ys. count_by (is_asked_for split o n) ys) lacks);
+      given = λ k d o n. omega (arith, moves (given_to k o n));
+    };
+    counts = counts_still s now (Split (bare id) log) refl refl refl (λ l. refl);
+  }
+    where
+      costs : (row : Row) → goes r row (Split (bare id) log) ≡ causes r row (Split (bare id) log)
+      costs = by_rows (λ row. goes r row (Split (bare id) log) ≡ causes r row (Split (bare id) log)) refl refl refl refl refl refl refl (λ o. refl)
+
+pub split_step : (r : Rules) (s s' : Turn) (entries : List Entry) (o : Id) (log : ℕ) → IsSound r s entries → Splits s o log s' → Keeps r s s' (Split o log)
+split_step r s s' entries o log h g = subst (λ x. Keeps r s s' (Split x log)) (sym g.object) (subst (λ x. Keeps r s x (Split (bare g.id) log)) (sym again)
+    (split_keeps r s entries h g.w g.rest g.p g.id log g.due g.works g.holds g.has g.enough g.lacks))
+  where
+    again : s' ≡ wrote (Split (bare g.id) log) (works_on (record g.w { hand = set g.w.hand g.p (half g.id) ++ half g.id ∷ [] }) g.rest s)
+    again = g.now ∙ ap (λ x. wrote (Split x log) (works_on (record g.w { hand = set g.w.hand g.p (half g.id) ++ half g.id ∷ [] }) g.rest s)) g.object

@@ -1,0 +1,66 @@
+-- What is done without an entry.
+use Rattle.std.proofs.Common.{List, [], ap, append-nil, arith, map, subst, sym, ℕ, ◌+◌, ◌∙◌, ◌∷◌, ◌≡◌, ◌≢◌, ◌≤◌}
+use Rattle.std.specs.List.{AllByRecursion}
+use Rattle.hpx_journal.specs.Data.{Id}
+use Rattle.hpx_journal.specs.Entries.{Rules}
+use Rattle.hpx_journal.specs.Whole.{part}
+use Rattle.hpx_part.proofs.Grown.{grow}
+use Rattle.hpx_part.specs.Data.{Entry, Event}
+use Rattle.hpx_part.specs.Parts.{StandsFor}
+use Rattle.hpx_part.specs.Shows.{Leads}
+use Rattle.hpx_tables.specs.Tables.{Tables}
+use Rattle.hpx_steps.specs.Items.{weigh}
+use Rattle.hpx_steps.specs.Numbered.{AreNumbered}
+use Rattle.hpx_steps.specs.Paused.{HasCommits}
+use Rattle.hpx_steps.specs.Rows.{AreFired, Row, freeing, hopping, joined, unpaid}
+use Rattle.hpx_steps.specs.Sound.{AreNumbers, AreRules, HasPlaces, IsOrderly, IsPaid, IsSound, IsTidy, SendsOwn, all_count, asked_by, asks_for, come, given_to, gives_for, gone, waits_for}
+use Rattle.hpx_steps.specs.Turn.{Turn, commits, view}
+use Rattle.hpx_steps.proofs.Calm.{SameNumbers}
+
+pub record Stills (r : Rules) (s s' : Turn) : Type 0 where
+  pub same : SameNumbers s.tables s'.tables
+  pub leads : Leads r (view s) [] (view s')
+  pub tidy : IsTidy s'
+  pub places : HasPlaces s'.tables.here s'.tables.births s'.tables.objects s'.tables.records
+  pub commits : HasCommits s'.tables.objects s'.tables.running (commits s')
+  pub numbered : AreNumbered s → AreNumbered s'
+  pub rows : (row : Row) → weigh (unpaid row) s' ≡ weigh (unpaid row) s
+  pub once : weigh hopping s' ≤ weigh hopping s
+  pub fired : weigh joined s ≤ weigh joined s'
+  pub frees : (o : Id) → weigh (freeing o) s ≤ weigh (freeing o) s'
+  pub asked : (o : Id) (n : ℕ) → weigh (asked_by s.tables.here o n) s' + weigh (waits_for o n) s ≤ weigh (asked_by s.tables.here o n) s + weigh (waits_for o n) s'
+  pub given : (j : ℕ) → j ≢ s.tables.here → (o : Id) (n : ℕ) → weigh (given_to j o n) s' ≤ weigh (given_to j o n) s
+
+fired_more : (n m : ℕ) (es : List Event) → n ≤ m → AreFired n es → AreFired m es
+fired_more n m [] less h = tt
+fired_more n m (e ∷ es) less h = (omega (arith, h.0, less), fired_more n m es less h.1)
+
+-- so all holds still
+pub still_sound : (r : Rules) (s s' : Turn) (entries : List Entry) → IsSound r s entries → Stills r s s' → IsSound r s' entries
+still_sound r s s' entries h k =
+    let here : s'.tables.here ≡ s.tables.here = ap (λ (t : Tables). t.here) k.same in
+    let es = part s.tables.here entries in
+    let there : part s'.tables.here entries ≡ part s.tables.here entries = ap (λ j. part j entries) here in record {
+      rules = let q = subst (AreRules r) (sym k.same) (record { localities = h.rules.localities; credit_log = h.rules.credit_log; credit_limit = h.rules.credit_limit }) in
+          record { localities = q.localities; credit_log = q.credit_log; credit_limit = q.credit_limit };
+      keeps = subst (StandsFor r (view s')) (append-nil entries) (grow r (view s) (view s') entries [] h.keeps k.leads);
+      tidy = k.tidy;
+      places = k.places;
+      commits = k.commits;
+      paid = subst (IsPaid r s') (sym there) (record {
+        rows = λ row. omega (arith, h.paid.rows row, k.rows row);
+        once = omega (arith, h.paid.once, k.once);
+        fired = fired_more (weigh joined s) (weigh joined s') (map (λ (e : Entry). e.event) es) k.fired h.paid.fired;
+        frees = λ o. omega (arith, h.paid.frees o, k.frees o);
+      });
+      orderly = subst (IsOrderly r s') (sym there) (record {
+        sent = subst (λ (t : Tables). AllByRecursion (λ (e : Entry). SendsOwn r t.localities t.here t.profile.credit_log e.event) es) (sym k.same) h.orderly.sent;
+        asked = λ o n. subst (λ j. all_count (gone r (asks_for j o n)) es + weigh (asked_by j o n) s'
+            ≤ weigh (waits_for o n) s' + (all_count (come r (gives_for o n)) es + all_count (come r (asks_for j o n)) es)) (sym here)
+            (omega (arith, h.orderly.asked o n, k.asked o n));
+        given = λ j d o n. let d' : j ≢ s.tables.here = λ e. d (e ∙ sym here) in omega (arith, h.orderly.given j d' o n, k.given j d' o n);
+      });
+      numbers = let n = subst (λ (t : Tables). AreNumbers r (record s { tables = t }) entries) (sym k.same)
+          (record { born = h.numbers.born; few = h.numbers.few; asked = h.numbers.asked; sent = h.numbers.sent; taken = h.numbers.taken; few_answers = h.numbers.few_answers; answered = h.numbers.answered }) in
+          record { born = n.born; few = n.few; asked = n.asked; sent = n.sent; taken = n.taken; few_answers = n.few_answers; answered = n.answered };
+    }

@@ -1,0 +1,174 @@
+-- What lists weigh, and what is seen of a turn by what it weighs.
+use Rattle.std.proofs.Common.{List, [], ap, append_assoc, arith, cond, map, refl, sym, ℕ, ◌++◌, ◌+◌, ◌∙◌, ◌∷◌, ◌≡◌, ◌≤◌}
+use Rattle.std.proofs.lemmas.List.{map-append}
+use Rattle.std.proofs.lemmas.List.Sums.{sum_by-append, sum_by-cons}
+use Rattle.std.specs.List.{AllByRecursion, count_by, filter, sum_by}
+use Rattle.std.specs.Prelude.{flat_map}
+use Rattle.hpx_value.specs.Ids.{same_object}
+use Rattle.hpx_parcel.specs.Credits.{credit_list, credits_of}
+use Rattle.hpx_journal.specs.Data.{Act, Id, Parcel}
+use Rattle.hpx_journal.specs.Names.{due_ids}
+use Rattle.hpx_journal.specs.Tokens.{held}
+use Rattle.hpx_part.specs.Data.{Standing, Token}
+use Rattle.hpx_tables.specs.Pending.{Waits, asking_of, is_asked, own_ids}
+use Rattle.hpx_tables.specs.declared.kept.Outgoing.{Outgoing}
+use Rattle.hpx_steps.specs.Items.{Came, Going, Item, Mailed, OnDesk, weigh}
+use Rattle.hpx_steps.specs.Sound.{asking, worth}
+use Rattle.hpx_steps.specs.Turn.{Turn, commits, ids_here, own_parcels, parcel_tokens, parcels, tokens, tokens_of}
+
+-- ---- lists
+
+pub flat_append : {X Y : Type 0} (f : X → List Y) (xs ys : List X) → flat_map f (xs ++ ys) ≡ flat_map f xs ++ flat_map f ys
+flat_append f [] ys = refl
+flat_append f (x ∷ xs) ys = ap (λ zs. f x ++ zs) (flat_append f xs ys) ∙ sym (append_assoc (f x) (flat_map f xs) (flat_map f ys))
+
+pub flat_sum : {X Y : Type 0} (f : Y → ℕ) (h : X → List Y) (xs : List X) → sum_by f (flat_map h xs) ≡ sum_by (λ x. sum_by f (h x)) xs
+flat_sum f h [] = refl
+flat_sum f h (x ∷ xs) = omega (arith, sum_by-append f (h x) (flat_map h xs), flat_sum f h xs, sum_by-cons (λ y. sum_by f (h y)) x xs)
+
+pub map_sum : {X Y : Type 0} (f : Y → ℕ) (g : X → Y) (xs : List X) → sum_by f (map g xs) ≡ sum_by (λ x. f (g x)) xs
+map_sum f g [] = refl
+map_sum f g (x ∷ xs) = omega (arith, map_sum f g xs, sum_by-cons f (g x) (map g xs), sum_by-cons (λ y. f (g y)) x xs)
+
+pub same_sum : {X : Type 0} (f g : X → ℕ) (xs : List X) → ((x : X) → f x ≡ g x) → sum_by f xs ≡ sum_by g xs
+same_sum f g [] same = refl
+same_sum f g (x ∷ xs) same = omega (arith, sum_by-cons f x xs, sum_by-cons g x xs, same x, same_sum f g xs same)
+
+pub most_sum : {X : Type 0} (P : X → Type 0) (f g : X → ℕ) (xs : List X) → ((x : X) → P x → f x ≤ g x) → AllByRecursion P xs → sum_by f xs ≤ sum_by g xs
+most_sum P f g [] less h = omega arith
+most_sum P f g (x ∷ xs) less h = omega (arith, sum_by-cons f x xs, sum_by-cons g x xs, less x h.0, most_sum P f g xs less h.1)
+
+-- ---- tokens of ids
+
+pub credits_append : (xs ys : List Id) → credits_of (xs ++ ys) ≡ credits_of xs ++ credits_of ys
+credits_append [] ys = refl
+credits_append (x ∷ xs) ys = ap (λ zs. credit_list x x.log ++ zs) (credits_append xs ys) ∙ sym (append_assoc (credit_list x x.log) (credits_of xs) (credits_of ys))
+
+-- what the tokens of ids weigh
+abbrev pub weighs : (Token → ℕ) → List Id → ℕ
+weighs f ids = sum_by f (tokens_of ids)
+
+module _ (f : Token → ℕ) where
+  pub ids_append : (xs ys : List Id) → sum_by f (tokens_of (xs ++ ys)) ≡ sum_by f (tokens_of xs) + sum_by f (tokens_of ys)
+  ids_append xs ys = ap (sum_by f) (ap (map held) (credits_append xs ys) ∙ map-append held (credits_of xs) (credits_of ys))
+      ∙ sum_by-append f (tokens_of xs) (tokens_of ys)
+
+  pub ids_flat : {X : Type 0} (g : X → List Id) (xs : List X) → sum_by f (tokens_of (flat_map g xs)) ≡ sum_by (λ x. sum_by f (tokens_of (g x))) xs
+  ids_flat g [] = refl
+  ids_flat g (x ∷ xs) = omega (arith, ids_append (g x) (flat_map g xs), ids_flat g xs, sum_by-cons (λ y. sum_by f (tokens_of (g y))) x xs)
+
+  pub ids_each : (xs : List Id) → sum_by f (tokens_of xs) ≡ sum_by (λ x. sum_by f (tokens_of (x ∷ []))) xs
+  ids_each [] = refl
+  ids_each (x ∷ xs) = omega (arith, ids_append (x ∷ []) xs, ids_each xs, sum_by-cons (λ y. sum_by f (tokens_of (y ∷ []))) x xs)
+
+-- ---- what is seen
+
+-- a weight of messages
+abbrev pub by_parcel : (Parcel → ℕ) → Item → ℕ
+by_parcel w (Came p) = w p
+by_parcel w (Mailed p) = w p
+by_parcel w (OnDesk p) = w p
+by_parcel w (Going x) = w x.parcel
+by_parcel w _ = 0
+
+pub zeros : {X : Type 0} (xs : List X) → sum_by (λ x. 0) xs ≡ 0
+zeros [] = refl
+zeros (x ∷ xs) = omega (arith, sum_by-cons (λ y. 0) x xs, zeros xs)
+
+pub parcels_sum : (w : Parcel → ℕ) (s : Turn) → sum_by w (parcels s)
+    ≡ sum_by w s.came + sum_by w s.mailed + sum_by w s.tables.desk + sum_by (λ (x : Outgoing). w x.parcel) s.tables.outgoing
+parcels_sum w s =
+    let outs = map (λ (x : Outgoing). x.parcel) s.tables.outgoing in
+    omega (
+      arith,
+      sum_by-append w s.came (s.mailed ++ (s.tables.desk ++ outs)),
+      sum_by-append w s.mailed (s.tables.desk ++ outs),
+      sum_by-append w s.tables.desk outs,
+      map_sum w (λ (x : Outgoing). x.parcel) s.tables.outgoing,
+    )
+
+-- what is seen of messages
+pub seen_sum : {Y : Type 0} (f : Y → ℕ) (h : Parcel → List Y) (s : Turn)
+    → sum_by f (flat_map h (parcels s)) ≡ weigh (by_parcel (λ p. sum_by f (h p))) s
+seen_sum f h s = omega (
+  arith,
+  flat_sum f h (parcels s),
+  parcels_sum (λ p. sum_by f (h p)) s,
+  zeros s.tables.accepted,
+  zeros s.tables.running,
+  zeros s.tables.pending,
+  zeros s.working,
+  zeros s.tables.objects,
+  zeros s.due,
+  zeros s.loose,
+)
+
+-- a weight of own messages
+abbrev pub by_own : (Parcel → ℕ) → Item → ℕ
+by_own w (Mailed p) = w p
+by_own w (OnDesk p) = w p
+by_own w (Going x) = w x.parcel
+by_own w _ = 0
+
+pub own_sum : {Y : Type 0} (f : Y → ℕ) (h : Parcel → List Y) (s : Turn)
+    → sum_by f (flat_map h (own_parcels s)) ≡ weigh (by_own (λ p. sum_by f (h p))) s
+own_sum f h s =
+    let w : Parcel → ℕ = λ p. sum_by f (h p) in
+    let outs = map (λ (x : Outgoing). x.parcel) s.tables.outgoing in
+    omega (
+      arith,
+      flat_sum f h (own_parcels s),
+      sum_by-append w s.mailed (s.tables.desk ++ outs),
+      sum_by-append w s.tables.desk outs,
+      map_sum w (λ (x : Outgoing). x.parcel) s.tables.outgoing,
+      zeros s.came,
+      zeros s.tables.accepted,
+      zeros s.tables.running,
+      zeros s.tables.pending,
+      zeros s.working,
+      zeros s.working,
+      zeros s.tables.objects,
+      zeros s.due,
+      zeros s.loose,
+    )
+
+-- all tokens
+pub view_worth : (f : Token → ℕ) (s : Turn) → sum_by f (tokens s) ≡ weigh (worth f) s
+view_worth f s = omega (
+  arith,
+  sum_by-append f (tokens_of (ids_here s)) (flat_map parcel_tokens (parcels s)),
+  flat_sum f parcel_tokens (parcels s),
+  parcels_sum (λ p. sum_by f (parcel_tokens p)) s,
+  ids_append f (flat_map (λ (x : Standing). x.state.ids) s.tables.objects)
+      (flat_map (λ (a : Act). a.ids) s.tables.accepted ++ (flat_map (λ (a : Act). a.ids) s.tables.running
+      ++ (flat_map (λ (w : Waits). w.hand) (commits s) ++ (flat_map due_ids s.due ++ s.loose)))),
+  ids_append f (flat_map (λ (a : Act). a.ids) s.tables.accepted)
+      (flat_map (λ (a : Act). a.ids) s.tables.running ++ (flat_map (λ (w : Waits). w.hand) (commits s) ++ (flat_map due_ids s.due ++ s.loose))),
+  ids_append f (flat_map (λ (a : Act). a.ids) s.tables.running) (flat_map (λ (w : Waits). w.hand) (commits s) ++ (flat_map due_ids s.due ++ s.loose)),
+  ids_append f (flat_map (λ (w : Waits). w.hand) (commits s)) (flat_map due_ids s.due ++ s.loose),
+  ids_append f (flat_map due_ids s.due) s.loose,
+  ids_flat f (λ (x : Standing). x.state.ids) s.tables.objects,
+  ids_flat f (λ (a : Act). a.ids) s.tables.accepted,
+  ids_flat f (λ (a : Act). a.ids) s.tables.running,
+  ids_flat f (λ (w : Waits). w.hand) (commits s),
+  sum_by-append (λ (w : Waits). sum_by f (tokens_of w.hand)) s.working s.tables.pending,
+  ids_flat f due_ids s.due,
+  ids_each f s.loose,
+)
+
+-- what was asked for
+pub view_asking : (o : Id) (s : Turn) → count_by (same_object o) (asking_of (commits s)) ≡ weigh (asking o) s
+view_asking o s = omega (
+  arith,
+  flat_sum (λ (x : Id). cond (same_object o x) 1 0) (λ (w : Waits). filter is_asked (own_ids w)) (commits s),
+  sum_by-append (λ (w : Waits). count_by (same_object o) (filter is_asked (own_ids w))) s.working s.tables.pending,
+  zeros s.came,
+  zeros s.mailed,
+  zeros s.tables.desk,
+  zeros s.tables.outgoing,
+  zeros s.tables.accepted,
+  zeros s.tables.running,
+  zeros s.tables.objects,
+  zeros s.due,
+  zeros s.loose,
+)

@@ -1,0 +1,196 @@
+-- A commit begins: its object and its action put their ids into its hand.
+use Rattle.std.proofs.Common.{List, None, Some, [], ap, append_assoc, arith, cond, drop, length, map, refl, set, subst, suc, sym, take, true, ℕ, ◌++◌, ◌+◌, ◌<◌, ◌∙◌, ◌∷◌, ◌≡◌, ◌≤◌}
+use Rattle.std.proofs.lemmas.List.{length-map, take_at}
+use Rattle.std.specs.List.{AllByRecursion, filter, find, remove, slice_get, sum_by}
+use Rattle.hpx_value.specs.Hands.{hand_ids, id_at, session}
+use Rattle.hpx_value.specs.Ids.{bare, same_object}
+use Rattle.hpx_value.specs.Shapes.{IsState}
+use Rattle.hpx_value.specs.Values.{bare_act, bare_state}
+use Rattle.hpx_value.specs.declared.acts.Job.{Job}
+use Rattle.hpx_parcel.specs.Parcels.{HasRightCredit}
+use Rattle.hpx_journal.specs.Data.{Act, Id, Outcome, State}
+use Rattle.hpx_journal.specs.Entries.{Rules, target_of}
+use Rattle.hpx_journal.specs.Local.{is_standing}
+use Rattle.hpx_part.proofs.Keyed.{split_get}
+use Rattle.hpx_part.specs.Data.{Entry, Standing}
+use Rattle.hpx_part.specs.View.{View}
+use Rattle.hpx_tables.proofs.Alls.{all_append, find_passes}
+use Rattle.hpx_tables.specs.Fit.{IsFit}
+use Rattle.hpx_tables.specs.Pending.{Waits, action_of, is_asked, own_ids, waits_with}
+use Rattle.hpx_steps.specs.Items.{Item, Running, StandsHere, Working, weigh}
+use Rattle.hpx_steps.specs.Numbered.{asks_under}
+use Rattle.hpx_steps.specs.Paused.{HasCommits, IsCommit, names_of}
+use Rattle.hpx_steps.specs.Rows.{freeing, hopping, joined, unpaid}
+use Rattle.hpx_steps.specs.Sound.{IsSound, IsTidy, TidyAt, asked_by, asking, given_to, waits_for, worth}
+use Rattle.hpx_steps.specs.Steps.{Suspends}
+use Rattle.hpx_steps.specs.Turn.{Turn, bare_standing, commits, tokens_of, view}
+use Rattle.hpx_steps.proofs.Bare.{all_none, bare_all, no_tokens, none_tokens, not_asked}
+use Rattle.hpx_steps.proofs.Beside.{begin_commits, runs_whole}
+use Rattle.hpx_steps.proofs.Changes.{Changes, among_at, first_comes, holding, objects_change, one_goes, one_turns, running_change, then, working_change}
+use Rattle.hpx_steps.proofs.Hands.{front_place}
+use Rattle.hpx_steps.proofs.Lists.{same_map}
+use Rattle.hpx_steps.proofs.Moved.{fired_leads, leads_on}
+use Rattle.hpx_steps.proofs.Objects.{single_set, stand_set}
+use Rattle.hpx_steps.proofs.Seen.{Sees, sees_leads}
+use Rattle.hpx_steps.proofs.Still.{Stills}
+use Rattle.hpx_steps.proofs.Sums.{ids_append, view_asking, view_worth}
+use Rattle.hpx_steps.proofs.Then.{fewer}
+use Rattle.hpx_steps.proofs.Tidy.{plain_ids, retidy}
+
+bare_fit : (s : State) → IsState s → IsState (bare_state s)
+bare_fit s h = record {
+  values = h.values;
+  refs = h.refs;
+  conts = h.conts;
+  ids = length-map s.ids bare ∙ h.ids;
+  few = omega (arith, length-map s.ids bare, h.few);
+  short = h.short;
+}
+
+module _ (r : Rules) (s : Turn) (entries : List Entry) (h : IsSound r s entries) (i j : ℕ) (job : Job) (outcome : Outcome) (x : Standing)
+    (runs : slice_get s.tables.running i ≡ Some job.action) (stands : slice_get s.tables.objects j ≡ Some x)
+    (found : find (is_standing (target_of job.action)) s.tables.objects ≡ Some x) (at : job.at ≡ s.tables.here) (kind : job.kind ≡ x.object.kind)
+    (state : job.state ≡ x.state) (few : (s.tables.localities ≤ 64) × (job.at < s.tables.localities)) (later : List Id)
+    (none : AllByRecursion (λ (id : Id). id.log ≡ None) later) (places : List ℕ) where
+  abbrev w : Waits
+  w = waits_with job outcome s.tables.localities [] (record { hand = hand_ids job.state job.action later; places = places })
+
+  abbrev own : List Id
+  own = job.state.ids ++ job.action.ids
+
+  abbrev new : Standing
+  new = record { object = x.object; state = bare_state x.state }
+
+  abbrev now : Turn
+  now = record s {
+    working = waits_with job outcome s.tables.localities [] (record { hand = hand_ids job.state job.action later; places = places }) ∷ s.working;
+    tables = record s.tables {
+      running = remove s.tables.running i;
+      objects = set s.tables.objects j (record { object = x.object; state = bare_state x.state });
+    };
+  }
+
+  abbrev less : Turn
+  less = record s { tables = record s.tables { running = remove s.tables.running i } }
+
+  abbrev lent : Turn
+  lent = record less { tables = record less.tables { objects = set s.tables.objects j new } }
+
+  change : Changes (Running job.action ∷ StandsHere x ∷ []) (StandsHere new ∷ Working w ∷ []) s now
+  change = then (Running job.action ∷ []) [] (StandsHere x ∷ []) (StandsHere new ∷ Working w ∷ []) s less now
+      (running_change (Running job.action ∷ []) [] s (remove s.tables.running i) (one_goes (λ y. Running y) s.tables.running i job.action runs))
+      (then (StandsHere x ∷ []) (StandsHere new ∷ []) [] (Working w ∷ []) less lent now
+      (objects_change (StandsHere x ∷ []) (StandsHere new ∷ []) less (set s.tables.objects j new) (one_turns (λ y. StandsHere y) s.tables.objects j x new stands))
+      (working_change [] (Working w ∷ []) lent (w ∷ s.working) (first_comes (λ y. Working y) s.working w)))
+
+  moves : (f : Item → ℕ) → weigh f now + (f (Running job.action) + f (StandsHere x)) ≡ weigh f s + (f (StandsHere new) + f (Working w))
+  moves f = let k : weigh f now + (f (Running job.action) + (f (StandsHere x) + 0)) ≡ weigh f s + (f (StandsHere new) + (f (Working w) + 0)) = change.0 f in omega (arith, k)
+
+  its : IsFit job.action
+  its = h.tidy (Running job.action) (among_at s.tables.running i job.action runs)
+
+  kept : TidyAt s (StandsHere x)
+  kept = h.tidy (StandsHere x) (among_at s.tables.objects j x stands)
+
+  same : same_object (target_of job.action) x.object ≡ true
+  same = find_passes (is_standing (target_of job.action)) s.tables.objects x found
+
+  credit : AllByRecursion HasRightCredit x.state.ids
+  credit = runs_whole s.tables.objects s.tables.running (commits s) h.commits i job.action runs j x stands same
+
+  owned : AllByRecursion HasRightCredit own
+  owned = all_append HasRightCredit job.state.ids job.action.ids (subst (λ (y : State). AllByRecursion HasRightCredit y.ids) (sym state) credit) its.sent.credit
+
+  hand_is : w.hand ≡ own ++ later
+  hand_is = sym (append_assoc job.state.ids job.action.ids later)
+
+  whole : own_ids w ≡ own
+  whole = ap (take (length own)) hand_is ∙ take_at own later (length own) refl
+
+  fit_commit : IsCommit s.tables.here s.tables.localities w
+  fit_commit = record {
+    job = record { action = its; state = subst IsState (sym state) kept.0.state; credit = subst (λ (y : State). AllByRecursion HasRightCredit y.ids) (sym state) credit };
+    here = at;
+    localities = refl;
+    few = few;
+    hand = ap (map bare) whole;
+    within = tt;
+    refused = λ o e. cc;
+    once = λ p lt. ap {B = ℕ} (λ b. cond b 1 0) (sym (not_asked (id_at w.hand p) (subst (λ ids. HasRightCredit (id_at ids p)) (sym hand_is) (front_place HasRightCredit own later p owned lt))));
+  }
+
+  tidy : IsTidy now
+  tidy = holding (TidyAt now) (StandsHere new ∷ Working w ∷ []) s now change.1
+      (λ y m. retidy s.tables.here s.tables.localities s.tables.profile.credit_log s.tables.births s.tables.births s.tables.objects (set s.tables.objects j new) (omega arith)
+      (λ o. stand_set (is_standing o) s.tables.objects j x new stands refl) y (h.tidy y m))
+      ((record { kind = kept.0.kind; state = bare_fit x.state kept.0.state; plain = kept.0.plain }, kept.1), (fit_commit, tt))
+
+  abbrev acts : List Act
+  acts = map action_of (commits s)
+
+  commits_now : HasCommits (set s.tables.objects j new) (remove s.tables.running i) (w ∷ commits s)
+  commits_now = begin_commits s.tables.objects s.tables.running (commits s) h.commits i job.action runs h.places.single w refl j x stands same kind state (plain_ids x kept.0)
+
+  abbrev seen : View
+  seen = record (view s) { fired = map bare_act (remove s.tables.running i ++ job.action ∷ map action_of (commits s)) }
+
+  objects_then : map bare_standing s.tables.objects ≡ (view now).objects
+  objects_then = sym (same_map bare_standing s.tables.objects j x new stands (ap (λ ids. record { object = bare x.object; state = record x.state { ids = ids } }) (bare_all x.state.ids)))
+
+  sees : Sees (record seen { last = s.last }) now
+  sees = record {
+    rest = ap (λ os. record (view now) { objects = os }) objects_then;
+    tokens = λ f fair. omega (
+      arith,
+      view_worth f s,
+      view_worth f now,
+      moves (worth f),
+      ids_append f job.state.ids (job.action.ids ++ later),
+      ids_append f job.action.ids later,
+      ap (λ (y : State). sum_by f (tokens_of y.ids)) state,
+      no_tokens f x.state.ids,
+      none_tokens f later none,
+    );
+    asking = λ o. omega (
+      arith,
+      view_asking o s,
+      view_asking o now,
+      moves (asking o),
+      ap (λ ids. names_of o (filter is_asked ids)) whole,
+      ap (names_of o) (all_none own owned),
+    );
+    asks = λ o. refl;
+    live = λ o home. refl;
+    dead = λ o. omega arith;
+    refusals = λ y k. k;
+    failing = omega arith;
+  }
+
+  pub suspend_stills : Stills r s now
+  suspend_stills = record {
+    same = refl;
+    leads = leads_on r (view s) seen (view now)
+        (fired_leads r (view s) (take i s.tables.running) (drop (suc i) s.tables.running ++ acts) (remove s.tables.running i) acts job.action
+        (ap (map bare_act) (ap (λ xs. xs ++ acts) (split_get s.tables.running i job.action runs) ∙ append_assoc (take i s.tables.running) (job.action ∷ drop (suc i) s.tables.running) acts))
+        (sym (append_assoc (take i s.tables.running) (drop (suc i) s.tables.running) acts)))
+        (sees_leads r seen now sees);
+    tidy = tidy;
+    places = record {
+      serves = λ zero. stand_set (is_standing session) s.tables.objects j x new stands refl (h.places.serves zero);
+      unborn = h.places.unborn;
+      places = h.places.places;
+      single = single_set s.tables.objects j x new stands refl h.places.single;
+    };
+    commits = commits_now;
+    numbered = fewer s now (omega arith) (λ n. omega (arith, moves (asks_under n)));
+    rows = λ row. omega (arith, moves (unpaid row));
+    once = omega (arith, moves hopping);
+    fired = omega (arith, moves joined);
+    frees = λ o. omega (arith, moves (freeing o));
+    asked = λ o n. omega (arith, moves (asked_by s.tables.here o n), moves (waits_for o n));
+    given = λ k d o n. omega (arith, moves (given_to k o n));
+  }
+
+pub suspend_step : (r : Rules) (s s' : Turn) (entries : List Entry) → IsSound r s entries → Suspends s s' → Stills r s s'
+suspend_step r s s' entries h g = subst (Stills r s) (sym g.now)
+    (suspend_stills r s entries h g.i g.j g.job g.outcome g.x g.runs g.stands g.found g.here g.kind g.state g.few g.later g.none g.places)

@@ -1,0 +1,38 @@
+-- What is tidy stays tidy where other objects stand.
+use Rattle.std.proofs.Common.{List, [], ap, arith, length, refl, true, ℕ, ◌∷◌, ◌≡◌, ◌≤◌}
+use Rattle.std.specs.List.{find}
+use Rattle.std.specs.Prelude.{is_some}
+use Rattle.hpx_value.specs.Values.{refs_in}
+use Rattle.hpx_journal.specs.Data.{Id}
+use Rattle.hpx_journal.specs.Entries.{target_of}
+use Rattle.hpx_journal.specs.Local.{is_standing}
+use Rattle.hpx_part.specs.Data.{Standing}
+use Rattle.hpx_tables.specs.Fit.{IsKept}
+use Rattle.hpx_steps.specs.Items.{Accepted, Came, Going, IsDue, Item, Loose, Mailed, OnDesk, Pending, Running, StandsHere, Working}
+use Rattle.hpx_steps.specs.Sound.{IsTidyIn}
+use Rattle.hpx_steps.proofs.Objects.{stand}
+
+pub retidy : (k n log births births' : ℕ) (objects objects' : List Standing) → births ≤ births'
+    → ((o : Id) → is_some (find (is_standing o) objects) ≡ true → is_some (find (is_standing o) objects') ≡ true)
+    → (i : Item) → IsTidyIn k n log births objects i → IsTidyIn k n log births' objects' i
+retidy k n log births births' objects objects' le stand (Accepted act) h = (h.0, h.1, stand (target_of act) h.2)
+retidy k n log births births' objects objects' le stand (StandsHere x) h = (h.0, λ kind home. let low = h.1 kind home in omega (arith, low, le))
+retidy k n log births births' objects objects' le stand (Came p) h = h
+retidy k n log births births' objects objects' le stand (Mailed p) h = h
+retidy k n log births births' objects objects' le stand (OnDesk p) h = h
+retidy k n log births births' objects objects' le stand (Going x) h = h
+retidy k n log births births' objects objects' le stand (Running act) h = h
+retidy k n log births births' objects objects' le stand (Pending w) h = h
+retidy k n log births births' objects objects' le stand (Working w) h = h
+retidy k n log births births' objects objects' le stand (IsDue d) h = h
+retidy k n log births births' objects objects' le stand (Loose id) h = h
+
+-- an object of kind Plain keeps no ids
+none_long : {X : Type 0} (xs : List X) → length xs ≡ 0 → xs ≡ []
+none_long [] h = refl
+none_long (x ∷ xs) h = absurd (omega (arith, h))
+
+pub plain_ids : (x : Standing) → IsKept x → x.object.kind ≡ 7 → x.state.ids ≡ []
+plain_ids x kept kind =
+    let p = kept.plain kind in
+    none_long x.state.ids (omega (arith, kept.state.ids, ap (λ vs. length (refs_in vs)) p.0, ap (λ cs. length cs) p.1))

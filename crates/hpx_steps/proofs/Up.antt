@@ -1,0 +1,135 @@
+-- An id is given up.
+use Rattle.std.proofs.Common.{List, None, Some, [], ap, arith, inl, map, refl, subst, sym, true, ℕ, ◌+◌, ◌∙◌, ◌∷◌, ◌≡◌, ◌≤◌}
+use Rattle.std.proofs.lemmas.List.Sums.{sum_by-cons}
+use Rattle.std.specs.List.{count_by, sum_by}
+use Rattle.std.specs.Prelude.{MatchOption, ◌<◌, ◌==◌}
+use Rattle.hpx_value.specs.Ids.{bare, same_object}
+use Rattle.hpx_parcel.specs.Parcels.{HasCredit, HasRightCredit}
+use Rattle.hpx_journal.specs.Data.{Id, Return}
+use Rattle.hpx_journal.specs.Entries.{Rules}
+use Rattle.hpx_journal.specs.Tokens.{held_token, owed_token, same_token}
+use Rattle.hpx_part.proofs.Credit.{token_own}
+use Rattle.hpx_part.proofs.CreditRows.{follows_up}
+use Rattle.hpx_part.proofs.Keyed.{counts_of, counts_true}
+use Rattle.hpx_part.specs.Data.{Entry, Event, Token, Up}
+use Rattle.hpx_part.specs.View.{View}
+use Rattle.hpx_steps.specs.Items.{Going, Item, Loose, OnDesk, weigh}
+use Rattle.hpx_steps.specs.Mail.{going, is_other, mails, wrote}
+use Rattle.hpx_steps.specs.Numbered.{asks_under}
+use Rattle.hpx_steps.specs.Rows.{Row, causes, freeing, goes, hopping, joined, unpaid, weight}
+use Rattle.hpx_steps.specs.Sound.{IsSound, IsTidy, TidyAt, asked_by, given_to, waits_for, worth}
+use Rattle.hpx_steps.specs.Steps.{GivesUp}
+use Rattle.hpx_steps.specs.Turn.{Turn, bare_due, parcel_asks, parcel_frees, tokens, view}
+use Rattle.hpx_steps.proofs.ByRows.{by_rows}
+use Rattle.hpx_steps.proofs.Calm.{bound_none, counts_still, same_dead, same_seen}
+use Rattle.hpx_steps.proofs.Changes.{Changes, first_goes, holding, loose_change, mail_change, sent_if, then, total}
+use Rattle.hpx_steps.proofs.Cover.{view_covered}
+use Rattle.hpx_steps.proofs.Mails.{held_by, mail_tidy, owed_by, sent_total}
+use Rattle.hpx_steps.proofs.Seen.{Sees, sees_covers, sees_leads}
+use Rattle.hpx_steps.proofs.Sums.{by_own, by_parcel, view_worth}
+use Rattle.hpx_steps.proofs.Then.{Keeps, fewer}
+use Rattle.hpx_steps.proofs.Waits.{mail_waits}
+
+module _ (r : Rules) (s : Turn) (entries : List Entry) (h : IsSound r s entries) (log : ℕ) (id : Id) (rest : List Id) (due : s.due ≡ []) (fresh : s.fresh ≡ [])
+    (first : s.loose ≡ id ∷ rest) (has : id.log ≡ Some log) where
+  abbrev e : Event
+  e = Up (bare id) log
+
+  abbrev now : Turn
+  now = wrote (Up (bare id) log) (mails id.home (Return id) (record s { loose = rest }))
+
+  abbrev sent : List Item
+  sent = sent_if true (is_other s.tables id.home) id.home (Return id)
+
+  change : Changes (Loose id ∷ []) (sent_if true (is_other s.tables id.home) id.home (Return id)) s now
+  change = then (Loose id ∷ []) [] [] sent s (record s { loose = rest }) now
+      (loose_change (Loose id ∷ []) [] s rest (first_goes (λ x. Loose x) s.loose id rest first)) (mail_change true id.home (Return id) (record s { loose = rest }))
+
+  -- a weight before and after, where a Return weighs the same everywhere
+  moves : (w : Item → ℕ) (n : ℕ) → w (OnDesk (Return id)) ≡ n → w (Going (going id.home (Return id))) ≡ n → weigh w now + w (Loose id) ≡ weigh w s + n
+  moves w n a b =
+      let k : weigh w now + (w (Loose id) + 0) ≡ weigh w s + total w sent = change.0 w in
+      omega (arith, k, sent_total w true (is_other s.tables id.home) id.home (Return id) n a b)
+
+  right : HasRightCredit id
+  right = h.tidy (Loose id) (rw first (inl refl))
+
+  credit : HasCredit id
+  credit = credited id.log has right
+    where
+      credited : (l : _) → l ≡ Some log → MatchOption l (id.kind < 16) (λ x. 16 ≤ id.kind) → MatchOption l ⊥ (λ x. 16 ≤ id.kind)
+      credited None e k = absurd (cc)
+      credited (Some x) e k = k
+
+  tidy : IsTidy now
+  tidy = holding (TidyAt s) sent s now change.1 h.tidy (mail_tidy s.tables true id.home (Return id) (λ b. credit) (λ b. refl) (λ b. tt) (λ b c. tt))
+
+  traded : (f : Token → ℕ) → sum_by f (tokens now) + f (held_token (bare id) log) ≡ sum_by f (tokens s) + f (owed_token (bare id) log)
+  traded f = omega (
+    arith,
+    view_worth f s,
+    view_worth f now,
+    held_by f id log has,
+    moves (worth f) (f (owed_token (bare id) log)) (owed_by f id log has) (owed_by f id log has),
+  )
+
+  abbrev seen : View
+  seen = record (view s) { tokens = tokens now; last = Some (Up (bare id) log) }
+
+  sees : Sees seen now
+  sees = record {
+    rest = ap (λ ws. record (view now) { waiting = ws }) (sym (mail_waits true id.home (Return id) (record s { loose = rest }) refl));
+    tokens = λ f weight. refl;
+    asking = λ x. refl;
+    asks = λ x. same_seen x parcel_asks s now (omega (arith, moves (by_parcel (λ p. count_by (same_object x) (parcel_asks p))) 0 refl refl));
+    live = λ x home. refl;
+    dead = λ x. same_dead x s now (omega (arith, moves (by_own (λ p. count_by (same_object x) (parcel_frees p))) 0 refl refl));
+    refusals = λ x k. k;
+    failing = omega arith;
+  }
+
+  pub up_keeps : Keeps r s now e
+  up_keeps = record {
+    leads = (
+      seen,
+      follows_up r (view s) (bare id) refl log (tokens now) (ap (map bare_due) due) fresh
+          (omega (
+            arith,
+            view_worth (counts_of (same_token (held_token (bare id) log))) s,
+            ap (sum_by (λ x. worth (counts_of (same_token (held_token (bare id) log))) (Loose x))) first,
+            sum_by-cons (λ x. worth (counts_of (same_token (held_token (bare id) log))) (Loose x)) id rest,
+            held_by (counts_of (same_token (held_token (bare id) log))) id log has,
+            counts_true (same_token (held_token (bare id) log)) (held_token (bare id) log) (token_own (held_token (bare id) log)),
+          ))
+          (record { sums = λ f weight. omega (arith, traded f, sum_by-cons f (held_token (bare id) log) [], sum_by-cons f (owed_token (bare id) log) []) })
+          (λ before. sees_covers r seen now sees (view_covered now tidy h.commits.lent)),
+      sees_leads r seen now sees,
+    );
+    tidy = tidy;
+    places = h.places;
+    commits = h.commits;
+    numbered = fewer s now (omega arith) (λ n. omega (arith, moves (asks_under n) 0 refl refl));
+    pays = record {
+      rows = λ row. omega (arith, moves (unpaid row) (weight row (Return id)) refl refl, costs row);
+      once = omega (arith, moves hopping 0 refl refl);
+      fired = omega (arith, moves joined 0 refl refl);
+      frees = λ o. omega (arith, moves (freeing o) 0 refl refl);
+    };
+    orders = record {
+      sent = tt;
+      asked = λ o n. omega (arith, moves (asked_by s.tables.here o n) 0 refl refl, moves (waits_for o n) 0 refl refl);
+      given = λ j d o n. omega (arith, moves (given_to j o n) 0 refl (bound_none (id.home == j) 0 refl));
+    };
+    counts = counts_still s now e refl refl refl (λ l. refl);
+  }
+    where
+      costs : (row : Row) → goes r row (Up (bare id) log) + weight row (Return id) ≡ causes r row (Up (bare id) log)
+      costs = by_rows (λ row. goes r row (Up (bare id) log) + weight row (Return id) ≡ causes r row (Up (bare id) log)) refl refl refl refl refl refl refl (λ o. refl)
+
+-- so it is with the step
+pub up_step : (r : Rules) (s s' : Turn) (entries : List Entry) (o : Id) (log : ℕ) → IsSound r s entries → GivesUp s o log s' → Keeps r s s' (Up o log)
+up_step r s s' entries o log h g = subst (λ x. Keeps r s s' (Up x log)) (sym g.object) (subst (λ x. Keeps r s x (Up (bare g.id) log)) (sym again)
+    (up_keeps r s entries h log g.id g.rest g.calm.due g.calm.fresh g.first g.has))
+  where
+    again : s' ≡ wrote (Up (bare g.id) log) (mails g.id.home (Return g.id) (record s { loose = g.rest }))
+    again = g.now ∙ ap (λ x. wrote (Up x log) (mails g.id.home (Return g.id) (record s { loose = g.rest }))) g.object

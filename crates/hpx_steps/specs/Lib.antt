@@ -1,0 +1,12 @@
+pub mod Turn
+pub mod Items
+pub mod Frames
+pub mod Rows
+pub mod Paused
+pub mod Mail
+pub mod Steps
+pub mod Sound
+pub mod Calls
+pub mod Rest
+pub mod Numbered
+pub mod Limits

@@ -1,0 +1,111 @@
+-- Why a turn was refused, and what can come over a fabric that tells.
+use Rattle.std.specs.Prelude.{Result, Ok, Err, IfErr, OnErr, Some, None, sum_by}
+use Rattle.std.proofs.Common.{ℕ, List, ◌≡◌, ◌≢◌, refl, sym, ap, ◌∙◌, subst}
+use Rattle.hpx_value.specs.declared.acts.Acts.{Ghosts}
+use Rattle.hpx_parcel.specs.declared.parcel.Why.{Why}
+use Rattle.hpx_journal.specs.Data.{Id}
+use Rattle.hpx_journal.specs.Entries.{Rules}
+use Rattle.hpx_journal.specs.Natives.{NothingMoves}
+use Rattle.hpx_journal.specs.Weights.{HasRoom}
+use Rattle.hpx_world.specs.declared.turns.WorldFault.{WorldFault}
+use Rattle.hpx_world.specs.declared.turns.WorldFault.TheVariants as faults
+use Rattle.hpx_world.specs.declared.turns.Choice.TheVariants as choices
+use Rattle.hpx_world.specs.declared.turns.Turned.{Turned}
+use Rattle.hpx_world.specs.Away.{Fetches, Keeps}
+use Rattle.hpx_world.specs.Stages.{Stage, Outside}
+use Rattle.std.specs.Result.{IsErrAnd}
+use Rattle.hpx_value.specs.declared.acts.Done.{Done}
+use Rattle.hpx_world.specs.Steps.{DidHandOut}
+use Rattle.hpx_world.specs.Refusals.{Stays, StaysAll, IsFull, Refused, RefusedWork, CanCome, CanComeOfSteps}
+use Rattle.hpx_world.specs.Turns.{IsBadFrame, IsStrangeFrame}
+use Rattle.hpx_world.proofs.Refused.{strange_frame_same}
+
+pub outside_is : (x z : Outside) → z.hand ≡ x.hand → z.flight ≡ x.flight → z.trace ≡ x.trace → z ≡ x
+outside_is x z hand flight trace =
+    ap (λ h. record { hand = h; flight = z.flight; trace = z.trace }) hand
+    ∙ (ap (λ f. record { hand = x.hand; flight = f; trace = z.trace }) flight
+    ∙ ap (λ t. record { hand = x.hand; flight = x.flight; trace = t }) trace)
+
+module _ {A : Type 0} {g : Ghosts A} (r : Result Turned (WorldFault A g)) (x z : Stage) where
+  -- what a Take says of each fault
+  pub record TakeSays : Type 0 where
+    pub err : OnErr r (Stays x z)
+    pub kept : OnErr r (Keeps x.outside.hand x.outside.flight z.outside.flight x.outside.trace z.outside.trace z.outside.hand)
+    pub bad : (to : ℕ) (frame : List ℕ) (at : ℕ) (why : Why) → r ≡ Err (faults.BadFrame to frame at why) → (z.outside.hand ≡ Some (to, frame)) × IsBadFrame frame at why
+    pub strange : (to : ℕ) (frame : List ℕ) (rule : ℕ) (object : Id) (kept : ℕ) → r ≡ Err (faults.Strange to frame rule object kept)
+        → (z.outside.hand ≡ Some (to, frame)) × IsStrangeFrame x.nodes to frame rule object kept
+    pub early : (sent taken : ℕ) → r ≡ Err (faults.EarlyEnd sent taken)
+        → (z.outside.hand ≡ None) × (sent ≡ sum_by (λ t. t.sent) x.nodes) × (taken ≡ sum_by (λ t. t.taken) x.nodes) × (sent ≢ taken)
+        × Fetches x.outside.hand x.outside.flight z.outside.flight x.outside.trace z.outside.trace None
+    pub memory : (u : _) → r ≡ Err (faults.OutOfMemory u) → u ≡ None
+    pub room : (e w : ℕ) (u : _) → r ≢ Err (faults.JournalFull e w u)
+    pub runs : (job : _) → r ≢ Err (faults.NotRun job)
+    pub fabric : r ≡ Err faults.Fabric → (z.outside.hand ≡ x.outside.hand) × (z.outside.flight ≡ x.outside.flight) × (z.outside.trace ≡ x.outside.trace)
+
+-- so it is refused
+pub take_refused : {A : Type 0} {g : Ghosts A} (r : Result Turned (WorldFault A g)) (x z : Stage) → HasRoom x.entries → TakeSays r x z
+    → IfErr r (λ fault. Refused choices.Take fault x z)
+take_refused (Ok t) x z room says = tt
+take_refused (Err faults.Fabric) x z room says =
+    let same = says.fabric refl in (room, (says.err, outside_is x.outside z.outside same.0 same.1 same.2))
+take_refused (Err (faults.BadFrame to frame at why)) x z room says =
+    let b = says.bad to frame at why refl in (room, ((says.err, says.kept), b.0, b.1))
+take_refused (Err (faults.Strange to frame rule object kept)) x z room says =
+    let s = says.strange to frame rule object kept refl in
+    (room, ((says.err, says.kept), s.0, strange_frame_same x.nodes z.nodes to frame rule object kept says.err.tables s.1))
+take_refused (Err (faults.EarlyEnd sent taken)) x z room says =
+    let e = says.early sent taken refl in (room, (says.err, e.0, e.1, e.2, e.3, e.4))
+take_refused (Err (faults.JournalFull e w u)) x z room says = absurd (says.room e w u refl)
+take_refused (Err (faults.OutOfMemory u)) x z room says = (room, ((says.err, says.kept), says.memory u refl))
+take_refused (Err (faults.NotRun job)) x z room says = absurd (says.runs job refl)
+
+-- what can come, where three faults are excluded
+pub can_come : {T A : Type 0} {g : Ghosts A} (r : Result T (WorldFault A g)) (rules : Rules)
+    → ((to : ℕ) (frame : List ℕ) (at : ℕ) (why : Why) → r ≢ Err (faults.BadFrame to frame at why))
+    → (NothingMoves rules → (to : ℕ) (frame : List ℕ) (rule : ℕ) (object : Id) (kept : ℕ) → r ≢ Err (faults.Strange to frame rule object kept))
+    → ((sent taken : ℕ) → r ≢ Err (faults.EarlyEnd sent taken)) → IfErr r (CanCome rules)
+can_come (Ok t) rules bad strange early = tt
+can_come (Err faults.Fabric) rules bad strange early = tt
+can_come (Err (faults.BadFrame to frame at why)) rules bad strange early = bad to frame at why refl
+can_come (Err (faults.Strange to frame rule object kept)) rules bad strange early = λ still. strange still to frame rule object kept refl
+can_come (Err (faults.EarlyEnd sent taken)) rules bad strange early = early sent taken refl
+can_come (Err (faults.JournalFull e w u)) rules bad strange early = tt
+can_come (Err (faults.OutOfMemory u)) rules bad strange early = tt
+can_come (Err (faults.NotRun job)) rules bad strange early = tt
+
+-- ---- stages
+
+pub stage_is : (x z : Stage) → z.nodes ≡ x.nodes → z.entries ≡ x.entries → z.outside ≡ x.outside → z ≡ x
+stage_is x z nodes entries outside =
+    ap (λ o. record { outside = o; nodes = z.nodes; entries = z.entries }) outside
+    ∙ (ap (λ n. record { outside = x.outside; nodes = n; entries = z.entries }) nodes
+    ∙ ap (λ e. record { outside = x.outside; nodes = x.nodes; entries = e }) entries)
+
+pub all_is : (x z : Stage) → StaysAll x z → z ≡ x
+all_is x z h = stage_is x z h.0.tables h.0.journal h.1
+
+-- an error that is handed on is refused as it was
+pub err_then : {T E : Type 0} (r : Result T E) (e : E) (P : E → Type 0) → IsErrAnd r (λ y. y ≡ e) → P e → IfErr r P
+err_then (Ok x) e P h p = tt
+err_then (Err y) e P h p = subst P (sym h) p
+
+-- ---- a Fire with its Finish
+
+-- a Finish is refused behind a Fire
+pub finish_refused : {A : Type 0} {g : Ghosts A} (done : Done A g) (k : ℕ) (x y z : Stage) → HasRoom x.entries → DidHandOut done.localities done.job k x y
+    → (fault : WorldFault A g) → Refused (choices.Finish done) fault y z → RefusedWork k fault x z
+finish_refused {A} {g} done k x y z room out (faults.JournalFull e w u) h =
+    let same = all_is y z h.0 in
+    subst (λ v. RefusedWork {A = A} {g = g} k (faults.JournalFull e w v) x z) (sym h.2)
+    (room, subst (DidHandOut done.localities done.job k x) (sym same) out, subst (λ s. IsFull s e w) (sym same) h.1)
+finish_refused {A} {g} done k x y z room out (faults.OutOfMemory u) h =
+    let same = all_is y z h.1.0 in
+    subst (λ v. RefusedWork {A = A} {g = g} k (faults.OutOfMemory v) x z) (sym h.1.1)
+    (room, subst (λ (s : Stage). HasRoom s.entries) (sym same) h.0, subst (DidHandOut done.localities done.job k x) (sym same) out)
+finish_refused {A} {g} done k x y z room out _ h = absurd h.1
+
+-- steps that end though the world is not quiet: not where nothing moves
+pub ends_early : {A : Type 0} {g : Ghosts A} {P Q : Type 0} (r : Result Unit (WorldFault A g)) (rules : Rules) (sent taken : ℕ)
+    → IfErr r (λ e. (e ≡ faults.EarlyEnd sent taken) × P × Q) → sent ≡ taken → (NothingMoves rules → P → Q → ⊥) → IfErr r (CanComeOfSteps rules)
+ends_early (Ok x) rules sent taken h same never = tt
+ends_early (Err e) rules sent taken h same never = subst (CanComeOfSteps rules) (sym h.0) (same, λ still. never still h.1 h.2)
