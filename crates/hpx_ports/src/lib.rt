@@ -14,7 +14,5 @@ pub mod order;
 pub mod plan;
 pub mod sink;
 pub mod source;
-#[cfg(test)]
-mod tests;
 mod unread;
 pub mod words;
