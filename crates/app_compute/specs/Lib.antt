@@ -1,0 +1,5 @@
+pub mod Types
+pub mod Numbers
+pub mod Acts
+pub mod Ring
+pub mod Load

@@ -1,0 +1,10 @@
+//! Applications that compute: Fibonacci numbers by tasks that make tasks, a ring of points whose parts live on several
+//! localities, and a long session that is made from a number.
+#![tactic(auto)]
+
+pub mod act;
+pub mod codes;
+pub mod laws;
+pub mod load;
+mod partition;
+mod plain;
