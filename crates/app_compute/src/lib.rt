@@ -5,6 +5,8 @@
 pub mod act;
 pub mod codes;
 pub mod laws;
+pub mod line;
 pub mod load;
 mod partition;
 mod plain;
+pub mod session;

@@ -194,7 +194,12 @@ fn handed(cont: &Option<Cont>) -> SendCont
 }
 
 /// The action is not listed.
-fn refused(alloc: Global, here: u32, state: &State, action: &Act) -> Result<Outcome, OutOfMemory>
+pub(crate) fn refused(
+    alloc: Global,
+    here: u32,
+    state: &State,
+    action: &Act,
+) -> Result<Outcome, OutOfMemory>
     ensures { IfOk result (λ outcome. outcome ≡ refused state.now action.now) }
 {
     answered(alloc, here, state, action, Value::Fault(NO_ACTION))
