@@ -4,3 +4,4 @@ pub mod Lines
 pub mod Steps
 pub mod Small
 pub mod PlainKeeps
+pub mod SessionKeeps
