@@ -5,3 +5,10 @@ pub mod Steps
 pub mod Small
 pub mod PlainKeeps
 pub mod SessionKeeps
+pub mod Does
+pub mod Trees
+pub mod TreeSteps
+pub mod NodeSteps
+pub mod FibRuns
+pub mod FibLines
+pub mod FibText

@@ -1,15 +1,15 @@
 -- Actions on the session keep the laws.
-use Rattle.std.specs.Prelude.{ℕ, zero, suc, ℤ, pos, negsuc, Bool, true, false, cond, nat_lt, nat_le, List, [], ◌∷◌, ◌++◌, ◌≡◌, ◌≢◌, ◌+◌, ◌/◌, ◌%◌, ◌<◌, ◌≤◌, ◌==◌, ◌&&◌, Option, Some, None, length, refl, codes, if◌then◌else◌}
+use Rattle.std.specs.Prelude.{ℕ, zero, suc, ℤ, pos, negsuc, Bool, false, nat_lt, nat_le, List, [], ◌∷◌, ◌++◌, ◌≡◌, ◌+◌, ◌/◌, ◌%◌, ◌≤◌, ◌==◌, ◌&&◌, Option, Some, None, length, refl, codes, if◌then◌else◌}
 use Rattle.std.specs.List.{AllByRecursion, count_by}
 use Rattle.std.specs.Fmt.{decimal, digits, digits_onto, digit_glyph, signed_decimal}
-use Rattle.std.proofs.Common.{sym, ap, ◌∙◌, subst, arith, lit≤, inl, inr, length-append}
+use Rattle.std.proofs.Common.{sym, ap, ◌∙◌, arith, lit≤, inr, length-append}
 use Rattle.std.proofs.lemmas.Bool.{cond_both, and_parts, le-ltb}
-use Rattle.hpx_value.specs.Values.{refs_in, bare_state, bare_act, named, message_of}
+use Rattle.hpx_value.specs.Values.{bare_state, bare_act, named, message_of}
 use Rattle.hpx_value.specs.Shapes.{IsAct, IsState, listed}
 use Rattle.hpx_value.specs.Hands.{hand_slots}
 use Rattle.hpx_value.specs.Laws.{KeepsLaws, UsesEachOnce, is_made_slot}
 use Rattle.hpx_value.proofs.Kept.{length-hand_slots, stays_keeps}
-use Rattle.app_compute.specs.Types.{Value, Nothing, Flag, Int, Text, Ref, Fault, Ints, Cont, State, Act, Sending, Outcome}
+use Rattle.app_compute.specs.Types.{Value, Nothing, Flag, Int, Text, Ref, Fault, Ints, Cont, State, Act}
 use Rattle.app_compute.specs.declared.line.Question.{Question}
 use Rattle.app_compute.specs.declared.session.Awaited.{Awaited}
 use Rattle.app_compute.specs.Acts.{is_empty, refused}

@@ -6,3 +6,4 @@ pub mod Load
 pub mod Texts
 pub mod Lines
 pub mod Session
+pub mod FibLaw

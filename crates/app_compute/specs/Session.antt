@@ -1,5 +1,5 @@
 -- What the session does with the lines of the top call that ask for numbers, and with the answers.
-use Rattle.std.specs.Prelude.{ℕ, ℤ, pos, negsuc, Bool, true, false, nat_le, List, [], ◌∷◌, ◌+◌, ◌==◌, ◌&&◌, Option, Some, None, if◌then◌else◌}
+use Rattle.std.specs.Prelude.{ℕ, pos, Bool, true, false, nat_le, List, [], ◌∷◌, ◌+◌, ◌==◌, ◌&&◌, Option, Some, None, if◌then◌else◌}
 use Rattle.hpx_calls.specs.Contents.{count_in}
 use Rattle.app_compute.specs.Types.{Value, Flag, Int, Text, Cont, State, Act, Root, Here, Sending, Outcome}
 use Rattle.app_compute.specs.Acts.{refused, is_empty}

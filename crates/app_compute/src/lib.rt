@@ -4,6 +4,7 @@
 
 pub mod act;
 pub mod codes;
+pub mod fib_law;
 pub mod laws;
 pub mod line;
 pub mod load;
