@@ -12,3 +12,4 @@ pub mod NodeSteps
 pub mod FibRuns
 pub mod FibLines
 pub mod FibText
+pub mod Rings

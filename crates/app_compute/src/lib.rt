@@ -10,4 +10,5 @@ pub mod line;
 pub mod load;
 mod partition;
 mod plain;
+pub mod ring_law;
 pub mod session;
