@@ -5,6 +5,8 @@ use Rattle.std.specs.Fmt.{digits}
 use Rattle.std.proofs.Common.{sym, ap, ◌∙◌, append-nil}
 use Rattle.hpx_calls.specs.Tables.{half, stepped}
 use Rattle.app_compute.specs.Ring
+use Rattle.app_compute.specs.Stencil
+use Rattle.app_compute.specs.declared.ring.Part.{Part}
 use Rattle.app_compute.proofs.Steps.{stepped_first}
 
 -- what follows begins with the first number of what is there
@@ -78,3 +80,9 @@ one_point = refl
 
 in_two_parts : Ring.ring_stepped ((pos 0 ∷ pos 1 ∷ []) ∷ (pos 2 ∷ pos 3 ∷ []) ∷ []) ≡ (pos 2 ∷ pos 1 ∷ []) ∷ (pos 2 ∷ pos 1 ∷ []) ∷ []
 in_two_parts = refl
+
+-- ---- what a session keeps of parts, one more at the end
+
+pub parts_more : (xs : List Part) (x : Part) → Stencil.parts_out (xs ++ x ∷ []) ≡ (Stencil.parts_out xs ++ Stencil.to_out x.to ∷ []) ++ Stencil.row_out x.row ∷ []
+parts_more [] x = refl
+parts_more (y ∷ xs) x = ap (λ rest. Stencil.to_out y.to ∷ Stencil.row_out y.row ∷ rest) (parts_more xs x)

@@ -2,6 +2,7 @@ pub mod Types
 pub mod Numbers
 pub mod Acts
 pub mod Ring
+pub mod Stencil
 pub mod Load
 pub mod Texts
 pub mod Lines

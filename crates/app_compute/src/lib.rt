@@ -10,5 +10,7 @@ pub mod line;
 pub mod load;
 mod partition;
 mod plain;
+pub mod ring;
 pub mod ring_law;
 pub mod session;
+pub mod shape;

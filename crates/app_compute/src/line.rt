@@ -39,7 +39,7 @@ pub fn question_of(alloc: Global, line: &[u8]) -> Result<Option<Question>, OutOf
 }
 
 /// The words of a line.
-fn words(alloc: Global, line: &[u8]) -> Result<Vec<&[u8]>, OutOfMemory>
+pub(crate) fn words(alloc: Global, line: &[u8]) -> Result<Vec<&[u8]>, OutOfMemory>
     ensures { IfOk result (λ words. map (λ w. w.now) words.items ≡ slice_split is_space line.now) }
 {
     Ok(line.split(|b| *b == b' ').collect(alloc)?)
@@ -58,7 +58,7 @@ fn question_by(number: Option<u32>, threshold: Option<u32>) -> Option<Question>
 }
 
 /// The number that a word is, where it is no greater than a bound.
-fn number_in(most: u32, word: &[u8]) -> Option<u32>
+pub(crate) fn number_in(most: u32, word: &[u8]) -> Option<u32>
     ensures { result ≡ number_in most word.now }
 {
     if word.is_empty() {

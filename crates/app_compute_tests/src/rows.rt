@@ -2,7 +2,9 @@ use app_compute::act::compute_act;
 use app_compute::codes::{FIB, SUM};
 use app_compute::line::{fib_line, question_of};
 use app_compute::load::generated;
+use app_compute::ring::{Ring, ring_in, ring_out};
 use app_compute::session::{MARK, computes, session_act};
+use app_compute::shape::{Shape, shape_of, stencil_line};
 use hpx_calls::codes::{PARTITION, STEP, WHERE};
 use hpx_value::codes::{ADD, LINE, PLAIN, SET};
 use hpx_value::gid::{Gid, Gids};
@@ -310,5 +312,59 @@ fn a_made_session_begins_so(rt: HostRuntime) -> Result<(), Fail> {
         }
         assert!(rt; all.as_str() == want, "{all}");
     }
+    Ok(())
+}
+
+#[test]
+fn lines_ask_for_rings(rt: HostRuntime) -> Result<(), Fail> {
+    let alloc = rt.alloc();
+    let line = stencil_line(alloc, 4, 2, 2)?;
+    assert!(rt; line.as_slice() == b"stencil 4 2 2".as_slice());
+    let rows: [(&[u8], Option<Shape>); 6] = [
+        (
+            b"stencil 4 2 2",
+            Some(Shape {
+                points: 4,
+                parts: 2,
+                steps: 2,
+            }),
+        ),
+        (
+            b"stencil 1 1 0",
+            Some(Shape {
+                points: 1,
+                parts: 1,
+                steps: 0,
+            }),
+        ),
+        (b"stencil 4 3 2", None),
+        (b"stencil 1025 1 2", None),
+        (b"stencil 0 1 2", None),
+        (b"stencil 4 0 2", None),
+    ];
+    for (line, want) in rows {
+        assert!(rt; shape_of(alloc, line)? == want);
+    }
+    Ok(())
+}
+
+#[test]
+fn a_ring_is_laid_out_and_read_again(rt: HostRuntime) -> Result<(), Fail> {
+    let alloc = rt.alloc();
+    let ring = Ring {
+        rows: 3,
+        first: 9,
+        size: 2,
+        parts: Items::new(alloc),
+    };
+    let mut values = ring_out(alloc, ring)?;
+    values.push(Value::Ref(0))?;
+    values.push(Value::Unit)?;
+    let read = ring_in(alloc, values.as_slice())?;
+    assert!(rt;
+        matches!(read, Some(ring) if ring.rows == 3 && ring.first == 9 && ring.size == 2 && ring.parts.len() == 1)
+    );
+    values.push(Value::Ref(1))?;
+    assert!(rt; ring_in(alloc, values.as_slice())?.is_none());
     Ok(())
 }
