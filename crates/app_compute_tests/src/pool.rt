@@ -6,7 +6,7 @@ use hpx_value::codes::{LINE, PLAIN, SESSION, SET};
 use hpx_value::exact::Exact;
 use hpx_value::gid::Gid;
 use hpx_value::items::Items;
-use hpx_value::outcome::{Outcome, SendCont, Target};
+use hpx_value::outcome::{Outcome, Reply, SendCont, Sending, Target};
 use hpx_value::value::{Act, Cont, State, Value, Values};
 use std::alloc::Global;
 use std::test::Fail;
@@ -182,6 +182,54 @@ impl Pool {
         }
     }
 
+    // Where the answer to a send goes.
+    fn slot_for(cont: SendCont, slots: &[Slot], made: Gid) -> Option<Slot> {
+        match cont {
+            SendCont::Nothing => None,
+            SendCont::Own(number) => slots.get(usize::from(number)).copied(),
+            SendCont::Made { make: _, slot } => Some(Slot {
+                object: made,
+                number: slot,
+            }),
+            SendCont::Here { slot } => Some(Slot {
+                object: Gid::new(0, SESSION, 1),
+                number: slot,
+            }),
+        }
+    }
+
+    fn send(
+        &mut self,
+        alloc: Global,
+        sending: &Sending,
+        slots: &[Slot],
+        made: Gid,
+    ) -> Result<(), Fail> {
+        let to = match sending.target {
+            Target::Place(_) => made,
+            Target::Root { kind: _, at } if at < self.localities && at < u32::MAX => {
+                Gid::new(at, PLAIN, 1)
+            }
+            Target::Root { .. } => Gid::new(0, PLAIN, 1),
+        };
+        let slot = Pool::slot_for(sending.cont, slots, made);
+        let args = sending.args.duplicate(alloc)?;
+        self.pending
+            .push(message(alloc, to, sending.code, args, slot)?)?;
+        Ok(())
+    }
+
+    fn reply(&mut self, alloc: Global, reply: &Reply, slots: &[Slot]) -> Result<(), Fail> {
+        if let Some(slot) = slots.get(usize::from(reply.cont)) {
+            let mut args = Items::new(alloc);
+            args.push(Value::Int(i64::from(slot.number)))?;
+            args.push(reply.value.duplicate(alloc)?)?;
+            self.pending
+                .push(message(alloc, slot.object, SET, args, None)?)?;
+        }
+        Ok(())
+    }
+
     fn act(&mut self, alloc: Global, action: Act) -> Result<(), Fail> {
         let target = id_at(action.ids.as_slice(), 0);
         let outcome = self.outcome(alloc, target, &action)?;
@@ -190,37 +238,10 @@ impl Pool {
         let state = left(alloc, &outcome, slots.as_slice())?;
         self.keep(target, state);
         for sending in outcome.sends.as_slice() {
-            let to = match sending.target {
-                Target::Place(_) => made,
-                Target::Root { kind, at } if at < self.localities && kind == PLAIN => {
-                    Gid::new(at, PLAIN, 1)
-                }
-                Target::Root { .. } => Gid::new(0, PLAIN, 1),
-            };
-            let slot = match sending.cont {
-                SendCont::Nothing => None,
-                SendCont::Own(number) => slots.get(usize::from(number)).copied(),
-                SendCont::Made { make: _, slot } => Some(Slot {
-                    object: made,
-                    number: slot,
-                }),
-                SendCont::Here { slot } => Some(Slot {
-                    object: Gid::new(0, SESSION, 1),
-                    number: slot,
-                }),
-            };
-            let args = sending.args.duplicate(alloc)?;
-            self.pending
-                .push(message(alloc, to, sending.code, args, slot)?)?;
+            self.send(alloc, sending, slots.as_slice(), made)?;
         }
         for reply in outcome.replies.as_slice() {
-            if let Some(slot) = slots.get(usize::from(reply.cont)) {
-                let mut args = Items::new(alloc);
-                args.push(Value::Int(i64::from(slot.number)))?;
-                args.push(reply.value.duplicate(alloc)?)?;
-                self.pending
-                    .push(message(alloc, slot.object, SET, args, None)?)?;
-            }
+            self.reply(alloc, reply, slots.as_slice())?;
         }
         for print in outcome.prints.as_slice() {
             for byte in print.as_slice() {
