@@ -13,3 +13,4 @@ pub mod FibRuns
 pub mod FibLines
 pub mod FibText
 pub mod Rings
+mod StencilSamples
