@@ -14,3 +14,4 @@ pub mod FibLines
 pub mod FibText
 pub mod Rings
 mod StencilSamples
+pub mod Alone

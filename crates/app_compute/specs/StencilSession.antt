@@ -1,6 +1,6 @@
 -- What a session does with the line `stencil P Q S`, and with the answers to it: it has the parts of a ring made, steps them
 -- together, and prints a row for each step.
-use Rattle.std.specs.Prelude.{ℕ, zero, suc, ℤ, pos, negsuc, Bool, true, false, nat_le, nat_lt, List, [], ◌∷◌, ◌+◌, ◌-◌, ◌*◌, ◌/◌, ◌%◌, ◌==◌, ◌&&◌, Option, Some, None, codes, length, if◌then◌else◌}
+use Rattle.std.specs.Prelude.{ℕ, zero, suc, ℤ, pos, Bool, true, false, nat_le, nat_lt, List, [], ◌∷◌, ◌+◌, ◌-◌, ◌*◌, ◌/◌, ◌%◌, ◌==◌, ◌&&◌, Option, Some, None, codes, length, if◌then◌else◌}
 use Rattle.hpx_calls.specs.Contents.{both, is_none}
 use Rattle.app_compute.specs.Types.{Value, Int, Text, Ref, Fault, Ints, Cont, State, Act, Place, Root, Here, Sending, Outcome}
 use Rattle.app_compute.specs.declared.shape.Shape.{Shape}
