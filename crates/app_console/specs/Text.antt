@@ -2,7 +2,7 @@
 use Rattle.std.specs.Prelude.{ℕ, Bool, true, false, nat_le, List, [], ◌∷◌, ◌++◌, ◌==◌, ◌&&◌, ◌≡◌, Option, Some, None, codes, length, if◌then◌else◌}
 use Rattle.std.specs.Str.{bytes_eq}
 use Rattle.app_console.specs.Console.{words_of, number_of, prompt}
-use Rattle.app_console.specs.PlainText.{is_long, first_of, others_of}
+use Rattle.app_console.specs.Lines.{is_long, first_of, others_of}
 use Rattle.app_console.specs.Types.{Consoles, AllConsoles, Console, Space, AccumulatorConsole, Own}
 use Rattle.app_console.specs.Commands.{help_of}
 use Rattle.app_console.specs.Plain.{Plain, at_boot, line_end, opened}

@@ -6,6 +6,4 @@ mod queue;
 pub mod record;
 pub mod records;
 mod table;
-#[cfg(test)]
-mod tests;
 mod tree;

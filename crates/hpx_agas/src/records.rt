@@ -328,10 +328,4 @@ impl<Q> Records<Q> {
             None => 0,
         }
     }
-
-    /// How many forks a search passes at most.
-    #[cfg(test)]
-    pub(crate) fn depth(&self) -> u64 {
-        self.table.depth()
-    }
 }

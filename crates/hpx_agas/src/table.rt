@@ -204,12 +204,6 @@ impl<Q> Table<Q> {
             None => 0,
         }
     }
-
-    /// How many forks a search passes at most.
-    #[cfg(test)]
-    pub(crate) fn depth(&self) -> u64 {
-        self.lines.depth()
-    }
 }
 
 /// Makes memory for so many forks.

@@ -384,13 +384,4 @@ impl<Q> Tree<Q> {
         self.lay(line);
         item
     }
-
-    /// How many forks a search passes at most.
-    #[cfg(test)]
-    pub(crate) fn depth(&self) -> u64 {
-        match &self.node {
-            Node::Fork(low, _, high) => low.depth().max(high.depth()).saturating_add(1),
-            _ => 0,
-        }
-    }
 }

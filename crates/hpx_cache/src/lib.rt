@@ -2,5 +2,3 @@
 #![tactic(auto)]
 
 pub mod cache;
-#[cfg(test)]
-mod tests;

@@ -3,5 +3,3 @@
 
 pub mod held;
 pub mod ids;
-#[cfg(test)]
-mod tests;

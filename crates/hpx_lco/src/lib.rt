@@ -12,5 +12,3 @@ mod dataflow;
 pub mod laws;
 mod meeting;
 mod promise;
-#[cfg(test)]
-mod tests;

@@ -9,5 +9,3 @@ pub mod act;
 pub mod laws;
 mod maker;
 mod table;
-#[cfg(test)]
-mod tests;

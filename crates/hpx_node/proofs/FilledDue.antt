@@ -2,7 +2,7 @@
 use Rattle.std.proofs.Common.{ℕ, zero, suc, Bool, true, false, cond, List, [], ◌∷◌, ◌++◌, ◌≡◌, ◌+◌, ◌-◌, ◌<◌, ◌≤◌, ◌==◌, ◌&&◌, Option, Some, None, set, length, map, append_assoc, refl, sym, ap, ◌∙◌, arith, inl, inr}
 use Rattle.std.specs.Prelude.{flat_map, MatchOption, nat_le}
 use Rattle.std.specs.Option.{option_map}
-use Rattle.std.specs.List.{filter, sum_by, AllByRecursion}
+use Rattle.std.specs.List.{filter, AllByRecursion}
 use Rattle.std.proofs.lemmas.Bool.{cases_Bool, ne_eqb}
 use Rattle.std.proofs.lemmas.Bool.Decides.{nat_tests}
 use Rattle.std.proofs.lemmas.List.{map-append}
@@ -13,8 +13,6 @@ use Rattle.hpx_value.specs.Shapes.{IsMessage, IsState}
 use Rattle.hpx_value.specs.Hands.{id_at}
 use Rattle.hpx_parcel.specs.Parcels.{HasRightCredit, HasCredit, IsMovable}
 use Rattle.hpx_journal.specs.Data.{Id, Message, State, Due, MessageDue, PrintDue}
-use Rattle.hpx_journal.specs.Names.{due_ids}
-use Rattle.hpx_part.specs.Data.{Token}
 use Rattle.hpx_commit.specs.Deals.{is_managed, named as named_times, managed_places, share, dealt, filled, unused, filled_due, ids_due, unnamed_from}
 use Rattle.hpx_commit.proofs.Naming.{managed}
 use Rattle.hpx_commit.proofs.Fills.{Fits, filled_same, unused_rest, filled_all, unused_all}
@@ -22,7 +20,6 @@ use Rattle.hpx_steps.specs.Turn.{bare_due}
 use Rattle.hpx_tables.specs.Fit.{IsFitDue}
 use Rattle.hpx_tables.proofs.Alls.{all_append, all_set}
 use Rattle.hpx_node.proofs.HandFit.{credit_at}
-use Rattle.hpx_node.proofs.Sums.{weigh, weigh_append}
 
 -- ---- managed ids of appended lists
 
@@ -123,11 +120,6 @@ due_credit [] h = tt
 due_credit (PrintDue bytes ∷ due) h = due_credit due h.1
 due_credit (MessageDue m ∷ due) h = all_append HasRightCredit m.ids (flat_map ids_due due) h.0.sent.credit (due_credit due h.1)
 
-pub same_ids : (due : List Due) → flat_map due_ids due ≡ flat_map ids_due due
-same_ids [] = refl
-same_ids (PrintDue bytes ∷ due) = same_ids due
-same_ids (MessageDue m ∷ due) = ap (λ xs. m.ids ++ xs) (same_ids due)
-
 -- ---- what is dealt has its credits
 
 half_right : (kind : ℕ) (log : Option ℕ) → MatchOption log (kind < 16) (λ l. 16 ≤ kind) → MatchOption (option_map (λ l. l - 1) log) (kind < 16) (λ l. 16 ≤ kind)
@@ -199,26 +191,3 @@ plain_named hand other (x ∷ ps) (y ∷ qs) same all p un =
   where
     tail_is : (a b : Id) (xs ys : List Id) → a ∷ xs ≡ b ∷ ys → xs ≡ ys
     tail_is a b xs ys h = cc
-
--- ---- weights
-
-module _ (f : Token → ℕ) where
-  -- of one id
-  abbrev pub weigh_one : Id → ℕ
-  weigh_one id = weigh f (id ∷ [])
-
-  pub each_weighs : (ids : List Id) → weigh f ids ≡ sum_by weigh_one ids
-  each_weighs [] = refl
-  each_weighs (id ∷ ids) = omega (arith, weigh_append f (id ∷ []) ids, sum_by-cons weigh_one id ids, each_weighs ids)
-
-  unpaid : (id : Id) (log : Option ℕ) → id.log ≡ log → id.kind < 16 → MatchOption log (id.kind < 16) (λ l. 16 ≤ id.kind) → weigh f (id ∷ []) ≡ 0
-  unpaid id None e low h = rw e refl
-  unpaid id (Some l) e low h = absurd (omega (arith, low, h))
-
-  -- only managed ids weigh
-  pub weigh_managed : (ids : List Id) → AllByRecursion HasRightCredit ids → weigh f ids ≡ sum_by weigh_one (managed ids)
-  weigh_managed [] h = refl
-  weigh_managed (id ∷ ids) h = elim (cases_Bool (is_managed id)) [
-    | inl t ↦ rw t (omega (arith, weigh_append f (id ∷ []) ids, sum_by-cons weigh_one id (managed ids), weigh_managed ids h.1))
-    | inr t ↦ rw t (omega (arith, weigh_append f (id ∷ []) ids, weigh_managed ids h.1, unpaid id id.log refl (is_below id.kind t) h.0))
-  ]

@@ -3,14 +3,13 @@ use Rattle.std.proofs.Common.{ℕ, true, false, List, [], ◌∷◌, ◌++◌, �
 use Rattle.std.specs.Prelude.{◌&&◌, not, is_some, MatchOption}
 use Rattle.std.specs.List.{AllByRecursion}
 use Rattle.std.proofs.lemmas.Bool.{cases_Bool, cases_eq, cases_lt}
-use Rattle.std.proofs.lemmas.List.{drop-drop, take-append-drop, length-drop, length-take, length-map}
+use Rattle.std.proofs.lemmas.List.{drop-drop, length-drop, length-take, length-map}
 use Rattle.hpx_value.specs.Ids.{bare}
 use Rattle.hpx_value.specs.Hands.{id_at}
 use Rattle.hpx_value.specs.Mentions.{mentions}
 use Rattle.hpx_value.specs.declared.outcome.Make.{Make}
 use Rattle.hpx_parcel.specs.Parcels.{HasRightCredit, HasCredit, IsBare}
 use Rattle.hpx_journal.specs.Data.{Id}
-use Rattle.hpx_part.specs.Data.{Token}
 use Rattle.hpx_commit.specs.Deals.{is_managed, log_of, named, managed_places, AreWithin}
 use Rattle.hpx_commit.specs.Failures.{action_ids, halves_ahead, state_failed}
 use Rattle.hpx_commit.specs.Stocks.{Stock, IsHalf}
@@ -26,8 +25,6 @@ use Rattle.hpx_tables.specs.Pending.{Waits, ids_named, own_ids, is_asked}
 use Rattle.hpx_tables.proofs.Alls.{all_append, all_parts}
 use Rattle.hpx_node.proofs.FilledDue.{is_least, is_below}
 use Rattle.hpx_node.proofs.Places.{take_parts, take_at, drop_at, left_at, right_at, names_at, all_places, place_of_all}
-use Rattle.hpx_node.proofs.SplitHand.{weigh_bare}
-use Rattle.hpx_node.proofs.Sums.{weigh, weigh_append}
 
 -- a named place of a managed object is of a managed id
 named_managed : (hand : List Id) (ps : List ℕ) (p : ℕ) → 1 ≤ named (managed_places hand ps) p → is_managed (id_at hand p) ≡ true
@@ -166,8 +163,6 @@ module _ (w : Waits) (hand : List Id) (fit : IsFitJob w.job) (made : List Id)
     ahead_few n whole fits within,
   )
 
-  -- ---- weights
-
   made_none : AllByRecursion (λ (id : Id). id.log ≡ None) (take m (drop n first.hand))
   made_none = all_places (λ (id : Id). id.log ≡ None) (take m (drop n first.hand)) (λ p lt.
       let less : p < m = omega (arith, lt, length-take m (drop n first.hand)) in
@@ -178,21 +173,12 @@ module _ (w : Waits) (hand : List Id) (fit : IsFitJob w.job) (made : List Id)
       ∙ (ap (λ (xs : List Id). id_at xs (n + p)) hand_is ∙ right_at (ids_named w) made p))) in
       ap (λ (x : Id). x.log) is ∙ (place_of_all IsBare made p none less).0)
 
-  pub hand_weighs : (f : Token → ℕ) → weigh f hand
-      ≡ weigh f (state_failed w.job.state hand).ids + weigh f (action_ids w.job.state w.job.action hand)
-      + weigh f (halves_ahead w.job.state w.job.action (length w.outcome.makes) hand)
-  hand_weighs f = omega (
-    arith,
-    ap (weigh f) (sym (take-append-drop n hand)),
-    weigh_append f (take n hand) (drop n hand),
-    ap (weigh f) own_parts,
-    weigh_append f (state_failed w.job.state hand).ids (action_ids w.job.state w.job.action hand),
-    ap (weigh f) rest,
-    ap (weigh f) (sym (take-append-drop m (drop n first.hand))),
-    weigh_append f (take m (drop n first.hand)) (drop m (drop n first.hand)),
-    weigh_bare f (take m (drop n first.hand)) made_none,
-    ap (weigh f) (drop-drop m n first.hand ∙ (ap (λ k. drop k first.hand) (sym size) ∙ sym behind)),
-  )
+  -- what would have been made has no credit
+  pub later_none : AllByRecursion (λ (id : Id). id.log ≡ None) (take (length w.outcome.makes) (drop (length w.job.state.ids + length w.job.action.ids) hand))
+  later_none =
+      subst (λ k. AllByRecursion (λ (id : Id). id.log ≡ None) (take makes (drop k hand))) (length-append w.job.state.ids w.job.action.ids)
+      (subst (λ k. AllByRecursion (λ (id : Id). id.log ≡ None) (take k (drop n hand))) (sym makes_is)
+      (subst (λ ids. AllByRecursion (λ (id : Id). id.log ≡ None) (take m ids)) (sym rest) made_none))
 
 -- ---- the ids of its object and of its action, once nothing is asked for
 

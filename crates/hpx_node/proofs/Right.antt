@@ -1,6 +1,6 @@
 -- What a message is that breaks no rule.
 use Rattle.std.specs.List.{list_any}
-use Rattle.std.proofs.Common.{ℕ, Bool, true, false, [], ◌≡◌, ◌≤◌, Option, Some, None, refl, arith, inl, inr, subst}
+use Rattle.std.proofs.Common.{ℕ, Bool, true, false, [], ◌∷◌, ◌≡◌, ◌≤◌, Option, Some, None, refl, arith, inl, inr, subst}
 use Rattle.std.specs.Prelude.{◌&&◌, ◌==◌, ◌-◌, ◌^◌, min, not, nat_lt, if◌then◌else◌, length}
 use Rattle.std.proofs.lemmas.Bool.{cases_Bool}
 use Rattle.std.proofs.lemmas.List.Sums.{sum_by-cons}
@@ -14,7 +14,6 @@ use Rattle.hpx_tables.specs.Tables.{Tables, messages}
 use Rattle.hpx_tables.specs.Kept.{stands_here, waits_here, held_here, count_here, credit_in, ids_held}
 use Rattle.hpx_tables.specs.declared.strange.Broken.{Broken}
 use Rattle.hpx_tables.specs.Strange.{breaks, is_far, is_live, brings_right, broken_return, broken_give, broken_object, broken_near, broken}
-use Rattle.hpx_node.specs.Handled.{with_first}
 
 pub not_broken : {X : Type 0} (x : X) → Some x ≡ None → ⊥
 not_broken x e = cc
@@ -62,9 +61,9 @@ no_travel t (Shipped act state) h = absurd (object_wrong t (Shipped act state) a
 no_travel t _ h = refl
 
 -- what is the first on the desk breaks a rule there, or once it is taken from it
-pub near_popped : (t : Tables) (p : Parcel) → broken_near (with_first p t) p ≡ None → broken_near t p ≡ None
+pub near_popped : (t : Tables) (p : Parcel) → broken_near (record t { desk = p ∷ t.desk }) p ≡ None → broken_near t p ≡ None
 near_popped t (Free o) h =
-    let e : held_here (with_first (Free o) t) o ≡ held_here t o =
+    let e : held_here (record t { desk = Free o ∷ t.desk }) o ≡ held_here t o =
     omega (arith, sum_by-cons (λ q. credit_in o (ids_held q)) (Free o) (messages t)) in
     subst (λ n. (if stands_here t o && (not (waits_here t o) && (n == 0)) then None else breaks 7 (Free o) (min (2 ^ 128 - 1) n)) ≡ None) e h
 near_popped t _ h = h

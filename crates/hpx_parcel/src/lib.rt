@@ -6,7 +6,5 @@ mod fields;
 pub mod laws;
 pub mod parcel;
 pub mod read;
-#[cfg(test)]
-mod tests;
 mod values;
 pub mod write;

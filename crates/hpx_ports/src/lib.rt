@@ -5,6 +5,7 @@ pub mod adapters;
 pub mod fabric;
 pub mod fault;
 mod flight;
+pub mod gate;
 pub mod link;
 pub mod memory_fabric;
 pub mod memory_link;
@@ -14,7 +15,5 @@ pub mod order;
 pub mod plan;
 pub mod sink;
 pub mod source;
-#[cfg(test)]
-mod tests;
 mod unread;
 pub mod words;

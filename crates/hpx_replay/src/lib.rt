@@ -9,8 +9,4 @@ mod frame_rows;
 mod object_rows;
 pub mod replay;
 pub mod space;
-#[cfg(test)]
-mod still_tests;
-#[cfg(test)]
-mod tests;
 mod tokens;

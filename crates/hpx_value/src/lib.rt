@@ -9,6 +9,4 @@ pub mod items;
 pub mod memory;
 pub mod outcome;
 pub mod profile;
-#[cfg(test)]
-mod tests;
 pub mod value;

@@ -1,0 +1,101 @@
+use hpx_commit::mentions::mentions;
+use hpx_value::gid::Gid;
+use hpx_value::items::{Items, Text};
+use hpx_value::memory::OutOfMemory;
+use hpx_value::outcome::{Make, NewState, Outcome, Reply, SendCont, Sending, Target};
+use hpx_value::value::{Act, Cont, State, Value, Values};
+use std::alloc::Global;
+
+fn refs(alloc: Global, places: &[u16]) -> Result<Values, OutOfMemory> {
+    let mut values = Items::new(alloc);
+    for place in places {
+        values.push(Value::Ref(*place))?;
+    }
+    Ok(values)
+}
+
+fn ids(alloc: Global, count: u64) -> Result<Items<Gid>, OutOfMemory> {
+    let mut ids = Items::new(alloc);
+    for number in 1..=count {
+        ids.push(Gid::new(0, 16, number))?;
+    }
+    Ok(ids)
+}
+
+/// A state of two ids, one of them of a kept continuation.
+fn state(alloc: Global) -> Result<State, OutOfMemory> {
+    let mut conts = Items::new(alloc);
+    conts.push(Cont { place: 1, slot: 4 })?;
+    Ok(State {
+        drawn: 0,
+        values: refs(alloc, &[0])?,
+        conts,
+        ids: ids(alloc, 2)?,
+    })
+}
+
+/// An action of three ids: its target, a Ref, and its continuation's.
+fn action(alloc: Global) -> Result<Act, OutOfMemory> {
+    Ok(Act {
+        origin: 0,
+        serial: 1,
+        code: 16,
+        args: refs(alloc, &[1])?,
+        cont: Some(Cont { place: 2, slot: 0 }),
+        ids: ids(alloc, 3)?,
+    })
+}
+
+/// The state keeps its Ref, the action's and its continuation; one send makes an object wait, the other hands the
+/// action's continuation on; and a reply goes there too.
+fn outcome(alloc: Global) -> Result<Outcome, OutOfMemory> {
+    let mut conts = Items::new(alloc);
+    conts.push(0)?;
+    let mut makes = Items::new(alloc);
+    makes.push(Make {
+        kind: 32,
+        values: Items::new(alloc),
+    })?;
+    let mut sends = Items::new(alloc);
+    sends.push(Sending {
+        target: Target::Place(2),
+        code: 16,
+        args: refs(alloc, &[5])?,
+        cont: SendCont::Made { make: 0, slot: 7 },
+    })?;
+    sends.push(Sending {
+        target: Target::Root { kind: 7, at: 0 },
+        code: 48,
+        args: Items::new(alloc),
+        cont: SendCont::Own(1),
+    })?;
+    let mut replies = Items::new(alloc);
+    replies.push(Reply {
+        cont: 1,
+        value: Value::Ref(3),
+    })?;
+    let prints: Items<Text> = Items::new(alloc);
+    Ok(Outcome {
+        state: NewState {
+            drawn: 0,
+            values: refs(alloc, &[0, 3])?,
+            conts,
+        },
+        makes,
+        sends,
+        replies,
+        prints,
+    })
+}
+
+#[test]
+fn names_the_state_first_then_sends_then_replies(rt: HostRuntime) -> Result<(), OutOfMemory> {
+    let alloc = rt.alloc();
+    let state = state(alloc)?;
+    let action = action(alloc)?;
+    assert!(rt; state.ids.len() == 2);
+    assert!(rt; action.ids.len() == 3);
+    let places = mentions(alloc, &state, &action, &outcome(alloc)?)?;
+    assert!(rt; places.as_slice() == [0, 3, 1, 2, 5, 5, 4, 4, 3].as_slice());
+    Ok(())
+}
