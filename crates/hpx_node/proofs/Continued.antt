@@ -93,9 +93,6 @@ module _ (id : Id) (entry : ℕ) (w w' : Waits) (refills : Refills id entry w w'
     eqb-true (length w.asked) 1 one_asked,
   )
 
-  refused_then : w'.refused ≡ None
-  refused_then = ap (λ (v : Waits). v.refused) refills.now ∙ (ap (λ b. cond b (Some (bare id)) w.refused) some_log ∙ none_refused)
-
   pub hand_then : w'.hand ≡ hand_with id entry w
   hand_then = ap (λ (v : Waits). v.hand) refills.now ∙ sym (ap (put_for w.hand id) refills.first)
 

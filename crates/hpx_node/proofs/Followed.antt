@@ -36,7 +36,7 @@ use Rattle.hpx_node.proofs.FailsThen.{found_then, given, left, must_then, only_f
 use Rattle.hpx_node.proofs.FailsThen.{same_place as fails_place, now_there as fails_there}
 use Rattle.hpx_node.proofs.GoesOn.{goes_leads}
 use Rattle.hpx_node.proofs.ReadyStock.{brings_by}
-use Rattle.hpx_node.proofs.Right.{give_right}
+use Rattle.hpx_steps.proofs.Right.{give_right}
 
 -- what follows, what it writes, and that it leads back to rest
 pub record IsContinued (r : Rules) (s : Turn) (effects : List Event) (p : Parcel) (t mid t' : Tables) (entries entries' : List Entry) : Type 0 where

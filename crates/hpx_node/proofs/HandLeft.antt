@@ -24,7 +24,8 @@ use Rattle.hpx_steps.specs.Paused.{whole_stock, first_stock, HasSplit}
 use Rattle.hpx_tables.specs.Pending.{Waits, ids_named, own_ids, is_asked}
 use Rattle.hpx_tables.proofs.Alls.{all_append, all_parts}
 use Rattle.hpx_node.proofs.FilledDue.{is_least, is_below}
-use Rattle.hpx_node.proofs.Places.{take_parts, take_at, drop_at, left_at, right_at, names_at, all_places, place_of_all}
+use Rattle.hpx_steps.proofs.Hands.{names_place, take_place}
+use Rattle.hpx_node.proofs.Places.{take_parts, drop_at, left_at, right_at, all_places, place_of_all}
 
 -- a named place of a managed object is of a managed id
 named_managed : (hand : List Id) (ps : List ℕ) (p : ℕ) → 1 ≤ named (managed_places hand ps) p → is_managed (id_at hand p) ≡ true
@@ -167,7 +168,7 @@ module _ (w : Waits) (hand : List Id) (fit : IsFitJob w.job) (made : List Id)
   made_none = all_places (λ (id : Id). id.log ≡ None) (take m (drop n first.hand)) (λ p lt.
       let less : p < m = omega (arith, lt, length-take m (drop n first.hand)) in
       let is : id_at (take m (drop n first.hand)) p ≡ id_at made p =
-      take_at m (drop n first.hand) p less
+      take_place m (drop n first.hand) p less
       ∙ (drop_at n first.hand p
       ∙ (((ahead_is n whole fits within).rest (n + p) (omega arith) (omega (arith, size, less))).part
       ∙ (ap (λ (xs : List Id). id_at xs (n + p)) hand_is ∙ right_at (ids_named w) made p))) in
@@ -205,8 +206,8 @@ module _ (w : Waits) (log : ℕ) (fit : IsFitJob w.job) (split : HasSplit log w)
   kind_is : (p : ℕ) → p < own → (id_at w.hand p).kind ≡ (id_at start.hand p).kind
   kind_is p lt =
       ap (λ (x : Id). x.kind)
-      (ap bare (sym (take_at own w.hand p lt))
-      ∙ (names_at (own_ids w) (ids_named w) names p ∙ ap bare (sym (ap (λ (xs : List Id). id_at xs p) start_is ∙ left_at (ids_named w) split.made p lt))))
+      (ap bare (sym (take_place own w.hand p lt))
+      ∙ (names_place (own_ids w) (ids_named w) names p ∙ ap bare (sym (ap (λ (xs : List Id). id_at xs p) start_is ∙ left_at (ids_named w) split.made p lt))))
 
   low_none : (p : ℕ) → p < own → (id_at w.hand p).kind < 16 → is_some (id_at w.hand p).log ≡ false
   low_none p lt low =
@@ -235,7 +236,7 @@ module _ (w : Waits) (log : ℕ) (fit : IsFitJob w.job) (split : HasSplit log w)
   own_right : AllByRecursion HasRightCredit (own_ids w)
   own_right = all_places HasRightCredit (own_ids w) (λ p lt.
       let less : p < own = omega (arith, lt, length-take own w.hand) in
-      subst HasRightCredit (sym (take_at own w.hand p less)) (own_at p less))
+      subst HasRightCredit (sym (take_place own w.hand p less)) (own_at p less))
 
   both_right : AllByRecursion HasRightCredit (state_failed w.job.state w.hand).ids × AllByRecursion HasRightCredit (action_ids w.job.state w.job.action w.hand)
   both_right = all_parts HasRightCredit (state_failed w.job.state w.hand).ids (action_ids w.job.state w.job.action w.hand)

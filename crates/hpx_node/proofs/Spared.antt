@@ -13,7 +13,8 @@ use Rattle.hpx_steps.specs.Calls.{effects}
 use Rattle.hpx_steps.specs.Rows.{kind_of}
 use Rattle.hpx_node.specs.Changes.{OnlySpare, Writes}
 use Rattle.hpx_node.proofs.Arrived.{effects_desk}
-use Rattle.hpx_node.proofs.Right.{near_right, near_popped}
+use Rattle.hpx_steps.proofs.Right.{near_right}
+use Rattle.hpx_node.proofs.Right.{near_popped}
 use Rattle.hpx_node.proofs.Same.{writes_then}
 
 -- what is said of an answer that is no error
@@ -40,7 +41,7 @@ module _ (t m : Tables) (p q : Parcel) (rest : List Parcel) (x : Option Broken) 
   pub mail_right : broken_near (record m { desk = rest }) p ≡ None
   mail_right =
       let at : broken_near (record t { desk = p ∷ rest }) p ≡ None =
-      subst (λ (d : List Parcel). broken_near (record t { desk = d }) p ≡ None) first_there (near_right t p none_here) in
+      subst (λ (d : List Parcel). broken_near (record t { desk = d }) p ≡ None) first_there (near_right t p none_here).1 in
       subst (λ (y : Tables). broken_near (record y { desk = rest }) p ≡ None) (sym same) (near_popped (record t { desk = rest }) p at)
 
 -- what is written, with what follows

@@ -1,5 +1,5 @@
 -- The hand of a commit that waits: what its job had, split ahead.
-use Rattle.std.proofs.Common.{ℕ, zero, suc, true, List, [], ◌∷◌, ◌++◌, ◌≡◌, ◌≤◌, ◌<◌, Option, Some, None, length, length-append, append_assoc, refl, sym, ap, ◌∙◌, arith, subst}
+use Rattle.std.proofs.Common.{ℕ, true, List, ◌++◌, ◌≡◌, ◌≤◌, ◌<◌, Option, Some, None, length, length-append, append_assoc, refl, sym, ap, ◌∙◌, arith, subst}
 use Rattle.std.specs.Prelude.{MatchOption, is_some, nat_le}
 use Rattle.std.specs.List.{AllByRecursion}
 use Rattle.std.proofs.lemmas.Bool.Decides.{nat_tests}
@@ -11,16 +11,12 @@ use Rattle.hpx_commit.specs.Deals.{is_managed, log_of, named, AreWithin}
 use Rattle.hpx_commit.specs.Stocks.{Stock, ahead, Lasting}
 use Rattle.hpx_commit.proofs.Ahead.{ahead_is}
 use Rattle.hpx_commit.proofs.Short.{place_bare, place_some, ahead_lasts, short_is}
+use Rattle.hpx_steps.proofs.Hands.{front_place}
 use Rattle.hpx_node.specs.Asks.{own_many}
 use Rattle.hpx_tables.specs.Jobs.{IsFitJob}
 use Rattle.hpx_tables.proofs.Alls.{all_append}
 
 -- ---- lists
-
-front_at : (P : Id → Type 0) (xs ys : List Id) (p : ℕ) → AllByRecursion P xs → p < length xs → P (id_at (xs ++ ys) p)
-front_at P [] ys p h lt = absurd (omega (arith, lt))
-front_at P (x ∷ xs) ys zero h lt = h.0
-front_at P (x ∷ xs) ys (suc p) h lt = front_at P xs ys p h.1 (omega (arith, lt))
 
 pub is_high : (kind : ℕ) → nat_le 16 kind ≡ true → 16 ≤ kind
 is_high kind e = grind (arith, nat_tests)
@@ -64,7 +60,7 @@ module _ (job : Job) (later : List Id) (places : List ℕ) (fit : IsFitJob job)
       let empty = short_is (own_many job) start fits within p lt was in
       let few : 2 ≤ named places p = omega (arith, empty.1, (ahead_is (own_many job) start fits within).first p lt) in
       let right : HasRightCredit (id_at start.hand p) =
-      subst (λ (xs : List Id). HasRightCredit (id_at xs p)) (sym hand_is) (front_at HasRightCredit own later p own_right lt) in
+      subst (λ (xs : List Id). HasRightCredit (id_at xs p)) (sym hand_is) (front_place HasRightCredit own later p own_right lt) in
       let kind : 16 ≤ (id_at start.hand p).kind = is_high (id_at start.hand p).kind (managed few) in
       let same : (id_at stock.hand p).kind ≡ (id_at start.hand p).kind =
       ap (λ (x : Id). x.kind) (place_bare (own_many job) start fits within p inside) in

@@ -21,7 +21,8 @@ use Rattle.hpx_node.specs.Next.{HasFollowed, IsNext, MayFollow}
 use Rattle.hpx_node.proofs.Arrived.{deals_rest, ins_few, leaves_from}
 use Rattle.hpx_node.proofs.Continued.{IsGiven, given_frame, given_mail}
 use Rattle.hpx_node.proofs.Followed.{IsRight, is_continued, may_follow}
-use Rattle.hpx_node.proofs.Right.{near_right, no_travel}
+use Rattle.hpx_steps.proofs.Right.{near_right}
+use Rattle.hpx_node.proofs.Right.{no_travel}
 use Rattle.hpx_node.proofs.Spared.{cleared_writes, first_there, none_here, took_writes}
 
 pub at_rest : (act_of : ℕ → ℕ → ℕ → State → Act → Outcome) (t : Tables) (entries : List Entry) → Stands act_of t entries → StandsAtRest (rules_of act_of t.localities t.profile) t entries
@@ -66,7 +67,7 @@ module _ (act_of : ℕ → ℕ → ℕ → State → Act → Outcome) (t s mid :
     (right : broken t p ≡ None) (next : IsNext act_of t p x) (deals : DealsWith p (record s { taken = s.taken + 1 }) mid)
     (h : Stands act_of t b.entries) where
   is_right : IsRight t p
-  is_right = record { tidy = at_rest_tidy act_of t b.entries h; fit = fit; right = near_right t p right }
+  is_right = record { tidy = at_rest_tidy act_of t b.entries h; fit = fit; right = (near_right t p right).1 }
 
   gives : IsGiven p (record t { taken = t.taken + 1; desk = t.desk }) mid
   gives = given_frame t s mid p same.tables deals
@@ -99,7 +100,7 @@ module _ (act_of : ℕ → ℕ → ℕ → State → Act → Outcome) (t s mid :
             sent = still_sent ∙ (sent ∙ ap (λ (v : Tables). v.sent) same.tables);
           },
           subst (Stands act_of t') (sym wrote.grows)
-              (frame_stands act_of t t' b.entries h lasts p frame (effects t p ++ k.more) spelled fit (no_travel t p (near_right t p right)) k.leads),
+              (frame_stands act_of t t' b.entries h lasts p frame (effects t p ++ k.more) spelled fit (no_travel t p (near_right t p right).1) k.leads),
         )
 
 -- ---- a message from the desk
@@ -114,7 +115,7 @@ module _ (act_of : ℕ → ℕ → ℕ → State → Act → Outcome) (t m mid :
   its_right = none_here t m p q rest o same.tables first is told none
 
   mail_is_right : IsRight t p
-  mail_is_right = record { tidy = at_rest_tidy act_of t b.entries h; fit = fit; right = near_right t p its_right }
+  mail_is_right = record { tidy = at_rest_tidy act_of t b.entries h; fit = fit; right = (near_right t p its_right).1 }
 
   mail_gives : IsGiven p (record t { taken = t.taken; desk = rest }) mid
   mail_gives = given_mail t m mid p rest same.tables deals

@@ -4,7 +4,7 @@ use Rattle.hpx_parcel.proofs.Frames.{parcel_spelled}
 use Rattle.hpx_steps.specs.Rest.{IsTidy, Stands}
 use Rattle.hpx_tables.specs.Tables.{Tables}
 use Rattle.hpx_node.proofs.Followed.{next_gives}
-use Rattle.hpx_node.proofs.Right.{near_right}
+use Rattle.hpx_steps.proofs.Right.{near_right}
 use Rattle.hpx_node.proofs.Same.{same_too}
 use Rattle.hpx_node.proofs.Turned.{are_few, at_rest_tidy, frame_follows, frame_takes, still_few}
 use Rattle.hpx_node.proofs.Turns.{adds_none}
@@ -18,7 +18,7 @@ pub next-requires-clause-few : goal.next-requires-clause-few
 next-requires-clause-few g c = (are_few g.A.Acts.act_of _ _ c.requires.room c.requires.stands).births
 
 pub next-requires-clause-right : goal.next-requires-clause-right
-next-requires-clause-right g c = near_right c.args.self.now.tables c.in-Ok.parcel (sym c.broken.ensures ∙ c.in_default.is)
+next-requires-clause-right g c = (near_right c.args.self.now.tables c.in-Ok.parcel (sym c.broken.ensures ∙ c.in_default.is)).1
 
 pub enter_frame-requires-clause-few : goal.enter_frame-requires-clause-few
 enter_frame-requires-clause-few g c =
