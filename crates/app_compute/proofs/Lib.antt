@@ -1,7 +1,5 @@
 pub mod Answers
-pub mod Parts
 pub mod Lines
-pub mod Steps
 pub mod Small
 pub mod PlainKeeps
 pub mod SessionKeeps
@@ -13,3 +11,5 @@ pub mod FibRuns
 pub mod FibLines
 pub mod FibText
 pub mod Rings
+mod StencilSamples
+pub mod Alone

@@ -7,7 +7,11 @@ use Rattle.hpx_calls.specs.Tables.{half, stepped}
 use Rattle.app_compute.specs.Ring
 use Rattle.app_compute.specs.Stencil
 use Rattle.app_compute.specs.declared.ring.Part.{Part}
-use Rattle.app_compute.proofs.Steps.{stepped_first}
+
+-- the first number, and then the others
+stepped_first : (left x right : ℤ) (xs : List ℤ) → stepped left (x ∷ xs) right ≡ half (left +ℤ Ring.first_or xs right) ∷ stepped x xs right
+stepped_first left x right [] = refl
+stepped_first left x right (y ∷ xs) = refl
 
 -- what follows begins with the first number of what is there
 first_behind : (xs ys : List ℤ) (other : ℤ) → Ring.first_or (xs ++ ys) other ≡ Ring.first_or xs (Ring.first_or ys other)

@@ -1,11 +1,12 @@
 -- The rules under which a journal of `fib` is judged.
-use Rattle.std.specs.Prelude.{ℕ, pos, true, List, ◌∷◌, ◌++◌, ◌≡◌, ◌<◌, ◌≤◌}
+use Rattle.std.specs.Prelude.{ℕ, pos, true, List, Option, ◌==◌, if◌then◌else◌, ◌∷◌, ◌++◌, ◌≡◌, ◌<◌, ◌≤◌}
+use Rattle.hpx_journal.specs.Data.{Parcel}
 use Rattle.hpx_journal.specs.Entries.{Rules}
 use Rattle.hpx_journal.specs.Laws.{HasGrammar, KeepsActLaws}
 use Rattle.hpx_journal.specs.Pool.{IsBlind}
 use Rattle.hpx_calls.specs.Outcomes.{outcome_of}
-use Rattle.app_compute.specs.Types.{State, Act}
-use Rattle.app_compute.specs.Acts.{plain_outcome}
+use Rattle.app_compute.specs.Types.{State, Act, Outcome}
+use Rattle.app_compute.specs.Acts.{compute_outcome, plain_outcome, refused}
 use Rattle.app_compute.specs.Numbers.{fibonacci}
 use Rattle.app_compute.specs.Texts.{fibonacci_text}
 use Rattle.app_compute.specs.Lines.{fib_line}
@@ -24,6 +25,21 @@ pub record IsJudged (r : Rules) : Type 0 where
   pub grammar : HasGrammar r
   pub laws : KeepsActLaws r
   pub blind : IsBlind r
+
+-- acts with no other session than the one that computes
+abbrev pub acts_alone : ℕ → ℕ → ℕ → State → Act → Outcome
+acts_alone n kind here s a =
+    if kind == 1 then (if computes s a then session_outcome s a else refused s a) else compute_outcome n kind here s a
+
+-- the rules of their journals, at n localities, whatever bytes spell
+abbrev pub judging_alone : ℕ → ℕ → ℕ → (List ℕ → Option Parcel) → Rules
+judging_alone n credit_log credit_limit parcel_of = record {
+  localities = n;
+  credit_log = credit_log;
+  credit_limit = credit_limit;
+  parcel_of = parcel_of;
+  outcome_of = acts_alone n;
+}
 
 -- a number up to 92, and a threshold from 2 to 92
 pub record IsQuestion (n t : ℕ) : Type 0 where

@@ -7,4 +7,5 @@ pub mod Load
 pub mod Texts
 pub mod Lines
 pub mod Session
+pub mod StencilSession
 pub mod FibLaw

@@ -12,5 +12,5 @@ pub use Rattle.hpx_value.specs.declared.outcome.Make.{Make}
 pub use Rattle.hpx_value.specs.declared.outcome.Sending.{Sending}
 pub use Rattle.hpx_value.specs.declared.outcome.Outcome.{Outcome}
 pub use Rattle.hpx_calls.specs.declared.content.Content.{Content}
-pub use Rattle.hpx_calls.specs.declared.content.Content.TheVariants.{Row, Unreadable}
+pub use Rattle.hpx_calls.specs.declared.content.Content.TheVariants.{Unreadable}
 pub use Rattle.hpx_calls.specs.declared.effect.Effect.TheVariants.{Answers}

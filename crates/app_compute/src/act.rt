@@ -2,8 +2,8 @@
 ghost use Rattle.std.specs.Prelude.{◌≡◌, ◌<◌, ◌⊎◌, IfOk};
 ghost use Rattle.app_compute.specs.Acts.{compute_outcome};
 
-use crate::partition::partition_act;
 use crate::plain::plain_act;
+use hpx_numbers::act::number_act;
 use hpx_value::codes::PLAIN;
 use hpx_value::memory::OutOfMemory;
 use hpx_value::outcome::Outcome;
@@ -28,6 +28,6 @@ pub fn compute_act(
     if kind == PLAIN {
         plain_act(alloc, here, localities, state, action)
     } else {
-        partition_act(alloc, here, localities, state, action)
+        number_act(alloc, kind, here, state, action)
     }
 }

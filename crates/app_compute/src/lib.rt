@@ -8,7 +8,6 @@ pub mod fib_law;
 pub mod laws;
 pub mod line;
 pub mod load;
-mod partition;
 mod plain;
 pub mod ring;
 pub mod ring_law;

@@ -361,9 +361,10 @@ fn a_ring_is_laid_out_and_read_again(rt: HostRuntime) -> Result<(), Fail> {
     values.push(Value::Ref(0))?;
     values.push(Value::Unit)?;
     let read = ring_in(alloc, values.as_slice())?;
-    assert!(rt;
-        matches!(read, Some(ring) if ring.rows == 3 && ring.first == 9 && ring.size == 2 && ring.parts.len() == 1)
-    );
+    assert!(rt; read.is_some());
+    if let Some(ring) = &read {
+        assert!(rt; ring.rows == 3 && ring.first == 9 && ring.size == 2 && ring.parts.len() == 1);
+    }
     values.push(Value::Ref(1))?;
     assert!(rt; ring_in(alloc, values.as_slice())?.is_none());
     Ok(())
