@@ -161,7 +161,7 @@ module _ {A : Type 0} {g : Ghosts A} where
           taken = t.3 ∙ ap (sum_by (λ (n : Tables). n.taken)) (sym nodes);
           why = inl t.4;
         },
-        record { last = y; goes = goes; thus = t.0 },
+        record { last = y; goes = goes; thus = (t.0, t.5) },
       )
   drain_refuses act_of x y z goes (faults.JournalFull e w u) h = record { last = y; goes = goes; thus = h }
   drain_refuses act_of x y z goes (faults.OutOfMemory u) h = record { last = y; goes = goes; thus = h }

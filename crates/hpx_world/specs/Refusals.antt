@@ -51,7 +51,8 @@ RunsNothing (choices.Fire k) = ⊥
 RunsNothing (choices.Finish done) = ⊥
 RunsNothing _ = Unit {0}
 
--- a turn that leaves the fabric alone: all but a Pump that sends, or tries to, and a Take with an empty hand
+-- a turn of which it is known that it leaves the fabric alone: all but a Pump that found a message, or was refused, and a Take with
+-- an empty hand
 abbrev pub IsApart : {A E : Type 0} {g : Ghosts A} → Choice A g → Result Turned E → Stage → Type 0
 IsApart (choices.Pump k) result x = result ≡ Ok turned.Empty
 IsApart choices.Take result x = x.outside.hand ≢ None
@@ -75,6 +76,10 @@ StaysAll x z = Stays x z × (z.outside ≡ x.outside)
 -- save that what was fetched is in hand
 abbrev pub StaysButHand : Stage → Stage → Type 0
 StaysButHand x z = Stays x z × Keeps x.outside.hand x.outside.flight z.outside.flight x.outside.trace z.outside.trace z.outside.hand
+
+-- nor was a frame there to be fetched
+abbrev pub FindsNone : Stage → Stage → Type 0
+FindsNone x z = Stays x z × Fetches x.outside.hand x.outside.flight z.outside.flight x.outside.trace z.outside.trace None
 
 -- the journal has no room for a turn, and these are its numbers
 pub record IsFull (x : Stage) (entries weight : ℕ) : Type 0 where
@@ -147,10 +152,10 @@ RefusedStep {A} {g} (faults.Strange to frame rule object kept) x z =
     ⊎ (NoneFires x × RefusedDesk {A = A} {g = g} to (faults.Strange to frame rule object kept) x z))
 RefusedStep {A} {g} (faults.EarlyEnd sent taken) x z = HasRoom x.entries × NonePumps x × RefusedTake {A = A} {g = g} (faults.EarlyEnd sent taken) x z
 
--- steps, and then one that is refused; or nothing applies, no job is out, and the world is not quiet
+-- steps, and then one that is refused; or nothing applies and no frame was there, no job is out, and the world is not quiet
 abbrev pub RefusedDrain : {A : Type 0} {g : Ghosts A} → Meaning → WorldFault A g → Stage → Stage → Type 0
 RefusedDrain act_of (faults.EarlyEnd sent taken) x z =
-    HasRoom z.entries × IsEarly z.nodes z.outside.hand z.outside.flight sent taken × GoesTo act_of x (λ last. Stays last z)
+    HasRoom z.entries × IsEarly z.nodes z.outside.hand z.outside.flight sent taken × GoesTo act_of x (λ last. FindsNone last z)
 RefusedDrain act_of fault x z = GoesTo act_of x (λ last. RefusedStep fault last z)
 
 -- no job is handed back
