@@ -14,7 +14,7 @@ use Rattle.app_console.specs.Types.{Consoles, Console, AccumulatorConsole}
 use Rattle.app_console.specs.Console.{prompt}
 use Rattle.app_console.specs.Judging.{judging}
 use Rattle.app_console.specs.Plain.{at_boot, opened}
-use Rattle.app_console.specs.PlainText.{IsFront, is_long, opening, first_of, others_of}
+use Rattle.app_console.specs.Lines.{IsFront, is_long, opening, first_of, others_of}
 use Rattle.app_console.specs.Text.{IsUsers, marked, written, lines_text}
 use Rattle.app_console.proofs.SessionLaws.{keeps_laws, is_blind}
 use Rattle.app_console.proofs.SessionText.{whole_from_boot, broken_from_boot, opening_front, whole_text, broken_text_off}

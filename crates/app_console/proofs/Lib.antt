@@ -1,11 +1,5 @@
 pub mod Numbers
 pub mod Numbering
-mod PlainRows
-pub mod Only
-pub mod Phases
-pub mod Opening
-pub mod TextSession
-pub mod TextLaws
 pub mod Layouts
 pub mod Rests
 mod Samples
@@ -30,3 +24,4 @@ pub mod Namings
 pub mod Plans
 pub mod SessionKeeps
 pub mod SessionLaws
+pub mod NothingMoves

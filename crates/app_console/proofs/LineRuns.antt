@@ -9,7 +9,7 @@ use Rattle.app_console.specs.Types.{Consoles, Console}
 use Rattle.app_console.specs.Session
 use Rattle.app_console.specs.Judging.{judging}
 use Rattle.app_console.specs.Plain.{Plain, End, call_by, call_end, line_end}
-use Rattle.app_console.specs.PlainText.{IsFront}
+use Rattle.app_console.specs.Lines.{IsFront}
 use Rattle.app_console.proofs.Comings.{times}
 use Rattle.app_console.proofs.Slots.{times_add}
 use Rattle.app_console.proofs.Effects.{Answering, concat-append}

@@ -12,7 +12,7 @@ use Rattle.app_console.specs.Console.{prompt}
 use Rattle.app_console.specs.Session
 use Rattle.app_console.specs.Judging.{judging}
 use Rattle.app_console.specs.Plain.{Plain, End, at_boot, line_end, opened}
-use Rattle.app_console.specs.PlainText.{IsFront, is_long, opening, first_of, others_of}
+use Rattle.app_console.specs.Lines.{IsFront, is_long, opening, first_of, others_of}
 use Rattle.app_console.specs.Text.{too_long, after_line, text_of_line, lines_text, marked, written, IsUsers}
 use Rattle.app_console.proofs.LineSteps.{IsFirst}
 use Rattle.app_console.proofs.LineRuns.{block, front}

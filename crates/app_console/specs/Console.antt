@@ -1,12 +1,10 @@
--- The accumulator's console: the words of a line, the command that it is, and what is printed.
+-- Words, numbers, and the texts of numbers and faults.
 use Rattle.std.specs.Prelude.{ℕ, ℤ, pos, negsuc, Bool, true, false, nat_lt, List, [], ◌∷◌, ◌++◌, ◌^◌, ◌==◌, ◌&&◌, ◌||◌, Option, Some, None, codes, if◌then◌else◌}
 use Rattle.std.specs.List.{filter, slice_split}
 use Rattle.std.specs.Str.{bytes_eq, all_ascii_digits}
 use Rattle.std.specs.Str.Parse.{digits_value}
 use Rattle.std.specs.Fmt.{signed_decimal}
 use Rattle.std.proofs.Math.IntN.{neg_ℤ}
-use Rattle.app_console.specs.declared.console.Command.{Command}
-use Rattle.app_console.specs.declared.console.Command.TheVariants.{Add, Query, Reset, Help, BadNumber, BadCommand}
 
 -- ---- words
 
@@ -43,52 +41,11 @@ abbrev pub number_of : List ℕ → Option ℤ
 number_of [] = None
 number_of (b ∷ bs) = if b == 45 then signed (λ n. neg_ℤ (pos n)) bs else signed pos (b ∷ bs)
 
--- ---- commands
-
--- what `add` asks for, by its number
-abbrev pub amount_of : Option ℤ → Command
-amount_of None = BadNumber
-amount_of (Some z) = Add z
-
--- `query`, `reset` and `help`
-abbrev pub word_command : List ℕ → Command
-word_command word =
-    if bytes_eq word (codes "query") then Query
-    else if bytes_eq word (codes "reset") then Reset
-    else if bytes_eq word (codes "help") then Help
-    else BadCommand
-
--- one of these, or `add N`
-abbrev pub command_in : List (List ℕ) → Command
-command_in (word ∷ []) = word_command word
-command_in (word ∷ amount ∷ []) = if bytes_eq word (codes "add") then amount_of (number_of amount) else BadCommand
-command_in _ = BadCommand
-
--- the command that a line is
-abbrev pub command_of : List ℕ → Command
-command_of line = command_in (words_of line)
-
 -- ---- texts
-
--- the commands: printed first, and for `help`
-abbrev pub commands : List ℕ
-commands = codes "commands: reset, add [amount], query, help, quit\n"
 
 -- what stands before a line
 abbrev pub prompt : List ℕ
 prompt = codes "> "
-
--- printed where the accumulator has not come yet
-abbrev pub not_ready : List ℕ
-not_ready = codes "error: not ready\n"
-
--- printed for an amount that is no number
-abbrev pub bad_number : List ℕ
-bad_number = codes "error: bad number\n"
-
--- printed for a line that is no command
-abbrev pub bad_command : List ℕ
-bad_command = codes "error: bad command\n"
 
 -- a number, in digits
 abbrev pub number_text : ℤ → List ℕ

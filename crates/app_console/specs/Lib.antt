@@ -1,9 +1,5 @@
-pub mod Data
 pub mod Console
-pub mod Acts
-pub mod ActsLaws
-pub mod PlainText
-pub mod TextLaw
+pub mod Lines
 pub mod Types
 pub mod Commands
 pub mod Desks

@@ -168,11 +168,6 @@ abbrev pub texts_of : Console → ℕ → Plain → List (List ℕ) → List (Li
 texts_of c n v [] = []
 texts_of c n v (line ∷ lines) = (line_end c n v line).text ∷ texts_of c n (line_end c n v line).plain lines
 
--- what is left after them
-abbrev pub after_lines : Console → ℕ → Plain → List (List ℕ) → Plain
-after_lines c n v [] = v
-after_lines c n v (line ∷ lines) = after_lines c n (line_end c n v line).plain lines
-
 -- the one line that the top call feeds an accumulator's session first
 abbrev pub opened : ℕ → Plain
 opened n = (line_end Own n (at_boot n) (codes "open")).plain

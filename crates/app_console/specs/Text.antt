@@ -1,11 +1,9 @@
--- What a console writes: its commands line, for each line a prompt and what it prints, and a prompt at the end.
-use Rattle.std.specs.Prelude.{ℕ, Bool, true, false, nat_le, List, [], ◌∷◌, ◌++◌, ◌==◌, ◌&&◌, ◌≡◌, Option, Some, None, codes, length, if◌then◌else◌}
-use Rattle.std.specs.Str.{bytes_eq}
-use Rattle.app_console.specs.Console.{words_of, number_of, prompt}
-use Rattle.app_console.specs.PlainText.{is_long, first_of, others_of}
+-- What a console writes: for each line a prompt, and what it prints.
+use Rattle.std.specs.Prelude.{ℕ, List, [], ◌∷◌, ◌++◌, ◌≡◌, codes, if◌then◌else◌}
+use Rattle.app_console.specs.Console.{prompt}
+use Rattle.app_console.specs.Lines.{is_long, first_of, others_of}
 use Rattle.app_console.specs.Types.{Consoles, AllConsoles, Console, Space, AccumulatorConsole, Own}
-use Rattle.app_console.specs.Commands.{help_of}
-use Rattle.app_console.specs.Plain.{Plain, at_boot, line_end, opened}
+use Rattle.app_console.specs.Plain.{Plain, line_end}
 
 -- a line that is not fed is too long
 abbrev pub too_long : List ℕ
@@ -21,13 +19,6 @@ text_of_line c n v line = if is_long line then too_long else (line_end c n v lin
 abbrev pub lines_text : Console → ℕ → Plain → List (List ℕ) → List ℕ
 lines_text c n v [] = []
 lines_text c n v (line ∷ lines) = prompt ++ (text_of_line c n v line ++ lines_text c n (after_line c n v line) lines)
-
--- an accumulator's console begins once it has been made
-abbrev pub first_plain : Bool → ℕ → Plain
-first_plain opens n = if opens then opened n else at_boot n
-
-abbrev pub text_of : Console → Bool → ℕ → List (List ℕ) → List ℕ
-text_of c opens n lines = help_of c ++ (lines_text c n (first_plain opens n) lines ++ prompt)
 
 -- the lines that are fed, each after a mark
 abbrev pub marked : ℕ → List (List ℕ) → List (List ℕ)

@@ -7,6 +7,7 @@ ghost use Rattle.app_console.specs.Session.{session_outcome, session_by, line_of
 use crate::desk::{Desk, Naming};
 use crate::keep::{answered, awaiting, take_awaited, values_of, without};
 use crate::line::{place_of, plan_of, seek};
+use crate::lines::{ACCUMULATOR, SPACE};
 use crate::plan::{Argument, Goal, Plan};
 use crate::read::desk_at;
 use crate::say::{answer_text, help, printed, refusal_text};
@@ -83,8 +84,8 @@ fn console_of(consoles: Consoles, mark: u8) -> Option<Console>
     ensures { result ≡ console_of consoles mark }
 {
     match mark {
-        b'a' => Some(Console::Accumulator),
-        b's' => space_in(consoles),
+        ACCUMULATOR => Some(Console::Accumulator),
+        SPACE => space_in(consoles),
         b'o' => Some(Console::Own),
         _ => None,
     }

@@ -1,56 +1,9 @@
-//! The lines and the texts of the accumulator's console.
+//! Words, numbers, and the texts of numbers and faults.
 ghost use Rattle.std.specs.Prelude.{◌≡◌, IfOk, map};
-ghost use Rattle.app_console.specs.Console.{words_of, word_command, number_of, command_of, number_text, fault_word, fault_text};
+ghost use Rattle.app_console.specs.Console.{words_of, number_of, number_text, fault_word, fault_text};
 
 use hpx_value::memory::OutOfMemory;
 use std::alloc::Global;
-
-/// What a console prints first, and for `help`.
-pub const COMMANDS: &[u8] = b"commands: reset, add [amount], query, help, quit\n";
-/// What is printed where the accumulator has not come yet.
-pub const NOT_READY: &[u8] = b"error: not ready\n";
-/// What is printed for an amount that is no number of 64 bits.
-pub const BAD_NUMBER: &[u8] = b"error: bad number\n";
-/// What is printed for a line that is no command, and for one that is too long, which is not fed.
-pub const BAD_COMMAND: &[u8] = b"error: bad command\n";
-
-/// What a line asks for.
-#[derive(Clone, Copy, Debug, PartialEq, Eq)]
-pub enum Command {
-    Add(i64),
-    Query,
-    Reset,
-    Help,
-    BadNumber,
-    BadCommand,
-}
-
-/// The command that a line is.
-pub fn read_command(alloc: Global, line: &[u8]) -> Result<Command, OutOfMemory>
-    ensures { IfOk result (λ command. command ≡ command_of line.now) }
-{
-    let words = words(alloc, line)?;
-    match words.as_slice() {
-        [word] => Ok(word_command(word)),
-        [word, amount] if *word == b"add".as_slice() => match number(amount) {
-            Some(amount) => Ok(Command::Add(amount)),
-            None => Ok(Command::BadNumber),
-        },
-        _ => Ok(Command::BadCommand),
-    }
-}
-
-/// The command of one word.
-fn word_command(word: &[u8]) -> Command
-    ensures { result ≡ word_command word.now }
-{
-    match word {
-        b"query" => Command::Query,
-        b"reset" => Command::Reset,
-        b"help" => Command::Help,
-        _ => Command::BadCommand,
-    }
-}
 
 /// The words of a line.
 pub fn words(alloc: Global, line: &[u8]) -> Result<Vec<&[u8]>, OutOfMemory>

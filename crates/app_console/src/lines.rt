@@ -4,7 +4,7 @@ ghost use Rattle.std.specs.List.{list_all};
 ghost use Rattle.std.specs.Str.{bytes_eq};
 ghost use Rattle.std.specs.Str.Lines.{strip_carriage_return};
 ghost use Rattle.app_console.specs.Console.{words_of};
-ghost use Rattle.app_console.specs.PlainText.{IsPiece, IsFirstLine, is_long, is_quit, opening};
+ghost use Rattle.app_console.specs.Lines.{IsPiece, IsFirstLine, is_long, is_quit, opening};
 
 use hpx_value::items::{Items, Text};
 use hpx_value::memory::OutOfMemory;
@@ -12,6 +12,15 @@ use std::alloc::Global;
 
 /// What stands before each line.
 pub const PROMPT: &[u8] = b"> ";
+
+/// What is printed for a line that is too long, which is not fed.
+pub const TOO_LONG: &[u8] = b"error: line too long\n";
+
+/// What stands before a line of the accumulator's console where it is fed.
+pub const ACCUMULATOR: u8 = b'a';
+
+/// What stands before a line of `space` where it is fed.
+pub const SPACE: u8 = b's';
 
 /// How many bytes a line has at most.
 const MOST_BYTES: usize = 1024;
@@ -76,12 +85,12 @@ pub fn opening(alloc: Global) -> Result<Text, OutOfMemory>
     Ok(Items::from_vec(b"oopen".to_vec(alloc)?))
 }
 
-/// The text that is fed for a line of the user: the mark `a`, and the line.
-pub fn marked(alloc: Global, line: &[u8]) -> Result<Text, OutOfMemory>
-    ensures { IfOk result (λ text. text ≡ 97 ∷ line.now) }
+/// The text that is fed for a line of the user: the mark of a console, and the line.
+pub fn marked(alloc: Global, mark: u8, line: &[u8]) -> Result<Text, OutOfMemory>
+    ensures { IfOk result (λ text. text ≡ mark ∷ line.now) }
 {
     let mut text = Vec::new(alloc);
-    text.push(b'a')?;
+    text.push(mark)?;
     text.extend_from_slice(line)?;
     Ok(Items::from_vec(text))
 }

@@ -1,6 +1,6 @@
 //! What the consoles' sessions print, and that all actions keep the laws: the contracts are the laws.
-ghost use Rattle.std.specs.Prelude.{ℕ, List, [], ◌∷◌, ◌++◌, Option, false, ◌≡◌, ◌≤◌, ◌<◌, length};
-ghost use Rattle.std.specs.List.{concat};
+ghost use Rattle.std.specs.Prelude.{ℕ, List, [], ◌∷◌, ◌++◌, Option, false, ◌≡◌, ◌≢◌, ◌≤◌, ◌<◌, length};
+ghost use Rattle.std.specs.List.{concat, AllByRecursion};
 ghost use Rattle.hpx_value.specs.Shapes.{IsAct, IsState};
 ghost use Rattle.hpx_value.specs.Values.{bare_state, bare_act, named, message_of};
 ghost use Rattle.hpx_value.specs.Laws.{KeepsLaws};
@@ -11,12 +11,14 @@ ghost use Rattle.hpx_journal.specs.Pool.{NoneFails, prints_of};
 ghost use Rattle.hpx_journal.specs.Whole.{IsLegal};
 ghost use Rattle.hpx_journal.specs.Sessions.{IsSession, BeginsWith, entries_of, shown};
 ghost use Rattle.app_console.specs.Console.{prompt};
-ghost use Rattle.app_console.specs.Types.{Consoles, Console, State, Act};
-ghost use Rattle.app_console.specs.PlainText.{is_long, opening, first_of, others_of, IsFront};
+ghost use Rattle.app_console.specs.Types.{Console, State, Act};
+ghost use Rattle.app_console.specs.Lines.{is_long, opening, first_of, others_of, IsFront};
 ghost use Rattle.app_console.specs.Session.{act_of};
 ghost use Rattle.app_console.specs.Judging.{judging};
 ghost use Rattle.app_console.specs.Plain.{at_boot, opened};
 ghost use Rattle.app_console.specs.Text.{IsUsers, marked, written, lines_text};
+
+use crate::table::Consoles;
 
 /// Whatever the order in which frames come: where each line of a console that is not too long is fed, and each only once
 /// nothing is pending, the console writes what the plain space says, as long as no action fails. Where a line is broken off,
@@ -49,10 +51,13 @@ pub fn session_law()
         IsFront (written lines (others_of (shown blocks)) ++ (prompt ++ concat (prints_of es))) (lines_text con n (opened n) (lines ++ line ∷ [])) }
 {}
 
-/// What any action does keeps the laws of actions, and looks neither at the action's name nor at the credits of ids.
+/// What any action does keeps the laws of actions, and looks neither at the action's name nor at the credits of ids. Where
+/// the accumulator's console is the only one, no action sends a MOVE, of code 1.
 pub fn acts_law()
     ensures keeps { (cs : Consoles) (n kind here : ℕ) (s : State) (a : Act) → 1 ≤ n → n ≤ 64 → here < n → IsState s → IsAct a →
         KeepsLaws n kind here s a (act_of cs n kind here s a) }
     ensures blind { (cs : Consoles) (n kind here : ℕ) (s : State) (a : Act) →
         act_of cs n kind here s a ≡ act_of cs n kind here (bare_state s) (named 0 0 (message_of (bare_act a))) }
+    ensures still { (n kind here : ℕ) (s : State) (a : Act) → here < n → IsState s → IsAct a →
+        AllByRecursion (λ x. x.code ≢ 1) (act_of Consoles.Accumulator n kind here s a).sends }
 {}

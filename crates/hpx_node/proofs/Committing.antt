@@ -1,33 +1,37 @@
--- A prepared commit, once its job is settled, stands with what is due and what nobody names, and leads where it is to lead.
-use Rattle.std.proofs.Common.{ℕ, false, Some, List, [], ◌∷◌, ◌++◌, ◌≡◌, ◌≤◌, ◌<◌, ◌+◌, map, set, length, append_assoc, append-nil, sym, ap, ◌∙◌, subst}
-use Rattle.std.specs.List.{slice_get, AllByRecursion}
+-- A prepared commit, written step by step, leaves what one step would leave.
+use Rattle.std.proofs.Common.{ℕ, false, Some, List, [], ◌∷◌, ◌++◌, ◌≡◌, ◌<◌, ◌+◌, map, set, length, append_assoc, append-nil, sym, ap, ◌∙◌, arith}
+use Rattle.std.specs.List.{slice_get}
 use Rattle.std.proofs.lemmas.List.{length-map}
-use Rattle.hpx_value.specs.Values.{bare_act, bare_state, message_of, named}
-use Rattle.hpx_value.specs.Laws.{KeepsLaws}
+use Rattle.hpx_value.specs.Hands.{due_of, state_after}
 use Rattle.hpx_value.specs.declared.acts.Job.{Job}
-use Rattle.hpx_commit.specs.Deals.{unnamed}
-use Rattle.hpx_journal.specs.Data.{Id, Act, State, Due, Outcome}
+use Rattle.hpx_journal.specs.Data.{Act, Id, State, Due, Outcome}
 use Rattle.hpx_journal.specs.Entries.{name_of}
+use Rattle.hpx_agas.specs.declared.record.Record.{Record}
 use Rattle.hpx_part.specs.Data.{Event, Entry, Done, Standing}
 use Rattle.hpx_part.specs.Parts.{at_all}
 use Rattle.hpx_part.proofs.Keyed.{slice_get_less}
-use Rattle.hpx_node.specs.declared.node.finish.Prepared.{Prepared}
+use Rattle.hpx_commit.specs.Deals.{dealt, unnamed, unused}
+use Rattle.hpx_tables.proofs.Alls.{get_before}
+use Rattle.hpx_tables.proofs.Cutting.{at_all_append}
 use Rattle.hpx_tables.specs.declared.births.Birth.{Birth}
 use Rattle.hpx_tables.specs.Awaited.{answered_by}
-use Rattle.hpx_tables.specs.Births.{Makes, birth_of, births_of, objects_of, records_of, ids_of}
-use Rattle.hpx_node.specs.Changes.{}
-use Rattle.hpx_tables.specs.Splits.{splits_from}
-use Rattle.hpx_node.specs.Commits.{written, ups, committed_from, due_dealt, with_settled, committed_to, IsPrepared}
-use Rattle.hpx_tables.specs.Fit.{IsFit}
-use Rattle.hpx_tables.specs.Jobs.{IsFitJob}
-use Rattle.hpx_steps.specs.Rest.{ArePaused, StandsWith, rules_of}
+use Rattle.hpx_tables.specs.Births.{Makes, birth_of, births_of, objects_of, records_of}
 use Rattle.hpx_tables.specs.Pending.{Waits}
-use Rattle.hpx_steps.specs.Calls.{with_left}
+use Rattle.hpx_tables.specs.Splits.{splits_from}
 use Rattle.hpx_tables.specs.Tables.{Tables}
-use Rattle.hpx_tables.proofs.Alls.{get_before}
-use Rattle.hpx_node.proofs.Committed.{settled_is, written_on}
-use Rattle.hpx_node.proofs.OfPrepared.{tables_settled, stands_of, committed_is}
-use Rattle.hpx_node.proofs.Settled.{IsEnding}
+use Rattle.hpx_steps.specs.Calls.{ups, with_left, written_due}
+use Rattle.hpx_node.specs.declared.node.finish.Prepared.{Prepared}
+use Rattle.hpx_node.specs.Commits.{committed_from, due_dealt, made_of, with_settled, committed_to, IsPrepared}
+use Rattle.hpx_node.proofs.PlanWeights.{written_same}
+
+-- entries that are written one list after another
+written_on : (k : ℕ) (a b c d : List Entry) (xs ys zs : List Event) → b ≡ a ++ at_all k xs → c ≡ b ++ at_all k ys → d ≡ c ++ at_all k zs
+    → d ≡ a ++ at_all k (xs ++ (ys ++ zs))
+written_on k a b c d xs ys zs e f g =
+    g ∙ (ap (λ es. es ++ at_all k zs) (f ∙ ap (λ es. es ++ at_all k ys) e)
+    ∙ (append_assoc (a ++ at_all k xs) (at_all k ys) (at_all k zs)
+    ∙ (append_assoc a (at_all k xs) (at_all k ys ++ at_all k zs)
+    ∙ ap (λ es. a ++ es) (sym (at_all_append k xs (ys ++ zs) ∙ ap (λ es. at_all k xs ++ es) (at_all_append k ys zs))))))
 
 -- once what is made is made, what stood before stands as before
 module _ (t t1 : Tables) (xs : List Birth) (made : Makes xs [] t t1) (j : ℕ) (x : Standing) (stands : slice_get t.objects j ≡ Some x) where
@@ -40,101 +44,66 @@ module _ (t t1 : Tables) (xs : List Birth) (made : Makes xs [] t t1) (j : ℕ) (
   stands_less = slice_get_less t1.objects j x stands_then
 
 -- once the job is settled
-module _ (act_of : ℕ → ℕ → ℕ → State → Act → Outcome)
-    (blind : (n kind here : ℕ) (s : State) (a : Act) → act_of n kind here s a ≡ act_of n kind here (bare_state s) (named 0 0 (message_of (bare_act a))))
-    (t : Tables) (job : Job) (out : Outcome) (fit : IsFitJob job) (few : t.localities ≤ 64)
-    (laws : KeepsLaws t.localities job.kind job.at job.state job.action out) (right : out ≡ act_of t.localities job.kind job.at job.state job.action)
-    (p : Prepared) (is : IsPrepared t job out p) (j : ℕ) (running : List Act) (pending : List Waits)
-    (at : IsEnding t j job (ids_of t.here t.births t.profile.credit_log p.births.items) p.stock.hand running pending)
-    (t1 t2 : Tables) (made : Makes p.births.items [] t t1)
-    (objects : (x : Standing) → slice_get t1.objects j ≡ Some x → t2.objects ≡ set t1.objects j (record { object = x.object; state = p.plan.state }))
-    (rest : t2 ≡ record t1 { running = running; pending = pending; objects = t2.objects; answered = t1.answered + answered_by (Some job.action) })
-    (e0 e1 e2 : List Entry)
-    (first : e1 ≡ e0 ++ at_all t.here (births_of t.here t.births p.births.items ++ splits_from 0 p.stock.hand p.stock.places))
-    (done : e2 ≡ e1 ++ at_all t1.here (Done (name_of job.action) false ∷ [])) where
-  tables_are : t2 ≡ tables_settled t job out fit few laws p is j running pending at
-  tables_are = settled_is t t1 t2 p.births.items j running pending (answered_by (Some job.action)) (record { object = at.standing.object; state = p.plan.state }) made
-      (objects at.standing (stands_then t t1 p.births.items made j at.standing at.stands)) rest
-
-  same_here : t1.here ≡ t.here
-  same_here = ap (λ (x : Tables). x.here) made.rest
-
-  abbrev born : List Event
-  born = births_of t.here t.births p.births.items
-
-  abbrev cuts : List Event
-  cuts = splits_from 0 p.stock.hand p.stock.places
-
-  abbrev last : List Event
-  last = Done (name_of job.action) false ∷ []
-
-  done_there : e2 ≡ e1 ++ at_all t.here last
-  done_there = subst (λ k. e2 ≡ e1 ++ at_all k last) same_here done
-
-  settled_written : e2 ≡ e0 ++ at_all t.here (born ++ (cuts ++ last))
-  settled_written =
-      written_on t.here e0 e1 e2 e2 (born ++ cuts) last [] first done_there (sym (append-nil e2))
-      ∙ ap (λ xs. e0 ++ at_all t.here xs) (append_assoc born cuts last)
-
-  pub settled_stands : AllByRecursion IsFit running
-      → ArePaused t.here t.localities t.profile.credit_log (set (t.objects ++ objects_of t.here t.births p.births.items) j (record { object = at.standing.object; state = p.plan.state })) running pending
-      → StandsWith (rules_of act_of t.localities t.profile) t [] [] e0
-      → StandsWith (rules_of act_of t2.localities t2.profile) t2 p.plan.due.items p.plan.ups.items e2
-  settled_stands runs paused h =
-      subst (λ (x : Tables). StandsWith (rules_of act_of x.localities x.profile) x p.plan.due.items p.plan.ups.items e2) (sym tables_are)
-      (subst (λ es. StandsWith (rules_of act_of t.localities t.profile) (tables_settled t job out fit few laws p is j running pending at) p.plan.due.items p.plan.ups.items es)
-      (sym settled_written) (stands_of t job out fit few laws p is j running pending at act_of blind right runs paused e0 h))
-
-  pub settled_here : (t2.here ≡ t.here) × (t2.localities ≡ t.localities) × (t2.profile ≡ t.profile)
-  settled_here = (
-    ap (λ (x : Tables). x.here) tables_are,
-    ap (λ (x : Tables). x.localities) tables_are,
-    ap (λ (x : Tables). x.profile) tables_are,
-  )
-
-  pub settled_serial : t2.serial ≡ t.serial
-  settled_serial = ap (λ (x : Tables). x.serial) tables_are
-
-  pub settled_running : t2.running ≡ running
-  settled_running = ap (λ (x : Tables). x.running) tables_are
-
-  -- all of it is written
-  pub all_written : (e3 : List Entry) → e3 ≡ e2 ++ at_all t2.here (written t2.here t2.serial p.plan.due.items ++ ups p.plan.ups.items)
-      → e3 ≡ e0 ++ at_all t.here (committed_from t job out p.stock)
-  all_written e3 left =
-      let rest = written t.here t.serial p.plan.due.items ++ ups p.plan.ups.items in
-      let left_on : e3 ≡ e2 ++ at_all t.here (written t.here t.serial p.plan.due.items ++ ups p.plan.ups.items) =
-      left ∙ (ap (λ k. e2 ++ at_all k (written k t2.serial p.plan.due.items ++ ups p.plan.ups.items)) settled_here.0
-      ∙ ap (λ n. e2 ++ at_all t.here (written t.here n p.plan.due.items ++ ups p.plan.ups.items)) settled_serial) in
-      written_on t.here e0 e1 e2 e3 (born ++ cuts) last rest first done_there left_on
-      ∙ ap (λ xs. e0 ++ at_all t.here xs) (append_assoc born cuts (last ++ rest) ∙ sym (committed_is t job out fit few laws p is))
-
-  -- ---- where it leads
-
+module _ (t : Tables) (job : Job) (out : Outcome) (p : Prepared) (is : IsPrepared t job out p) (j : ℕ) (x : Standing) (stands : slice_get t.objects j ≡ Some x)
+    (running : List Act) (pending : List Waits) (t1 t2 : Tables) (made : Makes p.births.items [] t t1)
+    (objects : (y : Standing) → slice_get t1.objects j ≡ Some y → t2.objects ≡ set t1.objects j (record { object = y.object; state = p.plan.state }))
+    (rest : t2 ≡ record t1 { running = running; pending = pending; objects = t2.objects; answered = t1.answered + answered_by (Some job.action) }) where
   abbrev less : Tables
   less = record t { running = running; pending = pending }
 
-  abbrev to : ℕ → List Birth → State → Tables
-  to n xs state = record less {
-    births = t.births + n;
-    records = t.records ++ records_of t.here t.births t.profile.credit_log xs;
-    objects = set (t.objects ++ objects_of t.here t.births xs) j (record { object = at.standing.object; state = state });
-    answered = t.answered + answered_by (Some job.action);
-  }
+  abbrev then : ℕ → List Record → List Standing → Tables
+  then n rs os = record less { births = n; records = rs; objects = os; answered = t.answered + answered_by (Some job.action) }
 
-  settled_to : t2 ≡ with_settled job out p.stock j at.standing less
+  abbrev to : ℕ → List Birth → State → Tables
+  to n xs state = then (t.births + n) (t.records ++ records_of t.here t.births t.profile.credit_log xs)
+      (set (t.objects ++ objects_of t.here t.births xs) j (record { object = x.object; state = state }))
+
+  pub settled_to : t2 ≡ with_settled job out p.stock j x (record t { running = running; pending = pending })
   settled_to =
       let xs = map birth_of out.makes in
-      tables_are
+      rest
+      ∙ (ap (λ (y : Tables). record y { running = running; pending = pending; objects = t2.objects; answered = y.answered + answered_by (Some job.action) }) made.rest
+      ∙ (ap (λ n. then n t1.records t2.objects) (omega (arith, made.births))
+      ∙ (ap (λ rs. then (t.births + length p.births.items) rs t2.objects) (sym (append-nil t1.records) ∙ made.records)
+      ∙ (ap (λ os. then (t.births + length p.births.items) (t.records ++ records_of t.here t.births t.profile.credit_log p.births.items) os)
+      (objects x (stands_then t t1 p.births.items made j x stands) ∙ ap (λ ys. set ys j (record { object = x.object; state = p.plan.state })) (sym (append-nil t1.objects) ∙ made.objects))
       ∙ (ap (λ (ys : List Birth). to (length ys) ys p.plan.state) is.births
       ∙ (ap (λ (n : ℕ). to n xs p.plan.state) (length-map out.makes birth_of)
-      ∙ ap (λ (state : State). to (length out.makes) xs state) is.state_left))
+      ∙ ap (λ (state : State). to (length out.makes) xs state) is.state_left))))))
 
+  -- what is due is sent, and what nobody names is given up
   pub all_committed : (u : Tables) → u ≡ with_left p.plan.due.items p.plan.ups.items t2
-      → u ≡ committed_to job out p.stock j at.standing less
+      → u ≡ committed_to job out p.stock j x (record t { running = running; pending = pending })
   all_committed u alike =
       let ds = due_dealt t job out p.stock in
       alike
       ∙ (ap (λ (xs : List Due). with_left xs p.plan.ups.items t2) is.due_left
       ∙ (ap (λ (us : List Id). with_left ds us t2) is.ups_left
       ∙ ap (with_left ds (unnamed p.stock.hand p.stock.places)) settled_to))
+
+  module _ (e0 e1 e2 e3 : List Entry)
+      (first : e1 ≡ e0 ++ at_all t.here (births_of t.here t.births p.births.items ++ splits_from 0 p.stock.hand p.stock.places))
+      (done : e2 ≡ e1 ++ at_all t1.here (Done (name_of job.action) false ∷ []))
+      (left : e3 ≡ e2 ++ at_all t2.here (written_due t2.here t2.serial p.plan.due.items ++ ups p.plan.ups.items)) where
+    abbrev first_of : List Birth → List Event
+    first_of xs = births_of t.here t.births xs ++ splits_from 0 p.stock.hand p.stock.places
+
+    abbrev all_of : List Birth → List Event → List Id → List Event
+    all_of xs due us = first_of xs ++ (Done (name_of job.action) false ∷ (due ++ ups us))
+
+    abbrev due_said : List Due
+    due_said = due_of job.state job.action (made_of t out) out
+
+    -- all of it is written
+    pub all_written : e3 ≡ e0 ++ at_all t.here (committed_from t job out p.stock)
+    all_written =
+        written_on t.here e0 e1 e2 e3 (first_of p.births.items) (Done (name_of job.action) false ∷ []) (written_due t.here t.serial p.plan.due.items ++ ups p.plan.ups.items)
+        first (done ∙ ap (λ (y : Tables). e1 ++ at_all y.here (Done (name_of job.action) false ∷ [])) made.rest)
+        (left ∙ ap (λ (y : Tables). e2 ++ at_all y.here (written_due y.here y.serial p.plan.due.items ++ ups p.plan.ups.items)) settled_to)
+        ∙ ap (λ es. e0 ++ at_all t.here es)
+        (ap (λ ds. all_of p.births.items (written_due t.here t.serial ds) p.plan.ups.items) is.due_left
+        ∙ (ap (λ es. all_of p.births.items es p.plan.ups.items) (written_same t.here t.serial due_said (unused (state_after job.state job.action (made_of t out) out).ids (dealt p.stock.hand p.stock.places)))
+        ∙ (ap (λ us. all_of p.births.items (written_due t.here t.serial due_said) us) is.ups_left
+        ∙ (ap (λ xs. all_of xs (written_due t.here t.serial due_said) (unnamed p.stock.hand p.stock.places)) is.births
+        ∙ append_assoc (births_of t.here t.births (map birth_of out.makes)) (splits_from 0 p.stock.hand p.stock.places)
+        (Done (name_of job.action) false ∷ (written_due t.here t.serial due_said ++ ups (unnamed p.stock.hand p.stock.places)))))))

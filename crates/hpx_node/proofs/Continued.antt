@@ -1,11 +1,11 @@
 -- A commit that was prepared before its last credit came goes on with it.
-use Rattle.std.proofs.Common.{ℕ, zero, suc, Bool, true, false, cond, List, [], ◌∷◌, ◌≡◌, ◌<◌, ◌+◌, ◌==◌, ◌&&◌, not, Option, Some, None, set, take, length, refl, sym, ap, ◌∙◌, arith, inl, inr, subst}
+use Rattle.std.proofs.Common.{ℕ, zero, suc, Bool, true, false, cond, List, [], ◌∷◌, ◌≡◌, ◌<◌, ◌+◌, ◌==◌, not, Option, Some, None, set, take, length, refl, sym, ap, ◌∙◌, arith, inl, inr, subst}
 use Rattle.std.specs.Prelude.{is_some}
 use Rattle.std.specs.List.{find, list_any, slice_get, remove}
-use Rattle.std.proofs.lemmas.Bool.{cases_Bool, eqb-true, eq-eqb}
+use Rattle.std.proofs.lemmas.Bool.{cases_Bool, eqb-true}
 use Rattle.hpx_value.specs.Ids.{bare}
 use Rattle.hpx_value.specs.declared.acts.Job.{Job}
-use Rattle.hpx_journal.specs.Data.{Id, Outcome, Parcel, Apply, Return, Ask, Give, Cached, Move, Go, Shipped, Arrived, Free}
+use Rattle.hpx_journal.specs.Data.{Id, State, Act, Outcome, Parcel, Apply, Return, Ask, Give, Cached, Move, Go, Shipped, Arrived, Free}
 use Rattle.hpx_journal.proofs.Same.{and_true}
 use Rattle.hpx_part.proofs.Keyed.{slice_get_less}
 use Rattle.hpx_commit.specs.Deals.{log_of}
@@ -14,8 +14,8 @@ use Rattle.hpx_node.specs.declared.node.resume.Ready.{Ready}
 use Rattle.hpx_node.specs.Commits.{IsPrepared}
 use Rattle.hpx_tables.specs.declared.pending.Asked.{Asked}
 use Rattle.hpx_tables.specs.Pending.{Waits, awaits, is_asked_for, waits_for_one, put_for, hand_with, Refills}
-use Rattle.hpx_node.specs.Resumes.{may_go_on, stock_with, is_last, MayResume, IsReady, IsReadyFor}
-use Rattle.hpx_steps.specs.Calls.{Gives, DealsWith, Accepts}
+use Rattle.hpx_node.specs.Resumes.{stock_with, is_last, MayResume, IsReady, IsReadyFor}
+use Rattle.hpx_steps.specs.Calls.{Gives, DealsWith}
 use Rattle.hpx_tables.specs.Tables.{Tables}
 use Rattle.hpx_tables.proofs.Alls.{some_same}
 
@@ -53,6 +53,10 @@ less_long [] i x h = cc
 less_long (y ∷ xs) zero x h = omega arith
 less_long (y ∷ xs) (suc i) x h = omega (arith, less_long xs i x h)
 
+pub none_long : (xs : List Asked) → length xs ≡ 0 → xs ≡ []
+none_long [] h = refl
+none_long (x ∷ xs) h = absurd (omega (arith, h))
+
 pub none_some : (o : Option Id) → not (is_some o) ≡ true → o ≡ None
 none_some None h = refl
 none_some (Some x) h = absurd (cc)
@@ -89,17 +93,8 @@ module _ (id : Id) (entry : ℕ) (w w' : Waits) (refills : Refills id entry w w'
     eqb-true (length w.asked) 1 one_asked,
   )
 
-  refused_then : w'.refused ≡ None
-  refused_then = ap (λ (v : Waits). v.refused) refills.now ∙ (ap (λ b. cond b (Some (bare id)) w.refused) some_log ∙ none_refused)
-
-  pub complete_then : may_go_on w' ≡ true
-  complete_then = ap (λ b. b && not (is_some w'.refused)) (eq-eqb (length w'.asked) 0 asked_then) ∙ ap (λ o. not (is_some o)) refused_then
-
   pub hand_then : w'.hand ≡ hand_with id entry w
   hand_then = ap (λ (v : Waits). v.hand) refills.now ∙ sym (ap (put_for w.hand id) refills.first)
-
-  pub asks_for : awaits id entry w ≡ true
-  asks_for = any_at (is_asked_for w id entry) w.asked refills.k refills.ask refills.there refills.for
 
   -- its job, its outcome and its places are the same
   pub rest_then : w' ≡ record w { hand = w'.hand; asked = w'.asked; refused = w'.refused }
@@ -120,9 +115,20 @@ prepared_on t job out p n d ws is = record {
   state_left = is.state_left;
   due_left = is.due_left;
   ups_left = is.ups_left;
+  limits = let l = is.limits in record {
+    fit = l.fit;
+    due_fit = l.due_fit;
+    ups_fit = l.ups_fit;
+    births = l.births;
+    cuts = l.cuts;
+    due = l.due;
+    ups = l.ups;
+    entries = l.entries;
+    light = l.light;
+  };
 }
 
-module _ (t : Tables) (n : ℕ) (d : List Parcel) (mid : Tables) (id : Id) (entry : ℕ) (y : Ready) (ready : IsReady t id entry y)
+module _ (act_of : ℕ → ℕ → ℕ → State → Act → Outcome) (t : Tables) (n : ℕ) (d : List Parcel) (mid : Tables) (id : Id) (entry : ℕ) (y : Ready) (ready : IsReady act_of t id entry y)
     (g : Gives id entry (record t { taken = n; desk = d }) mid) where
   g_for : awaits id entry g.before ≡ true
   g_for = any_at (is_asked_for g.before id entry) g.before.asked g.refills.k g.refills.ask g.refills.there g.refills.for
@@ -154,28 +160,37 @@ module _ (t : Tables) (n : ℕ) (d : List Parcel) (mid : Tables) (id : Id) (entr
     set_long t.pending g.i g.after,
   )
 
-  may_then : (hand : List Id) (asked : List Asked) (refused : Option Id) → may_go_on (record ready.before { hand = hand; asked = asked; refused = refused }) ≡ true
-      → hand ≡ hand_with id entry ready.before
+  may_then : (hand : List Id) (asked : List Asked) (refused : Option Id) → hand ≡ hand_with id entry ready.before
       → MayResume (record t { taken = n; desk = d; pending = set t.pending g.i g.after }) (record ready.before { hand = hand; asked = asked; refused = refused }) y.j y.prepared
-  may_then hand asked refused complete is = record {
-    complete = complete;
-    object = ready.object;
+  may_then hand asked refused is = record {
+    place = let p = ready.place in record {
+      job = p.job;
+      here = p.here;
+      localities = p.localities;
+      few = p.few;
+      standing = p.standing;
+      stands = p.stands;
+      found = p.found;
+      kept = p.kept;
+      kind = p.kind;
+      state = p.state;
+    };
+    kept = ready.kept;
     prepared = prepared_on t ready.before.job ready.before.outcome y.prepared n d (set t.pending g.i g.after) ready.prepared;
     stock = ready.stock ∙ ap (stock_with t ready.before) (sym is);
   }
 
-  pub complete_now : may_go_on g.after ≡ true
-  complete_now = complete_then id entry ready.before g.after refills ready.last
-
-  after_is : g.after ≡ record ready.before { hand = g.after.hand; asked = g.after.asked; refused = g.after.refused }
+  pub after_is : g.after ≡ record ready.before { hand = g.after.hand; asked = g.after.asked; refused = g.after.refused }
   after_is = rest_then id entry ready.before g.after refills ready.last
 
-  may_after : MayResume mid g.after y.j y.prepared
+  pub none_then : g.after.asked ≡ []
+  none_then = none_long g.after.asked (asked_then id entry ready.before g.after refills ready.last)
+
+  pub may_after : MayResume mid g.after y.j y.prepared
   may_after =
       subst (λ (x : Tables). MayResume x g.after y.j y.prepared) (sym mid_is)
       (subst (λ (v : Waits). MayResume (record t { taken = n; desk = d; pending = set t.pending g.i g.after }) v y.j y.prepared) (sym after_is)
-      (may_then g.after.hand g.after.asked g.after.refused (subst (λ (v : Waits). may_go_on v ≡ true) after_is complete_now)
-      (hand_then id entry ready.before g.after refills ready.last)))
+      (may_then g.after.hand g.after.asked g.after.refused (hand_then id entry ready.before g.after refills ready.last)))
 
   pub may_given : (w : Waits) → slice_get mid.pending y.i ≡ Some w → MayResume mid w y.j y.prepared
   may_given w h =
@@ -185,18 +200,18 @@ module _ (t : Tables) (n : ℕ) (d : List Parcel) (mid : Tables) (id : Id) (entr
 -- ---- by the message
 
 -- only a Give makes one ready
-pub only_give : (t : Tables) (p : Parcel) (y : Ready) → IsReadyFor t p y → (P : Type 0)
-    → ((id : Id) (entry : ℕ) → p ≡ Give id entry → IsReady t id entry y → P) → P
-only_give t (Give id entry) y ready P h = h id entry refl ready
-only_give t (Apply act) y ready P h = absurd ready
-only_give t (Return id) y ready P h = absurd ready
-only_give t (Ask id asker entry) y ready P h = absurd ready
-only_give t (Cached id place) y ready P h = absurd ready
-only_give t (Move act) y ready P h = absurd ready
-only_give t (Go act) y ready P h = absurd ready
-only_give t (Shipped act state) y ready P h = absurd ready
-only_give t (Arrived id place) y ready P h = absurd ready
-only_give t (Free o) y ready P h = absurd ready
+pub only_give : (act_of : ℕ → ℕ → ℕ → State → Act → Outcome) (t : Tables) (p : Parcel) (y : Ready) → IsReadyFor act_of t p y → (P : Type 0)
+    → ((id : Id) (entry : ℕ) → p ≡ Give id entry → IsReady act_of t id entry y → P) → P
+only_give act_of t (Give id entry) y ready P h = h id entry refl ready
+only_give act_of t (Apply act) y ready P h = absurd ready
+only_give act_of t (Return id) y ready P h = absurd ready
+only_give act_of t (Ask id asker entry) y ready P h = absurd ready
+only_give act_of t (Cached id place) y ready P h = absurd ready
+only_give act_of t (Move act) y ready P h = absurd ready
+only_give act_of t (Go act) y ready P h = absurd ready
+only_give act_of t (Shipped act state) y ready P h = absurd ready
+only_give act_of t (Arrived id place) y ready P h = absurd ready
+only_give act_of t (Free o) y ready P h = absurd ready
 
 -- where it is a Give, it is given
 abbrev pub IsGiven : Parcel → Tables → Tables → Type 0
@@ -208,8 +223,8 @@ given_frame t s mid p same deals id entry e =
     subst (λ (u : Tables). Gives id entry (record u { taken = u.taken + 1 }) mid) same
     (subst (λ q. DealsWith q (record s { taken = s.taken + 1 }) mid) e deals)
 
-pub given_mail : (t s mid : Tables) (p : Parcel) (rest : List Parcel) → s ≡ t
-    → Accepts p (record s { desk = rest }) mid → IsGiven p (record t { taken = t.taken; desk = rest }) mid
-given_mail t s mid p rest same accepts id entry e =
+pub given_mail : (t s mid : Tables) (p : Parcel) (rest : List Parcel) → s ≡ t → DealsWith p (record s { desk = rest }) mid
+    → IsGiven p (record t { taken = t.taken; desk = rest }) mid
+given_mail t s mid p rest same deals id entry e =
     subst (λ (u : Tables). Gives id entry (record u { desk = rest }) mid) same
-    (subst (λ q. Accepts q (record s { desk = rest }) mid) e accepts)
+    (subst (λ q. DealsWith q (record s { desk = rest }) mid) e deals)

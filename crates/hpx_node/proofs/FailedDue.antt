@@ -9,18 +9,15 @@ use Rattle.hpx_value.specs.Values.{bare_act}
 use Rattle.hpx_value.specs.Hands.{id_at, own_slot, answer}
 use Rattle.hpx_parcel.specs.Parcels.{HasRightCredit, HasCredit}
 use Rattle.hpx_journal.specs.Data.{Id, Cont, State, Act, MessageDue, PrintDue, Fault}
-use Rattle.hpx_journal.specs.Names.{due_ids}
 use Rattle.hpx_journal.specs.Local.{failure}
-use Rattle.hpx_part.specs.Data.{Token}
 use Rattle.hpx_commit.specs.Deals.{is_managed, ids_due}
-use Rattle.hpx_commit.specs.Failures.{action_ids, halves_ahead, ids_had, state_failed, due_failed, unanswered, ups_failed}
-use Rattle.hpx_commit.proofs.Failed.{due_bare, failed_sums, all_unanswered}
+use Rattle.hpx_commit.specs.Failures.{action_ids, halves_ahead, due_failed, unanswered, ups_failed}
+use Rattle.hpx_commit.proofs.Failed.{due_bare, all_unanswered}
 use Rattle.hpx_tables.specs.Fit.{IsFitDue}
 use Rattle.hpx_steps.specs.Turn.{bare_due}
 use Rattle.hpx_tables.proofs.Alls.{all_append}
-use Rattle.hpx_node.proofs.FilledDue.{is_least, has_credit, due_credit, same_ids, weigh_one, each_weighs, weigh_managed}
+use Rattle.hpx_node.proofs.FilledDue.{is_least, has_credit, due_credit}
 use Rattle.hpx_node.proofs.HandFit.{credit_at}
-use Rattle.hpx_node.proofs.Sums.{weigh, weigh_append}
 
 -- ---- the answer and the print
 
@@ -83,7 +80,7 @@ left_few : (ids : List Id) (cont : Option Cont) → length (unanswered ids cont)
 left_few ids None = omega arith
 left_few ids (Some c) = remove_few ids c.place
 
-credit_right : (ids : List Id) → AllByRecursion HasCredit ids → AllByRecursion HasRightCredit ids
+pub credit_right : (ids : List Id) → AllByRecursion HasCredit ids → AllByRecursion HasRightCredit ids
 credit_right [] h = tt
 credit_right (id ∷ ids) h = (right id.log h.0, credit_right ids h.1)
   where
@@ -102,7 +99,7 @@ ups_few s a makes ids =
       left_few (action_ids s a ids) a.cont,
     )
 
-module _ (s : State) (a : Act) (makes : ℕ) (ids : List Id) (state : AllByRecursion HasRightCredit (state_failed s ids).ids)
+module _ (s : State) (a : Act) (makes : ℕ) (ids : List Id)
     (action : AllByRecursion HasRightCredit (action_ids s a ids)) (halves : AllByRecursion HasCredit (halves_ahead s a makes ids)) where
   rest_right : AllByRecursion HasRightCredit (unanswered (action_ids s a ids) a.cont ++ halves_ahead s a makes ids)
   rest_right = all_append HasRightCredit (unanswered (action_ids s a ids) a.cont) (halves_ahead s a makes ids)
@@ -111,25 +108,5 @@ module _ (s : State) (a : Act) (makes : ℕ) (ids : List Id) (state : AllByRecur
   pub ups_credit : AllByRecursion HasCredit (ups_failed s a makes ids)
   ups_credit = managed_credit (unanswered (action_ids s a ids) a.cont ++ halves_ahead s a makes ids) rest_right
 
-  had_right : AllByRecursion HasRightCredit (ids_had s a makes ids)
-  had_right = all_append HasRightCredit (state_failed s ids).ids (action_ids s a ids ++ halves_ahead s a makes ids) state
-      (all_append HasRightCredit (action_ids s a ids) (halves_ahead s a makes ids) action (credit_right (halves_ahead s a makes ids) halves))
-
-  due_right : AllByRecursion HasRightCredit (flat_map ids_due (due_failed (action_ids s a ids) a.cont))
+  pub due_right : AllByRecursion HasRightCredit (flat_map ids_due (due_failed (action_ids s a ids) a.cont))
   due_right = due_credit (due_failed (action_ids s a ids) a.cont) (failed_fit (action_ids s a ids) a.cont action)
-
-  -- the new state, what is due and what is given up weigh what was there
-  module _ (f : Token → ℕ) where
-    pub failed_weighs : weigh f (state_failed s ids).ids + weigh f (flat_map due_ids (due_failed (action_ids s a ids) a.cont)) + weigh f (ups_failed s a makes ids)
-        ≡ weigh f (state_failed s ids).ids + weigh f (action_ids s a ids) + weigh f (halves_ahead s a makes ids)
-    failed_weighs = omega (
-      arith,
-      weigh_managed f (state_failed s ids).ids state,
-      ap (weigh f) (same_ids (due_failed (action_ids s a ids) a.cont)),
-      weigh_managed f (flat_map ids_due (due_failed (action_ids s a ids) a.cont)) due_right,
-      each_weighs f (ups_failed s a makes ids),
-      failed_sums (weigh_one f) s a makes ids,
-      weigh_managed f (ids_had s a makes ids) had_right,
-      weigh_append f (state_failed s ids).ids (action_ids s a ids ++ halves_ahead s a makes ids),
-      weigh_append f (action_ids s a ids) (halves_ahead s a makes ids),
-    )

@@ -14,10 +14,11 @@ use Rattle.hpx_steps.specs.Rest.{IsPaused, IsTidy}
 use Rattle.hpx_tables.specs.declared.pending.Asked.{Asked}
 use Rattle.hpx_tables.specs.Pending.{Waits, ids_named, is_asked_for, put_for, hand_with, Refills}
 use Rattle.hpx_tables.specs.Tables.{Tables}
-use Rattle.hpx_tables.proofs.Alls.{some_same, all_at}
+use Rattle.hpx_tables.proofs.Alls.{some_same}
 use Rattle.hpx_node.proofs.FailedFew.{ups_limit}
 use Rattle.hpx_node.proofs.HandLeft.{long_enough}
-use Rattle.hpx_node.proofs.Refilled.{hand_long}
+use Rattle.hpx_steps.proofs.Recommit.{hand_long}
+use Rattle.hpx_node.proofs.Paused.{commit_of, paused_at}
 
 all_found : {X : Type 0} (P : X → Type 0) (p : X → Bool) (xs : List X) (x : X) → AllByRecursion P xs → find p xs ≡ Some x → P x
 all_found P p [] x all h = cc
@@ -25,10 +26,6 @@ all_found P p (y ∷ ys) x all h = elim (cases_Bool (p y)) [
   | inl t ↦ let e : Some y ≡ Some x = rw t at h in subst P (some_same y x e) all.0
   | inr f ↦ all_found P p ys x all.1 (rw f at h)
 ]
-
-pub paused_at : (t : Tables) (i : ℕ) (w : Waits) → IsTidy t [] → slice_get t.pending i ≡ Some w
-    → IsPaused t.here t.localities t.profile.credit_log t.objects w
-paused_at t i w tidy there = all_at (IsPaused t.here t.localities t.profile.credit_log t.objects) t.pending i w tidy.paused.each there
 
 module _ (t : Tables) (i : ℕ) (w : Waits) (id : Id) (entry : ℕ) (tidy : IsTidy t []) (there : slice_get t.pending i ≡ Some w) where
   paused : IsPaused t.here t.localities t.profile.credit_log t.objects w
@@ -47,7 +44,7 @@ module _ (t : Tables) (i : ℕ) (w : Waits) (id : Id) (entry : ℕ) (tidy : IsTi
   pub plan_long : length w.job.state.ids + length w.job.action.ids + length w.outcome.makes ≤ length (hand_with id entry w)
   plan_long = long_enough w (hand_with id entry w) paused.job paused.split.made paused.split.kinds paused.split.bare paused.split.within
       (put_rest (find (is_asked_for w id entry) w.asked) refl ∙ paused.split.rest)
-      (omega (arith, put_long (find (is_asked_for w id entry) w.asked), hand_long t.here t.localities t.profile.credit_log t.objects w paused))
+      (omega (arith, put_long (find (is_asked_for w id entry) w.asked), hand_long t.here t.localities w (commit_of t.here t.localities t.profile.credit_log t.objects w paused)))
 
   pub plan_limit : (n : ℕ) → KeepsLaws n w.job.kind w.job.at w.job.state w.job.action w.outcome → length (ups_left (record w { hand = hand_with id entry w })) ≤ 226
   plan_limit n laws = ups_limit n w (hand_with id entry w) paused.job paused.split.made paused.split.kinds paused.split.bare paused.split.within

@@ -1,9 +1,11 @@
 -- An action whose failure was planned before its commit's last answer came fails with it.
-use Rattle.std.proofs.Common.{ℕ, zero, suc, Bool, true, false, cond, List, [], ◌∷◌, ◌≡◌, ◌==◌, Option, Some, None, set, length, refl, sym, ap, ◌∙◌, arith, subst}
+use Rattle.std.proofs.Common.{ℕ, zero, suc, Bool, true, false, cond, List, [], ◌∷◌, ◌≡◌, ◌==◌, ◌⊎◌, Option, Some, None, set, length, refl, sym, ap, ◌∙◌, arith, subst}
 use Rattle.std.specs.Prelude.{◌||◌, is_some}
 use Rattle.std.specs.List.{find, slice_get, remove}
 use Rattle.std.proofs.lemmas.Bool.{eqb-true}
 use Rattle.hpx_value.specs.Ids.{bare}
+use Rattle.hpx_value.specs.Values.{bare_state}
+use Rattle.hpx_parcel.specs.Parcels.{HasCredit}
 use Rattle.hpx_journal.specs.Data.{Id, Parcel, Apply, Return, Ask, Give, Cached, Move, Go, Shipped, Arrived, Free}
 use Rattle.hpx_journal.specs.Entries.{target_of}
 use Rattle.hpx_journal.specs.Local.{is_standing}
@@ -11,7 +13,13 @@ use Rattle.hpx_journal.proofs.Same.{and_true}
 use Rattle.hpx_part.proofs.Keyed.{slice_get_less}
 use Rattle.hpx_commit.specs.Deals.{log_of}
 use Rattle.hpx_node.specs.declared.node.fail.Failing.{Failing}
-use Rattle.hpx_node.specs.Fails.{MustFail, IsFailure, IsFailing, IsFailingFor}
+use Rattle.hpx_steps.specs.Left.{IsLeftFailed}
+use Rattle.hpx_steps.specs.Paused.{HasSplit, IsCommit}
+use Rattle.hpx_steps.specs.Rest.{IsPaused, IsTidy}
+use Rattle.hpx_steps.proofs.Refilled.{still_commit, still_split}
+use Rattle.hpx_node.specs.Fails.{MustFail, IsFailure, IsFailing, IsFailingFor, failed_remains}
+use Rattle.hpx_node.proofs.LeftFailed.{left_failed}
+use Rattle.hpx_node.proofs.Paused.{commit_of, paused_at}
 use Rattle.hpx_tables.specs.declared.pending.Asked.{Asked}
 use Rattle.hpx_tables.specs.Pending.{Waits, awaits, is_asked_for, Refills}
 use Rattle.hpx_steps.specs.Calls.{Gives}
@@ -54,26 +62,46 @@ module _ (t : Tables) (n : ℕ) (d : List Parcel) (mid : Tables) (id : Id) (entr
   last : ((length fails.commit.asked == 1) ≡ true) × (((log_of id.log == 0) || is_some fails.commit.refused) ≡ true)
   last = and_true (length fails.commit.asked == 1) ((log_of id.log == 0) || is_some fails.commit.refused) fails.last
 
-  given : g.after.asked ≡ []
+  pub given : g.after.asked ≡ []
   given =
       ap (λ (v : Waits). v.asked) refills.now
       ∙ one_gone fails.commit.asked refills.k refills.ask refills.there (eqb-true (length fails.commit.asked) 1 last.0)
 
-  refused : (o : Id) × (cond (log_of id.log == 0) (Some (bare id)) fails.commit.refused ≡ Some o)
-  refused = some_of (log_of id.log == 0) (bare id) fails.commit.refused last.1
+  refused_by : (o : Id) × (cond (log_of id.log == 0) (Some (bare id)) fails.commit.refused ≡ Some o)
+  refused_by = some_of (log_of id.log == 0) (bare id) fails.commit.refused last.1
 
-  pub must_then : MustFail y.i y.j mid
-  must_then = record {
-    commit = g.after;
-    there = now_there;
-    given = given;
-    refusal = refused.0;
-    refused = ap (λ (v : Waits). v.refused) refills.now ∙ refused.1;
-    standing = fails.standing;
-    stands = ap (λ (x : Tables). slice_get x.objects y.j) g.rest ∙ fails.stands;
-    found = ap (λ (x : Tables). find (is_standing (target_of g.after.job.action)) x.objects) g.rest
-        ∙ (ap (λ (v : Waits). find (is_standing (target_of v.job.action)) t.objects) refills.now ∙ fails.found);
-  }
+  pub refused : (o : Id) × (g.after.refused ≡ Some o)
+  refused = (refused_by.0, ap (λ (v : Waits). v.refused) refills.now ∙ refused_by.1)
+
+  pub found_then : find (is_standing (target_of g.after.job.action)) t.objects ≡ Some fails.place.standing
+  found_then = ap (λ (v : Waits). find (is_standing (target_of v.job.action)) t.objects) refills.now ∙ fails.place.found
+
+  -- what it leaves is right
+  module _ (tidy : IsTidy t []) (credit : HasCredit id) (brings : (log_of id.log ≡ 0) ⊎ (log_of id.log ≡ t.profile.credit_log)) where
+    was : IsPaused t.here t.localities t.profile.credit_log t.objects fails.commit
+    was = paused_at t y.i fails.commit tidy fails.there
+
+    its : IsCommit t.here t.localities g.after
+    its = subst (IsCommit t.here t.localities) (sym refills.now) (still_commit t.here t.localities t.profile.credit_log fails.commit refills.k refills.ask id entry
+        (commit_of t.here t.localities t.profile.credit_log t.objects fails.commit was) was.split refills.there refills.for credit brings)
+
+    split : HasSplit t.profile.credit_log g.after
+    split = subst (HasSplit t.profile.credit_log) (sym refills.now) (still_split t.here t.localities t.profile.credit_log fails.commit refills.k refills.ask id entry
+        (commit_of t.here t.localities t.profile.credit_log t.objects fails.commit was) was.split refills.there refills.for credit brings)
+
+    pub left : IsLeftFailed g.after fails.place.standing (failed_remains g.after)
+    left = left_failed t.here t.localities t.profile.credit_log g.after its split given fails.place.standing fails.place.kept
+        (fails.place.state ∙ ap (λ (v : Waits). bare_state v.job.state) (sym refills.now))
+
+    pub must_then : MustFail y.i y.j mid
+    must_then = record {
+      commit = g.after;
+      there = now_there;
+      standing = fails.place.standing;
+      stands = ap (λ (x : Tables). slice_get x.objects y.j) g.rest ∙ fails.place.stands;
+      found = ap (λ (x : Tables). find (is_standing (target_of g.after.job.action)) x.objects) g.rest ∙ found_then;
+      left = left;
+    }
 
   pub plan_then : (w : Waits) → slice_get mid.pending y.i ≡ Some w → IsFailure w y.plan
   plan_then w h = subst (λ v. IsFailure v y.plan) (some_same g.after w (sym now_there ∙ h))

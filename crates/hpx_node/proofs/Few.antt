@@ -3,9 +3,9 @@ use Rattle.std.proofs.Common.{ℕ, List, [], ◌∷◌, ◌≤◌, length, lengt
 use Rattle.std.proofs.lemmas.Bool.{eq-eqb, ne_eqb, cases_eq}
 use Rattle.hpx_journal.specs.Data.{Id, Due}
 use Rattle.hpx_journal.specs.Entries.{Rules}
-use Rattle.hpx_journal.specs.Whole.{part, arrives, arrives_at}
-use Rattle.hpx_journal.specs.Laws.{outs, ins, outs_by}
-use Rattle.hpx_part.specs.Data.{Event, Entry, In, Out}
+use Rattle.hpx_journal.specs.Whole.{part}
+use Rattle.hpx_journal.specs.Laws.{outs, outs_by}
+use Rattle.hpx_part.specs.Data.{Event, Entry, Out}
 use Rattle.hpx_tables.specs.Tables.{Tables}
 use Rattle.hpx_steps.specs.Rest.{StandsWith}
 
@@ -17,14 +17,6 @@ outs_few : (es : List Entry) → length (outs es) ≤ length es
 outs_few [] = omega arith
 outs_few (e ∷ es) = omega (arith, length-append (outs_by e.at e.event) (outs es), outs_one e.at e.event, outs_few es)
 
-ins_one : (k : ℕ) (e : Event) → length (arrives_at k e) ≤ 1
-ins_one k (In bytes) = omega arith
-ins_one k _ = omega arith
-
-ins_few : (es : List Entry) → length (ins es) ≤ length es
-ins_few [] = omega arith
-ins_few (e ∷ es) = omega (arith, length-append (arrives e) (ins es), ins_one e.at e.event, ins_few es)
-
 part_few : (k : ℕ) (es : List Entry) → length (part k es) ≤ length es
 part_few k [] = omega arith
 part_few k (e ∷ es) = elim (cases_eq e.at k) [
@@ -34,6 +26,3 @@ part_few k (e ∷ es) = elim (cases_eq e.at k) [
 
 pub sent_few : (r : Rules) (t : Tables) (due : List Due) (loose : List Id) (es : List Entry) → StandsWith r t due loose es → t.sent ≤ length es
 sent_few r t due loose es h = omega (arith, h.sent, outs_few (part t.here es), part_few t.here es)
-
-pub taken_few : (r : Rules) (t : Tables) (due : List Due) (loose : List Id) (es : List Entry) → StandsWith r t due loose es → t.taken ≤ length es
-taken_few r t due loose es h = omega (arith, h.taken, ins_few (part t.here es), part_few t.here es)

@@ -9,16 +9,8 @@ use Rattle.hpx_part.specs.Parts.{at_all}
 use Rattle.hpx_tables.specs.Fit.{IsKept}
 use Rattle.hpx_tables.specs.Tables.{Tables}
 use Rattle.hpx_steps.specs.Rest.{IsTidy}
-use Rattle.hpx_steps.specs.Calls.{effects, up_of, ups, returned, freed}
-use Rattle.hpx_node.specs.Handled.{with_first}
-
-up_few : (id : Id) (log : Option ℕ) → length (up_of id log) ≤ 1
-up_few id None = omega arith
-up_few id (Some log) = omega arith
-
-ups_few : (ids : List Id) → length (ups ids) ≤ length ids
-ups_few [] = omega arith
-ups_few (id ∷ ids) = omega (arith, length-append (up_of id id.log) (ups ids), up_few id id.log, ups_few ids)
+use Rattle.hpx_steps.specs.Calls.{effects, returned, freed}
+use Rattle.hpx_node.proofs.PlanWeights.{ups_few}
 
 returned_few : (t : Tables) (id : Id) (log : Option ℕ) → length (returned t id log) ≤ 1
 returned_few t id None = omega arith
@@ -45,7 +37,7 @@ effects_few t (Ask id asker entry) tidy = omega arith
 effects_few t (Free o) tidy = freed_few t o tidy (find (is_standing o) t.objects) refl
 effects_few t _ tidy = omega arith
 
-at_all_length : (k : ℕ) (events : List Event) → length (at_all k events) ≡ length events
+pub at_all_length : (k : ℕ) (events : List Event) → length (at_all k events) ≡ length events
 at_all_length k [] = refl
 at_all_length k (e ∷ es) = ap suc (at_all_length k es)
 
@@ -61,17 +53,36 @@ grows_few k e t p before now after tidy one grows = omega (
   effects_few t p tidy,
 )
 
-pub popped_tidy : (p : Parcel) (t : Tables) → IsTidy (with_first p t) [] → IsTidy t []
-popped_tidy p t tidy = record {
+-- where the first message on the desk is taken from it
+pub popped_tidy : (p : Parcel) (t : Tables) (rest : List Parcel) → t.desk ≡ p ∷ rest → IsTidy t [] → IsTidy (record t { desk = rest }) []
+popped_tidy p t rest first whole =
+    let tidy : IsTidy (record t { desk = p ∷ rest }) [] = subst (λ d. IsTidy (record t { desk = d }) []) first whole in record {
+      accepted = tidy.accepted;
+      running = tidy.running;
+      paused = tidy.paused;
+      objects = tidy.objects;
+      messages = tidy.messages.1;
+      fit = tidy.fit;
+      moves = tidy.moves;
+      targets = tidy.targets;
+      ways = (tidy.ways.0, tidy.ways.1.1);
+      serves = tidy.serves;
+      drawn = tidy.drawn;
+      unborn = tidy.unborn;
+      places = tidy.places;
+    }
+
+pub taken_tidy : (t : Tables) (n : ℕ) → IsTidy t [] → IsTidy (record t { taken = n }) []
+taken_tidy t n tidy = record {
   accepted = tidy.accepted;
   running = tidy.running;
   paused = tidy.paused;
   objects = tidy.objects;
-  messages = tidy.messages.1;
+  messages = tidy.messages;
   fit = tidy.fit;
   moves = tidy.moves;
   targets = tidy.targets;
-  ways = (tidy.ways.0, tidy.ways.1.1);
+  ways = tidy.ways;
   serves = tidy.serves;
   drawn = tidy.drawn;
   unborn = tidy.unborn;

@@ -2,7 +2,7 @@
 use Rattle.std.proofs.Common.{ℕ, zero, suc, Bool, true, false, cond, List, [], ◌∷◌, ◌++◌, ◌≡◌, ◌+◌, ◌-◌, ◌<◌, ◌≤◌, ◌==◌, ◌&&◌, Option, Some, None, set, length, map, append_assoc, refl, sym, ap, ◌∙◌, arith, inl, inr}
 use Rattle.std.specs.Prelude.{flat_map, MatchOption, nat_le}
 use Rattle.std.specs.Option.{option_map}
-use Rattle.std.specs.List.{filter, sum_by, AllByRecursion}
+use Rattle.std.specs.List.{AllByRecursion}
 use Rattle.std.proofs.lemmas.Bool.{cases_Bool, ne_eqb}
 use Rattle.std.proofs.lemmas.Bool.Decides.{nat_tests}
 use Rattle.std.proofs.lemmas.List.{map-append}
@@ -13,25 +13,15 @@ use Rattle.hpx_value.specs.Shapes.{IsMessage, IsState}
 use Rattle.hpx_value.specs.Hands.{id_at}
 use Rattle.hpx_parcel.specs.Parcels.{HasRightCredit, HasCredit, IsMovable}
 use Rattle.hpx_journal.specs.Data.{Id, Message, State, Due, MessageDue, PrintDue}
-use Rattle.hpx_journal.specs.Names.{due_ids}
-use Rattle.hpx_part.specs.Data.{Token}
 use Rattle.hpx_commit.specs.Deals.{is_managed, named as named_times, managed_places, share, dealt, filled, unused, filled_due, ids_due, unnamed_from}
-use Rattle.hpx_commit.proofs.Naming.{managed}
-use Rattle.hpx_commit.proofs.Fills.{Fits, filled_same, unused_rest, filled_all, unused_all}
+use Rattle.hpx_commit.proofs.Naming.{filter_append, managed}
+use Rattle.hpx_commit.proofs.Fills.{Fits, head_is, none_is, tail_is, filled_same, unused_rest, filled_all, unused_all}
 use Rattle.hpx_steps.specs.Turn.{bare_due}
 use Rattle.hpx_tables.specs.Fit.{IsFitDue}
 use Rattle.hpx_tables.proofs.Alls.{all_append, all_set}
 use Rattle.hpx_node.proofs.HandFit.{credit_at}
-use Rattle.hpx_node.proofs.Sums.{weigh, weigh_append}
 
 -- ---- managed ids of appended lists
-
-filter_append : {X : Type 0} (p : X → Bool) (xs ys : List X) → filter p (xs ++ ys) ≡ filter p xs ++ filter p ys
-filter_append p [] ys = refl
-filter_append p (x ∷ xs) ys = elim (cases_Bool (p x)) [
-  | inl t ↦ rw t (ap (λ zs. x ∷ zs) (filter_append p xs ys))
-  | inr t ↦ rw t (filter_append p xs ys)
-]
 
 pub managed_append : (xs ys : List Id) → managed (map bare (xs ++ ys)) ≡ managed (map bare xs) ++ managed (map bare ys)
 managed_append xs ys = ap (λ zs. managed zs) (map-append bare xs ys) ∙ filter_append is_managed (map bare xs) (map bare ys)
@@ -64,12 +54,6 @@ pub length-filled_due : (due : List Due) (ds : List Id) → length (filled_due d
 length-filled_due [] ds = refl
 length-filled_due (PrintDue bytes ∷ due) ds = ap suc (length-filled_due due ds)
 length-filled_due (MessageDue m ∷ due) ds = ap suc (length-filled_due due (unused m.ids ds))
-
-head_is : (a b : Id) (xs ys : List Id) → a ∷ xs ≡ b ∷ ys → a ≡ b
-head_is a b xs ys h = cc
-
-none_is : (b : Id) (ys : List Id) → [] ≡ b ∷ ys → ⊥
-none_is b ys h = cc
 
 movable_same : (xs ys : List Id) → map bare ys ≡ map bare xs → IsMovable xs → IsMovable ys
 movable_same [] ys e h = absurd h
@@ -122,11 +106,6 @@ pub due_credit : (due : List Due) → AllByRecursion IsFitDue due → AllByRecur
 due_credit [] h = tt
 due_credit (PrintDue bytes ∷ due) h = due_credit due h.1
 due_credit (MessageDue m ∷ due) h = all_append HasRightCredit m.ids (flat_map ids_due due) h.0.sent.credit (due_credit due h.1)
-
-pub same_ids : (due : List Due) → flat_map due_ids due ≡ flat_map ids_due due
-same_ids [] = refl
-same_ids (PrintDue bytes ∷ due) = same_ids due
-same_ids (MessageDue m ∷ due) = ap (λ xs. m.ids ++ xs) (same_ids due)
 
 -- ---- what is dealt has its credits
 
@@ -196,29 +175,3 @@ plain_named hand other (x ∷ ps) (y ∷ qs) same all p un =
     let is : is_managed (id_at hand x) ≡ true = ap (nat_le 16) kind ∙ all.0 in
     let miss : (x == p) ≡ false = ne_eqb x p (λ e. true_not (sym is ∙ (ap (λ k. is_managed (id_at hand k)) e ∙ un))) in
     named_miss x ps p miss ∙ plain_named hand other ps qs (tail_is (bare (id_at hand x)) (bare (id_at other y)) (map (λ q. bare (id_at hand q)) ps) (map (λ q. bare (id_at other q)) qs) same) all.1 p un
-  where
-    tail_is : (a b : Id) (xs ys : List Id) → a ∷ xs ≡ b ∷ ys → xs ≡ ys
-    tail_is a b xs ys h = cc
-
--- ---- weights
-
-module _ (f : Token → ℕ) where
-  -- of one id
-  abbrev pub weigh_one : Id → ℕ
-  weigh_one id = weigh f (id ∷ [])
-
-  pub each_weighs : (ids : List Id) → weigh f ids ≡ sum_by weigh_one ids
-  each_weighs [] = refl
-  each_weighs (id ∷ ids) = omega (arith, weigh_append f (id ∷ []) ids, sum_by-cons weigh_one id ids, each_weighs ids)
-
-  unpaid : (id : Id) (log : Option ℕ) → id.log ≡ log → id.kind < 16 → MatchOption log (id.kind < 16) (λ l. 16 ≤ id.kind) → weigh f (id ∷ []) ≡ 0
-  unpaid id None e low h = rw e refl
-  unpaid id (Some l) e low h = absurd (omega (arith, low, h))
-
-  -- only managed ids weigh
-  pub weigh_managed : (ids : List Id) → AllByRecursion HasRightCredit ids → weigh f ids ≡ sum_by weigh_one (managed ids)
-  weigh_managed [] h = refl
-  weigh_managed (id ∷ ids) h = elim (cases_Bool (is_managed id)) [
-    | inl t ↦ rw t (omega (arith, weigh_append f (id ∷ []) ids, sum_by-cons weigh_one id (managed ids), weigh_managed ids h.1))
-    | inr t ↦ rw t (omega (arith, weigh_append f (id ∷ []) ids, weigh_managed ids h.1, unpaid id id.log refl (is_below id.kind t) h.0))
-  ]

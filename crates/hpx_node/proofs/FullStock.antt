@@ -1,5 +1,5 @@
 -- The stock of a commit that waited, once all credit has come: it names what the hand named, and each of its ids lasts.
-use Rattle.std.proofs.Common.{ℕ, zero, suc, true, false, None, List, [], ◌∷◌, ◌++◌, ◌≡◌, ◌≤◌, ◌<◌, ◌+◌, ◌⊎◌, Some, set, take, drop, map, length, length-append, append_assoc, refl, sym, ap, ◌∙◌, arith, inl, inr, subst, take-append-drop}
+use Rattle.std.proofs.Common.{ℕ, zero, suc, true, false, List, [], ◌∷◌, ◌++◌, ◌≡◌, ◌≤◌, ◌<◌, ◌+◌, ◌⊎◌, Some, set, take, drop, map, length, length-append, append_assoc, refl, sym, ap, ◌∙◌, arith, inl, inr, subst, take-append-drop}
 use Rattle.std.specs.Prelude.{nat_le, MatchOption, Option}
 use Rattle.std.proofs.lemmas.Bool.Decides.{nat_tests}
 use Rattle.std.specs.List.{AllByRecursion}
@@ -8,7 +8,6 @@ use Rattle.hpx_value.specs.Ids.{bare}
 use Rattle.hpx_value.specs.Hands.{id_at}
 use Rattle.hpx_parcel.specs.Parcels.{HasRightCredit}
 use Rattle.hpx_journal.specs.Data.{Id}
-use Rattle.hpx_part.specs.Data.{Token}
 use Rattle.hpx_commit.specs.Deals.{is_managed, half, log_of, named, unnamed, AreWithin, AllLast}
 use Rattle.hpx_commit.specs.Stocks.{Stock, take_half, take_halves, split_place, ahead_from, ahead, halvings, replaced_from, Lasting, SameNames}
 use Rattle.hpx_commit.proofs.Ahead.{ahead_is, ahead_same, names_then}
@@ -21,8 +20,6 @@ use Rattle.hpx_tables.proofs.Alls.{all_append, all_set}
 use Rattle.hpx_node.proofs.FilledDue.{share_credit}
 use Rattle.hpx_node.proofs.HandFit.{credit_at}
 use Rattle.hpx_node.proofs.LaterIds.{within_long}
-use Rattle.hpx_node.proofs.SplitHand.{weigh_bare}
-use Rattle.hpx_node.proofs.Sums.{weigh, weigh_append}
 
 -- ---- credits of halves
 
@@ -115,7 +112,7 @@ map_each g h [] e = refl
 map_each g h (p ∷ ps) e = ap (λ x. x ∷ map g ps) (e p) ∙ ap (λ xs. h p ∷ xs) (map_each g h ps e)
 
 -- other ids at the places from n on
-replaced_split : (n : ℕ) (new xs : List Id) (ps : List ℕ) → n + length new ≤ length xs
+pub replaced_split : (n : ℕ) (new xs : List Id) (ps : List ℕ) → n + length new ≤ length xs
     → replaced_from n new (record { hand = xs; places = ps }) ≡ record { hand = take n xs ++ (new ++ drop (length new) (drop n xs)); places = ps }
 replaced_split n [] xs ps le = ap (λ ys. record { hand = ys; places = ps }) (sym (take-append-drop n xs))
 replaced_split n (id ∷ new) xs ps le =
@@ -298,19 +295,6 @@ module _ (own old new : List Id) (ps : List ℕ) (hand : List Id) (log : ℕ) (l
 
   pub full_few : length full.hand ≤ length (own ++ new) + length ps
   full_few = omega (arith, full_long, ahead_few (length own) start fits within)
-
-  -- its credits are those that came and those of what it makes
-  pub full_weighs : AllByRecursion (λ (id : Id). id.log ≡ None) old → (f : Token → ℕ) → weigh f full.hand ≡ weigh f hand + weigh f new
-  full_weighs none f = omega (
-    arith,
-    ap (weigh f) full_hand,
-    ap (weigh f) hand_parts,
-    weigh_append f (take n hand) (new ++ halves),
-    weigh_append f (take n hand) (old ++ halves),
-    weigh_append f new halves,
-    weigh_append f old halves,
-    weigh_bare f old none,
-  )
 
   -- ---- who names them
 

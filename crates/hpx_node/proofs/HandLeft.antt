@@ -3,14 +3,13 @@ use Rattle.std.proofs.Common.{ℕ, true, false, List, [], ◌∷◌, ◌++◌, �
 use Rattle.std.specs.Prelude.{◌&&◌, not, is_some, MatchOption}
 use Rattle.std.specs.List.{AllByRecursion}
 use Rattle.std.proofs.lemmas.Bool.{cases_Bool, cases_eq, cases_lt}
-use Rattle.std.proofs.lemmas.List.{drop-drop, take-append-drop, length-drop, length-take, length-map}
+use Rattle.std.proofs.lemmas.List.{drop-drop, length-drop, length-take, length-map}
 use Rattle.hpx_value.specs.Ids.{bare}
 use Rattle.hpx_value.specs.Hands.{id_at}
 use Rattle.hpx_value.specs.Mentions.{mentions}
 use Rattle.hpx_value.specs.declared.outcome.Make.{Make}
 use Rattle.hpx_parcel.specs.Parcels.{HasRightCredit, HasCredit, IsBare}
 use Rattle.hpx_journal.specs.Data.{Id}
-use Rattle.hpx_part.specs.Data.{Token}
 use Rattle.hpx_commit.specs.Deals.{is_managed, log_of, named, managed_places, AreWithin}
 use Rattle.hpx_commit.specs.Failures.{action_ids, halves_ahead, state_failed}
 use Rattle.hpx_commit.specs.Stocks.{Stock, IsHalf}
@@ -25,9 +24,8 @@ use Rattle.hpx_steps.specs.Paused.{whole_stock, first_stock, HasSplit}
 use Rattle.hpx_tables.specs.Pending.{Waits, ids_named, own_ids, is_asked}
 use Rattle.hpx_tables.proofs.Alls.{all_append, all_parts}
 use Rattle.hpx_node.proofs.FilledDue.{is_least, is_below}
-use Rattle.hpx_node.proofs.Places.{take_parts, take_at, drop_at, left_at, right_at, names_at, all_places, place_of_all}
-use Rattle.hpx_node.proofs.SplitHand.{weigh_bare}
-use Rattle.hpx_node.proofs.Sums.{weigh, weigh_append}
+use Rattle.hpx_steps.proofs.Hands.{names_place, take_place}
+use Rattle.hpx_node.proofs.Places.{take_parts, drop_at, left_at, right_at, all_places, place_of_all}
 
 -- a named place of a managed object is of a managed id
 named_managed : (hand : List Id) (ps : List ℕ) (p : ℕ) → 1 ≤ named (managed_places hand ps) p → is_managed (id_at hand p) ≡ true
@@ -166,33 +164,22 @@ module _ (w : Waits) (hand : List Id) (fit : IsFitJob w.job) (made : List Id)
     ahead_few n whole fits within,
   )
 
-  -- ---- weights
-
   made_none : AllByRecursion (λ (id : Id). id.log ≡ None) (take m (drop n first.hand))
   made_none = all_places (λ (id : Id). id.log ≡ None) (take m (drop n first.hand)) (λ p lt.
       let less : p < m = omega (arith, lt, length-take m (drop n first.hand)) in
       let is : id_at (take m (drop n first.hand)) p ≡ id_at made p =
-      take_at m (drop n first.hand) p less
+      take_place m (drop n first.hand) p less
       ∙ (drop_at n first.hand p
       ∙ (((ahead_is n whole fits within).rest (n + p) (omega arith) (omega (arith, size, less))).part
       ∙ (ap (λ (xs : List Id). id_at xs (n + p)) hand_is ∙ right_at (ids_named w) made p))) in
       ap (λ (x : Id). x.log) is ∙ (place_of_all IsBare made p none less).0)
 
-  pub hand_weighs : (f : Token → ℕ) → weigh f hand
-      ≡ weigh f (state_failed w.job.state hand).ids + weigh f (action_ids w.job.state w.job.action hand)
-      + weigh f (halves_ahead w.job.state w.job.action (length w.outcome.makes) hand)
-  hand_weighs f = omega (
-    arith,
-    ap (weigh f) (sym (take-append-drop n hand)),
-    weigh_append f (take n hand) (drop n hand),
-    ap (weigh f) own_parts,
-    weigh_append f (state_failed w.job.state hand).ids (action_ids w.job.state w.job.action hand),
-    ap (weigh f) rest,
-    ap (weigh f) (sym (take-append-drop m (drop n first.hand))),
-    weigh_append f (take m (drop n first.hand)) (drop m (drop n first.hand)),
-    weigh_bare f (take m (drop n first.hand)) made_none,
-    ap (weigh f) (drop-drop m n first.hand ∙ (ap (λ k. drop k first.hand) (sym size) ∙ sym behind)),
-  )
+  -- what would have been made has no credit
+  pub later_none : AllByRecursion (λ (id : Id). id.log ≡ None) (take (length w.outcome.makes) (drop (length w.job.state.ids + length w.job.action.ids) hand))
+  later_none =
+      subst (λ k. AllByRecursion (λ (id : Id). id.log ≡ None) (take makes (drop k hand))) (length-append w.job.state.ids w.job.action.ids)
+      (subst (λ k. AllByRecursion (λ (id : Id). id.log ≡ None) (take k (drop n hand))) (sym makes_is)
+      (subst (λ ids. AllByRecursion (λ (id : Id). id.log ≡ None) (take m ids)) (sym rest) made_none))
 
 -- ---- the ids of its object and of its action, once nothing is asked for
 
@@ -219,8 +206,8 @@ module _ (w : Waits) (log : ℕ) (fit : IsFitJob w.job) (split : HasSplit log w)
   kind_is : (p : ℕ) → p < own → (id_at w.hand p).kind ≡ (id_at start.hand p).kind
   kind_is p lt =
       ap (λ (x : Id). x.kind)
-      (ap bare (sym (take_at own w.hand p lt))
-      ∙ (names_at (own_ids w) (ids_named w) names p ∙ ap bare (sym (ap (λ (xs : List Id). id_at xs p) start_is ∙ left_at (ids_named w) split.made p lt))))
+      (ap bare (sym (take_place own w.hand p lt))
+      ∙ (names_place (own_ids w) (ids_named w) names p ∙ ap bare (sym (ap (λ (xs : List Id). id_at xs p) start_is ∙ left_at (ids_named w) split.made p lt))))
 
   low_none : (p : ℕ) → p < own → (id_at w.hand p).kind < 16 → is_some (id_at w.hand p).log ≡ false
   low_none p lt low =
@@ -249,7 +236,7 @@ module _ (w : Waits) (log : ℕ) (fit : IsFitJob w.job) (split : HasSplit log w)
   own_right : AllByRecursion HasRightCredit (own_ids w)
   own_right = all_places HasRightCredit (own_ids w) (λ p lt.
       let less : p < own = omega (arith, lt, length-take own w.hand) in
-      subst HasRightCredit (sym (take_at own w.hand p less)) (own_at p less))
+      subst HasRightCredit (sym (take_place own w.hand p less)) (own_at p less))
 
   both_right : AllByRecursion HasRightCredit (state_failed w.job.state w.hand).ids × AllByRecursion HasRightCredit (action_ids w.job.state w.job.action w.hand)
   both_right = all_parts HasRightCredit (state_failed w.job.state w.hand).ids (action_ids w.job.state w.job.action w.hand)

@@ -1,5 +1,5 @@
 -- Once all credit of a commit that waited has come, its stock may be dealt.
-use Rattle.std.proofs.Common.{ℕ, zero, suc, true, false, None, List, [], ◌∷◌, ◌++◌, ◌≡◌, ◌≤◌, ◌<◌, ◌+◌, Some, drop, map, length, length-append, append_assoc, refl, sym, ap, ◌∙◌, arith, inl, inr, subst}
+use Rattle.std.proofs.Common.{ℕ, zero, suc, true, false, List, [], ◌∷◌, ◌++◌, ◌≡◌, ◌≤◌, ◌<◌, ◌+◌, Some, drop, map, length, length-append, append_assoc, refl, sym, ap, ◌∙◌, arith, inl, inr, subst}
 use Rattle.std.specs.Prelude.{nat_le}
 use Rattle.std.specs.List.{AllByRecursion, slice_index_or}
 use Rattle.std.proofs.lemmas.Bool.{cases_Bool}
@@ -13,7 +13,6 @@ use Rattle.hpx_value.specs.declared.acts.Job.{Job}
 use Rattle.hpx_value.specs.declared.outcome.Make.{Make}
 use Rattle.hpx_parcel.specs.Parcels.{IsBare, HasRightCredit}
 use Rattle.hpx_journal.specs.Data.{Id, State, Act, Outcome}
-use Rattle.hpx_part.specs.Data.{Token}
 use Rattle.hpx_commit.specs.Deals.{is_managed, log_of, named, managed_places, places_named, AreWithin}
 use Rattle.hpx_commit.specs.Stocks.{Stock, ahead, replaced_from, Lasting, SameNames}
 use Rattle.hpx_commit.proofs.Ahead.{ahead_same}
@@ -25,11 +24,10 @@ use Rattle.hpx_tables.specs.Pending.{Waits, ids_named, own_ids}
 use Rattle.hpx_node.specs.Resumes.{full_stock}
 use Rattle.hpx_tables.specs.Tables.{Tables}
 use Rattle.hpx_node.proofs.FilledDue.{plain_named, managed_named, named_cons}
-use Rattle.hpx_node.proofs.FullStock.{full, full_own, full_bare, split_places, hand_long, full_size, full_names, full_right, full_few, full_lasts, full_weighs}
+use Rattle.hpx_node.proofs.FullStock.{full, full_own, full_bare, split_places, hand_long, full_size, full_names, full_right, full_few, full_lasts}
 use Rattle.hpx_node.proofs.HandFit.{kind_of, hand_kinds_are}
 use Rattle.hpx_node.proofs.Planned.{made_kinds, made_credit, own_within, own_managed, hand_has}
 use Rattle.hpx_node.proofs.PlanLimits.{own_few, own_places}
-use Rattle.hpx_node.proofs.Sums.{weigh}
 
 -- ---- kinds
 
@@ -94,10 +92,6 @@ log_behind log [] (y ∷ ys) zero h le lt = h.0
 log_behind log [] (y ∷ ys) (suc p) h le lt = log_behind log [] ys p h.1 (omega arith) (omega (arith, lt))
 log_behind log (x ∷ xs) ys zero h le lt = absurd (omega (arith, le))
 log_behind log (x ∷ xs) ys (suc p) h le lt = log_behind log xs ys p h (omega (arith, le)) (omega (arith, lt))
-
-none_bare : (ids : List Id) → AllByRecursion IsBare ids → AllByRecursion (λ (id : Id). id.log ≡ None) ids
-none_bare [] h = tt
-none_bare (id ∷ ids) h = (h.0.0, none_bare ids h.1)
 
 -- ---- a commit that waited
 
@@ -184,11 +178,6 @@ module _ (t : Tables) (w : Waits) (fit : IsFitJob w.job) (few : t.localities ≤
 
   full_is : full_stock t w ≡ full own old new ps w.hand t.profile.credit_log long within rest_is front
   full_is = ap (λ qs. replaced_from (length own) new (record { hand = w.hand; places = qs })) (places ∙ ap (λ (s : Stock). s.places) first_is)
-
-  pub come_weighs : (f : Token → ℕ) → weigh f (full_stock t w).hand ≡ weigh f w.hand + weigh f (made_of t w.outcome)
-  come_weighs f =
-      ap (λ (s : Stock). weigh f s.hand) full_is
-      ∙ full_weighs own old new ps w.hand t.profile.credit_log long within rest_is front (none_bare old none) f
 
   pub come_long : length (ids_named w) + length (made_of t w.outcome) ≤ length w.hand
   come_long = hand_long own old new ps w.hand t.profile.credit_log long within rest_is front

@@ -1,34 +1,13 @@
 -- What is accepted for good is fired, or waits still.
-use Rattle.std.proofs.Common.{ℕ, List, [], ◌∷◌, ◌++◌, ◌≡◌, ◌+◌, ◌≤◌, Option, Some, None, map, refl, ap, arith}
+use Rattle.std.proofs.Common.{ℕ, List, [], ◌∷◌, ◌++◌, ◌≡◌, ◌+◌, ◌≤◌, Option, Some, None, map, refl, arith}
 use Rattle.std.specs.List.{sum_by}
-use Rattle.std.proofs.lemmas.List.Sums.{sum_by-cons, sum_by-append}
+use Rattle.std.proofs.lemmas.List.Sums.{sum_by-cons}
 use Rattle.hpx_journal.specs.Data.{Parcel}
 use Rattle.hpx_journal.specs.Entries.{Rules}
 use Rattle.hpx_part.specs.Data.{Entry, Event, Line, Fire, Split, Born, Done, Sent, Print, Up, Asked, Given, Count, Freed, Left, Landed, Looked, Mail, Out, In}
-use Rattle.hpx_part.specs.Parts.{at_all}
 use Rattle.hpx_steps.specs.Rows.{Actions, brings, weight, owes, weighed, goes, causes, hops, sets_out, spends, joins, fires_one, AreFired}
 
 -- ---- entry by entry
-
-pub joins_spends : (r : Rules) (e : Event) → joins e ≤ spends r e
-joins_spends r (Line a bytes) = omega arith
-joins_spends r (Fire a) = omega arith
-joins_spends r (Split o log) = omega arith
-joins_spends r (Born o s) = omega arith
-joins_spends r (Done a failed) = omega arith
-joins_spends r (Sent a) = omega arith
-joins_spends r (Print bytes) = omega arith
-joins_spends r (Up o log) = omega arith
-joins_spends r (Asked o) = omega arith
-joins_spends r (Given o log) = omega arith
-joins_spends r (Count o count why) = omega arith
-joins_spends r (Freed o) = omega arith
-joins_spends r (Left o to) = omega arith
-joins_spends r (Landed o) = omega arith
-joins_spends r (Looked o hit) = omega arith
-joins_spends r (Mail kind) = omega arith
-joins_spends r (Out to bytes) = omega arith
-joins_spends r (In bytes) = omega arith
 
 same_weighed : (x : Option Parcel) → weighed brings x + 0 ≡ weighed (weight Actions) x + 0
 same_weighed None = refl
@@ -80,10 +59,6 @@ hops_one r (Mail kind) = refl
 hops_one r (Out to bytes) = refl
 hops_one r (In bytes) = same_owed (r.parcel_of bytes)
 
-joins_sum : (r : Rules) (es : List Event) → sum_by joins es ≤ sum_by (spends r) es
-joins_sum r [] = omega arith
-joins_sum r (e ∷ es) = omega (arith, sum_by-cons joins e es, sum_by-cons (spends r) e es, joins_spends r e, joins_sum r es)
-
 pub spends_sum : (r : Rules) (es : List Event) → sum_by (spends r) es + sum_by fires_one es ≡ sum_by (goes r Actions) es + sum_by joins es
 spends_sum r [] = refl
 spends_sum r (e ∷ es) = omega (
@@ -98,42 +73,15 @@ spends_sum r (e ∷ es) = omega (
 
 -- ---- from each entry on
 
--- where nothing spends
-pub calm_fired : (r : Rules) (n : ℕ) (es : List Event) → sum_by (spends r) es ≡ 0 → AreFired n es
-calm_fired r n [] none = tt
-calm_fired r n (e ∷ es) none = (
-  omega (arith, none, joins_sum r (e ∷ es)),
-  calm_fired r n es (omega (arith, none, sum_by-cons (spends r) e es)),
-)
-
--- one entry with which nothing joins
-pub one_fired : (n : ℕ) (e : Event) → joins e ≡ 0 → AreFired n (e ∷ [])
-one_fired n e none = (omega (arith, none, sum_by-cons joins e []), tt)
-
 pub fired_first : (n : ℕ) (es : List Event) → AreFired n es → sum_by joins es ≤ sum_by fires_one es + n
 fired_first n [] h = omega arith
 fired_first n (e ∷ es) h = h.0
-
--- one before them with which nothing joins
-pub fired_then : (n : ℕ) (e : Event) (es : List Event) → joins e ≡ 0 → AreFired n es → AreFired n (e ∷ es)
-fired_then n e es none h = (omega (arith, none, fired_first n es h, sum_by-cons joins e es, sum_by-cons fires_one e es), h)
-
-pub fired_append : (n m : ℕ) (es fs : List Event) → AreFired n es → sum_by joins fs + n ≤ sum_by fires_one fs + m → AreFired m fs → AreFired m (es ++ fs)
-fired_append n m [] fs h step later = later
-fired_append n m (e ∷ es) fs h step later = (
-  omega (arith, h.0, step, sum_by-append joins (e ∷ es) fs, sum_by-append fires_one (e ∷ es) fs),
-  fired_append n m es fs h.1 step later,
-)
 
 pub fired_last : (n : ℕ) (es fs : List Event) → AreFired n (es ++ fs) → AreFired n fs
 fired_last n [] fs h = h
 fired_last n (e ∷ es) fs h = fired_last n es fs h.1
 
 -- ---- entries of a journal
-
-pub at_events : (k : ℕ) (es : List Event) → map (λ (e : Entry). e.event) (at_all k es) ≡ es
-at_events k [] = refl
-at_events k (e ∷ es) = ap (λ xs. e ∷ xs) (at_events k es)
 
 pub sum_events : (f : Event → ℕ) (es : List Entry) → sum_by f (map (λ (e : Entry). e.event) es) ≡ sum_by (λ (e : Entry). f e.event) es
 sum_events f [] = refl

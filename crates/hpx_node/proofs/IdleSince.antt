@@ -12,7 +12,7 @@ use Rattle.hpx_tables.specs.declared.kept.Outgoing.{Outgoing}
 use Rattle.hpx_tables.specs.Tables.{Tables, IsPassive, messages}
 use Rattle.hpx_steps.specs.Rows.{Row, Actions, weight, goes, causes, hops, sets_out, spends, AreFired}
 use Rattle.hpx_steps.specs.Rest.{queued, unpaid, StandsWith}
-use Rattle.hpx_node.proofs.IdleRows.{by_rows}
+use Rattle.hpx_steps.proofs.ByRows.{by_rows}
 use Rattle.hpx_node.proofs.IdleFired.{spends_sum, hops_sum, fired_first, fired_last, sum_events}
 
 none_queued : (row : Row) → queued row [] ≡ 0

@@ -28,7 +28,7 @@ use Rattle.hpx_tables.specs.Pending.{Waits, action_of}
 use Rattle.hpx_tables.specs.Tables.{Tables, IsPassive, messages}
 use Rattle.hpx_steps.specs.Turn.{bare_standing, parcel_tokens}
 use Rattle.hpx_steps.specs.Rest.{view, IsTidy}
-use Rattle.hpx_node.proofs.Cover.{held_counts, held_each}
+use Rattle.hpx_steps.proofs.Cover.{held_counts, held_each}
 use Rattle.hpx_node.proofs.Sums.{weigh, weigh_append, tokens_sum, view_sum}
 
 -- ---- worths look at no credit of an id

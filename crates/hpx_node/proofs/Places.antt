@@ -1,12 +1,8 @@
 -- Ids at places of lists.
-use Rattle.std.proofs.Common.{ℕ, zero, suc, Bool, true, false, List, [], ◌∷◌, ◌++◌, ◌≡◌, ◌+◌, ◌<◌, map, take, drop, length, refl, sym, ap, ◌∙◌, arith}
-use Rattle.std.specs.Prelude.{◌||◌}
-use Rattle.std.specs.List.{list_any, AllByRecursion}
-use Rattle.hpx_value.specs.Ids.{bare, same_object}
+use Rattle.std.proofs.Common.{ℕ, zero, suc, List, [], ◌∷◌, ◌++◌, ◌≡◌, ◌+◌, ◌<◌, take, drop, length, refl, sym, ap, ◌∙◌, arith}
+use Rattle.std.specs.List.{AllByRecursion}
 use Rattle.hpx_value.specs.Hands.{id_at}
 use Rattle.hpx_journal.specs.Data.{Id}
-use Rattle.hpx_journal.proofs.Same.{same_object-refl}
-use Rattle.hpx_node.proofs.Bare.{id_at-bare}
 
 take_none : (n : ℕ) → take {A = Id} n [] ≡ []
 take_none zero = refl
@@ -16,12 +12,6 @@ pub take_parts : (xs ys ids : List Id) → take (length (xs ++ ys)) ids ≡ take
 take_parts [] ys ids = refl
 take_parts (x ∷ xs) ys [] = sym (take_none (length ys))
 take_parts (x ∷ xs) ys (id ∷ ids) = ap (λ zs. id ∷ zs) (take_parts xs ys ids)
-
-pub take_at : (n : ℕ) (ids : List Id) (p : ℕ) → p < n → id_at (take n ids) p ≡ id_at ids p
-take_at zero ids p lt = absurd (omega (arith, lt))
-take_at (suc n) [] p lt = refl
-take_at (suc n) (x ∷ xs) zero lt = refl
-take_at (suc n) (x ∷ xs) (suc p) lt = take_at n xs p (omega (arith, lt))
 
 pub drop_at : (n : ℕ) (ids : List Id) (p : ℕ) → id_at (drop n ids) p ≡ id_at ids (n + p)
 drop_at zero ids p = ap (id_at ids) (plus p)
@@ -49,9 +39,6 @@ right_at (x ∷ xs) ys p = ap (id_at (x ∷ (xs ++ ys))) (plus (length xs) p) �
     plus : (n p : ℕ) → suc n + p ≡ suc (n + p)
     plus n p = omega arith
 
-pub names_at : (xs ys : List Id) → map bare xs ≡ map bare ys → (p : ℕ) → bare (id_at xs p) ≡ bare (id_at ys p)
-names_at xs ys e p = sym (id_at-bare xs p) ∙ (ap (λ zs. id_at zs p) e ∙ id_at-bare ys p)
-
 module _ (P : Id → Type 0) where
   pub all_places : (ids : List Id) → ((p : ℕ) → p < length ids → P (id_at ids p)) → AllByRecursion P ids
   all_places [] h = tt
@@ -61,14 +48,3 @@ module _ (P : Id → Type 0) where
   place_of_all [] p h lt = absurd (omega (arith, lt))
   place_of_all (x ∷ xs) zero h lt = h.0
   place_of_all (x ∷ xs) (suc p) h lt = place_of_all xs p h.1 (omega (arith, lt))
-
--- an id of the object of one at a place names one of them
-pub any_place : (o : Id) (ids : List Id) (p : ℕ) → p < length ids → bare o ≡ bare (id_at ids p) → list_any (same_object o) ids ≡ true
-any_place o [] p lt same = absurd (omega (arith, lt))
-any_place o (x ∷ xs) zero lt same =
-    let here : same_object o x ≡ true = ap (λ (y : Id). same_object o y) (sym same) ∙ same_object-refl o in rw here refl
-any_place o (x ∷ xs) (suc p) lt same = rw (any_place o xs p (omega (arith, lt)) same) (or_true (same_object o x))
-  where
-    or_true : (b : Bool) → (b || true) ≡ true
-    or_true true = refl
-    or_true false = refl

@@ -1,23 +1,26 @@
 -- A whole commit is short and light.
-use Rattle.std.proofs.Common.{ℕ, false, List, ◌∷◌, ◌++◌, ◌≤◌, length, length-append, map, arith}
-use Rattle.std.proofs.lemmas.List.{length-map}
-use Rattle.hpx_value.specs.Ids.{bare}
+use Rattle.std.proofs.Common.{ℕ, suc, false, List, [], ◌∷◌, ◌++◌, ◌≡◌, ◌+◌, ◌≤◌, length, length-append, map, refl, ap, arith}
 use Rattle.hpx_value.specs.Laws.{KeepsLaws}
 use Rattle.hpx_value.specs.declared.acts.Job.{Job}
 use Rattle.hpx_journal.specs.Data.{Outcome}
 use Rattle.hpx_journal.specs.Entries.{name_of}
-use Rattle.hpx_part.specs.Data.{Event, Done, Up}
-use Rattle.hpx_commit.specs.Deals.{log_of, unnamed}
+use Rattle.hpx_part.specs.Data.{Event, Done}
+use Rattle.hpx_commit.specs.Deals.{unnamed}
+use Rattle.hpx_tables.specs.declared.births.Birth.{Birth}
 use Rattle.hpx_tables.specs.Births.{birth_of, births_of}
 use Rattle.hpx_commit.specs.Stocks.{Stock}
 use Rattle.hpx_tables.specs.Splits.{splits_from}
-use Rattle.hpx_node.specs.Commits.{IsStock, written, ups}
+use Rattle.hpx_steps.specs.Calls.{ups, written_due}
+use Rattle.hpx_node.specs.Commits.{IsStock}
 use Rattle.hpx_tables.specs.Jobs.{IsFitJob}
 use Rattle.hpx_tables.specs.Tables.{Tables}
 use Rattle.hpx_node.proofs.Planned.{made, outcome_due, made_fit}
 use Rattle.hpx_node.proofs.PlanLimits.{makes_few, replies_few, ups_few, cuts_limit, few_due}
-use Rattle.hpx_node.proofs.PlanWeights.{written_few, weighs, weighs_append, weighs_cons, births_light, splits_light, ups_light, written_light}
-use Rattle.hpx_node.proofs.Stays.{births_long}
+use Rattle.hpx_node.proofs.PlanWeights.{ups_few as written_ups, written_few, weighs, weighs_append, weighs_cons, births_light, splits_light, ups_light, written_light}
+
+births_long : (here n : ℕ) (xs : List Birth) → length (births_of here n xs) ≡ length xs
+births_long here n [] = refl
+births_long here n (x ∷ xs) = ap suc (births_long here (n + 1) xs)
 
 module _ (t : Tables) (job : Job) (out : Outcome) (fit : IsFitJob job) (few : t.localities ≤ 64)
     (laws : KeepsLaws t.localities job.kind job.at job.state job.action out) (s : Stock) (is : IsStock t job out s) where
@@ -28,7 +31,7 @@ module _ (t : Tables) (job : Job) (out : Outcome) (fit : IsFitJob job) (few : t.
   halvings = splits_from 0 s.hand s.places
 
   abbrev due : List Event
-  due = written t.here t.serial (outcome_due t job out fit few laws)
+  due = written_due t.here t.serial (outcome_due t job out fit few laws)
 
   abbrev last : List Event
   last = ups (unnamed s.hand s.places)
@@ -47,7 +50,7 @@ module _ (t : Tables) (job : Job) (out : Outcome) (fit : IsFitJob job) (few : t.
     cuts_limit t job out fit few laws s is,
     written_few t.here t.serial (outcome_due t job out fit few laws),
     few_due job.state job.action (made t job out fit few laws) out laws.few.sends (replies_few t job out fit few laws) laws.few.prints,
-    length-map (unnamed s.hand s.places) (λ id. Up (bare id) (log_of id.log)),
+    written_ups (unnamed s.hand s.places),
     ups_few t job out fit few laws s is,
   )
 

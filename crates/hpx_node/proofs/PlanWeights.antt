@@ -1,5 +1,5 @@
 -- What the entries of a commit weigh.
-use Rattle.std.proofs.Common.{ℕ, zero, suc, List, [], ◌∷◌, ◌++◌, ◌≡◌, ◌+◌, ◌≤◌, length, length-append, map, refl, ap, ◌∙◌, arith}
+use Rattle.std.proofs.Common.{ℕ, zero, suc, List, [], ◌∷◌, ◌++◌, ◌≡◌, ◌+◌, ◌≤◌, Option, Some, None, length, length-append, map, refl, ap, ◌∙◌, arith}
 use Rattle.std.specs.Prelude.{◌*◌}
 use Rattle.std.specs.List.{sum_by, AllByRecursion}
 use Rattle.std.proofs.lemmas.List.Sums.{sum_by-cons, sum_by-append}
@@ -13,7 +13,7 @@ use Rattle.hpx_commit.specs.Deals.{half, log_of, named, filled_due, unused}
 use Rattle.hpx_tables.specs.declared.births.Birth.{Birth}
 use Rattle.hpx_tables.specs.Births.{IsBirth, births_of}
 use Rattle.hpx_tables.specs.Splits.{cuts, splits_from}
-use Rattle.hpx_node.specs.Commits.{written, ups}
+use Rattle.hpx_steps.specs.Calls.{up_of, ups, written_due}
 use Rattle.hpx_tables.proofs.Cutting.{at_all_append}
 
 -- what is due, in the weight of its entries
@@ -22,16 +22,24 @@ due_weight (MessageDue m) = 64
 due_weight (PrintDue bytes) = 64 + length bytes
 
 -- nothing that was dealt is written
-pub written_same : (here serial : ℕ) (due : List Due) (ds : List Id) → written here serial (filled_due due ds) ≡ written here serial due
+pub written_same : (here serial : ℕ) (due : List Due) (ds : List Id) → written_due here serial (filled_due due ds) ≡ written_due here serial due
 written_same here serial [] ds = refl
 written_same here serial (MessageDue m ∷ rest) ds =
     ap (λ es. Sent (record { origin = here; serial = serial + 1 }) ∷ es) (written_same here (serial + 1) rest (unused m.ids ds))
 written_same here serial (PrintDue bytes ∷ rest) ds = ap (λ es. Print bytes ∷ es) (written_same here serial rest ds)
 
-pub written_few : (here serial : ℕ) (due : List Due) → length (written here serial due) ≡ length due
+pub written_few : (here serial : ℕ) (due : List Due) → length (written_due here serial due) ≡ length due
 written_few here serial [] = refl
 written_few here serial (MessageDue m ∷ rest) = ap suc (written_few here (serial + 1) rest)
 written_few here serial (PrintDue bytes ∷ rest) = ap suc (written_few here serial rest)
+
+up_few : (id : Id) (l : Option ℕ) → length (up_of id l) ≤ 1
+up_few id None = omega arith
+up_few id (Some log) = omega arith
+
+pub ups_few : (ids : List Id) → length (ups ids) ≤ length ids
+ups_few [] = omega arith
+ups_few (id ∷ ids) = omega (arith, length-append (up_of id id.log) (ups ids), up_few id id.log, ups_few ids)
 
 messages_light : {X : Type 0} (make : X → Message) (xs : List X) → sum_by due_weight (map (λ x. MessageDue (make x)) xs) ≡ 64 * length xs
 messages_light make [] = refl
@@ -92,21 +100,25 @@ module _ (k : ℕ) where
     length-append (cuts id (named ps p)) (splits_from (p + 1) ids ps),
   )
 
-  pub ups_light : (ids : List Id) → weighs (ups ids) ≡ 64 * length ids
-  ups_light [] = refl
-  ups_light (id ∷ ids) = omega (arith, weighs_cons (Up (bare id) (log_of id.log)) (ups ids), ups_light ids)
+  pub ups_light : (ids : List Id) → weighs (ups ids) ≤ 64 * length ids
+  ups_light [] = omega arith
+  ups_light (id ∷ ids) = omega (arith, weighs_append (up_of id id.log) (ups ids), one id id.log, ups_light ids)
+    where
+      one : (id : Id) (l : Option ℕ) → weighs (up_of id l) ≤ 64
+      one id None = omega arith
+      one id (Some log) = omega (arith, weighs_cons (Up (bare id) log) [])
 
-  pub weighs_due : (here serial : ℕ) (due : List Due) → weighs (written here serial due) ≡ sum_by due_weight due
+  pub weighs_due : (here serial : ℕ) (due : List Due) → weighs (written_due here serial due) ≡ sum_by due_weight due
   weighs_due here serial [] = refl
   weighs_due here serial (MessageDue m ∷ rest) = omega (
     arith,
-    weighs_cons (Sent (record { origin = here; serial = serial + 1 })) (written here (serial + 1) rest),
+    weighs_cons (Sent (record { origin = here; serial = serial + 1 })) (written_due here (serial + 1) rest),
     sum_by-cons due_weight (MessageDue m) rest,
     weighs_due here (serial + 1) rest,
   )
   weighs_due here serial (PrintDue bytes ∷ rest) = omega (
     arith,
-    weighs_cons (Print bytes) (written here serial rest),
+    weighs_cons (Print bytes) (written_due here serial rest),
     sum_by-cons due_weight (PrintDue bytes) rest,
     weighs_due here serial rest,
   )
@@ -114,6 +126,6 @@ module _ (k : ℕ) where
   -- what is due is not heavy
   pub written_light : (here serial : ℕ) (s : State) (a : Act) (made : List Id) (out : Outcome)
       → length out.sends ≤ 32 → length out.replies ≤ 129 → length out.prints ≤ 16
-      → AllByRecursion (λ bytes. length bytes ≤ 16384) out.prints → weighs (written here serial (due_of s a made out)) ≤ 273472
+      → AllByRecursion (λ bytes. length bytes ≤ 16384) out.prints → weighs (written_due here serial (due_of s a made out)) ≤ 273472
   written_light here serial s a made out h i j short =
       omega (arith, weighs_due here serial (due_of s a made out), light_due s a made out h i j short)

@@ -1,9 +1,9 @@
 -- A commit that is planned keeps what a plan promises.
-use Rattle.std.proofs.Common.{ℕ, suc, true, List, [], ◌∷◌, ◌≡◌, ◌+◌, ◌≤◌, length, map, append-nil, refl, sym, ap, ◌∙◌, arith}
+use Rattle.std.proofs.Common.{ℕ, suc, true, List, [], ◌∷◌, ◌≡◌, ◌+◌, ◌≤◌, length, map, append-nil, refl, sym, ap, ◌∙◌}
 use Rattle.std.specs.Prelude.{flat_map}
-use Rattle.std.specs.List.{sum_by, AllByRecursion}
+use Rattle.std.specs.List.{AllByRecursion}
 use Rattle.hpx_value.specs.Ids.{bare}
-use Rattle.hpx_value.specs.Values.{bare_act, bare_state, message_of, named, refs_in}
+use Rattle.hpx_value.specs.Values.{bare_act, bare_state, refs_in}
 use Rattle.hpx_value.specs.Shapes.{IsState}
 use Rattle.hpx_value.specs.Hands.{id_at, hand_ids, hand_slots, due_of, state_after}
 use Rattle.hpx_value.specs.Laws.{KeepsLaws, IsManaged, birth_state, uses}
@@ -12,27 +12,22 @@ use Rattle.hpx_value.proofs.Uses.{used_below}
 use Rattle.hpx_value.specs.declared.acts.Job.{Job}
 use Rattle.hpx_value.specs.declared.outcome.Make.{Make}
 use Rattle.hpx_parcel.specs.Parcels.{HasRightCredit, HasCredit}
-use Rattle.hpx_journal.specs.Data.{Id, Act, State, Outcome, Due}
-use Rattle.hpx_journal.specs.Names.{due_ids}
-use Rattle.hpx_part.specs.Data.{Token}
-use Rattle.hpx_commit.specs.Deals.{is_managed, dealt, filled, unused, filled_due, ids_due, places_named, shared_from, unnamed, AreWithin}
+use Rattle.hpx_journal.specs.Data.{Id, State, Outcome, Due}
+use Rattle.hpx_commit.specs.Deals.{is_managed, dealt, filled, unused, filled_due, ids_due, places_named, unnamed, AreWithin}
 use Rattle.hpx_commit.specs.Stocks.{Stock}
 use Rattle.hpx_commit.proofs.Naming.{managed, names_match, places_within}
-use Rattle.hpx_commit.proofs.Fills.{Fits, filled_same, unused_rest, filled_sums, due_filled, filled_all, unused_all}
-use Rattle.hpx_commit.proofs.Deals.{names_dealt, sums_dealt}
+use Rattle.hpx_commit.proofs.Fills.{Fits, filled_same, unused_rest, filled_all, unused_all}
+use Rattle.hpx_commit.proofs.Deals.{names_dealt}
 use Rattle.hpx_tables.specs.declared.births.Birth.{Birth}
 use Rattle.hpx_tables.specs.Births.{IsBirth, birth_of, ids_of}
 use Rattle.hpx_node.specs.Commits.{IsStock}
 use Rattle.hpx_tables.specs.Fit.{IsFitDue}
 use Rattle.hpx_tables.specs.Jobs.{IsFitJob}
 use Rattle.hpx_steps.specs.Turn.{bare_due}
-use Rattle.hpx_steps.specs.Rest.{rules_of}
 use Rattle.hpx_tables.specs.Tables.{Tables}
-use Rattle.hpx_node.proofs.BareHands.{due-bare, state-bare, blind_of}
-use Rattle.hpx_node.proofs.FilledDue.{managed_append, due_same, length-filled, state_filled, due_fit, due_credit, same_ids, dealt_credit, unnamed_credit, managed_named, plain_named, weigh_one, each_weighs, weigh_managed}
+use Rattle.hpx_node.proofs.BareHands.{due-bare, state-bare}
+use Rattle.hpx_node.proofs.FilledDue.{managed_append, due_same, length-filled, state_filled, due_fit, dealt_credit, unnamed_credit, managed_named}
 use Rattle.hpx_node.proofs.HandFit.{hand_credit, fit_due, state_credit}
-use Rattle.hpx_node.proofs.Settled.{Plans}
-use Rattle.hpx_node.proofs.Sums.{weigh}
 
 -- ---- what is made
 
@@ -55,13 +50,6 @@ ids_kinds here n log (make ∷ makes) = ap (λ ks. make.kind ∷ ks) (ids_kinds 
 pub ids_long : (here n log : ℕ) (makes : List Make) → length (ids_of here n log (map birth_of makes)) ≡ length makes
 ids_long here n log [] = refl
 ids_long here n log (make ∷ makes) = ap suc (ids_long here (n + 1) log makes)
-
-none_weighs : (w : Id → ℕ) (ids : List Id) → map bare ids ≡ [] → sum_by w ids ≡ 0
-none_weighs w [] e = refl
-none_weighs w (id ∷ ids) e = absurd (some_not (bare id) (map bare ids) e)
-  where
-    some_not : (x : Id) (xs : List Id) → x ∷ xs ≡ [] → ⊥
-    some_not x xs e = cc
 
 -- ---- what is planned
 
@@ -95,10 +83,10 @@ module _ (t : Tables) (job : Job) (out : Outcome) (fit : IsFitJob job) (few : t.
   pub hand_has : AllByRecursion HasRightCredit own.hand
   hand_has = hand_credit t.localities job.kind job.at job.state job.action out laws few made made_kinds fit.credit fit.action.sent.credit made_credit
 
-  due_has : AllByRecursion IsFitDue outcome_due
+  pub due_has : AllByRecursion IsFitDue outcome_due
   due_has = fit_due t.localities job.kind job.at job.state job.action out laws few made made_kinds fit.credit fit.action.sent.credit made_credit
 
-  state_has : AllByRecursion HasRightCredit outcome_state.ids
+  pub state_has : AllByRecursion HasRightCredit outcome_state.ids
   state_has = state_credit t.localities job.kind job.at job.state job.action out laws few made made_kinds fit.credit fit.action.sent.credit made_credit
 
   pub own_within : AreWithin own.hand own.places
@@ -126,14 +114,14 @@ module _ (t : Tables) (job : Job) (out : Outcome) (fit : IsFitJob job) (few : t.
   abbrev pub planned_due : List Due
   planned_due = filled_due (outcome_due t job out fit few laws) (unused (outcome_state t job out fit few laws).ids deals)
 
-  deals_have : AllByRecursion HasRightCredit deals
+  pub deals_have : AllByRecursion HasRightCredit deals
   deals_have = dealt_credit s.hand s.places is.credit
 
-  within : AreWithin s.hand s.places
+  pub within : AreWithin s.hand s.places
   within = is.names.within
 
   -- what is dealt names the managed ids of the new state, and then those of what is due
-  names : Fits state_named.ids deals (managed (map bare (flat_map ids_due due_named)))
+  pub names : Fits state_named.ids deals (managed (map bare (flat_map ids_due due_named)))
   names =
       names_dealt s.hand s.places
       ∙ (is.names.names ∙ sym (names_match job.state job.action (made t job out fit few laws) fit.state fit.action.sent.shape t.localities out
@@ -147,13 +135,13 @@ module _ (t : Tables) (job : Job) (out : Outcome) (fit : IsFitJob job) (few : t.
 
   -- ---- what is left
 
-  state_left : bare_state planned_state ≡ state_after (bare_state job.state) (bare_act job.action) (map bare (made t job out fit few laws)) out
+  pub state_left : bare_state planned_state ≡ state_after (bare_state job.state) (bare_act job.action) (map bare (made t job out fit few laws)) out
   state_left =
       ap (λ ids. record { drawn = state_named.drawn; values = state_named.values; conts = state_named.conts; ids = ids })
       (filled_same state_named.ids deals (managed (map bare (flat_map ids_due due_named))) names)
       ∙ sym (state-bare job.state job.action (made t job out fit few laws) out)
 
-  due_left : map bare_due planned_due ≡ due_of (bare_state job.state) (bare_act job.action) (map bare (made t job out fit few laws)) out
+  pub due_left : map bare_due planned_due ≡ due_of (bare_state job.state) (bare_act job.action) (map bare (made t job out fit few laws)) out
   due_left = due_same due_named (unused state_named.ids deals) [] names_due ∙ sym (due-bare job.state job.action (made t job out fit few laws) out)
 
   pub state_fit : IsState planned_state
@@ -170,50 +158,3 @@ module _ (t : Tables) (job : Job) (out : Outcome) (fit : IsFitJob job) (few : t.
 
   pub ups_credit : AllByRecursion HasCredit (unnamed s.hand s.places)
   ups_credit = unnamed_credit 0 s.hand s.places is.credit
-
-  -- ---- what it weighs
-
-  module _ (f : Token → ℕ) where
-    state_weighs : weigh f planned_state.ids ≡ sum_by (weigh_one f) (managed (filled state_named.ids deals))
-    state_weighs = weigh_managed f (filled state_named.ids deals) state_paid
-
-    due_weighs : weigh f (flat_map due_ids planned_due)
-        ≡ sum_by (weigh_one f) (managed (filled (flat_map ids_due due_named) (unused state_named.ids deals)))
-    due_weighs =
-        ap (weigh f) (same_ids planned_due ∙ due_filled due_named (unused state_named.ids deals))
-        ∙ weigh_managed f (filled (flat_map ids_due due_named) (unused state_named.ids deals))
-        (filled_all HasRightCredit (flat_map ids_due due_named) (unused state_named.ids deals) (due_credit due_named (due_has t job out fit few laws)) unused_have)
-
-    shared : weigh f planned_state.ids + weigh f (flat_map due_ids planned_due) ≡ weigh f (shared_from 0 s.hand s.places)
-    shared = omega (
-      arith,
-      state_weighs,
-      due_weighs,
-      filled_sums (weigh_one f) state_named.ids deals (managed (map bare (flat_map ids_due due_named))) names,
-      filled_sums (weigh_one f) (flat_map ids_due due_named) (unused state_named.ids deals) [] names_due,
-      none_weighs (weigh_one f) (unused (flat_map ids_due due_named) (unused state_named.ids deals))
-          (unused_rest (flat_map ids_due due_named) (unused state_named.ids deals) [] names_due),
-      sums_dealt (weigh_one f) s.hand s.places within,
-      each_weighs f (shared_from 0 s.hand s.places),
-    )
-
-  -- ---- a plan
-
-  module _ (act_of : ℕ → ℕ → ℕ → State → Act → Outcome)
-      (blind : (n kind here : ℕ) (s : State) (a : Act) → act_of n kind here s a ≡ act_of n kind here (bare_state s) (named 0 0 (message_of (bare_act a))))
-      (right : out ≡ act_of t.localities job.kind job.at job.state job.action) where
-    pub planned : Plans (rules_of act_of t.localities t.profile) t job out (map birth_of out.makes) s planned_state planned_due (unnamed s.hand s.places)
-    planned = record {
-      births = refl;
-      fit = made_fit t job out fit few laws;
-      right = right
-          ∙ sym (blind_of (act_of t.localities job.kind job.at) (blind t.localities job.kind job.at) job.state job.action);
-      credit = is.credit;
-      lasts = is.lasts;
-      plain = λ p un. plain_named s.hand (own t job out fit few laws).hand s.places (own t job out fit few laws).places is.names.names
-          (own_managed t job out fit few laws) p un;
-      state_left = state_left;
-      due_left = due_left;
-      shared = shared;
-      ups_left = refl;
-    }

@@ -1,5 +1,5 @@
 -- With the last credit in its place, what a commit deals may be dealt.
-use Rattle.std.proofs.Common.{ℕ, suc, Bool, true, false, cond, List, [], ◌∷◌, ◌≡◌, ◌≤◌, ◌<◌, ◌+◌, ◌==◌, ◌&&◌, ◌⊎◌, not, Option, Some, None, set, length, refl, sym, ap, ◌∙◌, arith, inl, inr, subst}
+use Rattle.std.proofs.Common.{ℕ, suc, Bool, true, false, cond, List, [], ◌∷◌, ◌≡◌, ◌≤◌, ◌+◌, ◌==◌, ◌&&◌, ◌⊎◌, not, Option, Some, None, set, length, refl, sym, ap, ◌∙◌, arith, inl, inr, subst}
 use Rattle.std.specs.Prelude.{is_some}
 use Rattle.std.specs.List.{find, list_any, slice_get, remove}
 use Rattle.std.proofs.lemmas.Bool.{cases_Bool, eqb-true, ne_eqb}
@@ -9,20 +9,25 @@ use Rattle.hpx_value.specs.Laws.{KeepsLaws}
 use Rattle.hpx_parcel.specs.Parcels.{HasCredit}
 use Rattle.hpx_journal.specs.Data.{Id}
 use Rattle.hpx_journal.proofs.Same.{and_true}
-use Rattle.hpx_part.specs.Data.{Standing}
 use Rattle.hpx_commit.specs.Deals.{is_managed, log_of}
-use Rattle.hpx_commit.specs.Stocks.{Lasting}
 use Rattle.hpx_node.specs.Commits.{IsStock, made_of}
-use Rattle.hpx_steps.specs.Paused.{first_stock, IsShort}
+use Rattle.hpx_steps.specs.Paused.{HasSplit, IsCommit, IsShort}
 use Rattle.hpx_steps.specs.Rest.{IsPaused}
 use Rattle.hpx_tables.specs.Pending.{Waits, ids_named, is_asked, awaits, is_asked_for, waits_for_one, refilled, hand_with, put_for}
 use Rattle.hpx_node.specs.Resumes.{stock_with, is_last}
 use Rattle.hpx_tables.specs.Strange.{brings_right}
 use Rattle.hpx_tables.specs.Tables.{Tables}
-use Rattle.hpx_node.proofs.Continued.{less_long, none_some, off}
+use Rattle.hpx_steps.proofs.Refilled.{still_commit, still_split}
+use Rattle.hpx_node.proofs.Continued.{less_long, none_long, none_some, off}
 use Rattle.hpx_node.proofs.HasCome.{come_stock, come_long, come_short, waits_managed}
-use Rattle.hpx_node.proofs.Refilled.{still_paused}
-use Rattle.hpx_node.proofs.WaitsCommit.{none_long, not_asked}
+use Rattle.hpx_node.proofs.LeftFailed.{given}
+use Rattle.hpx_node.proofs.Paused.{commit_of}
+
+-- with these ids in its hand, what a commit deals may be dealt
+pub record IsStockReady (t : Tables) (w : Waits) (hand : List Id) : Type 0 where
+  pub stock : IsStock t w.job w.outcome (stock_with t w hand)
+  pub long : length (ids_named w) + length (made_of t w.outcome) ≤ length hand
+  pub short : length hand ≤ 1024
 
 -- what passes is found at a place
 pub record Found {X : Type 0} (p : X → Bool) (xs : List X) : Type 0 where
@@ -40,14 +45,12 @@ any_place p (x ∷ xs) h = elim (cases_Bool (p x)) [
 ]
 
 -- an id that did not last came with the credit of a new object
-module _ (here n log : ℕ) (objects : List Standing) (w : Waits) (paused : IsPaused here n log objects w) (none : w.asked ≡ []) (given : w.refused ≡ None) where
-  has_come : (p : ℕ) → p < length (ids_named w) → (Lasting (first_stock w paused.split.made) p → ⊥) → is_managed (id_at w.hand p) ≡ true
-      → IsShort log w.refused (id_at w.hand p) → (id_at w.hand p).log ≡ Some log
-  has_come p lt h managed (inl bare) =
-      let yes : is_asked (id_at w.hand p) ≡ true = ap (λ (l : Option ℕ). is_managed (id_at w.hand p) && not (is_some l)) bare ∙ ap (λ b. b && true) managed in
-      absurd (let e : true ≡ false = sym yes ∙ not_asked here n log objects w paused none p lt in cc)
-  has_come p lt h managed (inr (inl more)) = more
-  has_come p lt h managed (inr (inr least)) = absurd (least.1 given)
+has_come : (log : ℕ) (refused : Option Id) (id : Id) → is_asked id ≡ false → is_managed id ≡ true → IsShort log refused id → refused ≡ None → id.log ≡ Some log
+has_come log refused id none managed (inl bare) given =
+    let yes : is_asked id ≡ true = ap (λ (l : Option ℕ). is_managed id && not (is_some l)) bare ∙ ap (λ b. b && true) managed in
+    absurd (let e : true ≡ false = sym yes ∙ none in cc)
+has_come log refused id none managed (inr (inl more)) given = more
+has_come log refused id none managed (inr (inr least)) given = absurd (least.1 given)
 
 module _ (t : Tables) (w : Waits) (id : Id) (entry : ℕ) (paused : IsPaused t.here t.localities t.profile.credit_log t.objects w) (few : t.localities ≤ 64)
     (laws : KeepsLaws t.localities w.job.kind w.job.at w.job.state w.job.action w.outcome) (log : 8 ≤ t.profile.credit_log) (credit : HasCredit id)
@@ -58,8 +61,11 @@ module _ (t : Tables) (w : Waits) (id : Id) (entry : ℕ) (paused : IsPaused t.h
   abbrev now : Waits
   now = refilled f.k f.x.place id w
 
-  still : IsPaused t.here t.localities t.profile.credit_log t.objects (refilled f.k f.x.place id w)
-  still = still_paused t.here t.localities t.profile.credit_log t.objects w f.k f.x id entry paused f.there f.passes credit brings
+  its : IsCommit t.here t.localities (refilled f.k f.x.place id w)
+  its = still_commit t.here t.localities t.profile.credit_log w f.k f.x id entry (commit_of _ _ _ t.objects w paused) paused.split f.there f.passes credit brings
+
+  still : HasSplit t.profile.credit_log (refilled f.k f.x.place id w)
+  still = still_split t.here t.localities t.profile.credit_log w f.k f.x id entry (commit_of _ _ _ t.objects w paused) paused.split f.there f.passes credit brings
 
   parts : (not (log_of id.log == 0) ≡ true) × (waits_for_one w ≡ true)
   parts = and_true (not (log_of id.log == 0)) (waits_for_one w) last
@@ -77,24 +83,27 @@ module _ (t : Tables) (w : Waits) (id : Id) (entry : ℕ) (paused : IsPaused t.h
       ∙ none_some w.refused (and_true (length w.asked == 1) (not (is_some w.refused)) parts.1).1
 
   stock : IsStock t w.job w.outcome (stock_with t w (set w.hand f.x.place id))
-  stock = come_stock t now still.job few laws still.split.made still.split.kinds still.split.bare still.split.places still.split.rest still.hand log
-      still.split.own (λ p lt h. has_come t.here t.localities t.profile.credit_log t.objects now still none_left none_refused p lt h
-      (waits_managed t now still.job few laws still.split.made still.split.kinds still.split.bare still.split.places still.split.rest still.hand p lt h)
-      (still.split.short p lt h))
+  stock = come_stock t now its.job few laws still.made still.kinds still.bare still.places still.rest its.hand log
+      still.own (λ p lt h. has_come t.profile.credit_log now.refused (id_at now.hand p) (given t.here t.localities t.profile.credit_log now its still none_left p lt)
+      (waits_managed t now its.job few laws still.made still.kinds still.bare still.places still.rest its.hand p lt h)
+      (still.short p lt h) none_refused)
 
   hand_is : set w.hand f.x.place id ≡ hand_with id entry w
   hand_is = sym (ap (put_for w.hand id) f.found)
 
-  pub ready_stock : IsStock t w.job w.outcome (stock_with t w (hand_with id entry w))
+  ready_stock : IsStock t w.job w.outcome (stock_with t w (hand_with id entry w))
   ready_stock = subst (λ xs. IsStock t w.job w.outcome (stock_with t w xs)) hand_is stock
 
-  pub ready_long : length (ids_named w) + length (made_of t w.outcome) ≤ length (hand_with id entry w)
+  ready_long : length (ids_named w) + length (made_of t w.outcome) ≤ length (hand_with id entry w)
   ready_long = subst (λ (xs : List Id). length (ids_named w) + length (made_of t w.outcome) ≤ length xs) hand_is
-      (come_long t now still.job few laws still.split.made still.split.kinds still.split.bare still.split.places still.split.rest still.hand)
+      (come_long t now its.job few laws still.made still.kinds still.bare still.places still.rest its.hand)
 
-  pub ready_short : length (hand_with id entry w) ≤ 1024
+  ready_short : length (hand_with id entry w) ≤ 1024
   ready_short = subst (λ (xs : List Id). length xs ≤ 1024) hand_is
-      (come_short t now still.job few laws still.split.made still.split.kinds still.split.bare still.split.places still.split.rest still.hand)
+      (come_short t now its.job few laws still.made still.kinds still.bare still.places still.rest its.hand)
+
+  pub is_ready : IsStockReady t w (hand_with id entry w)
+  is_ready = record { stock = ready_stock; long = ready_long; short = ready_short }
 
 -- ---- as the call finds it
 

@@ -1,19 +1,11 @@
 -- What a node stands for and what it wrote, where its tables are the same.
-use Rattle.std.proofs.Common.{ℕ, List, ◌++◌, ◌≡◌, sym, ap, ◌∙◌, subst, append_assoc}
+use Rattle.std.proofs.Common.{List, ◌++◌, ◌≡◌, sym, ap, ◌∙◌, subst, append_assoc}
 use Rattle.std.proofs.lemmas.List.{map-append}
-use Rattle.hpx_journal.specs.Data.{State, Act, Outcome}
 use Rattle.hpx_journal.specs.Laws.{entry_at}
 use Rattle.hpx_part.specs.Data.{Event, Entry}
 use Rattle.hpx_part.specs.Parts.{at_all}
 use Rattle.hpx_tables.specs.Tables.{Tables}
-use Rattle.hpx_node.specs.Stands.{Stands}
 use Rattle.hpx_node.specs.Changes.{Writes}
-
-pub stands_same : (act_of : ℕ → ℕ → ℕ → State → Act → Outcome) (t t' : Tables) (es es' : List Entry) → Stands act_of t es
-    → t' ≡ t → es' ≡ es → Stands act_of t' es'
-stands_same act_of t t' es es' h same e =
-    subst (Stands act_of t') (sym e)
-    (subst (λ x. Stands act_of x es) (sym same) h)
 
 -- what is said of tables and entries is said of the same
 pub same_too : (P : Tables → List Entry → Type 0) (t t' : Tables) (es es' : List Entry) → P t es → t' ≡ t → es' ≡ es → P t' es'

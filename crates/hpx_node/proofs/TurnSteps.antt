@@ -5,7 +5,6 @@ use Rattle.std.specs.List.{find, sum_by, AllByRecursion}
 use Rattle.std.proofs.lemmas.List.Sums.{sum_by-cons, sum_by-append}
 use Rattle.hpx_value.specs.Hands.{id_at, slot_at, answer}
 use Rattle.hpx_value.specs.Ids.{bare}
-use Rattle.hpx_value.specs.Laws.{KeepsLaws}
 use Rattle.hpx_value.specs.declared.acts.Job.{Job}
 use Rattle.hpx_journal.specs.Data.{Id, Cont, Outcome, Parcel, Return, Ask, Give, Free, MessageDue, PrintDue, Fault}
 use Rattle.hpx_journal.specs.Entries.{name_of}
@@ -20,31 +19,27 @@ use Rattle.hpx_commit.specs.declared.plan.Plan.{Plan}
 use Rattle.hpx_node.specs.declared.node.finish.Prepared.{Prepared}
 use Rattle.hpx_tables.specs.Splits.{first_cuts, asked_events, cuts}
 use Rattle.hpx_node.specs.Changes.{Writes}
-use Rattle.hpx_node.specs.Commits.{IsPrepared, written, ups as given_up, committed, committed_from, own_stock}
+use Rattle.hpx_node.specs.Commits.{IsPrepared, committed, committed_from, own_stock}
 use Rattle.hpx_node.specs.Fails.{IsFailure, due_left, ups_left, failed_events}
-use Rattle.hpx_steps.specs.Calls.{effects, up_of, ups, returned, more_here, freed}
-use Rattle.hpx_tables.specs.Jobs.{IsFitJob}
+use Rattle.hpx_steps.specs.Calls.{effects, up_of, ups, returned, more_here, freed, written_due}
 use Rattle.hpx_tables.specs.Kept.{count_here}
 use Rattle.hpx_steps.specs.Limits.{AddsATurn}
 use Rattle.hpx_tables.specs.Pending.{Waits}
 use Rattle.hpx_steps.specs.Rest.{IsTidy}
 use Rattle.hpx_tables.specs.Tables.{Tables}
 use Rattle.hpx_tables.proofs.Alls.{all_append}
-use Rattle.hpx_node.proofs.FewEntries.{effects_few}
-use Rattle.hpx_node.proofs.OfPrepared.{committed_few, committed_light}
+use Rattle.hpx_node.proofs.FewEntries.{at_all_length, effects_few}
 use Rattle.hpx_node.proofs.PlanWeights.{weighs, weighs_append, weighs_cons, weighs_due, due_weight, ups_light}
-use Rattle.hpx_node.proofs.Steps.{at_all_length}
 use Rattle.hpx_node.proofs.Turns.{adds_grown, grown_weighs, HasNoBytes, bare_weighs}
 
 -- ---- a commit, or one that begins to wait
 
-pub adds_commit : (t : Tables) (job : Job) (out : Outcome) (fit : IsFitJob job) (few : t.localities ≤ 64)
-    (laws : KeepsLaws t.localities job.kind job.at job.state job.action out) (p : Prepared) (is : IsPrepared t job out p) (own : p.stock ≡ own_stock t job out)
+pub adds_commit : (t : Tables) (job : Job) (out : Outcome) (p : Prepared) (is : IsPrepared t job out p) (own : p.stock ≡ own_stock t job out)
     (t' : Tables) (old new : List Entry) → Writes (committed t job out) t t' old new → AddsATurn old new
-adds_commit t job out fit few laws p is own t' old new wrote =
+adds_commit t job out p is own t' old new wrote =
     adds_grown t.here (committed t job out) old new wrote.grows
-    (subst (λ s. length (committed_from t job out s) ≤ 1024) own (omega (arith, committed_few t job out fit few laws p is)))
-    (subst (λ s. weighs t.here (committed_from t job out s) ≤ 16777216) own (omega (arith, committed_light t job out fit few laws p is t.here)))
+    (subst (λ s. length (committed_from t job out s) ≤ 1024) own (omega (arith, is.limits.entries)))
+    (subst (λ s. weighs t.here (committed_from t job out s) ≤ 16777216) own (omega (arith, is.limits.light)))
 
 cuts_bare : (id : Id) (n : ℕ) → AllByRecursion HasNoBytes (cuts id n)
 cuts_bare id zero = tt
@@ -156,8 +151,8 @@ failed_light ids (Some c) = omega (
 pub fails_light : (t t' : Tables) (w : Waits) (p : Plan) (old new : List Entry) → IsFailure w p → length p.ups.items ≤ 256
     → Writes (failed_events t w) t t' old new → total_weight new ≤ total_weight old + 16640
 fails_light t t' w p old new is few wrote =
-    let due = written t.here t.serial (due_left w) in
-    let left = given_up (ups_left w) in
+    let due = written_due t.here t.serial (due_left w) in
+    let left = ups (ups_left w) in
     omega (
       arith,
       few,

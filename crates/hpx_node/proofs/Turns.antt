@@ -11,7 +11,7 @@ use Rattle.hpx_part.specs.Data.{Event, Entry, Out}
 use Rattle.hpx_part.specs.Parts.{at_all}
 use Rattle.hpx_steps.specs.Limits.{IsWithin, AddsATurn}
 use Rattle.hpx_node.proofs.PlanWeights.{weighs, weighs_cons}
-use Rattle.hpx_node.proofs.Steps.{at_all_length}
+use Rattle.hpx_node.proofs.FewEntries.{at_all_length}
 
 pub turn_within : (old new : List Entry) → HasRoom old → AddsATurn old new → IsWithin new
 turn_within old new room turn = record {

@@ -1,17 +1,16 @@
 -- A commit begins to wait, as the calls do it.
-use Rattle.std.proofs.Common.{ℕ, List, [], ◌∷◌, ◌++◌, ◌≡◌, ◌+◌, ◌≤◌, ◌<◌, None, Some, map, set, take, length, length-append, append_assoc, sym, ap, ◌∙◌, arith, subst}
+use Rattle.std.proofs.Common.{ℕ, List, [], ◌∷◌, ◌++◌, ◌≡◌, ◌+◌, ◌≤◌, ◌<◌, Some, map, set, take, get_or, length, length-append, append_assoc, sym, ap, ◌∙◌, arith, subst}
 use Rattle.std.specs.Prelude.{Result, Ok, Err, IfOk}
-use Rattle.std.specs.List.{find, slice_get, remove, AllByRecursion}
-use Rattle.std.proofs.lemmas.List.{length-map}
+use Rattle.std.specs.List.{slice_get, remove, AllByRecursion}
+use Rattle.std.proofs.lemmas.List.{length-map, take_more}
 use Rattle.hpx_value.specs.Ids.{bare}
 use Rattle.hpx_value.specs.Values.{bare_state}
 use Rattle.hpx_value.specs.Hands.{id_at, hand_ids}
 use Rattle.hpx_value.specs.Laws.{KeepsLaws}
+use Rattle.hpx_value.specs.Shapes.{IsState}
 use Rattle.hpx_value.specs.declared.acts.Job.{Job}
 use Rattle.hpx_parcel.specs.Parcels.{HasLeastCredit}
-use Rattle.hpx_journal.specs.Data.{Id, Act, State, Outcome}
-use Rattle.hpx_journal.specs.Entries.{target_of}
-use Rattle.hpx_journal.specs.Local.{is_standing}
+use Rattle.hpx_journal.specs.Data.{Id, Act, State, Outcome, Ask}
 use Rattle.hpx_part.specs.Data.{Entry, Standing}
 use Rattle.hpx_part.specs.Parts.{at_all}
 use Rattle.hpx_commit.specs.Deals.{AreWithin, AllLast}
@@ -19,22 +18,23 @@ use Rattle.hpx_commit.specs.Stocks.{Stock, ahead, short_places}
 use Rattle.hpx_commit.proofs.Stripped.{short_few}
 use Rattle.hpx_node.specs.declared.node.wait.Before.{Before}
 use Rattle.hpx_tables.specs.Splits.{first_cuts, asked_events}
-use Rattle.hpx_node.specs.Asks.{own_many, hand_before, splits_before, split_stock, short_before, lacking, with_asks, AsksFor, stock_before, Pauses, IsBefore, Begins}
+use Rattle.hpx_steps.specs.Calls.{with_asks}
+use Rattle.hpx_steps.specs.Mail.{with_mail}
+use Rattle.hpx_node.specs.Asks.{own_many, hand_before, splits_before, split_stock, short_before, lacking, stock_before, Pauses, IsBefore, Begins}
 use Rattle.hpx_node.specs.Commits.{made_of, hand_of, places_in_hand}
 use Rattle.hpx_tables.specs.Fit.{IsKept}
 use Rattle.hpx_tables.specs.Jobs.{IsAt, IsFitJob}
 use Rattle.hpx_tables.specs.Pending.{Waits, asked_at, waits_with}
-use Rattle.hpx_steps.specs.Rest.{IsTidy, StandsWith, rules_of}
+use Rattle.hpx_steps.specs.Rest.{IsTidy, Stands}
+use Rattle.hpx_steps.proofs.Waiting.{asks_rest, wait_stands}
 use Rattle.hpx_tables.specs.Tables.{Tables}
 use Rattle.hpx_tables.proofs.Alls.{all_at, some_same}
-use Rattle.hpx_node.proofs.Begun.{lent_kept, stands_waiting}
 use Rattle.hpx_tables.proofs.Cutting.{at_all_append}
 use Rattle.hpx_tables.proofs.FirstCuts.{first_few}
-use Rattle.hpx_node.proofs.LaterIds.{bare_none, within_long, hands_long, later_is}
+use Rattle.hpx_node.proofs.LaterIds.{bare_none, long_names, within_long, hands_long, later_is}
 use Rattle.hpx_node.proofs.PlanLimits.{own_cuts}
 use Rattle.hpx_node.proofs.Prepared.{action_few, hand_within}
-use Rattle.hpx_node.proofs.ShortHand.{short_within, lacks_least}
-use Rattle.hpx_node.proofs.Steps.{stands_by}
+use Rattle.hpx_node.proofs.ShortHand.{fresh_split, least_all, lacks_least, short_within}
 
 pub pauses_by : (t t' : Tables) (i j : ℕ) (job : Job) (w : Waits) (at : IsAt t i j job) (x : Standing) → slice_get t.objects j ≡ Some x
     → t' ≡ record t {
@@ -49,6 +49,24 @@ pauses_by t t' i j job w at x stands e = record {
     objects = set t.objects j (record { object = y.object; state = bare_state job.state });
     pending = t.pending ++ w ∷ [];
   }) (some_same x at.standing (sym stands ∙ at.stands));
+}
+
+bare_fit : (s : State) → IsState s → IsState (bare_state s)
+bare_fit s h = record {
+  values = h.values;
+  refs = h.refs;
+  conts = h.conts;
+  ids = long_names s.ids ∙ h.ids;
+  few = omega (arith, long_names s.ids, h.few);
+  short = h.short;
+}
+
+-- an object keeps its state without credits
+pub lent_kept : (x : Standing) (s : State) → IsKept x → x.state ≡ s → IsState s → IsKept (record { object = x.object; state = bare_state s })
+lent_kept x s kept same fit = record {
+  kind = kept.kind;
+  state = bare_fit s fit;
+  plain = λ e. (ap (λ (y : State). y.values) (sym same) ∙ (kept.plain e).0, ap (λ (y : State). y.conts) (sym same) ∙ (kept.plain e).1);
 }
 
 -- ---- the hand, before
@@ -127,17 +145,19 @@ module _ (t : Tables) (job : Job) (out : Outcome) (b : Before) (is : IsBefore t 
     before_least = subst (AllByRecursion HasLeastCredit) (sym is.lacking)
         (lacks_least job out (map bare (made_of t out)) (places_in_hand t job out) fit (within_hand t.localities t job out laws fit) (later_is t.localities t job out laws fit))
 
+-- so it begins to wait, and all that holds goes on to hold
 pub begins_by : (act_of : ℕ → ℕ → ℕ → State → Act → Outcome) (t m t' : Tables) (job : Job) (out : Outcome) (localities : ℕ) (b : Before) (i j : ℕ) (w : Waits)
     (e0 e1 : List Entry) → IsFitJob job → t.localities ≤ 64 → KeepsLaws t.localities job.kind job.at job.state job.action out → IsBefore t job out b
     → localities ≡ t.localities → job.at < localities → w ≡ waits_with job out localities b.asked.items b.stock → Pauses i j job w t m
-    → AsksFor b.lacking.items m t' → find (is_standing (target_of job.action)) (take j t.objects) ≡ None
+    → t' ≡ record (with_asks m.here m.asked b.lacking.items m) { asked = m.asked + length b.lacking.items }
     → e1 ≡ (e0 ++ at_all t.here (first_cuts b.own 0 b.hand.items b.places.items)) ++ at_all t.here (asked_events b.lacking.items)
-    → 1 ≤ length (lacking t job out) → StandsWith (rules_of act_of t.localities t.profile) t [] [] e0
-    → StandsWith (rules_of act_of t'.localities t'.profile) t' [] [] e1 × Begins t t' job out e0 e1
-begins_by act_of t m t' job out localities b i j w e0 e1 fit few laws is n below w_is pauses asked first cut some h =
-    let later = map bare (made_of t out) in
-    let places = places_in_hand t job out in
-    let ids = lacking t job out in
+    → 1 ≤ length (lacking t job out) → Stands act_of t e0 → Stands act_of t' e1 × Begins t t' job out e0 e1
+begins_by act_of t m t' job out localities b i j w e0 e1 fit few laws is n below w_is pauses asked cut some h =
+    let later : List Id = map bare (made_of t out) in
+    let places : List ℕ = places_in_hand t job out in
+    let ids : List Id = lacking t job out in
+    let is_later = later_is t.localities t job out laws fit in
+    let within = within_hand t.localities t job out laws fit in
     let same : w ≡ waits_with job out t.localities (asked_at t.asked (short_before t job out)) (stock_before t job out) =
     w_is
     ∙ (ap (λ k. waits_with job out k b.asked.items b.stock) n
@@ -153,36 +173,66 @@ begins_by act_of t m t' job out localities b i j w e0 e1 fit few laws is n below
     ∙ (ap (λ xs. (e0 ++ at_all t.here (splits_before t job out)) ++ at_all t.here (asked_events xs)) is.lacking
     ∙ (append_assoc e0 (at_all t.here (splits_before t job out)) (at_all t.here (asked_events ids))
     ∙ ap (λ es. e0 ++ es) (sym (at_all_append t.here (splits_before t job out) (asked_events ids)))))))) in
-    let low : job.at < t.localities = subst (λ k. job.at < k) n below in
-    let within = within_hand t.localities t job out laws fit in
-    let mailed : AsksFor (lacking t job out) m t' = subst (λ xs. AsksFor xs m t') is.lacking asked in
-    let asks : AsksFor (lacking t job out) (record t {
+    let asks : t' ≡ record (with_asks t.here t.asked (lacking t job out) m) { asked = t.asked + length (lacking t job out) } =
+    asked
+    ∙ (ap (λ xs. record (with_asks m.here m.asked xs m) { asked = m.asked + length xs }) is.lacking
+    ∙ ap (λ (y : Tables). record (with_asks y.here y.asked ids m) { asked = y.asked + length ids }) now.rest) in
+    let at = now.at in
+    let v : Waits = waits_with job out t.localities (asked_at t.asked (short_before t job out)) (stock_before t job out) in
+    let waited : State → Tables = λ (s : State). record (with_asks t.here t.asked (lacking t job out) (record t {
       running = remove t.running i;
-      objects = set t.objects j (record { object = now.at.standing.object; state = bare_state job.state });
-      pending = t.pending ++ waits_with job out t.localities (asked_at t.asked (short_before t job out)) (stock_before t job out) ∷ [];
-    }) t' = subst (λ x. AsksFor (lacking t job out) x t') now.rest mailed in
-    let stands = stands_waiting (rules_of act_of t.localities t.profile) t e0 i j job out later places now.at first fit within (bare_none (made_of t out)) few
-    low (later_is t.localities t job out laws fit) h t' asks in
-    let localities : t.localities ≡ t'.localities = sym (ap (λ (x : Tables). x.localities) asks.rest) in
-    let profile : t.profile ≡ t'.profile = sym (ap (λ (x : Tables). x.profile) asks.rest) in (
-      stands_by act_of t.localities t'.localities t.profile t'.profile t' [] [] e1 localities profile
-          (subst (λ es. StandsWith (rules_of act_of t.localities t.profile) t' [] [] es) (sym written) stands),
+      objects = set t.objects j (record { object = at.standing.object; state = bare_state s });
+      pending = t.pending ++ v ∷ [];
+    })) { asked = t.asked + length (lacking t job out) } in
+    let stands = wait_stands act_of t e0 h i j job out at.standing at.runs at.stands at.found at.here (sym at.kind) (sym at.state)
+    (few, subst (λ k. job.at < k) n below) later (bare_none (made_of t out)) places within
+    (least_all job out later places fit within is_later) (omega (arith, some, length-map (short_before t job out) (id_at (split_stock t job out).hand))) (fresh_split job out later places fit within is_later t.localities t.profile.credit_log t.asked) in
+    let ends : t' ≡ waited at.standing.state =
+    asks
+    ∙ (ap (λ (y : Tables). record (with_asks t.here t.asked (lacking t job out) y) { asked = t.asked + length (lacking t job out) }) now.rest
+    ∙ ap waited (sym at.state)) in (
+      subst (λ (y : Tables). Stands act_of y e1) (sym ends) (subst (Stands act_of (waited at.standing.state)) (sym written) stands),
       record {
         i = i;
         j = j;
         paused = m;
         pauses = now;
-        asks = asks.goes
-            ∙ ap (λ x. record (with_asks t.here t.asked (lacking t job out) x) { asked = t.asked + length (lacking t job out) }) (sym now.rest);
+        asks = asks;
         some = some;
         writes = record {
-          here = ap (λ (x : Tables). x.here) asks.rest;
-          localities = sym localities;
-          profile = sym profile;
+          here = ap (λ (y : Tables). y.here) ends ∙ ap (λ (y : Tables). y.here) (asks_rest t.here t.asked (lacking t job out) _);
+          localities = ap (λ (y : Tables). y.localities) ends ∙ ap (λ (y : Tables). y.localities) (asks_rest t.here t.asked (lacking t job out) _);
+          profile = ap (λ (y : Tables). y.profile) ends ∙ ap (λ (y : Tables). y.profile) (asks_rest t.here t.asked (lacking t job out) _);
           grows = written;
         };
       },
     )
+
+-- ---- asks, one after another
+
+asks_append : (k n : ℕ) (xs : List Id) (y : Id) (t : Tables) → with_asks k n (xs ++ y ∷ []) t ≡ with_mail y.home (Ask y k (n + length xs + 1)) (with_asks k n xs t)
+asks_append k n [] y t = ap (λ e. with_mail y.home (Ask y k e) t) (omega arith)
+asks_append k n (x ∷ xs) y t =
+    asks_append k (n + 1) xs y (with_mail x.home (Ask x k (n + 1)) t)
+    ∙ ap (λ e. with_mail y.home (Ask y k e) (with_asks k (n + 1) xs (with_mail x.home (Ask x k (n + 1)) t))) (omega arith)
+
+pub asks_more : (ids : List Id) (i : ℕ) (x : Id) (t m t' : Tables) → i < length ids → x ≡ get_or ids i x
+    → m ≡ record (with_asks t.here t.asked (take i ids) t) { asked = t.asked + length (take i ids) }
+    → t' ≡ with_mail x.home (Ask x m.here (m.asked + 1)) (record m { asked = m.asked + 1 })
+    → t' ≡ record (with_asks t.here t.asked (take (i + 1) ids) t) { asked = t.asked + length (take (i + 1) ids) }
+asks_more ids i x t m t' lt is before goes =
+    let e : take (i + 1) ids ≡ take i ids ++ x ∷ [] = take_more ids i x lt ∙ ap (λ y. take i ids ++ y ∷ []) (sym is) in
+    let first : Tables = with_asks t.here t.asked (take i ids) t in
+    let here : m.here ≡ t.here = ap (λ (y : Tables). y.here) before ∙ ap (λ (y : Tables). y.here) (asks_rest t.here t.asked (take i ids) t) in
+    let asked : m.asked ≡ t.asked + length (take i ids) = ap (λ (y : Tables). y.asked) before in
+    let more : m.asked + 1 ≡ t.asked + length (take i ids ++ x ∷ []) = omega (arith, asked, length-append (take i ids) (x ∷ [])) in
+    goes
+    ∙ (ap (λ k. with_mail x.home (Ask x k (m.asked + 1)) (record m { asked = m.asked + 1 })) here
+    ∙ (ap (λ (y : Tables). with_mail x.home (Ask x t.here (m.asked + 1)) (record y { asked = m.asked + 1 })) before
+    ∙ (ap (λ n. record (with_mail x.home (Ask x t.here (n + 1)) first) { asked = n + 1 }) asked
+    ∙ (ap (λ (y : Tables). record y { asked = t.asked + length (take i ids) + 1 }) (sym (asks_append t.here t.asked (take i ids) x t))
+    ∙ (ap (λ n. record (with_asks t.here t.asked (take i ids ++ x ∷ []) t) { asked = n }) (ap (λ n. n + 1) (sym asked) ∙ more)
+    ∙ ap (λ xs. record (with_asks t.here t.asked xs t) { asked = t.asked + length xs }) (sym e))))))
 
 -- where the tables are the same
 pub before_same : (t t' : Tables) (job : Job) (out : Outcome) (b : Before) → t' ≡ t → IsBefore t job out b → IsBefore t' job out b

@@ -1,23 +1,18 @@
 -- A commit that has to wait: what it writes before, what it has in hand then, and what it asks for.
 use Rattle.std.specs.Prelude.{ℕ, List, [], ◌∷◌, ◌++◌, ◌+◌, ◌≡◌, ◌≤◌, map, length, set}
-use Rattle.std.specs.List.{sum_by, count_by, remove}
-use Rattle.hpx_value.specs.Ids.{bare, same_object}
+use Rattle.std.specs.List.{remove}
+use Rattle.hpx_value.specs.Ids.{bare}
 use Rattle.hpx_value.specs.Values.{bare_state}
 use Rattle.hpx_value.specs.Hands.{hand_ids, id_at}
 use Rattle.hpx_value.specs.declared.acts.Job.{Job}
-use Rattle.hpx_value.specs.declared.outcome.Due.{Due}
-use Rattle.hpx_parcel.specs.Credits.{credits_of}
-use Rattle.hpx_journal.specs.Data.{Id, Outcome, Ask}
-use Rattle.hpx_journal.specs.Tokens.{owing}
-use Rattle.hpx_part.specs.Data.{Event, Entry, Token}
+use Rattle.hpx_journal.specs.Data.{Id, Outcome}
+use Rattle.hpx_part.specs.Data.{Event, Entry}
 use Rattle.hpx_commit.specs.Stocks.{Stock, ahead, short_places, stripped}
 use Rattle.hpx_tables.specs.Splits.{first_cuts, asked_events}
 use Rattle.hpx_node.specs.Commits.{made_of, places_in_hand}
-use Rattle.hpx_steps.specs.Rows.{Row, Asks}
-use Rattle.hpx_steps.specs.Rest.{unpaid, waiting, asks, frees, tokens, IsTidy}
+use Rattle.hpx_steps.specs.Calls.{with_asks}
 use Rattle.hpx_tables.specs.Jobs.{IsAt}
 use Rattle.hpx_tables.specs.Pending.{Waits, asked_at, waits_with}
-use Rattle.hpx_steps.specs.Mail.{with_mail}
 use Rattle.hpx_tables.specs.Tables.{Tables}
 use Rattle.hpx_node.specs.Changes.{Writes}
 use Rattle.hpx_node.specs.declared.node.wait.Before.{Before}
@@ -49,27 +44,6 @@ short_before t job out = short_places (own_many job) (split_stock t job out)
 -- the ids there, which are asked for
 abbrev pub lacking : Tables → Job → Outcome → List Id
 lacking t job out = map (id_at (split_stock t job out).hand) (short_before t job out)
-
--- an Ask for each of these ids, to its home: from k, under the numbers behind n
-abbrev pub with_asks : ℕ → ℕ → List Id → Tables → Tables
-with_asks k n [] t = t
-with_asks k n (id ∷ ids) t = with_asks k (n + 1) ids (with_mail id.home (Ask id k (n + 1)) t)
-
--- what an ask counts
-abbrev pub of_ask : Row → ℕ
-of_ask Asks = 1
-of_ask _ = 0
-
--- these ids are asked for: an Ask for each is on its way to its home, and nothing else that is seen changes
-pub record AsksFor (ids : List Id) (t t' : Tables) : Type 0 where
-  pub rest : t' ≡ record t { asked = t.asked + length ids; desk = t'.desk; outgoing = t'.outgoing }
-  pub goes : t' ≡ record (with_asks t.here t.asked ids t) { asked = t.asked + length ids }
-  pub tidy : (due : List Due) → IsTidy t due → IsTidy t' due
-  pub waiting : waiting t' ≡ waiting t
-  pub frees : frees t' ≡ frees t
-  pub asks : (o : Id) → count_by (same_object o) (asks t') ≡ count_by (same_object o) (asks t) + count_by (same_object o) ids
-  pub tokens : (f : Token → ℕ) → sum_by f (tokens t') ≡ sum_by f (tokens t) + sum_by f (map owing (credits_of ids))
-  pub more : (row : Row) → unpaid row t' ≡ unpaid row t + sum_by (λ id. of_ask row) ids
 
 -- ---- a commit that waits
 

@@ -1,34 +1,26 @@
 -- What a commit writes.
-use Rattle.std.specs.Prelude.{ℕ, false, List, [], ◌∷◌, ◌++◌, ◌+◌, ◌≡◌, ◌≤◌, Some, length, map, set}
+use Rattle.std.specs.Prelude.{ℕ, false, List, ◌∷◌, ◌++◌, ◌+◌, ◌≡◌, ◌≤◌, Some, length, map, set}
 use Rattle.std.specs.List.{AllByRecursion, find, slice_get, remove}
-use Rattle.hpx_value.specs.Ids.{bare}
 use Rattle.hpx_value.specs.Hands.{hand_ids, due_of, state_after}
 use Rattle.hpx_value.specs.declared.acts.Job.{Job}
-use Rattle.hpx_parcel.specs.Parcels.{HasRightCredit}
-use Rattle.hpx_journal.specs.Data.{Id, State, Outcome, Due, MessageDue, PrintDue}
+use Rattle.hpx_parcel.specs.Parcels.{HasCredit, HasRightCredit}
+use Rattle.hpx_journal.specs.Data.{Id, State, Outcome, Due}
 use Rattle.hpx_journal.specs.Entries.{name_of, target_of}
 use Rattle.hpx_journal.specs.Local.{is_standing}
-use Rattle.hpx_part.specs.Data.{Event, Done, Sent, Print, Up, Standing}
+use Rattle.hpx_journal.specs.Weights.{total_weight}
+use Rattle.hpx_part.specs.Data.{Event, Done, Standing}
+use Rattle.hpx_part.specs.Parts.{at_all}
 use Rattle.hpx_tables.specs.Awaited.{answered_by}
-use Rattle.hpx_tables.specs.Births.{birth_of, births_of, objects_of, records_of, ids_of}
-use Rattle.hpx_commit.specs.Deals.{log_of, places_named, dealt, AllLast, unnamed, filled, unused, filled_due}
+use Rattle.hpx_tables.specs.Births.{IsBirth, birth_of, births_of, objects_of, records_of, ids_of}
+use Rattle.hpx_commit.specs.Deals.{places_named, dealt, AllLast, unnamed, filled, unused, filled_due}
 use Rattle.hpx_commit.specs.Stocks.{Stock, SameNames}
 use Rattle.hpx_node.specs.declared.node.finish.Prepared.{Prepared}
+use Rattle.hpx_tables.specs.Fit.{IsFitDue}
 use Rattle.hpx_tables.specs.Jobs.{IsAt}
-use Rattle.hpx_steps.specs.Calls.{with_left}
+use Rattle.hpx_steps.specs.Calls.{ups, with_left, written_due}
+use Rattle.hpx_steps.specs.Steps.{Remains}
 use Rattle.hpx_tables.specs.Splits.{splits_from}
 use Rattle.hpx_tables.specs.Tables.{Tables}
-
--- ---- what is due, and what is given up
-
--- each message under the next number
-abbrev pub written : ℕ → ℕ → List Due → List Event
-written here serial [] = []
-written here serial (MessageDue m ∷ rest) = Sent (record { origin = here; serial = serial + 1 }) ∷ written here (serial + 1) rest
-written here serial (PrintDue bytes ∷ rest) = Print bytes ∷ written here serial rest
-
-abbrev pub ups : List Id → List Event
-ups ids = map (λ id. Up (bare id) (log_of id.log)) ids
 
 -- ---- a commit
 
@@ -54,7 +46,7 @@ committed_from t job out s =
     births_of t.here t.births (map birth_of out.makes)
     ++ (splits_from 0 s.hand s.places
     ++ (Done (name_of job.action) false
-    ∷ (written t.here t.serial (due_of job.state job.action (made_of t out) out)
+    ∷ (written_due t.here t.serial (due_of job.state job.action (made_of t out) out)
     ++ ups (unnamed s.hand s.places))))
 
 -- where that is the stock of the hand
@@ -72,12 +64,28 @@ abbrev pub due_dealt : Tables → Job → Outcome → Stock → List Due
 due_dealt t job out s = filled_due (due_of job.state job.action (made_of t out) out)
     (unused (state_after job.state job.action (made_of t out) out).ids (dealt s.hand s.places))
 
+-- what is left then
+abbrev pub remains : Tables → Job → Outcome → Stock → Remains
+remains t job out s = record { state = state_dealt t job out s; due = due_dealt t job out s; loose = unnamed s.hand s.places }
+
 -- a stock that may be dealt: it names what the hand names, and each id has its credit, which lasts for all who name it
 pub record IsStock (t : Tables) (job : Job) (out : Outcome) (s : Stock) : Type 0 where
   pub names : SameNames (own_stock t job out) s
   pub credit : AllByRecursion HasRightCredit s.hand
   pub few : length s.hand ≤ 1024
   pub lasts : AllLast s.hand s.places
+
+-- what it makes is well formed, and so is what it leaves, and they are few; all that it writes is few, and light
+pub record IsLimited (t : Tables) (job : Job) (out : Outcome) (p : Prepared) : Type 0 where
+  pub fit : AllByRecursion IsBirth p.births.items
+  pub due_fit : AllByRecursion IsFitDue p.plan.due.items
+  pub ups_fit : AllByRecursion HasCredit p.plan.ups.items
+  pub births : length p.births.items ≤ 32
+  pub cuts : length (splits_from 0 p.stock.hand p.stock.places) ≤ 192
+  pub due : length p.plan.due.items ≤ 177
+  pub ups : length p.plan.ups.items ≤ 194
+  pub entries : length (committed_from t job out p.stock) ≤ 596
+  pub light : total_weight (at_all t.here (committed_from t job out p.stock)) ≤ 2380288
 
 -- a commit, before its first change: what it makes, a stock that may be dealt, the new state, what is due, and what nobody names
 pub record IsPrepared (t : Tables) (job : Job) (out : Outcome) (p : Prepared) : Type 0 where
@@ -86,6 +94,7 @@ pub record IsPrepared (t : Tables) (job : Job) (out : Outcome) (p : Prepared) : 
   pub state_left : p.plan.state ≡ state_dealt t job out p.stock
   pub due_left : p.plan.due.items ≡ due_dealt t job out p.stock
   pub ups_left : p.plan.ups.items ≡ unnamed p.stock.hand p.stock.places
+  pub limits : IsLimited t job out p
 
 -- ---- where a commit leads
 

@@ -1,5 +1,5 @@
 -- An action that could get no credit: what it leaves, and what is written.
-use Rattle.std.specs.Prelude.{ℕ, Bool, true, false, List, [], ◌∷◌, ◌++◌, ◌≡◌, ◌≤◌, ◌+◌, Option, Some, None, set, take, length}
+use Rattle.std.specs.Prelude.{ℕ, Bool, true, false, List, ◌∷◌, ◌++◌, ◌≡◌, ◌≤◌, ◌+◌, Option, Some, None, set, take, length}
 use Rattle.std.specs.List.{find, slice_get, remove}
 use Rattle.hpx_journal.specs.Data.{Id, State, Due, Parcel, Give}
 use Rattle.hpx_journal.specs.Entries.{name_of, target_of}
@@ -9,10 +9,12 @@ use Rattle.hpx_commit.specs.Failures.{action_ids, state_failed, due_failed, ups_
 use Rattle.hpx_commit.specs.declared.plan.Plan.{Plan}
 use Rattle.hpx_node.specs.declared.node.fail.Failing.{Failing}
 use Rattle.hpx_tables.specs.Awaited.{answered_by}
-use Rattle.hpx_node.specs.Commits.{written, ups}
 use Rattle.hpx_tables.specs.Pending.{Waits, awaits, fails_with, hand_with}
-use Rattle.hpx_steps.specs.Calls.{Gives, with_left}
+use Rattle.hpx_steps.specs.Calls.{Gives, ups, with_left, written_due}
+use Rattle.hpx_steps.specs.Left.{IsLeftFailed}
+use Rattle.hpx_steps.specs.Steps.{Remains}
 use Rattle.hpx_tables.specs.Tables.{Tables}
+use Rattle.hpx_node.specs.Resumes.{IsInPlace}
 
 -- the state of its object, as it was, with what is left of its credits
 abbrev pub state_left : Waits → State
@@ -28,18 +30,20 @@ ups_left w = ups_failed w.job.state w.job.action (length w.outcome.makes) w.hand
 
 -- the Done that fails, what is due, and what is given up
 abbrev pub failed_events : Tables → Waits → List Event
-failed_events t w = Done (name_of w.job.action) true ∷ (written t.here t.serial (due_left w) ++ ups (ups_left w))
+failed_events t w = Done (name_of w.job.action) true ∷ (written_due t.here t.serial (due_left w) ++ ups (ups_left w))
 
--- the commit at i of those that wait has to fail: all that it asked for was given, with no more credit once; its object stands at j
+-- what is left of it
+abbrev pub failed_remains : Waits → Remains
+failed_remains w = record { state = state_left w; due = due_left w; loose = ups_left w }
+
+-- the commit at i of those that wait has to fail: its object stands at j, and what it leaves is right
 pub record MustFail (i j : ℕ) (t : Tables) : Type 0 where
   pub commit : Waits
   pub there : slice_get t.pending i ≡ Some commit
-  pub given : commit.asked ≡ []
-  pub refusal : Id
-  pub refused : commit.refused ≡ Some refusal
   pub standing : Standing
   pub stands : slice_get t.objects j ≡ Some standing
   pub found : find (is_standing (target_of commit.job.action)) t.objects ≡ Some standing
+  pub left : IsLeftFailed commit standing (failed_remains commit)
 
 -- what it leaves is planned
 pub record IsFailure (w : Waits) (p : Plan) : Type 0 where
@@ -80,9 +84,7 @@ pub record IsFailing (t : Tables) (id : Id) (entry : ℕ) (y : Failing) : Type 0
   pub first : find (awaits id entry) (take y.i t.pending) ≡ None
   pub for : awaits id entry commit ≡ true
   pub last : fails_with id commit ≡ true
-  pub standing : Standing
-  pub stands : slice_get t.objects y.j ≡ Some standing
-  pub found : find (is_standing (target_of commit.job.action)) t.objects ≡ Some standing
+  pub place : IsInPlace t commit y.j
   pub plan : IsFailure (record commit { hand = hand_with id entry commit }) y.plan
   pub few : length y.plan.ups.items ≤ 256
 

@@ -1,5 +1,4 @@
 pub mod Locality
-pub mod Stands
 pub mod Changes
 pub mod Commits
 pub mod Asks
@@ -7,5 +6,3 @@ pub mod Fails
 pub mod Next
 pub mod Resumes
 pub mod Handled
-pub mod Idle
-pub mod Orders

@@ -1,7 +1,7 @@
 -- What follows a message: a commit that gets its last answer goes on, or its action fails.
-use Rattle.std.specs.Prelude.{true, false, List, [], ◌≡◌, ◌<◌, ◌≤◌, Some, length}
+use Rattle.std.specs.Prelude.{ℕ, true, false, List, [], ◌≡◌, ◌<◌, ◌≤◌, Some, length}
 use Rattle.std.specs.List.{slice_get, remove}
-use Rattle.hpx_journal.specs.Data.{Parcel}
+use Rattle.hpx_journal.specs.Data.{State, Act, Outcome, Parcel}
 use Rattle.hpx_part.specs.Data.{Event, Entry}
 use Rattle.hpx_node.specs.declared.node.next.Next.{Next}
 use Rattle.hpx_node.specs.declared.node.next.Next.TheVariants as nexts
@@ -13,10 +13,10 @@ use Rattle.hpx_node.specs.Resumes.{MayResume, IsReadyFor, completes, full_stock,
 use Rattle.hpx_tables.specs.Tables.{Tables}
 
 -- what a message will be followed by
-abbrev pub IsNext : Tables → Parcel → Next → Type 0
-IsNext t p nexts.Rests = (completes t p ≡ false) × (dooms t p ≡ false)
-IsNext t p (nexts.GoesOn y) = IsReadyFor t p y
-IsNext t p (nexts.Fails y) = IsFailingFor t p y
+abbrev pub IsNext : (ℕ → ℕ → ℕ → State → Act → Outcome) → Tables → Parcel → Next → Type 0
+IsNext act_of t p nexts.Rests = (completes t p ≡ false) × (dooms t p ≡ false)
+IsNext act_of t p (nexts.GoesOn y) = IsReadyFor act_of t p y
+IsNext act_of t p (nexts.Fails y) = IsFailingFor t p y
 
 -- once it is dealt with, this may follow
 abbrev pub MayFollow : Tables → Next → Type 0

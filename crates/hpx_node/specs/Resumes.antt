@@ -1,24 +1,24 @@
 -- A commit that waited and goes on, once all that it asked for has come.
-use Rattle.std.specs.Prelude.{ℕ, Bool, true, false, List, ◌≡◌, ◌==◌, ◌&&◌, not, is_some, length, take, Option, Some, None}
+use Rattle.std.specs.Prelude.{ℕ, Bool, true, false, List, ◌≡◌, ◌≤◌, ◌==◌, ◌&&◌, not, length, take, Option, Some, None}
 use Rattle.std.specs.List.{find, remove, slice_get}
-use Rattle.hpx_journal.specs.Data.{Id, Parcel, Give}
+use Rattle.hpx_value.specs.Laws.{KeepsLaws}
+use Rattle.hpx_value.specs.Values.{bare_state}
+use Rattle.hpx_journal.specs.Data.{Id, State, Act, Outcome, Parcel, Give}
 use Rattle.hpx_journal.specs.Entries.{target_of}
 use Rattle.hpx_journal.specs.Local.{is_standing}
-use Rattle.hpx_part.specs.Data.{Event}
+use Rattle.hpx_part.specs.Data.{Event, Standing}
 use Rattle.hpx_commit.specs.Deals.{log_of}
 use Rattle.hpx_commit.specs.Stocks.{Stock, replaced_from}
 use Rattle.hpx_node.specs.declared.node.finish.Prepared.{Prepared}
 use Rattle.hpx_node.specs.declared.node.resume.Ready.{Ready}
 use Rattle.hpx_node.specs.Commits.{made_of, committed_from, IsPrepared, Commits}
+use Rattle.hpx_tables.specs.Fit.{IsKept}
+use Rattle.hpx_tables.specs.Jobs.{IsFitJob}
 use Rattle.hpx_tables.specs.Pending.{Waits, ids_named, awaits, waits_for_one, hand_with}
 use Rattle.hpx_steps.specs.Calls.{Gives}
 use Rattle.hpx_tables.specs.Tables.{Tables}
 
 -- ---- a commit for which all has come
-
--- it waits for nothing more, and nothing was refused
-abbrev pub may_go_on : Waits → Bool
-may_go_on w = (length w.asked == 0) && not (is_some w.refused)
 
 -- what it deals with these ids in its hand: what it makes has its credit
 abbrev pub stock_with : Tables → Waits → List Id → Stock
@@ -28,10 +28,23 @@ stock_with t w hand = replaced_from (length (ids_named w)) (made_of t w.outcome)
 abbrev pub full_stock : Tables → Waits → Stock
 full_stock t w = stock_with t w w.hand
 
--- it is prepared to go on, and its object stands at j
+-- the object of a commit stands at j, as its job found it, but without credits
+pub record IsInPlace (t : Tables) (w : Waits) (j : ℕ) : Type 0 where
+  pub job : IsFitJob w.job
+  pub here : w.job.at ≡ t.here
+  pub localities : w.localities ≡ t.localities
+  pub few : t.localities ≤ 64
+  pub standing : Standing
+  pub stands : slice_get t.objects j ≡ Some standing
+  pub found : find (is_standing (target_of w.job.action)) t.objects ≡ Some standing
+  pub kept : IsKept standing
+  pub kind : standing.object.kind ≡ w.job.kind
+  pub state : standing.state ≡ bare_state w.job.state
+
+-- it is prepared to go on
 pub record MayResume (t : Tables) (w : Waits) (j : ℕ) (p : Prepared) : Type 0 where
-  pub complete : may_go_on w ≡ true
-  pub object : find (is_standing (target_of w.job.action)) t.objects ≡ slice_get t.objects j
+  pub place : IsInPlace t w j
+  pub kept : IsKept (record { object = place.standing.object; state = p.plan.state })
   pub prepared : IsPrepared t w.job w.outcome p
   pub stock : p.stock ≡ full_stock t w
 
@@ -55,21 +68,24 @@ abbrev pub completes : Tables → Parcel → Bool
 completes t (Give id entry) = is_last id (find (awaits id entry) t.pending)
 completes t _ = false
 
--- a commit that goes on once this is given is prepared
-pub record IsReady (t : Tables) (id : Id) (entry : ℕ) (y : Ready) : Type 0 where
+-- a commit that goes on once this is given is prepared; its outcome is what its action says
+pub record IsReady (act_of : ℕ → ℕ → ℕ → State → Act → Outcome) (t : Tables) (id : Id) (entry : ℕ) (y : Ready) : Type 0 where
   pub before : Waits
   pub there : slice_get t.pending y.i ≡ Some before
   pub first : find (awaits id entry) (take y.i t.pending) ≡ None
   pub for : awaits id entry before ≡ true
   pub last : is_last id (Some before) ≡ true
-  pub object : find (is_standing (target_of before.job.action)) t.objects ≡ slice_get t.objects y.j
+  pub place : IsInPlace t before y.j
+  pub laws : KeepsLaws t.localities before.job.kind before.job.at before.job.state before.job.action before.outcome
+  pub right : before.outcome ≡ act_of t.localities before.job.kind before.job.at before.job.state before.job.action
+  pub kept : IsKept (record { object = place.standing.object; state = y.prepared.plan.state })
   pub prepared : IsPrepared t before.job before.outcome y.prepared
   pub stock : y.prepared.stock ≡ stock_with t before (hand_with id entry before)
 
 -- by the message
-abbrev pub IsReadyFor : Tables → Parcel → Ready → Type 0
-IsReadyFor t (Give id entry) y = IsReady t id entry y
-IsReadyFor t _ y = ⊥
+abbrev pub IsReadyFor : (ℕ → ℕ → ℕ → State → Act → Outcome) → Tables → Parcel → Ready → Type 0
+IsReadyFor act_of t (Give id entry) y = IsReady act_of t id entry y
+IsReadyFor act_of t _ y = ⊥
 
 -- ---- a message is dealt with, and a commit may go on with it
 

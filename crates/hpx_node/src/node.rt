@@ -6,12 +6,9 @@ ghost use Rattle.hpx_journal.specs.Roots.{roots};
 ghost use Rattle.hpx_parcel.specs.Parcels.{IsParcel};
 ghost use Rattle.hpx_tables.specs.Fit.{IsFit};
 ghost use Rattle.hpx_tables.specs.Tables.{IsPassive};
-ghost use Rattle.hpx_steps.specs.Rest.{Lacks};
-ghost use Rattle.hpx_node.specs.Orders.{KeepsOrder};
-ghost use Rattle.hpx_node.specs.Stands.{Stands};
-ghost use Rattle.hpx_node.specs.Changes.{Mails, Posts};
+ghost use Rattle.hpx_steps.specs.Rest.{Stands};
 ghost use Rattle.hpx_steps.specs.Frames.{MayGoTo};
-ghost use Rattle.hpx_steps.specs.Mail.{is_other, moves_on, may_stay, with_mail};
+ghost use Rattle.hpx_steps.specs.Mail.{is_other, moves_on, may_stay, with_act, with_mail};
 
 use hpx_agas::records::Records;
 use hpx_journal::local::move_to;
@@ -111,8 +108,6 @@ impl<A: Acts + Copy> Node<A> {
         ensures profile { IfOk result (λ n. n.tables.profile ≡ profile) }
         ensures objects { IfOk result (λ n. n.tables.objects ≡ roots n.tables.localities n.tables.here) }
         ensures passive { IfOk result (λ n. IsPassive n.tables) }
-        ensures lacks { IfOk result (λ n. Lacks n.tables) }
-        ensures orderly { IfOk result (λ n. KeepsOrder A.act_of n.tables []) }
         ensures frames { IfOk result (λ n. (n.tables.sent ≡ 0) × (n.tables.taken ≡ 0)) }
         ensures stands { IfOk result (λ n. Stands A.act_of n.tables []) }
     {
@@ -166,7 +161,6 @@ impl<A: Acts + Copy> Node<A> {
         requires fit { IsParcel letter }
         requires may { MayGoTo self.old.tables.here to letter }
         requires spare { 1 ≤ self.old.spare }
-        ensures mails { Mails letter self.old.tables self.new.tables }
         ensures goes { self.new.tables ≡ with_mail to letter self.old.tables }
         ensures spare { self.old.spare ≤ self.new.spare + 1 }
     {
@@ -199,7 +193,7 @@ impl<A: Acts + Copy> Node<A> {
     fn post(&mut self, act: Act)
         requires fit { IsFit act }
         requires spare { 1 ≤ self.old.spare }
-        ensures posts { Posts act self.old.tables self.new.tables }
+        ensures goes { self.new.tables ≡ with_act act self.old.tables }
         ensures spare { self.old.spare ≤ self.new.spare + 1 }
     {
         let home = target(&act).home();

@@ -26,7 +26,7 @@ pub struct Site {
 
 impl Model for Site {
     ghost use Rattle.hpx_trial.specs.Trial.{trial};
-    ghost use Rattle.hpx_node.specs.Stands.{Stands};
+    ghost use Rattle.hpx_steps.specs.Rest.{Stands};
     ghost use Rattle.hpx_tables.specs.Tables.{Tables};
 
     ghost Value = { Tables };

@@ -5,6 +5,7 @@ pub mod adapters;
 pub mod fabric;
 pub mod fault;
 mod flight;
+pub mod gate;
 pub mod link;
 pub mod memory_fabric;
 pub mod memory_link;

@@ -26,6 +26,7 @@ use Rattle.hpx_tables.specs.Splits.{splits_from}
 use Rattle.hpx_tables.specs.Tables.{Tables}
 use Rattle.hpx_tables.specs.declared.births.Birth.{Birth}
 use Rattle.hpx_steps.specs.Calls.{ups, with_due, with_left, written_due}
+use Rattle.hpx_steps.specs.Left.{IsLeftBy}
 use Rattle.hpx_steps.specs.Mail.{wrote}
 use Rattle.hpx_steps.specs.Rest.{Stands, rules_of}
 use Rattle.hpx_steps.specs.Steps.{Commits, Deals, Remains, Step, Steps, Suspend, Writes, ends, with_credit}
@@ -64,29 +65,6 @@ left_steps r s due loose fresh credit =
     )
 
 -- ---- what a commit leaves
-
--- what a commit that is in work here leaves, once its objects are made and this is in its hand; its object is x
-pub record IsLeftBy (r : Rules) (t : Tables) (w : Waits) (x : Standing) (hand made : List Id) (left : Remains) : Type 0 where
-  pub right : w.outcome ≡ r.outcome_of x.object.kind t.here x.state (bare_act w.job.action)
-  pub says : bare_state left.state ≡ state_after x.state (bare_act w.job.action) made w.outcome
-  pub leaves : map bare_due left.due ≡ due_of x.state (bare_act w.job.action) made w.outcome
-  pub kept : IsKept (record { object = x.object; state = left.state })
-  pub plain : x.object.kind ≡ 7 → left.state ≡ x.state
-  pub credit : AllByRecursion HasRightCredit left.state.ids
-  pub fits : AllByRecursion IsFitDue left.due
-  pub given_up : AllByRecursion HasCredit left.loose
-  pub deals : Deals hand left.state left.due left.loose
-
--- what a commit leaves that fails; its object is x
-pub record IsLeftFailed (w : Waits) (x : Standing) (left : Remains) : Type 0 where
-  pub says : bare_state left.state ≡ bare_state w.job.state
-  pub leaves : map bare_due left.due ≡ failure (bare_act w.job.action)
-  pub kept : IsKept (record { object = x.object; state = left.state })
-  pub plain : x.object.kind ≡ 7 → left.state ≡ x.state
-  pub credit : AllByRecursion HasRightCredit left.state.ids
-  pub fits : AllByRecursion IsFitDue left.due
-  pub given_up : AllByRecursion HasCredit left.loose
-  pub deals : Deals w.hand left.state left.due left.loose
 
 pub all_right : (ids : List Id) → AllByRecursion HasCredit ids → AllByRecursion HasRightCredit ids
 all_right [] h = tt
@@ -171,7 +149,7 @@ module _ (r : Rules) (s : Turn) (w : Waits) (rest : List Waits) (front later bac
   pub done_steps : (j : ℕ) (x : Standing) (left : Remains) → AreWithin full_hand places → ((q : ℕ) → q < length full_hand → Lasts (id_at full_hand q) (named places q))
       → slice_get s.tables.objects j ≡ Some x → find (is_standing (target_of w.job.action)) s.tables.objects ≡ Some x
       → AllByRecursion (Drawn s.tables.here s.tables.births) s.tables.objects
-      → IsLeftBy r s.tables w x halved_hand (map bare (ids_of s.tables.here s.tables.births s.tables.profile.credit_log (map birth_of w.outcome.makes))) left
+      → IsLeftBy r s.tables.here w.job w.outcome x halved_hand (map bare (ids_of s.tables.here s.tables.births s.tables.profile.credit_log (map birth_of w.outcome.makes))) left
       → (l : Option Event) × Steps r (with_hand w rest (front ++ (later ++ back)) s)
       (map (λ e. Writes e) (events ++ (Done (name_of w.job.action) false ∷ (written_due s.tables.here s.tables.serial left.due ++ ups left.loose))))
       (record (ends j (record w { hand = halved_hand }) rest x left (ready l)) {
@@ -291,8 +269,7 @@ module _ (act_of : ℕ → ℕ → ℕ → State → Act → Outcome) (t : Table
   })
 
   pub commit_stands : (left : Remains) → AreWithin hand places → ((q : ℕ) → q < length hand → Lasts (id_at hand q) (named places q))
-      → IsLeftBy r (record t { running = remove t.running i; objects = set t.objects j (record { object = x.object; state = bare_state x.state }) })
-      (waits_with job out t.localities [] (record { hand = hand_ids job.state job.action (map bare made); places = places })) (record { object = x.object; state = bare_state x.state }) cut (map bare made) left
+      → IsLeftBy r t.here job out (record { object = x.object; state = bare_state x.state }) cut (map bare made) left
       → Stands act_of (committed left) (entries ++ at_all t.here (births_of t.here t.births (map birth_of out.makes)
       ++ (splits_from 0 hand places ++ (Done (name_of job.action) false ∷ (written_due t.here t.serial left.due ++ ups left.loose)))))
   commit_stands left within lasts by =

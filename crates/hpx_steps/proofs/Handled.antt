@@ -99,6 +99,17 @@ pub record Leads (r : Rules) (s : Turn) (t' : Tables) (events : List Event) : Ty
   pub writes : written labels ≡ events
   pub steps : Steps r s labels (record (drops s) { tables = t'; last = last })
 
+-- an action that may stay is accepted
+pub kept_here : (t : Tables) (act : Act) → may_stay t act ≡ true → with_act act t ≡ with_accepted act t
+kept_here t act stay =
+    ap (λ b. record t {
+      accepted = t.accepted ++ cond b (act ∷ []) [];
+      desk = t.desk ++ cond (not b) (cond (is_other t (target_of act).home) [] (parcel_for act ∷ [])) [];
+      outgoing = t.outgoing ++ cond (not b) (cond (is_other t (target_of act).home) (going (target_of act).home (parcel_for act) ∷ []) []) [];
+    }) stay
+    ∙ (ap (λ ds. record t { accepted = t.accepted ++ act ∷ []; desk = ds; outgoing = t.outgoing ++ [] }) (append-nil t.desk)
+    ∙ ap (λ os. record t { accepted = t.accepted ++ act ∷ []; outgoing = os }) (append-nil t.outgoing))
+
 module _ (r : Rules) (s : Turn) (calm : IsCalm s) (t' : Tables) where
   -- an action that may go on
   pub act_leads : (act : Act) (p : Parcel) → (p ≡ Apply act) ⊎ (p ≡ Move act) → HasInHand p s → (s.mailed ≢ [] → may_stay s.tables act ≡ true)
@@ -117,16 +128,7 @@ module _ (r : Rules) (s : Turn) (calm : IsCalm s) (t' : Tables) where
   -- one that is accepted
   pub accepted_leads : (act : Act) (p : Parcel) → (p ≡ Apply act) ⊎ (p ≡ Move act) → HasInHand p s → may_stay s.tables act ≡ true
       → t' ≡ with_accepted act s.tables → Leads r s t' []
-  accepted_leads act p carries hand stay is = act_leads act p carries hand (λ m. stay) (is ∙ sym kept)
-    where
-      kept : with_act act s.tables ≡ with_accepted act s.tables
-      kept = ap (λ b. record s.tables {
-        accepted = s.tables.accepted ++ cond b (act ∷ []) [];
-        desk = s.tables.desk ++ cond (not b) (cond (is_other s.tables (target_of act).home) [] (parcel_for act ∷ [])) [];
-        outgoing = s.tables.outgoing ++ cond (not b) (cond (is_other s.tables (target_of act).home) (going (target_of act).home (parcel_for act) ∷ []) []) [];
-      }) stay
-          ∙ (ap (λ ds. record s.tables { accepted = s.tables.accepted ++ act ∷ []; desk = ds; outgoing = s.tables.outgoing ++ [] }) (append-nil s.tables.desk)
-          ∙ ap (λ os. record s.tables { accepted = s.tables.accepted ++ act ∷ []; outgoing = os }) (append-nil s.tables.outgoing))
+  accepted_leads act p carries hand stay is = act_leads act p carries hand (λ m. stay) (is ∙ sym (kept_here s.tables act stay))
 
   -- ---- records
 
@@ -281,7 +283,7 @@ module _ (r : Rules) (s : Turn) (calm : IsCalm s) (t' : Tables) where
 
 -- ---- an object is freed
 
-returns_objects : (ids : List Id) (t : Tables) (os : List Standing) → with_returns ids (record t { objects = os }) ≡ record (with_returns ids t) { objects = os }
+pub returns_objects : (ids : List Id) (t : Tables) (os : List Standing) → with_returns ids (record t { objects = os }) ≡ record (with_returns ids t) { objects = os }
 returns_objects [] t os = refl
 returns_objects (id ∷ ids) t os = each id.log (λ u. returns_objects ids u os)
   where

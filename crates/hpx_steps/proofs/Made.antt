@@ -21,7 +21,7 @@ use Rattle.hpx_steps.specs.Turn.{bare_standing}
 abbrev pub Drawn : ℕ → ℕ → Standing → Type 0
 Drawn here n x = 16 ≤ x.object.kind → x.object.home ≡ here → x.object.number ≤ n
 
-bare_alone : (s : State) → s.ids ≡ [] → bare_state s ≡ s
+pub bare_alone : (s : State) → s.ids ≡ [] → bare_state s ≡ s
 bare_alone s none = ap (λ ids. record { drawn = s.drawn; values = s.values; conts = s.conts; ids = ids }) (ap (map bare) none ∙ sym none)
 
 -- what is made shows no credit

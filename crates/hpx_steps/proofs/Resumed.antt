@@ -18,10 +18,11 @@ use Rattle.hpx_tables.specs.Strange.{brings_right}
 use Rattle.hpx_tables.specs.Tables.{Tables}
 use Rattle.hpx_tables.specs.declared.pending.Asked.{Asked as AskedFor}
 use Rattle.hpx_steps.specs.Calls.{Gives, ups, with_left, written_due}
+use Rattle.hpx_steps.specs.Left.{IsLeftBy, IsLeftFailed}
 use Rattle.hpx_steps.specs.Mail.{wrote}
 use Rattle.hpx_steps.specs.Steps.{HasInHand, Remains, Steps, Writes, drops, ends, goes_on, works_on}
 use Rattle.hpx_steps.specs.Turn.{Turn, at_rest}
-use Rattle.hpx_steps.proofs.Committed.{IsLeftBy, IsLeftFailed, all_right, done_steps, left_steps}
+use Rattle.hpx_steps.proofs.Committed.{all_right, done_steps, left_steps}
 use Rattle.hpx_steps.proofs.Handled.{Leads, given_leads, written_events}
 use Rattle.hpx_steps.proofs.Made.{Drawn}
 use Rattle.hpx_steps.proofs.Work.{halved_from}
@@ -150,7 +151,7 @@ module _ (r : Rules) (t mid : Tables) (came mailed : List Parcel) (before : Opti
     pub given_done : (j : ℕ) (x : Standing) (left : Remains) → AreWithin full places → ((q : ℕ) → q < length full → Lasts (id_at full q) (named places q))
         → slice_get t.objects j ≡ Some x → find (is_standing (target_of g.after.job.action)) t.objects ≡ Some x
         → AllByRecursion (Drawn t.here t.births) t.objects
-        → IsLeftBy r (record t { pending = remove t.pending g.i }) g.after x full_cut (map bare made) left
+        → IsLeftBy r t.here g.after.job g.after.outcome x full_cut (map bare made) left
         → Leads r (in_hand t came mailed before) (done j x left) (given_event id ∷ ((births_of t.here t.births (map birth_of g.after.outcome.makes) ++ splits_from 0 full places)
         ++ (Done (name_of g.after.job.action) false ∷ (written_due t.here t.serial left.due ++ ups left.loose))))
     given_done j x left within lasts stands found drawn by =

@@ -30,7 +30,7 @@ use Rattle.hpx_steps.specs.Sound.{IsSound, TidyAt}
 use Rattle.hpx_steps.specs.Steps.{IsCalm, Label, Steps, Writes, written}
 use Rattle.hpx_steps.specs.Turn.{Turn, at_rest}
 use Rattle.hpx_steps.proofs.Busy.{none_of}
-use Rattle.hpx_steps.proofs.Handled.{Leads, accepted_leads, act_leads, asked_leads, freed_leads, returned_leads}
+use Rattle.hpx_steps.proofs.Handled.{Leads, accepted_leads, act_leads, asked_leads, freed_leads, kept_here, returned_leads}
 use Rattle.hpx_steps.proofs.Rest.{rest_sound}
 use Rattle.hpx_steps.proofs.Right.{go_wrong, near_right, object_wrong, return_right}
 use Rattle.hpx_steps.proofs.Step.{steps_sound}
@@ -129,7 +129,7 @@ module _ (act_of : ℕ → ℕ → ℕ → State → Act → Outcome) (t t' : Ta
 
   -- a message that breaks no rule is dealt with; credit that is given is a case of its own
   pub frame_leads : (p : Parcel) (bytes : List ℕ) → parcel_of bytes ≡ Some p → IsParcel p → broken t p ≡ None
-      → ((id : Id) (entry : ℕ) → p ≡ Give id entry → ⊥) → DealsWith p (record t { taken = t.taken + 1 }) t' → Leaves p (record t { taken = t.taken + 1 }) t'
+      → ((id : Id) (entry : ℕ) → p ≡ Give id entry → ⊥) → DealsWith p (record t { taken = t.taken + 1 }) t' → Leaves p t t'
       → Leads r (came p bytes) t' (effects t p)
   frame_leads (Apply act) bytes spelled fit right other deals leaves =
       act_leads r (came (Apply act) bytes) (record { due = refl; fresh = refl }) t' act (Apply act) (inl refl) (inl (refl, refl)) (λ m. absurd (m refl)) deals
@@ -137,12 +137,12 @@ module _ (act_of : ℕ → ℕ → ℕ → State → Act → Outcome) (t t' : Ta
       act_leads r (came (Move act) bytes) (record { due = refl; fresh = refl }) t' act (Move act) (inr refl) (inl (refl, refl)) (λ m. absurd (m refl)) deals
   frame_leads (Return id) bytes spelled fit right other deals leaves =
       let k = return_right t (Return id) id None (near_right t (Return id) right).1 in
-      returned_leads r (came (Return id) bytes) (record { due = refl; fresh = refl }) t' id (inl (refl, refl)) fit k.0 k.1 deals leaves
+      returned_leads r (came (Return id) bytes) (record { due = refl; fresh = refl }) t' id (inl (refl, refl)) fit k.0 k.1 deals (record { own = leaves.own; others = leaves.others })
   frame_leads (Ask id asker entry) bytes spelled fit right other deals leaves =
       let near = near_right t (Ask id asker entry) right in
       let k = return_right t (Ask id asker entry) id None near.1 in
       asked_leads r (came (Ask id asker entry) bytes) (record { due = refl; fresh = refl }) t' id asker entry (inl (refl, refl)) fit
-      (search (arith, nat_tests, (none_of (nat_le t.localities id.home) (nat_le t.localities asker) near.0).1)) lasts k.0 k.1 deals leaves
+      (search (arith, nat_tests, (none_of (nat_le t.localities id.home) (nat_le t.localities asker) near.0).1)) lasts k.0 k.1 deals (record { own = leaves.own; others = leaves.others })
   frame_leads (Give id entry) bytes spelled fit right other deals leaves = absurd (other id entry refl)
   frame_leads (Free o) bytes spelled fit right other deals leaves =
       freed_leads r (came (Free o) bytes) t' o (record { due = refl; fresh = refl }) refl refl (inr (refl, refl, (bytes, refl, spelled))) (near_right t (Free o) right).1 deals leaves
@@ -197,12 +197,12 @@ module _ (act_of : ℕ → ℕ → ℕ → State → Act → Outcome) (t t' : Ta
     popped o is = sym (ap (λ ds. held_here (record t { desk = ds }) o) (first ∙ ap (λ q. q ∷ rest) is)
         ∙ omega (arith, sum_by-cons (λ q. credit_in o (ids_held q)) (Free o) (rest ++ map (λ (x : Outgoing). x.parcel) t.outgoing)))
 
-    pub desk_leads : ((id : Id) (entry : ℕ) → p ≡ Give id entry → ⊥) → Accepts p (record t { desk = rest }) t' → Leaves p (record t { desk = rest }) t'
+    pub desk_leads : ((id : Id) (entry : ℕ) → p ≡ Give id entry → ⊥) → Accepts p (record t { desk = rest }) t' → Leaves p t t'
         → Leads r (mailed p rest) t' (effects t p)
     desk_leads other deals leaves = each p refl near its (near_right t p right).1 deals leaves
       where
         each : (q : Parcel) → p ≡ q → is_far t.localities q ≡ false → TidyAt (at_rest t) (OnDesk q) → broken_near t q ≡ None
-            → Accepts q (record t { desk = rest }) t' → Leaves q (record t { desk = rest }) t' → Leads r (mailed q rest) t' (effects t q)
+            → Accepts q (record t { desk = rest }) t' → Leaves q t t' → Leads r (mailed q rest) t' (effects t q)
         each (Apply act) is far fit no_break accepts goes =
             let home = home_here act (λ to m. subst (MayGoTo t.here to) is m) fit.0.sent.shape far in
             accepted_leads r (mailed (Apply act) rest) (record { due = refl; fresh = refl }) t' act (Apply act) (inl refl) (inr (refl, refl)) (stays_apply t act fit.0.code no_break home) accepts
@@ -211,11 +211,11 @@ module _ (act_of : ℕ → ℕ → ℕ → State → Act → Outcome) (t t' : Ta
             accepted_leads r (mailed (Move act) rest) (record { due = refl; fresh = refl }) t' act (Move act) (inr refl) (inr (refl, refl)) (stays_move t act fit.0.code no_break home) accepts
         each (Return id) is far fit no_break accepts goes =
             let k = return_right t (Return id) id None no_break in
-            returned_leads r (mailed (Return id) rest) (record { due = refl; fresh = refl }) t' id (inr (refl, refl)) fit.0 k.0 k.1 accepts goes
+            returned_leads r (mailed (Return id) rest) (record { due = refl; fresh = refl }) t' id (inr (refl, refl)) fit.0 k.0 k.1 accepts (record { own = goes.own; others = goes.others })
         each (Ask id asker entry) is far fit no_break accepts goes =
             let k = return_right t (Ask id asker entry) id None no_break in
             asked_leads r (mailed (Ask id asker entry) rest) (record { due = refl; fresh = refl }) t' id asker entry (inr (refl, refl)) fit.0
-            (search (arith, nat_tests, (none_of (nat_le t.localities id.home) (nat_le t.localities asker) far).1)) lasts k.0 k.1 accepts goes
+            (search (arith, nat_tests, (none_of (nat_le t.localities id.home) (nat_le t.localities asker) far).1)) lasts k.0 k.1 accepts (record { own = goes.own; others = goes.others })
         each (Give id entry) is far fit no_break accepts goes = absurd (other id entry is)
         each (Free o) is far fit no_break accepts goes =
             freed_leads r (mailed (Free o) rest) t' o (record { due = refl; fresh = refl }) refl refl (inl (refl, refl, refl))
@@ -225,6 +225,27 @@ module _ (act_of : ℕ → ℕ → ℕ → State → Act → Outcome) (t t' : Ta
         each (Shipped act state) is far fit no_break accepts goes = absurd (object_wrong t (Shipped act state) act no_break)
         each (Arrived id place) is far fit no_break accepts goes =
             absurd (let k : breaks 5 (Arrived id place) _ ≡ None = (return_right t (Arrived id place) id _ no_break).2 in cc)
+
+    -- what is done with it is what is done with a message from the desk: its action is accepted
+    pub desk_accepts : DealsWith p (record t { desk = rest }) t' → Accepts p (record t { desk = rest }) t'
+    desk_accepts deals = each p refl near its (near_right t p right).1 deals
+      where
+        each : (q : Parcel) → p ≡ q → is_far t.localities q ≡ false → TidyAt (at_rest t) (OnDesk q) → broken_near t q ≡ None
+            → DealsWith q (record t { desk = rest }) t' → Accepts q (record t { desk = rest }) t'
+        each (Apply act) is far fit no_break deals =
+            let home = home_here act (λ to m. subst (MayGoTo t.here to) is m) fit.0.sent.shape far in
+            deals ∙ kept_here (record t { desk = rest }) act (stays_apply t act fit.0.code no_break home)
+        each (Move act) is far fit no_break deals =
+            let home = home_here act (λ to m. subst (MayGoTo t.here to) is m) fit.0.sent.shape (none_of (is_far_act t.localities act) (moves_far t.localities (move_to act)) far).0 in
+            deals ∙ kept_here (record t { desk = rest }) act (stays_move t act fit.0.code no_break home)
+        each (Return id) is far fit no_break deals = deals
+        each (Ask id asker entry) is far fit no_break deals = deals
+        each (Give id entry) is far fit no_break deals = deals
+        each (Free o) is far fit no_break deals = deals
+        each (Cached id place) is far fit no_break deals = deals
+        each (Go act) is far fit no_break deals = deals
+        each (Shipped act state) is far fit no_break deals = deals
+        each (Arrived id place) is far fit no_break deals = deals
 
   -- ---- a frame goes, a line is fed, an action is fired
 

@@ -55,7 +55,7 @@ shorts_can (suc k) p n st hand le long same least =
     )
 
 -- only messages come with asks
-asks_rest : (k n : ℕ) (ids : List Id) (t : Tables) → with_asks k n ids t ≡ record t { desk = (with_asks k n ids t).desk; outgoing = (with_asks k n ids t).outgoing }
+pub asks_rest : (k n : ℕ) (ids : List Id) (t : Tables) → with_asks k n ids t ≡ record t { desk = (with_asks k n ids t).desk; outgoing = (with_asks k n ids t).outgoing }
 asks_rest k n [] t = refl
 asks_rest k n (id ∷ ids) t = asks_rest k (n + 1) ids (with_mail id.home (Ask id k (n + 1)) t)
 

@@ -10,3 +10,4 @@ pub mod Calls
 pub mod Rest
 pub mod Numbered
 pub mod Limits
+pub mod Left

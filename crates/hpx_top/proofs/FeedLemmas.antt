@@ -26,10 +26,11 @@ use Rattle.hpx_world.specs.Quiet.{NoneRuns, IsAtRest}
 use Rattle.hpx_world.specs.Sound.{DoneAt}
 use Rattle.hpx_world.specs.Steps.{IsUnfed}
 use Rattle.hpx_world.specs.Turns.{Feeds as FeedsAt, next_name, DidFeed}
-use Rattle.app_console.specs.Acts.{act_of}
-use Rattle.app_console.specs.ActsLaws.{nothing_moves}
-use Rattle.app_console.specs.Console.{commands, prompt}
-use Rattle.app_console.specs.PlainText.{opening}
+use Rattle.app_console.specs.Console.{prompt}
+use Rattle.app_console.specs.Lines.{opening}
+use Rattle.app_console.proofs.NothingMoves.{nothing_moves}
+use Rattle.hpx_top.specs.Acts.{act_of}
+use Rattle.hpx_top.specs.Texts.{commands}
 use Rattle.hpx_top.specs.declared.session.SessionFault.{SessionFault}
 use Rattle.hpx_top.specs.declared.session.SessionFault.TheVariants.{Read, Write, Fabric, JournalFull, OutOfMemory, BadFrame, Strange, InputFull}
 use Rattle.hpx_top.specs.Reader.{Reading, TakesLine, lines_left}
@@ -112,7 +113,7 @@ none_out text turned.Empty nodes nodes' old new d passive = absurd d
 -- ---- no MOVE is sent
 
 pub still : (n : ℕ) (p : Profile) → NothingMoves (rules_of act_of n p)
-still n p = record { codes = λ kind here s a low state act. nothing_moves n kind here s a }
+still n p = record { codes = λ kind here s a low state act. nothing_moves n kind here s a low state act }
 
 -- ---- no action fails
 
@@ -204,9 +205,9 @@ ended_show (Err f) Q r line old new before now cause w fed = subst (λ f. IsLine
 
 -- ---- how a session ends
 
-pub cut_write : (f : SessionFault) (all : Option (List (List ℕ))) (before now : Option (List ℕ)) (entries : List Entry) → f ≡ Write
-    → IsUnderWay all before entries now → IsCutBy f all before entries now
-cut_write f all before now entries is u = subst (λ f. IsCutBy f all before entries now) (sym is) u
+pub cut_write : (f : SessionFault) (n : ℕ) (all : Option (List (List ℕ))) (before now : Option (List ℕ)) (entries : List Entry) → f ≡ Write
+    → IsUnderWay n all before entries now → IsCutBy f n all before entries now
+cut_write f n all before now entries is u = subst (λ f. IsCutBy f n all before entries now) (sym is) u
 
 -- the accumulator was not made
 pub cut_opening : (before now : Option (List ℕ)) (old new : List Entry) → old ≡ [] → FeedsAtMost opening old new → now ≡ followed before commands
@@ -217,7 +218,7 @@ cut_opening before now old new empty (inr one) held = record { journal = inr (on
 pub cut_text : (f : SessionFault) (n : ℕ) (p : Profile) (all : Option (List (List ℕ))) (before now mid later : Option (List ℕ)) (reading next : Reading)
     (left rest : Option (List ℕ)) (old new : List Entry) (line : List ℕ) → 1 ≤ n → n ≤ 64 → IsServing (rules_of act_of n p) all before reading left old now
     → mid ≡ followed now prompt → TakesLine line (lines_left reading left) (lines_left next rest)
-    → IsLineEndedBy f (rules_of act_of n p) line old new mid later → IsCutBy f all before new later
+    → IsLineEndedBy f (rules_of act_of n p) line old new mid later → IsCutBy f n all before new later
 cut_text Write n p all before now mid later reading next left rest old new line some few s prompted takes e =
     under_line n p all before now mid later reading next left rest old new line some few s prompted takes e.0 e.1
 cut_text Read n p all before now mid later reading next left rest old new line some few s prompted takes e = absurd e

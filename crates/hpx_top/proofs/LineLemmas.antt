@@ -1,5 +1,5 @@
 -- Lines of a session, one behind the others: what is fed, what is written, and what is told.
-use Rattle.std.specs.Prelude.{ℤ, pos, ◌||◌, ◌&&◌, not, if◌then◌else◌}
+use Rattle.std.specs.Prelude.{◌||◌, ◌&&◌, not, if◌then◌else◌}
 use Rattle.std.specs.List.{concat, list_any, AllByRecursion}
 use Rattle.std.proofs.Common.{ℕ, suc, Bool, true, false, List, [], ◌∷◌, ◌++◌, ◌≡◌, length, Option, Some, None, refl, sym, ap, ◌∙◌, subst, arith, append-nil, append_assoc}
 use Rattle.std.proofs.lemmas.List.Folds.{list_any-append}
@@ -9,8 +9,12 @@ use Rattle.hpx_journal.specs.declared.entry.Event.TheVariants.{Line, Fire, Split
 use Rattle.hpx_journal.specs.Entries.{Rules}
 use Rattle.hpx_journal.specs.Sessions.{FeedsNothing, IsSession, BeginsWith, entries_of, shown}
 use Rattle.hpx_ports.specs.Told.{preceded, followed}
-use Rattle.app_console.specs.PlainText.{IsFront, is_long, is_quit, are_quit, before_quit, opening, marked, fed, line_text, after_line, after_lines, command_text, lines_text, text_of, first_of, others_of, written}
-use Rattle.app_console.specs.Console.{words_of, command_of, commands, prompt, bad_command}
+use Rattle.app_console.specs.declared.table.Console.TheVariants.{Accumulator as AccumulatorConsole}
+use Rattle.app_console.specs.Console.{words_of, prompt}
+use Rattle.app_console.specs.Lines.{IsFront, is_long, is_quit, are_quit, before_quit, opening, first_of, others_of}
+use Rattle.app_console.specs.Plain.{Plain, line_end, opened}
+use Rattle.app_console.specs.Text.{too_long, after_line, text_of_line, marked, written, lines_text as lines_text_in}
+use Rattle.hpx_top.specs.Texts.{commands, fed, lines_text, text_of}
 use Rattle.hpx_top.specs.Session.{lines_by, lines_fed}
 
 -- ---- what is told
@@ -38,22 +42,34 @@ told_rest all lines (Some rest) h = (rest, refl, (let some : Some all ≡ Some (
 
 -- ---- the text
 
-pub lines_text_append : (v : ℤ) (xs ys : List (List ℕ)) → lines_text v (xs ++ ys) ≡ lines_text v xs ++ lines_text (after_lines v xs) ys
-lines_text_append v [] ys = refl
-lines_text_append v (x ∷ xs) ys =
-    ap (λ t. prompt ++ (line_text v x ++ t)) (lines_text_append (after_line v x) xs ys)
-    ∙ regroup prompt (line_text v x) (lines_text (after_line v x) xs) (lines_text (after_lines (after_line v x) xs) ys)
+-- one line, and what is left after it
+abbrev said : ℕ → Plain → List ℕ → List ℕ
+said n v line = text_of_line AccumulatorConsole n v line
+
+abbrev after : ℕ → Plain → List ℕ → Plain
+after n v line = after_line AccumulatorConsole n v line
+
+-- what is left after lines
+abbrev after_all : ℕ → Plain → List (List ℕ) → Plain
+after_all n v [] = v
+after_all n v (x ∷ xs) = after_all n (after n v x) xs
+
+said_append : (n : ℕ) (v : Plain) (xs ys : List (List ℕ))
+    → lines_text_in AccumulatorConsole n v (xs ++ ys) ≡ lines_text_in AccumulatorConsole n v xs ++ lines_text_in AccumulatorConsole n (after_all n v xs) ys
+said_append n v [] ys = refl
+said_append n v (x ∷ xs) ys =
+    ap (λ t. prompt ++ (said n v x ++ t)) (said_append n (after n v x) xs ys)
+    ∙ regroup prompt (said n v x) (lines_text_in AccumulatorConsole n (after n v x) xs) (lines_text_in AccumulatorConsole n (after_all n (after n v x) xs) ys)
   where
     regroup : (p a b c : List ℕ) → p ++ (a ++ (b ++ c)) ≡ (p ++ (a ++ b)) ++ c
     regroup p a b c = simp append_assoc
 
--- one line more
-pub lines_text_more : (v : ℤ) (xs : List (List ℕ)) (line : List ℕ) → lines_text v xs ++ (prompt ++ line_text (after_lines v xs) line) ≡ lines_text v (xs ++ line ∷ [])
-lines_text_more v xs line =
-    ap (λ t. lines_text v xs ++ (prompt ++ t)) (sym (append-nil (line_text (after_lines v xs) line))) ∙ sym (lines_text_append v xs (line ∷ []))
-
-pub long_text : (v : ℤ) (line : List ℕ) → is_long line ≡ true → line_text v line ≡ bad_command
-long_text v line h = ap (λ b. if b then bad_command else command_text v (command_of line)) h
+-- a line more that is too long
+pub long_more : (n : ℕ) (xs : List (List ℕ)) (line : List ℕ) → is_long line ≡ true → lines_text n xs ++ (prompt ++ too_long) ≡ lines_text n (xs ++ line ∷ [])
+long_more n xs line long =
+    let v = after_all n (opened n) xs in
+    ap (λ t. lines_text n xs ++ (prompt ++ t)) (ap (λ b. if b then too_long else (line_end AccumulatorConsole n v line).text) (sym long) ∙ sym (append-nil (said n v line)))
+    ∙ sym (said_append n (opened n) xs (line ∷ []))
 
 pub front_all : (t : List ℕ) → IsFront t t
 front_all t = record { later = []; is = append-nil t }
@@ -65,14 +81,14 @@ front_within : (c l p t m : List ℕ) → (c ++ (l ++ p)) ++ (t ++ (m ++ p)) ≡
 front_within c l p t m = simp append_assoc
 
 -- the text of the first lines begins that of all
-pub text_front : (xs ys : List (List ℕ)) → IsFront (text_of xs) (text_of (xs ++ ys))
-text_front xs [] = subst (λ zs. IsFront (text_of xs) (text_of zs)) (sym (append-nil xs)) (front_all (text_of xs))
-text_front xs (y ∷ ys) =
-    let v = after_lines (pos 0) xs in
+pub text_front : (n : ℕ) (xs ys : List (List ℕ)) → IsFront (text_of n xs) (text_of n (xs ++ ys))
+text_front n xs [] = subst (λ zs. IsFront (text_of n xs) (text_of n zs)) (sym (append-nil xs)) (front_all (text_of n xs))
+text_front n xs (y ∷ ys) =
+    let v = after_all n (opened n) xs in
     record {
-      later = line_text v y ++ (lines_text (after_line v y) ys ++ prompt);
-      is = front_within commands (lines_text (pos 0) xs) prompt (line_text v y) (lines_text (after_line v y) ys)
-          ∙ ap (λ t. commands ++ (t ++ prompt)) (sym (lines_text_append (pos 0) xs (y ∷ ys)));
+      later = said n v y ++ (lines_text_in AccumulatorConsole n (after n v y) ys ++ prompt);
+      is = front_within commands (lines_text n xs) prompt (said n v y) (lines_text_in AccumulatorConsole n (after n v y) ys)
+          ∙ ap (λ t. commands ++ (t ++ prompt)) (sym (said_append n (opened n) xs (y ∷ ys)));
     }
 
 -- ---- lines that are fed
@@ -81,18 +97,18 @@ marked_cons : (b : Bool) (x : List ℕ) (a c d : List (List ℕ)) → a ≡ c ++
 marked_cons true x a c d h = h
 marked_cons false x a c d h = ap (λ t. (97 ∷ x) ∷ t) h
 
-marked_append : (xs ys : List (List ℕ)) → marked (xs ++ ys) ≡ marked xs ++ marked ys
+marked_append : (xs ys : List (List ℕ)) → marked 97 (xs ++ ys) ≡ marked 97 xs ++ marked 97 ys
 marked_append [] ys = refl
-marked_append (x ∷ xs) ys = marked_cons (is_long x) x (marked (xs ++ ys)) (marked xs) (marked ys) (marked_append xs ys)
+marked_append (x ∷ xs) ys = marked_cons (is_long x) x (marked 97 (xs ++ ys)) (marked 97 xs) (marked 97 ys) (marked_append xs ys)
 
 pub fed_short : (xs : List (List ℕ)) (line : List ℕ) → is_long line ≡ false → fed (xs ++ line ∷ []) ≡ fed xs ++ (97 ∷ line) ∷ []
 fed_short xs line h =
-    ap (λ t. opening ∷ t) (marked_append xs (line ∷ []) ∙ ap (λ b. marked xs ++ (if b then [] else (97 ∷ line) ∷ [])) h)
+    ap (λ t. opening ∷ t) (marked_append xs (line ∷ []) ∙ ap (λ b. marked 97 xs ++ (if b then [] else (97 ∷ line) ∷ [])) h)
 
 pub fed_long : (xs : List (List ℕ)) (line : List ℕ) → is_long line ≡ true → fed (xs ++ line ∷ []) ≡ fed xs
 fed_long xs line h =
     ap (λ t. opening ∷ t)
-    (marked_append xs (line ∷ []) ∙ (ap (λ b. marked xs ++ (if b then [] else (97 ∷ line) ∷ [])) h ∙ append-nil (marked xs)))
+    (marked_append xs (line ∷ []) ∙ (ap (λ b. marked 97 xs ++ (if b then [] else (97 ∷ line) ∷ [])) h ∙ append-nil (marked 97 xs)))
 
 -- ---- lines that end reading
 
@@ -186,31 +202,31 @@ regroup : (p a b r : List ℕ) → p ++ (a ++ (b ++ r)) ≡ (p ++ (a ++ b)) ++ r
 regroup p a b r = simp append_assoc
 
 written_cons : (b : Bool) (xs : List (List ℕ)) (first line r : List ℕ) (texts : List (List (List ℕ))) (more : List (List ℕ))
-    → length texts ≡ length (if b then marked xs else (97 ∷ first) ∷ marked xs)
-    → ((texts : List (List (List ℕ))) → length texts ≡ length (marked xs) → written (xs ++ line ∷ []) (texts ++ more ∷ []) ≡ written xs texts ++ r)
-    → (if b then prompt ++ (bad_command ++ written (xs ++ line ∷ []) (texts ++ more ∷ []))
+    → length texts ≡ length (if b then marked 97 xs else (97 ∷ first) ∷ marked 97 xs)
+    → ((texts : List (List (List ℕ))) → length texts ≡ length (marked 97 xs) → written (xs ++ line ∷ []) (texts ++ more ∷ []) ≡ written xs texts ++ r)
+    → (if b then prompt ++ (too_long ++ written (xs ++ line ∷ []) (texts ++ more ∷ []))
     else prompt ++ (first_of (texts ++ more ∷ []) ++ written (xs ++ line ∷ []) (others_of (texts ++ more ∷ []))))
-    ≡ (if b then prompt ++ (bad_command ++ written xs texts) else prompt ++ (first_of texts ++ written xs (others_of texts))) ++ r
+    ≡ (if b then prompt ++ (too_long ++ written xs texts) else prompt ++ (first_of texts ++ written xs (others_of texts))) ++ r
 written_cons true xs first line r texts more h next =
-    ap (λ t. prompt ++ (bad_command ++ t)) (next texts h) ∙ regroup prompt bad_command (written xs texts) r
-written_cons false xs first line r [] more h next = absurd (let no : 0 ≡ length ((97 ∷ first) ∷ marked xs) = h in omega arith)
+    ap (λ t. prompt ++ (too_long ++ t)) (next texts h) ∙ regroup prompt too_long (written xs texts) r
+written_cons false xs first line r [] more h next = absurd (let no : 0 ≡ length ((97 ∷ first) ∷ marked 97 xs) = h in omega arith)
 written_cons false xs first line r (t ∷ texts) more h next =
-    let count : length texts ≡ length (marked xs) = omega (arith, h) in
+    let count : length texts ≡ length (marked 97 xs) = omega (arith, h) in
     ap (λ u. prompt ++ (concat t ++ u)) (next texts count) ∙ regroup prompt (concat t) (written xs texts) r
 
 pub written_more : (xs : List (List ℕ)) (texts : List (List (List ℕ))) (line : List ℕ) (more : List (List ℕ)) → is_long line ≡ false
-    → length texts ≡ length (marked xs) → written (xs ++ line ∷ []) (texts ++ more ∷ []) ≡ written xs texts ++ (prompt ++ (concat more ++ []))
+    → length texts ≡ length (marked 97 xs) → written (xs ++ line ∷ []) (texts ++ more ∷ []) ≡ written xs texts ++ (prompt ++ (concat more ++ []))
 written_more [] [] line more short h =
-    ap (λ b. if b then prompt ++ (bad_command ++ []) else prompt ++ (concat more ++ [])) short
+    ap (λ b. if b then prompt ++ (too_long ++ []) else prompt ++ (concat more ++ [])) short
 written_more [] (t ∷ texts) line more short h = absurd (let no : length (t ∷ texts) ≡ 0 = h in omega arith)
 written_more (x ∷ xs) texts line more short h =
     written_cons (is_long x) xs x line (prompt ++ (concat more ++ [])) texts more h
     (λ texts count. written_more xs texts line more short count)
 
 -- what a line that was fed shows is its text
-pub line_shown : (v : ℤ) (xs : List (List ℕ)) (texts : List (List (List ℕ))) (line : List ℕ) (more : List (List ℕ)) → is_long line ≡ false
-    → length texts ≡ length (marked xs) → written xs texts ≡ lines_text v xs → written (xs ++ line ∷ []) (texts ++ more ∷ []) ≡ lines_text v (xs ++ line ∷ [])
-    → lines_text v xs ++ (prompt ++ concat more) ≡ lines_text v (xs ++ line ∷ [])
-line_shown v xs texts line more short h old new =
+pub line_shown : (n : ℕ) (xs : List (List ℕ)) (texts : List (List (List ℕ))) (line : List ℕ) (more : List (List ℕ)) → is_long line ≡ false
+    → length texts ≡ length (marked 97 xs) → written xs texts ≡ lines_text n xs → written (xs ++ line ∷ []) (texts ++ more ∷ []) ≡ lines_text n (xs ++ line ∷ [])
+    → lines_text n xs ++ (prompt ++ concat more) ≡ lines_text n (xs ++ line ∷ [])
+line_shown n xs texts line more short h old new =
     ap (λ t. t ++ (prompt ++ concat more)) (sym old)
     ∙ (ap (λ t. written xs texts ++ (prompt ++ t)) (sym (append-nil (concat more))) ∙ (sym (written_more xs texts line more short h) ∙ new))

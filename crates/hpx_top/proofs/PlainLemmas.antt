@@ -6,7 +6,7 @@ use Rattle.std.proofs.Common.{sym, ap, ◌∙◌, arith, zero, suc}
 use Rattle.std.proofs.lemmas.Bool.{or_parts}
 use Rattle.std.proofs.lemmas.List.Splits.{slice_split_at, slice_split_none}
 use Rattle.app_console.specs.Console.{is_filled}
-use Rattle.app_console.specs.PlainText.{is_newline, IsPiece, lines_in}
+use Rattle.app_console.specs.Lines.{is_newline, IsPiece, lines_in}
 
 -- ---- lines
 

@@ -12,7 +12,7 @@ use Rattle.hpx_ports.specs.Told.{preceded}
 use Rattle.hpx_ports.specs.Bytes.{Reads}
 use Rattle.hpx_top.specs.declared.reader.Next.{Next}
 use Rattle.hpx_top.specs.declared.reader.Next.TheVariants.{Line, Long, Quit, End, Full}
-use Rattle.app_console.specs.PlainText.{is_long, is_quit, is_newline, IsPiece, lines_in}
+use Rattle.app_console.specs.Lines.{is_long, is_quit, is_newline, IsPiece, lines_in}
 use Rattle.hpx_top.specs.Pending.{IsNewlineAt, IsSearched, ReadsOnto}
 use Rattle.hpx_top.specs.declared.reader.ReadFault.{ReadFault}
 use Rattle.hpx_top.specs.Reader.{Reading, HasRead, still_left, input_left, lines_left, bytes_left, Answers, LeavesFewer, IsLast, next_of}

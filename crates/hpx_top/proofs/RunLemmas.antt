@@ -63,23 +63,23 @@ no_world : {T : Type 0} (r : Result T SessionFault) → r ≡ Err OutOfMemory �
 no_world r h = ap status_after h
 
 -- status 2 or 9 comes between two lines
-pub ended_between : {T : Type 0} (r : Result T SessionFault) (o : Option Places) (input : List ℕ) (old new : Option (List ℕ))
+pub ended_between : {T : Type 0} (n : ℕ) (r : Result T SessionFault) (o : Option Places) (input : List ℕ) (old new : Option (List ℕ))
     → (status_after r ≡ 2) ⊎ (status_after r ≡ 9) → (o ≡ None → r ≡ Err OutOfMemory)
-    → IfSome o (λ w. IfErr r (λ f. IsEndedBy f input w.journal.entries old new)) → IsBrokenOff 0 input (entries_in o) old new
-ended_between r None input old new (inl s) none h = absurd (let six = no_world r (none refl) in omega arith)
-ended_between r None input old new (inr s) none h = absurd (let six = no_world r (none refl) in omega arith)
-ended_between r (Some w) input old new s none h =
-    between r (λ f. IsEndedBy f input w.journal.entries old new) (IsBrokenOff 0 input w.journal.entries old new) s (λ e. e) (λ e. e) h
+    → IfSome o (λ w. IfErr r (λ f. IsEndedBy f n input w.journal.entries old new)) → IsBrokenOff n 0 input (entries_in o) old new
+ended_between n r None input old new (inl s) none h = absurd (let six = no_world r (none refl) in omega arith)
+ended_between n r None input old new (inr s) none h = absurd (let six = no_world r (none refl) in omega arith)
+ended_between n r (Some w) input old new s none h =
+    between r (λ f. IsEndedBy f n input w.journal.entries old new) (IsBrokenOff n 0 input w.journal.entries old new) s (λ e. e) (λ e. e) h
 
 -- status 4 or 5 comes in a line
-pub ended_within : {T : Type 0} (r : Result T SessionFault) (o : Option Places) (input : List ℕ) (old new : Option (List ℕ))
+pub ended_within : {T : Type 0} (n : ℕ) (r : Result T SessionFault) (o : Option Places) (input : List ℕ) (old new : Option (List ℕ))
     → (status_after r ≡ 4) ⊎ (status_after r ≡ 5) → (o ≡ None → r ≡ Err OutOfMemory)
-    → IfSome o (λ w. IfErr r (λ f. IsEndedBy f input w.journal.entries old new))
-    → IsBrokenIn input (entries_in o) old new ⊎ IsBrokenAtOpening (entries_in o) old new
-ended_within r None input old new (inl s) none h = absurd (let six = no_world r (none refl) in omega arith)
-ended_within r None input old new (inr s) none h = absurd (let six = no_world r (none refl) in omega arith)
-ended_within r (Some w) input old new s none h =
-    within r (λ f. IsEndedBy f input w.journal.entries old new) (IsBrokenIn input w.journal.entries old new ⊎ IsBrokenAtOpening w.journal.entries old new) s (λ e. e) (λ e. e) h
+    → IfSome o (λ w. IfErr r (λ f. IsEndedBy f n input w.journal.entries old new))
+    → IsBrokenIn n input (entries_in o) old new ⊎ IsBrokenAtOpening (entries_in o) old new
+ended_within n r None input old new (inl s) none h = absurd (let six = no_world r (none refl) in omega arith)
+ended_within n r None input old new (inr s) none h = absurd (let six = no_world r (none refl) in omega arith)
+ended_within n r (Some w) input old new s none h =
+    within r (λ f. IsEndedBy f n input w.journal.entries old new) (IsBrokenIn n input w.journal.entries old new ⊎ IsBrokenAtOpening w.journal.entries old new) s (λ e. e) (λ e. e) h
 
 without : {T : Type 0} (r : Result T SessionFault) (P : SessionFault → Type 0) (Q : Type 0) → status_after r ≡ 6 → (P OutOfMemory → Q) → IfErr r P → Q
 without (Ok x) P Q s memory h = absurd (omega arith)
@@ -93,9 +93,9 @@ without (Err Strange) P Q s memory h = absurd (omega arith)
 without (Err InputFull) P Q s memory h = absurd (omega arith)
 
 -- status 6 comes before a line, or within it
-pub ended_without : {T : Type 0} (r : Result T SessionFault) (o : Option Places) (input : List ℕ) (old new : Option (List ℕ))
-    → status_after r ≡ 6 → IfSome o (λ w. IfErr r (λ f. IsEndedBy f input w.journal.entries old new))
-    → IfSome o (λ w. IsBrokenOff 1 input w.journal.entries old new ⊎ IsBrokenAtOpening w.journal.entries old new)
-ended_without r None input old new s h = tt
-ended_without r (Some w) input old new s h =
-    without r (λ f. IsEndedBy f input w.journal.entries old new) (IsBrokenOff 1 input w.journal.entries old new ⊎ IsBrokenAtOpening w.journal.entries old new) s (λ e. e) h
+pub ended_without : {T : Type 0} (n : ℕ) (r : Result T SessionFault) (o : Option Places) (input : List ℕ) (old new : Option (List ℕ))
+    → status_after r ≡ 6 → IfSome o (λ w. IfErr r (λ f. IsEndedBy f n input w.journal.entries old new))
+    → IfSome o (λ w. IsBrokenOff n 1 input w.journal.entries old new ⊎ IsBrokenAtOpening w.journal.entries old new)
+ended_without n r None input old new s h = tt
+ended_without n r (Some w) input old new s h =
+    without r (λ f. IsEndedBy f n input w.journal.entries old new) (IsBrokenOff n 1 input w.journal.entries old new ⊎ IsBrokenAtOpening w.journal.entries old new) s (λ e. e) h

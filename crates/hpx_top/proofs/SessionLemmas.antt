@@ -1,5 +1,5 @@
 -- A session from line to line, and what it leaves where it ends.
-use Rattle.std.specs.Prelude.{pos, IfSome, ◌||◌, if◌then◌else◌}
+use Rattle.std.specs.Prelude.{IfSome, ◌||◌, if◌then◌else◌}
 use Rattle.std.specs.Option.{option_map}
 use Rattle.std.specs.List.{concat, list_any, slice_split}
 use Rattle.std.proofs.Common.{ℕ, Bool, true, false, List, [], ◌∷◌, ◌++◌, ◌≡◌, ◌+◌, ◌<◌, ◌≤◌, ◌⊎◌, length, drop, Option, Some, None, refl, sym, ap, ◌∙◌, subst, inl, inr, arith, append-nil, append_assoc, length-append}
@@ -16,13 +16,17 @@ use Rattle.hpx_steps.specs.Rest.{rules_of}
 use Rattle.hpx_parcel.specs.Reading.{parcel_of}
 use Rattle.hpx_ports.specs.Told.{preceded, followed}
 use Rattle.hpx_world.proofs.Sound.{spells_well}
-use Rattle.app_console.specs.Acts.{act_of}
-use Rattle.app_console.specs.Console.{commands, prompt, bad_command}
-use Rattle.app_console.specs.PlainText.{IsPiece, is_long, is_quit, is_newline, lines_in, before_quit, opening, fed, after_lines, lines_text, text_of, others_of, written}
-use Rattle.app_console.proofs.TextLaws.{law_whole}
+use Rattle.app_console.specs.declared.table.Console.TheVariants.{Accumulator as AccumulatorConsole}
+use Rattle.app_console.specs.declared.table.Consoles.TheVariants.{Accumulator as AccumulatorAlone}
+use Rattle.app_console.specs.Console.{prompt}
+use Rattle.app_console.specs.Lines.{IsPiece, is_long, is_quit, is_newline, lines_in, before_quit, opening, others_of}
+use Rattle.app_console.specs.Text.{too_long, written}
+use Rattle.app_console.proofs.JournalText.{law_opened_whole}
+use Rattle.hpx_top.specs.Acts.{act_of}
+use Rattle.hpx_top.specs.Texts.{commands, fed, lines_text, text_of}
 use Rattle.hpx_top.specs.Reader.{Reading, lines_left, input_left, bytes_left, TakesLine, TakesLong, TakesQuit, IsAtEnd, IsFull}
 use Rattle.hpx_top.specs.Session.{lines_fed, FeedsAtMost, HasFed, WritesFront, Feeds, IsJournalOf, HandsOut, IsServing, IsCut, IsCutIn, IsCutAtOpening, IsOver, IsUnderWay, IsStopped, AllButOne}
-use Rattle.hpx_top.proofs.LineLemmas.{followed_twice, preceded_nothing, preceded_twice, lines_text_more, long_text, front_all, text_front, fed_short, fed_long, goes_on_more, goes_on_less, long_goes_on, session_lines, session_count, others_count, others_more, line_shown}
+use Rattle.hpx_top.proofs.LineLemmas.{followed_twice, preceded_nothing, preceded_twice, long_more, front_all, text_front, fed_short, fed_long, goes_on_more, goes_on_less, long_goes_on, session_lines, session_count, others_count, others_more, line_shown}
 
 -- ---- the journal
 
@@ -76,25 +80,25 @@ journal_more r lines line old new short j f = record {
 
 -- what was shown is the text of one number
 journal_text : (n : ℕ) (p : Profile) (lines : List (List ℕ)) (entries : List Entry) → 1 ≤ n → n ≤ 64 → length lines < 4000000000
-    → (j : IsJournalOf (rules_of act_of n p) lines entries) → written lines (others_of (shown j.blocks)) ≡ lines_text (pos 0) lines
+    → (j : IsJournalOf (rules_of act_of n p) lines entries) → written lines (others_of (shown j.blocks)) ≡ lines_text n lines
 journal_text n p lines entries some few short j =
-    (law_whole n p.credit_log p.credit_limit parcel_of some few lines j.blocks short (spells_well act_of n p) (subst NoneFails j.entries_are j.calm) j.session).1
+    (law_opened_whole AccumulatorAlone n p.credit_log p.credit_limit parcel_of some few AccumulatorConsole 97 refl lines j.blocks short (spells_well act_of n p) (subst NoneFails j.entries_are j.calm) j.session).1
 
 -- what a line prints is its text
 pub line_prints : (n : ℕ) (p : Profile) (lines : List (List ℕ)) (line : List ℕ) (old new : List Entry) → 1 ≤ n → n ≤ 64 → length lines + 1 < 4000000000
     → is_long line ≡ false → IsJournalOf (rules_of act_of n p) lines old → Feeds (rules_of act_of n p) (97 ∷ line) old new
-    → lines_text (pos 0) lines ++ (prompt ++ concat (prints_of (drop (length old) new))) ≡ lines_text (pos 0) (lines ++ line ∷ [])
+    → lines_text n lines ++ (prompt ++ concat (prints_of (drop (length old) new))) ≡ lines_text n (lines ++ line ∷ [])
 unfolding journal_more
 line_prints n p lines line old new some few count short j f =
     let r = rules_of act_of n p in
     let all : length (lines ++ line ∷ []) < 4000000000 = omega (arith, length-append lines (line ∷ [])) in
     let block : drop (length old) new ≡ f.block = ap (drop (length old)) f.is ∙ drop_at old f.block (length old) refl in
     let many : length (shown j.blocks) ≡ length (fed lines) = session_count r [] (fed lines) j.blocks j.session in
-    let texts : written (lines ++ line ∷ []) (others_of (shown j.blocks) ++ prints_of f.block ∷ []) ≡ lines_text (pos 0) (lines ++ line ∷ [])
+    let texts : written (lines ++ line ∷ []) (others_of (shown j.blocks) ++ prints_of f.block ∷ []) ≡ lines_text n (lines ++ line ∷ [])
     = ap (written (lines ++ line ∷ [])) (sym (ap others_of (shown_append j.blocks f.block) ∙ others_more (shown j.blocks) (prints_of f.block) _ many))
     ∙ journal_text n p (lines ++ line ∷ []) new some few all (journal_more r lines line old new short j f) in
-    ap (λ es. lines_text (pos 0) lines ++ (prompt ++ concat (prints_of es))) block
-    ∙ line_shown (pos 0) lines (others_of (shown j.blocks)) line (prints_of f.block) short (others_count (shown j.blocks) _ many)
+    ap (λ es. lines_text n lines ++ (prompt ++ concat (prints_of es))) block
+    ∙ line_shown n lines (others_of (shown j.blocks)) line (prints_of f.block) short (others_count (shown j.blocks) _ many)
     (journal_text n p lines old some few (omega arith) j) texts
 
 -- ---- the lines of the input
@@ -132,11 +136,6 @@ front_regroup c l f later = simp append_assoc
 text_regroup : (c l p f later : List ℕ) → (c ++ (l ++ (p ++ f))) ++ (later ++ p) ≡ c ++ ((l ++ (p ++ (f ++ later))) ++ p)
 text_regroup c l p f later = simp append_assoc
 
-long_more : (lines : List (List ℕ)) (line : List ℕ) → is_long line ≡ true
-    → lines_text (pos 0) lines ++ (prompt ++ bad_command) ≡ lines_text (pos 0) (lines ++ line ∷ [])
-long_more lines line long =
-    ap (λ t. lines_text (pos 0) lines ++ (prompt ++ t)) (sym (long_text (after_lines (pos 0) lines) line long)) ∙ lines_text_more (pos 0) lines line
-
 -- ---- between lines
 
 -- once the accumulator is made
@@ -161,8 +160,8 @@ serving_line n p all before now mid later reading next left rest old new line so
   handled = hands_more all (lines_left reading left) (lines_left next rest) s.lines line s.handled takes.first takes.goes_on;
   few = omega (arith, length-append s.lines (line ∷ []), s.few);
   journal = journal_more (rules_of act_of n p) s.lines line old new takes.fits s.journal f;
-  held = held_more before now mid later commands (lines_text (pos 0) s.lines) prompt (concat (prints_of (drop (length old) new)))
-      (lines_text (pos 0) (s.lines ++ line ∷ [])) s.held prompted shown
+  held = held_more before now mid later commands (lines_text n s.lines) prompt (concat (prints_of (drop (length old) new)))
+      (lines_text n (s.lines ++ line ∷ [])) s.held prompted shown
       (line_prints n p s.lines line old new some few (omega (arith, s.few)) takes.fits s.journal f);
 }
 
@@ -170,14 +169,14 @@ serving_line n p all before now mid later reading next left rest old new line so
 pub serving_long : (r : Rules) (all : Option (List (List ℕ))) (before now mid later : Option (List ℕ)) (reading next : Reading) (left rest : Option (List ℕ))
     (entries : List Entry) → IsServing r all before reading left entries now → mid ≡ followed now prompt
     → TakesLong (lines_left reading left) (lines_left next rest) → bytes_left next < bytes_left reading
-    → later ≡ followed mid bad_command → IsServing r all before next rest entries later
+    → later ≡ followed mid too_long → IsServing r all before next rest entries later
 serving_long r all before now mid later reading next left rest entries s prompted takes fewer shown = record {
   lines = s.lines ++ takes.line ∷ [];
   handled = hands_more all (lines_left reading left) (lines_left next rest) s.lines takes.line s.handled takes.first (long_goes_on takes.line takes.long);
   few = omega (arith, length-append s.lines (takes.line ∷ []), s.few);
   journal = journal_long r s.lines takes.line entries takes.long s.journal;
-  held = held_more before now mid later commands (lines_text (pos 0) s.lines) prompt bad_command (lines_text (pos 0) (s.lines ++ takes.line ∷ []))
-      s.held prompted shown (long_more s.lines takes.line takes.long);
+  held = held_more before now mid later commands (lines_text r.localities s.lines) prompt too_long (lines_text r.localities (s.lines ++ takes.line ∷ []))
+      s.held prompted shown (long_more r.localities s.lines takes.line takes.long);
 }
 
 -- ---- where it ends
@@ -185,7 +184,7 @@ serving_long r all before now mid later reading next left rest entries s prompte
 -- nothing was handled behind the prompt
 pub cut_here : (most : ℕ) (r : Rules) (all : Option (List (List ℕ))) (before now mid : Option (List ℕ)) (reading : Reading) (left : Option (List ℕ))
     (old new : List Entry) → IsServing r all before reading left old now → mid ≡ followed now prompt → lines_fed new ≡ lines_fed old
-    → IsCut most all before new mid
+    → IsCut r.localities most all before new mid
 cut_here most r all before now mid reading left old new s prompted same = record {
   lines = s.lines;
   next = [];
@@ -193,13 +192,13 @@ cut_here most r all before now mid reading left old new s prompted same = record
   handled = hands_no_more all (lines_left reading left) s.lines s.handled;
   few = omega arith;
   journal = same ∙ (journal_lines r s.lines old s.journal ∙ ap fed (sym (append-nil s.lines)));
-  held = held_prompt before now mid commands (lines_text (pos 0) s.lines) prompt s.held prompted;
+  held = held_prompt before now mid commands (lines_text r.localities s.lines) prompt s.held prompted;
 }
 
 -- one line more may have been fed
 pub cut_line : (r : Rules) (all : Option (List (List ℕ))) (before now mid : Option (List ℕ)) (reading next : Reading) (left rest : Option (List ℕ))
     (old new : List Entry) (line : List ℕ) → IsServing r all before reading left old now → mid ≡ followed now prompt
-    → TakesLine line (lines_left reading left) (lines_left next rest) → FeedsAtMost (97 ∷ line) old new → IsCut 1 all before new mid
+    → TakesLine line (lines_left reading left) (lines_left next rest) → FeedsAtMost (97 ∷ line) old new → IsCut r.localities 1 all before new mid
 cut_line r all before now mid reading next left rest old new line s prompted takes (inl same) =
     cut_here 1 r all before now mid reading left old new s prompted same
 cut_line r all before now mid reading next left rest old new line s prompted takes (inr one) = record {
@@ -209,7 +208,7 @@ cut_line r all before now mid reading next left rest old new line s prompted tak
   handled = hands_more all (lines_left reading left) (lines_left next rest) s.lines line s.handled takes.first takes.goes_on;
   few = omega arith;
   journal = one ∙ (ap (λ ls. ls ++ (97 ∷ line) ∷ []) (journal_lines r s.lines old s.journal) ∙ sym (fed_short s.lines line takes.fits));
-  held = held_prompt before now mid commands (lines_text (pos 0) s.lines) prompt s.held prompted;
+  held = held_prompt before now mid commands (lines_text r.localities s.lines) prompt s.held prompted;
 }
 
 last_none : (o : Option (List (List ℕ))) → IfSome o (λ lines. lines ≡ []) → IfSome o (λ others. before_quit others ≡ [])
@@ -235,7 +234,7 @@ quit_among all (Some more) lines line h quit = subst (λ o. IfSome o (λ ls. lis
 -- the line was due
 pub cut_in : (r : Rules) (all : Option (List (List ℕ))) (before now mid : Option (List ℕ)) (reading next : Reading) (left rest : Option (List ℕ))
     (old new : List Entry) (line : List ℕ) → IsServing r all before reading left old now → mid ≡ followed now prompt
-    → TakesLine line (lines_left reading left) (lines_left next rest) → FeedsAtMost (97 ∷ line) old new → IsCutIn all before new mid
+    → TakesLine line (lines_left reading left) (lines_left next rest) → FeedsAtMost (97 ∷ line) old new → IsCutIn r.localities all before new mid
 cut_in r all before now mid reading next left rest old new line s prompted takes once = record {
   lines = s.lines;
   line = line;
@@ -243,7 +242,7 @@ cut_in r all before now mid reading next left rest old new line s prompted takes
   handled = hands_more all (lines_left reading left) (lines_left next rest) s.lines line s.handled takes.first takes.goes_on;
   short = takes.fits;
   journal = lines_in_journal once;
-  held = held_prompt before now mid commands (lines_text (pos 0) s.lines) prompt s.held prompted;
+  held = held_prompt before now mid commands (lines_text r.localities s.lines) prompt s.held prompted;
 }
   where
     lines_in_journal : FeedsAtMost (97 ∷ line) old new → (lines_fed new ≡ fed s.lines) ⊎ (lines_fed new ≡ fed (s.lines ++ line ∷ []))
@@ -253,7 +252,7 @@ cut_in r all before now mid reading next left rest old new line s prompted takes
 
 pub over_end : (r : Rules) (all : Option (List (List ℕ))) (before now mid : Option (List ℕ)) (reading next : Reading) (left : Option (List ℕ)) (entries : List Entry)
     → IsServing r all before reading left entries now → mid ≡ followed now prompt → IsAtEnd next (input_left reading left) (lines_left reading left)
-    → IsOver next.ended all before entries mid
+    → IsOver r.localities next.ended all before entries mid
 over_end r all before now mid reading next left entries s prompted at_end = record {
   lines = s.lines;
   left = lines_left reading left;
@@ -261,12 +260,12 @@ over_end r all before now mid reading next left entries s prompted at_end = reco
   last = last_none (lines_left reading left) at_end.no_lines;
   read_up = inl at_end.ended;
   journal = journal_lines r s.lines entries s.journal;
-  held = held_prompt before now mid commands (lines_text (pos 0) s.lines) prompt s.held prompted;
+  held = held_prompt before now mid commands (lines_text r.localities s.lines) prompt s.held prompted;
 }
 
 pub over_quit : (r : Rules) (ended : Bool) (all later : Option (List (List ℕ))) (before now mid : Option (List ℕ)) (reading : Reading) (left : Option (List ℕ))
     (entries : List Entry) → IsServing r all before reading left entries now → mid ≡ followed now prompt → TakesQuit (lines_left reading left) later
-    → IsOver ended all before entries mid
+    → IsOver r.localities ended all before entries mid
 over_quit r ended all later before now mid reading left entries s prompted takes = record {
   lines = s.lines;
   left = lines_left reading left;
@@ -274,7 +273,7 @@ over_quit r ended all later before now mid reading left entries s prompted takes
   last = last_quit (lines_left reading left) later takes.line takes.first takes.quit;
   read_up = inr (quit_among all later s.lines takes.line (s.handled.first ∙ ap (preceded s.lines) takes.first) takes.quit);
   journal = journal_lines r s.lines entries s.journal;
-  held = held_prompt before now mid commands (lines_text (pos 0) s.lines) prompt s.held prompted;
+  held = held_prompt before now mid commands (lines_text r.localities s.lines) prompt s.held prompted;
 }
 
 pub stopped_read : (r : Rules) (all : Option (List (List ℕ))) (before now : Option (List ℕ)) (reading next : Reading) (left rest : Option (List ℕ)) (entries : List Entry)
@@ -295,29 +294,29 @@ stopped_full r all before now reading next left rest entries s full same =
 -- ---- what a failed write leaves
 
 -- the text of these lines was written, and more behind it
-almost_all : (lines : List (List ℕ)) (more : List ℕ) → AllButOne lines (commands ++ (lines_text (pos 0) lines ++ more))
-almost_all lines more = record {
+almost_all : (n : ℕ) (lines : List (List ℕ)) (more : List ℕ) → AllButOne n lines (commands ++ (lines_text n lines ++ more))
+almost_all n lines more = record {
   done = lines;
   last = [];
   parts = sym (append-nil lines);
   few = omega arith;
-  written = record { later = more; is = append_assoc commands (lines_text (pos 0) lines) more };
+  written = record { later = more; is = append_assoc commands (lines_text n lines) more };
 }
 
 -- of all but the last
-almost_last : (lines last : List (List ℕ)) (more : List ℕ) → length last ≤ 1 → AllButOne (lines ++ last) (commands ++ (lines_text (pos 0) lines ++ more))
-almost_last lines last more few = record {
+almost_last : (n : ℕ) (lines last : List (List ℕ)) (more : List ℕ) → length last ≤ 1 → AllButOne n (lines ++ last) (commands ++ (lines_text n lines ++ more))
+almost_last n lines last more few = record {
   done = lines;
   last = last;
   parts = refl;
   few = few;
-  written = record { later = more; is = append_assoc commands (lines_text (pos 0) lines) more };
+  written = record { later = more; is = append_assoc commands (lines_text n lines) more };
 }
 
 -- the first text was not written whole
-pub under_start : (all : Option (List (List ℕ))) (before now : Option (List ℕ)) (entries : List Entry) → entries ≡ [] → WritesFront commands before now
-    → IsUnderWay all before entries now
-under_start all before now entries empty w = record {
+pub under_start : (n : ℕ) (all : Option (List (List ℕ))) (before now : Option (List ℕ)) (entries : List Entry) → entries ≡ [] → WritesFront commands before now
+    → IsUnderWay n all before entries now
+under_start n all before now entries empty w = record {
   lines = [];
   left = all;
   handled = hands_none all;
@@ -332,82 +331,82 @@ under_start all before now entries empty w = record {
 
 -- a prompt was not
 pub under_prompt : (r : Rules) (all : Option (List (List ℕ))) (before now later : Option (List ℕ)) (reading : Reading) (left : Option (List ℕ)) (entries : List Entry)
-    → IsServing r all before reading left entries now → WritesFront prompt now later → IsUnderWay all before entries later
+    → IsServing r all before reading left entries now → WritesFront prompt now later → IsUnderWay r.localities all before entries later
 under_prompt r all before now later reading left entries s w = record {
   lines = s.lines;
   left = lines_left reading left;
   handled = s.handled;
   journal = inl (journal_lines r s.lines entries s.journal);
   written = record {
-    front = commands ++ (lines_text (pos 0) s.lines ++ w.front);
+    front = commands ++ (lines_text r.localities s.lines ++ w.front);
     begins = record {
       later = w.begins.later;
-      is = front_regroup commands (lines_text (pos 0) s.lines) w.front w.begins.later ∙ ap (λ t. commands ++ (lines_text (pos 0) s.lines ++ t)) w.begins.is;
+      is = front_regroup commands (lines_text r.localities s.lines) w.front w.begins.later ∙ ap (λ t. commands ++ (lines_text r.localities s.lines ++ t)) w.begins.is;
     };
-    held = held_prompt before now later commands (lines_text (pos 0) s.lines) w.front s.held w.held;
+    held = held_prompt before now later commands (lines_text r.localities s.lines) w.front s.held w.held;
   };
-  almost = inr (almost_all s.lines w.front);
+  almost = inr (almost_all r.localities s.lines w.front);
 }
 
 -- the text of a line was not
-under_text : (all left : Option (List (List ℕ))) (before now mid later : Option (List ℕ)) (entries : List Entry) (lines : List (List ℕ)) (line text : List ℕ)
-    → HandsOut all left (lines ++ line ∷ []) → HasFed (lines ++ line ∷ []) entries → now ≡ followed before (commands ++ lines_text (pos 0) lines) → mid ≡ followed now prompt
-    → WritesFront text mid later → lines_text (pos 0) lines ++ (prompt ++ text) ≡ lines_text (pos 0) (lines ++ line ∷ []) → IsUnderWay all before entries later
-under_text all left before now mid later entries lines line text handled journal held prompted w is = record {
+under_text : (n : ℕ) (all left : Option (List (List ℕ))) (before now mid later : Option (List ℕ)) (entries : List Entry) (lines : List (List ℕ)) (line text : List ℕ)
+    → HandsOut all left (lines ++ line ∷ []) → HasFed (lines ++ line ∷ []) entries → now ≡ followed before (commands ++ lines_text n lines) → mid ≡ followed now prompt
+    → WritesFront text mid later → lines_text n lines ++ (prompt ++ text) ≡ lines_text n (lines ++ line ∷ []) → IsUnderWay n all before entries later
+under_text n all left before now mid later entries lines line text handled journal held prompted w is = record {
   lines = lines ++ line ∷ [];
   left = left;
   handled = handled;
   journal = journal;
   written = record {
-    front = commands ++ (lines_text (pos 0) lines ++ (prompt ++ w.front));
+    front = commands ++ (lines_text n lines ++ (prompt ++ w.front));
     begins = record {
       later = w.begins.later ++ prompt;
-      is = text_regroup commands (lines_text (pos 0) lines) prompt w.front w.begins.later
-          ∙ ap (λ t. commands ++ (t ++ prompt)) (ap (λ t. lines_text (pos 0) lines ++ (prompt ++ t)) w.begins.is ∙ is);
+      is = text_regroup commands (lines_text n lines) prompt w.front w.begins.later
+          ∙ ap (λ t. commands ++ (t ++ prompt)) (ap (λ t. lines_text n lines ++ (prompt ++ t)) w.begins.is ∙ is);
     };
-    held = held_more before now mid later commands (lines_text (pos 0) lines) prompt w.front (lines_text (pos 0) lines ++ (prompt ++ w.front)) held prompted w.held refl;
+    held = held_more before now mid later commands (lines_text n lines) prompt w.front (lines_text n lines ++ (prompt ++ w.front)) held prompted w.held refl;
   };
-  almost = inr (almost_last lines (line ∷ []) (prompt ++ w.front) (omega arith));
+  almost = inr (almost_last n lines (line ∷ []) (prompt ++ w.front) (omega arith));
 }
 
 pub under_line : (n : ℕ) (p : Profile) (all : Option (List (List ℕ))) (before now mid later : Option (List ℕ)) (reading next : Reading) (left rest : Option (List ℕ))
     (old new : List Entry) (line : List ℕ) → 1 ≤ n → n ≤ 64 → IsServing (rules_of act_of n p) all before reading left old now → mid ≡ followed now prompt
     → TakesLine line (lines_left reading left) (lines_left next rest) → Feeds (rules_of act_of n p) (97 ∷ line) old new
-    → WritesFront (concat (prints_of (drop (length old) new))) mid later → IsUnderWay all before new later
+    → WritesFront (concat (prints_of (drop (length old) new))) mid later → IsUnderWay n all before new later
 under_line n p all before now mid later reading next left rest old new line some few s prompted takes f w =
     let r = rules_of act_of n p in
-    under_text all (lines_left next rest) before now mid later new s.lines line (concat (prints_of (drop (length old) new)))
+    under_text n all (lines_left next rest) before now mid later new s.lines line (concat (prints_of (drop (length old) new)))
     (hands_more all (lines_left reading left) (lines_left next rest) s.lines line s.handled takes.first takes.goes_on)
     (inl (journal_lines r (s.lines ++ line ∷ []) new (journal_more r s.lines line old new takes.fits s.journal f))) s.held prompted w
     (line_prints n p s.lines line old new some few (omega (arith, s.few)) takes.fits s.journal f)
 
 pub under_long : (r : Rules) (all : Option (List (List ℕ))) (before now mid later : Option (List ℕ)) (reading next : Reading) (left rest : Option (List ℕ))
     (entries : List Entry) → IsServing r all before reading left entries now → mid ≡ followed now prompt
-    → TakesLong (lines_left reading left) (lines_left next rest) → WritesFront bad_command mid later → IsUnderWay all before entries later
+    → TakesLong (lines_left reading left) (lines_left next rest) → WritesFront too_long mid later → IsUnderWay r.localities all before entries later
 under_long r all before now mid later reading next left rest entries s prompted takes w =
-    under_text all (lines_left next rest) before now mid later entries s.lines takes.line bad_command
+    under_text r.localities all (lines_left next rest) before now mid later entries s.lines takes.line too_long
     (hands_more all (lines_left reading left) (lines_left next rest) s.lines takes.line s.handled takes.first (long_goes_on takes.line takes.long))
     (inl (journal_lines r (s.lines ++ takes.line ∷ []) entries (journal_long r s.lines takes.line entries takes.long s.journal))) s.held prompted w
-    (long_more s.lines takes.line takes.long)
+    (long_more r.localities s.lines takes.line takes.long)
 
 -- ---- each end is under way
 
-pub under_cut : (most : ℕ) (all : Option (List (List ℕ))) (before now : Option (List ℕ)) (entries : List Entry) → most ≤ 1 → IsCut most all before entries now
-    → IsUnderWay all before entries now
-under_cut most all before now entries one c = record {
+pub under_cut : (n most : ℕ) (all : Option (List (List ℕ))) (before now : Option (List ℕ)) (entries : List Entry) → most ≤ 1 → IsCut n most all before entries now
+    → IsUnderWay n all before entries now
+under_cut n most all before now entries one c = record {
   lines = c.lines ++ c.next;
   left = c.left;
   handled = c.handled;
   journal = inl c.journal;
-  written = record { front = text_of c.lines; begins = text_front c.lines c.next; held = c.held };
-  almost = inr (almost_last c.lines c.next prompt (omega (arith, one, c.few)));
+  written = record { front = text_of n c.lines; begins = text_front n c.lines c.next; held = c.held };
+  almost = inr (almost_last n c.lines c.next prompt (omega (arith, one, c.few)));
 }
 
-pub under_in : (all : Option (List (List ℕ))) (before now : Option (List ℕ)) (entries : List Entry) → IsCutIn all before entries now
-    → IsUnderWay all before entries now
-under_in all before now entries c = under c.journal
+pub under_in : (n : ℕ) (all : Option (List (List ℕ))) (before now : Option (List ℕ)) (entries : List Entry) → IsCutIn n all before entries now
+    → IsUnderWay n all before entries now
+under_in n all before now entries c = under c.journal
   where
-    under : (lines_fed entries ≡ fed c.lines) ⊎ (lines_fed entries ≡ fed (c.lines ++ c.line ∷ [])) → IsUnderWay all before entries now
+    under : (lines_fed entries ≡ fed c.lines) ⊎ (lines_fed entries ≡ fed (c.lines ++ c.line ∷ [])) → IsUnderWay n all before entries now
     under (inl same) = record {
       lines = c.lines;
       left = preceded (c.line ∷ []) c.left;
@@ -416,32 +415,32 @@ under_in all before now entries c = under c.journal
         goes_on = goes_on_less c.lines (c.line ∷ []) c.handled.goes_on;
       };
       journal = inl same;
-      written = record { front = text_of c.lines; begins = front_all (text_of c.lines); held = c.held };
-      almost = inr (almost_all c.lines prompt);
+      written = record { front = text_of n c.lines; begins = front_all (text_of n c.lines); held = c.held };
+      almost = inr (almost_all n c.lines prompt);
     }
     under (inr more) = record {
       lines = c.lines ++ c.line ∷ [];
       left = c.left;
       handled = c.handled;
       journal = inl more;
-      written = record { front = text_of c.lines; begins = text_front c.lines (c.line ∷ []); held = c.held };
-      almost = inr (almost_last c.lines (c.line ∷ []) prompt (omega arith));
+      written = record { front = text_of n c.lines; begins = text_front n c.lines (c.line ∷ []); held = c.held };
+      almost = inr (almost_last n c.lines (c.line ∷ []) prompt (omega arith));
     }
 
-pub under_over : (ended : Bool) (all : Option (List (List ℕ))) (before now : Option (List ℕ)) (entries : List Entry) → IsOver ended all before entries now
-    → IsUnderWay all before entries now
-under_over ended all before now entries o = record {
+pub under_over : (n : ℕ) (ended : Bool) (all : Option (List (List ℕ))) (before now : Option (List ℕ)) (entries : List Entry) → IsOver n ended all before entries now
+    → IsUnderWay n all before entries now
+under_over n ended all before now entries o = record {
   lines = o.lines;
   left = o.left;
   handled = o.handled;
   journal = inl o.journal;
-  written = record { front = text_of o.lines; begins = front_all (text_of o.lines); held = o.held };
-  almost = inr (almost_all o.lines prompt);
+  written = record { front = text_of n o.lines; begins = front_all (text_of n o.lines); held = o.held };
+  almost = inr (almost_all n o.lines prompt);
 }
 
-pub under_opening : (all : Option (List (List ℕ))) (before now : Option (List ℕ)) (entries : List Entry) → IsCutAtOpening before entries now
-    → IsUnderWay all before entries now
-under_opening all before now entries c = record {
+pub under_opening : (n : ℕ) (all : Option (List (List ℕ))) (before now : Option (List ℕ)) (entries : List Entry) → IsCutAtOpening before entries now
+    → IsUnderWay n all before entries now
+under_opening n all before now entries c = record {
   lines = [];
   left = all;
   handled = hands_none all;

@@ -1,7 +1,7 @@
 -- Bytes in which lines are looked for.
 use Rattle.std.specs.Prelude.{ℕ, Option, IfSome, List, [], ◌∷◌, ◌++◌, ◌≡◌, ◌+◌, ◌≤◌, length, take, drop}
 use Rattle.hpx_ports.specs.Told.{preceded}
-use Rattle.app_console.specs.PlainText.{IsPiece}
+use Rattle.app_console.specs.Lines.{IsPiece}
 
 -- the bytes behind `start` are pending, and the first `clear` of them are no newlines
 pub record IsSearched (bytes : List ℕ) (start clear : ℕ) : Type 0 where

@@ -7,7 +7,7 @@ use Rattle.hpx_top.specs.declared.reader.Next.{Next}
 use Rattle.hpx_top.specs.declared.reader.Next.TheVariants.{Line, Long, Quit, End, Full}
 use Rattle.hpx_top.specs.declared.reader.Found.{Found}
 use Rattle.hpx_top.specs.declared.reader.Found.TheVariants.{Newline, Last, Over, AtLimit}
-use Rattle.app_console.specs.PlainText.{is_long, is_quit, is_newline, IsPiece, lines_in}
+use Rattle.app_console.specs.Lines.{is_long, is_quit, is_newline, IsPiece, lines_in}
 use Rattle.hpx_top.specs.Pending.{IsNewlineAt}
 
 -- bytes that were read and not yet handed out, how many were read in all, and whether a read has met the end

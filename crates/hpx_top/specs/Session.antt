@@ -1,5 +1,5 @@
 -- How far a session has come: the lines that were handled, what was fed for them, and what was written.
-use Rattle.std.specs.Prelude.{ℕ, Bool, pos, true, false, Option, Some, None, IfSome, List, [], ◌∷◌, ◌++◌, ◌≡◌, ◌+◌, ◌≤◌, ◌^◌, ◌⊎◌, length, drop}
+use Rattle.std.specs.Prelude.{ℕ, Bool, true, false, Option, Some, None, IfSome, List, [], ◌∷◌, ◌++◌, ◌≡◌, ◌+◌, ◌≤◌, ◌^◌, ◌⊎◌, length, drop}
 use Rattle.std.specs.List.{concat, list_any}
 use Rattle.hpx_value.specs.declared.profile.Profile.{Profile}
 use Rattle.hpx_journal.specs.declared.entry.Entry.{Entry}
@@ -14,9 +14,9 @@ use Rattle.hpx_journal.specs.Sessions.{IsSession, IsSettled, BeginsWith, entries
 use Rattle.hpx_ports.specs.Told.{preceded, followed}
 use Rattle.hpx_world.specs.Places.{Places, rules_in}
 use Rattle.hpx_world.specs.Quiet.{IsQuiet, IsAtRest}
-use Rattle.app_console.specs.Acts.{act_of}
-use Rattle.app_console.specs.Console.{commands}
-use Rattle.app_console.specs.PlainText.{IsFront, is_long, is_quit, IsPiece, before_quit, opening, fed, lines_text, text_of}
+use Rattle.app_console.specs.Lines.{IsFront, is_long, is_quit, IsPiece, before_quit, opening}
+use Rattle.hpx_top.specs.Acts.{act_of}
+use Rattle.hpx_top.specs.Texts.{commands, fed, lines_text, text_of}
 use Rattle.hpx_top.specs.declared.session.SessionFault.{SessionFault}
 use Rattle.hpx_top.specs.declared.session.SessionFault.TheVariants.{Read, Write, OutOfMemory, InputFull}
 use Rattle.hpx_top.specs.Reader.{Reading, lines_left, bytes_left}
@@ -118,27 +118,27 @@ pub record IsServing (r : Rules) (all : Option (List (List ℕ))) (before : Opti
   pub handled : HandsOut all (lines_left reading left) lines
   pub few : length lines + bytes_left reading ≤ 67108864
   pub journal : IsJournalOf r lines entries
-  pub held : now ≡ followed before (commands ++ lines_text (pos 0) lines)
+  pub held : now ≡ followed before (commands ++ lines_text r.localities lines)
 
 -- After a prompt: the text is that of the lines that were handled. Of the lines behind them one may have been fed.
-pub record IsCut (most : ℕ) (all : Option (List (List ℕ))) (before : Option (List ℕ)) (entries : List Entry) (now : Option (List ℕ)) : Type 0 where
+pub record IsCut (n most : ℕ) (all : Option (List (List ℕ))) (before : Option (List ℕ)) (entries : List Entry) (now : Option (List ℕ)) : Type 0 where
   pub lines : List (List ℕ)
   pub next : List (List ℕ)
   pub left : Option (List (List ℕ))
   pub handled : HandsOut all left (lines ++ next)
   pub few : length next ≤ most
   pub journal : lines_fed entries ≡ fed (lines ++ next)
-  pub held : now ≡ followed before (text_of lines)
+  pub held : now ≡ followed before (text_of n lines)
 
 -- In a line behind a prompt: the text is that of the lines before it. It is not too long, and it may have been fed.
-pub record IsCutIn (all : Option (List (List ℕ))) (before : Option (List ℕ)) (entries : List Entry) (now : Option (List ℕ)) : Type 0 where
+pub record IsCutIn (n : ℕ) (all : Option (List (List ℕ))) (before : Option (List ℕ)) (entries : List Entry) (now : Option (List ℕ)) : Type 0 where
   pub lines : List (List ℕ)
   pub line : List ℕ
   pub left : Option (List (List ℕ))
   pub handled : HandsOut all left (lines ++ line ∷ [])
   pub short : is_long line ≡ false
   pub journal : (lines_fed entries ≡ fed lines) ⊎ (lines_fed entries ≡ fed (lines ++ line ∷ []))
-  pub held : now ≡ followed before (text_of lines)
+  pub held : now ≡ followed before (text_of n lines)
 
 -- Behind the first text, before the first prompt: the accumulator is to be made, and the line for it may have been fed.
 pub record IsCutAtOpening (before : Option (List ℕ)) (entries : List Entry) (now : Option (List ℕ)) : Type 0 where
@@ -146,31 +146,31 @@ pub record IsCutAtOpening (before : Option (List ℕ)) (entries : List Entry) (n
   pub held : now ≡ followed before commands
 
 -- after the last prompt: all lines were handled, up to the end or to a quit
-pub record IsOver (ended : Bool) (all : Option (List (List ℕ))) (before : Option (List ℕ)) (entries : List Entry) (now : Option (List ℕ)) : Type 0 where
+pub record IsOver (n : ℕ) (ended : Bool) (all : Option (List (List ℕ))) (before : Option (List ℕ)) (entries : List Entry) (now : Option (List ℕ)) : Type 0 where
   pub lines : List (List ℕ)
   pub left : Option (List (List ℕ))
   pub handled : HandsOut all left lines
   pub last : IfSome left (λ others. before_quit others ≡ [])
   pub read_up : (ended ≡ true) ⊎ IfSome all (λ lines. list_any is_quit lines ≡ true)
   pub journal : lines_fed entries ≡ fed lines
-  pub held : now ≡ followed before (text_of lines)
+  pub held : now ≡ followed before (text_of n lines)
 
 -- the text of these lines, or of all but the last of them, was written whole
-pub record AllButOne (lines : List (List ℕ)) (text : List ℕ) : Type 0 where
+pub record AllButOne (n : ℕ) (lines : List (List ℕ)) (text : List ℕ) : Type 0 where
   pub done : List (List ℕ)
   pub last : List (List ℕ)
   pub parts : lines ≡ done ++ last
   pub few : length last ≤ 1
-  pub written : IsFront (commands ++ lines_text (pos 0) done) text
+  pub written : IsFront (commands ++ lines_text n done) text
 
 -- wherever a session ends: what was written is the front of what the lines that were fed print, and is whole for all but the last
-pub record IsUnderWay (all : Option (List (List ℕ))) (before : Option (List ℕ)) (entries : List Entry) (now : Option (List ℕ)) : Type 0 where
+pub record IsUnderWay (n : ℕ) (all : Option (List (List ℕ))) (before : Option (List ℕ)) (entries : List Entry) (now : Option (List ℕ)) : Type 0 where
   pub lines : List (List ℕ)
   pub left : Option (List (List ℕ))
   pub handled : HandsOut all left lines
   pub journal : HasFed lines entries
-  pub written : WritesFront (text_of lines) before now
-  pub almost : (lines_fed entries ≡ []) ⊎ AllButOne lines written.front
+  pub written : WritesFront (text_of n lines) before now
+  pub almost : (lines_fed entries ≡ []) ⊎ AllButOne n lines written.front
 
 -- the bytes that may be read were read, and behind the lines that were handled they hold no whole line
 pub record IsStopped (all : Option (List (List ℕ))) (reading : Reading) (left : Option (List ℕ)) : Type 0 where
@@ -189,9 +189,9 @@ IsLineEndedBy InputFull r line old new before now = ⊥
 IsLineEndedBy _ r line old new before now = FeedsAtMost (97 ∷ line) old new × (now ≡ before)
 
 -- a session was broken off: at a write anywhere, otherwise behind a prompt, or in the line behind it
-abbrev pub IsCutBy : SessionFault → Option (List (List ℕ)) → Option (List ℕ) → List Entry → Option (List ℕ) → Type 0
-IsCutBy Write all before entries now = IsUnderWay all before entries now
-IsCutBy Read all before entries now = IsCut 0 all before entries now
-IsCutBy InputFull all before entries now = IsCut 0 all before entries now
-IsCutBy OutOfMemory all before entries now = IsCut 1 all before entries now
-IsCutBy _ all before entries now = IsCutIn all before entries now
+abbrev pub IsCutBy : SessionFault → ℕ → Option (List (List ℕ)) → Option (List ℕ) → List Entry → Option (List ℕ) → Type 0
+IsCutBy Write n all before entries now = IsUnderWay n all before entries now
+IsCutBy Read n all before entries now = IsCut n 0 all before entries now
+IsCutBy InputFull n all before entries now = IsCut n 0 all before entries now
+IsCutBy OutOfMemory n all before entries now = IsCut n 1 all before entries now
+IsCutBy _ n all before entries now = IsCutIn n all before entries now

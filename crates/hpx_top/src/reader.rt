@@ -3,12 +3,10 @@ ghost use Rattle.hpx_top.specs.declared.reader.ReadFault.TheVariants.{Failed as 
 ghost use Rattle.std.specs.Prelude.{◌≡◌, ◌+◌, ◌<◌, ◌≤◌, true, false, Ok, [], IfOk, OnOk, OnErr, IsErrOf, IfErr, length, take, drop};
 ghost use Rattle.std.specs.Str.Lines.{strip_carriage_return};
 ghost use Rattle.hpx_ports.specs.Faults.{Rose};
-ghost use Rattle.app_console.specs.PlainText.{IsPiece};
+ghost use Rattle.app_console.specs.Lines.{IsPiece};
 ghost use Rattle.hpx_top.specs.Reader.{input_left, bytes_left, reads_left, wants_more, IsFound, last_of, next_of, Answers, LeavesFewer, HasRead};
 
 mod pending;
-#[cfg(test)]
-mod tests;
 
 use crate::reader::pending::Pending;
 use app_console::lines::{is_long, is_quit, line_of};

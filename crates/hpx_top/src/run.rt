@@ -14,11 +14,8 @@ ghost use Rattle.hpx_options.specs.Texts.{bad_word_text};
 ghost use Rattle.hpx_top.specs.Statuses.{IsStatus, status_of, status_line};
 ghost use Rattle.hpx_top.specs.Usage.{is_usual, is_built, bad_word};
 
-#[cfg(test)]
-mod tests;
-
+use crate::acts::AllActs;
 use crate::session::{SessionFault, serve};
-use app_console::acts::ConsoleActs;
 use hpx_options::options::read;
 use hpx_options::settings::{App, Mode, OptionFault, Settings};
 use hpx_options::texts;
@@ -34,7 +31,7 @@ use std::alloc::Global;
 #[derive(Drop)]
 pub struct End<F: Fabric> {
     pub status: u8,
-    pub world: Option<World<ConsoleActs>>,
+    pub world: Option<World<AllActs>>,
     pub fabric: F,
 }
 
@@ -113,17 +110,17 @@ fn serve_all<S: Source, K: Sink, F: Fabric>(
     source: &mut S,
     sink: &mut K,
     fabric: &mut F,
-) -> (Option<World<ConsoleActs>>, Result<(), SessionFault>)
+) -> (Option<World<AllActs>>, Result<(), SessionFault>)
     requires flight { F.flight fabric.old ≡ Some [] }
     requires trace { F.trace fabric.old ≡ Some [] }
 
-    ensures whole { (input : _) → S.left source.old ≡ Some input → OnOk result.1 (IsWhole input (entries_in result.0) (K.held sink.old) (K.held sink.new)) }
+    ensures whole { (input : _) → S.left source.old ≡ Some input → OnOk result.1 (IsWhole 2 input (entries_in result.0) (K.held sink.old) (K.held sink.new)) }
     ensures reads { (input : _) → S.left source.old ≡ Some input → IsReadFrom input (S.left source.new) (S.taken source.old) (S.taken source.new) }
     ensures limit { S.taken source.new ≤ S.taken source.old + 67108864 }
     ensures read_up { (input : _) → S.left source.old ≡ Some input → OnOk result.1 (IsReadUp input (S.left source.new)) }
     ensures ended { (input : _) → S.left source.old ≡ Some input → IfSome result.0 (λ w.
-        IfErr result.1 (λ fault. IsEndedBy fault input w.journal.entries (K.held sink.old) (K.held sink.new))) }
-    ensures begun { (input : _) → S.left source.old ≡ Some input → IsBegun input (entries_in result.0) (K.held sink.old) (K.held sink.new) }
+        IfErr result.1 (λ fault. IsEndedBy fault 2 input w.journal.entries (K.held sink.old) (K.held sink.new))) }
+    ensures begun { (input : _) → S.left source.old ≡ Some input → IsBegun 2 input (entries_in result.0) (K.held sink.old) (K.held sink.new) }
     ensures input { (input : _) → S.left source.old ≡ Some input → result.1 ≡ Err SessionFault.InputFull → IsInputFull input (S.left source.new) }
     ensures read_on { (input : _) → S.left source.old ≡ Some input → result.1 ≡ Err SessionFault.Read → (n : ℕ) × IsReadOn n input (S.left source.new) }
     ensures taken { result.1 ≡ Err SessionFault.InputFull → S.taken source.new ≡ S.taken source.old + 67108864 }
@@ -153,7 +150,7 @@ fn serve_all<S: Source, K: Sink, F: Fabric>(
     ensures write_only { result.1 ≢ Err SessionFault.Write → K.faults sink.new ≡ K.faults sink.old }
     ensures fabric_only { result.1 ≢ Err SessionFault.Fabric → F.faults fabric.new ≡ F.faults fabric.old }
 {
-    let mut world = match World::boot(alloc, ConsoleActs { localities: 2 }, PROFILE) {
+    let mut world = match World::boot(alloc, AllActs { localities: 2 }, PROFILE) {
         Ok(world) => world,
         Err(_) => return (None, Err(SessionFault::OutOfMemory)),
     };
@@ -187,16 +184,16 @@ pub fn run<S: Source, K: Sink, E: Sink, F: Fabric>(
     ensures no_other { IsStatus result.status }
 
     ensures whole { (input : _) → S.left source.old ≡ Some input → result.status ≡ 0 →
-        IsWhole input (entries_in result.world) (K.held sink.old) (K.held sink.new) }
-    ensures begun { (input : _) → S.left source.old ≡ Some input → IsBegun input (entries_in result.world) (K.held sink.old) (K.held sink.new) }
+        IsWhole 2 input (entries_in result.world) (K.held sink.old) (K.held sink.new) }
+    ensures begun { (input : _) → S.left source.old ≡ Some input → IsBegun 2 input (entries_in result.world) (K.held sink.old) (K.held sink.new) }
     ensures between_lines { (input : _) → S.left source.old ≡ Some input → (result.status ≡ 2) ⊎ (result.status ≡ 9) →
-        IsBrokenOff 0 input (entries_in result.world) (K.held sink.old) (K.held sink.new) }
+        IsBrokenOff 2 0 input (entries_in result.world) (K.held sink.old) (K.held sink.new) }
     ensures in_a_line { (input : _) → S.left source.old ≡ Some input → (result.status ≡ 4) ⊎ (result.status ≡ 5) →
-        IsBrokenIn input (entries_in result.world) (K.held sink.old) (K.held sink.new)
+        IsBrokenIn 2 input (entries_in result.world) (K.held sink.old) (K.held sink.new)
         ⊎ IsBrokenAtOpening (entries_in result.world) (K.held sink.old) (K.held sink.new) }
 
     ensures at_most_a_line { (input : _) → S.left source.old ≡ Some input → result.status ≡ 6 →
-        IfSome result.world (λ w. IsBrokenOff 1 input w.journal.entries (K.held sink.old) (K.held sink.new)
+        IfSome result.world (λ w. IsBrokenOff 2 1 input w.journal.entries (K.held sink.old) (K.held sink.new)
         ⊎ IsBrokenAtOpening w.journal.entries (K.held sink.old) (K.held sink.new)) }
     ensures untouched { result.world ≡ None → (source.new ≡ source.old) × (sink.new ≡ sink.old) × (result.fabric ≡ fabric) }
 

@@ -11,15 +11,16 @@ ghost use Rattle.hpx_world.specs.Quiet.{IsQuiet, NoneRuns};
 ghost use Rattle.hpx_world.specs.Steps.{IsUnfed};
 ghost use Rattle.hpx_world.specs.Turns.{DidFeed};
 ghost use Rattle.hpx_world.specs.declared.turns.Turned.{Turned};
-ghost use Rattle.app_console.specs.PlainText.{is_long, opening, text_of};
+ghost use Rattle.app_console.specs.Lines.{is_long, opening};
 ghost use Rattle.hpx_top.specs.Reader.{HasRead, bytes_left};
 ghost use Rattle.hpx_top.specs.Session.{rules, IsAmple, IsRested, FeedsAtMost, Feeds, IsLineEndedBy, WritesFront, IsServing, IsOver, IsCutBy, IsStopped};
 ghost use Rattle.hpx_top.specs.Ends.{IsWhole, IsEndedBy, IsBegun, IsReadFrom, IsReadUp, IsReadOn, IsInputFull};
 
+use crate::acts::AllActs;
 use crate::reader::{LineReader, Next, ReadFault};
-use app_console::acts::ConsoleActs;
-use app_console::console::{BAD_COMMAND, COMMANDS};
-use app_console::lines::{PROMPT, marked, opening};
+use app_console::lines::{ACCUMULATOR, PROMPT, TOO_LONG, marked, opening};
+use app_console::say::help;
+use app_console::table::Console;
 use hpx_journal::entry::{Entry, Event};
 use hpx_journal::journal::Journal;
 use hpx_ports::fabric::Fabric;
@@ -104,7 +105,7 @@ fn show<K: Sink>(journal: &Journal, cut: u64, sink: &mut K) -> Result<(), Sessio
 }
 
 /// What a refusal of the world is for a session.
-fn fault_of(fault: WorldFault<ConsoleActs>) -> SessionFault
+fn fault_of(fault: WorldFault<AllActs>) -> SessionFault
     ensures fabric { result ≡ SessionFault.Fabric → fault ≡ WorldFault.Fabric }
     ensures fabric_too { fault ≡ WorldFault.Fabric → result ≡ SessionFault.Fabric }
     ensures full { result ≡ SessionFault.JournalFull → (e w : ℕ) × (u : _) × (fault ≡ WorldFault.JournalFull e w u) }
@@ -145,7 +146,7 @@ fn fault_of(fault: WorldFault<ConsoleActs>) -> SessionFault
 /// Has a text fed. At a refusal the journal stays.
 fn begin<F: Fabric>(
     alloc: Global,
-    world: &mut World<ConsoleActs>,
+    world: &mut World<AllActs>,
     text: Text,
     fabric: &mut F,
 ) -> Result<(), SessionFault>
@@ -173,7 +174,7 @@ fn begin<F: Fabric>(
 /// Lets the world come to rest. The fabric tells: no frame without a parcel comes, and none that breaks a rule.
 fn settle<F: Fabric>(
     alloc: Global,
-    world: &mut World<ConsoleActs>,
+    world: &mut World<AllActs>,
     fabric: &mut F,
 ) -> Result<(), SessionFault>
     requires carrying { IsCarrying (rules world.old) world.old.hand (F.flight fabric.old) (F.trace fabric.old) world.old.journal.entries }
@@ -202,7 +203,7 @@ fn settle<F: Fabric>(
 /// Feeds a text, and lets the world come to rest.
 fn feed<F: Fabric>(
     alloc: Global,
-    world: &mut World<ConsoleActs>,
+    world: &mut World<AllActs>,
     text: Text,
     fabric: &mut F,
 ) -> Result<(), SessionFault>
@@ -233,7 +234,7 @@ fn feed<F: Fabric>(
 /// Has the accumulator made.
 fn open<F: Fabric>(
     alloc: Global,
-    world: &mut World<ConsoleActs>,
+    world: &mut World<AllActs>,
     fabric: &mut F,
 ) -> Result<(), SessionFault>
     requires ample { IsAmple world.old.profile }
@@ -264,7 +265,7 @@ fn open<F: Fabric>(
 /// Feeds a line, and writes what it prints.
 fn serve_text<K: Sink, F: Fabric>(
     alloc: Global,
-    world: &mut World<ConsoleActs>,
+    world: &mut World<AllActs>,
     line: &Text,
     sink: &mut K,
     fabric: &mut F,
@@ -292,7 +293,7 @@ fn serve_text<K: Sink, F: Fabric>(
     ensures fabric_only { result ≢ Err SessionFault.Fabric → F.faults fabric.new ≡ F.faults fabric.old }
 {
     let cut = world.journal().entries();
-    let Ok(text) = marked(alloc, line.as_slice()) else {
+    let Ok(text) = marked(alloc, ACCUMULATOR, line.as_slice()) else {
         return Err(SessionFault::OutOfMemory);
     };
     feed(alloc, world, text, fabric)?;
@@ -302,7 +303,7 @@ fn serve_text<K: Sink, F: Fabric>(
 /// One line: a prompt, and what the line prints. False where the lines end.
 fn serve_line<S: Source, K: Sink, F: Fabric>(
     alloc: Global,
-    world: &mut World<ConsoleActs>,
+    world: &mut World<AllActs>,
     reader: &mut LineReader,
     source: &mut S,
     sink: &mut K,
@@ -319,10 +320,10 @@ fn serve_line<S: Source, K: Sink, F: Fabric>(
         IsServing (rules world.old) all before reader.new (S.left source.new) world.new.journal.entries (K.held sink.new) }
     ensures over { result ≡ Ok false → (all : _) (before : _) →
         IsServing (rules world.old) all before reader.old (S.left source.old) world.old.journal.entries (K.held sink.old) →
-        IsOver reader.new.ended all before world.new.journal.entries (K.held sink.new) }
+        IsOver (length world.old.nodes) reader.new.ended all before world.new.journal.entries (K.held sink.new) }
     ensures err { IfErr result (λ fault. (all : _) (before : _) →
         IsServing (rules world.old) all before reader.old (S.left source.old) world.old.journal.entries (K.held sink.old) →
-        IsCutBy fault all before world.new.journal.entries (K.held sink.new)) }
+        IsCutBy fault (length world.old.nodes) all before world.new.journal.entries (K.held sink.new)) }
     ensures input { result ≡ Err SessionFault.InputFull → (all : _) (before : _) →
         IsServing (rules world.old) all before reader.old (S.left source.old) world.old.journal.entries (K.held sink.old) →
         IsStopped all reader.new (S.left source.new) }
@@ -358,7 +359,7 @@ fn serve_line<S: Source, K: Sink, F: Fabric>(
             Ok(true)
         }
         Ok(Next::Long) => {
-            write(sink, BAD_COMMAND)?;
+            write(sink, TOO_LONG)?;
             Ok(true)
         }
         Ok(Next::Quit) => Ok(false),
@@ -372,7 +373,7 @@ fn serve_line<S: Source, K: Sink, F: Fabric>(
 /// A session, from the first text to the last prompt. Its world is at boot, and no ask for credit is ever refused there.
 pub fn serve<S: Source, K: Sink, F: Fabric>(
     alloc: Global,
-    world: &mut World<ConsoleActs>,
+    world: &mut World<AllActs>,
     source: &mut S,
     sink: &mut K,
     fabric: &mut F,
@@ -384,13 +385,13 @@ pub fn serve<S: Source, K: Sink, F: Fabric>(
     requires quiet { IsQuiet world.old.nodes world.old.hand }
     requires carrying { IsCarrying (rules world.old) world.old.hand (F.flight fabric.old) (F.trace fabric.old) world.old.journal.entries }
 
-    ensures whole { (input : _) → S.left source.old ≡ Some input → OnOk result (IsWhole input world.new.journal.entries (K.held sink.old) (K.held sink.new)) }
+    ensures whole { (input : _) → S.left source.old ≡ Some input → OnOk result (IsWhole (length world.old.nodes) input world.new.journal.entries (K.held sink.old) (K.held sink.new)) }
     ensures reads { (input : _) → S.left source.old ≡ Some input → IsReadFrom input (S.left source.new) (S.taken source.old) (S.taken source.new) }
     ensures limit { S.taken source.new ≤ S.taken source.old + 67108864 }
     ensures read_up { (input : _) → S.left source.old ≡ Some input → OnOk result (IsReadUp input (S.left source.new)) }
     ensures ended { (input : _) → S.left source.old ≡ Some input →
-        IfErr result (λ fault. IsEndedBy fault input world.new.journal.entries (K.held sink.old) (K.held sink.new)) }
-    ensures begun { (input : _) → S.left source.old ≡ Some input → IsBegun input world.new.journal.entries (K.held sink.old) (K.held sink.new) }
+        IfErr result (λ fault. IsEndedBy fault (length world.old.nodes) input world.new.journal.entries (K.held sink.old) (K.held sink.new)) }
+    ensures begun { (input : _) → S.left source.old ≡ Some input → IsBegun (length world.old.nodes) input world.new.journal.entries (K.held sink.old) (K.held sink.new) }
     ensures input { (input : _) → S.left source.old ≡ Some input → result ≡ Err SessionFault.InputFull → IsInputFull input (S.left source.new) }
     ensures read_on { (input : _) → S.left source.old ≡ Some input → result ≡ Err SessionFault.Read → (n : ℕ) × IsReadOn n input (S.left source.new) }
     ensures taken { result ≡ Err SessionFault.InputFull → S.taken source.new ≡ S.taken source.old + 67108864 }
@@ -411,7 +412,7 @@ pub fn serve<S: Source, K: Sink, F: Fabric>(
     ensures write_only { result ≢ Err SessionFault.Write → K.faults sink.new ≡ K.faults sink.old }
     ensures fabric_only { result ≢ Err SessionFault.Fabric → F.faults fabric.new ≡ F.faults fabric.old }
 {
-    write(sink, COMMANDS)?;
+    write(sink, help(Console::Accumulator))?;
     open(alloc, world, fabric)?;
     let mut reader = LineReader::new(alloc);
     while serve_line(alloc, world, &mut reader, source, sink, fabric)? {}

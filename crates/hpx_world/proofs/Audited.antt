@@ -39,7 +39,7 @@ use Rattle.hpx_world.specs.declared.audit.AuditLine.{AuditLine}
 use Rattle.hpx_world.proofs.Counts.{sum_total}
 use Rattle.hpx_world.proofs.Found.{rises_found}
 use Rattle.hpx_world.proofs.Rested.{shown_at}
-use Rattle.hpx_world.proofs.Sound.{sound_legal}
+use Rattle.hpx_world.proofs.Sound.{sound_legal, told_all}
 
 -- ---- a token is held or owed
 
@@ -185,7 +185,7 @@ module _ (act_of : Meaning) (profile : Profile) (nodes : List Tables) (es : List
 
   held_all : (o : Id) → sum_by (λ t. held_here t o) nodes ≡ held_at_all r o w
   held_all o = sum_total nodes (λ t. held_here t o) (λ k. sum_by (held_worth o) (w.places k).tokens)
-      (λ k t at. sym (held_shown t (w.places k) o (sound.stand k t at).stands.tidy
+      (λ k t at. sym (held_shown t (w.places k) o (told_all act_of profile nodes es sound k t at).stands.tidy
       (shown_at act_of profile nodes es sound grammar carried k t (slice_get_less nodes k t at) at)))
 
   recorded_at : (k : ℕ) (t : Tables) → slice_get nodes k ≡ Some t → (o : Id) → o.home ≡ t.here
@@ -225,7 +225,7 @@ module _ (act_of : Meaning) (profile : Profile) (nodes : List Tables) (es : List
       recorded_is = count_is;
       held_is = held_is;
       flight_is = omega (arith, held_is, sums);
-      at_is = ((sound.stand k t at).stands.tidy.places x.gid x found).0 ∙ sym home;
+      at_is = ((told_all act_of profile nodes es sound k t at).stands.tidy.places x.gid x found).0 ∙ sym home;
     }
 
   tells_all : AllByRecursion (Tells r w) (audit_lines nodes)

@@ -4,10 +4,8 @@ use Rattle.std.specs.List.{slice_get, sum_by, AllByRecursion}
 use Rattle.std.proofs.lemmas.List.{map-append}
 use Rattle.std.proofs.lemmas.List.Sums.{sum_by-cons, sum_by-append}
 use Rattle.hpx_value.specs.declared.profile.Profile.{Profile}
-use Rattle.hpx_steps.specs.Rest.{Lacks}
+use Rattle.hpx_steps.specs.Rest.{Stands}
 use Rattle.hpx_node.specs.Locality.{Locality, tables_of}
-use Rattle.hpx_node.specs.Orders.{KeepsOrder}
-use Rattle.hpx_node.specs.Stands.{Stands}
 use Rattle.hpx_tables.specs.Tables.{Tables, IsPassive}
 use Rattle.hpx_world.specs.Quiet.{NoneRuns}
 use Rattle.hpx_world.specs.Sound.{Meaning, StandsAt, IsSound}
@@ -33,8 +31,8 @@ pub booted_none : (act_of : Meaning) (profile : Profile) (n : ℕ) → AreBooted
 booted_none act_of profile n = record { each = λ k t h. absurd (cc) }
 
 pub booted_more : (act_of : Meaning) (profile : Profile) (n : ℕ) (nodes : List Tables) (t : Tables) → AreBooted act_of profile n nodes
-    → t.here ≡ length nodes → t.localities ≡ n → t.profile ≡ profile → Stands act_of t [] → Lacks t → KeepsOrder act_of t [] → AreBooted act_of profile n (nodes ++ t ∷ [])
-booted_more act_of profile n nodes t h here localities tuned stands lacks orderly = record {
+    → t.here ≡ length nodes → t.localities ≡ n → t.profile ≡ profile → Stands act_of t [] → AreBooted act_of profile n (nodes ++ t ∷ [])
+booted_more act_of profile n nodes t h here localities tuned stands = record {
   each = λ k x at. elim (last_or_before nodes t k x at) [
     | inl i ↦ h.each k x i
     | inr i ↦ subst (λ y. StandsAt act_of n profile k y []) i.1 (record {
@@ -42,8 +40,6 @@ booted_more act_of profile n nodes t h here localities tuned stands lacks orderl
       localities = localities;
       tuned = tuned;
       stands = stands;
-      lacks = lacks;
-      orderly = orderly;
     })
   ];
 }

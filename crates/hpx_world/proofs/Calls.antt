@@ -17,12 +17,9 @@ use Rattle.hpx_node.specs.Commits.{committed}
 use Rattle.hpx_steps.specs.Calls.{effects}
 use Rattle.hpx_steps.specs.Rows.{kind_of}
 use Rattle.hpx_node.specs.Handled.{Clears}
-use Rattle.hpx_steps.specs.Rest.{Lacks, rules_of, Stands as RestsSound}
-use Rattle.hpx_steps.proofs.AtRest.{rest_stands, sound_at_rest}
+use Rattle.hpx_steps.specs.Rest.{Stands, rules_of}
 use Rattle.hpx_steps.specs.Limits.{IsWithin}
 use Rattle.hpx_node.specs.Locality.{Locality, tables_of}
-use Rattle.hpx_node.specs.Orders.{KeepsOrder}
-use Rattle.hpx_node.specs.Stands.{Stands}
 use Rattle.hpx_tables.specs.Tables.{Tables}
 use Rattle.hpx_node.specs.declared.parts.Finished.{Finished}
 use Rattle.hpx_node.specs.declared.parts.Finished.TheVariants.{Committed, Asking, NotRunning}
@@ -181,33 +178,18 @@ module _ (act_of : Meaning) (profile : Profile) (nodes : List Locality) (es : Li
   pub stands_at : Stands act_of v.tables es
   stands_at = own.stands
 
-  pub rest_at : RestsSound act_of v.tables es
-  rest_at = sound_at_rest v.tables (rules_of act_of v.tables.localities v.tables.profile) es (record { localities = refl; credit_log = refl; credit_limit = refl })
-      (record { stands = own.stands; orderly = own.orderly; lacks = own.lacks })
-
   pub within : v.tables.here < length (tables_of nodes)
   within = rw here_at lt
 
-  pub sound_wrote : (events : List Event) (es' : List Entry) → Writes events v.tables v'.tables es es' → Stands act_of v'.tables es'
-      → (Lacks v.tables → Lacks v'.tables) → (KeepsOrder act_of v.tables es → KeepsOrder act_of v'.tables es') → IsWithin es'
+  pub sound_wrote : (events : List Event) (es' : List Entry) → Writes events v.tables v'.tables es es' → Stands act_of v'.tables es' → IsWithin es'
       → IsSound act_of profile (tables_of (set nodes k v')) es'
-  sound_wrote events es' writes stands lacks orderly within =
+  sound_wrote events es' writes stands within =
       subst (λ ns. IsSound act_of profile ns es') (sym (tables_set nodes k v'))
-      (sound_grows act_of profile (tables_of nodes) es h k v.tables v'.tables events es' lt (tables_get nodes k v lt is) writes stands lacks orderly within)
-
-  pub rest_wrote : (events : List Event) (es' : List Entry) → Writes events v.tables v'.tables es es' → RestsSound act_of v'.tables es' → IsWithin es'
-      → IsSound act_of profile (tables_of (set nodes k v')) es'
-  rest_wrote events es' writes stands within =
-      let told = rest_stands v'.tables (rules_of act_of v'.tables.localities v'.tables.profile) es' stands in
-      sound_wrote events es' writes told.stands (λ l. told.lacks) (λ o. told.orderly) within
+      (sound_grows act_of profile (tables_of nodes) es h k v.tables v'.tables events es' lt (tables_get nodes k v lt is) writes stands within)
 
   module _ (es' : List Entry) (w : WritesInside v.tables v'.tables es es') where
-    pub sound_inside : Stands act_of v'.tables es' → (Lacks v.tables → Lacks v'.tables)
-        → (KeepsOrder act_of v.tables es → KeepsOrder act_of v'.tables es') → IsWithin es' → IsSound act_of profile (tables_of (set nodes k v')) es'
-    sound_inside stands lacks orderly within = sound_wrote w.events es' w.writes stands lacks orderly within
-
-    pub rest_inside : RestsSound act_of v'.tables es' → IsWithin es' → IsSound act_of profile (tables_of (set nodes k v')) es'
-    rest_inside stands within = rest_wrote w.events es' w.writes stands within
+    pub sound_inside : Stands act_of v'.tables es' → IsWithin es' → IsSound act_of profile (tables_of (set nodes k v')) es'
+    sound_inside stands within = sound_wrote w.events es' w.writes stands within
 
     pub inside_at : IsInside (rules_of act_of (length (tables_of nodes)) profile) es es'
     inside_at = inside_of v.tables v'.tables w.events es es' w.writes (rules_of act_of (length (tables_of nodes)) profile) within w.inner

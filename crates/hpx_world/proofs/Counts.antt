@@ -73,12 +73,12 @@ module _ (act_of : Meaning) (profile : Profile) (nodes : List Tables) (es : List
     (carried : IsCarried (rules_of act_of (length nodes) profile) [] es) where
   pub sent_all : sum_by (λ t. t.sent) nodes ≡ length (outs es)
   sent_all = sum_total nodes (λ t. t.sent) (outs_at es)
-      (λ k t at. let own = sound.stand k t at in own.stands.sent ∙ ap (outs_at es) own.here)
+      (λ k t at. let own = sound.stand k t at in own.stands.numbers.sent ∙ ap (outs_at es) own.here)
       ∙ total_outs (rules_of act_of (length nodes) profile) [] es carried
 
   pub taken_all : sum_by (λ t. t.taken) nodes ≡ length (ins es)
   taken_all = sum_total nodes (λ t. t.taken) (ins_at es)
-      (λ k t at. let own = sound.stand k t at in own.stands.taken ∙ ap (ins_at es) own.here)
+      (λ k t at. let own = sound.stand k t at in own.stands.numbers.taken ∙ ap (ins_at es) own.here)
       ∙ total_ins (rules_of act_of (length nodes) profile) [] es carried
 
   -- where nothing is on the road, all that were sent were accepted

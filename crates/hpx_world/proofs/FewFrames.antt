@@ -9,7 +9,7 @@ use Rattle.hpx_journal.specs.Whole.{part}
 use Rattle.hpx_journal.specs.Laws.{outs, outs_by}
 use Rattle.hpx_journal.specs.Weights.{HasRoom}
 use Rattle.hpx_part.specs.Data.{Event, Entry, Out}
-use Rattle.hpx_node.proofs.Taken.{ins_few}
+use Rattle.hpx_node.proofs.Arrived.{ins_few}
 use Rattle.hpx_tables.specs.Tables.{Tables}
 use Rattle.hpx_world.specs.Sound.{Meaning, IsSound}
 
@@ -34,12 +34,12 @@ module _ (act_of : Meaning) (profile : Profile) (nodes : List Tables) (es : List
   few_sent = omega (
     arith,
     sound.few,
-    sum_most nodes (λ t. t.sent) (λ k t at. omega (arith, (sound.stand k t at).stands.sent, outs_few t.here es, room.entries)),
+    sum_most nodes (λ t. t.sent) (λ k t at. omega (arith, (sound.stand k t at).stands.numbers.sent, outs_few t.here es, room.entries)),
   )
 
   pub few_taken : sum_by (λ t. t.taken) nodes ≤ 134217728
   few_taken = omega (
     arith,
     sound.few,
-    sum_most nodes (λ t. t.taken) (λ k t at. omega (arith, (sound.stand k t at).stands.taken, ins_few t.here es, room.entries)),
+    sum_most nodes (λ t. t.taken) (λ k t at. omega (arith, (sound.stand k t at).stands.numbers.taken, ins_few t.here es, room.entries)),
   )

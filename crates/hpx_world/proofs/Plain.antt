@@ -17,10 +17,9 @@ use Rattle.hpx_tables.specs.declared.births.Birth.{Birth}
 use Rattle.hpx_tables.specs.Splits.{first_cuts, asked_events, cuts, splits_from}
 use Rattle.hpx_node.specs.Asks.{own_many, hand_before, splits_before, lacking}
 use Rattle.hpx_tables.specs.Births.{birth_of, births_of}
-use Rattle.hpx_node.specs.Commits.{written, made_of, own_stock, committed_from, committed, places_in_hand}
-use Rattle.hpx_node.specs.Commits.{ups as commit_ups}
+use Rattle.hpx_node.specs.Commits.{made_of, own_stock, committed_from, committed, places_in_hand}
 use Rattle.hpx_node.specs.Fails.{dooms, failed_events, due_left, ups_left, FailsWith}
-use Rattle.hpx_steps.specs.Calls.{up_of, ups, returned, freed, effects, more_here}
+use Rattle.hpx_steps.specs.Calls.{up_of, ups, written_due, returned, freed, effects, more_here}
 use Rattle.hpx_tables.specs.Kept.{count_here}
 use Rattle.hpx_node.specs.Next.{Continues}
 use Rattle.hpx_tables.specs.Pending.{Waits}
@@ -54,20 +53,24 @@ splits_plain p [] places = tt
 splits_plain p (id ∷ ids) places =
     all-append IsPlain (cuts id (named places p)) (splits_from (p + 1) ids places) (cuts_plain id (named places p)) (splits_plain (p + 1) ids places)
 
-written_plain : (here serial : ℕ) (due : List Due) → ArePlain (written here serial due)
+written_plain : (here serial : ℕ) (due : List Due) → ArePlain (written_due here serial due)
 written_plain here serial [] = tt
 written_plain here serial (MessageDue m ∷ rest) = (tt, written_plain here (serial + 1) rest)
 written_plain here serial (PrintDue bytes ∷ rest) = (tt, written_plain here serial rest)
 
-given_plain : (ids : List Id) → ArePlain (commit_ups ids)
-given_plain [] = tt
-given_plain (id ∷ ids) = (tt, given_plain ids)
+up_plain : (id : Id) (log : Option ℕ) (rest : List Event) → ArePlain rest → ArePlain (up_of id log ++ rest)
+up_plain id None rest h = h
+up_plain id (Some log) rest h = (tt, h)
+
+ups_plain : (ids : List Id) → ArePlain (ups ids)
+ups_plain [] = tt
+ups_plain (id ∷ ids) = up_plain id id.log (ups ids) (ups_plain ids)
 
 from_plain : (t : Tables) (job : Job) (out : Outcome) (s : Stock) → ArePlain (committed_from t job out s)
 from_plain t job out s =
-    let due = written t.here t.serial (due_of job.state job.action (made_of t out) out) in
-    let gives = commit_ups (unnamed s.hand s.places) in
-    let end = all-append IsPlain due gives (written_plain t.here t.serial (due_of job.state job.action (made_of t out) out)) (given_plain (unnamed s.hand s.places)) in
+    let due = written_due t.here t.serial (due_of job.state job.action (made_of t out) out) in
+    let gives = ups (unnamed s.hand s.places) in
+    let end = all-append IsPlain due gives (written_plain t.here t.serial (due_of job.state job.action (made_of t out) out)) (ups_plain (unnamed s.hand s.places)) in
     all-append IsPlain (births_of t.here t.births (map birth_of out.makes)) _ (births_plain t.here t.births (map birth_of out.makes))
     (all-append IsPlain (splits_from 0 s.hand s.places) (Done (name_of job.action) false ∷ (due ++ gives)) (splits_plain 0 s.hand s.places) (tt, end))
 
@@ -94,14 +97,6 @@ begins_plain t job out =
 
 -- ---- a message that is dealt with
 
-up_plain : (id : Id) (log : Option ℕ) (rest : List Event) → ArePlain rest → ArePlain (up_of id log ++ rest)
-up_plain id None rest h = h
-up_plain id (Some log) rest h = (tt, h)
-
-ups_plain : (ids : List Id) → ArePlain (ups ids)
-ups_plain [] = tt
-ups_plain (id ∷ ids) = up_plain id id.log (ups ids) (ups_plain ids)
-
 returned_plain : (t : Tables) (id : Id) (log : Option ℕ) → ArePlain (returned t id log)
 returned_plain t id None = tt
 returned_plain t id (Some log) = (tt, tt)
@@ -126,7 +121,7 @@ effects_plain t _ = tt
 
 failed_plain : (t : Tables) (w : Waits) → ArePlain (failed_events t w)
 failed_plain t w =
-    (tt, all-append IsPlain (written t.here t.serial (due_left w)) (commit_ups (ups_left w)) (written_plain t.here t.serial (due_left w)) (given_plain (ups_left w)))
+    (tt, all-append IsPlain (written_due t.here t.serial (due_left w)) (ups (ups_left w)) (written_plain t.here t.serial (due_left w)) (ups_plain (ups_left w)))
 
 goes_plain : (p : Parcel) (t mid t' : Tables) (more : List Event) → GoesWith p t mid t' more → ArePlain more
 goes_plain (Give id entry) t mid t' more h =

@@ -15,7 +15,7 @@ use Rattle.hpx_steps.specs.Rest.{rules_of}
 use Rattle.hpx_tables.specs.Tables.{Tables}
 use Rattle.hpx_node.proofs.RowLaws.{refuses_for_cause}
 use Rattle.hpx_world.specs.Sound.{Meaning, IsSound}
-use Rattle.hpx_world.proofs.Sound.{get_some, stands_all, sound_joins}
+use Rattle.hpx_world.proofs.Sound.{get_some, told_all, sound_joins}
 use Rattle.hpx_world.specs.Promises.{KeepsLedger, KeepsLife, RunsOnce, AnswersOnce, KeepsLimit, KeepsPromises}
 
 -- ---- a join
@@ -86,7 +86,7 @@ module _ (act_of : Meaning) (profile : Profile) (nodes : List Tables) (es : List
   causes : (k : ℕ) → k < length nodes → RefusesForCause rules (part k es)
   causes k lt = let x = get_some nodes k lt in
       subst (λ j. RefusesForCause rules (part j es)) (sound.stand k x.0 x.1).here
-      (refuses_for_cause rules x.0 es (stands_all act_of profile nodes es sound k x.0 x.1))
+      (refuses_for_cause rules x.0 es (told_all act_of profile nodes es sound k x.0 x.1).stands)
 
   pub promised : HasGrammar rules → KeepsActLaws rules → IsCarried rules [] es → KeepsPromises rules es
   promised grammar laws carried = let join = sound_joins act_of profile nodes es sound carried in record {

@@ -31,7 +31,7 @@ use Rattle.hpx_node.proofs.RowLaws.{frees_the_dead}
 use Rattle.hpx_world.specs.Sound.{Meaning, IsSound}
 use Rattle.hpx_world.specs.Quiet.{IsQuiet, IsAtRest}
 use Rattle.hpx_world.proofs.Counts.{sent_all, taken_all}
-use Rattle.hpx_world.proofs.Sound.{get_some, stands_all, sound_legal}
+use Rattle.hpx_world.proofs.Sound.{get_some, told_all, sound_legal}
 
 -- ---- tokens that are owed
 
@@ -117,13 +117,13 @@ module _ (act_of : Meaning) (profile : Profile) (nodes : List Tables) (es : List
   shown_at k t lt at =
       subst (Shows (view t [] [])) (sym (run_part r (first r) es k))
       (subst (λ j. IsClean r (at_boot r j) (part j es) → Shows (view t [] []) (run_local r (at_boot r j) (part j es))) (sound.stand k t at).here
-      (stands_all act_of profile nodes es sound k t at).keeps.shows (legal_part_clean r es legal grammar k lt))
+      (told_all act_of profile nodes es sound k t at).stands.keeps.shows (legal_part_clean r es legal grammar k lt))
 
   pub quiet_rests : (hand : Option Frame) → IsQuiet nodes hand → IsAtRest r (replayed r es)
   quiet_rests hand quiet = record {
     quiet = legal_quiet r es legal places_quiet same (λ o dead. legal_all_freed r es legal (legal_road_empty r es legal same) frees_at o dead);
     held = λ o k managed lt. let x = get_some nodes k lt in
-        rest_shown x.0 ((replayed r es).places k) o managed (passive_at nodes k x.0 quiet.passive x.1) (sound.stand k x.0 x.1).stands.tidy (shown_at k x.0 lt x.1);
+        rest_shown x.0 ((replayed r es).places k) o managed (passive_at nodes k x.0 quiet.passive x.1) (told_all act_of profile nodes es sound k x.0 x.1).stands.tidy (shown_at k x.0 lt x.1);
   }
     where
       same : length (ins es) ≡ length (outs es)
@@ -136,4 +136,4 @@ module _ (act_of : Meaning) (profile : Profile) (nodes : List Tables) (es : List
       frees_at : (k : ℕ) → k < length nodes → FreesTheDead r k (part k es)
       frees_at k lt = let x = get_some nodes k lt in
           subst (λ j. FreesTheDead r j (part j es)) (sound.stand k x.0 x.1).here
-          (frees_the_dead r x.0 es (stands_all act_of profile nodes es sound k x.0 x.1) (passive_at nodes k x.0 quiet.passive x.1))
+          (frees_the_dead r x.0 es (told_all act_of profile nodes es sound k x.0 x.1).stands (passive_at nodes k x.0 quiet.passive x.1))

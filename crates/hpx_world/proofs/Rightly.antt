@@ -22,7 +22,7 @@ use Rattle.hpx_steps.specs.Sound.{IsOwn, FreesNone, gives_for}
 use Rattle.hpx_tables.specs.Strange.{broken}
 use Rattle.hpx_tables.specs.Tables.{Tables}
 use Rattle.hpx_tables.specs.declared.kept.Outgoing.{Outgoing}
-use Rattle.hpx_node.proofs.Bare.{target-bare}
+use Rattle.hpx_steps.proofs.Puts.{target-bare}
 use Rattle.hpx_world.proofs.ActsRight.{road_acts, desk_acts}
 use Rattle.hpx_world.proofs.Freeable.{up_here, none_waits, none_held}
 use Rattle.hpx_world.proofs.SentRight.{IsSentRight, road_right}

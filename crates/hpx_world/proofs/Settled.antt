@@ -23,7 +23,7 @@ use Rattle.hpx_world.proofs.Audited.{all_each}
 use Rattle.hpx_world.proofs.Counts.{all_taken, road_empty}
 use Rattle.hpx_world.proofs.Idle.{none_runs_at}
 use Rattle.hpx_world.proofs.Lacking.{none_owed, none_pending}
-use Rattle.hpx_world.proofs.Sound.{get_some}
+use Rattle.hpx_world.proofs.Sound.{get_some, told_all}
 use Rattle.hpx_world.proofs.Strange.{AreStill, calm, is_shown, are_shown}
 
 module _ (act_of : Meaning) (profile : Profile) (nodes : List Tables) (es : List Entry) (sound : IsSound act_of profile nodes es)
@@ -50,10 +50,10 @@ module _ (act_of : Meaning) (profile : Profile) (nodes : List Tables) (es : List
   passive k t at =
       let pending = none_pending r profile.credit_log es (calm act_of profile nodes es sound still c.carried)
       (are_shown act_of profile nodes es sound still c.carried) empty silent k t (is_shown act_of profile nodes es sound still c.carried k t at)
-      (sound.stand k t at).lacks in
+      (told_all act_of profile nodes es sound k t at).lacks in
       let running = none_runs_at nodes k t none at in
       record {
-        accepted = none_stuck t t.accepted running pending (sound.stand k t at).stands.tidy.targets (all_at IsStuck nodes k t idle.fire at);
+        accepted = none_stuck t t.accepted running pending (told_all act_of profile nodes es sound k t at).stands.tidy.targets (all_at IsStuck nodes k t idle.fire at);
         running = running;
         pending = pending;
         desk = all_at HasNoMail nodes k t idle.desk at;

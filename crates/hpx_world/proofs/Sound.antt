@@ -18,10 +18,11 @@ use Rattle.hpx_part.specs.View.{View}
 use Rattle.hpx_part.proofs.Keyed.{slice_get_is}
 use Rattle.hpx_tables.specs.Awaited.{is_answer}
 use Rattle.hpx_node.specs.Changes.{Writes}
-use Rattle.hpx_steps.specs.Rest.{IsPaid, Lacks, IsOrderly, view, StandsWith, rules_of}
+use Rattle.hpx_steps.specs.Rest.{Stands, StandsAtRest, rules_of}
+use Rattle.hpx_steps.specs.Sound.{IsOrderly, IsPaid, IsSound as HoldsAt}
+use Rattle.hpx_steps.specs.Turn.{Turn, at_rest, view}
+use Rattle.hpx_steps.proofs.AtRest.{rest_stands}
 use Rattle.hpx_steps.specs.Limits.{IsWithin}
-use Rattle.hpx_node.specs.Orders.{KeepsOrder}
-use Rattle.hpx_node.specs.Stands.{Stands}
 use Rattle.hpx_tables.specs.Tables.{Tables}
 use Rattle.hpx_world.specs.Sound.{Meaning, StandsAt, IsSound}
 
@@ -46,29 +47,31 @@ for_other r v es es' same h =
       forms = subst (AllByRecursion (λ (x : Entry). HasForm r x.event)) back h.forms;
     }
 
-pub stands_other : (r : Rules) (t : Tables) (k : ℕ) (events : List Event) (es es' : List Entry) → es' ≡ es ++ at_all k events → k ≢ t.here
-    → StandsWith r t [] [] es → StandsWith r t [] [] es'
-stands_other r t k events es es' grows away h =
-    let same : part t.here es' ≡ part t.here es = ap (part t.here) grows ∙ part_kept t.here k events es away in
+-- all that holds there still does
+other_stands : (r : Rules) (s : Turn) (k : ℕ) (events : List Event) (es es' : List Entry) → es' ≡ es ++ at_all k events → k ≢ s.tables.here
+    → HoldsAt r s es → HoldsAt r s es'
+other_stands r s k events es es' grows away h =
+    let here = s.tables.here in
+    let same : part here es' ≡ part here es = ap (part here) grows ∙ part_kept here k events es away in
     let more : length es' ≡ length es + length (at_all k events) = ap length grows ∙ length-append es (at_all k events) in
     record {
-      keeps = for_other r (view t [] []) es es' same h.keeps;
+      rules = h.rules;
+      keeps = for_other r (view s) es es' same h.keeps;
       tidy = h.tidy;
-      born = omega (arith, h.born, more);
-      few = omega (arith, h.few, more);
-      asked = omega (arith, h.asked, more);
-      sent = h.sent ∙ ap (λ p. length (outs p)) (sym same);
-      taken = h.taken ∙ ap (λ p. length (ins p)) (sym same);
-      paid = subst (IsPaid r t) (sym same) h.paid;
-      few_answers = omega (arith, h.few_answers, more);
-      answered = subst (λ p. IsClean r (at_boot r t.here) p → t.answered ≡ count_by is_answer (run_local r (at_boot r t.here) p).done) (sym same) h.answered;
+      places = h.places;
+      commits = h.commits;
+      paid = subst (IsPaid r s) (sym same) h.paid;
+      orderly = subst (IsOrderly r s) (sym same) h.orderly;
+      numbers = record {
+        born = omega (arith, h.numbers.born, more);
+        few = omega (arith, h.numbers.few, more);
+        asked = omega (arith, h.numbers.asked, more);
+        sent = h.numbers.sent ∙ ap (λ p. length (outs p)) (sym same);
+        taken = h.numbers.taken ∙ ap (λ p. length (ins p)) (sym same);
+        few_answers = omega (arith, h.numbers.few_answers, more);
+        answered = subst (λ p. IsClean r (at_boot r here) p → s.tables.answered ≡ count_by is_answer (run_local r (at_boot r here) p).done) (sym same) h.numbers.answered;
+      };
     }
-
-orderly_other : (act_of : Meaning) (t : Tables) (k : ℕ) (events : List Event) (es es' : List Entry) → es' ≡ es ++ at_all k events → k ≢ t.here
-    → KeepsOrder act_of t es → KeepsOrder act_of t es'
-orderly_other act_of t k events es es' grows away h =
-    let same : part t.here es' ≡ part t.here es = ap (part t.here) grows ∙ part_kept t.here k events es away in
-    subst (IsOrderly (rules_of act_of t.localities t.profile) t) (sym same) h
 
 pub set_same : (xs : List Tables) (k : ℕ) (t : Tables) → k < length xs → slice_get (set xs k t) k ≡ Some t
 set_same [] k t h = absurd (omega arith)
@@ -92,11 +95,11 @@ module _ (act_of : Meaning) (profile : Profile) (nodes : List Tables) (es : List
   r = rules_of act_of (length nodes) profile
 
   -- each stands by the rules of all
-  pub stands_all : (k : ℕ) (t : Tables) → slice_get nodes k ≡ Some t → StandsWith (rules_of act_of (length nodes) profile) t [] [] es
-  stands_all k t at =
+  pub told_all : (k : ℕ) (t : Tables) → slice_get nodes k ≡ Some t → StandsAtRest (rules_of act_of (length nodes) profile) t es
+  told_all k t at =
       let own = h.stand k t at in
-      subst (λ p. StandsWith (rules_of act_of (length nodes) p) t [] [] es) own.tuned
-      (subst (λ n. StandsWith (rules_of act_of n t.profile) t [] [] es) own.localities own.stands)
+      rest_stands t (rules_of act_of (length nodes) profile) es (subst (λ p. HoldsAt (rules_of act_of (length nodes) p) (at_rest t) es) own.tuned
+      (subst (λ n. HoldsAt (rules_of act_of n t.profile) (at_rest t) es) own.localities own.stands))
 
   pub got : (k : ℕ) (t : Tables) → k < length nodes → t ≡ get_or nodes k t → slice_get nodes k ≡ Some t
   got k t lt is = slice_get_is nodes k t lt is
@@ -105,8 +108,7 @@ module _ (act_of : Meaning) (profile : Profile) (nodes : List Tables) (es : List
   sound_at k t lt is = h.stand k t (got k t lt is)
 
   module _ (k : ℕ) (t t' : Tables) (events : List Event) (es' : List Entry) (lt : k < length nodes) (is : t ≡ get_or nodes k t)
-      (writes : Writes events t t' es es') (stands : Stands act_of t' es') (lacks : Lacks t → Lacks t')
-      (orderly : KeepsOrder act_of t es → KeepsOrder act_of t' es') (within : IsWithin es') where
+      (writes : Writes events t t' es es') (stands : Stands act_of t' es') (within : IsWithin es') where
     own : StandsAt act_of (length nodes) profile k t es
     own = sound_at k t lt is
 
@@ -123,8 +125,6 @@ module _ (act_of : Meaning) (profile : Profile) (nodes : List Tables) (es : List
             localities = writes.localities ∙ own.localities;
             tuned = writes.profile ∙ own.tuned;
             stands = stands;
-            lacks = lacks own.lacks;
-            orderly = orderly own.orderly;
           })
       | inr other ↦
           let old = h.stand j x (sym (set_other nodes k j t' other) ∙ at) in
@@ -132,9 +132,7 @@ module _ (act_of : Meaning) (profile : Profile) (nodes : List Tables) (es : List
             here = old.here;
             localities = old.localities;
             tuned = old.tuned;
-            stands = stands_other (rules_of act_of x.localities x.profile) x k events es es' grows (λ e. other (e ∙ old.here)) old.stands;
-            lacks = old.lacks;
-            orderly = orderly_other act_of x k events es es' grows (λ e. other (e ∙ old.here)) old.orderly;
+            stands = other_stands (rules_of act_of x.localities x.profile) (at_rest x) k events es es' grows (λ e. other (e ∙ old.here)) old.stands;
           }
     ]
 
@@ -167,7 +165,7 @@ module _ (act_of : Meaning) (profile : Profile) (nodes : List Tables) (es : List
         let x = get_some nodes k lt in
         let here = (h.stand k x.0 x.1).here in
         subst (λ j. NodeKeeps (rules_of act_of (length nodes) profile) (at_boot (rules_of act_of (length nodes) profile) j) (part j es)) here
-        (stands_all act_of profile nodes es h k x.0 x.1).keeps.keeps;
+        (told_all act_of profile nodes es h k x.0 x.1).stands.keeps.keeps;
     carried = carried;
   }
 

@@ -22,7 +22,7 @@ use Rattle.hpx_world.proofs.Rested.{shown_at}
 use Rattle.hpx_world.proofs.Rightly.{road_unbroken, desk_unbroken}
 use Rattle.hpx_world.proofs.Roads.{legal_spelled}
 use Rattle.hpx_world.proofs.Shown.{IsCalm, IsShown, AreShown, legal}
-use Rattle.hpx_world.proofs.Sound.{get_some, stands_all, sound_joins, spells_well}
+use Rattle.hpx_world.proofs.Sound.{get_some, told_all, sound_joins, spells_well}
 use Rattle.hpx_world.proofs.Turned.{AreLawful}
 
 -- the outcomes keep the laws of actions, and none sends a MOVE, at n localities
@@ -47,6 +47,7 @@ module _ (act_of : Meaning) (profile : Profile) (nodes : List Tables) (es : List
   pub is_shown : (k : ℕ) (t : Tables) → slice_get nodes k ≡ Some t → IsShown r profile.credit_log es k t
   is_shown k t at =
       let x = sound.stand k t at in
+      let told = told_all act_of profile nodes es sound k t at in
       let lt = slice_get_less nodes k t at in
       record {
         lt = lt;
@@ -54,13 +55,12 @@ module _ (act_of : Meaning) (profile : Profile) (nodes : List Tables) (es : List
         count = x.localities;
         credit = ap (λ (p : Profile). p.credit_log) x.tuned;
         shows = shown_at act_of profile nodes es sound (spells_well act_of (length nodes) profile) carried k t lt at;
-        tidy = x.stands.tidy;
-        paid = subst (λ j. IsPaid r t (part j es)) x.here (stands_all act_of profile nodes es sound k t at).paid;
+        tidy = told.stands.tidy;
+        paid = subst (λ j. IsPaid r t (part j es)) x.here told.stands.paid;
         order =
-            subst (λ p. AreInOrder (rules_of act_of (length nodes) p) (length nodes) k p.credit_log t.desk t.outgoing t.pending (part k es)) x.tuned
-            (subst (λ n. AreInOrder (rules_of act_of n t.profile) n k t.profile.credit_log t.desk t.outgoing t.pending (part k es)) x.localities
-            (subst (λ j. AreInOrder (rules_of act_of t.localities t.profile) t.localities j t.profile.credit_log t.desk t.outgoing t.pending (part j es)) x.here
-            x.orderly));
+            subst (λ (p : Profile). AreInOrder r (length nodes) k p.credit_log t.desk t.outgoing t.pending (part k es)) x.tuned
+            (subst (λ n. AreInOrder r n k t.profile.credit_log t.desk t.outgoing t.pending (part k es)) x.localities
+            (subst (λ j. AreInOrder r t.localities j t.profile.credit_log t.desk t.outgoing t.pending (part j es)) x.here told.orderly));
       }
 
   pub are_shown : AreShown r profile.credit_log es

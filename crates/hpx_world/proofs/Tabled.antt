@@ -6,7 +6,7 @@ use Rattle.std.proofs.lemmas.List.{length-map, take_more}
 use Rattle.hpx_part.proofs.Keyed.{slice_get_is}
 use Rattle.hpx_tables.proofs.Alls.{all_append, all_at}
 use Rattle.hpx_tables.specs.Tables.{Tables}
-use Rattle.hpx_node.proofs.Messages.{flat_append}
+use Rattle.hpx_steps.proofs.Sums.{flat_append}
 use Rattle.hpx_node.specs.Locality.{Locality, tables_of}
 
 pub tables_get : (xs : List Locality) (k : ℕ) (v : Locality) → k < length (tables_of xs) → v ≡ get_or xs k v → v.tables ≡ get_or (tables_of xs) k v.tables

@@ -22,7 +22,7 @@ use Rattle.hpx_steps.specs.Rest.{waits_for}
 use Rattle.hpx_tables.specs.Pending.{Waits, awaits, is_asked_for}
 use Rattle.hpx_tables.specs.Strange.{broken, broken_near, is_far, are_far, is_lost, is_live, brings_right}
 use Rattle.hpx_tables.specs.Tables.{Tables}
-use Rattle.hpx_node.proofs.Bare.{target-bare}
+use Rattle.hpx_steps.proofs.Puts.{target-bare}
 use Rattle.hpx_world.proofs.Shown.{IsCalm, IsShown, counted, live, stands}
 
 -- an action with bare ids: it comes from a locality that there is, as do its ids; its target stands at its home, what is managed has

@@ -6,7 +6,8 @@ use Rattle.hpx_value.specs.declared.profile.Profile.{Profile}
 use Rattle.hpx_journal.specs.Data.{Id, Outcome, Ask}
 use Rattle.hpx_part.specs.Data.{Entry}
 use Rattle.hpx_part.proofs.Keyed.{slice_get_less}
-use Rattle.hpx_node.specs.Asks.{with_asks, lacking}
+use Rattle.hpx_node.specs.Asks.{lacking}
+use Rattle.hpx_steps.specs.Calls.{with_asks}
 use Rattle.hpx_steps.specs.Mail.{with_mail}
 use Rattle.hpx_tables.specs.Tables.{Tables}
 use Rattle.hpx_node.specs.declared.parts.Finished.{Finished}

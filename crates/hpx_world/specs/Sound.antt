@@ -4,24 +4,20 @@ use Rattle.std.specs.List.{slice_get}
 use Rattle.hpx_value.specs.declared.profile.Profile.{Profile}
 use Rattle.hpx_journal.specs.Data.{State, Act, Outcome}
 use Rattle.hpx_part.specs.Data.{Entry}
-use Rattle.hpx_steps.specs.Rest.{Lacks}
+use Rattle.hpx_steps.specs.Rest.{Stands}
 use Rattle.hpx_steps.specs.Limits.{IsWithin}
-use Rattle.hpx_node.specs.Orders.{KeepsOrder}
-use Rattle.hpx_node.specs.Stands.{Stands}
 use Rattle.hpx_tables.specs.Tables.{Tables}
 
 -- the meaning of actions, by the number of localities
 abbrev pub Meaning : Type 0
 Meaning = ℕ → ℕ → ℕ → State → Act → Outcome
 
--- the node at k of n stands for its part of the one journal, each commit that waits there lacks something, and its own messages are in order
+-- all that holds of a locality between turns holds of the node at k of n, with its part of the one journal
 pub record StandsAt (act_of : Meaning) (n : ℕ) (profile : Profile) (k : ℕ) (t : Tables) (entries : List Entry) : Type 0 where
   pub here : t.here ≡ k
   pub localities : t.localities ≡ n
   pub tuned : t.profile ≡ profile
   pub stands : Stands act_of t entries
-  pub lacks : Lacks t
-  pub orderly : KeepsOrder act_of t entries
 
 -- there are 1 to 64 nodes, each stands for its part of the one journal, and the journal is within its limits
 pub record IsSound (act_of : Meaning) (profile : Profile) (nodes : List Tables) (entries : List Entry) : Type 0 where

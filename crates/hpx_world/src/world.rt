@@ -146,7 +146,7 @@ impl<A: Acts + Copy> World<A> {
     }
 
     /// Whether no job is out anywhere.
-    pub(crate) fn none_runs(&self) -> bool
+    pub fn none_runs(&self) -> bool
         ensures { IsTrue result ↔ NoneRuns self.now.nodes }
     {
         self.locals.none_runs()

@@ -8,17 +8,16 @@ ghost use Rattle.hpx_parcel.specs.Reading.{parcel_of};
 ghost use Rattle.hpx_journal.specs.Weights.{HasRoom, total_weight};
 ghost use Rattle.hpx_part.specs.Data.{In, Mail};
 ghost use Rattle.hpx_node.specs.Changes.{OnlySpare, Writes};
-ghost use Rattle.hpx_steps.specs.Rest.{Lacks, IsTidy, rules_of};
-ghost use Rattle.hpx_node.specs.Orders.{KeepsOrder};
+ghost use Rattle.hpx_steps.specs.Rest.{IsTidy, Stands};
 ghost use Rattle.hpx_steps.specs.Limits.{AddsATurn};
 ghost use Rattle.hpx_part.specs.Parts.{at_all};
-ghost use Rattle.hpx_node.specs.Stands.{Stands};
 ghost use Rattle.hpx_tables.specs.Kept.{stands_here, waits_here, held_here, count_here};
 ghost use Rattle.hpx_tables.specs.Pending.{awaits};
-ghost use Rattle.hpx_tables.specs.Strange.{is_live, brings_right, broken_near, is_far};
-ghost use Rattle.hpx_steps.specs.Calls.{ups, effects, Gives, DealsWith, Accepts, Leaves};
+ghost use Rattle.hpx_tables.specs.Strange.{is_live, brings_right, broken_near};
+ghost use Rattle.hpx_steps.specs.Calls.{with_returns, ups, effects, Gives, DealsWith, Leaves};
+ghost use Rattle.hpx_steps.specs.Mail.{with_return};
 ghost use Rattle.hpx_steps.specs.Rows.{kind_of};
-ghost use Rattle.hpx_node.specs.Handled.{with_first, is_own, Handles, GivesUp, Takes, Clears, NotTaken, NotCleared};
+ghost use Rattle.hpx_node.specs.Handled.{Takes, Clears, NotTaken, NotCleared};
 
 use crate::node::Node;
 use crate::parts::{DeskFault, TakeFault};
@@ -66,10 +65,9 @@ impl<A: Acts + Copy> Node<A> {
     /// Gives an id up: its credit goes home.
     fn let_go(&mut self, book: &mut Journal, id: Gid)
         requires right { HasRightCredit id }
-        requires tidy { IsTidy self.old.tables [] }
         requires spare { 1 ≤ self.old.spare }
         requires page { 1 ≤ book.old.spare }
-        ensures gives { GivesUp (rules_of A.act_of self.old.tables.localities self.old.tables.profile) (id ∷ []) self.old.tables self.new.tables }
+        ensures goes { self.new.tables ≡ with_return id id.log self.old.tables }
         ensures spare { self.old.spare ≤ self.new.spare + 1 }
         ensures grows { book.new.entries ≡ book.old.entries ++ at_all self.old.tables.here (ups (id ∷ [])) }
         ensures page { book.old.spare ≤ book.new.spare + 1 }
@@ -90,10 +88,9 @@ impl<A: Acts + Copy> Node<A> {
     /// Gives ids up, one after the other.
     fn let_go_all(&mut self, book: &mut Journal, ids: &Gids)
         requires right { AllByRecursion HasRightCredit ids.now }
-        requires tidy { IsTidy self.old.tables [] }
         requires spare { length ids.now ≤ self.old.spare }
         requires page { length ids.now ≤ book.old.spare }
-        ensures gives { GivesUp (rules_of A.act_of self.old.tables.localities self.old.tables.profile) ids.now self.old.tables self.new.tables }
+        ensures goes { self.new.tables ≡ with_returns ids.now self.old.tables }
         ensures spare { self.old.spare ≤ self.new.spare + length ids.now }
         ensures grows { book.new.entries ≡ book.old.entries ++ at_all self.old.tables.here (ups ids.now) }
     {
@@ -107,10 +104,9 @@ impl<A: Acts + Copy> Node<A> {
         requires credit { HasCredit id }
         requires live { is_live self.old.tables id ≡ true }
         requires enough { credit id ≤ count_here self.old.tables id }
-        requires tidy { IsTidy self.old.tables [] }
         requires spare { 1 ≤ self.old.spare }
         requires page { 1 ≤ book.old.spare }
-        ensures handles { Handles (rules_of A.act_of self.old.tables.localities self.old.tables.profile) (Return id) self.old.tables self.new.tables (effects self.old.tables (Return id)) }
+        ensures deals { DealsWith (Return id) self.old.tables self.new.tables }
         ensures leaves { Leaves (Return id) self.old.tables self.new.tables }
         ensures grows { book.new.entries ≡ book.old.entries ++ at_all self.old.tables.here (effects self.old.tables (Return id)) }
     {
@@ -141,10 +137,9 @@ impl<A: Acts + Copy> Node<A> {
         requires credit { HasLeastCredit id }
         requires live { is_live self.old.tables id ≡ true }
         requires enough { credit id ≤ count_here self.old.tables id }
-        requires tidy { IsTidy self.old.tables [] }
         requires spare { 1 ≤ self.old.spare }
         requires page { 1 ≤ book.old.spare }
-        ensures handles { Handles (rules_of A.act_of self.old.tables.localities self.old.tables.profile) (Ask id asker entry) self.old.tables self.new.tables (effects self.old.tables (Ask id asker entry)) }
+        ensures deals { DealsWith (Ask id asker entry) self.old.tables self.new.tables }
         ensures leaves { Leaves (Ask id asker entry) self.old.tables self.new.tables }
         ensures grows { book.new.entries ≡ book.old.entries ++ at_all self.old.tables.here (effects self.old.tables (Ask id asker entry)) }
     {
@@ -174,7 +169,7 @@ impl<A: Acts + Copy> Node<A> {
         requires tidy { IsTidy self.old.tables [] }
         requires spare { 128 ≤ self.old.spare }
         requires page { 129 ≤ book.old.spare }
-        ensures handles { Handles (rules_of A.act_of self.old.tables.localities self.old.tables.profile) (Free o) self.old.tables self.new.tables (effects self.old.tables (Free o)) }
+        ensures deals { DealsWith (Free o) self.old.tables self.new.tables }
         ensures leaves { Leaves (Free o) self.old.tables self.new.tables }
         ensures grows { book.new.entries ≡ book.old.entries ++ at_all self.old.tables.here (effects self.old.tables (Free o)) }
     {
@@ -200,7 +195,6 @@ impl<A: Acts + Copy> Node<A> {
         ensures gives { Gives id entry self.old.tables self.new.tables }
         ensures spare { self.old.spare ≤ self.new.spare }
         ensures page { book.old.spare ≤ book.new.spare + 1 }
-        ensures handles { Handles (rules_of A.act_of self.old.tables.localities self.old.tables.profile) (Give id entry) self.old.tables self.new.tables (effects self.old.tables (Give id entry)) }
         ensures grows { book.new.entries ≡ book.old.entries ++ at_all self.old.tables.here (effects self.old.tables (Give id entry)) }
     {
         let at = self.here;
@@ -224,7 +218,7 @@ impl<A: Acts + Copy> Node<A> {
         requires tidy { IsTidy self.old.tables [] }
         requires spare { 128 ≤ self.old.spare }
         requires page { 129 ≤ book.old.spare }
-        ensures handles { Handles (rules_of A.act_of self.old.tables.localities self.old.tables.profile) parcel self.old.tables self.new.tables (effects self.old.tables parcel) }
+        ensures deals { DealsWith parcel self.old.tables self.new.tables }
         ensures leaves { Leaves parcel self.old.tables self.new.tables }
         ensures grows { book.new.entries ≡ book.old.entries ++ at_all self.old.tables.here (effects self.old.tables parcel) }
         ensures spare { (id : _) (entry : _) → parcel ≡ Give id entry → self.old.spare ≤ self.new.spare }
@@ -255,8 +249,8 @@ impl<A: Acts + Copy> Node<A> {
         requires few { self.old.tables.taken + 1 < 2 ^ 64 }
         requires spare { 1280 ≤ self.old.spare }
         requires page { 1280 ≤ book.old.spare }
-        requires stands { Stands A.act_of self.old.tables book.old.entries }
-        ensures stands { Stands A.act_of self.new.tables book.new.entries }
+        requires tidy { IsTidy self.old.tables [] }
+        ensures log { 8 ≤ self.old.tables.profile.credit_log }
         ensures writes { Writes (In bytes ∷ effects self.old.tables parcel) self.old.tables self.new.tables book.old.entries book.new.entries }
         ensures deals { DealsWith parcel (record self.old.tables { taken = self.old.tables.taken + 1 }) self.new.tables }
         ensures leaves { Leaves parcel self.old.tables self.new.tables }
@@ -280,15 +274,12 @@ impl<A: Acts + Copy> Node<A> {
     /// Writes that a message to the own locality is taken up, and does what it says.
     fn enter_mail(&mut self, book: &mut Journal, parcel: Parcel)
         requires fit { IsParcel parcel }
-        requires own { is_own self.old.tables.here parcel ≡ true }
-        requires near { is_far self.old.tables.localities parcel ≡ false }
         requires right { broken_near self.old.tables parcel ≡ None }
         requires spare { 1280 ≤ self.old.spare }
         requires page { 1280 ≤ book.old.spare }
-        requires stands { Stands A.act_of (with_first parcel self.old.tables) book.old.entries }
-        ensures stands { Stands A.act_of self.new.tables book.new.entries }
+        requires tidy { IsTidy self.old.tables [] }
         ensures writes { Writes (Mail (kind_of parcel) ∷ effects self.old.tables parcel) self.old.tables self.new.tables book.old.entries book.new.entries }
-        ensures accepts { Accepts parcel self.old.tables self.new.tables }
+        ensures deals { DealsWith parcel self.old.tables self.new.tables }
         ensures leaves { Leaves parcel self.old.tables self.new.tables }
         ensures running { self.new.tables.running ≡ self.old.tables.running }
         ensures taken { self.new.tables.taken ≡ self.old.tables.taken }
@@ -329,8 +320,6 @@ impl<A: Acts + Copy> Node<A> {
         requires stands { Stands A.act_of self.old.tables book.old.entries }
         ensures stands { Stands A.act_of self.new.tables book.new.entries }
         ensures running { self.new.tables.running ≡ self.old.tables.running }
-        ensures lacks { Lacks self.old.tables → Lacks self.new.tables }
-        ensures orderly { KeepsOrder A.act_of self.old.tables book.old.entries → KeepsOrder A.act_of self.new.tables book.new.entries }
         ensures turn { AddsATurn book.old.entries book.new.entries }
         ensures ok { OnOk result (Takes frame.now self.old.tables self.new.tables book.old.entries book.new.entries) }
         ensures err { OnErr result (OnlySpare self.old.tables self.new.tables book.old book.new) }
@@ -370,8 +359,6 @@ impl<A: Acts + Copy> Node<A> {
         requires stands { Stands A.act_of self.old.tables book.old.entries }
         ensures stands { Stands A.act_of self.new.tables book.new.entries }
         ensures running { self.new.tables.running ≡ self.old.tables.running }
-        ensures lacks { Lacks self.old.tables → Lacks self.new.tables }
-        ensures orderly { KeepsOrder A.act_of self.old.tables book.old.entries → KeepsOrder A.act_of self.new.tables book.new.entries }
         ensures turn { AddsATurn book.old.entries book.new.entries }
         ensures cleared { result ≡ Ok true → Clears self.old.tables self.new.tables book.old.entries book.new.entries }
         ensures empty { result ≡ Ok false → (self.old.tables.desk ≡ []) × (OnlySpare self.old.tables self.new.tables book.old book.new) }

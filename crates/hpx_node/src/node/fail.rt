@@ -11,7 +11,6 @@ ghost use Rattle.hpx_node.specs.Changes.{Writes};
 ghost use Rattle.hpx_tables.specs.Fit.{IsKept};
 ghost use Rattle.hpx_tables.specs.Pending.{hand_with, action_of};
 ghost use Rattle.hpx_steps.specs.Rest.{IsTidy};
-ghost use Rattle.hpx_node.specs.Stands.{Stands};
 
 use crate::node::Node;
 use hpx_commit::failure::plan_failure;
@@ -123,8 +122,6 @@ impl<A: Acts + Copy> Node<A> {
         requires answers { self.old.tables.answered + 1 < 2 ^ 64 }
         requires spare { 512 ≤ self.old.spare }
         requires page { 512 ≤ book.old.spare }
-        requires stands { Stands A.act_of self.old.tables book.old.entries }
-        ensures stands { Stands A.act_of self.new.tables book.new.entries }
         ensures running { self.new.tables.running ≡ self.old.tables.running }
         ensures taken { self.new.tables.taken ≡ self.old.tables.taken }
         ensures sent { self.new.tables.sent ≡ self.old.tables.sent }

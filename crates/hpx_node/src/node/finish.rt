@@ -1,18 +1,14 @@
 //! Committing a job that is done: what its outcome makes, what it leaves due, and what nobody names.
-ghost use Rattle.std.specs.Prelude.{◌≡◌, ◌≤◌, ◌<◌, ◌+◌, ◌^◌, [], Some, None, IfOk, IfErr, IfSome, IfNone, length, map, take, find};
+ghost use Rattle.std.specs.Prelude.{◌≡◌, ◌≤◌, ◌<◌, ◌+◌, ◌^◌, [], IfOk, IfErr, IfSome, IfNone, length, map};
 ghost use Rattle.std.specs.List.{AllByRecursion};
 ghost use Rattle.hpx_value.specs.Laws.{IsManaged, KeepsLaws};
 ghost use Rattle.hpx_journal.specs.Weights.{HasRoom};
 ghost use Rattle.hpx_commit.specs.Deals.{AllLast};
-ghost use Rattle.hpx_journal.specs.Entries.{target_of};
-ghost use Rattle.hpx_journal.specs.Local.{is_standing};
 ghost use Rattle.hpx_node.specs.Asks.{Begins};
 ghost use Rattle.hpx_tables.specs.Births.{birth_of, ids_of};
 ghost use Rattle.hpx_node.specs.Commits.{committed, made_of, hand_of, places_in_hand, own_stock, IsStock, IsPrepared, Ends};
 ghost use Rattle.hpx_tables.specs.Jobs.{IsAt, IsRunning, IsFitJob};
-ghost use Rattle.hpx_steps.specs.Rest.{Lacks, IsTidy};
-ghost use Rattle.hpx_node.specs.Orders.{KeepsOrder};
-ghost use Rattle.hpx_node.specs.Stands.{Stands};
+ghost use Rattle.hpx_steps.specs.Rest.{IsTidy, Stands};
 ghost use Rattle.hpx_node.specs.Changes.{OnlySpare, Writes};
 ghost use Rattle.hpx_steps.specs.Limits.{AddsATurn};
 
@@ -50,7 +46,6 @@ impl<A: Acts + Copy> Node<A> {
     fn spot(&self, done: &Done<A>) -> Option<(usize, usize)>
         requires tidy { IsTidy self.now.tables [] }
         ensures found { IfSome result (λ p. (done.now.localities ≡ self.now.tables.localities) × IsAt self.now.tables p.0 p.1 done.now.job) }
-        ensures first { IfSome result (λ p. find (is_standing (target_of done.now.job.action)) (take p.1 self.now.tables.objects) ≡ None) }
         ensures fit { IfSome result (λ p. IsFitJob done.now.job) }
         ensures few { IfSome result (λ p. done.now.localities ≤ 64) }
         ensures here { IfSome result (λ p. done.now.job.at < done.now.localities) }
@@ -99,6 +94,10 @@ impl<A: Acts + Copy> Node<A> {
         requires state { hand.now.state.now ≡ done.now.job.state }
         requires action { hand.now.action.now ≡ done.now.job.action }
         requires made { hand.now.made.now ≡ made_of self.now.tables done.now.outcome }
+        requires localities { done.now.localities ≡ self.now.tables.localities }
+        requires few { self.now.tables.localities ≤ 64 }
+        requires fit { IsFitJob done.now.job }
+        requires laws { KeepsLaws done.now.localities done.now.job.kind done.now.job.at done.now.job.state done.now.job.action done.now.outcome }
         requires stock { IsStock self.now.tables done.now.job done.now.outcome stock }
         ensures prepared { IfOk result (IsPrepared self.now.tables done.now.job done.now.outcome) }
         ensures stock { IfOk result (λ p. p.stock ≡ stock) }
@@ -114,7 +113,8 @@ impl<A: Acts + Copy> Node<A> {
 
     /// Plans a commit. There is none where some id of the hand does not last for all who name it.
     fn prepare(&self, alloc: Global, done: &Done<A>) -> Result<Option<Prepared>, OutOfMemory>
-        requires localities { done.now.localities ≤ 64 }
+        requires localities { done.now.localities ≡ self.now.tables.localities }
+        requires near { self.now.tables.localities ≤ 64 }
         requires at { done.now.job.at < done.now.localities }
         requires fit { IsFitJob done.now.job }
         requires few { self.now.tables.births + 1024 < 2 ^ 32 }
@@ -142,6 +142,7 @@ impl<A: Acts + Copy> Node<A> {
         requires localities { done.now.localities ≡ self.old.tables.localities }
         requires few { self.old.tables.localities ≤ 64 }
         requires fit { IsFitJob done.now.job }
+        requires here { done.now.job.at < done.now.localities }
         requires laws { KeepsLaws done.now.localities done.now.job.kind done.now.job.at done.now.job.state done.now.job.action done.now.outcome }
         requires prepared { IsPrepared self.old.tables done.now.job done.now.outcome prepared }
         requires own { prepared.stock ≡ own_stock self.old.tables done.now.job done.now.outcome }
@@ -153,7 +154,6 @@ impl<A: Acts + Copy> Node<A> {
         ensures turn { AddsATurn book.old.entries book.new.entries }
         ensures committed { Writes (committed self.old.tables done.now.job done.now.outcome) self.old.tables self.new.tables book.old.entries book.new.entries }
         ensures ends { Ends self.old.tables self.new.tables done.now.job done.now.outcome }
-        ensures pending { self.new.tables.pending ≡ self.old.tables.pending }
     {
         let Prepared {
             births,
@@ -176,8 +176,6 @@ impl<A: Acts + Copy> Node<A> {
         requires room { HasRoom book.old.entries }
         requires stands { Stands A.act_of self.old.tables book.old.entries }
         ensures stands { Stands A.act_of self.new.tables book.new.entries }
-        ensures lacks { Lacks self.old.tables → Lacks self.new.tables }
-        ensures orderly { KeepsOrder A.act_of self.old.tables book.old.entries → KeepsOrder A.act_of self.new.tables book.new.entries }
         ensures turn { AddsATurn book.old.entries book.new.entries }
         ensures committed { IfOk result (λ f. f ≡ Finished.Committed →
             Writes (committed self.old.tables done.job done.outcome) self.old.tables self.new.tables book.old.entries book.new.entries) }

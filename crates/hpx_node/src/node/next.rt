@@ -4,7 +4,6 @@ ghost use Rattle.hpx_parcel.specs.Parcels.{IsParcel};
 ghost use Rattle.hpx_journal.specs.Weights.{total_weight};
 ghost use Rattle.hpx_node.specs.Next.{IsNext, MayFollow, IfFollows, HasFollowed};
 ghost use Rattle.hpx_steps.specs.Rest.{IsTidy};
-ghost use Rattle.hpx_node.specs.Stands.{Stands};
 ghost use Rattle.hpx_tables.specs.Strange.{broken_near};
 
 use crate::node::Node;
@@ -34,7 +33,7 @@ impl<A: Acts + Copy> Node<A> {
         requires tidy { IsTidy self.now.tables [] }
         requires right { broken_near self.now.tables parcel.now ≡ None }
         requires few { self.now.tables.births + 1024 < 2 ^ 32 }
-        ensures { IfOk result (IsNext self.now.tables parcel.now) }
+        ensures { IfOk result (IsNext A.act_of self.now.tables parcel.now) }
     {
         if let Some(failing) = self.failing(alloc, parcel)? {
             return Ok(Next::Fails(failing));
@@ -48,11 +47,11 @@ impl<A: Acts + Copy> Node<A> {
     /// Does what follows. It takes no memory.
     pub(crate) fn follow(&mut self, book: &mut Journal, next: Next)
         requires may { MayFollow self.old.tables next }
-        requires room { length book.old.entries + 800 ≤ 2097152 }
+        requires births { self.old.tables.births + 1024 < 2 ^ 32 }
+        requires serial { self.old.tables.serial + 1024 < 2 ^ 64 }
+        requires answers { self.old.tables.answered + 1 < 2 ^ 64 }
         requires spare { IfFollows next (1024 ≤ self.old.spare) }
         requires page { IfFollows next (1024 ≤ book.old.spare) }
-        requires stands { Stands A.act_of self.old.tables book.old.entries }
-        ensures stands { Stands A.act_of self.new.tables book.new.entries }
         ensures running { self.new.tables.running ≡ self.old.tables.running }
         ensures taken { self.new.tables.taken ≡ self.old.tables.taken }
         ensures sent { self.new.tables.sent ≡ self.old.tables.sent }

@@ -1,14 +1,11 @@
 //! Paying what a commit leaves: messages are sent, prints are printed, and ids that nobody names are given up.
-ghost use Rattle.std.specs.Prelude.{◌≡◌, ◌≤◌, ◌<◌, ◌+◌, ◌^◌, ◌++◌, [], length};
+ghost use Rattle.std.specs.Prelude.{◌≡◌, ◌≤◌, ◌<◌, ◌+◌, ◌^◌, ◌++◌, length};
 ghost use Rattle.std.specs.List.{AllByRecursion};
 ghost use Rattle.hpx_parcel.specs.Parcels.{HasCredit};
 ghost use Rattle.hpx_part.specs.Parts.{at_all};
 ghost use Rattle.hpx_node.specs.Changes.{OnlySends};
-ghost use Rattle.hpx_node.specs.Commits.{written, ups};
 ghost use Rattle.hpx_tables.specs.Fit.{IsFitDue};
-ghost use Rattle.hpx_steps.specs.Calls.{with_due, with_returns, with_left};
-ghost use Rattle.hpx_steps.specs.Rest.{StandsWith, rules_of};
-ghost use Rattle.hpx_node.specs.Stands.{Stands};
+ghost use Rattle.hpx_steps.specs.Calls.{ups, with_due, with_returns, with_left, written_due};
 ghost use Rattle.hpx_value.specs.Values.{named};
 
 use crate::node::Node;
@@ -24,25 +21,21 @@ use std::collections::VecDeque;
 
 impl<A: Acts + Copy> Node<A> {
     /// Writes the first of what is due.
-    fn pay(&mut self, book: &mut Journal, due: &mut VecDeque<Due>, loose: &[Gid])
+    fn pay(&mut self, book: &mut Journal, due: &mut VecDeque<Due>)
         requires some { 0 < length due.old.items }
         requires fit { AllByRecursion IsFitDue due.old.items }
         requires spare { length due.old.items ≤ self.old.spare }
         requires page { length due.old.items ≤ book.old.spare }
         requires few { self.old.tables.serial + 1 < 2 ^ 64 }
-        requires stands { StandsWith (rules_of A.act_of self.old.tables.localities self.old.tables.profile) self.old.tables due.old.items loose.now book.old.entries }
-        ensures stands { StandsWith (rules_of A.act_of self.new.tables.localities self.new.tables.profile) self.new.tables due.new.items loose.now book.new.entries }
         ensures fewer { length due.new.items + 1 ≡ length due.old.items }
         ensures fit { AllByRecursion IsFitDue due.new.items }
         ensures spare { self.old.spare ≤ self.new.spare + 1 }
         ensures page { book.new.spare + 1 ≡ book.old.spare }
         ensures serial { self.new.tables.serial ≤ self.old.tables.serial + 1 }
-        ensures here { (self.new.tables.here ≡ self.old.tables.here) × (self.new.tables.localities ≡ self.old.tables.localities) × (self.new.tables.profile ≡ self.old.tables.profile) }
-        ensures running { self.new.tables.running ≡ self.old.tables.running }
         ensures rest { OnlySends self.old.tables self.new.tables }
         ensures goes { with_due due.new.items self.new.tables ≡ with_due due.old.items self.old.tables }
-        ensures writes { book.new.entries ++ at_all self.new.tables.here (written self.new.tables.here self.new.tables.serial due.new.items)
-            ≡ book.old.entries ++ at_all self.old.tables.here (written self.old.tables.here self.old.tables.serial due.old.items) }
+        ensures writes { book.new.entries ++ at_all self.new.tables.here (written_due self.new.tables.here self.new.tables.serial due.new.items)
+            ≡ book.old.entries ++ at_all self.old.tables.here (written_due self.old.tables.here self.old.tables.serial due.old.items) }
     {
         let at = self.here;
         match due.pop_front() {
@@ -72,14 +65,10 @@ impl<A: Acts + Copy> Node<A> {
         requires credit { AllByRecursion HasCredit loose.old.items }
         requires spare { length loose.old.items ≤ self.old.spare }
         requires page { length loose.old.items ≤ book.old.spare }
-        requires stands { StandsWith (rules_of A.act_of self.old.tables.localities self.old.tables.profile) self.old.tables [] loose.old.items book.old.entries }
-        ensures stands { StandsWith (rules_of A.act_of self.new.tables.localities self.new.tables.profile) self.new.tables [] loose.new.items book.new.entries }
         ensures fewer { length loose.new.items + 1 ≡ length loose.old.items }
         ensures credit { AllByRecursion HasCredit loose.new.items }
         ensures spare { self.old.spare ≤ self.new.spare + 1 }
         ensures page { book.new.spare + 1 ≡ book.old.spare }
-        ensures here { (self.new.tables.here ≡ self.old.tables.here) × (self.new.tables.localities ≡ self.old.tables.localities) × (self.new.tables.profile ≡ self.old.tables.profile) }
-        ensures running { self.new.tables.running ≡ self.old.tables.running }
         ensures rest { OnlySends self.old.tables self.new.tables }
         ensures goes { with_returns loose.new.items self.new.tables ≡ with_returns loose.old.items self.old.tables }
         ensures writes { book.new.entries ++ at_all self.new.tables.here (ups loose.new.items) ≡ book.old.entries ++ at_all self.old.tables.here (ups loose.old.items) }
@@ -99,23 +88,19 @@ impl<A: Acts + Copy> Node<A> {
     }
 
     /// Writes all that is due.
-    pub(crate) fn pay_all(&mut self, book: &mut Journal, mut due: VecDeque<Due>, loose: &[Gid])
+    pub(crate) fn pay_all(&mut self, book: &mut Journal, mut due: VecDeque<Due>)
         requires fit { AllByRecursion IsFitDue due.items }
         requires spare { length due.items ≤ self.old.spare }
         requires page { length due.items ≤ book.old.spare }
         requires few { self.old.tables.serial + length due.items < 2 ^ 64 }
-        requires stands { StandsWith (rules_of A.act_of self.old.tables.localities self.old.tables.profile) self.old.tables due.items loose.now book.old.entries }
-        ensures stands { StandsWith (rules_of A.act_of self.new.tables.localities self.new.tables.profile) self.new.tables [] loose.now book.new.entries }
         ensures spare { self.old.spare ≤ self.new.spare + length due.items }
         ensures page { book.new.spare + length due.items ≡ book.old.spare }
-        ensures here { (self.new.tables.here ≡ self.old.tables.here) × (self.new.tables.localities ≡ self.old.tables.localities) × (self.new.tables.profile ≡ self.old.tables.profile) }
-        ensures running { self.new.tables.running ≡ self.old.tables.running }
         ensures rest { OnlySends self.old.tables self.new.tables }
         ensures goes { self.new.tables ≡ with_due due.items self.old.tables }
-        ensures writes { book.new.entries ≡ book.old.entries ++ at_all self.old.tables.here (written self.old.tables.here self.old.tables.serial due.items) }
+        ensures writes { book.new.entries ≡ book.old.entries ++ at_all self.old.tables.here (written_due self.old.tables.here self.old.tables.serial due.items) }
     {
         while !due.is_empty() {
-            self.pay(book, &mut due, loose);
+            self.pay(book, &mut due);
         }
     }
 
@@ -124,10 +109,6 @@ impl<A: Acts + Copy> Node<A> {
         requires credit { AllByRecursion HasCredit loose.items }
         requires spare { length loose.items ≤ self.old.spare }
         requires page { length loose.items ≤ book.old.spare }
-        requires stands { StandsWith (rules_of A.act_of self.old.tables.localities self.old.tables.profile) self.old.tables [] loose.items book.old.entries }
-        ensures stands { Stands A.act_of self.new.tables book.new.entries }
-        ensures here { (self.new.tables.here ≡ self.old.tables.here) × (self.new.tables.localities ≡ self.old.tables.localities) × (self.new.tables.profile ≡ self.old.tables.profile) }
-        ensures running { self.new.tables.running ≡ self.old.tables.running }
         ensures rest { OnlySends self.old.tables self.new.tables }
         ensures goes { self.new.tables ≡ with_returns loose.items self.old.tables }
         ensures writes { book.new.entries ≡ book.old.entries ++ at_all self.old.tables.here (ups loose.items) }
@@ -144,15 +125,11 @@ impl<A: Acts + Copy> Node<A> {
         requires spare { length due.items + length loose.items ≤ self.old.spare }
         requires page { length due.items + length loose.items ≤ book.old.spare }
         requires few { self.old.tables.serial + length due.items < 2 ^ 64 }
-        requires stands { StandsWith (rules_of A.act_of self.old.tables.localities self.old.tables.profile) self.old.tables due.items loose.items book.old.entries }
-        ensures stands { Stands A.act_of self.new.tables book.new.entries }
-        ensures here { (self.new.tables.here ≡ self.old.tables.here) × (self.new.tables.localities ≡ self.old.tables.localities) × (self.new.tables.profile ≡ self.old.tables.profile) }
-        ensures running { self.new.tables.running ≡ self.old.tables.running }
         ensures rest { OnlySends self.old.tables self.new.tables }
         ensures goes { self.new.tables ≡ with_left due.items loose.items self.old.tables }
-        ensures writes { book.new.entries ≡ book.old.entries ++ at_all self.old.tables.here (written self.old.tables.here self.old.tables.serial due.items ++ ups loose.items) }
+        ensures writes { book.new.entries ≡ book.old.entries ++ at_all self.old.tables.here (written_due self.old.tables.here self.old.tables.serial due.items ++ ups loose.items) }
     {
-        self.pay_all(book, due, loose.as_slice());
+        self.pay_all(book, due);
         self.give_up_all(book, VecDeque::from_vec(loose));
     }
 }

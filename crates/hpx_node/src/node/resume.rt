@@ -13,7 +13,6 @@ ghost use Rattle.hpx_tables.specs.Jobs.{IsFitJob};
 ghost use Rattle.hpx_tables.specs.Pending.{ids_named, action_of};
 ghost use Rattle.hpx_node.specs.Resumes.{full_stock, stock_with, MayResume, IsReadyFor, completes};
 ghost use Rattle.hpx_steps.specs.Rest.{IsTidy};
-ghost use Rattle.hpx_node.specs.Stands.{Stands};
 ghost use Rattle.hpx_tables.specs.Strange.{broken_near};
 ghost use Rattle.hpx_node.specs.Changes.{Writes};
 
@@ -52,7 +51,8 @@ impl<A: Acts + Copy> Node<A> {
         waits: &Pending<A>,
         hand: &[Gid],
     ) -> Result<Prepared, OutOfMemory>
-        requires localities { waits.now.localities ≤ 64 }
+        requires localities { waits.now.localities ≡ self.now.tables.localities }
+        requires near { self.now.tables.localities ≤ 64 }
         requires at { waits.now.job.at < waits.now.localities }
         requires fit { IsFitJob waits.now.job }
         requires few { self.now.tables.births + 1024 < 2 ^ 32 }
@@ -78,7 +78,7 @@ impl<A: Acts + Copy> Node<A> {
         requires tidy { IsTidy self.now.tables [] }
         requires right { broken_near self.now.tables parcel.now ≡ None }
         requires few { self.now.tables.births + 1024 < 2 ^ 32 }
-        ensures some { IfOk result (λ o. IfSome o (IsReadyFor self.now.tables parcel.now)) }
+        ensures some { IfOk result (λ o. IfSome o (IsReadyFor A.act_of self.now.tables parcel.now)) }
         ensures none { IfOk result (λ o. IfNone o (completes self.now.tables parcel.now ≡ false)) }
     {
         let (id, entry) = match parcel {
@@ -137,11 +137,11 @@ impl<A: Acts + Copy> Node<A> {
     pub(crate) fn resume(&mut self, book: &mut Journal, ready: Ready)
         requires waits { ready.i < length self.old.tables.pending }
         requires may { (w : _) → slice_get self.old.tables.pending ready.i ≡ Some w → MayResume self.old.tables w ready.j ready.prepared }
-        requires room { length book.old.entries + 800 ≤ 2097152 }
+        requires births { self.old.tables.births + 1024 < 2 ^ 32 }
+        requires serial { self.old.tables.serial + 1024 < 2 ^ 64 }
+        requires answers { self.old.tables.answered + 1 < 2 ^ 64 }
         requires spare { 1024 ≤ self.old.spare }
         requires page { 1024 ≤ book.old.spare }
-        requires stands { Stands A.act_of self.old.tables book.old.entries }
-        ensures stands { Stands A.act_of self.new.tables book.new.entries }
         ensures running { self.new.tables.running ≡ self.old.tables.running }
         ensures pending { self.new.tables.pending ≡ remove self.old.tables.pending ready.i }
         ensures taken { self.new.tables.taken ≡ self.old.tables.taken }
@@ -159,7 +159,6 @@ impl<A: Acts + Copy> Node<A> {
             stock,
             plan: Plan { state, due, ups },
         } = prepared;
-        lawful(self.pending[i].done());
         self.make(book, births, &stock);
         self.settle_waiting(book, i, j, state);
         self.leave(book, due, ups);

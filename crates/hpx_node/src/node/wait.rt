@@ -1,23 +1,20 @@
 //! A commit whose ids do not last: what it has is split ahead, and it waits for credit that it asks for.
-ghost use Rattle.std.specs.Prelude.{◌≡◌, ◌≤◌, ◌<◌, ◌+◌, ◌^◌, Some, None, IfOk, IfErr, length, map, take, find, slice_get};
+ghost use Rattle.std.specs.Prelude.{◌≡◌, ◌≤◌, ◌<◌, ◌+◌, ◌^◌, Some, IfOk, IfErr, length, map, slice_get};
 ghost use Rattle.std.specs.List.{AllByRecursion};
 ghost use Rattle.hpx_value.specs.Laws.{IsManaged, KeepsLaws};
 ghost use Rattle.hpx_journal.specs.Weights.{HasRoom};
 ghost use Rattle.hpx_value.specs.Ids.{bare};
 ghost use Rattle.hpx_value.specs.Values.{bare_state};
-ghost use Rattle.hpx_journal.specs.Entries.{target_of};
-ghost use Rattle.hpx_journal.specs.Local.{is_standing};
 ghost use Rattle.hpx_parcel.specs.Parcels.{HasLeastCredit};
-ghost use Rattle.hpx_node.specs.Asks.{AsksFor, IsBefore, Pauses, Begins};
+ghost use Rattle.hpx_node.specs.Asks.{IsBefore, Pauses, Begins};
 ghost use Rattle.hpx_tables.specs.Pending.{asked_at};
 ghost use Rattle.hpx_tables.specs.Fit.{IsKept};
 ghost use Rattle.hpx_commit.specs.Deals.{AllLast};
 ghost use Rattle.hpx_node.specs.Commits.{hand_of, places_in_hand};
 ghost use Rattle.hpx_tables.specs.Births.{birth_of, ids_of};
 ghost use Rattle.hpx_tables.specs.Jobs.{IsAt, IsFitJob};
-ghost use Rattle.hpx_steps.specs.Rest.{Lacks};
-ghost use Rattle.hpx_node.specs.Orders.{KeepsOrder};
-ghost use Rattle.hpx_node.specs.Stands.{Stands};
+ghost use Rattle.hpx_steps.specs.Calls.{with_asks};
+ghost use Rattle.hpx_steps.specs.Rest.{Stands};
 ghost use Rattle.hpx_node.specs.Changes.{OnlySpare};
 ghost use Rattle.hpx_steps.specs.Limits.{AddsATurn};
 
@@ -140,7 +137,7 @@ impl<A: Acts + Copy> Node<A> {
         requires least { AllByRecursion HasLeastCredit ids.now }
         requires few { self.old.tables.asked + length ids.now < 2 ^ 64 }
         requires spare { length ids.now ≤ self.old.spare }
-        ensures asks { AsksFor ids.now self.old.tables self.new.tables }
+        ensures asks { self.new.tables ≡ record (with_asks self.old.tables.here self.old.tables.asked ids.now self.old.tables) { asked = self.old.tables.asked + length ids.now } }
         ensures spare { self.old.spare ≤ self.new.spare + length ids.now }
     {
         for id in ids {
@@ -157,7 +154,6 @@ impl<A: Acts + Copy> Node<A> {
     /// Splits what a commit has, lets it wait, and asks for what it lacks. It takes no memory.
     fn begin(&mut self, book: &mut Journal, i: usize, j: usize, done: Done<A>, before: Before)
         requires at { IsAt self.old.tables i j done.job }
-        requires first { find (is_standing (target_of done.job.action)) (take j self.old.tables.objects) ≡ None }
         requires localities { done.localities ≡ self.old.tables.localities }
         requires few { self.old.tables.localities ≤ 64 }
         requires fit { IsFitJob done.job }
@@ -198,7 +194,6 @@ impl<A: Acts + Copy> Node<A> {
         done: Done<A>,
     ) -> Result<Finished, FinishFault<A>>
         requires at { IsAt self.old.tables i j done.job }
-        requires first { find (is_standing (target_of done.job.action)) (take j self.old.tables.objects) ≡ None }
         requires localities { done.localities ≡ self.old.tables.localities }
         requires few { self.old.tables.localities ≤ 64 }
         requires fit { IsFitJob done.job }
@@ -207,8 +202,6 @@ impl<A: Acts + Copy> Node<A> {
         requires room { HasRoom book.old.entries }
         requires stands { Stands A.act_of self.old.tables book.old.entries }
         ensures stands { Stands A.act_of self.new.tables book.new.entries }
-        ensures lacks { Lacks self.old.tables → Lacks self.new.tables }
-        ensures orderly { KeepsOrder A.act_of self.old.tables book.old.entries → KeepsOrder A.act_of self.new.tables book.new.entries }
         ensures turn { AddsATurn book.old.entries book.new.entries }
         ensures asks { IfOk result (λ f. (f ≡ Finished.Asking) × Begins self.old.tables self.new.tables done.job done.outcome book.old.entries book.new.entries) }
         ensures err { IfErr result (λ e. (e.undone ≡ done) × OnlySpare self.old.tables self.new.tables book.old book.new) }

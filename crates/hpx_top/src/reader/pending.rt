@@ -2,7 +2,7 @@
 ghost use Rattle.std.specs.Prelude.{◌≡◌, ◌+◌, ◌<◌, ◌≤◌, ◌^◌, [], IfOk, IfSome, IfNone, OnErr, IsErrOf, length, drop};
 ghost use Rattle.hpx_ports.specs.Faults.{Rose};
 ghost use Rattle.hpx_ports.specs.Told.{preceded};
-ghost use Rattle.app_console.specs.PlainText.{IsPiece};
+ghost use Rattle.app_console.specs.Lines.{IsPiece};
 ghost use Rattle.hpx_top.specs.Pending.{IsNewlineAt, ReadsOnto};
 
 use super::ReadFault;

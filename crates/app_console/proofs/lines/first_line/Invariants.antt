@@ -1,5 +1,5 @@
 use Rattle.std.proofs.Common.{take}
-use Rattle.app_console.specs.PlainText.{IsPiece}
+use Rattle.app_console.specs.Lines.{IsPiece}
 use Rattle.app_console.proofs.lines.first_line.Given as goal
 
 abbrev pub invariant-loop-i : goal.invariant-loop-i

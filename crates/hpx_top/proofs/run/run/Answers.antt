@@ -14,7 +14,7 @@ moved a b m n e (inl h) = inl (sym e ∙ h)
 moved a b m n e (inr h) = inr (sym e ∙ h)
 
 pub returns-in-Some-clause-begun : goal.returns-in-Some-clause-begun
-returns-in-Some-clause-begun g c = λ input h. begun_nothing input [] _ _ refl refl
+returns-in-Some-clause-begun g c = λ input h. begun_nothing 2 input [] _ _ refl refl
 
 pub returns-clause-whole : goal.returns-clause-whole
 returns-clause-whole g c =
@@ -30,7 +30,7 @@ returns-clause-between_lines g c =
       | in-Ok w ↦ w.status-is ∙ ap status_after (sym w.in-Ok.is)
       | in-Err w ↦ w.status-is ∙ (w.line_of-status.ensures.status ∙ ap status_after (sym w.in-Err.is))
     ] in
-    λ input h s. ended_between c.serve_all-world.result.1 c.serve_all-world.result.0 input _ _ (moved _ _ 2 9 is s) c.serve_all-world.ensures.none (c.serve_all-world.ensures.ended input h)
+    λ input h s. ended_between 2 c.serve_all-world.result.1 c.serve_all-world.result.0 input _ _ (moved _ _ 2 9 is s) c.serve_all-world.ensures.none (c.serve_all-world.ensures.ended input h)
 
 pub returns-clause-in_a_line : goal.returns-clause-in_a_line
 returns-clause-in_a_line g c =
@@ -38,7 +38,7 @@ returns-clause-in_a_line g c =
       | in-Ok w ↦ w.status-is ∙ ap status_after (sym w.in-Ok.is)
       | in-Err w ↦ w.status-is ∙ (w.line_of-status.ensures.status ∙ ap status_after (sym w.in-Err.is))
     ] in
-    λ input h s. ended_within c.serve_all-world.result.1 c.serve_all-world.result.0 input _ _ (moved _ _ 4 5 is s) c.serve_all-world.ensures.none (c.serve_all-world.ensures.ended input h)
+    λ input h s. ended_within 2 c.serve_all-world.result.1 c.serve_all-world.result.0 input _ _ (moved _ _ 4 5 is s) c.serve_all-world.ensures.none (c.serve_all-world.ensures.ended input h)
 
 pub returns-clause-read_up : goal.returns-clause-read_up
 returns-clause-read_up g c =
@@ -54,7 +54,7 @@ returns-clause-at_most_a_line g c =
       | in-Ok w ↦ w.status-is ∙ ap status_after (sym w.in-Ok.is)
       | in-Err w ↦ w.status-is ∙ (w.line_of-status.ensures.status ∙ ap status_after (sym w.in-Err.is))
     ] in
-    λ input h s. ended_without c.serve_all-world.result.1 c.serve_all-world.result.0 input _ _ (sym is ∙ s) (c.serve_all-world.ensures.ended input h)
+    λ input h s. ended_without 2 c.serve_all-world.result.1 c.serve_all-world.result.0 input _ _ (sym is ∙ s) (c.serve_all-world.ensures.ended input h)
 
 pub returns-in-Some-clause-usage_line : goal.returns-in-Some-clause-usage_line
 returns-in-Some-clause-usage_line g c = λ place bad calm.

@@ -1,11 +1,29 @@
+use Rattle.std.specs.Prelude.{OnOk, IfErr}
 use Rattle.std.proofs.Common.{[], length, refl, sym, ◌≡◌, ◌∙◌, subst}
+use Rattle.hpx_top.specs.Ends.{IsWhole, IsEndedBy, IsBegun}
 use Rattle.hpx_top.specs.Session.{profile, IsAmple, AllDone, IsRested}
 use Rattle.hpx_top.proofs.EndLemmas.{begun_nothing}
 use Rattle.hpx_top.proofs.FeedLemmas.{ample_profile, all_granted, all_done, on_ok, still}
 use Rattle.hpx_top.proofs.run.serve_all.Goals as goal
 
 pub returns-in-Err-clause-begun : goal.returns-in-Err-clause-begun
-returns-in-Err-clause-begun g c = λ input h. begun_nothing input [] _ _ refl refl
+returns-in-Err-clause-begun g c = λ input h. begun_nothing 2 input [] _ _ refl refl
+
+-- two localities were booted
+pub returns-clause-whole : goal.returns-clause-whole
+returns-clause-whole g c = λ input h.
+    subst (λ n. OnOk c.serve-served.result (IsWhole n input c.serve-served.new.world.journal.entries (g.K.Sink.held c.args.sink.now) (g.K.Sink.held c.serve-served.new.sink)))
+    c.in-Ok.ensures.count (c.serve-served.ensures.whole input h)
+
+pub returns-clause-ended : goal.returns-clause-ended
+returns-clause-ended g c = λ input h.
+    subst (λ n. IfErr c.serve-served.result (λ fault. IsEndedBy fault n input c.serve-served.new.world.journal.entries (g.K.Sink.held c.args.sink.now) (g.K.Sink.held c.serve-served.new.sink)))
+    c.in-Ok.ensures.count (c.serve-served.ensures.ended input h)
+
+pub returns-clause-begun : goal.returns-clause-begun
+returns-clause-begun g c = λ input h.
+    subst (λ n. IsBegun n input c.serve-served.new.world.journal.entries (g.K.Sink.held c.args.sink.now) (g.K.Sink.held c.serve-served.new.sink))
+    c.in-Ok.ensures.count (c.serve-served.ensures.begun input h)
 
 -- the profile is the one of the boot
 pub returns-clause-granted : goal.returns-clause-granted

@@ -1,40 +1,45 @@
-use Rattle.std.proofs.Common.{Ok, Err, refl, sym, ap, ◌∙◌, arith, subst}
+use Rattle.std.proofs.Common.{ℕ, List, Option, ◌≡◌, length, Ok, Err, refl, sym, ap, ◌∙◌, arith, subst}
 use Rattle.hpx_top.specs.declared.session.SessionFault.TheVariants.{Read, InputFull}
-use Rattle.hpx_top.specs.Session.{IsAmple}
+use Rattle.hpx_ports.specs.Told.{followed}
+use Rattle.hpx_top.specs.Session.{IsAmple, WritesFront}
 use Rattle.hpx_top.proofs.ShowLemmas.{if_err_from, err_of, no_err}
 use Rattle.hpx_top.proofs.SessionLemmas.{serving_open, under_start}
 use Rattle.hpx_top.proofs.FeedLemmas.{same_rules, cut_write, cut_opening}
-use Rattle.hpx_top.proofs.EndLemmas.{all_lines, whole_from, begun_over, read_up_from, read_on_from, read_from, read_from_none, ended_from, begun_from, ended_opening, begun_opening, read_none}
+use Rattle.hpx_top.proofs.EndLemmas.{all_lines, whole_from, begun_over, read_up_from, read_on_from, read_from, read_from_none, ended_from, begun_from, ended_opening, begun_opening, read_none, cut_same, over_same}
 use Rattle.hpx_top.proofs.session.serve.Goals as goal
+
+-- the front of a text that is another
+said : {text other : List ℕ} {old new : Option (List ℕ)} → text ≡ other → WritesFront text old new → WritesFront other old new
+said {text} {other} {old} {new} same w = subst (λ t. WritesFront t old new) same w
 
 pub returns-in_err-write-clause-ended : goal.returns-in_err-write-clause-ended
 returns-in_err-write-clause-ended g c =
     let all = all_lines (g.S.Source.left c.args.source.now) in
-    let under = under_start all (g.K.Sink.held c.args.sink.now) (g.K.Sink.held c.write.new.sink) c.args.world.now.journal.entries c.requires.empty c.in_err-write.ensures.front in
+    let under = under_start (length c.args.world.now.nodes) all (g.K.Sink.held c.args.sink.now) (g.K.Sink.held c.write.new.sink) c.args.world.now.journal.entries c.requires.empty (said c.help.ensures c.in_err-write.ensures.front) in
     λ input h. if_err_from c.from_residual.result c.in_err-write.field-0.0 _ c.from_residual.ensures.1
-    (ended_from c.in_err-write.field-0.0 input (g.S.Source.left c.args.source.now) c.args.world.now.journal.entries
+    (ended_from (length c.args.world.now.nodes) c.in_err-write.field-0.0 input (g.S.Source.left c.args.source.now) c.args.world.now.journal.entries
     (g.K.Sink.held c.args.sink.now) (g.K.Sink.held c.write.new.sink) h
-    (cut_write c.in_err-write.field-0.0 all _ _ _ c.in_err-write.ensures.cause.0 under))
+    (cut_write c.in_err-write.field-0.0 (length c.args.world.now.nodes) all _ _ _ c.in_err-write.ensures.cause.0 under))
 
 pub returns-in_err-write-clause-begun : goal.returns-in_err-write-clause-begun
 returns-in_err-write-clause-begun g c =
     let all = all_lines (g.S.Source.left c.args.source.now) in
-    let under = under_start all (g.K.Sink.held c.args.sink.now) (g.K.Sink.held c.write.new.sink) c.args.world.now.journal.entries c.requires.empty c.in_err-write.ensures.front in
-    λ input h. begun_from c.in_err-write.field-0.0 input (g.S.Source.left c.args.source.now) c.args.world.now.journal.entries
+    let under = under_start (length c.args.world.now.nodes) all (g.K.Sink.held c.args.sink.now) (g.K.Sink.held c.write.new.sink) c.args.world.now.journal.entries c.requires.empty (said c.help.ensures c.in_err-write.ensures.front) in
+    λ input h. begun_from (length c.args.world.now.nodes) c.in_err-write.field-0.0 input (g.S.Source.left c.args.source.now) c.args.world.now.journal.entries
     (g.K.Sink.held c.args.sink.now) (g.K.Sink.held c.write.new.sink) h
-    (cut_write c.in_err-write.field-0.0 all _ _ _ c.in_err-write.ensures.cause.0 under)
+    (cut_write c.in_err-write.field-0.0 (length c.args.world.now.nodes) all _ _ _ c.in_err-write.ensures.cause.0 under)
 
 -- the accumulator was not made
 pub returns-in_err-open-clause-ended : goal.returns-in_err-open-clause-ended
 returns-in_err-open-clause-ended g c =
-    let cut = cut_opening (g.K.Sink.held c.args.sink.now) (g.K.Sink.held c.write.new.sink) _ _ c.requires.empty c.in_err-open.ensures.once c.in_ok-write.ensures.held in
+    let cut = cut_opening (g.K.Sink.held c.args.sink.now) (g.K.Sink.held c.write.new.sink) _ _ c.requires.empty c.in_err-open.ensures.once (c.in_ok-write.ensures.held ∙ ap (followed (g.K.Sink.held c.args.sink.now)) c.help.ensures) in
     λ input h. if_err_from c.from_residual-in_err-open.result c.in_err-open.field-0.0 _ c.from_residual-in_err-open.ensures.1
-    (ended_opening c.in_err-open.field-0.0 input _ (g.K.Sink.held c.args.sink.now) (g.K.Sink.held c.write.new.sink) c.in_err-open.ensures.other cut)
+    (ended_opening (length c.args.world.now.nodes) c.in_err-open.field-0.0 input _ (g.K.Sink.held c.args.sink.now) (g.K.Sink.held c.write.new.sink) c.in_err-open.ensures.other cut)
 
 pub returns-in_err-open-clause-begun : goal.returns-in_err-open-clause-begun
 returns-in_err-open-clause-begun g c =
-    let cut = cut_opening (g.K.Sink.held c.args.sink.now) (g.K.Sink.held c.write.new.sink) _ _ c.requires.empty c.in_err-open.ensures.once c.in_ok-write.ensures.held in
-    λ input h. begun_opening input _ (g.K.Sink.held c.args.sink.now) (g.K.Sink.held c.write.new.sink) cut
+    let cut = cut_opening (g.K.Sink.held c.args.sink.now) (g.K.Sink.held c.write.new.sink) _ _ c.requires.empty c.in_err-open.ensures.once (c.in_ok-write.ensures.held ∙ ap (followed (g.K.Sink.held c.args.sink.now)) c.help.ensures) in
+    λ input h. begun_opening (length c.args.world.now.nodes) input _ (g.K.Sink.held c.args.sink.now) (g.K.Sink.held c.write.new.sink) cut
 
 -- nothing was read
 pub returns-in_err-open-clause-reads : goal.returns-in_err-open-clause-reads
@@ -49,7 +54,7 @@ pub loop-reader-init : goal.loop-reader-init
 loop-reader-init g c = record {
   serving = serving_open _ (all_lines (g.S.Source.left c.args.source.now)) (g.K.Sink.held c.args.sink.now) (g.K.Sink.held c.write.new.sink)
       c.new-reader.result (g.S.Source.left c.args.source.now) c.args.world.now.journal.entries c.open.new.world.journal.entries
-      (rw c.new-reader.ensures refl) (rw c.new-reader.ensures (omega arith)) c.requires.empty c.in_ok-open.ensures.fed c.in_ok-write.ensures.held;
+      (rw c.new-reader.ensures refl) (rw c.new-reader.ensures (omega arith)) c.requires.empty c.in_ok-open.ensures.fed (c.in_ok-write.ensures.held ∙ ap (followed (g.K.Sink.held c.args.sink.now)) c.help.ensures);
   reads = read_none (g.S.Source.left c.args.source.now) c.new-reader.result c.new-reader.ensures;
   counted = rw c.new-reader.ensures (omega arith);
   limit = rw c.new-reader.ensures (omega arith);
@@ -87,15 +92,17 @@ loop-reader-preserved g c =
 pub returns-in_err-serve_line-clause-ended : goal.returns-in_err-serve_line-clause-ended
 returns-in_err-serve_line-clause-ended g c =
     let serving = rw (← same_rules c.args.world.now c.loop-reader.world c.loop-reader.invariant.count c.loop-reader.invariant.profile) at c.loop-reader.invariant.serving in
-    let cut = c.in_err-serve_line.ensures.err _ _ serving in
+    let cut = cut_same c.in_err-serve_line.field-0.0 (all_lines (g.S.Source.left c.args.source.now)) (g.K.Sink.held c.args.sink.now) (g.K.Sink.held c.serve_line.new.sink)
+    c.serve_line.new.world.journal.entries (length c.loop-reader.world.nodes) (length c.args.world.now.nodes) c.loop-reader.invariant.count (c.in_err-serve_line.ensures.err _ _ serving) in
     λ input h. if_err_from c.from_residual-in_err-serve_line.result c.in_err-serve_line.field-0.0 _ c.from_residual-in_err-serve_line.ensures.1
-    (ended_from c.in_err-serve_line.field-0.0 input (g.S.Source.left c.args.source.now) _ _ _ h cut)
+    (ended_from (length c.args.world.now.nodes) c.in_err-serve_line.field-0.0 input (g.S.Source.left c.args.source.now) _ _ _ h cut)
 
 pub returns-in_err-serve_line-clause-begun : goal.returns-in_err-serve_line-clause-begun
 returns-in_err-serve_line-clause-begun g c =
     let serving = rw (← same_rules c.args.world.now c.loop-reader.world c.loop-reader.invariant.count c.loop-reader.invariant.profile) at c.loop-reader.invariant.serving in
-    let cut = c.in_err-serve_line.ensures.err _ _ serving in
-    λ input h. begun_from c.in_err-serve_line.field-0.0 input (g.S.Source.left c.args.source.now) _ _ _ h cut
+    let cut = cut_same c.in_err-serve_line.field-0.0 (all_lines (g.S.Source.left c.args.source.now)) (g.K.Sink.held c.args.sink.now) (g.K.Sink.held c.serve_line.new.sink)
+    c.serve_line.new.world.journal.entries (length c.loop-reader.world.nodes) (length c.args.world.now.nodes) c.loop-reader.invariant.count (c.in_err-serve_line.ensures.err _ _ serving) in
+    λ input h. begun_from (length c.args.world.now.nodes) c.in_err-serve_line.field-0.0 input (g.S.Source.left c.args.source.now) _ _ _ h cut
 
 pub returns-in_err-serve_line-clause-input : goal.returns-in_err-serve_line-clause-input
 returns-in_err-serve_line-clause-input g c =
@@ -148,19 +155,19 @@ returns-clause-limit g c =
 pub returns-clause-whole : goal.returns-clause-whole
 returns-clause-whole g c =
     let serving = rw (← same_rules c.args.world.now c.loop-reader.world c.loop-reader.invariant.count c.loop-reader.invariant.profile) at c.loop-reader.invariant.serving in
-    let over = c.in_ok-serve_line.ensures.over (ap (λ b. Ok b) c.if-branch.false) _ _ serving in
-    λ input h. whole_from c.serve_line.new.reader.ended input (g.S.Source.left c.args.source.now) _ _ _ h over
+    let over = over_same (length c.loop-reader.world.nodes) (length c.args.world.now.nodes) c.loop-reader.invariant.count (c.in_ok-serve_line.ensures.over (ap (λ b. Ok b) c.if-branch.false) _ _ serving) in
+    λ input h. whole_from (length c.args.world.now.nodes) c.serve_line.new.reader.ended input (g.S.Source.left c.args.source.now) _ _ _ h over
 
 pub returns-clause-read_up : goal.returns-clause-read_up
 returns-clause-read_up g c =
     let serving = rw (← same_rules c.args.world.now c.loop-reader.world c.loop-reader.invariant.count c.loop-reader.invariant.profile) at c.loop-reader.invariant.serving in
-    let over = c.in_ok-serve_line.ensures.over (ap (λ b. Ok b) c.if-branch.false) _ _ serving in
-    λ input h. read_up_from c.serve_line.new.reader.ended input (g.S.Source.left c.args.source.now) (g.S.Source.left c.serve_line.new.source)
+    let over = over_same (length c.loop-reader.world.nodes) (length c.args.world.now.nodes) c.loop-reader.invariant.count (c.in_ok-serve_line.ensures.over (ap (λ b. Ok b) c.if-branch.false) _ _ serving) in
+    λ input h. read_up_from (length c.args.world.now.nodes) c.serve_line.new.reader.ended input (g.S.Source.left c.args.source.now) (g.S.Source.left c.serve_line.new.source)
     c.serve_line.new.reader c.serve_line.new.world.journal.entries (g.K.Sink.held c.args.sink.now) (g.K.Sink.held c.serve_line.new.sink) h over
     (c.serve_line.ensures.reads _ c.loop-reader.invariant.reads) refl
 
 pub returns-clause-begun : goal.returns-clause-begun
 returns-clause-begun g c =
     let serving = rw (← same_rules c.args.world.now c.loop-reader.world c.loop-reader.invariant.count c.loop-reader.invariant.profile) at c.loop-reader.invariant.serving in
-    let over = c.in_ok-serve_line.ensures.over (ap (λ b. Ok b) c.if-branch.false) _ _ serving in
-    λ input h. begun_over c.serve_line.new.reader.ended input (g.S.Source.left c.args.source.now) _ _ _ h over
+    let over = over_same (length c.loop-reader.world.nodes) (length c.args.world.now.nodes) c.loop-reader.invariant.count (c.in_ok-serve_line.ensures.over (ap (λ b. Ok b) c.if-branch.false) _ _ serving) in
+    λ input h. begun_over (length c.args.world.now.nodes) c.serve_line.new.reader.ended input (g.S.Source.left c.args.source.now) _ _ _ h over

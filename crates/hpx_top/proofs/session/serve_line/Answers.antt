@@ -1,5 +1,6 @@
 use Rattle.std.proofs.Common.{length, refl, Err, ap, ◌∙◌}
 use Rattle.hpx_top.specs.Reader.{lines_left}
+use Rattle.hpx_top.specs.Session.{rules}
 use Rattle.hpx_top.proofs.ShowLemmas.{if_err_from}
 use Rattle.hpx_top.proofs.SessionLemmas.{serving_line, serving_long, cut_here, over_end, over_quit, under_prompt, under_long, stopped_full, stopped_read}
 use Rattle.hpx_top.proofs.FeedLemmas.{cut_write, cut_text}
@@ -8,7 +9,7 @@ use Rattle.hpx_top.proofs.session.serve_line.Goals as goal
 pub returns-in_err-write-clause-err : goal.returns-in_err-write-clause-err
 returns-in_err-write-clause-err g c =
     if_err_from c.from_residual.result c.in_err-write.field-0.0 _ c.from_residual.ensures.1
-    (λ all before s. cut_write _ all before _ _ c.in_err-write.ensures.cause.0 (under_prompt _ all before _ _ _ _ _ s c.in_err-write.ensures.front))
+    (λ all before s. cut_write _ (length c.args.world.now.nodes) all before _ _ c.in_err-write.ensures.cause.0 (under_prompt (rules c.args.world.now) all before _ _ _ _ _ s c.in_err-write.ensures.front))
 
 pub returns-in_err-serve_text-in-Ok-Line-clause-err : goal.returns-in_err-serve_text-in-Ok-Line-clause-err
 returns-in_err-serve_text-in-Ok-Line-clause-err g c =
@@ -25,8 +26,8 @@ returns-in_err-write-in-Ok-Long-clause-err g c =
     let takes = rw c.in-Ok-Long.field-0-is at c.in-Ok-Long.ensures.ok in
     if_err_from c.from_residual-in_err-write-in-Ok-Long.result c.in_err-write-in-Ok-Long.field-0.0 _
     c.from_residual-in_err-write-in-Ok-Long.ensures.1
-    (λ all before s. cut_write c.in_err-write-in-Ok-Long.field-0.0 all before _ _ c.in_err-write-in-Ok-Long.ensures.cause.0
-    (under_long _ all before
+    (λ all before s. cut_write c.in_err-write-in-Ok-Long.field-0.0 (length c.args.world.now.nodes) all before _ _ c.in_err-write-in-Ok-Long.ensures.cause.0
+    (under_long (rules c.args.world.now) all before
     (g.K.Sink.held c.args.sink.now) (g.K.Sink.held c.write.new.sink) _ c.args.reader.now c.next_line.new.self
     (g.S.Source.left c.args.source.now) (g.S.Source.left c.next_line.new.source) c.args.world.now.journal.entries
     s c.in_ok-write.ensures.held takes c.in_err-write-in-Ok-Long.ensures.front))
@@ -45,7 +46,7 @@ pub returns-in_ok-write-in-Ok-Long-clause-line : goal.returns-in_ok-write-in-Ok-
 returns-in_ok-write-in-Ok-Long-clause-line g c =
     let takes = rw c.in-Ok-Long.field-0-is at c.in-Ok-Long.ensures.ok in
     let fewer = rw c.in-Ok-Long.field-0-is at c.in-Ok-Long.ensures.fewer in
-    (λ h all before s. serving_long _ all before
+    (λ h all before s. serving_long (rules c.args.world.now) all before
     (g.K.Sink.held c.args.sink.now) (g.K.Sink.held c.write.new.sink) _ c.args.reader.now c.next_line.new.self
     (g.S.Source.left c.args.source.now) (g.S.Source.left c.next_line.new.source) c.args.world.now.journal.entries
     s c.in_ok-write.ensures.held takes fewer c.in_ok-write-in-Ok-Long.ensures.held)
@@ -53,42 +54,42 @@ returns-in_ok-write-in-Ok-Long-clause-line g c =
 pub returns-in-Ok-Quit-clause-over : goal.returns-in-Ok-Quit-clause-over
 returns-in-Ok-Quit-clause-over g c =
     let takes = rw c.in-Ok-Quit.field-0-is at c.in-Ok-Quit.ensures.ok in
-    (λ h all before s. over_quit _ c.next_line.new.self.ended all (lines_left c.next_line.new.self (g.S.Source.left c.next_line.new.source)) before
+    (λ h all before s. over_quit (rules c.args.world.now) c.next_line.new.self.ended all (lines_left c.next_line.new.self (g.S.Source.left c.next_line.new.source)) before
     (g.K.Sink.held c.args.sink.now) (g.K.Sink.held c.write.new.sink) c.args.reader.now (g.S.Source.left c.args.source.now)
     c.args.world.now.journal.entries s c.in_ok-write.ensures.held takes)
 
 pub returns-in-Ok-End-clause-over : goal.returns-in-Ok-End-clause-over
 returns-in-Ok-End-clause-over g c =
     let ends = rw c.in-Ok-End.field-0-is at c.in-Ok-End.ensures.ok in
-    (λ h all before s. over_end _ all before
+    (λ h all before s. over_end (rules c.args.world.now) all before
     (g.K.Sink.held c.args.sink.now) (g.K.Sink.held c.write.new.sink) c.args.reader.now c.next_line.new.self (g.S.Source.left c.args.source.now)
     c.args.world.now.journal.entries s c.in_ok-write.ensures.held ends.0)
 
 pub returns-in-Ok-Full-clause-err : goal.returns-in-Ok-Full-clause-err
 returns-in-Ok-Full-clause-err g c = λ all before s.
-    cut_here 0 _ all before (g.K.Sink.held c.args.sink.now) (g.K.Sink.held c.write.new.sink) c.args.reader.now
+    cut_here 0 (rules c.args.world.now) all before (g.K.Sink.held c.args.sink.now) (g.K.Sink.held c.write.new.sink) c.args.reader.now
     (g.S.Source.left c.args.source.now) c.args.world.now.journal.entries c.args.world.now.journal.entries s c.in_ok-write.ensures.held refl
 
 pub returns-in-Ok-Full-clause-input : goal.returns-in-Ok-Full-clause-input
 returns-in-Ok-Full-clause-input g c =
     let full = rw c.in-Ok-Full.field-0-is at c.in-Ok-Full.ensures.ok in
-    (λ h all before s. stopped_full _ all before (g.K.Sink.held c.args.sink.now) c.args.reader.now c.next_line.new.self
+    (λ h all before s. stopped_full (rules c.args.world.now) all before (g.K.Sink.held c.args.sink.now) c.args.reader.now c.next_line.new.self
     (g.S.Source.left c.args.source.now) (g.S.Source.left c.next_line.new.source) c.args.world.now.journal.entries s full.0 full.1)
 
 pub returns-in-Err-Failed-clause-err : goal.returns-in-Err-Failed-clause-err
 returns-in-Err-Failed-clause-err g c = λ all before s.
-    cut_here 0 _ all before (g.K.Sink.held c.args.sink.now) (g.K.Sink.held c.write.new.sink) c.args.reader.now
+    cut_here 0 (rules c.args.world.now) all before (g.K.Sink.held c.args.sink.now) (g.K.Sink.held c.write.new.sink) c.args.reader.now
     (g.S.Source.left c.args.source.now) c.args.world.now.journal.entries c.args.world.now.journal.entries s c.in_ok-write.ensures.held refl
 
 pub returns-in-Err-Failed-clause-read_on : goal.returns-in-Err-Failed-clause-read_on
 returns-in-Err-Failed-clause-read_on g c =
     let failed = c.in-Err-Failed.is ∙ ap (λ f. Err f) c.in-Err-Failed.field-0-is in
     λ h all before s.
-    stopped_read _ all before (g.K.Sink.held c.args.sink.now) c.args.reader.now c.next_line.new.self
+    stopped_read (rules c.args.world.now) all before (g.K.Sink.held c.args.sink.now) c.args.reader.now c.next_line.new.self
     (g.S.Source.left c.args.source.now) (g.S.Source.left c.next_line.new.source) c.args.world.now.journal.entries s
     (c.next_line.ensures.no_line failed) (c.next_line.ensures.goes_on failed) c.in-Err-Failed.ensures.err
 
 pub returns-in-Err-OutOfMemory-clause-err : goal.returns-in-Err-OutOfMemory-clause-err
 returns-in-Err-OutOfMemory-clause-err g c = λ all before s.
-    cut_here 1 _ all before (g.K.Sink.held c.args.sink.now) (g.K.Sink.held c.write.new.sink) c.args.reader.now
+    cut_here 1 (rules c.args.world.now) all before (g.K.Sink.held c.args.sink.now) (g.K.Sink.held c.write.new.sink) c.args.reader.now
     (g.S.Source.left c.args.source.now) c.args.world.now.journal.entries c.args.world.now.journal.entries s c.in_ok-write.ensures.held refl

@@ -1,6 +1,6 @@
 use Rattle.std.proofs.Common.{Err, [], length, ap, sym, subst}
 use Rattle.hpx_steps.specs.Rest.{rules_of}
-use Rattle.app_console.specs.Acts.{act_of}
+use Rattle.hpx_top.specs.Acts.{act_of}
 use Rattle.hpx_journal.specs.Whole.{IsCarried}
 use Rattle.hpx_top.specs.Session.{rules}
 use Rattle.hpx_top.proofs.FeedLemmas.{of_three, neither, still, room_by}

@@ -5,41 +5,31 @@ use Rattle.hpx_part.specs.Data.{Reason, Count}
 use Rattle.hpx_part.specs.Parts.{at_all}
 use Rattle.hpx_tables.specs.Tables.{Tables}
 use Rattle.hpx_steps.specs.Calls.{answered}
-use Rattle.hpx_node.proofs.AnsweredEntry.{refused_by_entry, granted_by_entry}
 use Rattle.hpx_journal.specs.Data.{Parcel}
-use Rattle.hpx_node.proofs.Returned.{live_home, live_covers, recounted}
-use Rattle.hpx_node.proofs.Recounted.{leaves_asked}
-use Rattle.hpx_node.proofs.Answered.{given_home, refused_by, granted_by}
+use Rattle.hpx_node.proofs.Records.{given_home, granted_by_entry, granted_deals, leaves_asked, live_covers, live_home, refused_by_entry, refused_deals}
 use Rattle.hpx_node.specs.Locality.{Locality}
 use Rattle.hpx_node.proofs.node.Node.answer.Goals as goal
 use Rattle.hpx_node.proofs.node.Node.answer.Goals.{in-Limit, in-Yes}
 
-pub returns-in_default-clause-handles : goal.returns-in_default-clause-handles
-returns-in_default-clause-handles g c =
+pub returns-in_default-clause-deals : goal.returns-in_default-clause-deals
+returns-in_default-clause-deals g c =
     let live = rw (← c.self.view_is) at c.requires.live in
     let enough = rw (← c.self.view_is) at c.requires.enough in
     absurd (c.in_default.ensures.strange.0 refl (live_covers c.self.inside.here c.self.inside.records.records c.args.id live enough))
 
-pub returns-clause-handles : goal.returns-clause-handles
-returns-clause-handles g c =
+pub returns-clause-deals : goal.returns-clause-deals
+returns-clause-deals g c =
     let live = rw (← c.self.view_is) at c.requires.live in
-    let enough = rw (← c.self.view_is) at c.requires.enough in
-    let tidy = rw (← c.self.view_is) at c.requires.tidy in
-    let mails = rw (c.new.ensures) at c.mail.ensures.mails in
     let goes = rw (c.new.ensures) at c.mail.ensures.goes in
-    let profile = c.self.invariant.5 in
+    let born = ap (λ (x : Registry Parcel). x.births) c.in-Ok.ensures.rest in
     rw (← c.self.view_is)
     (elim c.match-granted.branch [
       | in-Limit w ↦
-          refused_by g.A.Acts.act_of _ _ _ _ c.self.inside.records.profile c.args.id c.match-granted.why.1 c.args.asker c.args.entry
-          refl tidy mails goes profile c.requires.credit.0 live enough
-          (recounted _ _ _ tidy (ap (λ (x : Registry Parcel). x.births) c.in-Ok.ensures.rest))
-          c.in-Ok.ensures.record c.in-Ok.ensures.others (ap (λ (p : Reason × Id). p.1) w.why-is) (rw w.in-Limit.is at c.in-Ok.ensures.granted)
+          refused_deals _ _ c.args.id live c.ask.new.self.births c.ask.new.self.records born c.self.inside.records.profile c.match-granted.why.1 c.args.asker c.args.entry c.self.invariant.5 goes
+          (rw w.in-Limit.is at c.in-Ok.ensures.granted) (ap (λ (p : Reason × Id). p.1) w.why-is)
       | in-Yes w ↦
-          granted_by g.A.Acts.act_of _ _ _ _ c.self.inside.records.profile c.args.id c.match-granted.why.1 w.in-Yes.more
-          c.args.asker c.args.entry refl tidy mails goes profile c.self.invariant.3 c.requires.credit.0 live enough
-          (recounted _ _ _ tidy (ap (λ (x : Registry Parcel). x.births) c.in-Ok.ensures.rest))
-          c.in-Ok.ensures.record c.in-Ok.ensures.others (ap (λ (p : Reason × Id). p.1) w.why-is) (rw w.in-Yes.is at c.in-Ok.ensures.granted)
+          granted_deals _ _ c.args.id live c.ask.new.self.births c.ask.new.self.records born c.self.inside.records.profile c.match-granted.why.1 c.args.asker c.args.entry c.self.invariant.5 goes
+          w.in-Yes.more (rw w.in-Yes.is at c.in-Ok.ensures.granted) (ap (λ (p : Reason × Id). p.1) w.why-is)
     ])
 
 pub returns-clause-grows : goal.returns-clause-grows
@@ -76,7 +66,7 @@ pub returns-clause-leaves : goal.returns-clause-leaves
 returns-clause-leaves g c =
     let live = rw (← c.self.view_is) at c.requires.live in
     rw (← c.self.view_is)
-    (leaves_asked _ _ c.args.id _ live (ap (λ (t : Tables). t.records) c.mail.ensures.mails.rest) c.in-Ok.ensures.others
+    (leaves_asked _ _ c.args.id _ live (ap (λ (t : Tables). t.records) c.mail.ensures.goes) c.in-Ok.ensures.others
     c.self.inside.records.profile c.self.invariant.5 c.in-Ok.ensures.record c.args.asker c.args.entry)
 
 pub mail-requires-clause-may : goal.mail-requires-clause-may

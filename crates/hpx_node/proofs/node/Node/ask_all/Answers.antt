@@ -1,14 +1,12 @@
-use Rattle.std.proofs.Common.{ap, arith}
+use Rattle.std.proofs.Common.{arith, ap}
 use Rattle.hpx_node.specs.Locality.{Locality}
-use Rattle.hpx_node.proofs.Asking.{asks_one, asks_more}
+use Rattle.hpx_node.proofs.Waited.{asks_more}
 use Rattle.hpx_node.proofs.node.Node.ask_all.Goals as goal
 
 pub loop-id-preserved : goal.loop-id-preserved
 loop-id-preserved g c =
     let before = rw (← c.self.view_is) at c.loop-id.invariant.asks in
-    let mails = rw (c.new.ensures) at c.mail.ensures.mails in
     let goes = rw (c.new.ensures, c.home.ensures) at c.mail.ensures.goes in record {
-      asks = asks_more c.args.ids.now c.loop-id.id-index c.id-item.result _ _ _ c.loop-id-test.true c.id-item.is before
-          (asks_one _ _ c.id-item.result mails goes);
+      asks = asks_more c.args.ids.now c.loop-id.id-index c.id-item.result _ _ _ c.loop-id-test.true c.id-item.is before goes;
       spare = omega (arith, c.loop-id.invariant.spare, c.mail.ensures.spare, ap (λ (x : Locality). x.spare) c.self.view_is);
     }

@@ -7,6 +7,7 @@ use Rattle.hpx_tables.specs.Tables.{Tables}
 use Rattle.hpx_node.proofs.SomeShort.{something}
 use Rattle.hpx_node.proofs.TurnSteps.{adds_asks}
 use Rattle.hpx_node.proofs.Waited.{before_short, before_own, before_least, lacks_few, kept_before, begins_by}
+use Rattle.hpx_node.proofs.Turned.{at_rest_tidy}
 use Rattle.hpx_node.specs.Locality.{Locality}
 use Rattle.hpx_node.proofs.node.Node.begin.Goals as goal
 
@@ -39,7 +40,7 @@ pause-requires-clause-object g c = slice_get_less c.args.self.now.tables.objects
 
 pub pause-requires-clause-kept : goal.pause-requires-clause-kept
 pause-requires-clause-kept g c =
-    kept_before c.args.self.now.tables c.args.done.job c.args.done.outcome c.args.before c.requires.before c.args.i c.args.j c.requires.at c.requires.fit c.requires.stands.tidy
+    kept_before c.args.self.now.tables c.args.done.job c.args.done.outcome c.args.before c.requires.before c.args.i c.args.j c.requires.at c.requires.fit (at_rest_tidy g.A.Acts.act_of _ _ c.requires.stands)
 
 pub ask_all-requires-clause-least : goal.ask_all-requires-clause-least
 ask_all-requires-clause-least g c =
@@ -80,7 +81,7 @@ returns-clause-stands g c =
     let some = something d.localities t d.job d.outcome c.requires.laws c.requires.fit valid.log_least c.requires.short in
     (begins_by g.A.Acts.act_of t c.pause.new.self.tables c.ask_all.new.self.tables d.job d.outcome d.localities c.args.before c.args.i c.args.j _ c.args.book.now.entries
     c.push_asks.new.book.entries c.requires.fit c.requires.few laws c.requires.before c.requires.localities c.requires.here refl pauses asks
-    c.requires.first (asked ∙ ap (λ es. es ++ at_all t.here (asked_events c.args.before.lacking.items)) cut) some c.requires.stands).0
+    (asked ∙ ap (λ es. es ++ at_all t.here (asked_events c.args.before.lacking.items)) cut) some c.requires.stands).0
 
 pub returns-clause-begins : goal.returns-clause-begins
 returns-clause-begins g c =
@@ -96,7 +97,7 @@ returns-clause-begins g c =
     let some = something d.localities t d.job d.outcome c.requires.laws c.requires.fit valid.log_least c.requires.short in
     (begins_by g.A.Acts.act_of t c.pause.new.self.tables c.ask_all.new.self.tables d.job d.outcome d.localities c.args.before c.args.i c.args.j _ c.args.book.now.entries
     c.push_asks.new.book.entries c.requires.fit c.requires.few laws c.requires.before c.requires.localities c.requires.here refl pauses asks
-    c.requires.first (asked ∙ ap (λ es. es ++ at_all t.here (asked_events c.args.before.lacking.items)) cut) some c.requires.stands).1
+    (asked ∙ ap (λ es. es ++ at_all t.here (asked_events c.args.before.lacking.items)) cut) some c.requires.stands).1
 
 pub returns-clause-turn : goal.returns-clause-turn
 returns-clause-turn g c =

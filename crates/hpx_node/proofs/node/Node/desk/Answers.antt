@@ -1,17 +1,29 @@
-use Rattle.std.proofs.Common.{◌∷◌, ◌≡◌, ◌≤◌, ◌∙◌, get_or, refl, sym, ap, arith}
+use Rattle.std.proofs.Common.{[], ◌∷◌, ◌++◌, ◌≡◌, ◌≤◌, ◌∙◌, get_or, map, sym, ap, subst, arith}
+use Rattle.std.specs.List.{AllByRecursion}
+use Rattle.hpx_parcel.specs.Parcels.{IsParcel}
 use Rattle.hpx_journal.specs.Data.{Parcel}
-use Rattle.hpx_node.proofs.Continued.{given_mail}
-use Rattle.hpx_node.proofs.Followed.{next_first, may_follow, next_gives, is_continued}
-use Rattle.hpx_node.proofs.Spared.{spare_stands, mail_by, mail_near, first_own, first_stands, cleared, when_ok, spare_popped}
+use Rattle.hpx_tables.specs.declared.kept.Outgoing.{Outgoing}
+use Rattle.hpx_tables.specs.Tables.{Tables}
+use Rattle.hpx_steps.specs.Rest.{IsTidy, Stands}
+use Rattle.hpx_node.specs.Locality.{Locality}
+use Rattle.hpx_node.proofs.FewEntries.{popped_tidy}
+use Rattle.hpx_node.proofs.Followed.{next_first, next_gives}
+use Rattle.hpx_node.proofs.Same.{same_too}
+use Rattle.hpx_node.proofs.Spared.{first_there, mail_by, spare_popped, when_ok}
+use Rattle.hpx_node.proofs.Turned.{are_few, at_rest_tidy, desk_clears, desk_follows, still_few}
 use Rattle.hpx_node.proofs.Turns.{adds_none}
 use Rattle.hpx_node.proofs.TurnSteps.{adds_steps}
-use Rattle.hpx_node.proofs.Lacks.{lacks_spare, clears_lacks}
-use Rattle.hpx_node.proofs.OrderCalls.{orderly_spare, clears_keeps}
-use Rattle.hpx_node.specs.Locality.{Locality}
 use Rattle.hpx_node.proofs.node.Node.desk.Goals as goal
 
+pub next-requires-clause-tidy : goal.next-requires-clause-tidy
+next-requires-clause-tidy g c = at_rest_tidy g.A.Acts.act_of _ _ c.requires.stands
+
+pub next-requires-clause-few : goal.next-requires-clause-few
+next-requires-clause-few g c = (are_few g.A.Acts.act_of _ _ c.requires.room c.requires.stands).births
+
 pub returns-then-is_err-clause-stands : goal.returns-then-is_err-clause-stands
-returns-then-is_err-clause-stands g c = spare_stands g.A.Acts.act_of _ _ _ _ c.reserve_turn.ensures.same c.requires.stands
+returns-then-is_err-clause-stands g c =
+    same_too (Stands g.A.Acts.act_of) c.args.self.now.tables _ _ _ c.requires.stands c.reserve_turn.ensures.same.tables c.reserve_turn.ensures.same.entries
 
 pub enter_mail-requires-clause-right : goal.enter_mail-requires-clause-right
 enter_mail-requires-clause-right g c =
@@ -22,28 +34,12 @@ enter_mail-requires-clause-right g c =
     (c.in-Some-pop_front.ensures.items ∙ ap (λ (q : Parcel). q ∷ c.pop_front.new.self.items) (sym c.into_parcel.ensures.parcel))
     is told c.in_default.is
 
-pub enter_mail-requires-clause-own : goal.enter_mail-requires-clause-own
-enter_mail-requires-clause-own g c =
-    let h = spare_stands g.A.Acts.act_of _ _ _ _ c.reserve_turn.ensures.same c.requires.stands in
-    let i = rw (← c.self-2.view_is) at h in
-    first_own c.self-2.inside.localities c.self-2.inside.here c.self-2.inside.desk.items c.into_parcel.result c.pop_front.new.self.items
-    (c.in-Some-pop_front.ensures.items ∙ ap (λ (q : Parcel). q ∷ c.pop_front.new.self.items) (sym c.into_parcel.ensures.parcel)) i.tidy.ways.1
-
-pub enter_mail-requires-clause-near : goal.enter_mail-requires-clause-near
-enter_mail-requires-clause-near g c =
-    let told = rw (← c.self.view_is) at c.broken.ensures in
-    let same = rw (← c.self.view_is, ← c.self-2.view_is) at c.reserve_turn.ensures.same in
-    let is : c.parcel.result.now ≡ get_or c.self.inside.desk.items 0 c.parcel.result.now = rw (← c.parcel.ensures.parcel) at c.index.ensures in
-    mail_near _ _ _ _ c.into_parcel.result c.parcel.result.now c.pop_front.new.self.items c.broken.result same
-    (c.in-Some-pop_front.ensures.items ∙ ap (λ (q : Parcel). q ∷ c.pop_front.new.self.items) (sym c.into_parcel.ensures.parcel))
-    is told c.in_default.is
-
-pub enter_mail-requires-clause-stands : goal.enter_mail-requires-clause-stands
-enter_mail-requires-clause-stands g c =
-    let h = spare_stands g.A.Acts.act_of _ _ _ _ c.reserve_turn.ensures.same c.requires.stands in
-    let i = rw (← c.self-2.view_is) at h in
-    first_stands g.A.Acts.act_of _ c.into_parcel.result c.pop_front.new.self.items _
-    (c.in-Some-pop_front.ensures.items ∙ ap (λ (q : Parcel). q ∷ c.pop_front.new.self.items) (sym c.into_parcel.ensures.parcel)) i
+pub enter_mail-requires-clause-tidy : goal.enter_mail-requires-clause-tidy
+enter_mail-requires-clause-tidy g c =
+    let same = rw (← c.self-2.view_is) at c.reserve_turn.ensures.same in
+    let first = c.in-Some-pop_front.ensures.items ∙ ap (λ (q : Parcel). q ∷ c.pop_front.new.self.items) (sym c.into_parcel.ensures.parcel) in
+    popped_tidy c.into_parcel.result _ c.pop_front.new.self.items first
+    (subst (λ (t : Tables). IsTidy t []) (sym same.tables) (at_rest_tidy g.A.Acts.act_of _ _ c.requires.stands))
 
 pub enter_mail-requires-clause-spare : goal.enter_mail-requires-clause-spare
 enter_mail-requires-clause-spare g c =
@@ -60,9 +56,31 @@ follow-requires-clause-may g c =
     let same = rw (← c.self-2.view_is) at c.reserve_turn.ensures.same in
     let first = c.in-Some-pop_front.ensures.items ∙ ap (λ (q : Parcel). q ∷ c.pop_front.new.self.items) (sym c.into_parcel.ensures.parcel) in
     let is = (rw (← c.parcel-2.ensures.parcel) at c.index-2.ensures) ∙ ap (λ (x : Locality). get_or x.tables.desk 0 c.parcel-2.result.now) c.self.view_is in
-    let next = next_first t _ p c.parcel-2.result.now rest c.in-Ok.next same.tables first is c.in-Ok.ensures in
-    let gives = given_mail t _ c.enter_mail.new.self.tables p rest same.tables c.enter_mail.ensures.accepts in
-    may_follow t t.taken rest c.enter_mail.new.self.tables p c.in-Ok.next next gives
+    let next = next_first g.A.Acts.act_of t _ p c.parcel-2.result.now rest c.in-Ok.next same.tables first is c.in-Ok.ensures in
+    let looked = (rw (← c.parcel.ensures.parcel) at c.index.ensures) ∙ ap (λ (x : Locality). get_or x.tables.desk 0 c.parcel.result.now) c.self.view_is in
+    let tidy = at_rest_tidy g.A.Acts.act_of _ _ c.requires.stands in
+    let at_first = first_there t _ p c.parcel.result.now rest c.broken.result same.tables first looked c.broken.ensures c.in_default.is in
+    let fit = (subst (AllByRecursion IsParcel) (ap (λ ds. ds ++ map (λ (x : Outgoing). x.parcel) t.outgoing) at_first) tidy.messages).0 in
+    desk_follows g.A.Acts.act_of t _ c.enter_mail.new.self.tables _ _ p c.parcel.result.now rest c.broken.result c.in-Ok.next same fit first looked c.broken.ensures c.in_default.is
+    next c.enter_mail.ensures.deals c.requires.stands
+
+pub follow-requires-clause-births : goal.follow-requires-clause-births
+follow-requires-clause-births g c =
+    let same = rw (← c.self-2.view_is) at c.reserve_turn.ensures.same.tables in
+    (still_few c.args.self.now.tables _ _ c.into_parcel.result (are_few g.A.Acts.act_of _ _ c.requires.room c.requires.stands) c.enter_mail.ensures.deals
+    (ap (λ (t : Tables). t.births) same) (ap (λ (t : Tables). t.serial) same) (ap (λ (t : Tables). t.answered) same)).0
+
+pub follow-requires-clause-serial : goal.follow-requires-clause-serial
+follow-requires-clause-serial g c =
+    let same = rw (← c.self-2.view_is) at c.reserve_turn.ensures.same.tables in
+    (still_few c.args.self.now.tables _ _ c.into_parcel.result (are_few g.A.Acts.act_of _ _ c.requires.room c.requires.stands) c.enter_mail.ensures.deals
+    (ap (λ (t : Tables). t.births) same) (ap (λ (t : Tables). t.serial) same) (ap (λ (t : Tables). t.answered) same)).1
+
+pub follow-requires-clause-answers : goal.follow-requires-clause-answers
+follow-requires-clause-answers g c =
+    let same = rw (← c.self-2.view_is) at c.reserve_turn.ensures.same.tables in
+    (still_few c.args.self.now.tables _ _ c.into_parcel.result (are_few g.A.Acts.act_of _ _ c.requires.room c.requires.stands) c.enter_mail.ensures.deals
+    (ap (λ (t : Tables). t.births) same) (ap (λ (t : Tables). t.serial) same) (ap (λ (t : Tables). t.answered) same)).2
 
 pub follow-requires-clause-spare : goal.follow-requires-clause-spare
 follow-requires-clause-spare g c =
@@ -72,9 +90,8 @@ follow-requires-clause-spare g c =
     let same = rw (← c.self-2.view_is) at c.reserve_turn.ensures.same in
     let first = c.in-Some-pop_front.ensures.items ∙ ap (λ (q : Parcel). q ∷ c.pop_front.new.self.items) (sym c.into_parcel.ensures.parcel) in
     let is = (rw (← c.parcel-2.ensures.parcel) at c.index-2.ensures) ∙ ap (λ (x : Locality). get_or x.tables.desk 0 c.parcel-2.result.now) c.self.view_is in
-    let next = next_first t _ p c.parcel-2.result.now rest c.in-Ok.next same.tables first is c.in-Ok.ensures in
-    let gives = given_mail t _ c.enter_mail.new.self.tables p rest same.tables c.enter_mail.ensures.accepts in
-    next_gives (1024 ≤ c.enter_mail.new.self.spare) t p c.in-Ok.next next (λ id entry e. c.enter_mail.ensures.spare id entry e)
+    let next = next_first g.A.Acts.act_of t _ p c.parcel-2.result.now rest c.in-Ok.next same.tables first is c.in-Ok.ensures in
+    next_gives (1024 ≤ c.enter_mail.new.self.spare) g.A.Acts.act_of t p c.in-Ok.next next (λ id entry e. c.enter_mail.ensures.spare id entry e)
 
 pub follow-requires-clause-page : goal.follow-requires-clause-page
 follow-requires-clause-page g c =
@@ -84,9 +101,8 @@ follow-requires-clause-page g c =
     let same = rw (← c.self-2.view_is) at c.reserve_turn.ensures.same in
     let first = c.in-Some-pop_front.ensures.items ∙ ap (λ (q : Parcel). q ∷ c.pop_front.new.self.items) (sym c.into_parcel.ensures.parcel) in
     let is = (rw (← c.parcel-2.ensures.parcel) at c.index-2.ensures) ∙ ap (λ (x : Locality). get_or x.tables.desk 0 c.parcel-2.result.now) c.self.view_is in
-    let next = next_first t _ p c.parcel-2.result.now rest c.in-Ok.next same.tables first is c.in-Ok.ensures in
-    let gives = given_mail t _ c.enter_mail.new.self.tables p rest same.tables c.enter_mail.ensures.accepts in
-    next_gives (1024 ≤ c.enter_mail.new.book.spare) t p c.in-Ok.next next (λ id entry e. c.enter_mail.ensures.page id entry e)
+    let next = next_first g.A.Acts.act_of t _ p c.parcel-2.result.now rest c.in-Ok.next same.tables first is c.in-Ok.ensures in
+    next_gives (1024 ≤ c.enter_mail.new.book.spare) g.A.Acts.act_of t p c.in-Ok.next next (λ id entry e. c.enter_mail.ensures.page id entry e)
 
 pub returns-clause-cleared : goal.returns-clause-cleared
 returns-clause-cleared g c =
@@ -96,14 +112,33 @@ returns-clause-cleared g c =
     let same = rw (← c.self-2.view_is) at c.reserve_turn.ensures.same in
     let first = c.in-Some-pop_front.ensures.items ∙ ap (λ (q : Parcel). q ∷ c.pop_front.new.self.items) (sym c.into_parcel.ensures.parcel) in
     let is = (rw (← c.parcel-2.ensures.parcel) at c.index-2.ensures) ∙ ap (λ (x : Locality). get_or x.tables.desk 0 c.parcel-2.result.now) c.self.view_is in
-    let next = next_first t _ p c.parcel-2.result.now rest c.in-Ok.next same.tables first is c.in-Ok.ensures in
-    let gives = given_mail t _ c.enter_mail.new.self.tables p rest same.tables c.enter_mail.ensures.accepts in
-    let k = is_continued t t.taken rest c.enter_mail.new.self.tables c.follow.new.self.tables c.enter_mail.new.book.entries c.follow.new.book.entries p c.in-Ok.next
-    next gives c.follow.ensures.running c.follow.ensures.followed in
+    let next = next_first g.A.Acts.act_of t _ p c.parcel-2.result.now rest c.in-Ok.next same.tables first is c.in-Ok.ensures in
     let looked = (rw (← c.parcel.ensures.parcel) at c.index.ensures) ∙ ap (λ (x : Locality). get_or x.tables.desk 0 c.parcel.result.now) c.self.view_is in
-    λ ok. cleared t _ _ _ _ p c.parcel.result.now rest c.broken.result _ same first looked c.broken.ensures c.in_default.is
-    c.enter_mail.ensures.writes c.enter_mail.ensures.accepts c.enter_mail.ensures.leaves c.enter_mail.ensures.taken c.enter_mail.ensures.sent
-    c.follow.new.self.tables k.more c.follow.new.book.entries k.continues k.writes c.follow.ensures.taken c.follow.ensures.sent
+    let tidy = at_rest_tidy g.A.Acts.act_of _ _ c.requires.stands in
+    let at_first = first_there t _ p c.parcel.result.now rest c.broken.result same.tables first looked c.broken.ensures c.in_default.is in
+    let fit = (subst (AllByRecursion IsParcel) (ap (λ ds. ds ++ map (λ (x : Outgoing). x.parcel) t.outgoing) at_first) tidy.messages).0 in
+    let log = subst (λ (x : Locality). 8 ≤ x.tables.profile.credit_log) c.self.view_is c.self.invariant.3.log_least in
+    λ ok. (desk_clears g.A.Acts.act_of t _ c.enter_mail.new.self.tables _ _ p c.parcel.result.now rest c.broken.result c.in-Ok.next same fit first looked c.broken.ensures c.in_default.is
+    next c.enter_mail.ensures.deals c.requires.stands g.met.A.Acts.is_blind (omega (arith, log)) c.enter_mail.new.book.entries c.follow.new.book.entries c.enter_mail.ensures.writes c.enter_mail.ensures.leaves
+    c.enter_mail.ensures.taken c.enter_mail.ensures.sent c.follow.new.self.tables c.follow.ensures.running c.follow.ensures.followed c.follow.ensures.taken c.follow.ensures.sent).0
+
+pub returns-clause-stands : goal.returns-clause-stands
+returns-clause-stands g c =
+    let t = c.args.self.now.tables in
+    let p = c.into_parcel.result in
+    let rest = c.pop_front.new.self.items in
+    let same = rw (← c.self-2.view_is) at c.reserve_turn.ensures.same in
+    let first = c.in-Some-pop_front.ensures.items ∙ ap (λ (q : Parcel). q ∷ c.pop_front.new.self.items) (sym c.into_parcel.ensures.parcel) in
+    let is = (rw (← c.parcel-2.ensures.parcel) at c.index-2.ensures) ∙ ap (λ (x : Locality). get_or x.tables.desk 0 c.parcel-2.result.now) c.self.view_is in
+    let next = next_first g.A.Acts.act_of t _ p c.parcel-2.result.now rest c.in-Ok.next same.tables first is c.in-Ok.ensures in
+    let looked = (rw (← c.parcel.ensures.parcel) at c.index.ensures) ∙ ap (λ (x : Locality). get_or x.tables.desk 0 c.parcel.result.now) c.self.view_is in
+    let tidy = at_rest_tidy g.A.Acts.act_of _ _ c.requires.stands in
+    let at_first = first_there t _ p c.parcel.result.now rest c.broken.result same.tables first looked c.broken.ensures c.in_default.is in
+    let fit = (subst (AllByRecursion IsParcel) (ap (λ ds. ds ++ map (λ (x : Outgoing). x.parcel) t.outgoing) at_first) tidy.messages).0 in
+    let log = subst (λ (x : Locality). 8 ≤ x.tables.profile.credit_log) c.self.view_is c.self.invariant.3.log_least in
+    (desk_clears g.A.Acts.act_of t _ c.enter_mail.new.self.tables _ _ p c.parcel.result.now rest c.broken.result c.in-Ok.next same fit first looked c.broken.ensures c.in_default.is
+    next c.enter_mail.ensures.deals c.requires.stands g.met.A.Acts.is_blind (omega (arith, log)) c.enter_mail.new.book.entries c.follow.new.book.entries c.enter_mail.ensures.writes c.enter_mail.ensures.leaves
+    c.enter_mail.ensures.taken c.enter_mail.ensures.sent c.follow.new.self.tables c.follow.ensures.running c.follow.ensures.followed c.follow.ensures.taken c.follow.ensures.sent).1
 
 pub returns-then-is_err-clause-turn : goal.returns-then-is_err-clause-turn
 returns-then-is_err-clause-turn g c = adds_none _ _ c.reserve_turn.ensures.same.entries
@@ -111,15 +146,3 @@ returns-then-is_err-clause-turn g c = adds_none _ _ c.reserve_turn.ensures.same.
 pub returns-clause-turn : goal.returns-clause-turn
 returns-clause-turn g c = adds_steps _ _ _ _ c.reserve_turn.ensures.same.entries
     c.enter_mail.ensures.few c.enter_mail.ensures.light c.follow.ensures.few c.follow.ensures.light
-
-pub returns-then-is_err-clause-lacks : goal.returns-then-is_err-clause-lacks
-returns-then-is_err-clause-lacks g c = λ h. lacks_spare _ _ _ _ c.reserve_turn.ensures.same h
-
-pub returns-clause-lacks : goal.returns-clause-lacks
-returns-clause-lacks g c = λ h. clears_lacks _ _ _ _ (returns-clause-cleared g c refl) h
-
-pub returns-then-is_err-clause-orderly : goal.returns-then-is_err-clause-orderly
-returns-then-is_err-clause-orderly g c = λ h. orderly_spare g.A.Acts.act_of _ _ _ _ c.reserve_turn.ensures.same h
-
-pub returns-clause-orderly : goal.returns-clause-orderly
-returns-clause-orderly g c = λ h. clears_keeps g.A.Acts.act_of _ _ _ _ h (returns-clause-cleared g c refl) c.requires.stands.tidy

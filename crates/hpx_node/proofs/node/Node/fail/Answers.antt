@@ -1,7 +1,7 @@
-use Rattle.std.proofs.Common.{ap, arith}
+use Rattle.std.proofs.Common.{ap, arith, ◌∙◌}
 use Rattle.hpx_part.proofs.Keyed.{slice_get_less}
 use Rattle.hpx_tables.specs.Tables.{Tables}
-use Rattle.hpx_node.proofs.FailedAll.{plan_due, plan_ups, plan_few, plan_kept, then_stands, then_fails, then_writes, then_few}
+use Rattle.hpx_node.proofs.Failed.{plan_due, plan_ups, plan_few, plan_kept, then_fails, then_writes, then_few}
 use Rattle.hpx_node.proofs.TurnSteps.{fails_light}
 use Rattle.hpx_node.proofs.node.Node.fail.Goals as goal
 
@@ -15,53 +15,53 @@ abandon-requires-clause-object g c =
 
 pub abandon-requires-clause-kept : goal.abandon-requires-clause-kept
 abandon-requires-clause-kept g c =
-    plan_kept g.A.Acts.act_of c.args.self.now.tables c.args.i c.args.j c.requires.must c.args.plan c.requires.plan c.args.book.now.entries c.requires.stands
+    plan_kept c.args.self.now.tables c.args.i c.args.j c.requires.must c.args.plan c.requires.plan
 
 pub leave-requires-clause-fit : goal.leave-requires-clause-fit
 leave-requires-clause-fit g c =
-    plan_due g.A.Acts.act_of c.args.self.now.tables c.args.i c.args.j c.requires.must c.args.plan c.requires.plan c.args.book.now.entries c.requires.stands
+    plan_due c.args.self.now.tables c.args.i c.args.j c.requires.must c.args.plan c.requires.plan
 
 pub leave-requires-clause-credit : goal.leave-requires-clause-credit
 leave-requires-clause-credit g c =
-    plan_ups g.A.Acts.act_of c.args.self.now.tables c.args.i c.args.j c.requires.must c.args.plan c.requires.plan c.args.book.now.entries c.requires.stands
+    plan_ups c.args.self.now.tables c.args.i c.args.j c.requires.must c.args.plan c.requires.plan
 
 pub leave-requires-clause-spare : goal.leave-requires-clause-spare
 leave-requires-clause-spare g c =
-    let few = plan_few g.A.Acts.act_of c.args.self.now.tables c.args.i c.args.j c.requires.must c.args.plan c.requires.plan c.args.book.now.entries c.requires.stands in
+    let few = plan_few c.args.self.now.tables c.args.i c.args.j c.requires.must c.args.plan c.requires.plan in
     omega (arith, few, c.abandon.ensures.spare, c.requires.few, c.requires.spare)
 
 pub leave-requires-clause-page : goal.leave-requires-clause-page
 leave-requires-clause-page g c =
-    let few = plan_few g.A.Acts.act_of c.args.self.now.tables c.args.i c.args.j c.requires.must c.args.plan c.requires.plan c.args.book.now.entries c.requires.stands in
+    let few = plan_few c.args.self.now.tables c.args.i c.args.j c.requires.must c.args.plan c.requires.plan in
     omega (arith, few, c.abandon.ensures.page, c.requires.few, c.requires.page)
 
 pub leave-requires-clause-few : goal.leave-requires-clause-few
 leave-requires-clause-few g c =
-    let few = plan_few g.A.Acts.act_of c.args.self.now.tables c.args.i c.args.j c.requires.must c.args.plan c.requires.plan c.args.book.now.entries c.requires.stands in
+    let few = plan_few c.args.self.now.tables c.args.i c.args.j c.requires.must c.args.plan c.requires.plan in
     omega (arith, few, ap (λ (x : Tables). x.serial) c.abandon.ensures.rest, c.requires.serial)
 
-pub leave-requires-clause-stands : goal.leave-requires-clause-stands
-leave-requires-clause-stands g c =
-    then_stands g.A.Acts.act_of c.args.self.now.tables c.args.i c.args.j c.requires.must c.args.plan c.requires.plan c.args.book.now.entries c.requires.stands
-    c.abandon.new.self.tables c.abandon.new.book.entries c.abandon.ensures.pending c.abandon.ensures.objects c.abandon.ensures.rest c.abandon.ensures.entries
-
 pub returns-clause-fails : goal.returns-clause-fails
-returns-clause-fails g c =
-    then_fails g.A.Acts.act_of c.args.self.now.tables c.args.i c.args.j c.requires.must c.args.plan c.requires.plan c.args.book.now.entries c.requires.stands
-    c.abandon.new.self.tables c.abandon.new.book.entries c.abandon.ensures.pending c.abandon.ensures.objects c.abandon.ensures.rest c.abandon.ensures.entries
-    c.leave.new.self.tables c.leave.new.book.entries c.leave.ensures.rest c.leave.ensures.writes c.leave.ensures.goes
+returns-clause-fails g c = then_fails c.args.self.now.tables c.args.i c.args.j c.requires.must c.args.plan c.requires.plan c.abandon.new.self.tables c.abandon.ensures.pending c.abandon.ensures.objects
+    c.abandon.ensures.rest c.leave.new.self.tables c.leave.ensures.goes c.leave.ensures.rest
 
 pub returns-clause-writes : goal.returns-clause-writes
-returns-clause-writes g c =
-    then_writes g.A.Acts.act_of c.args.self.now.tables c.args.i c.args.j c.requires.must c.args.plan c.requires.plan c.args.book.now.entries c.requires.stands
-    c.abandon.new.self.tables c.abandon.new.book.entries c.abandon.ensures.pending c.abandon.ensures.objects c.abandon.ensures.rest c.abandon.ensures.entries
-    c.leave.new.self.tables c.leave.new.book.entries c.leave.ensures.rest c.leave.ensures.writes
+returns-clause-writes g c = then_writes c.args.self.now.tables c.args.i c.args.j c.requires.must c.args.plan c.requires.plan c.abandon.new.self.tables c.abandon.ensures.pending c.abandon.ensures.objects
+    c.abandon.ensures.rest c.leave.new.self.tables c.leave.ensures.goes c.leave.ensures.rest c.args.book.now.entries c.abandon.new.book.entries c.leave.new.book.entries
+    c.abandon.ensures.entries c.leave.ensures.writes
 
 pub returns-clause-few : goal.returns-clause-few
-returns-clause-few g c =
-    then_few g.A.Acts.act_of c.args.self.now.tables c.args.i c.args.j c.requires.must c.args.plan c.requires.plan c.args.book.now.entries c.requires.stands
-    c.abandon.new.self.tables c.abandon.new.book.entries c.abandon.ensures.pending c.abandon.ensures.objects c.abandon.ensures.rest c.abandon.ensures.entries
-    c.leave.new.self.tables c.leave.new.book.entries c.leave.ensures.rest c.leave.ensures.writes c.requires.few
+returns-clause-few g c = then_few c.args.self.now.tables c.args.i c.args.j c.requires.must c.args.plan c.requires.plan c.abandon.new.self.tables c.abandon.ensures.pending c.abandon.ensures.objects
+    c.abandon.ensures.rest c.leave.new.self.tables c.leave.ensures.goes c.leave.ensures.rest c.args.book.now.entries c.abandon.new.book.entries c.leave.new.book.entries
+    c.abandon.ensures.entries c.leave.ensures.writes c.requires.few
+
+pub returns-clause-running : goal.returns-clause-running
+returns-clause-running g c = ap (λ (x : Tables). x.running) c.leave.ensures.rest ∙ ap (λ (x : Tables). x.running) c.abandon.ensures.rest
+
+pub returns-clause-taken : goal.returns-clause-taken
+returns-clause-taken g c = ap (λ (x : Tables). x.taken) c.leave.ensures.rest ∙ ap (λ (x : Tables). x.taken) c.abandon.ensures.rest
+
+pub returns-clause-sent : goal.returns-clause-sent
+returns-clause-sent g c = ap (λ (x : Tables). x.sent) c.leave.ensures.rest ∙ ap (λ (x : Tables). x.sent) c.abandon.ensures.rest
 
 pub returns-clause-light : goal.returns-clause-light
 returns-clause-light g c =

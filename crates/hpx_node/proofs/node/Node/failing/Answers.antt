@@ -2,7 +2,7 @@ use Rattle.std.proofs.Common.{◌<◌, ◌∙◌, length, sym}
 use Rattle.hpx_part.proofs.Keyed.{slice_get_is}
 use Rattle.hpx_tables.specs.Pending.{awaits}
 use Rattle.hpx_tables.proofs.Alls.{find_passes}
-use Rattle.hpx_node.proofs.FailedPlan.{paused_at}
+use Rattle.hpx_node.proofs.Paused.{in_place, paused_at}
 use Rattle.hpx_node.proofs.node.Node.failing.Goals as goal
 
 pub returns-clause-some : goal.returns-clause-some
@@ -23,9 +23,7 @@ returns-clause-some g c =
       first = first;
       for = find_passes (awaits c.in-Give.id c.in-Give.entry) c.self.inside.pending.items c.index-waits.result.now (found ∙ there);
       last = sym c.fails_with.ensures ∙ c.if-not-fails_with.false;
-      standing = paused.standing;
-      stands = sym object ∙ paused.found;
-      found = paused.found;
+      place = in_place _ c.index-waits.result.now c.in-Some-place_of.j paused tidy.objects (sym object ∙ paused.found);
       plan = plan c.index-waits.result.now there;
       few = c.in_ok-plan.ensures.few;
     })

@@ -3,22 +3,11 @@ use Rattle.std.specs.List.{find, slice_get}
 use Rattle.hpx_journal.specs.Local.{is_standing}
 use Rattle.hpx_part.proofs.Keyed.{slice_get_is}
 use Rattle.hpx_tables.specs.Tables.{Tables}
-use Rattle.hpx_node.proofs.Recounted.{leaves_freed}
-use Rattle.hpx_node.proofs.Freed.{freed_handles, freed_grows, without_tidy, without_whole}
+use Rattle.hpx_node.proofs.Credits.{freed_deals, freed_grows, returns_kept}
+use Rattle.hpx_node.proofs.Paused.{freed_whole}
+use Rattle.hpx_node.proofs.Records.{leaves_freed}
 use Rattle.hpx_node.specs.Locality.{Locality}
 use Rattle.hpx_node.proofs.node.Node.free.Goals as goal
-
-pub let_go_all-requires-clause-tidy : goal.let_go_all-requires-clause-tidy
-let_go_all-requires-clause-tidy g c =
-    let tidy = rw (← c.self.view_is) at c.requires.tidy in
-    let idle = rw (← c.self.view_is) at c.requires.idle in
-    let none = rw (← c.self.view_is) at c.requires.none in
-    let inside : c.in-Some.i < length c.self.inside.objects.items = rw (c.as_slice.ensures.value) at c.in-Some.ensures.inside in
-    let there : slice_get c.self.inside.objects.items c.in-Some.i ≡ Some c.remove-kept.result =
-    slice_get_is c.self.inside.objects.items c.in-Some.i c.remove-kept.result inside c.remove-kept.ensures.value in
-    let found : find (is_standing c.args.o) c.self.inside.objects.items ≡ Some c.remove-kept.result =
-    (rw (c.as_slice.ensures.value) at c.in-Some.ensures.found) ∙ there in
-    rw (c.remove-kept.ensures.items) (without_tidy _ c.args.o c.remove-kept.result c.in-Some.i there found c.requires.bare idle none tidy)
 
 pub let_go_all-requires-clause-right : goal.let_go_all-requires-clause-right
 let_go_all-requires-clause-right g c =
@@ -29,21 +18,17 @@ let_go_all-requires-clause-right g c =
     slice_get_is c.self.inside.objects.items c.in-Some.i c.remove-kept.result inside c.remove-kept.ensures.value in
     let found : find (is_standing c.args.o) c.self.inside.objects.items ≡ Some c.remove-kept.result =
     (rw (c.as_slice.ensures.value) at c.in-Some.ensures.found) ∙ there in
-    rw (c.state.ensures.state) (without_whole _ c.args.o c.remove-kept.result c.in-Some.i there found idle tidy)
+    rw (c.state.ensures.state) (freed_whole _ c.args.o c.remove-kept.result c.in-Some.i there found idle tidy)
 
-pub returns-clause-handles : goal.returns-clause-handles
-returns-clause-handles g c =
-    let tidy = rw (← c.self.view_is) at c.requires.tidy in
-    let none = rw (← c.self.view_is) at c.requires.none in
-    let idle = rw (← c.self.view_is) at c.requires.idle in
+pub returns-clause-deals : goal.returns-clause-deals
+returns-clause-deals g c =
     let inside : c.in-Some.i < length c.self.inside.objects.items = rw (c.as_slice.ensures.value) at c.in-Some.ensures.inside in
     let there : slice_get c.self.inside.objects.items c.in-Some.i ≡ Some c.remove-kept.result =
     slice_get_is c.self.inside.objects.items c.in-Some.i c.remove-kept.result inside c.remove-kept.ensures.value in
     let found : find (is_standing c.args.o) c.self.inside.objects.items ≡ Some c.remove-kept.result =
     (rw (c.as_slice.ensures.value) at c.in-Some.ensures.found) ∙ there in
-    let gives = rw (c.state.ensures.state, c.remove-kept.ensures.items) at c.let_go_all.ensures.gives in
     rw (← c.self.view_is)
-    (freed_handles _ _ _ c.args.o c.remove-kept.result c.in-Some.i c.requires.bare tidy idle none there found gives _ found)
+    (freed_deals c.state.result.now.ids _ _ c.remove-kept.new.self.items _ c.remove-kept.result found (ap (λ s. s.ids) c.state.ensures.state) c.let_go_all.ensures.goes)
 
 pub returns-clause-grows : goal.returns-clause-grows
 returns-clause-grows g c =
@@ -69,4 +54,4 @@ returns-clause-leaves g c =
     let before = rw (c.as_slice.ensures.value) at c.in-Some.ensures.first in
     rw (← c.self.view_is)
     (leaves_freed c.self.inside.objects.items _ c.args.o c.remove-kept.result c.in-Some.i before there found
-    (ap (λ (t : Tables). t.objects) c.let_go_all.ensures.gives.rest ∙ c.remove-kept.ensures.items))
+    (ap (λ (t : Tables). t.objects) c.let_go_all.ensures.goes ∙ (returns_kept c.state.result.now.ids _ ∙ c.remove-kept.ensures.items)))

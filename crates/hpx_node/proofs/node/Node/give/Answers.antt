@@ -4,17 +4,11 @@ use Rattle.hpx_steps.specs.Rest.{IsPaused}
 use Rattle.hpx_tables.specs.Pending.{awaits}
 use Rattle.hpx_tables.proofs.Alls.{all_at, find_passes}
 use Rattle.hpx_tables.proofs.Refills.{any_found}
-use Rattle.hpx_node.proofs.Refilled.{asked_within, gives_handles}
+use Rattle.hpx_node.proofs.Paused.{asked_within}
 use Rattle.hpx_node.proofs.node.Node.give.Goals as goal
 
 pub returns-in_default-clause-gives : goal.returns-in_default-clause-gives
 returns-in_default-clause-gives g c =
-    let waits = rw (← c.self.view_is) at c.requires.waits in
-    let none = rw (c.as_slice.ensures.value) at c.in_default.ensures.none in
-    absurd (any_found (awaits c.args.id c.args.entry) c.self.inside.pending.items waits none)
-
-pub returns-in_default-clause-handles : goal.returns-in_default-clause-handles
-returns-in_default-clause-handles g c =
     let waits = rw (← c.self.view_is) at c.requires.waits in
     let none = rw (c.as_slice.ensures.value) at c.in_default.ensures.none in
     absurd (any_found (awaits c.args.id c.args.entry) c.self.inside.pending.items waits none)
@@ -56,13 +50,3 @@ returns-clause-gives g c =
       refills = c.refill.ensures;
       rest = refl;
     })
-
-pub returns-clause-handles : goal.returns-clause-handles
-returns-clause-handles g c =
-    let tidy = rw (← c.self.view_is) at c.requires.tidy in
-    let brings = rw (← c.self.view_is) at c.requires.brings in
-    let inside : c.in-Some.i < length c.self.inside.pending.items = rw (c.as_slice.ensures.value) at c.in-Some.ensures.inside in
-    let there = slice_get_is c.self.inside.pending.items c.in-Some.i c.index_mut.result.now inside c.index_mut.ensures.value in
-    let alone = rw (c.as_slice.ensures.value) at c.in-Some.ensures.first in
-    rw (← c.self.view_is)
-    (gives_handles g.A.Acts.act_of _ c.args.id c.args.entry c.in-Some.i c.index_mut.result.now c.refill.new.self tidy c.requires.credit brings there alone c.refill.ensures)

@@ -1,11 +1,9 @@
-use Rattle.std.proofs.Common.{[], ◌≡◌, ◌≤◌, ◌++◌, length}
+use Rattle.std.proofs.Common.{◌≡◌, ◌≤◌, ◌++◌, length}
 use Rattle.std.specs.List.{AllByRecursion}
 use Rattle.hpx_parcel.specs.Parcels.{HasCredit}
 use Rattle.hpx_part.specs.Parts.{at_all}
 use Rattle.hpx_node.specs.Changes.{OnlySends}
-use Rattle.hpx_node.specs.Commits.{ups}
-use Rattle.hpx_steps.specs.Calls.{with_returns}
-use Rattle.hpx_steps.specs.Rest.{StandsWith, rules_of}
+use Rattle.hpx_steps.specs.Calls.{ups, with_returns}
 use Rattle.hpx_node.proofs.node.Node.give_up_all.Given as goal
 
 abbrev pub decreases-loop-self : goal.decreases-loop-self
@@ -16,9 +14,6 @@ invariant-loop-self g l = record {
   credit : AllByRecursion HasCredit l.loose.items;
   spare : length l.loose.items ≤ l.self.spare;
   page : length l.loose.items ≤ l.book.spare;
-  stands : StandsWith (rules_of g.A.Acts.act_of l.self.tables.localities l.self.tables.profile) l.self.tables [] l.loose.items l.book.entries;
-  here : (l.self.tables.here ≡ l.fn.self.tables.here) × (l.self.tables.localities ≡ l.fn.self.tables.localities) × (l.self.tables.profile ≡ l.fn.self.tables.profile);
-  running : l.self.tables.running ≡ l.fn.self.tables.running;
   rest : OnlySends l.fn.self.tables l.self.tables;
   goes : with_returns l.loose.items l.self.tables ≡ with_returns l.fn.loose.items l.fn.self.tables;
   writes : l.book.entries ++ at_all l.self.tables.here (ups l.loose.items) ≡ l.fn.book.entries ++ at_all l.fn.self.tables.here (ups l.fn.loose.items);

@@ -2,10 +2,8 @@ use Rattle.std.proofs.Common.{◌≡◌, ◌≤◌, ◌<◌, ◌+◌, ◌++◌, 
 use Rattle.std.specs.List.{AllByRecursion}
 use Rattle.hpx_part.specs.Parts.{at_all}
 use Rattle.hpx_node.specs.Changes.{OnlySends}
-use Rattle.hpx_node.specs.Commits.{written}
 use Rattle.hpx_tables.specs.Fit.{IsFitDue}
-use Rattle.hpx_steps.specs.Calls.{with_due}
-use Rattle.hpx_steps.specs.Rest.{StandsWith, rules_of}
+use Rattle.hpx_steps.specs.Calls.{with_due, written_due}
 use Rattle.hpx_node.proofs.node.Node.pay_all.Given as goal
 
 abbrev pub decreases-loop-self : goal.decreases-loop-self
@@ -17,11 +15,8 @@ invariant-loop-self g l = record {
   spare : l.fn.self.spare + length l.due.items ≤ l.self.spare + length l.fn.due.items;
   page : l.book.spare + length l.fn.due.items ≡ l.fn.book.spare + length l.due.items;
   few : l.self.tables.serial + length l.due.items < 2 ^ 64;
-  stands : StandsWith (rules_of g.A.Acts.act_of l.self.tables.localities l.self.tables.profile) l.self.tables l.due.items l.loose l.book.entries;
-  here : (l.self.tables.here ≡ l.fn.self.tables.here) × (l.self.tables.localities ≡ l.fn.self.tables.localities) × (l.self.tables.profile ≡ l.fn.self.tables.profile);
-  running : l.self.tables.running ≡ l.fn.self.tables.running;
   rest : OnlySends l.fn.self.tables l.self.tables;
   goes : with_due l.due.items l.self.tables ≡ with_due l.fn.due.items l.fn.self.tables;
-  writes : l.book.entries ++ at_all l.self.tables.here (written l.self.tables.here l.self.tables.serial l.due.items)
-      ≡ l.fn.book.entries ++ at_all l.fn.self.tables.here (written l.fn.self.tables.here l.fn.self.tables.serial l.fn.due.items);
+  writes : l.book.entries ++ at_all l.self.tables.here (written_due l.self.tables.here l.self.tables.serial l.due.items)
+      ≡ l.fn.book.entries ++ at_all l.fn.self.tables.here (written_due l.fn.self.tables.here l.fn.self.tables.serial l.fn.due.items);
 }

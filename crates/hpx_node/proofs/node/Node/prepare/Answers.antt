@@ -38,6 +38,6 @@ prepare_from-requires-clause-stock g c =
     let t = record c.args.self.now.tables { localities = d.localities } in
     let test = rw (c.as_slice-3.ensures.value, c.in_ok-places.ensures, c.ids.ensures, c.in_ok-hand.ensures.0, c.in_ok-hand.ensures.1, c.in_ok-hand.ensures.2, c.as_slice-2.ensures.value, c.in_ok-made.ensures, c.as_slice.ensures, c.job-job.ensures, c.outcome-outcome.ensures) at c.all_last.ensures in
     let is : c.all_last.result ≡ true = let no = c.if-not-all_last.false in cc in
-    let own = own_is t d.job d.outcome c.requires.fit c.requires.localities c.lawful.ensures (test.0 is) in
+    let own = own_is t d.job d.outcome c.requires.fit (omega (arith, c.requires.localities, c.requires.near)) c.lawful.ensures (test.0 is) in
     rw (c.in_ok-stock.ensures, c.ids-2.ensures, c.as_slice-4.ensures.value, c.in_ok-places.ensures, c.in_ok-hand.ensures.0, c.in_ok-hand.ensures.1, c.in_ok-hand.ensures.2, c.as_slice-2.ensures.value, c.in_ok-made.ensures, c.as_slice.ensures, c.job-job.ensures, c.outcome-outcome.ensures)
     (record { names = own.names; credit = own.credit; few = own.few; lasts = own.lasts })

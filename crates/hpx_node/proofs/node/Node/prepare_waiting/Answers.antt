@@ -6,6 +6,9 @@ use Rattle.hpx_node.proofs.Prepared.{made_long}
 use Rattle.hpx_node.proofs.node.Node.prepare_waiting.Goals as goal
 use Rattle.std.proofs.Common.{List}
 
+pub lawful-requires-clause-localities : goal.lawful-requires-clause-localities
+lawful-requires-clause-localities g c = omega (arith, c.done.ensures.localities, c.requires.localities, c.requires.near)
+
 pub replace_from-requires-clause-fits : goal.replace_from-requires-clause-fits
 replace_from-requires-clause-fits g c =
     let w = c.args.waits.now in

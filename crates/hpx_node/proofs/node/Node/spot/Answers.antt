@@ -1,19 +1,17 @@
 use Rattle.std.proofs.Common.{◌≡◌, ◌<◌, ◌∙◌, Some, length, refl, sym}
 use Rattle.std.specs.List.{slice_get}
 use Rattle.hpx_part.proofs.Keyed.{slice_get_is}
-use Rattle.hpx_node.proofs.Pausing.{fit_job}
+use Rattle.hpx_node.proofs.Paused.{fit_job}
 use Rattle.hpx_node.proofs.node.Node.spot.Goals as goal
 
 pub returns-clause-fit : goal.returns-clause-fit
 returns-clause-fit g c =
     let n = c.self.inside in
     let tidy = rw (← c.self.view_is) at c.requires.tidy in
-    let paused = tidy.paused in
     let runs : slice_get n.running.items c.in_ok-i.i ≡ Some c.job-job.result.now.action = rw c.as_slice.ensures.value at c.in_ok-i.ensures.some in
     let inside : c.in_ok-j.j < length n.objects.items = rw c.as_slice-2.ensures.value at c.in_ok-j.ensures.inside in
     let there = slice_get_is n.objects.items c.in_ok-j.j c.index-kept.result.now inside c.index-kept.ensures in
     let found = rw (c.as_slice-2.ensures.value, c.target.ensures) at c.in_ok-j.ensures.found in
     let state : c.state.result.now ≡ c.job-job.result.now.state = c.if-not-same.ensures.0 refl in
     rw (← c.job-job.ensures)
-    (fit_job n.here n.localities n.profile.credit_log n.objects.items n.running.items n.pending.items c.job-job.result.now c.in_ok-i.i c.in_ok-j.j c.index-kept.result.now
-    tidy.running paused runs (found ∙ there) there c.state.ensures.kept (sym c.state.ensures.state ∙ state))
+    (fit_job _ c.job-job.result.now c.in_ok-i.i c.in_ok-j.j c.index-kept.result.now tidy runs (found ∙ there) there c.state.ensures.kept (sym c.state.ensures.state ∙ state))

@@ -1,26 +1,36 @@
-use Rattle.std.proofs.Common.{ap, refl, ◌∙◌}
+use Rattle.std.proofs.Common.{ap, arith, refl, ◌∙◌}
+use Rattle.hpx_tables.specs.Tables.{Tables}
 use Rattle.hpx_journal.specs.Weights.{Book}
 use Rattle.hpx_node.proofs.Waited.{short_same, before_same, begins_from}
-use Rattle.hpx_node.proofs.Same.{stands_same}
+use Rattle.hpx_steps.specs.Rest.{Stands}
+use Rattle.hpx_node.proofs.Same.{same_too}
 use Rattle.hpx_node.proofs.Turns.{turn_from, adds_none}
 use Rattle.hpx_node.proofs.node.Node.wait.Goals.{then-is_err-via-then-is_err, then-is_err-via-else-is_err+then-is_err-2}
-use Rattle.hpx_tables.specs.Tables.{Tables}
-use Rattle.hpx_node.proofs.Lacks.{lacks_same, begins_lacks}
-use Rattle.hpx_node.proofs.OrderCalls.{orderly_same, begins_keeps}
+use Rattle.hpx_node.proofs.Turned.{are_few, asked_few}
 use Rattle.hpx_node.proofs.node.Node.wait.Goals as goal
 
 pub returns-then-is_err-clause-stands : goal.returns-then-is_err-clause-stands
 returns-then-is_err-clause-stands g c = elim c.then-is_err.branch [
   | then-is_err-via-then-is_err w ↦
-      stands_same g.A.Acts.act_of c.args.self.now.tables _ _ _ c.requires.stands c.reserve.ensures.same (ap (λ (b : Book). b.entries) w.book-is)
+      same_too (Stands g.A.Acts.act_of) c.args.self.now.tables _ _ _ c.requires.stands c.reserve.ensures.same (ap (λ (b : Book). b.entries) w.book-is)
   | then-is_err-via-else-is_err+then-is_err-2 w ↦
-      stands_same g.A.Acts.act_of c.args.self.now.tables _ _ _ c.requires.stands c.reserve.ensures.same
+      same_too (Stands g.A.Acts.act_of) c.args.self.now.tables _ _ _ c.requires.stands c.reserve.ensures.same
       (ap (λ (b : Book). b.entries) w.book-is ∙ w.reserve-else-is_err.ensures.entries)
 ]
 
+pub before-requires-clause-few : goal.before-requires-clause-few
+before-requires-clause-few g c = (are_few g.A.Acts.act_of _ _ c.requires.room c.requires.stands).births
+
+pub before-requires-clause-asked : goal.before-requires-clause-asked
+before-requires-clause-asked g c = asked_few g.A.Acts.act_of _ _ c.requires.room c.requires.stands
+
+pub begin-requires-clause-asked : goal.begin-requires-clause-asked
+begin-requires-clause-asked g c =
+    omega (arith, asked_few g.A.Acts.act_of _ _ c.requires.room c.requires.stands, ap (λ (x : Tables). x.asked) c.reserve.ensures.same)
+
 pub begin-requires-clause-stands : goal.begin-requires-clause-stands
 begin-requires-clause-stands g c =
-    stands_same g.A.Acts.act_of c.args.self.now.tables _ _ _ c.requires.stands c.reserve.ensures.same c.reserve-else-is_err.ensures.entries
+    same_too (Stands g.A.Acts.act_of) c.args.self.now.tables _ _ _ c.requires.stands c.reserve.ensures.same c.reserve-else-is_err.ensures.entries
 
 pub begin-requires-clause-before : goal.begin-requires-clause-before
 begin-requires-clause-before g c = before_same c.args.self.now.tables _ _ _ _ c.reserve.ensures.same c.in-Ok.ensures
@@ -40,20 +50,3 @@ returns-then-is_err-clause-turn g c = elim c.then-is_err.branch [
 
 pub returns-clause-turn : goal.returns-clause-turn
 returns-clause-turn g c = turn_from _ _ _ c.reserve-else-is_err.ensures.entries c.begin.ensures.turn
-
-pub returns-then-is_err-clause-lacks : goal.returns-then-is_err-clause-lacks
-returns-then-is_err-clause-lacks g c = λ h. lacks_same _ _ (ap (λ (x : Tables). x.pending) c.reserve.ensures.same) h
-
-pub returns-clause-lacks : goal.returns-clause-lacks
-returns-clause-lacks g c = λ h. begins_lacks _ _ _ _ _ _ c.begin.ensures.begins (lacks_same _ _ (ap (λ (x : Tables). x.pending) c.reserve.ensures.same) h)
-
-pub returns-then-is_err-clause-orderly : goal.returns-then-is_err-clause-orderly
-returns-then-is_err-clause-orderly g c = elim c.then-is_err.branch [
-  | then-is_err-via-then-is_err w ↦ λ h. orderly_same g.A.Acts.act_of c.args.self.now.tables _ _ _ c.reserve.ensures.same (ap (λ (b : Book). b.entries) w.book-is) h
-  | then-is_err-via-else-is_err+then-is_err-2 w ↦ λ h. orderly_same g.A.Acts.act_of c.args.self.now.tables _ _ _ c.reserve.ensures.same
-      (ap (λ (b : Book). b.entries) w.book-is ∙ w.reserve-else-is_err.ensures.entries) h
-]
-
-pub returns-clause-orderly : goal.returns-clause-orderly
-returns-clause-orderly g c = λ h. begins_keeps g.A.Acts.act_of _ _ _ _ _ _ c.begin.ensures.begins
-    (orderly_same g.A.Acts.act_of c.args.self.now.tables _ c.args.book.now.entries _ c.reserve.ensures.same c.reserve-else-is_err.ensures.entries h)

@@ -29,7 +29,7 @@ pub returns-in-Ok-clause-sound : goal.returns-in-Ok-clause-sound
 returns-in-Ok-clause-sound g c =
     let lt : c.args.frame.now.0 < length (tables_of c.args.self.now.nodes.items) = omega (arith, c.if-frame-n.false, c.len-n.ensures, tables_long c.args.self.now.nodes.items) in
     sound_wrote _ _ _ _ c.requires.sound c.args.frame.now.0 c.index_mut.result.now c.take.new.self lt c.index_mut.ensures.value _ _
-    c.in-Ok.ensures.ok.writes c.take.ensures.stands c.take.ensures.lacks c.take.ensures.orderly (turn_within _ _ c.requires.room c.take.ensures.turn)
+    c.in-Ok.ensures.ok.writes c.take.ensures.stands (turn_within _ _ c.requires.room c.take.ensures.turn)
 
 pub returns-in-Ok-clause-ok : goal.returns-in-Ok-clause-ok
 returns-in-Ok-clause-ok g c =
@@ -45,7 +45,7 @@ pub returns-in-Err-clause-sound : goal.returns-in-Err-clause-sound
 returns-in-Err-clause-sound g c =
     let lt : c.args.frame.now.0 < length (tables_of c.args.self.now.nodes.items) = omega (arith, c.if-frame-n.false, c.len-n.ensures, tables_long c.args.self.now.nodes.items) in
     sound_inside _ _ _ _ c.requires.sound c.args.frame.now.0 c.index_mut.result.now c.take.new.self lt c.index_mut.ensures.value _
-    (spare_inside _ _ c.args.self.now.journal c.take.new.book c.in-Err.ensures.err) c.take.ensures.stands c.take.ensures.lacks c.take.ensures.orderly (turn_within _ _ c.requires.room c.take.ensures.turn)
+    (spare_inside _ _ c.args.self.now.journal c.take.new.book c.in-Err.ensures.err) c.take.ensures.stands (turn_within _ _ c.requires.room c.take.ensures.turn)
 
 pub returns-in-Err-clause-jobs : goal.returns-in-Err-clause-jobs
 returns-in-Err-clause-jobs g c =

@@ -14,7 +14,7 @@ loop-k-preserved g c =
     let b = c.in_ok-boot.ensures in
     record {
       count = rw (c.in_ok-push.ensures.items, tables_push) (omega (arith, length-append (tables_of c.loop-k.nodes.items) (c.in_ok-boot.field-0.tables ∷ []), c.loop-k.invariant.count));
-      booted = rw (c.in_ok-push.ensures.items, tables_push) (booted_more _ _ _ (tables_of c.loop-k.nodes.items) c.in_ok-boot.field-0.tables i.booted (b.here ∙ sym i.count) b.localities b.profile b.stands b.lacks b.orderly);
+      booted = rw (c.in_ok-push.ensures.items, tables_push) (booted_more _ _ _ (tables_of c.loop-k.nodes.items) c.in_ok-boot.field-0.tables i.booted (b.here ∙ sym i.count) b.localities b.profile b.stands);
       none = rw (c.in_ok-push.ensures.items, tables_push) (none_runs_more (tables_of c.loop-k.nodes.items) c.in_ok-boot.field-0.tables i.none b.passive);
       idle = rw (c.in_ok-push.ensures.items, tables_push) (idle_more (tables_of c.loop-k.nodes.items) c.in_ok-boot.field-0.tables i.idle b.passive b.frames);
     }

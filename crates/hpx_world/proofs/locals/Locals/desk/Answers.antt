@@ -16,7 +16,7 @@ pub returns-in-Ok-true-clause-sound : goal.returns-in-Ok-true-clause-sound
 returns-in-Ok-true-clause-sound g c =
     sound_inside _ _ _ _ c.requires.sound c.args.k c.index_mut.result.now c.desk.new.self c.requires.range c.index_mut.ensures.value _
     (desk_inside c.index_mut.result.now c.desk.new.self c.args.self.now.journal c.desk.new.book _ c.desk.result c.desk.ensures.cleared c.desk.ensures.empty c.desk.ensures.err)
-    c.desk.ensures.stands c.desk.ensures.lacks c.desk.ensures.orderly (turn_within _ _ c.requires.room c.desk.ensures.turn)
+    c.desk.ensures.stands (turn_within _ _ c.requires.room c.desk.ensures.turn)
 
 pub returns-in-Ok-true-clause-inside : goal.returns-in-Ok-true-clause-inside
 returns-in-Ok-true-clause-inside g c =
@@ -31,7 +31,7 @@ pub returns-in-Ok-false-clause-sound : goal.returns-in-Ok-false-clause-sound
 returns-in-Ok-false-clause-sound g c =
     sound_inside _ _ _ _ c.requires.sound c.args.k c.index_mut.result.now c.desk.new.self c.requires.range c.index_mut.ensures.value _
     (desk_inside c.index_mut.result.now c.desk.new.self c.args.self.now.journal c.desk.new.book _ c.desk.result c.desk.ensures.cleared c.desk.ensures.empty c.desk.ensures.err)
-    c.desk.ensures.stands c.desk.ensures.lacks c.desk.ensures.orderly (turn_within _ _ c.requires.room c.desk.ensures.turn)
+    c.desk.ensures.stands (turn_within _ _ c.requires.room c.desk.ensures.turn)
 
 pub returns-in-Ok-false-clause-inside : goal.returns-in-Ok-false-clause-inside
 returns-in-Ok-false-clause-inside g c =
@@ -46,7 +46,7 @@ pub returns-in-Err-clause-sound : goal.returns-in-Err-clause-sound
 returns-in-Err-clause-sound g c =
     sound_inside _ _ _ _ c.requires.sound c.args.k c.index_mut.result.now c.desk.new.self c.requires.range c.index_mut.ensures.value _
     (desk_inside c.index_mut.result.now c.desk.new.self c.args.self.now.journal c.desk.new.book _ c.desk.result c.desk.ensures.cleared c.desk.ensures.empty c.desk.ensures.err)
-    c.desk.ensures.stands c.desk.ensures.lacks c.desk.ensures.orderly (turn_within _ _ c.requires.room c.desk.ensures.turn)
+    c.desk.ensures.stands (turn_within _ _ c.requires.room c.desk.ensures.turn)
 
 pub returns-in-Err-clause-inside : goal.returns-in-Err-clause-inside
 returns-in-Err-clause-inside g c =

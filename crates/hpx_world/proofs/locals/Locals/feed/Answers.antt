@@ -1,11 +1,11 @@
 use Rattle.hpx_node.proofs.Turns.{turn_within}
 use Rattle.hpx_world.specs.Turns.{Feeds}
-use Rattle.hpx_world.proofs.Calls.{done_at, same_at, running_at, feed_inside, here_at, rest_at, rest_inside, inside_at}
+use Rattle.hpx_world.proofs.Calls.{done_at, same_at, running_at, feed_inside, here_at, stands_at, sound_inside, inside_at}
 use Rattle.hpx_world.proofs.locals.Locals.feed.Goals as goal
 
 pub feed-requires-clause-stands : goal.feed-requires-clause-stands
 feed-requires-clause-stands g c =
-    rest_at _ _ _ _ c.requires.sound 0 c.index_mut.result.now c.index_mut.result.now c.requires.sound.some c.index_mut.ensures.value
+    stands_at _ _ _ _ c.requires.sound 0 c.index_mut.result.now c.index_mut.result.now c.requires.sound.some c.index_mut.ensures.value
 
 pub feed-requires-clause-here : goal.feed-requires-clause-here
 feed-requires-clause-here g c =
@@ -13,7 +13,7 @@ feed-requires-clause-here g c =
 
 pub returns-in-Ok-clause-sound : goal.returns-in-Ok-clause-sound
 returns-in-Ok-clause-sound g c =
-    rest_inside _ _ _ _ c.requires.sound 0 c.index_mut.result.now c.feed.new.self c.requires.sound.some c.index_mut.ensures.value _
+    sound_inside _ _ _ _ c.requires.sound 0 c.index_mut.result.now c.feed.new.self c.requires.sound.some c.index_mut.ensures.value _
     (feed_inside c.index_mut.result.now c.feed.new.self c.args.self.now.journal c.feed.new.book _ c.args.line c.feed.result c.feed.ensures.line c.feed.ensures.err)
     c.feed.ensures.stands (turn_within _ _ c.requires.room c.feed.ensures.turn)
 
@@ -28,7 +28,7 @@ returns-in-Ok-clause-jobs g c =
 
 pub returns-in-Err-clause-sound : goal.returns-in-Err-clause-sound
 returns-in-Err-clause-sound g c =
-    rest_inside _ _ _ _ c.requires.sound 0 c.index_mut.result.now c.feed.new.self c.requires.sound.some c.index_mut.ensures.value _
+    sound_inside _ _ _ _ c.requires.sound 0 c.index_mut.result.now c.feed.new.self c.requires.sound.some c.index_mut.ensures.value _
     (feed_inside c.index_mut.result.now c.feed.new.self c.args.self.now.journal c.feed.new.book _ c.args.line c.feed.result c.feed.ensures.line c.feed.ensures.err)
     c.feed.ensures.stands (turn_within _ _ c.requires.room c.feed.ensures.turn)
 

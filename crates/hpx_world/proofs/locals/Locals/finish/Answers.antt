@@ -11,7 +11,7 @@ pub returns-in-Ok-clause-sound : goal.returns-in-Ok-clause-sound
 returns-in-Ok-clause-sound g c =
     sound_inside _ _ _ _ c.requires.sound c.args.k c.index_mut.result.now c.finish.new.self c.requires.range c.index_mut.ensures.value _
     (finish_inside c.index_mut.result.now c.finish.new.self c.args.self.now.journal c.finish.new.book _ _ _ c.args.done.job c.args.done.outcome c.finish.result c.finish.ensures.committed c.finish.ensures.asks c.finish.ensures.not_running c.finish.ensures.err)
-    c.finish.ensures.stands c.finish.ensures.lacks c.finish.ensures.orderly (turn_within _ _ c.requires.room c.finish.ensures.turn)
+    c.finish.ensures.stands (turn_within _ _ c.requires.room c.finish.ensures.turn)
 
 pub returns-in-Ok-clause-inside : goal.returns-in-Ok-clause-inside
 returns-in-Ok-clause-inside g c =
@@ -22,7 +22,7 @@ pub returns-in-Err-clause-sound : goal.returns-in-Err-clause-sound
 returns-in-Err-clause-sound g c =
     sound_inside _ _ _ _ c.requires.sound c.args.k c.index_mut.result.now c.finish.new.self c.requires.range c.index_mut.ensures.value _
     (finish_inside c.index_mut.result.now c.finish.new.self c.args.self.now.journal c.finish.new.book _ _ _ c.args.done.job c.args.done.outcome c.finish.result c.finish.ensures.committed c.finish.ensures.asks c.finish.ensures.not_running c.finish.ensures.err)
-    c.finish.ensures.stands c.finish.ensures.lacks c.finish.ensures.orderly (turn_within _ _ c.requires.room c.finish.ensures.turn)
+    c.finish.ensures.stands (turn_within _ _ c.requires.room c.finish.ensures.turn)
 
 pub returns-in-Err-clause-inside : goal.returns-in-Err-clause-inside
 returns-in-Err-clause-inside g c =

@@ -1,16 +1,16 @@
 use Rattle.hpx_node.proofs.Turns.{turn_within}
 use Rattle.hpx_world.specs.Quiet.{IsStuck}
 use Rattle.hpx_world.specs.Turns.{Fires}
-use Rattle.hpx_world.proofs.Calls.{done_at, same_at, at_own, fire_inside, rest_at, rest_inside, inside_at}
+use Rattle.hpx_world.proofs.Calls.{done_at, same_at, at_own, fire_inside, stands_at, sound_inside, inside_at}
 use Rattle.hpx_world.proofs.locals.Locals.fire.Goals as goal
 
 pub fire-requires-clause-stands : goal.fire-requires-clause-stands
 fire-requires-clause-stands g c =
-    rest_at _ _ _ _ c.requires.sound c.args.k c.index_mut.result.now c.index_mut.result.now c.requires.range c.index_mut.ensures.value
+    stands_at _ _ _ _ c.requires.sound c.args.k c.index_mut.result.now c.index_mut.result.now c.requires.range c.index_mut.ensures.value
 
 pub returns-in-Ok-Some-clause-sound : goal.returns-in-Ok-Some-clause-sound
 returns-in-Ok-Some-clause-sound g c =
-    rest_inside _ _ _ _ c.requires.sound c.args.k c.index_mut.result.now c.fire.new.self c.requires.range c.index_mut.ensures.value _
+    sound_inside _ _ _ _ c.requires.sound c.args.k c.index_mut.result.now c.fire.new.self c.requires.range c.index_mut.ensures.value _
     (fire_inside c.index_mut.result.now c.fire.new.self c.args.self.now.journal c.fire.new.book _ c.fire.result c.fire.ensures.fired c.fire.ensures.none c.fire.ensures.err)
     c.fire.ensures.stands (turn_within _ _ c.requires.room c.fire.ensures.turn)
 
@@ -21,7 +21,7 @@ returns-in-Ok-Some-clause-inside g c =
 
 pub returns-in-Ok-None-clause-sound : goal.returns-in-Ok-None-clause-sound
 returns-in-Ok-None-clause-sound g c =
-    rest_inside _ _ _ _ c.requires.sound c.args.k c.index_mut.result.now c.fire.new.self c.requires.range c.index_mut.ensures.value _
+    sound_inside _ _ _ _ c.requires.sound c.args.k c.index_mut.result.now c.fire.new.self c.requires.range c.index_mut.ensures.value _
     (fire_inside c.index_mut.result.now c.fire.new.self c.args.self.now.journal c.fire.new.book _ c.fire.result c.fire.ensures.fired c.fire.ensures.none c.fire.ensures.err)
     c.fire.ensures.stands (turn_within _ _ c.requires.room c.fire.ensures.turn)
 
@@ -32,7 +32,7 @@ returns-in-Ok-None-clause-inside g c =
 
 pub returns-in-Err-clause-sound : goal.returns-in-Err-clause-sound
 returns-in-Err-clause-sound g c =
-    rest_inside _ _ _ _ c.requires.sound c.args.k c.index_mut.result.now c.fire.new.self c.requires.range c.index_mut.ensures.value _
+    sound_inside _ _ _ _ c.requires.sound c.args.k c.index_mut.result.now c.fire.new.self c.requires.range c.index_mut.ensures.value _
     (fire_inside c.index_mut.result.now c.fire.new.self c.args.self.now.journal c.fire.new.book _ c.fire.result c.fire.ensures.fired c.fire.ensures.none c.fire.ensures.err)
     c.fire.ensures.stands (turn_within _ _ c.requires.room c.fire.ensures.turn)
 

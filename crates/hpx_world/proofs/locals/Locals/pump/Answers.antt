@@ -8,7 +8,7 @@ use Rattle.hpx_world.specs.Quiet.{SendsNothing}
 use Rattle.hpx_world.specs.Turns.{Sends}
 use Rattle.hpx_world.proofs.Growth.{SendsOne, sends_of}
 use Rattle.hpx_world.proofs.Carrying.{carrying_sent}
-use Rattle.hpx_world.proofs.Calls.{done_at, same_at, at_own, running_at, here_at, rest_at, rest_wrote, within}
+use Rattle.hpx_world.proofs.Calls.{done_at, same_at, at_own, running_at, here_at, stands_at, sound_wrote, within}
 use Rattle.hpx_world.proofs.locals.Locals.pump.Goals as goal
 
 pub returns-in-None-clause-did : goal.returns-in-None-clause-did
@@ -22,11 +22,11 @@ returns-in-None-clause-did g c = (
 pub gone-requires-clause-stands : goal.gone-requires-clause-stands
 gone-requires-clause-stands g c =
     rw c.reserve.ensures.entries
-    (rest_at _ _ _ _ c.requires.sound c.args.k c.index_mut-node.result.now c.index_mut-node.result.now c.requires.range c.index_mut-node.ensures.value)
+    (stands_at _ _ _ _ c.requires.sound c.args.k c.index_mut-node.result.now c.index_mut-node.result.now c.requires.range c.index_mut-node.ensures.value)
 
 pub returns-clause-sound : goal.returns-clause-sound
 returns-clause-sound g c =
-    rest_wrote _ _ _ _ c.requires.sound c.args.k c.index_mut-node.result.now c.gone.new.self c.requires.range c.index_mut-node.ensures.value (Out c.in-Some.to c.in-Ok.bytes ∷ []) _
+    sound_wrote _ _ _ _ c.requires.sound c.args.k c.index_mut-node.result.now c.gone.new.self c.requires.range c.index_mut-node.ensures.value (Out c.in-Some.to c.in-Ok.bytes ∷ []) _
     (rw c.reserve.ensures.entries at c.gone.ensures.writes) c.gone.ensures.stands (turn_within _ _ c.requires.room (rw c.reserve.ensures.entries at c.gone.ensures.turn))
 
 pub returns-clause-carrying : goal.returns-clause-carrying

@@ -9,7 +9,7 @@ use Rattle.hpx_world.proofs.Audited.{audited}
 use Rattle.hpx_world.proofs.Ordered.{ordered}
 use Rattle.hpx_world.proofs.Promised.{promised}
 use Rattle.hpx_world.proofs.Rested.{quiet_rests}
-use Rattle.hpx_world.proofs.Sound.{spells_well, stands_all}
+use Rattle.hpx_world.proofs.Sound.{spells_well, told_all}
 use Rattle.hpx_world.proofs.world.World.law.Goals as goal
 
 pub returns-clause-promises : goal.returns-clause-promises
@@ -39,7 +39,7 @@ returns-clause-paid g c = rw (← c.self.view_is) (λ k t at.
     let profile = c.self.inside.locals.profile in
     let entries = c.self.inside.locals.journal.entries in
     subst (λ j. IsPaid (rules_of g.A.Acts.act_of (length nodes) profile) t (part j entries)) (c.self.invariant.1.stand k t at).here
-    (stands_all g.A.Acts.act_of profile nodes entries c.self.invariant.1 k t at).paid)
+    (told_all g.A.Acts.act_of profile nodes entries c.self.invariant.1 k t at).stands.paid)
 
 pub returns-clause-at_home : goal.returns-clause-at_home
 returns-clause-at_home g c = rw (← c.self.view_is) (λ still carried.

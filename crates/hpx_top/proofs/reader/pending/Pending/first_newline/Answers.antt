@@ -1,6 +1,6 @@
 use Rattle.std.proofs.Common.{◌≡◌, ◌+◌, ◌-◌, length, ap, sym, ◌∙◌, subst}
 use Rattle.hpx_top.specs.Pending.{IsNewlineAt, IsSearched}
-use Rattle.app_console.specs.PlainText.{IsPiece}
+use Rattle.app_console.specs.Lines.{IsPiece}
 use Rattle.hpx_top.proofs.ReaderLemmas.{viewed, searched_newline, searched_none, pending_newline, pending_none}
 use Rattle.hpx_top.proofs.reader.pending.Pending.first_newline.Goals as goal
 

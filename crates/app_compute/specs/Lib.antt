@@ -1,0 +1,11 @@
+pub mod Types
+pub mod Numbers
+pub mod Acts
+pub mod Ring
+pub mod Stencil
+pub mod Load
+pub mod Texts
+pub mod Lines
+pub mod Session
+pub mod StencilSession
+pub mod FibLaw

@@ -1,0 +1,126 @@
+-- A message is taken up and dealt with, as the calls write it.
+use Rattle.std.proofs.Common.{ℕ, List, [], ◌∷◌, ◌++◌, ◌≡◌, ◌≤◌, ◌==◌, Option, Some, None, length, length-append, append_assoc, refl, sym, ap, ◌∙◌, arith, inl, inr}
+use Rattle.std.specs.Prelude.{option_map, option_and_then}
+use Rattle.std.specs.List.{find}
+use Rattle.std.proofs.lemmas.Bool.{cases_Bool}
+use Rattle.hpx_value.specs.declared.profile.Profile.{Profile}
+use Rattle.hpx_agas.specs.Records.{find_record}
+use Rattle.hpx_agas.specs.Registries.{asked, lowered}
+use Rattle.hpx_agas.specs.declared.record.Record.{Record}
+use Rattle.hpx_journal.specs.Bags.{without}
+use Rattle.hpx_journal.specs.Data.{Id, Parcel, Apply, Return, Ask, Give, Cached, Move, Go, Shipped, Arrived, Free}
+use Rattle.hpx_journal.specs.Laws.{ins}
+use Rattle.hpx_journal.specs.Local.{is_standing}
+use Rattle.hpx_journal.specs.Whole.{arrives, arrives_at, part}
+use Rattle.hpx_part.specs.Data.{Entry, Event, In}
+use Rattle.hpx_part.specs.Parts.{at_all}
+use Rattle.hpx_tables.specs.Tables.{Tables}
+use Rattle.hpx_steps.specs.Calls.{DealsWith, Leaves, effects, ids_in, with_returns}
+use Rattle.hpx_steps.specs.Mail.{with_return}
+
+-- ---- the number of frames that came is no more than that of entries
+
+arrives_one : (k : ℕ) (e : Event) → length (arrives_at k e) ≤ 1
+arrives_one k (In bytes) = omega arith
+arrives_one k _ = omega arith
+
+pub ins_few : (k : ℕ) (es : List Entry) → length (ins (part k es)) ≤ length es
+ins_few k [] = omega arith
+ins_few k (e ∷ es) = elim (cases_Bool (e.at == k)) [
+  | inl b ↦
+      rw b
+      (omega (
+        arith,
+        length-append (arrives e) (ins (part k es)),
+        arrives_one e.at e.event,
+        ins_few k es,
+      ))
+  | inr b ↦ rw b (omega (arith, ins_few k es))
+]
+
+-- ---- what changes
+
+returns_rest : (ids : List Id) (t : Tables) → with_returns ids t ≡ record t { desk = (with_returns ids t).desk; outgoing = (with_returns ids t).outgoing }
+returns_rest [] t = refl
+returns_rest (id ∷ ids) t = each id.log (returns_rest ids (with_return id id.log t))
+  where
+    each : (l : Option ℕ) → with_returns ids (with_return id l t) ≡ record (with_return id l t) { desk = (with_returns ids (with_return id l t)).desk; outgoing = (with_returns ids (with_return id l t)).outgoing }
+        → with_returns ids (with_return id l t) ≡ record t { desk = (with_returns ids (with_return id l t)).desk; outgoing = (with_returns ids (with_return id l t)).outgoing }
+    each None h = h
+    each (Some log) h = h
+
+-- what is dealt with changes what waits or is on its way, commits, objects and records, and nothing else
+abbrev pub only : Tables → Tables → Tables
+only t u = record t { accepted = u.accepted; pending = u.pending; desk = u.desk; outgoing = u.outgoing; objects = u.objects; records = u.records }
+
+pub deals_rest : (p : Parcel) (t t' : Tables) → DealsWith p t t' → t' ≡ only t t'
+deals_rest (Apply act) t t' h = h ∙ ap (only t) (sym h)
+deals_rest (Move act) t t' h = h ∙ ap (only t) (sym h)
+deals_rest (Return id) t t' h = h ∙ ap (only t) (sym h)
+deals_rest (Ask id asker entry) t t' h = h ∙ ap (only t) (sym h)
+deals_rest (Give id entry) t t' h = h.rest ∙ ap (only t) (sym h.rest)
+deals_rest (Free o) t t' h =
+    let went : Tables = with_returns (ids_in (find (is_standing o) t.objects)) t in
+    let rest = returns_rest (ids_in (find (is_standing o) t.objects)) t in
+    h
+    ∙ (ap (λ (y : Tables). record y { objects = t'.objects }) rest
+    ∙ (ap (λ (y : Tables). record t { accepted = y.accepted; pending = y.pending; desk = went.desk; outgoing = went.outgoing; objects = t'.objects; records = y.records }) (sym rest)
+    ∙ ap (only t) (sym h)))
+deals_rest (Cached id place) t t' h = h ∙ ap (only t) (sym h)
+deals_rest (Go act) t t' h = h ∙ ap (only t) (sym h)
+deals_rest (Shipped act state) t t' h = h ∙ ap (only t) (sym h)
+deals_rest (Arrived id place) t t' h = h ∙ ap (only t) (sym h)
+
+-- ---- what is written
+
+pub entries_join : (k : ℕ) (e : Event) (events : List Event) (before now after : List Entry) → now ≡ before ++ record { at = k; event = e } ∷ []
+    → after ≡ now ++ at_all k events → after ≡ before ++ at_all k (e ∷ events)
+entries_join k e events before now after one grows =
+    grows ∙ (ap (λ xs. xs ++ at_all k events) one ∙ append_assoc before (record { at = k; event = e } ∷ []) (at_all k events))
+
+-- what a message does is the same after the frame was counted
+pub effects_taken : (t : Tables) (n : ℕ) (p : Parcel) → effects (record t { taken = n }) p ≡ effects t p
+effects_taken t n (Apply act) = refl
+effects_taken t n (Return id) = refl
+effects_taken t n (Ask id asker entry) = refl
+effects_taken t n (Give id entry) = refl
+effects_taken t n (Cached id place) = refl
+effects_taken t n (Move act) = refl
+effects_taken t n (Go act) = refl
+effects_taken t n (Shipped act state) = refl
+effects_taken t n (Arrived id place) = refl
+effects_taken t n (Free o) = refl
+
+-- so the entries are those that the frame asks for
+pub taken_writes : (t u : Tables) (n : ℕ) (p : Parcel) (bytes : List ℕ) (before now after : List Entry) → t ≡ u
+    → now ≡ before ++ record { at = t.here; event = In bytes } ∷ [] → after ≡ now ++ at_all t.here (effects (record t { taken = n }) p)
+    → after ≡ before ++ at_all u.here (In bytes ∷ effects u p)
+taken_writes t u n p bytes before now after seen one grows =
+    entries_join t.here (In bytes) (effects (record t { taken = n }) p) before now after one grows
+    ∙ (ap (λ es. before ++ at_all t.here (In bytes ∷ es)) (effects_taken t n p)
+    ∙ ap (λ (x : Tables). before ++ at_all x.here (In bytes ∷ effects x p)) seen)
+
+pub effects_desk : (t : Tables) (desk : List Parcel) (p : Parcel) → effects (record t { desk = desk }) p ≡ effects t p
+effects_desk t desk (Return id) = refl
+effects_desk t desk (Ask id asker entry) = refl
+effects_desk t desk (Free o) = refl
+effects_desk t desk _ = refl
+
+-- all the same where only records, objects and the profile are as before
+pub leaves_from : (p : Parcel) (t m t' : Tables) → m.records ≡ t.records → m.profile ≡ t.profile → m.objects ≡ t.objects → Leaves p m t' → Leaves p t t'
+leaves_from (Return id) t m t' records profile objects h = record {
+  own = h.own ∙ ap (λ rs. option_and_then (λ (r : Record). lowered r id) (find_record id rs)) records;
+  others = λ x away. h.others x away ∙ ap (find_record x) records;
+}
+leaves_from (Ask id asker entry) t m t' records profile objects h = record {
+  own = h.own ∙ (ap (λ rs. option_map (asked m.profile) (find_record id rs)) records ∙ ap (λ (p : Profile). option_map (asked p) (find_record id t.records)) profile);
+  others = λ x away. h.others x away ∙ ap (find_record x) records;
+}
+leaves_from (Free o) t m t' records profile objects h = h ∙ ap (without (is_standing o)) objects
+leaves_from (Apply act) t m t' records profile objects h = h
+leaves_from (Give id entry) t m t' records profile objects h = h
+leaves_from (Cached id place) t m t' records profile objects h = h
+leaves_from (Move act) t m t' records profile objects h = h
+leaves_from (Go act) t m t' records profile objects h = h
+leaves_from (Shipped act state) t m t' records profile objects h = h
+leaves_from (Arrived id place) t m t' records profile objects h = h

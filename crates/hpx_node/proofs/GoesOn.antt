@@ -1,0 +1,155 @@
+-- A commit that waited goes on with its last credit: what it does leads back to rest.
+use Rattle.std.proofs.Common.{ℕ, true, false, List, [], ◌∷◌, ◌++◌, ◌≡◌, ◌+◌, ◌≤◌, Option, None, map, take, drop, set, length, length-append, append_assoc, take-append-drop, sym, ap, ◌∙◌, arith, subst}
+use Rattle.std.specs.List.{AllByRecursion, remove}
+use Rattle.std.proofs.lemmas.List.{length-drop, length-take}
+use Rattle.hpx_value.specs.Laws.{KeepsLaws}
+use Rattle.hpx_value.specs.Values.{bare_act, bare_state, message_of, named}
+use Rattle.hpx_parcel.specs.Parcels.{HasCredit}
+use Rattle.hpx_journal.specs.Data.{Id, State, Act, Outcome, Parcel, Give}
+use Rattle.hpx_journal.specs.Entries.{Rules, name_of}
+use Rattle.hpx_part.specs.Data.{Done, Event, Standing}
+use Rattle.hpx_commit.specs.Deals.{unnamed}
+use Rattle.hpx_commit.specs.Stocks.{Stock}
+use Rattle.hpx_tables.proofs.Alls.{some_same}
+use Rattle.hpx_tables.specs.Births.{birth_of, births_of}
+use Rattle.hpx_tables.specs.Pending.{Waits, ids_named}
+use Rattle.hpx_tables.specs.Splits.{splits_from}
+use Rattle.hpx_tables.specs.Strange.{brings_right}
+use Rattle.hpx_tables.specs.Tables.{Tables}
+use Rattle.hpx_steps.specs.Calls.{Gives, ups, written_due}
+use Rattle.hpx_steps.specs.Paused.{HasSplit, IsCommit}
+use Rattle.hpx_steps.specs.Rest.{IsPaused, IsTidy, rules_of}
+use Rattle.hpx_steps.specs.Steps.{HasInHand}
+use Rattle.hpx_steps.proofs.Handled.{Leads}
+use Rattle.hpx_steps.proofs.Recommit.{hand_long}
+use Rattle.hpx_steps.proofs.Refilled.{still_commit, still_split}
+use Rattle.hpx_steps.proofs.Resumed.{given_done, given_event, in_hand}
+use Rattle.hpx_node.specs.declared.node.finish.Prepared.{Prepared}
+use Rattle.hpx_node.specs.Commits.{Commits, IsStock, committed_from, committed_to, due_dealt, made_of, remains}
+use Rattle.hpx_node.specs.Resumes.{MayResume, full_stock}
+use Rattle.hpx_node.proofs.FullStock.{replaced_split}
+use Rattle.hpx_node.proofs.HandLeft.{later_none, long_enough}
+use Rattle.hpx_node.proofs.LeftBy.{left_by}
+use Rattle.hpx_node.proofs.Paused.{commit_of, paused_at}
+use Rattle.hpx_node.proofs.PlanWeights.{written_same}
+use Rattle.hpx_node.proofs.Planned.{made_fit}
+use Rattle.hpx_node.proofs.Prepared.{made_long}
+use Rattle.hpx_node.proofs.ReadyStock.{brings_by}
+
+module _ (act_of : ℕ → ℕ → ℕ → State → Act → Outcome)
+    (blind : (n kind here : ℕ) (s : State) (a : Act) → act_of n kind here s a ≡ act_of n kind here (bare_state s) (named 0 0 (message_of (bare_act a))))
+    (t : Tables) (n : ℕ) (d : List Parcel) (came mailed : List Parcel) (l : Option Event) (mid t' : Tables) (id : Id) (entry : ℕ)
+    (hand : HasInHand (Give id entry) (in_hand (record t { taken = n; desk = d }) came mailed l)) (credit : HasCredit id) (right : brings_right t id ≡ true)
+    (g : Gives id entry (record t { taken = n; desk = d }) mid) (tidy : IsTidy t []) (j : ℕ) (p : Prepared)
+    (laws : KeepsLaws t.localities g.after.job.kind g.after.job.at g.after.job.state g.after.job.action g.after.outcome)
+    (its_outcome : g.after.outcome ≡ act_of t.localities g.after.job.kind g.after.job.at g.after.job.state g.after.job.action) (none : g.after.asked ≡ [])
+    (may : MayResume (record t { taken = n; desk = d; pending = set t.pending g.i g.after }) g.after j p)
+    (commits : Commits g.after.job g.after.outcome (full_stock (record t { taken = n; desk = d }) g.after) j (record t { taken = n; desk = d; pending = remove t.pending g.i }) t') where
+  abbrev r : Rules
+  r = rules_of act_of t.localities t.profile
+
+  abbrev u : Tables
+  u = record t { taken = n; desk = d }
+
+  abbrev m : Tables
+  m = record t { taken = n; desk = d; pending = set t.pending g.i g.after }
+
+  abbrev w : Waits
+  w = g.after
+
+  abbrev x : Standing
+  x = may.place.standing
+
+  -- ---- its hand
+
+  was : IsPaused t.here t.localities t.profile.credit_log t.objects g.before
+  was = paused_at t g.i g.before tidy g.there
+
+  its : IsCommit t.here t.localities g.after
+  its = subst (IsCommit t.here t.localities) (sym g.refills.now) (still_commit t.here t.localities t.profile.credit_log g.before g.refills.k g.refills.ask id entry
+      (commit_of t.here t.localities t.profile.credit_log t.objects g.before was) was.split g.refills.there g.refills.for credit (brings_by t id right))
+
+  split : HasSplit t.profile.credit_log g.after
+  split = subst (HasSplit t.profile.credit_log) (sym g.refills.now) (still_split t.here t.localities t.profile.credit_log g.before g.refills.k g.refills.ask id entry
+      (commit_of t.here t.localities t.profile.credit_log t.objects g.before was) was.split g.refills.there g.refills.for credit (brings_by t id right))
+
+  abbrev own : ℕ
+  own = length (ids_named w)
+
+  abbrev made : List Id
+  made = made_of u w.outcome
+
+  abbrev front : List Id
+  front = take own w.hand
+
+  abbrev later : List Id
+  later = take (length made) (drop own w.hand)
+
+  abbrev back : List Id
+  back = drop (length made) (drop own w.hand)
+
+  abbrev s : Stock
+  s = record { hand = front ++ (made ++ back); places = w.places }
+
+  many : length made ≡ length w.outcome.makes
+  many = made_long t.here t.births t.profile.credit_log w.outcome.makes
+
+  enough : own + length made ≤ length w.hand
+  enough = omega (
+    arith,
+    long_enough w w.hand its.job split.made split.kinds split.bare split.within split.rest (hand_long t.here t.localities w its),
+    length-append w.job.state.ids w.job.action.ids,
+    many,
+  )
+
+  hand_is : w.hand ≡ front ++ (later ++ back)
+  hand_is = sym (ap (λ xs. front ++ xs) (take-append-drop (length made) (drop own w.hand)) ∙ take-append-drop own w.hand)
+
+  later_bare : AllByRecursion (λ (o : Id). o.log ≡ None) later
+  later_bare =
+      subst (λ k. AllByRecursion (λ (o : Id). o.log ≡ None) (take k (drop own w.hand))) (sym many)
+      (subst (λ k. AllByRecursion (λ (o : Id). o.log ≡ None) (take (length w.outcome.makes) (drop k w.hand))) (sym (length-append w.job.state.ids w.job.action.ids))
+      (later_none w w.hand its.job split.made split.kinds split.bare split.within split.rest))
+
+  stock_is : full_stock u w ≡ s
+  stock_is = replaced_split own made w.hand w.places enough
+
+  its_stock : IsStock m w.job w.outcome s
+  its_stock = subst (IsStock m w.job w.outcome) (may.stock ∙ stock_is) may.prepared.stock
+
+  -- ---- where it leads
+
+  x_is : commits.standing ≡ x
+  x_is = some_same commits.standing x (sym commits.stands ∙ may.place.stands)
+
+  end_is : t' ≡ committed_to w.job w.outcome s j x (record u { pending = remove t.pending g.i })
+  end_is =
+      commits.goes
+      ∙ (ap (λ y. committed_to w.job w.outcome (full_stock u w) j y (record u { pending = remove t.pending g.i })) x_is
+      ∙ ap (λ k. committed_to w.job w.outcome k j x (record u { pending = remove t.pending g.i })) stock_is)
+
+  abbrev due : List Event
+  due = written_due t.here t.serial (due_dealt u w.job w.outcome s)
+
+  leads : Leads r (in_hand u came mailed l) t' (given_event id ∷ ((births_of t.here t.births (map birth_of w.outcome.makes) ++ splits_from 0 s.hand s.places)
+      ++ (Done (name_of w.job.action) false ∷ (due ++ ups (unnamed s.hand s.places)))))
+  leads =
+      subst (λ z. Leads r (in_hand u came mailed l) z (given_event id ∷ ((births_of t.here t.births (map birth_of w.outcome.makes) ++ splits_from 0 s.hand s.places)
+      ++ (Done (name_of w.job.action) false ∷ (due ++ ups (unnamed s.hand s.places)))))) (sym end_is)
+      (given_done r u mid came mailed l id entry hand credit right g none front later back w.places hand_is later_bare
+      (omega (arith, many, enough, length-take (length made) (drop own w.hand), length-drop own w.hand))
+      (omega (arith, enough, length-take own w.hand)) (made_fit m w.job w.outcome its.job may.place.few laws) j x (remains u w.job w.outcome s)
+      its_stock.names.within (λ q lt. its_stock.lasts q) may.place.stands may.place.found tidy.drawn
+      (left_by m w.job w.outcome its.job may.place.few laws s its_stock x may.place.kept may.place.kind may.place.state act_of blind its_outcome its.here))
+
+  pub goes_leads : Leads r (in_hand u came mailed l) t' (given_event id ∷ committed_from u w.job w.outcome (full_stock u w))
+  goes_leads =
+      subst (λ k. Leads r (in_hand u came mailed l) t' (given_event id ∷ committed_from u w.job w.outcome k)) (sym stock_is)
+      (subst (λ es. Leads r (in_hand u came mailed l) t' (given_event id ∷ es)) same leads)
+    where
+      same : (births_of t.here t.births (map birth_of w.outcome.makes) ++ splits_from 0 s.hand s.places)
+          ++ (Done (name_of w.job.action) false ∷ (due ++ ups (unnamed s.hand s.places))) ≡ committed_from u w.job w.outcome s
+      same =
+          append_assoc (births_of t.here t.births (map birth_of w.outcome.makes)) (splits_from 0 s.hand s.places) (Done (name_of w.job.action) false ∷ (due ++ ups (unnamed s.hand s.places)))
+          ∙ ap (λ es. births_of t.here t.births (map birth_of w.outcome.makes) ++ (splits_from 0 s.hand s.places ++ (Done (name_of w.job.action) false ∷ (es ++ ups (unnamed s.hand s.places)))))
+          (written_same t.here t.serial _ _)

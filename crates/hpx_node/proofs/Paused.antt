@@ -1,0 +1,112 @@
+-- A commit that waits, by what its tables say.
+use Rattle.std.proofs.Common.{ℕ, zero, suc, Bool, true, false, cond, List, [], ◌∷◌, ◌++◌, ◌≡◌, ◌≤◌, ◌<◌, ◌==◌, Some, take, drop, length, map, append_assoc, refl, sym, ap, ◌∙◌, arith, subst}
+use Rattle.std.specs.List.{AllByRecursion, find, slice_get}
+use Rattle.hpx_value.specs.Laws.{KeepsLaws}
+use Rattle.hpx_value.specs.Shapes.{IsState}
+use Rattle.hpx_value.specs.declared.acts.Job.{Job}
+use Rattle.hpx_parcel.specs.Parcels.{HasRightCredit}
+use Rattle.hpx_journal.specs.Data.{Id, State, Act, Outcome}
+use Rattle.hpx_journal.specs.Entries.{target_of}
+use Rattle.hpx_journal.specs.Local.{acts_on, is_busy, is_standing}
+use Rattle.hpx_part.specs.Data.{Standing}
+use Rattle.hpx_tables.proofs.Alls.{all_at, find_passes}
+use Rattle.hpx_tables.proofs.FreeLemmas.{any_over}
+use Rattle.hpx_part.proofs.Keyed.{split_get}
+use Rattle.hpx_tables.specs.Fit.{IsFit, IsKept}
+use Rattle.hpx_tables.specs.Jobs.{IsFitJob}
+use Rattle.hpx_tables.specs.Kept.{waits_here}
+use Rattle.hpx_tables.specs.declared.pending.Asked.{Asked}
+use Rattle.hpx_tables.specs.Pending.{Waits, action_of}
+use Rattle.hpx_tables.specs.Tables.{Tables}
+use Rattle.hpx_steps.specs.Paused.{Apart, IsCommit}
+use Rattle.hpx_steps.specs.Rest.{IsPaused, IsTidy}
+use Rattle.hpx_steps.proofs.Busy.{apart_alone, busy_parts, busy_same}
+use Rattle.hpx_steps.proofs.Recommit.{hand_long}
+use Rattle.hpx_node.specs.Resumes.{IsInPlace}
+
+pub paused_at : (t : Tables) (i : ℕ) (w : Waits) → IsTidy t [] → slice_get t.pending i ≡ Some w
+    → IsPaused t.here t.localities t.profile.credit_log t.objects w
+paused_at t i w tidy there = all_at (IsPaused t.here t.localities t.profile.credit_log t.objects) t.pending i w tidy.paused.each there
+
+pub commit_of : (k n log : ℕ) (objects : List Standing) (w : Waits) → IsPaused k n log objects w → IsCommit k n w
+commit_of k n log objects w h = record {
+  job = h.job;
+  here = h.here;
+  localities = h.localities;
+  few = h.few;
+  hand = h.hand;
+  within = h.within;
+  refused = h.refused;
+  once = h.once;
+}
+
+lower_all : (n m : ℕ) → n ≤ m → (xs : List Asked) → AllByRecursion (λ (x : Asked). x.place < n) xs → AllByRecursion (λ (x : Asked). x.place < m) xs
+lower_all n m le [] h = tt
+lower_all n m le (x ∷ xs) h = (let lt = h.0 in omega (arith, lt, le), lower_all n m le xs h.1)
+
+pub asked_within : (k n log : ℕ) (objects : List Standing) (w : Waits) → IsPaused k n log objects w → AllByRecursion (λ (x : Asked). x.place < length w.hand) w.asked
+asked_within k n log objects w h = lower_all _ (length w.hand) (hand_long k n w (commit_of k n log objects w h)) w.asked h.within
+
+-- where its object is found at j
+pub in_place : (t : Tables) (w : Waits) (j : ℕ) (paused : IsPaused t.here t.localities t.profile.credit_log t.objects w) → AllByRecursion IsKept t.objects
+    → slice_get t.objects j ≡ Some paused.standing → IsInPlace t w j
+in_place t w j paused kept stands = record {
+  job = paused.job;
+  here = paused.here;
+  localities = paused.localities;
+  few = paused.few.0;
+  standing = paused.standing;
+  stands = stands;
+  found = paused.found;
+  kept = all_at IsKept t.objects j paused.standing kept stands;
+  kind = paused.kind;
+  state = paused.state;
+}
+
+-- an object on which no commit waits has the credits of its ids
+pub freed_whole : (t : Tables) (o : Id) (x : Standing) (i : ℕ) → slice_get t.objects i ≡ Some x → find (is_standing o) t.objects ≡ Some x
+    → waits_here t o ≡ false → IsTidy t [] → AllByRecursion HasRightCredit x.state.ids
+freed_whole t o x i there found idle tidy =
+    all_at (λ (y : Standing). is_busy y.object (map action_of t.pending) ≡ false → AllByRecursion HasRightCredit y.state.ids) t.objects i x tidy.paused.whole there
+    (sym (busy_same o x.object (map action_of t.pending) (find_passes (is_standing o) t.objects x found))
+    ∙ (ap (λ b. cond (o.kind == 7) false b) (any_over (acts_on o) action_of [] t.pending ∙ idle) ∙ either (o.kind == 7)))
+  where
+    either : (b : Bool) → cond b false false ≡ false
+    either true = refl
+    either false = refl
+
+-- an action that runs and its object are a job
+pub fit_job : (t : Tables) (job : Job) (i j : ℕ) (x : Standing) → IsTidy t [] → slice_get t.running i ≡ Some job.action
+    → find (is_standing (target_of job.action)) t.objects ≡ Some x → slice_get t.objects j ≡ Some x → IsKept x → x.state ≡ job.state → IsFitJob job
+fit_job t job i j x tidy runs found stands kept state =
+    let apart : Apart (take i t.running ++ job.action ∷ (drop (suc i) t.running ++ map action_of t.pending)) =
+    subst Apart (ap (λ acts. acts ++ map action_of t.pending) (split_get t.running i job.action runs)
+    ∙ append_assoc (take i t.running) (job.action ∷ drop (suc i) t.running) (map action_of t.pending)) tidy.paused.apart in
+    let alone = apart_alone (take i t.running) job.action (drop (suc i) t.running ++ map action_of t.pending) apart in
+    let idle = (busy_parts (target_of job.action) (drop (suc i) t.running) (map action_of t.pending)
+    (busy_parts (target_of job.action) (take i t.running) (drop (suc i) t.running ++ map action_of t.pending) alone).1).1 in record {
+      action = all_at IsFit t.running i job.action tidy.running runs;
+      state = subst IsState state kept.state;
+      credit = subst (λ (s : State). AllByRecursion HasRightCredit s.ids) state
+          (all_at (λ (y : Standing). is_busy y.object (map action_of t.pending) ≡ false → AllByRecursion HasRightCredit y.state.ids) t.objects j x tidy.paused.whole stands
+          (sym (busy_same (target_of job.action) x.object (map action_of t.pending) (find_passes (is_standing (target_of job.action)) t.objects x found)) ∙ idle));
+    }
+
+pub get_some : {X : Type 0} (xs : List X) (k : ℕ) → k < length xs → (x : X) × (slice_get xs k ≡ Some x)
+get_some [] k h = absurd (omega (arith, h))
+get_some (x ∷ xs) zero h = (x, refl)
+get_some (x ∷ xs) (suc k) h = get_some xs k (omega (arith, h))
+
+-- the same job and outcome keep the laws, and are right
+pub laws_by : (n m : ℕ) (job job' : Job) (out out' : Outcome) → n ≡ m → job ≡ job' → out ≡ out'
+    → KeepsLaws n job.kind job.at job.state job.action out → KeepsLaws m job'.kind job'.at job'.state job'.action out'
+laws_by n m job job' out out' here same done laws =
+    subst (λ k. KeepsLaws k job'.kind job'.at job'.state job'.action out') here
+    (subst (λ (x : Job). KeepsLaws n x.kind x.at x.state x.action out') same (subst (λ o. KeepsLaws n job.kind job.at job.state job.action o) done laws))
+
+pub right_by : (act_of : ℕ → ℕ → ℕ → State → Act → Outcome) (n m : ℕ) (job job' : Job) (out out' : Outcome) → n ≡ m → job ≡ job' → out ≡ out'
+    → out ≡ act_of n job.kind job.at job.state job.action → out' ≡ act_of m job'.kind job'.at job'.state job'.action
+right_by act_of n m job job' out out' here same done right =
+    sym done
+    ∙ (right ∙ (ap (λ (x : Job). act_of n x.kind x.at x.state x.action) same
+    ∙ ap (λ k. act_of k job'.kind job'.at job'.state job'.action) here))

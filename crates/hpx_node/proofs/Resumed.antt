@@ -1,0 +1,82 @@
+-- A commit that waited goes on, as the call writes it.
+use Rattle.std.proofs.Common.{ℕ, false, Some, List, [], ◌∷◌, ◌++◌, ◌≡◌, ◌+◌, ◌≤◌, set, length, length-append, sym, ap, ◌∙◌, arith, subst}
+use Rattle.std.specs.Prelude.{option_map}
+use Rattle.std.specs.List.{slice_get, remove}
+use Rattle.hpx_journal.specs.Entries.{name_of}
+use Rattle.hpx_journal.specs.Weights.{total_weight}
+use Rattle.hpx_part.specs.Data.{Entry, Done, Standing}
+use Rattle.hpx_part.specs.Parts.{at_all}
+use Rattle.hpx_commit.specs.Stocks.{Stock}
+use Rattle.hpx_tables.proofs.Alls.{some_same}
+use Rattle.hpx_tables.specs.Awaited.{answered_by}
+use Rattle.hpx_tables.specs.Births.{Makes, births_of}
+use Rattle.hpx_tables.specs.Fit.{IsKept}
+use Rattle.hpx_tables.specs.Pending.{Waits, action_of}
+use Rattle.hpx_tables.specs.Splits.{splits_from}
+use Rattle.hpx_tables.specs.Tables.{Tables}
+use Rattle.hpx_steps.specs.Calls.{ups, with_left, written_due}
+use Rattle.hpx_node.specs.declared.node.finish.Prepared.{Prepared}
+use Rattle.hpx_node.specs.Changes.{OnlySends, Writes}
+use Rattle.hpx_node.specs.Commits.{Commits, committed_from, committed_to}
+use Rattle.hpx_node.specs.Resumes.{MayResume, full_stock}
+use Rattle.hpx_node.proofs.Committing.{all_committed, all_written}
+use Rattle.hpx_node.proofs.FewEntries.{at_all_length}
+use Rattle.hpx_node.proofs.Turns.{grown_weighs}
+
+module _ (t : Tables) (w : Waits) (i j : ℕ) (p : Prepared) (there : slice_get t.pending i ≡ Some w) (may : MayResume t w j p)
+    (t1 t2 : Tables) (made : Makes p.births.items [] t t1) (pending : t2.pending ≡ remove t1.pending i)
+    (objects : (x : Standing) → slice_get t1.objects j ≡ Some x → t2.objects ≡ set t1.objects j (record { object = x.object; state = p.plan.state }))
+    (rest : t2 ≡ record t1 { pending = t2.pending; objects = t2.objects; answered = t1.answered + answered_by (option_map action_of (slice_get t1.pending i)) })
+    (t3 : Tables) (goes : t3 ≡ with_left p.plan.due.items p.plan.ups.items t2) (sends : OnlySends t2 t3)
+    (e0 e1 e2 e3 : List Entry) (first : e1 ≡ e0 ++ at_all t.here (births_of t.here t.births p.births.items ++ splits_from 0 p.stock.hand p.stock.places))
+    (done : (v : Waits) → slice_get t1.pending i ≡ Some v → e2 ≡ e1 ++ at_all t1.here (Done (name_of v.job.action) false ∷ []))
+    (left : e3 ≡ e2 ++ at_all t2.here (written_due t2.here t2.serial p.plan.due.items ++ ups p.plan.ups.items)) where
+  still_waits : slice_get t1.pending i ≡ Some w
+  still_waits = ap (λ (x : Tables). slice_get x.pending i) made.rest ∙ there
+
+  rest_is : t2 ≡ record t1 { running = t.running; pending = remove t.pending i; objects = t2.objects; answered = t1.answered + answered_by (Some w.job.action) }
+  rest_is =
+      rest
+      ∙ (ap (λ o. record t1 { pending = t2.pending; objects = t2.objects; answered = t1.answered + answered_by (option_map action_of o) }) still_waits
+      ∙ (ap (λ ws. record t1 { pending = ws; objects = t2.objects; answered = t1.answered + answered_by (Some w.job.action) }) (pending ∙ ap (λ (x : Tables). remove x.pending i) made.rest)
+      ∙ ap (λ rs. record t1 { running = rs; pending = remove t.pending i; objects = t2.objects; answered = t1.answered + answered_by (Some w.job.action) }) (ap (λ (x : Tables). x.running) made.rest)))
+
+  all : e3 ≡ e0 ++ at_all t.here (committed_from t w.job w.outcome p.stock)
+  all = all_written t w.job w.outcome p may.prepared j may.place.standing may.place.stands t.running (remove t.pending i) t1 t2 made objects rest_is e0 e1 e2 e3 first
+      (done w still_waits) left
+
+  pub resumed_written : (v : Waits) → slice_get t.pending i ≡ Some v → Writes (committed_from t v.job v.outcome (full_stock t v)) t t3 e0 e3
+  resumed_written v at =
+      subst (λ u. Writes (committed_from t u.job u.outcome (full_stock t u)) t t3 e0 e3) (some_same w v (sym there ∙ at)) (record {
+        here = ap (λ (x : Tables). x.here) sends ∙ (ap (λ (x : Tables). x.here) rest ∙ ap (λ (x : Tables). x.here) made.rest);
+        localities = ap (λ (x : Tables). x.localities) sends ∙ (ap (λ (x : Tables). x.localities) rest ∙ ap (λ (x : Tables). x.localities) made.rest);
+        profile = ap (λ (x : Tables). x.profile) sends ∙ (ap (λ (x : Tables). x.profile) rest ∙ ap (λ (x : Tables). x.profile) made.rest);
+        grows = all ∙ ap (λ s. e0 ++ at_all t.here (committed_from t w.job w.outcome s)) may.stock;
+      })
+
+  pub resumed_commits : (v : Waits) → slice_get t.pending i ≡ Some v → Commits v.job v.outcome (full_stock t v) j (record t { pending = remove t.pending i }) t3
+  resumed_commits v at =
+      subst (λ u. Commits u.job u.outcome (full_stock t u) j (record t { pending = remove t.pending i }) t3) (some_same w v (sym there ∙ at)) (record {
+        standing = may.place.standing;
+        stands = may.place.stands;
+        found = may.place.found;
+        goes = all_committed t w.job w.outcome p may.prepared j may.place.standing may.place.stands t.running (remove t.pending i) t1 t2 made objects rest_is t3 goes
+            ∙ ap (λ (s : Stock). committed_to w.job w.outcome s j may.place.standing (record t { pending = remove t.pending i })) may.stock;
+      })
+
+  pub resumed_few : length e3 ≤ length e0 + 596
+  resumed_few = omega (
+    arith,
+    ap (λ (es : List Entry). length es) all,
+    length-append e0 (at_all t.here (committed_from t w.job w.outcome p.stock)),
+    at_all_length t.here (committed_from t w.job w.outcome p.stock),
+    may.prepared.limits.entries,
+  )
+
+  pub resumed_light : total_weight e3 ≤ total_weight e0 + 2380288
+  resumed_light = omega (arith, grown_weighs t.here (committed_from t w.job w.outcome p.stock) e0 e3 all, may.prepared.limits.light)
+
+-- its object keeps its form
+pub resumed_kept : (t : Tables) (w : Waits) (j : ℕ) (p : Prepared) (may : MayResume t w j p) (t1 : Tables) → slice_get t1.objects j ≡ Some may.place.standing
+    → (x : Standing) → slice_get t1.objects j ≡ Some x → IsKept (record { object = x.object; state = p.plan.state })
+resumed_kept t w j p may t1 there x h = subst (λ (y : Standing). IsKept (record { object = y.object; state = p.plan.state })) (some_same may.place.standing x (sym there ∙ h)) may.kept

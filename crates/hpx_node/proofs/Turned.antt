@@ -1,0 +1,155 @@
+-- A message is taken up, dealt with, and what follows it is done: all that holds goes on to hold.
+use Rattle.std.proofs.Common.{ℕ, List, [], ◌∷◌, ◌++◌, ◌≡◌, ◌+◌, ◌<◌, ◌≤◌, ◌^◌, Option, Some, None, get_or, refl, sym, ap, ◌∙◌, arith, inl, inr, subst}
+use Rattle.hpx_value.specs.Values.{bare_act, bare_state, message_of, named}
+use Rattle.hpx_parcel.specs.Parcels.{IsParcel}
+use Rattle.hpx_parcel.specs.Reading.{parcel_of}
+use Rattle.hpx_journal.specs.Data.{State, Act, Outcome, Parcel}
+use Rattle.hpx_journal.specs.Weights.{Book, HasRoom}
+use Rattle.hpx_part.specs.Data.{Entry, In, Mail}
+use Rattle.hpx_tables.specs.declared.strange.Broken.{Broken}
+use Rattle.hpx_tables.specs.Strange.{broken}
+use Rattle.hpx_tables.specs.Tables.{Tables}
+use Rattle.hpx_steps.specs.Calls.{Accepts, DealsWith, Leaves, effects}
+use Rattle.hpx_steps.specs.Rest.{IsTidy, Stands, StandsAtRest, rules_of}
+use Rattle.hpx_steps.specs.Rows.{kind_of}
+use Rattle.hpx_steps.proofs.AtRest.{rest_stands}
+use Rattle.hpx_steps.proofs.TurnOf.{desk_accepts, desk_leads, desk_stands, frame_leads, frame_stands}
+use Rattle.hpx_node.specs.declared.node.next.Next.{Next}
+use Rattle.hpx_node.specs.Changes.{OnlySpare, Writes}
+use Rattle.hpx_node.specs.Handled.{Clears, Takes}
+use Rattle.hpx_node.specs.Next.{HasFollowed, IsNext, MayFollow}
+use Rattle.hpx_node.proofs.Arrived.{deals_rest, ins_few, leaves_from}
+use Rattle.hpx_node.proofs.Continued.{IsGiven, given_frame, given_mail}
+use Rattle.hpx_node.proofs.Followed.{IsRight, is_continued, may_follow}
+use Rattle.hpx_steps.proofs.Right.{near_right}
+use Rattle.hpx_node.proofs.Right.{no_travel}
+use Rattle.hpx_node.proofs.Spared.{cleared_writes, first_there, none_here, took_writes}
+
+pub at_rest : (act_of : ℕ → ℕ → ℕ → State → Act → Outcome) (t : Tables) (entries : List Entry) → Stands act_of t entries → StandsAtRest (rules_of act_of t.localities t.profile) t entries
+at_rest act_of t entries h = rest_stands t (rules_of act_of t.localities t.profile) entries h
+
+pub at_rest_tidy : (act_of : ℕ → ℕ → ℕ → State → Act → Outcome) (t : Tables) (entries : List Entry) → Stands act_of t entries → IsTidy t []
+at_rest_tidy act_of t entries h = (at_rest act_of t entries h).stands.tidy
+
+-- ---- numbers
+
+pub record AreFew (t : Tables) : Type 0 where
+  pub births : t.births + 1024 < 2 ^ 32
+  pub serial : t.serial + 1024 < 2 ^ 64
+  pub answers : t.answered + 1 < 2 ^ 64
+  pub taken : t.taken + 1 < 2 ^ 64
+
+pub are_few : (act_of : ℕ → ℕ → ℕ → State → Act → Outcome) (t : Tables) (entries : List Entry) → HasRoom entries → Stands act_of t entries → AreFew t
+are_few act_of t entries room h =
+    let k = (at_rest act_of t entries h).stands in record {
+      births = omega (arith, k.born, room.entries);
+      serial = omega (arith, k.few, room.entries);
+      answers = omega (arith, k.few_answers, room.entries);
+      taken = omega (arith, k.taken, ins_few t.here entries, room.entries);
+    }
+
+pub asked_few : (act_of : ℕ → ℕ → ℕ → State → Act → Outcome) (t : Tables) (entries : List Entry) → HasRoom entries → Stands act_of t entries → t.asked + 1024 < 2 ^ 64
+asked_few act_of t entries room h = let k = (at_rest act_of t entries h).stands in omega (arith, k.asked, room.entries)
+
+-- they stay, where a message is dealt with
+pub still_few : (t u mid : Tables) (p : Parcel) → AreFew t → DealsWith p u mid → u.births ≡ t.births → u.serial ≡ t.serial → u.answered ≡ t.answered
+    → (mid.births + 1024 < 2 ^ 32) × (mid.serial + 1024 < 2 ^ 64) × (mid.answered + 1 < 2 ^ 64)
+still_few t u mid p few deals births serial answered =
+    let rest = deals_rest p u mid deals in (
+      omega (arith, few.births, births, ap (λ (x : Tables). x.births) rest),
+      omega (arith, few.serial, serial, ap (λ (x : Tables). x.serial) rest),
+      omega (arith, few.answers, answered, ap (λ (x : Tables). x.answered) rest),
+    )
+
+-- ---- a frame
+
+module _ (act_of : ℕ → ℕ → ℕ → State → Act → Outcome) (t s mid : Tables) (b n : Book) (p : Parcel) (x : Next) (same : OnlySpare t s b n) (fit : IsParcel p)
+    (right : broken t p ≡ None) (next : IsNext act_of t p x) (deals : DealsWith p (record s { taken = s.taken + 1 }) mid)
+    (h : Stands act_of t b.entries) where
+  is_right : IsRight t p
+  is_right = record { tidy = at_rest_tidy act_of t b.entries h; fit = fit; right = (near_right t p right).1 }
+
+  gives : IsGiven p (record t { taken = t.taken + 1; desk = t.desk }) mid
+  gives = given_frame t s mid p same.tables deals
+
+  pub frame_follows : MayFollow mid x
+  frame_follows = may_follow act_of t (t.taken + 1) t.desk mid p x is_right next gives
+
+  module _ (blind : (n kind here : ℕ) (s : State) (a : Act) → act_of n kind here s a ≡ act_of n kind here (bare_state s) (named 0 0 (message_of (bare_act a))))
+      (lasts : 1 ≤ t.profile.credit_log) (bytes frame : List ℕ) (entries later : List Entry) (copy : bytes ≡ frame) (spelled : parcel_of frame ≡ Some p)
+      (writes : Writes (In bytes ∷ effects s p) s mid n.entries entries) (leaves : Leaves p s mid) (taken : mid.taken ≡ s.taken + 1) (sent : mid.sent ≡ s.sent)
+      (t' : Tables) (running : t'.running ≡ mid.running) (followed : HasFollowed x mid t' entries later) (still_taken : t'.taken ≡ mid.taken) (still_sent : t'.sent ≡ mid.sent) where
+    pub frame_takes : Takes frame t t' b.entries later × Stands act_of t' later
+    frame_takes =
+        let there : DealsWith p (record t { taken = t.taken + 1 }) mid = subst (λ (y : Tables). DealsWith p (record y { taken = y.taken + 1 }) mid) same.tables deals in
+        let left : Leaves p t mid = leaves_from p t s mid (ap (λ (v : Tables). v.records) same.tables) (ap (λ (v : Tables). v.profile) same.tables) (ap (λ (v : Tables). v.objects) same.tables) leaves in
+        let k = is_continued act_of blind t (t.taken + 1) t.desk (p ∷ []) [] (Some (In frame)) mid t' entries later p x next (inl (refl, refl)) is_right gives
+        (λ other. frame_leads act_of t mid b.entries h lasts p frame spelled fit right other there left) running followed in
+        let wrote = took_writes t s mid t' b n p bytes frame entries later k.more same copy writes k.writes in (
+          record {
+            parcel = p;
+            spelled = spelled;
+            right = right;
+            mid = mid;
+            more = k.more;
+            writes = wrote;
+            deals = there;
+            leaves = left;
+            continues = k.continues;
+            taken = still_taken ∙ (taken ∙ ap (λ (v : Tables). v.taken + 1) same.tables);
+            sent = still_sent ∙ (sent ∙ ap (λ (v : Tables). v.sent) same.tables);
+          },
+          subst (Stands act_of t') (sym wrote.grows)
+              (frame_stands act_of t t' b.entries h lasts p frame (effects t p ++ k.more) spelled fit (no_travel t p (near_right t p right).1) k.leads),
+        )
+
+-- ---- a message from the desk
+
+module _ (act_of : ℕ → ℕ → ℕ → State → Act → Outcome) (t m mid : Tables) (b n : Book) (p q : Parcel) (rest : List Parcel) (o : Option Broken) (x : Next)
+    (same : OnlySpare t m b n) (fit : IsParcel p) (first : m.desk ≡ p ∷ rest) (is : q ≡ get_or t.desk 0 q) (told : o ≡ broken t q) (none : o ≡ None)
+    (next : IsNext act_of t p x) (deals : DealsWith p (record m { desk = rest }) mid) (h : Stands act_of t b.entries) where
+  first_is : t.desk ≡ p ∷ rest
+  first_is = first_there t m p q rest o same.tables first is told none
+
+  its_right : broken t p ≡ None
+  its_right = none_here t m p q rest o same.tables first is told none
+
+  mail_is_right : IsRight t p
+  mail_is_right = record { tidy = at_rest_tidy act_of t b.entries h; fit = fit; right = (near_right t p its_right).1 }
+
+  mail_gives : IsGiven p (record t { taken = t.taken; desk = rest }) mid
+  mail_gives = given_mail t m mid p rest same.tables deals
+
+  pub desk_follows : MayFollow mid x
+  desk_follows = may_follow act_of t t.taken rest mid p x mail_is_right next mail_gives
+
+  module _ (blind : (n kind here : ℕ) (s : State) (a : Act) → act_of n kind here s a ≡ act_of n kind here (bare_state s) (named 0 0 (message_of (bare_act a))))
+      (lasts : 1 ≤ t.profile.credit_log) (entries later : List Entry)
+      (writes : Writes (Mail (kind_of p) ∷ effects (record m { desk = rest }) p) (record m { desk = rest }) mid n.entries entries)
+      (leaves : Leaves p (record m { desk = rest }) mid) (taken : mid.taken ≡ m.taken) (sent : mid.sent ≡ m.sent)
+      (t' : Tables) (running : t'.running ≡ mid.running) (followed : HasFollowed x mid t' entries later) (still_taken : t'.taken ≡ mid.taken) (still_sent : t'.sent ≡ mid.sent) where
+    pub desk_clears : Clears t t' b.entries later × Stands act_of t' later
+    desk_clears =
+        let there : DealsWith p (record t { desk = rest }) mid = subst (λ (y : Tables). DealsWith p (record y { desk = rest }) mid) same.tables deals in
+        let accepts : Accepts p (record t { desk = rest }) mid = desk_accepts act_of t mid b.entries h lasts p rest first_is its_right there in
+        let left : Leaves p t mid =
+        leaves_from p t (record m { desk = rest }) mid (ap (λ (v : Tables). v.records) same.tables) (ap (λ (v : Tables). v.profile) same.tables) (ap (λ (v : Tables). v.objects) same.tables) leaves in
+        let k = is_continued act_of blind t t.taken rest [] (p ∷ []) (Some (Mail (kind_of p))) mid t' entries later p x next (inr (refl, refl)) mail_is_right mail_gives
+        (λ other. desk_leads act_of t mid b.entries h lasts p rest first_is its_right other accepts left) running followed in
+        let wrote = cleared_writes t m mid t' b n p rest entries later k.more same writes k.writes in (
+          record {
+            parcel = p;
+            rest = rest;
+            first = first_is;
+            right = its_right;
+            mid = mid;
+            more = k.more;
+            writes = wrote;
+            accepts = accepts;
+            leaves = left;
+            continues = k.continues;
+            taken = still_taken ∙ (taken ∙ ap (λ (v : Tables). v.taken) same.tables);
+            sent = still_sent ∙ (sent ∙ ap (λ (v : Tables). v.sent) same.tables);
+          },
+          subst (Stands act_of t') (sym wrote.grows) (desk_stands act_of t t' b.entries h lasts p rest (effects t p ++ k.more) first_is k.leads),
+        )

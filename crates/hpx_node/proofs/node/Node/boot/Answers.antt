@@ -1,0 +1,12 @@
+use Rattle.std.proofs.Common.{[], refl, rules}
+use Rattle.hpx_steps.specs.Rest.{rules_of}
+use Rattle.hpx_steps.proofs.AtRest.{sound_at_rest}
+use Rattle.hpx_node.proofs.node.Node.boot.Goals as goal
+
+pub returns-clause-stands : goal.returns-clause-stands
+returns-clause-stands g c =
+    sound_at_rest _ (rules_of g.A.Acts.act_of c.localities-localities.result c.args.profile) [] (record { localities = refl; credit_log = refl; credit_limit = refl }) (record {
+      stands = search rules;
+      orderly = search rules;
+      lacks = search rules;
+    })
