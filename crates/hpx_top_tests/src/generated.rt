@@ -1,0 +1,154 @@
+//! 300 sessions made from the numbers 1 to 300, a third of them over each order of delivery.
+use crate::runs::{Ended, sure};
+use crate::worlds::{Asks, PROFILE, asks_in, is_legal};
+use hpx_ports::order::Order;
+use hpx_value::memory::OutOfMemory;
+use std::alloc::Global;
+use std::process::Abort;
+use std::test::Fail;
+
+/// The text of one number, as the test itself makes it, and how many lines spoke of the number.
+#[derive(Drop)]
+struct Plain {
+    number: i64,
+    text: Vec<u8>,
+    calls: u64,
+}
+
+impl Plain {
+    /// Before the first line.
+    fn new(alloc: Global) -> Result<Plain, OutOfMemory> {
+        Ok(Plain {
+            number: 0,
+            text: Vec::from_slice(
+                alloc,
+                b"commands: reset, add [amount], query, help, quit\n> ",
+            )?,
+            calls: 0,
+        })
+    }
+
+    /// A line that speaks of no number.
+    fn says(&mut self, line: &[u8]) -> Result<(), OutOfMemory> {
+        self.text.extend_from_slice(line)?;
+        Ok(())
+    }
+
+    /// A line that speaks of the number, which is kept, or set, or printed.
+    fn calls(&mut self, alloc: Global, line: &[u8], amount: i64) -> Result<(), OutOfMemory> {
+        self.calls = self.calls.saturating_add(1);
+        match line {
+            b"query" => {
+                let number = self.number;
+                self.text
+                    .extend_from_slice(format!(in alloc; "{number}\n")?.as_bytes())?;
+            }
+            b"reset" => self.number = 0,
+            _ => match self.number.checked_add(amount) {
+                Some(sum) => self.number = sum,
+                None => self.text.extend_from_slice(b"error: overflow\n")?,
+            },
+        }
+        Ok(())
+    }
+
+    /// One line, and the prompt for the next.
+    fn line(&mut self, alloc: Global, line: &[u8], amount: i64) -> Result<(), OutOfMemory> {
+        match line {
+            b"help" => self.says(b"commands: reset, add [amount], query, help, quit\n")?,
+            b"sum" => self.says(b"error: bad command\n")?,
+            _ => self.calls(alloc, line, amount)?,
+        }
+        self.says(b"> ")
+    }
+
+    /// How often credit is asked for: by the 32nd line that speaks of the number, and by each 31st behind it.
+    fn asks(&self) -> u64 {
+        match self.calls.checked_sub(32) {
+            Some(more) => more / 31 + 1,
+            None => 0,
+        }
+    }
+}
+
+/// The word of a line, by a number below 8.
+fn word_of(kind: u64) -> &'static [u8] {
+    match kind {
+        0 => b"query",
+        1 => b"reset",
+        2 => b"help",
+        3 => b"sum",
+        _ => b"add",
+    }
+}
+
+/// The session that is made from a number, of 3 to 91 lines: its input, and what it is by hand.
+fn generated(alloc: Global, start: u64) -> Result<(Vec<u8>, Plain), OutOfMemory> {
+    let mut x = start;
+    let mut input = Vec::new(alloc);
+    let mut plain = Plain::new(alloc)?;
+    for _ in 0..3 + start % 89 {
+        x = x.wrapping_mul(1_103_515_245).wrapping_add(12_345) % 2_147_483_648;
+        let kind = (x / 65_536) % 8;
+        let amount = if kind == 7 {
+            i64::MAX
+        } else {
+            (x % 1000) as i64
+        };
+        let word = word_of(kind);
+        input.extend_from_slice(word)?;
+        if kind > 3 {
+            input.extend_from_slice(format!(in alloc; " {amount}")?.as_bytes())?;
+        }
+        input.push(b'\n')?;
+        plain.line(alloc, word, amount)?;
+    }
+    Ok((input, plain))
+}
+
+/// A session has the text of one number, asks for credit as often as it should and is granted it, and its journal is legal.
+fn is_right(rt: &impl Abort, alloc: Global, ended: &Ended, plain: &Plain) {
+    assert_eq!(rt; ended.status, 0);
+    assert_eq!(rt; ended.text.as_slice(), plain.text.as_slice());
+    let asks = Asks {
+        asked: plain.asks(),
+        granted: plain.asks(),
+        refused: 0,
+        given: plain.asks(),
+        failed: 0,
+    };
+    assert_eq!(rt; asks_in(ended.world.journal()), asks);
+    assert!(rt; is_legal(alloc, &ended.world, PROFILE));
+}
+
+/// The sessions of every third number are right, from this one on; how many of them ask for credit.
+fn a_third(rt: &impl Abort, alloc: Global, first: u64, order: Order) -> Result<u32, Fail> {
+    let mut asking = 0u32;
+    for i in 0..100u64 {
+        let (input, plain) = generated(alloc, first.saturating_add(3 * i))?;
+        is_right(rt, alloc, &sure(alloc, input, order)?, &plain);
+        if plain.asks() > 0 {
+            asking = asking.saturating_add(1);
+        }
+    }
+    Ok(asking)
+}
+
+// Of each hundred 50 ask for credit; a program that makes the same lines counted them.
+#[test]
+fn a_hundred_sessions_are_right_over_first_in(rt: HostRuntime) -> Result<(), Fail> {
+    assert_eq!(rt; a_third(&rt, rt.alloc(), 3, Order::FirstIn)?, 50);
+    Ok(())
+}
+
+#[test]
+fn a_hundred_sessions_are_right_over_last_in(rt: HostRuntime) -> Result<(), Fail> {
+    assert_eq!(rt; a_third(&rt, rt.alloc(), 1, Order::LastIn)?, 50);
+    Ok(())
+}
+
+#[test]
+fn a_hundred_sessions_are_right_over_scrambled(rt: HostRuntime) -> Result<(), Fail> {
+    assert_eq!(rt; a_third(&rt, rt.alloc(), 2, Order::Scrambled(7))?, 50);
+    Ok(())
+}

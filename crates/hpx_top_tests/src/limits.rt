@@ -1,0 +1,95 @@
+//! A limit of credit that refuses.
+ghost use Rattle.std.specs.Prelude.{◌≡◌, length};
+
+use crate::worlds::{Asks, asks_in, drain, feed, is_legal, printed};
+use app_console::lines::{ACCUMULATOR, marked, opening};
+use hpx_ports::fabric::Fabric;
+use hpx_ports::memory_fabric::SureFabric;
+use hpx_ports::order::Order;
+use hpx_top::acts::AllActs;
+use hpx_value::acts::Done;
+use hpx_value::memory::OutOfMemory;
+use hpx_value::profile::Profile;
+use hpx_world::turns::{Choice, Turned};
+use hpx_world::world::World;
+use std::alloc::Global;
+use std::test::Fail;
+
+// No count may pass the credit of one new object.
+const TIGHT: Profile = Profile {
+    credit_log: 8,
+    credit_limit: 256,
+    cache: 64,
+};
+
+// Locality 0 of two fires an action, runs it and finishes it.
+fn work<F: Fabric>(
+    alloc: Global,
+    world: &mut World<AllActs>,
+    fabric: &mut F,
+) -> Result<(), OutOfMemory>
+    ensures count { length world.new.nodes ≡ length world.old.nodes }
+{
+    if world.acts().localities != 2 {
+        return Err(OutOfMemory);
+    }
+    let Ok(Turned::Fired(job)) = world.turn(alloc, Choice::Fire(0), fabric) else {
+        return Err(OutOfMemory);
+    };
+    let Ok(done) = Done::compute(alloc, world.acts(), job) else {
+        return Err(OutOfMemory);
+    };
+    if done.job().at > 1 {
+        return Err(OutOfMemory);
+    }
+    match world.turn(alloc, Choice::Finish(done), fabric) {
+        Ok(_) => Ok(()),
+        Err(_) => Err(OutOfMemory),
+    }
+}
+
+// Nine lines are run before any frame goes: the first eight take all the credit of the session's id, and the ninth asks for
+// more. Where the ask comes home before the ids of the first lines do, the limit refuses it, and the ninth line fails; the
+// query then asks again, and is granted what has come home. Else the ninth line is granted enough for both.
+#[test]
+fn credit_is_refused_where_the_count_would_pass_the_limit(rt: HostRuntime) -> Result<(), Fail> {
+    let alloc = rt.alloc();
+    for (order, want, asked, refused) in [
+        (Order::LastIn, b"error: credit limit\n8\n".as_slice(), 2, 1),
+        (Order::FirstIn, b"9\n", 1, 0),
+    ] {
+        let mut fabric = SureFabric::new(alloc, order);
+        let mut world = World::boot(alloc, AllActs { localities: 2 }, TIGHT)?;
+        feed(alloc, &mut world, opening(alloc)?, &mut fabric)?;
+        drain(alloc, &mut world, &mut fabric)?;
+        for _ in 0..9 {
+            feed(
+                alloc,
+                &mut world,
+                marked(alloc, ACCUMULATOR, b"add 1")?,
+                &mut fabric,
+            )?;
+            work(alloc, &mut world, &mut fabric)?;
+        }
+        drain(alloc, &mut world, &mut fabric)?;
+        feed(
+            alloc,
+            &mut world,
+            marked(alloc, ACCUMULATOR, b"query")?,
+            &mut fabric,
+        )?;
+        drain(alloc, &mut world, &mut fabric)?;
+        assert!(rt; world.quiet());
+        assert_eq!(rt; printed(alloc, world.journal(), 0)?.as_slice(), want);
+        let asks = Asks {
+            asked,
+            granted: 1,
+            refused,
+            given: asked,
+            failed: refused,
+        };
+        assert_eq!(rt; asks_in(world.journal()), asks);
+        assert!(rt; is_legal(alloc, &world, TIGHT));
+    }
+    Ok(())
+}
