@@ -1,0 +1,56 @@
+-- What the program did with its ports, by the status that it ends with.
+use Rattle.std.specs.Prelude.{ℕ, Option, IfSome, List, ◌≡◌, ◌≢◌, ◌⊎◌, ◌+◌, ◌<◌, ◌≤◌}
+use Rattle.hpx_journal.specs.declared.entry.Entry.{Entry}
+use Rattle.hpx_journal.specs.Weights.{HasRoom}
+use Rattle.hpx_ports.specs.Faults.{Rose}
+use Rattle.hpx_ports.specs.Told.{followed}
+use Rattle.hpx_world.specs.Places.{Places}
+use Rattle.hpx_top.specs.Session.{WritesFront}
+use Rattle.hpx_top.specs.Ends.{IsWhole, IsBrokenOff, IsBrokenIn, IsBrokenAtOpening, IsBegun, IsReadFrom, IsReadUp}
+
+-- what is left to read and how many bytes were read, what was written, and how often reading, writing and the fabric failed
+pub record Ports : Type 0 where
+  pub left : Option (List ℕ)
+  pub taken : ℕ
+  pub text : Option (List ℕ)
+  pub read_faults : ℕ
+  pub write_faults : ℕ
+  pub frame_faults : ℕ
+
+-- what was written for errors, and how often that failed
+pub record Errors : Type 0 where
+  pub text : Option (List ℕ)
+  pub faults : ℕ
+
+-- a line was written for errors, or a front of it where that failed
+pub record Says (line : List ℕ) (x z : Errors) : Type 0 where
+  pub front : WritesFront line x.text z.text
+  pub whole : (Rose x.faults z.faults → ⊥) → z.text ≡ followed x.text line
+
+-- no port failed, not all of the bytes that may be read were read, and the journal has room
+pub record NothingFailed (world : Option Places) (x z : Ports) : Type 0 where
+  pub read : Rose x.read_faults z.read_faults → ⊥
+  pub write : Rose x.write_faults z.write_faults → ⊥
+  pub frame : Rose x.frame_faults z.frame_faults → ⊥
+  pub few : z.taken < x.taken + 67108864
+  pub room : IfSome world (λ w. HasRoom w.journal.entries)
+
+-- each status has its cause, and no port failed but that which the status names
+pub record HasCause (status : ℕ) (world : Option Places) (x z : Ports) : Type 0 where
+  pub read : status ≡ 2 → Rose x.read_faults z.read_faults
+  pub write : status ≡ 3 → Rose x.write_faults z.write_faults
+  pub frame : status ≡ 4 → Rose x.frame_faults z.frame_faults
+  pub full : status ≡ 5 → IfSome world (λ w. HasRoom w.journal.entries → ⊥)
+  pub input : status ≡ 9 → z.taken ≡ x.taken + 67108864
+  pub read_only : status ≢ 2 → z.read_faults ≡ x.read_faults
+  pub write_only : status ≢ 3 → z.write_faults ≡ x.write_faults
+  pub frame_only : status ≢ 4 → z.frame_faults ≡ x.frame_faults
+
+-- what was read of the input and written of its text, as a run says it
+pub record HasServed (status : ℕ) (input : List ℕ) (entries : List Entry) (x z : Ports) : Type 0 where
+  pub reads : IsReadFrom input z.left x.taken z.taken
+  pub read_up : status ≡ 0 → IsReadUp input z.left
+  pub whole : status ≡ 0 → IsWhole 2 input entries x.text z.text
+  pub begun : IsBegun 2 input entries x.text z.text
+  pub between_lines : (status ≡ 2) ⊎ (status ≡ 9) → IsBrokenOff 2 0 input entries x.text z.text
+  pub in_a_line : (status ≡ 4) ⊎ (status ≡ 5) → IsBrokenIn 2 input entries x.text z.text ⊎ IsBrokenAtOpening entries x.text z.text

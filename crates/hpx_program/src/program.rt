@@ -1,0 +1,115 @@
+ghost use Rattle.std.specs.Prelude.{◌≡◌, ◌≢◌, ◌⊎◌, [], Some, None, IfSome, ℕ, codes};
+ghost use Rattle.hpx_options.specs.Texts.{bad_word_text};
+ghost use Rattle.hpx_top.specs.Statuses.{IsStatus, status_line};
+ghost use Rattle.hpx_top.specs.Usage.{bad_word};
+ghost use Rattle.hpx_program.specs.Program.{Ports, Errors, Says, NothingFailed, HasCause, HasServed};
+
+use hpx_ports::fabric::Fabric;
+use hpx_ports::sink::{Sink, write_all};
+use hpx_ports::source::Source;
+use hpx_ports::words::{Words, all_words};
+use hpx_top::run::{End, run};
+use hpx_value::memory::OutOfMemory;
+use std::alloc::Global;
+
+/// The status where there is no memory for the words.
+const OUT_OF_MEMORY: u8 = 6;
+
+/// Says that there is no memory for the words. Where that fails, nothing comes of it but the front of the line.
+fn say_no_memory<E: Sink>(err: &mut E)
+    ensures { Says (codes "hpx: out of memory\n") (record { text = E.held err.old; faults = E.faults err.old })
+        (record { text = E.held err.new; faults = E.faults err.new }) }
+{
+    match write_all(err, b"hpx: out of memory\n") {
+        Ok(()) => (),
+        Err(_) => (),
+    }
+}
+
+/// Runs on the words that it is started with, and ends as that run ends. Where there is no memory for the words, nothing is run, and
+/// the status is 6. A status other than 0 writes one line on `err`, and nothing else is written there.
+pub fn program<W: Words, S: Source, K: Sink, E: Sink, F: Fabric>(
+    alloc: Global,
+    given: &W,
+    source: &mut S,
+    sink: &mut K,
+    err: &mut E,
+    fabric: F,
+) -> End<F>
+    requires flight { F.flight fabric ≡ Some [] }
+    requires trace { F.trace fabric ≡ Some [] }
+
+    ensures refused { (words : _) (place : ℕ) → W.words given.now ≡ Some words → bad_word words ≡ Some place → (result.world ≡ None)
+        × ((result.status ≡ 6) ⊎ ((result.status ≡ 1) × Says (bad_word_text place) (record { text = E.held err.old; faults = E.faults err.old })
+        (record { text = E.held err.new; faults = E.faults err.new }))) }
+    ensures taken { (words : _) → W.words given.now ≡ Some words → bad_word words ≡ None → result.status ≢ 1 }
+    ensures says { result.status ≢ 1 → Says (status_line result.status) (record { text = E.held err.old; faults = E.faults err.old })
+        (record { text = E.held err.new; faults = E.faults err.new }) }
+    ensures silent { result.status ≡ 0 → err.new ≡ err.old }
+    ensures no_other { IsStatus result.status }
+    ensures none { result.world ≡ None → (result.status ≡ 1) ⊎ (result.status ≡ 6) }
+    ensures untouched { result.world ≡ None → (source.new ≡ source.old) × (sink.new ≡ sink.old) × (result.fabric ≡ fabric) }
+    ensures cause { let x : Ports = record {
+      left = S.left source.old;
+      taken = S.taken source.old;
+      text = K.held sink.old;
+      read_faults = S.faults source.old;
+      write_faults = K.faults sink.old;
+      frame_faults = F.faults fabric;
+    } in
+        let z : Ports = record {
+          left = S.left source.new;
+          taken = S.taken source.new;
+          text = K.held sink.new;
+          read_faults = S.faults source.new;
+          write_faults = K.faults sink.new;
+          frame_faults = F.faults result.fabric;
+        } in
+        HasCause result.status result.world x z }
+    ensures ends_well { let x : Ports = record {
+      left = S.left source.old;
+      taken = S.taken source.old;
+      text = K.held sink.old;
+      read_faults = S.faults source.old;
+      write_faults = K.faults sink.old;
+      frame_faults = F.faults fabric;
+    } in
+        let z : Ports = record {
+          left = S.left source.new;
+          taken = S.taken source.new;
+          text = K.held sink.new;
+          read_faults = S.faults source.new;
+          write_faults = K.faults sink.new;
+          frame_faults = F.faults result.fabric;
+        } in
+        NothingFailed result.world x z → (result.status ≡ 0) ⊎ (result.status ≡ 1) ⊎ (result.status ≡ 6) }
+    ensures served { let x : Ports = record {
+      left = S.left source.old;
+      taken = S.taken source.old;
+      text = K.held sink.old;
+      read_faults = S.faults source.old;
+      write_faults = K.faults sink.old;
+      frame_faults = F.faults fabric;
+    } in
+        let z : Ports = record {
+          left = S.left source.new;
+          taken = S.taken source.new;
+          text = K.held sink.new;
+          read_faults = S.faults source.new;
+          write_faults = K.faults sink.new;
+          frame_faults = F.faults result.fabric;
+        } in
+        IfSome result.world (λ w. (input : _) → S.left source.old ≡ Some input → HasServed result.status input w.journal.entries x z) }
+{
+    match all_words(alloc, given) {
+        Ok(words) => run(alloc, &words, source, sink, err, fabric),
+        Err(OutOfMemory) => {
+            say_no_memory(err);
+            End {
+                status: OUT_OF_MEMORY,
+                world: None,
+                fabric,
+            }
+        }
+    }
+}
