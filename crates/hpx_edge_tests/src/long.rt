@@ -1,0 +1,41 @@
+//! An input without an end, and a journal that becomes full.
+use crate::session::{COMMANDS, printed, push_times, session};
+use hpx_ports::adapters::ReaderSource;
+use hpx_ports::memory_sink::SureSink;
+use hpx_ports::order::Order;
+use std::io::repeat;
+use std::test::Fail;
+
+#[test]
+fn an_input_that_never_ends_is_full(rt: HostRuntime) -> Result<(), Fail> {
+    let alloc = rt.alloc();
+    let mut source = ReaderSource::new(repeat(b'x'));
+    let mut sink = SureSink::new(alloc);
+    let ended = session(alloc, &mut source, &mut sink, Order::FirstIn)?;
+    assert_eq!(rt; ended.status, 9);
+    assert_eq!(rt; ended.line.as_slice(), b"hpx: input full\n".as_slice());
+    assert_eq!(rt; source.taken(), 67_108_864);
+    let mut whole = Vec::from_slice(alloc, COMMANDS)?;
+    whole.extend_from_slice(b"> ")?;
+    assert_eq!(rt; sink.bytes(), whole.as_slice());
+    Ok(())
+}
+
+/// So many lines of `add 1` are handled. The opening leaves 14 entries, each line 17, and the 32nd and each 31st behind it, 3,925 of
+/// them, 7 more: 2,096,117 in all. There is room for a turn up to 2,096,128.
+const LINES: usize = 121_684;
+
+// Of the next line the Line, Fire, Split, Done, Sent, Out, In, Fire, Done, Sent, Up, Mail and Count are written, and then no turn has room.
+#[test]
+fn a_session_ends_where_its_journal_is_full(rt: HostRuntime) -> Result<(), Fail> {
+    let alloc = rt.alloc();
+    let mut input = Vec::new(alloc);
+    push_times(&mut input, b"add 1\n", LINES + 2)?;
+    let (text, ended) = printed(alloc, input, Order::FirstIn)?;
+    assert_eq!(rt; ended.status, 5);
+    assert_eq!(rt; ended.line.as_slice(), b"hpx: journal full\n".as_slice());
+    assert_eq!(rt; ended.entries, 2_096_117 + 13);
+    // A prompt for each line, and one for that which was broken off.
+    assert_eq!(rt; text.len(), COMMANDS.len() + 2 * (LINES + 1));
+    Ok(())
+}

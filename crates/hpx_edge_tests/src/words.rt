@@ -1,0 +1,172 @@
+//! The program on the words of an environment.
+use hpx_ports::memory_fabric::SureFabric;
+use hpx_ports::memory_sink::SureSink;
+use hpx_ports::memory_source::SureSource;
+use hpx_ports::order::Order;
+use hpx_ports::words::{EnvWords, MemWords, Words};
+use hpx_program::program::program;
+use hpx_value::items::{Bytes, Items, Text, Texts};
+use hpx_value::memory::OutOfMemory;
+use std::alloc::Global;
+use std::env::{Env, FillError};
+use std::test::Fail;
+
+/// The environment of a program that was started with these words, behind its name.
+#[derive(Drop)]
+struct Started<'a>(&'a [&'a [u8]]);
+
+impl<'a> Env for Started<'a> {
+    fn arg(&self, i: usize, buf: &mut [u8]) -> Result<usize, FillError> {
+        let word = match i.checked_sub(1) {
+            None => b"hpx".as_slice(),
+            Some(place) => *self.0.get(place).ok_or(FillError::NotPresent)?,
+        };
+        if word.len() > buf.len() {
+            return Err(FillError::TooLong);
+        }
+        buf[..word.len()].copy_from_slice(word);
+        Ok(word.len())
+    }
+
+    fn var(&self, _name: &str, _buf: &mut [u8]) -> Result<usize, FillError> {
+        Err(FillError::NotPresent)
+    }
+
+    fn var_at(&self, _i: usize, _buf: &mut [u8]) -> Result<usize, FillError> {
+        Err(FillError::NotPresent)
+    }
+}
+
+/// What a program has written that was started with these words: its status, its text, and its line for errors.
+#[derive(Drop)]
+struct Written {
+    status: u8,
+    text: Vec<u8>,
+    line: Vec<u8>,
+}
+
+/// The program on these words, and on an input of two lines.
+fn run_on<W: Words>(alloc: Global, given: &W) -> Result<Written, OutOfMemory> {
+    let input = Vec::from_slice(alloc, b"add 5\nquery\n")?;
+    let mut source = SureSource::new(Bytes::from_vec(input));
+    let mut sink = SureSink::new(alloc);
+    let mut err = SureSink::new(alloc);
+    let fabric = SureFabric::new(alloc, Order::FirstIn);
+    let end = program(alloc, given, &mut source, &mut sink, &mut err, fabric);
+    Ok(Written {
+        status: end.status,
+        text: Vec::from_slice(alloc, sink.bytes())?,
+        line: Vec::from_slice(alloc, err.bytes())?,
+    })
+}
+
+/// The same words in memory.
+fn texts(alloc: Global, words: &[&[u8]]) -> Result<Texts, OutOfMemory> {
+    let mut texts = Items::new(alloc);
+    for word in words {
+        texts.push(Text::from_vec(Vec::from_slice(alloc, word)?))?;
+    }
+    Ok(texts)
+}
+
+const TEXT: &[u8] = b"commands: reset, add [amount], query, help, quit\n> > 5\n> ";
+
+/// Words, and what is written for errors where they do not fit.
+type Row<'a> = (&'a [&'a [u8]], &'a [u8]);
+
+// The limit of a count that stands for nothing is given in 64 bytes, in 65, and in 65 of which the last spoils it.
+const ROWS: [Row; 12] = [
+    (&[b"accumulator", b"--hpx:localities=2"], b""),
+    (
+        &[
+            b"accumulator",
+            b"--hpx:localities=2",
+            b"--hpx:ini=hpx.agas.credit_limit=01267650600228229401496703205376",
+        ],
+        b"",
+    ),
+    (
+        &[
+            b"--hpx:ini=hpx.agas.credit_limit=001267650600228229401496703205376",
+            b"accumulator",
+            b"--hpx:localities=2",
+        ],
+        b"",
+    ),
+    (
+        &[
+            b"accumulator",
+            b"--hpx:localities=2",
+            b"--hpx:ini=hpx.agas.credit_limit=01267650600228229401496703205376x",
+        ],
+        b"hpx: bad word 3\n",
+    ),
+    // a word that is cut would fit
+    (
+        &[b"accumulator", b"--hpx:localities=22"],
+        b"hpx: bad word 0\n",
+    ),
+    (
+        &[b"accumulators", b"--hpx:localities=2"],
+        b"hpx: bad word 1\n",
+    ),
+    // none, empty ones, and one more than fits
+    (&[], b"hpx: bad word 0\n"),
+    (&[b""], b"hpx: bad word 1\n"),
+    (
+        &[b"", b"accumulator", b"--hpx:localities=2"],
+        b"hpx: bad word 1\n",
+    ),
+    (
+        &[b"accumulator", b"", b"--hpx:localities=2"],
+        b"hpx: bad word 2\n",
+    ),
+    (
+        &[b"accumulator", b"--hpx:localities=2", b""],
+        b"hpx: bad word 3\n",
+    ),
+    (
+        &[b"accumulator", b"--hpx:localities=2", b"quit"],
+        b"hpx: bad word 3\n",
+    ),
+];
+
+#[test]
+fn the_words_are_read_whole(rt: HostRuntime) -> Result<(), Fail> {
+    let alloc = rt.alloc();
+    for (i, (words, line)) in ROWS.iter().enumerate() {
+        let (status, text) = if line.is_empty() {
+            (0, TEXT)
+        } else {
+            (1, b"".as_slice())
+        };
+        let by_system = run_on(alloc, &EnvWords::new(&Started(*words)))?;
+        let in_memory = run_on(
+            alloc,
+            &MemWords {
+                words: texts(alloc, *words)?,
+            },
+        )?;
+        for written in [by_system, in_memory] {
+            assert_eq!(rt; written.status, status, "row {i}");
+            assert_eq!(rt; written.text.as_slice(), text, "row {i}");
+            assert_eq!(rt; written.line.as_slice(), *line, "row {i}");
+        }
+    }
+    Ok(())
+}
+
+// 2,000 words behind those that fit: the first of them is named.
+#[test]
+fn too_many_words_are_refused(rt: HostRuntime) -> Result<(), Fail> {
+    let alloc = rt.alloc();
+    let mut words = Vec::from_slice(alloc, &[b"accumulator".as_slice(), b"--hpx:localities=2"])?;
+    for _ in 0..2000 {
+        words.push(b"more".as_slice())?;
+    }
+    let written = run_on(alloc, &EnvWords::new(&Started(words.as_slice())))?;
+    assert_eq!(rt; written.status, 1);
+    assert_eq!(rt; written.text.as_slice(), b"".as_slice());
+    assert_eq!(rt; written.line.as_slice(), b"hpx: bad word 3\n".as_slice());
+    Ok(())
+}
