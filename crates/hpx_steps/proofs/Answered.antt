@@ -1,47 +1,8 @@
 -- An ask is answered: more credit is granted, or refused.
-use Rattle.std.proofs.Common.{Bool, List, Option, Some, [], ap, arith, cond, false, inl, inr, map, refl, subst, sym, true, ℕ, ◌+◌, ◌-◌, ◌<◌, ◌∙◌, ◌∷◌, ◌≡◌, ◌≢◌, ◌≤◌}
-use Rattle.std.proofs.Math.Pow.{pow_pos}
-use Rattle.std.proofs.lemmas.Bool.{cases_Bool, eq-eqb, ne_eqb}
-use Rattle.std.proofs.lemmas.Bool.Decides.{nat_tests}
-use Rattle.std.proofs.lemmas.List.Sums.{sum_by-cons}
-use Rattle.std.specs.List.{count_by, find, sum_by}
-use Rattle.std.specs.Option.{option_map_or}
-use Rattle.std.specs.Prelude.{MatchOption, flat_map, nat_lt, ◌&&◌, ◌==◌, ◌^◌, ◌⊎◌}
-use Rattle.hpx_value.specs.Ids.{bare, same_object}
-use Rattle.hpx_parcel.specs.Parcels.{HasCredit, HasLeastCredit}
-use Rattle.hpx_journal.proofs.Same.{same_object-true}
-use Rattle.hpx_journal.specs.Data.{Ask, Give, Id, Parcel}
-use Rattle.hpx_journal.specs.Entries.{Rules}
-use Rattle.hpx_journal.specs.Local.{count_in, is_recorded}
-use Rattle.hpx_journal.specs.Tokens.{owed_token, same_token}
-use Rattle.hpx_part.proofs.Credit.{token_own}
-use Rattle.hpx_part.proofs.CreditRows.{follows_granted, follows_refused}
-use Rattle.hpx_part.proofs.Keyed.{counts_of, counts_true}
-use Rattle.hpx_part.specs.Data.{Count, Entry, Granted, Reason, Refused, Token}
-use Rattle.hpx_part.specs.Shows.{Leads}
-use Rattle.hpx_part.specs.View.{View}
-use Rattle.hpx_agas.specs.Records.{find_record}
-use Rattle.hpx_agas.specs.Registries.{asked as raised}
-use Rattle.hpx_agas.specs.declared.record.Record.{Record}
-use Rattle.hpx_commit.specs.Deals.{log_of}
-use Rattle.hpx_tables.proofs.Alls.{some_same}
-use Rattle.hpx_tables.specs.Tables.{Tables}
-use Rattle.hpx_steps.specs.Items.{Came, Going, Item, Mailed, OnDesk, weigh}
-use Rattle.hpx_steps.specs.Mail.{going, is_other, mails, wrote}
-use Rattle.hpx_steps.specs.Numbered.{asks_under}
-use Rattle.hpx_steps.specs.Rows.{Row, causes, freeing, goes, hopping, is_least, is_refusal, is_refused, joined, one_if, owes, unpaid, weight}
-use Rattle.hpx_steps.specs.Sound.{HasPlaces, IsSound, IsTidy, StaysAt, TidyAt, asked_by, asks_for, given_to, gives_for, waits_for, worth}
-use Rattle.hpx_steps.specs.Steps.{Grants, HasInHand, Recounts, Refuses, drops, with_records}
-use Rattle.hpx_steps.specs.Turn.{Turn, bare_due, counted, parcel_asks, parcel_frees, parcel_tokens, parcels, tokens, view, waiting}
-use Rattle.hpx_steps.proofs.ByRows.{by_rows}
-use Rattle.hpx_steps.proofs.Calm.{bound_none, counts_still, same_dead, same_seen}
-use Rattle.hpx_steps.proofs.Changes.{Changes, drop_change, holding, in_hand, is_frame, mail_change, sent_if, then, total}
-use Rattle.hpx_steps.proofs.Mails.{hand_fit, mail_tidy, owed_by, own_is}
+use Rattle.hpx_steps.proofs.Common.{Ask, Bool, Came, Count, Entry, Give, Going, Granted, Grants, HasCredit, HasInHand, HasLeastCredit, HasPlaces, Id, IsSound, IsTidy, Item, Leads, List, Mailed, MatchOption, OnDesk, Option, Parcel, Reason, Record, Recounts, Refused, Refuses, Row, Rules, Some, StaysAt, Tables, TidyAt, Token, Turn, View, [], ap, arith, asked_by, asks_for, asks_under, bare, bare_due, cases_Bool, causes, cond, count_by, count_in, counted, counts_of, counts_true, drops, eq-eqb, false, find, find_record, flat_map, follows_granted, follows_refused, freeing, given_to, gives_for, goes, going, hopping, inl, inr, is_least, is_other, is_recorded, is_refusal, is_refused, joined, log_of, mails, map, nat_lt, nat_tests, ne_eqb, one_if, option_map_or, owed_token, owes, parcel_asks, parcel_frees, parcel_tokens, parcels, pow_pos, raised, refl, same_object, same_object-true, same_token, some_same, subst, sum_by, sum_by-cons, sym, token_own, tokens, true, unpaid, view, waiting, waits_for, weigh, weight, with_records, worth, wrote, ℕ, ◌&&◌, ◌+◌, ◌-◌, ◌<◌, ◌==◌, ◌^◌, ◌∙◌, ◌∷◌, ◌≡◌, ◌≢◌, ◌≤◌, ◌⊎◌}
+use Rattle.hpx_steps.proofs.Tools.{Changes, Keeps, Sees, bound_none, by_own, by_parcel, by_rows, counts_still, drop_change, drop_waits, fewer, hand_fit, holding, in_hand, is_frame, mail_change, mail_tidy, mail_waits, owed_by, same_dead, same_seen, sees_leads, sent_if, then, total, view_worth}
+use Rattle.hpx_steps.proofs.Mails.{own_is}
 use Rattle.hpx_steps.proofs.Records.{found_counted, one_recounted, places_still}
-use Rattle.hpx_steps.proofs.Seen.{Sees, sees_leads}
-use Rattle.hpx_steps.proofs.Sums.{by_own, by_parcel, view_worth}
-use Rattle.hpx_steps.proofs.Then.{Keeps, fewer}
-use Rattle.hpx_steps.proofs.Waits.{drop_waits, mail_waits}
 
 -- what a message weighs that is sent, on the desk or away
 sent_either : (w : Item → ℕ) (b : Bool) (to : ℕ) (p : Parcel) → total w (sent_if true b to p) ≡ cond b (w (Going (going to p))) (w (OnDesk p))

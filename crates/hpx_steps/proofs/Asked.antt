@@ -1,46 +1,6 @@
 -- An id is asked for.
-use Rattle.std.proofs.Common.{Bool, List, Some, [], ap, arith, cond, false, inl, inr, length, map, refl, set, subst, sym, true, ℕ, ◌++◌, ◌+◌, ◌<◌, ◌∙◌, ◌∷◌, ◌≡◌, ◌≤◌}
-use Rattle.std.proofs.lemmas.Bool.{cases_Bool, eq-eqb, eqb-true}
-use Rattle.std.proofs.lemmas.Bool.Decides.{nat_tests}
-use Rattle.std.proofs.lemmas.List.Sums.{sum_by-append, sum_by-cons}
-use Rattle.std.specs.List.{count_by, list_any, slice_get, sum_by}
-use Rattle.std.specs.Prelude.{nat_le, ◌&&◌, ◌==◌}
-use Rattle.hpx_value.specs.Hands.{id_at}
-use Rattle.hpx_value.specs.Ids.{bare, same_object}
-use Rattle.hpx_value.specs.Values.{bare_act}
-use Rattle.hpx_parcel.specs.Parcels.{HasLeastCredit}
-use Rattle.hpx_journal.specs.Data.{Ask, Id, Parcel}
-use Rattle.hpx_journal.specs.Entries.{Rules}
-use Rattle.hpx_journal.specs.Tokens.{held_token, owed_token, same_token}
-use Rattle.hpx_part.proofs.Credit.{token_own}
-use Rattle.hpx_part.proofs.CreditRows.{follows_asked}
-use Rattle.hpx_part.proofs.Keyed.{counts_of, counts_true}
-use Rattle.hpx_part.specs.Data.{Asked, Entry, Token}
-use Rattle.hpx_part.specs.Shows.{same_refusal}
-use Rattle.hpx_part.specs.View.{View}
-use Rattle.hpx_tables.proofs.Alls.{all_append}
-use Rattle.hpx_tables.specs.Pending.{Waits, fired_of, ids_named, is_asked, is_asked_for, refusals_of}
-use Rattle.hpx_tables.specs.declared.pending.Asked.{Asked as AskedFor}
-use Rattle.hpx_steps.specs.Items.{Going, Item, OnDesk, Working, weigh}
-use Rattle.hpx_steps.specs.Mail.{going, is_other, mails, wrote}
-use Rattle.hpx_steps.specs.Numbered.{AreNumbered, asks_as, asks_under}
-use Rattle.hpx_steps.specs.Paused.{HasCommits, IsCommit}
-use Rattle.hpx_steps.specs.Rows.{Row, causes, freeing, goes, hopping, joined, one_if, unpaid, weight}
-use Rattle.hpx_steps.specs.Sound.{IsSound, IsTidy, TidyAt, asked_by, asking, asks_for, given_to, waits_for, worth}
-use Rattle.hpx_steps.specs.Steps.{AsksFor}
-use Rattle.hpx_steps.specs.Turn.{Turn, bare_due, parcel_asks, parcel_frees, tokens, tokens_of, view, waiting}
-use Rattle.hpx_steps.proofs.Bare.{has_not_asked, no_tokens}
-use Rattle.hpx_steps.proofs.ByRows.{by_rows}
-use Rattle.hpx_steps.proofs.Calm.{bound_none, same_dead}
-use Rattle.hpx_steps.proofs.Changes.{Changes, first_turns, holding, mail_change, sent_if, then, total, working_change}
-use Rattle.hpx_steps.proofs.Hands.{at_place, put_asked, put_bare, put_elsewhere, put_for, put_names, put_there}
-use Rattle.hpx_steps.proofs.Lists.{less_sum, set_sum}
-use Rattle.hpx_steps.proofs.Mails.{held_by, mail_tidy, owed_by, sent_total}
-use Rattle.hpx_steps.proofs.Recommit.{same_commits}
-use Rattle.hpx_steps.proofs.Seen.{Sees, sees_leads}
-use Rattle.hpx_steps.proofs.Sums.{by_own, by_parcel, ids_each, seen_sum, view_asking, view_worth}
-use Rattle.hpx_steps.proofs.Then.{Keeps}
-use Rattle.hpx_steps.proofs.Waits.{mail_waits}
+use Rattle.hpx_steps.proofs.Common.{AreNumbered, Ask, Asked, AskedFor, AsksFor, Bool, Entry, Going, HasCommits, HasLeastCredit, Id, IsCommit, IsSound, IsTidy, Item, List, OnDesk, Parcel, Row, Rules, Some, TidyAt, Token, Turn, View, Waits, Working, [], all_append, ap, arith, asked_by, asking, asks_as, asks_for, asks_under, bare, bare_act, bare_due, cases_Bool, causes, cond, count_by, counts_of, counts_true, eq-eqb, eqb-true, false, fired_of, follows_asked, freeing, given_to, goes, going, held_token, hopping, id_at, ids_named, inl, inr, is_asked, is_asked_for, is_other, joined, length, list_any, mails, map, nat_le, nat_tests, one_if, owed_token, parcel_asks, parcel_frees, refl, refusals_of, same_object, same_refusal, same_token, set, slice_get, subst, sum_by, sum_by-append, sum_by-cons, sym, token_own, tokens, tokens_of, true, unpaid, view, waiting, waits_for, weigh, weight, worth, wrote, ℕ, ◌&&◌, ◌++◌, ◌+◌, ◌<◌, ◌==◌, ◌∙◌, ◌∷◌, ◌≡◌, ◌≤◌}
+use Rattle.hpx_steps.proofs.Tools.{Changes, Keeps, Sees, at_place, bound_none, by_own, by_parcel, by_rows, first_turns, has_not_asked, held_by, holding, ids_each, less_sum, mail_change, mail_tidy, mail_waits, no_tokens, owed_by, put_asked, put_bare, put_elsewhere, put_for, put_names, put_there, same_commits, same_dead, seen_sum, sees_leads, sent_if, sent_total, set_sum, then, total, view_asking, view_worth, working_change}
 
 module _ (r : Rules) (s : Turn) (entries : List Entry) (h : IsSound r s entries) (w : Waits) (rest : List Waits) (p : ℕ) (id : Id) (due : s.due ≡ []) (fresh : s.fresh ≡ [])
     (works : s.working ≡ w ∷ rest) (low : p < length (ids_named w)) (at : slice_get w.hand p ≡ Some id) (least : HasLeastCredit id) where

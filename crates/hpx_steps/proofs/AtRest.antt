@@ -1,32 +1,10 @@
 -- Between turns all that holds of a turn is what holds of the tables, and the other way round.
-use Rattle.std.proofs.Common.{List, [], ap, append-nil, arith, length, map, refl, subst, sym, true, ℕ, ◌++◌, ◌+◌, ◌∙◌, ◌∷◌, ◌≡◌, ◌≢◌, ◌≤◌}
-use Rattle.std.proofs.lemmas.List.Sums.{sum_by-append, sum_by-cons}
-use Rattle.std.specs.List.{AllByRecursion, sum_by}
-use Rattle.std.specs.Prelude.{IfSome, flat_map}
-use Rattle.hpx_value.specs.Values.{bare_act}
-use Rattle.hpx_parcel.specs.Parcels.{IsParcel}
-use Rattle.hpx_journal.specs.Data.{Act, Id, Parcel}
-use Rattle.hpx_journal.specs.Entries.{Rules, move_to, target_of}
-use Rattle.hpx_journal.specs.Whole.{part}
-use Rattle.hpx_part.specs.Data.{Entry, Standing}
-use Rattle.hpx_part.specs.Parts.{StandsFor}
-use Rattle.hpx_tables.proofs.Alls.{all_append, all_parts}
-use Rattle.hpx_tables.specs.Fit.{IsFit, IsKept}
-use Rattle.hpx_tables.specs.Kept.{stands_here}
-use Rattle.hpx_tables.specs.Pending.{Waits}
-use Rattle.hpx_tables.specs.Tables.{Tables, messages}
-use Rattle.hpx_tables.specs.declared.kept.Outgoing.{Outgoing}
-use Rattle.hpx_steps.specs.Frames.{IsForHere, IsOnItsWay}
-use Rattle.hpx_steps.specs.Items.{Accepted, Came, Going, IsDue, Item, Loose, Mailed, OnDesk, Pending, Running, StandsHere, Working, weigh}
-use Rattle.hpx_steps.specs.Paused.{HasObject}
-use Rattle.hpx_steps.specs.Rest.{ArePaused, IsPaused, IsTidy, StandsAtRest, bound_for, kept_ids, queued, tokens, unpaid, view, waits_for}
-use Rattle.hpx_steps.specs.Rows.{Actions, AreFired, Row, freeing, hopping, joined, of_act, unpaid as turn_unpaid, weight}
-use Rattle.hpx_steps.specs.Sound.{AreRules, FreesNone, IsOwn, IsSound, IsTidy as turn_tidy, TidyAt, asked_by, asks_for, given_to, gives_for, waits_for as turn_waits_for}
-use Rattle.hpx_steps.specs.Turn.{at_rest, ids_here, parcel_tokens, tokens_of, view as turn_view}
-use Rattle.hpx_steps.proofs.ByRows.{by_rows}
-use Rattle.hpx_steps.proofs.Changes.{all_among, among_all}
-use Rattle.hpx_steps.proofs.Lists.{long_sum}
-use Rattle.hpx_steps.proofs.Sums.{map_sum, zeros}
+use Rattle.hpx_steps.proofs.Common.{Accepted, Act, Actions, AllByRecursion, AreFired, ArePaused, AreRules, Came, Entry, FreesNone, Going, HasObject, Id, IfSome, IsDue, IsFit, IsForHere, IsKept, IsOnItsWay, IsOwn, IsParcel, IsPaused, IsSound, Item, List, Loose, Mailed, OnDesk, Outgoing, Parcel, Pending, Row, Rules, Running, Standing, StandsAtRest, StandsFor, StandsHere, Tables, TidyAt, Waits, Working, [], all_append, all_parts, ap, append-nil, arith, asked_by, asks_for, at_rest, bare_act, bound_for, flat_map, freeing, given_to, gives_for, hopping, ids_here, joined, kept_ids, length, map, messages, move_to, of_act, parcel_tokens, part, queued, refl, stands_here, subst, sum_by, sum_by-append, sum_by-cons, sym, target_of, tokens_of, true, weigh, weight, ℕ, ◌++◌, ◌+◌, ◌∙◌, ◌∷◌, ◌≡◌, ◌≢◌, ◌≤◌}
+use Rattle.hpx_steps.proofs.Tools.{all_among, among_all, by_rows, long_sum, map_sum, zeros}
+use Rattle.hpx_steps.specs.Rest.{IsTidy, tokens, unpaid, view, waits_for}
+use Rattle.hpx_steps.specs.Rows.{unpaid as turn_unpaid}
+use Rattle.hpx_steps.specs.Sound.{IsTidy as turn_tidy, waits_for as turn_waits_for}
+use Rattle.hpx_steps.specs.Turn.{view as turn_view}
 
 alls : {X : Type 0} (P Q R : X → Type 0) (xs : List X) → ((x : X) → P x → Q x → R x) → AllByRecursion P xs → AllByRecursion Q xs → AllByRecursion R xs
 alls P Q R [] f a b = tt

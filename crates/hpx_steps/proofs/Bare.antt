@@ -1,22 +1,5 @@
 -- Ids with their credits, and without.
-use Rattle.std.proofs.Common.{Bool, List, None, Option, Some, [], ap, arith, cond, false, map, refl, suc, sym, take, true, zero, ℕ, ◌++◌, ◌<◌, ◌∙◌, ◌∷◌, ◌≡◌, ◌≤◌}
-use Rattle.std.proofs.lemmas.Bool.Decides.{nat_tests}
-use Rattle.std.proofs.lemmas.List.Sums.{sum_by-cons}
-use Rattle.std.specs.List.{AllByRecursion, filter, sum_by}
-use Rattle.std.specs.Prelude.{MatchOption, is_some, nat_le, not, ◌&&◌}
-use Rattle.hpx_value.specs.Ids.{bare, same_object}
-use Rattle.hpx_value.specs.Values.{bare_state}
-use Rattle.hpx_parcel.specs.Credits.{credit_list}
-use Rattle.hpx_parcel.specs.Parcels.{HasRightCredit}
-use Rattle.hpx_journal.proofs.Same.{and_true}
-use Rattle.hpx_journal.specs.Data.{Id, State}
-use Rattle.hpx_journal.specs.Tokens.{held}
-use Rattle.hpx_part.specs.Data.{Token}
-use Rattle.hpx_commit.proofs.Naming.{managed}
-use Rattle.hpx_tables.specs.Pending.{is_asked}
-use Rattle.hpx_steps.specs.Paused.{bare_names, names_of}
-use Rattle.hpx_steps.specs.Steps.{with_credit}
-use Rattle.hpx_steps.specs.Turn.{tokens_of}
+use Rattle.hpx_steps.proofs.Common.{AllByRecursion, Bool, HasRightCredit, Id, List, MatchOption, None, Option, Some, State, Token, [], and_true, ap, arith, bare, bare_names, bare_state, cond, credit_list, false, filter, held, is_asked, is_some, managed, map, names_of, nat_le, nat_tests, not, refl, same_object, suc, sum_by, sum_by-cons, sym, take, tokens_of, true, with_credit, zero, ℕ, ◌&&◌, ◌++◌, ◌<◌, ◌∙◌, ◌∷◌, ◌≡◌, ◌≤◌}
 use Rattle.hpx_steps.proofs.Cover.{held_ids, held_or_bare}
 use Rattle.hpx_steps.proofs.Sums.{ids_append}
 

@@ -1,49 +1,9 @@
 -- A commit makes an object.
-use Rattle.std.proofs.Common.{Bool, List, None, Option, Some, [], ap, append-nil, arith, cond, false, inl, inr, length, map, refl, subst, sym, take, true, ℕ, ◌++◌, ◌+◌, ◌∙◌, ◌∷◌, ◌≡◌, ◌≤◌}
-use Rattle.std.proofs.lemmas.Bool.{cases_Bool}
-use Rattle.std.proofs.lemmas.List.{map-append}
-use Rattle.std.proofs.lemmas.List.Sums.{sum_by-cons}
-use Rattle.std.specs.List.{count_by, filter, find, list_any, sum_by}
-use Rattle.std.specs.Option.{option_map_or}
-use Rattle.std.specs.Prelude.{◌^◌}
-use Rattle.hpx_value.specs.Hands.{id_at, session}
-use Rattle.hpx_value.specs.Ids.{bare, bare_id, same_object}
-use Rattle.hpx_value.specs.Laws.{birth_state}
-use Rattle.hpx_value.specs.Values.{bare_act}
-use Rattle.hpx_value.specs.declared.outcome.Make.{Make}
-use Rattle.hpx_journal.proofs.Bools.{false_from}
-use Rattle.hpx_journal.proofs.Same.{same_object-true}
-use Rattle.hpx_journal.specs.Data.{Id, State}
-use Rattle.hpx_journal.specs.Entries.{Rules}
-use Rattle.hpx_journal.specs.Local.{count_in, is_recorded, is_standing}
-use Rattle.hpx_journal.specs.Tokens.{held_token}
-use Rattle.hpx_part.proofs.ObjectRows.{follows_born}
-use Rattle.hpx_part.specs.Data.{Born, Entry, Event, Standing, Token}
-use Rattle.hpx_part.specs.Shows.{same_refusal}
-use Rattle.hpx_part.specs.View.{View}
-use Rattle.hpx_agas.specs.Records.{find_record}
-use Rattle.hpx_agas.specs.declared.record.Record.{Record}
-use Rattle.hpx_tables.proofs.Alls.{some_same}
-use Rattle.hpx_tables.specs.Births.{IsBirth, birth_of}
-use Rattle.hpx_tables.specs.Pending.{Waits, fired_of, ids_named, is_asked, is_asked_for, refusals_of}
-use Rattle.hpx_steps.specs.Items.{Item, StandsHere, Working, weigh}
-use Rattle.hpx_steps.specs.Mail.{wrote}
-use Rattle.hpx_steps.specs.Numbered.{asks_under}
-use Rattle.hpx_steps.specs.Paused.{HasCommits, IsCommit, names_of}
-use Rattle.hpx_steps.specs.Rows.{Row, causes, freeing, goes, hopping, joined, unpaid}
-use Rattle.hpx_steps.specs.Sound.{HasPlaces, IsSound, IsTidy, StaysAt, TidyAt, asked_by, asking, given_to, waits_for, worth}
-use Rattle.hpx_steps.specs.Steps.{Bears, works_on}
-use Rattle.hpx_steps.specs.Turn.{Turn, bare_due, bare_standing, counted, tokens, tokens_of, view}
+use Rattle.hpx_steps.proofs.Common.{Bears, Bool, Born, Entry, Event, HasCommits, HasPlaces, Id, IsBirth, IsCommit, IsSound, IsTidy, Item, List, Make, None, Option, Record, Row, Rules, Some, Standing, StandsHere, State, StaysAt, TidyAt, Token, Turn, View, Waits, Working, [], ap, append-nil, arith, asked_by, asking, asks_under, bare, bare_act, bare_due, bare_id, bare_standing, birth_of, birth_state, cases_Bool, causes, cond, count_by, count_in, counted, false, false_from, filter, find, find_record, fired_of, follows_born, freeing, given_to, goes, held_token, hopping, id_at, ids_named, inl, inr, is_asked, is_asked_for, is_recorded, is_standing, joined, length, list_any, map, map-append, names_of, option_map_or, refl, refusals_of, same_object, same_object-true, same_refusal, session, some_same, subst, sum_by, sum_by-cons, sym, take, tokens, tokens_of, true, unpaid, view, waits_for, weigh, works_on, worth, wrote, ℕ, ◌++◌, ◌+◌, ◌^◌, ◌∙◌, ◌∷◌, ◌≡◌, ◌≤◌}
+use Rattle.hpx_steps.proofs.Tools.{Changes, Keeps, Sees, all_among, by_rows, fewer, first_turns, holding, more_come, objects_change, same_commits, sees_leads, take_place, then, view_asking, view_worth, working_change}
 use Rattle.hpx_steps.proofs.Beside.{more_commits}
-use Rattle.hpx_steps.proofs.ByRows.{by_rows}
-use Rattle.hpx_steps.proofs.Changes.{Changes, all_among, first_turns, holding, more_come, objects_change, then, working_change}
-use Rattle.hpx_steps.proofs.Hands.{take_place}
 use Rattle.hpx_steps.proofs.Objects.{single_more, stand_more}
-use Rattle.hpx_steps.proofs.Recommit.{same_commits}
 use Rattle.hpx_steps.proofs.Records.{found_counted}
-use Rattle.hpx_steps.proofs.Seen.{Sees, sees_leads}
-use Rattle.hpx_steps.proofs.Sums.{view_asking, view_worth}
-use Rattle.hpx_steps.proofs.Then.{Keeps, fewer}
 use Rattle.hpx_steps.proofs.Tidy.{retidy}
 
 module _ (r : Rules) (s : Turn) (entries : List Entry) (h : IsSound r s entries) (w : Waits) (rest : List Waits) (make : Make) (hand : List Id) (due : s.due ≡ [])

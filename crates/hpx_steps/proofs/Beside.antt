@@ -1,23 +1,5 @@
 -- What stands beside commits: where one begins, ends or stands elsewhere among them, and where objects come and go.
-use Rattle.std.proofs.Common.{Bool, List, Some, [], ap, append_assoc, arith, cond, drop, false, inl, inr, map, refl, set, subst, suc, sym, take, true, ℕ, ◌++◌, ◌==◌, ◌∙◌, ◌∷◌, ◌≡◌}
-use Rattle.std.proofs.lemmas.Bool.{cases_Bool, eqb-true}
-use Rattle.std.proofs.lemmas.List.{map-append}
-use Rattle.std.proofs.lemmas.List.Sums.{sum_by-append, sum_by-cons}
-use Rattle.std.specs.List.{AllByRecursion, find, list_any, remove, slice_get, sum_by}
-use Rattle.hpx_value.specs.Ids.{bare, same_object}
-use Rattle.hpx_value.specs.Values.{bare_state}
-use Rattle.hpx_value.specs.declared.acts.Job.{Job}
-use Rattle.hpx_parcel.specs.Parcels.{HasRightCredit}
-use Rattle.hpx_journal.proofs.Same.{same_object-from, same_object-sym, same_object-true}
-use Rattle.hpx_journal.specs.Data.{Act, Id, State}
-use Rattle.hpx_journal.specs.Entries.{target_of}
-use Rattle.hpx_journal.specs.Local.{acts_on, is_busy, is_standing}
-use Rattle.hpx_part.proofs.Keyed.{split_get}
-use Rattle.hpx_part.proofs.Lists.{sum_middle}
-use Rattle.hpx_part.specs.Data.{Standing}
-use Rattle.hpx_tables.proofs.Alls.{all_append, all_at, all_parts, all_remove, all_set}
-use Rattle.hpx_tables.specs.Pending.{Waits, action_of, fired_of}
-use Rattle.hpx_steps.specs.Paused.{Apart, HasCommits, HasObject, IsWhole, Single, bare_names, names_of}
+use Rattle.hpx_steps.proofs.Common.{Act, AllByRecursion, Apart, Bool, HasCommits, HasObject, HasRightCredit, Id, IsWhole, Job, List, Single, Some, Standing, State, Waits, [], action_of, acts_on, all_append, all_at, all_parts, all_remove, all_set, ap, append_assoc, arith, bare, bare_names, bare_state, cases_Bool, cond, drop, eqb-true, false, find, fired_of, inl, inr, is_busy, is_standing, list_any, map, map-append, names_of, refl, remove, same_object, same_object-from, same_object-sym, same_object-true, set, slice_get, split_get, subst, suc, sum_by, sum_by-append, sum_by-cons, sum_middle, sym, take, target_of, true, ℕ, ◌++◌, ◌==◌, ◌∙◌, ◌∷◌, ◌≡◌}
 use Rattle.hpx_steps.proofs.Bare.{lent_all, no_bare}
 use Rattle.hpx_steps.proofs.Busy.{apart_alone, apart_less, apart_moved, busy_moved, busy_none, busy_parts, busy_same, keeps, none_busy, none_of}
 use Rattle.hpx_steps.proofs.Lists.{less_sum, set_sum}

@@ -1,18 +1,5 @@
 -- Busy objects, and what is found in lists without credits.
-use Rattle.std.proofs.Common.{Bool, List, None, Some, [], ap, cond, false, inl, inr, map, refl, subst, sym, true, ◌++◌, ◌==◌, ◌∙◌, ◌∷◌, ◌≡◌}
-use Rattle.std.proofs.lemmas.Bool.{cases_Bool}
-use Rattle.std.proofs.lemmas.List.{map-append}
-use Rattle.std.specs.List.{find, list_any}
-use Rattle.std.specs.Prelude.{Option, ◌||◌}
-use Rattle.hpx_value.specs.Ids.{bare, same_object}
-use Rattle.hpx_value.specs.Values.{bare_act}
-use Rattle.hpx_journal.proofs.Same.{same_object-sym, same_object-true}
-use Rattle.hpx_journal.specs.Data.{Act, Id}
-use Rattle.hpx_journal.specs.Entries.{target_of}
-use Rattle.hpx_journal.specs.Local.{acts_on, is_busy, is_standing}
-use Rattle.hpx_part.specs.Data.{Standing}
-use Rattle.hpx_steps.specs.Paused.{Apart}
-use Rattle.hpx_steps.specs.Turn.{bare_standing}
+use Rattle.hpx_steps.proofs.Common.{Act, Apart, Bool, Id, List, None, Option, Some, Standing, [], acts_on, ap, bare, bare_act, bare_standing, cases_Bool, cond, false, find, inl, inr, is_busy, is_standing, list_any, map, map-append, refl, same_object, same_object-sym, same_object-true, subst, sym, target_of, true, ◌++◌, ◌==◌, ◌||◌, ◌∙◌, ◌∷◌, ◌≡◌}
 use Rattle.hpx_steps.proofs.Puts.{target-bare}
 
 pub or_false : (a b : Bool) → a ≡ false → b ≡ false → (a || b) ≡ false

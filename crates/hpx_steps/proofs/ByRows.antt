@@ -1,6 +1,6 @@
 -- One row after the other.
-use Rattle.hpx_journal.specs.Data.{Id}
-use Rattle.hpx_steps.specs.Rows.{Actions, Asks, Counts, Frees, FreesOf, Gives, Refusals, Returns, Row}
+use Rattle.hpx_steps.proofs.Common.{Actions, Asks, Counts, Frees, FreesOf, Id, Refusals, Returns, Row}
+use Rattle.hpx_steps.specs.Rows.{Gives}
 
 pub by_rows : (P : Row → Type 0) → P Returns → P Asks → P Gives → P Frees → P Counts → P Refusals → P Actions
     → ((o : Id) → P (FreesOf o)) → (row : Row) → P row

@@ -1,21 +1,5 @@
 -- What many entries have in common.
-use Rattle.std.proofs.Common.{Bool, List, ap, arith, cond, false, length, refl, sym, true, ℕ, ◌∙◌, ◌≡◌, ◌≢◌, ◌≤◌}
-use Rattle.std.proofs.lemmas.Bool.{ne_eqb}
-use Rattle.std.specs.List.{count_by}
-use Rattle.std.specs.Prelude.{flat_map}
-use Rattle.hpx_value.specs.Ids.{same_object}
-use Rattle.hpx_journal.specs.Data.{Ask, Id, Parcel}
-use Rattle.hpx_journal.specs.Laws.{outs_by}
-use Rattle.hpx_journal.specs.Local.{done_after}
-use Rattle.hpx_journal.specs.Whole.{arrives, arrives_at}
-use Rattle.hpx_part.proofs.Keyed.{counts_of}
-use Rattle.hpx_part.proofs.Keys.{own}
-use Rattle.hpx_part.specs.Data.{Event, Local}
-use Rattle.hpx_tables.specs.Awaited.{is_answer}
-use Rattle.hpx_tables.specs.Tables.{Tables}
-use Rattle.hpx_steps.specs.Items.{weigh}
-use Rattle.hpx_steps.specs.Sound.{IsOwn, asks_for}
-use Rattle.hpx_steps.specs.Turn.{Turn, parcel_frees, parcels, view}
+use Rattle.hpx_steps.proofs.Common.{Ask, Bool, Event, Id, IsOwn, List, Local, Parcel, Tables, Turn, ap, arith, arrives, arrives_at, asks_for, cond, count_by, counts_of, done_after, false, flat_map, is_answer, length, ne_eqb, outs_by, own, parcel_frees, parcels, refl, same_object, sym, true, view, weigh, ℕ, ◌∙◌, ◌≡◌, ◌≢◌, ◌≤◌}
 use Rattle.hpx_steps.proofs.Sums.{by_own, by_parcel, own_sum, seen_sum}
 use Rattle.hpx_steps.proofs.Then.{Counts}
 

@@ -1,19 +1,5 @@
 -- The primitive changes of a turn: what all weights are then, and what is there that was not there before.
-use Rattle.std.proofs.Common.{Bool, List, Some, [], ap, arith, cond, false, inl, inr, map, refl, set, suc, sym, true, zero, ℕ, ◌++◌, ◌+◌, ◌∷◌, ◌≡◌}
-use Rattle.std.proofs.lemmas.List.Sums.{sum_by-append, sum_by-cons}
-use Rattle.std.specs.List.{AllByRecursion, remove, sum_by}
-use Rattle.std.specs.Prelude.{not, slice_get, ◌⊎◌}
-use Rattle.hpx_journal.specs.Data.{Act, Due, Id, Parcel}
-use Rattle.hpx_journal.specs.Entries.{target_of}
-use Rattle.hpx_part.specs.Data.{Standing}
-use Rattle.hpx_tables.proofs.Alls.{some_same}
-use Rattle.hpx_tables.specs.Fit.{parcel_for}
-use Rattle.hpx_tables.specs.Pending.{Waits}
-use Rattle.hpx_tables.specs.declared.kept.Outgoing.{Outgoing}
-use Rattle.hpx_steps.specs.Items.{Accepted, Among, Came, Going, Has, Holds, IsDue, Item, Loose, Mailed, OnDesk, Pending, Running, StandsHere, Working, weigh}
-use Rattle.hpx_steps.specs.Mail.{going, is_other, mails_if, may_stay, posts, sent_as}
-use Rattle.hpx_steps.specs.Steps.{HasInHand, drops}
-use Rattle.hpx_steps.specs.Turn.{Turn}
+use Rattle.hpx_steps.proofs.Common.{Accepted, Act, AllByRecursion, Among, Bool, Came, Due, Going, Has, HasInHand, Holds, Id, IsDue, Item, List, Loose, Mailed, OnDesk, Outgoing, Parcel, Pending, Running, Some, Standing, StandsHere, Turn, Waits, Working, [], ap, arith, cond, drops, false, going, inl, inr, is_other, mails_if, map, may_stay, not, parcel_for, posts, refl, remove, sent_as, set, slice_get, some_same, suc, sum_by, sum_by-append, sum_by-cons, sym, target_of, true, weigh, zero, ℕ, ◌++◌, ◌+◌, ◌∷◌, ◌≡◌, ◌⊎◌}
 
 -- ---- what is among others
 

@@ -1,41 +1,9 @@
 -- A commit in work is done, or fails: its objects are made, its ids are halved, it ends, what is due is sent, and what nobody names is given up.
-use Rattle.std.proofs.Common.{List, None, Option, Some, [], ap, append-nil, append_assoc, arith, cond, false, length, map, refl, set, subst, suc, sym, zero, ℕ, ◌++◌, ◌+◌, ◌<◌, ◌∙◌, ◌∷◌, ◌≡◌, ◌≤◌}
-use Rattle.std.proofs.lemmas.List.{length-map, map-append}
-use Rattle.std.specs.List.{AllByRecursion, find, remove, slice_get}
-use Rattle.std.specs.Prelude.{MatchOption, is_some}
-use Rattle.hpx_value.specs.Hands.{due_of, hand_ids, id_at, state_after}
-use Rattle.hpx_value.specs.Ids.{bare}
-use Rattle.hpx_value.specs.Values.{bare_act, bare_state}
-use Rattle.hpx_value.specs.declared.acts.Job.{Job}
+use Rattle.hpx_steps.proofs.Common.{Act, AllByRecursion, AreMade, AreWithin, Birth, Commits, Deals, Done, Due, Entry, Event, HasCredit, HasRightCredit, Id, IsBirth, IsFitDue, IsKept, IsLeftBy, Job, Lasts, List, MatchOption, None, Option, Remains, Rules, Some, Standing, Stands, StandsHere, State, Step, Steps, Stock, Suspend, Tables, Turn, Waits, Writes, [], all_at, all_set, answered_by, ap, append-nil, append_assoc, arith, at_all, at_rest, bare, bare_act, bare_due, bare_standing, bare_state, birth_of, births_of, cond, due_of, ends, failure, false, find, find_passes, get_before, hand_ids, id_at, ids_named, ids_of, is_some, is_standing, length, length-map, map, map-append, name_of, named, objects_of, records_of, refl, remove, rules_of, set, slice_get, splits_from, state_after, subst, suc, sym, target_of, ups, waits_with, with_credit, with_due, with_left, written_due, wrote, zero, ℕ, ◌++◌, ◌+◌, ◌<◌, ◌∙◌, ◌∷◌, ◌≡◌, ◌≤◌}
+use Rattle.hpx_steps.proofs.Tools.{all_among, find_more, get_set, single_found, single_set}
 use Rattle.hpx_value.specs.declared.outcome.Outcome.{Outcome}
-use Rattle.hpx_parcel.specs.Parcels.{HasCredit, HasRightCredit}
-use Rattle.hpx_journal.specs.Data.{Act, Due, Id, State}
-use Rattle.hpx_journal.specs.Entries.{Rules, name_of, target_of}
-use Rattle.hpx_journal.specs.Local.{failure, is_standing}
-use Rattle.hpx_journal.specs.Rows.{AreMade}
-use Rattle.hpx_part.specs.Data.{Done, Entry, Event, Standing}
-use Rattle.hpx_part.specs.Parts.{at_all}
-use Rattle.hpx_commit.specs.Deals.{AreWithin, Lasts, named}
-use Rattle.hpx_commit.specs.Stocks.{Stock}
-use Rattle.hpx_tables.proofs.Alls.{all_at, all_set, find_passes, get_before}
-use Rattle.hpx_tables.specs.Awaited.{answered_by}
-use Rattle.hpx_tables.specs.Births.{IsBirth, birth_of, births_of, ids_of, objects_of, records_of}
-use Rattle.hpx_tables.specs.Fit.{IsFitDue, IsKept}
-use Rattle.hpx_tables.specs.Pending.{Waits, ids_named, waits_with}
-use Rattle.hpx_tables.specs.Splits.{splits_from}
-use Rattle.hpx_tables.specs.Tables.{Tables}
-use Rattle.hpx_tables.specs.declared.births.Birth.{Birth}
-use Rattle.hpx_steps.specs.Calls.{ups, with_due, with_left, written_due}
-use Rattle.hpx_steps.specs.Left.{IsLeftBy}
-use Rattle.hpx_steps.specs.Mail.{wrote}
-use Rattle.hpx_steps.specs.Rest.{Stands, rules_of}
-use Rattle.hpx_steps.specs.Steps.{Commits, Deals, Remains, Step, Steps, Suspend, Writes, ends, with_credit}
-use Rattle.hpx_steps.specs.Turn.{Turn, at_rest, bare_due, bare_standing}
-use Rattle.hpx_steps.specs.Items.{StandsHere}
-use Rattle.hpx_steps.proofs.Changes.{all_among}
 use Rattle.hpx_steps.proofs.Made.{Drawn, made_so}
 use Rattle.hpx_steps.proofs.Handled.{due_steps, let_go, steps_append, ups_steps, with_loose, written_events}
-use Rattle.hpx_steps.proofs.Objects.{find_more, get_set, single_found, single_set}
 use Rattle.hpx_steps.proofs.TurnOf.{turn_stands}
 use Rattle.hpx_steps.proofs.Work.{births_steps, halved_from, splits_steps, with_births, with_hand}
 

@@ -1,34 +1,7 @@
 -- Where all that is kept is well formed, each name has its token.
-use Rattle.std.proofs.Common.{Bool, List, None, Option, Some, [], ap, arith, cond, drop, false, inl, inr, length, map, refl, sym, take, true, ℕ, ◌++◌, ◌+◌, ◌<◌, ◌∙◌, ◌∷◌, ◌≡◌, ◌≤◌}
-use Rattle.std.proofs.Math.Bool.{and-true}
-use Rattle.std.proofs.lemmas.Bool.{cases_Bool}
-use Rattle.std.proofs.lemmas.Bool.Decides.{nat_tests}
-use Rattle.std.proofs.lemmas.List.{take-append-drop}
-use Rattle.std.proofs.lemmas.List.Sums.{sum_by-append, sum_by-cons}
-use Rattle.std.specs.List.{AllByRecursion, count_by, filter, sum_by}
-use Rattle.std.specs.Prelude.{MatchOption, flat_map, is_some, nat_le, not, ◌&&◌}
-use Rattle.hpx_value.specs.Ids.{bare, same_object}
-use Rattle.hpx_value.specs.Values.{bare_act}
+use Rattle.hpx_steps.proofs.Common.{Accepted, Act, AllByRecursion, Among, AreLent, Bool, Came, Going, HasRightCredit, Id, IsCovered, IsDue, IsFit, IsFitDue, IsParcel, IsTidy, List, Mailed, MatchOption, MessageDue, None, OnDesk, Option, Outgoing, Parcel, Pending, PrintDue, Running, Some, Standing, Token, Turn, Waits, Working, [], act_names, action_of, acts_named, and-true, ap, arith, asking_of, asks_owed, bare, bare_act, bare_due, bare_names, bare_standing, cases_Bool, commits, cond, count_by, credit_list, drop, due_ids, false, filter, fired_of, flat_map, held, ids_named, inl, inr, is_asked, is_held, is_managed, is_some, length, map, nat_le, nat_tests, not, owed_counts, own_ids, parcel_acts, parcel_asks, parcel_tokens, parcels, refl, same_object, same_object-true, sum_by, sum_by-append, sum_by-cons, sym, take, take-append-drop, true, view, ℕ, ◌&&◌, ◌++◌, ◌+◌, ◌<◌, ◌∙◌, ◌∷◌, ◌≡◌, ◌≤◌}
 use Rattle.hpx_value.specs.declared.outcome.Due.{Due}
 use Rattle.hpx_value.specs.declared.outcome.Due.TheVariants.{Message as MessageDue, Print as PrintDue}
-use Rattle.hpx_parcel.specs.Credits.{credit_list}
-use Rattle.hpx_parcel.specs.Parcels.{HasRightCredit, IsParcel}
-use Rattle.hpx_journal.proofs.Same.{same_object-true}
-use Rattle.hpx_journal.specs.Data.{Act, Id, MessageDue, Parcel, PrintDue}
-use Rattle.hpx_journal.specs.Names.{due_ids}
-use Rattle.hpx_journal.specs.Tokens.{held, is_held}
-use Rattle.hpx_part.proofs.Covered.{act_names, owed_counts}
-use Rattle.hpx_part.proofs.Parcels.{acts_named, asks_owed}
-use Rattle.hpx_part.specs.Data.{Standing, Token}
-use Rattle.hpx_part.specs.View.{IsCovered}
-use Rattle.hpx_commit.specs.Deals.{is_managed}
-use Rattle.hpx_tables.specs.Fit.{IsFit, IsFitDue}
-use Rattle.hpx_tables.specs.Pending.{Waits, action_of, asking_of, fired_of, ids_named, is_asked, own_ids}
-use Rattle.hpx_tables.specs.declared.kept.Outgoing.{Outgoing}
-use Rattle.hpx_steps.specs.Items.{Accepted, Among, Came, Going, IsDue, Mailed, OnDesk, Pending, Running, Working}
-use Rattle.hpx_steps.specs.Paused.{AreLent, bare_names}
-use Rattle.hpx_steps.specs.Sound.{IsTidy}
-use Rattle.hpx_steps.specs.Turn.{Turn, bare_due, bare_standing, commits, parcel_acts, parcel_asks, parcel_tokens, parcels, view}
 use Rattle.hpx_steps.proofs.Changes.{all_among, among_either}
 use Rattle.hpx_steps.proofs.Sums.{flat_sum, ids_append, ids_flat, most_sum, parcels_sum, view_worth, weighs}
 

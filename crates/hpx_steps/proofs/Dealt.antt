@@ -1,34 +1,6 @@
 -- Once all ids of a hand are halved, its credits are those that are dealt, and those that nobody names.
-use Rattle.std.proofs.Common.{Bool, List, None, Option, Some, [], ap, append-nil, arith, cond, drop, false, inl, inr, length, length-append, map, refl, set, subst, suc, sym, take, true, zero, ℕ, ◌++◌, ◌+◌, ◌-◌, ◌<◌, ◌∙◌, ◌∷◌, ◌≡◌, ◌≤◌}
-use Rattle.std.proofs.Math.ListN.{length-set}
-use Rattle.std.proofs.lemmas.Bool.{cases_eq, cases_lt}
-use Rattle.std.proofs.lemmas.Bool.Decides.{nat_tests}
-use Rattle.std.proofs.lemmas.List.{drop-drop, take-append-drop}
-use Rattle.std.proofs.lemmas.List.Sums.{sum_by-cons}
-use Rattle.std.specs.List.{AllByRecursion, sum_by}
-use Rattle.std.specs.Prelude.{MatchOption, flat_map, nat_le, option_map, ◌&&◌, ◌==◌}
-use Rattle.hpx_value.specs.Hands.{id_at}
-use Rattle.hpx_value.specs.Ids.{bare}
-use Rattle.hpx_parcel.specs.Credits.{credit_list}
-use Rattle.hpx_parcel.specs.Parcels.{HasRightCredit}
-use Rattle.hpx_journal.specs.Data.{Act, Due, Id, MessageDue, PrintDue, State}
-use Rattle.hpx_journal.specs.Names.{due_ids}
-use Rattle.hpx_journal.specs.Tokens.{held}
-use Rattle.hpx_part.specs.Data.{Token}
-use Rattle.hpx_commit.proofs.Ahead.{deal_stays, deal_then, halves_taken}
-use Rattle.hpx_commit.proofs.Deals.{sums_dealt}
-use Rattle.hpx_commit.proofs.Failed.{failed_sums}
-use Rattle.hpx_commit.proofs.Fills.{Fits, due_filled, filled_all, filled_sums, unused_all, unused_rest}
-use Rattle.hpx_commit.proofs.Naming.{managed}
-use Rattle.hpx_commit.specs.Deals.{AreWithin, dealt, filled, filled_due, half, ids_due, is_managed, named, shared_from, shares, unnamed, unnamed_from, unused}
-use Rattle.hpx_commit.specs.Failures.{action_ids, due_failed, halves_ahead, ids_had, state_failed, ups_failed}
-use Rattle.hpx_commit.specs.Stocks.{SameDeal, Stock, take_half, take_halves}
-use Rattle.hpx_tables.proofs.Alls.{all_append, all_at, all_set}
-use Rattle.hpx_steps.specs.Steps.{Deals}
-use Rattle.hpx_steps.specs.Turn.{tokens_of}
-use Rattle.hpx_steps.proofs.Bare.{none_tokens}
-use Rattle.hpx_steps.proofs.Hands.{place_at}
-use Rattle.hpx_steps.proofs.Sums.{ids_append, ids_each}
+use Rattle.hpx_steps.proofs.Common.{Act, AllByRecursion, AreWithin, Bool, Deals, Due, Fits, HasRightCredit, Id, List, MatchOption, MessageDue, None, Option, PrintDue, SameDeal, Some, State, Stock, Token, [], action_ids, all_append, all_at, all_set, ap, append-nil, arith, bare, cases_eq, cases_lt, cond, credit_list, deal_stays, deal_then, dealt, drop, drop-drop, due_failed, due_filled, due_ids, failed_sums, false, filled, filled_all, filled_due, filled_sums, flat_map, half, halves_ahead, halves_taken, held, id_at, ids_due, ids_had, inl, inr, is_managed, length, length-append, length-set, managed, map, named, nat_le, nat_tests, option_map, refl, set, shared_from, shares, state_failed, subst, suc, sum_by, sum_by-cons, sums_dealt, sym, take, take-append-drop, take_half, take_halves, tokens_of, true, unnamed, unnamed_from, unused, unused_all, unused_rest, ups_failed, zero, ℕ, ◌&&◌, ◌++◌, ◌+◌, ◌-◌, ◌<◌, ◌==◌, ◌∙◌, ◌∷◌, ◌≡◌, ◌≤◌}
+use Rattle.hpx_steps.proofs.Tools.{ids_append, ids_each, none_tokens, place_at}
 use Rattle.hpx_steps.proofs.Work.{halved_from}
 
 half_right : (id : Id) → HasRightCredit id → HasRightCredit (half id)

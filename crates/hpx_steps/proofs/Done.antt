@@ -1,25 +1,7 @@
 -- A commit is done.
-use Rattle.std.proofs.Common.{List, Some, [], ap, arith, drop, false, map, refl, subst, suc, sym, take, ℕ, ◌++◌, ◌∙◌, ◌∷◌, ◌≡◌}
-use Rattle.std.proofs.lemmas.List.{map-append}
-use Rattle.hpx_value.specs.Hands.{due_of, state_after}
-use Rattle.hpx_value.specs.Ids.{bare}
-use Rattle.hpx_value.specs.Values.{bare_act, bare_state}
-use Rattle.hpx_journal.specs.Data.{Act}
-use Rattle.hpx_journal.specs.Entries.{Rules, name_of}
-use Rattle.hpx_journal.specs.Rows.{AreMade}
-use Rattle.hpx_part.proofs.Keyed.{split_get, split_set}
-use Rattle.hpx_part.proofs.ObjectRows.{follows_done}
-use Rattle.hpx_part.specs.Data.{Done, Entry, Name, Standing}
-use Rattle.hpx_part.specs.View.{View}
-use Rattle.hpx_tables.specs.Pending.{Waits, action_of}
-use Rattle.hpx_steps.specs.Mail.{wrote}
-use Rattle.hpx_steps.specs.Sound.{IsSound}
-use Rattle.hpx_steps.specs.Steps.{Commits, Ends, Remains, ends}
-use Rattle.hpx_steps.specs.Turn.{Turn, bare_due, bare_standing, view}
-use Rattle.hpx_steps.proofs.Cover.{view_covered}
+use Rattle.hpx_steps.proofs.Common.{Act, AreMade, Commits, Done, Ends, Entry, IsSound, List, Name, Remains, Rules, Some, Standing, Turn, View, Waits, [], action_of, ap, arith, bare, bare_act, bare_due, bare_standing, bare_state, drop, due_of, ends, false, follows_done, map, map-append, name_of, refl, split_get, split_set, state_after, subst, suc, sym, take, view, wrote, ℕ, ◌++◌, ◌∙◌, ◌∷◌, ◌≡◌}
+use Rattle.hpx_steps.proofs.Tools.{Keeps, Sees, sees_covers, sees_leads, view_covered}
 use Rattle.hpx_steps.proofs.Ending.{asking_same, bare_x, commits_now, dealt, done_keeps, failing_less, fires, fires_then, found, own_ends, refusals_less, tidy}
-use Rattle.hpx_steps.proofs.Seen.{Sees, sees_covers, sees_leads}
-use Rattle.hpx_steps.proofs.Then.{Keeps}
 
 module _ (r : Rules) (s : Turn) (entries : List Entry) (h : IsSound r s entries) (w : Waits) (rest : List Waits) (j : ℕ) (x : Standing) (left : Remains)
     (g : Ends s (name_of w.job.action) w rest j x left) (right : w.outcome ≡ r.outcome_of x.object.kind s.tables.here x.state (bare_act w.job.action))

@@ -1,44 +1,9 @@
 -- An action ends: what holds of what it leaves, whether it is done or fails.
-use Rattle.std.proofs.Common.{Bool, List, Option, Some, [], ap, arith, cond, false, inl, length, length-append, map, refl, set, subst, suc, sym, take, true, zero, ℕ, ◌++◌, ◌+◌, ◌<◌, ◌∙◌, ◌∷◌, ◌≡◌, ◌≤◌}
-use Rattle.std.proofs.lemmas.List.{map-append}
-use Rattle.std.proofs.lemmas.List.Sums.{sum_by-append, sum_by-cons}
-use Rattle.std.specs.List.{AllByRecursion, count_by, filter, find, list_any, sum_by}
-use Rattle.std.specs.Option.{option_to_list}
-use Rattle.std.specs.Prelude.{◌&&◌, ◌==◌}
-use Rattle.hpx_value.specs.Hands.{id_at, session}
-use Rattle.hpx_value.specs.Ids.{same_object}
-use Rattle.hpx_value.specs.Values.{bare_act, bare_state}
-use Rattle.hpx_journal.specs.Data.{Act, Due, Id, State}
-use Rattle.hpx_journal.specs.Entries.{Rules, name_of, target_of}
-use Rattle.hpx_journal.specs.Local.{is_act, is_standing}
-use Rattle.hpx_journal.specs.Names.{due_ids}
-use Rattle.hpx_part.proofs.Keyed.{Agree-found, any_counted, counted_any, counts_of}
-use Rattle.hpx_part.proofs.Keys.{means, own}
-use Rattle.hpx_part.specs.Data.{Done, Entry, Name, Refusal, Standing, Token}
-use Rattle.hpx_part.specs.Keyed.{Agree}
-use Rattle.hpx_part.specs.Shows.{Leads, same_refusal}
-use Rattle.hpx_tables.proofs.Alls.{all_append, find_passes, some_same}
-use Rattle.hpx_tables.specs.Awaited.{answered_by, is_answer}
-use Rattle.hpx_tables.specs.Pending.{Waits, action_of, fired_of, ids_named, is_asked, is_asked_for, own_ids, refusal_of, refusals_of}
-use Rattle.hpx_tables.specs.declared.pending.Asked.{Asked as AskedFor}
-use Rattle.hpx_steps.specs.Items.{IsDue, Item, Loose, StandsHere, Working, weigh}
-use Rattle.hpx_steps.specs.Mail.{wrote}
-use Rattle.hpx_steps.specs.Numbered.{asks_under}
-use Rattle.hpx_steps.specs.Paused.{HasCommits, IsCommit, names_of}
-use Rattle.hpx_steps.specs.Rows.{Row, causes, freeing, goes, hopping, joined, unpaid}
-use Rattle.hpx_steps.specs.Sound.{HasPlaces, IsSound, IsTidy, TidyAt, asked_by, asking, given_to, waits_for, worth}
-use Rattle.hpx_steps.specs.Steps.{Ends, Remains, ends}
-use Rattle.hpx_steps.specs.Turn.{Turn, bare_standing, commits, tokens, tokens_of, view}
-use Rattle.hpx_steps.proofs.Bare.{bare_lent, no_tokens}
+use Rattle.hpx_steps.proofs.Common.{Act, Agree, Agree-found, AllByRecursion, AskedFor, Bool, Done, Due, Ends, Entry, HasCommits, HasPlaces, Id, IsCommit, IsDue, IsSound, IsTidy, Item, Leads, List, Loose, Name, Option, Refusal, Remains, Row, Rules, Some, Standing, StandsHere, State, TidyAt, Token, Turn, Waits, Working, [], action_of, all_append, answered_by, any_counted, ap, arith, asked_by, asking, asks_under, bare_act, bare_standing, bare_state, causes, commits, cond, count_by, counted_any, counts_of, due_ids, ends, false, filter, find, find_passes, fired_of, freeing, given_to, goes, hopping, id_at, ids_named, inl, is_act, is_answer, is_asked, is_asked_for, is_standing, joined, length, length-append, list_any, map, map-append, means, name_of, names_of, option_to_list, own, own_ids, refl, refusal_of, refusals_of, same_object, same_refusal, session, set, some_same, subst, suc, sum_by, sum_by-append, sum_by-cons, sym, take, target_of, tokens, tokens_of, true, unpaid, view, waits_for, weigh, worth, wrote, zero, ℕ, ◌&&◌, ◌++◌, ◌+◌, ◌<◌, ◌==◌, ◌∙◌, ◌∷◌, ◌≡◌, ◌≤◌}
+use Rattle.hpx_steps.proofs.Tools.{Changes, Keeps, among_at, by_rows, due_change, fewer, first_goes, found-bare, holding, ids_each, ids_flat, loose_change, more_come, no_tokens, none_sum, objects_change, one_turns, single_set, stand_set, target-bare, then, total, total_map, view_asking, view_worth, working_change}
+use Rattle.hpx_steps.proofs.Bare.{bare_lent}
 use Rattle.hpx_steps.proofs.Beside.{end_commits}
-use Rattle.hpx_steps.proofs.Busy.{found-bare}
-use Rattle.hpx_steps.proofs.ByRows.{by_rows}
-use Rattle.hpx_steps.proofs.Changes.{Changes, all_come, among_at, due_change, first_goes, holding, loose_change, more_come, objects_change, one_turns, then, total, total_append, total_map, working_change}
-use Rattle.hpx_steps.proofs.Lists.{none_sum}
-use Rattle.hpx_steps.proofs.Objects.{single_set, stand_set}
-use Rattle.hpx_steps.proofs.Puts.{target-bare}
-use Rattle.hpx_steps.proofs.Sums.{ids_each, ids_flat, view_asking, view_worth}
-use Rattle.hpx_steps.proofs.Then.{Keeps, fewer}
+use Rattle.hpx_steps.proofs.Changes.{all_come, total_append}
 use Rattle.hpx_steps.proofs.Tidy.{retidy}
 
 module _ (r : Rules) (s : Turn) (entries : List Entry) (h : IsSound r s entries) (w : Waits) (rest : List Waits) (j : ℕ) (x : Standing) (left : Remains)

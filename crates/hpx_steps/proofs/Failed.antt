@@ -1,31 +1,8 @@
 -- An action fails that could get no credit.
-use Rattle.std.proofs.Common.{Bool, List, Some, [], ap, arith, length, map, refl, subst, sym, true, ℕ, ◌++◌, ◌∙◌, ◌∷◌, ◌≡◌}
-use Rattle.std.proofs.lemmas.List.{map-append}
-use Rattle.std.proofs.lemmas.List.Sums.{sum_by-append}
-use Rattle.std.specs.List.{list_any}
-use Rattle.std.specs.Prelude.{◌&&◌, ◌||◌}
-use Rattle.hpx_value.specs.Ids.{bare, same_object}
-use Rattle.hpx_value.specs.Values.{bare_act, bare_state}
-use Rattle.hpx_journal.proofs.Same.{same_name-refl}
-use Rattle.hpx_journal.specs.Data.{Act, Id, State}
-use Rattle.hpx_journal.specs.Entries.{Rules, name_of}
-use Rattle.hpx_journal.specs.Local.{failure}
+use Rattle.hpx_steps.proofs.Common.{Act, Bool, Done, Ends, Entry, Fails, Id, IsSound, List, Name, Remains, Rules, Some, Standing, State, Turn, View, Waits, [], action_of, any_counted, ap, arith, bare, bare_act, bare_due, bare_standing, bare_state, commits, counted_any, counts_of, ends, failure, follows_fail, ids_named, length, list_any, map, map-append, name_of, refl, refusal_of, refusals_of, same_name-refl, same_object, subst, sum_by-append, sym, true, view, wrote, ℕ, ◌&&◌, ◌++◌, ◌||◌, ◌∙◌, ◌∷◌, ◌≡◌}
+use Rattle.hpx_steps.proofs.Tools.{Keeps, Sees, bare_all, same_map, sees_covers, sees_leads, view_covered}
 use Rattle.hpx_journal.specs.Rows.{is_refused}
-use Rattle.hpx_part.proofs.Keyed.{any_counted, counted_any, counts_of}
-use Rattle.hpx_part.proofs.ObjectRows.{follows_fail}
-use Rattle.hpx_part.specs.Data.{Done, Entry, Name, Standing}
-use Rattle.hpx_part.specs.View.{View}
-use Rattle.hpx_tables.specs.Pending.{Waits, action_of, ids_named, refusal_of, refusals_of}
-use Rattle.hpx_steps.specs.Mail.{wrote}
-use Rattle.hpx_steps.specs.Sound.{IsSound}
-use Rattle.hpx_steps.specs.Steps.{Ends, Fails, Remains, ends}
-use Rattle.hpx_steps.specs.Turn.{Turn, bare_due, bare_standing, commits, view}
-use Rattle.hpx_steps.proofs.Bare.{bare_all}
-use Rattle.hpx_steps.proofs.Cover.{view_covered}
 use Rattle.hpx_steps.proofs.Ending.{asking_same, bare_x, commits_now, dealt, done_keeps, failing_less, fires, fires_then, found, its, lends, own_ends, refusals_less, refusals_split, tidy}
-use Rattle.hpx_steps.proofs.Lists.{same_map}
-use Rattle.hpx_steps.proofs.Seen.{Sees, sees_covers, sees_leads}
-use Rattle.hpx_steps.proofs.Then.{Keeps}
 
 any_bare : (o : Id) (ids : List Id) → list_any (same_object o) (map bare ids) ≡ list_any (same_object o) ids
 any_bare o [] = refl

@@ -1,33 +1,8 @@
 -- An accepted action runs.
-use Rattle.std.proofs.Common.{List, Some, [], ap, append_assoc, arith, drop, map, refl, subst, suc, sym, take, ℕ, ◌++◌, ◌+◌, ◌∙◌, ◌∷◌, ◌≡◌}
-use Rattle.std.proofs.lemmas.List.{map-append}
-use Rattle.std.specs.List.{find, remove}
-use Rattle.std.specs.Prelude.{false, flat_map, slice_get}
-use Rattle.hpx_value.specs.Values.{bare_act}
-use Rattle.hpx_journal.specs.Data.{Act}
-use Rattle.hpx_journal.specs.Entries.{Rules, name_of, target_of}
-use Rattle.hpx_journal.specs.Local.{is_busy, is_standing}
-use Rattle.hpx_part.proofs.ActRows.{follows_fire}
-use Rattle.hpx_part.proofs.Keyed.{split_get}
-use Rattle.hpx_part.specs.Data.{Entry, Fire, Name, Standing}
-use Rattle.hpx_part.specs.View.{View}
-use Rattle.hpx_tables.specs.Pending.{action_of, fired_of}
-use Rattle.hpx_steps.specs.Items.{Accepted, Item, Running, weigh}
-use Rattle.hpx_steps.specs.Mail.{wrote}
-use Rattle.hpx_steps.specs.Numbered.{asks_under}
-use Rattle.hpx_steps.specs.Paused.{Apart}
-use Rattle.hpx_steps.specs.Rows.{Row, causes, freeing, goes, hopping, joined, of_act, unpaid}
-use Rattle.hpx_steps.specs.Sound.{IsSound, IsTidy, TidyAt, asked_by, given_to, waits_for, worth}
-use Rattle.hpx_steps.specs.Steps.{Fires}
-use Rattle.hpx_steps.specs.Turn.{Turn, bare_due, bare_standing, commits, parcel_acts, parcels, view, waiting}
-use Rattle.hpx_steps.proofs.Busy.{apart_more, bare_middle, busy-bare, found-bare}
-use Rattle.hpx_steps.proofs.ByRows.{by_rows}
-use Rattle.hpx_steps.proofs.Calm.{counts_still}
-use Rattle.hpx_steps.proofs.Changes.{Changes, accepted_change, among_at, holding, more_come, one_goes, running_change, then}
-use Rattle.hpx_steps.proofs.Puts.{target-bare}
-use Rattle.hpx_steps.proofs.Seen.{Sees, sees_leads}
-use Rattle.hpx_steps.proofs.Sums.{view_worth}
-use Rattle.hpx_steps.proofs.Then.{Keeps, fewer}
+use Rattle.hpx_steps.proofs.Common.{Accepted, Act, Apart, Entry, Fire, Fires, IsSound, IsTidy, Item, List, Name, Row, Rules, Running, Some, Standing, TidyAt, Turn, View, [], action_of, ap, append_assoc, arith, asked_by, asks_under, bare_act, bare_due, bare_standing, causes, commits, drop, false, find, fired_of, flat_map, follows_fire, freeing, given_to, goes, hopping, is_busy, is_standing, joined, map, map-append, name_of, of_act, parcel_acts, parcels, refl, remove, slice_get, split_get, subst, suc, sym, take, target_of, unpaid, view, waiting, waits_for, weigh, worth, wrote, ℕ, ◌++◌, ◌+◌, ◌∙◌, ◌∷◌, ◌≡◌}
+use Rattle.hpx_steps.proofs.Tools.{Changes, Keeps, Sees, among_at, bare_middle, by_rows, counts_still, fewer, found-bare, holding, more_come, one_goes, running_change, sees_leads, target-bare, then, view_worth}
+use Rattle.hpx_steps.proofs.Busy.{apart_more, busy-bare}
+use Rattle.hpx_steps.proofs.Changes.{accepted_change}
 
 module _ (r : Rules) (s : Turn) (entries : List Entry) (h : IsSound r s entries) (i : ℕ) (act : Act) (x : Standing) (due : s.due ≡ []) (fresh : s.fresh ≡ [])
     (there : slice_get s.tables.accepted i ≡ Some act) (stands : find (is_standing (target_of act)) s.tables.objects ≡ Some x)

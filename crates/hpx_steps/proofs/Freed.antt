@@ -1,53 +1,12 @@
 -- A dead object goes.
-use Rattle.std.proofs.Common.{Bool, List, None, Some, [], ap, arith, cond, drop, false, inl, inr, map, refl, subst, suc, sym, take, true, ℕ, ◌++◌, ◌+◌, ◌∙◌, ◌∷◌, ◌≡◌, ◌≤◌}
-use Rattle.std.proofs.lemmas.List.{map-append}
-use Rattle.std.proofs.lemmas.List.Sums.{sum_by-cons}
-use Rattle.std.specs.List.{AllByRecursion, count_by, find, list_any, remove, slice_get, sum_by}
-use Rattle.std.specs.Prelude.{flat_map, is_some}
-use Rattle.hpx_value.specs.Hands.{session}
-use Rattle.hpx_value.specs.Ids.{same_object}
-use Rattle.hpx_value.specs.Values.{bare_act}
-use Rattle.hpx_parcel.specs.Credits.{credit_list}
-use Rattle.hpx_parcel.specs.Parcels.{HasRightCredit}
-use Rattle.hpx_journal.proofs.Bools.{false_from}
-use Rattle.hpx_journal.proofs.Same.{same_object-from, same_object-refl, same_object-sym, same_object-true}
-use Rattle.hpx_journal.specs.Data.{Act, Free, Id}
-use Rattle.hpx_journal.specs.Entries.{Rules, target_of}
-use Rattle.hpx_journal.specs.Local.{acts_on, is_standing}
-use Rattle.hpx_journal.specs.Rows.{IsManaged}
-use Rattle.hpx_journal.specs.Tokens.{held}
-use Rattle.hpx_part.proofs.Keyed.{any_counted, split_get}
-use Rattle.hpx_part.proofs.ObjectRows.{follows_freed_mailed, follows_freed_taken}
-use Rattle.hpx_part.specs.Data.{Entry, Freed, Standing, Token}
-use Rattle.hpx_part.specs.Shows.{Follows}
-use Rattle.hpx_part.specs.View.{View}
-use Rattle.hpx_tables.proofs.Alls.{find_passes}
-use Rattle.hpx_tables.specs.Kept.{held_here, waits_here}
-use Rattle.hpx_tables.specs.Pending.{Waits}
-use Rattle.hpx_tables.specs.declared.kept.Outgoing.{Outgoing}
-use Rattle.hpx_steps.specs.Frames.{IsForHere}
-use Rattle.hpx_steps.specs.Items.{Accepted, Came, Going, Has, IsDue, Item, Loose, Mailed, OnDesk, Pending, Running, StandsHere, Working, weigh}
-use Rattle.hpx_steps.specs.Mail.{wrote}
-use Rattle.hpx_steps.specs.Numbered.{asks_under}
-use Rattle.hpx_steps.specs.Rows.{Row, causes, freeing, goes, hopping, joined, owes, unpaid}
-use Rattle.hpx_steps.specs.Sound.{IsSound, IsTidy, TidyAt, asked_by, given_to, waits_for, worth}
-use Rattle.hpx_steps.specs.Steps.{Frees, HasInHand, IsTold, drops, with_credit}
-use Rattle.hpx_steps.specs.Turn.{Turn, bare_due, bare_standing, commits, parcel_asks, parcel_frees, view, waiting}
+use Rattle.hpx_steps.proofs.Common.{Accepted, Act, AllByRecursion, Bool, Came, Entry, Follows, Free, Freed, Going, Has, HasInHand, HasRightCredit, Id, IsDue, IsForHere, IsManaged, IsSound, IsTidy, IsTold, Item, List, Loose, Mailed, None, OnDesk, Outgoing, Pending, Row, Rules, Running, Some, Standing, StandsHere, TidyAt, Token, Turn, View, Waits, Working, [], acts_on, any_counted, ap, arith, asked_by, asks_under, bare_act, bare_due, bare_standing, causes, commits, cond, count_by, credit_list, drop, drops, false, false_from, find, find_passes, flat_map, follows_freed_mailed, follows_freed_taken, freeing, given_to, goes, held, held_here, hopping, inl, inr, is_some, is_standing, joined, list_any, map, map-append, owes, parcel_asks, parcel_frees, refl, remove, same_object, same_object-from, same_object-refl, same_object-sym, same_object-true, session, slice_get, split_get, subst, suc, sum_by, sum_by-cons, sym, take, target_of, true, unpaid, view, waiting, waits_for, waits_here, weigh, with_credit, worth, wrote, ℕ, ◌++◌, ◌+◌, ◌∙◌, ◌∷◌, ◌≡◌, ◌≤◌}
+use Rattle.hpx_steps.proofs.Tools.{Changes, Keeps, Sees, among_all, among_at, by_own, by_parcel, by_rows, counts_still, drop_change, drop_waits, fewer, hand_fit, holding, ids_each, in_hand, is_frame, loose_change, more_come, none_of, none_sum, objects_change, one_goes, same_dead, same_seen, sees_leads, target-bare, then, total, total_map, view_worth, zeros}
+use Rattle.hpx_steps.specs.Steps.{Frees}
 use Rattle.hpx_steps.proofs.Bare.{all_with, credit_tokens}
 use Rattle.hpx_steps.proofs.Beside.{freed_whole, less_commits}
-use Rattle.hpx_steps.proofs.Busy.{none_of}
-use Rattle.hpx_steps.proofs.ByRows.{by_rows}
-use Rattle.hpx_steps.proofs.Calm.{counts_still, same_dead, same_seen}
-use Rattle.hpx_steps.proofs.Changes.{Changes, among_all, among_at, drop_change, holding, in_hand, is_frame, loose_change, more_come, objects_change, one_goes, then, total, total_map}
-use Rattle.hpx_steps.proofs.Lists.{none_sum}
-use Rattle.hpx_steps.proofs.Mails.{hand_fit}
 use Rattle.hpx_steps.proofs.Objects.{single_less, stand_less}
-use Rattle.hpx_steps.proofs.Puts.{target-bare}
-use Rattle.hpx_steps.proofs.Seen.{Sees, sees_leads}
-use Rattle.hpx_steps.proofs.Sums.{by_own, by_parcel, ids_each, view_worth, zeros}
-use Rattle.hpx_steps.proofs.Then.{Keeps, fewer, frees_now}
+use Rattle.hpx_steps.proofs.Then.{frees_now}
 use Rattle.hpx_steps.proofs.Unheld.{none_accepted, none_fired, none_waits}
-use Rattle.hpx_steps.proofs.Waits.{drop_waits}
 
 module _ (r : Rules) (s : Turn) (entries : List Entry) (h : IsSound r s entries) (o : Id) (i : ℕ) (x : Standing) (due : s.due ≡ []) (fresh : s.fresh ≡ []) (alone : s.working ≡ [])
     (told : IsTold r (Free o) s) (there : slice_get s.tables.objects i ≡ Some x) (found : find (is_standing o) s.tables.objects ≡ Some x)

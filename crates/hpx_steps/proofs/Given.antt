@@ -1,49 +1,8 @@
 -- Credit that was asked for is given to a commit that waits for it.
-use Rattle.std.proofs.Common.{Bool, List, Some, [], ap, append_assoc, arith, cond, drop, false, length, map, refl, set, subst, suc, sym, take, true, ℕ, ◌++◌, ◌+◌, ◌∙◌, ◌∷◌, ◌≡◌, ◌≤◌}
-use Rattle.std.proofs.lemmas.Bool.{eqb-true}
-use Rattle.std.proofs.lemmas.List.Sums.{sum_by-append, sum_by-cons}
-use Rattle.std.specs.List.{count_by, remove, slice_get, sum_by}
-use Rattle.std.specs.Prelude.{◌&&◌, ◌==◌, ◌⊎◌}
-use Rattle.hpx_value.specs.Hands.{id_at}
-use Rattle.hpx_value.specs.Ids.{bare, same_object}
-use Rattle.hpx_value.specs.Values.{bare_act}
-use Rattle.hpx_parcel.specs.Parcels.{HasCredit}
-use Rattle.hpx_journal.proofs.Same.{and_true}
-use Rattle.hpx_journal.specs.Data.{Act, Give, Id}
-use Rattle.hpx_journal.specs.Entries.{Rules, name_of}
-use Rattle.hpx_journal.specs.Tokens.{held_token, owed_token, same_token}
-use Rattle.hpx_part.proofs.Credit.{token_own}
-use Rattle.hpx_part.proofs.CreditRows.{follows_given}
-use Rattle.hpx_part.proofs.Keyed.{any_counted, counted_any, counts_false, counts_of, counts_true, split_get, split_set}
-use Rattle.hpx_part.proofs.Lists.{sum_middle}
-use Rattle.hpx_part.specs.Data.{Entry, Given, Refusal, Token}
-use Rattle.hpx_part.specs.Shows.{same_refusal}
-use Rattle.hpx_part.specs.View.{View}
-use Rattle.hpx_commit.specs.Deals.{log_of}
-use Rattle.hpx_tables.specs.Pending.{Waits, action_of, fired_of, ids_named, is_asked, is_asked_for, refilled, refusal_of, refusals_of}
-use Rattle.hpx_tables.specs.declared.pending.Asked.{Asked as AskedFor}
-use Rattle.hpx_steps.specs.Items.{Came, Item, Mailed, Pending, Working, weigh}
-use Rattle.hpx_steps.specs.Mail.{wrote}
-use Rattle.hpx_steps.specs.Numbered.{asks_under}
-use Rattle.hpx_steps.specs.Paused.{HasCommits, IsCommit}
-use Rattle.hpx_steps.specs.Rows.{Row, causes, freeing, goes, hopping, is_least, joined, one_if, owes, unpaid}
-use Rattle.hpx_steps.specs.Sound.{IsSound, IsTidy, TidyAt, asked_by, asking, given_to, gives_for, waits_for, worth}
-use Rattle.hpx_steps.specs.Steps.{HasInHand, IsGiven, drops, goes_on}
-use Rattle.hpx_steps.specs.Turn.{Turn, bare_due, commits, parcel_asks, parcel_frees, tokens, tokens_of, view, waiting}
-use Rattle.hpx_steps.proofs.Bare.{bare_tokens, has_not_asked}
-use Rattle.hpx_steps.proofs.Beside.{is_fired, move_commits, same_fired, was_fired}
-use Rattle.hpx_steps.proofs.ByRows.{by_rows}
-use Rattle.hpx_steps.proofs.Calm.{counts_still, same_dead}
-use Rattle.hpx_steps.proofs.Changes.{Changes, among_at, drop_change, first_comes, holding, in_hand, is_frame, one_goes, one_turns, pending_change, then, working_change}
-use Rattle.hpx_steps.proofs.Hands.{put_asked, put_bare, put_for}
-use Rattle.hpx_steps.proofs.Lists.{less_sum, long_sum, set_sum}
-use Rattle.hpx_steps.proofs.Mails.{hand_fit, held_by, owed_by}
-use Rattle.hpx_steps.proofs.Moved.{fired_leads, leads_on}
+use Rattle.hpx_steps.proofs.Common.{Act, AskedFor, Bool, Came, Entry, Give, Given, HasCommits, HasCredit, HasInHand, Id, IsCommit, IsGiven, IsSound, IsTidy, Item, List, Mailed, Pending, Refusal, Row, Rules, Some, TidyAt, Token, Turn, View, Waits, Working, [], action_of, and_true, any_counted, ap, append_assoc, arith, asked_by, asking, asks_under, bare, bare_act, bare_due, causes, commits, cond, count_by, counted_any, counts_false, counts_of, counts_true, drop, drops, eqb-true, false, fired_of, follows_given, freeing, given_to, gives_for, goes, goes_on, held_token, hopping, id_at, ids_named, is_asked, is_asked_for, is_least, joined, length, log_of, map, name_of, one_if, owed_token, owes, parcel_asks, parcel_frees, refilled, refl, refusal_of, refusals_of, remove, same_object, same_refusal, same_token, set, slice_get, split_get, split_set, subst, suc, sum_by, sum_by-append, sum_by-cons, sum_middle, sym, take, token_own, tokens, tokens_of, true, unpaid, view, waiting, waits_for, weigh, worth, wrote, ℕ, ◌&&◌, ◌++◌, ◌+◌, ◌==◌, ◌∙◌, ◌∷◌, ◌≡◌, ◌≤◌, ◌⊎◌}
+use Rattle.hpx_steps.proofs.Tools.{Changes, Keeps, Sees, among_at, by_own, by_parcel, by_rows, counts_still, drop_change, drop_waits, fewer, fired_leads, first_comes, flat_sum, hand_fit, has_not_asked, held_by, holding, ids_each, in_hand, is_fired, is_frame, leads_on, less_sum, long_sum, map_sum, move_commits, one_goes, one_turns, owed_by, pending_change, put_asked, put_bare, put_for, same_dead, same_fired, seen_sum, sees_leads, set_sum, then, view_asking, view_worth, was_fired, working_change}
+use Rattle.hpx_steps.proofs.Bare.{bare_tokens}
 use Rattle.hpx_steps.proofs.Refilled.{asked_at_place, asked_low, asked_same, still_commit, still_split, was_asked}
-use Rattle.hpx_steps.proofs.Seen.{Sees, sees_leads}
-use Rattle.hpx_steps.proofs.Sums.{by_own, by_parcel, flat_sum, ids_each, map_sum, seen_sum, view_asking, view_worth}
-use Rattle.hpx_steps.proofs.Then.{Keeps, fewer}
-use Rattle.hpx_steps.proofs.Waits.{drop_waits}
 
 -- a commit that waited stands elsewhere, or where it stood
 pub record Goes (i : ℕ) (w w' : Waits) (working pending working' pending' : List Waits) : Type 0 where

@@ -1,35 +1,8 @@
 -- What calls do is one step after another.
-use Rattle.std.proofs.Common.{Bool, List, None, Option, Some, [], ap, append-nil, arith, cond, false, inl, inr, length, map, refl, set, subst, suc, sym, true, ℕ, ◌++◌, ◌+◌, ◌-◌, ◌<◌, ◌∙◌, ◌∷◌, ◌≡◌, ◌≢◌, ◌≤◌}
-use Rattle.std.proofs.Math.Pow.{pow_pos}
-use Rattle.std.proofs.lemmas.Bool.{cases_Bool, eq-eqb, eqb-false, eqb-true, ne_eqb}
-use Rattle.std.proofs.lemmas.Bool.Decides.{nat_tests}
-use Rattle.std.specs.List.{find, remove, slice_get}
-use Rattle.std.specs.Option.{option_and_then, option_map_or}
-use Rattle.std.specs.Prelude.{MatchOption, is_some, nat_lt, not, option_map, ◌==◌, ◌^◌, ◌⊎◌}
-use Rattle.hpx_value.specs.Ids.{bare, credit, credit_of_log}
+use Rattle.hpx_steps.proofs.Common.{Act, Apply, Ask, Bool, Count, DealsWith, Due, Event, Free, Freed, Give, Given, Gives, Granted, HasCredit, HasInHand, HasLeastCredit, Id, IsCalm, IsTold, Label, Leaves, List, MatchOption, MessageDue, Move, None, Option, Parcel, Place, Print, PrintDue, Record, Refused, Return, Returned, Rules, Sent, Some, Standing, Step, Steps, Tables, Turn, Up, Writes, [], and_true, answered, ap, append-nil, arith, bare, brings_right, broken_free, cases_Bool, cond, count_here, credit, credit_of_log, draws, drops, eq-eqb, eqb-false, eqb-true, false, find, find_record, freed, goes_on, going, held_here, ids_in, inl, inr, is_live, is_other, is_some, is_standing, length, log_of, lowered, mails, map, may_stay, more_here, nat_lt, nat_tests, ne_eqb, not, option_and_then, option_map, option_map_or, or_cases, parcel_for, place_or_0, posts, pow_pos, raised, record_here, refl, remove, returned, set, slice_get, stands_here, subst, suc, sym, target_of, true, up_of, ups, waits_here, with_accepted, with_act, with_credit, with_due, with_mail, with_mail_if, with_return, with_returns, without, written, written_by, written_due, wrote, ℕ, ◌++◌, ◌+◌, ◌-◌, ◌<◌, ◌==◌, ◌^◌, ◌∙◌, ◌∷◌, ◌≡◌, ◌≢◌, ◌≤◌, ◌⊎◌}
+use Rattle.hpx_steps.proofs.Tools.{flat_append}
 use Rattle.hpx_value.specs.Values.{named}
-use Rattle.hpx_parcel.specs.Parcels.{HasCredit, HasLeastCredit}
-use Rattle.hpx_journal.proofs.Bools.{or_cases}
-use Rattle.hpx_journal.proofs.Same.{and_true}
-use Rattle.hpx_journal.specs.Bags.{without}
-use Rattle.hpx_journal.specs.Data.{Act, Apply, Ask, Due, Free, Give, Id, MessageDue, Move, Parcel, PrintDue, Return}
-use Rattle.hpx_journal.specs.Entries.{Rules, target_of}
-use Rattle.hpx_journal.specs.Local.{is_standing}
-use Rattle.hpx_part.specs.Data.{Count, Event, Freed, Given, Granted, Print, Refused, Returned, Sent, Standing, Up}
-use Rattle.hpx_agas.specs.Records.{find_record}
-use Rattle.hpx_agas.specs.Registries.{asked as raised, lowered}
-use Rattle.hpx_agas.specs.declared.record.Record.{Record}
-use Rattle.hpx_commit.specs.Deals.{log_of}
-use Rattle.hpx_tables.specs.Fit.{parcel_for}
-use Rattle.hpx_tables.specs.Kept.{count_here, held_here, record_here, stands_here, waits_here}
-use Rattle.hpx_tables.specs.Strange.{brings_right, broken_free, is_live}
-use Rattle.hpx_tables.specs.Tables.{Tables}
-use Rattle.hpx_steps.specs.Calls.{DealsWith, Gives, Leaves, answered, freed, ids_in, more_here, place_or_0, returned, up_of, ups, with_accepted, with_due, with_returns, written_due}
-use Rattle.hpx_steps.specs.Mail.{draws, going, is_other, mails, may_stay, posts, with_act, with_mail, with_mail_if, with_return, wrote}
-use Rattle.hpx_steps.specs.Steps.{HasInHand, IsCalm, IsTold, Label, Place, Step, Steps, Writes, drops, goes_on, with_credit, written, written_by}
-use Rattle.hpx_steps.specs.Turn.{Turn}
 use Rattle.hpx_steps.proofs.Right.{free_right}
-use Rattle.hpx_steps.proofs.Sums.{flat_append}
 
 pub steps_append : (r : Rules) (s m s' : Turn) (xs ys : List Label) → Steps r s xs m → Steps r m ys s' → Steps r s (xs ++ ys) s'
 steps_append r s m s' [] ys a b = subst (λ x. Steps r x ys s') a b

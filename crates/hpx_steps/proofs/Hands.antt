@@ -1,17 +1,6 @@
 -- An id is put at a place of a hand.
-use Rattle.std.proofs.Common.{Bool, List, Some, [], ap, arith, cond, drop, false, length, map, refl, set, suc, sym, take, true, zero, ℕ, ◌++◌, ◌+◌, ◌<◌, ◌∙◌, ◌∷◌, ◌≡◌}
-use Rattle.std.proofs.lemmas.List.Sums.{sum_by-cons}
-use Rattle.std.specs.List.{AllByRecursion, count_by, filter, list_any}
-use Rattle.std.specs.Prelude.{slice_get, ◌&&◌, ◌==◌, ◌||◌}
-use Rattle.hpx_value.specs.Hands.{id_at}
-use Rattle.hpx_value.specs.Ids.{bare, same_object}
-use Rattle.hpx_journal.proofs.Same.{same_object-refl}
-use Rattle.hpx_journal.specs.Data.{Id}
-use Rattle.hpx_part.proofs.Keyed.{count_same}
-use Rattle.hpx_tables.proofs.Alls.{some_same}
-use Rattle.hpx_tables.specs.Pending.{Waits, is_asked, is_asked_for}
+use Rattle.hpx_steps.proofs.Common.{AllByRecursion, Bool, Id, List, Some, Waits, [], ap, arith, bare, cond, count_by, count_same, drop, false, filter, id_at, is_asked, is_asked_for, length, list_any, map, names_of, refl, same_object, same_object-refl, set, slice_get, some_same, suc, sum_by-cons, sym, take, true, zero, ℕ, ◌&&◌, ◌++◌, ◌+◌, ◌<◌, ◌==◌, ◌||◌, ◌∙◌, ◌∷◌, ◌≡◌}
 use Rattle.hpx_tables.specs.declared.pending.Asked.{Asked}
-use Rattle.hpx_steps.specs.Paused.{names_of}
 
 -- ---- places
 

@@ -1,30 +1,8 @@
 -- A frame comes in.
-use Rattle.std.proofs.Common.{List, Some, [], ap, arith, map, refl, subst, sym, ℕ, ◌++◌, ◌+◌, ◌∷◌, ◌≡◌}
-use Rattle.std.specs.List.{count_by}
-use Rattle.std.specs.Prelude.{flat_map}
-use Rattle.hpx_value.specs.Ids.{same_object}
-use Rattle.hpx_value.specs.Values.{bare_act}
-use Rattle.hpx_parcel.specs.Parcels.{IsParcel}
-use Rattle.hpx_journal.specs.Data.{Id, Parcel}
-use Rattle.hpx_journal.specs.Entries.{Rules}
-use Rattle.hpx_journal.specs.Frames.{travels_in}
-use Rattle.hpx_part.proofs.FrameRows.{follows_in}
-use Rattle.hpx_part.proofs.Keyed.{counts_of}
-use Rattle.hpx_part.specs.Data.{Entry, In}
-use Rattle.hpx_part.specs.View.{View}
-use Rattle.hpx_tables.specs.declared.kept.Outgoing.{Outgoing}
-use Rattle.hpx_steps.specs.Items.{Came, Item, weigh}
-use Rattle.hpx_steps.specs.Mail.{wrote}
-use Rattle.hpx_steps.specs.Numbered.{asks_under}
-use Rattle.hpx_steps.specs.Rows.{Actions, Row, causes, freeing, frees_one, goes, hopping, joined, owes, unpaid}
-use Rattle.hpx_steps.specs.Sound.{IsSound, IsTidy, TidyAt, asked_by, asks_for, come, given_to, gives_for, waits_for, worth}
-use Rattle.hpx_steps.specs.Steps.{ComesIn}
-use Rattle.hpx_steps.specs.Turn.{Turn, bare_due, parcel_acts, parcel_asks, tokens, view}
-use Rattle.hpx_steps.proofs.ByRows.{by_rows}
-use Rattle.hpx_steps.proofs.Changes.{Changes, came_change, holding, one_comes}
-use Rattle.hpx_steps.proofs.Seen.{Sees, sees_leads}
-use Rattle.hpx_steps.proofs.Sums.{by_parcel, seen_sum, view_worth}
-use Rattle.hpx_steps.proofs.Then.{Keeps, comes_to_free, fewer}
+use Rattle.hpx_steps.proofs.Common.{Actions, Came, ComesIn, Entry, Id, In, IsParcel, IsSound, IsTidy, Item, List, Outgoing, Parcel, Row, Rules, Some, TidyAt, Turn, View, [], ap, arith, asked_by, asks_for, asks_under, bare_act, bare_due, causes, come, count_by, counts_of, flat_map, follows_in, freeing, frees_one, given_to, gives_for, goes, hopping, joined, map, owes, parcel_acts, parcel_asks, refl, same_object, subst, sym, tokens, travels_in, unpaid, view, waits_for, weigh, worth, wrote, ℕ, ◌++◌, ◌+◌, ◌∷◌, ◌≡◌}
+use Rattle.hpx_steps.proofs.Tools.{Changes, Keeps, Sees, by_parcel, by_rows, fewer, holding, one_comes, seen_sum, sees_leads, view_worth}
+use Rattle.hpx_steps.proofs.Changes.{came_change}
+use Rattle.hpx_steps.proofs.Then.{comes_to_free}
 
 module _ (r : Rules) (s : Turn) (entries : List Entry) (h : IsSound r s entries) (p : Parcel) (bytes : List ℕ) (due : s.due ≡ []) (fresh : s.fresh ≡ [])
     (empty : s.came ≡ []) (spelled : r.parcel_of bytes ≡ Some p) (fit : IsParcel p) (none : travels_in (Some p) ≡ []) where

@@ -1,3 +1,4 @@
+pub mod Common
 pub mod Sums
 pub mod Changes
 pub mod Seen
@@ -18,6 +19,7 @@ pub mod Calm
 pub mod Hands
 pub mod Tidy
 pub mod Recommit
+pub mod Tools
 pub mod Up
 pub mod Mail
 pub mod In

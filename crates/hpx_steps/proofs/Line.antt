@@ -1,27 +1,6 @@
 -- A line is fed.
-use Rattle.std.proofs.Common.{List, Some, [], ap, arith, length, lit≤, map, refl, subst, sym, ℕ, ◌++◌, ◌+◌, ◌∙◌, ◌∷◌, ◌≡◌, ◌≤◌}
-use Rattle.std.specs.List.{count_by}
-use Rattle.hpx_value.specs.Ids.{same_object}
-use Rattle.hpx_journal.specs.Data.{Act}
-use Rattle.hpx_journal.specs.Entries.{Rules, line_act, target_of}
-use Rattle.hpx_part.proofs.ActRows.{follows_line}
-use Rattle.hpx_part.specs.Data.{Entry, Line, Name}
-use Rattle.hpx_part.specs.View.{View}
-use Rattle.hpx_tables.specs.Fit.{IsFit}
-use Rattle.hpx_steps.specs.Items.{Accepted, Item, weigh}
-use Rattle.hpx_steps.specs.Mail.{draws, is_other, posts, wrote}
-use Rattle.hpx_steps.specs.Numbered.{asks_under}
-use Rattle.hpx_steps.specs.Rows.{Row, causes, freeing, goes, hopping, joined, of_act, unpaid}
-use Rattle.hpx_steps.specs.Sound.{IsSound, TidyAt, asked_by, given_to, waits_for, worth}
-use Rattle.hpx_steps.specs.Steps.{Feeds}
-use Rattle.hpx_steps.specs.Turn.{Turn, bare_due, parcel_asks, parcel_frees, view, waiting}
-use Rattle.hpx_steps.proofs.ByRows.{by_rows}
-use Rattle.hpx_steps.proofs.Calm.{same_dead, same_seen}
-use Rattle.hpx_steps.proofs.Changes.{Changes, holding, post_change, put_as}
-use Rattle.hpx_steps.proofs.Seen.{Sees, sees_leads}
-use Rattle.hpx_steps.proofs.Sums.{by_own, by_parcel, view_worth}
-use Rattle.hpx_steps.proofs.Then.{Keeps, fewer}
-use Rattle.hpx_steps.proofs.Waits.{Put, post_waits}
+use Rattle.hpx_steps.proofs.Common.{Accepted, Act, Entry, Feeds, IsFit, IsSound, Item, Line, List, Name, Row, Rules, Some, TidyAt, Turn, View, [], ap, arith, asked_by, asks_under, bare_due, causes, count_by, draws, follows_line, freeing, given_to, goes, hopping, is_other, joined, length, line_act, lit≤, map, of_act, parcel_asks, parcel_frees, posts, refl, same_object, subst, sym, target_of, unpaid, view, waiting, waits_for, weigh, worth, wrote, ℕ, ◌++◌, ◌+◌, ◌∙◌, ◌∷◌, ◌≡◌, ◌≤◌}
+use Rattle.hpx_steps.proofs.Tools.{Changes, Keeps, Put, Sees, by_own, by_parcel, by_rows, fewer, holding, post_change, post_waits, put_as, same_dead, same_seen, sees_leads, view_worth}
 
 -- a line is well formed
 line_fit : (a : Name) (bytes : List ℕ) → length bytes ≤ 1025 → IsFit (line_act a bytes)

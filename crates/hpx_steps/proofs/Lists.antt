@@ -1,11 +1,5 @@
 -- Sums over lists, where one element goes, and where another stands in its place.
-use Rattle.std.proofs.Common.{List, Some, [], ap, arith, drop, length, length-append, map, refl, set, suc, sym, take, ℕ, ◌++◌, ◌+◌, ◌∙◌, ◌∷◌, ◌≡◌}
-use Rattle.std.proofs.lemmas.List.{map-append}
-use Rattle.std.proofs.lemmas.List.Sums.{sum_by-cons}
-use Rattle.std.specs.List.{remove, sum_by}
-use Rattle.std.specs.Prelude.{flat_map, slice_get}
-use Rattle.hpx_part.proofs.Keyed.{split_get, split_set}
-use Rattle.hpx_part.proofs.Lists.{sum_middle}
+use Rattle.hpx_steps.proofs.Common.{List, Some, [], ap, arith, drop, flat_map, length, length-append, map, map-append, refl, remove, set, slice_get, split_get, split_set, suc, sum_by, sum_by-cons, sum_middle, sym, take, ℕ, ◌++◌, ◌+◌, ◌∙◌, ◌∷◌, ◌≡◌}
 
 pub less_sum : {X : Type 0} (f : X → ℕ) (xs : List X) (i : ℕ) (x : X) → slice_get xs i ≡ Some x → sum_by f xs ≡ sum_by f (remove xs i) + f x
 less_sum f xs i x there = ap (sum_by f) (split_get xs i x there) ∙ sum_middle f (take i xs) x (drop (suc i) xs)

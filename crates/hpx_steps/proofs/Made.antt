@@ -1,21 +1,5 @@
 -- What a commit makes stands as it was made, behind what stood before.
-use Rattle.std.proofs.Common.{Bool, List, [], ap, append_assoc, arith, false, inl, inr, map, refl, subst, sym, true, ℕ, ◌++◌, ◌+◌, ◌<◌, ◌∙◌, ◌∷◌, ◌≡◌, ◌≤◌}
-use Rattle.std.proofs.lemmas.Bool.{cases_Bool}
-use Rattle.std.proofs.lemmas.List.{map-append}
-use Rattle.std.specs.List.{AllByRecursion, find}
-use Rattle.hpx_value.specs.Ids.{bare, bare_id}
-use Rattle.hpx_value.specs.Laws.{birth_state}
-use Rattle.hpx_value.specs.Values.{bare_state}
-use Rattle.hpx_value.specs.declared.outcome.Make.{Make}
-use Rattle.hpx_journal.proofs.Same.{same_object-refl, same_object-true}
-use Rattle.hpx_journal.specs.Data.{Id, State}
-use Rattle.hpx_journal.specs.Local.{is_standing}
-use Rattle.hpx_journal.specs.Rows.{AreMade}
-use Rattle.hpx_part.specs.Data.{Standing}
-use Rattle.hpx_tables.proofs.Alls.{all_append}
-use Rattle.hpx_tables.specs.Births.{IsBirth, birth_of, ids_of, objects_of}
-use Rattle.hpx_tables.specs.declared.births.Birth.{Birth}
-use Rattle.hpx_steps.specs.Turn.{bare_standing}
+use Rattle.hpx_steps.proofs.Common.{AllByRecursion, AreMade, Birth, Bool, Id, IsBirth, List, Make, Standing, State, [], all_append, ap, append_assoc, arith, bare, bare_id, bare_standing, bare_state, birth_of, birth_state, cases_Bool, false, find, ids_of, inl, inr, is_standing, map, map-append, objects_of, refl, same_object-refl, same_object-true, subst, sym, true, ℕ, ◌++◌, ◌+◌, ◌<◌, ◌∙◌, ◌∷◌, ◌≡◌, ◌≤◌}
 
 -- it has a number that was drawn, if it was born here
 abbrev pub Drawn : ℕ → ℕ → Standing → Type 0

@@ -1,28 +1,8 @@
 -- The first message on the desk is taken up.
-use Rattle.std.proofs.Common.{List, Some, [], ap, arith, inl, map, refl, subst, sym, ℕ, ◌++◌, ◌+◌, ◌∙◌, ◌∷◌, ◌≡◌, ◌≤◌}
-use Rattle.std.specs.List.{count_by}
-use Rattle.std.specs.Prelude.{flat_map}
-use Rattle.hpx_value.specs.Ids.{same_object}
-use Rattle.hpx_value.specs.Values.{bare_act}
-use Rattle.hpx_journal.specs.Data.{Parcel}
-use Rattle.hpx_journal.specs.Entries.{Rules}
-use Rattle.hpx_part.proofs.ActRows.{follows_mail}
-use Rattle.hpx_part.specs.Data.{Entry, Mail}
-use Rattle.hpx_part.specs.View.{View}
-use Rattle.hpx_tables.specs.declared.kept.Outgoing.{Outgoing}
-use Rattle.hpx_steps.specs.Items.{Item, Mailed, OnDesk, weigh}
-use Rattle.hpx_steps.specs.Mail.{wrote}
-use Rattle.hpx_steps.specs.Numbered.{asks_under}
-use Rattle.hpx_steps.specs.Rows.{Row, causes, freeing, goes, hopping, joined, kind_of, owes, unpaid, weight}
-use Rattle.hpx_steps.specs.Sound.{IsSound, IsTidy, TidyAt, asked_by, given_to, waits_for, worth}
-use Rattle.hpx_steps.specs.Steps.{TakesUp}
-use Rattle.hpx_steps.specs.Turn.{Turn, bare_due, parcel_acts, parcel_asks, parcel_frees, parcels, view}
-use Rattle.hpx_steps.proofs.ByRows.{by_rows}
-use Rattle.hpx_steps.proofs.Calm.{counts_still, own_asks, same_dead, same_seen}
-use Rattle.hpx_steps.proofs.Changes.{Changes, desk_change, first_goes, holding, mailed_change, one_comes, then}
-use Rattle.hpx_steps.proofs.Seen.{Sees, sees_leads}
-use Rattle.hpx_steps.proofs.Sums.{by_own, by_parcel, view_worth}
-use Rattle.hpx_steps.proofs.Then.{Keeps, fewer}
+use Rattle.hpx_steps.proofs.Common.{Entry, IsSound, IsTidy, Item, List, Mail, Mailed, OnDesk, Outgoing, Parcel, Row, Rules, Some, TakesUp, TidyAt, Turn, View, [], ap, arith, asked_by, asks_under, bare_act, bare_due, causes, count_by, flat_map, follows_mail, freeing, given_to, goes, hopping, inl, joined, kind_of, map, owes, parcel_acts, parcel_asks, parcel_frees, parcels, refl, same_object, subst, sym, unpaid, view, waits_for, weigh, weight, worth, wrote, ℕ, ◌++◌, ◌+◌, ◌∙◌, ◌∷◌, ◌≡◌, ◌≤◌}
+use Rattle.hpx_steps.proofs.Tools.{Changes, Keeps, Sees, by_own, by_parcel, by_rows, counts_still, fewer, first_goes, holding, one_comes, same_dead, same_seen, sees_leads, then, view_worth}
+use Rattle.hpx_steps.proofs.Calm.{own_asks}
+use Rattle.hpx_steps.proofs.Changes.{desk_change, mailed_change}
 
 kind_low : (p : Parcel) → (1 ≤ kind_of p) × (kind_of p ≤ 10)
 kind_low p = each p

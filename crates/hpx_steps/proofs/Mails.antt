@@ -1,22 +1,5 @@
 -- One more message: what it weighs and that it is tidy, wherever it is put.
-use Rattle.std.proofs.Common.{Bool, Some, [], ap, arith, cond, false, inl, inr, map, refl, true, ℕ, ◌++◌, ◌<◌, ◌∙◌, ◌∷◌, ◌≡◌, ◌≢◌}
-use Rattle.std.proofs.lemmas.Bool.Decides.{nat_tests}
-use Rattle.std.proofs.lemmas.List.Sums.{sum_by-cons}
-use Rattle.std.specs.List.{AllByRecursion, sum_by}
-use Rattle.hpx_value.specs.Ids.{bare}
-use Rattle.hpx_parcel.specs.Credits.{credit_list}
-use Rattle.hpx_parcel.specs.Parcels.{IsParcel}
-use Rattle.hpx_journal.specs.Data.{Id, Parcel}
-use Rattle.hpx_journal.specs.Tokens.{held, held_token, owed_token, owing}
-use Rattle.hpx_part.proofs.Keys.{own}
-use Rattle.hpx_part.specs.Data.{Token}
-use Rattle.hpx_tables.specs.Tables.{Tables}
-use Rattle.hpx_steps.specs.Frames.{MayGoTo}
-use Rattle.hpx_steps.specs.Items.{Came, Going, Item, Mailed, OnDesk}
-use Rattle.hpx_steps.specs.Mail.{going, is_other}
-use Rattle.hpx_steps.specs.Sound.{FreesNone, IsOwn, IsTidy, IsTidyIn}
-use Rattle.hpx_steps.specs.Steps.{HasInHand}
-use Rattle.hpx_steps.specs.Turn.{Turn, tokens_of}
+use Rattle.hpx_steps.proofs.Common.{AllByRecursion, Bool, Came, FreesNone, Going, HasInHand, Id, IsOwn, IsParcel, IsTidy, IsTidyIn, Item, Mailed, MayGoTo, OnDesk, Parcel, Some, Tables, Token, Turn, [], ap, arith, bare, cond, credit_list, false, going, held, held_token, inl, inr, is_other, map, nat_tests, owed_token, owing, own, refl, sum_by, sum_by-cons, tokens_of, true, ℕ, ◌++◌, ◌<◌, ◌∙◌, ◌∷◌, ◌≡◌, ◌≢◌}
 use Rattle.hpx_steps.proofs.Changes.{sent_if, total}
 
 -- a message that weighs the same on the desk and away

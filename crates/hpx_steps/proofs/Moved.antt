@@ -1,22 +1,5 @@
 -- A fired action stands elsewhere among the others.
-use Rattle.std.proofs.Common.{Bool, List, [], ap, arith, inl, inr, map, refl, subst, sym, ◌++◌, ◌∙◌, ◌∷◌, ◌≡◌}
-use Rattle.std.proofs.lemmas.Bool.{cases_Bool}
-use Rattle.std.proofs.lemmas.List.{map-append}
-use Rattle.std.proofs.lemmas.List.Sums.{sum_by-append}
-use Rattle.std.specs.List.{count_by, find, sum_by}
-use Rattle.hpx_value.specs.Values.{bare_act}
-use Rattle.hpx_journal.specs.Data.{Act}
-use Rattle.hpx_journal.specs.Entries.{Rules}
-use Rattle.hpx_journal.specs.Local.{is_act}
-use Rattle.hpx_journal.specs.Sessions.{shown}
-use Rattle.hpx_part.proofs.Covered.{act_names}
-use Rattle.hpx_part.proofs.Keyed.{count_middle, counts_of, counts_true, find_hit, find_miss}
-use Rattle.hpx_part.proofs.Lists.{sum_middle}
-use Rattle.hpx_part.specs.Data.{Local}
-use Rattle.hpx_part.specs.Keyed.{Agree}
-use Rattle.hpx_part.specs.Shows.{Leads, Shows}
-use Rattle.hpx_part.specs.View.{IsCovered, View}
-use Rattle.hpx_commit.proofs.Naming.{managed}
+use Rattle.hpx_steps.proofs.Common.{Act, Agree, Bool, IsCovered, Leads, List, Local, Rules, Shows, View, [], act_names, ap, arith, bare_act, cases_Bool, count_by, count_middle, counts_of, counts_true, find, find_hit, find_miss, inl, inr, is_act, managed, map, map-append, refl, shown, subst, sum_by, sum_by-append, sum_middle, sym, ◌++◌, ◌∙◌, ◌∷◌, ◌≡◌}
 use Rattle.hpx_steps.proofs.Busy.{bare_middle}
 
 -- what is in one place of the list may be in another

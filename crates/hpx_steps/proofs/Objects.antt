@@ -1,16 +1,5 @@
 -- Objects that stand here: what is found among them where one has another state, where one comes, and where one goes.
-use Rattle.std.proofs.Common.{Bool, List, None, Some, [], ap, cond, false, inl, inr, refl, set, suc, sym, true, zero, ℕ, ◌++◌, ◌∙◌, ◌∷◌, ◌≡◌}
-use Rattle.std.proofs.lemmas.Bool.{cases_Bool}
-use Rattle.std.specs.List.{AllByRecursion, find, remove, slice_get}
-use Rattle.std.specs.Prelude.{is_some}
-use Rattle.hpx_value.specs.Ids.{same_object}
-use Rattle.hpx_journal.proofs.Bools.{false_from}
-use Rattle.hpx_journal.proofs.Same.{same_object-from, same_object-sym}
-use Rattle.hpx_journal.specs.Data.{Id}
-use Rattle.hpx_journal.specs.Local.{is_standing}
-use Rattle.hpx_part.specs.Data.{Standing}
-use Rattle.hpx_tables.proofs.Alls.{some_same}
-use Rattle.hpx_steps.specs.Paused.{Single}
+use Rattle.hpx_steps.proofs.Common.{AllByRecursion, Bool, Id, List, None, Single, Some, Standing, [], ap, cases_Bool, cond, false, false_from, find, inl, inr, is_some, is_standing, refl, remove, same_object, same_object-from, same_object-sym, set, slice_get, some_same, suc, sym, true, zero, ℕ, ◌++◌, ◌∙◌, ◌∷◌, ◌≡◌}
 
 module _ (p : Standing → Bool) where
   abbrev pub stand : List Standing → Bool

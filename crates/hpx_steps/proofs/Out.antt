@@ -1,31 +1,7 @@
 -- A frame goes out.
-use Rattle.std.proofs.Common.{List, Some, [], ap, append_assoc, arith, inl, map, refl, subst, sym, ℕ, ◌++◌, ◌+◌, ◌∙◌, ◌∷◌, ◌≡◌}
-use Rattle.std.specs.List.{count_by}
-use Rattle.std.specs.Prelude.{cond, flat_map, ◌==◌}
-use Rattle.hpx_value.specs.Ids.{same_object}
-use Rattle.hpx_journal.specs.Data.{Act, Apply, Arrived, Ask, Cached, Free, Give, Go, Move, Parcel, Return, Shipped}
-use Rattle.hpx_journal.specs.Entries.{Rules}
-use Rattle.hpx_part.proofs.FrameRows.{follows_out}
-use Rattle.hpx_part.proofs.Keyed.{counts_of}
-use Rattle.hpx_part.specs.Data.{Entry, Out}
-use Rattle.hpx_part.specs.Parts.{MayLeave}
-use Rattle.hpx_part.specs.View.{View}
-use Rattle.hpx_tables.specs.declared.kept.Outgoing.{Outgoing}
-use Rattle.hpx_steps.specs.Frames.{MayGoTo}
-use Rattle.hpx_steps.specs.Items.{Going, Item, weigh}
-use Rattle.hpx_steps.specs.Mail.{wrote}
-use Rattle.hpx_steps.specs.Numbered.{asks_under}
-use Rattle.hpx_steps.specs.Rows.{Actions, Row, causes, freeing, goes, hopping, joined, unpaid, weight}
-use Rattle.hpx_steps.specs.Sound.{FreesNone, IsSound, IsTidy, TidyAt, asked_by, asks_for, given_to, gives_for, gone, gone_to, waits_for, worth}
-use Rattle.hpx_steps.specs.Steps.{GoesOut}
-use Rattle.hpx_steps.specs.Turn.{Turn, bare_due, parcel_acts, parcel_asks, parcel_frees, tokens, view}
-use Rattle.hpx_steps.proofs.ByRows.{by_rows}
-use Rattle.hpx_steps.proofs.Calm.{same_dead}
-use Rattle.hpx_steps.proofs.Changes.{Changes, first_goes, holding, outgoing_change}
-use Rattle.hpx_steps.proofs.Cover.{view_covered}
-use Rattle.hpx_steps.proofs.Seen.{Sees, sees_covers, sees_leads}
-use Rattle.hpx_steps.proofs.Sums.{by_own, by_parcel, flat_append, seen_sum, view_worth}
-use Rattle.hpx_steps.proofs.Then.{Keeps, fewer}
+use Rattle.hpx_steps.proofs.Common.{Act, Actions, Apply, Arrived, Ask, Cached, Entry, Free, FreesNone, Give, Go, GoesOut, Going, IsSound, IsTidy, Item, List, MayGoTo, MayLeave, Move, Out, Outgoing, Parcel, Return, Row, Rules, Shipped, Some, TidyAt, Turn, View, [], ap, append_assoc, arith, asked_by, asks_for, asks_under, bare_due, causes, cond, count_by, counts_of, flat_map, follows_out, freeing, given_to, gives_for, goes, gone, gone_to, hopping, inl, joined, map, parcel_acts, parcel_asks, parcel_frees, refl, same_object, subst, sym, tokens, unpaid, view, waits_for, weigh, weight, worth, wrote, ℕ, ◌++◌, ◌+◌, ◌==◌, ◌∙◌, ◌∷◌, ◌≡◌}
+use Rattle.hpx_steps.proofs.Tools.{Changes, Keeps, Sees, by_own, by_parcel, by_rows, fewer, first_goes, flat_append, holding, same_dead, seen_sum, sees_covers, sees_leads, view_covered, view_worth}
+use Rattle.hpx_steps.proofs.Changes.{outgoing_change}
 use Rattle.hpx_steps.proofs.Waits.{acts_away, acts_before, waits_parts}
 
 -- what may go may leave what is seen

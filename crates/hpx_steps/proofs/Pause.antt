@@ -1,29 +1,6 @@
 -- A commit begins to wait.
-use Rattle.std.proofs.Common.{List, [], ap, append-nil, append_assoc, arith, inl, map, refl, subst, sym, ℕ, ◌++◌, ◌+◌, ◌∙◌, ◌∷◌, ◌≡◌, ◌≢◌}
-use Rattle.std.proofs.lemmas.List.Sums.{sum_by-append}
-use Rattle.std.specs.List.{sum_by}
-use Rattle.hpx_value.specs.Values.{bare_act}
-use Rattle.hpx_journal.specs.Entries.{Rules}
-use Rattle.hpx_part.proofs.Keyed.{any_counted, counted_any, counts_of}
-use Rattle.hpx_part.specs.Data.{Entry, Refusal}
-use Rattle.hpx_part.specs.Shows.{same_refusal}
-use Rattle.hpx_part.specs.View.{View}
-use Rattle.hpx_tables.specs.Pending.{Waits, action_of, fired_of, refusal_of, refusals_of}
-use Rattle.hpx_steps.specs.Items.{Item, Pending, Working, weigh}
-use Rattle.hpx_steps.specs.Numbered.{asks_under}
-use Rattle.hpx_steps.specs.Paused.{HasCommits, HasSplit, IsCommit}
-use Rattle.hpx_steps.specs.Rows.{freeing, hopping, joined, unpaid}
-use Rattle.hpx_steps.specs.Sound.{IsSound, TidyAt, asked_by, asking, given_to, waits_for, worth}
-use Rattle.hpx_steps.specs.Steps.{Pauses}
-use Rattle.hpx_steps.specs.Turn.{Turn, commits, view}
-use Rattle.hpx_steps.proofs.Beside.{is_fired, move_commits, same_fired, was_fired}
-use Rattle.hpx_steps.proofs.Changes.{Changes, first_goes, holding, more_come, pending_change, then, working_change}
-use Rattle.hpx_steps.proofs.Lists.{long_sum}
-use Rattle.hpx_steps.proofs.Moved.{fired_leads, leads_on}
-use Rattle.hpx_steps.proofs.Seen.{Sees, sees_leads}
-use Rattle.hpx_steps.proofs.Still.{Stills}
-use Rattle.hpx_steps.proofs.Sums.{flat_append, view_asking, view_worth}
-use Rattle.hpx_steps.proofs.Then.{fewer}
+use Rattle.hpx_steps.proofs.Common.{Entry, HasCommits, HasSplit, IsCommit, IsSound, Item, List, Pauses, Pending, Refusal, Rules, TidyAt, Turn, View, Waits, Working, [], action_of, any_counted, ap, append-nil, append_assoc, arith, asked_by, asking, asks_under, bare_act, commits, counted_any, counts_of, fired_of, freeing, given_to, hopping, inl, joined, map, refl, refusal_of, refusals_of, same_refusal, subst, sum_by, sum_by-append, sym, unpaid, view, waits_for, weigh, worth, ℕ, ◌++◌, ◌+◌, ◌∙◌, ◌∷◌, ◌≡◌, ◌≢◌}
+use Rattle.hpx_steps.proofs.Tools.{Changes, Sees, Stills, fewer, fired_leads, first_goes, flat_append, holding, is_fired, leads_on, long_sum, more_come, move_commits, pending_change, same_fired, sees_leads, then, view_asking, view_worth, was_fired, working_change}
 
 module _ (r : Rules) (s : Turn) (entries : List Entry) (h : IsSound r s entries) (w : Waits) (rest : List Waits) (places : List ℕ) (works : s.working ≡ w ∷ rest)
     (lacks : w.asked ≢ []) (split : HasSplit s.tables.profile.credit_log (record w { places = places })) where

@@ -1,33 +1,8 @@
 -- An action that is in hand waits here, or goes on.
-use Rattle.std.proofs.Common.{Bool, List, [], ap, arith, false, inl, inr, refl, subst, sym, true, ℕ, ◌++◌, ◌+◌, ◌∙◌, ◌∷◌, ◌≡◌, ◌≢◌, ◌≤◌}
-use Rattle.std.specs.List.{count_by, sum_by}
-use Rattle.std.specs.Prelude.{◌==◌, ◌||◌, ◌⊎◌}
-use Rattle.hpx_value.specs.Ids.{same_object}
-use Rattle.hpx_value.specs.Values.{bare_act}
-use Rattle.hpx_parcel.specs.Parcels.{IsApplied, IsMove, IsParcel}
-use Rattle.hpx_journal.specs.Data.{Act, Apply, Move, Parcel}
-use Rattle.hpx_journal.specs.Entries.{Rules, target_of}
-use Rattle.hpx_part.specs.Data.{Entry}
-use Rattle.hpx_part.specs.View.{View}
-use Rattle.hpx_tables.specs.Fit.{IsFit}
-use Rattle.hpx_steps.specs.Items.{Accepted, Came, Going, Item, Mailed, OnDesk, weigh}
-use Rattle.hpx_steps.specs.Mail.{going, is_other, may_stay, posts}
-use Rattle.hpx_steps.specs.Numbered.{asks_as, asks_under}
-use Rattle.hpx_steps.specs.Rows.{Row, brings, freeing, frees_one, hopping, joined, kind_of, of_act, one_if, owes, unpaid, weight}
-use Rattle.hpx_steps.specs.Sound.{IsSound, TidyAt, asked_by, asks_for, given_to, gives_for, waits_for, worth}
-use Rattle.hpx_steps.specs.Steps.{HasInHand, Places, drops}
-use Rattle.hpx_steps.specs.Turn.{Turn, parcel_acts, parcel_asks, parcel_frees, parcel_tokens, tokens_of, view, waiting}
-use Rattle.hpx_steps.proofs.ByRows.{by_rows}
-use Rattle.hpx_steps.proofs.Calm.{bound_none, same_dead, same_seen}
-use Rattle.hpx_steps.proofs.Changes.{Changes, drop_change, holding, in_hand, is_frame, post_change, put_as, then}
-use Rattle.hpx_steps.proofs.Mails.{hand_fit}
-use Rattle.hpx_steps.proofs.Moved.{leads_on, waits_leads, waits_moved}
-use Rattle.hpx_steps.proofs.Puts.{put_less, put_sum, put_tidy}
-use Rattle.hpx_steps.proofs.Seen.{Sees, sees_leads}
-use Rattle.hpx_steps.proofs.Still.{Stills}
-use Rattle.hpx_steps.proofs.Sums.{by_own, by_parcel, view_worth}
-use Rattle.hpx_steps.proofs.Then.{fewer}
-use Rattle.hpx_steps.proofs.Waits.{Put, hand_waits, post_waits}
+use Rattle.hpx_steps.proofs.Common.{Accepted, Act, Apply, Bool, Came, Entry, Going, HasInHand, IsApplied, IsFit, IsMove, IsParcel, IsSound, Item, List, Mailed, Move, OnDesk, Parcel, Places, Row, Rules, TidyAt, Turn, View, [], ap, arith, asked_by, asks_as, asks_for, asks_under, bare_act, brings, count_by, drops, false, freeing, frees_one, given_to, gives_for, going, hopping, inl, inr, is_other, joined, kind_of, may_stay, of_act, one_if, owes, parcel_acts, parcel_asks, parcel_frees, parcel_tokens, posts, refl, same_object, subst, sum_by, sym, target_of, tokens_of, true, unpaid, view, waiting, waits_for, weigh, weight, worth, ℕ, ◌++◌, ◌+◌, ◌==◌, ◌||◌, ◌∙◌, ◌∷◌, ◌≡◌, ◌≢◌, ◌≤◌, ◌⊎◌}
+use Rattle.hpx_steps.proofs.Tools.{Changes, Put, Sees, Stills, bound_none, by_own, by_parcel, by_rows, drop_change, fewer, hand_fit, holding, in_hand, is_frame, leads_on, post_change, post_waits, put_as, put_less, put_sum, put_tidy, same_dead, same_seen, sees_leads, then, view_worth}
+use Rattle.hpx_steps.proofs.Moved.{waits_leads, waits_moved}
+use Rattle.hpx_steps.proofs.Waits.{hand_waits}
 
 module _ (r : Rules) (s : Turn) (entries : List Entry) (h : IsSound r s entries) (act : Act) (p : Parcel) (carries : (p ≡ Apply act) ⊎ (p ≡ Move act))
     (hand : HasInHand p s) (stays : s.mailed ≢ [] → may_stay s.tables act ≡ true) where

@@ -1,23 +1,6 @@
 -- The first of what is due is printed.
-use Rattle.std.proofs.Common.{List, Some, [], ap, arith, map, refl, subst, sym, ℕ, ◌+◌, ◌∷◌, ◌≡◌}
-use Rattle.hpx_journal.specs.Data.{Due, PrintDue}
-use Rattle.hpx_journal.specs.Entries.{Rules}
-use Rattle.hpx_part.proofs.ActRows.{follows_print}
-use Rattle.hpx_part.specs.Data.{Entry, Print}
-use Rattle.hpx_part.specs.View.{View}
-use Rattle.hpx_steps.specs.Items.{IsDue, Item, weigh}
-use Rattle.hpx_steps.specs.Mail.{wrote}
-use Rattle.hpx_steps.specs.Numbered.{asks_under}
-use Rattle.hpx_steps.specs.Rows.{Row, causes, freeing, goes, hopping, joined, unpaid}
-use Rattle.hpx_steps.specs.Sound.{IsSound, TidyAt, asked_by, given_to, waits_for, worth}
-use Rattle.hpx_steps.specs.Steps.{Prints}
-use Rattle.hpx_steps.specs.Turn.{Turn, bare_due, view}
-use Rattle.hpx_steps.proofs.ByRows.{by_rows}
-use Rattle.hpx_steps.proofs.Calm.{counts_still}
-use Rattle.hpx_steps.proofs.Changes.{Changes, due_change, first_goes, holding}
-use Rattle.hpx_steps.proofs.Seen.{Sees, sees_leads}
-use Rattle.hpx_steps.proofs.Sums.{view_worth}
-use Rattle.hpx_steps.proofs.Then.{Keeps, fewer}
+use Rattle.hpx_steps.proofs.Common.{Due, Entry, IsDue, IsSound, Item, List, Print, PrintDue, Prints, Row, Rules, Some, TidyAt, Turn, View, [], ap, arith, asked_by, asks_under, bare_due, causes, follows_print, freeing, given_to, goes, hopping, joined, map, refl, subst, sym, unpaid, view, waits_for, weigh, worth, wrote, ℕ, ◌+◌, ◌∷◌, ◌≡◌}
+use Rattle.hpx_steps.proofs.Tools.{Changes, Keeps, Sees, by_rows, counts_still, due_change, fewer, first_goes, holding, sees_leads, view_worth}
 
 module _ (r : Rules) (s : Turn) (entries : List Entry) (h : IsSound r s entries) (bytes : List ℕ) (rest : List Due) (fresh : s.fresh ≡ [])
     (due : s.due ≡ PrintDue bytes ∷ rest) where

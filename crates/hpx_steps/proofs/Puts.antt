@@ -1,23 +1,5 @@
 -- One more action: what it weighs and that it is tidy, whether it is accepted or goes in a message.
-use Rattle.std.proofs.Common.{Bool, List, None, Option, Some, [], ap, cond, false, inl, inr, refl, subst, sym, true, ℕ, ◌∷◌, ◌≡◌, ◌≤◌}
-use Rattle.std.proofs.lemmas.Bool.{cases_Bool, eqb-false, eqb-true}
-use Rattle.std.specs.List.{AllByRecursion}
-use Rattle.std.specs.Prelude.{IfSome, map, not, ◌&&◌, ◌==◌, ◌⊎◌}
-use Rattle.hpx_value.specs.Hands.{id_at}
-use Rattle.hpx_value.specs.Ids.{bare}
-use Rattle.hpx_value.specs.Values.{bare_act}
-use Rattle.hpx_parcel.specs.Parcels.{IsParcel}
-use Rattle.hpx_journal.proofs.Same.{and_true}
-use Rattle.hpx_journal.specs.Data.{Act, Apply, Id, Move, Parcel}
-use Rattle.hpx_journal.specs.Entries.{is_movable, move_to, place_in, target_of}
-use Rattle.hpx_journal.specs.Foreign.{kept}
-use Rattle.hpx_tables.specs.Fit.{IsFit, parcel_for}
-use Rattle.hpx_tables.specs.Kept.{stands_here}
-use Rattle.hpx_tables.specs.Tables.{Tables}
-use Rattle.hpx_steps.specs.Frames.{MayGoTo}
-use Rattle.hpx_steps.specs.Items.{Accepted, Going, Item, OnDesk}
-use Rattle.hpx_steps.specs.Mail.{going, is_other, may_stay, moves_on}
-use Rattle.hpx_steps.specs.Sound.{FreesNone, IsOwn, IsTidyIn}
+use Rattle.hpx_steps.proofs.Common.{Accepted, Act, AllByRecursion, Apply, Bool, FreesNone, Going, Id, IfSome, IsFit, IsOwn, IsParcel, IsTidyIn, Item, List, MayGoTo, Move, None, OnDesk, Option, Parcel, Some, Tables, [], and_true, ap, bare, bare_act, cases_Bool, cond, eqb-false, eqb-true, false, going, id_at, inl, inr, is_movable, is_other, kept, map, may_stay, move_to, moves_on, not, parcel_for, place_in, refl, stands_here, subst, sym, target_of, true, ℕ, ◌&&◌, ◌==◌, ◌∷◌, ◌≡◌, ◌≤◌, ◌⊎◌}
 use Rattle.hpx_steps.proofs.Changes.{put_as, sent_if}
 use Rattle.hpx_steps.proofs.Mails.{mail_tidy}
 

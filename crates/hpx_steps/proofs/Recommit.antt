@@ -1,15 +1,5 @@
 -- What a commit in work has in its hand changes: its job stays.
-use Rattle.std.proofs.Common.{List, Some, [], ap, arith, cond, false, length, map, refl, set, suc, sym, take, zero, ℕ, ◌++◌, ◌<◌, ◌∙◌, ◌∷◌, ◌≡◌, ◌≤◌}
-use Rattle.std.proofs.lemmas.List.{length-map, length-take, take-append-le}
-use Rattle.std.specs.List.{filter}
-use Rattle.std.specs.Prelude.{slice_get}
-use Rattle.hpx_value.specs.Hands.{id_at}
-use Rattle.hpx_value.specs.Ids.{bare}
-use Rattle.hpx_journal.specs.Data.{Act, Id}
-use Rattle.hpx_part.specs.Data.{Standing}
-use Rattle.hpx_tables.proofs.Alls.{some_same}
-use Rattle.hpx_tables.specs.Pending.{Waits, ids_named, is_asked}
-use Rattle.hpx_steps.specs.Paused.{HasCommits, IsCommit}
+use Rattle.hpx_steps.proofs.Common.{Act, HasCommits, Id, IsCommit, List, Some, Standing, Waits, [], ap, arith, bare, cond, false, filter, id_at, ids_named, is_asked, length, length-map, length-take, map, refl, set, slice_get, some_same, suc, sym, take, take-append-le, zero, ℕ, ◌++◌, ◌<◌, ◌∙◌, ◌∷◌, ◌≡◌, ◌≤◌}
 
 -- its hand has all that its object and its action name
 pub hand_long : (k n : ℕ) (w : Waits) → IsCommit k n w → length (ids_named w) ≤ length w.hand

@@ -1,18 +1,5 @@
 -- The record of one object changes.
-use Rattle.std.proofs.Common.{List, Option, Some, [], ap, cond, false, inl, inr, map, refl, sym, true, ◌∙◌, ◌∷◌, ◌≡◌}
-use Rattle.std.proofs.lemmas.Bool.{cases_Bool}
-use Rattle.std.specs.List.{find}
-use Rattle.std.specs.Option.{option_map_or}
-use Rattle.hpx_value.specs.Ids.{bare, same_object}
-use Rattle.hpx_journal.proofs.Same.{same_object-sym, same_object-true}
-use Rattle.hpx_journal.specs.Data.{Id}
-use Rattle.hpx_journal.specs.Local.{count_in, is_recorded}
-use Rattle.hpx_agas.specs.Records.{find_record}
-use Rattle.hpx_agas.specs.declared.record.Record.{Record}
-use Rattle.hpx_tables.specs.Tables.{Tables}
-use Rattle.hpx_steps.specs.Sound.{HasPlaces, StaysAt}
-use Rattle.hpx_steps.specs.Steps.{Recounts}
-use Rattle.hpx_steps.specs.Turn.{counted}
+use Rattle.hpx_steps.proofs.Common.{HasPlaces, Id, List, Option, Record, Recounts, Some, StaysAt, Tables, [], ap, bare, cases_Bool, cond, count_in, counted, false, find, find_record, inl, inr, is_recorded, map, option_map_or, refl, same_object, same_object-sym, same_object-true, sym, true, ◌∙◌, ◌∷◌, ◌≡◌}
 
 pub found_counted : (x : Id) (rs : List Record)
     → count_in (find (is_recorded x) (map counted rs)) ≡ option_map_or (λ (r : Record). r.count) (find_record x rs) 0

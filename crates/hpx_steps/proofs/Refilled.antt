@@ -1,23 +1,7 @@
 -- What was asked for is put into the hand of the commit that waits for it.
-use Rattle.std.proofs.Common.{Bool, List, None, Option, Some, ap, append_assoc, arith, cond, false, inl, inr, length, length-append, refl, set, subst, sym, true, ℕ, ◌++◌, ◌+◌, ◌<◌, ◌∙◌, ◌≡◌, ◌≢◌, ◌≤◌}
-use Rattle.std.proofs.lemmas.Bool.{cases_Bool, eq-eqb, eqb-true}
-use Rattle.std.specs.List.{count_by, list_any, remove, slice_get}
-use Rattle.std.specs.Prelude.{MatchOption, is_some, nat_le, not, ◌&&◌, ◌==◌, ◌⊎◌}
-use Rattle.hpx_value.specs.Hands.{id_at}
-use Rattle.hpx_value.specs.Ids.{bare, same_object}
-use Rattle.hpx_parcel.specs.Parcels.{HasCredit, HasRightCredit}
-use Rattle.hpx_journal.proofs.Same.{and_true, same_object-true}
-use Rattle.hpx_journal.specs.Data.{Id}
-use Rattle.hpx_commit.proofs.Short.{place_bare, place_some}
-use Rattle.hpx_commit.specs.Deals.{log_of}
-use Rattle.hpx_tables.proofs.Alls.{all_append, all_at, all_remove, some_same}
-use Rattle.hpx_tables.specs.Pending.{Waits, ids_named, is_asked, is_asked_for, own_ids, refilled}
-use Rattle.hpx_tables.specs.declared.pending.Asked.{Asked as AskedFor}
-use Rattle.hpx_steps.specs.Paused.{HasSplit, IsCommit, IsShort, first_stock, whole_stock}
-use Rattle.hpx_steps.proofs.Bare.{has_not_asked, not_asked}
-use Rattle.hpx_steps.proofs.Hands.{any_place, front_place, names_place, place_at, put_behind, put_elsewhere, put_names, put_there, take_place}
-use Rattle.hpx_steps.proofs.Lists.{less_sum}
-use Rattle.hpx_steps.proofs.Recommit.{hand_long}
+use Rattle.hpx_steps.proofs.Common.{AskedFor, Bool, HasCredit, HasRightCredit, HasSplit, Id, IsCommit, IsShort, List, MatchOption, None, Option, Some, Waits, all_append, all_at, all_remove, and_true, ap, append_assoc, arith, bare, cases_Bool, cond, count_by, eq-eqb, eqb-true, false, first_stock, id_at, ids_named, inl, inr, is_asked, is_asked_for, is_some, length, length-append, list_any, log_of, nat_le, not, own_ids, place_bare, place_some, refilled, refl, remove, same_object, same_object-true, set, slice_get, some_same, subst, sym, true, whole_stock, ℕ, ◌&&◌, ◌++◌, ◌+◌, ◌<◌, ◌==◌, ◌∙◌, ◌≡◌, ◌≢◌, ◌≤◌, ◌⊎◌}
+use Rattle.hpx_steps.proofs.Tools.{front_place, hand_long, has_not_asked, less_sum, not_asked, place_at, put_elsewhere, put_names, put_there, take_place}
+use Rattle.hpx_steps.proofs.Hands.{any_place, names_place, put_behind}
 
 own_log : (id : Id) → HasCredit id → id.log ≡ Some (log_of id.log)
 own_log id h = at id.log refl h

@@ -1,12 +1,5 @@
 -- Between turns the last entry is forgotten.
-use Rattle.std.proofs.Common.{List, None, [], append-nil, arith, refl, subst}
-use Rattle.hpx_journal.specs.Entries.{Rules}
-use Rattle.hpx_part.proofs.Grown.{grow}
-use Rattle.hpx_part.proofs.Weaken.{weaker_leads}
-use Rattle.hpx_part.specs.Data.{Entry}
-use Rattle.hpx_part.specs.Parts.{StandsFor}
-use Rattle.hpx_steps.specs.Sound.{IsSound}
-use Rattle.hpx_steps.specs.Turn.{Turn, view}
+use Rattle.hpx_steps.proofs.Common.{Entry, IsSound, List, None, Rules, StandsFor, Turn, [], append-nil, arith, grow, refl, subst, view, weaker_leads}
 
 abbrev pub forgets : Turn → Turn
 forgets s = record s { last = None }

@@ -1,27 +1,5 @@
 -- Credit that was asked for is given to a commit that waits for nothing more then: it goes on, and ends or fails.
-use Rattle.std.proofs.Common.{List, None, Option, Some, [], ap, cond, false, length, map, refl, set, subst, sym, true, ℕ, ◌++◌, ◌+◌, ◌<◌, ◌∷◌, ◌≡◌, ◌≤◌}
-use Rattle.std.specs.List.{AllByRecursion, find, remove, slice_get}
-use Rattle.std.specs.Prelude.{◌==◌}
-use Rattle.hpx_value.specs.Hands.{id_at}
-use Rattle.hpx_value.specs.Ids.{bare}
-use Rattle.hpx_parcel.specs.Parcels.{HasCredit}
-use Rattle.hpx_journal.specs.Data.{Give, Id, Parcel}
-use Rattle.hpx_journal.specs.Entries.{Rules, name_of, target_of}
-use Rattle.hpx_journal.specs.Local.{is_standing}
-use Rattle.hpx_part.specs.Data.{Done, Event, Given, Standing}
-use Rattle.hpx_commit.specs.Deals.{AreWithin, Lasts, log_of, named}
-use Rattle.hpx_tables.specs.Awaited.{answered_by}
-use Rattle.hpx_tables.specs.Births.{IsBirth, birth_of, births_of, ids_of, objects_of, records_of}
-use Rattle.hpx_tables.specs.Pending.{Waits, ids_named}
-use Rattle.hpx_tables.specs.Splits.{splits_from}
-use Rattle.hpx_tables.specs.Strange.{brings_right}
-use Rattle.hpx_tables.specs.Tables.{Tables}
-use Rattle.hpx_tables.specs.declared.pending.Asked.{Asked as AskedFor}
-use Rattle.hpx_steps.specs.Calls.{Gives, ups, with_left, written_due}
-use Rattle.hpx_steps.specs.Left.{IsLeftBy, IsLeftFailed}
-use Rattle.hpx_steps.specs.Mail.{wrote}
-use Rattle.hpx_steps.specs.Steps.{HasInHand, Remains, Steps, Writes, drops, ends, goes_on, works_on}
-use Rattle.hpx_steps.specs.Turn.{Turn, at_rest}
+use Rattle.hpx_steps.proofs.Common.{AllByRecursion, AreWithin, AskedFor, Done, Event, Give, Given, Gives, HasCredit, HasInHand, Id, IsBirth, IsLeftBy, IsLeftFailed, Lasts, List, None, Option, Parcel, Remains, Rules, Some, Standing, Steps, Tables, Turn, Waits, Writes, [], answered_by, ap, at_rest, bare, birth_of, births_of, brings_right, cond, drops, ends, false, find, goes_on, id_at, ids_named, ids_of, is_standing, length, log_of, map, name_of, named, objects_of, records_of, refl, remove, set, slice_get, splits_from, subst, sym, target_of, true, ups, with_left, works_on, written_due, wrote, ℕ, ◌++◌, ◌+◌, ◌<◌, ◌==◌, ◌∷◌, ◌≡◌, ◌≤◌}
 use Rattle.hpx_steps.proofs.Committed.{all_right, done_steps, left_steps}
 use Rattle.hpx_steps.proofs.Handled.{Leads, given_leads, written_events}
 use Rattle.hpx_steps.proofs.Made.{Drawn}

@@ -1,42 +1,8 @@
 -- Credit comes home.
-use Rattle.std.proofs.Common.{Bool, List, None, Option, Some, [], ap, arith, cond, false, inl, inr, map, refl, subst, sym, true, ℕ, ◌++◌, ◌+◌, ◌-◌, ◌^◌, ◌∙◌, ◌∷◌, ◌≡◌, ◌≤◌}
-use Rattle.std.proofs.lemmas.Bool.{cases_Bool, eqb-true}
-use Rattle.std.proofs.lemmas.List.Sums.{sum_by-cons}
-use Rattle.std.specs.List.{count_by, find, sum_by}
-use Rattle.std.specs.Option.{option_map_or}
-use Rattle.std.specs.Prelude.{MatchOption, ◌&&◌, ◌==◌}
-use Rattle.hpx_value.specs.Ids.{bare, credit, credit_of_log, same_object}
-use Rattle.hpx_parcel.specs.Parcels.{IsParcel}
-use Rattle.hpx_journal.specs.Data.{Free, Id, Return}
-use Rattle.hpx_journal.specs.Entries.{Rules}
-use Rattle.hpx_journal.specs.Local.{count_in, is_recorded}
-use Rattle.hpx_journal.specs.Tokens.{owed_token, same_token}
-use Rattle.hpx_part.proofs.Credit.{token_own}
-use Rattle.hpx_part.proofs.CreditRows.{follows_returned}
-use Rattle.hpx_part.proofs.Keyed.{counts_of, counts_true}
-use Rattle.hpx_part.specs.Data.{Count, Entry, Event, Returned, Token}
-use Rattle.hpx_part.specs.View.{View}
-use Rattle.hpx_agas.specs.Registries.{lowered}
-use Rattle.hpx_agas.specs.declared.record.Record.{Record}
-use Rattle.hpx_tables.proofs.Alls.{some_same}
-use Rattle.hpx_tables.specs.Tables.{Tables}
-use Rattle.hpx_steps.specs.Items.{Came, Going, Item, Mailed, OnDesk, weigh}
-use Rattle.hpx_steps.specs.Mail.{going, is_other, mails_if, wrote}
-use Rattle.hpx_steps.specs.Numbered.{asks_under}
-use Rattle.hpx_steps.specs.Rows.{Row, causes, freeing, goes, hopping, joined, one_if, owes, unpaid, weight}
-use Rattle.hpx_steps.specs.Sound.{IsSound, IsTidy, StaysAt, TidyAt, asked_by, given_to, waits_for, worth}
-use Rattle.hpx_steps.specs.Steps.{HasInHand, Recounts, TakesBack, drops, with_records}
-use Rattle.hpx_steps.specs.Turn.{Turn, bare_due, counted, parcel_asks, parcel_frees, tokens, view}
-use Rattle.hpx_steps.proofs.ByRows.{by_rows}
-use Rattle.hpx_steps.proofs.Calm.{bound_none, counts_still, same_seen}
-use Rattle.hpx_steps.proofs.Changes.{Changes, drop_change, holding, in_hand, is_frame, mail_change, sent_if, then, total}
-use Rattle.hpx_steps.proofs.Cover.{view_covered}
-use Rattle.hpx_steps.proofs.Mails.{hand_fit, mail_tidy, other_is, owed_by, sent_total}
+use Rattle.hpx_steps.proofs.Common.{Bool, Came, Count, Entry, Event, Free, Going, HasInHand, Id, IsParcel, IsSound, IsTidy, Item, List, Mailed, MatchOption, None, OnDesk, Option, Record, Recounts, Return, Returned, Row, Rules, Some, StaysAt, Tables, TakesBack, TidyAt, Token, Turn, View, [], ap, arith, asked_by, asks_under, bare, bare_due, cases_Bool, causes, cond, count_by, count_in, counted, counts_of, counts_true, credit, credit_of_log, drops, eqb-true, false, find, follows_returned, freeing, given_to, goes, going, hopping, inl, inr, is_other, is_recorded, joined, lowered, mails_if, map, one_if, option_map_or, owed_token, owes, parcel_asks, parcel_frees, refl, same_object, same_token, some_same, subst, sum_by, sum_by-cons, sym, token_own, tokens, true, unpaid, view, waits_for, weigh, weight, with_records, worth, wrote, ℕ, ◌&&◌, ◌++◌, ◌+◌, ◌-◌, ◌==◌, ◌^◌, ◌∙◌, ◌∷◌, ◌≡◌, ◌≤◌}
+use Rattle.hpx_steps.proofs.Tools.{Changes, Keeps, Sees, bound_none, by_own, by_parcel, by_rows, counts_still, drop_change, drop_waits, fewer, hand_fit, holding, in_hand, is_frame, mail_change, mail_tidy, mail_waits, owed_by, own_sum, same_seen, sees_covers, sees_leads, sent_if, sent_total, then, total, view_covered, view_worth}
+use Rattle.hpx_steps.proofs.Mails.{other_is}
 use Rattle.hpx_steps.proofs.Records.{found_counted, one_recounted, places_still}
-use Rattle.hpx_steps.proofs.Seen.{Sees, sees_covers, sees_leads}
-use Rattle.hpx_steps.proofs.Sums.{by_own, by_parcel, own_sum, view_worth}
-use Rattle.hpx_steps.proofs.Then.{Keeps, fewer}
-use Rattle.hpx_steps.proofs.Waits.{drop_waits, mail_waits}
 
 lowered_stays : (k : ℕ) (old x : Record) (id : Id) → lowered old id ≡ Some x → StaysAt k old → StaysAt k x
 lowered_stays k old x id is at = elim (cases_Bool (old.count == credit id)) [

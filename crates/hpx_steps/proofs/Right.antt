@@ -1,17 +1,5 @@
 -- What a message breaks no rule says of the tables.
-use Rattle.std.proofs.Common.{Bool, None, Option, Some, arith, false, inl, inr, length, refl, true, ℕ, ◌≡◌, ◌≤◌}
-use Rattle.std.proofs.lemmas.Bool.{cases_Bool, eqb-true}
-use Rattle.std.specs.List.{list_any}
-use Rattle.std.specs.Prelude.{if◌then◌else◌, nat_lt, not, ◌&&◌, ◌==◌}
-use Rattle.hpx_value.specs.Ids.{credit}
-use Rattle.hpx_journal.proofs.Same.{and_true}
-use Rattle.hpx_journal.specs.Data.{Act, Id, Parcel}
-use Rattle.hpx_journal.specs.Entries.{target_of}
-use Rattle.hpx_tables.specs.Kept.{count_here, held_here, stands_here, waits_here}
-use Rattle.hpx_tables.specs.Pending.{awaits}
-use Rattle.hpx_tables.specs.Strange.{breaks, brings_right, broken, broken_free, broken_give, broken_go, broken_near, broken_object, broken_return, is_far, is_live, is_to_here}
-use Rattle.hpx_tables.specs.Tables.{Tables}
-use Rattle.hpx_tables.specs.declared.strange.Broken.{Broken}
+use Rattle.hpx_steps.proofs.Common.{Act, Bool, Broken, Id, None, Option, Parcel, Some, Tables, and_true, arith, awaits, breaks, brings_right, broken, broken_free, broken_give, broken_go, broken_near, broken_object, broken_return, cases_Bool, count_here, credit, eqb-true, false, held_here, if◌then◌else◌, inl, inr, is_far, is_live, is_to_here, length, list_any, nat_lt, not, refl, stands_here, target_of, true, waits_here, ℕ, ◌&&◌, ◌==◌, ◌≡◌, ◌≤◌}
 
 not_broken : {X : Type 0} (x : X) → Some x ≡ None → ⊥
 not_broken x e = cc

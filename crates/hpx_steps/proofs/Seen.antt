@@ -1,19 +1,5 @@
 -- A turn that is seen as a view says; and that its names are covered.
-use Rattle.std.proofs.Common.{None, [], ap, arith, cond, refl, subst, true, ◌≡◌, ◌≤◌}
-use Rattle.std.specs.List.{count_by, find, list_any}
-use Rattle.hpx_value.specs.Ids.{same_object}
-use Rattle.hpx_journal.proofs.Same.{held-Counts, owed-Counts}
-use Rattle.hpx_journal.specs.Data.{Id}
-use Rattle.hpx_journal.specs.Entries.{Rules}
-use Rattle.hpx_journal.specs.Local.{count_in, is_recorded}
-use Rattle.hpx_journal.specs.Tokens.{is_held, is_owed}
-use Rattle.hpx_part.proofs.Keyed.{any_counted, counted_any}
-use Rattle.hpx_part.proofs.Weaken.{weaker_leads}
-use Rattle.hpx_part.specs.Data.{Local, Refusal}
-use Rattle.hpx_part.specs.Shows.{Leads, SameTokens, Shows, same_refusal}
-use Rattle.hpx_part.specs.View.{IsCovered, View, names_in_view}
-use Rattle.hpx_commit.proofs.Naming.{managed}
-use Rattle.hpx_steps.specs.Turn.{Turn, view}
+use Rattle.hpx_steps.proofs.Common.{Id, IsCovered, Leads, Local, None, Refusal, Rules, SameTokens, Shows, Turn, View, [], any_counted, ap, arith, cond, count_by, count_in, counted_any, find, held-Counts, is_held, is_owed, is_recorded, list_any, managed, names_in_view, owed-Counts, refl, same_object, same_refusal, subst, true, view, weaker_leads, ◌≡◌, ◌≤◌}
 
 -- v with what may be told otherwise as it is seen of s
 abbrev pub as_seen : View → Turn → View

@@ -1,30 +1,6 @@
 -- The first of what is due is sent.
-use Rattle.std.proofs.Common.{Bool, List, Some, [], ap, arith, false, inl, inr, map, refl, subst, sym, true, ℕ, ◌++◌, ◌+◌, ◌∙◌, ◌∷◌, ◌≡◌, ◌≤◌}
-use Rattle.std.specs.List.{count_by, sum_by}
-use Rattle.std.specs.Prelude.{◌==◌, ◌||◌, ◌⊎◌}
-use Rattle.hpx_value.specs.Ids.{same_object}
-use Rattle.hpx_value.specs.Values.{bare_message, named as named_act}
-use Rattle.hpx_journal.specs.Data.{Act, Apply, Due, Message, MessageDue, Move, Parcel}
-use Rattle.hpx_journal.specs.Entries.{Rules, target_of}
-use Rattle.hpx_part.proofs.ActRows.{follows_sent}
-use Rattle.hpx_part.specs.Data.{Entry, Name, Sent}
-use Rattle.hpx_part.specs.View.{View}
-use Rattle.hpx_tables.specs.Fit.{IsFit}
-use Rattle.hpx_steps.specs.Items.{Accepted, Going, IsDue, Item, OnDesk, weigh}
-use Rattle.hpx_steps.specs.Mail.{draws, going, is_other, may_stay, posts, wrote}
-use Rattle.hpx_steps.specs.Numbered.{asks_as, asks_under}
-use Rattle.hpx_steps.specs.Rows.{Row, brings, causes, freeing, goes, hopping, joined, kind_of, of_act, one_if, unpaid, weight}
-use Rattle.hpx_steps.specs.Sound.{IsSound, IsTidy, TidyAt, asked_by, asks_for, given_to, gives_for, waits_for, worth}
-use Rattle.hpx_steps.specs.Steps.{Sends}
-use Rattle.hpx_steps.specs.Turn.{Turn, bare_due, parcel_asks, parcel_frees, parcel_tokens, tokens_of, view, waiting}
-use Rattle.hpx_steps.proofs.ByRows.{by_rows}
-use Rattle.hpx_steps.proofs.Calm.{bound_none, same_dead, same_seen}
-use Rattle.hpx_steps.proofs.Changes.{Changes, due_change, first_goes, holding, post_change, put_as, then}
-use Rattle.hpx_steps.proofs.Puts.{put_less, put_sum, put_tidy}
-use Rattle.hpx_steps.proofs.Seen.{Sees, sees_leads}
-use Rattle.hpx_steps.proofs.Sums.{by_own, by_parcel, view_worth}
-use Rattle.hpx_steps.proofs.Then.{Keeps, fewer}
-use Rattle.hpx_steps.proofs.Waits.{Put, post_waits}
+use Rattle.hpx_steps.proofs.Common.{Accepted, Act, Apply, Bool, Due, Entry, Going, IsDue, IsFit, IsSound, IsTidy, Item, List, Message, MessageDue, Move, Name, OnDesk, Parcel, Row, Rules, Sends, Sent, Some, TidyAt, Turn, View, [], ap, arith, asked_by, asks_as, asks_for, asks_under, bare_due, bare_message, brings, causes, count_by, draws, false, follows_sent, freeing, given_to, gives_for, goes, going, hopping, inl, inr, is_other, joined, kind_of, map, may_stay, named_act, of_act, one_if, parcel_asks, parcel_frees, parcel_tokens, posts, refl, same_object, subst, sum_by, sym, target_of, tokens_of, true, unpaid, view, waiting, waits_for, weigh, weight, worth, wrote, ℕ, ◌++◌, ◌+◌, ◌==◌, ◌||◌, ◌∙◌, ◌∷◌, ◌≡◌, ◌≤◌, ◌⊎◌}
+use Rattle.hpx_steps.proofs.Tools.{Changes, Keeps, Put, Sees, bound_none, by_own, by_parcel, by_rows, due_change, fewer, first_goes, holding, post_change, post_waits, put_as, put_less, put_sum, put_tidy, same_dead, same_seen, sees_leads, then, view_worth}
 
 module _ (r : Rules) (s : Turn) (entries : List Entry) (h : IsSound r s entries) (m : Message) (rest : List Due) (fresh : s.fresh ≡ []) (due : s.due ≡ MessageDue m ∷ rest) where
   abbrev name : Name

@@ -1,39 +1,7 @@
 -- An id in the hand of a commit is halved.
-use Rattle.std.proofs.Common.{List, Some, [], ap, arith, cond, false, inl, length, map, refl, set, subst, sym, true, ℕ, ◌++◌, ◌+◌, ◌-◌, ◌∙◌, ◌∷◌, ◌≡◌, ◌≤◌}
-use Rattle.std.proofs.lemmas.List.Sums.{sum_by-cons}
-use Rattle.std.specs.List.{count_by, list_any, slice_get, sum_by}
-use Rattle.std.specs.Prelude.{option_map}
-use Rattle.hpx_value.specs.Ids.{bare}
-use Rattle.hpx_value.specs.Values.{bare_act}
-use Rattle.hpx_journal.specs.Data.{Id}
-use Rattle.hpx_journal.specs.Entries.{Rules}
-use Rattle.hpx_journal.specs.Tokens.{held_token, same_token}
-use Rattle.hpx_part.proofs.Credit.{token_own}
-use Rattle.hpx_part.proofs.CreditRows.{follows_split}
-use Rattle.hpx_part.proofs.Keyed.{counts_of, counts_true}
-use Rattle.hpx_part.specs.Data.{Entry, Split, Token}
-use Rattle.hpx_part.specs.Shows.{same_refusal}
-use Rattle.hpx_part.specs.View.{View}
-use Rattle.hpx_commit.specs.Deals.{half}
-use Rattle.hpx_tables.specs.Pending.{Waits, fired_of, ids_named, is_asked, is_asked_for, refusals_of}
-use Rattle.hpx_steps.specs.Items.{Item, Working, weigh}
-use Rattle.hpx_steps.specs.Mail.{wrote}
-use Rattle.hpx_steps.specs.Numbered.{asks_under}
-use Rattle.hpx_steps.specs.Paused.{HasCommits, IsCommit, names_of}
-use Rattle.hpx_steps.specs.Rows.{Row, causes, freeing, goes, hopping, joined, unpaid}
-use Rattle.hpx_steps.specs.Sound.{IsSound, TidyAt, asked_by, asking, given_to, waits_for, worth}
-use Rattle.hpx_steps.specs.Steps.{Splits, works_on}
-use Rattle.hpx_steps.specs.Turn.{Turn, bare_due, tokens, tokens_of, view}
-use Rattle.hpx_steps.proofs.Bare.{has_not_asked}
-use Rattle.hpx_steps.proofs.ByRows.{by_rows}
-use Rattle.hpx_steps.proofs.Calm.{counts_still}
-use Rattle.hpx_steps.proofs.Changes.{Changes, first_turns, holding, working_change}
-use Rattle.hpx_steps.proofs.Lists.{less_sum, set_sum}
-use Rattle.hpx_steps.proofs.Mails.{held_by}
-use Rattle.hpx_steps.proofs.Recommit.{first_asked, first_at, first_map, hand_long, same_commits}
-use Rattle.hpx_steps.proofs.Seen.{Sees, sees_leads}
-use Rattle.hpx_steps.proofs.Sums.{ids_append, ids_each, view_asking, view_worth}
-use Rattle.hpx_steps.proofs.Then.{Keeps, fewer}
+use Rattle.hpx_steps.proofs.Common.{Entry, HasCommits, Id, IsCommit, IsSound, Item, List, Row, Rules, Some, Split, Splits, TidyAt, Token, Turn, View, Waits, Working, [], ap, arith, asked_by, asking, asks_under, bare, bare_act, bare_due, causes, cond, count_by, counts_of, counts_true, false, fired_of, follows_split, freeing, given_to, goes, half, held_token, hopping, ids_named, inl, is_asked, is_asked_for, joined, length, list_any, map, names_of, option_map, refl, refusals_of, same_refusal, same_token, set, slice_get, subst, sum_by, sum_by-cons, sym, token_own, tokens, tokens_of, true, unpaid, view, waits_for, weigh, works_on, worth, wrote, ℕ, ◌++◌, ◌+◌, ◌-◌, ◌∙◌, ◌∷◌, ◌≡◌, ◌≤◌}
+use Rattle.hpx_steps.proofs.Tools.{Changes, Keeps, Sees, by_rows, counts_still, fewer, first_turns, hand_long, has_not_asked, held_by, holding, ids_append, ids_each, less_sum, same_commits, sees_leads, set_sum, view_asking, view_worth, working_change}
+use Rattle.hpx_steps.proofs.Recommit.{first_asked, first_at, first_map}
 
 module _ (r : Rules) (s : Turn) (entries : List Entry) (h : IsSound r s entries) (w : Waits) (rest : List Waits) (p : ℕ) (id : Id) (log : ℕ) (due : s.due ≡ [])
     (works : s.working ≡ w ∷ rest) (at : slice_get w.hand p ≡ Some id) (has : id.log ≡ Some log) (enough : 1 ≤ log) (lacks : w.asked ≡ []) where

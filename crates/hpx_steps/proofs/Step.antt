@@ -1,16 +1,7 @@
 -- Each step keeps all that holds.
-use Rattle.std.proofs.Common.{List, [], ap, append-nil, append_assoc, false, refl, subst, sym, true, ◌++◌, ◌∙◌, ◌∷◌, ◌≡◌}
-use Rattle.std.proofs.lemmas.List.{map-append}
-use Rattle.hpx_journal.specs.Entries.{Rules}
-use Rattle.hpx_journal.specs.Laws.{entry_at}
-use Rattle.hpx_journal.specs.declared.entry.Event.TheVariants.{Looked}
-use Rattle.hpx_part.specs.Data.{Asked, Born, Count, Done, Entry, Event, Fire, Freed, Given, Granted, In, Landed, Left, Line, Looked, Mail, Out, Print, Refused, Returned, Sent, Split, Up}
-use Rattle.hpx_part.specs.Parts.{at_all}
-use Rattle.hpx_tables.specs.Tables.{Tables}
-use Rattle.hpx_steps.specs.Numbered.{AreNumbered}
-use Rattle.hpx_steps.specs.Sound.{IsSound}
-use Rattle.hpx_steps.specs.Steps.{Label, Pause, Place, Step, Steps, Suspend, Writes, written, written_by}
-use Rattle.hpx_steps.specs.Turn.{Turn}
+use Rattle.hpx_steps.proofs.Common.{AreNumbered, Asked, Born, Count, Done, Entry, Event, Fire, Freed, Given, Granted, In, IsSound, Label, Landed, Left, Line, List, Looked, Mail, Out, Pause, Place, Print, Refused, Returned, Rules, Sent, Split, Step, Steps, Suspend, Tables, Turn, Up, Writes, [], ap, append-nil, append_assoc, at_all, entry_at, false, map-append, refl, subst, sym, true, written, written_by, ◌++◌, ◌∙◌, ◌∷◌, ◌≡◌}
+use Rattle.hpx_steps.proofs.Tools.{Keeps, Stills}
+use Rattle.hpx_part.specs.Data.{Looked}
 use Rattle.hpx_steps.proofs.Answered.{granted_step, refused_step}
 use Rattle.hpx_steps.proofs.Asked.{asked_step}
 use Rattle.hpx_steps.proofs.Bear.{bear_step}
@@ -29,9 +20,9 @@ use Rattle.hpx_steps.proofs.Print.{print_step}
 use Rattle.hpx_steps.proofs.Returned.{returned_step}
 use Rattle.hpx_steps.proofs.Sent.{sent_step}
 use Rattle.hpx_steps.proofs.Split.{split_step}
-use Rattle.hpx_steps.proofs.Still.{Stills, still_sound}
+use Rattle.hpx_steps.proofs.Still.{still_sound}
 use Rattle.hpx_steps.proofs.Suspend.{suspend_step}
-use Rattle.hpx_steps.proofs.Then.{Keeps, sound_then}
+use Rattle.hpx_steps.proofs.Then.{sound_then}
 use Rattle.hpx_steps.proofs.Up.{up_step}
 
 -- all holds then, and the locality is the same

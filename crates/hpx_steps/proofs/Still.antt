@@ -1,20 +1,5 @@
 -- What is done without an entry.
-use Rattle.std.proofs.Common.{List, [], ap, append-nil, arith, map, subst, sym, ℕ, ◌+◌, ◌∙◌, ◌∷◌, ◌≡◌, ◌≢◌, ◌≤◌}
-use Rattle.std.specs.List.{AllByRecursion}
-use Rattle.hpx_journal.specs.Data.{Id}
-use Rattle.hpx_journal.specs.Entries.{Rules}
-use Rattle.hpx_journal.specs.Whole.{part}
-use Rattle.hpx_part.proofs.Grown.{grow}
-use Rattle.hpx_part.specs.Data.{Entry, Event}
-use Rattle.hpx_part.specs.Parts.{StandsFor}
-use Rattle.hpx_part.specs.Shows.{Leads}
-use Rattle.hpx_tables.specs.Tables.{Tables}
-use Rattle.hpx_steps.specs.Items.{weigh}
-use Rattle.hpx_steps.specs.Numbered.{AreNumbered}
-use Rattle.hpx_steps.specs.Paused.{HasCommits}
-use Rattle.hpx_steps.specs.Rows.{AreFired, Row, freeing, hopping, joined, unpaid}
-use Rattle.hpx_steps.specs.Sound.{AreNumbers, AreRules, HasPlaces, IsOrderly, IsPaid, IsSound, IsTidy, SendsOwn, all_count, asked_by, asks_for, come, given_to, gives_for, gone, waits_for}
-use Rattle.hpx_steps.specs.Turn.{Turn, commits, view}
+use Rattle.hpx_steps.proofs.Common.{AllByRecursion, AreFired, AreNumbered, AreNumbers, AreRules, Entry, Event, HasCommits, HasPlaces, Id, IsOrderly, IsPaid, IsSound, IsTidy, Leads, List, Row, Rules, SendsOwn, StandsFor, Tables, Turn, [], all_count, ap, append-nil, arith, asked_by, asks_for, come, commits, freeing, given_to, gives_for, gone, grow, hopping, joined, map, part, subst, sym, unpaid, view, waits_for, weigh, ℕ, ◌+◌, ◌∙◌, ◌∷◌, ◌≡◌, ◌≢◌, ◌≤◌}
 use Rattle.hpx_steps.proofs.Calm.{SameNumbers}
 
 pub record Stills (r : Rules) (s s' : Turn) : Type 0 where

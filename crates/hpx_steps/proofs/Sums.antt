@@ -1,20 +1,5 @@
 -- What lists weigh, and what is seen of a turn by what it weighs.
-use Rattle.std.proofs.Common.{List, [], ap, append_assoc, arith, cond, map, refl, sym, ℕ, ◌++◌, ◌+◌, ◌∙◌, ◌∷◌, ◌≡◌, ◌≤◌}
-use Rattle.std.proofs.lemmas.List.{map-append}
-use Rattle.std.proofs.lemmas.List.Sums.{sum_by-append, sum_by-cons}
-use Rattle.std.specs.List.{AllByRecursion, count_by, filter, sum_by}
-use Rattle.std.specs.Prelude.{flat_map}
-use Rattle.hpx_value.specs.Ids.{same_object}
-use Rattle.hpx_parcel.specs.Credits.{credit_list, credits_of}
-use Rattle.hpx_journal.specs.Data.{Act, Id, Parcel}
-use Rattle.hpx_journal.specs.Names.{due_ids}
-use Rattle.hpx_journal.specs.Tokens.{held}
-use Rattle.hpx_part.specs.Data.{Standing, Token}
-use Rattle.hpx_tables.specs.Pending.{Waits, asking_of, is_asked, own_ids}
-use Rattle.hpx_tables.specs.declared.kept.Outgoing.{Outgoing}
-use Rattle.hpx_steps.specs.Items.{Came, Going, Item, Mailed, OnDesk, weigh}
-use Rattle.hpx_steps.specs.Sound.{asking, worth}
-use Rattle.hpx_steps.specs.Turn.{Turn, commits, ids_here, own_parcels, parcel_tokens, parcels, tokens, tokens_of}
+use Rattle.hpx_steps.proofs.Common.{Act, AllByRecursion, Came, Going, Id, Item, List, Mailed, OnDesk, Outgoing, Parcel, Standing, Token, Turn, Waits, [], ap, append_assoc, arith, asking, asking_of, commits, cond, count_by, credit_list, credits_of, due_ids, filter, flat_map, held, ids_here, is_asked, map, map-append, own_ids, own_parcels, parcel_tokens, parcels, refl, same_object, sum_by, sum_by-append, sum_by-cons, sym, tokens, tokens_of, weigh, worth, ℕ, ◌++◌, ◌+◌, ◌∙◌, ◌∷◌, ◌≡◌, ◌≤◌}
 
 -- ---- lists
 

@@ -1,40 +1,8 @@
 -- A commit begins: its object and its action put their ids into its hand.
-use Rattle.std.proofs.Common.{List, None, Some, [], ap, append_assoc, arith, cond, drop, length, map, refl, set, subst, suc, sym, take, true, ℕ, ◌++◌, ◌+◌, ◌<◌, ◌∙◌, ◌∷◌, ◌≡◌, ◌≤◌}
-use Rattle.std.proofs.lemmas.List.{length-map, take_at}
-use Rattle.std.specs.List.{AllByRecursion, filter, find, remove, slice_get, sum_by}
-use Rattle.hpx_value.specs.Hands.{hand_ids, id_at, session}
-use Rattle.hpx_value.specs.Ids.{bare, same_object}
-use Rattle.hpx_value.specs.Shapes.{IsState}
-use Rattle.hpx_value.specs.Values.{bare_act, bare_state}
-use Rattle.hpx_value.specs.declared.acts.Job.{Job}
-use Rattle.hpx_parcel.specs.Parcels.{HasRightCredit}
-use Rattle.hpx_journal.specs.Data.{Act, Id, Outcome, State}
-use Rattle.hpx_journal.specs.Entries.{Rules, target_of}
-use Rattle.hpx_journal.specs.Local.{is_standing}
-use Rattle.hpx_part.proofs.Keyed.{split_get}
-use Rattle.hpx_part.specs.Data.{Entry, Standing}
-use Rattle.hpx_part.specs.View.{View}
-use Rattle.hpx_tables.proofs.Alls.{all_append, find_passes}
-use Rattle.hpx_tables.specs.Fit.{IsFit}
-use Rattle.hpx_tables.specs.Pending.{Waits, action_of, is_asked, own_ids, waits_with}
-use Rattle.hpx_steps.specs.Items.{Item, Running, StandsHere, Working, weigh}
-use Rattle.hpx_steps.specs.Numbered.{asks_under}
-use Rattle.hpx_steps.specs.Paused.{HasCommits, IsCommit, names_of}
-use Rattle.hpx_steps.specs.Rows.{freeing, hopping, joined, unpaid}
-use Rattle.hpx_steps.specs.Sound.{IsSound, IsTidy, TidyAt, asked_by, asking, given_to, waits_for, worth}
-use Rattle.hpx_steps.specs.Steps.{Suspends}
-use Rattle.hpx_steps.specs.Turn.{Turn, bare_standing, commits, tokens_of, view}
-use Rattle.hpx_steps.proofs.Bare.{all_none, bare_all, no_tokens, none_tokens, not_asked}
+use Rattle.hpx_steps.proofs.Common.{Act, AllByRecursion, Entry, HasCommits, HasRightCredit, Id, IsCommit, IsFit, IsSound, IsState, IsTidy, Item, Job, List, None, Outcome, Rules, Running, Some, Standing, StandsHere, State, Suspends, TidyAt, Turn, View, Waits, Working, [], action_of, all_append, ap, append_assoc, arith, asked_by, asking, asks_under, bare, bare_act, bare_standing, bare_state, commits, cond, drop, filter, find, find_passes, freeing, given_to, hand_ids, hopping, id_at, is_asked, is_standing, joined, length, length-map, map, names_of, own_ids, refl, remove, same_object, session, set, slice_get, split_get, subst, suc, sum_by, sym, take, take_at, target_of, tokens_of, true, unpaid, view, waits_for, waits_with, weigh, worth, ℕ, ◌++◌, ◌+◌, ◌<◌, ◌∙◌, ◌∷◌, ◌≡◌, ◌≤◌}
+use Rattle.hpx_steps.proofs.Tools.{Changes, Sees, Stills, among_at, bare_all, fewer, fired_leads, first_comes, front_place, holding, ids_append, leads_on, no_tokens, none_tokens, not_asked, objects_change, one_goes, one_turns, running_change, same_map, sees_leads, single_set, stand_set, then, view_asking, view_worth, working_change}
+use Rattle.hpx_steps.proofs.Bare.{all_none}
 use Rattle.hpx_steps.proofs.Beside.{begin_commits, runs_whole}
-use Rattle.hpx_steps.proofs.Changes.{Changes, among_at, first_comes, holding, objects_change, one_goes, one_turns, running_change, then, working_change}
-use Rattle.hpx_steps.proofs.Hands.{front_place}
-use Rattle.hpx_steps.proofs.Lists.{same_map}
-use Rattle.hpx_steps.proofs.Moved.{fired_leads, leads_on}
-use Rattle.hpx_steps.proofs.Objects.{single_set, stand_set}
-use Rattle.hpx_steps.proofs.Seen.{Sees, sees_leads}
-use Rattle.hpx_steps.proofs.Still.{Stills}
-use Rattle.hpx_steps.proofs.Sums.{ids_append, view_asking, view_worth}
-use Rattle.hpx_steps.proofs.Then.{fewer}
 use Rattle.hpx_steps.proofs.Tidy.{plain_ids, retidy}
 
 bare_fit : (s : State) → IsState s → IsState (bare_state s)

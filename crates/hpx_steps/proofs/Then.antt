@@ -1,30 +1,6 @@
 -- One more entry: what has to be shown of it once, for all that holds of a locality and its part.
-use Rattle.std.proofs.Common.{List, [], ap, arith, cond, length, length-append, map, refl, subst, sym, ℕ, ◌++◌, ◌+◌, ◌∙◌, ◌∷◌, ◌≡◌, ◌≢◌, ◌≤◌}
-use Rattle.std.proofs.lemmas.List.{map-append}
-use Rattle.std.proofs.lemmas.List.Sums.{sum_by-append, sum_by-cons}
-use Rattle.std.specs.List.{AllByRecursion, count_by}
-use Rattle.hpx_value.specs.Values.{bare_act}
-use Rattle.hpx_value.specs.declared.profile.Profile.{Profile}
-use Rattle.hpx_journal.proofs.Grow.{part_append, part_at}
-use Rattle.hpx_journal.specs.Data.{Id}
-use Rattle.hpx_journal.specs.Entries.{Rules}
-use Rattle.hpx_journal.specs.Laws.{entry_at, ins, is_free_of, is_freed, outs, outs_by, takes_such}
-use Rattle.hpx_journal.specs.Local.{after, done_after, is_act}
-use Rattle.hpx_journal.specs.Whole.{IsClean, arrives_at, part, run_local}
-use Rattle.hpx_part.proofs.Grown.{clean_front, grow, run_local_append}
-use Rattle.hpx_part.specs.Data.{Entry, Event, Local}
-use Rattle.hpx_part.specs.Keyed.{Agree}
-use Rattle.hpx_part.specs.Parts.{at_all, at_boot}
-use Rattle.hpx_part.specs.Shows.{Leads}
-use Rattle.hpx_tables.proofs.Alls.{all_append}
-use Rattle.hpx_tables.specs.Awaited.{is_answer}
-use Rattle.hpx_tables.specs.Pending.{fired_of}
-use Rattle.hpx_steps.specs.Items.{weigh}
-use Rattle.hpx_steps.specs.Numbered.{AreNumbered, asks_under}
-use Rattle.hpx_steps.specs.Paused.{HasCommits}
-use Rattle.hpx_steps.specs.Rows.{Actions, AreFired, Row, causes, fires_one, freeing, goes, hopping, joined, joins, spends, unpaid}
-use Rattle.hpx_steps.specs.Sound.{AreNumbers, HasPlaces, IsOrderly, IsPaid, IsSound, IsTidy, SendsOwn, all_count, asked_by, asks_for, come, given_to, gives_for, gone, gone_to, waits_for}
-use Rattle.hpx_steps.specs.Turn.{Turn, commits, view}
+use Rattle.hpx_steps.proofs.Common.{Actions, Agree, AllByRecursion, AreFired, AreNumbered, AreNumbers, Entry, Event, HasCommits, HasPlaces, Id, IsClean, IsOrderly, IsPaid, IsSound, IsTidy, Leads, List, Local, Profile, Row, Rules, SendsOwn, Turn, [], all_append, all_count, ap, arith, arrives_at, asked_by, asks_for, asks_under, at_all, at_boot, bare_act, causes, clean_front, come, commits, cond, count_by, done_after, entry_at, fired_of, fires_one, freeing, given_to, gives_for, goes, gone, gone_to, grow, hopping, ins, is_act, is_answer, is_free_of, is_freed, joined, joins, length, length-append, map, map-append, outs, outs_by, part, part_append, part_at, refl, run_local, run_local_append, spends, subst, sum_by-append, sum_by-cons, sym, takes_such, unpaid, view, waits_for, weigh, ℕ, ◌++◌, ◌+◌, ◌∙◌, ◌∷◌, ◌≡◌, ◌≢◌, ◌≤◌}
+use Rattle.hpx_journal.specs.Local.{after}
 
 -- ---- one entry pays
 

@@ -1,15 +1,5 @@
 -- What is tidy stays tidy where other objects stand.
-use Rattle.std.proofs.Common.{List, [], ap, arith, length, refl, true, ℕ, ◌∷◌, ◌≡◌, ◌≤◌}
-use Rattle.std.specs.List.{find}
-use Rattle.std.specs.Prelude.{is_some}
-use Rattle.hpx_value.specs.Values.{refs_in}
-use Rattle.hpx_journal.specs.Data.{Id}
-use Rattle.hpx_journal.specs.Entries.{target_of}
-use Rattle.hpx_journal.specs.Local.{is_standing}
-use Rattle.hpx_part.specs.Data.{Standing}
-use Rattle.hpx_tables.specs.Fit.{IsKept}
-use Rattle.hpx_steps.specs.Items.{Accepted, Came, Going, IsDue, Item, Loose, Mailed, OnDesk, Pending, Running, StandsHere, Working}
-use Rattle.hpx_steps.specs.Sound.{IsTidyIn}
+use Rattle.hpx_steps.proofs.Common.{Accepted, Came, Going, Id, IsDue, IsKept, IsTidyIn, Item, List, Loose, Mailed, OnDesk, Pending, Running, Standing, StandsHere, Working, [], ap, arith, find, is_some, is_standing, length, refl, refs_in, target_of, true, ℕ, ◌∷◌, ◌≡◌, ◌≤◌}
 use Rattle.hpx_steps.proofs.Objects.{stand}
 
 pub retidy : (k n log births births' : ℕ) (objects objects' : List Standing) → births ≤ births'

@@ -1,35 +1,6 @@
 -- A turn: a message is taken up and dealt with, a frame goes, a line is fed, an action is fired.
-use Rattle.std.proofs.Common.{Bool, List, None, Option, Some, [], ap, arith, cond, false, inl, inr, length, map, refl, subst, suc, sym, true, zero, ℕ, ◌++◌, ◌+◌, ◌-◌, ◌<◌, ◌∙◌, ◌∷◌, ◌≡◌, ◌≢◌, ◌≤◌}
-use Rattle.std.proofs.lemmas.Bool.{cases_Bool, eq-eqb, ne_eqb}
-use Rattle.std.proofs.lemmas.Bool.Decides.{nat_tests}
-use Rattle.std.proofs.lemmas.List.Sums.{sum_by-cons}
-use Rattle.std.specs.List.{find, remove, slice_get}
-use Rattle.std.specs.Prelude.{if◌then◌else◌, min, nat_le, nat_lt, not, ◌&&◌, ◌==◌, ◌^◌, ◌||◌}
-use Rattle.hpx_value.specs.Hands.{id_at}
-use Rattle.hpx_value.specs.Shapes.{IsAct}
-use Rattle.hpx_parcel.specs.Parcels.{IsParcel}
-use Rattle.hpx_parcel.specs.Reading.{parcel_of}
-use Rattle.hpx_journal.specs.Data.{Act, Apply, Arrived, Ask, Cached, Free, Give, Go, Id, Move, Outcome, Parcel, Return, Shipped, State}
-use Rattle.hpx_journal.specs.Entries.{Rules, is_movable, line_act, move_to, name_of, place_in, target_of}
-use Rattle.hpx_journal.specs.Frames.{travels_in}
-use Rattle.hpx_journal.specs.Local.{is_busy, is_standing, leaves}
-use Rattle.hpx_journal.specs.Rows.{is_to}
-use Rattle.hpx_part.specs.Data.{Entry, Event, Fire, In, Line, Mail, Out, Standing}
-use Rattle.hpx_part.specs.Parts.{at_all}
-use Rattle.hpx_tables.specs.Kept.{credit_in, held_here, ids_held, stands_here, waits_here}
-use Rattle.hpx_tables.specs.Strange.{are_far, breaks, broken, broken_act, broken_move, broken_near, is_far, is_far_act, is_live, is_lost, is_to_here, moves_far}
-use Rattle.hpx_tables.specs.Tables.{Tables, fired_acts}
-use Rattle.hpx_tables.specs.declared.kept.Outgoing.{Outgoing}
-use Rattle.hpx_steps.specs.Calls.{Accepts, DealsWith, Leaves, effects}
-use Rattle.hpx_steps.specs.Frames.{MayGoTo}
-use Rattle.hpx_steps.specs.Items.{OnDesk}
-use Rattle.hpx_steps.specs.Mail.{may_stay, moves_on, with_act}
-use Rattle.hpx_steps.specs.Rest.{Stands, rules_of}
-use Rattle.hpx_steps.specs.Rows.{kind_of}
-use Rattle.hpx_steps.specs.Sound.{IsSound, TidyAt}
-use Rattle.hpx_steps.specs.Steps.{IsCalm, Label, Steps, Writes, written}
-use Rattle.hpx_steps.specs.Turn.{Turn, at_rest}
-use Rattle.hpx_steps.proofs.Busy.{none_of}
+use Rattle.hpx_steps.proofs.Common.{Accepts, Act, Apply, Arrived, Ask, Bool, Cached, DealsWith, Entry, Event, Fire, Free, Give, Go, Id, In, IsAct, IsCalm, IsParcel, IsSound, Label, Leaves, Line, List, Mail, MayGoTo, Move, None, OnDesk, Option, Out, Outcome, Outgoing, Parcel, Return, Rules, Shipped, Some, Standing, Stands, State, Steps, Tables, TidyAt, Turn, Writes, [], ap, are_far, arith, at_all, at_rest, breaks, broken, broken_act, broken_move, broken_near, cases_Bool, cond, credit_in, effects, eq-eqb, false, find, fired_acts, held_here, id_at, ids_held, if◌then◌else◌, inl, inr, is_busy, is_far, is_far_act, is_live, is_lost, is_movable, is_standing, is_to, is_to_here, kind_of, leaves, length, line_act, map, may_stay, min, move_to, moves_far, moves_on, name_of, nat_le, nat_lt, nat_tests, ne_eqb, not, parcel_of, place_in, refl, remove, rules_of, slice_get, stands_here, subst, suc, sum_by-cons, sym, target_of, travels_in, true, waits_here, with_act, written, zero, ℕ, ◌&&◌, ◌++◌, ◌+◌, ◌-◌, ◌<◌, ◌==◌, ◌^◌, ◌||◌, ◌∙◌, ◌∷◌, ◌≡◌, ◌≢◌, ◌≤◌}
+use Rattle.hpx_steps.proofs.Tools.{none_of}
 use Rattle.hpx_steps.proofs.Handled.{Leads, accepted_leads, act_leads, asked_leads, freed_leads, kept_here, returned_leads}
 use Rattle.hpx_steps.proofs.Rest.{rest_sound}
 use Rattle.hpx_steps.proofs.Right.{go_wrong, near_right, object_wrong, return_right}

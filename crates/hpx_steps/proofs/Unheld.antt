@@ -1,39 +1,8 @@
 -- Where no credit of an object is held, no action here is on it.
-use Rattle.std.proofs.Common.{Bool, List, None, Option, Some, [], ap, arith, cond, false, inl, inr, map, refl, sym, true, ℕ, ◌++◌, ◌+◌, ◌∙◌, ◌∷◌, ◌≡◌, ◌≤◌}
-use Rattle.std.proofs.Math.Pow.{pow_pos}
-use Rattle.std.proofs.lemmas.Bool.{cases_Bool}
-use Rattle.std.proofs.lemmas.List.Sums.{sum_by-append, sum_by-cons}
-use Rattle.std.specs.List.{AllByRecursion, list_any, sum_by}
-use Rattle.std.specs.Prelude.{flat_map}
-use Rattle.hpx_value.specs.Hands.{session}
-use Rattle.hpx_value.specs.Ids.{credit, same_object}
-use Rattle.hpx_value.specs.Values.{bare_act}
-use Rattle.hpx_parcel.specs.Credits.{Credit, credit_list, credits_of}
-use Rattle.hpx_parcel.specs.Parcels.{IsParcel}
-use Rattle.hpx_journal.proofs.Bools.{and_false}
-use Rattle.hpx_journal.proofs.Same.{same_object-true}
-use Rattle.hpx_journal.specs.Data.{Act, Apply, Arrived, Ask, Cached, Free, Give, Go, Id, Move, Parcel, Return, Shipped}
-use Rattle.hpx_journal.specs.Local.{acts_on}
-use Rattle.hpx_journal.specs.Tokens.{held, is_held, owing}
-use Rattle.hpx_part.proofs.Covered.{act_names}
-use Rattle.hpx_part.proofs.Parcels.{acts_named}
-use Rattle.hpx_part.specs.Data.{Token}
-use Rattle.hpx_tables.proofs.Alls.{all_append}
-use Rattle.hpx_tables.specs.Fit.{IsFit}
-use Rattle.hpx_tables.specs.Kept.{credit_in, held_here, ids_held, waits_here}
-use Rattle.hpx_tables.specs.Pending.{Waits, action_of, fired_of}
-use Rattle.hpx_tables.specs.Tables.{messages}
-use Rattle.hpx_tables.specs.declared.kept.Outgoing.{Outgoing}
-use Rattle.hpx_steps.specs.Items.{Accepted, Going, OnDesk, Running}
-use Rattle.hpx_steps.specs.Sound.{IsTidy}
-use Rattle.hpx_steps.specs.Steps.{HasInHand}
-use Rattle.hpx_steps.specs.Turn.{Turn, parcel_acts, parcel_tokens, view, waiting}
-use Rattle.hpx_steps.proofs.Busy.{none_of, or_false}
-use Rattle.hpx_steps.proofs.Changes.{all_among}
+use Rattle.hpx_steps.proofs.Common.{Accepted, Act, AllByRecursion, Apply, Arrived, Ask, Bool, Cached, Credit, Free, Give, Go, Going, HasInHand, Id, IsFit, IsParcel, IsTidy, List, Move, None, OnDesk, Option, Outgoing, Parcel, Return, Running, Shipped, Some, Token, Turn, Waits, [], act_names, action_of, acts_named, acts_on, all_append, and_false, ap, arith, bare_act, cases_Bool, cond, credit, credit_in, credit_list, credits_of, false, fired_of, flat_map, held, held_here, ids_held, inl, inr, is_held, list_any, map, messages, owing, parcel_acts, parcel_tokens, pow_pos, refl, same_object, same_object-true, session, sum_by, sum_by-append, sum_by-cons, sym, true, view, waiting, waits_here, ℕ, ◌++◌, ◌+◌, ◌∙◌, ◌∷◌, ◌≡◌, ◌≤◌}
+use Rattle.hpx_steps.proofs.Tools.{all_among, drop_waits, ids_append, ids_flat, none_of, target-bare, weighs}
+use Rattle.hpx_steps.proofs.Busy.{or_false}
 use Rattle.hpx_steps.proofs.Cover.{held_acts}
-use Rattle.hpx_steps.proofs.Puts.{target-bare}
-use Rattle.hpx_steps.proofs.Sums.{ids_append, ids_flat, weighs}
-use Rattle.hpx_steps.proofs.Waits.{drop_waits}
 
 module _ (o : Id) where
   abbrev holds : Token → ℕ

@@ -1,34 +1,6 @@
 -- An id is given up.
-use Rattle.std.proofs.Common.{List, None, Some, [], ap, arith, inl, map, refl, subst, sym, true, ℕ, ◌+◌, ◌∙◌, ◌∷◌, ◌≡◌, ◌≤◌}
-use Rattle.std.proofs.lemmas.List.Sums.{sum_by-cons}
-use Rattle.std.specs.List.{count_by, sum_by}
-use Rattle.std.specs.Prelude.{MatchOption, ◌<◌, ◌==◌}
-use Rattle.hpx_value.specs.Ids.{bare, same_object}
-use Rattle.hpx_parcel.specs.Parcels.{HasCredit, HasRightCredit}
-use Rattle.hpx_journal.specs.Data.{Id, Return}
-use Rattle.hpx_journal.specs.Entries.{Rules}
-use Rattle.hpx_journal.specs.Tokens.{held_token, owed_token, same_token}
-use Rattle.hpx_part.proofs.Credit.{token_own}
-use Rattle.hpx_part.proofs.CreditRows.{follows_up}
-use Rattle.hpx_part.proofs.Keyed.{counts_of, counts_true}
-use Rattle.hpx_part.specs.Data.{Entry, Event, Token, Up}
-use Rattle.hpx_part.specs.View.{View}
-use Rattle.hpx_steps.specs.Items.{Going, Item, Loose, OnDesk, weigh}
-use Rattle.hpx_steps.specs.Mail.{going, is_other, mails, wrote}
-use Rattle.hpx_steps.specs.Numbered.{asks_under}
-use Rattle.hpx_steps.specs.Rows.{Row, causes, freeing, goes, hopping, joined, unpaid, weight}
-use Rattle.hpx_steps.specs.Sound.{IsSound, IsTidy, TidyAt, asked_by, given_to, waits_for, worth}
-use Rattle.hpx_steps.specs.Steps.{GivesUp}
-use Rattle.hpx_steps.specs.Turn.{Turn, bare_due, parcel_asks, parcel_frees, tokens, view}
-use Rattle.hpx_steps.proofs.ByRows.{by_rows}
-use Rattle.hpx_steps.proofs.Calm.{bound_none, counts_still, same_dead, same_seen}
-use Rattle.hpx_steps.proofs.Changes.{Changes, first_goes, holding, loose_change, mail_change, sent_if, then, total}
-use Rattle.hpx_steps.proofs.Cover.{view_covered}
-use Rattle.hpx_steps.proofs.Mails.{held_by, mail_tidy, owed_by, sent_total}
-use Rattle.hpx_steps.proofs.Seen.{Sees, sees_covers, sees_leads}
-use Rattle.hpx_steps.proofs.Sums.{by_own, by_parcel, view_worth}
-use Rattle.hpx_steps.proofs.Then.{Keeps, fewer}
-use Rattle.hpx_steps.proofs.Waits.{mail_waits}
+use Rattle.hpx_steps.proofs.Common.{Entry, Event, GivesUp, Going, HasCredit, HasRightCredit, Id, IsSound, IsTidy, Item, List, Loose, MatchOption, None, OnDesk, Return, Row, Rules, Some, TidyAt, Token, Turn, Up, View, [], ap, arith, asked_by, asks_under, bare, bare_due, causes, count_by, counts_of, counts_true, follows_up, freeing, given_to, goes, going, held_token, hopping, inl, is_other, joined, mails, map, owed_token, parcel_asks, parcel_frees, refl, same_object, same_token, subst, sum_by, sum_by-cons, sym, token_own, tokens, true, unpaid, view, waits_for, weigh, weight, worth, wrote, ℕ, ◌+◌, ◌<◌, ◌==◌, ◌∙◌, ◌∷◌, ◌≡◌, ◌≤◌}
+use Rattle.hpx_steps.proofs.Tools.{Changes, Keeps, Sees, bound_none, by_own, by_parcel, by_rows, counts_still, fewer, first_goes, held_by, holding, loose_change, mail_change, mail_tidy, mail_waits, owed_by, same_dead, same_seen, sees_covers, sees_leads, sent_if, sent_total, then, total, view_covered, view_worth}
 
 module _ (r : Rules) (s : Turn) (entries : List Entry) (h : IsSound r s entries) (log : ℕ) (id : Id) (rest : List Id) (due : s.due ≡ []) (fresh : s.fresh ≡ [])
     (first : s.loose ≡ id ∷ rest) (has : id.log ≡ Some log) where

@@ -1,32 +1,7 @@
 -- A commit begins to wait: its ids are halved ahead, each that does not last is asked for, and it is put aside.
-use Rattle.std.proofs.Common.{Bool, List, None, Some, [], ap, append-nil, arith, cond, false, length, length-append, map, refl, set, subst, suc, sym, true, zero, ℕ, ◌++◌, ◌+◌, ◌<◌, ◌∙◌, ◌∷◌, ◌≡◌, ◌≢◌, ◌≤◌}
-use Rattle.std.proofs.Math.ListN.{length-set}
-use Rattle.std.specs.List.{AllByRecursion, find, remove, slice_get}
-use Rattle.std.specs.Prelude.{nat_le}
-use Rattle.hpx_value.specs.Hands.{hand_ids, id_at}
-use Rattle.hpx_value.specs.Ids.{bare}
-use Rattle.hpx_value.specs.Values.{bare_state}
-use Rattle.hpx_value.specs.declared.acts.Job.{Job}
-use Rattle.hpx_parcel.specs.Parcels.{HasLeastCredit}
-use Rattle.hpx_journal.specs.Data.{Act, Ask, Id, Outcome, State}
-use Rattle.hpx_journal.specs.Entries.{Rules, target_of}
-use Rattle.hpx_journal.specs.Local.{is_standing}
-use Rattle.hpx_part.specs.Data.{Entry, Event, Standing}
-use Rattle.hpx_part.specs.Parts.{at_all}
-use Rattle.hpx_commit.proofs.Ahead.{ahead_is}
-use Rattle.hpx_commit.specs.Deals.{AreWithin, log_of, named}
-use Rattle.hpx_commit.specs.Stocks.{Stock, ahead, short_from, short_places, stripped}
-use Rattle.hpx_tables.specs.Pending.{Waits, asked_at, waits_with}
-use Rattle.hpx_tables.specs.Splits.{asked_events, first_cuts}
-use Rattle.hpx_tables.specs.Tables.{Tables}
-use Rattle.hpx_steps.specs.Calls.{with_asks}
-use Rattle.hpx_steps.specs.Mail.{with_mail}
-use Rattle.hpx_steps.specs.Paused.{HasSplit}
-use Rattle.hpx_steps.specs.Rest.{Stands, rules_of}
-use Rattle.hpx_steps.specs.Steps.{Label, Pause, Step, Steps, Suspend, Writes, written}
-use Rattle.hpx_steps.specs.Turn.{Turn, at_rest}
+use Rattle.hpx_steps.proofs.Common.{Act, AllByRecursion, AreWithin, Ask, Bool, Entry, Event, HasLeastCredit, HasSplit, Id, Job, Label, List, None, Outcome, Pause, Rules, Some, Standing, Stands, State, Step, Steps, Stock, Suspend, Tables, Turn, Waits, Writes, [], ahead, ahead_is, ap, append-nil, arith, asked_at, asked_events, at_all, at_rest, bare, bare_state, cond, false, find, first_cuts, hand_ids, id_at, is_standing, length, length-append, length-set, log_of, map, named, nat_le, refl, remove, rules_of, set, short_from, short_places, slice_get, stripped, subst, suc, sym, target_of, true, waits_with, with_asks, with_mail, written, zero, ℕ, ◌++◌, ◌+◌, ◌<◌, ◌∙◌, ◌∷◌, ◌≡◌, ◌≢◌, ◌≤◌}
+use Rattle.hpx_steps.proofs.Tools.{place_at, put_elsewhere}
 use Rattle.hpx_steps.proofs.Handled.{steps_append, written_append, written_events}
-use Rattle.hpx_steps.proofs.Hands.{place_at, put_elsewhere}
 use Rattle.hpx_steps.proofs.TurnOf.{turn_stands}
 use Rattle.hpx_steps.proofs.Work.{CanBeAsked, ahead_steps, asking_turn, asks_steps, with_hand}
 

@@ -1,15 +1,5 @@
 -- The actions that wait, as they are seen: where a message brings none, where one comes to wait, and where one goes.
-use Rattle.std.proofs.Common.{Bool, List, [], ap, append-nil, append_assoc, cond, false, inl, inr, map, refl, sym, true, ℕ, ◌++◌, ◌∙◌, ◌∷◌, ◌≡◌}
-use Rattle.std.proofs.lemmas.List.{map-append}
-use Rattle.std.specs.Prelude.{flat_map, not, ◌==◌}
-use Rattle.hpx_value.specs.Values.{bare_act}
-use Rattle.hpx_journal.specs.Data.{Act, Apply, Move, Parcel}
-use Rattle.hpx_journal.specs.Entries.{target_of}
-use Rattle.hpx_tables.specs.Fit.{parcel_for}
-use Rattle.hpx_tables.specs.declared.kept.Outgoing.{Outgoing}
-use Rattle.hpx_steps.specs.Mail.{going, is_other, mails_if, may_stay, posts}
-use Rattle.hpx_steps.specs.Steps.{HasInHand, drops}
-use Rattle.hpx_steps.specs.Turn.{Turn, parcel_acts, waiting}
+use Rattle.hpx_steps.proofs.Common.{Act, Apply, Bool, HasInHand, List, Move, Outgoing, Parcel, Turn, [], ap, append-nil, append_assoc, bare_act, cond, drops, false, flat_map, going, inl, inr, is_other, mails_if, map, map-append, may_stay, not, parcel_acts, parcel_for, posts, refl, sym, target_of, true, waiting, ℕ, ◌++◌, ◌==◌, ◌∙◌, ◌∷◌, ◌≡◌}
 use Rattle.hpx_steps.proofs.Sums.{flat_append}
 
 -- the actions in messages on the desk and to others

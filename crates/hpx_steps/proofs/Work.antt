@@ -1,37 +1,7 @@
 -- A commit in work: its objects are made, its ids are halved and asked for, one after another.
-use Rattle.std.proofs.Common.{List, None, Option, Some, [], ap, append-nil, append_assoc, arith, drop, length, length-append, map, refl, set, subst, suc, sym, zero, ℕ, ◌++◌, ◌+◌, ◌-◌, ◌<◌, ◌∙◌, ◌∷◌, ◌≡◌, ◌≤◌}
-use Rattle.std.proofs.Math.ListN.{length-set}
-use Rattle.std.proofs.lemmas.List.{map-append, take-append-le}
-use Rattle.std.specs.List.{AllByRecursion, slice_get}
-use Rattle.std.specs.Prelude.{option_map, ◌^◌}
-use Rattle.hpx_value.specs.Hands.{id_at, session}
-use Rattle.hpx_value.specs.Ids.{bare, bare_id}
-use Rattle.hpx_value.specs.Laws.{birth_state}
-use Rattle.hpx_value.specs.declared.outcome.Make.{Make}
-use Rattle.hpx_parcel.specs.Parcels.{HasLeastCredit}
-use Rattle.hpx_journal.specs.Data.{Ask, Id}
-use Rattle.hpx_journal.specs.Entries.{Rules}
-use Rattle.hpx_part.specs.Data.{Asked, Born, Event, Split, Standing}
-use Rattle.hpx_agas.specs.declared.record.Record.{Record}
-use Rattle.hpx_commit.proofs.Ahead.{halves_taken, halvings_have, halvings_need, halvings_same}
-use Rattle.hpx_commit.specs.Deals.{AreWithin, Lasts, half, log_of, named}
-use Rattle.hpx_commit.specs.Stocks.{Stock, ahead_from, halvings, replaced, stripped, take_half, take_halves}
-use Rattle.hpx_tables.proofs.Cutting.{cuts_of}
-use Rattle.hpx_tables.proofs.FirstCuts.{drop_at, plus_one}
-use Rattle.hpx_tables.specs.Births.{IsBirth, birth_of, births_of, ids_of, objects_of, records_of}
-use Rattle.hpx_tables.specs.Pending.{Waits, asked_at, ids_named}
-use Rattle.hpx_tables.specs.Splits.{asked_events, cuts, first_cuts, splits_from}
-use Rattle.hpx_tables.specs.Tables.{Tables}
-use Rattle.hpx_tables.specs.declared.pending.Asked.{Asked as AskedFor}
-use Rattle.hpx_steps.specs.Calls.{with_asks}
-use Rattle.hpx_steps.specs.Mail.{with_mail}
-use Rattle.hpx_steps.specs.Steps.{Steps, Writes}
-use Rattle.hpx_steps.specs.Turn.{Turn}
-use Rattle.hpx_steps.proofs.Bare.{none_tokens}
+use Rattle.hpx_steps.proofs.Common.{AllByRecursion, AreWithin, Ask, Asked, AskedFor, Born, Event, HasLeastCredit, Id, IsBirth, Lasts, List, Make, None, Option, Record, Rules, Some, Split, Standing, Steps, Stock, Tables, Turn, Waits, Writes, [], ahead_from, ap, append-nil, append_assoc, arith, asked_at, asked_events, bare, bare_id, birth_of, birth_state, births_of, cuts, cuts_of, drop, drop_at, first_cuts, half, halves_taken, halvings, halvings_have, halvings_need, halvings_same, id_at, ids_named, ids_of, length, length-append, length-set, log_of, map, map-append, named, objects_of, option_map, plus_one, records_of, refl, replaced, session, set, slice_get, splits_from, stripped, subst, suc, sym, take-append-le, take_half, take_halves, with_asks, with_mail, zero, ℕ, ◌++◌, ◌+◌, ◌-◌, ◌<◌, ◌^◌, ◌∙◌, ◌∷◌, ◌≡◌, ◌≤◌}
+use Rattle.hpx_steps.proofs.Tools.{at_place, held_by, ids_append, none_tokens, place_at}
 use Rattle.hpx_steps.proofs.Handled.{steps_append}
-use Rattle.hpx_steps.proofs.Hands.{at_place, place_at}
-use Rattle.hpx_steps.proofs.Mails.{held_by}
-use Rattle.hpx_steps.proofs.Sums.{ids_append}
 
 -- the first commit in work has this hand
 abbrev pub with_hand : Waits → List Waits → List Id → Turn → Turn
