@@ -1,6 +1,6 @@
 -- An ask is answered: more credit is granted, or refused.
-use Rattle.hpx_steps.proofs.Common.{Ask, Bool, Came, Count, Entry, Give, Going, Granted, Grants, HasCredit, HasInHand, HasLeastCredit, HasPlaces, Id, IsSound, IsTidy, Item, Leads, List, Mailed, MatchOption, OnDesk, Option, Parcel, Reason, Record, Recounts, Refused, Refuses, Row, Rules, Some, StaysAt, Tables, TidyAt, Token, Turn, View, [], ap, arith, asked_by, asks_for, asks_under, bare, bare_due, cases_Bool, causes, cond, count_by, count_in, counted, counts_of, counts_true, drops, eq-eqb, false, find, find_record, flat_map, follows_granted, follows_refused, freeing, given_to, gives_for, goes, going, hopping, inl, inr, is_least, is_other, is_recorded, is_refusal, is_refused, joined, log_of, mails, map, nat_lt, nat_tests, ne_eqb, one_if, option_map_or, owed_token, owes, parcel_asks, parcel_frees, parcel_tokens, parcels, pow_pos, raised, refl, same_object, same_object-true, same_token, some_same, subst, sum_by, sum_by-cons, sym, token_own, tokens, true, unpaid, view, waiting, waits_for, weigh, weight, with_records, worth, wrote, ℕ, ◌&&◌, ◌+◌, ◌-◌, ◌<◌, ◌==◌, ◌^◌, ◌∙◌, ◌∷◌, ◌≡◌, ◌≢◌, ◌≤◌, ◌⊎◌}
-use Rattle.hpx_steps.proofs.Tools.{Changes, Keeps, Sees, bound_none, by_own, by_parcel, by_rows, counts_still, drop_change, drop_waits, fewer, hand_fit, holding, in_hand, is_frame, mail_change, mail_tidy, mail_waits, owed_by, same_dead, same_seen, sees_leads, sent_if, then, total, view_worth}
+use Rattle.hpx_steps.proofs.Common.{Ask, Bool, Came, Count, Entry, Give, Going, Granted, Grants, HasCredit, HasInHand, HasLeastCredit, HasPlaces, Id, IsSound, IsTidy, Item, Leads, List, Mailed, MatchOption, OnDesk, Option, Parcel, Reason, Record, Recounts, Refused, Refuses, Row, Rules, Some, StaysAt, Tables, TidyAt, Token, Turn, View, [], ap, arith, asked_by, asks_for, asks_under, bare, bare_due, cases_Bool, causes, cond, count_by, count_in, counted, counts_of, counts_true, drops, eq-eqb, false, find, find_record, flat_map, follows_granted, follows_refused, freeing, given_to, gives_for, goes, going, hopping, inl, inr, is_least, is_other, is_recorded, is_refusal, is_refused, joined, log_of, mails, map, nat_lt, nat_tests, ne_eqb, one_if, option_map_or, owed_token, owes, parcel_asks, parcel_tokens, parcels, pow_pos, raised, refl, same_object, same_object-true, same_token, some_same, subst, sum_by, sum_by-cons, sym, token_own, tokens, true, unpaid, view, waiting, waits_for, weigh, weight, with_records, worth, wrote, ℕ, ◌&&◌, ◌+◌, ◌-◌, ◌<◌, ◌==◌, ◌^◌, ◌∙◌, ◌∷◌, ◌≡◌, ◌≢◌, ◌≤◌, ◌⊎◌}
+use Rattle.hpx_steps.proofs.Tools.{Changes, Keeps, Sees, asks_of, bound_none, by_rows, counts_near, drop_change, drop_waits, fewer, frees_of, hand_fit, holding, in_hand, is_frame, mail_change, mail_tidy, mail_waits, owed_by, same_asks, same_dead, sees_leads, sent_if, then, told_as, total, view_worth}
 use Rattle.hpx_steps.proofs.Mails.{own_is}
 use Rattle.hpx_steps.proofs.Records.{found_counted, one_recounted, places_still}
 
@@ -96,13 +96,13 @@ module _ (r : Rules) (s : Turn) (entries : List Entry) (h : IsSound r s entries)
   waits = mail_waits true asker give (with_records records (drops s)) refl ∙ drop_waits (Ask id asker entry) s hand refl
 
   pub asks : (x : Id) → count_by (same_object x) (flat_map parcel_asks (parcels s)) ≡ count_by (same_object x) (flat_map parcel_asks (parcels now))
-  asks x = same_seen x parcel_asks s now (omega (
+  asks x = same_asks x s now (omega (
     arith,
-    moves (by_parcel (λ p. count_by (same_object x) (parcel_asks p))) (count_by (same_object x) (id ∷ [])) (count_by (same_object x) (id ∷ [])) refl refl refl refl,
+    moves (asks_of x) (count_by (same_object x) (id ∷ [])) (count_by (same_object x) (id ∷ [])) refl refl refl refl,
   ))
 
   pub dead : (x : Id) → count_by (same_object x) (view now).dead ≤ count_by (same_object x) (view s).dead
-  dead x = same_dead x s now (omega (arith, moves (by_own (λ p. count_by (same_object x) (parcel_frees p))) 0 0 refl refl refl refl))
+  dead x = same_dead x s now (omega (arith, moves (frees_of x) 0 0 refl refl refl refl))
 
   pub answered_keeps : Leads r (view s) (Count (bare id) count why ∷ []) (view now) → HasPlaces s.tables.here s.tables.births s.tables.objects records
       → Keeps r s now (Count (bare id) count why)
@@ -128,7 +128,7 @@ module _ (r : Rules) (s : Turn) (entries : List Entry) (h : IsSound r s entries)
           let t : weigh (given_to j o n) now + given_to j o n was ≡ weigh (given_to j o n) s + cond other (cond (asker == j) (gives_for o n give) 0) 0 = turns (given_to j o n) in
           omega (arith, t, given_was j d o n, given_less j o n);
     };
-    counts = counts_still s now (Count (bare id) count why) refl refl refl (λ x. refl);
+    counts = counts_near s now (Count (bare id) count why) refl (omega arith) (omega arith) (omega arith) (omega arith) (omega arith) (λ x. refl);
   }
     where
       alive : (count == 0) ≡ false
@@ -286,15 +286,11 @@ module _ (r : Rules) (s : Turn) (entries : List Entry) (h : IsSound r s entries)
         credit = subst (λ o. MatchOption o ⊥ (λ n. 16 ≤ id.kind)) (sym least.0) least.1
 
 pub granted_step : (r : Rules) (s s' : Turn) (entries : List Entry) (o : Id) (count : ℕ) → IsSound r s entries → Grants s o count s' → Keeps r s s' (Count o count Granted)
-granted_step r s s' entries o count h g = subst (λ x. Keeps r s s' (Count x count Granted)) (sym g.object) (subst (λ x. Keeps r s x (Count (bare g.id) count Granted)) (sym again)
-    (granted_keeps r s entries h g.id g.asker g.entry count g.old g.calm.due g.calm.fresh g.hand g.near g.home g.live g.records g.lasts g.sum g.limit g.recounts))
-  where
-    again : s' ≡ wrote (Count (bare g.id) count Granted) (mails g.asker (Give (record g.id { log = Some s.tables.profile.credit_log }) g.entry) (with_records g.records (drops s)))
-    again = g.now ∙ ap (λ x. wrote (Count x count Granted) (mails g.asker (Give (record g.id { log = Some s.tables.profile.credit_log }) g.entry) (with_records g.records (drops s)))) g.object
+granted_step r s s' entries o count h g =
+    told_as r s s' (λ x. Count x count Granted) (λ x. mails g.asker (Give (record g.id { log = Some s.tables.profile.credit_log }) g.entry) (with_records g.records (drops s))) o (bare g.id) g.object g.now
+    (granted_keeps r s entries h g.id g.asker g.entry count g.old g.calm.due g.calm.fresh g.hand g.near g.home g.live g.records g.lasts g.sum g.limit g.recounts)
 
 pub refused_step : (r : Rules) (s s' : Turn) (entries : List Entry) (o : Id) (count : ℕ) → IsSound r s entries → Refuses s o count s' → Keeps r s s' (Count o count Refused)
-refused_step r s s' entries o count h g = subst (λ x. Keeps r s s' (Count x count Refused)) (sym g.object) (subst (λ x. Keeps r s x (Count (bare g.id) count Refused)) (sym again)
-    (refused_keeps r s entries h g.id g.asker g.entry count g.old g.calm.due g.calm.fresh g.hand g.near g.home g.live g.records g.same g.limit g.recounts))
-  where
-    again : s' ≡ wrote (Count (bare g.id) count Refused) (mails g.asker (Give g.id g.entry) (with_records g.records (drops s)))
-    again = g.now ∙ ap (λ x. wrote (Count x count Refused) (mails g.asker (Give g.id g.entry) (with_records g.records (drops s)))) g.object
+refused_step r s s' entries o count h g =
+    told_as r s s' (λ x. Count x count Refused) (λ x. mails g.asker (Give g.id g.entry) (with_records g.records (drops s))) o (bare g.id) g.object g.now
+    (refused_keeps r s entries h g.id g.asker g.entry count g.old g.calm.due g.calm.fresh g.hand g.near g.home g.live g.records g.same g.limit g.recounts)

@@ -1,6 +1,6 @@
 -- An id is asked for.
-use Rattle.hpx_steps.proofs.Common.{AreNumbered, Ask, Asked, AskedFor, AsksFor, Bool, Entry, Going, HasCommits, HasLeastCredit, Id, IsCommit, IsSound, IsTidy, Item, List, OnDesk, Parcel, Row, Rules, Some, TidyAt, Token, Turn, View, Waits, Working, [], all_append, ap, arith, asked_by, asking, asks_as, asks_for, asks_under, bare, bare_act, bare_due, cases_Bool, causes, cond, count_by, counts_of, counts_true, eq-eqb, eqb-true, false, fired_of, follows_asked, freeing, given_to, goes, going, held_token, hopping, id_at, ids_named, inl, inr, is_asked, is_asked_for, is_other, joined, length, list_any, mails, map, nat_le, nat_tests, one_if, owed_token, parcel_asks, parcel_frees, refl, refusals_of, same_object, same_refusal, same_token, set, slice_get, subst, sum_by, sum_by-append, sum_by-cons, sym, token_own, tokens, tokens_of, true, unpaid, view, waiting, waits_for, weigh, weight, worth, wrote, ℕ, ◌&&◌, ◌++◌, ◌+◌, ◌<◌, ◌==◌, ◌∙◌, ◌∷◌, ◌≡◌, ◌≤◌}
-use Rattle.hpx_steps.proofs.Tools.{Changes, Keeps, Sees, at_place, bound_none, by_own, by_parcel, by_rows, first_turns, has_not_asked, held_by, holding, ids_each, less_sum, mail_change, mail_tidy, mail_waits, no_tokens, owed_by, put_asked, put_bare, put_elsewhere, put_for, put_names, put_there, same_commits, same_dead, seen_sum, sees_leads, sent_if, sent_total, set_sum, then, total, view_asking, view_worth, working_change}
+use Rattle.hpx_steps.proofs.Common.{AreNumbered, Ask, Asked, AskedFor, AsksFor, Bool, Entry, Going, HasCommits, HasLeastCredit, Id, IsCommit, IsSound, IsTidy, Item, List, OnDesk, Parcel, Row, Rules, Some, TidyAt, Token, Turn, View, Waits, Working, [], all_append, ap, arith, asked_by, asking, asks_as, asks_for, asks_under, bare, bare_act, bare_due, cases_Bool, causes, cond, count_by, counts_of, counts_true, eq-eqb, eqb-true, false, fired_of, follows_asked, freeing, given_to, goes, going, held_token, hopping, id_at, ids_named, inl, inr, is_asked, is_asked_for, is_other, joined, length, mails, map, nat_le, nat_tests, one_if, owed_token, parcel_asks, refl, refusals_of, same_object, same_token, set, slice_get, subst, sum_by, sum_by-append, sum_by-cons, sym, token_own, tokens, tokens_of, true, unpaid, view, waiting, waits_for, weigh, weight, worth, wrote, ℕ, ◌&&◌, ◌++◌, ◌+◌, ◌<◌, ◌==◌, ◌∙◌, ◌∷◌, ◌≡◌, ◌≤◌}
+use Rattle.hpx_steps.proofs.Tools.{Changes, Keeps, Sees, asks_of, at_place, bound_none, by_rows, counts_near, first_turns, frees_of, has_not_asked, held_by, holding, ids_each, less_sum, mail_change, mail_tidy, mail_waits, no_tokens, owed_by, put_asked, put_bare, put_elsewhere, put_for, put_names, put_there, same_commits, same_dead, seen_sum, sees_by, sees_leads, sent_if, sent_total, set_sum, then, told_as, total, view_asking, view_worth, working_change}
 
 module _ (r : Rules) (s : Turn) (entries : List Entry) (h : IsSound r s entries) (w : Waits) (rest : List Waits) (p : ℕ) (id : Id) (due : s.due ≡ []) (fresh : s.fresh ≡ [])
     (works : s.working ≡ w ∷ rest) (low : p < length (ids_named w)) (at : slice_get w.hand p ≡ Some id) (least : HasLeastCredit id) where
@@ -125,16 +125,9 @@ module _ (r : Rules) (s : Turn) (entries : List Entry) (h : IsSound r s entries)
   waits = mail_waits true id.home ask before refl
 
   sees : Sees seen now
-  sees = record {
-    rest = ap (λ fs. record (view now) { fired = fs; waiting = waiting s }) fires ∙ ap (λ ws. record (view now) { waiting = ws }) (sym waits);
-    tokens = λ f fair. refl;
-    asking = λ o. refl;
-    asks = λ o. refl;
-    live = λ o home. refl;
-    dead = λ o. same_dead o s now (omega (arith, moves (by_own (λ q. count_by (same_object o) (parcel_frees q))) 0 refl refl));
-    refusals = λ y k. subst (λ ws. list_any (same_refusal y) (refusals_of (ws ++ s.tables.pending)) ≡ true) (sym works) k;
-    failing = omega (arith, ap (λ ws. length (refusals_of (ws ++ s.tables.pending))) works);
-  }
+  sees = sees_by seen now (ap (λ fs. record (view now) { fired = fs; waiting = waiting s }) fires ∙ ap (λ ws. record (view now) { waiting = ws }) (sym waits)) (λ f fair. refl) (λ o. refl) (λ o. refl)
+      (λ x. same_dead x s now (omega (arith, moves (frees_of x) 0 refl refl)))
+      (ap (λ ws. record seen { refusals = refusals_of (ws ++ s.tables.pending); failing = length (refusals_of (ws ++ s.tables.pending)) }) works)
 
   -- one more is asked for
   asked_more : (o : Id) → count_by (same_object o) (view now).asking ≡ count_by (same_object o) (view s).asking + count_by (same_object o) (bare id ∷ [])
@@ -154,7 +147,7 @@ module _ (r : Rules) (s : Turn) (entries : List Entry) (h : IsSound r s entries)
     arith,
     seen_sum (counts_of (same_object o)) parcel_asks s,
     seen_sum (counts_of (same_object o)) parcel_asks now,
-    moves (by_parcel (λ q. count_by (same_object o) (parcel_asks q))) (count_by (same_object o) (bare id ∷ [])) refl refl,
+    moves (asks_of o) (count_by (same_object o) (bare id ∷ [])) refl refl,
   )
 
   pub asked_keeps : Keeps r s now (Asked (bare id))
@@ -191,18 +184,7 @@ module _ (r : Rules) (s : Turn) (entries : List Entry) (h : IsSound r s entries)
       asked = λ o n. omega (arith, own_ask o n, moves (waits_for o n) 0 refl refl, waits_more o n);
       given = λ j d o n. omega (arith, moves (given_to j o n) 0 refl (bound_none (id.home == j) 0 refl));
     };
-    counts = record {
-      here = refl;
-      localities = refl;
-      profile = refl;
-      born = omega arith;
-      few = omega arith;
-      asked = omega arith;
-      sent = omega arith;
-      taken = omega arith;
-      few_answers = omega arith;
-      answered = λ l shown. refl;
-    };
+    counts = counts_near s now (Asked (bare id)) refl (omega arith) (omega arith) (omega arith) (omega arith) (omega arith) (λ l. refl);
   }
     where
       costs : (row : Row) → goes r row (Asked (bare id)) + weight row ask ≡ causes r row (Asked (bare id))
@@ -241,14 +223,8 @@ module _ (r : Rules) (s : Turn) (entries : List Entry) (h : IsSound r s entries)
       )
 
 pub asked_step : (r : Rules) (s s' : Turn) (entries : List Entry) (o : Id) → IsSound r s entries → AsksFor s o s' → Keeps r s s' (Asked o)
-asked_step r s s' entries o h g = subst (λ x. Keeps r s s' (Asked x)) (sym g.object) (subst (λ x. Keeps r s x (Asked (bare g.id))) (sym again)
-    (asked_keeps r s entries h g.w g.rest g.p g.id g.calm.due g.calm.fresh g.works g.low g.holds g.least))
-  where
-    again : s' ≡ wrote (Asked (bare g.id)) (mails g.id.home (Ask g.id s.tables.here (s.tables.asked + 1)) (record s {
+asked_step r s s' entries o h g =
+    told_as r s s' (λ x. Asked x) (λ x. mails g.id.home (Ask g.id s.tables.here (s.tables.asked + 1)) (record s {
       working = record g.w { hand = set g.w.hand g.p (bare g.id); asked = g.w.asked ++ record { entry = s.tables.asked + 1; place = g.p } ∷ [] } ∷ g.rest;
       tables = record s.tables { asked = s.tables.asked + 1 };
-    }))
-    again = g.now ∙ ap (λ x. wrote (Asked x) (mails g.id.home (Ask g.id s.tables.here (s.tables.asked + 1)) (record s {
-      working = record g.w { hand = set g.w.hand g.p (bare g.id); asked = g.w.asked ++ record { entry = s.tables.asked + 1; place = g.p } ∷ [] } ∷ g.rest;
-      tables = record s.tables { asked = s.tables.asked + 1 };
-    }))) g.object
+    })) o (bare g.id) g.object g.now (asked_keeps r s entries h g.w g.rest g.p g.id g.calm.due g.calm.fresh g.works g.low g.holds g.least)

@@ -1,6 +1,6 @@
 -- A commit makes an object.
-use Rattle.hpx_steps.proofs.Common.{Bears, Bool, Born, Entry, Event, HasCommits, HasPlaces, Id, IsBirth, IsCommit, IsSound, IsTidy, Item, List, Make, None, Option, Record, Row, Rules, Some, Standing, StandsHere, State, StaysAt, TidyAt, Token, Turn, View, Waits, Working, [], ap, append-nil, arith, asked_by, asking, asks_under, bare, bare_act, bare_due, bare_id, bare_standing, birth_of, birth_state, cases_Bool, causes, cond, count_by, count_in, counted, false, false_from, filter, find, find_record, fired_of, follows_born, freeing, given_to, goes, held_token, hopping, id_at, ids_named, inl, inr, is_asked, is_asked_for, is_recorded, is_standing, joined, length, list_any, map, map-append, names_of, option_map_or, refl, refusals_of, same_object, same_object-true, same_refusal, session, some_same, subst, sum_by, sum_by-cons, sym, take, tokens, tokens_of, true, unpaid, view, waits_for, weigh, works_on, worth, wrote, ℕ, ◌++◌, ◌+◌, ◌^◌, ◌∙◌, ◌∷◌, ◌≡◌, ◌≤◌}
-use Rattle.hpx_steps.proofs.Tools.{Changes, Keeps, Sees, all_among, by_rows, fewer, first_turns, holding, more_come, objects_change, same_commits, sees_leads, take_place, then, view_asking, view_worth, working_change}
+use Rattle.hpx_steps.proofs.Common.{Bears, Bool, Born, Entry, Event, HasCommits, HasPlaces, Id, IsBirth, IsCommit, IsSound, IsTidy, Item, List, Make, None, Option, Record, Rules, Some, Standing, StandsHere, State, StaysAt, TidyAt, Token, Turn, View, Waits, Working, [], ap, append-nil, arith, asking, bare, bare_act, bare_due, bare_id, bare_standing, birth_of, birth_state, cases_Bool, cond, count_by, count_in, counted, false, false_from, filter, find, find_record, fired_of, follows_born, held_token, id_at, ids_named, inl, inr, is_asked, is_asked_for, is_recorded, is_standing, length, map, map-append, names_of, option_map_or, refl, refusals_of, same_object, same_object-true, session, some_same, subst, sum_by, sum_by-cons, sym, take, tokens, tokens_of, true, view, weigh, works_on, worth, wrote, ℕ, ◌++◌, ◌+◌, ◌^◌, ◌∙◌, ◌∷◌, ◌≡◌, ◌≤◌}
+use Rattle.hpx_steps.proofs.Tools.{Changes, Keeps, Sees, all_among, by_rows, counts_near, first_turns, holding, more_come, numbered_so, objects_change, orders_so, pays_so, same_commits, sees_by, sees_leads, take_place, then, view_asking, view_worth, working_change}
 use Rattle.hpx_steps.proofs.Beside.{more_commits}
 use Rattle.hpx_steps.proofs.Objects.{single_more, stand_more}
 use Rattle.hpx_steps.proofs.Records.{found_counted}
@@ -139,17 +139,10 @@ module _ (r : Rules) (s : Turn) (entries : List Entry) (h : IsSound r s entries)
   }
 
   sees : Sees seen now
-  sees = record {
-    rest = ap (λ ws. record (view now) { fired = map bare_act (fired_of s.tables.running (ws ++ s.tables.pending)); objects = map bare_standing s.tables.objects ++ new ∷ [] }) works
-        ∙ ap (λ os. record (view now) { objects = os }) (sym (map-append bare_standing s.tables.objects (new ∷ [])));
-    tokens = λ f fair. refl;
-    asking = λ x. omega (arith, view_asking x s, view_asking x now, moves (asking x), ap (λ ids. names_of x (filter is_asked ids)) own);
-    asks = λ x. refl;
-    live = λ x home. refl;
-    dead = λ x. omega arith;
-    refusals = λ y k. subst (λ ws. list_any (same_refusal y) (refusals_of (ws ++ s.tables.pending)) ≡ true) (sym works) k;
-    failing = omega (arith, ap (λ ws. length (refusals_of (ws ++ s.tables.pending))) works);
-  }
+  sees = sees_by seen now (ap (λ ws. record (view now) { fired = map bare_act (fired_of s.tables.running (ws ++ s.tables.pending)); objects = map bare_standing s.tables.objects ++ new ∷ [] }) works
+      ∙ ap (λ os. record (view now) { objects = os }) (sym (map-append bare_standing s.tables.objects (new ∷ []))))
+      (λ f fair. refl) (λ x. omega (arith, view_asking x s, view_asking x now, moves (asking x), ap (λ ids. names_of x (filter is_asked ids)) own)) (λ x. refl) (λ x. omega arith)
+      (ap (λ ws. record seen { refusals = refusals_of (ws ++ s.tables.pending); failing = length (refusals_of (ws ++ s.tables.pending)) }) works)
 
   pub bear_keeps : Keeps r s now e
   bear_keeps = record {
@@ -174,34 +167,11 @@ module _ (r : Rules) (s : Turn) (entries : List Entry) (h : IsSound r s entries)
     tidy = tidy;
     places = places_now;
     commits = commits_now;
-    numbered = fewer s now (omega arith) (λ n. omega (arith, moves (asks_under n)));
-    pays = record {
-      rows = λ row. omega (arith, moves (unpaid row), costs row);
-      once = omega (arith, moves hopping);
-      fired = omega (arith, moves joined);
-      frees = λ x. omega (arith, moves (freeing x));
-    };
-    orders = record {
-      sent = tt;
-      asked = λ x n. omega (arith, moves (asked_by s.tables.here x n), moves (waits_for x n), ap (λ ys. count_by (is_asked_for w x n) ys) lacks, ap (λ ys. count_by (is_asked_for bearer x n) ys) lacks);
-      given = λ k d x n. omega (arith, moves (given_to k x n));
-    };
-    counts = record {
-      here = refl;
-      localities = refl;
-      profile = refl;
-      born = omega arith;
-      few = omega arith;
-      asked = omega arith;
-      sent = omega arith;
-      taken = omega arith;
-      few_answers = omega arith;
-      answered = λ l shown. refl;
-    };
+    numbered = numbered_so r s now e (Working w ∷ []) (Working bearer ∷ StandsHere new ∷ []) change.0 (omega arith) (λ n. omega arith);
+    pays = pays_so r s now e (Working w ∷ []) (Working bearer ∷ StandsHere new ∷ []) change.0 (by_rows _ refl refl refl refl refl refl refl (λ o. refl)) (omega arith) (omega arith) (λ o. omega arith);
+    orders = orders_so r s now e (Working w ∷ []) (Working bearer ∷ StandsHere new ∷ []) change.0 tt (λ o n. omega (arith, ap (λ ys. count_by (is_asked_for w o n) ys) lacks, ap (λ ys. count_by (is_asked_for bearer o n) ys) lacks)) (λ j d o n. omega arith);
+    counts = counts_near s now e refl (omega arith) (omega arith) (omega arith) (omega arith) (omega arith) (λ l. refl);
   }
-    where
-      costs : (row : Row) → goes r row e ≡ causes r row e
-      costs = by_rows (λ row. goes r row e ≡ causes r row e) refl refl refl refl refl refl refl (λ x. refl)
 
 pub bear_step : (r : Rules) (s s' : Turn) (entries : List Entry) (o : Id) (state : State) → IsSound r s entries → Bears s o state s' → Keeps r s s' (Born o state)
 bear_step r s s' entries o state h g =

@@ -1,35 +1,103 @@
 -- What many entries have in common.
-use Rattle.hpx_steps.proofs.Common.{Ask, Bool, Event, Id, IsOwn, List, Local, Parcel, Tables, Turn, ap, arith, arrives, arrives_at, asks_for, cond, count_by, counts_of, done_after, false, flat_map, is_answer, length, ne_eqb, outs_by, own, parcel_frees, parcels, refl, same_object, sym, true, view, weigh, ℕ, ◌∙◌, ◌≡◌, ◌≢◌, ◌≤◌}
+use Rattle.hpx_steps.proofs.Common.{Actions, AreNumbered, Ask, Bool, Event, Id, IsOwn, Item, List, Local, Parcel, Row, Rules, SameTokens, SendsOwn, Tables, Turn, View, ap, arith, arrives_at, asked_by, asks_for, asks_under, causes, come, cond, count_by, count_in, counts_of, done_after, false, find, fires_one, freeing, given_to, gives_for, goes, gone, gone_to, hopping, is_answer, is_recorded, joined, joins, length, list_any, ne_eqb, outs_by, own, parcel_asks, parcel_frees, refl, same_object, same_refusal, spends, subst, sym, tokens, true, unpaid, view, waits_for, weigh, wrote, ℕ, ◌+◌, ◌∙◌, ◌≡◌, ◌≢◌, ◌≤◌}
+use Rattle.hpx_steps.proofs.Changes.{Sums, total}
+use Rattle.hpx_steps.proofs.Seen.{Sees, as_seen}
 use Rattle.hpx_steps.proofs.Sums.{by_own, by_parcel, own_sum, seen_sum}
-use Rattle.hpx_steps.proofs.Then.{Counts}
+use Rattle.hpx_steps.proofs.Then.{Counts, Keeps, Orders, Pays, comes_to_free, fewer, frees_now}
 
--- the numbers stay
+-- one way for true, and one for false
+pub by_bool : (P : Bool → Type 0) → P true → P false → (b : Bool) → P b
+by_bool P a b true = a
+by_bool P a b false = b
+
+-- an entry that tells of the same thing under another name
+pub told_as : {X : Type 0} (r : Rules) (s s' : Turn) (e : X → Event) (t : X → Turn) (x y : X) → x ≡ y → s' ≡ wrote (e x) (t x)
+    → Keeps r s (wrote (e y) (t y)) (e y) → Keeps r s s' (e x)
+told_as r s s' e t x y same now k = subst (λ z. Keeps r s s' (e z)) (sym same) (subst (λ u. Keeps r s u (e y)) (sym (now ∙ ap (λ z. wrote (e z) (t z)) same)) k)
+
+-- ---- numbers
+
+-- most numbers stay
 abbrev pub SameNumbers : Tables → Tables → Type 0
 SameNumbers t t' = t' ≡ record t { accepted = t'.accepted; running = t'.running; pending = t'.pending; desk = t'.desk; outgoing = t'.outgoing; objects = t'.objects; records = t'.records }
 
-pub counts_still : (s s' : Turn) (e : Event) → SameNumbers s.tables s'.tables → length (outs_by s.tables.here e) ≡ 0 → length (arrives_at s.tables.here e) ≡ 0
-    → ((l : Local) → done_after l e ≡ l.done) → Counts s s' e
-counts_still s s' e still out arrives done = record {
-  here = ap (λ (t : Tables). t.here) still;
-  localities = ap (λ (t : Tables). t.localities) still;
-  profile = ap (λ (t : Tables). t.profile) still;
-  born = omega (arith, ap (λ (t : Tables). t.births) still);
-  few = omega (arith, ap (λ (t : Tables). t.serial) still);
-  asked = omega (arith, ap (λ (t : Tables). t.asked) still);
-  sent = omega (arith, ap (λ (t : Tables). t.sent) still, out);
-  taken = omega (arith, ap (λ (t : Tables). t.taken) still, arrives);
-  few_answers = omega (arith, ap (λ (t : Tables). t.answered) still);
-  answered = λ l shown. omega (arith, ap (λ (t : Tables). t.answered) still, ap (count_by is_answer) (done l));
+-- those that may grow
+abbrev pub NearNumbers : Tables → Tables → Type 0
+NearNumbers t t' = SameNumbers (record t { births = t'.births; serial = t'.serial; asked = t'.asked; sent = t'.sent; taken = t'.taken }) t'
+
+pub counts_near : (s s' : Turn) (e : Event) → NearNumbers s.tables s'.tables → s'.tables.births ≤ s.tables.births + 1 → s'.tables.serial ≤ s.tables.serial + 1
+    → s'.tables.asked ≤ s.tables.asked + 1 → s'.tables.sent ≡ s.tables.sent + length (outs_by s.tables.here e)
+    → s'.tables.taken ≡ s.tables.taken + length (arrives_at s.tables.here e) → ((l : Local) → done_after l e ≡ l.done) → Counts s s' e
+counts_near s s' e near born few asked sent taken done = record {
+  here = ap (λ (t : Tables). t.here) near;
+  localities = ap (λ (t : Tables). t.localities) near;
+  profile = ap (λ (t : Tables). t.profile) near;
+  born = born;
+  few = few;
+  asked = asked;
+  sent = sent;
+  taken = taken;
+  few_answers = omega (arith, ap (λ (t : Tables). t.answered) near);
+  answered = λ l shown. omega (arith, ap (λ (t : Tables). t.answered) near, ap (count_by is_answer) (done l));
 }
 
--- what is seen of messages, by what they weigh
-pub same_seen : (x : Id) (g : Parcel → List Id) (s s' : Turn) → weigh (by_parcel (λ p. count_by (same_object x) (g p))) s' ≡ weigh (by_parcel (λ p. count_by (same_object x) (g p))) s
-    → count_by (same_object x) (flat_map g (parcels s)) ≡ count_by (same_object x) (flat_map g (parcels s'))
-same_seen x g s s' same = omega (arith, seen_sum (counts_of (same_object x)) g s, seen_sum (counts_of (same_object x)) g s', same)
+-- ---- what goes and what comes pays, and keeps the order
 
-pub same_dead : (x : Id) (s s' : Turn) → weigh (by_own (λ p. count_by (same_object x) (parcel_frees p))) s' ≤ weigh (by_own (λ p. count_by (same_object x) (parcel_frees p))) s
-    → count_by (same_object x) (view s').dead ≤ count_by (same_object x) (view s).dead
+module _ (r : Rules) (s s' : Turn) (e : Event) (out into : List Item) (sums : Sums out into s s') where
+  pub pays_so : ((row : Row) → goes r row e + total (unpaid row) into ≡ total (unpaid row) out + causes r row e)
+      → spends r e + total hopping into ≤ total hopping out + causes r Actions e → joins e + total joined out ≤ fires_one e + total joined into
+      → ((o : Id) → comes_to_free r o e + total (freeing o) out ≤ frees_now o e + total (freeing o) into) → Pays r s s' e
+  pays_so rows once fired frees = record {
+    rows = λ row. omega (arith, sums (unpaid row), rows row);
+    once = omega (arith, sums hopping, once);
+    fired = omega (arith, sums joined, fired);
+    frees = λ o. omega (arith, sums (freeing o), frees o);
+  }
+
+  pub orders_so : SendsOwn r s.tables.localities s.tables.here s.tables.profile.credit_log e
+      → ((o : Id) (n : ℕ) → gone r (asks_for s.tables.here o n) e + total (asked_by s.tables.here o n) into + total (waits_for o n) out
+      ≤ total (asked_by s.tables.here o n) out + total (waits_for o n) into + (come r (gives_for o n) e + come r (asks_for s.tables.here o n) e))
+      → ((j : ℕ) → j ≢ s.tables.here → (o : Id) (n : ℕ) → gone_to r j (gives_for o n) e + total (given_to j o n) into ≤ total (given_to j o n) out + come r (asks_for j o n) e)
+      → Orders r s s' e
+  orders_so sent asked given = record {
+    sent = sent;
+    asked = λ o n. omega (arith, sums (asked_by s.tables.here o n), sums (waits_for o n), asked o n);
+    given = λ j d o n. omega (arith, sums (given_to j o n), given j d o n);
+  }
+
+  pub numbered_so : s.tables.asked ≤ s'.tables.asked → ((n : ℕ) → total (asks_under n) into ≤ total (asks_under n) out) → AreNumbered s → AreNumbered s'
+  numbered_so asked less = fewer s s' asked (λ n. omega (arith, sums (asks_under n), less n))
+
+-- ---- what is seen
+
+-- the asks for x, and what frees x, in messages
+abbrev pub asks_of : Id → Item → ℕ
+asks_of x = by_parcel (λ p. count_by (same_object x) (parcel_asks p))
+
+abbrev pub frees_of : Id → Item → ℕ
+frees_of x = by_own (λ p. count_by (same_object x) (parcel_frees p))
+
+-- what is seen of messages, by what they weigh
+pub same_asks : (x : Id) (s s' : Turn) → weigh (asks_of x) s' ≡ weigh (asks_of x) s → count_by (same_object x) (view s).asks ≡ count_by (same_object x) (view s').asks
+same_asks x s s' same = omega (arith, seen_sum (counts_of (same_object x)) parcel_asks s, seen_sum (counts_of (same_object x)) parcel_asks s', same)
+
+pub same_dead : (x : Id) (s s' : Turn) → weigh (frees_of x) s' ≤ weigh (frees_of x) s → count_by (same_object x) (view s').dead ≤ count_by (same_object x) (view s).dead
 same_dead x s s' less = omega (arith, own_sum (counts_of (same_object x)) parcel_frees s, own_sum (counts_of (same_object x)) parcel_frees s', less)
+
+-- what is not told of the same is as much
+pub sees_by : (v : View) (s' : Turn) → as_seen v s' ≡ view s' → SameTokens v.tokens (tokens s') → ((x : Id) → count_by (same_object x) v.asking ≡ count_by (same_object x) (view s').asking)
+    → ((x : Id) → count_by (same_object x) v.asks ≡ count_by (same_object x) (view s').asks) → ((x : Id) → count_by (same_object x) (view s').dead ≤ count_by (same_object x) v.dead)
+    → v ≡ record v { live = (view s').live; refusals = (view s').refusals; failing = (view s').failing } → Sees v s'
+sees_by v s' rest tokens asking asks dead same = record {
+  rest = rest;
+  tokens = tokens;
+  asking = asking;
+  asks = asks;
+  live = λ x home. ap (λ (u : View). count_in (find (is_recorded x) u.live)) same;
+  dead = dead;
+  refusals = λ x k. ap (λ (u : View). list_any (same_refusal x) u.refusals) same ∙ k;
+  failing = omega (arith, ap (λ (u : View). u.failing) same);
+}
 
 -- what counts nothing counts nothing to j
 pub bound_none : (b : Bool) (n : ℕ) → n ≡ 0 → ◌≡◌ {A = ℕ} (cond b n 0) 0

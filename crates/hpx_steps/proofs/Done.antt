@@ -1,6 +1,6 @@
 -- A commit is done.
-use Rattle.hpx_steps.proofs.Common.{Act, AreMade, Commits, Done, Ends, Entry, IsSound, List, Name, Remains, Rules, Some, Standing, Turn, View, Waits, [], action_of, ap, arith, bare, bare_act, bare_due, bare_standing, bare_state, drop, due_of, ends, false, follows_done, map, map-append, name_of, refl, split_get, split_set, state_after, subst, suc, sym, take, view, wrote, ℕ, ◌++◌, ◌∙◌, ◌∷◌, ◌≡◌}
-use Rattle.hpx_steps.proofs.Tools.{Keeps, Sees, sees_covers, sees_leads, view_covered}
+use Rattle.hpx_steps.proofs.Common.{Act, AreMade, Commits, Done, Ends, Entry, IsSound, List, Name, Remains, Rules, Some, Standing, Turn, View, Waits, [], action_of, ap, arith, bare, bare_act, bare_due, bare_standing, bare_state, drop, due_of, ends, false, follows_done, map, map-append, name_of, refl, split_get, split_set, state_after, suc, sym, take, view, wrote, ℕ, ◌++◌, ◌∙◌, ◌∷◌, ◌≡◌}
+use Rattle.hpx_steps.proofs.Tools.{Keeps, Sees, sees_covers, sees_leads, told_as, view_covered}
 use Rattle.hpx_steps.proofs.Ending.{asking_same, bare_x, commits_now, dealt, done_keeps, failing_less, fires, fires_then, found, own_ends, refusals_less, tidy}
 
 module _ (r : Rules) (s : Turn) (entries : List Entry) (h : IsSound r s entries) (w : Waits) (rest : List Waits) (j : ℕ) (x : Standing) (left : Remains)
@@ -68,8 +68,6 @@ module _ (r : Rules) (s : Turn) (entries : List Entry) (h : IsSound r s entries)
 
 -- so it is with the step
 pub done_step : (r : Rules) (s s' : Turn) (entries : List Entry) (a : Name) → IsSound r s entries → Commits r s a s' → Keeps r s s' (Done a false)
-done_step r s s' entries a h g = subst (λ n. Keeps r s s' (Done n false)) (sym g.ending.name) (subst (λ y. Keeps r s y (Done (name_of g.w.job.action) false)) (sym again)
-    (committed_keeps r s entries h g.w g.rest g.j g.x g.left (own_ends s a g.w g.rest g.j g.x g.left g.ending) g.right g.made g.says g.leaves))
-  where
-    again : s' ≡ wrote (Done (name_of g.w.job.action) false) (ends g.j g.w g.rest g.x g.left s)
-    again = g.now ∙ ap (λ n. wrote (Done n false) (ends g.j g.w g.rest g.x g.left s)) g.ending.name
+done_step r s s' entries a h g =
+    told_as r s s' (λ n. Done n false) (λ n. ends g.j g.w g.rest g.x g.left s) a (name_of g.w.job.action) g.ending.name g.now
+    (committed_keeps r s entries h g.w g.rest g.j g.x g.left (own_ends s a g.w g.rest g.j g.x g.left g.ending) g.right g.made g.says g.leaves)

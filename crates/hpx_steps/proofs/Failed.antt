@@ -1,6 +1,6 @@
 -- An action fails that could get no credit.
 use Rattle.hpx_steps.proofs.Common.{Act, Bool, Done, Ends, Entry, Fails, Id, IsSound, List, Name, Remains, Rules, Some, Standing, State, Turn, View, Waits, [], action_of, any_counted, ap, arith, bare, bare_act, bare_due, bare_standing, bare_state, commits, counted_any, counts_of, ends, failure, follows_fail, ids_named, length, list_any, map, map-append, name_of, refl, refusal_of, refusals_of, same_name-refl, same_object, subst, sum_by-append, sym, true, view, wrote, ℕ, ◌&&◌, ◌++◌, ◌||◌, ◌∙◌, ◌∷◌, ◌≡◌}
-use Rattle.hpx_steps.proofs.Tools.{Keeps, Sees, bare_all, same_map, sees_covers, sees_leads, view_covered}
+use Rattle.hpx_steps.proofs.Tools.{Keeps, Sees, bare_all, same_map, sees_covers, sees_leads, told_as, view_covered}
 use Rattle.hpx_journal.specs.Rows.{is_refused}
 use Rattle.hpx_steps.proofs.Ending.{asking_same, bare_x, commits_now, dealt, done_keeps, failing_less, fires, fires_then, found, its, lends, own_ends, refusals_less, refusals_split, tidy}
 
@@ -91,8 +91,6 @@ module _ (r : Rules) (s : Turn) (entries : List Entry) (h : IsSound r s entries)
   )
 
 pub failed_step : (r : Rules) (s s' : Turn) (entries : List Entry) (a : Name) → IsSound r s entries → Fails s a s' → Keeps r s s' (Done a true)
-failed_step r s s' entries a h g = subst (λ n. Keeps r s s' (Done n true)) (sym g.ending.name) (subst (λ y. Keeps r s y (Done (name_of g.w.job.action) true)) (sym again)
-    (failed_keeps r s entries h g.w g.rest g.j g.x g.left (own_ends s a g.w g.rest g.j g.x g.left g.ending) g.fresh g.refusal g.refused g.says g.leaves))
-  where
-    again : s' ≡ wrote (Done (name_of g.w.job.action) true) (ends g.j g.w g.rest g.x g.left s)
-    again = g.now ∙ ap (λ n. wrote (Done n true) (ends g.j g.w g.rest g.x g.left s)) g.ending.name
+failed_step r s s' entries a h g =
+    told_as r s s' (λ n. Done n true) (λ n. ends g.j g.w g.rest g.x g.left s) a (name_of g.w.job.action) g.ending.name g.now
+    (failed_keeps r s entries h g.w g.rest g.j g.x g.left (own_ends s a g.w g.rest g.j g.x g.left g.ending) g.fresh g.refusal g.refused g.says g.leaves)

@@ -1,6 +1,6 @@
 -- An accepted action runs.
-use Rattle.hpx_steps.proofs.Common.{Accepted, Act, Apart, Entry, Fire, Fires, IsSound, IsTidy, Item, List, Name, Row, Rules, Running, Some, Standing, TidyAt, Turn, View, [], action_of, ap, append_assoc, arith, asked_by, asks_under, bare_act, bare_due, bare_standing, causes, commits, drop, false, find, fired_of, flat_map, follows_fire, freeing, given_to, goes, hopping, is_busy, is_standing, joined, map, map-append, name_of, of_act, parcel_acts, parcels, refl, remove, slice_get, split_get, subst, suc, sym, take, target_of, unpaid, view, waiting, waits_for, weigh, worth, wrote, ℕ, ◌++◌, ◌+◌, ◌∙◌, ◌∷◌, ◌≡◌}
-use Rattle.hpx_steps.proofs.Tools.{Changes, Keeps, Sees, among_at, bare_middle, by_rows, counts_still, fewer, found-bare, holding, more_come, one_goes, running_change, sees_leads, target-bare, then, view_worth}
+use Rattle.hpx_steps.proofs.Common.{Accepted, Act, Apart, Entry, Fire, Fires, IsSound, IsTidy, List, Name, Rules, Running, Some, Standing, TidyAt, Turn, View, [], action_of, ap, append_assoc, arith, bare_act, bare_due, bare_standing, commits, drop, false, find, fired_of, flat_map, follows_fire, is_busy, is_standing, map, map-append, name_of, parcel_acts, parcels, refl, remove, slice_get, split_get, subst, suc, sym, take, target_of, view, waiting, worth, wrote, ℕ, ◌++◌, ◌∙◌, ◌∷◌, ◌≡◌}
+use Rattle.hpx_steps.proofs.Tools.{Changes, Keeps, Sees, among_at, bare_middle, by_rows, counts_near, found-bare, holding, more_come, numbered_so, one_goes, orders_so, pays_so, running_change, sees_by, sees_leads, target-bare, then, told_as, view_worth}
 use Rattle.hpx_steps.proofs.Busy.{apart_more, busy-bare}
 use Rattle.hpx_steps.proofs.Changes.{accepted_change}
 
@@ -16,9 +16,6 @@ module _ (r : Rules) (s : Turn) (entries : List Entry) (h : IsSound r s entries)
       then (Accepted act ∷ []) [] [] (Running act ∷ []) s less now
       (accepted_change (Accepted act ∷ []) [] s (remove s.tables.accepted i) (one_goes (λ x. Accepted x) s.tables.accepted i act there))
       (running_change [] (Running act ∷ []) less (s.tables.running ++ act ∷ []) (more_come (λ x. Running x) s.tables.running (act ∷ [])))
-
-  moves : (w : Item → ℕ) → weigh w now + w (Accepted act) ≡ weigh w s + w (Running act)
-  moves w = let k : weigh w now + (w (Accepted act) + 0) ≡ weigh w s + (w (Running act) + 0) = change.0 w in omega (arith, k)
 
   its : TidyAt s (Accepted act)
   its = h.tidy (Accepted act) (among_at s.tables.accepted i act there)
@@ -52,16 +49,8 @@ module _ (r : Rules) (s : Turn) (entries : List Entry) (h : IsSound r s entries)
   seen = record (view s) { waiting = front ++ back; fired = running; last = Some (Fire (name_of act)) }
 
   sees : Sees seen now
-  sees = record {
-    rest = ap (λ ws. record (view now) { waiting = ws; fired = running }) waits_then ∙ ap (λ fs. record (view now) { fired = fs }) fires_then;
-    tokens = λ f weight. omega (arith, view_worth f s, view_worth f now, moves (worth f));
-    asking = λ y. refl;
-    asks = λ y. refl;
-    live = λ y home. refl;
-    dead = λ y. omega arith;
-    refusals = λ y k. k;
-    failing = omega arith;
-  }
+  sees = sees_by seen now (ap (λ ws. record (view now) { waiting = ws; fired = running }) waits_then ∙ ap (λ fs. record (view now) { fired = fs }) fires_then)
+      (λ f weight. omega (arith, view_worth f s, view_worth f now, change.0 (worth f))) (λ x. refl) (λ x. refl) (λ x. omega arith) refl
 
   pub fire_keeps : Keeps r s now (Fire (name_of act))
   fire_keeps = record {
@@ -82,27 +71,13 @@ module _ (r : Rules) (s : Turn) (entries : List Entry) (h : IsSound r s entries)
       whole = h.commits.whole;
       lent = h.commits.lent;
     };
-    numbered = fewer s now (omega arith) (λ n. omega (arith, moves (asks_under n)));
-    pays = record {
-      rows = λ row. omega (arith, moves (unpaid row), costs row);
-      once = omega (arith, moves hopping);
-      fired = omega (arith, moves joined);
-      frees = λ o. omega (arith, moves (freeing o));
-    };
-    orders = record {
-      sent = tt;
-      asked = λ o n. omega (arith, moves (asked_by s.tables.here o n), moves (waits_for o n));
-      given = λ j d o n. omega (arith, moves (given_to j o n));
-    };
-    counts = counts_still s now (Fire (name_of act)) refl refl refl (λ l. refl);
+    numbered = numbered_so r s now (Fire (name_of act)) (Accepted act ∷ []) (Running act ∷ []) change.0 (omega arith) (λ n. omega arith);
+    pays = pays_so r s now (Fire (name_of act)) (Accepted act ∷ []) (Running act ∷ []) change.0 (by_rows _ (omega arith) (omega arith) (omega arith) (omega arith) (omega arith) (omega arith) (omega arith) (λ o. omega arith)) (omega arith) (omega arith) (λ o. omega arith);
+    orders = orders_so r s now (Fire (name_of act)) (Accepted act ∷ []) (Running act ∷ []) change.0 tt (λ o n. omega arith) (λ j d o n. omega arith);
+    counts = counts_near s now (Fire (name_of act)) refl (omega arith) (omega arith) (omega arith) (omega arith) (omega arith) (λ l. refl);
   }
-    where
-      costs : (row : Row) → goes r row (Fire (name_of act)) ≡ of_act row + causes r row (Fire (name_of act))
-      costs = by_rows (λ row. goes r row (Fire (name_of act)) ≡ of_act row + causes r row (Fire (name_of act))) (omega arith) (omega arith) (omega arith) (omega arith) (omega arith) (omega arith) (omega arith) (λ o. omega arith)
 
 pub fire_step : (r : Rules) (s s' : Turn) (entries : List Entry) (a : Name) → IsSound r s entries → Fires s a s' → Keeps r s s' (Fire a)
-fire_step r s s' entries a h g = subst (λ n. Keeps r s s' (Fire n)) (sym g.name) (subst (λ y. Keeps r s y (Fire (name_of g.act))) (sym again)
-    (fire_keeps r s entries h g.i g.act g.x g.calm.due g.calm.fresh g.there g.stands g.idle))
-  where
-    again : s' ≡ wrote (Fire (name_of g.act)) (record s { tables = record s.tables { accepted = remove s.tables.accepted g.i; running = s.tables.running ++ g.act ∷ [] } })
-    again = g.now ∙ ap (λ n. wrote (Fire n) (record s { tables = record s.tables { accepted = remove s.tables.accepted g.i; running = s.tables.running ++ g.act ∷ [] } })) g.name
+fire_step r s s' entries a h g =
+    told_as r s s' (λ n. Fire n) (λ n. record s { tables = record s.tables { accepted = remove s.tables.accepted g.i; running = s.tables.running ++ g.act ∷ [] } }) a (name_of g.act) g.name g.now
+    (fire_keeps r s entries h g.i g.act g.x g.calm.due g.calm.fresh g.there g.stands g.idle)

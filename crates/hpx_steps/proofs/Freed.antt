@@ -1,6 +1,6 @@
 -- A dead object goes.
-use Rattle.hpx_steps.proofs.Common.{Accepted, Act, AllByRecursion, Bool, Came, Entry, Follows, Free, Freed, Going, Has, HasInHand, HasRightCredit, Id, IsDue, IsForHere, IsManaged, IsSound, IsTidy, IsTold, Item, List, Loose, Mailed, None, OnDesk, Outgoing, Pending, Row, Rules, Running, Some, Standing, StandsHere, TidyAt, Token, Turn, View, Waits, Working, [], acts_on, any_counted, ap, arith, asked_by, asks_under, bare_act, bare_due, bare_standing, causes, commits, cond, count_by, credit_list, drop, drops, false, false_from, find, find_passes, flat_map, follows_freed_mailed, follows_freed_taken, freeing, given_to, goes, held, held_here, hopping, inl, inr, is_some, is_standing, joined, list_any, map, map-append, owes, parcel_asks, parcel_frees, refl, remove, same_object, same_object-from, same_object-refl, same_object-sym, same_object-true, session, slice_get, split_get, subst, suc, sum_by, sum_by-cons, sym, take, target_of, true, unpaid, view, waiting, waits_for, waits_here, weigh, with_credit, worth, wrote, ℕ, ◌++◌, ◌+◌, ◌∙◌, ◌∷◌, ◌≡◌, ◌≤◌}
-use Rattle.hpx_steps.proofs.Tools.{Changes, Keeps, Sees, among_all, among_at, by_own, by_parcel, by_rows, counts_still, drop_change, drop_waits, fewer, hand_fit, holding, ids_each, in_hand, is_frame, loose_change, more_come, none_of, none_sum, objects_change, one_goes, same_dead, same_seen, sees_leads, target-bare, then, total, total_map, view_worth, zeros}
+use Rattle.hpx_steps.proofs.Common.{Accepted, Act, AllByRecursion, Bool, Came, Entry, Follows, Free, Freed, Going, Has, HasInHand, HasRightCredit, Id, IsDue, IsForHere, IsManaged, IsSound, IsTidy, IsTold, Item, List, Loose, Mailed, None, OnDesk, Outgoing, Pending, Row, Rules, Running, Some, Standing, StandsHere, TidyAt, Token, Turn, View, Waits, Working, [], acts_on, any_counted, ap, arith, asked_by, asks_under, bare_act, bare_due, bare_standing, causes, commits, cond, count_by, credit_list, drop, drops, false, false_from, find, find_passes, flat_map, follows_freed_mailed, follows_freed_taken, freeing, given_to, goes, held, held_here, hopping, inl, inr, is_some, is_standing, joined, list_any, map, map-append, owes, parcel_frees, refl, remove, same_object, same_object-from, same_object-refl, same_object-sym, same_object-true, session, slice_get, split_get, subst, suc, sum_by, sum_by-cons, sym, take, target_of, true, unpaid, view, waiting, waits_for, waits_here, weigh, with_credit, worth, wrote, ℕ, ◌++◌, ◌+◌, ◌∙◌, ◌∷◌, ◌≡◌, ◌≤◌}
+use Rattle.hpx_steps.proofs.Tools.{Changes, Keeps, Sees, among_all, among_at, asks_of, by_rows, counts_near, drop_change, drop_waits, fewer, frees_of, hand_fit, holding, ids_each, in_hand, is_frame, loose_change, more_come, none_of, none_sum, objects_change, one_goes, same_asks, same_dead, sees_leads, target-bare, then, total, total_map, view_worth, zeros}
 use Rattle.hpx_steps.specs.Steps.{Frees}
 use Rattle.hpx_steps.proofs.Bare.{all_with, credit_tokens}
 use Rattle.hpx_steps.proofs.Beside.{freed_whole, less_commits}
@@ -125,9 +125,9 @@ module _ (r : Rules) (s : Turn) (entries : List Entry) (h : IsSound r s entries)
         ∙ ap (λ ws. record (view now) { waiting = ws }) (sym (drop_waits (Free o) s hand refl));
     tokens = λ f fair. omega (arith, view_worth f s, view_worth f now, moves (worth f), freed_tokens f (is_frame (Free o) s hand), ids_each f (with_credit x.state.ids), credit_tokens f x.state.ids);
     asking = λ q. refl;
-    asks = λ q. same_seen q parcel_asks s now (omega (arith, stays (by_parcel (λ p. count_by (same_object q) (parcel_asks p))) refl refl refl (λ id. refl)));
+    asks = λ q. same_asks q s now (omega (arith, stays (asks_of q) refl refl refl (λ id. refl)));
     live = λ q home. refl;
-    dead = λ q. same_dead q s now (omega (arith, moves (by_own (λ p. count_by (same_object q) (parcel_frees p))), zeros (with_credit x.state.ids)));
+    dead = λ q. same_dead q s now (omega (arith, moves (frees_of q), zeros (with_credit x.state.ids)));
     refusals = λ y k. k;
     failing = omega arith;
   }
@@ -181,7 +181,7 @@ module _ (r : Rules) (s : Turn) (entries : List Entry) (h : IsSound r s entries)
       asked = λ q n. omega (arith, stays (asked_by s.tables.here q n) refl refl refl (λ id. refl), stays (waits_for q n) refl refl refl (λ id. refl));
       given = λ k d q n. omega (arith, stays (given_to k q n) refl refl refl (λ id. refl));
     };
-    counts = counts_still s now (Freed o) refl refl refl (λ lc. refl);
+    counts = counts_near s now (Freed o) refl (omega arith) (omega arith) (omega arith) (omega arith) (omega arith) (λ lc. refl);
   }
     where
       costs : (row : Row) (b : Bool) → goes r row (Freed o) ≡ unpaid row (in_hand b (Free o)) + causes r row (Freed o)

@@ -1,6 +1,6 @@
 -- Credit that was asked for is given to a commit that waits for it.
-use Rattle.hpx_steps.proofs.Common.{Act, AskedFor, Bool, Came, Entry, Give, Given, HasCommits, HasCredit, HasInHand, Id, IsCommit, IsGiven, IsSound, IsTidy, Item, List, Mailed, Pending, Refusal, Row, Rules, Some, TidyAt, Token, Turn, View, Waits, Working, [], action_of, and_true, any_counted, ap, append_assoc, arith, asked_by, asking, asks_under, bare, bare_act, bare_due, causes, commits, cond, count_by, counted_any, counts_false, counts_of, counts_true, drop, drops, eqb-true, false, fired_of, follows_given, freeing, given_to, gives_for, goes, goes_on, held_token, hopping, id_at, ids_named, is_asked, is_asked_for, is_least, joined, length, log_of, map, name_of, one_if, owed_token, owes, parcel_asks, parcel_frees, refilled, refl, refusal_of, refusals_of, remove, same_object, same_refusal, same_token, set, slice_get, split_get, split_set, subst, suc, sum_by, sum_by-append, sum_by-cons, sum_middle, sym, take, token_own, tokens, tokens_of, true, unpaid, view, waiting, waits_for, weigh, worth, wrote, ℕ, ◌&&◌, ◌++◌, ◌+◌, ◌==◌, ◌∙◌, ◌∷◌, ◌≡◌, ◌≤◌, ◌⊎◌}
-use Rattle.hpx_steps.proofs.Tools.{Changes, Keeps, Sees, among_at, by_own, by_parcel, by_rows, counts_still, drop_change, drop_waits, fewer, fired_leads, first_comes, flat_sum, hand_fit, has_not_asked, held_by, holding, ids_each, in_hand, is_fired, is_frame, leads_on, less_sum, long_sum, map_sum, move_commits, one_goes, one_turns, owed_by, pending_change, put_asked, put_bare, put_for, same_dead, same_fired, seen_sum, sees_leads, set_sum, then, view_asking, view_worth, was_fired, working_change}
+use Rattle.hpx_steps.proofs.Common.{Act, AskedFor, Bool, Came, Entry, Give, Given, HasCommits, HasCredit, HasInHand, Id, IsCommit, IsGiven, IsSound, IsTidy, Item, List, Mailed, Pending, Refusal, Row, Rules, Some, TidyAt, Token, Turn, View, Waits, Working, [], action_of, and_true, any_counted, ap, append_assoc, arith, asked_by, asking, asks_under, bare, bare_act, bare_due, causes, commits, cond, count_by, counted_any, counts_false, counts_of, counts_true, drop, drops, eqb-true, false, fired_of, follows_given, freeing, given_to, gives_for, goes, goes_on, held_token, hopping, id_at, ids_named, is_asked, is_asked_for, is_least, joined, length, log_of, map, name_of, one_if, owed_token, owes, parcel_asks, refilled, refl, refusal_of, refusals_of, remove, same_object, same_refusal, same_token, set, slice_get, split_get, split_set, subst, suc, sum_by, sum_by-append, sum_by-cons, sum_middle, sym, take, token_own, tokens, tokens_of, true, unpaid, view, waiting, waits_for, weigh, worth, wrote, ℕ, ◌&&◌, ◌++◌, ◌+◌, ◌==◌, ◌∙◌, ◌∷◌, ◌≡◌, ◌≤◌, ◌⊎◌}
+use Rattle.hpx_steps.proofs.Tools.{Changes, Keeps, Sees, among_at, asks_of, by_rows, counts_near, drop_change, drop_waits, fewer, fired_leads, first_comes, flat_sum, frees_of, hand_fit, has_not_asked, held_by, holding, ids_each, in_hand, is_fired, is_frame, leads_on, less_sum, long_sum, map_sum, move_commits, one_goes, one_turns, owed_by, pending_change, put_asked, put_bare, put_for, same_dead, same_fired, seen_sum, sees_leads, set_sum, then, view_asking, view_worth, was_fired, working_change}
 use Rattle.hpx_steps.proofs.Bare.{bare_tokens}
 use Rattle.hpx_steps.proofs.Refilled.{asked_at_place, asked_low, asked_same, still_commit, still_split, was_asked}
 
@@ -170,7 +170,7 @@ module _ (r : Rules) (s : Turn) (entries : List Entry) (h : IsSound r s entries)
     arith,
     seen_sum (counts_of (same_object o)) parcel_asks s,
     seen_sum (counts_of (same_object o)) parcel_asks now,
-    moves (by_parcel (λ q. count_by (same_object o) (parcel_asks q))) (count_by (same_object o) (bare id ∷ [])) refl refl refl,
+    moves (asks_of o) (count_by (same_object o) (bare id ∷ [])) refl refl refl,
   )
 
   -- ---- refusals
@@ -278,7 +278,7 @@ module _ (r : Rules) (s : Turn) (entries : List Entry) (h : IsSound r s entries)
     asking = λ o. refl;
     asks = λ o. refl;
     live = λ o home. refl;
-    dead = λ o. same_dead o s now (omega (arith, moves (by_own (λ q. count_by (same_object o) (parcel_frees q))) 0 refl refl refl));
+    dead = λ o. same_dead o s now (omega (arith, moves (frees_of o) 0 refl refl refl));
     refusals = λ y t. any_counted (same_refusal y) seen.refusals (omega (arith, counted_any (same_refusal y) (refusals_of (commits now)) t, refused_more (counts_of (same_refusal y))));
     failing = failing_more;
   }
@@ -331,7 +331,7 @@ module _ (r : Rules) (s : Turn) (entries : List Entry) (h : IsSound r s entries)
       );
       given = λ j d o m. omega (arith, moves (given_to j o m) 0 refl refl refl);
     };
-    counts = counts_still s now (Given (bare id) log) refl refl refl (λ l. refl);
+    counts = counts_near s now (Given (bare id) log) refl (omega arith) (omega arith) (omega arith) (omega arith) (omega arith) (λ l. refl);
   }
     where
       costs : (row : Row) → goes r row (Given (bare id) log) ≡ owes row (Give id entry) + causes r row (Given (bare id) log)

@@ -1,8 +1,7 @@
 -- A frame comes in.
-use Rattle.hpx_steps.proofs.Common.{Actions, Came, ComesIn, Entry, Id, In, IsParcel, IsSound, IsTidy, Item, List, Outgoing, Parcel, Row, Rules, Some, TidyAt, Turn, View, [], ap, arith, asked_by, asks_for, asks_under, bare_act, bare_due, causes, come, count_by, counts_of, flat_map, follows_in, freeing, frees_one, given_to, gives_for, goes, hopping, joined, map, owes, parcel_acts, parcel_asks, refl, same_object, subst, sym, tokens, travels_in, unpaid, view, waits_for, weigh, worth, wrote, ℕ, ◌++◌, ◌+◌, ◌∷◌, ◌≡◌}
-use Rattle.hpx_steps.proofs.Tools.{Changes, Keeps, Sees, by_parcel, by_rows, fewer, holding, one_comes, seen_sum, sees_leads, view_worth}
+use Rattle.hpx_steps.proofs.Common.{weighed, Actions, Came, ComesIn, Entry, Id, In, IsParcel, IsSound, IsTidy, Item, List, Outgoing, Parcel, Rules, Some, TidyAt, Turn, View, [], ap, arith, asks_for, bare_act, bare_due, count_by, counts_of, flat_map, follows_in, gives_for, map, owes, parcel_acts, parcel_asks, refl, same_object, subst, sym, tokens, travels_in, view, weigh, worth, wrote, ℕ, ◌++◌, ◌+◌, ◌∷◌, ◌≡◌}
+use Rattle.hpx_steps.proofs.Tools.{Changes, Keeps, Sees, asks_of, counts_near, holding, numbered_so, one_comes, orders_so, pays_so, seen_sum, sees_by, sees_leads, view_worth}
 use Rattle.hpx_steps.proofs.Changes.{came_change}
-use Rattle.hpx_steps.proofs.Then.{comes_to_free}
 
 module _ (r : Rules) (s : Turn) (entries : List Entry) (h : IsSound r s entries) (p : Parcel) (bytes : List ℕ) (due : s.due ≡ []) (fresh : s.fresh ≡ [])
     (empty : s.came ≡ []) (spelled : r.parcel_of bytes ≡ Some p) (fit : IsParcel p) (none : travels_in (Some p) ≡ []) where
@@ -17,6 +16,10 @@ module _ (r : Rules) (s : Turn) (entries : List Entry) (h : IsSound r s entries)
 
   tidy : IsTidy now
   tidy = holding (TidyAt s) (Came p ∷ []) s now change.1 h.tidy (fit, tt)
+
+  -- what its bytes spell
+  told : (w : Parcel → ℕ) → weighed w (r.parcel_of bytes) ≡ w p
+  told w = ap (weighed w) spelled
 
   abbrev others : List Parcel
   others = s.mailed ++ (s.tables.desk ++ map (λ (x : Outgoing). x.parcel) s.tables.outgoing)
@@ -37,20 +40,11 @@ module _ (r : Rules) (s : Turn) (entries : List Entry) (h : IsSound r s entries)
     arith,
     seen_sum (counts_of (same_object x)) parcel_asks s,
     seen_sum (counts_of (same_object x)) parcel_asks now,
-    moves (by_parcel (λ q. count_by (same_object x) (parcel_asks q))),
+    moves (asks_of x),
   )
 
   sees : Sees seen now
-  sees = record {
-    rest = refl;
-    tokens = λ f weight. refl;
-    asking = λ x. refl;
-    asks = λ x. refl;
-    live = λ x home. refl;
-    dead = λ x. omega arith;
-    refusals = λ x k. k;
-    failing = omega arith;
-  }
+  sees = sees_by seen now refl (λ f weight. refl) (λ x. refl) (λ x. refl) (λ x. omega arith) refl
 
   pub in_keeps : Keeps r s now (In bytes)
   in_keeps = record {
@@ -63,41 +57,13 @@ module _ (r : Rules) (s : Turn) (entries : List Entry) (h : IsSound r s entries)
     tidy = tidy;
     places = h.places;
     commits = h.commits;
-    numbered = fewer s now (omega arith) (λ n. omega (arith, moves (asks_under n)));
-    pays = record {
-      rows = λ row. omega (arith, moves (unpaid row), costs row);
-      once = omega (arith, moves hopping, costs Actions);
-      fired = omega (arith, moves joined);
-      frees = λ o. omega (arith, moves (freeing o), frees_come o);
-    };
-    orders = record {
-      sent = tt;
-      asked = λ o n. omega (arith, moves (asked_by s.tables.here o n), moves (waits_for o n), brought (gives_for o n), brought (asks_for s.tables.here o n));
-      given = λ j d o n. omega (arith, moves (given_to j o n), brought (asks_for j o n));
-    };
-    counts = record {
-      here = refl;
-      localities = refl;
-      profile = refl;
-      born = omega arith;
-      few = omega arith;
-      asked = omega arith;
-      sent = omega arith;
-      taken = refl;
-      few_answers = omega arith;
-      answered = λ l shown. refl;
-    };
+    numbered = numbered_so r s now (In bytes) [] (Came p ∷ []) change.0 (omega arith) (λ n. omega arith);
+    pays = pays_so r s now (In bytes) [] (Came p ∷ []) change.0 (λ row. omega (arith, told (owes row))) (omega (arith, told (owes Actions))) (omega arith)
+        (λ o. rw spelled (omega arith));
+    orders = orders_so r s now (In bytes) [] (Came p ∷ []) change.0 tt
+        (λ o n. omega (arith, told (gives_for o n), told (asks_for s.tables.here o n))) (λ j d o n. omega (arith, told (asks_for j o n)));
+    counts = counts_near s now (In bytes) refl (omega arith) (omega arith) (omega arith) (omega arith) refl (λ l. refl);
   }
-    where
-      costs : (row : Row) → goes r row (In bytes) + owes row p ≡ causes r row (In bytes)
-      costs = by_rows (λ row. goes r row (In bytes) + owes row p ≡ causes r row (In bytes))
-          (rw spelled (omega arith)) (rw spelled (omega arith)) (rw spelled (omega arith)) (rw spelled (omega arith)) (rw spelled (omega arith)) (rw spelled (omega arith)) (rw spelled (omega arith)) (λ o. rw spelled (omega arith))
-
-      frees_come : (o : Id) → comes_to_free r o (In bytes) ≡ frees_one o p
-      frees_come o = rw spelled refl
-
-      brought : (w : Parcel → ℕ) → come r w (In bytes) ≡ w p
-      brought w = rw spelled refl
 
 pub in_step : (r : Rules) (s s' : Turn) (entries : List Entry) (bytes : List ℕ) → IsSound r s entries → ComesIn r s bytes s' → Keeps r s s' (In bytes)
 in_step r s s' entries bytes h g = subst (λ x. Keeps r s x (In bytes)) (sym g.now)

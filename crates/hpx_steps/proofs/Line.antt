@@ -1,6 +1,6 @@
 -- A line is fed.
-use Rattle.hpx_steps.proofs.Common.{Accepted, Act, Entry, Feeds, IsFit, IsSound, Item, Line, List, Name, Row, Rules, Some, TidyAt, Turn, View, [], ap, arith, asked_by, asks_under, bare_due, causes, count_by, draws, follows_line, freeing, given_to, goes, hopping, is_other, joined, length, line_act, lit≤, map, of_act, parcel_asks, parcel_frees, posts, refl, same_object, subst, sym, target_of, unpaid, view, waiting, waits_for, weigh, worth, wrote, ℕ, ◌++◌, ◌+◌, ◌∙◌, ◌∷◌, ◌≡◌, ◌≤◌}
-use Rattle.hpx_steps.proofs.Tools.{Changes, Keeps, Put, Sees, by_own, by_parcel, by_rows, fewer, holding, post_change, post_waits, put_as, same_dead, same_seen, sees_leads, view_worth}
+use Rattle.hpx_steps.proofs.Common.{Accepted, Act, Entry, Feeds, IsFit, IsSound, Item, Line, List, Name, Rules, Some, TidyAt, Turn, View, [], ap, arith, bare_due, draws, follows_line, is_other, length, line_act, lit≤, map, posts, refl, subst, sym, target_of, view, waiting, weigh, worth, wrote, ℕ, ◌++◌, ◌+◌, ◌∷◌, ◌≡◌, ◌≤◌}
+use Rattle.hpx_steps.proofs.Tools.{Changes, Keeps, Put, Sees, asks_of, by_rows, counts_near, frees_of, holding, numbered_so, orders_so, pays_so, post_change, post_waits, put_as, same_asks, same_dead, sees_by, sees_leads, told_as, view_worth}
 
 -- a line is well formed
 line_fit : (a : Name) (bytes : List ℕ) → length bytes ≤ 1025 → IsFit (line_act a bytes)
@@ -45,16 +45,8 @@ module _ (r : Rules) (s : Turn) (entries : List Entry) (h : IsSound r s entries)
   seen = record (view s) { serial = s.tables.serial + 1; waiting = put.front ++ act ∷ put.back; last = Some (Line name bytes) }
 
   sees : Sees seen now
-  sees = record {
-    rest = ap (λ ws. record (view now) { waiting = ws }) (sym put.is);
-    tokens = λ f weight. omega (arith, view_worth f s, view_worth f now, moves (worth f));
-    asking = λ x. refl;
-    asks = λ x. same_seen x parcel_asks s now (omega (arith, moves (by_parcel (λ p. count_by (same_object x) (parcel_asks p)))));
-    live = λ x home. refl;
-    dead = λ x. same_dead x s now (omega (arith, moves (by_own (λ p. count_by (same_object x) (parcel_frees p)))));
-    refusals = λ x k. k;
-    failing = omega arith;
-  }
+  sees = sees_by seen now (ap (λ ws. record (view now) { waiting = ws }) (sym put.is)) (λ f weight. omega (arith, view_worth f s, view_worth f now, moves (worth f))) (λ x. refl)
+      (λ x. same_asks x s now (omega (arith, moves (asks_of x)))) (λ x. same_dead x s now (omega (arith, moves (frees_of x)))) refl
 
   pub line_keeps : Keeps r s now (Line name bytes)
   line_keeps = record {
@@ -66,42 +58,13 @@ module _ (r : Rules) (s : Turn) (entries : List Entry) (h : IsSound r s entries)
     tidy = holding (TidyAt s) (Accepted act ∷ []) s now change.1 h.tidy ((line_fit name bytes short, tt, h.places.serves first), tt);
     places = h.places;
     commits = h.commits;
-    numbered = fewer s now (omega arith) (λ n. omega (arith, moves (asks_under n)));
-    pays = record {
-      rows = λ row. omega (arith, moves (unpaid row), costs row);
-      once = omega (arith, moves hopping);
-      fired = omega (arith, moves joined);
-      frees = λ o. omega (arith, moves (freeing o));
-    };
-    orders = record {
-      sent = tt;
-      asked = λ o n. omega (arith, moves (asked_by s.tables.here o n), moves (waits_for o n));
-      given = λ j d o n. omega (arith, moves (given_to j o n));
-    };
-    counts = record {
-      here = refl;
-      localities = refl;
-      profile = refl;
-      born = omega arith;
-      few = omega arith;
-      asked = omega arith;
-      sent = omega arith;
-      taken = omega arith;
-      few_answers = omega arith;
-      answered = λ l shown. refl;
-    };
+    numbered = numbered_so r s now (Line name bytes) [] (Accepted act ∷ []) change.0 (omega arith) (λ n. omega arith);
+    pays = pays_so r s now (Line name bytes) [] (Accepted act ∷ []) change.0 (by_rows _ (omega arith) (omega arith) (omega arith) (omega arith) (omega arith) (omega arith) (omega arith) (λ o. omega arith)) (omega arith) (omega arith) (λ o. omega arith);
+    orders = orders_so r s now (Line name bytes) [] (Accepted act ∷ []) change.0 tt (λ o n. omega arith) (λ j d o n. omega arith);
+    counts = counts_near s now (Line name bytes) refl (omega arith) (omega arith) (omega arith) (omega arith) (omega arith) (λ l. refl);
   }
-    where
-      costs : (row : Row) → goes r row (Line name bytes) + of_act row ≡ causes r row (Line name bytes)
-      costs = by_rows (λ row. goes r row (Line name bytes) + of_act row ≡ causes r row (Line name bytes)) refl refl refl refl refl refl refl (λ o. refl)
 
 pub line_step : (r : Rules) (s s' : Turn) (entries : List Entry) (a : Name) (bytes : List ℕ) → IsSound r s entries → Feeds s a bytes s' → Keeps r s s' (Line a bytes)
-line_step r s s' entries a bytes h g = subst (λ n. Keeps r s s' (Line n bytes)) (sym g.name) (subst (λ x. Keeps r s x (Line first bytes)) (sym again)
-    (line_keeps r s entries h bytes g.calm.due g.calm.fresh g.here g.short))
-  where
-    first : Name
-    first = record { origin = s.tables.here; serial = s.tables.serial + 1 }
-
-    again : s' ≡ wrote (Line (record { origin = s.tables.here; serial = s.tables.serial + 1 }) bytes)
-        (posts (line_act (record { origin = s.tables.here; serial = s.tables.serial + 1 }) bytes) (draws s))
-    again = g.now ∙ ap (λ n. wrote (Line n bytes) (posts (line_act n bytes) (draws s))) g.name
+line_step r s s' entries a bytes h g =
+    told_as r s s' (λ n. Line n bytes) (λ n. posts (line_act n bytes) (draws s)) a (record { origin = s.tables.here; serial = s.tables.serial + 1 }) g.name g.now
+    (line_keeps r s entries h bytes g.calm.due g.calm.fresh g.here g.short)

@@ -1,7 +1,7 @@
 -- The first message on the desk is taken up.
-use Rattle.hpx_steps.proofs.Common.{Entry, IsSound, IsTidy, Item, List, Mail, Mailed, OnDesk, Outgoing, Parcel, Row, Rules, Some, TakesUp, TidyAt, Turn, View, [], ap, arith, asked_by, asks_under, bare_act, bare_due, causes, count_by, flat_map, follows_mail, freeing, given_to, goes, hopping, inl, joined, kind_of, map, owes, parcel_acts, parcel_asks, parcel_frees, parcels, refl, same_object, subst, sym, unpaid, view, waits_for, weigh, weight, worth, wrote, ℕ, ◌++◌, ◌+◌, ◌∙◌, ◌∷◌, ◌≡◌, ◌≤◌}
-use Rattle.hpx_steps.proofs.Tools.{Changes, Keeps, Sees, by_own, by_parcel, by_rows, counts_still, fewer, first_goes, holding, one_comes, same_dead, same_seen, sees_leads, then, view_worth}
-use Rattle.hpx_steps.proofs.Calm.{own_asks}
+use Rattle.hpx_steps.proofs.Common.{Entry, IsSound, IsTidy, Item, List, Mail, Mailed, OnDesk, Outgoing, Parcel, Rules, Some, TakesUp, TidyAt, Turn, View, [], ap, arith, bare_act, bare_due, flat_map, follows_mail, inl, kind_of, map, parcel_acts, parcels, refl, subst, sym, view, weigh, worth, wrote, ℕ, ◌++◌, ◌+◌, ◌∙◌, ◌∷◌, ◌≡◌, ◌≤◌}
+use Rattle.hpx_steps.proofs.Tools.{Changes, Keeps, Sees, by_rows, counts_near, first_goes, holding, one_comes, same_dead, same_asks, sees_leads, then, view_worth}
+use Rattle.hpx_steps.proofs.Calm.{asks_of, frees_of, numbered_so, orders_so, own_asks, pays_so, sees_by}
 use Rattle.hpx_steps.proofs.Changes.{desk_change, mailed_change}
 
 kind_low : (p : Parcel) → (1 ≤ kind_of p) × (kind_of p ≤ 10)
@@ -38,16 +38,9 @@ module _ (r : Rules) (s : Turn) (entries : List Entry) (h : IsSound r s entries)
   seen = record (view s) { last = Some (Mail (kind_of p)) }
 
   sees : Sees seen now
-  sees = record {
-    rest = ap (λ ps. record (view now) { waiting = map bare_act s.tables.accepted ++ flat_map parcel_acts ps }) (sym same_parcels);
-    tokens = λ f weight. omega (arith, view_worth f s, view_worth f now, moves (worth f));
-    asking = λ x. refl;
-    asks = λ x. same_seen x parcel_asks s now (omega (arith, moves (by_parcel (λ q. count_by (same_object x) (parcel_asks q)))));
-    live = λ x home. refl;
-    dead = λ x. same_dead x s now (omega (arith, moves (by_own (λ q. count_by (same_object x) (parcel_frees q)))));
-    refusals = λ x k. k;
-    failing = omega arith;
-  }
+  sees = sees_by seen now (ap (λ ps. record (view now) { waiting = map bare_act s.tables.accepted ++ flat_map parcel_acts ps }) (sym same_parcels))
+      (λ f weight. omega (arith, view_worth f s, view_worth f now, moves (worth f))) (λ x. refl)
+      (λ x. same_asks x s now (omega (arith, moves (asks_of x)))) (λ x. same_dead x s now (omega (arith, moves (frees_of x)))) refl
 
   pub mail_keeps : Keeps r s now (Mail (kind_of p))
   mail_keeps = record {
@@ -59,25 +52,12 @@ module _ (r : Rules) (s : Turn) (entries : List Entry) (h : IsSound r s entries)
     tidy = tidy;
     places = h.places;
     commits = h.commits;
-    numbered = fewer s now (omega arith) (λ n. omega (arith, moves (asks_under n)));
-    pays = record {
-      rows = λ row. omega (arith, moves (unpaid row), costs row);
-      once = omega (arith, moves hopping);
-      fired = omega (arith, moves joined);
-      frees = λ o. omega (arith, moves (freeing o));
-    };
-    orders = record {
-      sent = tt;
-      asked = λ o n. omega (arith, moves (asked_by s.tables.here o n), moves (waits_for o n));
-      given = λ j d o n. omega (arith, moves (given_to j o n), own_asks s.tables.here s.tables.profile.credit_log j d o n p its.2);
-    };
-    counts = counts_still s now (Mail (kind_of p)) refl refl refl (λ l. refl);
+    numbered = numbered_so r s now (Mail (kind_of p)) (OnDesk p ∷ []) (Mailed p ∷ []) change.0 (omega arith) (λ n. omega arith);
+    pays = pays_so r s now (Mail (kind_of p)) (OnDesk p ∷ []) (Mailed p ∷ []) change.0 (by_rows _ (omega arith) (omega arith) (omega arith) (omega arith) (omega arith) (omega arith) (omega arith) (λ o. omega arith)) (omega arith) (omega arith) (λ o. omega arith);
+    orders = orders_so r s now (Mail (kind_of p)) (OnDesk p ∷ []) (Mailed p ∷ []) change.0 tt (λ o n. omega arith) (λ j d o n. omega (arith, own_asks s.tables.here s.tables.profile.credit_log j d o n p its.2));
+    counts = counts_near s now (Mail (kind_of p)) refl (omega arith) (omega arith) (omega arith) (omega arith) (omega arith) (λ l. refl);
   }
-    where
-      costs : (row : Row) → goes r row (Mail (kind_of p)) + owes row p ≡ weight row p + causes r row (Mail (kind_of p))
-      costs = by_rows (λ row. goes r row (Mail (kind_of p)) + owes row p ≡ weight row p + causes r row (Mail (kind_of p)))
-          (omega arith) (omega arith) (omega arith) (omega arith) (omega arith) (omega arith) (omega arith) (λ o. omega arith)
 
 pub mail_step : (r : Rules) (s s' : Turn) (entries : List Entry) (kind : ℕ) → IsSound r s entries → TakesUp s kind s' → Keeps r s s' (Mail kind)
-mail_step r s s' entries kind h g = subst (λ n. Keeps r s s' (Mail n)) (sym g.sort) (subst (λ x. Keeps r s x (Mail (kind_of g.parcel))) (sym g.now)
-    (mail_keeps r s entries h g.parcel g.rest g.calm.due g.calm.fresh g.first g.free.mailed))
+mail_step r s s' entries kind h g = subst (λ n. Keeps r s s' (Mail n)) (sym g.sort)
+    (subst (λ x. Keeps r s x (Mail (kind_of g.parcel))) (sym g.now) (mail_keeps r s entries h g.parcel g.rest g.calm.due g.calm.fresh g.first g.free.mailed))

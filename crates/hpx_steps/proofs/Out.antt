@@ -1,6 +1,6 @@
 -- A frame goes out.
-use Rattle.hpx_steps.proofs.Common.{Act, Actions, Apply, Arrived, Ask, Cached, Entry, Free, FreesNone, Give, Go, GoesOut, Going, IsSound, IsTidy, Item, List, MayGoTo, MayLeave, Move, Out, Outgoing, Parcel, Return, Row, Rules, Shipped, Some, TidyAt, Turn, View, [], ap, append_assoc, arith, asked_by, asks_for, asks_under, bare_due, causes, cond, count_by, counts_of, flat_map, follows_out, freeing, given_to, gives_for, goes, gone, gone_to, hopping, inl, joined, map, parcel_acts, parcel_asks, parcel_frees, refl, same_object, subst, sym, tokens, unpaid, view, waits_for, weigh, weight, worth, wrote, ℕ, ◌++◌, ◌+◌, ◌==◌, ◌∙◌, ◌∷◌, ◌≡◌}
-use Rattle.hpx_steps.proofs.Tools.{Changes, Keeps, Sees, by_own, by_parcel, by_rows, fewer, first_goes, flat_append, holding, same_dead, seen_sum, sees_covers, sees_leads, view_covered, view_worth}
+use Rattle.hpx_steps.proofs.Common.{weighed, Act, Apply, Arrived, Ask, Cached, Entry, Free, FreesNone, Give, Go, GoesOut, Going, IsSound, IsTidy, Item, List, MayGoTo, MayLeave, Move, Out, Outgoing, Parcel, Return, Rules, Shipped, Some, TidyAt, Turn, View, [], ap, append_assoc, arith, asks_for, bare_due, brings, cond, counts_of, flat_map, follows_out, gives_for, inl, map, parcel_acts, parcel_asks, refl, same_object, sym, tokens, view, weigh, weight, worth, wrote, ℕ, ◌++◌, ◌+◌, ◌==◌, ◌∙◌, ◌∷◌, ◌≡◌}
+use Rattle.hpx_steps.proofs.Tools.{Changes, Keeps, Sees, asks_of, counts_near, first_goes, flat_append, frees_of, holding, numbered_so, orders_so, pays_so, same_dead, seen_sum, sees_by, sees_covers, sees_leads, told_as, view_covered, view_worth}
 use Rattle.hpx_steps.proofs.Changes.{outgoing_change}
 use Rattle.hpx_steps.proofs.Waits.{acts_away, acts_before, waits_parts}
 
@@ -34,6 +34,10 @@ module _ (r : Rules) (s : Turn) (entries : List Entry) (h : IsSound r s entries)
   tidy : IsTidy now
   tidy = holding (TidyAt s) [] s now change.1 h.tidy tt
 
+  -- what its bytes spell
+  told : (w : Parcel → ℕ) → weighed w (r.parcel_of bytes) ≡ w x.parcel
+  told w = ap (weighed w) spelled
+
   abbrev front : List Act
   front = acts_before s ++ flat_map parcel_acts s.tables.desk
 
@@ -54,16 +58,7 @@ module _ (r : Rules) (s : Turn) (entries : List Entry) (h : IsSound r s entries)
   seen = record (view s) { waiting = front ++ back; tokens = tokens now; asks = (view now).asks; last = Some (Out x.to bytes) }
 
   sees : Sees seen now
-  sees = record {
-    rest = ap (λ ws. record (view now) { waiting = ws }) waits_then;
-    tokens = λ f weight. refl;
-    asking = λ y. refl;
-    asks = λ y. refl;
-    live = λ y home. refl;
-    dead = λ y. same_dead y s now (omega (arith, moves (by_own (λ p. count_by (same_object y) (parcel_frees p)))));
-    refusals = λ y k. k;
-    failing = omega arith;
-  }
+  sees = sees_by seen now (ap (λ ws. record (view now) { waiting = ws }) waits_then) (λ f weight. refl) (λ x. refl) (λ y. refl) (λ y. same_dead y s now (omega (arith, moves (frees_of y)))) refl
 
   pub out_keeps : Keeps r s now (Out x.to bytes)
   out_keeps = record {
@@ -76,7 +71,7 @@ module _ (r : Rules) (s : Turn) (entries : List Entry) (h : IsSound r s entries)
             arith,
             seen_sum (counts_of (same_object o)) parcel_asks s,
             seen_sum (counts_of (same_object o)) parcel_asks now,
-            moves (by_parcel (λ p. count_by (same_object o) (parcel_asks p))),
+            moves (asks_of o),
           ))
           (λ before. sees_covers r seen now sees (view_covered now tidy h.commits.lent)),
       sees_leads r seen now sees,
@@ -84,46 +79,16 @@ module _ (r : Rules) (s : Turn) (entries : List Entry) (h : IsSound r s entries)
     tidy = tidy;
     places = h.places;
     commits = h.commits;
-    numbered = fewer s now (omega arith) (λ n. omega (arith, moves (asks_under n)));
-    pays = record {
-      rows = λ row. omega (arith, moves (unpaid row), costs row);
-      once = omega (arith, moves hopping, costs Actions);
-      fired = omega (arith, moves joined);
-      frees = λ o. omega (arith, moves (freeing o));
-    };
-    orders = record {
-      sent = record { parcel = x.parcel; spelled = spelled; way = its.1; own = its.2; stays = its.3 };
-      asked = λ o n. omega (arith, moves (asked_by s.tables.here o n), moves (waits_for o n), went (asks_for s.tables.here o n));
-      given = λ j d o n. omega (arith, moves (given_to j o n), went_to j (gives_for o n));
-    };
-    counts = record {
-      here = refl;
-      localities = refl;
-      profile = refl;
-      born = omega arith;
-      few = omega arith;
-      asked = omega arith;
-      sent = refl;
-      taken = omega arith;
-      few_answers = omega arith;
-      answered = λ l shown. refl;
-    };
+    numbered = numbered_so r s now (Out x.to bytes) (Going x ∷ []) [] change.0 (omega arith) (λ n. omega arith);
+    pays = pays_so r s now (Out x.to bytes) (Going x ∷ []) [] change.0 (λ row. omega (arith, told (weight row))) (omega (arith, told brings)) (omega arith) (λ o. omega arith);
+    orders = orders_so r s now (Out x.to bytes) (Going x ∷ []) [] change.0
+        (record { parcel = x.parcel; spelled = spelled; way = its.1; own = its.2; stays = its.3 })
+        (λ o n. omega (arith, told (asks_for s.tables.here o n))) (λ j d o n. omega (arith, ap (λ k. cond (x.to == j) k 0) (told (gives_for o n))));
+    counts = counts_near s now (Out x.to bytes) refl (omega arith) (omega arith) (omega arith) refl (omega arith) (λ l. refl);
   }
-    where
-      costs : (row : Row) → goes r row (Out x.to bytes) ≡ weight row x.parcel + causes r row (Out x.to bytes)
-      costs = by_rows (λ row. goes r row (Out x.to bytes) ≡ weight row x.parcel + causes r row (Out x.to bytes))
-          (rw spelled (omega arith)) (rw spelled (omega arith)) (rw spelled (omega arith)) (rw spelled (omega arith)) (rw spelled (omega arith)) (rw spelled (omega arith)) (rw spelled (omega arith)) (λ o. rw spelled (omega arith))
-
-      went : (w : Parcel → ℕ) → gone r w (Out x.to bytes) ≡ w x.parcel
-      went w = rw spelled refl
-
-      went_to : (j : ℕ) (w : Parcel → ℕ) → gone_to r j w (Out x.to bytes) ≡ cond (x.to == j) (w x.parcel) 0
-      went_to j w = rw spelled refl
 
 pub out_step : (r : Rules) (s s' : Turn) (entries : List Entry) (to : ℕ) (bytes : List ℕ) → IsSound r s entries
     → GoesOut r s to bytes s' → Keeps r s s' (Out to bytes)
-out_step r s s' entries to bytes h g = subst (λ n. Keeps r s s' (Out n bytes)) (sym g.place)
-    (subst (λ x. Keeps r s x (Out g.first.to bytes)) (sym again) (out_keeps r s entries h g.first g.rest bytes g.calm.due g.calm.fresh g.is g.spelled))
-  where
-    again : s' ≡ wrote (Out g.first.to bytes) (record s { tables = record s.tables { outgoing = g.rest; sent = s.tables.sent + 1 } })
-    again = g.now ∙ ap (λ n. wrote (Out n bytes) (record s { tables = record s.tables { outgoing = g.rest; sent = s.tables.sent + 1 } })) g.place
+out_step r s s' entries to bytes h g =
+    told_as r s s' (λ n. Out n bytes) (λ n. record s { tables = record s.tables { outgoing = g.rest; sent = s.tables.sent + 1 } }) to g.first.to g.place g.now
+    (out_keeps r s entries h g.first g.rest bytes g.calm.due g.calm.fresh g.is g.spelled)

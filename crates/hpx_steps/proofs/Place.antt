@@ -1,6 +1,6 @@
 -- An action that is in hand waits here, or goes on.
 use Rattle.hpx_steps.proofs.Common.{Accepted, Act, Apply, Bool, Came, Entry, Going, HasInHand, IsApplied, IsFit, IsMove, IsParcel, IsSound, Item, List, Mailed, Move, OnDesk, Parcel, Places, Row, Rules, TidyAt, Turn, View, [], ap, arith, asked_by, asks_as, asks_for, asks_under, bare_act, brings, count_by, drops, false, freeing, frees_one, given_to, gives_for, going, hopping, inl, inr, is_other, joined, kind_of, may_stay, of_act, one_if, owes, parcel_acts, parcel_asks, parcel_frees, parcel_tokens, posts, refl, same_object, subst, sum_by, sym, target_of, tokens_of, true, unpaid, view, waiting, waits_for, weigh, weight, worth, ℕ, ◌++◌, ◌+◌, ◌==◌, ◌||◌, ◌∙◌, ◌∷◌, ◌≡◌, ◌≢◌, ◌≤◌, ◌⊎◌}
-use Rattle.hpx_steps.proofs.Tools.{Changes, Put, Sees, Stills, bound_none, by_own, by_parcel, by_rows, drop_change, fewer, hand_fit, holding, in_hand, is_frame, leads_on, post_change, post_waits, put_as, put_less, put_sum, put_tidy, same_dead, same_seen, sees_leads, then, view_worth}
+use Rattle.hpx_steps.proofs.Tools.{Changes, Put, Sees, Stills, bound_none, by_own, by_parcel, by_rows, drop_change, fewer, hand_fit, holding, in_hand, is_frame, leads_on, post_change, post_waits, put_as, put_less, put_sum, put_tidy, same_dead, same_asks, sees_leads, then, view_worth}
 use Rattle.hpx_steps.proofs.Moved.{waits_leads, waits_moved}
 use Rattle.hpx_steps.proofs.Waits.{hand_waits}
 
@@ -80,7 +80,7 @@ module _ (r : Rules) (s : Turn) (entries : List Entry) (h : IsSound r s entries)
     asking = λ x. refl;
     asks = λ x.
         let f : Parcel → ℕ = λ q. count_by (same_object x) (parcel_asks q) in
-        same_seen x parcel_asks s now (omega (arith, moves (by_parcel f) 0 (none f refl refl) (none f refl refl) refl (both f 0 refl refl)));
+        same_asks x s now (omega (arith, moves (by_parcel f) 0 (none f refl refl) (none f refl refl) refl (both f 0 refl refl)));
     live = λ x home. refl;
     dead = λ x.
         let f : Parcel → ℕ = λ q. count_by (same_object x) (parcel_frees q) in

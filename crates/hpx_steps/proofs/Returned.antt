@@ -1,6 +1,6 @@
 -- Credit comes home.
-use Rattle.hpx_steps.proofs.Common.{Bool, Came, Count, Entry, Event, Free, Going, HasInHand, Id, IsParcel, IsSound, IsTidy, Item, List, Mailed, MatchOption, None, OnDesk, Option, Record, Recounts, Return, Returned, Row, Rules, Some, StaysAt, Tables, TakesBack, TidyAt, Token, Turn, View, [], ap, arith, asked_by, asks_under, bare, bare_due, cases_Bool, causes, cond, count_by, count_in, counted, counts_of, counts_true, credit, credit_of_log, drops, eqb-true, false, find, follows_returned, freeing, given_to, goes, going, hopping, inl, inr, is_other, is_recorded, joined, lowered, mails_if, map, one_if, option_map_or, owed_token, owes, parcel_asks, parcel_frees, refl, same_object, same_token, some_same, subst, sum_by, sum_by-cons, sym, token_own, tokens, true, unpaid, view, waits_for, weigh, weight, with_records, worth, wrote, ℕ, ◌&&◌, ◌++◌, ◌+◌, ◌-◌, ◌==◌, ◌^◌, ◌∙◌, ◌∷◌, ◌≡◌, ◌≤◌}
-use Rattle.hpx_steps.proofs.Tools.{Changes, Keeps, Sees, bound_none, by_own, by_parcel, by_rows, counts_still, drop_change, drop_waits, fewer, hand_fit, holding, in_hand, is_frame, mail_change, mail_tidy, mail_waits, owed_by, own_sum, same_seen, sees_covers, sees_leads, sent_if, sent_total, then, total, view_covered, view_worth}
+use Rattle.hpx_steps.proofs.Common.{Bool, Came, Count, Entry, Event, Free, Going, HasInHand, Id, IsParcel, IsSound, IsTidy, Item, List, Mailed, MatchOption, None, OnDesk, Option, Record, Recounts, Return, Returned, Row, Rules, Some, StaysAt, Tables, TakesBack, TidyAt, Token, Turn, View, [], ap, arith, asked_by, asks_under, bare, bare_due, cases_Bool, causes, cond, count_by, count_in, counted, counts_of, counts_true, credit, credit_of_log, drops, eqb-true, false, find, follows_returned, freeing, given_to, goes, going, hopping, inl, inr, is_other, is_recorded, joined, lowered, mails_if, map, one_if, option_map_or, owed_token, owes, parcel_frees, refl, same_object, same_token, some_same, subst, sum_by, sum_by-cons, sym, token_own, tokens, true, unpaid, view, waits_for, weigh, weight, with_records, worth, wrote, ℕ, ◌&&◌, ◌++◌, ◌+◌, ◌-◌, ◌==◌, ◌^◌, ◌∙◌, ◌∷◌, ◌≡◌, ◌≤◌}
+use Rattle.hpx_steps.proofs.Tools.{Changes, Keeps, Sees, asks_of, bound_none, by_rows, counts_near, drop_change, drop_waits, fewer, frees_of, hand_fit, holding, in_hand, is_frame, mail_change, mail_tidy, mail_waits, owed_by, own_sum, same_asks, sees_covers, sees_leads, sent_if, sent_total, then, told_as, total, view_covered, view_worth}
 use Rattle.hpx_steps.proofs.Mails.{other_is}
 use Rattle.hpx_steps.proofs.Records.{found_counted, one_recounted, places_still}
 
@@ -98,7 +98,7 @@ module _ (r : Rules) (s : Turn) (entries : List Entry) (h : IsSound r s entries)
     rest = ap (λ ws. record (view now) { waiting = ws }) (sym (mail_waits dead old.place (Free (bare id)) before refl ∙ drop_waits (Return id) s hand refl));
     tokens = λ f weight. refl;
     asking = λ x. refl;
-    asks = λ x. same_seen x parcel_asks s now (omega (arith, leaves (by_parcel (λ p. count_by (same_object x) (parcel_asks p))) 0 refl refl refl refl));
+    asks = λ x. same_asks x s now (omega (arith, leaves (asks_of x) 0 refl refl refl refl));
     live = λ x at. refl;
     dead = λ x. omega (
       arith,
@@ -111,10 +111,10 @@ module _ (r : Rules) (s : Turn) (entries : List Entry) (h : IsSound r s entries)
     failing = omega arith;
   }
     where
-      dies : (x : Id) → weigh (by_own (λ p. count_by (same_object x) (parcel_frees p))) now + by_own (λ p. count_by (same_object x) (parcel_frees p)) was
-          ≡ weigh (by_own (λ p. count_by (same_object x) (parcel_frees p))) s + cond dead (count_by (same_object x) (bare id ∷ [])) 0
+      dies : (x : Id) → weigh (frees_of x) now + frees_of x was
+          ≡ weigh (frees_of x) s + cond dead (count_by (same_object x) (bare id ∷ [])) 0
       dies x =
-          let w : Item → ℕ = by_own (λ p. count_by (same_object x) (parcel_frees p)) in
+          let w : Item → ℕ = frees_of x in
           let k : weigh w now + (w was + 0) ≡ weigh w s + total w (sent_if dead other old.place (Free (bare id))) = change.0 w in
           omega (arith, k, sent_total w dead other old.place (Free (bare id)) (count_by (same_object x) (bare id ∷ [])) refl refl)
 
@@ -160,7 +160,7 @@ module _ (r : Rules) (s : Turn) (entries : List Entry) (h : IsSound r s entries)
       asked = λ o n. omega (arith, leaves (asked_by s.tables.here o n) 0 refl refl refl refl, leaves (waits_for o n) 0 refl refl refl refl);
       given = λ j d o n. omega (arith, leaves (given_to j o n) 0 refl refl refl (bound_none (old.place == j) 0 refl));
     };
-    counts = counts_still s now e refl refl refl (λ l. refl);
+    counts = counts_near s now e refl (omega arith) (omega arith) (omega arith) (omega arith) (omega arith) (λ l. refl);
   }
     where
       if_last : (b c : Bool) → one_if (b && c) ≡ cond b (one_if c) 0
@@ -179,9 +179,6 @@ module _ (r : Rules) (s : Turn) (entries : List Entry) (h : IsSound r s entries)
 
 pub returned_step : (r : Rules) (s s' : Turn) (entries : List Entry) (o : Id) (count log : ℕ) → IsSound r s entries → TakesBack s o count log s'
     → Keeps r s s' (Count o count (Returned log))
-returned_step r s s' entries o count log h g = subst (λ x. Keeps r s s' (Count x count (Returned log))) (sym g.object)
-    (subst (λ x. Keeps r s x (Count (bare g.id) count (Returned log))) (sym again)
-    (returned_keeps r s entries h g.id log count g.old g.records g.calm.due g.calm.fresh g.hand g.home g.has g.sum g.recounts))
-  where
-    again : s' ≡ wrote (Count (bare g.id) count (Returned log)) (mails_if (count == 0) g.old.place (Free (bare g.id)) (with_records g.records (drops s)))
-    again = g.now ∙ ap (λ x. wrote (Count x count (Returned log)) (mails_if (count == 0) g.old.place (Free (bare g.id)) (with_records g.records (drops s)))) g.object
+returned_step r s s' entries o count log h g =
+    told_as r s s' (λ x. Count x count (Returned log)) (λ x. mails_if (count == 0) g.old.place (Free (bare g.id)) (with_records g.records (drops s))) o (bare g.id) g.object g.now
+    (returned_keeps r s entries h g.id log count g.old g.records g.calm.due g.calm.fresh g.hand g.home g.has g.sum g.recounts)

@@ -1,6 +1,6 @@
 -- The first of what is due is sent.
-use Rattle.hpx_steps.proofs.Common.{Accepted, Act, Apply, Bool, Due, Entry, Going, IsDue, IsFit, IsSound, IsTidy, Item, List, Message, MessageDue, Move, Name, OnDesk, Parcel, Row, Rules, Sends, Sent, Some, TidyAt, Turn, View, [], ap, arith, asked_by, asks_as, asks_for, asks_under, bare_due, bare_message, brings, causes, count_by, draws, false, follows_sent, freeing, given_to, gives_for, goes, going, hopping, inl, inr, is_other, joined, kind_of, map, may_stay, named_act, of_act, one_if, parcel_asks, parcel_frees, parcel_tokens, posts, refl, same_object, subst, sum_by, sym, target_of, tokens_of, true, unpaid, view, waiting, waits_for, weigh, weight, worth, wrote, ℕ, ◌++◌, ◌+◌, ◌==◌, ◌||◌, ◌∙◌, ◌∷◌, ◌≡◌, ◌≤◌, ◌⊎◌}
-use Rattle.hpx_steps.proofs.Tools.{Changes, Keeps, Put, Sees, bound_none, by_own, by_parcel, by_rows, due_change, fewer, first_goes, holding, post_change, post_waits, put_as, put_less, put_sum, put_tidy, same_dead, same_seen, sees_leads, then, view_worth}
+use Rattle.hpx_steps.proofs.Common.{Accepted, Act, Apply, Bool, Due, Entry, Going, IsDue, IsFit, IsSound, IsTidy, Item, List, Message, MessageDue, Move, Name, OnDesk, Parcel, Row, Rules, Sends, Sent, Some, TidyAt, Turn, View, [], ap, arith, asked_by, asks_as, asks_for, asks_under, bare_due, bare_message, brings, causes, count_by, draws, false, follows_sent, freeing, given_to, gives_for, goes, going, hopping, inl, inr, is_other, joined, kind_of, map, may_stay, named_act, of_act, one_if, parcel_asks, parcel_frees, parcel_tokens, posts, refl, same_object, sum_by, sym, target_of, tokens_of, true, unpaid, view, waiting, waits_for, weigh, weight, worth, wrote, ℕ, ◌++◌, ◌+◌, ◌==◌, ◌||◌, ◌∙◌, ◌∷◌, ◌≡◌, ◌≤◌, ◌⊎◌}
+use Rattle.hpx_steps.proofs.Tools.{Changes, Keeps, Put, Sees, asks_of, bound_none, by_rows, counts_near, due_change, fewer, first_goes, frees_of, holding, post_change, post_waits, put_as, put_less, put_sum, put_tidy, same_asks, same_dead, sees_by, sees_leads, then, told_as, view_worth}
 
 module _ (r : Rules) (s : Turn) (entries : List Entry) (h : IsSound r s entries) (m : Message) (rest : List Due) (fresh : s.fresh ≡ []) (due : s.due ≡ MessageDue m ∷ rest) where
   abbrev name : Name
@@ -59,27 +59,10 @@ module _ (r : Rules) (s : Turn) (entries : List Entry) (h : IsSound r s entries)
   }
 
   sees : Sees seen now
-  sees = record {
-    rest = ap (λ ws. record (view now) { waiting = ws }) (sym put.is);
-    tokens = λ f weight. omega (
-      arith,
-      view_worth f s,
-      view_worth f now,
-      moves (worth f) (sum_by f (tokens_of m.ids)) refl (both (λ p. sum_by f (parcel_tokens p)) (sum_by f (tokens_of m.ids)) refl refl),
-    );
-    asking = λ x. refl;
-    asks = λ x. same_seen x parcel_asks s now (omega (
-      arith,
-      moves (by_parcel (λ p. count_by (same_object x) (parcel_asks p))) 0 refl (both (λ p. count_by (same_object x) (parcel_asks p)) 0 refl refl),
-    ));
-    live = λ x home. refl;
-    dead = λ x. same_dead x s now (omega (
-      arith,
-      moves (by_own (λ p. count_by (same_object x) (parcel_frees p))) 0 refl (both (λ p. count_by (same_object x) (parcel_frees p)) 0 refl refl),
-    ));
-    refusals = λ x k. k;
-    failing = omega arith;
-  }
+  sees = sees_by seen now (ap (λ ws. record (view now) { waiting = ws }) (sym put.is))
+      (λ f weight. omega (arith, view_worth f s, view_worth f now, moves (worth f) (sum_by f (tokens_of m.ids)) refl (both (λ p. sum_by f (parcel_tokens p)) (sum_by f (tokens_of m.ids)) refl refl))) (λ x. refl)
+      (λ x. same_asks x s now (omega (arith, moves (asks_of x) 0 refl (both (λ p. count_by (same_object x) (parcel_asks p)) 0 refl refl))))
+      (λ x. same_dead x s now (omega (arith, moves (frees_of x) 0 refl (both (λ p. count_by (same_object x) (parcel_frees p)) 0 refl refl)))) refl
 
   pub sent_keeps : Keeps r s now (Sent name)
   sent_keeps = record {
@@ -114,18 +97,7 @@ module _ (r : Rules) (s : Turn) (entries : List Entry) (h : IsSound r s entries)
         moves (given_to j o n) 0 refl (λ p e. (refl, λ to. bound_none (to == j) (gives_for o n p) (carried (gives_for o n) 0 refl refl p e))),
       );
     };
-    counts = record {
-      here = refl;
-      localities = refl;
-      profile = refl;
-      born = omega arith;
-      few = omega arith;
-      asked = omega arith;
-      sent = omega arith;
-      taken = omega arith;
-      few_answers = omega arith;
-      answered = λ l shown. refl;
-    };
+    counts = counts_near s now (Sent name) refl (omega arith) (omega arith) (omega arith) (omega arith) (omega arith) (λ l. refl);
   }
     where
       few : (p : Parcel) → brings p ≤ 1
@@ -145,11 +117,6 @@ module _ (r : Rules) (s : Turn) (entries : List Entry) (h : IsSound r s entries)
       costs = by_rows (λ row. goes r row (Sent name) + of_act row ≡ causes r row (Sent name)) refl refl refl refl refl refl refl (λ o. refl)
 
 pub sent_step : (r : Rules) (s s' : Turn) (entries : List Entry) (a : Name) → IsSound r s entries → Sends s a s' → Keeps r s s' (Sent a)
-sent_step r s s' entries a h g = subst (λ n. Keeps r s s' (Sent n)) (sym g.name) (subst (λ x. Keeps r s x (Sent first)) (sym again)
-    (sent_keeps r s entries h g.message g.rest g.fresh g.due))
-  where
-    first : Name
-    first = record { origin = s.tables.here; serial = s.tables.serial + 1 }
-
-    again : s' ≡ wrote (Sent (record { origin = s.tables.here; serial = s.tables.serial + 1 })) (posts (named_act s.tables.here (s.tables.serial + 1) g.message) (draws (record s { due = g.rest })))
-    again = g.now ∙ ap (λ n. wrote (Sent n) (posts (named_act s.tables.here (s.tables.serial + 1) g.message) (draws (record s { due = g.rest })))) g.name
+sent_step r s s' entries a h g =
+    told_as r s s' (λ n. Sent n) (λ n. posts (named_act s.tables.here (s.tables.serial + 1) g.message) (draws (record s { due = g.rest }))) a (record { origin = s.tables.here; serial = s.tables.serial + 1 }) g.name g.now
+    (sent_keeps r s entries h g.message g.rest g.fresh g.due)

@@ -1,6 +1,6 @@
 -- An id in the hand of a commit is halved.
-use Rattle.hpx_steps.proofs.Common.{Entry, HasCommits, Id, IsCommit, IsSound, Item, List, Row, Rules, Some, Split, Splits, TidyAt, Token, Turn, View, Waits, Working, [], ap, arith, asked_by, asking, asks_under, bare, bare_act, bare_due, causes, cond, count_by, counts_of, counts_true, false, fired_of, follows_split, freeing, given_to, goes, half, held_token, hopping, ids_named, inl, is_asked, is_asked_for, joined, length, list_any, map, names_of, option_map, refl, refusals_of, same_refusal, same_token, set, slice_get, subst, sum_by, sum_by-cons, sym, token_own, tokens, tokens_of, true, unpaid, view, waits_for, weigh, works_on, worth, wrote, ℕ, ◌++◌, ◌+◌, ◌-◌, ◌∙◌, ◌∷◌, ◌≡◌, ◌≤◌}
-use Rattle.hpx_steps.proofs.Tools.{Changes, Keeps, Sees, by_rows, counts_still, fewer, first_turns, hand_long, has_not_asked, held_by, holding, ids_append, ids_each, less_sum, same_commits, sees_leads, set_sum, view_asking, view_worth, working_change}
+use Rattle.hpx_steps.proofs.Common.{Entry, HasCommits, Id, IsCommit, IsSound, Item, List, Rules, Some, Split, Splits, TidyAt, Token, Turn, View, Waits, Working, [], ap, arith, asking, bare, bare_act, bare_due, cond, count_by, counts_of, counts_true, false, fired_of, follows_split, half, held_token, ids_named, inl, is_asked, is_asked_for, length, map, names_of, option_map, refl, refusals_of, same_token, set, slice_get, subst, sum_by, sum_by-cons, sym, token_own, tokens, tokens_of, view, weigh, works_on, worth, wrote, ℕ, ◌++◌, ◌+◌, ◌-◌, ◌∙◌, ◌∷◌, ◌≡◌, ◌≤◌}
+use Rattle.hpx_steps.proofs.Tools.{Changes, Keeps, Sees, by_rows, counts_near, first_turns, hand_long, has_not_asked, held_by, holding, ids_append, ids_each, less_sum, numbered_so, orders_so, pays_so, same_commits, sees_by, sees_leads, set_sum, told_as, view_asking, view_worth, working_change}
 use Rattle.hpx_steps.proofs.Recommit.{first_asked, first_at, first_map}
 
 module _ (r : Rules) (s : Turn) (entries : List Entry) (h : IsSound r s entries) (w : Waits) (rest : List Waits) (p : ℕ) (id : Id) (log : ℕ) (due : s.due ≡ [])
@@ -60,22 +60,9 @@ module _ (r : Rules) (s : Turn) (entries : List Entry) (h : IsSound r s entries)
   seen = record (view s) { tokens = tokens now; last = Some (Split (bare id) log) }
 
   sees : Sees seen now
-  sees = record {
-    rest = ap (λ ws. record (view now) { fired = map bare_act (fired_of s.tables.running (ws ++ s.tables.pending)) }) works;
-    tokens = λ f fair. refl;
-    asking = λ o. omega (
-      arith,
-      view_asking o s,
-      view_asking o now,
-      moves (asking o),
-      ap (names_of o) (first_asked many p w.hand (half id ∷ []) id (half id) at unasked.0 unasked.1 long),
-    );
-    asks = λ o. refl;
-    live = λ o home. refl;
-    dead = λ o. omega arith;
-    refusals = λ y k. subst (λ ws. list_any (same_refusal y) (refusals_of (ws ++ s.tables.pending)) ≡ true) (sym works) k;
-    failing = omega (arith, ap (λ ws. length (refusals_of (ws ++ s.tables.pending))) works);
-  }
+  sees = sees_by seen now (ap (λ ws. record (view now) { fired = map bare_act (fired_of s.tables.running (ws ++ s.tables.pending)) }) works) (λ f fair. refl)
+      (λ o. omega (arith, view_asking o s, view_asking o now, moves (asking o), ap (names_of o) (first_asked many p w.hand (half id ∷ []) id (half id) at unasked.0 unasked.1 long)))
+      (λ o. refl) (λ o. omega arith) (ap (λ ws. record seen { refusals = refusals_of (ws ++ s.tables.pending); failing = length (refusals_of (ws ++ s.tables.pending)) }) works)
 
   pub split_keeps : Keeps r s now (Split (bare id) log)
   split_keeps = record {
@@ -110,27 +97,13 @@ module _ (r : Rules) (s : Turn) (entries : List Entry) (h : IsSound r s entries)
     places = h.places;
     commits = same_commits s.tables.objects s.tables.running w split (rest ++ s.tables.pending) refl
         (subst (λ ws. HasCommits s.tables.objects s.tables.running (ws ++ s.tables.pending)) works h.commits);
-    numbered = fewer s now (omega arith) (λ n. omega (arith, moves (asks_under n)));
-    pays = record {
-      rows = λ row. omega (arith, moves (unpaid row), costs row);
-      once = omega (arith, moves hopping);
-      fired = omega (arith, moves joined);
-      frees = λ o. omega (arith, moves (freeing o));
-    };
-    orders = record {
-      sent = tt;
-      asked = λ o n. omega (arith, moves (asked_by s.tables.here o n), moves (waits_for o n), ap (λ ys. count_by (is_asked_for w o n) ys) lacks, ap (λ ys. count_by (is_asked_for split o n) ys) lacks);
-      given = λ k d o n. omega (arith, moves (given_to k o n));
-    };
-    counts = counts_still s now (Split (bare id) log) refl refl refl (λ l. refl);
+    numbered = numbered_so r s now (Split (bare id) log) (Working w ∷ []) (Working split ∷ []) change.0 (omega arith) (λ n. omega arith);
+    pays = pays_so r s now (Split (bare id) log) (Working w ∷ []) (Working split ∷ []) change.0 (by_rows _ refl refl refl refl refl refl refl (λ o. refl)) (omega arith) (omega arith) (λ o. omega arith);
+    orders = orders_so r s now (Split (bare id) log) (Working w ∷ []) (Working split ∷ []) change.0 tt (λ o n. omega (arith, ap (λ ys. count_by (is_asked_for w o n) ys) lacks, ap (λ ys. count_by (is_asked_for split o n) ys) lacks)) (λ j d o n. omega arith);
+    counts = counts_near s now (Split (bare id) log) refl (omega arith) (omega arith) (omega arith) (omega arith) (omega arith) (λ l. refl);
   }
-    where
-      costs : (row : Row) → goes r row (Split (bare id) log) ≡ causes r row (Split (bare id) log)
-      costs = by_rows (λ row. goes r row (Split (bare id) log) ≡ causes r row (Split (bare id) log)) refl refl refl refl refl refl refl (λ o. refl)
 
 pub split_step : (r : Rules) (s s' : Turn) (entries : List Entry) (o : Id) (log : ℕ) → IsSound r s entries → Splits s o log s' → Keeps r s s' (Split o log)
-split_step r s s' entries o log h g = subst (λ x. Keeps r s s' (Split x log)) (sym g.object) (subst (λ x. Keeps r s x (Split (bare g.id) log)) (sym again)
-    (split_keeps r s entries h g.w g.rest g.p g.id log g.due g.works g.holds g.has g.enough g.lacks))
-  where
-    again : s' ≡ wrote (Split (bare g.id) log) (works_on (record g.w { hand = set g.w.hand g.p (half g.id) ++ half g.id ∷ [] }) g.rest s)
-    again = g.now ∙ ap (λ x. wrote (Split x log) (works_on (record g.w { hand = set g.w.hand g.p (half g.id) ++ half g.id ∷ [] }) g.rest s)) g.object
+split_step r s s' entries o log h g =
+    told_as r s s' (λ x. Split x log) (λ x. works_on (record g.w { hand = set g.w.hand g.p (half g.id) ++ half g.id ∷ [] }) g.rest s) o (bare g.id) g.object g.now
+    (split_keeps r s entries h g.w g.rest g.p g.id log g.due g.works g.holds g.has g.enough g.lacks)

@@ -1,6 +1,6 @@
 -- An id is given up.
-use Rattle.hpx_steps.proofs.Common.{Entry, Event, GivesUp, Going, HasCredit, HasRightCredit, Id, IsSound, IsTidy, Item, List, Loose, MatchOption, None, OnDesk, Return, Row, Rules, Some, TidyAt, Token, Turn, Up, View, [], ap, arith, asked_by, asks_under, bare, bare_due, causes, count_by, counts_of, counts_true, follows_up, freeing, given_to, goes, going, held_token, hopping, inl, is_other, joined, mails, map, owed_token, parcel_asks, parcel_frees, refl, same_object, same_token, subst, sum_by, sum_by-cons, sym, token_own, tokens, true, unpaid, view, waits_for, weigh, weight, worth, wrote, ℕ, ◌+◌, ◌<◌, ◌==◌, ◌∙◌, ◌∷◌, ◌≡◌, ◌≤◌}
-use Rattle.hpx_steps.proofs.Tools.{Changes, Keeps, Sees, bound_none, by_own, by_parcel, by_rows, counts_still, fewer, first_goes, held_by, holding, loose_change, mail_change, mail_tidy, mail_waits, owed_by, same_dead, same_seen, sees_covers, sees_leads, sent_if, sent_total, then, total, view_covered, view_worth}
+use Rattle.hpx_steps.proofs.Common.{Entry, Event, GivesUp, Going, HasCredit, HasRightCredit, Id, IsSound, IsTidy, Item, List, Loose, MatchOption, None, OnDesk, Return, Row, Rules, Some, TidyAt, Token, Turn, Up, View, [], ap, arith, asked_by, asks_under, bare, bare_due, causes, counts_of, counts_true, follows_up, freeing, given_to, goes, going, held_token, hopping, inl, is_other, joined, mails, map, owed_token, refl, same_token, sum_by, sum_by-cons, sym, token_own, tokens, true, unpaid, view, waits_for, weigh, weight, worth, wrote, ℕ, ◌+◌, ◌<◌, ◌==◌, ◌∷◌, ◌≡◌, ◌≤◌}
+use Rattle.hpx_steps.proofs.Tools.{Changes, Keeps, Sees, asks_of, bound_none, by_rows, counts_near, fewer, first_goes, frees_of, held_by, holding, loose_change, mail_change, mail_tidy, mail_waits, owed_by, same_asks, same_dead, sees_by, sees_covers, sees_leads, sent_if, sent_total, then, told_as, total, view_covered, view_worth}
 
 module _ (r : Rules) (s : Turn) (entries : List Entry) (h : IsSound r s entries) (log : ℕ) (id : Id) (rest : List Id) (due : s.due ≡ []) (fresh : s.fresh ≡ [])
     (first : s.loose ≡ id ∷ rest) (has : id.log ≡ Some log) where
@@ -49,16 +49,8 @@ module _ (r : Rules) (s : Turn) (entries : List Entry) (h : IsSound r s entries)
   seen = record (view s) { tokens = tokens now; last = Some (Up (bare id) log) }
 
   sees : Sees seen now
-  sees = record {
-    rest = ap (λ ws. record (view now) { waiting = ws }) (sym (mail_waits true id.home (Return id) (record s { loose = rest }) refl));
-    tokens = λ f weight. refl;
-    asking = λ x. refl;
-    asks = λ x. same_seen x parcel_asks s now (omega (arith, moves (by_parcel (λ p. count_by (same_object x) (parcel_asks p))) 0 refl refl));
-    live = λ x home. refl;
-    dead = λ x. same_dead x s now (omega (arith, moves (by_own (λ p. count_by (same_object x) (parcel_frees p))) 0 refl refl));
-    refusals = λ x k. k;
-    failing = omega arith;
-  }
+  sees = sees_by seen now (ap (λ ws. record (view now) { waiting = ws }) (sym (mail_waits true id.home (Return id) (record s { loose = rest }) refl))) (λ f weight. refl) (λ x. refl)
+      (λ x. same_asks x s now (omega (arith, moves (asks_of x) 0 refl refl))) (λ x. same_dead x s now (omega (arith, moves (frees_of x) 0 refl refl))) refl
 
   pub up_keeps : Keeps r s now e
   up_keeps = record {
@@ -92,7 +84,7 @@ module _ (r : Rules) (s : Turn) (entries : List Entry) (h : IsSound r s entries)
       asked = λ o n. omega (arith, moves (asked_by s.tables.here o n) 0 refl refl, moves (waits_for o n) 0 refl refl);
       given = λ j d o n. omega (arith, moves (given_to j o n) 0 refl (bound_none (id.home == j) 0 refl));
     };
-    counts = counts_still s now e refl refl refl (λ l. refl);
+    counts = counts_near s now e refl (omega arith) (omega arith) (omega arith) (omega arith) (omega arith) (λ l. refl);
   }
     where
       costs : (row : Row) → goes r row (Up (bare id) log) + weight row (Return id) ≡ causes r row (Up (bare id) log)
@@ -100,8 +92,6 @@ module _ (r : Rules) (s : Turn) (entries : List Entry) (h : IsSound r s entries)
 
 -- so it is with the step
 pub up_step : (r : Rules) (s s' : Turn) (entries : List Entry) (o : Id) (log : ℕ) → IsSound r s entries → GivesUp s o log s' → Keeps r s s' (Up o log)
-up_step r s s' entries o log h g = subst (λ x. Keeps r s s' (Up x log)) (sym g.object) (subst (λ x. Keeps r s x (Up (bare g.id) log)) (sym again)
-    (up_keeps r s entries h log g.id g.rest g.calm.due g.calm.fresh g.first g.has))
-  where
-    again : s' ≡ wrote (Up (bare g.id) log) (mails g.id.home (Return g.id) (record s { loose = g.rest }))
-    again = g.now ∙ ap (λ x. wrote (Up x log) (mails g.id.home (Return g.id) (record s { loose = g.rest }))) g.object
+up_step r s s' entries o log h g =
+    told_as r s s' (λ x. Up x log) (λ x. mails g.id.home (Return g.id) (record s { loose = g.rest })) o (bare g.id) g.object g.now
+    (up_keeps r s entries h log g.id g.rest g.calm.due g.calm.fresh g.first g.has)
