@@ -96,10 +96,7 @@ module _ (r : Rules) (s : Turn) (entries : List Entry) (h : IsSound r s entries)
   waits = mail_waits true asker give (with_records records (drops s)) refl ∙ drop_waits (Ask id asker entry) s hand refl
 
   pub asks : (x : Id) → count_by (same_object x) (flat_map parcel_asks (parcels s)) ≡ count_by (same_object x) (flat_map parcel_asks (parcels now))
-  asks x = same_asks x s now (omega (
-    arith,
-    moves (asks_of x) (count_by (same_object x) (id ∷ [])) (count_by (same_object x) (id ∷ [])) refl refl refl refl,
-  ))
+  asks x = same_asks x s now (omega (arith, moves (asks_of x) (count_by (same_object x) (id ∷ [])) (count_by (same_object x) (id ∷ [])) refl refl refl refl))
 
   pub dead : (x : Id) → count_by (same_object x) (view now).dead ≤ count_by (same_object x) (view s).dead
   dead x = same_dead x s now (omega (arith, moves (frees_of x) 0 0 refl refl refl refl))
@@ -184,10 +181,8 @@ module _ (r : Rules) (s : Turn) (entries : List Entry) (h : IsSound r s entries)
     traded : (f : Token → ℕ) → sum_by f (tokens grants) + f (owed_token (bare id) 0) ≡ sum_by f (tokens s) + f (owed_token (bare id) log)
     traded f = omega (
       arith,
-      view_worth f s,
-      view_worth f grants,
-      moves r s entries h id asker entry count (Some log) Granted records hand near home least.1 (inr refl) some none (worth f) (f (owed_token (bare id) 0)) (f (owed_token (bare id) log))
-          (owed_by f id 0 least.0) (owed_by f id 0 least.0) (owed_by f (record id { log = Some log }) log refl) (owed_by f (record id { log = Some log }) log refl),
+      view_worth f,
+      moves r s entries h id asker entry count (Some log) Granted records hand near home least.1 (inr refl) some none (worth f) (f (owed_token (bare id) 0)) (f (owed_token (bare id) log)) (owed_by f id 0 least.0) (owed_by f id 0 least.0) (owed_by f (record id { log = Some log }) log refl) (owed_by f (record id { log = Some log }) log refl),
     )
 
     abbrev seen : View
@@ -218,13 +213,7 @@ module _ (r : Rules) (s : Turn) (entries : List Entry) (h : IsSound r s entries)
           (was_counted ∙ ap (λ (o : Option Record). option_map_or (λ (x : Record). x.count) o 0) recounts.was) live
           (sum ∙ ap (λ n. old.count + 2 ^ n) (sym h.rules.credit_log)) (subst (λ n. count ≤ n) (sym h.rules.credit_limit) limit) one_owed
           (record {
-            sums = λ f weight. omega (
-              arith,
-              traded f,
-              ap (λ n. f (owed_token (bare id) n)) h.rules.credit_log,
-              sum_by-cons f (owed_token (bare id) 0) [],
-              sum_by-cons f (owed_token (bare id) r.credit_log) [],
-            );
+            sums = λ f weight. omega (arith, traded f, ap (λ n. f (owed_token (bare id) n)) h.rules.credit_log, sum_by-cons f);
           })
           (λ x at. one_recounted id old (Some (raised s.tables.profile old)) s.tables.records records recounts x
           ∙ ap (λ n. cond (same_object x (bare id)) n (count_in (find (is_recorded x) (map counted s.tables.records)))) raised_count),
@@ -253,10 +242,8 @@ module _ (r : Rules) (s : Turn) (entries : List Entry) (h : IsSound r s entries)
           rest = ap (λ ws. record (view refuses) { waiting = ws }) (sym (waits r s entries h id asker entry count id.log Refused records hand near home credit (inl is_least_log) more refusal));
           tokens = λ f weight. omega (
             arith,
-            view_worth f s,
-            view_worth f refuses,
-            moves r s entries h id asker entry count id.log Refused records hand near home credit (inl is_least_log) more refusal (worth f)
-                (sum_by f (parcel_tokens (Ask id asker entry))) (sum_by f (parcel_tokens (Ask id asker entry))) refl refl refl refl,
+            view_worth f,
+            moves r s entries h id asker entry count id.log Refused records hand near home credit (inl is_least_log) more refusal (worth f) (sum_by f (parcel_tokens (Ask id asker entry))) (sum_by f (parcel_tokens (Ask id asker entry))) refl refl refl refl,
           );
           asking = λ x. refl;
           asks = λ x. asks r s entries h id asker entry count id.log Refused records hand near home credit (inl is_least_log) more refusal x;

@@ -97,23 +97,10 @@ module _ (r : Rules) (s : Turn) (entries : List Entry) (h : IsSound r s entries)
 
   -- the id gives its credit up
   tokens_hand : (f : Token → ℕ) → sum_by f (tokens_of asker.hand) + f (held_token (bare id) 0) ≡ sum_by f (tokens_of w.hand)
-  tokens_hand f = omega (
-    arith,
-    ids_each f (set w.hand p (bare id)),
-    ids_each f w.hand,
-    set_sum (λ y. sum_by f (tokens_of (y ∷ []))) w.hand p id (bare id) at,
-    held_by f id 0 least.0,
-    no_tokens f (id ∷ []),
-  )
+  tokens_hand f = omega (arith, ids_each f, set_sum (λ y. sum_by f (tokens_of (y ∷ []))) w.hand p id (bare id) at, held_by f id 0 least.0, no_tokens f (id ∷ []))
 
   traded : (f : Token → ℕ) → sum_by f (tokens now) + f (held_token (bare id) 0) ≡ sum_by f (tokens s) + f (owed_token (bare id) 0)
-  traded f = omega (
-    arith,
-    view_worth f s,
-    view_worth f now,
-    tokens_hand f,
-    moves (worth f) (f (owed_token (bare id) 0)) (owed_by f id 0 least.0) (owed_by f id 0 least.0),
-  )
+  traded f = omega (arith, view_worth f, tokens_hand f, moves (worth f) (f (owed_token (bare id) 0)) (owed_by f id 0 least.0) (owed_by f id 0 least.0))
 
   abbrev seen : View
   seen = record (view s) { tokens = tokens now; asking = (view now).asking; asks = (view now).asks; last = Some (Asked (bare id)) }
@@ -133,8 +120,7 @@ module _ (r : Rules) (s : Turn) (entries : List Entry) (h : IsSound r s entries)
   asked_more : (o : Id) → count_by (same_object o) (view now).asking ≡ count_by (same_object o) (view s).asking + count_by (same_object o) (bare id ∷ [])
   asked_more o = omega (
     arith,
-    view_asking o s,
-    view_asking o now,
+    view_asking o,
     moves (asking o) 0 refl refl,
     put_asked o (length (ids_named w)) w.hand p id (bare id) low at,
     ap {B = ℕ} (λ b. cond b (cond (same_object o id) 1 0) 0) was_not,
@@ -143,12 +129,7 @@ module _ (r : Rules) (s : Turn) (entries : List Entry) (h : IsSound r s entries)
   )
 
   asks_more : (o : Id) → count_by (same_object o) (view now).asks ≡ count_by (same_object o) (view s).asks + count_by (same_object o) (bare id ∷ [])
-  asks_more o = omega (
-    arith,
-    seen_sum (counts_of (same_object o)) parcel_asks s,
-    seen_sum (counts_of (same_object o)) parcel_asks now,
-    moves (asks_of o) (count_by (same_object o) (bare id ∷ [])) refl refl,
-  )
+  asks_more o = omega (arith, seen_sum (counts_of (same_object o)) parcel_asks, moves (asks_of o) (count_by (same_object o) (bare id ∷ [])) refl refl)
 
   pub asked_keeps : Keeps r s now (Asked (bare id))
   asked_keeps = record {

@@ -151,15 +151,7 @@ module _ (r : Rules) (s : Turn) (entries : List Entry) (h : IsSound r s entries)
       follows_born r (view s) o (birth_state make) (map bare_standing s.tables.objects) [] (tokens now) (map counted (s.tables.records ++ made ∷ [])) (ap (map bare_due) due)
           refl refl (fit.least, fit.most) refl refl refl refl fit.state (sym (append-nil (map bare_standing s.tables.objects)))
           (record {
-            sums = λ f fair. omega (
-              arith,
-              view_worth f s,
-              view_worth f now,
-              moves (worth f),
-              more f,
-              ap (λ n. f (held_token o n)) h.rules.credit_log,
-              sum_by-cons f (held_token o r.credit_log) [],
-            );
+            sums = λ f fair. omega (arith, view_worth f, moves (worth f), more f, ap (λ n. f (held_token o n)) h.rules.credit_log, sum_by-cons f (held_token o r.credit_log) []);
           })
           counts_more,
       sees_leads r seen now sees,

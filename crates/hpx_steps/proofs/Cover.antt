@@ -107,12 +107,7 @@ held_states o managed (x ∷ xs) = omega (
 -- the same names, with or without credits
 names_bare : (o : Id) (ids : List Id) → count_by (same_object o) (map bare ids) ≡ count_by (same_object o) ids
 names_bare o [] = refl
-names_bare o (id ∷ ids) = omega (
-  arith,
-  sum_by-cons (λ x. cond (same_object o x) 1 0) (bare id) (map bare ids),
-  sum_by-cons (λ x. cond (same_object o x) 1 0) id ids,
-  names_bare o ids,
-)
+names_bare o (id ∷ ids) = omega (arith, sum_by-cons (λ x. cond (same_object o x) 1 0), names_bare o ids)
 
 is_below : (kind : ℕ) → nat_le 16 kind ≡ false → kind < 16
 is_below kind e = grind (arith, nat_tests)
@@ -130,12 +125,7 @@ bare_asked o managed (id ∷ ids) = elim (cases_Bool (is_asked id)) [
         no_more (same_object o id) (not (is_some id.log)),
       ))
   | inr f ↦ rw f
-      (omega (
-        arith,
-        bare_asked o managed ids,
-        sum_by-cons (λ (x : Id). cond (same_object o x && not (is_some x.log)) 1 0) id ids,
-        none (same_object o id) (not (is_some id.log)) refl f,
-      ))
+      (omega (arith, bare_asked o managed ids, sum_by-cons (λ (x : Id). cond (same_object o x && not (is_some x.log)) 1 0) id ids, none (same_object o id) (not (is_some id.log)) refl f))
 ]
   where
     no_more : (a b : Bool) → cond (a && b) 1 0 ≤ cond a 1 0
@@ -193,12 +183,7 @@ fired_names o [] (w ∷ ws) = omega (
   sum_by-cons (λ (y : Waits). count_by (same_object o) y.job.action.ids) w ws,
   names_bare o w.job.action.ids,
 )
-fired_names o (a ∷ running) ws = omega (
-  arith,
-  fired_names o running ws,
-  sum_by-cons (act_names o) (bare_act a) (map bare_act (fired_of running ws)),
-  sum_by-cons (act_names o) (bare_act a) (map bare_act running),
-)
+fired_names o (a ∷ running) ws = omega (arith, fired_names o running ws, sum_by-cons (act_names o))
 
 -- where all is tidy, and no more ids are without credit than were lent, each name is covered, and each ask
 pub view_covered : (s : Turn) → IsTidy s → AreLent s.tables.objects (commits s) → IsCovered (view s)
@@ -232,8 +217,7 @@ view_covered s tidy lent o managed =
         less named held (λ p h. acts_named o managed p h),
         sum_by-append (act_names o) (map bare_act s.tables.accepted) (flat_map parcel_acts (parcels s)),
         ids_flat (held_counts o) (λ (x : Standing). x.state.ids) s.tables.objects,
-        ids_flat (held_counts o) (λ (a : Act). a.ids) s.tables.accepted,
-        ids_flat (held_counts o) (λ (a : Act). a.ids) s.tables.running,
+        ids_flat (held_counts o) (λ (a : Act). a.ids),
         ids_flat (held_counts o) (λ (w : Waits). w.hand) (commits s),
         sum_by-append (λ (w : Waits). weighs (held_counts o) w.hand) s.working s.tables.pending,
         ids_flat (held_counts o) due_ids s.due,

@@ -92,8 +92,7 @@ module _ (r : Rules) (s : Turn) (entries : List Entry) (h : IsSound r s entries)
   pub dealt : (f : Token → ℕ) → sum_by f (tokens s) ≡ sum_by f (tokens now)
   dealt f = omega (
     arith,
-    view_worth f s,
-    view_worth f now,
+    view_worth f,
     moves (worth f),
     ap (λ (y : State). sum_by f (tokens_of y.ids)) lends,
     no_tokens f w.job.state.ids,
@@ -137,12 +136,7 @@ module _ (r : Rules) (s : Turn) (entries : List Entry) (h : IsSound r s entries)
       none_of_these (suc n) (y ∷ ys) k = let first : is_asked y ≡ false = k 0 (omega arith) in rw first (none_of_these n ys (λ p lt. k (suc p) (omega (arith, lt))))
 
   pub asking_same : (o : Id) → count_by (same_object o) (view s).asking ≡ count_by (same_object o) (view now).asking
-  asking_same o = omega (
-    arith,
-    view_asking o s,
-    view_asking o now,
-    stays (asking o) (ap (names_of o) none_left) refl refl (λ d. refl) (λ i. refl),
-  )
+  asking_same o = omega (arith, view_asking o, stays (asking o) (ap (names_of o) none_left) refl refl (λ d. refl) (λ i. refl))
 
   abbrev pub refused : List Refusal
   refused = refusal_of w.job.action w.refused

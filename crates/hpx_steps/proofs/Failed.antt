@@ -9,12 +9,7 @@ any_bare o [] = refl
 any_bare o (id ∷ ids) = ap (λ b. same_object o id || b) (any_bare o ids)
 
 any_turned : (p : Id → Bool) (xs ys : List Id) → list_any p (xs ++ ys) ≡ true → list_any p (ys ++ xs) ≡ true
-any_turned p xs ys h = any_counted p (ys ++ xs) (omega (
-  arith,
-  counted_any p (xs ++ ys) h,
-  sum_by-append (counts_of p) xs ys,
-  sum_by-append (counts_of p) ys xs,
-))
+any_turned p xs ys h = any_counted p (ys ++ xs) (omega (arith, counted_any p (xs ++ ys) h, sum_by-append (counts_of p)))
 
 module _ (r : Rules) (s : Turn) (entries : List Entry) (h : IsSound r s entries) (w : Waits) (rest : List Waits) (j : ℕ) (x : Standing) (left : Remains)
     (g : Ends s (name_of w.job.action) w rest j x left) (fresh : s.fresh ≡ []) (o : Id) (refused : w.refused ≡ Some o)

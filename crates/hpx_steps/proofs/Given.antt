@@ -135,30 +135,21 @@ module _ (r : Rules) (s : Turn) (entries : List Entry) (h : IsSound r s entries)
   tokens_hand : (f : Token → ℕ) → sum_by f (tokens_of given.hand) ≡ sum_by f (tokens_of w.hand) + f (held_token (bare id) log)
   tokens_hand f = omega (
     arith,
-    ids_each f (set w.hand ask.place id),
-    ids_each f w.hand,
+    ids_each f,
     set_sum (λ y. sum_by f (tokens_of (y ∷ []))) w.hand ask.place (id_at w.hand ask.place) id at,
     held_by f id log has,
     bare_tokens f (id_at w.hand ask.place) gave,
   )
 
   traded : (f : Token → ℕ) → sum_by f (tokens now) + f (owed_token (bare id) log) ≡ sum_by f (tokens s) + f (held_token (bare id) log)
-  traded f = omega (
-    arith,
-    view_worth f s,
-    view_worth f now,
-    tokens_hand f,
-    moves (worth f) (f (owed_token (bare id) log)) (owed_by f id log has) (owed_by f id log has) refl,
-  )
+  traded f = omega (arith, view_worth f, tokens_hand f, moves (worth f) (f (owed_token (bare id) log)) (owed_by f id log has) (owed_by f id log has) refl)
 
   asking_less : (o : Id) → count_by (same_object o) (view s).asking ≡ count_by (same_object o) (view now).asking + count_by (same_object o) (bare id ∷ [])
   asking_less o = omega (
     arith,
-    view_asking o s,
-    view_asking o now,
+    view_asking o,
     moves (asking o) 0 refl refl refl,
-    put_asked o (length (ids_named w)) w.hand ask.place (id_at w.hand ask.place) id
-        (asked_low s.tables.here s.tables.localities s.tables.profile.credit_log w n ask id entry its.0 its.1 asked for credit brings) at,
+    put_asked o (length (ids_named w)) w.hand ask.place (id_at w.hand ask.place) id (asked_low s.tables.here s.tables.localities s.tables.profile.credit_log w n ask id entry its.0 its.1 asked for credit brings) at,
     ap {B = ℕ} (λ b. cond b (cond (same_object o (id_at w.hand ask.place)) 1 0) 0) gave,
     ap {B = ℕ} (λ b. cond b (cond (same_object o id) 1 0) 0) (has_not_asked id log has),
     ap {B = ℕ} (λ (x : Id). cond (same_object o x) 1 0) same_id,
@@ -166,12 +157,7 @@ module _ (r : Rules) (s : Turn) (entries : List Entry) (h : IsSound r s entries)
   )
 
   asks_less : (o : Id) → count_by (same_object o) (view s).asks ≡ count_by (same_object o) (view now).asks + count_by (same_object o) (bare id ∷ [])
-  asks_less o = omega (
-    arith,
-    seen_sum (counts_of (same_object o)) parcel_asks s,
-    seen_sum (counts_of (same_object o)) parcel_asks now,
-    moves (asks_of o) (count_by (same_object o) (bare id ∷ [])) refl refl refl,
-  )
+  asks_less o = omega (arith, seen_sum (counts_of (same_object o)) parcel_asks, moves (asks_of o) (count_by (same_object o) (bare id ∷ [])) refl refl refl)
 
   -- ---- refusals
 
@@ -180,12 +166,7 @@ module _ (r : Rules) (s : Turn) (entries : List Entry) (h : IsSound r s entries)
 
   split_refusals : (f : Refusal → ℕ) (ls ms : List Waits) (v : Waits)
       → sum_by f (refusals_of (ls ++ v ∷ ms)) ≡ sum_by f (refusals_of (ls ++ ms)) + sum_by f (refusal_of v.job.action v.refused)
-  split_refusals f ls ms v = omega (
-    arith,
-    flat_sum f (λ (y : Waits). refusal_of y.job.action y.refused) (ls ++ v ∷ ms),
-    flat_sum f (λ (y : Waits). refusal_of y.job.action y.refused) (ls ++ ms),
-    sum_middle (λ (y : Waits). sum_by f (refusal_of y.job.action y.refused)) ls v ms,
-  )
+  split_refusals f ls ms v = omega (arith, flat_sum f (λ (y : Waits). refusal_of y.job.action y.refused), sum_middle (λ (y : Waits). sum_by f (refusal_of y.job.action y.refused)) ls v ms)
 
   turned_refusals : (f : Refusal → ℕ) → sum_by f (refusals_of (commits now)) + sum_by f (refusal_of w.job.action w.refused)
       ≡ sum_by f (refusals_of (commits s)) + sum_by f (refusal_of w.job.action given.refused)
@@ -323,12 +304,7 @@ module _ (r : Rules) (s : Turn) (entries : List Entry) (h : IsSound r s entries)
     };
     orders = record {
       sent = tt;
-      asked = λ o m. omega (
-        arith,
-        moves (asked_by s.tables.here o m) (0 + gives_for o m (Give id entry)) refl refl refl,
-        moves (waits_for o m) 0 refl refl refl,
-        less_asked o m,
-      );
+      asked = λ o m. omega (arith, moves (asked_by s.tables.here o m) (0 + gives_for o m (Give id entry)) refl refl refl, moves (waits_for o m) 0 refl refl refl, less_asked o m);
       given = λ j d o m. omega (arith, moves (given_to j o m) 0 refl refl refl);
     };
     counts = counts_near s now (Given (bare id) log) refl (omega arith) (omega arith) (omega arith) (omega arith) (omega arith) (λ l. refl);

@@ -79,12 +79,7 @@ asks_one o x = cond (is_asked x) (cond (same_object o x) 1 0) 0
 
 asked_behind : (o z : Id) (xs ys : List Id) (a b : ℕ) → names_of o (filter is_asked xs) + a ≡ names_of o (filter is_asked ys) + b → (c : Bool) → is_asked z ≡ c
     → names_of o (filter is_asked (z ∷ xs)) + a ≡ names_of o (filter is_asked (z ∷ ys)) + b
-asked_behind o z xs ys a b same true e = rw e (omega (
-  arith,
-  same,
-  sum_by-cons (λ k. cond (same_object o k) 1 0) z (filter is_asked xs),
-  sum_by-cons (λ k. cond (same_object o k) 1 0) z (filter is_asked ys),
-))
+asked_behind o z xs ys a b same true e = rw e (omega (arith, same, sum_by-cons (λ k. cond (same_object o k) 1 0)))
 asked_behind o z xs ys a b same false e = rw e same
 
 pub put_asked : (o : Id) (n : ℕ) (ids : List Id) (p : ℕ) (x y : Id) → p < n → slice_get ids p ≡ Some x

@@ -36,12 +36,7 @@ module _ (r : Rules) (s : Turn) (entries : List Entry) (h : IsSound r s entries)
   }
 
   asks_more : (x : Id) → count_by (same_object x) (view now).asks ≡ count_by (same_object x) (view s).asks + count_by (same_object x) (parcel_asks p)
-  asks_more x = omega (
-    arith,
-    seen_sum (counts_of (same_object x)) parcel_asks s,
-    seen_sum (counts_of (same_object x)) parcel_asks now,
-    moves (asks_of x),
-  )
+  asks_more x = omega (arith, seen_sum (counts_of (same_object x)) parcel_asks, moves (asks_of x))
 
   sees : Sees seen now
   sees = sees_by seen now refl (λ f weight. refl) (λ x. refl) (λ x. refl) (λ x. omega arith) refl

@@ -32,14 +32,7 @@ module _ (r : Rules) (v : View) (l m l' m' : List Act) (act : Act) (is : v.fired
 
   moved_covered : IsCovered v → IsCovered moved
   moved_covered covered o managed = record {
-    named = omega (
-      arith,
-      (covered o managed).named,
-      ap (sum_by (act_names o)) is,
-      sum_middle (act_names o) l act m,
-      sum_middle (act_names o) l' act m',
-      ap (sum_by (act_names o)) same,
-    );
+    named = omega (arith, (covered o managed).named, ap (sum_by (act_names o)) is, sum_middle (act_names o) l act m, sum_middle (act_names o) l' act m', ap (sum_by (act_names o)) same);
     pending = (covered o managed).pending;
   }
 
@@ -78,14 +71,7 @@ module _ (r : Rules) (v : View) (l m l' m' : List Act) (act : Act) (is : v.waiti
 
   waits_covered : IsCovered v → IsCovered waits_moved
   waits_covered covered o managed = record {
-    named = omega (
-      arith,
-      (covered o managed).named,
-      ap (sum_by (act_names o)) is,
-      sum_middle (act_names o) l act m,
-      sum_middle (act_names o) l' act m',
-      ap (sum_by (act_names o)) same,
-    );
+    named = omega (arith, (covered o managed).named, ap (sum_by (act_names o)) is, sum_middle (act_names o) l act m, sum_middle (act_names o) l' act m', ap (sum_by (act_names o)) same);
     pending = (covered o managed).pending;
   }
 

@@ -67,12 +67,7 @@ module _ (r : Rules) (s : Turn) (entries : List Entry) (h : IsSound r s entries)
       follows_out r (view s) x.parcel bytes front back (tokens now) (view now).asks (ap (map bare_due) due) fresh spelled x.to
           (omega (arith, its.1.somewhere, h.rules.localities)) its.1.away (may_leave (view s) x.to x.parcel its.3 its.1.may) waits
           (record { sums = λ f weight. omega (arith, view_worth f s, view_worth f now, moves (worth f)) })
-          (λ o. omega (
-            arith,
-            seen_sum (counts_of (same_object o)) parcel_asks s,
-            seen_sum (counts_of (same_object o)) parcel_asks now,
-            moves (asks_of o),
-          ))
+          (λ o. omega (arith, seen_sum (counts_of (same_object o)) parcel_asks, moves (asks_of o)))
           (λ before. sees_covers r seen now sees (view_covered now tidy h.commits.lent)),
       sees_leads r seen now sees,
     );

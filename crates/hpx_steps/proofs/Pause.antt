@@ -61,9 +61,7 @@ module _ (r : Rules) (s : Turn) (entries : List Entry) (h : IsSound r s entries)
     arith,
     ap (λ ws. sum_by f (refusals_of ws)) (sym behind),
     ap (sum_by f) (flat_append (λ (x : Waits). refusal_of x.job.action x.refused) others (waiter ∷ [])),
-    sum_by-append f (refusals_of others) (refusal_of w.job.action w.refused ++ []),
-    sum_by-append f (refusal_of w.job.action w.refused) [],
-    sum_by-append f (refusal_of w.job.action w.refused) (refusals_of others),
+    sum_by-append f,
     ap (sum_by f) refusals,
   )
 

@@ -71,11 +71,8 @@ module _ (r : Rules) (s : Turn) (entries : List Entry) (h : IsSound r s entries)
     rest = ap (λ ws. record (view now) { waiting = ws }) (sym put.is);
     tokens = λ f weight. omega (
       arith,
-      view_worth f s,
-      view_worth f now,
-      moves (worth f) (sum_by f (tokens_of act.ids)) (of_both (λ q. sum_by f (parcel_tokens q) ≡ sum_by f (tokens_of act.ids)) refl refl)
-          (of_both (λ q. sum_by f (parcel_tokens q) ≡ sum_by f (tokens_of act.ids)) refl refl) refl
-          (both (λ q. sum_by f (parcel_tokens q)) (sum_by f (tokens_of act.ids)) refl refl),
+      view_worth f,
+      moves (worth f) (sum_by f (tokens_of act.ids)) (of_both (λ q. sum_by f (parcel_tokens q) ≡ sum_by f (tokens_of act.ids)) refl refl) (of_both (λ q. sum_by f (parcel_tokens q) ≡ sum_by f (tokens_of act.ids)) refl refl) refl (both (λ q. sum_by f (parcel_tokens q)) (sum_by f (tokens_of act.ids)) refl refl),
     );
     asking = λ x. refl;
     asks = λ x.

@@ -66,24 +66,11 @@ module _ (k l log : ℕ) (w : Waits) (n : ℕ) (ask : AskedFor) (id : Id) (entry
         let now : is_asked (id_at (set w.hand ask.place id) q) ≡ false =
         subst (λ r. is_asked (id_at (set w.hand ask.place id) r) ≡ false) e (ap is_asked (put_there w.hand ask.place id inside) ∙ asked_no_more) in
         let was : is_asked (id_at w.hand q) ≡ true = subst (λ r. is_asked (id_at w.hand r) ≡ true) e was_asked in
-        omega (
-          arith,
-          left q,
-          ap {B = ℕ} (λ b. cond b 1 0) t,
-          its.once q lt,
-          ap {B = ℕ} (λ b. cond b 1 0) was,
-          ap {B = ℕ} (λ b. cond b 1 0) now,
-        )
+        omega (arith, left q, ap {B = ℕ} (λ b. cond b 1 0) t, its.once q lt, ap {B = ℕ} (λ b. cond b 1 0) was, ap {B = ℕ} (λ b. cond b 1 0) now)
     | inr f ↦
         let other : id_at (set w.hand ask.place id) q ≡ id_at w.hand q =
         put_elsewhere w.hand ask.place q id (λ e. let t : true ≡ false = sym (eq-eqb ask.place q (sym e)) ∙ f in cc) in
-        omega (
-          arith,
-          left q,
-          ap {B = ℕ} (λ b. cond b 1 0) f,
-          its.once q lt,
-          ap {B = ℕ} (λ (x : Id). cond (is_asked x) 1 0) other,
-        )
+        omega (arith, left q, ap {B = ℕ} (λ b. cond b 1 0) f, its.once q lt, ap {B = ℕ} (λ (x : Id). cond (is_asked x) 1 0) other)
   ]
 
   -- what the job had has its credit, where it was split ahead too

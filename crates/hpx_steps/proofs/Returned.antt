@@ -78,12 +78,7 @@ module _ (r : Rules) (s : Turn) (entries : List Entry) (h : IsSound r s entries)
       (mail_tidy s.tables dead old.place (Free (bare id)) (λ b. (refl, managed)) (λ b. sym home) (λ b. tt) (λ b c. here_is_no_other s.tables old.place stays.0 c))
 
   gone : (f : Token → ℕ) → sum_by f (tokens now) + f (owed_token (bare id) log) ≡ sum_by f (tokens s)
-  gone f = omega (
-    arith,
-    view_worth f s,
-    view_worth f now,
-    leaves (worth f) (f (owed_token (bare id) log)) (owed_by f id log has) (owed_by f id log has) refl refl,
-  )
+  gone f = omega (arith, view_worth f, leaves (worth f) (f (owed_token (bare id) log)) (owed_by f id log has) (owed_by f id log has) refl refl)
 
   abbrev seen : View
   seen = record (view s) {
@@ -100,13 +95,7 @@ module _ (r : Rules) (s : Turn) (entries : List Entry) (h : IsSound r s entries)
     asking = λ x. refl;
     asks = λ x. same_asks x s now (omega (arith, leaves (asks_of x) 0 refl refl refl refl));
     live = λ x at. refl;
-    dead = λ x. omega (
-      arith,
-      own_sum (counts_of (same_object x)) parcel_frees s,
-      own_sum (counts_of (same_object x)) parcel_frees now,
-      dies x,
-      if_dead (count == 0) x,
-    );
+    dead = λ x. omega (arith, own_sum (counts_of (same_object x)) parcel_frees, dies x, if_dead (count == 0) x);
     refusals = λ x k. k;
     failing = omega arith;
   }

@@ -77,11 +77,7 @@ module _ (r : Rules) (s : Turn) (entries : List Entry) (h : IsSound r s entries)
     numbered = fewer s now (omega arith) (λ n. omega (arith, moves (asks_under n) 0 refl (both (asks_as n) 0 refl refl)));
     pays = record {
       rows = λ row. omega (arith, moves (unpaid row) (of_act row) refl (both (weight row) (of_act row) (applied row) (moved row)), costs row);
-      once = omega (
-        arith,
-        turned hopping,
-        put_less hopping (may_stay s.tables act) (is_other s.tables (target_of act).home) act 1 (omega arith) (λ p. (few p, λ to. few p)),
-      );
+      once = omega (arith, turned hopping, put_less hopping (may_stay s.tables act) (is_other s.tables (target_of act).home) act 1 (omega arith) (λ p. (few p, λ to. few p)));
       fired = omega (arith, turned joined);
       frees = λ o. omega (arith, moves (freeing o) 0 refl (both (λ p. 0) 0 refl refl));
     };
@@ -92,10 +88,7 @@ module _ (r : Rules) (s : Turn) (entries : List Entry) (h : IsSound r s entries)
         moves (asked_by s.tables.here o n) 0 refl (λ p e. (carried (λ q. asks_for s.tables.here o n q + gives_for o n q) 0 refl refl p e, λ to. carried (asks_for s.tables.here o n) 0 refl refl p e)),
         moves (waits_for o n) 0 refl (both (λ p. 0) 0 refl refl),
       );
-      given = λ j d o n. omega (
-        arith,
-        moves (given_to j o n) 0 refl (λ p e. (refl, λ to. bound_none (to == j) (gives_for o n p) (carried (gives_for o n) 0 refl refl p e))),
-      );
+      given = λ j d o n. omega (arith, moves (given_to j o n) 0 refl (λ p e. (refl, λ to. bound_none (to == j) (gives_for o n p) (carried (gives_for o n) 0 refl refl p e))));
     };
     counts = counts_near s now (Sent name) refl (omega arith) (omega arith) (omega arith) (omega arith) (omega arith) (λ l. refl);
   }

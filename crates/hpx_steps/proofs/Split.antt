@@ -28,8 +28,7 @@ module _ (r : Rules) (s : Turn) (entries : List Entry) (h : IsSound r s entries)
   tokens_hand f = omega (
     arith,
     ids_append f (set w.hand p (half id)) (half id ∷ []),
-    ids_each f (set w.hand p (half id)),
-    ids_each f w.hand,
+    ids_each f,
     set_sum (λ y. sum_by f (tokens_of (y ∷ []))) w.hand p id (half id) at,
     held_by f id log has,
     held_by f (half id) (log - 1) halved,
@@ -80,16 +79,7 @@ module _ (r : Rules) (s : Turn) (entries : List Entry) (h : IsSound r s entries)
             counts_true (same_token (held_token (bare id) log)) (held_token (bare id) log) (token_own (held_token (bare id) log)),
           ))
           (record {
-            sums = λ f fair. omega (
-              arith,
-              view_worth f s,
-              view_worth f now,
-              moves (worth f),
-              tokens_hand f,
-              sum_by-cons f (held_token (bare id) log) [],
-              sum_by-cons f (held_token (bare id) (log - 1)) [],
-              sum_by-cons f (held_token (bare id) (log - 1)) (held_token (bare id) (log - 1) ∷ []),
-            );
+            sums = λ f fair. omega (arith, view_worth f, moves (worth f), tokens_hand f, sum_by-cons f);
           }),
       sees_leads r seen now sees,
     );

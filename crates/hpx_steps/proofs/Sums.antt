@@ -64,13 +64,7 @@ pub parcels_sum : (w : Parcel → ℕ) (s : Turn) → sum_by w (parcels s)
     ≡ sum_by w s.came + sum_by w s.mailed + sum_by w s.tables.desk + sum_by (λ (x : Outgoing). w x.parcel) s.tables.outgoing
 parcels_sum w s =
     let outs = map (λ (x : Outgoing). x.parcel) s.tables.outgoing in
-    omega (
-      arith,
-      sum_by-append w s.came (s.mailed ++ (s.tables.desk ++ outs)),
-      sum_by-append w s.mailed (s.tables.desk ++ outs),
-      sum_by-append w s.tables.desk outs,
-      map_sum w (λ (x : Outgoing). x.parcel) s.tables.outgoing,
-    )
+    omega (arith, sum_by-append w, map_sum w (λ (x : Outgoing). x.parcel) s.tables.outgoing)
 
 -- what is seen of messages
 pub seen_sum : {Y : Type 0} (f : Y → ℕ) (h : Parcel → List Y) (s : Turn)
@@ -103,14 +97,12 @@ own_sum f h s =
     omega (
       arith,
       flat_sum f h (own_parcels s),
-      sum_by-append w s.mailed (s.tables.desk ++ outs),
-      sum_by-append w s.tables.desk outs,
+      sum_by-append w,
       map_sum w (λ (x : Outgoing). x.parcel) s.tables.outgoing,
       zeros s.came,
       zeros s.tables.accepted,
       zeros s.tables.running,
       zeros s.tables.pending,
-      zeros s.working,
       zeros s.working,
       zeros s.tables.objects,
       zeros s.due,
@@ -124,17 +116,9 @@ view_worth f s = omega (
   sum_by-append f (tokens_of (ids_here s)) (flat_map parcel_tokens (parcels s)),
   flat_sum f parcel_tokens (parcels s),
   parcels_sum (λ p. sum_by f (parcel_tokens p)) s,
-  ids_append f (flat_map (λ (x : Standing). x.state.ids) s.tables.objects)
-      (flat_map (λ (a : Act). a.ids) s.tables.accepted ++ (flat_map (λ (a : Act). a.ids) s.tables.running
-      ++ (flat_map (λ (w : Waits). w.hand) (commits s) ++ (flat_map due_ids s.due ++ s.loose)))),
-  ids_append f (flat_map (λ (a : Act). a.ids) s.tables.accepted)
-      (flat_map (λ (a : Act). a.ids) s.tables.running ++ (flat_map (λ (w : Waits). w.hand) (commits s) ++ (flat_map due_ids s.due ++ s.loose))),
-  ids_append f (flat_map (λ (a : Act). a.ids) s.tables.running) (flat_map (λ (w : Waits). w.hand) (commits s) ++ (flat_map due_ids s.due ++ s.loose)),
-  ids_append f (flat_map (λ (w : Waits). w.hand) (commits s)) (flat_map due_ids s.due ++ s.loose),
-  ids_append f (flat_map due_ids s.due) s.loose,
+  ids_append f,
   ids_flat f (λ (x : Standing). x.state.ids) s.tables.objects,
-  ids_flat f (λ (a : Act). a.ids) s.tables.accepted,
-  ids_flat f (λ (a : Act). a.ids) s.tables.running,
+  ids_flat f (λ (a : Act). a.ids),
   ids_flat f (λ (w : Waits). w.hand) (commits s),
   sum_by-append (λ (w : Waits). sum_by f (tokens_of w.hand)) s.working s.tables.pending,
   ids_flat f due_ids s.due,

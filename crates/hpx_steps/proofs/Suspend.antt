@@ -108,25 +108,8 @@ module _ (r : Rules) (s : Turn) (entries : List Entry) (h : IsSound r s entries)
   sees : Sees (record seen { last = s.last }) now
   sees = record {
     rest = ap (λ os. record (view now) { objects = os }) objects_then;
-    tokens = λ f fair. omega (
-      arith,
-      view_worth f s,
-      view_worth f now,
-      moves (worth f),
-      ids_append f job.state.ids (job.action.ids ++ later),
-      ids_append f job.action.ids later,
-      ap (λ (y : State). sum_by f (tokens_of y.ids)) state,
-      no_tokens f x.state.ids,
-      none_tokens f later none,
-    );
-    asking = λ o. omega (
-      arith,
-      view_asking o s,
-      view_asking o now,
-      moves (asking o),
-      ap (λ ids. names_of o (filter is_asked ids)) whole,
-      ap (names_of o) (all_none own owned),
-    );
+    tokens = λ f fair. omega (arith, view_worth f, moves (worth f), ids_append f, ap (λ (y : State). sum_by f (tokens_of y.ids)) state, no_tokens f x.state.ids, none_tokens f later none);
+    asking = λ o. omega (arith, view_asking o, moves (asking o), ap (λ ids. names_of o (filter is_asked ids)) whole, ap (names_of o) (all_none own owned));
     asks = λ o. refl;
     live = λ o home. refl;
     dead = λ o. omega arith;

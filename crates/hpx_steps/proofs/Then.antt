@@ -61,15 +61,7 @@ pub record Keeps (r : Rules) (s s' : Turn) (e : Event) : Type 0 where
 fired_append : (n m : ℕ) (es : List Event) (e : Event) → AreFired n es → joins e + n ≤ fires_one e + m → AreFired m (es ++ e ∷ [])
 fired_append n m [] e h less = (omega (arith, less, sum_by-cons joins e [], sum_by-cons fires_one e []), tt)
 fired_append n m (x ∷ es) e h less = (
-  omega (
-    arith,
-    h.0,
-    less,
-    sum_by-append joins (x ∷ es) (e ∷ []),
-    sum_by-append fires_one (x ∷ es) (e ∷ []),
-    sum_by-cons joins e [],
-    sum_by-cons fires_one e [],
-  ),
+  omega (arith, h.0, less, sum_by-append joins (x ∷ es) (e ∷ []), sum_by-append fires_one (x ∷ es) (e ∷ []), sum_by-cons joins e [], sum_by-cons fires_one e []),
   fired_append n m es e h.1 less,
 )
 
@@ -112,14 +104,7 @@ module _ (r : Rules) (s s' : Turn) (e : Event) (entries : List Entry) (h : IsSou
             (subst (λ p. AllByRecursion (λ (x : Entry). SendsOwn r s.tables.localities here p.credit_log x.event) (old ++ one)) (sym k.counts.profile) sends));
         asked = λ o n. subst (λ j. all_count (gone r (asks_for j o n)) (old ++ one) + weigh (asked_by j o n) s'
             ≤ weigh (waits_for o n) s' + (all_count (come r (gives_for o n)) (old ++ one) + all_count (come r (asks_for j o n)) (old ++ one))) (sym k.counts.here)
-            (omega (
-              arith,
-              h.orderly.asked o n,
-              k.orders.asked o n,
-              more (gone r (asks_for here o n)),
-              more (come r (gives_for o n)),
-              more (come r (asks_for here o n)),
-            ));
+            (omega (arith, h.orderly.asked o n, k.orders.asked o n, more (gone r (asks_for here o n)), more (come r (gives_for o n)), more (come r (asks_for here o n))));
         given = λ j d o n. omega (
           arith,
           h.orderly.given j (λ i. d (i ∙ sym k.counts.here)) o n,

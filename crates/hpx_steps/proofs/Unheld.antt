@@ -25,12 +25,7 @@ module _ (o : Id) where
 
   owing_holds : (cs : List Credit) → sum_by holds (map owing cs) ≡ 0
   owing_holds [] = refl
-  owing_holds (c ∷ cs) = omega (
-    arith,
-    sum_by-cons holds (owing c) (map owing cs),
-    owing_holds cs,
-    ap {B = ℕ} (λ b. cond b 1 0) (and_false (same_object o c.object)),
-  )
+  owing_holds (c ∷ cs) = omega (arith, sum_by-cons holds (owing c) (map owing cs), owing_holds cs, ap {B = ℕ} (λ b. cond b 1 0) (and_false (same_object o c.object)))
 
   bare_holds : (id : Id) → id.log ≡ None → sum_by holds (map held (credit_list id id.log ++ [])) ≡ 0
   bare_holds id none = ap (λ l. sum_by holds (map held (credit_list id l ++ []))) none

@@ -37,13 +37,7 @@ module _ (r : Rules) (s : Turn) (entries : List Entry) (h : IsSound r s entries)
   tidy = holding (TidyAt s) sent s now change.1 h.tidy (mail_tidy s.tables true id.home (Return id) (λ b. credit) (λ b. refl) (λ b. tt) (λ b c. tt))
 
   traded : (f : Token → ℕ) → sum_by f (tokens now) + f (held_token (bare id) log) ≡ sum_by f (tokens s) + f (owed_token (bare id) log)
-  traded f = omega (
-    arith,
-    view_worth f s,
-    view_worth f now,
-    held_by f id log has,
-    moves (worth f) (f (owed_token (bare id) log)) (owed_by f id log has) (owed_by f id log has),
-  )
+  traded f = omega (arith, view_worth f, held_by f id log has, moves (worth f) (f (owed_token (bare id) log)) (owed_by f id log has) (owed_by f id log has))
 
   abbrev seen : View
   seen = record (view s) { tokens = tokens now; last = Some (Up (bare id) log) }
