@@ -41,9 +41,6 @@ module _ (r : Rules) (s : Turn) (entries : List Entry) (h : IsSound r s entries)
       (working_change (Working w ∷ []) (Working bearer ∷ []) s (bearer ∷ rest) (first_turns (λ x. Working x) s.working w bearer rest works))
       (objects_change [] (StandsHere new ∷ []) (works_on bearer rest s) (s.tables.objects ++ new ∷ []) (more_come (λ x. StandsHere x) s.tables.objects (new ∷ [])))
 
-  moves : (f : Item → ℕ) → weigh f now + f (Working w) ≡ weigh f s + (f (Working bearer) + f (StandsHere new))
-  moves f = let k : weigh f now + (f (Working w) + 0) ≡ weigh f s + (f (Working bearer) + (f (StandsHere new) + 0)) = change.0 f in omega (arith, k)
-
   its : IsCommit s.tables.here s.tables.localities w
   its = h.tidy (Working w) (rw works (inl refl))
 
@@ -141,7 +138,7 @@ module _ (r : Rules) (s : Turn) (entries : List Entry) (h : IsSound r s entries)
   sees : Sees seen now
   sees = sees_by seen now (ap (λ ws. record (view now) { fired = map bare_act (fired_of s.tables.running (ws ++ s.tables.pending)); objects = map bare_standing s.tables.objects ++ new ∷ [] }) works
       ∙ ap (λ os. record (view now) { objects = os }) (sym (map-append bare_standing s.tables.objects (new ∷ []))))
-      (λ f fair. refl) (λ x. omega (arith, view_asking x s, view_asking x now, moves (asking x), ap (λ ids. names_of x (filter is_asked ids)) own)) (λ x. refl) (λ x. omega arith)
+      (λ f fair. refl) (λ x. omega (arith, view_asking x s, view_asking x now, change.0 (asking x), ap (λ ids. names_of x (filter is_asked ids)) own)) (λ x. refl) (λ x. omega arith)
       (ap (λ ws. record seen { refusals = refusals_of (ws ++ s.tables.pending); failing = length (refusals_of (ws ++ s.tables.pending)) }) works)
 
   pub bear_keeps : Keeps r s now e
@@ -151,7 +148,7 @@ module _ (r : Rules) (s : Turn) (entries : List Entry) (h : IsSound r s entries)
       follows_born r (view s) o (birth_state make) (map bare_standing s.tables.objects) [] (tokens now) (map counted (s.tables.records ++ made ∷ [])) (ap (map bare_due) due)
           refl refl (fit.least, fit.most) refl refl refl refl fit.state (sym (append-nil (map bare_standing s.tables.objects)))
           (record {
-            sums = λ f fair. omega (arith, view_worth f, moves (worth f), more f, ap (λ n. f (held_token o n)) h.rules.credit_log, sum_by-cons f (held_token o r.credit_log) []);
+            sums = λ f fair. omega (arith, view_worth f, change.0 (worth f), more f, ap (λ n. f (held_token o n)) h.rules.credit_log, sum_by-cons f (held_token o r.credit_log) []);
           })
           counts_more,
       sees_leads r seen now sees,

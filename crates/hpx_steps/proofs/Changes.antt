@@ -180,83 +180,61 @@ module _ {X : Type 0} (c : X → Item) where
 
 -- ---- the same in a turn
 
+-- what is there of one kind stays, or comes
+abbrev pub MayCome : {X : Type 0} → (X → Item) → List Item → List X → List X → Type 0
+MayCome {X} c into xs ys = (x : X) → Among x ys → Among x xs ⊎ Among (c x) into
+
+-- so is what is there of all kinds
+comes_by : (into : List Item) (s s' : Turn) → MayCome Came into s.came s'.came → MayCome Mailed into s.mailed s'.mailed → MayCome OnDesk into s.tables.desk s'.tables.desk
+    → MayCome Going into s.tables.outgoing s'.tables.outgoing → MayCome Accepted into s.tables.accepted s'.tables.accepted → MayCome Running into s.tables.running s'.tables.running
+    → MayCome Pending into s.tables.pending s'.tables.pending → MayCome Working into s.working s'.working → MayCome StandsHere into s.tables.objects s'.tables.objects
+    → MayCome IsDue into s.due s'.due → MayCome Loose into s.loose s'.loose
+    → Comes into s s'
+comes_by into s s' a b c d e f g h i j k (Came x) m = a x m
+comes_by into s s' a b c d e f g h i j k (Mailed x) m = b x m
+comes_by into s s' a b c d e f g h i j k (OnDesk x) m = c x m
+comes_by into s s' a b c d e f g h i j k (Going x) m = d x m
+comes_by into s s' a b c d e f g h i j k (Accepted x) m = e x m
+comes_by into s s' a b c d e f g h i j k (Running x) m = f x m
+comes_by into s s' a b c d e f g h i j k (Pending x) m = g x m
+comes_by into s s' a b c d e f g h i j k (Working x) m = h x m
+comes_by into s s' a b c d e f g h i j k (StandsHere x) m = i x m
+comes_by into s s' a b c d e f g h i j k (IsDue x) m = j x m
+comes_by into s s' a b c d e f g h i j k (Loose x) m = k x m
+
 module _ (out into : List Item) (s : Turn) where
   pub came_change : (ys : List Parcel) → Trade Came out into s.came ys → Changes out into s (record s { came = ys })
-  came_change ys k = (λ w. omega (arith, k.sums w), has)
-    where
-      has : (i : Item) → Has (record s { came = ys }) i → Has s i ⊎ Among i into
-      has (Came x) m = k.there x m
-      has i m = inl m
+  came_change ys k = (λ w. omega (arith, k.sums w), comes_by into s (record s { came = ys }) k.there (λ x m. inl m) (λ x m. inl m) (λ x m. inl m) (λ x m. inl m) (λ x m. inl m) (λ x m. inl m) (λ x m. inl m) (λ x m. inl m) (λ x m. inl m) (λ x m. inl m))
 
   pub mailed_change : (ys : List Parcel) → Trade Mailed out into s.mailed ys → Changes out into s (record s { mailed = ys })
-  mailed_change ys k = (λ w. omega (arith, k.sums w), has)
-    where
-      has : (i : Item) → Has (record s { mailed = ys }) i → Has s i ⊎ Among i into
-      has (Mailed x) m = k.there x m
-      has i m = inl m
+  mailed_change ys k = (λ w. omega (arith, k.sums w), comes_by into s (record s { mailed = ys }) (λ x m. inl m) k.there (λ x m. inl m) (λ x m. inl m) (λ x m. inl m) (λ x m. inl m) (λ x m. inl m) (λ x m. inl m) (λ x m. inl m) (λ x m. inl m) (λ x m. inl m))
 
   pub working_change : (ys : List Waits) → Trade Working out into s.working ys → Changes out into s (record s { working = ys })
-  working_change ys k = (λ w. omega (arith, k.sums w), has)
-    where
-      has : (i : Item) → Has (record s { working = ys }) i → Has s i ⊎ Among i into
-      has (Working x) m = k.there x m
-      has i m = inl m
+  working_change ys k = (λ w. omega (arith, k.sums w), comes_by into s (record s { working = ys }) (λ x m. inl m) (λ x m. inl m) (λ x m. inl m) (λ x m. inl m) (λ x m. inl m) (λ x m. inl m) (λ x m. inl m) k.there (λ x m. inl m) (λ x m. inl m) (λ x m. inl m))
 
   pub due_change : (ys : List Due) → Trade IsDue out into s.due ys → Changes out into s (record s { due = ys })
-  due_change ys k = (λ w. omega (arith, k.sums w), has)
-    where
-      has : (i : Item) → Has (record s { due = ys }) i → Has s i ⊎ Among i into
-      has (IsDue x) m = k.there x m
-      has i m = inl m
+  due_change ys k = (λ w. omega (arith, k.sums w), comes_by into s (record s { due = ys }) (λ x m. inl m) (λ x m. inl m) (λ x m. inl m) (λ x m. inl m) (λ x m. inl m) (λ x m. inl m) (λ x m. inl m) (λ x m. inl m) (λ x m. inl m) k.there (λ x m. inl m))
 
   pub loose_change : (ys : List Id) → Trade Loose out into s.loose ys → Changes out into s (record s { loose = ys })
-  loose_change ys k = (λ w. omega (arith, k.sums w), has)
-    where
-      has : (i : Item) → Has (record s { loose = ys }) i → Has s i ⊎ Among i into
-      has (Loose x) m = k.there x m
-      has i m = inl m
+  loose_change ys k = (λ w. omega (arith, k.sums w), comes_by into s (record s { loose = ys }) (λ x m. inl m) (λ x m. inl m) (λ x m. inl m) (λ x m. inl m) (λ x m. inl m) (λ x m. inl m) (λ x m. inl m) (λ x m. inl m) (λ x m. inl m) (λ x m. inl m) k.there)
 
   pub desk_change : (ys : List Parcel) → Trade OnDesk out into s.tables.desk ys → Changes out into s (record s { tables = record s.tables { desk = ys } })
-  desk_change ys k = (λ w. omega (arith, k.sums w), has)
-    where
-      has : (i : Item) → Has (record s { tables = record s.tables { desk = ys } }) i → Has s i ⊎ Among i into
-      has (OnDesk x) m = k.there x m
-      has i m = inl m
+  desk_change ys k = (λ w. omega (arith, k.sums w), comes_by into s (record s { tables = record s.tables { desk = ys } }) (λ x m. inl m) (λ x m. inl m) k.there (λ x m. inl m) (λ x m. inl m) (λ x m. inl m) (λ x m. inl m) (λ x m. inl m) (λ x m. inl m) (λ x m. inl m) (λ x m. inl m))
 
   pub outgoing_change : (ys : List Outgoing) → Trade Going out into s.tables.outgoing ys → Changes out into s (record s { tables = record s.tables { outgoing = ys } })
-  outgoing_change ys k = (λ w. omega (arith, k.sums w), has)
-    where
-      has : (i : Item) → Has (record s { tables = record s.tables { outgoing = ys } }) i → Has s i ⊎ Among i into
-      has (Going x) m = k.there x m
-      has i m = inl m
+  outgoing_change ys k = (λ w. omega (arith, k.sums w), comes_by into s (record s { tables = record s.tables { outgoing = ys } }) (λ x m. inl m) (λ x m. inl m) (λ x m. inl m) k.there (λ x m. inl m) (λ x m. inl m) (λ x m. inl m) (λ x m. inl m) (λ x m. inl m) (λ x m. inl m) (λ x m. inl m))
 
   pub accepted_change : (ys : List Act) → Trade Accepted out into s.tables.accepted ys → Changes out into s (record s { tables = record s.tables { accepted = ys } })
-  accepted_change ys k = (λ w. omega (arith, k.sums w), has)
-    where
-      has : (i : Item) → Has (record s { tables = record s.tables { accepted = ys } }) i → Has s i ⊎ Among i into
-      has (Accepted x) m = k.there x m
-      has i m = inl m
+  accepted_change ys k = (λ w. omega (arith, k.sums w), comes_by into s (record s { tables = record s.tables { accepted = ys } }) (λ x m. inl m) (λ x m. inl m) (λ x m. inl m) (λ x m. inl m) k.there (λ x m. inl m) (λ x m. inl m) (λ x m. inl m) (λ x m. inl m) (λ x m. inl m) (λ x m. inl m))
 
   pub running_change : (ys : List Act) → Trade Running out into s.tables.running ys → Changes out into s (record s { tables = record s.tables { running = ys } })
-  running_change ys k = (λ w. omega (arith, k.sums w), has)
-    where
-      has : (i : Item) → Has (record s { tables = record s.tables { running = ys } }) i → Has s i ⊎ Among i into
-      has (Running x) m = k.there x m
-      has i m = inl m
+  running_change ys k = (λ w. omega (arith, k.sums w), comes_by into s (record s { tables = record s.tables { running = ys } }) (λ x m. inl m) (λ x m. inl m) (λ x m. inl m) (λ x m. inl m) (λ x m. inl m) k.there (λ x m. inl m) (λ x m. inl m) (λ x m. inl m) (λ x m. inl m) (λ x m. inl m))
 
   pub pending_change : (ys : List Waits) → Trade Pending out into s.tables.pending ys → Changes out into s (record s { tables = record s.tables { pending = ys } })
-  pending_change ys k = (λ w. omega (arith, k.sums w), has)
-    where
-      has : (i : Item) → Has (record s { tables = record s.tables { pending = ys } }) i → Has s i ⊎ Among i into
-      has (Pending x) m = k.there x m
-      has i m = inl m
+  pending_change ys k = (λ w. omega (arith, k.sums w), comes_by into s (record s { tables = record s.tables { pending = ys } }) (λ x m. inl m) (λ x m. inl m) (λ x m. inl m) (λ x m. inl m) (λ x m. inl m) (λ x m. inl m) k.there (λ x m. inl m) (λ x m. inl m) (λ x m. inl m) (λ x m. inl m))
 
   pub objects_change : (ys : List Standing) → Trade StandsHere out into s.tables.objects ys → Changes out into s (record s { tables = record s.tables { objects = ys } })
-  objects_change ys k = (λ w. omega (arith, k.sums w), has)
-    where
-      has : (i : Item) → Has (record s { tables = record s.tables { objects = ys } }) i → Has s i ⊎ Among i into
-      has (StandsHere x) m = k.there x m
-      has i m = inl m
+  objects_change ys k = (λ w. omega (arith, k.sums w), comes_by into s (record s { tables = record s.tables { objects = ys } }) (λ x m. inl m) (λ x m. inl m) (λ x m. inl m) (λ x m. inl m) (λ x m. inl m) (λ x m. inl m) (λ x m. inl m) (λ x m. inl m) k.there (λ x m. inl m) (λ x m. inl m))
 
 -- ---- one more message
 
@@ -272,7 +250,16 @@ mail_change b to p s = (
     sum_by-append (λ x. w (Going x)) s.tables.outgoing (cond b (cond other (going to p ∷ []) []) []),
     both b other w,
   ),
-  has b other,
+  comes_by (sent_if b other to p) s (mails_if b to p s) (λ x m. inl m) (λ x m. inl m)
+      (λ x m. elim (among_either x s.tables.desk (cond b (cond other [] (p ∷ [])) []) m) [
+        | inl a ↦ inl a
+        | inr k ↦ inr (desk b other x k)
+      ])
+      (λ x m. elim (among_either x s.tables.outgoing (cond b (cond other (going to p ∷ []) []) []) m) [
+        | inl a ↦ inl a
+        | inr k ↦ inr (out b other x k)
+      ])
+      (λ x m. inl m) (λ x m. inl m) (λ x m. inl m) (λ x m. inl m) (λ x m. inl m) (λ x m. inl m) (λ x m. inl m),
 )
   where
     other : Bool
@@ -295,25 +282,6 @@ mail_change b to p s = (
     out true true x (inr m) = absurd m
     out true false x m = absurd m
     out false o x m = absurd m
-
-    then_sent : Bool → Bool → Turn
-    then_sent b o = record s {
-      tables = record s.tables {
-        desk = s.tables.desk ++ cond b (cond o [] (p ∷ [])) [];
-        outgoing = s.tables.outgoing ++ cond b (cond o (going to p ∷ []) []) [];
-      };
-    }
-
-    has : (b o : Bool) (i : Item) → Has (then_sent b o) i → Has s i ⊎ Among i (sent_if b o to p)
-    has b o (OnDesk x) m = elim (among_either x s.tables.desk (cond b (cond o [] (p ∷ [])) []) m) [
-      | inl a ↦ inl a
-      | inr k ↦ inr (desk b o x k)
-    ]
-    has b o (Going x) m = elim (among_either x s.tables.outgoing (cond b (cond o (going to p ∷ []) []) []) m) [
-      | inl a ↦ inl a
-      | inr k ↦ inr (out b o x k)
-    ]
-    has b o i m = inl m
 
 -- ---- one more action
 
@@ -366,22 +334,20 @@ pub hand_is : (p : Parcel) (s : Turn) (hand : HasInHand p s) → Has s (in_hand 
 hand_is p s (inl h) = rw h.0 (inl refl)
 hand_is p s (inr h) = rw h.1 (inl refl)
 
+none_comes : (s : Turn) → Comes [] s (drops s)
+none_comes s = comes_by [] s (drops s) (λ x m. absurd m) (λ x m. absurd m) (λ x m. inl m) (λ x m. inl m) (λ x m. inl m) (λ x m. inl m) (λ x m. inl m) (λ x m. inl m) (λ x m. inl m) (λ x m. inl m) (λ x m. inl m)
+
 pub drop_change : (p : Parcel) (s : Turn) (hand : HasInHand p s) → Changes (in_hand (is_frame p s hand) p ∷ []) [] s (drops s)
 drop_change p s (inl h) = (
   λ w. omega (arith, ap (sum_by (λ x. w (Came x))) h.0, ap (sum_by (λ x. w (Mailed x))) h.1, sum_by-cons (λ x. w (Came x)) p []),
-  has,
+  none_comes s,
 )
-  where
-    has : (i : Item) → Has (drops s) i → Has s i ⊎ Among i []
-    has (Came x) m = absurd m
-    has (Mailed x) m = absurd m
-    has i m = inl m
 drop_change p s (inr h) = (
   λ w. omega (arith, ap (sum_by (λ x. w (Came x))) h.0, ap (sum_by (λ x. w (Mailed x))) h.1, sum_by-cons (λ x. w (Mailed x)) p []),
-  has,
+  none_comes s,
 )
-  where
-    has : (i : Item) → Has (drops s) i → Has s i ⊎ Among i []
-    has (Came x) m = absurd m
-    has (Mailed x) m = absurd m
-    has i m = inl m
+
+-- whose weight sees no difference between frames and the desk
+pub drop_moves : (p : Parcel) (s : Turn) → HasInHand p s → (w : Item → ℕ) (n : ℕ) → w (Came p) ≡ n → w (Mailed p) ≡ n → weigh w (drops s) + n ≡ weigh w s
+drop_moves p s (inl h) w n a b = omega (arith, (drop_change p s (inl h)).0 w, a)
+drop_moves p s (inr h) w n a b = omega (arith, (drop_change p s (inr h)).0 w, b)

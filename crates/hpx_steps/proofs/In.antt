@@ -11,9 +11,6 @@ module _ (r : Rules) (s : Turn) (entries : List Entry) (h : IsSound r s entries)
   change : Changes [] (Came p ∷ []) s now
   change = came_change [] (Came p ∷ []) s (p ∷ []) (one_comes (λ x. Came x) s.came p empty)
 
-  moves : (w : Item → ℕ) → weigh w now ≡ weigh w s + w (Came p)
-  moves w = let k : weigh w now + 0 ≡ weigh w s + (w (Came p) + 0) = change.0 w in omega (arith, k)
-
   tidy : IsTidy now
   tidy = holding (TidyAt s) (Came p ∷ []) s now change.1 h.tidy (fit, tt)
 
@@ -36,7 +33,7 @@ module _ (r : Rules) (s : Turn) (entries : List Entry) (h : IsSound r s entries)
   }
 
   asks_more : (x : Id) → count_by (same_object x) (view now).asks ≡ count_by (same_object x) (view s).asks + count_by (same_object x) (parcel_asks p)
-  asks_more x = omega (arith, seen_sum (counts_of (same_object x)) parcel_asks, moves (asks_of x))
+  asks_more x = omega (arith, seen_sum (counts_of (same_object x)) parcel_asks, change.0 (asks_of x))
 
   sees : Sees seen now
   sees = sees_by seen now refl (λ f weight. refl) (λ x. refl) (λ x. refl) (λ x. omega arith) refl
@@ -46,7 +43,7 @@ module _ (r : Rules) (s : Turn) (entries : List Entry) (h : IsSound r s entries)
     leads = (
       seen,
       follows_in r (view s) p bytes (map bare_act s.tables.accepted) (flat_map parcel_acts others) (tokens now) (view now).asks (ap (map bare_due) due) fresh spelled
-          fit none waits (record { sums = λ f weight. omega (arith, view_worth f s, view_worth f now, moves (worth f)) }) asks_more,
+          fit none waits (record { sums = λ f weight. omega (arith, view_worth f s, view_worth f now, change.0 (worth f)) }) asks_more,
       sees_leads r seen now sees,
     );
     tidy = tidy;

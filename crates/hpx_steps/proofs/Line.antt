@@ -35,9 +35,6 @@ module _ (r : Rules) (s : Turn) (entries : List Entry) (h : IsSound r s entries)
   change : Changes [] (Accepted (line_act (record { origin = s.tables.here; serial = s.tables.serial + 1 }) bytes) ∷ []) s now
   change = subst (λ b. Changes [] (put_as b (is_other s.tables (target_of act).home) act ∷ []) s now) (h.places.serves first) (post_change act (draws s))
 
-  moves : (w : Item → ℕ) → weigh w now ≡ weigh w s + w (Accepted act)
-  moves w = let k : weigh w now + 0 ≡ weigh w s + (w (Accepted act) + 0) = change.0 w in omega (arith, k)
-
   put : Put act (waiting s) (waiting now)
   put = post_waits act (draws s)
 
@@ -45,8 +42,8 @@ module _ (r : Rules) (s : Turn) (entries : List Entry) (h : IsSound r s entries)
   seen = record (view s) { serial = s.tables.serial + 1; waiting = put.front ++ act ∷ put.back; last = Some (Line name bytes) }
 
   sees : Sees seen now
-  sees = sees_by seen now (ap (λ ws. record (view now) { waiting = ws }) (sym put.is)) (λ f weight. omega (arith, view_worth f s, view_worth f now, moves (worth f))) (λ x. refl)
-      (λ x. same_asks x s now (omega (arith, moves (asks_of x)))) (λ x. same_dead x s now (omega (arith, moves (frees_of x)))) refl
+  sees = sees_by seen now (ap (λ ws. record (view now) { waiting = ws }) (sym put.is)) (λ f weight. omega (arith, view_worth f s, view_worth f now, change.0 (worth f))) (λ x. refl)
+      (λ x. same_asks x s now (omega (arith, change.0 (asks_of x)))) (λ x. same_dead x s now (omega (arith, change.0 (frees_of x)))) refl
 
   pub line_keeps : Keeps r s now (Line name bytes)
   line_keeps = record {

@@ -20,9 +20,6 @@ module _ (r : Rules) (s : Turn) (entries : List Entry) (h : IsSound r s entries)
       (desk_change (OnDesk p ∷ []) [] s rest (first_goes (λ x. OnDesk x) s.tables.desk p rest first))
       (mailed_change [] (Mailed p ∷ []) (record s { tables = record s.tables { desk = rest } }) (p ∷ []) (one_comes (λ x. Mailed x) s.mailed p empty))
 
-  moves : (w : Item → ℕ) → weigh w now + w (OnDesk p) ≡ weigh w s + w (Mailed p)
-  moves w = let k : weigh w now + (w (OnDesk p) + 0) ≡ weigh w s + (w (Mailed p) + 0) = change.0 w in omega (arith, k)
-
   its : TidyAt s (OnDesk p)
   its = h.tidy (OnDesk p) (rw first (inl refl))
 
@@ -39,8 +36,8 @@ module _ (r : Rules) (s : Turn) (entries : List Entry) (h : IsSound r s entries)
 
   sees : Sees seen now
   sees = sees_by seen now (ap (λ ps. record (view now) { waiting = map bare_act s.tables.accepted ++ flat_map parcel_acts ps }) (sym same_parcels))
-      (λ f weight. omega (arith, view_worth f s, view_worth f now, moves (worth f))) (λ x. refl)
-      (λ x. same_asks x s now (omega (arith, moves (asks_of x)))) (λ x. same_dead x s now (omega (arith, moves (frees_of x)))) refl
+      (λ f weight. omega (arith, view_worth f s, view_worth f now, change.0 (worth f))) (λ x. refl)
+      (λ x. same_asks x s now (omega (arith, change.0 (asks_of x)))) (λ x. same_dead x s now (omega (arith, change.0 (frees_of x)))) refl
 
   pub mail_keeps : Keeps r s now (Mail (kind_of p))
   mail_keeps = record {

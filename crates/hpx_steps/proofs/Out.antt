@@ -25,9 +25,6 @@ module _ (r : Rules) (s : Turn) (entries : List Entry) (h : IsSound r s entries)
   change : Changes (Going x ∷ []) [] s now
   change = outgoing_change (Going x ∷ []) [] s rest (first_goes (λ y. Going y) s.tables.outgoing x rest first)
 
-  moves : (w : Item → ℕ) → weigh w now + w (Going x) ≡ weigh w s
-  moves w = let k : weigh w now + (w (Going x) + 0) ≡ weigh w s + 0 = change.0 w in omega (arith, k)
-
   its : TidyAt s (Going x)
   its = h.tidy (Going x) (rw first (inl refl))
 
@@ -58,7 +55,7 @@ module _ (r : Rules) (s : Turn) (entries : List Entry) (h : IsSound r s entries)
   seen = record (view s) { waiting = front ++ back; tokens = tokens now; asks = (view now).asks; last = Some (Out x.to bytes) }
 
   sees : Sees seen now
-  sees = sees_by seen now (ap (λ ws. record (view now) { waiting = ws }) waits_then) (λ f weight. refl) (λ x. refl) (λ y. refl) (λ y. same_dead y s now (omega (arith, moves (frees_of y)))) refl
+  sees = sees_by seen now (ap (λ ws. record (view now) { waiting = ws }) waits_then) (λ f weight. refl) (λ x. refl) (λ y. refl) (λ y. same_dead y s now (omega (arith, change.0 (frees_of y)))) refl
 
   pub out_keeps : Keeps r s now (Out x.to bytes)
   out_keeps = record {
@@ -66,8 +63,8 @@ module _ (r : Rules) (s : Turn) (entries : List Entry) (h : IsSound r s entries)
       seen,
       follows_out r (view s) x.parcel bytes front back (tokens now) (view now).asks (ap (map bare_due) due) fresh spelled x.to
           (omega (arith, its.1.somewhere, h.rules.localities)) its.1.away (may_leave (view s) x.to x.parcel its.3 its.1.may) waits
-          (record { sums = λ f weight. omega (arith, view_worth f s, view_worth f now, moves (worth f)) })
-          (λ o. omega (arith, seen_sum (counts_of (same_object o)) parcel_asks, moves (asks_of o)))
+          (record { sums = λ f weight. omega (arith, view_worth f s, view_worth f now, change.0 (worth f)) })
+          (λ o. omega (arith, seen_sum (counts_of (same_object o)) parcel_asks, change.0 (asks_of o)))
           (λ before. sees_covers r seen now sees (view_covered now tidy h.commits.lent)),
       sees_leads r seen now sees,
     );

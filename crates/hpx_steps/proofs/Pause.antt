@@ -15,9 +15,6 @@ module _ (r : Rules) (s : Turn) (entries : List Entry) (h : IsSound r s entries)
       (working_change (Working w ∷ []) [] s rest (first_goes (λ x. Working x) s.working w rest works))
       (pending_change [] (Pending waiter ∷ []) (record s { working = rest }) (s.tables.pending ++ waiter ∷ []) (more_come (λ x. Pending x) s.tables.pending (waiter ∷ [])))
 
-  moves : (f : Item → ℕ) → weigh f now + f (Working w) ≡ weigh f s + f (Pending waiter)
-  moves f = let k : weigh f now + (f (Working w) + 0) ≡ weigh f s + (f (Pending waiter) + 0) = change.0 f in omega (arith, k)
-
   its : IsCommit s.tables.here s.tables.localities w
   its = h.tidy (Working w) (rw works (inl refl))
 
@@ -69,8 +66,8 @@ module _ (r : Rules) (s : Turn) (entries : List Entry) (h : IsSound r s entries)
   sees = record {
     rest = ap (λ fs. record (view now) { fired = fs })
         (ap (map bare_act) (sym (is_fired s.tables.objects s.tables.running [] others others [] w waiter refl same)) ∙ ap (λ ws. map bare_act (fired_of s.tables.running ws)) behind);
-    tokens = λ f fair. omega (arith, view_worth f s, view_worth f now, moves (worth f));
-    asking = λ o. omega (arith, view_asking o s, view_asking o now, moves (asking o));
+    tokens = λ f fair. omega (arith, view_worth f s, view_worth f now, change.0 (worth f));
+    asking = λ o. omega (arith, view_asking o s, view_asking o now, change.0 (asking o));
     asks = λ o. refl;
     live = λ o home. refl;
     dead = λ o. omega arith;
@@ -88,13 +85,13 @@ module _ (r : Rules) (s : Turn) (entries : List Entry) (h : IsSound r s entries)
     tidy = holding (TidyAt s) (Pending waiter ∷ []) s now change.1 h.tidy ((fit_commit, split, lacks), tt);
     places = h.places;
     commits = subst (HasCommits s.tables.objects s.tables.running) behind (move_commits s.tables.objects s.tables.running [] others others [] w waiter refl same was);
-    numbered = fewer s now (omega arith) (λ n. omega (arith, moves (asks_under n)));
-    rows = λ row. omega (arith, moves (unpaid row));
-    once = omega (arith, moves hopping);
-    fired = omega (arith, moves joined);
-    frees = λ o. omega (arith, moves (freeing o));
-    asked = λ o n. omega (arith, moves (asked_by s.tables.here o n), moves (waits_for o n));
-    given = λ k d o n. omega (arith, moves (given_to k o n));
+    numbered = fewer s now (omega arith) (λ n. omega (arith, change.0 (asks_under n)));
+    rows = λ row. omega (arith, change.0 (unpaid row));
+    once = omega (arith, change.0 hopping);
+    fired = omega (arith, change.0 joined);
+    frees = λ o. omega (arith, change.0 (freeing o));
+    asked = λ o n. omega (arith, change.0 (asked_by s.tables.here o n), change.0 (waits_for o n));
+    given = λ k d o n. omega (arith, change.0 (given_to k o n));
   }
 
 pub pause_step : (r : Rules) (s s' : Turn) (entries : List Entry) → IsSound r s entries → Pauses s s' → Stills r s s'

@@ -14,9 +14,6 @@ module _ (r : Rules) (s : Turn) (entries : List Entry) (h : IsSound r s entries)
   change : Changes (Working w ∷ []) (Working split ∷ []) s now
   change = working_change (Working w ∷ []) (Working split ∷ []) s (split ∷ rest) (first_turns (λ x. Working x) s.working w split rest works)
 
-  moves : (f : Item → ℕ) → weigh f now + f (Working w) ≡ weigh f s + f (Working split)
-  moves f = let k : weigh f now + (f (Working w) + 0) ≡ weigh f s + (f (Working split) + 0) = change.0 f in omega (arith, k)
-
   its : IsCommit s.tables.here s.tables.localities w
   its = h.tidy (Working w) (rw works (inl refl))
 
@@ -60,7 +57,7 @@ module _ (r : Rules) (s : Turn) (entries : List Entry) (h : IsSound r s entries)
 
   sees : Sees seen now
   sees = sees_by seen now (ap (λ ws. record (view now) { fired = map bare_act (fired_of s.tables.running (ws ++ s.tables.pending)) }) works) (λ f fair. refl)
-      (λ o. omega (arith, view_asking o s, view_asking o now, moves (asking o), ap (names_of o) (first_asked many p w.hand (half id ∷ []) id (half id) at unasked.0 unasked.1 long)))
+      (λ o. omega (arith, view_asking o s, view_asking o now, change.0 (asking o), ap (names_of o) (first_asked many p w.hand (half id ∷ []) id (half id) at unasked.0 unasked.1 long)))
       (λ o. refl) (λ o. omega arith) (ap (λ ws. record seen { refusals = refusals_of (ws ++ s.tables.pending); failing = length (refusals_of (ws ++ s.tables.pending)) }) works)
 
   pub split_keeps : Keeps r s now (Split (bare id) log)
@@ -79,7 +76,7 @@ module _ (r : Rules) (s : Turn) (entries : List Entry) (h : IsSound r s entries)
             counts_true (same_token (held_token (bare id) log)) (held_token (bare id) log) (token_own (held_token (bare id) log)),
           ))
           (record {
-            sums = λ f fair. omega (arith, view_worth f, moves (worth f), tokens_hand f, sum_by-cons f);
+            sums = λ f fair. omega (arith, view_worth f, change.0 (worth f), tokens_hand f, sum_by-cons f);
           }),
       sees_leads r seen now sees,
     );

@@ -2,28 +2,8 @@
 use Rattle.hpx_steps.proofs.Common.{AreNumbered, Asked, Born, Count, Done, Entry, Event, Fire, Freed, Given, Granted, In, IsSound, Label, Landed, Left, Line, List, Looked, Mail, Out, Pause, Place, Print, Refused, Returned, Rules, Sent, Split, Step, Steps, Suspend, Tables, Turn, Up, Writes, [], ap, append-nil, append_assoc, at_all, entry_at, false, map-append, refl, subst, sym, true, written, written_by, ◌++◌, ◌∙◌, ◌∷◌, ◌≡◌}
 use Rattle.hpx_steps.proofs.Tools.{Keeps, Stills}
 use Rattle.hpx_part.specs.Data.{Looked}
-use Rattle.hpx_steps.proofs.Answered.{granted_step, refused_step}
-use Rattle.hpx_steps.proofs.Asked.{asked_step}
-use Rattle.hpx_steps.proofs.Bear.{bear_step}
-use Rattle.hpx_steps.proofs.Done.{done_step}
-use Rattle.hpx_steps.proofs.Failed.{failed_step}
-use Rattle.hpx_steps.proofs.Fire.{fire_step}
-use Rattle.hpx_steps.proofs.Freed.{freed_step}
-use Rattle.hpx_steps.proofs.Given.{given_step}
-use Rattle.hpx_steps.proofs.In.{in_step}
-use Rattle.hpx_steps.proofs.Line.{line_step}
-use Rattle.hpx_steps.proofs.Mail.{mail_step}
-use Rattle.hpx_steps.proofs.Out.{out_step}
-use Rattle.hpx_steps.proofs.Pause.{pause_step}
-use Rattle.hpx_steps.proofs.Place.{place_step}
-use Rattle.hpx_steps.proofs.Print.{print_step}
-use Rattle.hpx_steps.proofs.Returned.{returned_step}
-use Rattle.hpx_steps.proofs.Sent.{sent_step}
-use Rattle.hpx_steps.proofs.Split.{split_step}
 use Rattle.hpx_steps.proofs.Still.{still_sound}
-use Rattle.hpx_steps.proofs.Suspend.{suspend_step}
 use Rattle.hpx_steps.proofs.Then.{sound_then}
-use Rattle.hpx_steps.proofs.Up.{up_step}
 
 -- all holds then, and the locality is the same
 pub record Sound (r : Rules) (s s' : Turn) (entries : List Entry) (events : List Event) : Type 0 where
@@ -46,30 +26,30 @@ still r s s' entries h k = record {
 }
 
 pub step_sound : (r : Rules) (s s' : Turn) (label : Label) (entries : List Entry) → IsSound r s entries → Step r s label s' → Sound r s s' entries (written_by label)
-step_sound r s s' (Writes (Line a bytes)) entries h g = kept r s s' (Line a bytes) entries h (line_step r s s' entries a bytes h g)
-step_sound r s s' (Writes (Fire a)) entries h g = kept r s s' (Fire a) entries h (fire_step r s s' entries a h g)
-step_sound r s s' (Writes (Split o log)) entries h g = kept r s s' (Split o log) entries h (split_step r s s' entries o log h g)
-step_sound r s s' (Writes (Born o state)) entries h g = kept r s s' (Born o state) entries h (bear_step r s s' entries o state h g)
-step_sound r s s' (Writes (Done a false)) entries h g = kept r s s' (Done a false) entries h (done_step r s s' entries a h g)
-step_sound r s s' (Writes (Done a true)) entries h g = kept r s s' (Done a true) entries h (failed_step r s s' entries a h g)
-step_sound r s s' (Writes (Sent a)) entries h g = kept r s s' (Sent a) entries h (sent_step r s s' entries a h g)
-step_sound r s s' (Writes (Print bytes)) entries h g = kept r s s' (Print bytes) entries h (print_step r s s' entries bytes h g)
-step_sound r s s' (Writes (Up o log)) entries h g = kept r s s' (Up o log) entries h (up_step r s s' entries o log h g)
-step_sound r s s' (Writes (Asked o)) entries h g = kept r s s' (Asked o) entries h (asked_step r s s' entries o h g)
-step_sound r s s' (Writes (Given o log)) entries h g = kept r s s' (Given o log) entries h (given_step r s s' entries o log h g)
-step_sound r s s' (Writes (Count o count (Returned log))) entries h g = kept r s s' (Count o count (Returned log)) entries h (returned_step r s s' entries o count log h g)
-step_sound r s s' (Writes (Count o count Granted)) entries h g = kept r s s' (Count o count Granted) entries h (granted_step r s s' entries o count h g)
-step_sound r s s' (Writes (Count o count Refused)) entries h g = kept r s s' (Count o count Refused) entries h (refused_step r s s' entries o count h g)
-step_sound r s s' (Writes (Freed o)) entries h g = kept r s s' (Freed o) entries h (freed_step r s s' entries o h g)
-step_sound r s s' (Writes (Mail kind)) entries h g = kept r s s' (Mail kind) entries h (mail_step r s s' entries kind h g)
-step_sound r s s' (Writes (Out to bytes)) entries h g = kept r s s' (Out to bytes) entries h (out_step r s s' entries to bytes h g)
-step_sound r s s' (Writes (In bytes)) entries h g = kept r s s' (In bytes) entries h (in_step r s s' entries bytes h g)
+step_sound r s s' (Writes (Line a bytes)) entries h g = kept r s s' (Line a bytes) entries h (Rattle.hpx_steps.proofs.Line.line_step r s s' entries a bytes h g)
+step_sound r s s' (Writes (Fire a)) entries h g = kept r s s' (Fire a) entries h (Rattle.hpx_steps.proofs.Fire.fire_step r s s' entries a h g)
+step_sound r s s' (Writes (Split o log)) entries h g = kept r s s' (Split o log) entries h (Rattle.hpx_steps.proofs.Split.split_step r s s' entries o log h g)
+step_sound r s s' (Writes (Born o state)) entries h g = kept r s s' (Born o state) entries h (Rattle.hpx_steps.proofs.Bear.bear_step r s s' entries o state h g)
+step_sound r s s' (Writes (Done a false)) entries h g = kept r s s' (Done a false) entries h (Rattle.hpx_steps.proofs.Done.done_step r s s' entries a h g)
+step_sound r s s' (Writes (Done a true)) entries h g = kept r s s' (Done a true) entries h (Rattle.hpx_steps.proofs.Failed.failed_step r s s' entries a h g)
+step_sound r s s' (Writes (Sent a)) entries h g = kept r s s' (Sent a) entries h (Rattle.hpx_steps.proofs.Sent.sent_step r s s' entries a h g)
+step_sound r s s' (Writes (Print bytes)) entries h g = kept r s s' (Print bytes) entries h (Rattle.hpx_steps.proofs.Print.print_step r s s' entries bytes h g)
+step_sound r s s' (Writes (Up o log)) entries h g = kept r s s' (Up o log) entries h (Rattle.hpx_steps.proofs.Up.up_step r s s' entries o log h g)
+step_sound r s s' (Writes (Asked o)) entries h g = kept r s s' (Asked o) entries h (Rattle.hpx_steps.proofs.Asked.asked_step r s s' entries o h g)
+step_sound r s s' (Writes (Given o log)) entries h g = kept r s s' (Given o log) entries h (Rattle.hpx_steps.proofs.Given.given_step r s s' entries o log h g)
+step_sound r s s' (Writes (Count o count (Returned log))) entries h g = kept r s s' (Count o count (Returned log)) entries h (Rattle.hpx_steps.proofs.Returned.returned_step r s s' entries o count log h g)
+step_sound r s s' (Writes (Count o count Granted)) entries h g = kept r s s' (Count o count Granted) entries h (Rattle.hpx_steps.proofs.Answered.granted_step r s s' entries o count h g)
+step_sound r s s' (Writes (Count o count Refused)) entries h g = kept r s s' (Count o count Refused) entries h (Rattle.hpx_steps.proofs.Answered.refused_step r s s' entries o count h g)
+step_sound r s s' (Writes (Freed o)) entries h g = kept r s s' (Freed o) entries h (Rattle.hpx_steps.proofs.Freed.freed_step r s s' entries o h g)
+step_sound r s s' (Writes (Mail kind)) entries h g = kept r s s' (Mail kind) entries h (Rattle.hpx_steps.proofs.Mail.mail_step r s s' entries kind h g)
+step_sound r s s' (Writes (Out to bytes)) entries h g = kept r s s' (Out to bytes) entries h (Rattle.hpx_steps.proofs.Out.out_step r s s' entries to bytes h g)
+step_sound r s s' (Writes (In bytes)) entries h g = kept r s s' (In bytes) entries h (Rattle.hpx_steps.proofs.In.in_step r s s' entries bytes h g)
 step_sound r s s' (Writes (Left o to)) entries h g = absurd g
 step_sound r s s' (Writes (Landed o)) entries h g = absurd g
 step_sound r s s' (Writes (Looked o found)) entries h g = absurd g
-step_sound r s s' Suspend entries h g = still r s s' entries h (suspend_step r s s' entries h g)
-step_sound r s s' Pause entries h g = still r s s' entries h (pause_step r s s' entries h g)
-step_sound r s s' Place entries h g = still r s s' entries h (place_step r s s' entries h g)
+step_sound r s s' Suspend entries h g = still r s s' entries h (Rattle.hpx_steps.proofs.Suspend.suspend_step r s s' entries h g)
+step_sound r s s' Pause entries h g = still r s s' entries h (Rattle.hpx_steps.proofs.Pause.pause_step r s s' entries h g)
+step_sound r s s' Place entries h g = still r s s' entries h (Rattle.hpx_steps.proofs.Place.place_step r s s' entries h g)
 
 pub steps_sound : (r : Rules) (s s' : Turn) (labels : List Label) (entries : List Entry) → IsSound r s entries → Steps r s labels s' → Sound r s s' entries (written labels)
 steps_sound r s s' [] entries h g = subst (λ x. Sound r s x entries []) (sym g) (record { here = refl; localities = refl; profile = refl; sound = subst (IsSound r s) (sym (append-nil entries)) h; numbered = λ once. once })

@@ -51,9 +51,6 @@ module _ (r : Rules) (s : Turn) (entries : List Entry) (h : IsSound r s entries)
       (objects_change (StandsHere x ∷ []) (StandsHere new ∷ []) less (set s.tables.objects j new) (one_turns (λ y. StandsHere y) s.tables.objects j x new stands))
       (working_change [] (Working w ∷ []) lent (w ∷ s.working) (first_comes (λ y. Working y) s.working w)))
 
-  moves : (f : Item → ℕ) → weigh f now + (f (Running job.action) + f (StandsHere x)) ≡ weigh f s + (f (StandsHere new) + f (Working w))
-  moves f = let k : weigh f now + (f (Running job.action) + (f (StandsHere x) + 0)) ≡ weigh f s + (f (StandsHere new) + (f (Working w) + 0)) = change.0 f in omega (arith, k)
-
   its : IsFit job.action
   its = h.tidy (Running job.action) (among_at s.tables.running i job.action runs)
 
@@ -108,8 +105,8 @@ module _ (r : Rules) (s : Turn) (entries : List Entry) (h : IsSound r s entries)
   sees : Sees (record seen { last = s.last }) now
   sees = record {
     rest = ap (λ os. record (view now) { objects = os }) objects_then;
-    tokens = λ f fair. omega (arith, view_worth f, moves (worth f), ids_append f, ap (λ (y : State). sum_by f (tokens_of y.ids)) state, no_tokens f x.state.ids, none_tokens f later none);
-    asking = λ o. omega (arith, view_asking o, moves (asking o), ap (λ ids. names_of o (filter is_asked ids)) whole, ap (names_of o) (all_none own owned));
+    tokens = λ f fair. omega (arith, view_worth f, change.0 (worth f), ids_append f, ap (λ (y : State). sum_by f (tokens_of y.ids)) state, no_tokens f x.state.ids, none_tokens f later none);
+    asking = λ o. omega (arith, view_asking o, change.0 (asking o), ap (λ ids. names_of o (filter is_asked ids)) whole, ap (names_of o) (all_none own owned));
     asks = λ o. refl;
     live = λ o home. refl;
     dead = λ o. omega arith;
@@ -133,13 +130,13 @@ module _ (r : Rules) (s : Turn) (entries : List Entry) (h : IsSound r s entries)
       single = single_set s.tables.objects j x new stands refl h.places.single;
     };
     commits = commits_now;
-    numbered = fewer s now (omega arith) (λ n. omega (arith, moves (asks_under n)));
-    rows = λ row. omega (arith, moves (unpaid row));
-    once = omega (arith, moves hopping);
-    fired = omega (arith, moves joined);
-    frees = λ o. omega (arith, moves (freeing o));
-    asked = λ o n. omega (arith, moves (asked_by s.tables.here o n), moves (waits_for o n));
-    given = λ k d o n. omega (arith, moves (given_to k o n));
+    numbered = fewer s now (omega arith) (λ n. omega (arith, change.0 (asks_under n)));
+    rows = λ row. omega (arith, change.0 (unpaid row));
+    once = omega (arith, change.0 hopping);
+    fired = omega (arith, change.0 joined);
+    frees = λ o. omega (arith, change.0 (freeing o));
+    asked = λ o n. omega (arith, change.0 (asked_by s.tables.here o n), change.0 (waits_for o n));
+    given = λ k d o n. omega (arith, change.0 (given_to k o n));
   }
 
 pub suspend_step : (r : Rules) (s s' : Turn) (entries : List Entry) → IsSound r s entries → Suspends s s' → Stills r s s'
