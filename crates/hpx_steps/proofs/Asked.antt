@@ -1,6 +1,6 @@
 -- An id is asked for.
 use Rattle.hpx_steps.proofs.Common.{AreNumbered, Ask, Asked, AskedFor, AsksFor, Bool, Entry, Going, HasCommits, HasLeastCredit, Id, IsCommit, IsSound, IsTidy, Item, List, OnDesk, Parcel, Row, Rules, Some, TidyAt, Token, Turn, View, Waits, Working, [], all_append, ap, arith, asked_by, asking, asks_as, asks_for, asks_under, bare, bare_act, bare_due, cases_Bool, causes, cond, count_by, counts_of, counts_true, eq-eqb, eqb-true, false, fired_of, follows_asked, freeing, given_to, goes, going, held_token, hopping, id_at, ids_named, inl, inr, is_asked, is_asked_for, is_other, joined, length, mails, map, nat_le, nat_tests, one_if, owed_token, parcel_asks, refl, refusals_of, same_object, same_token, set, slice_get, subst, sum_by, sum_by-append, sum_by-cons, sym, token_own, tokens, tokens_of, true, unpaid, view, waiting, waits_for, weigh, weight, worth, wrote, ℕ, ◌&&◌, ◌++◌, ◌+◌, ◌<◌, ◌==◌, ◌∙◌, ◌∷◌, ◌≡◌, ◌≤◌}
-use Rattle.hpx_steps.proofs.Tools.{Changes, Keeps, Sees, asks_of, at_place, bound_none, by_rows, counts_near, first_turns, frees_of, has_not_asked, held_by, holding, ids_each, less_sum, mail_change, mail_tidy, mail_waits, no_tokens, owed_by, put_asked, put_bare, put_elsewhere, put_for, put_names, put_there, same_commits, same_dead, seen_sum, sees_by, sees_leads, sent_if, sent_total, set_sum, then, told_as, total, view_asking, view_worth, working_change}
+use Rattle.hpx_steps.proofs.Tools.{Changes, Keeps, Sees, asks_of, at_place, bound_none, by_rows, counts_near, first_turns, frees_of, has_not_asked, held_by, holding, ids_each, less_sum, mail_change, mail_tidy, mail_waits, no_tokens, owed_by, put_asked, put_bare, put_elsewhere, put_for, put_names, put_there, recommit, same_dead, seen_sum, sees_by, sees_leads, sent_if, sent_total, set_sum, then, token_held, told_as, total, view_asking, view_worth, work_commits, working_change}
 
 module _ (r : Rules) (s : Turn) (entries : List Entry) (h : IsSound r s entries) (w : Waits) (rest : List Waits) (p : ℕ) (id : Id) (due : s.due ≡ []) (fresh : s.fresh ≡ [])
     (works : s.working ≡ w ∷ rest) (low : p < length (ids_named w)) (at : slice_get w.hand p ≡ Some id) (least : HasLeastCredit id) where
@@ -55,16 +55,10 @@ module _ (r : Rules) (s : Turn) (entries : List Entry) (h : IsSound r s entries)
       each kind le = grind (arith, nat_tests)
 
   fit_commit : IsCommit s.tables.here s.tables.localities asker
-  fit_commit = record {
-    job = its.job;
-    here = its.here;
-    localities = its.localities;
-    few = its.few;
-    hand = put_names (length (ids_named w)) w.hand p id (bare id) at refl ∙ its.hand;
-    within = all_append (λ (x : AskedFor). x.place < length (ids_named w)) w.asked (record { entry = number; place = p } ∷ []) its.within (low, tt);
-    refused = its.refused;
-    once = λ q lt. one_more q lt ∙ sym (counted_so q);
-  }
+  fit_commit = recommit s.tables.here s.tables.localities w (set w.hand p (bare id)) (w.asked ++ record { entry = number; place = p } ∷ []) w.places w.refused its
+      (put_names (length (ids_named w)) w.hand p id (bare id) at refl ∙ its.hand)
+      (all_append (λ (x : AskedFor). x.place < length (ids_named w)) w.asked (record { entry = number; place = p } ∷ []) its.within (low, tt)) its.refused
+      (λ q lt. one_more q lt ∙ sym (counted_so q))
     where
       -- what is asked for is asked for once
       counted_so : (q : ℕ) → cond (is_asked (id_at asker.hand q)) 1 0 ≡ cond (is_asked (id_at w.hand q)) 1 0 + cond (p == q) 1 0
@@ -136,23 +130,13 @@ module _ (r : Rules) (s : Turn) (entries : List Entry) (h : IsSound r s entries)
     leads = (
       seen,
       follows_asked r (view s) (bare id) refl (tokens now) (view now).asking (view now).asks (ap (map bare_due) due) fresh
-          (omega (
-            arith,
-            view_worth (counts_of (same_token (held_token (bare id) 0))) s,
-            ap (sum_by (λ y. worth (counts_of (same_token (held_token (bare id) 0))) (Working y))) works,
-            sum_by-cons (λ y. worth (counts_of (same_token (held_token (bare id) 0))) (Working y)) w rest,
-            less_sum (λ y. sum_by (counts_of (same_token (held_token (bare id) 0))) (tokens_of (y ∷ []))) w.hand p id at,
-            ids_each (counts_of (same_token (held_token (bare id) 0))) w.hand,
-            held_by (counts_of (same_token (held_token (bare id) 0))) id 0 least.0,
-            counts_true (same_token (held_token (bare id) 0)) (held_token (bare id) 0) (token_own (held_token (bare id) 0)),
-          ))
+          (token_held s w rest p id 0 works at least.0)
           (record { sums = λ f fair. omega (arith, traded f, sum_by-cons f (held_token (bare id) 0) [], sum_by-cons f (owed_token (bare id) 0) []) }) asked_more asks_more,
       sees_leads r seen now sees,
     );
     tidy = tidy;
     places = h.places;
-    commits = same_commits s.tables.objects s.tables.running w asker (rest ++ s.tables.pending) refl
-        (subst (λ ws. HasCommits s.tables.objects s.tables.running (ws ++ s.tables.pending)) works h.commits);
+    commits = work_commits s w asker rest works refl h.commits;
     numbered = λ once n. numbered_one once n;
     pays = record {
       rows = λ row. omega (arith, moves (unpaid row) (weight row ask) refl refl, costs row);

@@ -1,6 +1,6 @@
 -- A commit makes an object.
 use Rattle.hpx_steps.proofs.Common.{Bears, Bool, Born, Entry, Event, HasCommits, HasPlaces, Id, IsBirth, IsCommit, IsSound, IsTidy, Item, List, Make, None, Option, Record, Rules, Some, Standing, StandsHere, State, StaysAt, TidyAt, Token, Turn, View, Waits, Working, [], ap, append-nil, arith, asking, bare, bare_act, bare_due, bare_id, bare_standing, birth_of, birth_state, cases_Bool, cond, count_by, count_in, counted, false, false_from, filter, find, find_record, fired_of, follows_born, held_token, id_at, ids_named, inl, inr, is_asked, is_asked_for, is_recorded, is_standing, length, map, map-append, names_of, option_map_or, refl, refusals_of, same_object, same_object-true, session, some_same, subst, sum_by, sum_by-cons, sym, take, tokens, tokens_of, true, view, weigh, works_on, worth, wrote, ℕ, ◌++◌, ◌+◌, ◌^◌, ◌∙◌, ◌∷◌, ◌≡◌, ◌≤◌}
-use Rattle.hpx_steps.proofs.Tools.{Changes, Keeps, Sees, all_among, by_rows, counts_near, first_turns, holding, more_come, numbered_so, objects_change, orders_so, pays_so, same_commits, sees_by, sees_leads, take_place, then, view_asking, view_worth, working_change}
+use Rattle.hpx_steps.proofs.Tools.{Changes, Keeps, Sees, all_among, by_rows, counts_near, first_turns, holding, more_come, numbered_so, objects_change, orders_so, pays_so, recommit, sees_by, sees_leads, take_place, then, view_asking, view_worth, work_commits, working_change}
 use Rattle.hpx_steps.proofs.Beside.{more_commits}
 use Rattle.hpx_steps.proofs.Objects.{single_more, stand_more}
 use Rattle.hpx_steps.proofs.Records.{found_counted}
@@ -45,17 +45,9 @@ module _ (r : Rules) (s : Turn) (entries : List Entry) (h : IsSound r s entries)
   its = h.tidy (Working w) (rw works (inl refl))
 
   fit_commit : IsCommit s.tables.here s.tables.localities bearer
-  fit_commit = record {
-    job = its.job;
-    here = its.here;
-    localities = its.localities;
-    few = its.few;
-    hand = ap (map bare) own ∙ its.hand;
-    within = its.within;
-    refused = its.refused;
-    once = λ p lt. its.once p lt ∙ ap {B = ℕ} (λ (x : Id). cond (is_asked x) 1 0)
-        (sym (take_place (length (ids_named w)) w.hand p lt) ∙ (ap (λ ids. id_at ids p) (sym own) ∙ take_place (length (ids_named w)) hand p lt));
-  }
+  fit_commit = recommit s.tables.here s.tables.localities w hand w.asked w.places w.refused its (ap (map bare) own ∙ its.hand) its.within its.refused
+      (λ p lt. its.once p lt ∙ ap {B = ℕ} (λ (x : Id). cond (is_asked x) 1 0)
+      (sym (take_place (length (ids_named w)) w.hand p lt) ∙ (ap (λ ids. id_at ids p) (sym own) ∙ take_place (length (ids_named w)) hand p lt)))
 
   -- none of its number stands here
   other : (x : Standing) → TidyAt s (StandsHere x) → same_object x.object o ≡ false
@@ -75,9 +67,7 @@ module _ (r : Rules) (s : Turn) (entries : List Entry) (h : IsSound r s entries)
       (fit_commit, ((record { kind = fit.most; state = fit.state; plain = λ k. let least : 16 ≤ make.kind = fit.least in absurd (omega (arith, least, k)) }, λ kind home. omega arith), tt))
 
   commits_now : HasCommits (s.tables.objects ++ new ∷ []) s.tables.running (bearer ∷ rest ++ s.tables.pending)
-  commits_now = more_commits s.tables.objects s.tables.running (bearer ∷ rest ++ s.tables.pending) new refl
-      (same_commits s.tables.objects s.tables.running w bearer (rest ++ s.tables.pending) refl
-      (subst (λ ws. HasCommits s.tables.objects s.tables.running (ws ++ s.tables.pending)) works h.commits))
+  commits_now = more_commits s.tables.objects s.tables.running (bearer ∷ rest ++ s.tables.pending) new refl (work_commits s w bearer rest works refl h.commits)
 
   -- ---- records
 

@@ -1,9 +1,9 @@
 -- A commit in work is done, or fails: its objects are made, its ids are halved, it ends, what is due is sent, and what nobody names is given up.
-use Rattle.hpx_steps.proofs.Common.{Act, AllByRecursion, AreMade, AreWithin, Birth, Commits, Done, Due, Entry, Event, HasCredit, HasRightCredit, Id, IsBirth, IsLeftBy, Job, Lasts, List, MatchOption, None, Option, Remains, Rules, Some, Standing, Stands, StandsHere, State, Step, Steps, Stock, Suspend, Tables, Turn, Waits, Writes, [], all_at, all_set, answered_by, ap, append-nil, append_assoc, arith, at_all, at_rest, bare, bare_act, bare_standing, bare_state, birth_of, births_of, cond, due_of, ends, false, find, find_passes, get_before, hand_ids, id_at, ids_named, ids_of, is_some, is_standing, length, length-map, map, map-append, name_of, named, objects_of, records_of, refl, remove, rules_of, set, slice_get, splits_from, state_after, subst, suc, sym, target_of, ups, waits_with, with_credit, with_due, with_left, written_due, wrote, zero, ℕ, ◌++◌, ◌+◌, ◌<◌, ◌∙◌, ◌∷◌, ◌≡◌, ◌≤◌}
+use Rattle.hpx_steps.proofs.Common.{Act, AllByRecursion, AreMade, AreWithin, Birth, Commits, Deals, Done, Due, Ends, Entry, Event, HasCredit, HasRightCredit, Id, IsBirth, IsFitDue, IsKept, IsLeftBy, Job, Lasts, List, MatchOption, None, Option, Remains, Rules, Some, Standing, Stands, StandsHere, State, Step, Steps, Stock, Suspend, Tables, Turn, Waits, Writes, [], all_at, all_set, answered_by, ap, append-nil, append_assoc, arith, at_all, at_rest, bare, bare_act, bare_standing, bare_state, birth_of, births_of, cond, due_of, ends, false, find, find_passes, get_before, hand_ids, id_at, ids_named, ids_of, is_some, is_standing, length, length-map, map, map-append, name_of, named, objects_of, records_of, refl, remove, rules_of, set, slice_get, splits_from, state_after, subst, suc, sym, target_of, ups, waits_with, with_credit, with_due, with_left, written_due, wrote, zero, ℕ, ◌++◌, ◌+◌, ◌<◌, ◌∙◌, ◌∷◌, ◌≡◌, ◌≤◌}
 use Rattle.hpx_steps.proofs.Tools.{all_among, find_more, get_set, single_found, single_set}
 use Rattle.hpx_value.specs.declared.outcome.Outcome.{Outcome}
 use Rattle.hpx_steps.proofs.Made.{Drawn, made_so}
-use Rattle.hpx_steps.proofs.Handled.{due_steps, let_go, steps_append, ups_steps, with_loose, written_events}
+use Rattle.hpx_steps.proofs.Handled.{Writing, due_steps, let_go, steps_append, ups_steps, with_loose, writes_append, written_events}
 use Rattle.hpx_steps.proofs.TurnOf.{turn_stands}
 use Rattle.hpx_steps.proofs.Work.{births_steps, halved_from, splits_steps, with_births, with_hand}
 
@@ -18,18 +18,15 @@ with_all (id ∷ ids) h = each id.log h.0 (with_all ids h.1)
 
 -- what an action left is sent and given up
 pub left_steps : (r : Rules) (s : Turn) (due : List Due) (loose : List Id) → s.fresh ≡ [] → AllByRecursion HasCredit loose
-    → (l : Option Event) × Steps r (record s { due = due; loose = loose }) (map (λ e. Writes e) (written_due s.tables.here s.tables.serial due ++ ups loose))
+    → (l : Option Event) × Writing r (record s { due = due; loose = loose }) (written_due s.tables.here s.tables.serial due ++ ups loose)
     (record s { due = []; loose = []; tables = with_left due loose s.tables; last = l })
 left_steps r s due loose fresh credit =
     let one = due_steps r (record s { loose = loose }) due fresh in
     let m : Turn = record s { due = []; tables = with_due due s.tables; last = one.0 } in
     let two = ups_steps r m loose refl fresh in (
       two.0,
-      subst (λ labels. Steps r (record s { due = due; loose = loose }) labels (record s { due = []; loose = []; tables = with_left due loose s.tables; last = two.0 }))
-          (sym (map-append (λ e. Writes e) (written_due s.tables.here s.tables.serial due) (ups loose)))
-          (steps_append r (record s { due = due; loose = loose }) (record m { loose = loose }) (record s { due = []; loose = []; tables = with_left due loose s.tables; last = two.0 })
-          (map (λ e. Writes e) (written_due s.tables.here s.tables.serial due)) (map (λ e. Writes e) (ups loose)) one.1
-          (subst (λ ids. Steps r (with_loose ids m) (map (λ e. Writes e) (ups loose)) (let_go loose two.0 m)) (with_all loose credit) two.1)),
+      writes_append r (record s { due = due; loose = loose }) (record m { loose = loose }) (record s { due = []; loose = []; tables = with_left due loose s.tables; last = two.0 })
+          (written_due s.tables.here s.tables.serial due) (ups loose) one.1 (subst (λ ids. Writing r (with_loose ids m) (ups loose) (let_go loose two.0 m)) (with_all loose credit) two.1),
     )
 
 -- ---- what a commit leaves
@@ -41,6 +38,26 @@ all_right (id ∷ ids) h = (each id.log h.0, all_right ids h.1)
     each : (l : Option ℕ) → MatchOption l ⊥ (λ x. 16 ≤ id.kind) → MatchOption l (id.kind < 16) (λ x. 16 ≤ id.kind)
     each None k = absurd k
     each (Some l) k = k
+
+-- it ends, under the name of its action
+pub ends_so : (s : Turn) (w : Waits) (rest : List Waits) (j : ℕ) (x : Standing) (left : Remains) → s.due ≡ [] → s.working ≡ w ∷ rest → w.asked ≡ [] → slice_get s.tables.objects j ≡ Some x
+    → find (is_standing (target_of w.job.action)) s.tables.objects ≡ Some x → IsKept (record { object = x.object; state = left.state }) → (x.object.kind ≡ 7 → left.state ≡ x.state)
+    → AllByRecursion HasRightCredit left.state.ids → AllByRecursion IsFitDue left.due → AllByRecursion HasCredit left.loose → Deals w.hand left.state left.due left.loose
+    → Ends s (name_of w.job.action) w rest j x left
+ends_so s w rest j x left due works lacks stands found kept plain credit fits given_up deals = record {
+  due = due;
+  works = works;
+  lacks = lacks;
+  name = refl;
+  stands = stands;
+  found = found;
+  kept = kept;
+  plain = plain;
+  credit = credit;
+  fits = fits;
+  given_up = all_right left.loose given_up;
+  deals = deals;
+}
 
 -- ---- a commit with this in its hand, and these places named there
 
@@ -72,90 +89,48 @@ module _ (r : Rules) (s : Turn) (w : Waits) (rest : List Waits) (front later bac
   events = births_of s.tables.here s.tables.births (map birth_of w.outcome.makes) ++ splits_from 0 full_hand places
 
   pub ready_steps : AreWithin full_hand places → ((q : ℕ) → q < length full_hand → Lasts (id_at full_hand q) (named places q))
-      → (l : Option Event) × Steps r (with_hand w rest (front ++ (later ++ back)) s) (map (λ e. Writes e) events) (ready l)
+      → (l : Option Event) × Writing r (with_hand w rest (front ++ (later ++ back)) s) events (ready l)
   ready_steps within lasts =
       let one = births_steps r s w rest front later back [] w.outcome.makes due lacks refl (ap (λ (xs : List Id). length xs) (sym fresh)) many none long fit in
       let m : Turn = with_births w rest front back w.outcome.makes one.0 s in
-      let two = splits_steps r w rest full_hand places lacks m (length full_hand) 0 stock due (omega arith) within (omega arith) (λ q le lt. (refl, refl)) lasts in (
-        two.0,
-        subst (λ labels. Steps r (with_hand w rest (front ++ (later ++ back)) s) labels (ready two.0))
-            (sym (map-append (λ e. Writes e) (births_of s.tables.here s.tables.births (map birth_of w.outcome.makes)) (splits_from 0 full_hand places)))
-            (steps_append r (with_hand w rest (front ++ (later ++ back)) s) m (ready two.0)
-            (map (λ e. Writes e) (births_of s.tables.here s.tables.births (map birth_of w.outcome.makes))) (map (λ e. Writes e) (splits_from 0 full_hand places)) one.1 two.1),
-      )
+      let two = splits_steps r w rest full_hand places lacks m (length full_hand) 0 stock due (omega arith) within (omega arith) (λ q le lt. (refl, refl)) lasts in
+      (two.0, writes_append r (with_hand w rest (front ++ (later ++ back)) s) m (ready two.0) (births_of s.tables.here s.tables.births (map birth_of w.outcome.makes)) (splits_from 0 full_hand places) one.1 two.1)
 
-  -- the whole commit, where its Done may be written
-  pub commit_steps : (j : ℕ) (x : Standing) (left : Remains) → AreWithin full_hand places → ((q : ℕ) → q < length full_hand → Lasts (id_at full_hand q) (named places q))
-      → AllByRecursion HasCredit left.loose
-      → ((l : Option Event) → Commits r (ready l) (name_of w.job.action) (wrote (Done (name_of w.job.action) false) (ends j (record w { hand = halved_hand }) rest x left (ready l))))
-      → (l : Option Event) × Steps r (with_hand w rest (front ++ (later ++ back)) s)
-      (map (λ e. Writes e) (events ++ (Done (name_of w.job.action) false ∷ (written_due s.tables.here s.tables.serial left.due ++ ups left.loose))))
-      (record (ends j (record w { hand = halved_hand }) rest x left (ready l)) {
-        due = [];
-        loose = [];
-        tables = with_left left.due left.loose (ends j (record w { hand = halved_hand }) rest x left (ready l)).tables;
-        last = l;
-      })
-  commit_steps j x left within lasts credit done =
-      let one = ready_steps within lasts in
-      let d : Turn = wrote (Done (name_of w.job.action) false) (ends j (record w { hand = halved_hand }) rest x left (ready one.0)) in
-      let two = left_steps r (record d { due = []; loose = [] }) left.due left.loose refl credit in
-      let start : d ≡ record d { due = left.due; loose = left.loose } = ap (λ is. record d { loose = is ++ left.loose }) loose in (
-        two.0,
-        subst (λ labels. Steps r (with_hand w rest (front ++ (later ++ back)) s) labels (record d { due = []; loose = []; tables = with_left left.due left.loose d.tables; last = two.0 }))
-            (sym (map-append (λ e. Writes e) events (Done (name_of w.job.action) false ∷ (written_due s.tables.here s.tables.serial left.due ++ ups left.loose))))
-            (steps_append r (with_hand w rest (front ++ (later ++ back)) s) (ready one.0) (record d { due = []; loose = []; tables = with_left left.due left.loose d.tables; last = two.0 })
-            (map (λ e. Writes e) events) (map (λ e. Writes e) (Done (name_of w.job.action) false ∷ (written_due s.tables.here s.tables.serial left.due ++ ups left.loose))) one.1 (
-              d,
-              done one.0,
-              subst (λ z. Steps r z (map (λ e. Writes e) (written_due s.tables.here s.tables.serial left.due ++ ups left.loose))
-                  (record d { due = []; loose = []; tables = with_left left.due left.loose d.tables; last = two.0 })) (sym start) two.1,
-            )),
-      )
-
-  -- where its object is x, at j
+  -- the whole commit, where its object is x, at j
   pub done_steps : (j : ℕ) (x : Standing) (left : Remains) → AreWithin full_hand places → ((q : ℕ) → q < length full_hand → Lasts (id_at full_hand q) (named places q))
-      → slice_get s.tables.objects j ≡ Some x → find (is_standing (target_of w.job.action)) s.tables.objects ≡ Some x
-      → AllByRecursion (Drawn s.tables.here s.tables.births) s.tables.objects
+      → slice_get s.tables.objects j ≡ Some x → find (is_standing (target_of w.job.action)) s.tables.objects ≡ Some x → AllByRecursion (Drawn s.tables.here s.tables.births) s.tables.objects
       → IsLeftBy r s.tables.here w.job w.outcome x halved_hand (map bare (ids_of s.tables.here s.tables.births s.tables.profile.credit_log (map birth_of w.outcome.makes))) left
-      → (l : Option Event) × Steps r (with_hand w rest (front ++ (later ++ back)) s)
-      (map (λ e. Writes e) (events ++ (Done (name_of w.job.action) false ∷ (written_due s.tables.here s.tables.serial left.due ++ ups left.loose))))
-      (record (ends j (record w { hand = halved_hand }) rest x left (ready l)) {
-        due = [];
-        loose = [];
-        tables = with_left left.due left.loose (ends j (record w { hand = halved_hand }) rest x left (ready l)).tables;
-        last = l;
-      })
+      → (l : Option Event) × Writing r (with_hand w rest (front ++ (later ++ back)) s) (events ++ (Done (name_of w.job.action) false ∷ (written_due s.tables.here s.tables.serial left.due ++ ups left.loose)))
+      (record (ends j (record w { hand = halved_hand }) rest x left (ready l)) { due = []; loose = []; tables = with_left left.due left.loose (ends j (record w { hand = halved_hand }) rest x left (ready l)).tables; last = l })
   done_steps j x left within lasts stands found drawn by =
       let born : List Id = map bare (ids_of s.tables.here s.tables.births s.tables.profile.credit_log (map birth_of w.outcome.makes)) in
       let is_fresh : born ≡ s.fresh ++ born = ap (λ os. os ++ born) (sym fresh) in
-      commit_steps j x left within lasts by.given_up (λ l. record {
+      let new : List Standing = objects_of s.tables.here s.tables.births (map birth_of w.outcome.makes) in
+      let more : List Event = written_due s.tables.here s.tables.serial left.due ++ ups left.loose in
+      let one = ready_steps within lasts in
+      let d : Turn = wrote (Done (name_of w.job.action) false) (ends j (record w { hand = halved_hand }) rest x left (ready one.0)) in
+      let two = left_steps r (record d { due = []; loose = [] }) left.due left.loose refl by.given_up in
+      let end : Turn = record d { due = []; loose = []; tables = with_left left.due left.loose d.tables; last = two.0 } in
+      let start : d ≡ record d { due = left.due; loose = left.loose } = ap (λ is. record d { loose = is ++ left.loose }) loose in
+      let done : Commits r (ready one.0) (name_of w.job.action) d = record {
         w = record w { hand = halved_hand };
         rest = rest;
         j = j;
         x = x;
         left = left;
-        ending = record {
-          due = due;
-          works = refl;
-          lacks = lacks;
-          name = refl;
-          stands = get_before s.tables.objects (objects_of s.tables.here s.tables.births (map birth_of w.outcome.makes)) j x stands;
-          found = find_more (is_standing (target_of w.job.action)) s.tables.objects (objects_of s.tables.here s.tables.births (map birth_of w.outcome.makes)) x found;
-          kept = by.kept;
-          plain = by.plain;
-          credit = by.credit;
-          fits = by.fits;
-          given_up = all_right left.loose by.given_up;
-          deals = by.deals;
-        };
+        ending = ends_so (ready one.0) (record w { hand = halved_hand }) rest j x left due refl lacks (get_before s.tables.objects new j x stands)
+            (find_more (is_standing (target_of w.job.action)) s.tables.objects new x found) by.kept by.plain by.credit by.fits by.given_up by.deals;
         right = by.right;
-        made = subst (λ os. AreMade w.outcome.makes os (map bare_standing (s.tables.objects ++ objects_of s.tables.here s.tables.births (map birth_of w.outcome.makes)))) is_fresh
+        made = subst (λ os. AreMade w.outcome.makes os (map bare_standing (s.tables.objects ++ new))) is_fresh
             (made_so s.tables.here s.tables.births s.tables.profile.credit_log w.outcome.makes s.tables.objects fit drawn);
         says = by.says ∙ ap (λ os. state_after x.state (bare_act w.job.action) os w.outcome) is_fresh;
         leaves = by.leaves ∙ ap (λ os. due_of x.state (bare_act w.job.action) os w.outcome) is_fresh;
         now = refl;
-      })
+      } in (
+        two.0,
+        writes_append r (with_hand w rest (front ++ (later ++ back)) s) (ready one.0) end events (Done (name_of w.job.action) false ∷ more) one.1
+            (d, done, subst (λ z. Writing r z more end) (sym start) two.1),
+      )
 
 -- ---- a job commits, from rest to rest
 
@@ -163,6 +138,31 @@ set_twice : (xs ys : List Standing) (j : ℕ) (x y z : Standing) → slice_get x
 set_twice [] ys j x y z h = cc
 set_twice (v ∷ xs) ys zero x y z h = refl
 set_twice (v ∷ xs) ys (suc j) x y z h = ap (λ os. v ∷ os) (set_twice xs ys j x y z h)
+
+pub begins : (r : Rules) (t : Tables) (i j : ℕ) (job : Job) (out : Outcome) (x : Standing) → slice_get t.running i ≡ Some job.action → slice_get t.objects j ≡ Some x
+    → find (is_standing (target_of job.action)) t.objects ≡ Some x → job.at ≡ t.here → job.kind ≡ x.object.kind → job.state ≡ x.state → (t.localities ≤ 64) × (job.at < t.localities)
+    → (later : List Id) → AllByRecursion (λ (id : Id). id.log ≡ None) later → (places : List ℕ)
+    → Step r (at_rest t) Suspend (record (at_rest (record t { running = remove t.running i; objects = set t.objects j (record { object = x.object; state = bare_state x.state }) }))
+    { working = waits_with job out t.localities [] (record { hand = hand_ids job.state job.action later; places = places }) ∷ [] })
+begins r t i j job out x runs stands found here kind state few later none places = record {
+  calm = record { due = refl; fresh = refl };
+  i = i;
+  j = j;
+  job = job;
+  outcome = out;
+  x = x;
+  runs = runs;
+  stands = stands;
+  found = found;
+  here = here;
+  kind = kind;
+  state = state;
+  few = few;
+  later = later;
+  none = none;
+  places = places;
+  now = refl;
+}
 
 module _ (act_of : ℕ → ℕ → ℕ → State → Act → Outcome) (t : Tables) (entries : List Entry) (h : Stands act_of t entries) (i j : ℕ) (job : Job) (out : Outcome) (x : Standing)
     (runs : slice_get t.running i ≡ Some job.action) (stands : slice_get t.objects j ≡ Some x) (found : find (is_standing (target_of job.action)) t.objects ≡ Some x)
@@ -198,31 +198,6 @@ module _ (act_of : ℕ → ℕ → ℕ → State → Act → Outcome) (t : Table
   abbrev begun : Turn
   begun = record (at_rest (record t { running = remove t.running i; objects = set t.objects j lent })) { working = w ∷ [] }
 
-  begins : Step r (at_rest t) Suspend begun
-  begins = record {
-    calm = record { due = refl; fresh = refl };
-    i = i;
-    j = j;
-    job = job;
-    outcome = out;
-    x = x;
-    runs = runs;
-    stands = stands;
-    found = found;
-    here = at;
-    kind = kind;
-    state = state;
-    few = few;
-    later = later;
-    none = bare_none made;
-    places = places;
-    now = refl;
-  }
-    where
-      bare_none : (ids : List Id) → AllByRecursion (λ (id : Id). id.log ≡ None) (map bare ids)
-      bare_none [] = tt
-      bare_none (id ∷ ids) = (refl, bare_none ids)
-
   hand_is : hand_ids job.state job.action later ≡ own ++ (later ++ [])
   hand_is = sym (append_assoc job.state.ids job.action.ids later) ∙ ap (λ ids. own ++ ids) (sym (append-nil later))
 
@@ -257,9 +232,9 @@ module _ (act_of : ℕ → ℕ → ℕ → State → Act → Outcome) (t : Table
       (written_events events ∙ append_assoc (births_of t.here t.births (map birth_of out.makes)) (splits_from 0 hand places) (Done (name_of job.action) false ∷ (written_due t.here t.serial left.due ++ ups left.loose)))
       (turn_stands act_of t (committed left) entries (Suspend ∷ map (λ e. Writes e) events) more.0 h (
         begun,
-        begins,
-        subst (λ z. Steps r z (map (λ e. Writes e) events) ends) (ap (λ ids. record s { working = record w { hand = ids } ∷ [] }) (sym hand_is))
-            (subst (λ os. Steps r (with_hand w [] (own ++ (later ++ [])) s) (map (λ e. Writes e) events)
+        begins r t i j job out x runs stands found at kind state few later (all_none_log made) places,
+        subst (λ z. Writing r z events ends) (ap (λ ids. record s { working = record w { hand = ids } ∷ [] }) (sym hand_is))
+            (subst (λ os. Writing r (with_hand w [] (own ++ (later ++ [])) s) events
             (record (at_rest (with_left left.due left.loose (record t {
               running = remove t.running i;
               births = t.births + length out.makes;

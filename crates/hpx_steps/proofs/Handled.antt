@@ -1,5 +1,5 @@
 -- What calls do is one step after another.
-use Rattle.hpx_steps.proofs.Common.{Act, Apply, Ask, Bool, Count, DealsWith, Due, Event, Free, Freed, Give, Given, Gives, Granted, HasCredit, HasInHand, HasLeastCredit, Id, IsCalm, IsTold, Label, Leaves, List, MatchOption, MessageDue, Move, None, Option, Parcel, Place, Print, PrintDue, Record, Refused, Return, Returned, Rules, Sent, Some, Standing, Step, Steps, Tables, Turn, Up, Writes, [], and_true, answered, ap, append-nil, arith, bare, brings_right, broken_free, cases_Bool, cond, count_here, credit, credit_of_log, draws, drops, eq-eqb, eqb-false, eqb-true, false, find, find_record, freed, goes_on, going, held_here, ids_in, inl, inr, is_live, is_other, is_some, is_standing, length, log_of, lowered, mails, map, may_stay, more_here, nat_lt, nat_tests, ne_eqb, not, option_and_then, option_map, option_map_or, or_cases, parcel_for, place_or_0, posts, pow_pos, raised, record_here, refl, remove, returned, set, slice_get, stands_here, subst, suc, sym, target_of, true, up_of, ups, waits_here, with_accepted, with_act, with_credit, with_due, with_mail, with_mail_if, with_return, with_returns, without, written, written_by, written_due, wrote, ℕ, ◌++◌, ◌+◌, ◌-◌, ◌<◌, ◌==◌, ◌^◌, ◌∙◌, ◌∷◌, ◌≡◌, ◌≢◌, ◌≤◌, ◌⊎◌}
+use Rattle.hpx_steps.proofs.Common.{Act, Apply, Ask, Bool, Count, DealsWith, Due, Event, Free, Freed, Give, Given, Gives, Granted, HasCredit, HasInHand, HasLeastCredit, Id, IsCalm, IsTold, Label, Leaves, List, MatchOption, MessageDue, Move, None, Option, Parcel, Place, Print, PrintDue, Record, Refused, Return, Returned, Rules, Sent, Some, Standing, Step, Steps, Tables, Turn, Up, Writes, [], and_true, answered, ap, append-nil, arith, bare, brings_right, broken_free, cases_Bool, cond, count_here, credit, credit_of_log, draws, drops, eq-eqb, eqb-false, eqb-true, false, find, find_record, freed, goes_on, going, held_here, ids_in, inl, inr, is_live, is_other, is_some, is_standing, length, log_of, lowered, mails, map, map-append, may_stay, more_here, nat_lt, nat_tests, ne_eqb, not, option_and_then, option_map, option_map_or, or_cases, parcel_for, place_or_0, posts, pow_pos, raised, record_here, refl, remove, returned, set, slice_get, stands_here, subst, suc, sym, target_of, true, up_of, ups, waits_here, with_accepted, with_act, with_credit, with_due, with_mail, with_mail_if, with_return, with_returns, without, written, written_by, written_due, wrote, ℕ, ◌++◌, ◌+◌, ◌-◌, ◌<◌, ◌==◌, ◌^◌, ◌∙◌, ◌∷◌, ◌≡◌, ◌≢◌, ◌≤◌, ◌⊎◌}
 use Rattle.hpx_steps.proofs.Tools.{flat_append}
 use Rattle.hpx_value.specs.Values.{named}
 use Rattle.hpx_steps.proofs.Right.{free_right}
@@ -7,6 +7,14 @@ use Rattle.hpx_steps.proofs.Right.{free_right}
 pub steps_append : (r : Rules) (s m s' : Turn) (xs ys : List Label) → Steps r s xs m → Steps r m ys s' → Steps r s (xs ++ ys) s'
 steps_append r s m s' [] ys a b = subst (λ x. Steps r x ys s') a b
 steps_append r s m s' (x ∷ xs) ys a b = (a.0, a.1, steps_append r a.0 m s' xs ys a.2 b)
+
+-- these entries are written, one after the other
+abbrev pub Writing : Rules → Turn → List Event → Turn → Type 0
+Writing r s es s' = Steps r s (map (λ e. Writes e) es) s'
+
+pub writes_append : (r : Rules) (s m s' : Turn) (es fs : List Event) → Writing r s es m → Writing r m fs s' → Writing r s (es ++ fs) s'
+writes_append r s m s' es fs a b = subst (λ labels. Steps r s labels s') (sym (map-append (λ e. Writes e) es fs))
+    (steps_append r s m s' (map (λ e. Writes e) es) (map (λ e. Writes e) fs) a b)
 
 pub written_events : (es : List Event) → written (map (λ e. Writes e) es) ≡ es
 written_events [] = refl

@@ -1,7 +1,7 @@
 -- An action that is in hand waits here, or goes on.
 use Rattle.hpx_steps.proofs.Common.{Accepted, Act, Apply, Bool, Came, Entry, Going, HasInHand, IsApplied, IsFit, IsMove, IsParcel, IsSound, Item, List, Mailed, Move, OnDesk, Parcel, Places, Row, Rules, TidyAt, Turn, View, [], ap, arith, asked_by, asks_as, asks_for, asks_under, bare_act, brings, count_by, drops, false, freeing, frees_one, given_to, gives_for, going, hopping, inl, inr, is_other, joined, kind_of, may_stay, of_act, one_if, owes, parcel_acts, parcel_asks, parcel_frees, parcel_tokens, posts, refl, same_object, subst, sum_by, sym, target_of, tokens_of, true, unpaid, view, waiting, waits_for, weigh, weight, worth, ℕ, ◌++◌, ◌+◌, ◌==◌, ◌||◌, ◌∙◌, ◌∷◌, ◌≡◌, ◌≢◌, ◌≤◌, ◌⊎◌}
 use Rattle.hpx_steps.proofs.Tools.{Changes, Put, Sees, Stills, bound_none, by_own, by_parcel, by_rows, drop_change, fewer, hand_fit, holding, in_hand, is_frame, leads_on, post_change, post_waits, put_as, put_less, put_sum, put_tidy, same_dead, same_asks, sees_leads, then, view_worth}
-use Rattle.hpx_steps.proofs.Moved.{waits_leads, waits_moved}
+use Rattle.hpx_steps.proofs.Moved.{waits_leads}
 use Rattle.hpx_steps.proofs.Waits.{hand_waits}
 
 module _ (r : Rules) (s : Turn) (entries : List Entry) (h : IsSound r s entries) (act : Act) (p : Parcel) (carries : (p ≡ Apply act) ⊎ (p ≡ Move act))
@@ -61,7 +61,7 @@ module _ (r : Rules) (s : Turn) (entries : List Entry) (h : IsSound r s entries)
   same = sym from_hand.was ∙ put.was
 
   abbrev seen : View
-  seen = waits_moved r (view s) from_hand.front from_hand.back put.front put.back (bare_act act) from_hand.is same
+  seen = record (view s) { waiting = put.front ++ bare_act act ∷ put.back }
 
   none : (f : Parcel → ℕ) → f (Apply act) ≡ 0 → f (Move act) ≡ 0 → f p ≡ 0
   none f a b = carried f 0 a b p carries
@@ -126,7 +126,7 @@ module _ (r : Rules) (s : Turn) (entries : List Entry) (h : IsSound r s entries)
   place_stills = record {
     same = refl;
     leads = leads_on r (view s) seen (view now)
-        (waits_leads r (view s) from_hand.front from_hand.back put.front put.back (bare_act act) from_hand.is same) (sees_leads r seen now sees);
+        (waits_leads r (view s) from_hand.front from_hand.back put.front put.back (bare_act act) same from_hand.is) (sees_leads r seen now sees);
     tidy = holding (TidyAt s) (item ∷ []) s now change.1 h.tidy (put_tidy s.tables act fit, tt);
     places = h.places;
     commits = h.commits;

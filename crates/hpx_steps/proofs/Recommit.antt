@@ -1,5 +1,8 @@
 -- What a commit in work has in its hand changes: its job stays.
-use Rattle.hpx_steps.proofs.Common.{Act, HasCommits, Id, IsCommit, List, Some, Standing, Waits, [], ap, arith, bare, cond, false, filter, id_at, ids_named, is_asked, length, length-map, length-take, map, refl, set, slice_get, some_same, suc, sym, take, take-append-le, zero, ℕ, ◌++◌, ◌<◌, ◌∙◌, ◌∷◌, ◌≡◌, ◌≤◌}
+use Rattle.hpx_steps.proofs.Lists.{less_sum}
+use Rattle.hpx_steps.proofs.Mails.{held_by}
+use Rattle.hpx_steps.proofs.Sums.{ids_each, view_worth}
+use Rattle.hpx_steps.proofs.Common.{Act, AllByRecursion, AskedFor, HasCommits, Id, IsCommit, List, Option, Some, Standing, Token, Turn, Waits, [], ap, arith, bare, commits, cond, count_by, counts_of, counts_true, false, filter, held_token, id_at, ids_named, is_asked, length, length-map, length-take, list_any, map, refl, same_object, same_token, set, slice_get, some_same, subst, suc, sum_by, sum_by-cons, sym, take, take-append-le, token_own, tokens, tokens_of, true, zero, ℕ, ◌++◌, ◌<◌, ◌==◌, ◌∙◌, ◌∷◌, ◌≡◌, ◌≤◌}
 
 -- its hand has all that its object and its action name
 pub hand_long : (k n : ℕ) (w : Waits) → IsCommit k n w → length (ids_named w) ≤ length w.hand
@@ -11,15 +14,36 @@ hand_long k n w h = omega (
   length-take (length (ids_named w)) w.hand,
 )
 
--- the same job, and the same action
-pub same_commits : (objects : List Standing) (running : List Act) (w w' : Waits) (rest : List Waits) → w' ≡ record w { hand = w'.hand; asked = w'.asked; places = w'.places; refused = w'.refused }
-    → HasCommits objects running (w ∷ rest) → HasCommits objects running (w' ∷ rest)
-same_commits objects running w w' rest is h = rw is (record {
+-- the same job, with another hand
+pub recommit : (k n : ℕ) (w : Waits) (hand : List Id) (asked : List AskedFor) (places : List ℕ) (refused : Option Id) → IsCommit k n w
+    → map bare (take (length (ids_named w)) hand) ≡ map bare (ids_named w) → AllByRecursion (λ (x : AskedFor). x.place < length (ids_named w)) asked
+    → ((o : Id) → refused ≡ Some o → list_any (same_object o) (ids_named w) ≡ true)
+    → ((p : ℕ) → p < length (ids_named w) → count_by (λ (x : AskedFor). x.place == p) asked ≡ cond (is_asked (id_at hand p)) 1 0)
+    → IsCommit k n (record w { hand = hand; asked = asked; places = places; refused = refused })
+recommit k n w hand asked places refused h own within named once =
+    record { job = h.job; here = h.here; localities = h.localities; few = h.few; hand = own; within = within; refused = named; once = once }
+
+-- the first commit in work has the same job, and the same action
+pub work_commits : (s : Turn) (w w' : Waits) (rest : List Waits) → s.working ≡ w ∷ rest → w' ≡ record w { hand = w'.hand; asked = w'.asked; places = w'.places; refused = w'.refused }
+    → HasCommits s.tables.objects s.tables.running (commits s) → HasCommits s.tables.objects s.tables.running (w' ∷ rest ++ s.tables.pending)
+work_commits s w w' rest works is all = rw is (record {
   each = (record { standing = h.each.0.standing; found = h.each.0.found; kind = h.each.0.kind; state = h.each.0.state }, h.each.1);
   apart = h.apart;
   whole = h.whole;
   lent = h.lent;
 })
+  where
+    h : HasCommits s.tables.objects s.tables.running (w ∷ rest ++ s.tables.pending)
+    h = subst (λ ws. HasCommits s.tables.objects s.tables.running (ws ++ s.tables.pending)) works all
+
+-- the token of an id in its hand is held
+pub token_held : (s : Turn) (w : Waits) (rest : List Waits) (p : ℕ) (id : Id) (log : ℕ) → s.working ≡ w ∷ rest → slice_get w.hand p ≡ Some id → id.log ≡ Some log
+    → 1 ≤ count_by (same_token (held_token (bare id) log)) (tokens s)
+token_held s w rest p id log works at has =
+    let t : Token = held_token (bare id) log in
+    let f : Token → ℕ = counts_of (same_token t) in
+    omega (arith, view_worth f s, ap (sum_by (λ (y : Waits). sum_by f (tokens_of y.hand))) works, sum_by-cons (λ (y : Waits). sum_by f (tokens_of y.hand)) w rest,
+    less_sum (λ y. sum_by f (tokens_of (y ∷ []))) w.hand p id at, ids_each f w.hand, held_by f id log has, counts_true (same_token t) t (token_own t))
 
 -- ---- the first n of a hand, with another id at a place and more behind
 

@@ -1,6 +1,6 @@
 -- What was asked for is put into the hand of the commit that waits for it.
 use Rattle.hpx_steps.proofs.Common.{AskedFor, Bool, HasCredit, HasRightCredit, HasSplit, Id, IsCommit, IsShort, List, MatchOption, None, Option, Some, Waits, all_append, all_at, all_remove, and_true, ap, append_assoc, arith, bare, cases_Bool, cond, count_by, eq-eqb, eqb-true, false, first_stock, id_at, ids_named, inl, inr, is_asked, is_asked_for, is_some, length, length-append, list_any, log_of, nat_le, not, own_ids, place_bare, place_some, refilled, refl, remove, same_object, same_object-true, set, slice_get, some_same, subst, sym, true, whole_stock, ℕ, ◌&&◌, ◌++◌, ◌+◌, ◌<◌, ◌==◌, ◌∙◌, ◌≡◌, ◌≢◌, ◌≤◌, ◌⊎◌}
-use Rattle.hpx_steps.proofs.Tools.{front_place, hand_long, has_not_asked, less_sum, not_asked, place_at, put_elsewhere, put_names, put_there, take_place}
+use Rattle.hpx_steps.proofs.Tools.{front_place, hand_long, has_not_asked, less_sum, not_asked, place_at, put_elsewhere, put_names, put_there, recommit, take_place}
 use Rattle.hpx_steps.proofs.Hands.{any_place, names_place, put_behind}
 
 own_log : (id : Id) → HasCredit id → id.log ≡ Some (log_of id.log)
@@ -130,13 +130,6 @@ module _ (k l log : ℕ) (w : Waits) (n : ℕ) (ask : AskedFor) (id : Id) (entry
   refused_then o false e = its.refused o e
 
   pub still_commit : IsCommit k l (refilled n ask.place id w)
-  still_commit = record {
-    job = its.job;
-    here = its.here;
-    localities = its.localities;
-    few = its.few;
-    hand = put_names (length (ids_named w)) w.hand ask.place (id_at w.hand ask.place) id asked_at_place asked_same ∙ its.hand;
-    within = all_remove (λ (x : AskedFor). x.place < length (ids_named w)) w.asked n its.within;
-    refused = λ o e. refused_then o (log_of id.log == 0) e;
-    once = once_then;
-  }
+  still_commit = recommit k l w (set w.hand ask.place id) (remove w.asked n) w.places (cond (log_of id.log == 0) (Some (bare id)) w.refused) its
+      (put_names (length (ids_named w)) w.hand ask.place (id_at w.hand ask.place) id asked_at_place asked_same ∙ its.hand)
+      (all_remove (λ (x : AskedFor). x.place < length (ids_named w)) w.asked n its.within) (λ o e. refused_then o (log_of id.log == 0) e) once_then

@@ -1,7 +1,7 @@
 -- Credit that was asked for is given to a commit that waits for nothing more then: it goes on, and ends or fails.
 use Rattle.hpx_steps.proofs.Common.{AllByRecursion, AreWithin, AskedFor, Done, Event, Give, Given, Gives, HasCredit, HasInHand, Id, IsBirth, IsLeftBy, IsLeftFailed, Lasts, List, None, Option, Parcel, Remains, Rules, Some, Standing, Steps, Tables, Turn, Waits, Writes, [], answered_by, ap, at_rest, bare, birth_of, births_of, brings_right, cond, drops, ends, false, find, goes_on, id_at, ids_named, ids_of, is_standing, length, log_of, map, name_of, named, objects_of, records_of, refl, remove, set, slice_get, splits_from, subst, sym, target_of, true, ups, with_left, works_on, written_due, wrote, ℕ, ◌++◌, ◌+◌, ◌<◌, ◌==◌, ◌∷◌, ◌≡◌, ◌≤◌}
-use Rattle.hpx_steps.proofs.Committed.{all_right, done_steps, left_steps}
-use Rattle.hpx_steps.proofs.Handled.{Leads, given_leads, written_events}
+use Rattle.hpx_steps.proofs.Committed.{all_right, done_steps, ends_so, left_steps}
+use Rattle.hpx_steps.proofs.Handled.{Leads, Writing, given_leads, written_events}
 use Rattle.hpx_steps.proofs.Made.{Drawn}
 use Rattle.hpx_steps.proofs.Work.{halved_from}
 
@@ -10,8 +10,7 @@ use Rattle.hpx_steps.proofs.Work.{halved_from}
 -- its Done, what is due, and what is given up
 pub fail_steps : (r : Rules) (s : Turn) (w : Waits) (rest : List Waits) (refusal : Id) (j : ℕ) (x : Standing) (left : Remains) → s.due ≡ [] → s.fresh ≡ [] → s.loose ≡ []
     → w.asked ≡ [] → w.refused ≡ Some refusal → slice_get s.tables.objects j ≡ Some x → find (is_standing (target_of w.job.action)) s.tables.objects ≡ Some x → IsLeftFailed w x left
-    → (l : Option Event) × Steps r (works_on w rest s)
-    (map (λ e. Writes e) (Done (name_of w.job.action) true ∷ (written_due s.tables.here s.tables.serial left.due ++ ups left.loose)))
+    → (l : Option Event) × Writing r (works_on w rest s) (Done (name_of w.job.action) true ∷ (written_due s.tables.here s.tables.serial left.due ++ ups left.loose))
     (record (ends j w rest x left s) { due = []; loose = []; tables = with_left left.due left.loose (ends j w rest x left s).tables; last = l })
 fail_steps r s w rest refusal j x left due fresh loose lacks refused stands found by =
     let d : Turn = wrote (Done (name_of w.job.action) true) (ends j w rest x left s) in
@@ -26,20 +25,7 @@ fail_steps r s w rest refusal j x left due fresh loose lacks refused stands foun
           j = j;
           x = x;
           left = left;
-          ending = record {
-            due = due;
-            works = refl;
-            lacks = lacks;
-            name = refl;
-            stands = stands;
-            found = found;
-            kept = by.kept;
-            plain = by.plain;
-            credit = by.credit;
-            fits = by.fits;
-            given_up = all_right left.loose by.given_up;
-            deals = by.deals;
-          };
+          ending = ends_so (works_on w rest s) w rest j x left due refl lacks stands found by.kept by.plain by.credit by.fits by.given_up by.deals;
           fresh = fresh;
           refusal = refusal;
           refused = refused;
@@ -47,7 +33,7 @@ fail_steps r s w rest refusal j x left due fresh loose lacks refused stands foun
           leaves = by.leaves;
           now = refl;
         },
-        subst (λ z. Steps r z (map (λ e. Writes e) (written_due s.tables.here s.tables.serial left.due ++ ups left.loose))
+        subst (λ z. Writing r z (written_due s.tables.here s.tables.serial left.due ++ ups left.loose)
             (record d { due = []; loose = []; tables = with_left left.due left.loose d.tables; last = more.0 })) (sym start) more.1,
       ),
     )
@@ -69,7 +55,7 @@ module _ (r : Rules) (t mid : Tables) (came mailed : List Parcel) (before : Opti
   resumed = record (at_rest (record t { pending = remove t.pending g.i })) { working = g.after ∷ []; last = Some (given_event id) }
 
   -- the commit goes on so
-  pub given_ends : (t' : Tables) (events : List Event) → ((l : Option Event) × Steps r resumed (map (λ e. Writes e) events) (record (at_rest t') { last = l }))
+  pub given_ends : (t' : Tables) (events : List Event) → ((l : Option Event) × Writing r resumed events (record (at_rest t') { last = l }))
       → Leads r (in_hand t came mailed before) t' (given_event id ∷ events)
   given_ends t' events more = record {
     last = more.0;
@@ -78,7 +64,7 @@ module _ (r : Rules) (t mid : Tables) (came mailed : List Parcel) (before : Opti
     steps = (
       wrote (given_event id) (goes_on g.i g.after (drops (in_hand t came mailed before))),
       given_leads r (in_hand t came mailed before) mid id entry (record { due = refl; fresh = refl }) hand credit right g,
-      subst (λ z. Steps r z (map (λ e. Writes e) events) (record (at_rest t') { last = more.0 })) (sym then_is) more.1,
+      subst (λ z. Writing r z events (record (at_rest t') { last = more.0 })) (sym then_is) more.1,
     );
   }
     where
@@ -138,4 +124,4 @@ module _ (r : Rules) (t mid : Tables) (came mailed : List Parcel) (before : Opti
         ++ (Done (name_of g.after.job.action) false ∷ (written_due t.here t.serial left.due ++ ups left.loose)) in
         let more = done_steps r s g.after [] front later back places refl refl refl complete none many long fit j x left within lasts stands found drawn by in
         given_ends (done j x left) events
-        (more.0, subst (λ ids. Steps r (record s { working = record g.after { hand = ids } ∷ [] }) (map (λ e. Writes e) events) (record (at_rest (done j x left)) { last = more.0 })) (sym is) more.1)
+        (more.0, subst (λ ids. Writing r (record s { working = record g.after { hand = ids } ∷ [] }) events (record (at_rest (done j x left)) { last = more.0 })) (sym is) more.1)

@@ -1,7 +1,7 @@
 -- An id in the hand of a commit is halved.
 use Rattle.hpx_steps.proofs.Common.{Entry, HasCommits, Id, IsCommit, IsSound, Item, List, Rules, Some, Split, Splits, TidyAt, Token, Turn, View, Waits, Working, [], ap, arith, asking, bare, bare_act, bare_due, cond, count_by, counts_of, counts_true, false, fired_of, follows_split, half, held_token, ids_named, inl, is_asked, is_asked_for, length, map, names_of, option_map, refl, refusals_of, same_token, set, slice_get, subst, sum_by, sum_by-cons, sym, token_own, tokens, tokens_of, view, weigh, works_on, worth, wrote, ℕ, ◌++◌, ◌+◌, ◌-◌, ◌∙◌, ◌∷◌, ◌≡◌, ◌≤◌}
-use Rattle.hpx_steps.proofs.Tools.{Changes, Keeps, Sees, by_rows, counts_near, first_turns, hand_long, has_not_asked, held_by, holding, ids_append, ids_each, less_sum, numbered_so, orders_so, pays_so, same_commits, sees_by, sees_leads, set_sum, told_as, view_asking, view_worth, working_change}
-use Rattle.hpx_steps.proofs.Recommit.{first_asked, first_at, first_map}
+use Rattle.hpx_steps.proofs.Tools.{Changes, Keeps, Sees, by_rows, counts_near, first_turns, hand_long, has_not_asked, held_by, holding, ids_append, ids_each, less_sum, numbered_so, orders_so, pays_so, sees_by, sees_leads, set_sum, told_as, view_asking, view_worth, working_change}
+use Rattle.hpx_steps.proofs.Recommit.{first_asked, first_at, first_map, recommit, token_held, work_commits}
 
 module _ (r : Rules) (s : Turn) (entries : List Entry) (h : IsSound r s entries) (w : Waits) (rest : List Waits) (p : ℕ) (id : Id) (log : ℕ) (due : s.due ≡ [])
     (works : s.working ≡ w ∷ rest) (at : slice_get w.hand p ≡ Some id) (has : id.log ≡ Some log) (enough : 1 ≤ log) (lacks : w.asked ≡ []) where
@@ -41,16 +41,9 @@ module _ (r : Rules) (s : Turn) (entries : List Entry) (h : IsSound r s entries)
   unasked = (has_not_asked id log has, has_not_asked (half id) (log - 1) halved)
 
   fit_commit : IsCommit s.tables.here s.tables.localities split
-  fit_commit = record {
-    job = its.job;
-    here = its.here;
-    localities = its.localities;
-    few = its.few;
-    hand = first_map bare many p w.hand (half id ∷ []) id (half id) at refl long ∙ its.hand;
-    within = its.within;
-    refused = its.refused;
-    once = λ q lt. its.once q lt ∙ ap {B = ℕ} (λ b. cond b 1 0) (sym (first_at many p q w.hand (half id ∷ []) id (half id) at (unasked.1 ∙ sym unasked.0) lt long));
-  }
+  fit_commit = recommit s.tables.here s.tables.localities w (set w.hand p (half id) ++ half id ∷ []) w.asked w.places w.refused its
+      (first_map bare many p w.hand (half id ∷ []) id (half id) at refl long ∙ its.hand) its.within its.refused
+      (λ q lt. its.once q lt ∙ ap {B = ℕ} (λ b. cond b 1 0) (sym (first_at many p q w.hand (half id ∷ []) id (half id) at (unasked.1 ∙ sym unasked.0) lt long)))
 
   abbrev seen : View
   seen = record (view s) { tokens = tokens now; last = Some (Split (bare id) log) }
@@ -65,16 +58,7 @@ module _ (r : Rules) (s : Turn) (entries : List Entry) (h : IsSound r s entries)
     leads = (
       seen,
       follows_split r (view s) (bare id) refl log (tokens now) (ap (map bare_due) due) enough
-          (omega (
-            arith,
-            view_worth (counts_of (same_token (held_token (bare id) log))) s,
-            ap (sum_by (λ y. worth (counts_of (same_token (held_token (bare id) log))) (Working y))) works,
-            sum_by-cons (λ y. worth (counts_of (same_token (held_token (bare id) log))) (Working y)) w rest,
-            less_sum (λ y. sum_by (counts_of (same_token (held_token (bare id) log))) (tokens_of (y ∷ []))) w.hand p id at,
-            ids_each (counts_of (same_token (held_token (bare id) log))) w.hand,
-            held_by (counts_of (same_token (held_token (bare id) log))) id log has,
-            counts_true (same_token (held_token (bare id) log)) (held_token (bare id) log) (token_own (held_token (bare id) log)),
-          ))
+          (token_held s w rest p id log works at has)
           (record {
             sums = λ f fair. omega (arith, view_worth f, change.0 (worth f), tokens_hand f, sum_by-cons f);
           }),
@@ -82,8 +66,7 @@ module _ (r : Rules) (s : Turn) (entries : List Entry) (h : IsSound r s entries)
     );
     tidy = holding (TidyAt s) (Working split ∷ []) s now change.1 h.tidy (fit_commit, tt);
     places = h.places;
-    commits = same_commits s.tables.objects s.tables.running w split (rest ++ s.tables.pending) refl
-        (subst (λ ws. HasCommits s.tables.objects s.tables.running (ws ++ s.tables.pending)) works h.commits);
+    commits = work_commits s w split rest works refl h.commits;
     numbered = numbered_so r s now (Split (bare id) log) (Working w ∷ []) (Working split ∷ []) change.0 (omega arith) (λ n. omega arith);
     pays = pays_so r s now (Split (bare id) log) (Working w ∷ []) (Working split ∷ []) change.0 (by_rows _ refl refl refl refl refl refl refl (λ o. refl)) (omega arith) (omega arith) (λ o. omega arith);
     orders = orders_so r s now (Split (bare id) log) (Working w ∷ []) (Working split ∷ []) change.0 tt (λ o n. omega (arith, ap (λ ys. count_by (is_asked_for w o n) ys) lacks, ap (λ ys. count_by (is_asked_for split o n) ys) lacks)) (λ j d o n. omega arith);

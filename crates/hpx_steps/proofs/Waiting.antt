@@ -1,6 +1,7 @@
 -- A commit begins to wait: its ids are halved ahead, each that does not last is asked for, and it is put aside.
 use Rattle.hpx_steps.proofs.Common.{Act, AllByRecursion, AreWithin, Ask, Bool, Entry, Event, HasLeastCredit, HasSplit, Id, Job, Label, List, None, Outcome, Pause, Rules, Some, Standing, Stands, State, Step, Steps, Stock, Suspend, Tables, Turn, Waits, Writes, [], ahead, ahead_is, ap, append-nil, arith, asked_at, asked_events, at_all, at_rest, bare, bare_state, cond, false, find, first_cuts, hand_ids, id_at, is_standing, length, length-append, length-set, log_of, map, named, nat_le, refl, remove, rules_of, set, short_from, short_places, slice_get, stripped, subst, suc, sym, target_of, true, waits_with, with_asks, with_mail, written, zero, ℕ, ◌++◌, ◌+◌, ◌<◌, ◌∙◌, ◌∷◌, ◌≡◌, ◌≢◌, ◌≤◌}
 use Rattle.hpx_steps.proofs.Tools.{place_at, put_elsewhere}
+use Rattle.hpx_steps.proofs.Committed.{begins}
 use Rattle.hpx_steps.proofs.Handled.{steps_append, written_append, written_events}
 use Rattle.hpx_steps.proofs.TurnOf.{turn_stands}
 use Rattle.hpx_steps.proofs.Work.{CanBeAsked, ahead_steps, asking_turn, asks_steps, with_hand}
@@ -92,25 +93,6 @@ module _ (act_of : ℕ → ℕ → ℕ → State → Act → Outcome) (t : Table
   pub wait_stands : AreWithin first.hand places → AllByRecursion (λ p. HasLeastCredit (id_at split.hand p)) short → 1 ≤ length short → HasSplit t.profile.credit_log waits
       → Stands act_of waited (entries ++ at_all t.here (first_cuts many 0 first.hand places ++ asked_events lacking))
   wait_stands within least some split_so =
-      let begins : Step r (at_rest t) Suspend begun = record {
-        calm = record { due = refl; fresh = refl };
-        i = i;
-        j = j;
-        job = job;
-        outcome = out;
-        x = x;
-        runs = runs;
-        stands = stands;
-        found = found;
-        here = at;
-        kind = kind;
-        state = state;
-        few = few;
-        later = later;
-        none = none;
-        places = places;
-        now = refl;
-      } in
       let fits : many ≤ length first.hand = omega (arith, length-append job.state.ids (job.action.ids ++ later), length-append job.action.ids later, length-append job.state.ids job.action.ids) in
       let longer : many ≤ length split.hand = omega (arith, fits, (ahead_is many first fits within).longer) in
       let one = ahead_steps r w [] first.hand places refl (record begun { working = [] }) many 0 first refl (omega (arith, fits)) within (omega arith) (λ q le lt. (refl, refl)) in
@@ -141,7 +123,7 @@ module _ (act_of : ℕ → ℕ → ℕ → State → Act → Outcome) (t : Table
       ∙ ap (λ (z : Tables). record z { asked = t.asked + length lacking }) (sym (asks_aside t.here t.asked lacking (t.pending ++ waits ∷ []) lent)) in
       subst (λ z. Stands act_of z (entries ++ at_all t.here (cuts_of ++ asked_events lacking))) ends
       (subst (λ es. Stands act_of aside (entries ++ at_all t.here es)) writes
-      (turn_stands act_of t aside entries (Suspend ∷ labels) two.0 h (begun, begins, steps)))
+      (turn_stands act_of t aside entries (Suspend ∷ labels) two.0 h (begun, begins r t i j job out x runs stands found at kind state few later none places, steps)))
     where
       writes : written (map (λ e. Writes e) (first_cuts many 0 first.hand places) ++ (map (λ e. Writes e) (asked_events lacking) ++ Pause ∷ [])) ≡ first_cuts many 0 first.hand places ++ asked_events lacking
       writes =

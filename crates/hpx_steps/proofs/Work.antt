@@ -1,7 +1,7 @@
 -- A commit in work: its objects are made, its ids are halved and asked for, one after another.
 use Rattle.hpx_steps.proofs.Common.{AllByRecursion, AreWithin, Ask, Asked, AskedFor, Born, Event, HasLeastCredit, Id, IsBirth, Lasts, List, Make, None, Option, Record, Rules, Some, Split, Standing, Steps, Stock, Tables, Turn, Waits, Writes, [], ahead_from, ap, append-nil, append_assoc, arith, asked_at, asked_events, bare, bare_id, birth_of, birth_state, births_of, cuts, cuts_of, drop, drop_at, first_cuts, half, halves_taken, halvings, halvings_have, halvings_need, halvings_same, id_at, ids_named, ids_of, length, length-append, length-set, log_of, map, map-append, named, objects_of, option_map, plus_one, records_of, refl, replaced, session, set, slice_get, splits_from, stripped, subst, suc, sym, take-append-le, take_half, take_halves, with_asks, with_mail, zero, ℕ, ◌++◌, ◌+◌, ◌-◌, ◌<◌, ◌^◌, ◌∙◌, ◌∷◌, ◌≡◌, ◌≤◌}
 use Rattle.hpx_steps.proofs.Tools.{at_place, held_by, ids_append, none_tokens, place_at}
-use Rattle.hpx_steps.proofs.Handled.{steps_append}
+use Rattle.hpx_steps.proofs.Handled.{Writing, steps_append}
 
 -- the first commit in work has this hand
 abbrev pub with_hand : Waits → List Waits → List Id → Turn → Turn
@@ -29,7 +29,7 @@ with_births w rest front back xs l s = record s {
 pub births_steps : (r : Rules) (s : Turn) (w : Waits) (rest : List Waits) (front later back : List Id) (before xs : List Make) → s.due ≡ [] → w.asked ≡ []
     → w.outcome.makes ≡ before ++ xs → length before ≡ length s.fresh → length later ≡ length xs → AllByRecursion (λ (id : Id). id.log ≡ None) later
     → length (ids_named w) ≤ length front → AllByRecursion IsBirth (map birth_of xs)
-    → (l : Option Event) × Steps r (with_hand w rest (front ++ (later ++ back)) s) (map (λ e. Writes e) (births_of s.tables.here s.tables.births (map birth_of xs)))
+    → (l : Option Event) × Writing r (with_hand w rest (front ++ (later ++ back)) s) (births_of s.tables.here s.tables.births (map birth_of xs))
     (with_births w rest front back xs l s)
 births_steps r s w rest front [] back before [] due lacks makes many same none long fit =
     (s.last, ends)
@@ -90,9 +90,9 @@ births_steps r s w rest front (y ∷ ys) back before (x ∷ xs) due lacks makes 
           );
           now = refl;
         },
-        subst (λ z. Steps r z (map (λ k. Writes k) (births_of s.tables.here (s.tables.births + 1) (map birth_of xs))) (with_births w rest front back (x ∷ xs) more.0 s))
+        subst (λ z. Writing r z (births_of s.tables.here (s.tables.births + 1) (map birth_of xs)) (with_births w rest front back (x ∷ xs) more.0 s))
             (ap (λ hs. with_hand w rest hs m) (sym hand))
-            (subst (Steps r (with_hand w rest ((front ++ id ∷ []) ++ (ys ++ back)) m) (map (λ k. Writes k) (births_of s.tables.here (s.tables.births + 1) (map birth_of xs)))) (ends o id (record { gid = o; count = 2 ^ s.tables.profile.credit_log; place = s.tables.here; moving = None }) (record { object = o; state = birth_state x }) more.0
+            (subst (Writing r (with_hand w rest ((front ++ id ∷ []) ++ (ys ++ back)) m) (births_of s.tables.here (s.tables.births + 1) (map birth_of xs))) (ends o id (record { gid = o; count = 2 ^ s.tables.profile.credit_log; place = s.tables.here; moving = None }) (record { object = o; state = birth_state x }) more.0
             (map bare (ids_of s.tables.here (s.tables.births + 1) s.tables.profile.credit_log (map birth_of xs))) (ids_of s.tables.here (s.tables.births + 1) s.tables.profile.credit_log (map birth_of xs))
             (records_of s.tables.here (s.tables.births + 1) s.tables.profile.credit_log (map birth_of xs)) (objects_of s.tables.here (s.tables.births + 1) (map birth_of xs))) more.1),
       ),
@@ -148,7 +148,7 @@ births_steps r s w rest front (y ∷ ys) back before (x ∷ xs) due lacks makes 
 -- as often, one half behind all each time
 pub halves_steps : (r : Rules) (s : Turn) (w : Waits) (rest : List Waits) (k p : ℕ) (st : Stock) (log : ℕ) → s.due ≡ [] → w.asked ≡ [] → p < length st.hand
     → (id_at st.hand p).log ≡ Some log → k ≤ log
-    → (l : Option Event) × Steps r (with_hand w rest st.hand s) (map (λ e. Writes e) (cuts (id_at st.hand p) (suc k))) (record (with_hand w rest (take_halves k p st).hand s) { last = l })
+    → (l : Option Event) × Writing r (with_hand w rest st.hand s) (cuts (id_at st.hand p) (suc k)) (record (with_hand w rest (take_halves k p st).hand s) { last = l })
 halves_steps r s w rest zero p st log due lacks inside has enough = (s.last, refl)
 halves_steps r s w rest (suc k) p st log due lacks inside has enough =
     let id : Id = id_at st.hand p in
@@ -176,7 +176,7 @@ halves_steps r s w rest (suc k) p st log due lacks inside has enough =
           lacks = lacks;
           now = refl;
         },
-        subst (λ x. Steps r (with_hand w rest next.hand m) (map (λ k. Writes k) (cuts x (suc k))) (record (with_hand w rest (take_halves k p next).hand m) { last = more.0 })) part more.1,
+        subst (λ x. Writing r (with_hand w rest next.hand m) (cuts x (suc k)) (record (with_hand w rest (take_halves k p next).hand m) { last = more.0 })) part more.1,
       ),
     )
   where
@@ -190,12 +190,12 @@ halves_steps r s w rest (suc k) p st log due lacks inside has enough =
 -- where the log allows none, there is nothing to do
 halves_any : (r : Rules) (s : Turn) (w : Waits) (rest : List Waits) (k p : ℕ) (st : Stock) → s.due ≡ [] → w.asked ≡ [] → p < length st.hand
     → k ≤ log_of (id_at st.hand p).log
-    → (l : Option Event) × Steps r (with_hand w rest st.hand s) (map (λ e. Writes e) (cuts (id_at st.hand p) (suc k))) (record (with_hand w rest (take_halves k p st).hand s) { last = l })
+    → (l : Option Event) × Writing r (with_hand w rest st.hand s) (cuts (id_at st.hand p) (suc k)) (record (with_hand w rest (take_halves k p st).hand s) { last = l })
 halves_any r s w rest zero p st due lacks inside enough = (s.last, refl)
 halves_any r s w rest (suc k) p st due lacks inside enough = each (id_at st.hand p).log refl enough
   where
     each : (lg : Option ℕ) → (id_at st.hand p).log ≡ lg → suc k ≤ log_of lg
-        → (l : Option Event) × Steps r (with_hand w rest st.hand s) (map (λ e. Writes e) (cuts (id_at st.hand p) (suc (suc k)))) (record (with_hand w rest (take_halves (suc k) p st).hand s) { last = l })
+        → (l : Option Event) × Writing r (with_hand w rest st.hand s) (cuts (id_at st.hand p) (suc (suc k))) (record (with_hand w rest (take_halves (suc k) p st).hand s) { last = l })
     each None is few = absurd (omega (arith, few))
     each (Some log) is few = halves_steps r s w rest (suc k) p st log due lacks inside is few
 
@@ -233,7 +233,7 @@ module _ (r : Rules) (w : Waits) (rest : List Waits) (hand : List Id) (places : 
       )
 
   pub ahead_steps : (s : Turn) (n p : ℕ) (st : Stock) → s.due ≡ [] → p + n ≤ length hand → AreWithin st.hand st.places → length hand ≤ length st.hand → IsAsBefore p hand places st
-      → (l : Option Event) × Steps r (with_hand w rest st.hand s) (map (λ e. Writes e) (first_cuts n p (drop p hand) places)) (record (with_hand w rest (ahead_from n p st).hand s) { last = l })
+      → (l : Option Event) × Writing r (with_hand w rest st.hand s) (first_cuts n p (drop p hand) places) (record (with_hand w rest (ahead_from n p st).hand s) { last = l })
   ahead_steps s zero p st due le within long same = (s.last, refl)
   ahead_steps s (suc n) p st due le within long same =
       let inside : p < length hand = omega (arith, le) in
@@ -257,10 +257,10 @@ module _ (r : Rules) (w : Waits) (rest : List Waits) (hand : List Id) (places : 
 
   pub splits_steps : (s : Turn) (n p : ℕ) (st : Stock) → s.due ≡ [] → p + n ≡ length hand → AreWithin st.hand st.places → length hand ≤ length st.hand → IsAsBefore p hand places st
       → ((q : ℕ) → q < length hand → Lasts (id_at hand q) (named places q))
-      → (l : Option Event) × Steps r (with_hand w rest st.hand s) (map (λ e. Writes e) (splits_from p (drop p hand) places)) (record (with_hand w rest (halved_from n p st).hand s) { last = l })
+      → (l : Option Event) × Writing r (with_hand w rest st.hand s) (splits_from p (drop p hand) places) (record (with_hand w rest (halved_from n p st).hand s) { last = l })
   splits_steps s zero p st due le within long same lasts =
       let none : drop p hand ≡ [] = drop_all p hand (omega (arith, le)) in
-      (s.last, subst (λ ids. Steps r (with_hand w rest st.hand s) (map (λ e. Writes e) (splits_from p ids places)) (with_hand w rest st.hand s)) (sym none) refl)
+      (s.last, subst (λ ids. Writing r (with_hand w rest st.hand s) (splits_from p ids places) (with_hand w rest st.hand s)) (sym none) refl)
   splits_steps s (suc n) p st due le within long same lasts =
       let inside : p < length hand = omega (arith, le) in
       let here = same p (omega arith) inside in
@@ -295,7 +295,7 @@ asking_turn w rest hand asked s = record s { working = record w { hand = hand; a
 
 pub asks_steps : (r : Rules) (s : Turn) (w : Waits) (rest : List Waits) (asked : List AskedFor) (ps : List ℕ) (ids : List Id) (st : Stock) → s.due ≡ [] → s.fresh ≡ []
     → CanBeAsked (length (ids_named w)) st.hand ps ids
-    → (l : Option Event) × Steps r (asking_turn w rest st.hand asked s) (map (λ e. Writes e) (asked_events ids))
+    → (l : Option Event) × Writing r (asking_turn w rest st.hand asked s) (asked_events ids)
     (record (asking_turn w rest (stripped ps st).hand (asked ++ asked_at s.tables.asked ps) s) {
       last = l;
       tables = record (with_asks s.tables.here s.tables.asked ids s.tables) { asked = s.tables.asked + length ids };
@@ -329,12 +329,12 @@ asks_steps r s w rest asked (p ∷ ps) (id ∷ ids) st due fresh can =
           least = can.2;
           now = refl;
         },
-        subst (λ hs. Steps r (asking_turn w rest hs (asked ++ ask ∷ []) m) (map (λ k. Writes k) (asked_events ids))
+        subst (λ hs. Writing r (asking_turn w rest hs (asked ++ ask ∷ []) m) (asked_events ids)
             (record (asking_turn w rest (stripped ps next).hand (asked ++ ask ∷ asked_at (n + 1) ps) s) {
               last = more.0;
               tables = record (with_asks s.tables.here n (id ∷ ids) s.tables) { asked = n + suc (length ids) };
             })) hand_is
-            (subst (Steps r (asking_turn w rest next.hand (asked ++ ask ∷ []) m) (map (λ k. Writes k) (asked_events ids))) (ends next.hand (stripped ps next).hand more.0) more.1),
+            (subst (Writing r (asking_turn w rest next.hand (asked ++ ask ∷ []) m) (asked_events ids)) (ends next.hand (stripped ps next).hand more.0) more.1),
       ),
     )
   where
