@@ -172,7 +172,7 @@ module _ (objects : List Standing) (running : List Act) (l m l' m' : List Waits)
   act = w.job.action
 
   fired_split : (ws ys : List Waits) (v : Waits) → fired_of running (ws ++ v ∷ ys) ≡ (running ++ map action_of ws) ++ v.job.action ∷ map action_of ys
-  fired_split ws ys v = ap (λ xs. running ++ xs) (map-append action_of ws (v ∷ ys)) ∙ sym (append_assoc running (map action_of ws) (v.job.action ∷ map action_of ys))
+  fired_split ws ys v = simp (map-append, append_assoc)
 
   pub was_fired : fired_of running (l ++ w ∷ m) ≡ (running ++ map action_of l) ++ w.job.action ∷ map action_of m
   was_fired = fired_split l m w
@@ -181,10 +181,7 @@ module _ (objects : List Standing) (running : List Act) (l m l' m' : List Waits)
   is_fired = fired_split l' m' w' ∙ ap (λ (j : Job). (running ++ map action_of l') ++ j.action ∷ map action_of m') job
 
   pub same_fired : (running ++ map action_of l) ++ map action_of m ≡ (running ++ map action_of l') ++ map action_of m'
-  same_fired =
-      append_assoc running (map action_of l) (map action_of m)
-      ∙ (ap (λ xs. running ++ xs) (sym (map-append action_of l m) ∙ (ap (map action_of) same ∙ map-append action_of l' m'))
-      ∙ sym (append_assoc running (map action_of l') (map action_of m')))
+  same_fired = simp append_assoc (ap (λ xs. running ++ xs) (sym (map-append action_of l m) ∙ (ap (map action_of) same ∙ map-append action_of l' m')))
 
   pub move_commits : HasCommits objects running (l ++ w ∷ m) → HasCommits objects running (l' ++ w' ∷ m')
   move_commits h = record {

@@ -1,6 +1,6 @@
 -- An accepted action runs.
 use Rattle.hpx_steps.proofs.Common.{Accepted, Act, Apart, Entry, Fire, Fires, IsSound, IsTidy, List, Name, Rules, Running, Some, Standing, TidyAt, Turn, View, [], action_of, ap, append_assoc, arith, bare_act, bare_due, bare_standing, commits, drop, false, find, fired_of, flat_map, follows_fire, is_busy, is_standing, map, map-append, name_of, parcel_acts, parcels, refl, remove, slice_get, split_get, subst, suc, sym, take, target_of, view, waiting, worth, wrote, ℕ, ◌++◌, ◌∙◌, ◌∷◌, ◌≡◌}
-use Rattle.hpx_steps.proofs.Tools.{Changes, Keeps, Sees, among_at, bare_middle, by_rows, counts_near, found-bare, holding, more_come, numbered_so, one_goes, orders_so, pays_so, running_change, sees_by, sees_leads, target-bare, then, told_as, view_worth}
+use Rattle.hpx_steps.proofs.Tools.{Changes, Keeps, Sees, among_at, by_rows, counts_near, found-bare, holding, more_come, numbered_so, one_goes, orders_so, pays_so, running_change, sees_by, sees_leads, target-bare, then, told_as, view_worth}
 use Rattle.hpx_steps.proofs.Busy.{apart_more, busy-bare}
 use Rattle.hpx_steps.proofs.Changes.{accepted_change}
 
@@ -30,20 +30,16 @@ module _ (r : Rules) (s : Turn) (entries : List Entry) (h : IsSound r s entries)
   back = map bare_act (drop (suc i) s.tables.accepted) ++ flat_map parcel_acts (parcels s)
 
   waits : waiting s ≡ front ++ bare_act act ∷ back
-  waits =
-      ap (λ xs. map bare_act xs ++ flat_map parcel_acts (parcels s)) (split_get s.tables.accepted i act there)
-      ∙ (ap (λ xs. xs ++ flat_map parcel_acts (parcels s)) (bare_middle (take i s.tables.accepted) act (drop (suc i) s.tables.accepted))
-      ∙ append_assoc front (bare_act act ∷ map bare_act (drop (suc i) s.tables.accepted)) (flat_map parcel_acts (parcels s)))
+  waits = ap (λ xs. map bare_act xs ++ flat_map parcel_acts (parcels s)) (split_get s.tables.accepted i act there) ∙ simp (map-append, append_assoc)
 
   waits_then : front ++ back ≡ waiting now
-  waits_then = sym (append_assoc front (map bare_act (drop (suc i) s.tables.accepted)) (flat_map parcel_acts (parcels s)))
-      ∙ ap (λ xs. xs ++ flat_map parcel_acts (parcels s)) (sym (map-append bare_act (take i s.tables.accepted) (drop (suc i) s.tables.accepted)))
+  waits_then = simp (map-append, append_assoc)
 
   abbrev running : List Act
   running = map bare_act s.tables.running ++ bare_act act ∷ map bare_act (map action_of (commits s))
 
   fires_then : running ≡ (view now).fired
-  fires_then = sym (ap (map bare_act) (append_assoc s.tables.running (act ∷ []) (map action_of (commits s))) ∙ bare_middle s.tables.running act (map action_of (commits s)))
+  fires_then = simp (map-append, append_assoc)
 
   abbrev seen : View
   seen = record (view s) { waiting = front ++ back; fired = running; last = Some (Fire (name_of act)) }

@@ -20,10 +20,8 @@ long_flat g (x ∷ xs) = omega (arith, length-append (g x) (flat_map g xs), long
 -- one of a list is another that is seen the same
 pub same_map : {X Y : Type 0} (g : X → Y) (xs : List X) (i : ℕ) (x y : X) → slice_get xs i ≡ Some x → g y ≡ g x → map g (set xs i y) ≡ map g xs
 same_map g xs i x y h same =
-    ap (map g) (split_set xs i x y h)
-    ∙ (map-append g (take i xs) (y ∷ drop (suc i) xs)
-    ∙ (ap (λ z. map g (take i xs) ++ z ∷ map g (drop (suc i) xs)) same
-    ∙ (sym (map-append g (take i xs) (x ∷ drop (suc i) xs)) ∙ ap (map g) (sym (split_get xs i x h)))))
+    let middle : map g (take i xs) ++ g y ∷ map g (drop (suc i) xs) ≡ map g (take i xs) ++ g x ∷ map g (drop (suc i) xs) = ap (λ z. map g (take i xs) ++ z ∷ map g (drop (suc i) xs)) same in
+    ap (map g) (split_set xs i x y h) ∙ simp map-append middle ∙ sym (ap (map g) (split_get xs i x h))
 
 -- as many as there are
 pub long_sum : {X : Type 0} (xs : List X) → length xs ≡ sum_by (λ x. 1) xs

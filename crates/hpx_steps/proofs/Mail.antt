@@ -1,5 +1,5 @@
 -- The first message on the desk is taken up.
-use Rattle.hpx_steps.proofs.Common.{Entry, IsSound, IsTidy, Item, List, Mail, Mailed, OnDesk, Outgoing, Parcel, Rules, Some, TakesUp, TidyAt, Turn, View, [], ap, arith, bare_act, bare_due, flat_map, follows_mail, inl, kind_of, map, parcel_acts, parcels, refl, subst, sym, view, weigh, worth, wrote, ℕ, ◌++◌, ◌+◌, ◌∙◌, ◌∷◌, ◌≡◌, ◌≤◌}
+use Rattle.hpx_steps.proofs.Common.{Entry, IsSound, IsTidy, List, Mail, Mailed, OnDesk, Outgoing, Parcel, Rules, Some, TakesUp, TidyAt, Turn, View, [], ap, arith, bare_act, bare_due, flat_map, follows_mail, inl, kind_of, map, parcel_acts, parcels, refl, subst, sym, view, worth, wrote, ℕ, ◌++◌, ◌∙◌, ◌∷◌, ◌≡◌, ◌≤◌}
 use Rattle.hpx_steps.proofs.Tools.{Changes, Keeps, Sees, by_rows, counts_near, first_goes, holding, one_comes, same_dead, same_asks, sees_leads, then, view_worth}
 use Rattle.hpx_steps.proofs.Calm.{asks_of, frees_of, numbered_so, orders_so, own_asks, pays_so, sees_by}
 use Rattle.hpx_steps.proofs.Changes.{desk_change, mailed_change}

@@ -1,5 +1,5 @@
 -- A fired action stands elsewhere among the others.
-use Rattle.hpx_steps.proofs.Common.{Act, Agree, Bool, Id, IsCovered, Leads, List, Local, Rules, Shows, View, [], act_names, ap, arith, bare_act, cases_Bool, count_by, count_middle, counts_of, counts_true, find, find_hit, find_miss, inl, inr, is_act, managed, map, map-append, refl, shown, subst, sum_by, sum_by-append, sum_middle, sym, ◌++◌, ◌+◌, ◌∙◌, ◌∷◌, ◌≡◌}
+use Rattle.hpx_steps.proofs.Common.{Act, Agree, Bool, Id, Leads, List, Local, Rules, Shows, View, [], act_names, ap, arith, bare_act, cases_Bool, count_by, count_middle, counts_of, counts_true, find, find_hit, find_miss, inl, inr, is_act, map, map-append, refl, shown, subst, sum_by, sum_by-append, sum_middle, sym, ◌++◌, ◌+◌, ◌∙◌, ◌∷◌, ◌≡◌}
 use Rattle.hpx_steps.proofs.Busy.{bare_middle}
 
 -- what is in one place of the list may be in another

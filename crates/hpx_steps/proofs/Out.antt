@@ -1,8 +1,8 @@
 -- A frame goes out.
-use Rattle.hpx_steps.proofs.Common.{weighed, Act, Apply, Arrived, Ask, Cached, Entry, Free, FreesNone, Give, Go, GoesOut, Going, IsSound, IsTidy, Item, List, MayGoTo, MayLeave, Move, Out, Outgoing, Parcel, Return, Rules, Shipped, Some, TidyAt, Turn, View, [], ap, append_assoc, arith, asks_for, bare_due, brings, cond, counts_of, flat_map, follows_out, gives_for, inl, map, parcel_acts, parcel_asks, refl, same_object, sym, tokens, view, weigh, weight, worth, wrote, ℕ, ◌++◌, ◌+◌, ◌==◌, ◌∙◌, ◌∷◌, ◌≡◌}
+use Rattle.hpx_steps.proofs.Common.{weighed, Act, Apply, Arrived, Ask, Cached, Entry, Free, FreesNone, Give, Go, GoesOut, Going, IsSound, IsTidy, List, MayGoTo, MayLeave, Move, Out, Outgoing, Parcel, Return, Rules, Shipped, Some, TidyAt, Turn, View, [], ap, append_assoc, arith, asks_for, bare_due, brings, cond, counts_of, flat_map, follows_out, gives_for, inl, map, parcel_acts, parcel_asks, refl, same_object, tokens, view, weight, worth, wrote, ℕ, ◌++◌, ◌+◌, ◌==◌, ◌∷◌, ◌≡◌}
 use Rattle.hpx_steps.proofs.Tools.{Changes, Keeps, Sees, asks_of, counts_near, first_goes, flat_append, frees_of, holding, numbered_so, orders_so, pays_so, same_dead, seen_sum, sees_by, sees_covers, sees_leads, told_as, view_covered, view_worth}
 use Rattle.hpx_steps.proofs.Changes.{outgoing_change}
-use Rattle.hpx_steps.proofs.Waits.{acts_away, acts_before, waits_parts}
+use Rattle.hpx_steps.proofs.Waits.{acts_before}
 
 -- what may go may leave what is seen
 may_leave : (v : View) (to : ℕ) (p : Parcel) → FreesNone p → MayGoTo v.here to p → MayLeave v to p
@@ -42,14 +42,10 @@ module _ (r : Rules) (s : Turn) (entries : List Entry) (h : IsSound r s entries)
   back = flat_map parcel_acts (map (λ (y : Outgoing). y.parcel) rest)
 
   waits : (view s).waiting ≡ front ++ (parcel_acts x.parcel ++ back)
-  waits = waits_parts s
-      ∙ (ap (λ xs. acts_before s ++ acts_away s.tables.desk xs) first
-      ∙ (ap (λ xs. acts_before s ++ xs) (flat_append parcel_acts s.tables.desk (x.parcel ∷ map (λ (y : Outgoing). y.parcel) rest))
-      ∙ sym (append_assoc (acts_before s) (flat_map parcel_acts s.tables.desk) (parcel_acts x.parcel ++ back))))
+  waits = rw first (simp (flat_append, append_assoc))
 
   waits_then : front ++ back ≡ (view now).waiting
-  waits_then = append_assoc (acts_before s) (flat_map parcel_acts s.tables.desk) back
-      ∙ (ap (λ xs. acts_before s ++ xs) (sym (flat_append parcel_acts s.tables.desk (map (λ (y : Outgoing). y.parcel) rest))) ∙ sym (waits_parts now))
+  waits_then = simp (flat_append, append_assoc)
 
   abbrev seen : View
   seen = record (view s) { waiting = front ++ back; tokens = tokens now; asks = (view now).asks; last = Some (Out x.to bytes) }

@@ -1,6 +1,6 @@
 -- Credit that was asked for is given to a commit that waits for nothing more then: it goes on, and ends or fails.
-use Rattle.hpx_steps.proofs.Common.{AllByRecursion, AreWithin, AskedFor, Done, Event, Give, Given, Gives, HasCredit, HasInHand, Id, IsBirth, IsLeftBy, IsLeftFailed, Lasts, List, None, Option, Parcel, Remains, Rules, Some, Standing, Steps, Tables, Turn, Waits, Writes, [], answered_by, ap, at_rest, bare, birth_of, births_of, brings_right, cond, drops, ends, false, find, goes_on, id_at, ids_named, ids_of, is_standing, length, log_of, map, name_of, named, objects_of, records_of, refl, remove, set, slice_get, splits_from, subst, sym, target_of, true, ups, with_left, works_on, written_due, wrote, ℕ, ◌++◌, ◌+◌, ◌<◌, ◌==◌, ◌∷◌, ◌≡◌, ◌≤◌}
-use Rattle.hpx_steps.proofs.Committed.{all_right, done_steps, ends_so, left_steps}
+use Rattle.hpx_steps.proofs.Common.{AllByRecursion, AreWithin, AskedFor, Done, Event, Give, Given, Gives, HasCredit, HasInHand, Id, IsBirth, IsLeftBy, IsLeftFailed, Lasts, List, None, Option, Parcel, Remains, Rules, Some, Standing, Tables, Turn, Waits, Writes, [], answered_by, ap, at_rest, bare, birth_of, births_of, brings_right, cond, drops, ends, false, find, goes_on, id_at, ids_named, ids_of, is_standing, length, log_of, map, name_of, named, objects_of, records_of, refl, remove, set, slice_get, splits_from, subst, sym, target_of, true, ups, with_left, works_on, written_due, wrote, ℕ, ◌++◌, ◌+◌, ◌<◌, ◌==◌, ◌∷◌, ◌≡◌, ◌≤◌}
+use Rattle.hpx_steps.proofs.Committed.{done_steps, ends_so, left_steps}
 use Rattle.hpx_steps.proofs.Handled.{Leads, Writing, given_leads, written_events}
 use Rattle.hpx_steps.proofs.Made.{Drawn}
 use Rattle.hpx_steps.proofs.Work.{halved_from}

@@ -126,8 +126,4 @@ module _ (act_of : ℕ → ℕ → ℕ → State → Act → Outcome) (t : Table
       (turn_stands act_of t aside entries (Suspend ∷ labels) two.0 h (begun, begins r t i j job out x runs stands found at kind state few later none places, steps)))
     where
       writes : written (map (λ e. Writes e) (first_cuts many 0 first.hand places) ++ (map (λ e. Writes e) (asked_events lacking) ++ Pause ∷ [])) ≡ first_cuts many 0 first.hand places ++ asked_events lacking
-      writes =
-          written_append (map (λ e. Writes e) (first_cuts many 0 first.hand places)) (map (λ e. Writes e) (asked_events lacking) ++ Pause ∷ [])
-          ∙ (ap (λ es. es ++ written (map (λ e. Writes e) (asked_events lacking) ++ Pause ∷ [])) (written_events (first_cuts many 0 first.hand places))
-          ∙ ap (λ es. first_cuts many 0 first.hand places ++ es) (written_append (map (λ e. Writes e) (asked_events lacking)) (Pause ∷ [])
-          ∙ (ap (λ es. es ++ []) (written_events (asked_events lacking)) ∙ append-nil (asked_events lacking))))
+      writes = simp (written_append, written_events, append-nil)

@@ -11,32 +11,16 @@ abbrev pub acts_before : Turn → List Act
 acts_before s = map bare_act s.tables.accepted ++ (flat_map parcel_acts s.came ++ flat_map parcel_acts s.mailed)
 
 pub waits_parts : (s : Turn) → waiting s ≡ acts_before s ++ acts_away s.tables.desk s.tables.outgoing
-waits_parts s =
-    let rest = s.tables.desk ++ map (λ (x : Outgoing). x.parcel) s.tables.outgoing in
-    let a = map bare_act s.tables.accepted in
-    ap (λ xs. a ++ xs) (flat_append parcel_acts s.came (s.mailed ++ rest)
-    ∙ (ap (λ xs. flat_map parcel_acts s.came ++ xs) (flat_append parcel_acts s.mailed rest)
-    ∙ sym (append_assoc (flat_map parcel_acts s.came) (flat_map parcel_acts s.mailed) (flat_map parcel_acts rest))))
-    ∙ sym (append_assoc a (flat_map parcel_acts s.came ++ flat_map parcel_acts s.mailed) (flat_map parcel_acts rest))
+waits_parts s = simp (flat_append, append_assoc)
 
 -- with one more message to another, or on the desk
 acts_out : (desk : List Parcel) (outgoing : List Outgoing) (to : ℕ) (p : Parcel)
     → acts_away desk (outgoing ++ going to p ∷ []) ≡ acts_away desk outgoing ++ parcel_acts p
-acts_out desk outgoing to p =
-    let outs = map (λ (x : Outgoing). x.parcel) outgoing in
-    ap (λ xs. flat_map parcel_acts (desk ++ xs)) (map-append (λ (x : Outgoing). x.parcel) outgoing (going to p ∷ []))
-    ∙ (ap (flat_map parcel_acts) (sym (append_assoc desk outs (p ∷ [])))
-    ∙ (flat_append parcel_acts (desk ++ outs) (p ∷ []) ∙ ap (λ xs. flat_map parcel_acts (desk ++ outs) ++ xs) (append-nil (parcel_acts p))))
+acts_out desk outgoing to p = simp (flat_append, map-append, append_assoc, append-nil)
 
 acts_desk : (desk : List Parcel) (outgoing : List Outgoing) (p : Parcel)
     → acts_away (desk ++ p ∷ []) outgoing ≡ flat_map parcel_acts desk ++ (parcel_acts p ++ flat_map parcel_acts (map (λ (x : Outgoing). x.parcel) outgoing))
-acts_desk desk outgoing p =
-    let outs = map (λ (x : Outgoing). x.parcel) outgoing in
-    ap (flat_map parcel_acts) (append_assoc desk (p ∷ []) outs) ∙ flat_append parcel_acts desk (p ∷ outs)
-
-away_parts : (desk : List Parcel) (outgoing : List Outgoing)
-    → acts_away desk outgoing ≡ flat_map parcel_acts desk ++ flat_map parcel_acts (map (λ (x : Outgoing). x.parcel) outgoing)
-away_parts desk outgoing = flat_append parcel_acts desk (map (λ (x : Outgoing). x.parcel) outgoing)
+acts_desk desk outgoing p = simp (flat_append, append_assoc)
 
 -- one more message stands somewhere among the others
 pub record Between (p : Parcel) (before after : List Act) : Type 0 where
@@ -47,26 +31,19 @@ pub record Between (p : Parcel) (before after : List Act) : Type 0 where
 
 between : (b : Bool) (to : ℕ) (p : Parcel) (desk : List Parcel) (outgoing : List Outgoing)
     → Between p (acts_away desk outgoing) (acts_away (desk ++ cond b [] (p ∷ [])) (outgoing ++ cond b (going to p ∷ []) []))
-between true to p desk outgoing = record {
-  front = acts_away desk outgoing;
-  back = [];
-  was = sym (append-nil (acts_away desk outgoing));
-  is = ap (λ xs. acts_away xs (outgoing ++ going to p ∷ [])) (append-nil desk)
-      ∙ (acts_out desk outgoing to p ∙ ap (λ xs. acts_away desk outgoing ++ xs) (sym (append-nil (parcel_acts p))));
-}
+between true to p desk outgoing = record { front = acts_away desk outgoing; back = []; was = simp append-nil; is = simp (append-nil, acts_out) }
 between false to p desk outgoing = record {
   front = flat_map parcel_acts desk;
   back = flat_map parcel_acts (map (λ (x : Outgoing). x.parcel) outgoing);
-  was = away_parts desk outgoing;
-  is = ap (λ xs. acts_away (desk ++ p ∷ []) xs) (append-nil outgoing) ∙ acts_desk desk outgoing p;
+  was = simp flat_append;
+  is = simp (append-nil, acts_desk);
 }
 
 mailed_among : (b other : Bool) (to : ℕ) (p : Parcel) (desk : List Parcel) (outgoing : List Outgoing) → parcel_acts p ≡ []
     → acts_away (desk ++ cond b (cond other [] (p ∷ [])) []) (outgoing ++ cond b (cond other (going to p ∷ []) []) []) ≡ acts_away desk outgoing
 mailed_among true other to p desk outgoing none =
     let a = between other to p desk outgoing in a.is ∙ (ap (λ xs. a.front ++ (xs ++ a.back)) none ∙ sym a.was)
-mailed_among false other to p desk outgoing none =
-    ap (λ xs. acts_away xs (outgoing ++ [])) (append-nil desk) ∙ ap (acts_away desk) (append-nil outgoing)
+mailed_among false other to p desk outgoing none = simp append-nil
 
 -- a message that brings no action
 pub mail_waits : (b : Bool) (to : ℕ) (p : Parcel) (s : Turn) → parcel_acts p ≡ [] → waiting (mails_if b to p s) ≡ waiting s
@@ -106,19 +83,13 @@ put : (stay other : Bool) (act : Act) (a m : List Act) (desk : List Parcel) (out
     ((a ++ (map bare_act (cond stay (act ∷ []) []) ++ m))
     ++ acts_away (desk ++ cond (not stay) (cond other [] (parcel_for act ∷ [])) [])
     (outgoing ++ cond (not stay) (cond other (going (target_of act).home (parcel_for act) ∷ []) []) []))
-put true other act a m desk outgoing = record {
-  front = a;
-  back = m ++ acts_away desk outgoing;
-  was = append_assoc a m (acts_away desk outgoing);
-  is = ap (λ xs. (a ++ bare_act act ∷ m) ++ xs) (ap (λ xs. acts_away xs (outgoing ++ [])) (append-nil desk) ∙ ap (acts_away desk) (append-nil outgoing))
-      ∙ append_assoc a (bare_act act ∷ m) (acts_away desk outgoing);
-}
+put true other act a m desk outgoing = record { front = a; back = m ++ acts_away desk outgoing; was = simp append_assoc; is = simp (append-nil, append_assoc) }
 put false other act a m desk outgoing =
     let k = between other (target_of act).home (parcel_for act) desk outgoing in record {
       front = (a ++ m) ++ k.front;
       back = k.back;
-      was = ap (λ xs. (a ++ m) ++ xs) k.was ∙ sym (append_assoc (a ++ m) k.front k.back);
-      is = ap (λ xs. (a ++ m) ++ xs) (k.is ∙ ap (λ xs. k.front ++ (xs ++ k.back)) (one_act act)) ∙ sym (append_assoc (a ++ m) k.front (bare_act act ∷ k.back));
+      was = ap (λ xs. (a ++ m) ++ xs) k.was ∙ simp append_assoc;
+      is = ap (λ xs. (a ++ m) ++ xs) (k.is ∙ ap (λ xs. k.front ++ (xs ++ k.back)) (one_act act)) ∙ simp append_assoc;
     }
 
 pub post_waits : (act : Act) (s : Turn) → Put act (waiting s) (waiting (posts act s))

@@ -35,14 +35,7 @@ births_steps r s w rest front [] back before [] due lacks makes many same none l
     (s.last, ends)
   where
     ends : with_births w rest front back [] s.last s ≡ with_hand w rest (front ++ back) s
-    ends = ap (λ n. record s {
-      fresh = s.fresh ++ [];
-      working = record w { hand = front ++ back } ∷ rest;
-      tables = record s.tables { births = n; records = s.tables.records ++ []; objects = s.tables.objects ++ [] };
-    }) (omega arith)
-        ∙ (ap (λ os. record s { fresh = os; working = record w { hand = front ++ back } ∷ rest; tables = record s.tables { records = s.tables.records ++ []; objects = s.tables.objects ++ [] } }) (append-nil s.fresh)
-        ∙ (ap (λ rs. record s { working = record w { hand = front ++ back } ∷ rest; tables = record s.tables { records = rs; objects = s.tables.objects ++ [] } }) (append-nil s.tables.records)
-        ∙ ap (λ os. record s { working = record w { hand = front ++ back } ∷ rest; tables = record s.tables { objects = os } }) (append-nil s.tables.objects)))
+    ends = let none : s.tables.births + 0 ≡ s.tables.births = omega arith in rw none (simp append-nil)
 births_steps r s w rest front (y ∷ ys) back before [] due lacks makes many same none long fit = absurd (omega (arith, same))
 births_steps r s w rest front [] back before (x ∷ xs) due lacks makes many same none long fit = absurd (omega (arith, same))
 births_steps r s w rest front (y ∷ ys) back before (x ∷ xs) due lacks makes many same none long fit =
@@ -112,36 +105,7 @@ births_steps r s w rest front (y ∷ ys) back before (x ∷ xs) due lacks makes 
           tables = record s.tables { births = s.tables.births + suc (length xs); records = s.tables.records ++ made ∷ rs; objects = s.tables.objects ++ new ∷ os };
         }
     ends o id made new l fs ids rs os =
-        ap (λ zs. record s {
-          fresh = zs;
-          working = record w { hand = (front ++ id ∷ []) ++ (ids ++ back) } ∷ rest;
-          last = l;
-          tables = record s.tables { births = (s.tables.births + 1) + length xs; records = (s.tables.records ++ made ∷ []) ++ rs; objects = (s.tables.objects ++ new ∷ []) ++ os };
-        }) (append_assoc s.fresh (o ∷ []) fs)
-        ∙ (ap (λ zs. record s {
-          fresh = s.fresh ++ o ∷ fs;
-          working = record w { hand = zs } ∷ rest;
-          last = l;
-          tables = record s.tables { births = (s.tables.births + 1) + length xs; records = (s.tables.records ++ made ∷ []) ++ rs; objects = (s.tables.objects ++ new ∷ []) ++ os };
-        }) (append_assoc front (id ∷ []) (ids ++ back))
-        ∙ (ap (λ k. record s {
-          fresh = s.fresh ++ o ∷ fs;
-          working = record w { hand = front ++ id ∷ (ids ++ back) } ∷ rest;
-          last = l;
-          tables = record s.tables { births = k; records = (s.tables.records ++ made ∷ []) ++ rs; objects = (s.tables.objects ++ new ∷ []) ++ os };
-        }) (omega arith)
-        ∙ (ap (λ zs. record s {
-          fresh = s.fresh ++ o ∷ fs;
-          working = record w { hand = front ++ id ∷ (ids ++ back) } ∷ rest;
-          last = l;
-          tables = record s.tables { births = s.tables.births + suc (length xs); records = zs; objects = (s.tables.objects ++ new ∷ []) ++ os };
-        }) (append_assoc s.tables.records (made ∷ []) rs)
-        ∙ ap (λ zs. record s {
-          fresh = s.fresh ++ o ∷ fs;
-          working = record w { hand = front ++ id ∷ (ids ++ back) } ∷ rest;
-          last = l;
-          tables = record s.tables { births = s.tables.births + suc (length xs); records = s.tables.records ++ made ∷ rs; objects = zs };
-        }) (append_assoc s.tables.objects (new ∷ []) os))))
+        let births : (s.tables.births + 1) + length xs ≡ s.tables.births + suc (length xs) = omega arith in rw births (simp append_assoc)
 
 -- ---- an id is halved
 
@@ -301,7 +265,7 @@ pub asks_steps : (r : Rules) (s : Turn) (w : Waits) (rest : List Waits) (asked :
       tables = record (with_asks s.tables.here s.tables.asked ids s.tables) { asked = s.tables.asked + length ids };
     })
 asks_steps r s w rest asked [] [] st due fresh can =
-    (s.last, ap (λ n. record (asking_turn w rest st.hand (asked ++ []) s) { tables = record s.tables { asked = n } }) (omega arith) ∙ ap (λ qs. asking_turn w rest st.hand qs s) (append-nil asked))
+    (s.last, let none : s.tables.asked + 0 ≡ s.tables.asked = omega arith in rw none (simp append-nil))
 asks_steps r s w rest asked [] (id ∷ ids) st due fresh can = absurd can
 asks_steps r s w rest asked (p ∷ ps) [] st due fresh can = absurd can
 asks_steps r s w rest asked (p ∷ ps) (id ∷ ids) st due fresh can =
@@ -353,16 +317,5 @@ asks_steps r s w rest asked (p ∷ ps) (id ∷ ids) st due fresh can =
           tables = record (with_asks s.tables.here s.tables.asked (id ∷ ids) s.tables) { asked = s.tables.asked + suc (length ids) };
         }
     ends before hs l =
-        ap (λ qs. record (asking_turn w rest hs qs s) {
-          last = l;
-          tables = record (with_asks s.tables.here (s.tables.asked + 1) ids (with_mail id.home (Ask id s.tables.here (s.tables.asked + 1)) (record s.tables { asked = s.tables.asked + 1 })))
-              { asked = (s.tables.asked + 1) + length ids };
-        }) (append_assoc asked (record { entry = s.tables.asked + 1; place = p } ∷ []) (asked_at (s.tables.asked + 1) ps))
-        ∙ (ap (λ t. record (asking_turn w rest hs (asked ++ record { entry = s.tables.asked + 1; place = p } ∷ asked_at (s.tables.asked + 1) ps) s) {
-          last = l;
-          tables = record t { asked = (s.tables.asked + 1) + length ids };
-        }) (asks_counted s.tables.here (s.tables.asked + 1) (s.tables.asked + 1) ids (with_mail id.home (Ask id s.tables.here (s.tables.asked + 1)) s.tables))
-        ∙ ap (λ n. record (asking_turn w rest hs (asked ++ record { entry = s.tables.asked + 1; place = p } ∷ asked_at (s.tables.asked + 1) ps) s) {
-          last = l;
-          tables = record (with_asks s.tables.here s.tables.asked (id ∷ ids) s.tables) { asked = n };
-        }) (omega arith))
+        let n : (s.tables.asked + 1) + length ids ≡ s.tables.asked + suc (length ids) = omega arith in
+        rw (n, asks_counted s.tables.here (s.tables.asked + 1) (s.tables.asked + 1) ids (with_mail id.home (Ask id s.tables.here (s.tables.asked + 1)) s.tables)) (simp append_assoc)
