@@ -11,11 +11,16 @@ use Rattle.hpx_tables.specs.Births.{birth_of, births_of}
 use Rattle.hpx_commit.specs.Stocks.{Stock}
 use Rattle.hpx_tables.specs.Splits.{splits_from}
 use Rattle.hpx_steps.specs.Calls.{ups, written_due}
-use Rattle.hpx_node.specs.Commits.{IsStock}
+use Rattle.hpx_node.specs.Commits.{IsStock, made_of}
 use Rattle.hpx_tables.specs.Jobs.{IsFitJob}
 use Rattle.hpx_tables.specs.Tables.{Tables}
-use Rattle.hpx_node.proofs.Planned.{made, outcome_due, made_fit}
-use Rattle.hpx_node.proofs.PlanLimits.{makes_few, replies_few, ups_few, cuts_limit, few_due}
+use Rattle.hpx_commit.proofs.Planned.{IsPlanned, few_due}
+use Rattle.hpx_parcel.specs.Parcels.{HasCredit, HasRightCredit}
+use Rattle.hpx_tables.specs.Fit.{IsFitDue}
+use Rattle.hpx_steps.specs.Turn.{bare_due}
+use Rattle.hpx_value.specs.Hands.{due_of}
+use Rattle.hpx_node.proofs.Planned.{made_fit, planned_of}
+use Rattle.hpx_node.proofs.PlanLimits.{makes_few, cuts_limit}
 use Rattle.hpx_node.proofs.PlanWeights.{ups_few as written_ups, written_few, weighs, weighs_append, weighs_cons, births_light, splits_light, ups_light, written_light}
 
 births_long : (here n : ℕ) (xs : List Birth) → length (births_of here n xs) ≡ length xs
@@ -31,13 +36,16 @@ module _ (t : Tables) (job : Job) (out : Outcome) (fit : IsFitJob job) (few : t.
   halvings = splits_from 0 s.hand s.places
 
   abbrev due : List Event
-  due = written_due t.here t.serial (outcome_due t job out fit few laws)
+  due = written_due t.here t.serial (due_of job.state job.action (made_of t out) out)
 
   abbrev last : List Event
   last = ups (unnamed s.hand s.places)
 
   abbrev done : Event
   done = Done (name_of job.action) false
+
+  plan : IsPlanned HasRightCredit HasCredit IsFitDue bare_due job.state job.action (made_of t out) out s
+  plan = planned_of t job out fit few laws s is
 
   pub commit_few : length (first ++ (halvings ++ (done ∷ (due ++ last)))) ≤ 596
   commit_few = omega (
@@ -48,10 +56,10 @@ module _ (t : Tables) (job : Job) (out : Outcome) (fit : IsFitJob job) (few : t.
     births_long t.here t.births (map birth_of out.makes),
     makes_few t job out fit few laws,
     cuts_limit t job out fit few laws s is,
-    written_few t.here t.serial (outcome_due t job out fit few laws),
-    few_due job.state job.action (made t job out fit few laws) out laws.few.sends (replies_few t job out fit few laws) laws.few.prints,
+    written_few t.here t.serial (due_of job.state job.action (made_of t out) out),
+    few_due job.state job.action (made_of t out) out laws.few.sends plan.replies_few laws.few.prints,
     written_ups (unnamed s.hand s.places),
-    ups_few t job out fit few laws s is,
+    plan.ups_few,
   )
 
   pub commit_light : (k : ℕ) → weighs k (first ++ (halvings ++ (done ∷ (due ++ last)))) ≤ 2380288
@@ -65,7 +73,7 @@ module _ (t : Tables) (job : Job) (out : Outcome) (fit : IsFitJob job) (few : t.
     makes_few t job out fit few laws,
     splits_light k 0 s.hand s.places,
     cuts_limit t job out fit few laws s is,
-    written_light k t.here t.serial job.state job.action (made t job out fit few laws) out laws.few.sends (replies_few t job out fit few laws) laws.few.prints laws.few.short,
+    written_light k t.here t.serial job.state job.action (made_of t out) out laws.few.sends plan.replies_few laws.few.prints laws.few.short,
     ups_light k (unnamed s.hand s.places),
-    ups_few t job out fit few laws s is,
+    plan.ups_few,
   )

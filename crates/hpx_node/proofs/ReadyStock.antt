@@ -19,7 +19,9 @@ use Rattle.hpx_tables.specs.Strange.{brings_right}
 use Rattle.hpx_tables.specs.Tables.{Tables}
 use Rattle.hpx_steps.proofs.Refilled.{still_commit, still_split}
 use Rattle.hpx_node.proofs.Continued.{less_long, none_long, none_some, off}
-use Rattle.hpx_node.proofs.HasCome.{come_stock, come_long, come_short, waits_managed}
+use Rattle.hpx_commit.proofs.Came.{come_stock, come_long, come_short, waits_managed}
+use Rattle.hpx_node.proofs.Planned.{AreMade, made_of_job, rights}
+use Rattle.hpx_parcel.specs.Parcels.{HasRightCredit}
 use Rattle.hpx_node.proofs.LeftFailed.{given}
 use Rattle.hpx_node.proofs.Paused.{commit_of}
 
@@ -82,11 +84,18 @@ module _ (t : Tables) (w : Waits) (id : Id) (entry : ℕ) (paused : IsPaused t.h
       ap (λ b. cond b (Some (bare id)) w.refused) (off (log_of id.log == 0) parts.0)
       ∙ none_some w.refused (and_true (length w.asked == 1) (not (is_some w.refused)) parts.1).1
 
+  are : AreMade t.profile.credit_log w.outcome.makes (made_of t w.outcome)
+  are = made_of_job t.localities t w.job w.outcome laws its.job
+
   stock : IsStock t w.job w.outcome (stock_with t w (set w.hand f.x.place id))
-  stock = come_stock t now its.job few laws still.made still.kinds still.bare still.places still.rest its.hand log
+  stock =
+      let deals = come_stock HasRightCredit HasCredit rights t.localities w.job.kind w.job.at w.job.state w.job.action w.outcome laws few its.job.state its.job.action.sent.shape its.job.credit
+      its.job.action.sent.credit (made_of t w.outcome) are.kinds are.credit still.made now.hand w.places t.profile.credit_log still.kinds still.places still.rest its.hand log are.logs
       still.own (λ p lt h. has_come t.profile.credit_log now.refused (id_at now.hand p) (given t.here t.localities t.profile.credit_log now its still none_left p lt)
-      (waits_managed t now its.job few laws still.made still.kinds still.bare still.places still.rest its.hand p lt h)
-      (still.short p lt h) none_refused)
+      (waits_managed HasRightCredit HasCredit rights t.localities w.job.kind w.job.at w.job.state w.job.action w.outcome laws few its.job.state its.job.action.sent.shape its.job.credit
+      its.job.action.sent.credit (made_of t w.outcome) are.kinds are.credit still.made now.hand w.places t.profile.credit_log still.kinds still.places still.rest its.hand p lt h)
+      (still.short p lt h) none_refused) in
+      record { names = deals.names; credit = deals.credit; few = deals.few; lasts = deals.lasts }
 
   hand_is : set w.hand f.x.place id ≡ hand_with id entry w
   hand_is = sym (ap (put_for w.hand id) f.found)
@@ -96,11 +105,13 @@ module _ (t : Tables) (w : Waits) (id : Id) (entry : ℕ) (paused : IsPaused t.h
 
   ready_long : length (ids_named w) + length (made_of t w.outcome) ≤ length (hand_with id entry w)
   ready_long = subst (λ (xs : List Id). length (ids_named w) + length (made_of t w.outcome) ≤ length xs) hand_is
-      (come_long t now its.job few laws still.made still.kinds still.bare still.places still.rest its.hand)
+      (come_long HasRightCredit HasCredit rights t.localities w.job.kind w.job.at w.job.state w.job.action w.outcome laws few its.job.state its.job.action.sent.shape its.job.credit
+      its.job.action.sent.credit (made_of t w.outcome) are.kinds are.credit still.made now.hand w.places t.profile.credit_log still.kinds still.places still.rest its.hand)
 
   ready_short : length (hand_with id entry w) ≤ 1024
   ready_short = subst (λ (xs : List Id). length xs ≤ 1024) hand_is
-      (come_short t now its.job few laws still.made still.kinds still.bare still.places still.rest its.hand)
+      (come_short HasRightCredit HasCredit rights t.localities w.job.kind w.job.at w.job.state w.job.action w.outcome laws few its.job.state its.job.action.sent.shape its.job.credit
+      its.job.action.sent.credit (made_of t w.outcome) are.kinds are.credit still.made now.hand w.places t.profile.credit_log still.kinds still.places still.rest its.hand)
 
   pub is_ready : IsStockReady t w (hand_with id entry w)
   is_ready = record { stock = ready_stock; long = ready_long; short = ready_short }

@@ -2,7 +2,7 @@ use Rattle.std.proofs.Common.{◌≡◌, ◌∙◌, length, length-append, ap, a
 use Rattle.hpx_value.specs.declared.acts.Job.{Job}
 use Rattle.hpx_journal.specs.Data.{Id, Outcome}
 use Rattle.hpx_commit.specs.Stocks.{Stock}
-use Rattle.hpx_node.proofs.Prepared.{made_long}
+use Rattle.hpx_node.proofs.Planned.{made_long}
 use Rattle.hpx_node.proofs.node.Node.prepare_waiting.Goals as goal
 use Rattle.std.proofs.Common.{List}
 

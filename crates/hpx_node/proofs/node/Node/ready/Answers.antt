@@ -17,7 +17,7 @@ use Rattle.hpx_steps.specs.Rest.{IsPaused, IsTidy}
 use Rattle.hpx_node.specs.Resumes.{stock_with, is_last, IsReadyFor}
 use Rattle.hpx_node.proofs.LeftBy.{kept_then}
 use Rattle.hpx_node.proofs.Paused.{asked_within, in_place, laws_by, paused_at, right_by}
-use Rattle.hpx_node.proofs.Prepared.{made_long}
+use Rattle.hpx_node.proofs.Planned.{made_long}
 use Rattle.hpx_node.proofs.ReadyStock.{IsStockReady, brings_by, is_ready, last_is}
 use Rattle.hpx_steps.proofs.Right.{give_right}
 use Rattle.hpx_node.proofs.node.Node.ready.Goals as goal
