@@ -1,20 +1,6 @@
 -- What an action leaves that fails: an answer that may be sent, ids that may be given up, and no credit is lost.
-use Rattle.std.proofs.Common.{ℕ, Bool, true, false, cond, codes, List, [], ◌∷◌, ◌++◌, ◌≡◌, ◌≤◌, ◌<◌, ◌==◌, Option, Some, None, map, length, refl, sym, ap, ◌∙◌, arith, lit≤}
-use Rattle.std.specs.Prelude.{flat_map, MatchOption}
-use Rattle.std.specs.List.{AllByRecursion}
-use Rattle.hpx_value.specs.Ids.{bare}
-use Rattle.hpx_value.specs.Values.{bare_act}
-use Rattle.hpx_value.specs.Hands.{id_at, own_slot, answer}
-use Rattle.hpx_parcel.specs.Parcels.{HasRightCredit, HasCredit}
-use Rattle.hpx_journal.specs.Data.{Id, Cont, State, Act, MessageDue, PrintDue, Fault}
-use Rattle.hpx_journal.specs.Local.{failure}
-use Rattle.hpx_commit.specs.Deals.{ids_due}
-use Rattle.hpx_commit.specs.Failures.{action_ids, halves_ahead, due_failed, unanswered, ups_failed}
+use Rattle.hpx_node.proofs.Common.{Act, AllByRecursion, Bool, Cont, Fault, HasCredit, HasRightCredit, Id, IsFitDue, List, MatchOption, MessageDue, None, Option, PrintDue, Some, State, [], action_ids, all_append, answer, ap, arith, bare, bare_act, bare_due, codes, cond, due_failed, failure, false, flat_map, halves_ahead, id_at, ids_due, length, lit≤, managed_has, map, own_slot, refl, right_at, sym, true, unanswered, ups_failed, ℕ, ◌++◌, ◌<◌, ◌==◌, ◌∙◌, ◌∷◌, ◌≡◌, ◌≤◌}
 use Rattle.hpx_commit.proofs.Failed.{due_bare, all_unanswered}
-use Rattle.hpx_tables.specs.Fit.{IsFitDue}
-use Rattle.hpx_steps.specs.Turn.{bare_due}
-use Rattle.hpx_tables.proofs.Alls.{all_append}
-use Rattle.hpx_commit.proofs.Rights.{managed_has, right_at}
 use Rattle.hpx_node.proofs.Planned.{due_credit, rights}
 
 -- ---- the answer and the print

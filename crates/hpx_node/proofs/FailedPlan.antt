@@ -1,22 +1,6 @@
 -- A failure is planned before the last id is in the hand.
-use Rattle.std.proofs.Common.{ℕ, Bool, List, [], ◌∷◌, ◌≡◌, ◌≤◌, ◌<◌, ◌+◌, Option, Some, None, drop, set, length, refl, sym, ap, ◌∙◌, arith, inl, inr, subst}
-use Rattle.std.specs.Prelude.{Result, Ok, Err, IfOk}
-use Rattle.std.specs.List.{find, slice_get, AllByRecursion}
-use Rattle.std.proofs.lemmas.Bool.{cases_Bool}
-use Rattle.std.proofs.lemmas.List.{drop-set-lt, length-set}
-use Rattle.hpx_value.specs.Laws.{KeepsLaws}
-use Rattle.hpx_value.specs.declared.acts.Job.{Job}
-use Rattle.hpx_journal.specs.Data.{Id, Outcome}
-use Rattle.hpx_commit.specs.Failures.{action_ids, state_failed, due_failed, ups_failed}
-use Rattle.hpx_commit.specs.declared.plan.Plan.{Plan}
-use Rattle.hpx_node.specs.Fails.{ups_left, IsFailure}
-use Rattle.hpx_steps.specs.Rest.{IsPaused, IsTidy}
-use Rattle.hpx_tables.specs.declared.pending.Asked.{Asked}
-use Rattle.hpx_tables.specs.Pending.{Waits, ids_named, is_asked_for, put_for, hand_with, Refills}
-use Rattle.hpx_tables.specs.Tables.{Tables}
-use Rattle.hpx_tables.proofs.Alls.{some_same}
+use Rattle.hpx_node.proofs.Common.{AllByRecursion, Asked, Bool, Err, Id, IfOk, IsFailure, IsPaused, IsTidy, Job, KeepsLaws, List, None, Ok, Option, Outcome, Plan, Refills, Result, Some, Tables, Waits, [], action_ids, ap, arith, cases_Bool, drop, drop-set-lt, due_failed, find, hand_long, hand_with, ids_named, inl, inr, is_asked_for, length, length-set, put_for, refl, set, slice_get, some_same, state_failed, subst, sym, ups_failed, ups_left, ℕ, ◌+◌, ◌<◌, ◌∙◌, ◌∷◌, ◌≡◌, ◌≤◌}
 use Rattle.hpx_node.proofs.HandLeft.{HasLeft, has_left}
-use Rattle.hpx_steps.proofs.Recommit.{hand_long}
 use Rattle.hpx_node.proofs.Paused.{commit_of, paused_at}
 
 all_found : {X : Type 0} (P : X → Type 0) (p : X → Bool) (xs : List X) (x : X) → AllByRecursion P xs → find p xs ≡ Some x → P x

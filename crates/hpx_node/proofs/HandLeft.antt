@@ -1,14 +1,5 @@
 -- What is left in a hand of a commit that waited.
-use Rattle.std.proofs.Common.{ℕ, List, ◌≡◌, ◌+◌, ◌≤◌, take, drop, length, ◌∙◌}
-use Rattle.std.specs.List.{AllByRecursion}
-use Rattle.hpx_value.specs.Laws.{KeepsLaws}
-use Rattle.hpx_parcel.specs.Parcels.{HasCredit, HasRightCredit}
-use Rattle.hpx_journal.specs.Data.{Id}
-use Rattle.hpx_commit.specs.Failures.{halves_ahead, ups_failed}
-use Rattle.hpx_commit.proofs.HandLeft.{HaveNone, halves_have, later_none, long_enough, ups_limit}
-use Rattle.hpx_tables.specs.Jobs.{IsFitJob}
-use Rattle.hpx_tables.specs.Pending.{Waits, ids_named}
-use Rattle.hpx_steps.specs.Paused.{HasSplit}
+use Rattle.hpx_node.proofs.Common.{AllByRecursion, HasCredit, HasRightCredit, HasSplit, HaveNone, Id, IsFitJob, KeepsLaws, List, Waits, drop, halves_ahead, halves_have, ids_named, later_none, length, long_enough, take, ups_failed, ups_limit, ℕ, ◌+◌, ◌∙◌, ◌≡◌, ◌≤◌}
 use Rattle.hpx_node.proofs.Planned.{none_of, rights}
 
 -- behind its own ids there are those that it would make, without credit, and halves

@@ -1,26 +1,6 @@
 -- What a commit leaves that is planned.
-use Rattle.std.proofs.Common.{ℕ, [], ◌≡◌, ◌≤◌, length, map, sym, ap, ◌∙◌}
-use Rattle.hpx_value.specs.Ids.{bare}
-use Rattle.hpx_value.specs.Values.{bare_act, bare_state, message_of, named}
-use Rattle.hpx_value.specs.Hands.{due_of, state_after}
-use Rattle.hpx_value.specs.Laws.{KeepsLaws}
-use Rattle.hpx_value.specs.declared.acts.Job.{Job}
-use Rattle.hpx_journal.specs.Data.{Act, State, Outcome}
-use Rattle.hpx_part.specs.Data.{Standing}
-use Rattle.hpx_commit.specs.Stocks.{Stock}
-use Rattle.hpx_tables.specs.Jobs.{IsFitJob}
-use Rattle.hpx_tables.specs.Tables.{Tables}
-use Rattle.hpx_steps.specs.Left.{IsLeftBy}
-use Rattle.hpx_steps.specs.Rest.{rules_of}
-use Rattle.hpx_steps.proofs.Dealt.{plan_deals}
-use Rattle.hpx_steps.proofs.Made.{bare_alone}
-use Rattle.hpx_steps.proofs.Work.{halved_from}
-use Rattle.hpx_node.specs.Commits.{IsStock, made_of, remains, state_dealt}
+use Rattle.hpx_node.proofs.Common.{Act, HasCredit, HasRightCredit, IsFitDue, IsFitJob, IsKept, IsLeftBy, IsPlanned, IsStock, Job, KeepsLaws, Outcome, Standing, State, Stock, Tables, [], ap, bare, bare_act, bare_alone, bare_due, bare_state, due_of, halved_from, length, made_of, map, message_of, named, plan_deals, remains, rules_of, state_after, state_dealt, sym, ℕ, ◌∙◌, ◌≡◌, ◌≤◌}
 use Rattle.hpx_commit.proofs.BareHands.{blind_of}
-use Rattle.hpx_commit.proofs.Planned.{IsPlanned}
-use Rattle.hpx_parcel.specs.Parcels.{HasCredit, HasRightCredit}
-use Rattle.hpx_tables.specs.Fit.{IsFitDue, IsKept}
-use Rattle.hpx_steps.specs.Turn.{bare_due}
 use Rattle.hpx_node.proofs.Plain.{no_ids, plain_values, plain_conts, plain_same}
 use Rattle.hpx_node.proofs.Planned.{due_credit, planned_of}
 

@@ -1,27 +1,6 @@
 -- What an action leaves that fails: its object keeps its state and has its credits again, and the rest is due or given up.
-use Rattle.std.proofs.Common.{ℕ, Bool, true, false, cond, List, [], ◌≡◌, ◌<◌, ◌==◌, map, take, length, refl, sym, ap, ◌∙◌, arith}
-use Rattle.std.specs.List.{AllByRecursion, count_by}
-use Rattle.hpx_value.specs.Ids.{bare}
-use Rattle.hpx_value.specs.Values.{bare_state}
-use Rattle.hpx_value.specs.Hands.{id_at}
-use Rattle.hpx_parcel.specs.Parcels.{HasCredit, HasRightCredit}
-use Rattle.hpx_journal.specs.Data.{Id, State}
-use Rattle.hpx_part.specs.Data.{Standing}
-use Rattle.hpx_commit.specs.Failures.{action_ids, halves_ahead}
-use Rattle.hpx_tables.specs.Fit.{IsKept}
-use Rattle.hpx_tables.specs.declared.pending.Asked.{Asked}
-use Rattle.hpx_tables.specs.Pending.{Waits, ids_named, is_asked}
-use Rattle.hpx_steps.specs.Left.{IsLeftFailed}
-use Rattle.hpx_steps.specs.Paused.{IsCommit, HasSplit}
-use Rattle.hpx_steps.proofs.Dealt.{fail_deals}
-use Rattle.hpx_steps.proofs.Made.{bare_alone}
-use Rattle.hpx_node.specs.Fails.{state_left, failed_remains}
+use Rattle.hpx_node.proofs.Common.{AllByRecursion, Asked, Bool, HasCredit, HasRightCredit, HasSplit, Id, IsCommit, IsKept, IsLeftFailed, List, Standing, State, Waits, [], action_ids, ap, arith, bare, bare_alone, bare_state, both_right, both_same, cond, count_by, fail_deals, failed_remains, false, halves_ahead, id_at, ids_named, is_asked, is_managed, is_some, length, length-map, map, not, refl, state_filled, state_left, sym, take, true, ℕ, ◌&&◌, ◌<◌, ◌==◌, ◌∙◌, ◌≡◌}
 use Rattle.hpx_node.proofs.FailedDue.{credit_right, due_right, failed_due, failed_fit, ups_credit}
-use Rattle.hpx_commit.proofs.DueFilled.{state_filled}
-use Rattle.hpx_commit.proofs.HandLeft.{both_right, both_same}
-use Rattle.std.proofs.lemmas.List.{length-map}
-use Rattle.std.specs.Prelude.{◌&&◌, not, is_some}
-use Rattle.hpx_commit.specs.Deals.{is_managed}
 use Rattle.hpx_node.proofs.HandLeft.{HasLeft, has_left}
 use Rattle.hpx_node.proofs.Planned.{none_of, rights}
 use Rattle.hpx_node.proofs.Plain.{no_ids}

@@ -1,3 +1,4 @@
+pub mod Common
 pub mod Arrived
 pub mod Committing
 pub mod Continued

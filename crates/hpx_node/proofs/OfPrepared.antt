@@ -1,18 +1,5 @@
 -- A commit that was prepared is within its limits.
-use Rattle.std.proofs.Common.{List, ◌≡◌, ◌≤◌, length, map, sym, subst}
-use Rattle.std.specs.List.{AllByRecursion}
-use Rattle.hpx_value.specs.Laws.{KeepsLaws}
-use Rattle.hpx_value.specs.declared.acts.Job.{Job}
-use Rattle.hpx_parcel.specs.Parcels.{HasCredit}
-use Rattle.hpx_journal.specs.Data.{Id, Outcome, Due}
-use Rattle.hpx_commit.specs.Deals.{unnamed}
-use Rattle.hpx_tables.specs.declared.births.Birth.{Birth}
-use Rattle.hpx_tables.specs.Births.{IsBirth, birth_of}
-use Rattle.hpx_tables.specs.Fit.{IsFitDue}
-use Rattle.hpx_tables.specs.Jobs.{IsFitJob}
-use Rattle.hpx_tables.specs.Tables.{Tables}
-use Rattle.hpx_node.specs.declared.node.finish.Prepared.{Prepared}
-use Rattle.hpx_node.specs.Commits.{IsPrepared, IsStock, due_dealt, state_dealt}
+use Rattle.hpx_node.proofs.Common.{AllByRecursion, Birth, Due, HasCredit, Id, IsBirth, IsFitDue, IsFitJob, IsPrepared, IsStock, Job, KeepsLaws, List, Outcome, Prepared, Tables, birth_of, due_dealt, length, map, state_dealt, subst, sym, unnamed, ◌≡◌, ◌≤◌}
 use Rattle.hpx_node.proofs.Planned.{made_fit, planned_of}
 use Rattle.hpx_node.proofs.PlanLimits.{makes_few, cuts_limit}
 use Rattle.hpx_node.proofs.PlanRoom.{commit_few, commit_light}

@@ -1,15 +1,5 @@
 -- A commit leaves an object of kind Plain as it was.
-use Rattle.std.proofs.Common.{List, [], ◌∷◌, ◌≡◌, ◌≤◌, length, map, refl, sym, ap, ◌∙◌, arith}
-use Rattle.hpx_value.specs.Values.{refs_in}
-use Rattle.hpx_value.specs.Hands.{hand_slot, renumbered, conts_from}
-use Rattle.hpx_value.specs.Laws.{KeepsLaws}
-use Rattle.hpx_value.specs.Shapes.{IsState}
-use Rattle.hpx_value.specs.declared.acts.Job.{Job}
-use Rattle.hpx_journal.specs.Data.{State, Outcome}
-use Rattle.hpx_commit.specs.Stocks.{Stock}
-use Rattle.hpx_node.specs.Commits.{IsStock, state_dealt}
-use Rattle.hpx_tables.specs.Jobs.{IsFitJob}
-use Rattle.hpx_tables.specs.Tables.{Tables}
+use Rattle.hpx_node.proofs.Common.{IsFitJob, IsState, IsStock, Job, KeepsLaws, List, Outcome, State, Stock, Tables, [], ap, arith, conts_from, hand_slot, length, map, refl, refs_in, renumbered, state_dealt, sym, ◌∙◌, ◌∷◌, ◌≡◌, ◌≤◌}
 use Rattle.hpx_node.proofs.Planned.{planned_of}
 
 none_long : {X : Type 0} (xs : List X) → length xs ≡ 0 → xs ≡ []

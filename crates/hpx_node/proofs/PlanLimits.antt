@@ -1,21 +1,7 @@
 -- How much a commit writes at most.
-use Rattle.std.proofs.Common.{ℕ, zero, suc, List, [], ◌∷◌, ◌≡◌, ◌+◌, ◌≤◌, set, length, length-append, map, refl, arith}
-use Rattle.std.specs.List.{sum_by}
-use Rattle.std.proofs.lemmas.List.{length-map}
-use Rattle.std.proofs.lemmas.List.Sums.{sum_by-cons, sum_by-append}
-use Rattle.hpx_value.specs.Hands.{id_at}
-use Rattle.hpx_value.specs.Laws.{KeepsLaws}
-use Rattle.hpx_value.specs.declared.acts.Job.{Job}
-use Rattle.hpx_journal.specs.Data.{Id, Outcome}
-use Rattle.hpx_commit.specs.Deals.{half, share, named, dealt, shares, shared_from, AllLast, AreWithin}
-use Rattle.hpx_commit.specs.Stocks.{Stock}
+use Rattle.hpx_node.proofs.Common.{AllLast, AreWithin, Id, IsFitJob, IsStock, Job, KeepsLaws, List, Outcome, Stock, Tables, [], arith, birth_of, cuts, dealt, half, hand_of, id_at, length, length-append, length-map, made_of, map, own_places, own_stock, places_in_hand, refl, set, share, shared_from, shares, splits_from, suc, sum_by, sum_by-append, sum_by-cons, zero, ℕ, ◌+◌, ◌∷◌, ◌≡◌, ◌≤◌}
+use Rattle.hpx_commit.specs.Deals.{named}
 use Rattle.hpx_commit.proofs.Deals.{sums_dealt}
-use Rattle.hpx_commit.proofs.Planned.{own_places}
-use Rattle.hpx_tables.specs.Births.{birth_of}
-use Rattle.hpx_tables.specs.Jobs.{IsFitJob}
-use Rattle.hpx_tables.specs.Splits.{cuts, splits_from}
-use Rattle.hpx_tables.specs.Tables.{Tables}
-use Rattle.hpx_node.specs.Commits.{IsStock, made_of, hand_of, places_in_hand, own_stock}
 use Rattle.hpx_node.proofs.Planned.{made_of_job, hand_has, hand_few, hand_within}
 
 -- ---- splits

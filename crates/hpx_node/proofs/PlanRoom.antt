@@ -1,24 +1,5 @@
 -- A whole commit is short and light.
-use Rattle.std.proofs.Common.{ℕ, suc, false, List, [], ◌∷◌, ◌++◌, ◌≡◌, ◌+◌, ◌≤◌, length, length-append, map, refl, ap, arith}
-use Rattle.hpx_value.specs.Laws.{KeepsLaws}
-use Rattle.hpx_value.specs.declared.acts.Job.{Job}
-use Rattle.hpx_journal.specs.Data.{Outcome}
-use Rattle.hpx_journal.specs.Entries.{name_of}
-use Rattle.hpx_part.specs.Data.{Event, Done}
-use Rattle.hpx_commit.specs.Deals.{unnamed}
-use Rattle.hpx_tables.specs.declared.births.Birth.{Birth}
-use Rattle.hpx_tables.specs.Births.{birth_of, births_of}
-use Rattle.hpx_commit.specs.Stocks.{Stock}
-use Rattle.hpx_tables.specs.Splits.{splits_from}
-use Rattle.hpx_steps.specs.Calls.{ups, written_due}
-use Rattle.hpx_node.specs.Commits.{IsStock, made_of}
-use Rattle.hpx_tables.specs.Jobs.{IsFitJob}
-use Rattle.hpx_tables.specs.Tables.{Tables}
-use Rattle.hpx_commit.proofs.Planned.{IsPlanned, few_due}
-use Rattle.hpx_parcel.specs.Parcels.{HasCredit, HasRightCredit}
-use Rattle.hpx_tables.specs.Fit.{IsFitDue}
-use Rattle.hpx_steps.specs.Turn.{bare_due}
-use Rattle.hpx_value.specs.Hands.{due_of}
+use Rattle.hpx_node.proofs.Common.{Birth, Done, Event, HasCredit, HasRightCredit, IsFitDue, IsFitJob, IsPlanned, IsStock, Job, KeepsLaws, List, Outcome, Stock, Tables, [], ap, arith, bare_due, birth_of, births_of, due_of, false, few_due, length, length-append, made_of, map, name_of, refl, splits_from, suc, unnamed, ups, written_due, ℕ, ◌++◌, ◌+◌, ◌∷◌, ◌≡◌, ◌≤◌}
 use Rattle.hpx_node.proofs.Planned.{made_fit, planned_of}
 use Rattle.hpx_node.proofs.PlanLimits.{makes_few, cuts_limit}
 use Rattle.hpx_node.proofs.PlanWeights.{ups_few as written_ups, written_few, weighs, weighs_append, weighs_cons, births_light, splits_light, ups_light, written_light}

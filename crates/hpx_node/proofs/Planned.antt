@@ -1,34 +1,10 @@
 -- A commit of a locality: what it makes, and what it leaves that deals a stock.
-use Rattle.std.proofs.Common.{ℕ, suc, true, List, [], ◌∷◌, ◌≡◌, ◌+◌, ◌<◌, ◌≤◌, Option, Some, None, length, map, refl, ap, sym, arith}
-use Rattle.std.specs.Prelude.{flat_map, is_some, nat_le, MatchOption}
-use Rattle.std.specs.List.{AllByRecursion}
-use Rattle.hpx_value.specs.Ids.{bare}
-use Rattle.hpx_value.specs.Laws.{KeepsLaws, IsManaged, birth_state}
-use Rattle.hpx_value.specs.Shapes.{IsState}
-use Rattle.hpx_value.specs.Values.{refs_in}
-use Rattle.hpx_value.specs.Hands.{due_of}
-use Rattle.hpx_value.specs.declared.acts.Job.{Job}
+use Rattle.hpx_node.proofs.Common.{AllByRecursion, AreRight, AreWithin, Due, HasCredit, HasRightCredit, HaveLog, HaveNone, Id, IsBare, IsBirth, IsFitDue, IsFitJob, IsManaged, IsMovable, IsPlace, IsPlanned, IsState, IsStock, Job, KeepsLaws, List, MatchOption, Message, MessageDue, None, Option, Outcome, PrintDue, Some, Stock, Tables, [], all_append, ap, arith, bare, bare_due, birth_of, birth_state, due_of, flat_map, hand_of, ids_due, ids_of, is_below, is_some, length, made_of, map, message_filled, nat_le, own_few, own_within, places_in_hand, planned, refl, refs_in, same_at, suc, sym, true, ℕ, ◌+◌, ◌<◌, ◌∷◌, ◌≡◌, ◌≤◌}
 use Rattle.hpx_value.specs.declared.outcome.Make.{Make}
-use Rattle.hpx_parcel.specs.Parcels.{HasCredit, HasRightCredit, IsBare, IsMovable, IsPlace}
-use Rattle.hpx_journal.specs.Data.{Id, Message, Outcome, Due, MessageDue, PrintDue}
-use Rattle.hpx_commit.specs.Deals.{ids_due, AreWithin}
-use Rattle.hpx_commit.specs.Stocks.{Stock}
-use Rattle.hpx_commit.proofs.Came.{HaveLog}
-use Rattle.hpx_commit.proofs.DueFilled.{message_filled}
 use Rattle.hpx_commit.proofs.HandFit.{fit_due, hand_right}
-use Rattle.hpx_commit.proofs.HandLeft.{HaveNone}
 use Rattle.hpx_commit.proofs.Naming.{unmanaged}
-use Rattle.hpx_commit.proofs.Places.{is_below, is_least, same_at}
-use Rattle.hpx_commit.proofs.Planned.{IsPlanned, own_few, own_within, planned}
-use Rattle.hpx_commit.proofs.Rights.{AreRight}
+use Rattle.hpx_commit.proofs.Places.{is_least}
 use Rattle.hpx_commit.proofs.Short.{yes}
-use Rattle.hpx_tables.specs.Births.{IsBirth, birth_of, ids_of}
-use Rattle.hpx_tables.specs.Fit.{IsFitDue}
-use Rattle.hpx_tables.specs.Jobs.{IsFitJob}
-use Rattle.hpx_tables.specs.Tables.{Tables}
-use Rattle.hpx_tables.proofs.Alls.{all_append}
-use Rattle.hpx_steps.specs.Turn.{bare_due}
-use Rattle.hpx_node.specs.Commits.{IsStock, made_of, hand_of, places_in_hand}
 
 -- ---- credits
 

@@ -1,27 +1,7 @@
 -- With the last credit in its place, what a commit deals may be dealt.
-use Rattle.std.proofs.Common.{ℕ, suc, Bool, true, false, cond, List, [], ◌∷◌, ◌≡◌, ◌≤◌, ◌+◌, ◌==◌, ◌&&◌, ◌⊎◌, not, Option, Some, None, set, length, refl, sym, ap, ◌∙◌, arith, inl, inr, subst}
-use Rattle.std.specs.Prelude.{is_some}
-use Rattle.std.specs.List.{find, list_any, slice_get, remove}
-use Rattle.std.proofs.lemmas.Bool.{cases_Bool, eqb-true, ne_eqb}
-use Rattle.hpx_value.specs.Ids.{bare}
-use Rattle.hpx_value.specs.Hands.{id_at}
-use Rattle.hpx_value.specs.Laws.{KeepsLaws}
-use Rattle.hpx_parcel.specs.Parcels.{HasCredit}
-use Rattle.hpx_journal.specs.Data.{Id}
-use Rattle.hpx_journal.proofs.Same.{and_true}
-use Rattle.hpx_commit.specs.Deals.{is_managed, log_of}
-use Rattle.hpx_node.specs.Commits.{IsStock, made_of}
-use Rattle.hpx_steps.specs.Paused.{HasSplit, IsCommit, IsShort}
-use Rattle.hpx_steps.specs.Rest.{IsPaused}
-use Rattle.hpx_tables.specs.Pending.{Waits, ids_named, is_asked, awaits, is_asked_for, waits_for_one, refilled, hand_with, put_for}
-use Rattle.hpx_node.specs.Resumes.{stock_with, is_last}
-use Rattle.hpx_tables.specs.Strange.{brings_right}
-use Rattle.hpx_tables.specs.Tables.{Tables}
-use Rattle.hpx_steps.proofs.Refilled.{still_commit, still_split}
+use Rattle.hpx_node.proofs.Common.{Bool, HasCredit, HasRightCredit, HasSplit, Id, IsCommit, IsPaused, IsShort, IsStock, KeepsLaws, List, None, Option, Some, Tables, Waits, [], and_true, ap, arith, awaits, bare, brings_right, cases_Bool, come_long, come_short, come_stock, cond, eqb-true, false, find, hand_with, id_at, ids_named, inl, inr, is_asked, is_asked_for, is_last, is_managed, is_some, length, list_any, log_of, made_of, ne_eqb, not, put_for, refilled, refl, remove, set, slice_get, still_commit, still_split, stock_with, subst, suc, sym, true, waits_for_one, waits_managed, ℕ, ◌&&◌, ◌+◌, ◌==◌, ◌∙◌, ◌∷◌, ◌≡◌, ◌≤◌, ◌⊎◌}
 use Rattle.hpx_node.proofs.Continued.{less_long, none_long, none_some, off}
-use Rattle.hpx_commit.proofs.Came.{come_stock, come_long, come_short, waits_managed}
 use Rattle.hpx_node.proofs.Planned.{AreMade, made_of_job, rights}
-use Rattle.hpx_parcel.specs.Parcels.{HasRightCredit}
 use Rattle.hpx_node.proofs.LeftFailed.{given}
 use Rattle.hpx_node.proofs.Paused.{commit_of}
 

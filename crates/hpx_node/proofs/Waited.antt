@@ -1,49 +1,15 @@
 -- A commit begins to wait, as the calls do it.
-use Rattle.std.proofs.Common.{ℕ, true, drop, refl, inl, List, [], ◌∷◌, ◌++◌, ◌≡◌, ◌+◌, ◌≤◌, ◌<◌, Some, map, set, take, get_or, length, length-append, append_assoc, sym, ap, ◌∙◌, arith, subst}
-use Rattle.std.specs.Prelude.{Result, Ok, Err, IfOk}
-use Rattle.std.specs.List.{slice_get, remove, AllByRecursion}
-use Rattle.std.proofs.lemmas.List.{length-map, take_more}
-use Rattle.hpx_value.specs.Ids.{bare}
-use Rattle.hpx_value.specs.Values.{bare_state}
-use Rattle.hpx_value.specs.Hands.{id_at, hand_ids}
-use Rattle.hpx_value.specs.Laws.{KeepsLaws}
-use Rattle.hpx_value.specs.Shapes.{IsState}
-use Rattle.hpx_value.specs.declared.acts.Job.{Job}
-use Rattle.hpx_parcel.specs.Parcels.{HasLeastCredit}
-use Rattle.hpx_journal.specs.Data.{Id, Act, State, Outcome, Ask}
-use Rattle.hpx_part.specs.Data.{Entry, Standing}
-use Rattle.hpx_part.specs.Parts.{at_all}
-use Rattle.hpx_commit.specs.Deals.{AreWithin, AllLast}
-use Rattle.hpx_commit.specs.Stocks.{Stock, ahead, short_places}
-use Rattle.hpx_commit.proofs.Stripped.{short_few}
+use Rattle.hpx_node.proofs.Common.{Act, AllByRecursion, AllLast, AreWithin, Ask, Begins, Entry, Err, HasCredit, HasLeastCredit, HasRightCredit, HasSplit, Id, IfOk, IsAt, IsBefore, IsFitJob, IsKept, IsState, IsTidy, Job, KeepsLaws, Lasting, List, Ok, Outcome, Pauses, Result, Some, Standing, Stands, State, Stock, Tables, Waits, [], action_few, ahead, all_at, ap, append_assoc, arith, asked_at, asked_events, at_all, at_all_append, bare, bare_state, drop, first_cuts, get_or, hand_before, hand_ids, hand_kinds, hand_of, id_at, inl, is_managed, lacking, length, length-append, length-map, made_of, managed_same, managed_there, map, none_short, own_many, places_in_hand, places_named, refl, remove, set, short_before, short_places, slice_get, some_same, split_stock, splits_before, stock_before, subst, sym, take, take_more, true, waits_with, with_asks, with_mail, ℕ, ◌++◌, ◌+◌, ◌<◌, ◌∙◌, ◌∷◌, ◌≡◌, ◌≤◌}
+use Rattle.hpx_commit.proofs.Stripped.{short_few, stripped_behind, stripped_places}
 use Rattle.hpx_node.specs.declared.node.wait.Before.{Before}
-use Rattle.hpx_tables.specs.Splits.{first_cuts, asked_events}
-use Rattle.hpx_steps.specs.Calls.{with_asks}
-use Rattle.hpx_steps.specs.Mail.{with_mail}
-use Rattle.hpx_node.specs.Asks.{own_many, hand_before, splits_before, split_stock, short_before, lacking, stock_before, Pauses, IsBefore, Begins}
-use Rattle.hpx_node.specs.Commits.{made_of, hand_of, places_in_hand}
-use Rattle.hpx_tables.specs.Fit.{IsKept}
-use Rattle.hpx_tables.specs.Jobs.{IsAt, IsFitJob}
-use Rattle.hpx_tables.specs.Pending.{Waits, asked_at, waits_with}
-use Rattle.hpx_steps.specs.Rest.{IsTidy, Stands}
 use Rattle.hpx_steps.proofs.Waiting.{asks_rest, wait_stands}
-use Rattle.hpx_tables.specs.Tables.{Tables}
-use Rattle.hpx_tables.proofs.Alls.{all_at, some_same}
-use Rattle.hpx_tables.proofs.Cutting.{at_all_append}
 use Rattle.hpx_tables.proofs.FirstCuts.{first_few}
 use Rattle.hpx_node.proofs.PlanLimits.{own_cuts}
 use Rattle.hpx_node.proofs.Planned.{AreMade, bare_kinds, hand_within, made_of_job, none_of, rights}
 use Rattle.hpx_value.specs.Mentions.{mentions}
-use Rattle.hpx_parcel.specs.Parcels.{HasCredit, HasRightCredit}
-use Rattle.hpx_commit.specs.Deals.{is_managed, named, places_named}
-use Rattle.hpx_commit.specs.Stocks.{Lasting}
-use Rattle.hpx_commit.proofs.Came.{none_short}
+use Rattle.hpx_commit.specs.Deals.{named}
 use Rattle.hpx_commit.proofs.Moved.{wider}
-use Rattle.hpx_commit.proofs.Places.{hand_kinds, managed_same, managed_there}
-use Rattle.hpx_commit.proofs.Planned.{action_few}
 use Rattle.hpx_commit.proofs.ShortHand.{fits, is_kept, is_short, least_all, short_low, short_within}
-use Rattle.hpx_commit.proofs.Stripped.{stripped_behind, stripped_places}
-use Rattle.hpx_steps.specs.Paused.{HasSplit}
 
 pub pauses_by : (t t' : Tables) (i j : ℕ) (job : Job) (w : Waits) (at : IsAt t i j job) (x : Standing) → slice_get t.objects j ≡ Some x
     → t' ≡ record t {

@@ -1,13 +1,7 @@
-use Rattle.std.proofs.Common.{◌≤◌, ◌++◌, ◌∙◌, ap, length, refl, subst, arith}
-use Rattle.hpx_value.specs.Laws.{KeepsLaws}
-use Rattle.hpx_part.proofs.Keyed.{slice_get_less}
-use Rattle.hpx_part.specs.Parts.{at_all}
-use Rattle.hpx_tables.specs.Splits.{first_cuts, asked_events}
-use Rattle.hpx_tables.specs.Tables.{Tables}
+use Rattle.hpx_node.proofs.Common.{KeepsLaws, Locality, Tables, ap, arith, asked_events, at_all, first_cuts, length, refl, slice_get_less, subst, ◌++◌, ◌∙◌, ◌≤◌}
 use Rattle.hpx_node.proofs.TurnSteps.{adds_asks}
 use Rattle.hpx_node.proofs.Waited.{before_short, before_own, before_least, lacks_few, kept_before, begins_by, something}
 use Rattle.hpx_node.proofs.Turned.{at_rest_tidy}
-use Rattle.hpx_node.specs.Locality.{Locality}
 use Rattle.hpx_node.proofs.node.Node.begin.Goals as goal
 
 pub push_first_splits-requires-clause-own : goal.push_first_splits-requires-clause-own

@@ -1,4 +1,4 @@
-use Rattle.std.proofs.Common.{true, false, ◌≡◌, arith}
+use Rattle.hpx_node.proofs.Common.{arith, false, true, ◌≡◌}
 use Rattle.hpx_node.proofs.PlanLimits.{own_is}
 use Rattle.hpx_node.proofs.Planned.{makes_managed, hand_few, hand_within}
 use Rattle.hpx_node.proofs.node.Node.prepare.Goals as goal
