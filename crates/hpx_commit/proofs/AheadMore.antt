@@ -14,12 +14,12 @@ use Rattle.hpx_commit.proofs.StockLoops.{halves_longer}
 -- ---- what each id has
 
 module _ (P : Id → Type 0) where
-  all_at : (ids : List Id) (p : ℕ) → p < length ids → AllByRecursion P ids → P (id_at ids p)
+  pub all_at : (ids : List Id) (p : ℕ) → p < length ids → AllByRecursion P ids → P (id_at ids p)
   all_at [] p h all = absurd (omega (arith, h))
   all_at (id ∷ ids) zero h all = all.0
   all_at (id ∷ ids) (suc p) h all = all_at ids p (omega (arith, h)) all.1
 
-  all_set : (ids : List Id) (p : ℕ) (x : Id) → P x → AllByRecursion P ids → AllByRecursion P (set ids p x)
+  pub all_set : (ids : List Id) (p : ℕ) (x : Id) → P x → AllByRecursion P ids → AllByRecursion P (set ids p x)
   all_set [] p x h all = tt
   all_set (id ∷ ids) zero x h all = (h, all.1)
   all_set (id ∷ ids) (suc p) x h all = (all.0, all_set ids p x h all.1)

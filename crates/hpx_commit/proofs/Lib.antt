@@ -1,3 +1,4 @@
+pub mod Common
 pub mod Deals
 pub mod Naming
 pub mod Fills
@@ -11,3 +12,13 @@ pub mod Failed
 pub mod Later
 pub mod AheadMore
 pub mod Stripped
+pub mod Places
+pub mod Rights
+pub mod FullStock
+pub mod BareHands
+pub mod DueFilled
+pub mod HandFit
+pub mod Planned
+pub mod Came
+pub mod HandLeft
+pub mod ShortHand

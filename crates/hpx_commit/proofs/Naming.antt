@@ -37,7 +37,7 @@ at_right [] ys i n e = ap (id_at ys) (e ∙ omega arith)
 at_right (x ∷ xs) ys i zero e = absurd (omega arith)
 at_right (x ∷ xs) ys i (suc n) e = at_right xs ys i n (omega arith)
 
-all_parts : {X : Type 0} (P : X → Type 0) (xs ys : List X) → AllByRecursion P (xs ++ ys) → AllByRecursion P xs × AllByRecursion P ys
+pub all_parts : {X : Type 0} (P : X → Type 0) (xs ys : List X) → AllByRecursion P (xs ++ ys) → AllByRecursion P xs × AllByRecursion P ys
 all_parts P [] ys h = (tt, h)
 all_parts P (x ∷ xs) ys h = let i = all_parts P xs ys h.1 in ((h.0, i.0), i.1)
 
@@ -47,7 +47,7 @@ flat_append f (x ∷ xs) ys = ap (λ zs. f x ++ zs) (flat_append f xs ys) ∙ sy
 
 -- ---- managed ids
 
-unmanaged : (kind : ℕ) → kind < 16 → nat_le 16 kind ≡ false
+pub unmanaged : (kind : ℕ) → kind < 16 → nat_le 16 kind ≡ false
 unmanaged kind h = grind (arith, nat_tests)
 
 abbrev pub managed : List Id → List Id

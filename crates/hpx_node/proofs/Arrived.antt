@@ -1,22 +1,5 @@
 -- A message is taken up and dealt with, as the calls write it.
-use Rattle.std.proofs.Common.{ℕ, List, [], ◌∷◌, ◌++◌, ◌≡◌, ◌≤◌, ◌==◌, Option, Some, None, length, length-append, append_assoc, refl, sym, ap, ◌∙◌, arith, inl, inr}
-use Rattle.std.specs.Prelude.{option_map, option_and_then}
-use Rattle.std.specs.List.{find}
-use Rattle.std.proofs.lemmas.Bool.{cases_Bool}
-use Rattle.hpx_value.specs.declared.profile.Profile.{Profile}
-use Rattle.hpx_agas.specs.Records.{find_record}
-use Rattle.hpx_agas.specs.Registries.{asked, lowered}
-use Rattle.hpx_agas.specs.declared.record.Record.{Record}
-use Rattle.hpx_journal.specs.Bags.{without}
-use Rattle.hpx_journal.specs.Data.{Id, Parcel, Apply, Return, Ask, Give, Cached, Move, Go, Shipped, Arrived, Free}
-use Rattle.hpx_journal.specs.Laws.{ins}
-use Rattle.hpx_journal.specs.Local.{is_standing}
-use Rattle.hpx_journal.specs.Whole.{arrives, arrives_at, part}
-use Rattle.hpx_part.specs.Data.{Entry, Event, In}
-use Rattle.hpx_part.specs.Parts.{at_all}
-use Rattle.hpx_tables.specs.Tables.{Tables}
-use Rattle.hpx_steps.specs.Calls.{DealsWith, Leaves, effects, ids_in, with_returns}
-use Rattle.hpx_steps.specs.Mail.{with_return}
+use Rattle.hpx_node.proofs.Common.{Apply, Arrived, Ask, Cached, DealsWith, Entry, Event, Free, Give, Go, Id, In, Leaves, List, Move, None, Option, Parcel, Profile, Record, Return, Shipped, Some, Tables, [], ap, append_assoc, arith, arrives, arrives_at, asked, at_all, cases_Bool, effects, find, find_record, ids_in, inl, inr, ins, is_standing, length, length-append, lowered, option_and_then, option_map, part, refl, sym, with_return, with_returns, without, ℕ, ◌++◌, ◌==◌, ◌∙◌, ◌∷◌, ◌≡◌, ◌≤◌}
 
 -- ---- the number of frames that came is no more than that of entries
 

@@ -1,27 +1,5 @@
 -- A prepared commit, written step by step, leaves what one step would leave.
-use Rattle.std.proofs.Common.{ℕ, false, Some, List, [], ◌∷◌, ◌++◌, ◌≡◌, ◌<◌, ◌+◌, map, set, length, append_assoc, append-nil, sym, ap, ◌∙◌, arith}
-use Rattle.std.specs.List.{slice_get}
-use Rattle.std.proofs.lemmas.List.{length-map}
-use Rattle.hpx_value.specs.Hands.{due_of, state_after}
-use Rattle.hpx_value.specs.declared.acts.Job.{Job}
-use Rattle.hpx_journal.specs.Data.{Act, Id, State, Due, Outcome}
-use Rattle.hpx_journal.specs.Entries.{name_of}
-use Rattle.hpx_agas.specs.declared.record.Record.{Record}
-use Rattle.hpx_part.specs.Data.{Event, Entry, Done, Standing}
-use Rattle.hpx_part.specs.Parts.{at_all}
-use Rattle.hpx_part.proofs.Keyed.{slice_get_less}
-use Rattle.hpx_commit.specs.Deals.{dealt, unnamed, unused}
-use Rattle.hpx_tables.proofs.Alls.{get_before}
-use Rattle.hpx_tables.proofs.Cutting.{at_all_append}
-use Rattle.hpx_tables.specs.declared.births.Birth.{Birth}
-use Rattle.hpx_tables.specs.Awaited.{answered_by}
-use Rattle.hpx_tables.specs.Births.{Makes, birth_of, births_of, objects_of, records_of}
-use Rattle.hpx_tables.specs.Pending.{Waits}
-use Rattle.hpx_tables.specs.Splits.{splits_from}
-use Rattle.hpx_tables.specs.Tables.{Tables}
-use Rattle.hpx_steps.specs.Calls.{ups, with_left, written_due}
-use Rattle.hpx_node.specs.declared.node.finish.Prepared.{Prepared}
-use Rattle.hpx_node.specs.Commits.{committed_from, due_dealt, made_of, with_settled, committed_to, IsPrepared}
+use Rattle.hpx_node.proofs.Common.{Act, Birth, Done, Due, Entry, Event, Id, IsPrepared, Job, List, Makes, Outcome, Prepared, Record, Some, Standing, State, Tables, Waits, [], answered_by, ap, append-nil, append_assoc, arith, at_all, at_all_append, birth_of, births_of, committed_from, committed_to, dealt, due_dealt, due_of, false, get_before, length, length-map, made_of, map, name_of, objects_of, records_of, set, slice_get, slice_get_less, splits_from, state_after, sym, unnamed, unused, ups, with_left, with_settled, written_due, ℕ, ◌++◌, ◌+◌, ◌<◌, ◌∙◌, ◌∷◌, ◌≡◌}
 use Rattle.hpx_node.proofs.PlanWeights.{written_same}
 
 -- entries that are written one list after another

@@ -1,23 +1,5 @@
 -- A commit that was prepared before its last credit came goes on with it.
-use Rattle.std.proofs.Common.{ℕ, zero, suc, Bool, true, false, cond, List, [], ◌∷◌, ◌≡◌, ◌<◌, ◌+◌, ◌==◌, not, Option, Some, None, set, take, length, refl, sym, ap, ◌∙◌, arith, inl, inr, subst}
-use Rattle.std.specs.Prelude.{is_some}
-use Rattle.std.specs.List.{find, list_any, slice_get, remove}
-use Rattle.std.proofs.lemmas.Bool.{cases_Bool, eqb-true}
-use Rattle.hpx_value.specs.Ids.{bare}
-use Rattle.hpx_value.specs.declared.acts.Job.{Job}
-use Rattle.hpx_journal.specs.Data.{Id, State, Act, Outcome, Parcel, Apply, Return, Ask, Give, Cached, Move, Go, Shipped, Arrived, Free}
-use Rattle.hpx_journal.proofs.Same.{and_true}
-use Rattle.hpx_part.proofs.Keyed.{slice_get_less}
-use Rattle.hpx_commit.specs.Deals.{log_of}
-use Rattle.hpx_node.specs.declared.node.finish.Prepared.{Prepared}
-use Rattle.hpx_node.specs.declared.node.resume.Ready.{Ready}
-use Rattle.hpx_node.specs.Commits.{IsPrepared}
-use Rattle.hpx_tables.specs.declared.pending.Asked.{Asked}
-use Rattle.hpx_tables.specs.Pending.{Waits, awaits, is_asked_for, waits_for_one, put_for, hand_with, Refills}
-use Rattle.hpx_node.specs.Resumes.{stock_with, is_last, MayResume, IsReady, IsReadyFor}
-use Rattle.hpx_steps.specs.Calls.{Gives, DealsWith}
-use Rattle.hpx_tables.specs.Tables.{Tables}
-use Rattle.hpx_tables.proofs.Alls.{some_same}
+use Rattle.hpx_node.proofs.Common.{Act, Apply, Arrived, Ask, Asked, Bool, Cached, DealsWith, Free, Give, Gives, Go, Id, IsPrepared, IsReady, IsReadyFor, Job, List, MayResume, Move, None, Option, Outcome, Parcel, Prepared, Ready, Refills, Return, Shipped, Some, State, Tables, Waits, [], and_true, ap, arith, awaits, bare, cases_Bool, cond, eqb-true, false, find, hand_with, inl, inr, is_asked_for, is_last, is_some, length, list_any, log_of, not, put_for, refl, remove, set, slice_get, slice_get_less, some_same, stock_with, subst, suc, sym, take, true, waits_for_one, zero, ℕ, ◌+◌, ◌<◌, ◌==◌, ◌∙◌, ◌∷◌, ◌≡◌}
 
 -- ---- lists
 

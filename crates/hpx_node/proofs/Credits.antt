@@ -1,20 +1,5 @@
 -- Ids are given up, one after another.
-use Rattle.std.proofs.Common.{ℕ, List, [], ◌∷◌, ◌++◌, ◌≡◌, ◌+◌, ◌<◌, ◌≤◌, Option, Some, None, take, get_or, length, append_assoc, refl, sym, ap, ◌∙◌}
-use Rattle.std.specs.Prelude.{MatchOption}
-use Rattle.std.proofs.lemmas.List.{map-append}
-use Rattle.hpx_value.specs.Ids.{bare}
-use Rattle.hpx_parcel.specs.Parcels.{HasCredit}
-use Rattle.hpx_journal.specs.Data.{Id}
-use Rattle.hpx_journal.specs.Laws.{entry_at}
-use Rattle.hpx_part.specs.Data.{Entry, Freed, Standing, Up}
-use Rattle.hpx_part.specs.Parts.{at_all}
-use Rattle.hpx_commit.specs.Deals.{log_of}
-use Rattle.hpx_tables.specs.Tables.{Tables}
-use Rattle.hpx_steps.specs.Calls.{freed, ids_in, up_of, ups, with_returns}
-use Rattle.hpx_steps.specs.Mail.{with_return}
-use Rattle.hpx_steps.proofs.Handled.{returns_objects}
-use Rattle.hpx_steps.proofs.Sums.{flat_append}
-use Rattle.std.proofs.lemmas.List.{take_more}
+use Rattle.hpx_node.proofs.Common.{Entry, Freed, HasCredit, Id, List, MatchOption, None, Option, Some, Standing, Tables, Up, [], ap, append_assoc, at_all, bare, entry_at, flat_append, freed, get_or, ids_in, length, log_of, map-append, refl, returns_objects, sym, take, take_more, up_of, ups, with_return, with_returns, ℕ, ◌++◌, ◌+◌, ◌<◌, ◌∙◌, ◌∷◌, ◌≡◌, ◌≤◌}
 
 pub credit_log_is : (id : Id) → HasCredit id → (log : ℕ) × (id.log ≡ Some log)
 credit_log_is id h = at id.log refl h

@@ -1,22 +1,5 @@
 -- An action fails, as the call writes it.
-use Rattle.std.proofs.Common.{ℕ, true, List, [], ◌∷◌, ◌++◌, ◌≡◌, ◌+◌, ◌≤◌, Some, set, length, length-append, append_assoc, sym, ap, ◌∙◌, arith, subst}
-use Rattle.std.specs.Prelude.{option_map}
-use Rattle.std.specs.List.{slice_get, remove, AllByRecursion}
-use Rattle.hpx_parcel.specs.Parcels.{HasCredit}
-use Rattle.hpx_journal.specs.Data.{Id, Due}
-use Rattle.hpx_journal.specs.Entries.{name_of}
-use Rattle.hpx_part.specs.Data.{Done, Entry, Standing}
-use Rattle.hpx_part.specs.Parts.{at_all}
-use Rattle.hpx_commit.specs.Failures.{action_ids}
-use Rattle.hpx_commit.specs.declared.plan.Plan.{Plan}
-use Rattle.hpx_tables.proofs.Alls.{some_same}
-use Rattle.hpx_tables.specs.Awaited.{answered_by}
-use Rattle.hpx_tables.specs.Fit.{IsKept, IsFitDue}
-use Rattle.hpx_tables.specs.Pending.{Waits, action_of}
-use Rattle.hpx_tables.specs.Tables.{Tables}
-use Rattle.hpx_steps.specs.Calls.{ups, with_left, written_due}
-use Rattle.hpx_node.specs.Changes.{OnlySends, Writes}
-use Rattle.hpx_node.specs.Fails.{state_left, due_left, ups_left, failed_events, MustFail, IsFailure, Fails}
+use Rattle.hpx_node.proofs.Common.{AllByRecursion, Done, Due, Entry, Fails, HasCredit, Id, IsFailure, IsFitDue, IsKept, List, MustFail, OnlySends, Plan, Some, Standing, Tables, Waits, Writes, [], action_ids, action_of, answered_by, ap, append_assoc, arith, at_all, due_left, failed_events, length, length-append, name_of, option_map, remove, set, slice_get, some_same, state_left, subst, sym, true, ups, ups_left, with_left, written_due, ℕ, ◌++◌, ◌+◌, ◌∙◌, ◌∷◌, ◌≡◌, ◌≤◌}
 use Rattle.hpx_node.proofs.FailedDue.{failed_few}
 use Rattle.hpx_node.proofs.FewEntries.{at_all_length}
 use Rattle.hpx_node.proofs.PlanWeights.{ups_few, written_few}

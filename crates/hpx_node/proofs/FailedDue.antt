@@ -1,23 +1,7 @@
 -- What an action leaves that fails: an answer that may be sent, ids that may be given up, and no credit is lost.
-use Rattle.std.proofs.Common.{ℕ, zero, suc, Bool, true, false, cond, codes, List, [], ◌∷◌, ◌++◌, ◌≡◌, ◌+◌, ◌≤◌, ◌<◌, ◌==◌, Option, Some, None, map, length, length-append, refl, sym, ap, ◌∙◌, arith, inl, inr, lit≤}
-use Rattle.std.specs.Prelude.{flat_map, MatchOption}
-use Rattle.std.specs.List.{filter, remove, AllByRecursion}
-use Rattle.std.proofs.lemmas.Bool.{cases_Bool}
-use Rattle.std.proofs.lemmas.List.Sums.{length-filter, count_by-le-length}
-use Rattle.hpx_value.specs.Ids.{bare}
-use Rattle.hpx_value.specs.Values.{bare_act}
-use Rattle.hpx_value.specs.Hands.{id_at, own_slot, answer}
-use Rattle.hpx_parcel.specs.Parcels.{HasRightCredit, HasCredit}
-use Rattle.hpx_journal.specs.Data.{Id, Cont, State, Act, MessageDue, PrintDue, Fault}
-use Rattle.hpx_journal.specs.Local.{failure}
-use Rattle.hpx_commit.specs.Deals.{is_managed, ids_due}
-use Rattle.hpx_commit.specs.Failures.{action_ids, halves_ahead, due_failed, unanswered, ups_failed}
+use Rattle.hpx_node.proofs.Common.{Act, AllByRecursion, Bool, Cont, Fault, HasCredit, HasRightCredit, Id, IsFitDue, List, MatchOption, MessageDue, None, Option, PrintDue, Some, State, [], action_ids, all_append, answer, ap, arith, bare, bare_act, bare_due, codes, cond, due_failed, failure, false, flat_map, halves_ahead, id_at, ids_due, length, lit≤, managed_has, map, own_slot, refl, right_at, sym, true, unanswered, ups_failed, ℕ, ◌++◌, ◌<◌, ◌==◌, ◌∙◌, ◌∷◌, ◌≡◌, ◌≤◌}
 use Rattle.hpx_commit.proofs.Failed.{due_bare, all_unanswered}
-use Rattle.hpx_tables.specs.Fit.{IsFitDue}
-use Rattle.hpx_steps.specs.Turn.{bare_due}
-use Rattle.hpx_tables.proofs.Alls.{all_append}
-use Rattle.hpx_node.proofs.FilledDue.{is_least, has_credit, due_credit}
-use Rattle.hpx_node.proofs.HandFit.{credit_at}
+use Rattle.hpx_node.proofs.Planned.{due_credit, rights}
 
 -- ---- the answer and the print
 
@@ -35,7 +19,7 @@ answer_fit ids (Some c) h = (
         ids = refl;
         short = lit≤ tt;
       };
-      credit = (credit_at ids c.place h, tt);
+      credit = (right_at HasRightCredit HasCredit rights ids c.place h, tt);
     };
     moves = λ e. absurd (omega (arith, e));
   },
@@ -63,23 +47,6 @@ failed_due act ids same = ap (λ xs. due_failed xs act.cont) (sym same) ∙ sym 
 
 -- ---- what is given up
 
-managed_credit : (ids : List Id) → AllByRecursion HasRightCredit ids → AllByRecursion HasCredit (filter is_managed ids)
-managed_credit [] h = tt
-managed_credit (id ∷ ids) h = elim (cases_Bool (is_managed id)) [
-  | inl t ↦ rw t (has_credit id.kind id.log (is_least id.kind t) h.0, managed_credit ids h.1)
-  | inr f ↦ rw f (managed_credit ids h.1)
-]
-
-remove_few : (ids : List Id) (i : ℕ) → length (remove ids i) ≤ length ids
-remove_few [] zero = omega arith
-remove_few [] (suc i) = omega arith
-remove_few (id ∷ ids) zero = omega arith
-remove_few (id ∷ ids) (suc i) = omega (arith, remove_few ids i)
-
-left_few : (ids : List Id) (cont : Option Cont) → length (unanswered ids cont) ≤ length ids
-left_few ids None = omega arith
-left_few ids (Some c) = remove_few ids c.place
-
 pub credit_right : (ids : List Id) → AllByRecursion HasCredit ids → AllByRecursion HasRightCredit ids
 credit_right [] h = tt
 credit_right (id ∷ ids) h = (right id.log h.0, credit_right ids h.1)
@@ -88,17 +55,6 @@ credit_right (id ∷ ids) h = (right id.log h.0, credit_right ids h.1)
     right None e = absurd e
     right (Some l) e = e
 
-pub ups_few : (s : State) (a : Act) (makes : ℕ) (ids : List Id)
-    → length (ups_failed s a makes ids) ≤ length (action_ids s a ids) + length (halves_ahead s a makes ids)
-ups_few s a makes ids =
-    omega (
-      arith,
-      length-filter is_managed (unanswered (action_ids s a ids) a.cont ++ halves_ahead s a makes ids),
-      count_by-le-length is_managed (unanswered (action_ids s a ids) a.cont ++ halves_ahead s a makes ids),
-      length-append (unanswered (action_ids s a ids) a.cont) (halves_ahead s a makes ids),
-      left_few (action_ids s a ids) a.cont,
-    )
-
 module _ (s : State) (a : Act) (makes : ℕ) (ids : List Id)
     (action : AllByRecursion HasRightCredit (action_ids s a ids)) (halves : AllByRecursion HasCredit (halves_ahead s a makes ids)) where
   rest_right : AllByRecursion HasRightCredit (unanswered (action_ids s a ids) a.cont ++ halves_ahead s a makes ids)
@@ -106,7 +62,7 @@ module _ (s : State) (a : Act) (makes : ℕ) (ids : List Id)
       (all_unanswered HasRightCredit (action_ids s a ids) a.cont action) (credit_right (halves_ahead s a makes ids) halves)
 
   pub ups_credit : AllByRecursion HasCredit (ups_failed s a makes ids)
-  ups_credit = managed_credit (unanswered (action_ids s a ids) a.cont ++ halves_ahead s a makes ids) rest_right
+  ups_credit = managed_has HasRightCredit HasCredit rights (unanswered (action_ids s a ids) a.cont ++ halves_ahead s a makes ids) rest_right
 
   pub due_right : AllByRecursion HasRightCredit (flat_map ids_due (due_failed (action_ids s a ids) a.cont))
   due_right = due_credit (due_failed (action_ids s a ids) a.cont) (failed_fit (action_ids s a ids) a.cont action)

@@ -1,23 +1,6 @@
 -- A failure is planned before the last id is in the hand.
-use Rattle.std.proofs.Common.{ℕ, Bool, List, [], ◌∷◌, ◌≡◌, ◌≤◌, ◌<◌, ◌+◌, Option, Some, None, drop, set, length, refl, sym, ap, ◌∙◌, arith, inl, inr, subst}
-use Rattle.std.specs.Prelude.{Result, Ok, Err, IfOk}
-use Rattle.std.specs.List.{find, slice_get, AllByRecursion}
-use Rattle.std.proofs.lemmas.Bool.{cases_Bool}
-use Rattle.std.proofs.lemmas.List.{drop-set-lt, length-set}
-use Rattle.hpx_value.specs.Laws.{KeepsLaws}
-use Rattle.hpx_value.specs.declared.acts.Job.{Job}
-use Rattle.hpx_journal.specs.Data.{Id, Outcome}
-use Rattle.hpx_commit.specs.Failures.{action_ids, state_failed, due_failed, ups_failed}
-use Rattle.hpx_commit.specs.declared.plan.Plan.{Plan}
-use Rattle.hpx_node.specs.Fails.{ups_left, IsFailure}
-use Rattle.hpx_steps.specs.Rest.{IsPaused, IsTidy}
-use Rattle.hpx_tables.specs.declared.pending.Asked.{Asked}
-use Rattle.hpx_tables.specs.Pending.{Waits, ids_named, is_asked_for, put_for, hand_with, Refills}
-use Rattle.hpx_tables.specs.Tables.{Tables}
-use Rattle.hpx_tables.proofs.Alls.{some_same}
-use Rattle.hpx_node.proofs.FailedFew.{ups_limit}
-use Rattle.hpx_node.proofs.HandLeft.{long_enough}
-use Rattle.hpx_steps.proofs.Recommit.{hand_long}
+use Rattle.hpx_node.proofs.Common.{AllByRecursion, Asked, Bool, Err, Id, IfOk, IsFailure, IsPaused, IsTidy, Job, KeepsLaws, List, None, Ok, Option, Outcome, Plan, Refills, Result, Some, Tables, Waits, [], action_ids, ap, arith, cases_Bool, drop, drop-set-lt, due_failed, find, hand_long, hand_with, ids_named, inl, inr, is_asked_for, length, length-set, put_for, refl, set, slice_get, some_same, state_failed, subst, sym, ups_failed, ups_left, ℕ, ◌+◌, ◌<◌, ◌∙◌, ◌∷◌, ◌≡◌, ◌≤◌}
+use Rattle.hpx_node.proofs.HandLeft.{HasLeft, has_left}
 use Rattle.hpx_node.proofs.Paused.{commit_of, paused_at}
 
 all_found : {X : Type 0} (P : X → Type 0) (p : X → Bool) (xs : List X) (x : X) → AllByRecursion P xs → find p xs ≡ Some x → P x
@@ -41,14 +24,15 @@ module _ (t : Tables) (i : ℕ) (w : Waits) (id : Id) (entry : ℕ) (tidy : IsTi
   put_rest (Some ask) e = drop-set-lt (length (ids_named w)) w.hand ask.place id
       (all_found (λ (x : Asked). x.place < length (ids_named w)) (is_asked_for w id entry) w.asked ask paused.within e)
 
+  left : HasLeft w (hand_with id entry w)
+  left = has_left t.profile.credit_log w (hand_with id entry w) paused.job paused.split (put_rest (find (is_asked_for w id entry) w.asked) refl)
+
   pub plan_long : length w.job.state.ids + length w.job.action.ids + length w.outcome.makes ≤ length (hand_with id entry w)
-  plan_long = long_enough w (hand_with id entry w) paused.job paused.split.made paused.split.kinds paused.split.bare paused.split.within
-      (put_rest (find (is_asked_for w id entry) w.asked) refl ∙ paused.split.rest)
+  plan_long = left.long
       (omega (arith, put_long (find (is_asked_for w id entry) w.asked), hand_long t.here t.localities w (commit_of t.here t.localities t.profile.credit_log t.objects w paused)))
 
   pub plan_limit : (n : ℕ) → KeepsLaws n w.job.kind w.job.at w.job.state w.job.action w.outcome → length (ups_left (record w { hand = hand_with id entry w })) ≤ 226
-  plan_limit n laws = ups_limit n w (hand_with id entry w) paused.job paused.split.made paused.split.kinds paused.split.bare paused.split.within
-      (put_rest (find (is_asked_for w id entry) w.asked) refl ∙ paused.split.rest) laws
+  plan_limit n laws = left.limit n laws
 
 -- it is that of the commit once the id is in its hand
 pub failure_then : (w w' : Waits) (id : Id) (entry : ℕ) (p : Plan) → Refills id entry w w' → IsFailure (record w { hand = hand_with id entry w }) p → IsFailure w' p

@@ -1,30 +1,7 @@
 -- An action whose failure was planned before its commit's last answer came fails with it.
-use Rattle.std.proofs.Common.{ℕ, zero, suc, Bool, true, false, cond, List, [], ◌∷◌, ◌≡◌, ◌==◌, ◌⊎◌, Option, Some, None, set, length, refl, sym, ap, ◌∙◌, arith, subst}
-use Rattle.std.specs.Prelude.{◌||◌, is_some}
-use Rattle.std.specs.List.{find, slice_get, remove}
-use Rattle.std.proofs.lemmas.Bool.{eqb-true}
-use Rattle.hpx_value.specs.Ids.{bare}
-use Rattle.hpx_value.specs.Values.{bare_state}
-use Rattle.hpx_parcel.specs.Parcels.{HasCredit}
-use Rattle.hpx_journal.specs.Data.{Id, Parcel, Apply, Return, Ask, Give, Cached, Move, Go, Shipped, Arrived, Free}
-use Rattle.hpx_journal.specs.Entries.{target_of}
-use Rattle.hpx_journal.specs.Local.{is_standing}
-use Rattle.hpx_journal.proofs.Same.{and_true}
-use Rattle.hpx_part.proofs.Keyed.{slice_get_less}
-use Rattle.hpx_commit.specs.Deals.{log_of}
-use Rattle.hpx_node.specs.declared.node.fail.Failing.{Failing}
-use Rattle.hpx_steps.specs.Left.{IsLeftFailed}
-use Rattle.hpx_steps.specs.Paused.{HasSplit, IsCommit}
-use Rattle.hpx_steps.specs.Rest.{IsPaused, IsTidy}
-use Rattle.hpx_steps.proofs.Refilled.{still_commit, still_split}
-use Rattle.hpx_node.specs.Fails.{MustFail, IsFailure, IsFailing, IsFailingFor, failed_remains}
+use Rattle.hpx_node.proofs.Common.{Apply, Arrived, Ask, Asked, Bool, Cached, Failing, Free, Give, Gives, Go, HasCredit, HasSplit, Id, IsCommit, IsFailing, IsFailingFor, IsFailure, IsLeftFailed, IsPaused, IsTidy, List, Move, MustFail, None, Option, Parcel, Refills, Return, Shipped, Some, Tables, Waits, [], and_true, ap, arith, awaits, bare, bare_state, cond, eqb-true, failed_remains, false, find, is_asked_for, is_some, is_standing, length, log_of, refl, remove, set, slice_get, slice_get_less, some_same, still_commit, still_split, subst, suc, sym, target_of, true, zero, ℕ, ◌==◌, ◌||◌, ◌∙◌, ◌∷◌, ◌≡◌, ◌⊎◌}
 use Rattle.hpx_node.proofs.LeftFailed.{left_failed}
 use Rattle.hpx_node.proofs.Paused.{commit_of, paused_at}
-use Rattle.hpx_tables.specs.declared.pending.Asked.{Asked}
-use Rattle.hpx_tables.specs.Pending.{Waits, awaits, is_asked_for, Refills}
-use Rattle.hpx_steps.specs.Calls.{Gives}
-use Rattle.hpx_tables.specs.Tables.{Tables}
-use Rattle.hpx_tables.proofs.Alls.{some_same}
 use Rattle.hpx_node.proofs.Continued.{any_at, first_same, get_set}
 use Rattle.hpx_node.proofs.FailedPlan.{failure_then}
 

@@ -1,11 +1,5 @@
 -- A line is fed.
-use Rattle.std.proofs.Common.{ℕ, cond, ◌∙◌, List, [], ◌∷◌, ◌++◌, ◌≡◌, ap}
-use Rattle.hpx_journal.specs.Data.{Act, Outcome, State}
-use Rattle.hpx_journal.specs.Entries.{line_act}
-use Rattle.hpx_part.specs.Data.{Entry, Name}
-use Rattle.hpx_steps.specs.Mail.{with_act}
-use Rattle.hpx_steps.specs.Rest.{Stands}
-use Rattle.hpx_tables.specs.Tables.{Tables}
+use Rattle.hpx_node.proofs.Common.{Act, Entry, List, Name, Outcome, Stands, State, Tables, [], ap, cond, line_act, with_act, ℕ, ◌++◌, ◌∙◌, ◌∷◌, ◌≡◌}
 
 -- it is accepted at once, where the session stands
 pub accepts_line : (act_of : ℕ → ℕ → ℕ → State → Act → Outcome) (t t' : Tables) (entries : List Entry) (name : Name) (bytes : List ℕ) (n : ℕ)

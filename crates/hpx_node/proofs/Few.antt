@@ -1,13 +1,5 @@
 -- Numbers of frames stay small.
-use Rattle.std.proofs.Common.{ℕ, List, [], ◌∷◌, ◌≤◌, length, length-append, arith, inl, inr}
-use Rattle.std.proofs.lemmas.Bool.{eq-eqb, ne_eqb, cases_eq}
-use Rattle.hpx_journal.specs.Data.{Id, Due}
-use Rattle.hpx_journal.specs.Entries.{Rules}
-use Rattle.hpx_journal.specs.Whole.{part}
-use Rattle.hpx_journal.specs.Laws.{outs, outs_by}
-use Rattle.hpx_part.specs.Data.{Event, Entry, Out}
-use Rattle.hpx_tables.specs.Tables.{Tables}
-use Rattle.hpx_steps.specs.Rest.{StandsWith}
+use Rattle.hpx_node.proofs.Common.{Due, Entry, Event, Id, List, Out, Rules, StandsWith, Tables, [], arith, cases_eq, eq-eqb, inl, inr, length, length-append, ne_eqb, outs, outs_by, part, ℕ, ◌∷◌, ◌≤◌}
 
 outs_one : (k : ℕ) (e : Event) → length (outs_by k e) ≤ 1
 outs_one k (Out to bytes) = omega arith

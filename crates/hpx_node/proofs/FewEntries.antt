@@ -1,15 +1,5 @@
 -- A message that is dealt with writes few entries.
-use Rattle.std.proofs.Common.{ℕ, suc, List, [], ◌∷◌, ◌++◌, ◌≡◌, ◌+◌, ◌≤◌, Option, Some, None, length, length-append, refl, ap, arith, inl, inr, subst}
-use Rattle.std.specs.List.{find, AllByRecursion}
-use Rattle.std.proofs.lemmas.Bool.{cases_Bool}
-use Rattle.hpx_journal.specs.Data.{Id, Parcel, Return, Ask, Free}
-use Rattle.hpx_journal.specs.Local.{is_standing}
-use Rattle.hpx_part.specs.Data.{Entry, Event, Standing}
-use Rattle.hpx_part.specs.Parts.{at_all}
-use Rattle.hpx_tables.specs.Fit.{IsKept}
-use Rattle.hpx_tables.specs.Tables.{Tables}
-use Rattle.hpx_steps.specs.Rest.{IsTidy}
-use Rattle.hpx_steps.specs.Calls.{effects, returned, freed}
+use Rattle.hpx_node.proofs.Common.{AllByRecursion, Ask, Entry, Event, Free, Id, IsKept, IsTidy, List, None, Option, Parcel, Return, Some, Standing, Tables, [], ap, arith, at_all, cases_Bool, effects, find, freed, inl, inr, is_standing, length, length-append, refl, returned, subst, suc, ℕ, ◌++◌, ◌+◌, ◌∷◌, ◌≡◌, ◌≤◌}
 use Rattle.hpx_node.proofs.PlanWeights.{ups_few}
 
 returned_few : (t : Tables) (id : Id) (log : Option ℕ) → length (returned t id log) ≤ 1

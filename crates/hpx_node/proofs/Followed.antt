@@ -1,42 +1,10 @@
 -- What follows a message that is dealt with, and what it writes.
-use Rattle.std.proofs.Common.{ℕ, zero, suc, Bool, true, false, List, [], ◌∷◌, ◌++◌, ◌≡◌, ◌+◌, ◌==◌, ◌&&◌, ◌⊎◌, not, Option, Some, None, take, set, length, append-nil, get_or, refl, sym, ap, ◌∙◌, arith, inl, inr, subst}
-use Rattle.std.specs.Prelude.{◌||◌, is_some}
-use Rattle.std.specs.List.{find, slice_get, remove}
-use Rattle.std.proofs.lemmas.Bool.{cases_Bool, eq-eqb, ne_eqb}
-use Rattle.hpx_value.specs.Laws.{KeepsLaws}
-use Rattle.hpx_value.specs.Values.{bare_act, bare_state, message_of, named}
-use Rattle.hpx_parcel.specs.Parcels.{HasCredit, IsParcel}
-use Rattle.hpx_journal.specs.Data.{Id, State, Act, Outcome, Parcel, Apply, Return, Ask, Give, Cached, Move, Go, Shipped, Arrived, Free}
-use Rattle.hpx_journal.specs.Entries.{Rules}
-use Rattle.hpx_part.specs.Data.{Event, Entry, Standing}
-use Rattle.hpx_commit.specs.Deals.{log_of}
-use Rattle.hpx_tables.specs.Awaited.{answered_by}
-use Rattle.hpx_tables.specs.declared.pending.Asked.{Asked as AskedFor}
-use Rattle.hpx_tables.specs.Pending.{Waits, awaits, is_asked_for}
-use Rattle.hpx_tables.specs.Strange.{brings_right, broken_near}
-use Rattle.hpx_tables.specs.Tables.{Tables}
-use Rattle.hpx_tables.proofs.Alls.{some_same}
-use Rattle.hpx_steps.specs.Calls.{Gives, effects, with_left}
-use Rattle.hpx_steps.specs.Rest.{IsTidy, rules_of}
-use Rattle.hpx_steps.specs.Steps.{HasInHand}
-use Rattle.hpx_steps.specs.Turn.{Turn}
-use Rattle.hpx_steps.proofs.Handled.{Leads, given_waits}
-use Rattle.hpx_steps.proofs.Resumed.{given_event, given_fails, in_hand}
-use Rattle.hpx_node.specs.declared.node.fail.Failing.{Failing}
-use Rattle.hpx_node.specs.declared.node.next.Next.{Next}
-use Rattle.hpx_node.specs.declared.node.next.Next.TheVariants as nexts
-use Rattle.hpx_node.specs.declared.node.resume.Ready.{Ready}
-use Rattle.hpx_node.specs.Changes.{Writes}
-use Rattle.hpx_node.specs.Commits.{committed_from, Commits}
-use Rattle.hpx_node.specs.Fails.{Fails, IsFailing, fails_first, dooms, due_left, failed_events, failed_remains, state_left, ups_left}
-use Rattle.hpx_node.specs.Next.{IsNext, MayFollow, IfFollows, HasFollowed, Continues}
-use Rattle.hpx_node.specs.Resumes.{full_stock, is_last, completes, IsReady, MayResume}
+use Rattle.hpx_node.proofs.Common.{Act, Apply, Arrived, Ask, AskedFor, Bool, Cached, Commits, Continues, Entry, Event, Failing, Fails, Free, Give, Gives, Go, HasCredit, HasFollowed, HasInHand, Id, IfFollows, IsFailing, IsNext, IsParcel, IsReady, IsTidy, KeepsLaws, Leads, List, MayFollow, MayResume, Move, Next, None, Option, Outcome, Parcel, Ready, Return, Rules, Shipped, Some, Standing, State, Tables, Turn, Waits, Writes, [], answered_by, ap, append-nil, arith, awaits, bare_act, bare_state, brings_right, broken_near, cases_Bool, committed_from, completes, dooms, due_left, effects, eq-eqb, failed_events, failed_remains, fails_first, false, find, full_stock, get_or, give_right, given_event, given_fails, given_waits, in_hand, inl, inr, is_asked_for, is_last, is_some, length, log_of, message_of, named, ne_eqb, not, refl, remove, rules_of, set, slice_get, some_same, state_left, subst, suc, sym, take, true, ups_left, with_left, zero, ℕ, ◌&&◌, ◌++◌, ◌+◌, ◌==◌, ◌||◌, ◌∙◌, ◌∷◌, ◌≡◌, ◌⊎◌}
 use Rattle.hpx_node.proofs.Continued.{IsGiven, after_is, any_at, less_long, may_after, may_given, none_then, now_there, only_give, same_place, waits_inside}
-use Rattle.hpx_node.proofs.FailsThen.{found_then, given, left, must_then, only_fails, plan_then, refused}
-use Rattle.hpx_node.proofs.FailsThen.{same_place as fails_place, now_there as fails_there}
+use Rattle.hpx_node.proofs.FailsThen.{found_then, given, left, must_then, only_fails, plan_then, refused, same_place as fails_place, now_there as fails_there}
 use Rattle.hpx_node.proofs.GoesOn.{goes_leads}
 use Rattle.hpx_node.proofs.ReadyStock.{brings_by}
-use Rattle.hpx_steps.proofs.Right.{give_right}
+use Rattle.hpx_node.specs.declared.node.next.Next.TheVariants as nexts
 
 -- what follows, what it writes, and that it leads back to rest
 pub record IsContinued (r : Rules) (s : Turn) (effects : List Event) (p : Parcel) (t mid t' : Tables) (entries entries' : List Entry) : Type 0 where

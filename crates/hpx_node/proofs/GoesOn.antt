@@ -1,39 +1,11 @@
 -- A commit that waited goes on with its last credit: what it does leads back to rest.
-use Rattle.std.proofs.Common.{ℕ, true, false, List, [], ◌∷◌, ◌++◌, ◌≡◌, ◌+◌, ◌≤◌, Option, None, map, take, drop, set, length, length-append, append_assoc, take-append-drop, sym, ap, ◌∙◌, arith, subst}
-use Rattle.std.specs.List.{AllByRecursion, remove}
-use Rattle.std.proofs.lemmas.List.{length-drop, length-take}
-use Rattle.hpx_value.specs.Laws.{KeepsLaws}
-use Rattle.hpx_value.specs.Values.{bare_act, bare_state, message_of, named}
-use Rattle.hpx_parcel.specs.Parcels.{HasCredit}
-use Rattle.hpx_journal.specs.Data.{Id, State, Act, Outcome, Parcel, Give}
-use Rattle.hpx_journal.specs.Entries.{Rules, name_of}
-use Rattle.hpx_part.specs.Data.{Done, Event, Standing}
-use Rattle.hpx_commit.specs.Deals.{unnamed}
-use Rattle.hpx_commit.specs.Stocks.{Stock}
-use Rattle.hpx_tables.proofs.Alls.{some_same}
-use Rattle.hpx_tables.specs.Births.{birth_of, births_of}
-use Rattle.hpx_tables.specs.Pending.{Waits, ids_named}
-use Rattle.hpx_tables.specs.Splits.{splits_from}
-use Rattle.hpx_tables.specs.Strange.{brings_right}
-use Rattle.hpx_tables.specs.Tables.{Tables}
-use Rattle.hpx_steps.specs.Calls.{Gives, ups, written_due}
-use Rattle.hpx_steps.specs.Paused.{HasSplit, IsCommit}
-use Rattle.hpx_steps.specs.Rest.{IsPaused, IsTidy, rules_of}
-use Rattle.hpx_steps.specs.Steps.{HasInHand}
-use Rattle.hpx_steps.proofs.Handled.{Leads}
-use Rattle.hpx_steps.proofs.Recommit.{hand_long}
-use Rattle.hpx_steps.proofs.Refilled.{still_commit, still_split}
-use Rattle.hpx_steps.proofs.Resumed.{given_done, given_event, in_hand}
-use Rattle.hpx_node.specs.declared.node.finish.Prepared.{Prepared}
-use Rattle.hpx_node.specs.Commits.{Commits, IsStock, committed_from, committed_to, due_dealt, made_of, remains}
-use Rattle.hpx_node.specs.Resumes.{MayResume, full_stock}
-use Rattle.hpx_node.proofs.FullStock.{replaced_split}
-use Rattle.hpx_node.proofs.HandLeft.{later_none, long_enough}
+use Rattle.hpx_node.proofs.Common.{Act, AllByRecursion, Commits, Done, Event, Give, Gives, HasCredit, HasInHand, HasSplit, Id, IsCommit, IsPaused, IsStock, IsTidy, KeepsLaws, Leads, List, MayResume, None, Option, Outcome, Parcel, Prepared, Rules, Standing, State, Stock, Tables, Waits, [], ap, append_assoc, arith, bare_act, bare_state, birth_of, births_of, brings_right, committed_from, committed_to, drop, due_dealt, false, full_stock, given_done, given_event, hand_long, ids_named, in_hand, length, length-append, length-drop, length-take, made_of, map, message_of, name_of, named, refl, remains, remove, rules_of, set, some_same, splits_from, still_commit, still_split, subst, sym, take, take-append-drop, true, unnamed, ups, written_due, ℕ, ◌++◌, ◌+◌, ◌∙◌, ◌∷◌, ◌≡◌, ◌≤◌}
+use Rattle.hpx_commit.proofs.FullStock.{replaced_split}
+use Rattle.hpx_node.proofs.HandLeft.{has_left}
 use Rattle.hpx_node.proofs.LeftBy.{left_by}
 use Rattle.hpx_node.proofs.Paused.{commit_of, paused_at}
 use Rattle.hpx_node.proofs.PlanWeights.{written_same}
-use Rattle.hpx_node.proofs.Planned.{made_fit}
-use Rattle.hpx_node.proofs.Prepared.{made_long}
+use Rattle.hpx_node.proofs.Planned.{made_fit, made_long}
 use Rattle.hpx_node.proofs.ReadyStock.{brings_by}
 
 module _ (act_of : ℕ → ℕ → ℕ → State → Act → Outcome)
@@ -97,7 +69,7 @@ module _ (act_of : ℕ → ℕ → ℕ → State → Act → Outcome)
   enough : own + length made ≤ length w.hand
   enough = omega (
     arith,
-    long_enough w w.hand its.job split.made split.kinds split.bare split.within split.rest (hand_long t.here t.localities w its),
+    (has_left t.profile.credit_log w w.hand its.job split refl).long (hand_long t.here t.localities w its),
     length-append w.job.state.ids w.job.action.ids,
     many,
   )
@@ -109,7 +81,7 @@ module _ (act_of : ℕ → ℕ → ℕ → State → Act → Outcome)
   later_bare =
       subst (λ k. AllByRecursion (λ (o : Id). o.log ≡ None) (take k (drop own w.hand))) (sym many)
       (subst (λ k. AllByRecursion (λ (o : Id). o.log ≡ None) (take (length w.outcome.makes) (drop k w.hand))) (sym (length-append w.job.state.ids w.job.action.ids))
-      (later_none w w.hand its.job split.made split.kinds split.bare split.within split.rest))
+      (has_left t.profile.credit_log w w.hand its.job split refl).later)
 
   stock_is : full_stock u w ≡ s
   stock_is = replaced_split own made w.hand w.places enough

@@ -1,12 +1,5 @@
 -- Credit that is held at a node: by its tables, and by its tokens.
-use Rattle.std.proofs.Common.{ℕ, List, [], ◌∷◌, ◌++◌, ◌≡◌, ◌+◌, min, map, refl, ap, ◌∙◌, arith}
-use Rattle.std.specs.List.{sum_by}
-use Rattle.std.proofs.lemmas.List.Sums.{sum_by-cons, sum_by-append}
-use Rattle.hpx_journal.specs.Data.{Id, Act, Parcel}
-use Rattle.hpx_part.specs.Data.{Standing}
-use Rattle.hpx_tables.specs.Kept.{credit_in, ids_held}
-use Rattle.hpx_tables.specs.Pending.{Waits}
-use Rattle.hpx_tables.specs.declared.kept.Outgoing.{Outgoing}
+use Rattle.hpx_node.proofs.Common.{Act, Id, List, Outgoing, Parcel, Standing, Waits, [], ap, arith, credit_in, ids_held, map, min, refl, sum_by, sum_by-append, sum_by-cons, ℕ, ◌++◌, ◌+◌, ◌∙◌, ◌∷◌, ◌≡◌}
 
 sum_outgoing : (f : Parcel → ℕ) (xs : List Outgoing) → sum_by f (map (λ (x : Outgoing). x.parcel) xs) ≡ sum_by (λ (x : Outgoing). f x.parcel) xs
 sum_outgoing f [] = refl

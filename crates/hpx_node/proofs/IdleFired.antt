@@ -1,11 +1,6 @@
 -- What is accepted for good is fired, or waits still.
-use Rattle.std.proofs.Common.{ℕ, List, [], ◌∷◌, ◌++◌, ◌≡◌, ◌+◌, ◌≤◌, Option, Some, None, map, refl, arith}
-use Rattle.std.specs.List.{sum_by}
-use Rattle.std.proofs.lemmas.List.Sums.{sum_by-cons}
-use Rattle.hpx_journal.specs.Data.{Parcel}
-use Rattle.hpx_journal.specs.Entries.{Rules}
-use Rattle.hpx_part.specs.Data.{Entry, Event, Line, Fire, Split, Born, Done, Sent, Print, Up, Asked, Given, Count, Freed, Left, Landed, Looked, Mail, Out, In}
-use Rattle.hpx_steps.specs.Rows.{Actions, brings, weight, owes, weighed, goes, causes, hops, sets_out, spends, joins, fires_one, AreFired}
+use Rattle.hpx_node.proofs.Common.{Actions, AreFired, Born, Count, Done, Entry, Event, Fire, Freed, Given, In, Landed, Left, Line, List, Looked, Mail, None, Option, Out, Parcel, Print, Rules, Sent, Some, Split, Up, [], arith, brings, causes, fires_one, goes, hops, joins, map, owes, refl, sets_out, spends, sum_by, sum_by-cons, weighed, weight, ℕ, ◌++◌, ◌+◌, ◌∷◌, ◌≡◌, ◌≤◌}
+use Rattle.hpx_part.specs.Data.{Asked}
 
 -- ---- entry by entry
 

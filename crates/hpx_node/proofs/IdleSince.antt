@@ -1,17 +1,6 @@
 -- From a passive moment on, the entries alone pay.
-use Rattle.std.proofs.Common.{List, [], ◌++◌, ◌≡◌, ◌≤◌, ◌+◌, length, map, subst, refl, ap, ◌∙◌, arith}
-use Rattle.std.specs.List.{sum_by}
-use Rattle.std.proofs.lemmas.List.{map-append}
-use Rattle.std.proofs.lemmas.List.Sums.{sum_by-append}
-use Rattle.hpx_journal.specs.Data.{Parcel}
-use Rattle.hpx_journal.specs.Entries.{Rules}
-use Rattle.hpx_journal.specs.Whole.{part}
+use Rattle.hpx_node.proofs.Common.{Actions, AreFired, Entry, Event, IsPassive, List, Outgoing, Parcel, Row, Rules, StandsWith, Tables, [], ap, arith, causes, goes, hops, length, map, map-append, messages, part, queued, refl, sets_out, spends, subst, sum_by, sum_by-append, unpaid, weight, ◌++◌, ◌+◌, ◌∙◌, ◌≡◌, ◌≤◌}
 use Rattle.hpx_journal.proofs.Grow.{part_append}
-use Rattle.hpx_part.specs.Data.{Entry, Event}
-use Rattle.hpx_tables.specs.declared.kept.Outgoing.{Outgoing}
-use Rattle.hpx_tables.specs.Tables.{Tables, IsPassive, messages}
-use Rattle.hpx_steps.specs.Rows.{Row, Actions, weight, goes, causes, hops, sets_out, spends, AreFired}
-use Rattle.hpx_steps.specs.Rest.{queued, unpaid, StandsWith}
 use Rattle.hpx_steps.proofs.ByRows.{by_rows}
 use Rattle.hpx_node.proofs.IdleFired.{spends_sum, hops_sum, fired_first, fired_last, sum_events}
 

@@ -1,30 +1,15 @@
 -- What a commit leaves that is planned.
-use Rattle.std.proofs.Common.{ℕ, [], ◌≡◌, ◌≤◌, length, map, sym, ap, ◌∙◌}
-use Rattle.hpx_value.specs.Ids.{bare}
-use Rattle.hpx_value.specs.Values.{bare_act, bare_state, message_of, named}
-use Rattle.hpx_value.specs.Hands.{due_of, state_after}
-use Rattle.hpx_value.specs.Laws.{KeepsLaws}
-use Rattle.hpx_value.specs.declared.acts.Job.{Job}
-use Rattle.hpx_journal.specs.Data.{Act, State, Outcome}
-use Rattle.hpx_part.specs.Data.{Standing}
-use Rattle.hpx_commit.specs.Stocks.{Stock}
-use Rattle.hpx_tables.specs.Fit.{IsKept}
-use Rattle.hpx_tables.specs.Jobs.{IsFitJob}
-use Rattle.hpx_tables.specs.Tables.{Tables}
-use Rattle.hpx_steps.specs.Left.{IsLeftBy}
-use Rattle.hpx_steps.specs.Rest.{rules_of}
-use Rattle.hpx_steps.proofs.Dealt.{plan_deals}
-use Rattle.hpx_steps.proofs.Made.{bare_alone}
-use Rattle.hpx_steps.proofs.Work.{halved_from}
-use Rattle.hpx_node.specs.Commits.{IsStock, made_of, remains, state_dealt}
-use Rattle.hpx_node.proofs.BareHands.{blind_of}
-use Rattle.hpx_node.proofs.FilledDue.{due_credit}
+use Rattle.hpx_node.proofs.Common.{Act, HasCredit, HasRightCredit, IsFitDue, IsFitJob, IsKept, IsLeftBy, IsPlanned, IsStock, Job, KeepsLaws, Outcome, Standing, State, Stock, Tables, [], ap, bare, bare_act, bare_alone, bare_due, bare_state, due_of, halved_from, length, made_of, map, message_of, named, plan_deals, remains, rules_of, state_after, state_dealt, sym, ℕ, ◌∙◌, ◌≡◌, ◌≤◌}
+use Rattle.hpx_commit.proofs.BareHands.{blind_of}
 use Rattle.hpx_node.proofs.Plain.{no_ids, plain_values, plain_conts, plain_same}
-use Rattle.hpx_node.proofs.Planned.{outcome_state, outcome_due, due_has, state_has, deals_have, names, state_left, due_left, state_fit, state_paid, due_may, ups_credit}
+use Rattle.hpx_node.proofs.Planned.{due_credit, planned_of}
 
 module _ (t : Tables) (job : Job) (out : Outcome) (fit : IsFitJob job) (few : t.localities ≤ 64)
     (laws : KeepsLaws t.localities job.kind job.at job.state job.action out) (s : Stock) (is : IsStock t job out s)
     (x : Standing) (kept : IsKept x) (kind : x.object.kind ≡ job.kind) (state : x.state ≡ bare_state job.state) where
+  plan : IsPlanned HasRightCredit HasCredit IsFitDue bare_due job.state job.action (made_of t out) out s
+  plan = planned_of t job out fit few laws s is
+
   -- a plain object keeps nothing
   plain : x.object.kind ≡ 7 → (job.state.values ≡ []) × (job.state.conts ≡ [])
   plain e = (ap (λ (s : State). s.values) (sym state) ∙ (kept.plain e).0, ap (λ (s : State). s.conts) (sym state) ∙ (kept.plain e).1)
@@ -32,7 +17,7 @@ module _ (t : Tables) (job : Job) (out : Outcome) (fit : IsFitJob job) (few : t.
   pub kept_then : IsKept (record { object = x.object; state = state_dealt t job out s })
   kept_then = record {
     kind = kept.kind;
-    state = state_fit t job out fit few laws s is;
+    state = plan.state_fit;
     plain = λ e. let none = plain e in (
       plain_values t job out fit few laws s is (sym kind ∙ e) none.0 none.1,
       plain_conts t job out fit few laws s is (sym kind ∙ e) none.0 none.1,
@@ -49,15 +34,14 @@ module _ (t : Tables) (job : Job) (out : Outcome) (fit : IsFitJob job) (few : t.
         ∙ (ap (λ k. act_of t.localities k job.at (bare_state job.state) (bare_act job.action)) (sym kind)
         ∙ (ap (λ k. act_of t.localities x.object.kind k (bare_state job.state) (bare_act job.action)) at
         ∙ ap (λ u. act_of t.localities x.object.kind t.here u (bare_act job.action)) (sym state))));
-    says = state_left t job out fit few laws s is ∙ ap (λ u. state_after u (bare_act job.action) (map bare (made_of t out)) out) (sym state);
-    leaves = due_left t job out fit few laws s is ∙ ap (λ u. due_of u (bare_act job.action) (map bare (made_of t out)) out) (sym state);
+    says = plan.state_left ∙ ap (λ u. state_after u (bare_act job.action) (map bare (made_of t out)) out) (sym state);
+    leaves = plan.due_left ∙ ap (λ u. due_of u (bare_act job.action) (map bare (made_of t out)) out) (sym state);
     kept = kept_then;
     plain = λ e. let none = plain e in
         plain_same t job out fit few laws s is (sym kind ∙ e) none.0 none.1 ∙ (sym (bare_alone job.state (no_ids job.state fit.state none.0 none.1)) ∙ sym state);
-    credit = state_paid t job out fit few laws s is;
-    fits = due_may t job out fit few laws s is;
-    given_up = ups_credit t job out fit few laws s is;
-    deals = plan_deals s.hand s.places (outcome_state t job out fit few laws) (outcome_due t job out fit few laws) is.names.within is.credit
-        (state_has t job out fit few laws) (due_credit (outcome_due t job out fit few laws) (due_has t job out fit few laws))
-        (deals_have t job out fit few laws s is) (names t job out fit few laws s is);
+    credit = plan.state_has;
+    fits = plan.due_may;
+    given_up = plan.ups_has;
+    deals = plan_deals s.hand s.places (state_after job.state job.action (made_of t out) out) (due_of job.state job.action (made_of t out) out) is.names.within
+        is.credit plan.state_had (due_credit (due_of job.state job.action (made_of t out) out) plan.due_had) plan.deals plan.names;
   }

@@ -1,25 +1,8 @@
 -- What an action leaves that fails: its object keeps its state and has its credits again, and the rest is due or given up.
-use Rattle.std.proofs.Common.{ℕ, Bool, true, false, cond, List, [], ◌≡◌, ◌<◌, ◌==◌, map, take, length, refl, sym, ap, ◌∙◌, arith}
-use Rattle.std.specs.List.{AllByRecursion, count_by}
-use Rattle.hpx_value.specs.Ids.{bare}
-use Rattle.hpx_value.specs.Values.{bare_state}
-use Rattle.hpx_value.specs.Hands.{id_at}
-use Rattle.hpx_parcel.specs.Parcels.{HasCredit, HasRightCredit}
-use Rattle.hpx_journal.specs.Data.{Id, State}
-use Rattle.hpx_part.specs.Data.{Standing}
-use Rattle.hpx_commit.specs.Failures.{action_ids, halves_ahead}
-use Rattle.hpx_tables.specs.Fit.{IsKept}
-use Rattle.hpx_tables.specs.declared.pending.Asked.{Asked}
-use Rattle.hpx_tables.specs.Pending.{Waits, ids_named, is_asked}
-use Rattle.hpx_steps.specs.Left.{IsLeftFailed}
-use Rattle.hpx_steps.specs.Paused.{IsCommit, HasSplit}
-use Rattle.hpx_steps.proofs.Dealt.{fail_deals}
-use Rattle.hpx_steps.proofs.Made.{bare_alone}
-use Rattle.hpx_node.specs.Fails.{state_left, failed_remains}
+use Rattle.hpx_node.proofs.Common.{AllByRecursion, Asked, Bool, HasCredit, HasRightCredit, HasSplit, Id, IsCommit, IsKept, IsLeftFailed, List, Standing, State, Waits, [], action_ids, ap, arith, bare, bare_alone, bare_state, both_right, both_same, cond, count_by, fail_deals, failed_remains, false, halves_ahead, id_at, ids_named, is_asked, is_managed, is_some, length, length-map, map, not, refl, state_filled, state_left, sym, take, true, ℕ, ◌&&◌, ◌<◌, ◌==◌, ◌∙◌, ◌≡◌}
 use Rattle.hpx_node.proofs.FailedDue.{credit_right, due_right, failed_due, failed_fit, ups_credit}
-use Rattle.hpx_node.proofs.FilledDue.{state_filled}
-use Rattle.hpx_node.proofs.HandLeft.{action_right, halves_credit, later_none, same_names, state_right}
-use Rattle.hpx_node.proofs.LaterIds.{long_names}
+use Rattle.hpx_node.proofs.HandLeft.{HasLeft, has_left}
+use Rattle.hpx_node.proofs.Planned.{none_of, rights}
 use Rattle.hpx_node.proofs.Plain.{no_ids}
 
 -- what was asked for was given
@@ -31,17 +14,21 @@ module _ (k n log : ℕ) (w : Waits) (its : IsCommit k n w) (split : HasSplit lo
   pub given : (p : ℕ) → p < length (ids_named w) → is_asked (id_at w.hand p) ≡ false
   given p lt = none_left p w.asked (is_asked (id_at w.hand p)) none (its.once p lt)
 
-  credits : AllByRecursion HasRightCredit (state_left w).ids
-  credits = state_right w log its.job split its.hand given
+  left : HasLeft w w.hand
+  left = has_left log w w.hand its.job split refl
 
-  actions : AllByRecursion HasRightCredit (action_ids w.job.state w.job.action w.hand)
-  actions = action_right w log its.job split its.hand given
-
-  halves : AllByRecursion HasCredit (halves_ahead w.job.state w.job.action (length w.outcome.makes) w.hand)
-  halves = halves_credit w w.hand its.job split.made split.kinds split.bare split.within split.rest
+  credits : AllByRecursion HasRightCredit (state_left w).ids × AllByRecursion HasRightCredit (action_ids w.job.state w.job.action w.hand)
+  credits = both_right HasRightCredit HasCredit rights w.job.state w.job.action w.outcome its.job.credit its.job.action.sent.credit w.hand split.made split.kinds
+      (none_of split.made split.bare) split.within split.rest its.hand split.own (λ p lt. has_some (is_managed (id_at w.hand p)) (is_some (id_at w.hand p).log) (given p lt))
+    where
+      has_some : (b c : Bool) → (b && not c) ≡ false → b ≡ true → c ≡ true
+      has_some true true e t = refl
+      has_some true false e t = absurd (cc)
+      has_some false c e t = absurd (cc)
 
   names : (map bare (state_left w).ids ≡ map bare w.job.state.ids) × (map bare (action_ids w.job.state w.job.action w.hand) ≡ map bare w.job.action.ids)
-  names = same_names w log its.job split its.hand given
+  names = both_same HasRightCredit HasCredit rights w.job.state w.job.action w.outcome its.job.credit its.job.action.sent.credit w.hand split.made split.kinds
+      (none_of split.made split.bare) split.within split.rest its.hand
 
   module _ (x : Standing) (kept : IsKept x) (state : x.state ≡ bare_state w.job.state) where
     plain : x.object.kind ≡ 7 → (w.job.state.values ≡ []) × (w.job.state.conts ≡ [])
@@ -54,19 +41,19 @@ module _ (k n log : ℕ) (w : Waits) (its : IsCommit k n w) (split : HasSplit lo
       kept = record {
         kind = kept.kind;
         state = state_filled w.job.state (state_left w).ids
-            (omega (arith, ap (λ (ids : List Id). length ids) names.0, long_names (state_left w).ids, long_names w.job.state.ids)) its.job.state;
+            (omega (arith, ap (λ (ids : List Id). length ids) names.0, length-map (state_left w).ids bare, length-map w.job.state.ids bare)) its.job.state;
         plain = plain;
       };
       plain = λ e.
           let no : w.job.state.ids ≡ [] = no_ids w.job.state its.job.state (plain e).0 (plain e).1 in
-          let left : (state_left w).ids ≡ w.job.state.ids = ap (λ (ids : List Id). take (length ids) w.hand) no ∙ sym no in
-          ap (λ ids. record { drawn = w.job.state.drawn; values = w.job.state.values; conts = w.job.state.conts; ids = ids }) left
+          let ids : (state_left w).ids ≡ w.job.state.ids = ap (λ (ids : List Id). take (length ids) w.hand) no ∙ sym no in
+          ap (λ ids. record { drawn = w.job.state.drawn; values = w.job.state.values; conts = w.job.state.conts; ids = ids }) ids
           ∙ (sym (bare_alone w.job.state no) ∙ sym state);
-      credit = credits;
-      fits = failed_fit (action_ids w.job.state w.job.action w.hand) w.job.action.cont actions;
-      given_up = ups_credit w.job.state w.job.action (length w.outcome.makes) w.hand actions halves;
-      deals = fail_deals w.job.state w.job.action (length w.outcome.makes) w.hand credits actions
-          (credit_right (halves_ahead w.job.state w.job.action (length w.outcome.makes) w.hand) halves)
-          (due_right w.job.state w.job.action (length w.outcome.makes) w.hand actions halves)
-          (later_none w w.hand its.job split.made split.kinds split.bare split.within split.rest);
+      credit = credits.0;
+      fits = failed_fit (action_ids w.job.state w.job.action w.hand) w.job.action.cont credits.1;
+      given_up = ups_credit w.job.state w.job.action (length w.outcome.makes) w.hand credits.1 left.halves;
+      deals = fail_deals w.job.state w.job.action (length w.outcome.makes) w.hand credits.0 credits.1
+          (credit_right (halves_ahead w.job.state w.job.action (length w.outcome.makes) w.hand) left.halves)
+          (due_right w.job.state w.job.action (length w.outcome.makes) w.hand credits.1 left.halves)
+          left.later;
     }

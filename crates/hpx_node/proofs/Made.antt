@@ -1,8 +1,5 @@
 -- Objects are made one after another.
-use Rattle.std.proofs.Common.{List, refl, ap, ◌∙◌}
-use Rattle.hpx_tables.specs.declared.births.Birth.{Birth}
-use Rattle.hpx_tables.specs.Births.{Makes}
-use Rattle.hpx_tables.specs.Tables.{Tables}
+use Rattle.hpx_node.proofs.Common.{Birth, List, Makes, Tables, ap, refl, ◌∙◌}
 
 pub makes_none : (xs : List Birth) (t : Tables) → Makes xs xs t t
 makes_none xs t = record { rest = refl; objects = refl; records = refl; births = refl }

@@ -1,33 +1,10 @@
 -- What a node's tables tell, by what stands at its locality.
-use Rattle.std.proofs.Common.{ℕ, Bool, true, false, cond, List, [], ◌∷◌, ◌++◌, ◌≡◌, ◌≤◌, ◌^◌, Option, Some, None, map, refl, sym, ap, ◌∙◌, subst, arith, inl, inr, zero-add}
-use Rattle.std.specs.Prelude.{flat_map, ◌-◌, ◌==◌, is_some}
-use Rattle.std.specs.List.{sum_by, count_by, find, AllByRecursion}
-use Rattle.std.proofs.lemmas.Bool.{cases_Bool}
-use Rattle.std.proofs.lemmas.List.Sums.{sum_by-cons, sum_by-append}
-use Rattle.hpx_value.specs.Hands.{session}
-use Rattle.hpx_value.specs.Values.{bare_act}
-use Rattle.hpx_value.specs.Ids.{same_object, credit, credit_of_log}
+use Rattle.hpx_node.proofs.Common.{Act, Agree-sum, AllByRecursion, Apply, Arrived, Ask, Bool, Cached, Free, Give, Go, HasRightCredit, Id, IsBare, IsParcel, IsPassive, IsTidy, List, Local, Move, None, Option, Outgoing, Parcel, Return, Shipped, Some, Standing, Tables, Travel, Waits, [], action_of, acts_in, ap, arith, awaited_at, awaited_here, bare_act, bare_standing, cases_Bool, cond, count_by, credit, credit_in, credit_of_log, credit_owed, drawn_by, false, find, flat_map, held-Counts, held_here, held_worth, ids_held, inl, inr, is_act, is_answer, is_busy, is_some, is_standing, map, messages, name_of, names, owed_here, owed_worth, parcel_tokens, refl, same_object, same_object-through, same_token-true, session, stands_here, subst, sum_by, sum_by-append, sum_by-cons, sym, true, view, zero-add, ℕ, ◌++◌, ◌-◌, ◌==◌, ◌^◌, ◌∙◌, ◌∷◌, ◌≡◌, ◌≤◌}
 use Rattle.hpx_parcel.specs.Credits.{credit_list, credits_of}
-use Rattle.hpx_parcel.specs.Parcels.{IsParcel, HasRightCredit, IsBare}
-use Rattle.hpx_journal.specs.Data.{Id, Act, Parcel, Apply, Return, Ask, Give, Cached, Move, Go, Shipped, Arrived, Free}
-use Rattle.hpx_journal.specs.Entries.{name_of}
-use Rattle.hpx_journal.specs.Frames.{acts_in}
-use Rattle.hpx_journal.specs.Local.{is_act, is_standing, is_busy}
-use Rattle.hpx_journal.specs.Names.{names}
 use Rattle.hpx_journal.specs.Tokens.{held, owing, is_held}
-use Rattle.hpx_journal.proofs.Same.{same_object-through, same_token-true, held-Counts}
-use Rattle.hpx_part.specs.Data.{Standing, Travel, Local}
 use Rattle.hpx_part.specs.Shows.{IsWeight, Shows}
 use Rattle.hpx_part.proofs.Covered.{act_names, object_names, due_names}
-use Rattle.hpx_part.proofs.Keyed.{Agree-sum}
 use Rattle.hpx_part.proofs.Keys.{means, own, stood, means_object, own_object}
-use Rattle.hpx_tables.specs.declared.kept.Outgoing.{Outgoing}
-use Rattle.hpx_tables.specs.Awaited.{is_answer, drawn_by, awaited_here, awaited_at}
-use Rattle.hpx_tables.specs.Kept.{stands_here, credit_in, ids_held, credit_owed, held_here, owed_here, held_worth, owed_worth}
-use Rattle.hpx_tables.specs.Pending.{Waits, action_of}
-use Rattle.hpx_tables.specs.Tables.{Tables, IsPassive, messages}
-use Rattle.hpx_steps.specs.Turn.{bare_standing, parcel_tokens}
-use Rattle.hpx_steps.specs.Rest.{view, IsTidy}
 use Rattle.hpx_steps.proofs.Cover.{held_counts, held_each}
 use Rattle.hpx_node.proofs.Sums.{weigh, weigh_append, tokens_sum, view_sum}
 

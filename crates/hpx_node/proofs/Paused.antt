@@ -1,28 +1,6 @@
 -- A commit that waits, by what its tables say.
-use Rattle.std.proofs.Common.{ℕ, zero, suc, Bool, true, false, cond, List, [], ◌∷◌, ◌++◌, ◌≡◌, ◌≤◌, ◌<◌, ◌==◌, Some, take, drop, length, map, append_assoc, refl, sym, ap, ◌∙◌, arith, subst}
-use Rattle.std.specs.List.{AllByRecursion, find, slice_get}
-use Rattle.hpx_value.specs.Laws.{KeepsLaws}
-use Rattle.hpx_value.specs.Shapes.{IsState}
-use Rattle.hpx_value.specs.declared.acts.Job.{Job}
-use Rattle.hpx_parcel.specs.Parcels.{HasRightCredit}
-use Rattle.hpx_journal.specs.Data.{Id, State, Act, Outcome}
-use Rattle.hpx_journal.specs.Entries.{target_of}
-use Rattle.hpx_journal.specs.Local.{acts_on, is_busy, is_standing}
-use Rattle.hpx_part.specs.Data.{Standing}
-use Rattle.hpx_tables.proofs.Alls.{all_at, find_passes}
-use Rattle.hpx_tables.proofs.FreeLemmas.{any_over}
-use Rattle.hpx_part.proofs.Keyed.{split_get}
-use Rattle.hpx_tables.specs.Fit.{IsFit, IsKept}
-use Rattle.hpx_tables.specs.Jobs.{IsFitJob}
-use Rattle.hpx_tables.specs.Kept.{waits_here}
-use Rattle.hpx_tables.specs.declared.pending.Asked.{Asked}
-use Rattle.hpx_tables.specs.Pending.{Waits, action_of}
-use Rattle.hpx_tables.specs.Tables.{Tables}
-use Rattle.hpx_steps.specs.Paused.{Apart, IsCommit}
-use Rattle.hpx_steps.specs.Rest.{IsPaused, IsTidy}
+use Rattle.hpx_node.proofs.Common.{Act, AllByRecursion, Apart, Asked, Bool, HasRightCredit, Id, IsCommit, IsFit, IsFitJob, IsInPlace, IsKept, IsPaused, IsState, IsTidy, Job, KeepsLaws, List, Outcome, Some, Standing, State, Tables, Waits, [], action_of, acts_on, all_at, any_over, ap, append_assoc, arith, cond, drop, false, find, find_passes, hand_long, is_busy, is_standing, length, map, refl, slice_get, split_get, subst, suc, sym, take, target_of, true, waits_here, zero, ℕ, ◌++◌, ◌<◌, ◌==◌, ◌∙◌, ◌∷◌, ◌≡◌, ◌≤◌}
 use Rattle.hpx_steps.proofs.Busy.{apart_alone, busy_parts, busy_same}
-use Rattle.hpx_steps.proofs.Recommit.{hand_long}
-use Rattle.hpx_node.specs.Resumes.{IsInPlace}
 
 pub paused_at : (t : Tables) (i : ℕ) (w : Waits) → IsTidy t [] → slice_get t.pending i ≡ Some w
     → IsPaused t.here t.localities t.profile.credit_log t.objects w

@@ -1,16 +1,6 @@
 -- A commit leaves an object of kind Plain as it was.
-use Rattle.std.proofs.Common.{List, [], ◌∷◌, ◌≡◌, ◌≤◌, length, map, refl, sym, ap, ◌∙◌, arith}
-use Rattle.hpx_value.specs.Values.{refs_in}
-use Rattle.hpx_value.specs.Hands.{hand_slot, renumbered, conts_from}
-use Rattle.hpx_value.specs.Laws.{KeepsLaws}
-use Rattle.hpx_value.specs.Shapes.{IsState}
-use Rattle.hpx_value.specs.declared.acts.Job.{Job}
-use Rattle.hpx_journal.specs.Data.{State, Outcome}
-use Rattle.hpx_commit.specs.Stocks.{Stock}
-use Rattle.hpx_node.specs.Commits.{IsStock}
-use Rattle.hpx_tables.specs.Jobs.{IsFitJob}
-use Rattle.hpx_tables.specs.Tables.{Tables}
-use Rattle.hpx_node.proofs.Planned.{planned_state, state_fit}
+use Rattle.hpx_node.proofs.Common.{IsFitJob, IsState, IsStock, Job, KeepsLaws, List, Outcome, State, Stock, Tables, [], ap, arith, conts_from, hand_slot, length, map, refl, refs_in, renumbered, state_dealt, sym, ◌∙◌, ◌∷◌, ◌≡◌, ◌≤◌}
+use Rattle.hpx_node.proofs.Planned.{planned_of}
 
 none_long : {X : Type 0} (xs : List X) → length xs ≡ 0 → xs ≡ []
 none_long [] h = refl
@@ -29,14 +19,14 @@ same_state s u drawn values conts ids =
 module _ (t : Tables) (job : Job) (out : Outcome) (fit : IsFitJob job) (few : t.localities ≤ 64)
     (laws : KeepsLaws t.localities job.kind job.at job.state job.action out) (s : Stock) (is : IsStock t job out s) (kind : job.kind ≡ 7)
     (values : job.state.values ≡ []) (conts : job.state.conts ≡ []) where
-  pub plain_values : (planned_state t job out fit few laws s is).values ≡ []
+  pub plain_values : (state_dealt t job out s).values ≡ []
   plain_values = ap (renumbered 0) (laws.plain kind values conts).0
 
-  pub plain_conts : (planned_state t job out fit few laws s is).conts ≡ []
+  pub plain_conts : (state_dealt t job out s).conts ≡ []
   plain_conts = ap (λ ns. conts_from (length (refs_in out.state.values)) (map (hand_slot job.state job.action) ns)) (laws.plain kind values conts).1
 
-  pub plain_same : planned_state t job out fit few laws s is ≡ job.state
-  plain_same = same_state (planned_state t job out fit few laws s is) job.state
+  pub plain_same : state_dealt t job out s ≡ job.state
+  plain_same = same_state (state_dealt t job out s) job.state
       (omega (arith, laws.slots.counted, ap (λ ns. length ns) (laws.slots.session (λ e. absurd (omega (arith, e, kind))))))
       (plain_values ∙ sym values) (plain_conts ∙ sym conts)
-      (no_ids (planned_state t job out fit few laws s is) (state_fit t job out fit few laws s is) plain_values plain_conts ∙ sym (no_ids job.state fit.state values conts))
+      (no_ids (state_dealt t job out s) (planned_of t job out fit few laws s is).state_fit plain_values plain_conts ∙ sym (no_ids job.state fit.state values conts))

@@ -1,21 +1,7 @@
 -- A whole commit is short and light.
-use Rattle.std.proofs.Common.{ℕ, suc, false, List, [], ◌∷◌, ◌++◌, ◌≡◌, ◌+◌, ◌≤◌, length, length-append, map, refl, ap, arith}
-use Rattle.hpx_value.specs.Laws.{KeepsLaws}
-use Rattle.hpx_value.specs.declared.acts.Job.{Job}
-use Rattle.hpx_journal.specs.Data.{Outcome}
-use Rattle.hpx_journal.specs.Entries.{name_of}
-use Rattle.hpx_part.specs.Data.{Event, Done}
-use Rattle.hpx_commit.specs.Deals.{unnamed}
-use Rattle.hpx_tables.specs.declared.births.Birth.{Birth}
-use Rattle.hpx_tables.specs.Births.{birth_of, births_of}
-use Rattle.hpx_commit.specs.Stocks.{Stock}
-use Rattle.hpx_tables.specs.Splits.{splits_from}
-use Rattle.hpx_steps.specs.Calls.{ups, written_due}
-use Rattle.hpx_node.specs.Commits.{IsStock}
-use Rattle.hpx_tables.specs.Jobs.{IsFitJob}
-use Rattle.hpx_tables.specs.Tables.{Tables}
-use Rattle.hpx_node.proofs.Planned.{made, outcome_due, made_fit}
-use Rattle.hpx_node.proofs.PlanLimits.{makes_few, replies_few, ups_few, cuts_limit, few_due}
+use Rattle.hpx_node.proofs.Common.{Birth, Done, Event, HasCredit, HasRightCredit, IsFitDue, IsFitJob, IsPlanned, IsStock, Job, KeepsLaws, List, Outcome, Stock, Tables, [], ap, arith, bare_due, birth_of, births_of, due_of, false, few_due, length, length-append, made_of, map, name_of, refl, splits_from, suc, unnamed, ups, written_due, ℕ, ◌++◌, ◌+◌, ◌∷◌, ◌≡◌, ◌≤◌}
+use Rattle.hpx_node.proofs.Planned.{made_fit, planned_of}
+use Rattle.hpx_node.proofs.PlanLimits.{makes_few, cuts_limit}
 use Rattle.hpx_node.proofs.PlanWeights.{ups_few as written_ups, written_few, weighs, weighs_append, weighs_cons, births_light, splits_light, ups_light, written_light}
 
 births_long : (here n : ℕ) (xs : List Birth) → length (births_of here n xs) ≡ length xs
@@ -31,13 +17,16 @@ module _ (t : Tables) (job : Job) (out : Outcome) (fit : IsFitJob job) (few : t.
   halvings = splits_from 0 s.hand s.places
 
   abbrev due : List Event
-  due = written_due t.here t.serial (outcome_due t job out fit few laws)
+  due = written_due t.here t.serial (due_of job.state job.action (made_of t out) out)
 
   abbrev last : List Event
   last = ups (unnamed s.hand s.places)
 
   abbrev done : Event
   done = Done (name_of job.action) false
+
+  plan : IsPlanned HasRightCredit HasCredit IsFitDue bare_due job.state job.action (made_of t out) out s
+  plan = planned_of t job out fit few laws s is
 
   pub commit_few : length (first ++ (halvings ++ (done ∷ (due ++ last)))) ≤ 596
   commit_few = omega (
@@ -48,10 +37,10 @@ module _ (t : Tables) (job : Job) (out : Outcome) (fit : IsFitJob job) (few : t.
     births_long t.here t.births (map birth_of out.makes),
     makes_few t job out fit few laws,
     cuts_limit t job out fit few laws s is,
-    written_few t.here t.serial (outcome_due t job out fit few laws),
-    few_due job.state job.action (made t job out fit few laws) out laws.few.sends (replies_few t job out fit few laws) laws.few.prints,
+    written_few t.here t.serial (due_of job.state job.action (made_of t out) out),
+    few_due job.state job.action (made_of t out) out laws.few.sends plan.replies_few laws.few.prints,
     written_ups (unnamed s.hand s.places),
-    ups_few t job out fit few laws s is,
+    plan.ups_few,
   )
 
   pub commit_light : (k : ℕ) → weighs k (first ++ (halvings ++ (done ∷ (due ++ last)))) ≤ 2380288
@@ -65,7 +54,7 @@ module _ (t : Tables) (job : Job) (out : Outcome) (fit : IsFitJob job) (few : t.
     makes_few t job out fit few laws,
     splits_light k 0 s.hand s.places,
     cuts_limit t job out fit few laws s is,
-    written_light k t.here t.serial job.state job.action (made t job out fit few laws) out laws.few.sends (replies_few t job out fit few laws) laws.few.prints laws.few.short,
+    written_light k t.here t.serial job.state job.action (made_of t out) out laws.few.sends plan.replies_few laws.few.prints laws.few.short,
     ups_light k (unnamed s.hand s.places),
-    ups_few t job out fit few laws s is,
+    plan.ups_few,
   )

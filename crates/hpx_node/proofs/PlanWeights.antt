@@ -1,20 +1,6 @@
 -- What the entries of a commit weigh.
-use Rattle.std.proofs.Common.{ℕ, zero, suc, List, [], ◌∷◌, ◌++◌, ◌≡◌, ◌+◌, ◌≤◌, Option, Some, None, length, length-append, map, refl, ap, ◌∙◌, arith}
-use Rattle.std.specs.Prelude.{◌*◌}
-use Rattle.std.specs.List.{sum_by, AllByRecursion}
-use Rattle.std.proofs.lemmas.List.Sums.{sum_by-cons, sum_by-append}
-use Rattle.hpx_value.specs.Hands.{sent, replied, due_of}
-use Rattle.hpx_value.specs.Ids.{bare, bare_id}
-use Rattle.hpx_journal.specs.Data.{Id, State, Act, Message, Outcome, Due, MessageDue, PrintDue}
-use Rattle.hpx_journal.specs.Weights.{weight_of, total_weight, state_size}
-use Rattle.hpx_part.specs.Data.{Event, Born, Split, Sent, Print, Up}
-use Rattle.hpx_part.specs.Parts.{at_all}
-use Rattle.hpx_commit.specs.Deals.{half, log_of, named, filled_due, unused}
-use Rattle.hpx_tables.specs.declared.births.Birth.{Birth}
-use Rattle.hpx_tables.specs.Births.{IsBirth, births_of}
-use Rattle.hpx_tables.specs.Splits.{cuts, splits_from}
-use Rattle.hpx_steps.specs.Calls.{up_of, ups, written_due}
-use Rattle.hpx_tables.proofs.Cutting.{at_all_append}
+use Rattle.hpx_node.proofs.Common.{Act, AllByRecursion, Birth, Born, Due, Event, Id, IsBirth, List, Message, MessageDue, None, Option, Outcome, Print, PrintDue, Sent, Some, Split, State, Up, [], ap, arith, at_all, at_all_append, bare, bare_id, births_of, cuts, due_of, filled_due, half, length, length-append, log_of, map, refl, replied, sent, splits_from, state_size, suc, sum_by, sum_by-append, sum_by-cons, total_weight, unused, up_of, ups, weight_of, written_due, zero, ℕ, ◌*◌, ◌++◌, ◌+◌, ◌∙◌, ◌∷◌, ◌≡◌, ◌≤◌}
+use Rattle.hpx_commit.specs.Deals.{named}
 
 -- what is due, in the weight of its entries
 abbrev pub due_weight : Due → ℕ

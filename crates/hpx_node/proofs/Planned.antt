@@ -1,160 +1,118 @@
--- A commit that is planned keeps what a plan promises.
-use Rattle.std.proofs.Common.{ℕ, suc, true, List, [], ◌∷◌, ◌≡◌, ◌+◌, ◌≤◌, length, map, append-nil, refl, sym, ap, ◌∙◌}
-use Rattle.std.specs.Prelude.{flat_map}
-use Rattle.std.specs.List.{AllByRecursion}
-use Rattle.hpx_value.specs.Ids.{bare}
-use Rattle.hpx_value.specs.Values.{bare_act, bare_state, refs_in}
-use Rattle.hpx_value.specs.Shapes.{IsState}
-use Rattle.hpx_value.specs.Hands.{id_at, hand_ids, hand_slots, due_of, state_after}
-use Rattle.hpx_value.specs.Laws.{KeepsLaws, IsManaged, birth_state, uses}
-use Rattle.hpx_value.specs.Mentions.{mentions}
-use Rattle.hpx_value.proofs.Uses.{used_below}
-use Rattle.hpx_value.specs.declared.acts.Job.{Job}
+-- A commit of a locality: what it makes, and what it leaves that deals a stock.
+use Rattle.hpx_node.proofs.Common.{AllByRecursion, AreRight, AreWithin, Due, HasCredit, HasRightCredit, HaveLog, HaveNone, Id, IsBare, IsBirth, IsFitDue, IsFitJob, IsManaged, IsMovable, IsPlace, IsPlanned, IsState, IsStock, Job, KeepsLaws, List, MatchOption, Message, MessageDue, None, Option, Outcome, PrintDue, Some, Stock, Tables, [], all_append, ap, arith, bare, bare_due, birth_of, birth_state, due_of, flat_map, hand_of, ids_due, ids_of, is_below, is_some, length, made_of, map, message_filled, nat_le, own_few, own_within, places_in_hand, planned, refl, refs_in, same_at, suc, sym, true, ℕ, ◌+◌, ◌<◌, ◌∷◌, ◌≡◌, ◌≤◌}
 use Rattle.hpx_value.specs.declared.outcome.Make.{Make}
-use Rattle.hpx_parcel.specs.Parcels.{HasRightCredit, HasCredit}
-use Rattle.hpx_journal.specs.Data.{Id, State, Outcome, Due}
-use Rattle.hpx_commit.specs.Deals.{is_managed, dealt, filled, unused, filled_due, ids_due, places_named, unnamed, AreWithin}
-use Rattle.hpx_commit.specs.Stocks.{Stock}
-use Rattle.hpx_commit.proofs.Naming.{managed, names_match, places_within}
-use Rattle.hpx_commit.proofs.Fills.{Fits, filled_same, unused_rest, filled_all, unused_all}
-use Rattle.hpx_commit.proofs.Deals.{names_dealt}
-use Rattle.hpx_tables.specs.declared.births.Birth.{Birth}
-use Rattle.hpx_tables.specs.Births.{IsBirth, birth_of, ids_of}
-use Rattle.hpx_node.specs.Commits.{IsStock}
-use Rattle.hpx_tables.specs.Fit.{IsFitDue}
-use Rattle.hpx_tables.specs.Jobs.{IsFitJob}
-use Rattle.hpx_steps.specs.Turn.{bare_due}
-use Rattle.hpx_tables.specs.Tables.{Tables}
-use Rattle.hpx_node.proofs.BareHands.{due-bare, state-bare}
-use Rattle.hpx_node.proofs.FilledDue.{managed_append, due_same, length-filled, state_filled, due_fit, dealt_credit, unnamed_credit, managed_named}
-use Rattle.hpx_node.proofs.HandFit.{hand_credit, fit_due, state_credit}
+use Rattle.hpx_commit.proofs.HandFit.{fit_due, hand_right}
+use Rattle.hpx_commit.proofs.Naming.{unmanaged}
+use Rattle.hpx_commit.proofs.Places.{is_least}
+use Rattle.hpx_commit.proofs.Short.{yes}
+
+-- ---- credits
+
+pub rights : AreRight HasRightCredit HasCredit
+rights = record { says = λ id h. says id.kind id.log h; so = λ id h. so id.kind id.log h; has = λ id h t. has id.kind id.log h t }
+  where
+    says : (kind : ℕ) (log : Option ℕ) → MatchOption log (kind < 16) (λ l. 16 ≤ kind) → is_some log ≡ nat_le 16 kind
+    says kind None h = sym (unmanaged kind h)
+    says kind (Some l) h = sym (yes 16 kind h)
+
+    so : (kind : ℕ) (log : Option ℕ) → is_some log ≡ nat_le 16 kind → MatchOption log (kind < 16) (λ l. 16 ≤ kind)
+    so kind None e = is_below kind (sym e)
+    so kind (Some l) e = is_least kind (sym e)
+
+    has : (kind : ℕ) (log : Option ℕ) → is_some log ≡ true → nat_le 16 kind ≡ true → MatchOption log ⊥ (λ l. 16 ≤ kind)
+    has kind None e t = absurd (cc)
+    has kind (Some l) e t = is_least kind t
+
+pub none_of : (ids : List Id) → AllByRecursion IsBare ids → HaveNone ids
+none_of [] h = tt
+none_of (id ∷ ids) h = (h.0.0, none_of ids h.1)
+
+-- ids of the same objects fill what is due
+due_filled : (m : Message) (ids : List Id) → map bare ids ≡ map bare m.ids → length ids ≡ length m.ids
+    → (AllByRecursion HasRightCredit m.ids → AllByRecursion HasRightCredit ids) → IsFitDue (MessageDue m) → IsFitDue (MessageDue (record m { ids = ids }))
+due_filled m ids same many credit fit = record {
+  sent = record { shape = message_filled m ids many fit.sent.shape; credit = credit fit.sent.credit };
+  moves = λ e. let x = fit.moves e in (movable m.ids ids same many x.0, x.1);
+}
+  where
+    movable : (xs ys : List Id) → map bare ys ≡ map bare xs → length ys ≡ length xs → IsMovable xs → IsMovable ys
+    movable [] ys e n h = absurd h
+    movable (x ∷ xs) [] e n h = absurd (omega (arith, n))
+    movable (x ∷ xs) (y ∷ ys) e n h =
+        let k : y.kind ≡ x.kind = ap (λ (z : Id). z.kind) (same_at bare (y ∷ ys) (x ∷ xs) 0 e) in (omega (arith, k, h.0), omega (arith, k, h.1))
+
+-- the ids of what is due have their credits
+pub due_credit : (due : List Due) → AllByRecursion IsFitDue due → AllByRecursion HasRightCredit (flat_map ids_due due)
+due_credit [] h = tt
+due_credit (PrintDue bytes ∷ due) h = due_credit due h.1
+due_credit (MessageDue m ∷ due) h = all_append HasRightCredit m.ids (flat_map ids_due due) h.0.sent.credit (due_credit due h.1)
 
 -- ---- what is made
 
-births_fit : (makes : List Make) → AllByRecursion (λ make. IsManaged make.kind × (refs_in make.values ≡ [])) makes
-    → AllByRecursion (λ make. IsState (birth_state make)) makes → AllByRecursion IsBirth (map birth_of makes)
-births_fit [] h i = tt
-births_fit (make ∷ makes) h i = (
-  record { least = h.0.0.0; most = h.0.0.1; state = i.0; same = refl; drawn = refl; alone = refl; none = refl },
-  births_fit makes h.1 i.1,
-)
+pub record AreMade (log : ℕ) (makes : List Make) (ids : List Id) : Type 0 where
+  pub births : AllByRecursion IsBirth (map birth_of makes)
+  pub kinds : map (λ (id : Id). id.kind) ids ≡ map (λ (x : Make). x.kind) makes
+  pub credit : AllByRecursion HasRightCredit ids
+  pub logs : HaveLog log ids
+  pub bare : AllByRecursion IsBare (map bare ids)
 
-ids_credit : (here n log : ℕ) (xs : List Birth) → AllByRecursion IsBirth xs → AllByRecursion HasRightCredit (ids_of here n log xs)
-ids_credit here n log [] h = tt
-ids_credit here n log (x ∷ xs) h = (h.0.least, ids_credit here (n + 1) log xs h.1)
+are_made : (here n log : ℕ) (makes : List Make) → AllByRecursion (λ make. IsManaged make.kind × (refs_in make.values ≡ [])) makes
+    → AllByRecursion (λ make. IsState (birth_state make)) makes → AreMade log makes (ids_of here n log (map birth_of makes))
+are_made here n log [] h i = record { births = tt; kinds = refl; credit = tt; logs = tt; bare = tt }
+are_made here n log (make ∷ makes) h i = let rest = are_made here (n + 1) log makes h.1 i.1 in record {
+  births = (record { least = h.0.0.0; most = h.0.0.1; state = i.0; same = refl; drawn = refl; alone = refl; none = refl }, rest.births);
+  kinds = ap (λ ks. make.kind ∷ ks) rest.kinds;
+  credit = (h.0.0.0, rest.credit);
+  logs = (refl, rest.logs);
+  bare = ((refl, h.0.0.0), rest.bare);
+}
 
-ids_kinds : (here n log : ℕ) (makes : List Make) → map (λ (id : Id). id.kind) (ids_of here n log (map birth_of makes)) ≡ map (λ (x : Make). x.kind) makes
-ids_kinds here n log [] = refl
-ids_kinds here n log (make ∷ makes) = ap (λ ks. make.kind ∷ ks) (ids_kinds here (n + 1) log makes)
+pub made_long : (here n log : ℕ) (makes : List Make) → length (ids_of here n log (map birth_of makes)) ≡ length makes
+made_long here n log [] = refl
+made_long here n log (make ∷ makes) = ap suc (made_long here (n + 1) log makes)
 
-pub ids_long : (here n log : ℕ) (makes : List Make) → length (ids_of here n log (map birth_of makes)) ≡ length makes
-ids_long here n log [] = refl
-ids_long here n log (make ∷ makes) = ap suc (ids_long here (n + 1) log makes)
+pub bare_kinds : (ids : List Id) → map (λ (id : Id). id.kind) (map bare ids) ≡ map (λ (id : Id). id.kind) ids
+bare_kinds [] = refl
+bare_kinds (id ∷ ids) = ap (λ ks. id.kind ∷ ks) (bare_kinds ids)
+
+-- ---- a job whose outcome keeps the laws of n localities
+
+module _ (n : ℕ) (t : Tables) (job : Job) (out : Outcome) (laws : KeepsLaws n job.kind job.at job.state job.action out) (fit : IsFitJob job) where
+  pub made_of_job : AreMade t.profile.credit_log out.makes (made_of t out)
+  made_of_job = are_made t.here t.births t.profile.credit_log out.makes laws.few.managed laws.shapes.births
+
+  pub hand_within : AreWithin (hand_of t job out) (places_in_hand t job out)
+  hand_within = own_within n job.kind job.at job.state job.action out laws (made_of t out) made_of_job.kinds
+
+  pub hand_few : length (hand_of t job out) ≤ 194
+  hand_few = own_few n job.kind job.at job.state job.action out laws (made_of t out) made_of_job.kinds fit.state fit.action.sent.shape
+
+pub makes_managed : (makes : List Make) → AllByRecursion (λ make. IsManaged make.kind × (refs_in make.values ≡ [])) makes
+    → AllByRecursion (λ make. IsManaged make.kind) makes
+makes_managed [] h = tt
+makes_managed (make ∷ makes) h = (h.0.0, makes_managed makes h.1)
 
 -- ---- what is planned
 
 module _ (t : Tables) (job : Job) (out : Outcome) (fit : IsFitJob job) (few : t.localities ≤ 64)
     (laws : KeepsLaws t.localities job.kind job.at job.state job.action out) where
-  abbrev pub made : List Id
-  made = ids_of t.here t.births t.profile.credit_log (map birth_of out.makes)
-
-  abbrev pub own : Stock
-  own = record {
-    hand = hand_ids job.state job.action (ids_of t.here t.births t.profile.credit_log (map birth_of out.makes));
-    places = places_named job.state job.action (ids_of t.here t.births t.profile.credit_log (map birth_of out.makes)) out;
-  }
-
-  -- the new state and what is due before anything is dealt
-  abbrev pub outcome_state : State
-  outcome_state = state_after job.state job.action made out
-
-  abbrev pub outcome_due : List Due
-  outcome_due = due_of job.state job.action made out
+  are : AreMade t.profile.credit_log out.makes (made_of t out)
+  are = made_of_job t.localities t job out laws fit
 
   pub made_fit : AllByRecursion IsBirth (map birth_of out.makes)
-  made_fit = births_fit out.makes laws.few.managed laws.shapes.births
+  made_fit = are.births
 
-  pub made_kinds : map (λ (id : Id). id.kind) made ≡ map (λ (x : Make). x.kind) out.makes
-  made_kinds = ids_kinds t.here t.births t.profile.credit_log out.makes
+  pub hand_has : AllByRecursion HasRightCredit (hand_of t job out)
+  hand_has = hand_right HasRightCredit HasCredit rights t.localities job.kind job.at job.state job.action out laws few (made_of t out) are.kinds fit.credit
+      fit.action.sent.credit are.credit
 
-  pub made_credit : AllByRecursion HasRightCredit made
-  made_credit = ids_credit t.here t.births t.profile.credit_log (map birth_of out.makes) made_fit
+  due_has : AllByRecursion IsFitDue (due_of job.state job.action (made_of t out) out)
+  due_has = fit_due HasRightCredit HasCredit rights t.localities job.kind job.at job.state job.action out laws few (made_of t out) are.kinds fit.credit
+      fit.action.sent.credit are.credit (λ ids args. IsMovable ids × IsPlace args) IsFitDue (λ target ids at low high most. ((low, high), (at, most, refl)))
+      (λ m shape credit moves. record { sent = record { shape = shape; credit = credit }; moves = moves }) (λ bytes. tt)
 
-  pub hand_has : AllByRecursion HasRightCredit own.hand
-  hand_has = hand_credit t.localities job.kind job.at job.state job.action out laws few made made_kinds fit.credit fit.action.sent.credit made_credit
-
-  pub due_has : AllByRecursion IsFitDue outcome_due
-  due_has = fit_due t.localities job.kind job.at job.state job.action out laws few made made_kinds fit.credit fit.action.sent.credit made_credit
-
-  pub state_has : AllByRecursion HasRightCredit outcome_state.ids
-  state_has = state_credit t.localities job.kind job.at job.state job.action out laws few made made_kinds fit.credit fit.action.sent.credit made_credit
-
-  pub own_within : AreWithin own.hand own.places
-  own_within = places_within job.state job.action made out (ids_long t.here t.births t.profile.credit_log out.makes) laws.names.places
-
-  pub own_managed : AllByRecursion (λ p. is_managed (id_at own.hand p) ≡ true) own.places
-  own_managed = managed_named own.hand (mentions job.state job.action out)
-
--- ---- dealt from a stock
-
-module _ (t : Tables) (job : Job) (out : Outcome) (fit : IsFitJob job) (few : t.localities ≤ 64)
-    (laws : KeepsLaws t.localities job.kind job.at job.state job.action out) (s : Stock) (is : IsStock t job out s) where
-  abbrev state_named : State
-  state_named = outcome_state t job out fit few laws
-
-  abbrev due_named : List Due
-  due_named = outcome_due t job out fit few laws
-
-  abbrev pub deals : List Id
-  deals = dealt s.hand s.places
-
-  abbrev pub planned_state : State
-  planned_state = record (outcome_state t job out fit few laws) { ids = filled (outcome_state t job out fit few laws).ids deals }
-
-  abbrev pub planned_due : List Due
-  planned_due = filled_due (outcome_due t job out fit few laws) (unused (outcome_state t job out fit few laws).ids deals)
-
-  pub deals_have : AllByRecursion HasRightCredit deals
-  deals_have = dealt_credit s.hand s.places is.credit
-
-  pub within : AreWithin s.hand s.places
-  within = is.names.within
-
-  -- what is dealt names the managed ids of the new state, and then those of what is due
-  pub names : Fits state_named.ids deals (managed (map bare (flat_map ids_due due_named)))
-  names =
-      names_dealt s.hand s.places
-      ∙ (is.names.names ∙ sym (names_match job.state job.action (made t job out fit few laws) fit.state fit.action.sent.shape t.localities out
-      (used_below (length (hand_slots job.state job.action)) (uses out) laws.conts) laws.roots)
-      ∙ managed_append state_named.ids (flat_map ids_due due_named))
-
-  names_due : Fits (flat_map ids_due due_named) (unused state_named.ids deals) []
-  names_due =
-      unused_rest state_named.ids deals (managed (map bare (flat_map ids_due due_named))) names
-      ∙ sym (append-nil (managed (map bare (flat_map ids_due due_named))))
-
-  -- ---- what is left
-
-  pub state_left : bare_state planned_state ≡ state_after (bare_state job.state) (bare_act job.action) (map bare (made t job out fit few laws)) out
-  state_left =
-      ap (λ ids. record { drawn = state_named.drawn; values = state_named.values; conts = state_named.conts; ids = ids })
-      (filled_same state_named.ids deals (managed (map bare (flat_map ids_due due_named))) names)
-      ∙ sym (state-bare job.state job.action (made t job out fit few laws) out)
-
-  pub due_left : map bare_due planned_due ≡ due_of (bare_state job.state) (bare_act job.action) (map bare (made t job out fit few laws)) out
-  due_left = due_same due_named (unused state_named.ids deals) [] names_due ∙ sym (due-bare job.state job.action (made t job out fit few laws) out)
-
-  pub state_fit : IsState planned_state
-  state_fit = state_filled state_named (filled state_named.ids deals) (length-filled state_named.ids deals) (laws.shapes.state (made t job out fit few laws))
-
-  pub state_paid : AllByRecursion HasRightCredit planned_state.ids
-  state_paid = filled_all HasRightCredit state_named.ids deals (state_has t job out fit few laws) deals_have
-
-  unused_have : AllByRecursion HasRightCredit (unused state_named.ids deals)
-  unused_have = unused_all HasRightCredit state_named.ids deals deals_have
-
-  pub due_may : AllByRecursion IsFitDue planned_due
-  due_may = due_fit due_named (unused state_named.ids deals) [] names_due unused_have (due_has t job out fit few laws)
-
-  pub ups_credit : AllByRecursion HasCredit (unnamed s.hand s.places)
-  ups_credit = unnamed_credit 0 s.hand s.places is.credit
+  pub planned_of : (s : Stock) → IsStock t job out s
+      → IsPlanned HasRightCredit HasCredit IsFitDue bare_due job.state job.action (made_of t out) out s
+  planned_of s is = planned HasRightCredit HasCredit rights IsFitDue bare_due (λ m. refl) (λ bytes. refl) (λ bytes. tt) due_filled
+      t.localities job.kind job.at job.state job.action out laws few fit.state fit.action.sent.shape (made_of t out) are.kinds fit.credit
+      fit.action.sent.credit are.credit due_has s is.names is.credit

@@ -1,25 +1,7 @@
 -- With the last credit in its place, what a commit deals may be dealt.
-use Rattle.std.proofs.Common.{ℕ, suc, Bool, true, false, cond, List, [], ◌∷◌, ◌≡◌, ◌≤◌, ◌+◌, ◌==◌, ◌&&◌, ◌⊎◌, not, Option, Some, None, set, length, refl, sym, ap, ◌∙◌, arith, inl, inr, subst}
-use Rattle.std.specs.Prelude.{is_some}
-use Rattle.std.specs.List.{find, list_any, slice_get, remove}
-use Rattle.std.proofs.lemmas.Bool.{cases_Bool, eqb-true, ne_eqb}
-use Rattle.hpx_value.specs.Ids.{bare}
-use Rattle.hpx_value.specs.Hands.{id_at}
-use Rattle.hpx_value.specs.Laws.{KeepsLaws}
-use Rattle.hpx_parcel.specs.Parcels.{HasCredit}
-use Rattle.hpx_journal.specs.Data.{Id}
-use Rattle.hpx_journal.proofs.Same.{and_true}
-use Rattle.hpx_commit.specs.Deals.{is_managed, log_of}
-use Rattle.hpx_node.specs.Commits.{IsStock, made_of}
-use Rattle.hpx_steps.specs.Paused.{HasSplit, IsCommit, IsShort}
-use Rattle.hpx_steps.specs.Rest.{IsPaused}
-use Rattle.hpx_tables.specs.Pending.{Waits, ids_named, is_asked, awaits, is_asked_for, waits_for_one, refilled, hand_with, put_for}
-use Rattle.hpx_node.specs.Resumes.{stock_with, is_last}
-use Rattle.hpx_tables.specs.Strange.{brings_right}
-use Rattle.hpx_tables.specs.Tables.{Tables}
-use Rattle.hpx_steps.proofs.Refilled.{still_commit, still_split}
+use Rattle.hpx_node.proofs.Common.{Bool, HasCredit, HasRightCredit, HasSplit, Id, IsCommit, IsPaused, IsShort, IsStock, KeepsLaws, List, None, Option, Some, Tables, Waits, [], and_true, ap, arith, awaits, bare, brings_right, cases_Bool, come_long, come_short, come_stock, cond, eqb-true, false, find, hand_with, id_at, ids_named, inl, inr, is_asked, is_asked_for, is_last, is_managed, is_some, length, list_any, log_of, made_of, ne_eqb, not, put_for, refilled, refl, remove, set, slice_get, still_commit, still_split, stock_with, subst, suc, sym, true, waits_for_one, waits_managed, ℕ, ◌&&◌, ◌+◌, ◌==◌, ◌∙◌, ◌∷◌, ◌≡◌, ◌≤◌, ◌⊎◌}
 use Rattle.hpx_node.proofs.Continued.{less_long, none_long, none_some, off}
-use Rattle.hpx_node.proofs.HasCome.{come_stock, come_long, come_short, waits_managed}
+use Rattle.hpx_node.proofs.Planned.{AreMade, made_of_job, rights}
 use Rattle.hpx_node.proofs.LeftFailed.{given}
 use Rattle.hpx_node.proofs.Paused.{commit_of}
 
@@ -82,11 +64,18 @@ module _ (t : Tables) (w : Waits) (id : Id) (entry : ℕ) (paused : IsPaused t.h
       ap (λ b. cond b (Some (bare id)) w.refused) (off (log_of id.log == 0) parts.0)
       ∙ none_some w.refused (and_true (length w.asked == 1) (not (is_some w.refused)) parts.1).1
 
+  are : AreMade t.profile.credit_log w.outcome.makes (made_of t w.outcome)
+  are = made_of_job t.localities t w.job w.outcome laws its.job
+
   stock : IsStock t w.job w.outcome (stock_with t w (set w.hand f.x.place id))
-  stock = come_stock t now its.job few laws still.made still.kinds still.bare still.places still.rest its.hand log
+  stock =
+      let deals = come_stock HasRightCredit HasCredit rights t.localities w.job.kind w.job.at w.job.state w.job.action w.outcome laws few its.job.state its.job.action.sent.shape its.job.credit
+      its.job.action.sent.credit (made_of t w.outcome) are.kinds are.credit still.made now.hand w.places t.profile.credit_log still.kinds still.places still.rest its.hand log are.logs
       still.own (λ p lt h. has_come t.profile.credit_log now.refused (id_at now.hand p) (given t.here t.localities t.profile.credit_log now its still none_left p lt)
-      (waits_managed t now its.job few laws still.made still.kinds still.bare still.places still.rest its.hand p lt h)
-      (still.short p lt h) none_refused)
+      (waits_managed HasRightCredit HasCredit rights t.localities w.job.kind w.job.at w.job.state w.job.action w.outcome laws few its.job.state its.job.action.sent.shape its.job.credit
+      its.job.action.sent.credit (made_of t w.outcome) are.kinds are.credit still.made now.hand w.places t.profile.credit_log still.kinds still.places still.rest its.hand p lt h)
+      (still.short p lt h) none_refused) in
+      record { names = deals.names; credit = deals.credit; few = deals.few; lasts = deals.lasts }
 
   hand_is : set w.hand f.x.place id ≡ hand_with id entry w
   hand_is = sym (ap (put_for w.hand id) f.found)
@@ -96,11 +85,13 @@ module _ (t : Tables) (w : Waits) (id : Id) (entry : ℕ) (paused : IsPaused t.h
 
   ready_long : length (ids_named w) + length (made_of t w.outcome) ≤ length (hand_with id entry w)
   ready_long = subst (λ (xs : List Id). length (ids_named w) + length (made_of t w.outcome) ≤ length xs) hand_is
-      (come_long t now its.job few laws still.made still.kinds still.bare still.places still.rest its.hand)
+      (come_long HasRightCredit HasCredit rights t.localities w.job.kind w.job.at w.job.state w.job.action w.outcome laws few its.job.state its.job.action.sent.shape its.job.credit
+      its.job.action.sent.credit (made_of t w.outcome) are.kinds are.credit still.made now.hand w.places t.profile.credit_log still.kinds still.places still.rest its.hand)
 
   ready_short : length (hand_with id entry w) ≤ 1024
   ready_short = subst (λ (xs : List Id). length xs ≤ 1024) hand_is
-      (come_short t now its.job few laws still.made still.kinds still.bare still.places still.rest its.hand)
+      (come_short HasRightCredit HasCredit rights t.localities w.job.kind w.job.at w.job.state w.job.action w.outcome laws few its.job.state its.job.action.sent.shape its.job.credit
+      its.job.action.sent.credit (made_of t w.outcome) are.kinds are.credit still.made now.hand w.places t.profile.credit_log still.kinds still.places still.rest its.hand)
 
   pub is_ready : IsStockReady t w (hand_with id entry w)
   is_ready = record { stock = ready_stock; long = ready_long; short = ready_short }

@@ -1,27 +1,8 @@
 -- Credit that comes home or is asked for: what the registry tells of its records.
-use Rattle.std.proofs.Common.{ℕ, zero, suc, Bool, true, false, cond, List, [], ◌∷◌, ◌++◌, ◌≡◌, ◌+◌, ◌-◌, ◌^◌, ◌≤◌, ◌==◌, Option, Some, None, take, append-nil, refl, sym, ap, ◌∙◌, inl, inr, subst}
-use Rattle.std.specs.Prelude.{if◌then◌else◌, is_some, nat_lt, option_map, option_and_then, ◌&&◌, IfSome, IsSomeAnd}
+use Rattle.hpx_node.proofs.Common.{Ask, Bool, Count, DealsWith, Free, Give, Granted, Id, IfSome, IsSomeAnd, Leaves, List, None, Option, Parcel, Profile, Record, Refused, Return, Some, Standing, Tables, [], and_true, answered, ap, append-nil, asked, bare, cases_Bool, cond, count_here, credit, eqb-true, false, find, find_passes, find_record, granted_of, grown, if◌then◌else◌, inl, inr, is_live, is_some, is_standing, left_of, lowered, more_here, nat_lt, option_and_then, option_map, place_or_0, refl, remove, same_object, slice_get, some_same, subst, suc, sym, take, true, with_mail, with_mail_if, without, zero, ℕ, ◌&&◌, ◌++◌, ◌+◌, ◌-◌, ◌==◌, ◌^◌, ◌∙◌, ◌∷◌, ◌≡◌, ◌≤◌}
 use Rattle.std.specs.Option.{option_map_or}
-use Rattle.std.specs.List.{find, slice_get, remove}
-use Rattle.std.proofs.lemmas.Bool.{cases_Bool, eqb-true}
-use Rattle.hpx_value.specs.Ids.{bare, same_object, credit}
-use Rattle.hpx_value.specs.declared.profile.Profile.{Profile}
-use Rattle.hpx_agas.specs.Records.{find_record}
-use Rattle.hpx_agas.specs.Registries.{asked, granted_of, grown, lowered, left_of}
 use Rattle.hpx_agas.specs.declared.records.Left.TheVariants.{Alive, Dead}
 use Rattle.hpx_agas.specs.declared.records.Granted.TheVariants.{Limit, Yes}
-use Rattle.hpx_agas.specs.declared.record.Record.{Record}
-use Rattle.hpx_journal.specs.Bags.{without}
-use Rattle.hpx_journal.specs.Data.{Id, Parcel, Return, Ask, Give, Free}
-use Rattle.hpx_journal.specs.Local.{is_standing}
-use Rattle.hpx_journal.proofs.Same.{and_true}
-use Rattle.hpx_part.specs.Data.{Count, Granted, Refused, Standing}
-use Rattle.hpx_tables.specs.Kept.{count_here}
-use Rattle.hpx_tables.specs.Strange.{is_live}
-use Rattle.hpx_tables.specs.Tables.{Tables}
-use Rattle.hpx_tables.proofs.Alls.{some_same, find_passes}
-use Rattle.hpx_steps.specs.Calls.{DealsWith, Leaves, answered, more_here, place_or_0}
-use Rattle.hpx_steps.specs.Mail.{with_mail, with_mail_if}
 
 -- ---- by what the records tell
 

@@ -1,24 +1,5 @@
 -- A commit that waited goes on, as the call writes it.
-use Rattle.std.proofs.Common.{ℕ, false, Some, List, [], ◌∷◌, ◌++◌, ◌≡◌, ◌+◌, ◌≤◌, set, length, length-append, sym, ap, ◌∙◌, arith, subst}
-use Rattle.std.specs.Prelude.{option_map}
-use Rattle.std.specs.List.{slice_get, remove}
-use Rattle.hpx_journal.specs.Entries.{name_of}
-use Rattle.hpx_journal.specs.Weights.{total_weight}
-use Rattle.hpx_part.specs.Data.{Entry, Done, Standing}
-use Rattle.hpx_part.specs.Parts.{at_all}
-use Rattle.hpx_commit.specs.Stocks.{Stock}
-use Rattle.hpx_tables.proofs.Alls.{some_same}
-use Rattle.hpx_tables.specs.Awaited.{answered_by}
-use Rattle.hpx_tables.specs.Births.{Makes, births_of}
-use Rattle.hpx_tables.specs.Fit.{IsKept}
-use Rattle.hpx_tables.specs.Pending.{Waits, action_of}
-use Rattle.hpx_tables.specs.Splits.{splits_from}
-use Rattle.hpx_tables.specs.Tables.{Tables}
-use Rattle.hpx_steps.specs.Calls.{ups, with_left, written_due}
-use Rattle.hpx_node.specs.declared.node.finish.Prepared.{Prepared}
-use Rattle.hpx_node.specs.Changes.{OnlySends, Writes}
-use Rattle.hpx_node.specs.Commits.{Commits, committed_from, committed_to}
-use Rattle.hpx_node.specs.Resumes.{MayResume, full_stock}
+use Rattle.hpx_node.proofs.Common.{Commits, Done, Entry, IsKept, List, Makes, MayResume, OnlySends, Prepared, Some, Standing, Stock, Tables, Waits, Writes, [], action_of, answered_by, ap, arith, at_all, births_of, committed_from, committed_to, false, full_stock, length, length-append, name_of, option_map, remove, set, slice_get, some_same, splits_from, subst, sym, total_weight, ups, with_left, written_due, ℕ, ◌++◌, ◌+◌, ◌∙◌, ◌∷◌, ◌≡◌, ◌≤◌}
 use Rattle.hpx_node.proofs.Committing.{all_committed, all_written}
 use Rattle.hpx_node.proofs.FewEntries.{at_all_length}
 use Rattle.hpx_node.proofs.Turns.{grown_weighs}

@@ -1,13 +1,5 @@
 -- What a message is that breaks no rule.
-use Rattle.std.proofs.Common.{[], ◌∷◌, ◌≡◌, Some, None, refl, arith, subst}
-use Rattle.std.specs.Prelude.{◌&&◌, ◌==◌, ◌-◌, ◌^◌, min, not, if◌then◌else◌}
-use Rattle.std.proofs.lemmas.List.Sums.{sum_by-cons}
-use Rattle.hpx_journal.specs.Data.{Parcel, Shipped, Free}
-use Rattle.hpx_journal.specs.Frames.{travels_in}
-use Rattle.hpx_steps.proofs.Right.{object_wrong}
-use Rattle.hpx_tables.specs.Tables.{Tables, messages}
-use Rattle.hpx_tables.specs.Kept.{stands_here, waits_here, held_here, credit_in, ids_held}
-use Rattle.hpx_tables.specs.Strange.{breaks, broken_near}
+use Rattle.hpx_node.proofs.Common.{Free, None, Parcel, Shipped, Some, Tables, [], arith, breaks, broken_near, credit_in, held_here, ids_held, if◌then◌else◌, messages, min, not, object_wrong, refl, stands_here, subst, sum_by-cons, travels_in, waits_here, ◌&&◌, ◌-◌, ◌==◌, ◌^◌, ◌∷◌, ◌≡◌}
 
 -- no object is in it
 pub no_travel : (t : Tables) (p : Parcel) → broken_near t p ≡ None → travels_in (Some p) ≡ []

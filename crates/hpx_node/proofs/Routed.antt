@@ -1,12 +1,6 @@
 -- Where an action goes.
-use Rattle.std.proofs.Common.{ℕ, false, not, cond, [], ◌∷◌, ◌++◌, ◌≡◌, ◌==◌, inl, inr, refl, ap, ◌∙◌, append-nil}
-use Rattle.std.proofs.lemmas.Bool.{cases_Bool}
-use Rattle.hpx_journal.specs.Data.{Act}
-use Rattle.hpx_journal.specs.Entries.{target_of}
-use Rattle.hpx_tables.specs.Fit.{parcel_for}
-use Rattle.hpx_tables.specs.Tables.{Tables}
+use Rattle.hpx_node.proofs.Common.{Act, Tables, [], ap, append-nil, cases_Bool, cond, false, inl, inr, may_stay, not, parcel_for, refl, target_of, with_act, with_mail, with_mail_if, ℕ, ◌++◌, ◌==◌, ◌∙◌, ◌∷◌, ◌≡◌}
 use Rattle.hpx_steps.specs.Frames.{MayGoTo}
-use Rattle.hpx_steps.specs.Mail.{may_stay, with_mail, with_mail_if, with_act}
 
 -- an action may go to the home of its object
 pub letter_may : (k : ℕ) (act : Act) → MayGoTo k (target_of act).home (parcel_for act)

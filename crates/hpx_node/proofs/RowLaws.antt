@@ -1,25 +1,10 @@
 -- What the rows count, in the words of the laws of journals.
-use Rattle.std.proofs.Common.{ℕ, Bool, cond, List, [], ◌∷◌, ◌≡◌, ◌+◌, ◌≤◌, ◌^◌, ◌==◌, Option, Some, None, refl, arith, inl, inr}
-use Rattle.std.specs.Prelude.{◌⊎◌}
-use Rattle.std.specs.List.{sum_by, list_any}
-use Rattle.std.proofs.lemmas.Bool.{eqb-true}
-use Rattle.std.proofs.lemmas.List.Sums.{sum_by-cons}
+use Rattle.hpx_journal.specs.Local.{after}
+use Rattle.hpx_node.proofs.Common.{Bool, Born, Count, Entry, Event, Freed, FreesOf, FreesTheDead, Give, Given, Granted, Id, In, IsPassive, List, Local, None, Option, Out, Parcel, Refusals, Refused, RefusesForCause, Returned, Rules, Some, StandsWith, Tables, [], and_true, arith, boot, causes, cond, count_events, eqb-true, frees_one, goes, hands_refusal, inl, inr, is_credit_least, is_free_of, is_freed, is_least, is_refusal, is_refused_count, is_refusing, list_any, one_if, part, refl, run_local, same_object, sends_such, sum_by, sum_by-cons, takes_such, weighed, ℕ, ◌+◌, ◌==◌, ◌^◌, ◌∷◌, ◌≡◌, ◌≤◌, ◌⊎◌}
 use Rattle.std.proofs.Math.Pow.{pow_pos}
-use Rattle.hpx_value.specs.Ids.{same_object}
-use Rattle.hpx_journal.specs.Data.{Id, Parcel, Give}
-use Rattle.hpx_journal.specs.Entries.{Rules}
-use Rattle.hpx_journal.specs.Laws.{sends_such, takes_such, is_refusing, hands_refusal, is_refused_count, is_free_of, is_freed, count_events, RefusesForCause, FreesTheDead}
-use Rattle.hpx_journal.specs.Local.{after, boot}
 use Rattle.hpx_journal.specs.Roots.{roots}
 use Rattle.hpx_journal.specs.Rows.{is_dead_record, IsDead}
-use Rattle.hpx_journal.specs.Whole.{part, run_local}
 use Rattle.hpx_journal.proofs.Bools.{or_cases}
-use Rattle.hpx_journal.proofs.Same.{and_true}
-use Rattle.hpx_part.specs.Data.{Local, Entry, Event, Born, Given, Count, Returned, Granted, Refused, Freed, Out, In}
-use Rattle.hpx_parcel.specs.Reading.{is_least as is_credit_least}
-use Rattle.hpx_steps.specs.Rows.{Refusals, FreesOf, frees_one, is_refusal, is_least, weighed, goes, causes, one_if}
-use Rattle.hpx_steps.specs.Rest.{StandsWith}
-use Rattle.hpx_tables.specs.Tables.{Tables, IsPassive}
 use Rattle.hpx_node.proofs.IdleSince.{passive_unpaid}
 
 -- a sum over entries, where each counts what two tests count

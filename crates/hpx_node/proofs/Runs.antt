@@ -1,31 +1,6 @@
 -- A prepared commit of an action that runs, as the call writes it.
-use Rattle.std.proofs.Common.{ℕ, false, Some, List, [], ◌∷◌, ◌++◌, ◌≡◌, ◌+◌, ◌<◌, ◌≤◌, map, set, length, append_assoc, append-nil, refl, sym, ap, ◌∙◌, subst}
-use Rattle.std.specs.List.{slice_get, remove}
-use Rattle.hpx_value.specs.Ids.{bare}
-use Rattle.hpx_value.specs.Laws.{KeepsLaws}
-use Rattle.hpx_value.specs.Values.{bare_act, bare_state, message_of, named}
-use Rattle.hpx_value.specs.declared.acts.Job.{Job}
-use Rattle.hpx_journal.specs.Data.{Act, Id, State, Outcome}
-use Rattle.hpx_journal.specs.Entries.{name_of}
-use Rattle.hpx_part.specs.Data.{Entry, Done, Standing}
-use Rattle.hpx_part.specs.Parts.{at_all}
-use Rattle.hpx_commit.specs.Deals.{unnamed}
-use Rattle.hpx_commit.specs.Stocks.{Stock}
-use Rattle.hpx_tables.proofs.Alls.{all_at, some_same}
-use Rattle.hpx_tables.specs.Awaited.{answered_by}
-use Rattle.hpx_tables.specs.Births.{Makes, birth_of, births_of}
-use Rattle.hpx_tables.specs.Fit.{IsKept}
-use Rattle.hpx_tables.specs.Jobs.{IsAt, IsFitJob}
-use Rattle.hpx_tables.specs.Splits.{splits_from}
-use Rattle.hpx_tables.specs.Tables.{Tables}
-use Rattle.hpx_steps.specs.Calls.{ups, with_left, written_due}
-use Rattle.hpx_steps.specs.Left.{IsLeftBy}
-use Rattle.hpx_steps.specs.Rest.{IsTidy, Stands, rules_of}
+use Rattle.hpx_node.proofs.Common.{Act, Done, Ends, Entry, Id, IsAt, IsFitJob, IsKept, IsLeftBy, IsPrepared, IsStock, IsTidy, Job, KeepsLaws, List, Makes, OnlySends, Outcome, Prepared, Some, Standing, Stands, State, Stock, Tables, Writes, [], all_at, answered_by, ap, append-nil, append_assoc, at_all, bare, bare_act, bare_state, birth_of, births_of, committed, committed_from, committed_to, due_dealt, false, halved_from, length, made_of, map, message_of, name_of, named, own_stock, places_in_hand, refl, remains, remove, rules_of, set, slice_get, some_same, splits_from, subst, sym, unnamed, ups, with_left, written_due, ℕ, ◌++◌, ◌+◌, ◌<◌, ◌∙◌, ◌∷◌, ◌≡◌, ◌≤◌}
 use Rattle.hpx_steps.proofs.Committed.{commit_stands}
-use Rattle.hpx_steps.proofs.Work.{halved_from}
-use Rattle.hpx_node.specs.declared.node.finish.Prepared.{Prepared}
-use Rattle.hpx_node.specs.Changes.{OnlySends, Writes}
-use Rattle.hpx_node.specs.Commits.{Ends, IsPrepared, IsStock, committed, committed_from, committed_to, due_dealt, made_of, own_stock, places_in_hand, remains}
 use Rattle.hpx_node.proofs.Committing.{all_committed, all_written}
 use Rattle.hpx_node.proofs.LeftBy.{kept_then, left_by}
 use Rattle.hpx_node.proofs.Planned.{made_fit}

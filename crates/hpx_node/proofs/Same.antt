@@ -1,11 +1,5 @@
 -- What a node stands for and what it wrote, where its tables are the same.
-use Rattle.std.proofs.Common.{List, ◌++◌, ◌≡◌, sym, ap, ◌∙◌, subst, append_assoc}
-use Rattle.std.proofs.lemmas.List.{map-append}
-use Rattle.hpx_journal.specs.Laws.{entry_at}
-use Rattle.hpx_part.specs.Data.{Event, Entry}
-use Rattle.hpx_part.specs.Parts.{at_all}
-use Rattle.hpx_tables.specs.Tables.{Tables}
-use Rattle.hpx_node.specs.Changes.{Writes}
+use Rattle.hpx_node.proofs.Common.{Entry, Event, List, Tables, Writes, ap, append_assoc, at_all, entry_at, map-append, subst, sym, ◌++◌, ◌∙◌, ◌≡◌}
 
 -- what is said of tables and entries is said of the same
 pub same_too : (P : Tables → List Entry → Type 0) (t t' : Tables) (es es' : List Entry) → P t es → t' ≡ t → es' ≡ es → P t' es'

@@ -1,10 +1,5 @@
 -- A commit that was prepared is so, and what ends, ends, where the tables are the same.
-use Rattle.std.proofs.Common.{◌≡◌, sym, subst}
-use Rattle.hpx_value.specs.declared.acts.Job.{Job}
-use Rattle.hpx_journal.specs.Data.{Outcome}
-use Rattle.hpx_node.specs.declared.node.finish.Prepared.{Prepared}
-use Rattle.hpx_node.specs.Commits.{IsPrepared, Ends}
-use Rattle.hpx_tables.specs.Tables.{Tables}
+use Rattle.hpx_node.proofs.Common.{Ends, IsPrepared, Job, Outcome, Prepared, Tables, subst, sym, ◌≡◌}
 
 pub prepared_same : (t t' : Tables) (job : Job) (out : Outcome) (p : Prepared) → t' ≡ t → IsPrepared t job out p
     → IsPrepared t' job out p

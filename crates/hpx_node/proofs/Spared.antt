@@ -1,19 +1,7 @@
 -- Memory is made, and nothing else changes.
-use Rattle.std.proofs.Common.{ℕ, false, get_or, List, ◌∷◌, ◌++◌, ◌≡◌, Option, None, sym, ap, ◌∙◌, arith, subst}
-use Rattle.std.specs.Prelude.{◌≤◌, ◌-◌, min, OnOk, Result, Ok, Err}
+use Rattle.hpx_node.proofs.Common.{Book, Broken, Entry, Err, Event, In, List, Mail, None, Ok, OnOk, OnlySpare, Option, Parcel, Result, Tables, Writes, ap, arith, at_all, broken, broken_near, effects, false, get_or, kind_of, min, near_right, subst, sym, ℕ, ◌++◌, ◌-◌, ◌∙◌, ◌∷◌, ◌≡◌, ◌≤◌}
 use Rattle.std.specs.Result.{is_err}
-use Rattle.hpx_journal.specs.Data.{Parcel}
-use Rattle.hpx_journal.specs.Weights.{Book}
-use Rattle.hpx_part.specs.Data.{Event, Entry, Mail, In}
-use Rattle.hpx_part.specs.Parts.{at_all}
-use Rattle.hpx_tables.specs.declared.strange.Broken.{Broken}
-use Rattle.hpx_tables.specs.Strange.{broken, broken_near}
-use Rattle.hpx_tables.specs.Tables.{Tables}
-use Rattle.hpx_steps.specs.Calls.{effects}
-use Rattle.hpx_steps.specs.Rows.{kind_of}
-use Rattle.hpx_node.specs.Changes.{OnlySpare, Writes}
 use Rattle.hpx_node.proofs.Arrived.{effects_desk}
-use Rattle.hpx_steps.proofs.Right.{near_right}
 use Rattle.hpx_node.proofs.Right.{near_popped}
 use Rattle.hpx_node.proofs.Same.{writes_then}
 

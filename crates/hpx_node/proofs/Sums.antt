@@ -1,17 +1,5 @@
 -- What tokens weigh: of ids, of lists of what has ids, and of all that a node keeps.
-use Rattle.std.proofs.Common.{ℕ, List, ◌++◌, ◌≡◌, ◌+◌, arith}
-use Rattle.std.specs.Prelude.{flat_map}
-use Rattle.std.specs.List.{sum_by}
-use Rattle.std.proofs.lemmas.List.Sums.{sum_by-append}
-use Rattle.hpx_value.specs.declared.outcome.Due.{Due}
-use Rattle.hpx_journal.specs.Data.{Id, Act}
-use Rattle.hpx_journal.specs.Names.{due_ids}
-use Rattle.hpx_part.specs.Data.{Standing, Token}
-use Rattle.hpx_tables.specs.Pending.{Waits}
-use Rattle.hpx_tables.specs.Tables.{Tables, messages}
-use Rattle.hpx_steps.specs.Turn.{tokens_of, parcel_tokens}
-use Rattle.hpx_steps.specs.Rest.{kept_ids, tokens, view}
-use Rattle.hpx_steps.proofs.Sums.{ids_append}
+use Rattle.hpx_node.proofs.Common.{Act, Due, Id, List, Standing, Tables, Token, Waits, arith, due_ids, flat_map, ids_append, kept_ids, messages, parcel_tokens, sum_by, sum_by-append, tokens, tokens_of, view, ℕ, ◌++◌, ◌+◌, ◌≡◌}
 
 module _ (f : Token → ℕ) where
   -- what the tokens of ids weigh

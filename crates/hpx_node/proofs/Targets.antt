@@ -1,15 +1,5 @@
 -- Where nothing runs and no commit waits, no accepted action is stuck.
-use Rattle.std.proofs.Common.{ℕ, true, false, cond, ◌==◌, List, [], ◌∷◌, ◌≡◌, Some, Option, None, ap, ◌∙◌, refl, inl, inr}
-use Rattle.std.specs.Prelude.{is_some}
-use Rattle.std.specs.List.{find, AllByRecursion}
-use Rattle.std.proofs.lemmas.Bool.{cases_Bool}
-use Rattle.hpx_journal.specs.Data.{Act}
-use Rattle.hpx_journal.specs.Entries.{target_of}
-use Rattle.hpx_journal.specs.Local.{is_standing, is_busy}
-use Rattle.hpx_part.specs.Data.{Standing}
-use Rattle.hpx_tables.specs.Free.{IsFree, NoneIsFree}
-use Rattle.hpx_tables.specs.Pending.{Waits, fired_of}
-use Rattle.hpx_tables.specs.Tables.{Tables, fired_acts}
+use Rattle.hpx_node.proofs.Common.{Act, AllByRecursion, IsFree, List, None, NoneIsFree, Option, Some, Standing, Tables, Waits, [], ap, cases_Bool, cond, false, find, fired_acts, fired_of, inl, inr, is_busy, is_some, is_standing, refl, target_of, true, ℕ, ◌==◌, ◌∙◌, ◌∷◌, ◌≡◌}
 
 -- the targets of these actions stand among these objects
 abbrev pub AreTargets : List Standing → List Act → Type 0

@@ -1,33 +1,6 @@
 -- What the steps of a turn add to a journal.
-use Rattle.std.proofs.Common.{ℕ, zero, suc, Bool, true, false, cond, codes, List, [], ◌∷◌, ◌++◌, ◌≡◌, ◌+◌, ◌≤◌, ◌==◌, Option, Some, None, length, length-append, refl, ap, arith, subst}
-use Rattle.std.specs.Prelude.{nat_lt, if◌then◌else◌}
-use Rattle.std.specs.List.{find, sum_by, AllByRecursion}
-use Rattle.std.proofs.lemmas.List.Sums.{sum_by-cons, sum_by-append}
-use Rattle.hpx_value.specs.Hands.{id_at, slot_at, answer}
-use Rattle.hpx_value.specs.Ids.{bare}
-use Rattle.hpx_value.specs.declared.acts.Job.{Job}
-use Rattle.hpx_journal.specs.Data.{Id, Cont, Outcome, Parcel, Return, Ask, Give, Free, MessageDue, PrintDue, Fault}
-use Rattle.hpx_journal.specs.Entries.{name_of}
-use Rattle.hpx_journal.specs.Local.{is_standing}
-use Rattle.hpx_journal.specs.Weights.{bytes_in, weight_of, total_weight}
-use Rattle.hpx_part.specs.Data.{Entry, Standing, Done, Count, Granted, Refused}
-use Rattle.hpx_part.specs.Parts.{at_all}
-use Rattle.hpx_commit.specs.Deals.{half, named}
-use Rattle.hpx_commit.specs.Failures.{action_ids, due_failed}
-use Rattle.hpx_commit.specs.Stocks.{halvings}
-use Rattle.hpx_commit.specs.declared.plan.Plan.{Plan}
-use Rattle.hpx_node.specs.declared.node.finish.Prepared.{Prepared}
-use Rattle.hpx_tables.specs.Splits.{first_cuts, asked_events, cuts}
-use Rattle.hpx_node.specs.Changes.{Writes}
-use Rattle.hpx_node.specs.Commits.{IsPrepared, committed, committed_from, own_stock}
-use Rattle.hpx_node.specs.Fails.{IsFailure, due_left, ups_left, failed_events}
-use Rattle.hpx_steps.specs.Calls.{effects, up_of, ups, returned, more_here, freed, written_due}
-use Rattle.hpx_tables.specs.Kept.{count_here}
-use Rattle.hpx_steps.specs.Limits.{AddsATurn}
-use Rattle.hpx_tables.specs.Pending.{Waits}
-use Rattle.hpx_steps.specs.Rest.{IsTidy}
-use Rattle.hpx_tables.specs.Tables.{Tables}
-use Rattle.hpx_tables.proofs.Alls.{all_append}
+use Rattle.hpx_node.proofs.Common.{AddsATurn, AllByRecursion, Ask, Bool, Cont, Count, Done, Entry, Fault, Free, Give, Granted, Id, IsFailure, IsPrepared, IsTidy, Job, List, MessageDue, None, Option, Outcome, Parcel, Plan, Prepared, PrintDue, Refused, Return, Some, Standing, Tables, Waits, Writes, [], action_ids, all_append, answer, ap, arith, asked_events, at_all, bare, bytes_in, codes, committed, committed_from, cond, count_here, cuts, due_failed, due_left, effects, failed_events, false, find, first_cuts, freed, half, halvings, id_at, if◌then◌else◌, is_standing, length, length-append, more_here, name_of, nat_lt, own_stock, refl, returned, slot_at, subst, suc, sum_by, sum_by-append, sum_by-cons, total_weight, true, up_of, ups, ups_left, weight_of, written_due, zero, ℕ, ◌++◌, ◌+◌, ◌==◌, ◌∷◌, ◌≡◌, ◌≤◌}
+use Rattle.hpx_commit.specs.Deals.{named}
 use Rattle.hpx_node.proofs.FewEntries.{at_all_length, effects_few}
 use Rattle.hpx_node.proofs.PlanWeights.{weighs, weighs_append, weighs_cons, weighs_due, due_weight, ups_light}
 use Rattle.hpx_node.proofs.Turns.{adds_grown, grown_weighs, HasNoBytes, bare_weighs}

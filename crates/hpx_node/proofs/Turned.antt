@@ -1,27 +1,9 @@
 -- A message is taken up, dealt with, and what follows it is done: all that holds goes on to hold.
-use Rattle.std.proofs.Common.{ℕ, List, [], ◌∷◌, ◌++◌, ◌≡◌, ◌+◌, ◌<◌, ◌≤◌, ◌^◌, Option, Some, None, get_or, refl, sym, ap, ◌∙◌, arith, inl, inr, subst}
-use Rattle.hpx_value.specs.Values.{bare_act, bare_state, message_of, named}
-use Rattle.hpx_parcel.specs.Parcels.{IsParcel}
-use Rattle.hpx_parcel.specs.Reading.{parcel_of}
-use Rattle.hpx_journal.specs.Data.{State, Act, Outcome, Parcel}
-use Rattle.hpx_journal.specs.Weights.{Book, HasRoom}
-use Rattle.hpx_part.specs.Data.{Entry, In, Mail}
-use Rattle.hpx_tables.specs.declared.strange.Broken.{Broken}
-use Rattle.hpx_tables.specs.Strange.{broken}
-use Rattle.hpx_tables.specs.Tables.{Tables}
-use Rattle.hpx_steps.specs.Calls.{Accepts, DealsWith, Leaves, effects}
-use Rattle.hpx_steps.specs.Rest.{IsTidy, Stands, StandsAtRest, rules_of}
-use Rattle.hpx_steps.specs.Rows.{kind_of}
-use Rattle.hpx_steps.proofs.AtRest.{rest_stands}
-use Rattle.hpx_steps.proofs.TurnOf.{desk_accepts, desk_leads, desk_stands, frame_leads, frame_stands}
-use Rattle.hpx_node.specs.declared.node.next.Next.{Next}
-use Rattle.hpx_node.specs.Changes.{OnlySpare, Writes}
+use Rattle.hpx_node.proofs.Common.{Accepts, Act, Book, Broken, DealsWith, Entry, HasFollowed, HasRoom, In, IsNext, IsParcel, IsTidy, Leaves, List, Mail, MayFollow, Next, None, OnlySpare, Option, Outcome, Parcel, Some, Stands, StandsAtRest, State, Tables, Writes, [], ap, arith, bare_act, bare_state, broken, desk_accepts, desk_leads, desk_stands, effects, frame_leads, frame_stands, get_or, inl, inr, kind_of, message_of, named, near_right, parcel_of, refl, rest_stands, rules_of, subst, sym, ℕ, ◌++◌, ◌+◌, ◌<◌, ◌^◌, ◌∙◌, ◌∷◌, ◌≡◌, ◌≤◌}
 use Rattle.hpx_node.specs.Handled.{Clears, Takes}
-use Rattle.hpx_node.specs.Next.{HasFollowed, IsNext, MayFollow}
 use Rattle.hpx_node.proofs.Arrived.{deals_rest, ins_few, leaves_from}
 use Rattle.hpx_node.proofs.Continued.{IsGiven, given_frame, given_mail}
 use Rattle.hpx_node.proofs.Followed.{IsRight, is_continued, may_follow}
-use Rattle.hpx_steps.proofs.Right.{near_right}
 use Rattle.hpx_node.proofs.Right.{no_travel}
 use Rattle.hpx_node.proofs.Spared.{cleared_writes, first_there, none_here, took_writes}
 

@@ -1,15 +1,5 @@
 -- What is added to a journal, and its limits.
-use Rattle.std.proofs.Common.{ℕ, List, [], ◌∷◌, ◌++◌, ◌≡◌, ◌+◌, ◌≤◌, Some, length, length-append, ap, arith, subst}
-use Rattle.std.specs.Prelude.{◌*◌}
-use Rattle.std.specs.List.{AllByRecursion}
-use Rattle.std.proofs.lemmas.List.Sums.{sum_by-append}
-use Rattle.hpx_parcel.specs.Reading.{parcel_of}
-use Rattle.hpx_parcel.proofs.Frames.{spelled_short, parcel_spelled}
-use Rattle.hpx_journal.specs.Data.{Parcel}
-use Rattle.hpx_journal.specs.Weights.{bytes_in, weight_of, total_weight, HasRoom}
-use Rattle.hpx_part.specs.Data.{Event, Entry, Out}
-use Rattle.hpx_part.specs.Parts.{at_all}
-use Rattle.hpx_steps.specs.Limits.{IsWithin, AddsATurn}
+use Rattle.hpx_node.proofs.Common.{AddsATurn, AllByRecursion, Entry, Event, HasRoom, IsWithin, List, Out, Parcel, Some, [], ap, arith, at_all, bytes_in, length, length-append, parcel_of, parcel_spelled, spelled_short, subst, sum_by-append, total_weight, weight_of, ℕ, ◌*◌, ◌++◌, ◌+◌, ◌∷◌, ◌≡◌, ◌≤◌}
 use Rattle.hpx_node.proofs.PlanWeights.{weighs, weighs_cons}
 use Rattle.hpx_node.proofs.FewEntries.{at_all_length}
 

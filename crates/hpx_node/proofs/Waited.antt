@@ -1,40 +1,15 @@
 -- A commit begins to wait, as the calls do it.
-use Rattle.std.proofs.Common.{ℕ, List, [], ◌∷◌, ◌++◌, ◌≡◌, ◌+◌, ◌≤◌, ◌<◌, Some, map, set, take, get_or, length, length-append, append_assoc, sym, ap, ◌∙◌, arith, subst}
-use Rattle.std.specs.Prelude.{Result, Ok, Err, IfOk}
-use Rattle.std.specs.List.{slice_get, remove, AllByRecursion}
-use Rattle.std.proofs.lemmas.List.{length-map, take_more}
-use Rattle.hpx_value.specs.Ids.{bare}
-use Rattle.hpx_value.specs.Values.{bare_state}
-use Rattle.hpx_value.specs.Hands.{id_at, hand_ids}
-use Rattle.hpx_value.specs.Laws.{KeepsLaws}
-use Rattle.hpx_value.specs.Shapes.{IsState}
-use Rattle.hpx_value.specs.declared.acts.Job.{Job}
-use Rattle.hpx_parcel.specs.Parcels.{HasLeastCredit}
-use Rattle.hpx_journal.specs.Data.{Id, Act, State, Outcome, Ask}
-use Rattle.hpx_part.specs.Data.{Entry, Standing}
-use Rattle.hpx_part.specs.Parts.{at_all}
-use Rattle.hpx_commit.specs.Deals.{AreWithin, AllLast}
-use Rattle.hpx_commit.specs.Stocks.{Stock, ahead, short_places}
-use Rattle.hpx_commit.proofs.Stripped.{short_few}
+use Rattle.hpx_node.proofs.Common.{Act, AllByRecursion, AllLast, AreWithin, Ask, Begins, Entry, Err, HasCredit, HasLeastCredit, HasRightCredit, HasSplit, Id, IfOk, IsAt, IsBefore, IsFitJob, IsKept, IsState, IsTidy, Job, KeepsLaws, Lasting, List, Ok, Outcome, Pauses, Result, Some, Standing, Stands, State, Stock, Tables, Waits, [], action_few, ahead, all_at, ap, append_assoc, arith, asked_at, asked_events, at_all, at_all_append, bare, bare_state, drop, first_cuts, get_or, hand_before, hand_ids, hand_kinds, hand_of, id_at, inl, is_managed, lacking, length, length-append, length-map, made_of, managed_same, managed_there, map, none_short, own_many, places_in_hand, places_named, refl, remove, set, short_before, short_places, slice_get, some_same, split_stock, splits_before, stock_before, subst, sym, take, take_more, true, waits_with, with_asks, with_mail, ℕ, ◌++◌, ◌+◌, ◌<◌, ◌∙◌, ◌∷◌, ◌≡◌, ◌≤◌}
+use Rattle.hpx_commit.proofs.Stripped.{short_few, stripped_behind, stripped_places}
 use Rattle.hpx_node.specs.declared.node.wait.Before.{Before}
-use Rattle.hpx_tables.specs.Splits.{first_cuts, asked_events}
-use Rattle.hpx_steps.specs.Calls.{with_asks}
-use Rattle.hpx_steps.specs.Mail.{with_mail}
-use Rattle.hpx_node.specs.Asks.{own_many, hand_before, splits_before, split_stock, short_before, lacking, stock_before, Pauses, IsBefore, Begins}
-use Rattle.hpx_node.specs.Commits.{made_of, hand_of, places_in_hand}
-use Rattle.hpx_tables.specs.Fit.{IsKept}
-use Rattle.hpx_tables.specs.Jobs.{IsAt, IsFitJob}
-use Rattle.hpx_tables.specs.Pending.{Waits, asked_at, waits_with}
-use Rattle.hpx_steps.specs.Rest.{IsTidy, Stands}
 use Rattle.hpx_steps.proofs.Waiting.{asks_rest, wait_stands}
-use Rattle.hpx_tables.specs.Tables.{Tables}
-use Rattle.hpx_tables.proofs.Alls.{all_at, some_same}
-use Rattle.hpx_tables.proofs.Cutting.{at_all_append}
 use Rattle.hpx_tables.proofs.FirstCuts.{first_few}
-use Rattle.hpx_node.proofs.LaterIds.{bare_none, long_names, within_long, hands_long, later_is}
 use Rattle.hpx_node.proofs.PlanLimits.{own_cuts}
-use Rattle.hpx_node.proofs.Prepared.{action_few, hand_within}
-use Rattle.hpx_node.proofs.ShortHand.{fresh_split, least_all, lacks_least, short_within}
+use Rattle.hpx_node.proofs.Planned.{AreMade, bare_kinds, hand_within, made_of_job, none_of, rights}
+use Rattle.hpx_value.specs.Mentions.{mentions}
+use Rattle.hpx_commit.specs.Deals.{named}
+use Rattle.hpx_commit.proofs.Moved.{wider}
+use Rattle.hpx_commit.proofs.ShortHand.{fits, is_kept, is_short, least_all, short_low, short_within}
 
 pub pauses_by : (t t' : Tables) (i j : ℕ) (job : Job) (w : Waits) (at : IsAt t i j job) (x : Standing) → slice_get t.objects j ≡ Some x
     → t' ≡ record t {
@@ -56,8 +31,8 @@ bare_fit s h = record {
   values = h.values;
   refs = h.refs;
   conts = h.conts;
-  ids = long_names s.ids ∙ h.ids;
-  few = omega (arith, long_names s.ids, h.few);
+  ids = length-map s.ids bare ∙ h.ids;
+  few = omega (arith, length-map s.ids bare, h.few);
   short = h.short;
 }
 
@@ -69,16 +44,76 @@ lent_kept x s kept same fit = record {
   plain = λ e. (ap (λ (y : State). y.values) (sym same) ∙ (kept.plain e).0, ap (λ (y : State). y.conts) (sym same) ∙ (kept.plain e).1);
 }
 
+all_map : (P : Id → Type 0) (f : ℕ → Id) (ps : List ℕ) → AllByRecursion (λ p. P (f p)) ps → AllByRecursion P (map f ps)
+all_map P f [] h = tt
+all_map P f (p ∷ ps) h = (h.0, all_map P f ps h.1)
+
 -- ---- the hand, before
 
 module _ (n : ℕ) (t : Tables) (job : Job) (out : Outcome) (laws : KeepsLaws n job.kind job.at job.state job.action out) (fit : IsFitJob job) where
-  pub within_hand : AreWithin (hand_ids job.state job.action (map bare (made_of t out))) (places_in_hand t job out)
-  within_hand = within_long (hand_ids job.state job.action (made_of t out)) (hand_ids job.state job.action (map bare (made_of t out)))
-      (places_in_hand t job out) (sym (hands_long job (made_of t out)))
-      (hand_within n job out laws fit t.here t.births t.profile.credit_log)
+  abbrev later : List Id
+  later = map bare (made_of t out)
+
+  are : AreMade t.profile.credit_log out.makes (made_of t out)
+  are = made_of_job n t job out laws fit
+
+  pub hands_long : length (hand_before t job out) ≡ length (hand_of t job out)
+  hands_long = omega (
+    arith,
+    length-append job.state.ids (job.action.ids ++ map bare (made_of t out)),
+    length-append job.state.ids (job.action.ids ++ made_of t out),
+    length-append job.action.ids (map bare (made_of t out)),
+    length-append job.action.ids (made_of t out),
+    length-map (made_of t out) bare,
+  )
+
+  pub within_hand : AreWithin (hand_before t job out) (places_in_hand t job out)
+  within_hand = wider (length (hand_of t job out)) (length (hand_before t job out)) (places_in_hand t job out) (omega (arith, hands_long)) (hand_within n t job out laws fit)
+
+  -- the places are the same without credits
+  later_named : places_in_hand t job out ≡ places_named job.state job.action (map bare (made_of t out)) out
+  later_named = managed_same (hand_of t job out) (hand_before t job out) (mentions job.state job.action out)
+      (hand_kinds job.state job.action (made_of t out) later (sym (bare_kinds (made_of t out))))
+
+  managed_hand : (p : ℕ) → 1 ≤ named (places_in_hand t job out) p → is_managed (id_at (hand_before t job out) p) ≡ true
+  managed_hand p some = managed_there (hand_before t job out) (mentions job.state job.action out) p (subst (λ ps. 1 ≤ named ps p) later_named some)
 
   pub within_split : AreWithin (split_stock t job out).hand (short_before t job out)
-  within_split = short_within job out (map bare (made_of t out)) (places_in_hand t job out) fit within_hand (later_is n t job out laws fit)
+  within_split = short_within HasRightCredit HasCredit rights job.state job.action fit.credit fit.action.sent.credit (map bare (made_of t out)) (places_in_hand t job out) within_hand managed_hand
+
+  pub least_split : AllByRecursion (λ p. HasLeastCredit (id_at (split_stock t job out).hand p)) (short_before t job out)
+  least_split = least_all HasRightCredit HasCredit rights job.state job.action fit.credit fit.action.sent.credit (map bare (made_of t out)) (places_in_hand t job out) within_hand managed_hand
+
+  abbrev whole : List ℕ → Stock
+  whole ps = ahead (own_many job) (record { hand = hand_before t job out; places = ps })
+
+  -- so it may wait
+  pub fresh_split : (log k m : ℕ) → HasSplit log (waits_with job out k (asked_at m (short_before t job out)) (stock_before t job out))
+  fresh_split log k m = record {
+    made = later;
+    kinds = bare_kinds (made_of t out) ∙ are.kinds;
+    bare = are.bare;
+    within = subst (AreWithin (hand_before t job out)) later_named within_hand;
+    places = stripped_places (short_before t job out) (split_stock t job out) ∙ ap (λ ps. (whole ps).places) later_named;
+    rest = stripped_behind (own_many job) (short_before t job out) (split_stock t job out)
+        (short_low HasRightCredit HasCredit rights job.state job.action fit.credit fit.action.sent.credit (map bare (made_of t out)) (places_in_hand t job out) within_hand managed_hand) ∙ ap (λ ps. drop (own_many job) (whole ps).hand) later_named;
+    own = λ p lt lasts.
+        is_kept HasRightCredit HasCredit rights job.state job.action fit.credit fit.action.sent.credit (map bare (made_of t out)) (places_in_hand t job out) within_hand managed_hand p
+        (subst (λ ps. Lasting (whole ps) p) (sym later_named) lasts) ∙ ap (λ ps. id_at (whole ps).hand p) later_named;
+    short = λ p lt none. inl (ap (λ (y : Id). y.log)
+        (is_short HasRightCredit HasCredit rights job.state job.action fit.credit fit.action.sent.credit (map bare (made_of t out)) (places_in_hand t job out) within_hand managed_hand p lt
+        (λ lasts. none (subst (λ ps. Lasting (whole ps) p) later_named lasts))));
+  }
+
+  -- where not all ids last, something is asked for
+  pub something : n ≤ 64 → 8 ≤ t.profile.credit_log → (AllLast (hand_of t job out) (places_in_hand t job out) → ⊥) → 1 ≤ length (lacking t job out)
+  something few enough short = at (short_before t job out) refl
+    where
+      at : (ps : List ℕ) → short_before t job out ≡ ps → 1 ≤ length (map (id_at (split_stock t job out).hand) ps)
+      at [] e = absurd (short (none_short HasRightCredit HasCredit rights n job.kind job.at job.state job.action out laws few fit.state fit.action.sent.shape fit.credit
+          fit.action.sent.credit (made_of t out) are.kinds are.credit t.profile.credit_log enough are.logs later within_hand
+          (fits HasRightCredit HasCredit rights job.state job.action fit.credit fit.action.sent.credit (map bare (made_of t out)) (places_in_hand t job out) within_hand managed_hand) e))
+      at (p ∷ ps) e = omega arith
 
   pub short_many : length (short_before t job out) ≤ 162
   short_many = omega (
@@ -129,7 +164,7 @@ module _ (t : Tables) (job : Job) (out : Outcome) (b : Before) (is : IsBefore t 
         (omega (
           arith,
           first_few b.own 0 (hand_ids job.state job.action (map bare (made_of t out))) (hand_ids job.state job.action (made_of t out))
-              (places_in_hand t job out) (hands_long job (made_of t out)),
+              (places_in_hand t job out) (hands_long t.localities t job out laws fit),
           own_cuts t job out fit few laws,
         )))
 
@@ -143,7 +178,7 @@ module _ (t : Tables) (job : Job) (out : Outcome) (b : Before) (is : IsBefore t 
 
     pub before_least : AllByRecursion HasLeastCredit b.lacking.items
     before_least = subst (AllByRecursion HasLeastCredit) (sym is.lacking)
-        (lacks_least job out (map bare (made_of t out)) (places_in_hand t job out) fit (within_hand t.localities t job out laws fit) (later_is t.localities t job out laws fit))
+        (all_map HasLeastCredit (id_at (split_stock t job out).hand) (short_before t job out) (least_split t.localities t job out laws fit))
 
 -- so it begins to wait, and all that holds goes on to hold
 pub begins_by : (act_of : ℕ → ℕ → ℕ → State → Act → Outcome) (t m t' : Tables) (job : Job) (out : Outcome) (localities : ℕ) (b : Before) (i j : ℕ) (w : Waits)
@@ -156,7 +191,6 @@ begins_by act_of t m t' job out localities b i j w e0 e1 fit few laws is n below
     let later : List Id = map bare (made_of t out) in
     let places : List ℕ = places_in_hand t job out in
     let ids : List Id = lacking t job out in
-    let is_later = later_is t.localities t job out laws fit in
     let within = within_hand t.localities t job out laws fit in
     let same : w ≡ waits_with job out t.localities (asked_at t.asked (short_before t job out)) (stock_before t job out) =
     w_is
@@ -185,8 +219,8 @@ begins_by act_of t m t' job out localities b i j w e0 e1 fit few laws is n below
       pending = t.pending ++ v ∷ [];
     })) { asked = t.asked + length (lacking t job out) } in
     let stands = wait_stands act_of t e0 h i j job out at.standing at.runs at.stands at.found at.here (sym at.kind) (sym at.state)
-    (few, subst (λ k. job.at < k) n below) later (bare_none (made_of t out)) places within
-    (least_all job out later places fit within is_later) (omega (arith, some, length-map (short_before t job out) (id_at (split_stock t job out).hand))) (fresh_split job out later places fit within is_later t.localities t.profile.credit_log t.asked) in
+    (few, subst (λ k. job.at < k) n below) later (none_of later (made_of_job t.localities t job out laws fit).bare) places within
+    (least_split t.localities t job out laws fit) (omega (arith, some, length-map (short_before t job out) (id_at (split_stock t job out).hand))) (fresh_split t.localities t job out laws fit t.profile.credit_log t.localities t.asked) in
     let ends : t' ≡ waited at.standing.state =
     asks
     ∙ (ap (λ (y : Tables). record (with_asks t.here t.asked (lacking t job out) y) { asked = t.asked + length (lacking t job out) }) now.rest

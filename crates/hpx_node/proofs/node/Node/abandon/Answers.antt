@@ -1,10 +1,4 @@
-use Rattle.std.proofs.Common.{◌≡◌, ◌++◌, ◌∷◌, ◌∙◌, [], true, Some, set, sym, ap}
-use Rattle.std.specs.List.{slice_get}
-use Rattle.hpx_journal.specs.Entries.{name_of}
-use Rattle.hpx_part.specs.Data.{Done}
-use Rattle.hpx_part.proofs.Keyed.{slice_get_is}
-use Rattle.hpx_tables.specs.Pending.{Waits}
-use Rattle.hpx_tables.proofs.Alls.{some_same}
+use Rattle.hpx_node.proofs.Common.{Done, Some, Waits, [], ap, name_of, set, slice_get, slice_get_is, some_same, sym, true, ◌++◌, ◌∙◌, ◌∷◌, ◌≡◌}
 use Rattle.hpx_node.proofs.node.Node.abandon.Goals as goal
 
 pub new-requires : goal.new-requires

@@ -1,15 +1,7 @@
-use Rattle.std.proofs.Common.{refl, ap, [], ◌∷◌, ◌++◌, ◌≡◌, ◌∙◌, sym}
-use Rattle.hpx_agas.specs.Registries.{Registry}
-use Rattle.hpx_value.specs.Ids.{Id, bare}
-use Rattle.hpx_part.specs.Data.{Reason, Count}
-use Rattle.hpx_part.specs.Parts.{at_all}
-use Rattle.hpx_tables.specs.Tables.{Tables}
-use Rattle.hpx_steps.specs.Calls.{answered}
-use Rattle.hpx_journal.specs.Data.{Parcel}
+use Rattle.hpx_node.proofs.Common.{Count, Id, Locality, Parcel, Reason, Registry, Tables, [], answered, ap, at_all, bare, refl, sym, ◌++◌, ◌∙◌, ◌∷◌, ◌≡◌}
 use Rattle.hpx_node.proofs.Records.{given_home, granted_by_entry, granted_deals, leaves_asked, live_covers, live_home, refused_by_entry, refused_deals}
-use Rattle.hpx_node.specs.Locality.{Locality}
-use Rattle.hpx_node.proofs.node.Node.answer.Goals as goal
 use Rattle.hpx_node.proofs.node.Node.answer.Goals.{in-Limit, in-Yes}
+use Rattle.hpx_node.proofs.node.Node.answer.Goals as goal
 
 pub returns-in_default-clause-deals : goal.returns-in_default-clause-deals
 returns-in_default-clause-deals g c =

@@ -1,5 +1,4 @@
-use Rattle.std.proofs.Common.{arith, ap}
-use Rattle.hpx_node.specs.Locality.{Locality}
+use Rattle.hpx_node.proofs.Common.{Locality, ap, arith}
 use Rattle.hpx_node.proofs.Waited.{asks_more}
 use Rattle.hpx_node.proofs.node.Node.ask_all.Goals as goal
 

@@ -1,5 +1,4 @@
-use Rattle.std.proofs.Common.{take, length, ◌≤◌, ◌+◌, ◌≡◌}
-use Rattle.hpx_steps.specs.Calls.{with_asks}
+use Rattle.hpx_node.proofs.Common.{length, take, with_asks, ◌+◌, ◌≡◌, ◌≤◌}
 use Rattle.hpx_node.proofs.node.Node.ask_all.Given as goal
 
 abbrev pub invariant-loop-id : goal.invariant-loop-id

@@ -1,5 +1,4 @@
-use Rattle.std.proofs.Common.{◌≡◌, ◌+◌, ◌++◌, drop}
-use Rattle.hpx_tables.specs.Pending.{asked_at}
+use Rattle.hpx_node.proofs.Common.{asked_at, drop, ◌++◌, ◌+◌, ◌≡◌}
 use Rattle.hpx_node.proofs.node.Node.asks.Given as goal
 
 abbrev pub invariant-loop-place : goal.invariant-loop-place

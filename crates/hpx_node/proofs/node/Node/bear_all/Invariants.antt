@@ -1,7 +1,4 @@
-use Rattle.std.proofs.Common.{◌≡◌, ◌≤◌, ◌<◌, ◌+◌, ◌++◌, ◌^◌, length}
-use Rattle.std.specs.List.{AllByRecursion}
-use Rattle.hpx_part.specs.Parts.{at_all}
-use Rattle.hpx_tables.specs.Births.{IsBirth, Makes, births_of}
+use Rattle.hpx_node.proofs.Common.{AllByRecursion, IsBirth, Makes, at_all, births_of, length, ◌++◌, ◌+◌, ◌<◌, ◌^◌, ◌≡◌, ◌≤◌}
 use Rattle.hpx_node.proofs.node.Node.bear_all.Given as goal
 
 abbrev pub decreases-loop-self : goal.decreases-loop-self

@@ -1,9 +1,4 @@
-use Rattle.std.proofs.Common.{◌≡◌, ◌≤◌, ◌+◌, ◌∙◌, map, length, length-append, refl, sym, ap, arith}
-use Rattle.hpx_value.specs.Hands.{id_at}
-use Rattle.hpx_commit.specs.Stocks.{Stock, stripped}
-use Rattle.hpx_node.specs.Asks.{own_many, hand_before, split_stock, short_before}
-use Rattle.hpx_node.specs.Commits.{places_in_hand}
-use Rattle.hpx_tables.specs.Pending.{asked_at}
+use Rattle.hpx_node.proofs.Common.{Stock, ap, arith, asked_at, hand_before, id_at, length, length-append, map, own_many, places_in_hand, refl, short_before, split_stock, stripped, sym, ◌+◌, ◌∙◌, ◌≡◌, ◌≤◌}
 use Rattle.hpx_node.proofs.Waited.{split_by, short_by, short_many, within_split}
 use Rattle.hpx_node.proofs.node.Node.before.Goals as goal
 

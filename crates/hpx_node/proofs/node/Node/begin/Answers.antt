@@ -1,14 +1,7 @@
-use Rattle.std.proofs.Common.{◌≤◌, ◌++◌, ◌∙◌, ap, length, refl, subst, arith}
-use Rattle.hpx_value.specs.Laws.{KeepsLaws}
-use Rattle.hpx_part.proofs.Keyed.{slice_get_less}
-use Rattle.hpx_part.specs.Parts.{at_all}
-use Rattle.hpx_tables.specs.Splits.{first_cuts, asked_events}
-use Rattle.hpx_tables.specs.Tables.{Tables}
-use Rattle.hpx_node.proofs.SomeShort.{something}
+use Rattle.hpx_node.proofs.Common.{KeepsLaws, Locality, Tables, ap, arith, asked_events, at_all, first_cuts, length, refl, slice_get_less, subst, ◌++◌, ◌∙◌, ◌≤◌}
 use Rattle.hpx_node.proofs.TurnSteps.{adds_asks}
-use Rattle.hpx_node.proofs.Waited.{before_short, before_own, before_least, lacks_few, kept_before, begins_by}
+use Rattle.hpx_node.proofs.Waited.{before_short, before_own, before_least, lacks_few, kept_before, begins_by, something}
 use Rattle.hpx_node.proofs.Turned.{at_rest_tidy}
-use Rattle.hpx_node.specs.Locality.{Locality}
 use Rattle.hpx_node.proofs.node.Node.begin.Goals as goal
 
 pub push_first_splits-requires-clause-own : goal.push_first_splits-requires-clause-own
@@ -78,7 +71,7 @@ returns-clause-stands g c =
     let cut = rw (c.as_slice.ensures.value, c.as_slice-2.ensures.value, here) at c.push_first_splits.ensures.entries in
     let asked = rw (c.as_slice-3.ensures.value, here) at c.push_asks.ensures.entries in
     let valid = rw (ap (λ (x : Locality). x.tables.profile) c.self.view_is) at c.self.invariant.3 in
-    let some = something d.localities t d.job d.outcome c.requires.laws c.requires.fit valid.log_least c.requires.short in
+    let some = something t.localities t d.job d.outcome laws c.requires.fit c.requires.few valid.log_least c.requires.short in
     (begins_by g.A.Acts.act_of t c.pause.new.self.tables c.ask_all.new.self.tables d.job d.outcome d.localities c.args.before c.args.i c.args.j _ c.args.book.now.entries
     c.push_asks.new.book.entries c.requires.fit c.requires.few laws c.requires.before c.requires.localities c.requires.here refl pauses asks
     (asked ∙ ap (λ es. es ++ at_all t.here (asked_events c.args.before.lacking.items)) cut) some c.requires.stands).0
@@ -94,7 +87,7 @@ returns-clause-begins g c =
     let cut = rw (c.as_slice.ensures.value, c.as_slice-2.ensures.value, here) at c.push_first_splits.ensures.entries in
     let asked = rw (c.as_slice-3.ensures.value, here) at c.push_asks.ensures.entries in
     let valid = rw (ap (λ (x : Locality). x.tables.profile) c.self.view_is) at c.self.invariant.3 in
-    let some = something d.localities t d.job d.outcome c.requires.laws c.requires.fit valid.log_least c.requires.short in
+    let some = something t.localities t d.job d.outcome laws c.requires.fit c.requires.few valid.log_least c.requires.short in
     (begins_by g.A.Acts.act_of t c.pause.new.self.tables c.ask_all.new.self.tables d.job d.outcome d.localities c.args.before c.args.i c.args.j _ c.args.book.now.entries
     c.push_asks.new.book.entries c.requires.fit c.requires.few laws c.requires.before c.requires.localities c.requires.here refl pauses asks
     (asked ∙ ap (λ es. es ++ at_all t.here (asked_events c.args.before.lacking.items)) cut) some c.requires.stands).1

@@ -1,6 +1,4 @@
-use Rattle.std.proofs.Common.{[], refl, rules}
-use Rattle.hpx_steps.specs.Rest.{rules_of}
-use Rattle.hpx_steps.proofs.AtRest.{sound_at_rest}
+use Rattle.hpx_node.proofs.Common.{[], refl, rules, rules_of, sound_at_rest}
 use Rattle.hpx_node.proofs.node.Node.boot.Goals as goal
 
 pub returns-clause-stands : goal.returns-clause-stands

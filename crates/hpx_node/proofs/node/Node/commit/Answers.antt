@@ -1,8 +1,4 @@
-use Rattle.std.proofs.Common.{◌∙◌, ◌<◌, subst, ap, arith}
-use Rattle.std.specs.List.{slice_get}
-use Rattle.hpx_value.specs.Laws.{KeepsLaws}
-use Rattle.hpx_part.proofs.Keyed.{slice_get_less}
-use Rattle.hpx_tables.specs.Tables.{Tables}
+use Rattle.hpx_node.proofs.Common.{KeepsLaws, Tables, ap, arith, slice_get, slice_get_less, subst, ◌<◌, ◌∙◌}
 use Rattle.hpx_node.proofs.Committing.{stands_less, stands_then}
 use Rattle.hpx_node.proofs.Runs.{runs_commits, runs_goes, runs_kept, runs_stands, runs_written}
 use Rattle.hpx_node.proofs.Turned.{are_few, at_rest_tidy}

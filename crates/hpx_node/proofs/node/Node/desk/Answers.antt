@@ -1,11 +1,4 @@
-use Rattle.std.proofs.Common.{[], ◌∷◌, ◌++◌, ◌≡◌, ◌≤◌, ◌∙◌, get_or, map, sym, ap, subst, arith}
-use Rattle.std.specs.List.{AllByRecursion}
-use Rattle.hpx_parcel.specs.Parcels.{IsParcel}
-use Rattle.hpx_journal.specs.Data.{Parcel}
-use Rattle.hpx_tables.specs.declared.kept.Outgoing.{Outgoing}
-use Rattle.hpx_tables.specs.Tables.{Tables}
-use Rattle.hpx_steps.specs.Rest.{IsTidy, Stands}
-use Rattle.hpx_node.specs.Locality.{Locality}
+use Rattle.hpx_node.proofs.Common.{AllByRecursion, IsParcel, IsTidy, Locality, Outgoing, Parcel, Stands, Tables, [], ap, arith, get_or, map, subst, sym, ◌++◌, ◌∙◌, ◌∷◌, ◌≡◌, ◌≤◌}
 use Rattle.hpx_node.proofs.FewEntries.{popped_tidy}
 use Rattle.hpx_node.proofs.Followed.{next_first, next_gives}
 use Rattle.hpx_node.proofs.Same.{same_too}

@@ -1,10 +1,8 @@
-use Rattle.std.proofs.Common.{◌+◌, ◌∙◌, ap, refl}
-use Rattle.hpx_tables.specs.Tables.{Tables}
+use Rattle.hpx_node.proofs.Common.{Locality, Tables, ap, refl, ◌+◌, ◌∙◌}
 use Rattle.hpx_node.proofs.Arrived.{deals_rest, leaves_from, taken_writes}
 use Rattle.hpx_node.proofs.FewEntries.{grows_few, taken_tidy}
 use Rattle.hpx_node.proofs.Turns.{frame_short}
 use Rattle.hpx_node.proofs.TurnSteps.{grows_light}
-use Rattle.hpx_node.specs.Locality.{Locality}
 use Rattle.hpx_node.proofs.node.Node.enter_frame.Goals as goal
 
 pub handle-requires-clause-tidy : goal.handle-requires-clause-tidy

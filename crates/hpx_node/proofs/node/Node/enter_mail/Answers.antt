@@ -1,5 +1,4 @@
-use Rattle.std.proofs.Common.{ap, arith}
-use Rattle.hpx_tables.specs.Tables.{Tables}
+use Rattle.hpx_node.proofs.Common.{Tables, ap, arith}
 use Rattle.hpx_node.proofs.Arrived.{deals_rest, entries_join}
 use Rattle.hpx_node.proofs.FewEntries.{grows_few}
 use Rattle.hpx_node.proofs.TurnSteps.{grows_light}

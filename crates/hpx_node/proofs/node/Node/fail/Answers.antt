@@ -1,6 +1,4 @@
-use Rattle.std.proofs.Common.{ap, arith, ◌∙◌}
-use Rattle.hpx_part.proofs.Keyed.{slice_get_less}
-use Rattle.hpx_tables.specs.Tables.{Tables}
+use Rattle.hpx_node.proofs.Common.{Tables, ap, arith, slice_get_less, ◌∙◌}
 use Rattle.hpx_node.proofs.Failed.{plan_due, plan_ups, plan_few, plan_kept, then_fails, then_writes, then_few}
 use Rattle.hpx_node.proofs.TurnSteps.{fails_light}
 use Rattle.hpx_node.proofs.node.Node.fail.Goals as goal

@@ -1,7 +1,4 @@
-use Rattle.std.proofs.Common.{◌<◌, ◌∙◌, length, sym}
-use Rattle.hpx_part.proofs.Keyed.{slice_get_is}
-use Rattle.hpx_tables.specs.Pending.{awaits}
-use Rattle.hpx_tables.proofs.Alls.{find_passes}
+use Rattle.hpx_node.proofs.Common.{awaits, find_passes, length, slice_get_is, sym, ◌<◌, ◌∙◌}
 use Rattle.hpx_node.proofs.Paused.{in_place, paused_at}
 use Rattle.hpx_node.proofs.node.Node.failing.Goals as goal
 

@@ -1,7 +1,4 @@
-use Rattle.std.proofs.Common.{◌<◌, length, sym, ap, ◌∙◌, arith, subst}
-use Rattle.hpx_value.specs.declared.acts.Job.{Job}
-use Rattle.hpx_part.proofs.Keyed.{slice_get_is}
-use Rattle.hpx_tables.specs.Jobs.{IsFitJob}
+use Rattle.hpx_node.proofs.Common.{IsFitJob, Job, ap, arith, length, slice_get_is, subst, sym, ◌<◌, ◌∙◌}
 use Rattle.hpx_node.proofs.FailedPlan.{plan_long, plan_limit, failure_is, failure_few, ok_three}
 use Rattle.hpx_node.proofs.Waited.{ok_map}
 use Rattle.hpx_node.proofs.Paused.{asked_within, paused_at}

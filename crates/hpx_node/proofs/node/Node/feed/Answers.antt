@@ -1,6 +1,4 @@
-use Rattle.std.proofs.Common.{sym, subst, refl, arith}
-use Rattle.hpx_steps.proofs.TurnOf.{line_stands}
-use Rattle.hpx_steps.specs.Rest.{Stands}
+use Rattle.hpx_node.proofs.Common.{Stands, arith, line_stands, refl, subst, sym}
 use Rattle.hpx_node.proofs.Fed.{accepts_line}
 use Rattle.hpx_node.proofs.Same.{same_too}
 use Rattle.hpx_node.proofs.Turns.{turn_from, adds_one}

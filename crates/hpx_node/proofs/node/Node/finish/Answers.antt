@@ -1,6 +1,4 @@
-use Rattle.std.proofs.Common.{ap, ◌∙◌}
-use Rattle.hpx_journal.specs.Weights.{Book}
-use Rattle.hpx_steps.specs.Rest.{Stands}
+use Rattle.hpx_node.proofs.Common.{Book, Stands, ap, ◌∙◌}
 use Rattle.hpx_node.proofs.Waited.{ok_map}
 use Rattle.hpx_node.proofs.Same.{same_too}
 use Rattle.hpx_node.proofs.Turns.{turn_from, adds_none}

@@ -1,14 +1,6 @@
-use Rattle.std.proofs.Common.{◌≡◌, Some, refl, sym, ap, ◌∙◌, subst, arith}
-use Rattle.std.specs.List.{slice_get}
-use Rattle.hpx_tables.specs.Free.{IsFree}
-use Rattle.hpx_tables.specs.Pending.{fired_of}
-use Rattle.hpx_tables.proofs.FreeLemmas.{started_runs}
+use Rattle.hpx_node.proofs.Common.{IsFree, Locality, Some, Stands, Tables, ap, arith, fire_stands, fired_of, refl, slice_get, started_runs, subst, sym, ◌∙◌, ◌≡◌}
 use Rattle.hpx_node.proofs.Same.{writes_from, same_too}
 use Rattle.hpx_node.proofs.Turns.{turn_from, adds_one}
-use Rattle.hpx_tables.specs.Tables.{Tables}
-use Rattle.hpx_node.specs.Locality.{Locality}
-use Rattle.hpx_steps.proofs.TurnOf.{fire_stands}
-use Rattle.hpx_steps.specs.Rest.{Stands}
 use Rattle.hpx_node.proofs.node.Node.fire.Goals as goal
 
 pub returns-clause-fired : goal.returns-clause-fired

@@ -1,12 +1,7 @@
-use Rattle.std.proofs.Common.{◌<◌, ◌≡◌, ◌∙◌, Some, length, sym, ap}
-use Rattle.std.specs.List.{find, slice_get}
-use Rattle.hpx_journal.specs.Local.{is_standing}
-use Rattle.hpx_part.proofs.Keyed.{slice_get_is}
-use Rattle.hpx_tables.specs.Tables.{Tables}
+use Rattle.hpx_node.proofs.Common.{Locality, Some, Tables, ap, find, is_standing, length, slice_get, slice_get_is, sym, ◌<◌, ◌∙◌, ◌≡◌}
 use Rattle.hpx_node.proofs.Credits.{freed_deals, freed_grows, returns_kept}
 use Rattle.hpx_node.proofs.Paused.{freed_whole}
 use Rattle.hpx_node.proofs.Records.{leaves_freed}
-use Rattle.hpx_node.specs.Locality.{Locality}
 use Rattle.hpx_node.proofs.node.Node.free.Goals as goal
 
 pub let_go_all-requires-clause-right : goal.let_go_all-requires-clause-right

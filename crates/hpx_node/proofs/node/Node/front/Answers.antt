@@ -1,5 +1,4 @@
-use Rattle.std.proofs.Common.{arith, refl, drop, ◌≡◌, ◌∷◌}
-use Rattle.hpx_part.proofs.Keyed.{slice_get_is, split_get}
+use Rattle.hpx_node.proofs.Common.{arith, drop, refl, slice_get_is, split_get, ◌∷◌, ◌≡◌}
 use Rattle.hpx_node.proofs.node.Node.front.Goals as goal
 
 pub returns-clause-some : goal.returns-clause-some

@@ -1,8 +1,4 @@
-use Rattle.std.proofs.Common.{◌<◌, ◌∙◌, length, refl}
-use Rattle.hpx_part.proofs.Keyed.{slice_get_is}
-use Rattle.hpx_steps.specs.Rest.{IsPaused}
-use Rattle.hpx_tables.specs.Pending.{awaits}
-use Rattle.hpx_tables.proofs.Alls.{all_at, find_passes}
+use Rattle.hpx_node.proofs.Common.{IsPaused, all_at, awaits, find_passes, length, refl, slice_get_is, ◌<◌, ◌∙◌}
 use Rattle.hpx_tables.proofs.Refills.{any_found}
 use Rattle.hpx_node.proofs.Paused.{asked_within}
 use Rattle.hpx_node.proofs.node.Node.give.Goals as goal

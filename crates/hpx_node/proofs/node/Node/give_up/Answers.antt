@@ -1,7 +1,4 @@
-use Rattle.std.proofs.Common.{◌≡◌, ◌∷◌, ◌∙◌, ap, sym}
-use Rattle.hpx_tables.specs.Tables.{Tables}
-use Rattle.hpx_steps.specs.Calls.{with_returns}
-use Rattle.hpx_steps.specs.Mail.{with_return}
+use Rattle.hpx_node.proofs.Common.{Tables, ap, sym, with_return, with_returns, ◌∙◌, ◌∷◌, ◌≡◌}
 use Rattle.hpx_node.proofs.Credits.{credit_log_is, one_up}
 use Rattle.hpx_node.proofs.node.Node.give_up.Goals as goal
 

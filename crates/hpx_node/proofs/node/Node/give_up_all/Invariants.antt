@@ -1,9 +1,4 @@
-use Rattle.std.proofs.Common.{◌≡◌, ◌≤◌, ◌++◌, length}
-use Rattle.std.specs.List.{AllByRecursion}
-use Rattle.hpx_parcel.specs.Parcels.{HasCredit}
-use Rattle.hpx_part.specs.Parts.{at_all}
-use Rattle.hpx_node.specs.Changes.{OnlySends}
-use Rattle.hpx_steps.specs.Calls.{ups, with_returns}
+use Rattle.hpx_node.proofs.Common.{AllByRecursion, HasCredit, OnlySends, at_all, length, ups, with_returns, ◌++◌, ◌≡◌, ◌≤◌}
 use Rattle.hpx_node.proofs.node.Node.give_up_all.Given as goal
 
 abbrev pub decreases-loop-self : goal.decreases-loop-self

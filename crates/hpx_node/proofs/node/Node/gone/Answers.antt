@@ -1,7 +1,4 @@
-use Rattle.std.proofs.Common.{arith, ◌∙◌, ◌≡◌, Some, ap, drop, refl}
-use Rattle.hpx_parcel.specs.Reading.{parcel_of}
-use Rattle.hpx_steps.proofs.AtRest.{rest_stands}
-use Rattle.hpx_steps.proofs.TurnOf.{out_stands}
+use Rattle.hpx_node.proofs.Common.{Some, ap, arith, drop, out_stands, parcel_of, refl, rest_stands, ◌∙◌, ◌≡◌}
 use Rattle.hpx_node.proofs.Few.{sent_few}
 use Rattle.hpx_node.proofs.Turns.{adds_out}
 use Rattle.hpx_node.proofs.node.Node.gone.Goals as goal

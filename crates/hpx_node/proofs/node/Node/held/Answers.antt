@@ -1,9 +1,4 @@
-use Rattle.std.proofs.Common.{◌-◌, ◌^◌, arith, ap}
-use Rattle.std.specs.List.{sum_by}
-use Rattle.hpx_journal.specs.Data.{Act}
-use Rattle.hpx_part.specs.Data.{Standing}
-use Rattle.hpx_tables.specs.Kept.{credit_in}
-use Rattle.hpx_tables.specs.Pending.{Waits}
+use Rattle.hpx_node.proofs.Common.{Act, Standing, Waits, ap, arith, credit_in, sum_by, ◌-◌, ◌^◌}
 use Rattle.hpx_node.proofs.Held.{held_sum}
 use Rattle.hpx_node.proofs.node.Node.held.Goals as goal
 

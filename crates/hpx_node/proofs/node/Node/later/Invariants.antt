@@ -1,8 +1,4 @@
-use Rattle.std.proofs.Common.{◌≡◌, ◌+◌, ◌++◌, drop, map}
-use Rattle.std.specs.List.{AllByRecursion}
-use Rattle.hpx_value.specs.Ids.{bare}
-use Rattle.hpx_value.specs.Laws.{IsManaged}
-use Rattle.hpx_tables.specs.Births.{birth_of, ids_of}
+use Rattle.hpx_node.proofs.Common.{AllByRecursion, IsManaged, bare, birth_of, drop, ids_of, map, ◌++◌, ◌+◌, ◌≡◌}
 use Rattle.hpx_node.proofs.node.Node.later.Given as goal
 
 abbrev pub invariant-loop-make : goal.invariant-loop-make

@@ -1,5 +1,4 @@
-use Rattle.std.proofs.Common.{◌∙◌, ap}
-use Rattle.hpx_steps.specs.Calls.{with_returns}
+use Rattle.hpx_node.proofs.Common.{ap, with_returns, ◌∙◌}
 use Rattle.hpx_node.proofs.node.Node.leave.Goals as goal
 
 pub returns-clause-goes : goal.returns-clause-goes

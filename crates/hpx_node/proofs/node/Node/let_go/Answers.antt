@@ -1,5 +1,4 @@
-use Rattle.std.proofs.Common.{sym, ap, ◌∙◌}
-use Rattle.hpx_steps.specs.Mail.{with_return}
+use Rattle.hpx_node.proofs.Common.{ap, sym, with_return, ◌∙◌}
 use Rattle.hpx_node.proofs.node.Node.let_go.Goals as goal
 
 pub returns-in-Some-clause-goes : goal.returns-in-Some-clause-goes

@@ -1,5 +1,4 @@
-use Rattle.std.proofs.Common.{◌<◌, ◌≡◌, ◌∙◌, arith, ap, length, get_or, take}
-use Rattle.hpx_tables.specs.Tables.{Tables}
+use Rattle.hpx_node.proofs.Common.{Tables, ap, arith, get_or, length, take, ◌<◌, ◌∙◌, ◌≡◌}
 use Rattle.hpx_node.proofs.Credits.{grows_more, returns_here, returns_more}
 use Rattle.hpx_node.proofs.node.Node.let_go_all.Goals as goal
 

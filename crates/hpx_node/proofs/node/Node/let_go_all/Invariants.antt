@@ -1,6 +1,4 @@
-use Rattle.std.proofs.Common.{◌≡◌, ◌++◌, ◌+◌, ◌≤◌, take}
-use Rattle.hpx_part.specs.Parts.{at_all}
-use Rattle.hpx_steps.specs.Calls.{ups, with_returns}
+use Rattle.hpx_node.proofs.Common.{at_all, take, ups, with_returns, ◌++◌, ◌+◌, ◌≡◌, ◌≤◌}
 use Rattle.hpx_node.proofs.node.Node.let_go_all.Given as goal
 
 abbrev pub invariant-loop-i : goal.invariant-loop-i

@@ -1,5 +1,4 @@
-use Rattle.std.proofs.Common.{arith}
-use Rattle.hpx_tables.specs.Kept.{credit_owed}
+use Rattle.hpx_node.proofs.Common.{arith, credit_owed}
 use Rattle.hpx_node.proofs.Held.{sum_messages}
 use Rattle.hpx_node.proofs.node.Node.owed.Goals as goal
 

@@ -1,5 +1,4 @@
-use Rattle.hpx_part.proofs.Keyed.{slice_get_is}
-use Rattle.std.proofs.Common.{refl}
+use Rattle.hpx_node.proofs.Common.{refl, slice_get_is}
 use Rattle.hpx_node.proofs.Waited.{pauses_by}
 use Rattle.hpx_node.proofs.node.Node.pause.Goals as goal
 

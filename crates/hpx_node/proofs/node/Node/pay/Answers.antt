@@ -1,6 +1,4 @@
-use Rattle.std.proofs.Common.{◌≡◌, ◌∷◌, ap, refl}
-use Rattle.hpx_journal.specs.Data.{MessageDue, PrintDue}
-use Rattle.hpx_steps.specs.Calls.{with_due}
+use Rattle.hpx_node.proofs.Common.{MessageDue, PrintDue, ap, refl, with_due, ◌∷◌, ◌≡◌}
 use Rattle.hpx_node.proofs.node.Node.pay.Goals as goal
 
 pub returns-in-Some-Message-clause-goes : goal.returns-in-Some-Message-clause-goes

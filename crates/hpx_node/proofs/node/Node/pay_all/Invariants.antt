@@ -1,9 +1,4 @@
-use Rattle.std.proofs.Common.{◌≡◌, ◌≤◌, ◌<◌, ◌+◌, ◌++◌, ◌^◌, length}
-use Rattle.std.specs.List.{AllByRecursion}
-use Rattle.hpx_part.specs.Parts.{at_all}
-use Rattle.hpx_node.specs.Changes.{OnlySends}
-use Rattle.hpx_tables.specs.Fit.{IsFitDue}
-use Rattle.hpx_steps.specs.Calls.{with_due, written_due}
+use Rattle.hpx_node.proofs.Common.{AllByRecursion, IsFitDue, OnlySends, at_all, length, with_due, written_due, ◌++◌, ◌+◌, ◌<◌, ◌^◌, ◌≡◌, ◌≤◌}
 use Rattle.hpx_node.proofs.node.Node.pay_all.Given as goal
 
 abbrev pub decreases-loop-self : goal.decreases-loop-self

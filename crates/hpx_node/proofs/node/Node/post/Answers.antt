@@ -1,6 +1,4 @@
-use Rattle.std.proofs.Common.{◌≡◌, ◌∙◌, true, false, sym}
-use Rattle.hpx_steps.specs.Mail.{may_stay}
-use Rattle.hpx_steps.proofs.Handled.{kept_here}
+use Rattle.hpx_node.proofs.Common.{false, kept_here, may_stay, sym, true, ◌∙◌, ◌≡◌}
 use Rattle.hpx_node.proofs.Routed.{letter_may, act_goes}
 use Rattle.hpx_node.proofs.node.Node.post.Goals as goal
 

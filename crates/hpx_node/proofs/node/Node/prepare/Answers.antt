@@ -1,12 +1,12 @@
-use Rattle.std.proofs.Common.{true, false, ◌≡◌, arith}
+use Rattle.hpx_node.proofs.Common.{arith, false, true, ◌≡◌}
 use Rattle.hpx_node.proofs.PlanLimits.{own_is}
-use Rattle.hpx_node.proofs.Prepared.{makes_managed, hand_few, hand_within}
+use Rattle.hpx_node.proofs.Planned.{makes_managed, hand_few, hand_within}
 use Rattle.hpx_node.proofs.node.Node.prepare.Goals as goal
 
 pub made-requires-clause-managed : goal.made-requires-clause-managed
 made-requires-clause-managed g c =
     let d = c.args.done.now in
-    rw (c.as_slice.ensures, c.outcome-outcome.ensures) (makes_managed d.localities d.job d.outcome c.lawful.ensures c.requires.fit)
+    rw (c.as_slice.ensures, c.outcome-outcome.ensures) (makes_managed d.outcome.makes c.lawful.ensures.few.managed)
 
 pub made-requires-clause-few : goal.made-requires-clause-few
 made-requires-clause-few g c =
@@ -16,7 +16,7 @@ pub all_last-requires-clause-few : goal.all_last-requires-clause-few
 all_last-requires-clause-few g c =
     let d = c.args.done.now in
     let t = c.args.self.now.tables in
-    let few = hand_few d.localities d.job d.outcome c.lawful.ensures c.requires.fit t.here t.births t.profile.credit_log in
+    let few = hand_few d.localities t d.job d.outcome c.lawful.ensures c.requires.fit in
     rw (c.ids.ensures, c.in_ok-hand.ensures.0, c.in_ok-hand.ensures.1, c.in_ok-hand.ensures.2, c.as_slice-2.ensures.value, c.in_ok-made.ensures, c.as_slice.ensures, c.job-job.ensures, c.outcome-outcome.ensures)
     (omega (arith, few))
 
@@ -25,7 +25,7 @@ all_last-requires-clause-within g c =
     let d = c.args.done.now in
     let t = c.args.self.now.tables in
     rw (c.as_slice-3.ensures.value, c.in_ok-places.ensures, c.ids.ensures, c.in_ok-hand.ensures.0, c.in_ok-hand.ensures.1, c.in_ok-hand.ensures.2, c.as_slice-2.ensures.value, c.in_ok-made.ensures, c.as_slice.ensures, c.job-job.ensures, c.outcome-outcome.ensures)
-    (hand_within d.localities d.job d.outcome c.lawful.ensures c.requires.fit t.here t.births t.profile.credit_log)
+    (hand_within d.localities t d.job d.outcome c.lawful.ensures c.requires.fit)
 
 pub returns-then-not-all_last-clause-none : goal.returns-then-not-all_last-clause-none
 returns-then-not-all_last-clause-none g c =

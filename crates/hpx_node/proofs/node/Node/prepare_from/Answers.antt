@@ -1,5 +1,4 @@
-use Rattle.std.proofs.Common.{rules, subst}
-use Rattle.hpx_value.specs.Laws.{KeepsLaws}
+use Rattle.hpx_node.proofs.Common.{KeepsLaws, rules, subst}
 use Rattle.hpx_node.proofs.OfPrepared.{prepared_so}
 use Rattle.hpx_node.proofs.node.Node.prepare_from.Goals as goal
 

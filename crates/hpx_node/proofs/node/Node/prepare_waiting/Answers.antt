@@ -1,10 +1,6 @@
-use Rattle.std.proofs.Common.{◌≡◌, ◌∙◌, length, length-append, ap, arith}
-use Rattle.hpx_value.specs.declared.acts.Job.{Job}
-use Rattle.hpx_journal.specs.Data.{Id, Outcome}
-use Rattle.hpx_commit.specs.Stocks.{Stock}
-use Rattle.hpx_node.proofs.Prepared.{made_long}
+use Rattle.hpx_node.proofs.Common.{Id, Job, List, Outcome, Stock, ap, arith, length, length-append, ◌∙◌, ◌≡◌}
+use Rattle.hpx_node.proofs.Planned.{made_long}
 use Rattle.hpx_node.proofs.node.Node.prepare_waiting.Goals as goal
-use Rattle.std.proofs.Common.{List}
 
 pub lawful-requires-clause-localities : goal.lawful-requires-clause-localities
 lawful-requires-clause-localities g c = omega (arith, c.done.ensures.localities, c.requires.localities, c.requires.near)

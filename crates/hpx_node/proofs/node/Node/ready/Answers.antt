@@ -1,25 +1,8 @@
-use Rattle.std.proofs.Common.{ℕ, [], get_or, true, ◌≡◌, ◌≤◌, ◌<◌, ◌∙◌, Some, None, take, length, sym, ap, subst, arith}
-use Rattle.std.specs.List.{find, slice_get}
-use Rattle.hpx_value.specs.declared.acts.Job.{Job}
-use Rattle.hpx_parcel.specs.Parcels.{IsParcel, HasCredit}
-use Rattle.hpx_journal.specs.Data.{Id, Give}
-use Rattle.hpx_journal.specs.Entries.{target_of}
-use Rattle.hpx_journal.specs.Local.{is_standing}
-use Rattle.hpx_part.proofs.Keyed.{slice_get_is}
-use Rattle.hpx_tables.specs.Fit.{IsKept}
-use Rattle.hpx_tables.specs.Jobs.{IsFitJob}
-use Rattle.hpx_tables.specs.Pending.{Waits, awaits, hand_with}
-use Rattle.hpx_tables.specs.Strange.{broken_near}
-use Rattle.hpx_tables.proofs.Alls.{find_passes}
-use Rattle.hpx_node.specs.Locality.{Locality}
-use Rattle.hpx_value.specs.Laws.{KeepsLaws}
-use Rattle.hpx_steps.specs.Rest.{IsPaused, IsTidy}
-use Rattle.hpx_node.specs.Resumes.{stock_with, is_last, IsReadyFor}
+use Rattle.hpx_node.proofs.Common.{Give, HasCredit, Id, IsFitJob, IsKept, IsParcel, IsPaused, IsReadyFor, IsTidy, Job, KeepsLaws, Locality, None, Some, Waits, [], ap, arith, awaits, broken_near, find, find_passes, get_or, give_right, hand_with, is_last, is_standing, length, slice_get, slice_get_is, stock_with, subst, sym, take, target_of, true, ℕ, ◌<◌, ◌∙◌, ◌≡◌, ◌≤◌}
 use Rattle.hpx_node.proofs.LeftBy.{kept_then}
 use Rattle.hpx_node.proofs.Paused.{asked_within, in_place, laws_by, paused_at, right_by}
-use Rattle.hpx_node.proofs.Prepared.{made_long}
+use Rattle.hpx_node.proofs.Planned.{made_long}
 use Rattle.hpx_node.proofs.ReadyStock.{IsStockReady, brings_by, is_ready, last_is}
-use Rattle.hpx_steps.proofs.Right.{give_right}
 use Rattle.hpx_node.proofs.node.Node.ready.Goals as goal
 
 -- a commit that waits, as the code finds it

@@ -1,6 +1,4 @@
-use Rattle.std.proofs.Common.{◌∙◌, length, arith, ap}
-use Rattle.std.specs.List.{remove}
-use Rattle.hpx_tables.specs.Tables.{Tables}
+use Rattle.hpx_node.proofs.Common.{Tables, ap, arith, length, remove, ◌∙◌}
 use Rattle.hpx_node.proofs.Committing.{stands_less, stands_then}
 use Rattle.hpx_node.proofs.Paused.{get_some}
 use Rattle.hpx_node.proofs.Resumed.{resumed_commits, resumed_few, resumed_kept, resumed_light, resumed_written}

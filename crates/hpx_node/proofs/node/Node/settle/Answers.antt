@@ -1,9 +1,4 @@
-use Rattle.std.proofs.Common.{◌≡◌, ◌++◌, ◌∷◌, ◌∙◌, [], false, Some, set, sym, ap}
-use Rattle.std.specs.List.{slice_get}
-use Rattle.hpx_journal.specs.Entries.{name_of}
-use Rattle.hpx_part.specs.Data.{Done}
-use Rattle.hpx_part.proofs.Keyed.{slice_get_is}
-use Rattle.hpx_tables.proofs.Alls.{some_same}
+use Rattle.hpx_node.proofs.Common.{Done, Some, [], ap, false, name_of, set, slice_get, slice_get_is, some_same, sym, ◌++◌, ◌∙◌, ◌∷◌, ◌≡◌}
 use Rattle.hpx_node.proofs.node.Node.settle.Goals as goal
 
 pub new-requires : goal.new-requires

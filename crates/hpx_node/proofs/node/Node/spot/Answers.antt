@@ -1,6 +1,4 @@
-use Rattle.std.proofs.Common.{◌≡◌, ◌<◌, ◌∙◌, Some, length, refl, sym}
-use Rattle.std.specs.List.{slice_get}
-use Rattle.hpx_part.proofs.Keyed.{slice_get_is}
+use Rattle.hpx_node.proofs.Common.{Some, length, refl, slice_get, slice_get_is, sym, ◌<◌, ◌∙◌, ◌≡◌}
 use Rattle.hpx_node.proofs.Paused.{fit_job}
 use Rattle.hpx_node.proofs.node.Node.spot.Goals as goal
 

@@ -1,10 +1,4 @@
-use Rattle.std.proofs.Common.{◌<◌, ◌≡◌, ◌∙◌, Some, length, sym, refl, ap}
-use Rattle.std.specs.List.{slice_get}
-use Rattle.std.proofs.Common.{[], ◌∷◌, ◌++◌}
-use Rattle.hpx_part.specs.Data.{Fire}
-use Rattle.hpx_tables.proofs.Alls.{some_same}
-use Rattle.hpx_journal.specs.Entries.{name_of}
-use Rattle.hpx_part.proofs.Keyed.{slice_get_is}
+use Rattle.hpx_node.proofs.Common.{Fire, Some, [], ap, length, name_of, refl, slice_get, slice_get_is, some_same, sym, ◌++◌, ◌<◌, ◌∙◌, ◌∷◌, ◌≡◌}
 use Rattle.hpx_node.proofs.node.Node.start.Goals as goal
 
 pub returns-in-Some-clause-fired : goal.returns-in-Some-clause-fired

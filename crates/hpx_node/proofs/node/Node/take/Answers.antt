@@ -1,10 +1,5 @@
-use Rattle.std.proofs.Common.{[], ◌≡◌, ◌≤◌, ◌∙◌, Some, sym, ap, subst, arith}
-use Rattle.hpx_parcel.specs.Reading.{parcel_of}
-use Rattle.hpx_parcel.proofs.Frames.{parcel_spelled}
-use Rattle.hpx_steps.specs.Rest.{IsTidy, Stands}
-use Rattle.hpx_tables.specs.Tables.{Tables}
+use Rattle.hpx_node.proofs.Common.{IsTidy, Some, Stands, Tables, [], ap, arith, near_right, parcel_of, parcel_spelled, subst, sym, ◌∙◌, ◌≡◌, ◌≤◌}
 use Rattle.hpx_node.proofs.Followed.{next_gives}
-use Rattle.hpx_steps.proofs.Right.{near_right}
 use Rattle.hpx_node.proofs.Same.{same_too}
 use Rattle.hpx_node.proofs.Turned.{are_few, at_rest_tidy, frame_follows, frame_takes, still_few}
 use Rattle.hpx_node.proofs.Turns.{adds_none}

@@ -1,7 +1,4 @@
-use Rattle.std.proofs.Common.{refl, ap}
-use Rattle.hpx_agas.specs.Registries.{Registry}
-use Rattle.hpx_journal.specs.Data.{Parcel}
-use Rattle.hpx_tables.specs.Tables.{Tables}
+use Rattle.hpx_node.proofs.Common.{Parcel, Registry, Tables, ap, refl}
 use Rattle.hpx_node.proofs.Records.{alive_deals, dead_deals, leaves_returned, live_covers}
 use Rattle.hpx_node.proofs.node.Node.take_back.Goals as goal
 

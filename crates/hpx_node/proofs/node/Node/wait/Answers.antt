@@ -1,8 +1,5 @@
-use Rattle.std.proofs.Common.{ap, arith, refl, ◌∙◌}
-use Rattle.hpx_tables.specs.Tables.{Tables}
-use Rattle.hpx_journal.specs.Weights.{Book}
+use Rattle.hpx_node.proofs.Common.{Book, Stands, Tables, ap, arith, refl, ◌∙◌}
 use Rattle.hpx_node.proofs.Waited.{short_same, before_same, begins_from}
-use Rattle.hpx_steps.specs.Rest.{Stands}
 use Rattle.hpx_node.proofs.Same.{same_too}
 use Rattle.hpx_node.proofs.Turns.{turn_from, adds_none}
 use Rattle.hpx_node.proofs.node.Node.wait.Goals.{then-is_err-via-then-is_err, then-is_err-via-else-is_err+then-is_err-2}

@@ -1,39 +1,22 @@
 -- The stock of a commit that waited, once all credit has come: it names what the hand named, and each of its ids lasts.
-use Rattle.std.proofs.Common.{ℕ, zero, suc, true, false, List, [], ◌∷◌, ◌++◌, ◌≡◌, ◌≤◌, ◌<◌, ◌+◌, ◌⊎◌, Some, set, take, drop, map, length, length-append, append_assoc, refl, sym, ap, ◌∙◌, arith, inl, inr, subst, take-append-drop}
-use Rattle.std.specs.Prelude.{nat_le, MatchOption, Option}
-use Rattle.std.proofs.lemmas.Bool.Decides.{nat_tests}
+use Rattle.std.proofs.Common.{ℕ, zero, suc, false, List, [], ◌∷◌, ◌++◌, ◌≡◌, ◌≤◌, ◌<◌, ◌+◌, ◌-◌, ◌⊎◌, Some, set, take, drop, map, length, length-append, append_assoc, refl, sym, ap, ◌∙◌, arith, inl, inr, subst, take-append-drop}
+use Rattle.std.specs.Prelude.{is_some}
 use Rattle.std.specs.List.{AllByRecursion}
 use Rattle.std.proofs.lemmas.Bool.{cases_lt, cases_Bool}
-use Rattle.hpx_value.specs.Ids.{bare}
-use Rattle.hpx_value.specs.Hands.{id_at}
-use Rattle.hpx_parcel.specs.Parcels.{HasRightCredit}
-use Rattle.hpx_journal.specs.Data.{Id}
-use Rattle.hpx_commit.specs.Deals.{is_managed, half, log_of, named, unnamed, AreWithin, AllLast}
-use Rattle.hpx_commit.specs.Stocks.{Stock, take_half, take_halves, split_place, ahead_from, ahead, halvings, replaced_from, Lasting, SameNames}
+use Rattle.std.proofs.lemmas.List.{length-set, length-map, length-take-le, drop-set-lt, drop-drop, drop_at, get_or-take}
+use Rattle.std.proofs.Math.Seq.{get_or-append_right}
+use Rattle.hpx_value.specs.Ids.{Id, bare}
+use Rattle.hpx_value.specs.Hands.{id_at, session}
+use Rattle.hpx_commit.specs.Deals.{is_managed, log_of, named, unnamed, AreWithin, AllLast}
+use Rattle.hpx_commit.specs.Stocks.{Stock, ahead, replaced_from, Lasting, SameNames}
 use Rattle.hpx_commit.proofs.Ahead.{ahead_is, ahead_same, names_then}
-use Rattle.hpx_commit.proofs.AheadMore.{ahead_few}
+use Rattle.hpx_commit.proofs.AheadMore.{ahead_few, all_ahead}
 use Rattle.hpx_commit.proofs.Deals.{past_hand}
 use Rattle.hpx_commit.proofs.Later.{later_made}
-use Rattle.hpx_commit.proofs.Moved.{at_longer, unnamed_alike}
+use Rattle.hpx_commit.proofs.Moved.{at_longer, unnamed_alike, wider}
+use Rattle.hpx_commit.proofs.Places.{all_from, map_each, same_at}
+use Rattle.hpx_commit.proofs.Rights.{AreRight, right_at, right_half}
 use Rattle.hpx_commit.proofs.Short.{short_is, ahead_lasts, place_bare, refilled}
-use Rattle.hpx_tables.proofs.Alls.{all_append, all_set}
-use Rattle.hpx_node.proofs.FilledDue.{share_credit}
-use Rattle.hpx_node.proofs.HandFit.{credit_at}
-use Rattle.hpx_node.proofs.LaterIds.{within_long}
-
--- ---- credits of halves
-
-right_halves : (k p : ℕ) (s : Stock) → AllByRecursion HasRightCredit s.hand → AllByRecursion HasRightCredit (take_halves k p s).hand
-right_halves zero p s h = h
-right_halves (suc k) p s h =
-    let part : HasRightCredit (half (id_at s.hand p)) = share_credit (id_at s.hand p) 1 (credit_at s.hand p h) in
-    right_halves k p (take_half p s)
-    (all_append HasRightCredit (set s.hand p (half (id_at s.hand p))) (half (id_at s.hand p) ∷ [])
-    (all_set HasRightCredit s.hand p (half (id_at s.hand p)) h part) (part, tt))
-
-pub right_ahead : (k p : ℕ) (s : Stock) → AllByRecursion HasRightCredit s.hand → AllByRecursion HasRightCredit (ahead_from k p s).hand
-right_ahead zero p s h = h
-right_ahead (suc k) p s h = right_ahead k (p + 1) (split_place p s) (right_halves (halvings (id_at s.hand p) (named s.places p)) p s h)
 
 -- ---- lists
 
@@ -45,71 +28,16 @@ take_set n [] x lt = absurd (omega (arith, lt))
 take_set zero (y ∷ xs) x lt = refl
 take_set (suc n) (y ∷ xs) x lt = ap (λ ys. y ∷ ys) (take_set n xs x (omega (arith, lt)))
 
-drop_set : (n : ℕ) (xs : List Id) (x : Id) → drop (suc n) (set xs n x) ≡ drop (suc n) xs
-drop_set n [] x = refl
-drop_set zero (y ∷ xs) x = refl
-drop_set (suc n) (y ∷ xs) x = drop_set n xs x
-
-drop_none : (n : ℕ) → drop {A = Id} n [] ≡ []
-drop_none zero = refl
-drop_none (suc n) = refl
-
 drop_again : (m n : ℕ) (xs : List Id) → drop (suc m) (drop n xs) ≡ drop m (drop (suc n) xs)
-drop_again m zero [] = sym (drop_none m)
-drop_again m zero (x ∷ xs) = refl
-drop_again m (suc n) [] = sym (drop_none m)
-drop_again m (suc n) (x ∷ xs) = drop_again m n xs
-
-set_long : (xs : List Id) (n : ℕ) (x : Id) → length (set xs n x) ≡ length xs
-set_long [] n x = refl
-set_long (y ∷ xs) zero x = refl
-set_long (y ∷ xs) (suc n) x = ap suc (set_long xs n x)
-
-take_long : (n : ℕ) (xs : List Id) → n ≤ length xs → length (take n xs) ≡ n
-take_long zero xs le = refl
-take_long (suc n) [] le = absurd (omega (arith, le))
-take_long (suc n) (x ∷ xs) le = ap suc (take_long n xs (omega (arith, le)))
-
-drop_front : (n : ℕ) (xs ys : List Id) → length xs ≡ n → drop n (xs ++ ys) ≡ ys
-drop_front n xs ys e = subst (λ k. drop k (xs ++ ys) ≡ ys) e (front xs)
-  where
-    front : (zs : List Id) → drop (length zs) (zs ++ ys) ≡ ys
-    front [] = refl
-    front (z ∷ zs) = front zs
-
-at_take : (n : ℕ) (xs ys : List Id) (p : ℕ) → p < n → n ≤ length xs → id_at (take n xs ++ ys) p ≡ id_at xs p
-at_take zero xs ys p lt le = absurd (omega (arith, lt))
-at_take (suc n) [] ys p lt le = absurd (omega (arith, le))
-at_take (suc n) (x ∷ xs) ys zero lt le = refl
-at_take (suc n) (x ∷ xs) ys (suc p) lt le = at_take n xs ys p (omega (arith, lt)) (omega (arith, le))
+drop_again m n xs = drop-drop (suc m) n xs ∙ (ap (λ k. drop k xs) (omega arith) ∙ sym (drop-drop m (suc n) xs))
 
 at_past : (n : ℕ) (xs ys zs : List Id) (p : ℕ) → length xs ≡ n → length ys ≡ n → n ≤ p → id_at (xs ++ zs) p ≡ id_at (ys ++ zs) p
-at_past n [] [] zs p e f le = refl
-at_past n [] (y ∷ ys) zs p e f le = absurd (omega (arith, e, f))
-at_past n (x ∷ xs) [] zs p e f le = absurd (omega (arith, e, f))
-at_past n (x ∷ xs) (y ∷ ys) zs zero e f le = absurd (omega (arith, e, le))
-at_past n (x ∷ xs) (y ∷ ys) zs (suc p) e f le = at_past (length xs) xs ys zs p refl (omega (arith, e, f)) (omega (arith, e, le))
+at_past n xs ys zs p e f le =
+    get_or-append_right xs zs p session (omega (arith, e, le))
+    ∙ (ap (λ k. id_at zs (p - k)) (e ∙ sym f) ∙ sym (get_or-append_right ys zs p session (omega (arith, f, le))))
 
-bare_at : (xs ys : List Id) (p : ℕ) → map bare xs ≡ map bare ys → bare (id_at xs p) ≡ bare (id_at ys p)
-bare_at [] [] p e = refl
-bare_at [] (y ∷ ys) p e = absurd (let none : [] ≡ bare y ∷ map bare ys = e in cc)
-bare_at (x ∷ xs) [] p e = absurd (let none : bare x ∷ map bare xs ≡ [] = e in cc)
-bare_at (x ∷ xs) (y ∷ ys) zero e = first (bare x) (bare y) (map bare xs) (map bare ys) e
-  where
-    first : (a b : Id) (xs' ys' : List Id) → a ∷ xs' ≡ b ∷ ys' → a ≡ b
-    first a b xs' ys' h = cc
-bare_at (x ∷ xs) (y ∷ ys) (suc p) e = bare_at xs ys p (rest (bare x) (bare y) (map bare xs) (map bare ys) e)
-  where
-    rest : (a b : Id) (xs' ys' : List Id) → a ∷ xs' ≡ b ∷ ys' → xs' ≡ ys'
-    rest a b xs' ys' h = cc
-
-pub all_from : (P : Id → Type 0) (xs : List Id) → ((p : ℕ) → p < length xs → P (id_at xs p)) → AllByRecursion P xs
-all_from P [] h = tt
-all_from P (x ∷ xs) h = (h 0 (omega arith), all_from P xs (λ p lt. h (suc p) (omega (arith, lt))))
-
-map_each : (g h : ℕ → Id) (ps : List ℕ) → ((p : ℕ) → g p ≡ h p) → map g ps ≡ map h ps
-map_each g h [] e = refl
-map_each g h (p ∷ ps) e = ap (λ x. x ∷ map g ps) (e p) ∙ ap (λ xs. h p ∷ xs) (map_each g h ps e)
+at_front : (n : ℕ) (xs ys : List Id) (p : ℕ) → p < n → n ≤ length xs → id_at (take n xs ++ ys) p ≡ id_at xs p
+at_front n xs ys p lt le = at_longer (take n xs) ys p (omega (arith, lt, length-take-le n xs le)) ∙ get_or-take n xs p session lt
 
 -- other ids at the places from n on
 pub replaced_split : (n : ℕ) (new xs : List Id) (ps : List ℕ) → n + length new ≤ length xs
@@ -120,23 +48,14 @@ replaced_split n (id ∷ new) xs ps le =
     ap (λ k. take k (set xs n id)) (sym (plus_one n)) ∙ take_set n xs id (omega (arith, le)) in
     let rest : drop (length new) (drop (n + 1) (set xs n id)) ≡ drop (suc (length new)) (drop n xs) =
     ap (λ k. drop (length new) (drop k (set xs n id))) (sym (plus_one n))
-    ∙ (ap (drop (length new)) (drop_set n xs id) ∙ sym (drop_again (length new) n xs)) in
-    replaced_split (n + 1) new (set xs n id) ps (omega (arith, le, set_long xs n id))
+    ∙ (ap (drop (length new)) (drop-set-lt (suc n) xs n id (omega arith)) ∙ sym (drop_again (length new) n xs)) in
+    replaced_split (n + 1) new (set xs n id) ps (omega (arith, le, length-set xs n id))
     ∙ (ap (λ ys. record { hand = ys ++ (new ++ drop (length new) (drop (n + 1) (set xs n id))); places = ps }) step
     ∙ (ap (λ ys. record { hand = ys; places = ps }) (append_assoc (take n xs) (id ∷ []) (new ++ drop (length new) (drop (n + 1) (set xs n id))))
     ∙ ap (λ ys. record { hand = take n xs ++ (id ∷ (new ++ ys)); places = ps }) rest))
 
 zero_plus : (p : ℕ) → p ≡ 0 + p
 zero_plus p = omega arith
-
-below : (kind : ℕ) → nat_le 16 kind ≡ true → 16 ≤ kind
-below kind e = grind (arith, nat_tests)
-
-least : (id : Id) → (is_managed id ≡ false → ⊥) → 16 ≤ id.kind
-least id h = elim (cases_Bool (is_managed id)) [ inl t ↦ below id.kind t | inr f ↦ absurd (h f) ]
-
-has_log : (id : Id) (log : ℕ) → id.log ≡ Some log → 16 ≤ id.kind → HasRightCredit id
-has_log id log e managed = subst (λ (x : Option ℕ). MatchOption x (id.kind < 16) (λ l. 16 ≤ id.kind)) (sym e) managed
 
 -- ---- a hand of which the first places are the job's own, and what it makes stands behind them
 
@@ -168,7 +87,7 @@ module _ (own old new : List Id) (ps : List ℕ) (hand : List Id) (log : ℕ) (l
   fits_old = omega (arith, length-append own old)
 
   within_old : AreWithin (own ++ old) ps
-  within_old = within_long (own ++ new) (own ++ old) ps (omega (arith, long, length-append own new, length-append own old)) within
+  within_old = wider (length (own ++ new)) (length (own ++ old)) ps (omega (arith, long, length-append own new, length-append own old)) within
 
   longer : length own + length new ≤ length split.hand
   longer = omega (arith, (ahead_is (length own) start fits within).longer, length-append own new)
@@ -190,11 +109,11 @@ module _ (own old new : List Id) (ps : List ℕ) (hand : List Id) (log : ℕ) (l
   old_behind : drop n waiting.hand ≡ old ++ halves
   old_behind =
       ap (λ (s : Stock). drop n s.hand) waiting_is
-      ∙ (drop_front n (take n split.hand) (old ++ drop (length old) (drop n split.hand)) (take_long n split.hand (omega (arith, longer)))
+      ∙ (drop_at (take n split.hand) (old ++ drop (length old) (drop n split.hand)) n (length-take-le n split.hand (omega (arith, longer)))
       ∙ ap (λ k. old ++ drop k (drop n split.hand)) (sym long))
 
   past_old : drop (length new) (old ++ halves) ≡ halves
-  past_old = drop_front (length new) old halves (sym long)
+  past_old = drop_at old halves (length new) (sym long)
 
   split_hand : split.hand ≡ take n waiting.hand ++ (new ++ halves)
   split_hand =
@@ -208,16 +127,7 @@ module _ (own old new : List Id) (ps : List ℕ) (hand : List Id) (log : ℕ) (l
   behind = rest ∙ old_behind
 
   own_long : length (take n hand) ≡ n
-  own_long = same_long (take n hand) own front
-    where
-      same_long : (xs ys : List Id) → map bare xs ≡ map bare ys → length xs ≡ length ys
-      same_long [] [] e = refl
-      same_long [] (y ∷ ys) e = absurd (let none : [] ≡ bare y ∷ map bare ys = e in cc)
-      same_long (x ∷ xs) [] e = absurd (let none : bare x ∷ map bare xs ≡ [] = e in cc)
-      same_long (x ∷ xs) (y ∷ ys) e = ap suc (same_long xs ys (tails (bare x) (bare y) (map bare xs) (map bare ys) e))
-        where
-          tails : (a b : Id) (xs' ys' : List Id) → a ∷ xs' ≡ b ∷ ys' → xs' ≡ ys'
-          tails a b xs' ys' h = cc
+  own_long = omega (arith, ap (λ (xs : List Id). length xs) front, length-map (take n hand) bare, length-map own bare)
 
   hand_parts : hand ≡ take n hand ++ (old ++ halves)
   hand_parts = sym (take-append-drop n hand) ∙ ap (λ ys. take n hand ++ ys) behind
@@ -244,15 +154,15 @@ module _ (own old new : List Id) (ps : List ℕ) (hand : List Id) (log : ℕ) (l
   full_places = ap (λ (s : Stock). s.places) full_is ∙ sym split_places
 
   waits_long : length (take n waiting.hand) ≡ n
-  waits_long = take_long n waiting.hand (omega (arith, longer_old))
+  waits_long = length-take-le n waiting.hand (omega (arith, longer_old))
 
   -- ---- its ids, one by one
 
   pub full_own : (p : ℕ) → p < n → id_at full.hand p ≡ id_at hand p
-  full_own p lt = ap (λ xs. id_at xs p) full_hand ∙ at_take n hand (new ++ halves) p lt (omega (arith, hand_long))
+  full_own p lt = ap (λ xs. id_at xs p) full_hand ∙ at_front n hand (new ++ halves) p lt (omega (arith, hand_long))
 
   split_own : (p : ℕ) → p < n → id_at split.hand p ≡ id_at waiting.hand p
-  split_own p lt = ap (λ xs. id_at xs p) split_hand ∙ at_take n waiting.hand (new ++ halves) p lt (omega (arith, longer_old))
+  split_own p lt = ap (λ xs. id_at xs p) split_hand ∙ at_front n waiting.hand (new ++ halves) p lt (omega (arith, longer_old))
 
   full_past : (p : ℕ) → n ≤ p → id_at full.hand p ≡ id_at split.hand p
   full_past p le =
@@ -266,7 +176,7 @@ module _ (own old new : List Id) (ps : List ℕ) (hand : List Id) (log : ℕ) (l
         let hand_at : id_at hand p ≡ id_at (take n hand) p =
         ap (λ xs. id_at xs p) hand_parts ∙ at_longer (take n hand) (old ++ halves) p (omega (arith, lt, own_long)) in
         ap bare (full_own p lt ∙ hand_at)
-        ∙ (bare_at (take n hand) own p front ∙ sym (place_bare (length own) start fits within p inside ∙ ap bare (at_longer own new p lt)))
+        ∙ (same_at bare (take n hand) own p front ∙ sym (place_bare (length own) start fits within p inside ∙ ap bare (at_longer own new p lt)))
     | inr le ↦ ap bare (full_past p le)
   ]
 
@@ -365,7 +275,7 @@ module _ (own old new : List Id) (ps : List ℕ) (hand : List Id) (log : ℕ) (l
     pub full_names : SameNames start full
     full_names = names_then start split full (ahead_same (length own) start fits within).objects (record {
       within = subst (AreWithin full.hand) (sym full_places)
-          (within_long split.hand full.hand split.places (sym full_long) (ahead_same (length own) start fits within).objects.within);
+          (wider (length split.hand) (length full.hand) split.places (omega (arith, full_long)) (ahead_same (length own) start fits within).objects.within);
       as_many = ap (λ (qs : List ℕ). length qs) full_places;
       names = ap (map (λ p. bare (id_at full.hand p))) full_places
           ∙ map_each (λ p. bare (id_at full.hand p)) (λ p. bare (id_at split.hand p)) split.places full_bare;
@@ -373,23 +283,25 @@ module _ (own old new : List Id) (ps : List ℕ) (hand : List Id) (log : ℕ) (l
     })
 
     -- each has its credit
-    module _ (right : AllByRecursion HasRightCredit (own ++ new))
+    module _ (P Q : Id → Type 0) (are : AreRight P Q) (right : AllByRecursion P (own ++ new))
         (managed : (p : ℕ) → is_managed (id_at split.hand p) ≡ false → named split.places p ≡ 0) where
-      split_right : AllByRecursion HasRightCredit split.hand
-      split_right = right_ahead (length own) 0 start right
-
-      pub full_right : AllByRecursion HasRightCredit full.hand
-      full_right = all_from HasRightCredit full.hand (λ p lt. each p)
+      pub full_right : AllByRecursion P full.hand
+      full_right = all_from P full.hand (λ p lt. each p)
         where
-          each : (p : ℕ) → HasRightCredit (id_at full.hand p)
+          stays_right : (p : ℕ) → id_at full.hand p ≡ id_at split.hand p → P (id_at full.hand p)
+          stays_right p e = subst P (sym e) (right_at P Q are split.hand p (all_ahead P (right_half P Q are) (length own) start fits right))
+
+          came : (p : ℕ) → p < n → (Lasting split p → ⊥) → P (id_at full.hand p)
+          came p lt far = elim (cases_Bool (is_managed (id_at split.hand p))) [
+            | inl t ↦ are.so (id_at full.hand p) (ap is_some (given_where p lt far) ∙ sym (ap is_managed (full_bare p) ∙ t))
+            | inr f ↦ absurd (omega (arith, managed p f, named_where p lt far))
+          ]
+
+          each : (p : ℕ) → P (id_at full.hand p)
           each p = elim (cases_lt (log_of (id_at split.hand p).log + 1) (named split.places p)) [
-            | inr le ↦ subst HasRightCredit (sym (same_where p le)) (credit_at split.hand p split_right)
+            | inr le ↦ stays_right p (same_where p le)
             | inl far ↦ elim (cases_lt p n) [
-              | inr past ↦ subst HasRightCredit (sym (full_past p past)) (credit_at split.hand p split_right)
-              | inl lt ↦
-                  let many : 2 ≤ named split.places p = named_where p lt (λ i. absurd (omega (arith, far, i))) in
-                  let kind : (id_at full.hand p).kind ≡ (id_at split.hand p).kind = ap (λ (x : Id). x.kind) (full_bare p) in
-                  has_log (id_at full.hand p) log (given_where p lt (λ i. absurd (omega (arith, far, i))))
-                  (omega (arith, kind, least (id_at split.hand p) (λ none. absurd (omega (arith, managed p none, many)))))
+              | inr past ↦ stays_right p (full_past p past)
+              | inl lt ↦ came p lt (λ i. absurd (omega (arith, far, i)))
             ]
           ]

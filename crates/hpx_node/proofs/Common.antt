@@ -1,0 +1,91 @@
+-- Passes on the names that proofs of the node cite.
+pub use Rattle.std.proofs.Common.{Bool, List, None, Option, Some, [], ap, append-nil, append_assoc, arith, codes, cond, drop, false, get_or, inl, inr, length, length-append, lit≤, map, min, not, refl, rules, set, subst, suc, sym, take, take-append-drop, true, zero, zero-add, ℕ, ◌&&◌, ◌++◌, ◌+◌, ◌-◌, ◌<◌, ◌==◌, ◌^◌, ◌∙◌, ◌∷◌, ◌≡◌, ◌≤◌, ◌⊎◌}
+pub use Rattle.std.proofs.lemmas.Bool.{cases_Bool, cases_eq, eq-eqb, eqb-true, ne_eqb}
+pub use Rattle.std.proofs.lemmas.List.{drop-set-lt, length-drop, length-map, length-set, length-take, map-append, take_more}
+pub use Rattle.std.proofs.lemmas.List.Sums.{sum_by-append, sum_by-cons}
+pub use Rattle.std.specs.List.{AllByRecursion, count_by, find, list_any, remove, slice_get, sum_by}
+pub use Rattle.std.specs.Prelude.{Err, IfOk, IfSome, IsSomeAnd, MatchOption, Ok, OnOk, Result, flat_map, if◌then◌else◌, is_some, nat_le, nat_lt, option_and_then, option_map, ◌*◌, ◌||◌}
+pub use Rattle.hpx_value.specs.Hands.{answer, conts_from, due_of, hand_ids, hand_slot, id_at, own_slot, renumbered, replied, sent, session, slot_at, state_after}
+pub use Rattle.hpx_value.specs.Ids.{bare, bare_id, credit, credit_of_log, same_object}
+pub use Rattle.hpx_value.specs.Laws.{IsManaged, KeepsLaws, birth_state}
+pub use Rattle.hpx_value.specs.Shapes.{IsState}
+pub use Rattle.hpx_value.specs.Values.{bare_act, bare_state, message_of, named, refs_in}
+pub use Rattle.hpx_value.specs.declared.acts.Job.{Job}
+pub use Rattle.hpx_value.specs.declared.profile.Profile.{Profile}
+pub use Rattle.hpx_parcel.proofs.Frames.{parcel_spelled, spelled_short}
+pub use Rattle.hpx_parcel.specs.Parcels.{HasCredit, HasLeastCredit, HasRightCredit, IsBare, IsMovable, IsParcel, IsPlace}
+pub use Rattle.hpx_parcel.specs.Reading.{is_least as is_credit_least, parcel_of}
+pub use Rattle.hpx_journal.proofs.Same.{and_true, held-Counts, same_object-through, same_token-true}
+pub use Rattle.hpx_journal.specs.Bags.{without}
+pub use Rattle.hpx_journal.specs.Data.{Act, Apply, Arrived, Ask, Cached, Cont, Due, Fault, Free, Give, Go, Id, Message, MessageDue, Move, Outcome, Parcel, PrintDue, Return, Shipped, State}
+pub use Rattle.hpx_journal.specs.Entries.{Rules, line_act, name_of, target_of}
+pub use Rattle.hpx_journal.specs.Frames.{acts_in, travels_in}
+pub use Rattle.hpx_journal.specs.Laws.{FreesTheDead, RefusesForCause, count_events, entry_at, hands_refusal, ins, is_free_of, is_freed, is_refused_count, is_refusing, outs, outs_by, sends_such, takes_such}
+pub use Rattle.hpx_journal.specs.Local.{acts_on, boot, failure, is_act, is_busy, is_standing}
+pub use Rattle.hpx_journal.specs.Names.{due_ids, names}
+pub use Rattle.hpx_journal.specs.Weights.{Book, HasRoom, bytes_in, state_size, total_weight, weight_of}
+pub use Rattle.hpx_journal.specs.Whole.{arrives, arrives_at, part, run_local}
+pub use Rattle.hpx_agas.specs.Records.{find_record}
+pub use Rattle.hpx_agas.specs.Registries.{Registry, asked, granted_of, grown, left_of, lowered}
+pub use Rattle.hpx_agas.specs.declared.record.Record.{Record}
+pub use Rattle.hpx_commit.proofs.Came.{HaveLog, come_long, come_short, come_stock, none_short, waits_managed}
+pub use Rattle.hpx_commit.proofs.DueFilled.{message_filled, state_filled}
+pub use Rattle.hpx_commit.proofs.HandLeft.{HaveNone, both_right, both_same, halves_have, later_none, long_enough, ups_limit}
+pub use Rattle.hpx_commit.proofs.Places.{hand_kinds, is_below, managed_same, managed_there, same_at}
+pub use Rattle.hpx_commit.proofs.Planned.{IsPlanned, action_few, few_due, own_few, own_places, own_within, planned}
+pub use Rattle.hpx_commit.proofs.Rights.{AreRight, managed_has, right_at}
+pub use Rattle.hpx_commit.specs.Deals.{AllLast, AreWithin, dealt, filled_due, half, ids_due, is_managed, log_of, places_named, share, shared_from, shares, unnamed, unused}
+pub use Rattle.hpx_commit.specs.Failures.{action_ids, due_failed, halves_ahead, state_failed, unanswered, ups_failed}
+pub use Rattle.hpx_commit.specs.Stocks.{Lasting, Stock, ahead, halvings, short_places, stripped}
+pub use Rattle.hpx_commit.specs.declared.plan.Plan.{Plan}
+pub use Rattle.hpx_part.proofs.Keyed.{Agree-sum, slice_get_is, slice_get_less, split_get}
+pub use Rattle.hpx_part.specs.Data.{Born, Count, Done, Entry, Event, Fire, Freed, Given, Granted, In, Landed, Left, Line, Local, Looked, Mail, Name, Out, Print, Reason, Refused, Returned, Sent, Split, Standing, Token, Travel, Up}
+pub use Rattle.hpx_part.specs.Parts.{at_all}
+pub use Rattle.hpx_tables.proofs.Alls.{all_append, all_at, find_passes, get_before, some_same}
+pub use Rattle.hpx_tables.proofs.Cutting.{at_all_append}
+pub use Rattle.hpx_tables.proofs.FreeLemmas.{any_over, started_runs}
+pub use Rattle.hpx_tables.specs.Awaited.{answered_by, awaited_at, awaited_here, drawn_by, is_answer}
+pub use Rattle.hpx_tables.specs.Births.{IsBirth, Makes, birth_of, births_of, ids_of, objects_of, records_of}
+pub use Rattle.hpx_tables.specs.Fit.{IsFit, IsFitDue, IsKept, parcel_for}
+pub use Rattle.hpx_tables.specs.Free.{IsFree, NoneIsFree}
+pub use Rattle.hpx_tables.specs.Jobs.{IsAt, IsFitJob}
+pub use Rattle.hpx_tables.specs.Kept.{count_here, credit_in, credit_owed, held_here, held_worth, ids_held, owed_here, owed_worth, stands_here, waits_here}
+pub use Rattle.hpx_tables.specs.Pending.{Refills, Waits, action_of, asked_at, awaits, fired_of, hand_with, ids_named, is_asked, is_asked_for, put_for, refilled, waits_for_one, waits_with}
+pub use Rattle.hpx_tables.specs.Splits.{asked_events, cuts, first_cuts, splits_from}
+pub use Rattle.hpx_tables.specs.Strange.{breaks, brings_right, broken, broken_near, is_live}
+pub use Rattle.hpx_tables.specs.Tables.{IsPassive, Tables, fired_acts, messages}
+pub use Rattle.hpx_tables.specs.declared.births.Birth.{Birth}
+pub use Rattle.hpx_tables.specs.declared.kept.Outgoing.{Outgoing}
+pub use Rattle.hpx_tables.specs.declared.pending.Asked.{Asked, Asked as AskedFor}
+pub use Rattle.hpx_tables.specs.declared.strange.Broken.{Broken}
+pub use Rattle.hpx_steps.proofs.AtRest.{rest_stands, sound_at_rest}
+pub use Rattle.hpx_steps.proofs.Dealt.{fail_deals, plan_deals}
+pub use Rattle.hpx_steps.proofs.Handled.{Leads, given_waits, kept_here, returns_objects}
+pub use Rattle.hpx_steps.proofs.Made.{bare_alone}
+pub use Rattle.hpx_steps.proofs.Recommit.{hand_long}
+pub use Rattle.hpx_steps.proofs.Refilled.{still_commit, still_split}
+pub use Rattle.hpx_steps.proofs.Resumed.{given_done, given_event, given_fails, in_hand}
+pub use Rattle.hpx_steps.proofs.Right.{give_right, near_right, object_wrong}
+pub use Rattle.hpx_steps.proofs.Sums.{flat_append, ids_append}
+pub use Rattle.hpx_steps.proofs.TurnOf.{desk_accepts, desk_leads, desk_stands, fire_stands, frame_leads, frame_stands, line_stands, out_stands}
+pub use Rattle.hpx_steps.proofs.Work.{halved_from}
+pub use Rattle.hpx_steps.specs.Calls.{Accepts, DealsWith, Gives, Leaves, answered, effects, freed, ids_in, more_here, place_or_0, returned, up_of, ups, with_asks, with_due, with_left, with_returns, written_due}
+pub use Rattle.hpx_steps.specs.Left.{IsLeftBy, IsLeftFailed}
+pub use Rattle.hpx_steps.specs.Limits.{AddsATurn, IsWithin}
+pub use Rattle.hpx_steps.specs.Mail.{may_stay, with_act, with_mail, with_mail_if, with_return}
+pub use Rattle.hpx_steps.specs.Paused.{Apart, HasSplit, IsCommit, IsShort}
+pub use Rattle.hpx_steps.specs.Rest.{IsPaused, IsTidy, Stands, StandsAtRest, StandsWith, kept_ids, queued, rules_of, tokens, unpaid, view}
+pub use Rattle.hpx_steps.specs.Rows.{Actions, AreFired, FreesOf, Refusals, Row, brings, causes, fires_one, frees_one, goes, hops, is_least, is_refusal, joins, kind_of, one_if, owes, sets_out, spends, weighed, weight}
+pub use Rattle.hpx_steps.specs.Steps.{HasInHand}
+pub use Rattle.hpx_steps.specs.Turn.{Turn, bare_due, bare_standing, parcel_tokens, tokens_of}
+pub use Rattle.hpx_node.specs.Asks.{Begins, IsBefore, Pauses, hand_before, lacking, own_many, short_before, split_stock, splits_before, stock_before}
+pub use Rattle.hpx_node.specs.Changes.{OnlySends, OnlySpare, Writes}
+pub use Rattle.hpx_node.specs.Commits.{Commits, Ends, IsPrepared, IsStock, committed, committed_from, committed_to, due_dealt, hand_of, made_of, own_stock, places_in_hand, remains, state_dealt, with_settled}
+pub use Rattle.hpx_node.specs.Fails.{Fails, IsFailing, IsFailingFor, IsFailure, MustFail, dooms, due_left, failed_events, failed_remains, fails_first, state_left, ups_left}
+pub use Rattle.hpx_node.specs.Locality.{Locality}
+pub use Rattle.hpx_node.specs.Next.{Continues, HasFollowed, IfFollows, IsNext, MayFollow}
+pub use Rattle.hpx_node.specs.Resumes.{IsInPlace, IsReady, IsReadyFor, MayResume, completes, full_stock, is_last, stock_with}
+pub use Rattle.hpx_node.specs.declared.node.fail.Failing.{Failing}
+pub use Rattle.hpx_node.specs.declared.node.finish.Prepared.{Prepared}
+pub use Rattle.hpx_node.specs.declared.node.next.Next.{Next}
+pub use Rattle.hpx_node.specs.declared.node.resume.Ready.{Ready}
