@@ -5,5 +5,6 @@
 mod desk;
 #[cfg(test)]
 mod lines;
+pub mod rows;
 #[cfg(test)]
 mod sessions;

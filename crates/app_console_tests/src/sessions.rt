@@ -19,65 +19,6 @@ const NAMES: &[Name] = &[
 ];
 
 #[test]
-fn a_line_prints(rt: HostRuntime) -> Result<(), Fail> {
-    let alloc = rt.alloc();
-    let state = session(alloc, NAMES, &[])?;
-    for (mark, line, want) in [
-        (SPACE, b"sum".as_slice(), b"error: bad command\n".as_slice()),
-        (SPACE, b"quit", b"error: bad command\n"),
-        (SPACE, b"add a", b"error: bad command\n"),
-        (SPACE, b"add a 1 2", b"error: bad command\n"),
-        (SPACE, b"", b""),
-        (SPACE, b" \t", b""),
-        (SPACE, b"add - 1", b"error: bad name\n"),
-        (
-            SPACE,
-            b"new a23456789012345678901234567890123 0",
-            b"error: bad name\n",
-        ),
-        (SPACE, b"register a k!", b"error: bad name\n"),
-        (SPACE, b"new a 0", b"error: name in use\n"),
-        (SPACE, b"new p 0", b"error: name in use\n"),
-        (SPACE, b"add b x", b"error: unknown name\n"),
-        (SPACE, b"drop b", b"error: unknown name\n"),
-        (SPACE, b"query p", b"error: not ready\n"),
-        (SPACE, b"drop p", b"error: not ready\n"),
-        (SPACE, b"new b 2", b"error: no such locality\n"),
-        (SPACE, b"move w 2", b"error: no such locality\n"),
-        (SPACE, b"move w 1", b"error: not movable\n"),
-        (SPACE, b"add a x", b"error: bad number\n"),
-        (SPACE, b"latch b 0 0", b"error: bad number\n"),
-        (SPACE, b"latch b 0 1000001", b"error: bad number\n"),
-        (SPACE, b"barrier b 0 101", b"error: bad number\n"),
-        (
-            ACCUMULATOR,
-            b"help",
-            b"commands: reset, add [amount], query, help, quit\n",
-        ),
-        (ACCUMULATOR, b"add +1", b"error: bad number\n"),
-        (
-            ACCUMULATOR,
-            b"add 9223372036854775808",
-            b"error: bad number\n",
-        ),
-        (ACCUMULATOR, b"add \xff", b"error: bad number\n"),
-        (ACCUMULATOR, b"open", b"error: bad command\n"),
-        (ACCUMULATOR, b" \t", b""),
-    ] {
-        let outcome = fed(alloc, &state, mark, line)?;
-        assert_eq!(rt; printed(alloc, &outcome)?.as_slice(), want);
-        assert!(rt; outcome.sends.is_empty());
-        assert_eq!(rt; outcome.state.drawn, 7);
-        assert_eq!(rt; outcome.state.values.len(), state.values.len());
-    }
-    let early = session(alloc, &[(b"".as_slice(), Stands::Pending)], &[])?;
-    let outcome = fed(alloc, &early, ACCUMULATOR, b"query")?;
-    let want: &[u8] = b"error: not ready\n";
-    assert_eq!(rt; printed(alloc, &outcome)?.as_slice(), want);
-    Ok(())
-}
-
-#[test]
 fn a_line_sends(rt: HostRuntime) -> Result<(), Fail> {
     let alloc = rt.alloc();
     let state = session(alloc, NAMES, &[])?;

@@ -1,4 +1,10 @@
+use hpx_commit::deal::log_of;
+use hpx_commit::hand::Hand;
 use hpx_commit::mentions::mentions;
+use hpx_commit::plan::places_named;
+use hpx_commit::stock::split_ahead;
+use hpx_value::codes::SESSION;
+use hpx_value::exact::Exact;
 use hpx_value::gid::Gid;
 use hpx_value::items::{Items, Text};
 use hpx_value::memory::OutOfMemory;
@@ -97,5 +103,80 @@ fn names_the_state_first_then_sends_then_replies(rt: HostRuntime) -> Result<(), 
     assert!(rt; action.ids.len() == 3);
     let places = mentions(alloc, &state, &action, &outcome(alloc)?)?;
     assert!(rt; places.as_slice() == [0, 3, 1, 2, 5, 5, 4, 4, 3].as_slice());
+    Ok(())
+}
+
+/// A state of 128 ids, each with credit for three halvings.
+fn full_state(alloc: Global) -> Result<State, OutOfMemory> {
+    let mut values = Items::new(alloc);
+    let mut ids = Items::new(alloc);
+    for place in 0..128u16 {
+        values.push(Value::Ref(place))?;
+        ids.push(Gid::new(0, 16, u64::from(place).saturating_add(1)).with_log(3))?;
+    }
+    Ok(State {
+        drawn: 0,
+        values,
+        conts: Items::new(alloc),
+        ids,
+    })
+}
+
+/// All 128 are kept, and the first 32 are sent to the first of them.
+fn full_outcome(alloc: Global, state: &State) -> Result<Outcome, OutOfMemory> {
+    let mut args = Items::new(alloc);
+    for place in 0..32u16 {
+        args.push(Value::Ref(place))?;
+    }
+    let mut sends = Items::new(alloc);
+    sends.push(Sending {
+        target: Target::Place(0),
+        code: 16,
+        args,
+        cont: SendCont::Nothing,
+    })?;
+    Ok(Outcome {
+        state: NewState {
+            drawn: 0,
+            values: state.values.duplicate(alloc)?,
+            conts: Items::new(alloc),
+        },
+        makes: Items::new(alloc),
+        sends,
+        replies: Items::new(alloc),
+        prints: Items::new(alloc),
+    })
+}
+
+// The first id is named by the state, as a target and as an argument, 31 more by the state and as arguments.
+#[test]
+fn a_hand_of_128_ids_is_split(rt: HostRuntime) -> Result<(), OutOfMemory> {
+    let alloc = rt.alloc();
+    let state = full_state(alloc)?;
+    let mut target = Items::new(alloc);
+    target.push(Gid::new(0, SESSION, 1))?;
+    let action = Act {
+        origin: 0,
+        serial: 1,
+        code: 16,
+        args: Items::new(alloc),
+        cont: None,
+        ids: target,
+    };
+    let outcome = full_outcome(alloc, &state)?;
+    let hand = Hand::of(alloc, &state, &action, &[])?;
+    assert!(rt; state.ids.len() == 128);
+    assert!(rt; action.ids.len() == 1);
+    let places = places_named(alloc, &hand, &outcome)?;
+    assert!(rt; places.len() == 128 + 1 + 32);
+    assert!(rt; hand.state_left(alloc, &outcome)?.ids.len() == 128);
+    let ids = hand.ids();
+    assert!(rt; ids.len() == 129);
+    let stock = split_ahead(alloc, ids, places.as_slice(), 129)?;
+    assert!(rt; stock.hand().len() == 129 + 2 + 31);
+    assert!(rt; stock.short_places(alloc, 129)?.is_empty());
+    let ids = stock.ids_at(alloc, &[0, 1, 31, 32, 127])?;
+    let logs = ids.iter().map(|id| log_of(*id));
+    assert!(rt; logs.collect::<Vec<u8>>(alloc)?.as_slice() == [1, 2, 2, 3, 3].as_slice());
     Ok(())
 }
