@@ -1,6 +1,6 @@
 -- A commit makes an object.
 use Rattle.hpx_steps.proofs.Common.{Bears, Bool, Born, Entry, Event, HasCommits, HasPlaces, Id, IsBirth, IsCommit, IsSound, IsTidy, List, Make, None, Option, Record, Rules, Some, Standing, StandsHere, State, StaysAt, TidyAt, Token, Turn, View, Waits, Working, [], ap, append-nil, arith, asking, bare, bare_act, bare_due, bare_id, bare_standing, birth_of, birth_state, cases_Bool, cond, count_by, count_in, counted, false, false_from, filter, find, find_record, fired_of, follows_born, held_token, id_at, ids_named, inl, inr, is_asked, is_asked_for, is_recorded, is_standing, length, map, map-append, names_of, option_map_or, refl, refusals_of, same_object, same_object-true, session, some_same, subst, sum_by, sum_by-cons, sym, take, tokens, tokens_of, true, view, works_on, worth, wrote, ℕ, ◌++◌, ◌+◌, ◌^◌, ◌∙◌, ◌∷◌, ◌≡◌, ◌≤◌}
-use Rattle.hpx_steps.proofs.Tools.{Changes, Keeps, Sees, all_among, by_rows, counts_near, first_turns, holding, more_come, numbered_so, objects_change, orders_so, pays_so, recommit, sees_by, sees_leads, take_place, then, view_asking, view_worth, work_commits, working_change}
+use Rattle.hpx_steps.proofs.Tools.{Changes, Keeps, Sees, all_among, by_rows, counts_near, first_turns, holding, if_so, more_come, numbered_so, objects_change, orders_so, pays_so, recommit, sees_by, sees_leads, take_place, then, view_asking, view_worth, work_commits, working_change}
 use Rattle.hpx_steps.proofs.Beside.{more_commits}
 use Rattle.hpx_steps.proofs.Objects.{single_more, stand_more}
 use Rattle.hpx_steps.proofs.Records.{found_counted}
@@ -72,17 +72,13 @@ module _ (r : Rules) (s : Turn) (entries : List Entry) (h : IsSound r s entries)
   -- ---- records
 
   found_more : (x : Id) → find_record x (s.tables.records ++ made ∷ []) ≡ cond (same_object x o) (Some made) (find_record x s.tables.records)
-  found_more x = elim (cases_Bool (same_object x o)) [
-    | inl t ↦ rw t (past s.tables.records t (ap (λ (y : Id). find_record y s.tables.records) (same_object-true x o t) ∙ h.places.unborn o (omega arith)))
-    | inr f ↦ rw f (before s.tables.records f)
-  ]
+  found_more x = if_so (same_object x o)
+      (λ t. rw t (past s.tables.records t (ap (λ (y : Id). find_record y s.tables.records) (same_object-true x o t) ∙ h.places.unborn o (omega arith))))
+      (λ f. rw f (before s.tables.records f))
     where
       past : (rs : List Record) → same_object x o ≡ true → find_record x rs ≡ None → find_record x (rs ++ made ∷ []) ≡ Some made
       past [] t none = rw t refl
-      past (y ∷ ys) t none = elim (cases_Bool (same_object x y.gid)) [
-        | inl a ↦ absurd (let k : Some y ≡ None = rw a at none in cc)
-        | inr b ↦ rw b (past ys t (rw b at none))
-      ]
+      past (y ∷ ys) t none = if_so (same_object x y.gid) (λ a. absurd (let k : Some y ≡ None = rw a at none in cc)) (λ b. rw b (past ys t (rw b at none)))
 
       before : (rs : List Record) → same_object x o ≡ false → find_record x (rs ++ made ∷ []) ≡ find_record x rs
       before [] f = rw f refl

@@ -1,5 +1,6 @@
 -- What stands beside commits: where one begins, ends or stands elsewhere among them, and where objects come and go.
 use Rattle.hpx_steps.proofs.Common.{Act, AllByRecursion, Apart, Bool, HasCommits, HasObject, HasRightCredit, Id, IsWhole, Job, List, Single, Some, Standing, State, Waits, [], action_of, acts_on, all_append, all_at, all_parts, all_remove, all_set, ap, append_assoc, arith, bare, bare_names, bare_state, cases_Bool, cond, drop, eqb-true, false, find, fired_of, inl, inr, is_busy, is_standing, list_any, map, map-append, names_of, refl, remove, same_object, same_object-from, same_object-sym, same_object-true, set, slice_get, split_get, subst, suc, sum_by, sum_by-append, sum_by-cons, sum_middle, sym, take, target_of, true, ℕ, ◌++◌, ◌==◌, ◌∙◌, ◌∷◌, ◌≡◌}
+use Rattle.hpx_steps.proofs.ByRows.{if_so}
 use Rattle.hpx_steps.proofs.Bare.{lent_all, no_bare}
 use Rattle.hpx_steps.proofs.Busy.{apart_alone, apart_less, apart_moved, busy_moved, busy_none, busy_parts, busy_same, keeps, none_busy, none_of}
 use Rattle.hpx_steps.proofs.Lists.{less_sum, set_sum}
@@ -30,10 +31,9 @@ module _ (objects : List Standing) (j : ℕ) (act : Act) (old new : Standing) (s
     (same : same_object (target_of act) old.object ≡ true) (name : new.object ≡ old.object) (plain : old.object.kind ≡ 7 → new ≡ old) where
   found_set : (o : Id) (x : Standing) → (same_object o old.object ≡ true → old.object.kind ≡ 7) → find (is_standing o) objects ≡ Some x
       → find (is_standing o) (set objects j new) ≡ Some x
-  found_set o x is_plain found = elim (cases_Bool (same_object o old.object)) [
-    | inl t ↦ ap (λ y. find (is_standing o) (set objects j y)) (plain (is_plain t)) ∙ (ap (find (is_standing o)) (set_same objects j old stands) ∙ found)
-    | inr f ↦ find_set (is_standing o) objects j old new stands f (ap (same_object o) name ∙ f) ∙ found
-  ]
+  found_set o x is_plain found = if_so (same_object o old.object)
+      (λ t. ap (λ y. find (is_standing o) (set objects j y)) (plain (is_plain t)) ∙ (ap (find (is_standing o)) (set_same objects j old stands) ∙ found))
+      (λ f. find_set (is_standing o) objects j old new stands f (ap (same_object o) name ∙ f) ∙ found)
 
   -- only a plain object has other fired actions
   only_plain : (w : Waits) → keeps (target_of act) w.job.action ≡ false → same_object (target_of w.job.action) old.object ≡ true → old.object.kind ≡ 7
@@ -160,10 +160,9 @@ module _ (objects : List Standing) (running : List Act) (w : Waits) (cs : List W
           either false = refl
 
           off : (z : Standing) → same_object z.object x.object ≡ false → same_object z.object (target_of w.job.action) ≡ false
-          off z other = elim (cases_Bool (same_object z.object (target_of w.job.action))) [
-            | inr f ↦ f
-            | inl t ↦ absurd (let e : true ≡ false = sym (same_object-from z.object (target_of w.job.action) x.object t ∙ same) ∙ other in cc)
-          ]
+          off z other = if_so (same_object z.object (target_of w.job.action))
+              (λ t. absurd (let e : true ≡ false = sym (same_object-from z.object (target_of w.job.action) x.object t ∙ same) ∙ other in cc))
+              (λ f. f)
 
 -- ---- a commit stands elsewhere among the others, and may have another hand
 
@@ -239,11 +238,9 @@ more_commits objects running cs x none h = record {
 module _ (objects : List Standing) (running : List Act) (cs : List Waits) (i : ℕ) (x : Standing) (there : slice_get objects i ≡ Some x) (o : Id)
     (same : same_object o x.object ≡ true) (idle : list_any (λ (w : Waits). acts_on o w.job.action) cs ≡ false) (h : HasCommits objects running cs) where
   other : (w : Waits) → acts_on o w.job.action ≡ false → is_standing (target_of w.job.action) x ≡ false
-  other w none = elim (cases_Bool (same_object (target_of w.job.action) x.object)) [
-    | inr f ↦ f
-    | inl t ↦ absurd (let e : true ≡ false =
-        sym (same_object-sym (target_of w.job.action) x.object t) ∙ (sym (same_object-from o x.object (target_of w.job.action) same) ∙ none) in cc)
-  ]
+  other w none = if_so (same_object (target_of w.job.action) x.object)
+      (λ t. absurd (let e : true ≡ false = sym (same_object-sym (target_of w.job.action) x.object t) ∙ (sym (same_object-from o x.object (target_of w.job.action) same) ∙ none) in cc))
+      (λ f. f)
 
   each_less : (ws : List Waits) → list_any (λ (w : Waits). acts_on o w.job.action) ws ≡ false → AllByRecursion (HasObject objects) ws
       → AllByRecursion (HasObject (remove objects i)) ws

@@ -5,11 +5,6 @@ use Rattle.hpx_steps.proofs.Seen.{Sees, as_seen}
 use Rattle.hpx_steps.proofs.Sums.{by_own, by_parcel, own_sum, seen_sum}
 use Rattle.hpx_steps.proofs.Then.{Counts, Keeps, Orders, Pays, comes_to_free, fewer, frees_now}
 
--- one way for true, and one for false
-pub by_bool : (P : Bool → Type 0) → P true → P false → (b : Bool) → P b
-by_bool P a b true = a
-by_bool P a b false = b
-
 -- an entry that tells of the same thing under another name
 pub told_as : {X : Type 0} (r : Rules) (s s' : Turn) (e : X → Event) (t : X → Turn) (x y : X) → x ≡ y → s' ≡ wrote (e x) (t x)
     → Keeps r s (wrote (e y) (t y)) (e y) → Keeps r s s' (e x)

@@ -1,6 +1,6 @@
 -- What calls do is one step after another.
 use Rattle.hpx_steps.proofs.Common.{Act, Apply, Ask, Bool, Count, DealsWith, Due, Event, Free, Freed, Give, Given, Gives, Granted, HasCredit, HasInHand, HasLeastCredit, Id, IsCalm, IsTold, Label, Leaves, List, MatchOption, MessageDue, Move, None, Option, Parcel, Place, Print, PrintDue, Record, Refused, Return, Returned, Rules, Sent, Some, Standing, Step, Steps, Tables, Turn, Up, Writes, [], and_true, answered, ap, append-nil, arith, bare, brings_right, broken_free, cases_Bool, cond, count_here, credit, credit_of_log, draws, drops, eq-eqb, eqb-false, eqb-true, false, find, find_record, freed, goes_on, held_here, ids_in, inl, inr, is_live, is_some, is_standing, length, log_of, lowered, mails, map, map-append, may_stay, more_here, nat_lt, nat_tests, ne_eqb, option_and_then, option_map, option_map_or, or_cases, place_or_0, posts, pow_pos, raised, record_here, refl, remove, returned, set, slice_get, stands_here, subst, suc, sym, true, up_of, ups, waits_here, with_accepted, with_act, with_credit, with_due, with_mail, with_mail_if, with_return, with_returns, without, written, written_by, written_due, wrote, ℕ, ◌++◌, ◌+◌, ◌-◌, ◌<◌, ◌==◌, ◌^◌, ◌∙◌, ◌∷◌, ◌≡◌, ◌≢◌, ◌≤◌, ◌⊎◌}
-use Rattle.hpx_steps.proofs.Tools.{flat_append}
+use Rattle.hpx_steps.proofs.Tools.{flat_append, if_so}
 use Rattle.hpx_value.specs.Values.{named}
 use Rattle.hpx_steps.proofs.Right.{free_right}
 
@@ -117,10 +117,9 @@ module _ (r : Rules) (s : Turn) (calm : IsCalm s) (t' : Tables) where
   home_of_live o live = eqb-true o.home s.tables.here (and_true (o.home == s.tables.here) (is_some (record_here s.tables o)) live).0
 
   same_last : (a b c : ℕ) → c + b ≡ a → (c == 0) ≡ (a == b)
-  same_last a b c e = elim (cases_Bool (a == b)) [
-    | inl t ↦ let i = eqb-true a b t in eq-eqb c 0 (omega (arith, i, e)) ∙ sym t
-    | inr t ↦ let i = eqb-false a b t in ne_eqb c 0 (λ z. i (omega (arith, z, e))) ∙ sym t
-  ]
+  same_last a b c e = if_so (a == b)
+      (λ t. let i = eqb-true a b t in eq-eqb c 0 (omega (arith, i, e)) ∙ sym t)
+      (λ t. let i = eqb-false a b t in ne_eqb c 0 (λ z. i (omega (arith, z, e))) ∙ sym t)
 
   -- credit that comes home
   pub returned_leads : (id : Id) → HasInHand (Return id) s → HasCredit id → is_live s.tables id ≡ true → credit id ≤ count_here s.tables id
@@ -274,12 +273,9 @@ pub record Found (p : Standing → Bool) (xs : List Standing) (x : Standing) : T
 
 found_place : (p : Standing → Bool) (xs : List Standing) (x : Standing) → find p xs ≡ Some x → Found p xs x
 found_place p [] x h = cc
-found_place p (y ∷ ys) x h = elim (cases_Bool (p y)) [
-  | inl t ↦ record { i = 0; there = rw t at h; less = rw t refl }
-  | inr f ↦
-      let k = found_place p ys x (rw f at h) in
-      record { i = suc k.i; there = k.there; less = rw f (ap (λ zs. y ∷ zs) k.less) }
-]
+found_place p (y ∷ ys) x h = if_so (p y)
+    (λ t. record { i = 0; there = rw t at h; less = rw t refl })
+    (λ f. let k = found_place p ys x (rw f at h) in record { i = suc k.i; there = k.there; less = rw f (ap (λ zs. y ∷ zs) k.less) })
 
 pub freed_leads : (r : Rules) (s : Turn) (t' : Tables) (o : Id) → IsCalm s → s.working ≡ [] → s.loose ≡ [] → IsTold r (Free o) s → broken_free s.tables (Free o) o ≡ None
     → DealsWith (Free o) s.tables t' → Leaves (Free o) s.tables t' → Leads r s t' (freed o (find (is_standing o) s.tables.objects))

@@ -1,5 +1,6 @@
 -- Objects that stand here: what is found among them where one has another state, where one comes, and where one goes.
 use Rattle.hpx_steps.proofs.Common.{AllByRecursion, Bool, Id, List, None, Single, Some, Standing, [], ap, cases_Bool, cond, false, false_from, find, inl, inr, is_some, is_standing, refl, remove, same_object, same_object-from, same_object-sym, set, slice_get, some_same, suc, sym, true, zero, ℕ, ◌++◌, ◌∙◌, ◌∷◌, ◌≡◌}
+use Rattle.hpx_steps.proofs.ByRows.{if_so}
 
 module _ (p : Standing → Bool) where
   abbrev pub stand : List Standing → Bool
@@ -9,36 +10,21 @@ module _ (p : Standing → Bool) where
   stand_set [] j x y at same h = cc
   stand_set (z ∷ xs) zero x y at same h =
       let e : z ≡ x = some_same z x at in
-      elim (cases_Bool (p x)) [
-        | inl t ↦ rw (same, t) refl
-        | inr f ↦ rw (same, f) (rw (e, f) at h)
-      ]
-  stand_set (z ∷ xs) (suc j) x y at same h = elim (cases_Bool (p z)) [
-    | inl t ↦ rw t refl
-    | inr f ↦ rw f (stand_set xs j x y at same (rw f at h))
-  ]
+      if_so (p x) (λ t. rw (same, t) refl) (λ f. rw (same, f) (rw (e, f) at h))
+  stand_set (z ∷ xs) (suc j) x y at same h = if_so (p z) (λ t. rw t refl) (λ f. rw f (stand_set xs j x y at same (rw f at h)))
 
   pub stand_more : (xs ys : List Standing) → stand xs ≡ true → stand (xs ++ ys) ≡ true
   stand_more [] ys h = cc
-  stand_more (z ∷ xs) ys h = elim (cases_Bool (p z)) [
-    | inl t ↦ rw t refl
-    | inr f ↦ rw f (stand_more xs ys (rw f at h))
-  ]
+  stand_more (z ∷ xs) ys h = if_so (p z) (λ t. rw t refl) (λ f. rw f (stand_more xs ys (rw f at h)))
 
   pub stand_less : (xs : List Standing) (i : ℕ) (x : Standing) → slice_get xs i ≡ Some x → p x ≡ false → stand xs ≡ true → stand (remove xs i) ≡ true
   stand_less [] i x at other h = cc
   stand_less (z ∷ xs) zero x at other h = let e : z ≡ x = some_same z x at in (rw (e, other) at h)
-  stand_less (z ∷ xs) (suc i) x at other h = elim (cases_Bool (p z)) [
-    | inl t ↦ rw t refl
-    | inr f ↦ rw f (stand_less xs i x at other (rw f at h))
-  ]
+  stand_less (z ∷ xs) (suc i) x at other h = if_so (p z) (λ t. rw t refl) (λ f. rw f (stand_less xs i x at other (rw f at h)))
 
   pub find_more : (xs ys : List Standing) (x : Standing) → find p xs ≡ Some x → find p (xs ++ ys) ≡ Some x
   find_more [] ys x h = cc
-  find_more (z ∷ xs) ys x h = elim (cases_Bool (p z)) [
-    | inl t ↦ rw t (rw t at h)
-    | inr f ↦ rw f (find_more xs ys x (rw f at h))
-  ]
+  find_more (z ∷ xs) ys x h = if_so (p z) (λ t. rw t (rw t at h)) (λ f. rw f (find_more xs ys x (rw f at h)))
 
   pub find_set : (xs : List Standing) (i : ℕ) (x y : Standing) → slice_get xs i ≡ Some x → p x ≡ false → p y ≡ false → find p (set xs i y) ≡ find p xs
   find_set [] i x y h other new = refl
@@ -53,45 +39,26 @@ module _ (p : Standing → Bool) where
 
   none_set : (xs : List Standing) (j : ℕ) (x y : Standing) → slice_get xs j ≡ Some x → p y ≡ p x → find p xs ≡ None → find p (set xs j y) ≡ None
   none_set [] j x y h same none = cc
-  none_set (z ∷ xs) zero x y h same none = elim (cases_Bool (p z)) [
-    | inl t ↦ absurd (let e : Some z ≡ None = rw t at none in cc)
-    | inr f ↦ let e : p y ≡ false = same ∙ (ap p (sym (some_same z x h)) ∙ f) in rw e (rw f at none)
-  ]
-  none_set (z ∷ xs) (suc j) x y h same none = elim (cases_Bool (p z)) [
-    | inl t ↦ absurd (let e : Some z ≡ None = rw t at none in cc)
-    | inr f ↦ rw f (none_set xs j x y h same (rw f at none))
-  ]
+  none_set (z ∷ xs) zero x y h same none = if_so (p z)
+      (λ t. absurd (let e : Some z ≡ None = rw t at none in cc))
+      (λ f. let e : p y ≡ false = same ∙ (ap p (sym (some_same z x h)) ∙ f) in rw e (rw f at none))
+  none_set (z ∷ xs) (suc j) x y h same none = if_so (p z) (λ t. absurd (let e : Some z ≡ None = rw t at none in cc)) (λ f. rw f (none_set xs j x y h same (rw f at none)))
 
   none_less : (xs : List Standing) (j : ℕ) → find p xs ≡ None → find p (remove xs j) ≡ None
   none_less [] zero none = refl
   none_less [] (suc j) none = refl
-  none_less (z ∷ xs) zero none = elim (cases_Bool (p z)) [
-    | inl t ↦ absurd (let e : Some z ≡ None = rw t at none in cc)
-    | inr f ↦ rw f at none
-  ]
-  none_less (z ∷ xs) (suc j) none = elim (cases_Bool (p z)) [
-    | inl t ↦ absurd (let e : Some z ≡ None = rw t at none in cc)
-    | inr f ↦ rw f (none_less xs j (rw f at none))
-  ]
+  none_less (z ∷ xs) zero none = if_so (p z) (λ t. absurd (let e : Some z ≡ None = rw t at none in cc)) (λ f. rw f at none)
+  none_less (z ∷ xs) (suc j) none = if_so (p z) (λ t. absurd (let e : Some z ≡ None = rw t at none in cc)) (λ f. rw f (none_less xs j (rw f at none)))
 
   none_more : (xs : List Standing) (y : Standing) → find p xs ≡ None → p y ≡ false → find p (xs ++ y ∷ []) ≡ None
   none_more [] y none other = rw other refl
-  none_more (z ∷ xs) y none other = elim (cases_Bool (p z)) [
-    | inl t ↦ absurd (let e : Some z ≡ None = rw t at none in cc)
-    | inr f ↦ rw f (none_more xs y (rw f at none) other)
-  ]
+  none_more (z ∷ xs) y none other = if_so (p z) (λ t. absurd (let e : Some z ≡ None = rw t at none in cc)) (λ f. rw f (none_more xs y (rw f at none) other))
 
   -- so none passes
   pub none_passes : (xs : List Standing) (j : ℕ) (x : Standing) → find p xs ≡ None → slice_get xs j ≡ Some x → p x ≡ false
   none_passes [] j x none h = cc
-  none_passes (z ∷ xs) zero x none h = elim (cases_Bool (p z)) [
-    | inl t ↦ absurd (let e : Some z ≡ None = rw t at none in cc)
-    | inr f ↦ ap p (sym (some_same z x h)) ∙ f
-  ]
-  none_passes (z ∷ xs) (suc j) x none h = elim (cases_Bool (p z)) [
-    | inl t ↦ absurd (let e : Some z ≡ None = rw t at none in cc)
-    | inr f ↦ none_passes xs j x (rw f at none) h
-  ]
+  none_passes (z ∷ xs) zero x none h = if_so (p z) (λ t. absurd (let e : Some z ≡ None = rw t at none in cc)) (λ f. ap p (sym (some_same z x h)) ∙ f)
+  none_passes (z ∷ xs) (suc j) x none h = if_so (p z) (λ t. absurd (let e : Some z ≡ None = rw t at none in cc)) (λ f. none_passes xs j x (rw f at none) h)
 
 pub set_same : (xs : List Standing) (i : ℕ) (x : Standing) → slice_get xs i ≡ Some x → set xs i x ≡ xs
 set_same [] i x h = refl

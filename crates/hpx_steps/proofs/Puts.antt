@@ -1,5 +1,6 @@
 -- One more action: what it weighs and that it is tidy, whether it is accepted or goes in a message.
 use Rattle.hpx_steps.proofs.Common.{Accepted, Act, AllByRecursion, Apply, Bool, FreesNone, Going, Id, IfSome, IsFit, IsOwn, IsParcel, IsTidyIn, Item, List, MayGoTo, Move, None, OnDesk, Option, Parcel, Some, Tables, [], and_true, ap, bare, bare_act, cases_Bool, cond, eqb-false, eqb-true, false, going, id_at, inl, inr, is_movable, is_other, kept, map, may_stay, move_to, moves_on, not, parcel_for, place_in, refl, stands_here, subst, sym, target_of, true, ℕ, ◌&&◌, ◌==◌, ◌∷◌, ◌≡◌, ◌≤◌, ◌⊎◌}
+use Rattle.hpx_steps.proofs.ByRows.{if_so}
 use Rattle.hpx_steps.proofs.Changes.{put_as, sent_if}
 use Rattle.hpx_steps.proofs.Mails.{mail_tidy}
 
@@ -47,20 +48,16 @@ move_to-bare act = ap (λ (o : Id). cond ((act.code == 1) && is_movable o.kind) 
 
 here_only : (k : ℕ) (to : Option ℕ) → moves_on k to ≡ false → IfSome to (λ x. x ≡ k)
 here_only k None h = tt
-here_only k (Some x) h = elim (cases_Bool (x == k)) [
-  | inl b ↦ eqb-true x k b
-  | inr b ↦ absurd (let e : not false ≡ false = rw b at h in cc)
-]
+here_only k (Some x) h = if_so (x == k) (λ b. eqb-true x k b) (λ b. absurd (let e : not false ≡ false = rw b at h in cc))
 
 not_false : (b : Bool) → not b ≡ true → b ≡ false
 not_false true h = cc
 not_false false h = refl
 
 fit_parcel : (act : Act) → IsFit act → IsParcel (parcel_for act)
-fit_parcel act fit = elim (cases_Bool (act.code == 1)) [
-  | inl b ↦ rw b (let e = eqb-true act.code 1 b in record { sent = fit.sent; code = e; target = (fit.moves e).0; args = (fit.moves e).1 })
-  | inr b ↦ rw b (record { sent = fit.sent; code = eqb-false act.code 1 b })
-]
+fit_parcel act fit = if_so (act.code == 1)
+    (λ b. rw b (let e = eqb-true act.code 1 b in record { sent = fit.sent; code = e; target = (fit.moves e).0; args = (fit.moves e).1 }))
+    (λ b. rw b (record { sent = fit.sent; code = eqb-false act.code 1 b }))
 
 pub put_tidy : (t : Tables) (act : Act) → IsFit act
     → IsTidyIn t.here t.localities t.profile.credit_log t.births t.objects (put_as (may_stay t act) (is_other t (target_of act).home) act)

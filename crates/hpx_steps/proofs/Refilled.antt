@@ -1,6 +1,6 @@
 -- What was asked for is put into the hand of the commit that waits for it.
 use Rattle.hpx_steps.proofs.Common.{AskedFor, Bool, HasCredit, HasRightCredit, HasSplit, Id, IsCommit, IsShort, List, MatchOption, None, Option, Some, Waits, all_append, all_at, all_remove, and_true, ap, append_assoc, arith, bare, cases_Bool, cond, count_by, eq-eqb, eqb-true, false, first_stock, id_at, ids_named, inl, inr, is_asked, is_asked_for, is_some, length, length-append, list_any, log_of, nat_le, not, own_ids, place_bare, place_some, refilled, refl, remove, same_object, same_object-true, set, slice_get, some_same, subst, sym, true, whole_stock, ℕ, ◌&&◌, ◌++◌, ◌+◌, ◌<◌, ◌==◌, ◌∙◌, ◌≡◌, ◌≢◌, ◌≤◌, ◌⊎◌}
-use Rattle.hpx_steps.proofs.Tools.{front_place, hand_long, has_not_asked, less_sum, not_asked, place_at, put_elsewhere, put_names, put_there, recommit, take_place}
+use Rattle.hpx_steps.proofs.Tools.{front_place, hand_long, has_not_asked, if_so, less_sum, not_asked, place_at, put_elsewhere, put_names, put_there, recommit, take_place}
 use Rattle.hpx_steps.proofs.Hands.{any_place, names_place, put_behind}
 
 own_log : (id : Id) → HasCredit id → id.log ≡ Some (log_of id.log)
@@ -50,10 +50,7 @@ module _ (k l log : ℕ) (w : Waits) (n : ℕ) (ask : AskedFor) (id : Id) (entry
   one = ap {B = ℕ} (λ b. cond b 1 0) (eq-eqb ask.place ask.place refl)
 
   pub was_asked : is_asked (id_at w.hand ask.place) ≡ true
-  was_asked = elim (cases_Bool (is_asked (id_at w.hand ask.place))) [
-    | inl t ↦ t
-    | inr f ↦ absurd (omega (arith, left ask.place, one, its.once ask.place asked_low, ap {B = ℕ} (λ b. cond b 1 0) f))
-  ]
+  was_asked = if_so (is_asked (id_at w.hand ask.place)) (λ t. t) (λ f. absurd (omega (arith, left ask.place, one, its.once ask.place asked_low, ap {B = ℕ} (λ b. cond b 1 0) f)))
 
   pub asked_no_more : is_asked id ≡ false
   asked_no_more = has_not_asked id (log_of id.log) (own_log id credit)

@@ -1,21 +1,16 @@
 -- Credit comes home.
 use Rattle.hpx_steps.proofs.Common.{Bool, Came, Count, Entry, Event, Free, Going, HasInHand, Id, IsParcel, IsSound, IsTidy, Item, List, Mailed, MatchOption, None, OnDesk, Option, Record, Recounts, Return, Returned, Row, Rules, Some, StaysAt, Tables, TakesBack, TidyAt, Token, Turn, View, [], ap, arith, asked_by, asks_under, bare, bare_due, cases_Bool, causes, cond, count_by, count_in, counted, counts_of, counts_true, credit, credit_of_log, drops, eqb-true, false, find, follows_returned, freeing, given_to, goes, going, hopping, inl, inr, is_other, is_recorded, joined, lowered, mails_if, map, one_if, option_map_or, owed_token, owes, parcel_frees, refl, same_object, same_token, some_same, subst, sum_by, sum_by-cons, sym, token_own, tokens, true, unpaid, view, waits_for, weigh, weight, with_records, worth, wrote, ℕ, ◌&&◌, ◌++◌, ◌+◌, ◌-◌, ◌==◌, ◌^◌, ◌∙◌, ◌∷◌, ◌≡◌, ◌≤◌}
-use Rattle.hpx_steps.proofs.Tools.{Changes, Keeps, Sees, asks_of, bound_none, by_rows, counts_near, drop_change, drop_waits, fewer, frees_of, hand_fit, holding, in_hand, is_frame, mail_change, mail_tidy, mail_waits, owed_by, own_sum, same_asks, sees_covers, sees_leads, sent_if, sent_total, then, told_as, total, view_covered, view_worth}
+use Rattle.hpx_steps.proofs.Tools.{Changes, Keeps, Sees, asks_of, bound_none, by_rows, counts_near, drop_change, drop_waits, fewer, frees_of, hand_fit, holding, if_so, in_hand, is_frame, mail_change, mail_tidy, mail_waits, owed_by, own_sum, same_asks, sees_covers, sees_leads, sent_if, sent_total, then, told_as, total, view_covered, view_worth}
 use Rattle.hpx_steps.proofs.Mails.{other_is}
 use Rattle.hpx_steps.proofs.Records.{found_counted, one_recounted, places_still}
 
 lowered_stays : (k : ℕ) (old x : Record) (id : Id) → lowered old id ≡ Some x → StaysAt k old → StaysAt k x
-lowered_stays k old x id is at = elim (cases_Bool (old.count == credit id)) [
-  | inl t ↦ absurd (let e : None ≡ Some x = rw t at is in cc)
-  | inr t ↦ let e : Some (record old { count = old.count - credit id }) ≡ Some x = rw t at is in
-      subst (StaysAt k) (some_same _ x e) (at.0, at.1)
-]
+lowered_stays k old x id is at = if_so (old.count == credit id)
+    (λ t. absurd (let e : None ≡ Some x = rw t at is in cc))
+    (λ t. let e : Some (record old { count = old.count - credit id }) ≡ Some x = rw t at is in subst (StaysAt k) (some_same _ x e) (at.0, at.1))
 
 lowered_count : (old : Record) (id : Id) (count : ℕ) → count + credit id ≡ old.count → option_map_or (λ (r : Record). r.count) (lowered old id) 0 ≡ count
-lowered_count old id count sum = elim (cases_Bool (old.count == credit id)) [
-  | inl t ↦ rw t (let e = eqb-true old.count (credit id) t in omega (arith, e, sum))
-  | inr t ↦ rw t (omega (arith, sum))
-]
+lowered_count old id count sum = if_so (old.count == credit id) (λ t. rw t (let e = eqb-true old.count (credit id) t in omega (arith, e, sum))) (λ t. rw t (omega (arith, sum)))
 
 here_is_no_other : (t : Tables) (to : ℕ) → to ≡ t.here → is_other t to ≡ true → ⊥
 here_is_no_other t to same other = (other_is t to other).1 same

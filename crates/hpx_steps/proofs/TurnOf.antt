@@ -1,6 +1,6 @@
 -- A turn: a message is taken up and dealt with, a frame goes, a line is fed, an action is fired.
 use Rattle.hpx_steps.proofs.Common.{Accepts, Act, Apply, Arrived, Ask, Bool, Cached, DealsWith, Entry, Event, Fire, Free, Give, Go, HasInHand, Id, In, IsAct, IsCalm, IsParcel, IsSound, IsTold, Label, Leaves, Line, List, Mail, MayGoTo, Move, None, OnDesk, Option, Out, Outcome, Outgoing, Parcel, Return, Rules, Shipped, Some, Standing, Stands, State, Steps, Tables, TidyAt, Turn, Writes, [], ap, are_far, arith, at_all, at_rest, breaks, broken, broken_act, broken_move, broken_near, cases_Bool, cond, credit_in, effects, eq-eqb, false, find, fired_acts, held_here, id_at, ids_held, if◌then◌else◌, inl, inr, is_busy, is_far, is_far_act, is_live, is_lost, is_movable, is_standing, is_to, is_to_here, kind_of, leaves, length, line_act, map, may_stay, min, move_to, moves_far, moves_on, name_of, nat_le, nat_lt, nat_tests, ne_eqb, not, parcel_of, place_in, refl, remove, rules_of, slice_get, stands_here, subst, suc, sum_by-cons, sym, target_of, travels_in, true, waits_here, with_act, written, zero, ℕ, ◌&&◌, ◌++◌, ◌+◌, ◌-◌, ◌<◌, ◌==◌, ◌^◌, ◌||◌, ◌∙◌, ◌∷◌, ◌≡◌, ◌≢◌, ◌≤◌, ◌⊎◌}
-use Rattle.hpx_steps.proofs.Tools.{none_of}
+use Rattle.hpx_steps.proofs.Tools.{if_so, none_of}
 use Rattle.hpx_steps.proofs.Handled.{Leads, accepted_leads, act_leads, asked_leads, freed_leads, kept_here, returned_leads}
 use Rattle.hpx_steps.proofs.Rest.{rest_sound}
 use Rattle.hpx_steps.proofs.Right.{go_wrong, near_right, object_wrong, return_right}
@@ -43,11 +43,9 @@ module _ (t : Tables) (act : Act) where
       not_lost false false live false h e = cc
 
   stays_apply : act.code ≢ 1 → broken_act t (Apply act) act ≡ None → (target_of act).home ≡ t.here → may_stay t act ≡ true
-  stays_apply code right home = elim (cases_Bool (is_lost t (target_of act))) [
-    | inl l ↦ absurd (let e : breaks 8 (Apply act) (length t.records) ≡ None = rw l at right in cc)
-    | inr l ↦ ap (λ b. not (moves_on t.here (cond (b && is_movable (target_of act).kind) (place_in act.args) None)) && stands_here t (target_of act)) (ne_eqb act.code 1 code)
-        ∙ stands_so l home
-  ]
+  stays_apply code right home = if_so (is_lost t (target_of act))
+      (λ l. absurd (let e : breaks 8 (Apply act) (length t.records) ≡ None = rw l at right in cc))
+      (λ l. ap (λ b. not (moves_on t.here (cond (b && is_movable (target_of act).kind) (place_in act.args) None)) && stands_here t (target_of act)) (ne_eqb act.code 1 code) ∙ stands_so l home)
 
   stays_move : act.code ≡ 1 → broken_move t (Move act) act ≡ None → (target_of act).home ≡ t.here → may_stay t act ≡ true
   stays_move code right home = elim (cases_Bool (is_lost t (target_of act) || (((target_of act).home == t.here) && not (is_to_here t act)))) [

@@ -1,6 +1,6 @@
 -- Where no credit of an object is held, no action here is on it.
 use Rattle.hpx_steps.proofs.Common.{Accepted, Act, AllByRecursion, Apply, Arrived, Ask, Bool, Cached, Credit, Free, Give, Go, Going, HasInHand, Id, IsFit, IsParcel, IsTidy, List, Move, None, OnDesk, Option, Outgoing, Parcel, Return, Running, Shipped, Some, Token, Turn, Waits, [], act_names, action_of, acts_named, acts_on, all_append, and_false, ap, arith, bare_act, cases_Bool, cond, credit, credit_in, credit_list, credits_of, false, fired_of, flat_map, held, held_here, ids_held, inl, inr, is_held, list_any, map, messages, owing, parcel_acts, parcel_tokens, pow_pos, refl, same_object, same_object-true, session, sum_by, sum_by-append, sum_by-cons, sym, true, view, waiting, waits_here, ℕ, ◌++◌, ◌+◌, ◌∙◌, ◌∷◌, ◌≡◌, ◌≤◌}
-use Rattle.hpx_steps.proofs.Tools.{all_among, drop_waits, ids_append, ids_flat, none_of, target-bare, weighs}
+use Rattle.hpx_steps.proofs.Tools.{all_among, drop_waits, ids_append, ids_flat, if_so, none_of, target-bare, weighs}
 use Rattle.hpx_steps.proofs.Busy.{or_false}
 use Rattle.hpx_steps.proofs.Cover.{held_acts}
 
@@ -52,10 +52,9 @@ module _ (o : Id) where
 
   no_acts : 16 ≤ o.kind → (xs : List Act) → sum_by (act_names o) xs ≡ 0 → list_any (acts_on o) xs ≡ false
   no_acts managed [] h = refl
-  no_acts managed (x ∷ xs) h = elim (cases_Bool (acts_on o x)) [
-    | inl t ↦ absurd (omega (arith, h, sum_by-cons (act_names o) x xs, one_name managed x x.ids refl t))
-    | inr t ↦ rw t (no_acts managed xs (omega (arith, h, sum_by-cons (act_names o) x xs)))
-  ]
+  no_acts managed (x ∷ xs) h = if_so (acts_on o x)
+      (λ t. absurd (omega (arith, h, sum_by-cons (act_names o) x xs, one_name managed x x.ids refl t)))
+      (λ t. rw t (no_acts managed xs (omega (arith, h, sum_by-cons (act_names o) x xs))))
 
   acts_worth : 16 ≤ o.kind → (xs : List Act) → AllByRecursion IsFit xs → sum_by (act_names o) (map bare_act xs) ≤ sum_by (λ (a : Act). credit_in o a.ids) xs
   acts_worth managed xs fit = omega (arith, held_acts o managed xs fit, ids_flat holds (λ (a : Act). a.ids) xs, each xs)
