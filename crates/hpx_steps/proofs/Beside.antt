@@ -2,7 +2,7 @@
 use Rattle.hpx_steps.proofs.Common.{Act, AllByRecursion, Apart, Bool, HasCommits, HasObject, HasRightCredit, Id, IsWhole, Job, List, Single, Some, Standing, State, Waits, [], action_of, acts_on, all_append, all_at, all_parts, all_remove, all_set, ap, append_assoc, arith, bare, bare_names, bare_state, cases_Bool, cond, drop, eqb-true, false, find, fired_of, inl, inr, is_busy, is_standing, list_any, map, map-append, names_of, refl, remove, same_object, same_object-from, same_object-sym, same_object-true, set, slice_get, split_get, subst, suc, sum_by, sum_by-append, sum_by-cons, sum_middle, sym, take, target_of, true, ℕ, ◌++◌, ◌==◌, ◌∙◌, ◌∷◌, ◌≡◌}
 use Rattle.hpx_steps.proofs.ByRows.{if_so}
 use Rattle.hpx_steps.proofs.Bare.{lent_all, no_bare}
-use Rattle.hpx_steps.proofs.Busy.{apart_alone, apart_less, apart_moved, busy_moved, busy_none, busy_parts, busy_same, keeps, none_busy, none_of}
+use Rattle.hpx_steps.proofs.Busy.{apart_alone, apart_less, apart_moved, busy_moved, busy_none, busy_parts, busy_same, keeps, never, none_busy, none_of}
 use Rattle.hpx_steps.proofs.Lists.{less_sum, set_sum}
 use Rattle.hpx_steps.proofs.Objects.{all_but, find_less, find_more, find_set, get_set, set_same, single_found, single_set}
 
@@ -12,18 +12,10 @@ object_on xs ys w h found = record { standing = h.standing; found = found; kind 
 
 -- an object with no action on it is not busy
 no_act : (o : Id) (cs : List Waits) → list_any (λ (w : Waits). acts_on o w.job.action) cs ≡ false → is_busy o (map action_of cs) ≡ false
-no_act o [] h = either (o.kind == 7)
-  where
-    either : (b : Bool) → cond b false false ≡ false
-    either true = refl
-    either false = refl
+no_act o [] h = never (o.kind == 7)
 no_act o (w ∷ cs) h =
     let k = none_of (acts_on o w.job.action) (list_any (λ (y : Waits). acts_on o y.job.action) cs) h in
-    none_busy o w.job.action (map action_of cs) (ap (cond (o.kind == 7) false) k.0 ∙ either (o.kind == 7)) (no_act o cs k.1)
-  where
-    either : (b : Bool) → cond b false false ≡ false
-    either true = refl
-    either false = refl
+    none_busy o w.job.action (map action_of cs) (ap (cond (o.kind == 7) false) k.0 ∙ never (o.kind == 7)) (no_act o cs k.1)
 
 -- ---- an object has another state
 
@@ -151,14 +143,10 @@ module _ (objects : List Standing) (running : List Act) (w : Waits) (cs : List W
       others : (xs : List Standing) → AllByRecursion (IsWhole (w ∷ cs)) xs → AllByRecursion (λ (z : Standing). same_object z.object x.object ≡ false → IsWhole cs z) xs
       others [] all = tt
       others (z ∷ zs) all = (
-        (λ other b. all.0 (none_busy z.object w.job.action (map action_of cs) (ap (cond (z.object.kind == 7) false) (off z other) ∙ either (z.object.kind == 7)) b)),
+        (λ other b. all.0 (none_busy z.object w.job.action (map action_of cs) (ap (cond (z.object.kind == 7) false) (off z other) ∙ never (z.object.kind == 7)) b)),
         others zs all.1,
       )
         where
-          either : (b : Bool) → cond b false false ≡ false
-          either true = refl
-          either false = refl
-
           off : (z : Standing) → same_object z.object x.object ≡ false → same_object z.object (target_of w.job.action) ≡ false
           off z other = if_so (same_object z.object (target_of w.job.action))
               (λ t. absurd (let e : true ≡ false = sym (same_object-from z.object (target_of w.job.action) x.object t ∙ same) ∙ other in cc))

@@ -10,6 +10,11 @@ pub none_of : (a b : Bool) → (a || b) ≡ false → (a ≡ false) × (b ≡ fa
 none_of true b h = absurd (cc)
 none_of false b h = (refl, h)
 
+-- what is false both ways
+pub never : (b : Bool) → cond b false false ≡ false
+never true = refl
+never false = refl
+
 -- whether an action keeps o busy
 abbrev pub keeps : Id → Act → Bool
 keeps o act = cond (o.kind == 7) false (acts_on o act)
@@ -35,19 +40,11 @@ keeps_both a b h = elim (cases_Bool (same_object (target_of b) (target_of a))) [
       let kind : (target_of b).kind ≡ (target_of a).kind = ap (λ (o : Id). o.kind) (same_object-true (target_of b) (target_of a) t) in
       ap (λ k. cond (k == 7) false (same_object (target_of b) (target_of a))) kind
       ∙ (ap (λ c. cond ((target_of a).kind == 7) false c) (t ∙ sym same) ∙ h)
-  | inr t ↦ ap (λ c. cond ((target_of b).kind == 7) false c) t ∙ either ((target_of b).kind == 7)
+  | inr t ↦ ap (λ c. cond ((target_of b).kind == 7) false c) t ∙ never ((target_of b).kind == 7)
 ]
-  where
-    either : (b : Bool) → cond b false false ≡ false
-    either true = refl
-    either false = refl
 
 pub busy_parts : (o : Id) (l m : List Act) → is_busy o (l ++ m) ≡ false → (is_busy o l ≡ false) × (is_busy o m ≡ false)
-busy_parts o [] m h = (none_at (o.kind == 7), h)
-  where
-    none_at : (b : Bool) → cond b false false ≡ false
-    none_at true = refl
-    none_at false = refl
+busy_parts o [] m h = (never (o.kind == 7), h)
 busy_parts o (x ∷ l) m h =
     let first = busy_none o x (l ++ m) h in
     let rest = busy_parts o l m first.1 in (none_busy o x l first.0 rest.0, rest.1)

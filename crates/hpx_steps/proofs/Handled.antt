@@ -80,6 +80,10 @@ pub record Leads (r : Rules) (s : Turn) (t' : Tables) (events : List Event) : Ty
   pub writes : written labels ≡ events
   pub steps : Steps r s labels (record (drops s) { tables = t'; last = last })
 
+-- by one entry
+pub one_leads : (r : Rules) (s : Turn) (t' : Tables) (e : Event) → Step r s (Writes e) (record (drops s) { tables = t'; last = Some e }) → Leads r s t' (e ∷ [])
+one_leads r s t' e step = record { last = Some e; labels = Writes e ∷ []; writes = refl; steps = (record (drops s) { tables = t'; last = Some e }, step, refl) }
+
 -- an action that may stay is accepted
 pub kept_here : (t : Tables) (act : Act) → may_stay t act ≡ true → with_act act t ≡ with_accepted act t
 kept_here t act stay = rw stay (simp append-nil)
@@ -132,36 +136,26 @@ module _ (r : Rules) (s : Turn) (calm : IsCalm s) (t' : Tables) where
           let old = record_of_live id live in
           let was : count_here s.tables id ≡ old.0.count = ap (λ (o : Option Record). option_map_or (λ (x : Record). x.count) o 0) old.1 in
           let worth : credit id ≡ 2 ^ log = ap credit_of_log e in
-          let event : Event = Count (bare id) (count_here s.tables id - 2 ^ log) (Returned log) in
-          let count : ℕ = count_here s.tables id - 2 ^ log in record {
-            last = Some event;
-            labels = Writes event ∷ [];
-            writes = refl;
-            steps = (
-              record (drops s) { tables = t'; last = Some event },
-              record {
-                calm = calm;
-                id = id;
-                old = old.0;
-                records = t'.records;
-                hand = hand;
-                object = refl;
-                home = home_of_live id live;
-                has = e;
-                sum = omega (arith, was, worth, enough);
-                recounts = record {
-                  was = old.1;
-                  own = leaves.own ∙ ap (option_and_then (λ (x : Record). lowered x id)) old.1;
-                  others = leaves.others;
-                };
-                now = ap (λ t. record (drops s) { tables = t; last = Some event })
-                    (deals ∙ (ap (λ b. record (with_mail_if b (place_or_0 s.tables id) (Free (bare id)) s.tables) { records = t'.records })
-                    (sym (same_last (count_here s.tables id) (credit id) (count_here s.tables id - 2 ^ log) (omega (arith, worth, enough))))
-                    ∙ ap (λ (o : Option Record). record (with_mail_if ((count_here s.tables id - 2 ^ log) == 0) (option_map_or (λ (x : Record). x.place) o 0) (Free (bare id)) s.tables) { records = t'.records }) old.1));
-              },
-              refl,
-            );
-          }
+          let event : Event = Count (bare id) (count_here s.tables id - 2 ^ log) (Returned log) in one_leads r s t' event (record {
+            calm = calm;
+            id = id;
+            old = old.0;
+            records = t'.records;
+            hand = hand;
+            object = refl;
+            home = home_of_live id live;
+            has = e;
+            sum = omega (arith, was, worth, enough);
+            recounts = record {
+              was = old.1;
+              own = leaves.own ∙ ap (option_and_then (λ (x : Record). lowered x id)) old.1;
+              others = leaves.others;
+            };
+            now = ap (λ t. record (drops s) { tables = t; last = Some event })
+                (deals ∙ (ap (λ b. record (with_mail_if b (place_or_0 s.tables id) (Free (bare id)) s.tables) { records = t'.records })
+                (sym (same_last (count_here s.tables id) (credit id) (count_here s.tables id - 2 ^ log) (omega (arith, worth, enough))))
+                ∙ ap (λ (o : Option Record). record (with_mail_if ((count_here s.tables id - 2 ^ log) == 0) (option_map_or (λ (x : Record). x.place) o 0) (Free (bare id)) s.tables) { records = t'.records }) old.1));
+          })
 
   -- an ask
   pub asked_leads : (id : Id) (asker entry : ℕ) → HasInHand (Ask id asker entry) s → HasLeastCredit id → asker < s.tables.localities → 1 ≤ s.tables.profile.credit_log
@@ -193,66 +187,48 @@ module _ (r : Rules) (s : Turn) (calm : IsCalm s) (t' : Tables) where
       each : (b : Bool) → nat_lt s.tables.profile.credit_limit (more_here s.tables id) ≡ b
           → Leads r s t' (cond b (Count (bare id) (count_here s.tables id) Refused) (Count (bare id) (more_here s.tables id) Granted) ∷ [])
       each true e =
-          let event : Event = Count (bare id) (count_here s.tables id) Refused in record {
-            last = Some event;
-            labels = Writes event ∷ [];
-            writes = refl;
-            steps = (
-              record (drops s) { tables = t'; last = Some event },
-              record {
-                calm = calm;
-                id = id;
-                asker = asker;
-                entry = entry;
-                old = old.0;
-                records = t'.records;
-                live = omega (arith, was, one, enough);
-                hand = hand;
-                near = near;
-                object = refl;
-                home = home_of_live id live;
-                same = was;
-                limit = let l : s.tables.profile.credit_limit < more_here s.tables id = is_less s.tables.profile.credit_limit (more_here s.tables id) e in omega (arith, l, pow_pos s.tables.profile.credit_log);
-                recounts = record {
-                  was = old.1;
-                  own = own ∙ ap (λ c. Some (cond c old.0 (record old.0 { count = old.0.count + 2 ^ s.tables.profile.credit_log - 1 }))) (lim ∙ e);
-                  others = leaves.others;
-                };
-                now = ap (λ t. record (drops s) { tables = t; last = Some event })
-                    (deals ∙ ap (λ c. record (with_mail asker (Give (cond c id (record id { log = Some s.tables.profile.credit_log })) entry) s.tables) { records = t'.records }) e);
-              },
-              refl,
-            );
-          }
+          let event : Event = Count (bare id) (count_here s.tables id) Refused in one_leads r s t' event (record {
+            calm = calm;
+            id = id;
+            asker = asker;
+            entry = entry;
+            old = old.0;
+            records = t'.records;
+            live = omega (arith, was, one, enough);
+            hand = hand;
+            near = near;
+            object = refl;
+            home = home_of_live id live;
+            same = was;
+            limit = let l : s.tables.profile.credit_limit < more_here s.tables id = is_less s.tables.profile.credit_limit (more_here s.tables id) e in omega (arith, l, pow_pos s.tables.profile.credit_log);
+            recounts = record {
+              was = old.1;
+              own = own ∙ ap (λ c. Some (cond c old.0 (record old.0 { count = old.0.count + 2 ^ s.tables.profile.credit_log - 1 }))) (lim ∙ e);
+              others = leaves.others;
+            };
+            now = ap (λ t. record (drops s) { tables = t; last = Some event })
+                (deals ∙ ap (λ c. record (with_mail asker (Give (cond c id (record id { log = Some s.tables.profile.credit_log })) entry) s.tables) { records = t'.records }) e);
+          })
       each false e =
-          let event : Event = Count (bare id) (more_here s.tables id) Granted in record {
-            last = Some event;
-            labels = Writes event ∷ [];
-            writes = refl;
-            steps = (
-              record (drops s) { tables = t'; last = Some event },
-              record {
-                calm = calm;
-                id = id;
-                asker = asker;
-                entry = entry;
-                old = old.0;
-                records = t'.records;
-                live = omega (arith, was, one, enough);
-                lasts = lasts;
-                hand = hand;
-                near = near;
-                object = refl;
-                home = home_of_live id live;
-                sum = omega (arith, was, one, enough);
-                limit = is_at_most s.tables.profile.credit_limit (more_here s.tables id) e;
-                recounts = record { was = old.1; own = own; others = leaves.others };
-                now = ap (λ t. record (drops s) { tables = t; last = Some event })
-                    (deals ∙ ap (λ c. record (with_mail asker (Give (cond c id (record id { log = Some s.tables.profile.credit_log })) entry) s.tables) { records = t'.records }) e);
-              },
-              refl,
-            );
-          }
+          let event : Event = Count (bare id) (more_here s.tables id) Granted in one_leads r s t' event (record {
+            calm = calm;
+            id = id;
+            asker = asker;
+            entry = entry;
+            old = old.0;
+            records = t'.records;
+            live = omega (arith, was, one, enough);
+            lasts = lasts;
+            hand = hand;
+            near = near;
+            object = refl;
+            home = home_of_live id live;
+            sum = omega (arith, was, one, enough);
+            limit = is_at_most s.tables.profile.credit_limit (more_here s.tables id) e;
+            recounts = record { was = old.1; own = own; others = leaves.others };
+            now = ap (λ t. record (drops s) { tables = t; last = Some event })
+                (deals ∙ ap (λ c. record (with_mail asker (Give (cond c id (record id { log = Some s.tables.profile.credit_log })) entry) s.tables) { records = t'.records }) e);
+          })
 
 -- ---- an object is freed
 
@@ -341,12 +317,7 @@ given_leads r s t' id entry calm hand credit right g = record {
 pub given_waits : (r : Rules) (s : Turn) (t' : Tables) (id : Id) (entry : ℕ) → IsCalm s → HasInHand (Give id entry) s → HasCredit id → brings_right s.tables id ≡ true
     → (g : Gives id entry s.tables t') → (length g.after.asked == 0) ≡ false → Leads r s t' (Given (bare id) (log_of id.log) ∷ [])
 given_waits r s t' id entry calm hand credit right g waits =
-    let event : Event = Given (bare id) (log_of id.log) in record {
-      last = Some event;
-      labels = Writes event ∷ [];
-      writes = refl;
-      steps = (wrote event (goes_on g.i g.after (drops s)), given_leads r s t' id entry calm hand credit right g, sym then_is);
-    }
+    one_leads r s t' (Given (bare id) (log_of id.log)) (subst (Step r s (Writes (Given (bare id) (log_of id.log)))) then_is (given_leads r s t' id entry calm hand credit right g))
   where
     then_is : wrote (Given (bare id) (log_of id.log)) (goes_on g.i g.after (drops s)) ≡ record (drops s) { tables = t'; last = Some (Given (bare id) (log_of id.log)) }
     then_is =

@@ -1,5 +1,5 @@
 -- A turn: a message is taken up and dealt with, a frame goes, a line is fed, an action is fired.
-use Rattle.hpx_steps.proofs.Common.{Accepts, Act, Apply, Arrived, Ask, Bool, Cached, DealsWith, Entry, Event, Fire, Free, Give, Go, HasInHand, Id, In, IsAct, IsCalm, IsParcel, IsSound, IsTold, Label, Leaves, Line, List, Mail, MayGoTo, Move, None, OnDesk, Option, Out, Outcome, Outgoing, Parcel, Return, Rules, Shipped, Some, Standing, Stands, State, Steps, Tables, TidyAt, Turn, Writes, [], ap, are_far, arith, at_all, at_rest, breaks, broken, broken_act, broken_move, broken_near, cases_Bool, cond, credit_in, effects, eq-eqb, false, find, fired_acts, held_here, id_at, ids_held, if◌then◌else◌, inl, inr, is_busy, is_far, is_far_act, is_live, is_lost, is_movable, is_standing, is_to, is_to_here, kind_of, leaves, length, line_act, map, may_stay, min, move_to, moves_far, moves_on, name_of, nat_le, nat_lt, nat_tests, ne_eqb, not, parcel_of, place_in, refl, remove, rules_of, slice_get, stands_here, subst, suc, sum_by-cons, sym, target_of, travels_in, true, waits_here, with_act, written, zero, ℕ, ◌&&◌, ◌++◌, ◌+◌, ◌-◌, ◌<◌, ◌==◌, ◌^◌, ◌||◌, ◌∙◌, ◌∷◌, ◌≡◌, ◌≢◌, ◌≤◌, ◌⊎◌}
+use Rattle.hpx_steps.proofs.Common.{Accepts, Act, Apply, Arrived, Ask, Bool, Cached, DealsWith, Entry, Event, Fire, Free, Give, Go, HasInHand, Id, In, IsAct, IsCalm, IsParcel, IsSound, IsTold, Label, Leaves, Line, List, Mail, MayGoTo, Move, None, OnDesk, Option, Out, Outcome, Outgoing, Parcel, Return, Rules, Shipped, Some, Standing, Stands, State, Step, Steps, Tables, TidyAt, Turn, Writes, [], ap, are_far, arith, at_all, at_rest, breaks, broken, broken_act, broken_move, broken_near, cases_Bool, cond, credit_in, effects, eq-eqb, false, find, fired_acts, held_here, id_at, ids_held, if◌then◌else◌, inl, inr, is_busy, is_far, is_far_act, is_live, is_lost, is_movable, is_standing, is_to, is_to_here, kind_of, leaves, length, line_act, map, may_stay, min, move_to, moves_far, moves_on, name_of, nat_le, nat_lt, nat_tests, ne_eqb, not, parcel_of, place_in, refl, remove, rules_of, slice_get, stands_here, subst, suc, sum_by-cons, sym, target_of, travels_in, true, waits_here, with_act, written, zero, ℕ, ◌&&◌, ◌++◌, ◌+◌, ◌-◌, ◌<◌, ◌==◌, ◌^◌, ◌||◌, ◌∙◌, ◌∷◌, ◌≡◌, ◌≢◌, ◌≤◌, ◌⊎◌}
 use Rattle.hpx_steps.proofs.Tools.{if_so, none_of}
 use Rattle.hpx_steps.proofs.Handled.{Leads, accepted_leads, act_leads, asked_leads, freed_leads, kept_here, returned_leads}
 use Rattle.hpx_steps.proofs.Rest.{rest_sound}
@@ -16,6 +16,11 @@ turn_stands act_of t t' entries labels l h steps =
     subst (λ n. IsSound (rules_of act_of n t'.profile) (at_rest t') es) (sym k.localities)
     (subst (λ p. IsSound (rules_of act_of t.localities p) (at_rest t') es) (sym k.profile)
     (rest_sound (rules_of act_of t.localities t.profile) (record (at_rest t') { last = l }) es k.sound))
+
+-- where one entry does
+one_stands : (act_of : ℕ → ℕ → ℕ → State → Act → Outcome) (t t' : Tables) (entries : List Entry) (e : Event) → Stands act_of t entries
+    → Step (rules_of act_of t.localities t.profile) (at_rest t) (Writes e) (record (at_rest t') { last = Some e }) → Stands act_of t' (entries ++ at_all t.here (e ∷ []))
+one_stands act_of t t' entries e h step = turn_stands act_of t t' entries (Writes e ∷ []) (Some e) h (record (at_rest t') { last = Some e }, step, refl)
 
 -- ---- what breaks no rule
 
@@ -212,49 +217,34 @@ module _ (act_of : ℕ → ℕ → ℕ → State → Act → Outcome) (t t' : Ta
 
   pub out_stands : (x : Outgoing) (rest : List Outgoing) (bytes : List ℕ) → t.outgoing ≡ x ∷ rest → parcel_of bytes ≡ Some x.parcel
       → t' ≡ record t { outgoing = rest; sent = t.sent + 1 } → Stands act_of t' (entries ++ at_all t.here (Out x.to bytes ∷ []))
-  out_stands x rest bytes is spelled now =
-      turn_stands act_of t t' entries (Writes (Out x.to bytes) ∷ []) (Some (Out x.to bytes)) h (
-        record (at_rest t') { last = Some (Out x.to bytes) },
-        record {
-          calm = record { due = refl; fresh = refl };
-          first = x;
-          rest = rest;
-          is = is;
-          place = refl;
-          spelled = spelled;
-          now = ap (λ u. record (at_rest u) { last = Some (Out x.to bytes) }) now;
-        },
-        refl,
-      )
+  out_stands x rest bytes is spelled now = one_stands act_of t t' entries (Out x.to bytes) h (record {
+    calm = record { due = refl; fresh = refl };
+    first = x;
+    rest = rest;
+    is = is;
+    place = refl;
+    spelled = spelled;
+    now = ap (λ u. record (at_rest u) { last = Some (Out x.to bytes) }) now;
+  })
 
   pub line_stands : (bytes : List ℕ) → t.here ≡ 0 → length bytes ≤ 1025
       → t' ≡ with_act (line_act (record { origin = t.here; serial = t.serial + 1 }) bytes) (record t { serial = t.serial + 1 })
       → Stands act_of t' (entries ++ at_all t.here (Line (record { origin = t.here; serial = t.serial + 1 }) bytes ∷ []))
   line_stands bytes here short now =
-      let e : Event = Line (record { origin = t.here; serial = t.serial + 1 }) bytes in
-      turn_stands act_of t t' entries (Writes e ∷ []) (Some e) h (
-        record (at_rest t') { last = Some e },
-        record { calm = record { due = refl; fresh = refl }; here = here; name = refl; short = short; now = ap (λ u. record (at_rest u) { last = Some e }) now },
-        refl,
-      )
+      let e : Event = Line (record { origin = t.here; serial = t.serial + 1 }) bytes in one_stands act_of t t' entries e h
+      (record { calm = record { due = refl; fresh = refl }; here = here; name = refl; short = short; now = ap (λ u. record (at_rest u) { last = Some e }) now })
 
   pub fire_stands : (i : ℕ) (act : Act) (x : Standing) → slice_get t.accepted i ≡ Some act → find (is_standing (target_of act)) t.objects ≡ Some x
       → is_busy (target_of act) (fired_acts t) ≡ false → t' ≡ record t { accepted = remove t.accepted i; running = t.running ++ act ∷ [] }
       → Stands act_of t' (entries ++ at_all t.here (Fire (name_of act) ∷ []))
-  fire_stands i act x there stands idle now =
-      let e : Event = Fire (name_of act) in
-      turn_stands act_of t t' entries (Writes e ∷ []) (Some e) h (
-        record (at_rest t') { last = Some e },
-        record {
-          calm = record { due = refl; fresh = refl };
-          i = i;
-          act = act;
-          there = there;
-          name = refl;
-          x = x;
-          stands = stands;
-          idle = idle;
-          now = ap (λ u. record (at_rest u) { last = Some e }) now;
-        },
-        refl,
-      )
+  fire_stands i act x there stands idle now = one_stands act_of t t' entries (Fire (name_of act)) h (record {
+    calm = record { due = refl; fresh = refl };
+    i = i;
+    act = act;
+    there = there;
+    name = refl;
+    x = x;
+    stands = stands;
+    idle = idle;
+    now = ap (λ u. record (at_rest u) { last = Some (Fire (name_of act)) }) now;
+  })
