@@ -58,10 +58,6 @@ module _ (r : Rules) (s : Turn) (entries : List Entry) (h : IsSound r s entries)
   tidy = holding (TidyAt s) (sent_if true other asker give) s now change.1 h.tidy
       (mail_tidy s.tables true asker give (λ b. credit) (λ b. sym home) (λ b. brings) (λ b c. tt))
 
-  -- a message asks for k what it is for
-  abbrev for_one : Id → ℕ → ℕ → Bool
-  for_one o n e = (e == n) && same_object o id
-
   asked_less : (o : Id) (n : ℕ) → cond other 0 (0 + gives_for o n give) ≤ asks_for s.tables.here o n (Ask id asker entry)
   asked_less o n = each other refl
     where
@@ -174,9 +170,6 @@ module _ (r : Rules) (s : Turn) (entries : List Entry) (h : IsSound r s entries)
 
     abbrev grants : Turn
     grants = wrote (Count (bare id) count Granted) (mails asker (Give (record id { log = Some s.tables.profile.credit_log }) entry) (with_records records (drops s)))
-
-    tidy_then : IsTidy grants
-    tidy_then = tidy r s entries h id asker entry count (Some log) Granted records hand near home least.1 (inr refl) some none
 
     traded : (f : Token → ℕ) → sum_by f (tokens grants) + f (owed_token (bare id) 0) ≡ sum_by f (tokens s) + f (owed_token (bare id) log)
     traded f = omega (

@@ -23,12 +23,6 @@ has_not_asked id l e = ap (λ k. nat_le 16 id.kind && not (is_some k)) e ∙ non
     none true = refl
     none false = refl
 
-pub none_asked : (ids : List Id) (n : ℕ) → AllByRecursion HasRightCredit ids → filter is_asked (take n ids) ≡ []
-none_asked [] zero h = refl
-none_asked [] (suc n) h = refl
-none_asked (id ∷ ids) zero h = refl
-none_asked (id ∷ ids) (suc n) h = rw (not_asked id h.0) (none_asked ids n h.1)
-
 pub no_bare : (o : Id) → 16 ≤ o.kind → (ids : List Id) → AllByRecursion HasRightCredit ids → bare_names o ids ≡ 0
 no_bare o managed ids h = omega (arith, held_or_bare o ids, held_ids o managed ids h)
 

@@ -41,9 +41,6 @@ module _ (r : Rules) (s : Turn) (entries : List Entry) (h : IsSound r s entries)
   objects_then = sym (same_map bare_standing s.tables.objects j x new g.stands
       (ap (λ y. record { object = bare x.object; state = y }) (says ∙ (sym lent ∙ sym (bare_x r s entries h w rest j x left g)))))
 
-  fresh_then : s.fresh ≡ []
-  fresh_then = fresh
-
   sees : Sees seen now
   sees = record {
     rest = ap (λ fs. record (view now) { fired = fs; objects = seen.objects; due = seen.due; fresh = s.fresh }) (fires_then r s entries h w rest j x left g)

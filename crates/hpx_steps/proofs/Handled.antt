@@ -103,11 +103,6 @@ module _ (r : Rules) (s : Turn) (calm : IsCalm s) (t' : Tables) where
     );
   }
 
-  -- one that is accepted
-  pub accepted_leads : (act : Act) (p : Parcel) → (p ≡ Apply act) ⊎ (p ≡ Move act) → HasInHand p s → may_stay s.tables act ≡ true
-      → t' ≡ with_accepted act s.tables → Leads r s t' []
-  accepted_leads act p carries hand stay is = act_leads act p carries hand (λ m. stay) (is ∙ sym (kept_here s.tables act stay))
-
   -- ---- records
 
   record_of_live : (o : Id) → is_live s.tables o ≡ true → (x : Record) × (find_record o s.tables.records ≡ Some x)

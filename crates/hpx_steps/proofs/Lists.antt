@@ -13,10 +13,6 @@ set_sum f xs i x y h = omega (
   sum_middle f (take i xs) y (drop (suc i) xs),
 )
 
-pub long_flat : {X Y : Type 0} (g : X → List Y) (xs : List X) → length (flat_map g xs) ≡ sum_by (λ x. length (g x)) xs
-long_flat g [] = refl
-long_flat g (x ∷ xs) = omega (arith, length-append (g x) (flat_map g xs), long_flat g xs, sum_by-cons (λ y. length (g y)) x xs)
-
 -- one of a list is another that is seen the same
 pub same_map : {X Y : Type 0} (g : X → Y) (xs : List X) (i : ℕ) (x y : X) → slice_get xs i ≡ Some x → g y ≡ g x → map g (set xs i y) ≡ map g xs
 same_map g xs i x y h same =

@@ -1,6 +1,6 @@
 -- One more action: what it weighs and that it is tidy, whether it is accepted or goes in a message.
-use Rattle.hpx_steps.proofs.Common.{Accepted, Act, AllByRecursion, Apply, Bool, FreesNone, Going, Id, IfSome, IsFit, IsOwn, IsParcel, IsTidyIn, Item, List, MayGoTo, Move, None, OnDesk, Option, Parcel, Some, Tables, [], and_true, ap, bare, bare_act, cases_Bool, cond, eqb-false, eqb-true, false, going, id_at, inl, inr, is_movable, is_other, kept, map, may_stay, move_to, moves_on, not, parcel_for, place_in, refl, stands_here, subst, sym, target_of, true, ℕ, ◌&&◌, ◌==◌, ◌∷◌, ◌≡◌, ◌≤◌, ◌⊎◌}
-use Rattle.hpx_steps.proofs.ByRows.{if_so}
+use Rattle.hpx_steps.proofs.Common.{Accepted, Act, AllByRecursion, Apply, Bool, FreesNone, Going, Id, IfSome, IsFit, IsOwn, IsParcel, IsTidyIn, Item, List, MayGoTo, Move, None, OnDesk, Option, Parcel, Row, Some, Tables, [], and_true, ap, arith, bare, bare_act, brings, cases_Bool, cond, eqb-false, eqb-true, false, going, id_at, inl, inr, is_movable, is_other, kept, kind_of, map, may_stay, move_to, moves_on, not, of_act, one_if, parcel_for, place_in, refl, stands_here, subst, sym, target_of, true, weight, ℕ, ◌&&◌, ◌==◌, ◌||◌, ◌∙◌, ◌∷◌, ◌≡◌, ◌≤◌, ◌⊎◌}
+use Rattle.hpx_steps.proofs.ByRows.{by_bool, by_rows, if_so}
 use Rattle.hpx_steps.proofs.Changes.{put_as, sent_if}
 use Rattle.hpx_steps.proofs.Mails.{mail_tidy}
 
@@ -33,6 +33,22 @@ put_less w stay other act n kept sent = each stay other
     each true b = kept
     each false true = (sent (parcel_for act)).1 (target_of act).home
     each false false = (sent (parcel_for act)).0
+
+-- by what messages weigh
+pub carried : (act : Act) (f : Parcel → ℕ) (n : ℕ) → f (Apply act) ≡ n → f (Move act) ≡ n → (p : Parcel) → (p ≡ Apply act) ⊎ (p ≡ Move act) → f p ≡ n
+carried act f n a b p (inl e) = ap f e ∙ a
+carried act f n a b p (inr e) = ap f e ∙ b
+
+pub both : (act : Act) (f : Parcel → ℕ) (n : ℕ) → f (Apply act) ≡ n → f (Move act) ≡ n → (p : Parcel) → (p ≡ Apply act) ⊎ (p ≡ Move act) → (f p ≡ n) × ((to : ℕ) → f p ≡ n)
+both act f n a b p e = (carried act f n a b p e, λ to. carried act f n a b p e)
+
+-- a message counts an action as one, and brings one at most
+pub weighs_act : (act : Act) (row : Row) (p : Parcel) → (p ≡ Apply act) ⊎ (p ≡ Move act) → (weight row p ≡ of_act row) × ((to : ℕ) → weight row p ≡ of_act row)
+weighs_act act row = both act (weight row) (of_act row) (by_rows (λ x. weight x (Apply act) ≡ of_act x) refl refl refl refl refl refl refl (λ o. refl) row)
+    (by_rows (λ x. weight x (Move act) ≡ of_act x) refl refl refl refl refl refl refl (λ o. refl) row)
+
+pub brings_few : (p : Parcel) → brings p ≤ 1
+brings_few p = by_bool (λ b. one_if b ≤ 1) (omega arith) (omega arith) ((kind_of p == 1) || (kind_of p == 6))
 
 -- ---- it is tidy
 

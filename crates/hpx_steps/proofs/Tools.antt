@@ -14,7 +14,7 @@ pub use Rattle.hpx_steps.proofs.Moved.{fired_leads, leads_on}
 pub use Rattle.hpx_steps.proofs.Waits.{Put, drop_waits, mail_waits, post_waits}
 pub use Rattle.hpx_steps.proofs.ByRows.{by_bool, by_rows, if_so}
 pub use Rattle.hpx_steps.proofs.Mails.{hand_fit, held_by, mail_tidy, owed_by, sent_total}
-pub use Rattle.hpx_steps.proofs.Puts.{put_less, put_sum, put_tidy, target-bare}
+pub use Rattle.hpx_steps.proofs.Puts.{both, brings_few, carried, put_less, put_sum, put_tidy, target-bare, weighs_act}
 pub use Rattle.hpx_steps.proofs.Calm.{asks_of, bound_none, counts_near, frees_of, numbered_so, orders_so, pays_so, same_dead, same_asks, sees_by, told_as}
 pub use Rattle.hpx_steps.proofs.Hands.{at_place, front_place, place_at, put_asked, put_bare, put_elsewhere, put_for, put_names, put_there, take_place}
 pub use Rattle.hpx_steps.proofs.Recommit.{hand_long, recommit, token_held, work_commits}

@@ -1,7 +1,7 @@
 -- A turn: a message is taken up and dealt with, a frame goes, a line is fed, an action is fired.
 use Rattle.hpx_steps.proofs.Common.{Accepts, Act, Apply, Arrived, Ask, Bool, Cached, DealsWith, Entry, Event, Fire, Free, Give, Go, HasInHand, Id, In, IsAct, IsCalm, IsParcel, IsSound, IsTold, Label, Leaves, Line, List, Mail, MayGoTo, Move, None, OnDesk, Option, Out, Outcome, Outgoing, Parcel, Return, Rules, Shipped, Some, Standing, Stands, State, Step, Steps, Tables, TidyAt, Turn, Writes, [], ap, are_far, arith, at_all, at_rest, breaks, broken, broken_act, broken_move, broken_near, cases_Bool, cond, credit_in, effects, eq-eqb, false, find, fired_acts, held_here, id_at, ids_held, if◌then◌else◌, inl, inr, is_busy, is_far, is_far_act, is_live, is_lost, is_movable, is_standing, is_to, is_to_here, kind_of, leaves, length, line_act, map, may_stay, min, move_to, moves_far, moves_on, name_of, nat_le, nat_lt, nat_tests, ne_eqb, not, parcel_of, place_in, refl, remove, rules_of, slice_get, stands_here, subst, suc, sum_by-cons, sym, target_of, travels_in, true, waits_here, with_act, written, zero, ℕ, ◌&&◌, ◌++◌, ◌+◌, ◌-◌, ◌<◌, ◌==◌, ◌^◌, ◌||◌, ◌∙◌, ◌∷◌, ◌≡◌, ◌≢◌, ◌≤◌, ◌⊎◌}
 use Rattle.hpx_steps.proofs.Tools.{if_so, none_of}
-use Rattle.hpx_steps.proofs.Handled.{Leads, accepted_leads, act_leads, asked_leads, freed_leads, kept_here, returned_leads}
+use Rattle.hpx_steps.proofs.Handled.{Leads, act_leads, asked_leads, freed_leads, kept_here, returned_leads}
 use Rattle.hpx_steps.proofs.Rest.{rest_sound}
 use Rattle.hpx_steps.proofs.Right.{go_wrong, near_right, object_wrong, return_right}
 use Rattle.hpx_steps.proofs.Step.{steps_sound}
@@ -116,9 +116,6 @@ module _ (r : Rules) (t t' : Tables) (desk : List Parcel) (taken : ℕ) (came ma
 module _ (act_of : ℕ → ℕ → ℕ → State → Act → Outcome) (t t' : Tables) (entries : List Entry) (h : Stands act_of t entries) (lasts : 1 ≤ t.profile.credit_log) where
   abbrev r : Rules
   r = rules_of act_of t.localities t.profile
-
-  abbrev calm_rest : IsCalm (at_rest t)
-  calm_rest = record { due = refl; fresh = refl }
 
   -- with a message of a frame in hand
   abbrev came : Parcel → List ℕ → Turn
