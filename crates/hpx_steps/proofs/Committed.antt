@@ -1,6 +1,6 @@
 -- A commit in work is done, or fails: its objects are made, its ids are halved, it ends, what is due is sent, and what nobody names is given up.
 use Rattle.hpx_steps.proofs.Common.{Act, AllByRecursion, AreMade, AreWithin, Birth, Commits, Deals, Done, Due, Ends, Entry, Event, HasCredit, HasRightCredit, Id, IsBirth, IsFitDue, IsKept, IsLeftBy, Job, Lasts, List, MatchOption, None, Option, Remains, Rules, Some, Standing, Stands, StandsHere, State, Step, Stock, Suspend, Tables, Turn, Waits, Writes, [], all_at, all_set, answered_by, ap, append-nil, append_assoc, arith, at_all, at_rest, bare, bare_act, bare_standing, bare_state, birth_of, births_of, cond, due_of, ends, false, find, find_passes, get_before, hand_ids, id_at, ids_named, ids_of, is_some, is_standing, length, length-map, map, name_of, named, objects_of, records_of, refl, remove, rules_of, set, slice_get, splits_from, state_after, subst, suc, sym, target_of, ups, waits_with, with_credit, with_due, with_left, written_due, wrote, zero, ℕ, ◌++◌, ◌+◌, ◌<◌, ◌∙◌, ◌∷◌, ◌≡◌, ◌≤◌}
-use Rattle.hpx_steps.proofs.Tools.{all_among, find_more, get_set, single_found, single_set}
+use Rattle.hpx_steps.proofs.Tools.{all_among, find_more, get_set, right_log, single_found, single_set, some_log}
 use Rattle.hpx_value.specs.declared.outcome.Outcome.{Outcome}
 use Rattle.hpx_steps.proofs.Made.{Drawn, made_so}
 use Rattle.hpx_steps.proofs.Handled.{Writing, due_steps, let_go, ups_steps, with_loose, writes_append, written_events}
@@ -10,11 +10,7 @@ use Rattle.hpx_steps.proofs.Work.{births_steps, halved_from, splits_steps, with_
 -- ids that all have a credit
 with_all : (ids : List Id) → AllByRecursion HasCredit ids → with_credit ids ≡ ids
 with_all [] h = refl
-with_all (id ∷ ids) h = each id.log h.0 (with_all ids h.1)
-  where
-    each : (l : Option ℕ) → MatchOption l ⊥ (λ x. 16 ≤ id.kind) → with_credit ids ≡ ids → cond (is_some l) (id ∷ with_credit ids) (with_credit ids) ≡ id ∷ ids
-    each None k rest = absurd k
-    each (Some l) k rest = ap (λ is. id ∷ is) rest
+with_all (id ∷ ids) h = ap (λ l. cond (is_some l) (id ∷ with_credit ids) (with_credit ids)) (some_log id.kind id.log h.0) ∙ ap (λ is. id ∷ is) (with_all ids h.1)
 
 -- what an action left is sent and given up
 pub left_steps : (r : Rules) (s : Turn) (due : List Due) (loose : List Id) → s.fresh ≡ [] → AllByRecursion HasCredit loose
@@ -33,11 +29,7 @@ left_steps r s due loose fresh credit =
 
 pub all_right : (ids : List Id) → AllByRecursion HasCredit ids → AllByRecursion HasRightCredit ids
 all_right [] h = tt
-all_right (id ∷ ids) h = (each id.log h.0, all_right ids h.1)
-  where
-    each : (l : Option ℕ) → MatchOption l ⊥ (λ x. 16 ≤ id.kind) → MatchOption l (id.kind < 16) (λ x. 16 ≤ id.kind)
-    each None k = absurd k
-    each (Some l) k = k
+all_right (id ∷ ids) h = (right_log id.kind id.log h.0, all_right ids h.1)
 
 -- it ends, under the name of its action
 pub ends_so : (s : Turn) (w : Waits) (rest : List Waits) (j : ℕ) (x : Standing) (left : Remains) → s.due ≡ [] → s.working ≡ w ∷ rest → w.asked ≡ [] → slice_get s.tables.objects j ≡ Some x

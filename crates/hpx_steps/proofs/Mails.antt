@@ -1,5 +1,5 @@
 -- One more message: what it weighs and that it is tidy, wherever it is put.
-use Rattle.hpx_steps.proofs.Common.{AllByRecursion, Bool, Came, FreesNone, Going, HasInHand, Id, IsOwn, IsParcel, IsTidy, IsTidyIn, Item, Mailed, MayGoTo, OnDesk, Parcel, Some, Tables, Token, Turn, [], ap, arith, bare, cond, credit_list, false, going, held, held_token, inl, inr, is_other, map, nat_tests, owed_token, owing, own, refl, sum_by, sum_by-cons, tokens_of, true, ℕ, ◌++◌, ◌<◌, ◌∙◌, ◌∷◌, ◌≡◌, ◌≢◌}
+use Rattle.hpx_steps.proofs.Common.{None, AllByRecursion, Bool, Came, FreesNone, Going, HasInHand, Id, IsOwn, IsParcel, IsTidy, IsTidyIn, Item, Mailed, MatchOption, MayGoTo, OnDesk, Option, Parcel, Some, Tables, Token, Turn, [], ap, arith, bare, cond, credit_list, false, going, held, held_token, inl, inr, is_other, log_of, map, nat_tests, owed_token, owing, own, refl, sum_by, sum_by-cons, tokens_of, true, ℕ, ◌++◌, ◌<◌, ◌∙◌, ◌∷◌, ◌≡◌, ◌≢◌, ◌≤◌}
 use Rattle.hpx_steps.proofs.Changes.{sent_if, total}
 
 -- a message that weighs the same on the desk and away
@@ -44,3 +44,13 @@ owed_by f id log some =
 pub hand_fit : (p : Parcel) (s : Turn) → IsTidy s → HasInHand p s → IsParcel p
 hand_fit p s h (inl k) = h (Came p) (rw k.0 (inl refl))
 hand_fit p s h (inr k) = (h (Mailed p) (rw k.1 (inl refl))).0
+
+-- ---- a credit that is there
+
+pub some_log : (kind : ℕ) (l : Option ℕ) → MatchOption l ⊥ (λ x. 16 ≤ kind) → l ≡ Some (log_of l)
+some_log kind None h = absurd h
+some_log kind (Some x) h = refl
+
+pub right_log : (kind : ℕ) (l : Option ℕ) → MatchOption l ⊥ (λ x. 16 ≤ kind) → MatchOption l (kind < 16) (λ x. 16 ≤ kind)
+right_log kind None h = absurd h
+right_log kind (Some x) h = h

@@ -1,14 +1,7 @@
 -- What was asked for is put into the hand of the commit that waits for it.
 use Rattle.hpx_steps.proofs.Common.{AskedFor, Bool, HasCredit, HasRightCredit, HasSplit, Id, IsCommit, IsShort, List, MatchOption, None, Option, Some, Waits, all_append, all_at, all_remove, and_true, ap, append_assoc, arith, bare, cases_Bool, cond, count_by, eq-eqb, eqb-true, false, first_stock, id_at, ids_named, inl, inr, is_asked, is_asked_for, is_some, length, length-append, list_any, log_of, nat_le, not, own_ids, place_bare, place_some, refilled, refl, remove, same_object, same_object-true, set, slice_get, some_same, subst, sym, true, whole_stock, ℕ, ◌&&◌, ◌++◌, ◌+◌, ◌<◌, ◌==◌, ◌∙◌, ◌≡◌, ◌≢◌, ◌≤◌, ◌⊎◌}
-use Rattle.hpx_steps.proofs.Tools.{front_place, hand_long, has_not_asked, if_so, less_sum, not_asked, place_at, put_elsewhere, put_names, put_there, recommit, take_place}
+use Rattle.hpx_steps.proofs.Tools.{front_place, hand_long, has_not_asked, if_so, less_sum, not_asked, place_at, put_elsewhere, put_names, put_there, recommit, some_log, take_place}
 use Rattle.hpx_steps.proofs.Hands.{any_place, names_place, put_behind}
-
-own_log : (id : Id) → HasCredit id → id.log ≡ Some (log_of id.log)
-own_log id h = at id.log refl h
-  where
-    at : (log : Option ℕ) → id.log ≡ log → MatchOption log ⊥ (λ l. 16 ≤ id.kind) → id.log ≡ Some (log_of id.log)
-    at None e n = absurd n
-    at (Some l) e n = e ∙ ap (λ o. Some (log_of o)) (sym e)
 
 -- one of log 0 is refused
 refused_some : (b : Bool) (o : Id) (was : Option Id) → b ≡ true → cond b (Some o) was ≢ None
@@ -53,7 +46,7 @@ module _ (k l log : ℕ) (w : Waits) (n : ℕ) (ask : AskedFor) (id : Id) (entry
   was_asked = if_so (is_asked (id_at w.hand ask.place)) (λ t. t) (λ f. absurd (omega (arith, left ask.place, one, its.once ask.place asked_low, ap {B = ℕ} (λ b. cond b 1 0) f)))
 
   pub asked_no_more : is_asked id ≡ false
-  asked_no_more = has_not_asked id (log_of id.log) (own_log id credit)
+  asked_no_more = has_not_asked id (log_of id.log) (some_log id.kind id.log credit)
 
   once_then : (q : ℕ) → q < length (ids_named w)
       → count_by (λ (x : AskedFor). x.place == q) (remove w.asked n) ≡ cond (is_asked (id_at (set w.hand ask.place id) q)) 1 0
@@ -86,8 +79,8 @@ module _ (k l log : ℕ) (w : Waits) (n : ℕ) (ask : AskedFor) (id : Id) (entry
 
   given_short : IsShort log filled.refused id
   given_short = elim brings [
-    | inl z ↦ inr (inr (own_log id credit ∙ ap Some z, refused_some (log_of id.log == 0) (bare id) w.refused (eq-eqb (log_of id.log) 0 z)))
-    | inr e ↦ inr (inl (own_log id credit ∙ ap Some e))
+    | inl z ↦ inr (inr (some_log id.kind id.log credit ∙ ap Some z, refused_some (log_of id.log == 0) (bare id) w.refused (eq-eqb (log_of id.log) 0 z)))
+    | inr e ↦ inr (inl (some_log id.kind id.log credit ∙ ap Some e))
   ]
 
   -- its hand is still that of its job, split ahead
