@@ -347,7 +347,10 @@ drop_change p s (inr h) = (
   none_comes s,
 )
 
--- whose weight sees no difference between frames and the desk
+-- its weight, where that sees no difference between frames and the desk
+pub hand_weighs : (p : Parcel) (s : Turn) (hand : HasInHand p s) (w : Item → ℕ) (n : ℕ) → w (Came p) ≡ n → w (Mailed p) ≡ n → w (in_hand (is_frame p s hand) p) ≡ n
+hand_weighs p s (inl h) w n a b = a
+hand_weighs p s (inr h) w n a b = b
+
 pub drop_moves : (p : Parcel) (s : Turn) → HasInHand p s → (w : Item → ℕ) (n : ℕ) → w (Came p) ≡ n → w (Mailed p) ≡ n → weigh w (drops s) + n ≡ weigh w s
-drop_moves p s (inl h) w n a b = omega (arith, (drop_change p s (inl h)).0 w, a)
-drop_moves p s (inr h) w n a b = omega (arith, (drop_change p s (inr h)).0 w, b)
+drop_moves p s hand w n a b = omega (arith, (drop_change p s hand).0 w, hand_weighs p s hand w n a b)

@@ -1,6 +1,6 @@
 -- Credit that was asked for is given to a commit that waits for it.
 use Rattle.hpx_steps.proofs.Common.{Act, AskedFor, Bool, Came, Entry, Give, Given, HasCommits, HasCredit, HasInHand, Id, IsCommit, IsGiven, IsSound, IsTidy, Item, List, Mailed, Pending, Refusal, Row, Rules, Some, TidyAt, Token, Turn, View, Waits, Working, [], action_of, and_true, any_counted, ap, append_assoc, arith, asked_by, asking, asks_under, bare, bare_act, bare_due, causes, commits, cond, count_by, counted_any, counts_false, counts_of, counts_true, drop, drops, eqb-true, false, fired_of, follows_given, freeing, given_to, gives_for, goes, goes_on, held_token, hopping, id_at, ids_named, is_asked, is_asked_for, is_least, joined, length, log_of, map, name_of, one_if, owed_token, owes, parcel_asks, refilled, refl, refusal_of, refusals_of, remove, same_object, same_refusal, same_token, set, slice_get, split_get, split_set, subst, suc, sum_by, sum_by-append, sum_by-cons, sum_middle, sym, take, token_own, tokens, tokens_of, true, unpaid, view, waiting, waits_for, weigh, worth, wrote, ℕ, ◌&&◌, ◌++◌, ◌+◌, ◌==◌, ◌∙◌, ◌∷◌, ◌≡◌, ◌≤◌, ◌⊎◌}
-use Rattle.hpx_steps.proofs.Tools.{Changes, Keeps, Sees, among_at, asks_of, by_rows, counts_near, drop_change, drop_waits, fewer, fired_leads, first_comes, flat_sum, frees_of, hand_fit, has_not_asked, held_by, holding, ids_each, in_hand, is_fired, is_frame, leads_on, less_sum, long_sum, map_sum, move_commits, one_goes, one_turns, owed_by, pending_change, put_asked, put_bare, put_for, same_dead, same_fired, seen_sum, sees_leads, set_sum, then, view_asking, view_worth, was_fired, working_change}
+use Rattle.hpx_steps.proofs.Tools.{Changes, Keeps, Sees, among_at, asks_of, by_bool, by_rows, counts_near, drop_change, drop_waits, fewer, fired_leads, first_comes, flat_sum, frees_of, hand_fit, hand_weighs, has_not_asked, held_by, holding, ids_each, in_hand, is_fired, is_frame, leads_on, less_sum, long_sum, map_sum, move_commits, one_goes, one_turns, owed_by, pending_change, put_asked, put_bare, put_for, same_dead, same_fired, seen_sum, sees_leads, set_sum, then, view_asking, view_worth, was_fired, working_change}
 use Rattle.hpx_steps.proofs.Bare.{bare_tokens}
 use Rattle.hpx_steps.proofs.Refilled.{asked_at_place, asked_low, asked_same, still_commit, still_split, was_asked}
 
@@ -80,15 +80,7 @@ module _ (r : Rules) (s : Turn) (entries : List Entry) (h : IsSound r s entries)
       → weigh f now + (m + f (Pending w)) ≡ weigh f s + f (Pending given)
   moves f m a b same =
       let k : weigh f now + (f was + (f (Pending w) + 0)) ≡ weigh f s + (f (item last) + 0) = change.0 f in
-      omega (arith, k, from (is_frame (Give id entry) s hand), either last)
-    where
-      from : (c : Bool) → f (in_hand c (Give id entry)) ≡ m
-      from true = a
-      from false = b
-
-      either : (c : Bool) → f (item c) ≡ f (Pending given)
-      either true = same
-      either false = refl
+      omega (arith, k, hand_weighs (Give id entry) s hand f m a b, by_bool (λ c. f (item c) ≡ f (Pending given)) same refl last)
 
   its : TidyAt s (Pending w)
   its = h.tidy (Pending w) (among_at s.tables.pending i w there)

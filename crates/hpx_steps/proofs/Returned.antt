@@ -1,6 +1,6 @@
 -- Credit comes home.
 use Rattle.hpx_steps.proofs.Common.{Bool, Came, Count, Entry, Event, Free, Going, HasInHand, Id, IsParcel, IsSound, IsTidy, Item, List, Mailed, MatchOption, None, OnDesk, Option, Record, Recounts, Return, Returned, Row, Rules, Some, StaysAt, Tables, TakesBack, TidyAt, Token, Turn, View, [], ap, arith, asked_by, asks_under, bare, bare_due, cases_Bool, causes, cond, count_by, count_in, counted, counts_of, counts_true, credit, credit_of_log, drops, eqb-true, false, find, follows_returned, freeing, given_to, goes, going, hopping, inl, inr, is_other, is_recorded, joined, lowered, mails_if, map, one_if, option_map_or, owed_token, owes, parcel_frees, refl, same_object, same_token, some_same, subst, sum_by, sum_by-cons, sym, token_own, tokens, true, unpaid, view, waits_for, weigh, weight, with_records, worth, wrote, ℕ, ◌&&◌, ◌++◌, ◌+◌, ◌-◌, ◌==◌, ◌^◌, ◌∙◌, ◌∷◌, ◌≡◌, ◌≤◌}
-use Rattle.hpx_steps.proofs.Tools.{Changes, Keeps, Sees, asks_of, bound_none, by_rows, counts_near, drop_change, drop_waits, fewer, frees_of, hand_fit, holding, if_so, in_hand, is_frame, mail_change, mail_tidy, mail_waits, owed_by, own_sum, same_asks, sees_covers, sees_leads, sent_if, sent_total, then, told_as, total, view_covered, view_worth}
+use Rattle.hpx_steps.proofs.Tools.{Changes, Keeps, Sees, asks_of, bound_none, by_rows, counts_near, drop_change, drop_waits, fewer, frees_of, hand_fit, hand_weighs, holding, if_so, in_hand, is_frame, mail_change, mail_tidy, mail_waits, owed_by, own_sum, same_asks, sees_covers, sees_leads, sent_if, sent_total, then, told_as, total, view_covered, view_worth}
 use Rattle.hpx_steps.proofs.Mails.{other_is}
 use Rattle.hpx_steps.proofs.Records.{found_counted, one_recounted, places_still}
 
@@ -45,19 +45,12 @@ module _ (r : Rules) (s : Turn) (entries : List Entry) (h : IsSound r s entries)
       → w (Going (going old.place (Free (bare id)))) ≡ n → weigh w now + m ≡ weigh w s + cond dead n 0
   moves w m n a b c d =
       let k : weigh w now + (w was + 0) ≡ weigh w s + total w (sent_if dead other old.place (Free (bare id))) = change.0 w in
-      omega (arith, k, hand_sum (is_frame (Return id) s hand), sent_total w dead other old.place (Free (bare id)) n c d)
-    where
-      hand_sum : (from : Bool) → w (in_hand from (Return id)) ≡ m
-      hand_sum true = a
-      hand_sum false = b
+      omega (arith, k, hand_weighs (Return id) s hand w m a b, sent_total w dead other old.place (Free (bare id)) n c d)
 
   -- one that does not count the Free
   leaves : (w : Item → ℕ) (m : ℕ) → w (Came (Return id)) ≡ m → w (Mailed (Return id)) ≡ m → w (OnDesk (Free (bare id))) ≡ 0
       → w (Going (going old.place (Free (bare id)))) ≡ 0 → weigh w now + m ≡ weigh w s
-  leaves w m a b c d = omega (arith, moves w m 0 a b c d, none (count == 0))
-    where
-      none : (b : Bool) → ◌≡◌ {A = ℕ} (cond b 0 0) 0
-      none b = bound_none b 0 refl
+  leaves w m a b c d = omega (arith, moves w m 0 a b c d, bound_none dead 0 refl)
 
   in_tidy : IsParcel (Return id)
   in_tidy = hand_fit (Return id) s h.tidy hand
