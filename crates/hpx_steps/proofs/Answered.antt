@@ -162,9 +162,6 @@ module _ (r : Rules) (s : Turn) (entries : List Entry) (h : IsSound r s entries)
     raised_is : raised s.tables.profile old ≡ record old { count = old.count + 2 ^ log - 1 }
     raised_is = let e : nat_lt s.tables.profile.credit_limit (old.count + 2 ^ log - 1) ≡ false = not_less s.tables.profile.credit_limit (old.count + 2 ^ log - 1) (omega (arith, sum, limit)) in rw e refl
 
-    raised_count : (raised s.tables.profile old).count ≡ count
-    raised_count = ap (λ (x : Record). x.count) raised_is ∙ omega (arith, sum)
-
     pub granted_keeps : Keeps r s grants (Count (bare id) count Granted)
     granted_keeps = answered_keeps r s entries h id asker entry count (Some log) Granted records hand near home least.1 (inr refl) some none (
       seen,
@@ -175,7 +172,7 @@ module _ (r : Rules) (s : Turn) (entries : List Entry) (h : IsSound r s entries)
             sums = λ f weight. omega (arith, traded f, ap (λ n. f (owed_token (bare id) n)) h.rules.credit_log, sum_by-cons f);
           })
           (λ x at. one_recounted id old (Some (raised s.tables.profile old)) s.tables.records records recounts x
-          ∙ ap (λ n. cond (same_object x (bare id)) n (count_in (find (is_recorded x) (map counted s.tables.records)))) raised_count),
+          ∙ ap (λ n. cond (same_object x (bare id)) n (count_in (find (is_recorded x) (map counted s.tables.records)))) (ap (λ (x : Record). x.count) raised_is ∙ omega (arith, sum))),
       sees_leads r seen grants sees,
     )
         (places_still s.tables id old (Some (raised s.tables.profile old)) records recounts

@@ -66,9 +66,6 @@ module _ (r : Rules) (s : Turn) (entries : List Entry) (h : IsSound r s entries)
       (λ q. stand_more (is_standing q) s.tables.objects (new ∷ [])) y (h.tidy y m))
       (fit_commit, ((record { kind = fit.most; state = fit.state; plain = λ k. let least : 16 ≤ make.kind = fit.least in absurd (omega (arith, least, k)) }, λ kind home. omega arith), tt))
 
-  commits_now : HasCommits (s.tables.objects ++ new ∷ []) s.tables.running (bearer ∷ rest ++ s.tables.pending)
-  commits_now = more_commits s.tables.objects s.tables.running (bearer ∷ rest ++ s.tables.pending) new refl (work_commits s w bearer rest works refl h.commits)
-
   -- ---- records
 
   found_more : (x : Id) → find_record x (s.tables.records ++ made ∷ []) ≡ cond (same_object x o) (Some made) (find_record x s.tables.records)
@@ -141,7 +138,7 @@ module _ (r : Rules) (s : Turn) (entries : List Entry) (h : IsSound r s entries)
     );
     tidy = tidy;
     places = places_now;
-    commits = commits_now;
+    commits = more_commits s.tables.objects s.tables.running (bearer ∷ rest ++ s.tables.pending) new refl (work_commits s w bearer rest works refl h.commits);
     numbered = numbered_so r s now e (Working w ∷ []) (Working bearer ∷ StandsHere new ∷ []) change.0 (omega arith) (λ n. omega arith);
     pays = pays_so r s now e (Working w ∷ []) (Working bearer ∷ StandsHere new ∷ []) change.0 (by_rows _ refl refl refl refl refl refl refl (λ o. refl)) (omega arith) (omega arith) (λ o. omega arith);
     orders = orders_so r s now e (Working w ∷ []) (Working bearer ∷ StandsHere new ∷ []) change.0 tt (λ o n. omega (arith, ap (λ ys. count_by (is_asked_for w o n) ys) lacks, ap (λ ys. count_by (is_asked_for bearer o n) ys) lacks)) (λ j d o n. omega arith);

@@ -108,12 +108,9 @@ module _ (objects : List Standing) (running : List Act) (cs : List Waits) (h : H
         lent_whole : keeps x.object w.job.action ≡ false → AllByRecursion HasRightCredit (map bare x.state.ids)
         lent_whole free = subst (λ ids. AllByRecursion HasRightCredit (map bare ids)) (sym (plain (at (x.object.kind == 7) refl free))) tt
           where
-            on : acts_on x.object w.job.action ≡ true
-            on = ap (λ a. same_object x.object (target_of a)) is ∙ same_object-sym (target_of act) x.object same
-
             at : (b : Bool) → (x.object.kind == 7) ≡ b → cond b false (acts_on x.object w.job.action) ≡ false → x.object.kind ≡ 7
             at true e z = eqb-true x.object.kind 7 e
-            at false e z = absurd (let f : true ≡ false = sym on ∙ z in cc)
+            at false e z = absurd (let f : true ≡ false = sym (ap (λ a. same_object x.object (target_of a)) is ∙ same_object-sym (target_of act) x.object same) ∙ z in cc)
 
 -- ---- a commit ends
 

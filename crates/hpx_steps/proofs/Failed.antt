@@ -20,14 +20,8 @@ module _ (r : Rules) (s : Turn) (entries : List Entry) (h : IsSound r s entries)
   abbrev act : Act
   act = bare_act w.job.action
 
-  abbrev new : Standing
-  new = record { object = x.object; state = left.state }
-
   lent : x.state ≡ bare_state w.job.state
   lent = lends r s entries h w rest j x left g
-
-  abbrev fewer : ℕ
-  fewer = length (refusals_of (rest ++ s.tables.pending))
 
   abbrev seen : View
   seen = record (view s) {
@@ -38,7 +32,7 @@ module _ (r : Rules) (s : Turn) (entries : List Entry) (h : IsSound r s entries)
   }
 
   objects_then : (view s).objects ≡ (view now).objects
-  objects_then = sym (same_map bare_standing s.tables.objects j x new g.stands
+  objects_then = sym (same_map bare_standing s.tables.objects j x (record { object = x.object; state = left.state }) g.stands
       (ap (λ y. record { object = bare x.object; state = y }) (says ∙ (sym lent ∙ sym (bare_x r s entries h w rest j x left g)))))
 
   sees : Sees seen now
@@ -75,7 +69,7 @@ module _ (r : Rules) (s : Turn) (entries : List Entry) (h : IsSound r s entries)
   pub failed_keeps : Keeps r s now (Done (name_of w.job.action) true)
   failed_keeps = done_keeps r s entries h w rest j x left g true (
     seen,
-    follows_fail r (view s) (map bare_act s.tables.running) (map bare_act (map action_of (rest ++ s.tables.pending))) act (bare_standing x) fewer
+    follows_fail r (view s) (map bare_act s.tables.running) (map bare_act (map action_of (rest ++ s.tables.pending))) act (bare_standing x) (length (refusals_of (rest ++ s.tables.pending)))
         (ap (map bare_due) g.due) fresh (fires r s entries h w rest j x left g) (found r s entries h w rest j x left g) was_refused
         (omega (arith, failing_less r s entries h w rest j x left g, ap (λ k. length (refusal_of w.job.action k)) refused))
         (λ b. sees_covers r seen now sees (view_covered now (tidy r s entries h w rest j x left g) (commits_now r s entries h w rest j x left g).lent)),

@@ -120,9 +120,6 @@ module _ (r : Rules) (s : Turn) (entries : List Entry) (h : IsSound r s entries)
   gave : is_asked (id_at w.hand ask.place) ≡ true
   gave = was_asked s.tables.here s.tables.localities s.tables.profile.credit_log w n ask id entry its.0 its.1 asked for credit brings
 
-  goes_now : Goes i w given s.working s.tables.pending now.working now.tables.pending
-  goes_now = goes_so i w given s.working s.tables.pending there last
-
   -- the credit comes into the hand
   tokens_hand : (f : Token → ℕ) → sum_by f (tokens_of given.hand) ≡ sum_by f (tokens_of w.hand) + f (held_token (bare id) log)
   tokens_hand f = omega (
@@ -154,7 +151,7 @@ module _ (r : Rules) (s : Turn) (entries : List Entry) (h : IsSound r s entries)
   -- ---- refusals
 
   abbrev k : Goes i w given s.working s.tables.pending now.working now.tables.pending
-  k = goes_now
+  k = goes_so i w given s.working s.tables.pending there last
 
   split_refusals : (f : Refusal → ℕ) (ls ms : List Waits) (v : Waits)
       → sum_by f (refusals_of (ls ++ v ∷ ms)) ≡ sum_by f (refusals_of (ls ++ ms)) + sum_by f (refusal_of v.job.action v.refused)

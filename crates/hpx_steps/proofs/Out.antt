@@ -41,9 +41,6 @@ module _ (r : Rules) (s : Turn) (entries : List Entry) (h : IsSound r s entries)
   abbrev back : List Act
   back = flat_map parcel_acts (map (λ (y : Outgoing). y.parcel) rest)
 
-  waits : (view s).waiting ≡ front ++ (parcel_acts x.parcel ++ back)
-  waits = rw first (simp (flat_append, append_assoc))
-
   waits_then : front ++ back ≡ (view now).waiting
   waits_then = simp (flat_append, append_assoc)
 
@@ -58,7 +55,7 @@ module _ (r : Rules) (s : Turn) (entries : List Entry) (h : IsSound r s entries)
     leads = (
       seen,
       follows_out r (view s) x.parcel bytes front back (tokens now) (view now).asks (ap (map bare_due) due) fresh spelled x.to
-          (omega (arith, its.1.somewhere, h.rules.localities)) its.1.away (may_leave (view s) x.to x.parcel its.3 its.1.may) waits
+          (omega (arith, its.1.somewhere, h.rules.localities)) its.1.away (may_leave (view s) x.to x.parcel its.3 its.1.may) (rw first (simp (flat_append, append_assoc)))
           (record { sums = λ f weight. omega (arith, view_worth f s, view_worth f now, change.0 (worth f)) })
           (λ o. omega (arith, seen_sum (counts_of (same_object o)) parcel_asks, change.0 (asks_of o)))
           (λ before. sees_covers r seen now sees (view_covered now tidy h.commits.lent)),

@@ -52,11 +52,8 @@ module _ (r : Rules) (s : Turn) (entries : List Entry) (h : IsSound r s entries)
       → w (Going (going old.place (Free (bare id)))) ≡ 0 → weigh w now + m ≡ weigh w s
   leaves w m a b c d = omega (arith, moves w m 0 a b c d, bound_none dead 0 refl)
 
-  in_tidy : IsParcel (Return id)
-  in_tidy = hand_fit (Return id) s h.tidy hand
-
   managed : 16 ≤ id.kind
-  managed = subst (λ l. MatchOption l ⊥ (λ x. 16 ≤ id.kind)) has in_tidy
+  managed = subst (λ l. MatchOption l ⊥ (λ x. 16 ≤ id.kind)) has (hand_fit (Return id) s h.tidy hand)
 
   stays : StaysAt s.tables.here old
   stays = h.places.places id old recounts.was
@@ -99,11 +96,8 @@ module _ (r : Rules) (s : Turn) (entries : List Entry) (h : IsSound r s entries)
       if_dead true x = omega (arith, sum_by-cons (counts_of (same_object x)) (bare id) (view s).dead, sum_by-cons (counts_of (same_object x)) (bare id) [])
       if_dead false x = omega arith
 
-  worth_all : credit id ≡ 2 ^ log
-  worth_all = ap credit_of_log has
-
   made : option_map_or (λ (x : Record). x.count) (lowered old id) 0 ≡ count
-  made = lowered_count old id count (omega (arith, sum, worth_all))
+  made = lowered_count old id count (omega (arith, sum, ap credit_of_log has))
 
   pub returned_keeps : Keeps r s now e
   returned_keeps = record {

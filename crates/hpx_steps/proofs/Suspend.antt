@@ -93,9 +93,6 @@ module _ (r : Rules) (s : Turn) (entries : List Entry) (h : IsSound r s entries)
   abbrev acts : List Act
   acts = map action_of (commits s)
 
-  commits_now : HasCommits (set s.tables.objects j new) (remove s.tables.running i) (w ∷ commits s)
-  commits_now = begin_commits s.tables.objects s.tables.running (commits s) h.commits i job.action runs h.places.single w refl j x stands same kind state (plain_ids x kept.0)
-
   abbrev seen : View
   seen = record (view s) { fired = map bare_act (remove s.tables.running i ++ job.action ∷ map action_of (commits s)) }
 
@@ -129,7 +126,7 @@ module _ (r : Rules) (s : Turn) (entries : List Entry) (h : IsSound r s entries)
       places = h.places.places;
       single = single_set s.tables.objects j x new stands refl h.places.single;
     };
-    commits = commits_now;
+    commits = begin_commits s.tables.objects s.tables.running (commits s) h.commits i job.action runs h.places.single w refl j x stands same kind state (plain_ids x kept.0);
     numbered = fewer s now (omega arith) (λ n. omega (arith, change.0 (asks_under n)));
     rows = λ row. omega (arith, change.0 (unpaid row));
     once = omega (arith, change.0 hopping);

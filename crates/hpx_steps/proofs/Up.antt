@@ -23,11 +23,8 @@ module _ (r : Rules) (s : Turn) (entries : List Entry) (h : IsSound r s entries)
       let k : weigh w now + (w (Loose id) + 0) ≡ weigh w s + total w sent = change.0 w in
       omega (arith, k, sent_total w true (is_other s.tables id.home) id.home (Return id) n a b)
 
-  right : HasRightCredit id
-  right = h.tidy (Loose id) (rw first (inl refl))
-
   credit : HasCredit id
-  credit = subst (λ l. MatchOption l ⊥ (λ x. 16 ≤ id.kind)) (sym has) (subst (λ l. MatchOption l (id.kind < 16) (λ x. 16 ≤ id.kind)) has right)
+  credit = subst (λ l. MatchOption l ⊥ (λ x. 16 ≤ id.kind)) (sym has) (subst (λ l. MatchOption l (id.kind < 16) (λ x. 16 ≤ id.kind)) has (h.tidy (Loose id) (rw first (inl refl))))
 
   tidy : IsTidy now
   tidy = holding (TidyAt s) sent s now change.1 h.tidy (mail_tidy s.tables true id.home (Return id) (λ b. credit) (λ b. refl) (λ b. tt) (λ b c. tt))
