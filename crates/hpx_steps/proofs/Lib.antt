@@ -38,8 +38,6 @@ pub mod Asked
 pub mod Pause
 pub mod Bear
 pub mod Ending
-pub mod Done
-pub mod Failed
 pub mod Refilled
 pub mod Given
 pub mod Unheld
