@@ -1,6 +1,6 @@
 -- Credit that was asked for is given to a commit that waits for it.
 use Rattle.hpx_steps.proofs.Common.{Act, AskedFor, Bool, Came, Entry, Give, Given, HasCommits, HasCredit, HasInHand, Id, IsCommit, IsGiven, IsSound, IsTidy, Item, List, Mailed, Pending, Refusal, Row, Rules, Some, TidyAt, Token, Turn, View, Waits, Working, [], action_of, and_true, any_counted, ap, append_assoc, arith, asked_by, asking, asks_under, bare, bare_act, bare_due, causes, commits, cond, count_by, counted_any, counts_false, counts_of, counts_true, drop, drops, eqb-true, false, fired_of, follows_given, freeing, given_to, gives_for, goes, goes_on, held_token, hopping, id_at, ids_named, is_asked, is_asked_for, is_least, joined, length, log_of, map, name_of, one_if, owed_token, owes, parcel_asks, refilled, refl, refusal_of, refusals_of, remove, same_object, same_refusal, same_token, set, slice_get, split_get, split_set, subst, suc, sum_by, sum_by-append, sum_by-cons, sum_middle, sym, take, token_own, tokens, tokens_of, true, unpaid, view, waiting, waits_for, weigh, worth, wrote, ℕ, ◌&&◌, ◌++◌, ◌+◌, ◌==◌, ◌∙◌, ◌∷◌, ◌≡◌, ◌≤◌, ◌⊎◌}
-use Rattle.hpx_steps.proofs.Tools.{Changes, Keeps, Sees, among_at, asks_of, by_bool, by_rows, counts_near, drop_change, drop_waits, fewer, fired_leads, first_comes, flat_sum, frees_of, hand_fit, hand_weighs, has_not_asked, held_by, holding, ids_each, in_hand, is_fired, is_frame, leads_on, less_sum, long_sum, map_sum, move_commits, one_goes, one_turns, owed_by, pending_change, put_asked, put_bare, put_for, same_dead, same_fired, seen_sum, sees_leads, set_sum, then, view_asking, view_worth, was_fired, working_change}
+use Rattle.hpx_steps.proofs.Tools.{Changes, Keeps, Sees, among_at, asks_of, by_bool, by_commit, by_rows, counts_near, drop_change, drop_waits, fewer, fired_leads, fired_sum, first_comes, flat_sum, frees_of, hand_fit, hand_weighs, has_not_asked, held_by, holding, ids_each, in_hand, is_fired, is_frame, leads_on, less_sum, long_sum, map_sum, move_commits, one_goes, one_turns, owed_by, pending_change, put_asked, put_bare, put_for, refuses, same_dead, same_fired, seen_sum, sees_leads, set_sum, then, view_asking, view_refusals, view_worth, was_fired, working_change}
 use Rattle.hpx_steps.proofs.Bare.{bare_tokens}
 use Rattle.hpx_steps.proofs.Refilled.{asked_at_place, asked_low, asked_same, still_commit, still_split, was_asked}
 
@@ -23,22 +23,14 @@ goes_so i w w' working pending there b =
   where
     each : (b : Bool) → working ++ pending ≡ (working ++ take i pending) ++ w ∷ drop (suc i) pending
         → Goes i w w' working pending (cond b (w' ∷ working) working) (cond b (remove pending i) (set pending i w'))
-    each true was = record {
-      l = working ++ take i pending;
-      m = drop (suc i) pending;
-      l' = [];
-      m' = working ++ remove pending i;
-      was = was;
-      is = refl;
-      same = append_assoc working (take i pending) (drop (suc i) pending);
-    }
+    each true was = record { l = working ++ take i pending; m = drop (suc i) pending; l' = []; m' = working ++ remove pending i; was = was; is = refl; same = simp append_assoc }
     each false was = record {
       l = working ++ take i pending;
       m = drop (suc i) pending;
       l' = working ++ take i pending;
       m' = drop (suc i) pending;
       was = was;
-      is = ap (λ xs. working ++ xs) (split_set pending i w w' there) ∙ sym (append_assoc working (take i pending) (w' ∷ drop (suc i) pending));
+      is = ap (λ xs. working ++ xs) (split_set pending i w w' there) ∙ simp append_assoc;
       same = refl;
     }
 
@@ -153,39 +145,17 @@ module _ (r : Rules) (s : Turn) (entries : List Entry) (h : IsSound r s entries)
   abbrev k : Goes i w given s.working s.tables.pending now.working now.tables.pending
   k = goes_so i w given s.working s.tables.pending there last
 
-  split_refusals : (f : Refusal → ℕ) (ls ms : List Waits) (v : Waits)
-      → sum_by f (refusals_of (ls ++ v ∷ ms)) ≡ sum_by f (refusals_of (ls ++ ms)) + sum_by f (refusal_of v.job.action v.refused)
-  split_refusals f ls ms v = omega (arith, flat_sum f (λ (y : Waits). refusal_of y.job.action y.refused), sum_middle (λ (y : Waits). sum_by f (refusal_of y.job.action y.refused)) ls v ms)
-
   turned_refusals : (f : Refusal → ℕ) → sum_by f (refusals_of (commits now)) + sum_by f (refusal_of w.job.action w.refused)
       ≡ sum_by f (refusals_of (commits s)) + sum_by f (refusal_of w.job.action given.refused)
-  turned_refusals f = omega (
-    arith,
-    ap (λ ws. sum_by f (refusals_of ws)) k.is,
-    ap (λ ws. sum_by f (refusals_of ws)) k.was,
-    split_refusals f k.l k.m w,
-    split_refusals f k.l' k.m' given,
-    ap (λ ws. sum_by f (refusals_of ws)) k.same,
-  )
+  turned_refusals f = omega (arith, view_refusals f s, view_refusals f now, moves (by_commit (refuses f)) 0 refl refl refl)
 
   -- a refusal of each fired action
   abbrev refusing : Act → Refusal
   refusing act = record { action = name_of act; object = bare id }
 
   among_fired : (f : Refusal → ℕ) → f (refusing (bare_act w.job.action)) ≤ sum_by f (map refusing (view s).fired)
-  among_fired f =
-      let front : List Act = map bare_act (s.tables.running ++ map action_of k.l) in
-      let back : List Act = map bare_act (map action_of k.m) in
-      let fires : (view s).fired ≡ map bare_act ((s.tables.running ++ map action_of k.l) ++ w.job.action ∷ map action_of k.m) =
-      ap (λ ws. map bare_act (fired_of s.tables.running ws)) k.was
-      ∙ ap (map bare_act) (was_fired s.tables.objects s.tables.running k.l k.m k.l' k.m' w given refl k.same) in
-      omega (
-        arith,
-        ap (λ acts. sum_by f (map refusing acts)) fires,
-        map_sum f refusing (map bare_act ((s.tables.running ++ map action_of k.l) ++ w.job.action ∷ map action_of k.m)),
-        map_sum (λ a. f (refusing a)) bare_act ((s.tables.running ++ map action_of k.l) ++ w.job.action ∷ map action_of k.m),
-        sum_middle (λ a. f (refusing (bare_act a))) (s.tables.running ++ map action_of k.l) w.job.action (map action_of k.m),
-      )
+  among_fired f = omega (arith, map_sum f refusing (view s).fired, map_sum (λ a. f (refusing a)) bare_act (fired_of s.tables.running (commits s)), fired_sum (λ a. f (refusing (bare_act a))) s,
+      less_sum (λ (y : Waits). f (refusing (bare_act y.job.action))) s.tables.pending i w there)
 
   refused_more : (f : Refusal → ℕ) → sum_by f (refusals_of (commits now))
       ≤ sum_by f (cond (log == 0) (map refusing (view s).fired) [] ++ refusals_of (commits s))
@@ -206,23 +176,13 @@ module _ (r : Rules) (s : Turn) (entries : List Entry) (h : IsSound r s entries)
   failing_more : length (refusals_of (commits now)) ≤ cond (log == 0) (length (refusals_of (commits s)) + 1) (length (refusals_of (commits s)))
   failing_more = each (log == 0) (ap (λ l. cond (l == 0) (Some (bare id)) w.refused) log_is)
     where
+      long : length (refusals_of (commits now)) + sum_by (λ x. 1) (refusal_of w.job.action w.refused) ≡ length (refusals_of (commits s)) + sum_by (λ x. 1) (refusal_of w.job.action given.refused)
+      long = omega (arith, turned_refusals (λ x. 1), long_sum (refusals_of (commits now)), long_sum (refusals_of (commits s)))
+
       each : (b : Bool) → given.refused ≡ cond b (Some (bare id)) w.refused
           → length (refusals_of (commits now)) ≤ cond b (length (refusals_of (commits s)) + 1) (length (refusals_of (commits s)))
-      each true e = omega (
-        arith,
-        turned_refusals (λ x. 1),
-        long_sum (refusals_of (commits now)),
-        long_sum (refusals_of (commits s)),
-        ap (λ o. sum_by (λ x. 1) (refusal_of w.job.action o)) e,
-        sum_by-cons (λ x. 1) (refusing w.job.action) [],
-      )
-      each false e = omega (
-        arith,
-        turned_refusals (λ x. 1),
-        long_sum (refusals_of (commits now)),
-        long_sum (refusals_of (commits s)),
-        ap (λ o. sum_by (λ x. 1) (refusal_of w.job.action o)) e,
-      )
+      each true e = omega (arith, long, ap (λ o. sum_by (λ x. 1) (refusal_of w.job.action o)) e, sum_by-cons (λ x. 1) (refusing w.job.action) [])
+      each false e = omega (arith, long, ap (λ o. sum_by (λ x. 1) (refusal_of w.job.action o)) e)
 
   -- ---- what is seen
 

@@ -1,5 +1,5 @@
 -- What lists weigh, and what is seen of a turn by what it weighs.
-use Rattle.hpx_steps.proofs.Common.{Act, AllByRecursion, Came, Going, Id, Item, List, Mailed, OnDesk, Outgoing, Parcel, Standing, Token, Turn, Waits, [], ap, append_assoc, arith, asking, asking_of, commits, cond, count_by, credit_list, credits_of, due_ids, filter, flat_map, held, ids_here, is_asked, map, map-append, own_ids, own_parcels, parcel_tokens, parcels, refl, same_object, sum_by, sum_by-append, sum_by-cons, sym, tokens, tokens_of, weigh, worth, ℕ, ◌++◌, ◌+◌, ◌∙◌, ◌∷◌, ◌≡◌, ◌≤◌}
+use Rattle.hpx_steps.proofs.Common.{Pending, Working, Refusal, Act, AllByRecursion, Came, Going, Id, Item, List, Mailed, OnDesk, Outgoing, Parcel, Refusal, Standing, Token, Turn, Waits, [], action_of, ap, append_assoc, arith, asking, asking_of, commits, cond, count_by, credit_list, credits_of, due_ids, filter, fired_of, flat_map, held, ids_here, is_asked, map, map-append, own_ids, own_parcels, parcel_tokens, parcels, refl, refusal_of, refusals_of, same_object, sum_by, sum_by-append, sum_by-cons, sym, tokens, tokens_of, weigh, worth, ℕ, ◌++◌, ◌+◌, ◌∙◌, ◌∷◌, ◌≡◌, ◌≤◌}
 
 -- ---- lists
 
@@ -125,19 +125,27 @@ view_worth f s = omega (
   ids_each f s.loose,
 )
 
+-- a weight of commits
+abbrev pub by_commit : (Waits → ℕ) → Item → ℕ
+by_commit f (Pending w) = f w
+by_commit f (Working w) = f w
+by_commit f _ = 0
+
+commits_sum : (f : Waits → ℕ) (s : Turn) → sum_by f (commits s) ≡ weigh (by_commit f) s
+commits_sum f s = omega (arith, sum_by-append f s.working s.tables.pending, zeros s.came, zeros s.mailed, zeros s.tables.desk, zeros s.tables.outgoing, zeros s.tables.accepted, zeros s.tables.running, zeros s.tables.objects, zeros s.due, zeros s.loose)
+
 -- what was asked for
 pub view_asking : (o : Id) (s : Turn) → count_by (same_object o) (asking_of (commits s)) ≡ weigh (asking o) s
-view_asking o s = omega (
-  arith,
-  flat_sum (λ (x : Id). cond (same_object o x) 1 0) (λ (w : Waits). filter is_asked (own_ids w)) (commits s),
-  sum_by-append (λ (w : Waits). count_by (same_object o) (filter is_asked (own_ids w))) s.working s.tables.pending,
-  zeros s.came,
-  zeros s.mailed,
-  zeros s.tables.desk,
-  zeros s.tables.outgoing,
-  zeros s.tables.accepted,
-  zeros s.tables.running,
-  zeros s.tables.objects,
-  zeros s.due,
-  zeros s.loose,
-)
+view_asking o s = omega (arith, flat_sum (λ (x : Id). cond (same_object o x) 1 0) (λ (w : Waits). filter is_asked (own_ids w)) (commits s), commits_sum (λ (w : Waits). count_by (same_object o) (filter is_asked (own_ids w))) s)
+
+-- refusals
+abbrev pub refuses : (Refusal → ℕ) → Waits → ℕ
+refuses f w = sum_by f (refusal_of w.job.action w.refused)
+
+pub view_refusals : (f : Refusal → ℕ) (s : Turn) → sum_by f (refusals_of (commits s)) ≡ weigh (by_commit (refuses f)) s
+view_refusals f s = omega (arith, flat_sum f (λ (w : Waits). refusal_of w.job.action w.refused) (commits s), commits_sum (refuses f) s)
+
+-- fired actions
+pub fired_sum : (f : Act → ℕ) (s : Turn) → sum_by f (fired_of s.tables.running (commits s))
+    ≡ sum_by f s.tables.running + (sum_by (λ (w : Waits). f w.job.action) s.working + sum_by (λ (w : Waits). f w.job.action) s.tables.pending)
+fired_sum f s = omega (arith, sum_by-append f s.tables.running (map action_of (commits s)), map_sum f action_of (commits s), sum_by-append (λ (w : Waits). f w.job.action) s.working s.tables.pending)
