@@ -222,13 +222,7 @@ view_covered s tidy lent o managed =
         sum_by-append (λ (w : Waits). weighs (held_counts o) w.hand) s.working s.tables.pending,
         ids_flat (held_counts o) due_ids s.due,
       );
-      pending = omega (
-        arith,
-        view_worth (owed_counts o) s,
-        parcels_sum owed s,
-        flat_sum (λ (x : Id). cond (same_object o x) 1 0) parcel_asks (parcels s),
-        less asks owed (λ p h. asks_owed o p h),
-      );
+      pending = omega (arith, view_worth (owed_counts o) s, parcels_sum owed s, flat_sum (λ (x : Id). cond (same_object o x) 1 0) parcel_asks (parcels s), less asks owed (λ p h. asks_owed o p h));
     }
   where
     hands : (w : Waits) → Among w (commits s) → map bare (own_ids w) ≡ map bare (ids_named w)

@@ -96,9 +96,6 @@ module _ (r : Rules) (s : Turn) (entries : List Entry) (h : IsSound r s entries)
       if_dead true x = omega (arith, sum_by-cons (counts_of (same_object x)) (bare id) (view s).dead, sum_by-cons (counts_of (same_object x)) (bare id) [])
       if_dead false x = omega arith
 
-  made : option_map_or (λ (x : Record). x.count) (lowered old id) 0 ≡ count
-  made = lowered_count old id count (omega (arith, sum, ap credit_of_log has))
-
   pub returned_keeps : Keeps r s now e
   returned_keeps = record {
     leads = (
@@ -112,7 +109,7 @@ module _ (r : Rules) (s : Turn) (entries : List Entry) (h : IsSound r s entries)
           ))
           (record { sums = λ f weight. omega (arith, gone f, sum_by-cons f (owed_token (bare id) log) []) })
           (λ x at. one_recounted id old (lowered old id) s.tables.records records recounts x
-          ∙ ap (λ n. cond (same_object x (bare id)) n (count_in (find (is_recorded x) (map counted s.tables.records)))) made)
+          ∙ ap (λ n. cond (same_object x (bare id)) n (count_in (find (is_recorded x) (map counted s.tables.records)))) (lowered_count old id count (omega (arith, sum, ap credit_of_log has))))
           (λ b. sees_covers r seen now sees (view_covered now tidy h.commits.lent)),
       sees_leads r seen now sees,
     );
