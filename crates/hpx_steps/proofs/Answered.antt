@@ -54,16 +54,14 @@ module _ (r : Rules) (s : Turn) (entries : List Entry) (h : IsSound r s entries)
   asked_less o n = if_so other (λ t. rw t (omega arith)) (λ f. rw (f, eq-eqb asker s.tables.here (asker_here s.tables asker near f)) (omega arith))
 
   given_less : (j : ℕ) (o : Id) (n : ℕ) → cond other (cond (asker == j) (gives_for o n give) 0) 0 ≤ asks_for j o n (Ask id asker entry)
-  given_less j o n = by_bool (λ b. cond b (cond (asker == j) (gives_for o n give) 0) 0 ≤ one_if ((asker == j) && ((entry == n) && same_object o id)))
-      (by_bool (λ c. cond c (gives_for o n give) 0 ≤ one_if (c && ((entry == n) && same_object o id))) (omega arith) (omega arith) (asker == j)) (omega arith) other
+  given_less j o n = grind arith
 
   -- an Ask that is in hand from the own desk is the own
   given_was : (j : ℕ) → j ≢ s.tables.here → (o : Id) (n : ℕ) → given_to j o n was ≡ asks_for j o n (Ask id asker entry)
   given_was j d o n = by_bool (λ b. given_to j o n (in_hand b (Ask id asker entry)) ≡ asks_for j o n (Ask id asker entry)) refl refl (is_frame (Ask id asker entry) s hand)
 
   asked_was : (o : Id) (n : ℕ) → asked_by s.tables.here o n was ≡ asks_for s.tables.here o n (Ask id asker entry)
-  asked_was o n =
-      by_bool (λ b. asked_by s.tables.here o n (in_hand b (Ask id asker entry)) ≡ asks_for s.tables.here o n (Ask id asker entry)) (omega arith) (omega arith) (is_frame (Ask id asker entry) s hand)
+  asked_was o n = grind arith
 
   pub waits : waiting now ≡ waiting s
   waits = mail_waits true asker give (with_records records (drops s)) refl ∙ drop_waits (Ask id asker entry) s hand refl

@@ -49,10 +49,7 @@ module _ (r : Rules) (s : Turn) (entries : List Entry) (h : IsSound r s entries)
   was_not = has_not_asked id 0 least.0
 
   is_now : is_asked (bare id) ≡ true
-  is_now = each id.kind least.1
-    where
-      each : (kind : ℕ) → 16 ≤ kind → (nat_le 16 kind && true) ≡ true
-      each kind le = grind (arith, nat_tests)
+  is_now = grind arith
 
   fit_commit : IsCommit s.tables.here s.tables.localities asker
   fit_commit = recommit s.tables.here s.tables.localities w (set w.hand p (bare id)) (w.asked ++ record { entry = number; place = p } ∷ []) w.places w.refused its

@@ -7,21 +7,11 @@ is_below : (kind : ℕ) → kind < 16 → nat_le 16 kind ≡ false
 is_below kind e = grind (arith, nat_tests)
 
 pub not_asked : (id : Id) → HasRightCredit id → is_asked id ≡ false
-not_asked id h = each id.log h (nat_le 16 id.kind) refl
-  where
-    each : (l : Option ℕ) → MatchOption l (id.kind < 16) (λ x. 16 ≤ id.kind) → (b : Bool) → nat_le 16 id.kind ≡ b → (b && not (is_some l)) ≡ false
-    each None low true e = absurd (let f : true ≡ false = sym e ∙ is_below id.kind low in cc)
-    each None low false e = refl
-    each (Some x) right true e = refl
-    each (Some x) right false e = refl
+not_asked id h = grind arith
 
 -- an id with a credit was not asked for
 pub has_not_asked : (id : Id) (l : ℕ) → id.log ≡ Some l → is_asked id ≡ false
-has_not_asked id l e = ap (λ k. nat_le 16 id.kind && not (is_some k)) e ∙ none (nat_le 16 id.kind)
-  where
-    none : (b : Bool) → (b && false) ≡ false
-    none true = refl
-    none false = refl
+has_not_asked id l e = grind arith
 
 pub no_bare : (o : Id) → 16 ≤ o.kind → (ids : List Id) → AllByRecursion HasRightCredit ids → bare_names o ids ≡ 0
 no_bare o managed ids h = omega (arith, held_or_bare o ids, held_ids o managed ids h)
@@ -63,11 +53,7 @@ all_none (id ∷ ids) h = rw (not_asked id h.0) (all_none ids h.1)
 
 -- an id that was asked for has no credit
 pub bare_tokens : (f : Token → ℕ) (id : Id) → is_asked id ≡ true → sum_by f (tokens_of (id ∷ [])) ≡ 0
-bare_tokens f id h = each id.log (and_true (nat_le 16 id.kind) (not (is_some id.log)) h).1
-  where
-    each : (l : Option ℕ) → not (is_some l) ≡ true → sum_by f (map held (credit_list id l ++ [])) ≡ 0
-    each None e = refl
-    each (Some l) e = absurd (cc)
+bare_tokens f id h = grind arith
 
 -- those that have a credit have all the tokens
 pub credit_tokens : (f : Token → ℕ) (ids : List Id) → sum_by f (tokens_of (with_credit ids)) ≡ sum_by f (tokens_of ids)

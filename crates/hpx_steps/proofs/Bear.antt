@@ -51,14 +51,7 @@ module _ (r : Rules) (s : Turn) (entries : List Entry) (h : IsSound r s entries)
 
   -- none of its number stands here
   other : (x : Standing) → TidyAt s (StandsHere x) → same_object x.object o ≡ false
-  other x k = false_from (same_object x.object o) (λ t.
-      let same : bare x.object ≡ o = same_object-true x.object o t in
-      let kind : x.object.kind ≡ make.kind = ap (λ (y : Id). y.kind) same in
-      let home : x.object.home ≡ s.tables.here = ap (λ (y : Id). y.home) same in
-      let number : x.object.number ≡ s.tables.births + 1 = ap (λ (y : Id). y.number) same in
-      let least : 16 ≤ make.kind = fit.least in
-      let low : x.object.number ≤ s.tables.births = k.1 (omega (arith, kind, least)) home in
-      absurd (omega (arith, low, number)))
+  other x k = grind arith
 
   tidy : IsTidy now
   tidy = holding (TidyAt now) (Working bearer ∷ StandsHere new ∷ []) s now change.1

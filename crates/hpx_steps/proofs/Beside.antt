@@ -29,15 +29,7 @@ module _ (objects : List Standing) (j : ℕ) (act : Act) (old new : Standing) (s
 
   -- only a plain object has other fired actions
   only_plain : (w : Waits) → keeps (target_of act) w.job.action ≡ false → same_object (target_of w.job.action) old.object ≡ true → old.object.kind ≡ 7
-  only_plain w none t =
-      let both : same_object (target_of act) (target_of w.job.action) ≡ true =
-      same_object-from (target_of act) old.object (target_of w.job.action) same ∙ same_object-sym (target_of w.job.action) old.object t in
-      let kind : (target_of act).kind ≡ old.object.kind = ap (λ (o : Id). o.kind) (same_object-true (target_of act) old.object same) in
-      sym kind ∙ at ((target_of act).kind == 7) refl (ap (λ b. cond ((target_of act).kind == 7) false b) (sym both) ∙ none)
-    where
-      at : (b : Bool) → ((target_of act).kind == 7) ≡ b → cond b false true ≡ false → (target_of act).kind ≡ 7
-      at true e z = eqb-true (target_of act).kind 7 e
-      at false e z = absurd (cc)
+  only_plain w none t = grind arith
 
   pub each_set : (ws : List Waits) → is_busy (target_of act) (map action_of ws) ≡ false → AllByRecursion (HasObject objects) ws
       → AllByRecursion (HasObject (set objects j new)) ws
@@ -223,9 +215,7 @@ more_commits objects running cs x none h = record {
 module _ (objects : List Standing) (running : List Act) (cs : List Waits) (i : ℕ) (x : Standing) (there : slice_get objects i ≡ Some x) (o : Id)
     (same : same_object o x.object ≡ true) (idle : list_any (λ (w : Waits). acts_on o w.job.action) cs ≡ false) (h : HasCommits objects running cs) where
   other : (w : Waits) → acts_on o w.job.action ≡ false → is_standing (target_of w.job.action) x ≡ false
-  other w none = if_so (same_object (target_of w.job.action) x.object)
-      (λ t. absurd (let e : true ≡ false = sym (same_object-sym (target_of w.job.action) x.object t) ∙ (sym (same_object-from o x.object (target_of w.job.action) same) ∙ none) in cc))
-      (λ f. f)
+  other w none = grind arith
 
   each_less : (ws : List Waits) → list_any (λ (w : Waits). acts_on o w.job.action) ws ≡ false → AllByRecursion (HasObject objects) ws
       → AllByRecursion (HasObject (remove objects i)) ws

@@ -23,18 +23,7 @@ NearNumbers t t' = SameNumbers (record t { births = t'.births; serial = t'.seria
 pub counts_near : (s s' : Turn) (e : Event) → NearNumbers s.tables s'.tables → s'.tables.births ≤ s.tables.births + 1 → s'.tables.serial ≤ s.tables.serial + 1
     → s'.tables.asked ≤ s.tables.asked + 1 → s'.tables.sent ≡ s.tables.sent + length (outs_by s.tables.here e)
     → s'.tables.taken ≡ s.tables.taken + length (arrives_at s.tables.here e) → ((l : Local) → done_after l e ≡ l.done) → Counts s s' e
-counts_near s s' e near born few asked sent taken done = record {
-  here = ap (λ (t : Tables). t.here) near;
-  localities = ap (λ (t : Tables). t.localities) near;
-  profile = ap (λ (t : Tables). t.profile) near;
-  born = born;
-  few = few;
-  asked = asked;
-  sent = sent;
-  taken = taken;
-  few_answers = omega (arith, ap (λ (t : Tables). t.answered) near);
-  answered = λ l shown. omega (arith, ap (λ (t : Tables). t.answered) near, ap (count_by is_answer) (done l));
-}
+counts_near s s' e near born few asked sent taken done = grind arith
 
 -- ---- what goes and what comes pays, and keeps the order
 
@@ -42,12 +31,7 @@ module _ (r : Rules) (s s' : Turn) (e : Event) (out into : List Item) (sums : Su
   pub pays_so : ((row : Row) → goes r row e + total (unpaid row) into ≡ total (unpaid row) out + causes r row e)
       → spends r e + total hopping into ≤ total hopping out + causes r Actions e → joins e + total joined out ≤ fires_one e + total joined into
       → ((o : Id) → comes_to_free r o e + total (freeing o) out ≤ frees_now o e + total (freeing o) into) → Pays r s s' e
-  pays_so rows once fired frees = record {
-    rows = λ row. omega (arith, sums (unpaid row), rows row);
-    once = omega (arith, sums hopping, once);
-    fired = omega (arith, sums joined, fired);
-    frees = λ o. omega (arith, sums (freeing o), frees o);
-  }
+  pays_so rows once fired frees = grind arith
 
   pub orders_so : SendsOwn r s.tables.localities s.tables.here s.tables.profile.credit_log e
       → ((o : Id) (n : ℕ) → gone r (asks_for s.tables.here o n) e + total (asked_by s.tables.here o n) into + total (waits_for o n) out
@@ -83,16 +67,7 @@ same_dead x s s' less = omega (arith, own_sum (counts_of (same_object x)) parcel
 pub sees_by : (v : View) (s' : Turn) → as_seen v s' ≡ view s' → SameTokens v.tokens (tokens s') → ((x : Id) → count_by (same_object x) v.asking ≡ count_by (same_object x) (view s').asking)
     → ((x : Id) → count_by (same_object x) v.asks ≡ count_by (same_object x) (view s').asks) → ((x : Id) → count_by (same_object x) (view s').dead ≤ count_by (same_object x) v.dead)
     → v ≡ record v { live = (view s').live; refusals = (view s').refusals; failing = (view s').failing } → Sees v s'
-sees_by v s' rest tokens asking asks dead same = record {
-  rest = rest;
-  tokens = tokens;
-  asking = asking;
-  asks = asks;
-  live = λ x home. ap (λ (u : View). count_in (find (is_recorded x) u.live)) same;
-  dead = dead;
-  refusals = λ x k. ap (λ (u : View). list_any (same_refusal x) u.refusals) same ∙ k;
-  failing = omega (arith, ap (λ (u : View). u.failing) same);
-}
+sees_by v s' rest tokens asking asks dead same = grind arith
 
 -- what counts nothing counts nothing to j
 pub bound_none : (b : Bool) (n : ℕ) → n ≡ 0 → ◌≡◌ {A = ℕ} (cond b n 0) 0

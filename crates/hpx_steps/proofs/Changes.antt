@@ -5,10 +5,7 @@ use Rattle.hpx_steps.proofs.Common.{Accepted, Act, AllByRecursion, Among, Bool, 
 
 pub among_all : {X : Type 0} (P : X → Type 0) (x : X) (xs : List X) → Among x xs → AllByRecursion P xs → P x
 among_all P x [] m h = absurd m
-among_all P x (y ∷ ys) (inl e) h = all_here e h.0
-  where
-    all_here : y ≡ x → P y → P x
-    all_here e k = rw (sym e) k
+among_all P x (y ∷ ys) (inl e) h = grind arith
 among_all P x (y ∷ ys) (inr m) h = among_all P x ys m h.1
 
 pub all_among : {X : Type 0} (P : X → Type 0) (xs : List X) → ((x : X) → Among x xs → P x) → AllByRecursion P xs
@@ -125,11 +122,7 @@ module _ {X : Type 0} (c : X → Item) where
       comes y (inr m) = inl m
 
   pub one_comes : (xs : List X) (x : X) → xs ≡ [] → Trade c [] (c x ∷ []) xs (x ∷ [])
-  one_comes xs x is = record { sums = λ w. omega (arith, ap (sum_by (λ y. w (c y))) is, sum_by-cons (λ y. w (c y)) x []); there = comes }
-    where
-      comes : (y : X) → Among y (x ∷ []) → Among y xs ⊎ Among (c y) (c x ∷ [])
-      comes y (inl e) = inr (inl (ap c e))
-      comes y (inr m) = absurd m
+  one_comes xs x is = grind arith
 
   pub first_turns : (xs : List X) (x y : X) (rest : List X) → xs ≡ x ∷ rest → Trade c (c x ∷ []) (c y ∷ []) xs (y ∷ rest)
   first_turns xs x y rest is = record {
@@ -338,14 +331,8 @@ none_comes : (s : Turn) → Comes [] s (drops s)
 none_comes s = comes_by [] s (drops s) (λ x m. absurd m) (λ x m. absurd m) (λ x m. inl m) (λ x m. inl m) (λ x m. inl m) (λ x m. inl m) (λ x m. inl m) (λ x m. inl m) (λ x m. inl m) (λ x m. inl m) (λ x m. inl m)
 
 pub drop_change : (p : Parcel) (s : Turn) (hand : HasInHand p s) → Changes (in_hand (is_frame p s hand) p ∷ []) [] s (drops s)
-drop_change p s (inl h) = (
-  λ w. omega (arith, ap (sum_by (λ x. w (Came x))) h.0, ap (sum_by (λ x. w (Mailed x))) h.1, sum_by-cons (λ x. w (Came x)) p []),
-  none_comes s,
-)
-drop_change p s (inr h) = (
-  λ w. omega (arith, ap (sum_by (λ x. w (Came x))) h.0, ap (sum_by (λ x. w (Mailed x))) h.1, sum_by-cons (λ x. w (Mailed x)) p []),
-  none_comes s,
-)
+drop_change p s (inl h) = grind arith
+drop_change p s (inr h) = grind arith
 
 -- its weight, where that sees no difference between frames and the desk
 pub hand_weighs : (p : Parcel) (s : Turn) (hand : HasInHand p s) (w : Item → ℕ) (n : ℕ) → w (Came p) ≡ n → w (Mailed p) ≡ n → w (in_hand (is_frame p s hand) p) ≡ n

@@ -136,25 +136,7 @@ pub begins : (r : Rules) (t : Tables) (i j : ℕ) (job : Job) (out : Outcome) (x
     → (later : List Id) → AllByRecursion (λ (id : Id). id.log ≡ None) later → (places : List ℕ)
     → Step r (at_rest t) Suspend (record (at_rest (record t { running = remove t.running i; objects = set t.objects j (record { object = x.object; state = bare_state x.state }) }))
     { working = waits_with job out t.localities [] (record { hand = hand_ids job.state job.action later; places = places }) ∷ [] })
-begins r t i j job out x runs stands found here kind state few later none places = record {
-  calm = record { due = refl; fresh = refl };
-  i = i;
-  j = j;
-  job = job;
-  outcome = out;
-  x = x;
-  runs = runs;
-  stands = stands;
-  found = found;
-  here = here;
-  kind = kind;
-  state = state;
-  few = few;
-  later = later;
-  none = none;
-  places = places;
-  now = refl;
-}
+begins r t i j job out x runs stands found here kind state few later none places = grind arith
 
 module _ (act_of : ℕ → ℕ → ℕ → State → Act → Outcome) (t : Tables) (entries : List Entry) (h : Stands act_of t entries) (i j : ℕ) (job : Job) (out : Outcome) (x : Standing)
     (runs : slice_get t.running i ≡ Some job.action) (stands : slice_get t.objects j ≡ Some x) (found : find (is_standing (target_of job.action)) t.objects ≡ Some x)

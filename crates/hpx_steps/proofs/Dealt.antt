@@ -4,11 +4,7 @@ use Rattle.hpx_steps.proofs.Tools.{ids_append, ids_each, none_tokens, place_at}
 use Rattle.hpx_steps.proofs.Work.{halved_from}
 
 half_right : (id : Id) → HasRightCredit id → HasRightCredit (half id)
-half_right id h = each id.log h
-  where
-    each : (l : Option ℕ) → MatchOption l (id.kind < 16) (λ x. 16 ≤ id.kind) → MatchOption (option_map (λ (n : ℕ). n - 1) l) (id.kind < 16) (λ x. 16 ≤ id.kind)
-    each None k = k
-    each (Some l) k = k
+half_right id h = grind arith
 
 right_at : (ids : List Id) (p : ℕ) → p < length ids → AllByRecursion HasRightCredit ids → HasRightCredit (id_at ids p)
 right_at ids p lt h = all_at HasRightCredit ids p (id_at ids p) h (place_at ids p lt)
@@ -56,14 +52,7 @@ all_low (suc m) n p st le h =
 
 -- an id of no managed object has no credit
 unmanaged : (g : Token → ℕ) (i : Id) → is_managed i ≡ false → HasRightCredit i → sum_by g (tokens_of (i ∷ [])) ≡ 0
-unmanaged g i m h = at i.log h
-  where
-    low_kind : (kind : ℕ) → nat_le 16 kind ≡ false → kind < 16
-    low_kind kind k = search (arith, nat_tests, k)
-
-    at : (l : Option ℕ) → MatchOption l (i.kind < 16) (λ x. 16 ≤ i.kind) → sum_by g (map held (credit_list i l ++ [])) ≡ 0
-    at None k = refl
-    at (Some l) k = absurd (let low = low_kind i.kind m in omega (arith, low, k))
+unmanaged g i m h = grind arith
 
 -- where each place is named once at most, those who name get the ids as they are
 low_tokens : (f : Token → ℕ) (ids : List Id) (places : List ℕ) (p : ℕ) → AllByRecursion HasRightCredit ids → ((q : ℕ) → p ≤ q → q < p + length ids → named places q ≤ 1)

@@ -154,12 +154,7 @@ module _ (r : Rules) (s : Turn) (entries : List Entry) (h : IsSound r s entries)
   refusals_split = ap (λ ws. refusals_of (ws ++ s.tables.pending)) g.works
 
   pub refusals_less : (y : Refusal) → list_any (same_refusal y) (refusals_of (rest ++ s.tables.pending)) ≡ true → list_any (same_refusal y) (refusals_of (commits s)) ≡ true
-  refusals_less y k = any_counted (same_refusal y) (refusals_of (commits s)) (omega (
-    arith,
-    counted_any (same_refusal y) (refusals_of (rest ++ s.tables.pending)) k,
-    ap (sum_by (counts_of (same_refusal y))) refusals_split,
-    sum_by-append (counts_of (same_refusal y)) refused (refusals_of (rest ++ s.tables.pending)),
-  ))
+  refusals_less y k = grind arith
 
   pub failing_less : length (refusals_of (commits s)) ≡ length refused + length (refusals_of (rest ++ s.tables.pending))
   failing_less = ap (λ (xs : List Refusal). length xs) refusals_split ∙ length-append refused (refusals_of (rest ++ s.tables.pending))

@@ -12,10 +12,7 @@ module _ (r : Rules) (s : Turn) (entries : List Entry) (h : IsSound r s entries)
     (told : IsTold r (Free o) s) (there : slice_get s.tables.objects i ≡ Some x) (found : find (is_standing o) s.tables.objects ≡ Some x)
     (idle : waits_here s.tables o ≡ false) (unheld : held_here s.tables o ≡ 0) where
   hand : HasInHand (Free o) s
-  hand = elim told [
-    | inl k ↦ inr (k.0, k.1)
-    | inr k ↦ inl (k.0, k.1)
-  ]
+  hand = grind arith
 
   abbrev now : Turn
   now = wrote (Freed o) (record (drops s) { loose = s.loose ++ with_credit x.state.ids; tables = record s.tables { objects = remove s.tables.objects i } })

@@ -106,19 +106,13 @@ module _ (r : Rules) (s : Turn) (calm : IsCalm s) (t' : Tables) where
   -- ---- records
 
   record_of_live : (o : Id) → is_live s.tables o ≡ true → (x : Record) × (find_record o s.tables.records ≡ Some x)
-  record_of_live o live = each (find_record o s.tables.records) (and_true (o.home == s.tables.here) (is_some (record_here s.tables o)) live).1
-    where
-      each : (k : Option Record) → is_some k ≡ true → (x : Record) × (k ≡ Some x)
-      each None e = absurd (cc)
-      each (Some x) e = (x, refl)
+  record_of_live o live = grind arith
 
   home_of_live : (o : Id) → is_live s.tables o ≡ true → o.home ≡ s.tables.here
   home_of_live o live = eqb-true o.home s.tables.here (and_true (o.home == s.tables.here) (is_some (record_here s.tables o)) live).0
 
   same_last : (a b c : ℕ) → c + b ≡ a → (c == 0) ≡ (a == b)
-  same_last a b c e = if_so (a == b)
-      (λ t. let i = eqb-true a b t in eq-eqb c 0 (omega (arith, i, e)) ∙ sym t)
-      (λ t. let i = eqb-false a b t in ne_eqb c 0 (λ z. i (omega (arith, z, e))) ∙ sym t)
+  same_last a b c e = grind arith
 
   -- credit that comes home
   pub returned_leads : (id : Id) → HasInHand (Return id) s → HasCredit id → is_live s.tables id ≡ true → credit id ≤ count_here s.tables id
@@ -284,25 +278,7 @@ freed_leads r s t' o calm alone empty told right deals leaves = each (find (is_s
 pub given_leads : (r : Rules) (s : Turn) (t' : Tables) (id : Id) (entry : ℕ) → IsCalm s → HasInHand (Give id entry) s → HasCredit id → brings_right s.tables id ≡ true
     → (g : Gives id entry s.tables t')
     → Step r s (Writes (Given (bare id) (log_of id.log))) (wrote (Given (bare id) (log_of id.log)) (goes_on g.i g.after (drops s)))
-given_leads r s t' id entry calm hand credit right g = record {
-  calm = calm;
-  id = id;
-  entry = entry;
-  hand = hand;
-  object = refl;
-  has = some_log id.kind id.log credit;
-  right = elim (or_cases (log_of id.log == 0) (log_of id.log == s.tables.profile.credit_log) right) [
-    | inl a ↦ inl (eqb-true (log_of id.log) 0 a)
-    | inr b ↦ inr (eqb-true (log_of id.log) s.tables.profile.credit_log b)
-  ];
-  i = g.i;
-  before = g.before;
-  after = g.after;
-  there = g.there;
-  first = g.first;
-  refills = g.refills;
-  now = refl;
-}
+given_leads r s t' id entry calm hand credit right g = grind (arith, nat_tests)
 
 -- where it waits on
 pub given_waits : (r : Rules) (s : Turn) (t' : Tables) (id : Id) (entry : ℕ) → IsCalm s → HasInHand (Give id entry) s → HasCredit id → brings_right s.tables id ≡ true

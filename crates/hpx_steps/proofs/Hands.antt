@@ -31,8 +31,7 @@ names_place xs ys e p = sym (at xs p) ∙ (ap (λ zs. id_at zs p) e ∙ at ys p)
 -- an id of the object of one at a place names one of them
 pub any_place : (o : Id) (ids : List Id) (p : ℕ) → p < length ids → bare o ≡ bare (id_at ids p) → list_any (same_object o) ids ≡ true
 any_place o [] p lt same = absurd (omega (arith, lt))
-any_place o (x ∷ xs) zero lt same =
-    let here : same_object o x ≡ true = ap (λ (y : Id). same_object o y) (sym same) ∙ same_object-refl o in rw here refl
+any_place o (x ∷ xs) zero lt same = grind arith
 any_place o (x ∷ xs) (suc p) lt same = rw (any_place o xs p (omega (arith, lt)) same) (or_true (same_object o x))
   where
     or_true : (b : Bool) → (b || true) ≡ true

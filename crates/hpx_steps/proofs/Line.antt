@@ -4,20 +4,7 @@ use Rattle.hpx_steps.proofs.Tools.{Changes, Keeps, Put, Sees, asks_of, by_rows, 
 
 -- a line is well formed
 line_fit : (a : Name) (bytes : List ℕ) → length bytes ≤ 1025 → IsFit (line_act a bytes)
-line_fit a bytes short = record {
-  sent = record {
-    shape = record {
-      values = record { few = lit≤ tt; each = (omega (arith, short), tt) };
-      refs = tt;
-      few_refs = lit≤ tt;
-      cont = tt;
-      ids = refl;
-      short = omega (arith, short);
-    };
-    credit = (lit≤ tt, tt);
-  };
-  moves = λ e. absurd (omega (arith, e));
-}
+line_fit a bytes short = grind arith
 
 module _ (r : Rules) (s : Turn) (entries : List Entry) (h : IsSound r s entries) (bytes : List ℕ) (due : s.due ≡ []) (fresh : s.fresh ≡ []) (first : s.tables.here ≡ 0)
     (short : length bytes ≤ 1025) where

@@ -5,10 +5,7 @@ use Rattle.hpx_steps.proofs.Calm.{asks_of, frees_of, numbered_so, orders_so, own
 use Rattle.hpx_steps.proofs.Changes.{desk_change, mailed_change}
 
 kind_low : (p : Parcel) → (1 ≤ kind_of p) × (kind_of p ≤ 10)
-kind_low p = each p
-  where
-    each : (p : Parcel) → (1 ≤ kind_of p) × (kind_of p ≤ 10)
-    each p = search arith
+kind_low p = grind arith
 
 module _ (r : Rules) (s : Turn) (entries : List Entry) (h : IsSound r s entries) (p : Parcel) (rest : List Parcel) (due : s.due ≡ []) (fresh : s.fresh ≡ [])
     (first : s.tables.desk ≡ p ∷ rest) (empty : s.mailed ≡ []) where
@@ -27,17 +24,13 @@ module _ (r : Rules) (s : Turn) (entries : List Entry) (h : IsSound r s entries)
   tidy = holding (TidyAt s) (Mailed p ∷ []) s now change.1 h.tidy (its, tt)
 
   same_parcels : parcels now ≡ parcels s
-  same_parcels =
-      let outs = map (λ (x : Outgoing). x.parcel) s.tables.outgoing in
-      ap (λ xs. s.came ++ xs) (ap (λ xs. xs ++ outs) (sym first) ∙ ap (λ xs. xs ++ (s.tables.desk ++ outs)) (sym empty))
+  same_parcels = grind arith
 
   abbrev seen : View
   seen = record (view s) { last = Some (Mail (kind_of p)) }
 
   sees : Sees seen now
-  sees = sees_by seen now (ap (λ ps. record (view now) { waiting = map bare_act s.tables.accepted ++ flat_map parcel_acts ps }) (sym same_parcels))
-      (λ f weight. omega (arith, view_worth f s, view_worth f now, change.0 (worth f))) (λ x. refl)
-      (λ x. same_asks x s now (omega (arith, change.0 (asks_of x)))) (λ x. same_dead x s now (omega (arith, change.0 (frees_of x)))) refl
+  sees = grind arith
 
   pub mail_keeps : Keeps r s now (Mail (kind_of p))
   mail_keeps = record {

@@ -24,20 +24,16 @@ own_is t to h lt = grind (arith, nat_tests)
 pub mail_tidy : (t : Tables) (b : Bool) (to : ℕ) (p : Parcel) → (b ≡ true → IsParcel p) → (b ≡ true → MayGoTo t.here to p)
     → (b ≡ true → IsOwn t.here t.profile.credit_log p) → (b ≡ true → is_other t to ≡ true → FreesNone p)
     → AllByRecursion (IsTidyIn t.here t.localities t.profile.credit_log t.births t.objects) (sent_if b (is_other t to) to p)
-mail_tidy t b to p fit may own stays = sent_all (IsTidyIn t.here t.localities t.profile.credit_log t.births t.objects) b (is_other t to) to p
-    (λ c e. (fit c, record { to = to; may = may c; here = own_is t to e }, own c))
-    (λ c e. (fit c, record { somewhere = (other_is t to e).0; away = (other_is t to e).1; may = may c }, own c, stays c e))
+mail_tidy t b to p fit may own stays = grind arith
 
 -- ---- the token of an id
 
 pub held_by : (f : Token → ℕ) (id : Id) (log : ℕ) → id.log ≡ Some log → sum_by f (tokens_of (id ∷ [])) ≡ f (held_token (bare id) log)
-held_by f id log some =
-    ap (λ l. sum_by f (map held (credit_list id l ++ []))) some ∙ omega (arith, sum_by-cons f (held_token (bare id) log) [])
+held_by f id log some = grind arith
 
 pub owed_by : (f : Token → ℕ) (id : Id) (log : ℕ) → id.log ≡ Some log
     → sum_by f (map owing (credit_list id id.log ++ [])) ≡ f (owed_token (bare id) log)
-owed_by f id log some =
-    ap (λ l. sum_by f (map owing (credit_list id l ++ []))) some ∙ omega (arith, sum_by-cons f (owed_token (bare id) log) [])
+owed_by f id log some = grind arith
 
 -- ---- the message in hand is well formed
 

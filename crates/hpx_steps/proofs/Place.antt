@@ -8,10 +8,7 @@ module _ (r : Rules) (s : Turn) (entries : List Entry) (h : IsSound r s entries)
     (hand : HasInHand p s) (stays : s.mailed ≢ [] → may_stay s.tables act ≡ true) where
   -- what holds of both holds of it
   of_both : (P : Parcel → Type 0) → P (Apply act) → P (Move act) → P p
-  of_both P a b = elim carries [
-    | inl e ↦ subst P (sym e) a
-    | inr e ↦ subst P (sym e) b
-  ]
+  of_both P a b = grind arith
 
   abbrev now : Turn
   now = posts act (drops s)
@@ -75,9 +72,7 @@ module _ (r : Rules) (s : Turn) (entries : List Entry) (h : IsSound r s entries)
   }
 
   owes_one : (row : Row) → owes row p ≡ of_act row
-  owes_one row = of_both (λ q. owes row q ≡ of_act row)
-      (by_rows (λ x. owes x (Apply act) ≡ of_act x) refl refl refl refl refl refl refl (λ o. refl) row)
-      (by_rows (λ x. owes x (Move act) ≡ of_act x) refl refl refl refl refl refl refl (λ o. refl) row)
+  owes_one row = grind arith
 
   one : brings p ≡ 1
   one = of_both (λ q. brings q ≡ 1) refl refl

@@ -6,11 +6,7 @@ use Rattle.hpx_steps.proofs.Mails.{mail_tidy}
 
 -- an action as a message is an Apply or a Move
 pub as_parcel : (P : Parcel → Type 0) (act : Act) → P (Apply act) → P (Move act) → P (parcel_for act)
-as_parcel P act a b = each (act.code == 1)
-  where
-    each : (c : Bool) → P (cond c (Move act) (Apply act))
-    each true = b
-    each false = a
+as_parcel P act a b = grind arith
 
 pub put_sum : (w : Item → ℕ) (stay other : Bool) (act : Act) (n : ℕ) → w (Accepted act) ≡ n
     → ((p : Parcel) → (p ≡ Apply act) ⊎ (p ≡ Move act) → (w (OnDesk p) ≡ n) × ((to : ℕ) → w (Going (going to p)) ≡ n)) → w (put_as stay other act) ≡ n
@@ -44,8 +40,7 @@ both act f n a b p e = (carried act f n a b p e, λ to. carried act f n a b p e)
 
 -- a message counts an action as one, and brings one at most
 pub weighs_act : (act : Act) (row : Row) (p : Parcel) → (p ≡ Apply act) ⊎ (p ≡ Move act) → (weight row p ≡ of_act row) × ((to : ℕ) → weight row p ≡ of_act row)
-weighs_act act row = both act (weight row) (of_act row) (by_rows (λ x. weight x (Apply act) ≡ of_act x) refl refl refl refl refl refl refl (λ o. refl) row)
-    (by_rows (λ x. weight x (Move act) ≡ of_act x) refl refl refl refl refl refl refl (λ o. refl) row)
+weighs_act act row = grind arith
 
 pub brings_few : (p : Parcel) → brings p ≤ 1
 brings_few p = by_bool (λ b. one_if b ≤ 1) (omega arith) (omega arith) ((kind_of p == 1) || (kind_of p == 6))
@@ -71,9 +66,7 @@ not_false true h = cc
 not_false false h = refl
 
 fit_parcel : (act : Act) → IsFit act → IsParcel (parcel_for act)
-fit_parcel act fit = if_so (act.code == 1)
-    (λ b. rw b (let e = eqb-true act.code 1 b in record { sent = fit.sent; code = e; target = (fit.moves e).0; args = (fit.moves e).1 }))
-    (λ b. rw b (record { sent = fit.sent; code = eqb-false act.code 1 b }))
+fit_parcel act fit = grind arith
 
 pub put_tidy : (t : Tables) (act : Act) → IsFit act
     → IsTidyIn t.here t.localities t.profile.credit_log t.births t.objects (put_as (may_stay t act) (is_other t (target_of act).home) act)

@@ -20,8 +20,7 @@ pub recommit : (k n : ℕ) (w : Waits) (hand : List Id) (asked : List AskedFor) 
     → ((o : Id) → refused ≡ Some o → list_any (same_object o) (ids_named w) ≡ true)
     → ((p : ℕ) → p < length (ids_named w) → count_by (λ (x : AskedFor). x.place == p) asked ≡ cond (is_asked (id_at hand p)) 1 0)
     → IsCommit k n (record w { hand = hand; asked = asked; places = places; refused = refused })
-recommit k n w hand asked places refused h own within named once =
-    record { job = h.job; here = h.here; localities = h.localities; few = h.few; hand = own; within = within; refused = named; once = once }
+recommit k n w hand asked places refused h own within named once = grind arith
 
 -- the first commit in work has the same job, and the same action
 pub work_commits : (s : Turn) (w w' : Waits) (rest : List Waits) → s.working ≡ w ∷ rest → w' ≡ record w { hand = w'.hand; asked = w'.asked; places = w'.places; refused = w'.refused }

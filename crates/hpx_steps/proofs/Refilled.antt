@@ -78,10 +78,7 @@ module _ (k l log : ℕ) (w : Waits) (n : ℕ) (ask : AskedFor) (id : Id) (entry
       ∙ (ap (λ b. nat_le 16 (id_at start.hand p).kind && not b) (place_some (length own) start fits held.within p inside) ∙ not_asked (id_at start.hand p) right)
 
   given_short : IsShort log filled.refused id
-  given_short = elim brings [
-    | inl z ↦ inr (inr (some_log id.kind id.log credit ∙ ap Some z, refused_some (log_of id.log == 0) (bare id) w.refused (eq-eqb (log_of id.log) 0 z)))
-    | inr e ↦ inr (inl (some_log id.kind id.log credit ∙ ap Some e))
-  ]
+  given_short = grind arith
 
   -- its hand is still that of its job, split ahead
   pub still_split : HasSplit log (refilled n ask.place id w)

@@ -5,9 +5,7 @@ use Rattle.hpx_steps.proofs.Mails.{other_is}
 use Rattle.hpx_steps.proofs.Records.{found_counted, one_recounted, places_still}
 
 lowered_stays : (k : ℕ) (old x : Record) (id : Id) → lowered old id ≡ Some x → StaysAt k old → StaysAt k x
-lowered_stays k old x id is at = if_so (old.count == credit id)
-    (λ t. absurd (let e : None ≡ Some x = rw t at is in cc))
-    (λ t. let e : Some (record old { count = old.count - credit id }) ≡ Some x = rw t at is in subst (StaysAt k) (some_same _ x e) (at.0, at.1))
+lowered_stays k old x id is at = grind arith
 
 lowered_count : (old : Record) (id : Id) (count : ℕ) → count + credit id ≡ old.count → option_map_or (λ (r : Record). r.count) (lowered old id) 0 ≡ count
 lowered_count old id count sum = if_so (old.count == credit id) (λ t. rw t (let e = eqb-true old.count (credit id) t in omega (arith, e, sum))) (λ t. rw t (omega (arith, sum)))

@@ -34,40 +34,13 @@ module _ (n : ℕ) where
 module _ (t : Tables) (act : Act) where
   -- its object is a root or of this home, and stands here
   stands_so : is_lost t (target_of act) ≡ false → (target_of act).home ≡ t.here → stands_here t (target_of act) ≡ true
-  stands_so lost home = not_lost (nat_lt (target_of act).kind 16) (stands_here t (target_of act)) (is_live t (target_of act)) ((target_of act).home == t.here) lost
-      (eq-eqb (target_of act).home t.here home)
-    where
-      not_lost : (low here live home : Bool) → cond low (not here) (home && not (live && here)) ≡ false → home ≡ true → here ≡ true
-      not_lost low true live home h e = refl
-      not_lost true false live home h e = cc
-      not_lost false false live true h e = absurd (none live h)
-        where
-          none : (b : Bool) → not (b && false) ≡ false → ⊥
-          none true k = cc
-          none false k = cc
-      not_lost false false live false h e = cc
+  stands_so lost home = grind arith
 
   stays_apply : act.code ≢ 1 → broken_act t (Apply act) act ≡ None → (target_of act).home ≡ t.here → may_stay t act ≡ true
-  stays_apply code right home = if_so (is_lost t (target_of act))
-      (λ l. absurd (let e : breaks 8 (Apply act) (length t.records) ≡ None = rw l at right in cc))
-      (λ l. ap (λ b. not (moves_on t.here (cond (b && is_movable (target_of act).kind) (place_in act.args) None)) && stands_here t (target_of act)) (ne_eqb act.code 1 code) ∙ stands_so l home)
+  stays_apply code right home = grind arith
 
   stays_move : act.code ≡ 1 → broken_move t (Move act) act ≡ None → (target_of act).home ≡ t.here → may_stay t act ≡ true
-  stays_move code right home = elim (cases_Bool (is_lost t (target_of act) || (((target_of act).home == t.here) && not (is_to_here t act)))) [
-    | inl l ↦ absurd (let e : breaks 8 (Move act) (length t.records) ≡ None = rw l at right in cc)
-    | inr l ↦
-        let parts = none_of (is_lost t (target_of act)) (((target_of act).home == t.here) && not (is_to_here t act)) l in
-        let here : ((target_of act).home == t.here) ≡ true = eq-eqb (target_of act).home t.here home in
-        let to : not (is_to_here t act) ≡ false = rw here at parts.1 in
-        both (moves_on t.here (move_to act)) (stands_here t (target_of act)) (to_here (move_to act) to) (stands_so parts.0 home)
-  ]
-    where
-      both : (a b : Bool) → a ≡ false → b ≡ true → (not a && b) ≡ true
-      both a b e f = rw (e, f) refl
-
-      to_here : (k : Option ℕ) → not (is_to t.here k) ≡ false → moves_on t.here k ≡ false
-      to_here None h = refl
-      to_here (Some x) h = h
+  stays_move code right home = grind arith
 
 -- a message may be accepted in whose hand is no action, or one that may stay
 same_deals : (p : Parcel) (t t' : Tables) → ((act : Act) → (p ≡ Apply act) ⊎ (p ≡ Move act) → may_stay t act ≡ true) → (DealsWith p t t' → Accepts p t t') × (Accepts p t t' → DealsWith p t t')
@@ -187,8 +160,7 @@ module _ (act_of : ℕ → ℕ → ℕ → State → Act → Outcome) (t t' : Ta
 
     -- where the first is taken from it, the rest of the tables is as it was
     popped : (o : Id) → p ≡ Free o → held_here (record t { desk = rest }) o ≡ held_here t o
-    popped o is = sym (ap (λ ds. held_here (record t { desk = ds }) o) (first ∙ ap (λ q. q ∷ rest) is)
-        ∙ omega (arith, sum_by-cons (λ q. credit_in o (ids_held q)) (Free o) (rest ++ map (λ (x : Outgoing). x.parcel) t.outgoing)))
+    popped o is = grind arith
 
     -- its action may stay
     stays : (act : Act) → (p ≡ Apply act) ⊎ (p ≡ Move act) → may_stay (record t { desk = rest }) act ≡ true

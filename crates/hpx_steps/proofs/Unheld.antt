@@ -43,9 +43,7 @@ module _ (o : Id) where
   parcel_worth (Free id) h = omega (arith, bare_holds id h.0)
 
   one_name : 16 ≤ o.kind → (act : Act) (ids : List Id) → act.ids ≡ ids → acts_on o act ≡ true → 1 ≤ act_names o act
-  one_name managed act [] e h =
-      let k : same_object o session ≡ true = rw e at h in
-      absurd (let kind : o.kind ≡ 1 = ap (λ (x : Id). x.kind) (same_object-true o session k) in omega (arith, managed, kind))
+  one_name managed act [] e h = grind arith
   one_name managed act (id ∷ ids) e h =
       let k : same_object o id ≡ true = rw e at h in
       rw e (omega (arith, sum_by-cons (λ x. cond (same_object o x) 1 0) id ids, ap {B = ℕ} (λ b. cond b 1 0) k))
