@@ -67,8 +67,4 @@ credit_tokens f (id ∷ ids) = each (credit_tokens f ids) id.log refl
 
 pub all_with : (ids : List Id) → AllByRecursion HasRightCredit ids → AllByRecursion HasRightCredit (with_credit ids)
 all_with [] h = tt
-all_with (id ∷ ids) h = each (is_some id.log) (all_with ids h.1)
-  where
-    each : (b : Bool) → AllByRecursion HasRightCredit (with_credit ids) → AllByRecursion HasRightCredit (cond b (id ∷ with_credit ids) (with_credit ids))
-    each true rest = (h.0, rest)
-    each false rest = rest
+all_with (id ∷ ids) h = grind (arith, Bool, all_with ids h.1)

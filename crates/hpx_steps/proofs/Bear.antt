@@ -76,13 +76,7 @@ module _ (r : Rules) (s : Turn) (entries : List Entry) (h : IsSound r s entries)
 
   counts_more : (x : Id) → x.home ≡ s.tables.here → count_in (find (is_recorded x) (map counted (s.tables.records ++ made ∷ [])))
       ≡ cond (same_object x o) (2 ^ r.credit_log) (count_in (find (is_recorded x) (map counted s.tables.records)))
-  counts_more x at = found_counted x (s.tables.records ++ made ∷ []) ∙ (ap (λ (k : Option Record). option_map_or (λ (y : Record). y.count) k 0) (found_more x)
-      ∙ (each (same_object x o) ∙ ap (λ n. cond (same_object x o) (2 ^ r.credit_log) n) (sym (found_counted x s.tables.records))))
-    where
-      each : (b : Bool) → option_map_or (λ (y : Record). y.count) (cond b (Some made) (find_record x s.tables.records)) 0
-          ≡ cond b (2 ^ r.credit_log) (option_map_or (λ (y : Record). y.count) (find_record x s.tables.records) 0)
-      each true = ap (λ n. 2 ^ n) (sym h.rules.credit_log)
-      each false = refl
+  counts_more x at = grind (arith, found_counted, Option, found_more, Bool)
 
   places_now : HasPlaces s.tables.here (s.tables.births + 1) (s.tables.objects ++ new ∷ []) (s.tables.records ++ made ∷ [])
   places_now = record {

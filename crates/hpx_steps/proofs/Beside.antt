@@ -23,9 +23,7 @@ module _ (objects : List Standing) (j : ℕ) (act : Act) (old new : Standing) (s
     (same : same_object (target_of act) old.object ≡ true) (name : new.object ≡ old.object) (plain : old.object.kind ≡ 7 → new ≡ old) where
   found_set : (o : Id) (x : Standing) → (same_object o old.object ≡ true → old.object.kind ≡ 7) → find (is_standing o) objects ≡ Some x
       → find (is_standing o) (set objects j new) ≡ Some x
-  found_set o x is_plain found = if_so (same_object o old.object)
-      (λ t. ap (λ y. find (is_standing o) (set objects j y)) (plain (is_plain t)) ∙ (ap (find (is_standing o)) (set_same objects j old stands) ∙ found))
-      (λ f. find_set (is_standing o) objects j old new stands f (ap (same_object o) name ∙ f) ∙ found)
+  found_set o x is_plain found = grind (arith, if_so, set_same, old, find_set)
 
   -- only a plain object has other fired actions
   only_plain : (w : Waits) → keeps (target_of act) w.job.action ≡ false → same_object (target_of w.job.action) old.object ≡ true → old.object.kind ≡ 7

@@ -29,10 +29,7 @@ among_right x (z ∷ zs) ys m = inr (among_right x zs ys m)
 pub among_either : {X : Type 0} (x : X) (xs ys : List X) → Among x (xs ++ ys) → Among x xs ⊎ Among x ys
 among_either x [] ys m = inr m
 among_either x (z ∷ zs) ys (inl e) = inl (inl e)
-among_either x (z ∷ zs) ys (inr m) = elim (among_either x zs ys m) [
-  | inl a ↦ inl (inr a)
-  | inr b ↦ inr b
-]
+among_either x (z ∷ zs) ys (inr m) = grind (arith, m, among_either x zs ys m)
 
 among_removed : {X : Type 0} (xs : List X) (i : ℕ) (x : X) → Among x (remove xs i) → Among x xs
 among_removed [] zero x m = m
@@ -46,10 +43,7 @@ among_set [] i y x m = absurd m
 among_set (z ∷ zs) zero y x (inl e) = inr e
 among_set (z ∷ zs) zero y x (inr m) = inl (inr m)
 among_set (z ∷ zs) (suc i) y x (inl e) = inl (inl e)
-among_set (z ∷ zs) (suc i) y x (inr m) = elim (among_set zs i y x m) [
-  | inl a ↦ inl (inr a)
-  | inr e ↦ inr e
-]
+among_set (z ∷ zs) (suc i) y x (inr m) = grind (arith, i, m, among_set zs i y x m)
 
 among_map : {X : Type 0} (c : X → Item) (x : X) (xs : List X) → Among x xs → Among (c x) (map c xs)
 among_map c x [] m = m
@@ -85,10 +79,7 @@ Changes out into s s' = Sums out into s s' × Comes into s s'
 
 -- what holds of all, and of those that come, holds of all then
 pub holding : (P : Item → Type 0) (into : List Item) (s s' : Turn) → Comes into s s' → Holds P s → AllByRecursion P into → Holds P s'
-holding P into s s' k h new i m = elim (k i m) [
-  | inl a ↦ h i a
-  | inr b ↦ among_all P i into b new
-]
+holding P into s s' k h new i m = grind (arith, among_all)
 
 -- one change after another
 pub then : (out into out' into' : List Item) (s m s' : Turn) → Changes out into s m → Changes out' into' m s' → Changes (out ++ out') (into ++ into') s s'

@@ -36,20 +36,7 @@ pub ends_so : (s : Turn) (w : Waits) (rest : List Waits) (j : ℕ) (x : Standing
     → find (is_standing (target_of w.job.action)) s.tables.objects ≡ Some x → IsKept (record { object = x.object; state = left.state }) → (x.object.kind ≡ 7 → left.state ≡ x.state)
     → AllByRecursion HasRightCredit left.state.ids → AllByRecursion IsFitDue left.due → AllByRecursion HasCredit left.loose → Deals w.hand left.state left.due left.loose
     → Ends s (name_of w.job.action) w rest j x left
-ends_so s w rest j x left due works lacks stands found kept plain credit fits given_up deals = record {
-  due = due;
-  works = works;
-  lacks = lacks;
-  name = refl;
-  stands = stands;
-  found = found;
-  kept = kept;
-  plain = plain;
-  credit = credit;
-  fits = fits;
-  given_up = all_right left.loose given_up;
-  deals = deals;
-}
+ends_so s w rest j x left due works lacks stands found kept plain credit fits given_up deals = grind (arith, all_right)
 
 -- ---- a commit with this in its hand, and these places named there
 

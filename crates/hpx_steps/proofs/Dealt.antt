@@ -11,11 +11,7 @@ right_at ids p lt h = all_at HasRightCredit ids p (id_at ids p) h (place_at ids 
 
 halves_right : (k p : ℕ) (st : Stock) → p < length st.hand → AllByRecursion HasRightCredit st.hand → AllByRecursion HasRightCredit (take_halves k p st).hand
 halves_right zero p st lt h = h
-halves_right (suc k) p st lt h =
-    let x : Id = id_at st.hand p in
-    let right : HasRightCredit (half x) = half_right x (right_at st.hand p lt h) in
-    halves_right k p (take_half p st) (omega (arith, lt, length-set st.hand p (half x), length-append (set st.hand p (half x)) (half x ∷ [])))
-    (all_append HasRightCredit (set st.hand p (half x)) (half x ∷ []) (all_set HasRightCredit st.hand p (half x) h right) (right, tt))
+halves_right (suc k) p st lt h = grind (arith, half_right, right_at, length-set, length-append, all_append, all_set, halves_right k p (take_half p st))
 
 -- all that is to be halved before place p, and behind n places, is named once at most
 pub record IsLow (n p : ℕ) (st : Stock) : Type 0 where

@@ -305,10 +305,7 @@ module _ (r : Rules) (s : Turn) (entries : List Entry) (h : IsSound r s entries)
         (ap (list_any (same_object o)) (sym (map-append bare w.job.state.ids w.job.action.ids)) ∙ (any_bare o (ids_named w) ∙ its.refused o was_refused)))
 
     some_refused : list_any (is_refused (bare_act act) (bare_standing x).state) (refusals_of (commits s)) ≡ true
-    some_refused =
-        ap (list_any (is_refused (bare_act act) (bare_standing x).state)) refusals_split
-        ∙ (ap (λ k. list_any (is_refused (bare_act act) (bare_standing x).state) (refusal_of w.job.action k ++ refusals_of (rest ++ s.tables.pending))) was_refused
-        ∙ rw (same_name-refl (name_of w.job.action), named) refl)
+    some_refused = grind (arith, refusals_split, same_name-refl, named)
 
     pub failed_keeps : Keeps r s failed (Done (name_of w.job.action) true)
     failed_keeps = done_keeps true (

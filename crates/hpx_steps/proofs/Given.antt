@@ -154,13 +154,7 @@ module _ (r : Rules) (s : Turn) (entries : List Entry) (h : IsSound r s entries)
   refusing act = record { action = name_of act; object = bare id }
 
   among_fired : (f : Refusal → ℕ) → f (refusing (bare_act w.job.action)) ≤ sum_by f (map refusing (view s).fired)
-  among_fired f = omega (
-    arith,
-    map_sum f refusing (view s).fired,
-    map_sum (λ a. f (refusing a)) bare_act (fired_of s.tables.running (commits s)),
-    fired_sum (λ a. f (refusing (bare_act a))) s,
-    less_sum (λ (y : Waits). f (refusing (bare_act y.job.action))) s.tables.pending i w there,
-  )
+  among_fired f = grind (arith, map_sum, commits, fired_sum, less_sum, i, there)
 
   refused_more : (f : Refusal → ℕ) → sum_by f (refusals_of (commits now))
       ≤ sum_by f (cond (log == 0) (map refusing (view s).fired) [] ++ refusals_of (commits s))

@@ -32,11 +32,7 @@ names_place xs ys e p = sym (at xs p) ∙ (ap (λ zs. id_at zs p) e ∙ at ys p)
 pub any_place : (o : Id) (ids : List Id) (p : ℕ) → p < length ids → bare o ≡ bare (id_at ids p) → list_any (same_object o) ids ≡ true
 any_place o [] p lt same = absurd (omega (arith, lt))
 any_place o (x ∷ xs) zero lt same = grind arith
-any_place o (x ∷ xs) (suc p) lt same = rw (any_place o xs p (omega (arith, lt)) same) (or_true (same_object o x))
-  where
-    or_true : (b : Bool) → (b || true) ≡ true
-    or_true true = refl
-    or_true false = refl
+any_place o (x ∷ xs) (suc p) lt same = grind (arith, Bool, any_place o xs p)
 
 -- ---- another id at a place
 

@@ -49,6 +49,4 @@ module _ (r : Rules) (s : Turn) (entries : List Entry) (h : IsSound r s entries)
   }
 
 pub line_step : (r : Rules) (s s' : Turn) (entries : List Entry) (a : Name) (bytes : List ℕ) → IsSound r s entries → Feeds s a bytes s' → Keeps r s s' (Line a bytes)
-line_step r s s' entries a bytes h g =
-    told_as r s s' (λ n. Line n bytes) (λ n. posts (line_act n bytes) (draws s)) a (record { origin = s.tables.here; serial = s.tables.serial + 1 }) g.name g.now
-    (line_keeps r s entries h bytes g.calm.due g.calm.fresh g.here g.short)
+line_step r s s' entries a bytes h g = grind (arith, told_as, line_keeps)

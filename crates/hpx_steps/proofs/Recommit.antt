@@ -58,20 +58,15 @@ pub first_map : (g : Id → Id) (n p : ℕ) (hand more : List Id) (x y : Id) →
     → map g (take n (set hand p y ++ more)) ≡ map g (take n hand)
 first_map g zero p hand more x y at same le = refl
 first_map g (suc n) p [] more x y at same le = absurd (cc)
-first_map g (suc n) zero (z ∷ hand) more x y at same le =
-    let e : z ≡ x = some_same z x at in
-    ap (λ k. k ∷ map g (take n (hand ++ more))) (same ∙ ap g (sym e)) ∙ ap (λ ks. g z ∷ map g ks) (take-append-le n hand more (omega (arith, le)))
+first_map g (suc n) zero (z ∷ hand) more x y at same le = grind (arith, some_same, hand, take-append-le)
 first_map g (suc n) (suc p) (z ∷ hand) more x y at same le = ap (λ ks. g z ∷ ks) (first_map g n p hand more x y at same (omega (arith, le)))
 
 pub first_asked : (n p : ℕ) (hand more : List Id) (x y : Id) → slice_get hand p ≡ Some x → is_asked x ≡ false → is_asked y ≡ false → n ≤ length hand
     → filter is_asked (take n (set hand p y ++ more)) ≡ filter is_asked (take n hand)
 first_asked zero p hand more x y at a b le = refl
 first_asked (suc n) p [] more x y at a b le = absurd (cc)
-first_asked (suc n) zero (z ∷ hand) more x y at a b le =
-    let e : is_asked z ≡ false = ap is_asked (some_same z x at) ∙ a in
-    rw (b, e) (ap (filter is_asked) (take-append-le n hand more (omega (arith, le))))
-first_asked (suc n) (suc p) (z ∷ hand) more x y at a b le =
-    ap (λ ks. cond (is_asked z) (z ∷ ks) ks) (first_asked n p hand more x y at a b (omega (arith, le)))
+first_asked (suc n) zero (z ∷ hand) more x y at a b le = grind (arith, some_same, take-append-le, hand)
+first_asked (suc n) (suc p) (z ∷ hand) more x y at a b le = grind (arith, hand, first_asked n p hand more x y at a b)
 
 -- at each of these places an id is asked for as before
 pub first_at : (n p q : ℕ) (hand more : List Id) (x y : Id) → slice_get hand p ≡ Some x → is_asked y ≡ is_asked x → q < n → n ≤ length hand

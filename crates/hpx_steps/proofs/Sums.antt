@@ -35,8 +35,7 @@ weighs f ids = sum_by f (tokens_of ids)
 
 module _ (f : Token → ℕ) where
   pub ids_append : (xs ys : List Id) → sum_by f (tokens_of (xs ++ ys)) ≡ sum_by f (tokens_of xs) + sum_by f (tokens_of ys)
-  ids_append xs ys = ap (sum_by f) (ap (map held) (credits_append xs ys) ∙ map-append held (credits_of xs) (credits_of ys))
-      ∙ sum_by-append f (tokens_of xs) (tokens_of ys)
+  ids_append xs ys = grind (arith, credits_append, map-append, sum_by-append)
 
   pub ids_flat : {X : Type 0} (g : X → List Id) (xs : List X) → sum_by f (tokens_of (flat_map g xs)) ≡ sum_by (λ x. sum_by f (tokens_of (g x))) xs
   ids_flat g [] = refl
@@ -62,9 +61,7 @@ zeros (x ∷ xs) = omega (arith, sum_by-cons (λ y. 0) x xs, zeros xs)
 
 pub parcels_sum : (w : Parcel → ℕ) (s : Turn) → sum_by w (parcels s)
     ≡ sum_by w s.came + sum_by w s.mailed + sum_by w s.tables.desk + sum_by (λ (x : Outgoing). w x.parcel) s.tables.outgoing
-parcels_sum w s =
-    let outs = map (λ (x : Outgoing). x.parcel) s.tables.outgoing in
-    omega (arith, sum_by-append w, map_sum w (λ (x : Outgoing). x.parcel) s.tables.outgoing)
+parcels_sum w s = grind (arith, sum_by-append, map_sum)
 
 -- what is seen of messages
 pub seen_sum : {Y : Type 0} (f : Y → ℕ) (h : Parcel → List Y) (s : Turn)
@@ -111,19 +108,7 @@ own_sum f h s =
 
 -- all tokens
 pub view_worth : (f : Token → ℕ) (s : Turn) → sum_by f (tokens s) ≡ weigh (worth f) s
-view_worth f s = omega (
-  arith,
-  sum_by-append f (tokens_of (ids_here s)) (flat_map parcel_tokens (parcels s)),
-  flat_sum f parcel_tokens (parcels s),
-  parcels_sum (λ p. sum_by f (parcel_tokens p)) s,
-  ids_append f,
-  ids_flat f (λ (x : Standing). x.state.ids) s.tables.objects,
-  ids_flat f (λ (a : Act). a.ids),
-  ids_flat f (λ (w : Waits). w.hand) (commits s),
-  sum_by-append (λ (w : Waits). sum_by f (tokens_of w.hand)) s.working s.tables.pending,
-  ids_flat f due_ids s.due,
-  ids_each f s.loose,
-)
+view_worth f s = grind (arith, sum_by-append, flat_sum, parcels_sum, ids_append, ids_flat, commits, ids_each)
 
 -- a weight of commits
 abbrev pub by_commit : (Waits → ℕ) → Item → ℕ

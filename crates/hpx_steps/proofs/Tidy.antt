@@ -23,6 +23,4 @@ none_long [] h = refl
 none_long (x ∷ xs) h = absurd (omega (arith, h))
 
 pub plain_ids : (x : Standing) → IsKept x → x.object.kind ≡ 7 → x.state.ids ≡ []
-plain_ids x kept kind =
-    let p = kept.plain kind in
-    none_long x.state.ids (omega (arith, kept.state.ids, ap (λ vs. length (refs_in vs)) p.0, ap (λ cs. length cs) p.1))
+plain_ids x kept kind = grind (arith, none_long)

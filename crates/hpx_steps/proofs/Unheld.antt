@@ -111,14 +111,7 @@ module _ (o : Id) where
     none_accepted = no_acts managed (map bare_act s.tables.accepted) (omega (arith, names_none))
 
     pub none_waits : (p : Parcel) → HasInHand p s → parcel_acts p ≡ [] → list_any (acts_on o) (waiting s) ≡ false
-    none_waits p hand empty = no_acts managed (waiting s) (omega (
-      arith,
-      names_none,
-      ap (sum_by (act_names o)) (sym (drop_waits p s hand empty)),
-      sum_by-append (act_names o) (map bare_act s.tables.accepted) (flat_map parcel_acts (messages s.tables)),
-    ))
+    none_waits p hand empty = grind (arith, no_acts, managed, names_none, act_names, drop_waits, sum_by-append)
 
     pub none_fired : waits_here s.tables o ≡ false → s.working ≡ [] → list_any (acts_on o) (view s).fired ≡ false
-    none_fired idle alone =
-        ap (λ ws. list_any (acts_on o) (map bare_act (fired_of s.tables.running (ws ++ s.tables.pending)))) alone
-        ∙ fired_none s.tables.running s.tables.pending (no_acts managed (map bare_act s.tables.running) (omega (arith, names_none))) idle
+    none_fired idle alone = grind (arith, fired_none, no_acts, managed, names_none)
