@@ -108,7 +108,19 @@ own_sum f h s =
 
 -- all tokens
 pub view_worth : (f : Token → ℕ) (s : Turn) → sum_by f (tokens s) ≡ weigh (worth f) s
-view_worth f s = grind (arith, sum_by-append, flat_sum, parcels_sum, ids_append, ids_flat, commits, ids_each)
+view_worth f s = omega (
+  arith,
+  sum_by-append f (tokens_of (ids_here s)) (flat_map parcel_tokens (parcels s)),
+  flat_sum f parcel_tokens (parcels s),
+  parcels_sum (λ p. sum_by f (parcel_tokens p)) s,
+  ids_append f,
+  ids_flat f (λ (x : Standing). x.state.ids) s.tables.objects,
+  ids_flat f (λ (a : Act). a.ids),
+  ids_flat f (λ (w : Waits). w.hand) (commits s),
+  sum_by-append (λ (w : Waits). sum_by f (tokens_of w.hand)) s.working s.tables.pending,
+  ids_flat f due_ids s.due,
+  ids_each f s.loose,
+)
 
 -- a weight of commits
 abbrev pub by_commit : (Waits → ℕ) → Item → ℕ
