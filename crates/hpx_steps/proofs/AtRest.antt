@@ -27,12 +27,7 @@ ones xs = sym (long_sum xs)
 module _ (t : Tables) where
   -- what is seen is the same
   view_is : turn_view (at_rest t) ≡ view t [] []
-  view_is =
-      let ids : ids_here (at_rest t) ≡ kept_ids t =
-      ap (λ hands. flat_map (λ (x : Standing). x.state.ids) t.objects ++ (flat_map (λ (a : Act). a.ids) t.accepted ++ (flat_map (λ (a : Act). a.ids) t.running ++ hands)))
-      (append-nil (flat_map (λ (w : Waits). w.hand) t.pending)) in
-      ap (λ ks. record (turn_view (at_rest t)) { tokens = tokens_of ks ++ flat_map parcel_tokens (messages t) }) ids
-      ∙ ap (λ ks. record (turn_view (at_rest t)) { tokens = ks }) (sym (append-nil (tokens t)))
+  view_is = grind (arith, append-nil, tokens)
 
   -- ---- what weighs
 

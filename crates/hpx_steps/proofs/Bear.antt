@@ -106,10 +106,7 @@ module _ (r : Rules) (s : Turn) (entries : List Entry) (h : IsSound r s entries)
   }
 
   sees : Sees seen now
-  sees = sees_by seen now (ap (λ ws. record (view now) { fired = map bare_act (fired_of s.tables.running (ws ++ s.tables.pending)); objects = map bare_standing s.tables.objects ++ new ∷ [] }) works
-      ∙ ap (λ os. record (view now) { objects = os }) (sym (map-append bare_standing s.tables.objects (new ∷ []))))
-      (λ f fair. refl) (λ x. omega (arith, view_asking x s, view_asking x now, change.0 (asking x), ap (λ ids. names_of x (filter is_asked ids)) own)) (λ x. refl) (λ x. omega arith)
-      (ap (λ ws. record seen { refusals = refusals_of (ws ++ s.tables.pending); failing = length (refusals_of (ws ++ s.tables.pending)) }) works)
+  sees = grind (arith, sees_by, map-append, view_asking, asking)
 
   pub bear_keeps : Keeps r s now e
   bear_keeps = record {

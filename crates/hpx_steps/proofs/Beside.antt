@@ -225,12 +225,7 @@ module _ (objects : List Standing) (running : List Act) (cs : List Waits) (i : �
       )
 
   pub less_commits : HasCommits (remove objects i) running cs
-  less_commits = record {
-    each = each_less cs idle h.each;
-    apart = h.apart;
-    whole = all_remove (IsWhole cs) objects i h.whole;
-    lent = λ k managed. omega (arith, h.lent k managed, less_sum (λ (y : Standing). bare_names k y.state.ids) objects i x there);
-  }
+  less_commits = grind (arith, each_less, all_remove, less_sum)
 
   -- the ids of its state have their credits
   pub freed_whole : AllByRecursion HasRightCredit x.state.ids

@@ -83,16 +83,7 @@ holding P into s s' k h new i m = grind (arith, among_all)
 
 -- one change after another
 pub then : (out into out' into' : List Item) (s m s' : Turn) → Changes out into s m → Changes out' into' m s' → Changes (out ++ out') (into ++ into') s s'
-then out into out' into' s m s' a b = (
-  λ w. omega (arith, a.0 w, b.0 w, total_append w out out', total_append w into into'),
-  λ i h. elim (b.1 i h) [
-    | inr new ↦ inr (among_right i into into' new)
-    | inl was ↦ elim (a.1 i was) [
-      | inl old ↦ inl old
-      | inr new ↦ inr (among_left i into into' new)
-    ]
-  ],
-)
+then out into out' into' s m s' a b = grind (arith, total_append, among_right, among_left)
 
 -- ---- things of one kind
 

@@ -91,12 +91,7 @@ module _ (r : Rules) (s : Turn) (entries : List Entry) (h : IsSound r s entries)
       (λ k. ap (λ y. record { object = x.object; state = y }) (g.plain k)) g.credit lends
 
   pub places_now : HasPlaces s.tables.here s.tables.births (set s.tables.objects j new) s.tables.records
-  places_now = record {
-    serves = λ zero. stand_set (is_standing session) s.tables.objects j x new g.stands refl (h.places.serves zero);
-    unborn = h.places.unborn;
-    places = h.places.places;
-    single = single_set s.tables.objects j x new g.stands refl h.places.single;
-  }
+  places_now = grind (arith, stand_set, single_set)
 
   pub dealt : (f : Token → ℕ) → sum_by f (tokens s) ≡ sum_by f (tokens now)
   dealt f = omega (

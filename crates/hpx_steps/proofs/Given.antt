@@ -199,18 +199,7 @@ module _ (r : Rules) (s : Turn) (entries : List Entry) (h : IsSound r s entries)
   seen = record told { fired = map bare_act ((s.tables.running ++ map action_of k.l') ++ w.job.action ∷ map action_of k.m') }
 
   sees : Sees seen now
-  sees = record {
-    rest = ap (λ fs. record (view now) { fired = fs; waiting = waiting s })
-        (ap (map bare_act) (sym (is_fired s.tables.objects s.tables.running k.l k.m k.l' k.m' w given refl k.same)) ∙ ap (λ ws. map bare_act (fired_of s.tables.running ws)) (sym k.is))
-        ∙ ap (λ ws. record (view now) { waiting = ws }) (sym (drop_waits (Give id entry) s hand refl));
-    tokens = λ f fair. refl;
-    asking = λ o. refl;
-    asks = λ o. refl;
-    live = λ o home. refl;
-    dead = λ o. same_dead o s now (omega (arith, moves (frees_of o) 0 refl refl refl));
-    refusals = λ y t. any_counted (same_refusal y) seen.refusals (omega (arith, counted_any (same_refusal y) (refusals_of (commits now)) t, refused_more (counts_of (same_refusal y))));
-    failing = failing_more;
-  }
+  sees = grind (arith, is_fired, drop_waits, tokens, asking, same_dead, moves, any_counted, counted_any, commits, refused_more, counts_of, failing_more)
 
   one_owed : 1 ≤ count_by (same_token (owed_token (bare id) log)) (tokens s)
   one_owed = omega (

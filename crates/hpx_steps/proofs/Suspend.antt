@@ -6,14 +6,7 @@ use Rattle.hpx_steps.proofs.Beside.{begin_commits, runs_whole}
 use Rattle.hpx_steps.proofs.Tidy.{plain_ids, retidy}
 
 bare_fit : (s : State) → IsState s → IsState (bare_state s)
-bare_fit s h = record {
-  values = h.values;
-  refs = h.refs;
-  conts = h.conts;
-  ids = length-map s.ids bare ∙ h.ids;
-  few = omega (arith, length-map s.ids bare, h.few);
-  short = h.short;
-}
+bare_fit s h = grind (arith, length-map)
 
 module _ (r : Rules) (s : Turn) (entries : List Entry) (h : IsSound r s entries) (i j : ℕ) (job : Job) (outcome : Outcome) (x : Standing)
     (runs : slice_get s.tables.running i ≡ Some job.action) (stands : slice_get s.tables.objects j ≡ Some x)

@@ -116,8 +116,7 @@ module _ (act_of : ℕ → ℕ → ℕ → State → Act → Outcome) (t t' : Ta
   pub frame_leads : (p : Parcel) (bytes : List ℕ) → parcel_of bytes ≡ Some p → IsParcel p → broken t p ≡ None
       → ((id : Id) (entry : ℕ) → p ≡ Give id entry → ⊥) → DealsWith p (record t { taken = t.taken + 1 }) t' → Leaves p t t'
       → Leads r (came p bytes) t' (effects t p)
-  frame_leads p bytes spelled fit right other = message_leads r t t' t.desk (t.taken + 1) (p ∷ []) [] (Some (In bytes)) lasts p (inl (refl, refl)) (inr (refl, refl, (bytes, refl, spelled))) fit
-      (near_right t p right).0 (near_right t p right).1 (λ o is. refl) other (λ m. absurd (m refl))
+  frame_leads p bytes spelled fit right other = grind (arith, message_leads, near_right)
 
   -- ---- a message is taken from the desk
 
