@@ -6,8 +6,7 @@ use Rattle.hpx_steps.proofs.Records.{found_counted, one_recounted, places_still}
 
 -- what a message weighs that is sent, on the desk or away
 sent_either : (w : Item → ℕ) (b : Bool) (to : ℕ) (p : Parcel) → total w (sent_if true b to p) ≡ cond b (w (Going (going to p))) (w (OnDesk p))
-sent_either w true to p = omega arith
-sent_either w false to p = omega arith
+sent_either w b to p = grind arith
 
 not_less : (a b : ℕ) → b ≤ a → nat_lt a b ≡ false
 not_less a b h = grind (arith, nat_tests)

@@ -17,8 +17,7 @@ pub no_bare : (o : Id) → 16 ≤ o.kind → (ids : List Id) → AllByRecursion 
 no_bare o managed ids h = omega (arith, held_or_bare o ids, held_ids o managed ids h)
 
 one_lent : (b : Bool) → ◌≡◌ {A = ℕ} (cond (b && true) 1 0) (cond b 1 0)
-one_lent true = refl
-one_lent false = refl
+one_lent b = grind arith
 
 pub lent_all : (o : Id) (ids : List Id) → bare_names o (map bare ids) ≡ names_of o ids
 lent_all o [] = refl

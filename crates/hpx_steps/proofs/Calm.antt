@@ -71,10 +71,8 @@ sees_by v s' rest tokens asking asks dead same = grind arith
 
 -- what counts nothing counts nothing to j
 pub bound_none : (b : Bool) (n : ℕ) → n ≡ 0 → ◌≡◌ {A = ℕ} (cond b n 0) 0
-bound_none true n e = e
-bound_none false n e = refl
+bound_none b n e = grind arith
 
 -- an own message asks nothing for others
 pub own_asks : (k log j : ℕ) → j ≢ k → (o : Id) (n : ℕ) (p : Parcel) → IsOwn k log p → asks_for j o n p ≡ 0
-own_asks k log j d o n (Ask id asker entry) own = rw (ne_eqb asker j (λ e. d (sym e ∙ own))) refl
-own_asks k log j d o n _ own = refl
+own_asks k log j d o n b own = grind arith

@@ -23,10 +23,7 @@ module _ (o : Id) (managed : 16 ≤ o.kind) where
 
   one_held : (id : Id) (log : Option ℕ) → MatchOption log (id.kind < 16) (λ x. 16 ≤ id.kind) → (b : Bool) → same_object o id ≡ b
       → sum_by holds (map held (credit_list id log ++ [])) ≡ cond b 1 0
-  one_held id None right true e = let k : 16 ≤ id.kind = same_kind id e in absurd (omega (arith, k, right))
-  one_held id None right false e = refl
-  one_held id (Some log) right true e = rw e refl
-  one_held id (Some log) right false e = rw e refl
+  one_held id b right c e = grind arith
 
   -- each id that names o has a held token
   pub held_ids : (ids : List Id) → AllByRecursion HasRightCredit ids → weighs holds ids ≡ names (map bare ids)
@@ -69,8 +66,7 @@ all_due (MessageDue m ∷ xs) h = (h.0.sent.credit, all_due xs h.1)
 all_due (PrintDue bytes ∷ xs) h = (tt, all_due xs h.1)
 
 due_bare : (x : Due) → due_ids (bare_due x) ≡ map bare (due_ids x)
-due_bare (MessageDue m) = refl
-due_bare (PrintDue bytes) = refl
+due_bare b = grind arith
 
 -- ids that name o have held tokens, or no credit
 pub held_or_bare : (o : Id) (ids : List Id) → count_by (same_object o) (map bare ids) ≡ weighs (held_counts o) ids + bare_names o ids

@@ -116,9 +116,7 @@ managed_tokens f (id ∷ ids) h = each (is_managed id) refl (managed_tokens f id
     each false m rest = omega (arith, rest, ids_append f (id ∷ []) ids, unmanaged f id m h.0)
 
 same_due : (due : List Due) → flat_map due_ids due ≡ flat_map ids_due due
-same_due [] = refl
-same_due (MessageDue m ∷ rest) = ap (λ ids. m.ids ++ ids) (same_due rest)
-same_due (PrintDue bytes ∷ rest) = same_due rest
+same_due b = grind arith
 
 -- where a hand is dealt to a state and to what is due, all credits of the hand, once its ids are halved, are there, or loose
 pub plan_deals : (hand : List Id) (places : List ℕ) (state : State) (due : List Due) → AreWithin hand places → AllByRecursion HasRightCredit hand

@@ -5,15 +5,11 @@ use Rattle.hpx_steps.proofs.Changes.{sent_if, total}
 -- a message that weighs the same on the desk and away
 pub sent_total : (w : Item → ℕ) (b other : Bool) (to : ℕ) (p : Parcel) (n : ℕ) → w (OnDesk p) ≡ n → w (Going (going to p)) ≡ n
     → total w (sent_if b other to p) ≡ cond b n 0
-sent_total w true true to p n a e = omega (arith, e)
-sent_total w true false to p n a e = omega (arith, a)
-sent_total w false other to p n a e = refl
+sent_total w b other to p n a e = grind arith
 
 sent_all : (P : Item → Type 0) (b other : Bool) (to : ℕ) (p : Parcel) → (b ≡ true → other ≡ false → P (OnDesk p))
     → (b ≡ true → other ≡ true → P (Going (going to p))) → AllByRecursion P (sent_if b other to p)
-sent_all P true true to p desk out = (out refl refl, tt)
-sent_all P true false to p desk out = (desk refl refl, tt)
-sent_all P false other to p desk out = tt
+sent_all b c other to p desk out = grind arith
 
 pub other_is : (t : Tables) (to : ℕ) → is_other t to ≡ true → (to < t.localities) × (to ≢ t.here)
 other_is t to h = search (arith, nat_tests, h)
@@ -44,9 +40,7 @@ hand_fit p s h (inr k) = (h (Mailed p) (rw k.1 (inl refl))).0
 -- ---- a credit that is there
 
 pub some_log : (kind : ℕ) (l : Option ℕ) → MatchOption l ⊥ (λ x. 16 ≤ kind) → l ≡ Some (log_of l)
-some_log kind None h = absurd h
-some_log kind (Some x) h = refl
+some_log kind b h = grind arith
 
 pub right_log : (kind : ℕ) (l : Option ℕ) → MatchOption l ⊥ (λ x. 16 ≤ kind) → MatchOption l (kind < 16) (λ x. 16 ≤ kind)
-right_log kind None h = absurd h
-right_log kind (Some x) h = h
+right_log kind b h = grind arith

@@ -6,16 +6,7 @@ use Rattle.hpx_steps.proofs.Waits.{acts_before}
 
 -- what may go may leave what is seen
 may_leave : (v : View) (to : ℕ) (p : Parcel) → FreesNone p → MayGoTo v.here to p → MayLeave v to p
-may_leave v to (Apply act) none may = tt
-may_leave v to (Move act) none may = tt
-may_leave v to (Return id) none may = may
-may_leave v to (Ask id asker entry) none may = may
-may_leave v to (Give id entry) none may = may
-may_leave v to (Free o) none may = absurd none
-may_leave v to (Cached o place) none may = absurd may
-may_leave v to (Go act) none may = absurd may
-may_leave v to (Shipped act state) none may = absurd may
-may_leave v to (Arrived id place) none may = absurd may
+may_leave v to b none may = grind arith
 
 module _ (r : Rules) (s : Turn) (entries : List Entry) (h : IsSound r s entries) (x : Outgoing) (rest : List Outgoing) (bytes : List ℕ) (due : s.due ≡ []) (fresh : s.fresh ≡ [])
     (first : s.tables.outgoing ≡ x ∷ rest) (spelled : r.parcel_of bytes ≡ Some x.parcel) where

@@ -32,8 +32,7 @@ put_less w stay other act n kept sent = each stay other
 
 -- by what messages weigh
 pub carried : (act : Act) (f : Parcel → ℕ) (n : ℕ) → f (Apply act) ≡ n → f (Move act) ≡ n → (p : Parcel) → (p ≡ Apply act) ⊎ (p ≡ Move act) → f p ≡ n
-carried act f n a b p (inl e) = ap f e ∙ a
-carried act f n a b p (inr e) = ap f e ∙ b
+carried act f n a b p c = grind arith
 
 pub both : (act : Act) (f : Parcel → ℕ) (n : ℕ) → f (Apply act) ≡ n → f (Move act) ≡ n → (p : Parcel) → (p ≡ Apply act) ⊎ (p ≡ Move act) → (f p ≡ n) × ((to : ℕ) → f p ≡ n)
 both act f n a b p e = (carried act f n a b p e, λ to. carried act f n a b p e)
@@ -58,12 +57,10 @@ move_to-bare : (act : Act) → move_to (bare_act act) ≡ move_to act
 move_to-bare act = ap (λ (o : Id). cond ((act.code == 1) && is_movable o.kind) (place_in act.args) None) (target-bare act)
 
 here_only : (k : ℕ) (to : Option ℕ) → moves_on k to ≡ false → IfSome to (λ x. x ≡ k)
-here_only k None h = tt
-here_only k (Some x) h = if_so (x == k) (λ b. eqb-true x k b) (λ b. absurd (let e : not false ≡ false = rw b at h in cc))
+here_only k b h = grind arith
 
 not_false : (b : Bool) → not b ≡ true → b ≡ false
-not_false true h = cc
-not_false false h = refl
+not_false b h = grind arith
 
 fit_parcel : (act : Act) → IsFit act → IsParcel (parcel_for act)
 fit_parcel act fit = grind arith

@@ -5,18 +5,14 @@ use Rattle.hpx_steps.proofs.Hands.{any_place, names_place, put_behind}
 
 -- one of log 0 is refused
 refused_some : (b : Bool) (o : Id) (was : Option Id) → b ≡ true → cond b (Some o) was ≢ None
-refused_some true o was e = λ none. cc
-refused_some false o was e = absurd (cc)
+refused_some b o was e = grind arith
 
 -- and stays so
 refused_still : (b : Bool) (o : Id) (was : Option Id) → was ≢ None → cond b (Some o) was ≢ None
-refused_still true o was h = λ none. cc
-refused_still false o was h = h
+refused_still b o was h = grind arith
 
 short_still : (log : ℕ) (b : Bool) (o : Id) (was : Option Id) (id : Id) → IsShort log was id → IsShort log (cond b (Some o) was) id
-short_still log b o was id (inl none) = inl none
-short_still log b o was id (inr (inl more)) = inr (inl more)
-short_still log b o was id (inr (inr least)) = inr (inr (least.0, refused_still b o was least.1))
+short_still log b o was id c = grind arith
 
 module _ (k l log : ℕ) (w : Waits) (n : ℕ) (ask : AskedFor) (id : Id) (entry : ℕ) (its : IsCommit k l w) (held : HasSplit log w)
     (there : slice_get w.asked n ≡ Some ask) (for : is_asked_for w id entry ask ≡ true) (credit : HasCredit id)

@@ -11,8 +11,7 @@ pub return_right : (t : Tables) (p : Parcel) (id : Id) (other : Option Broken) �
 return_right t p id other h = grind arith
 
 not_true : (b : Bool) → not b ≡ true → b ≡ false
-not_true true h = absurd (cc)
-not_true false h = refl
+not_true b h = grind arith
 
 pub free_right : (t : Tables) (p : Parcel) (o : Id) → broken_free t p o ≡ None → (stands_here t o ≡ true) × (waits_here t o ≡ false) × (held_here t o ≡ 0)
 free_right t p o h = grind arith

@@ -16,8 +16,7 @@ map_sum f g [] = refl
 map_sum f g (x ∷ xs) = omega (arith, map_sum f g xs, sum_by-cons f (g x) (map g xs), sum_by-cons (λ y. f (g y)) x xs)
 
 pub same_sum : {X : Type 0} (f g : X → ℕ) (xs : List X) → ((x : X) → f x ≡ g x) → sum_by f xs ≡ sum_by g xs
-same_sum f g [] same = refl
-same_sum f g (x ∷ xs) same = omega (arith, sum_by-cons f x xs, sum_by-cons g x xs, same x, same_sum f g xs same)
+same_sum f g b same = grind arith
 
 pub most_sum : {X : Type 0} (P : X → Type 0) (f g : X → ℕ) (xs : List X) → ((x : X) → P x → f x ≤ g x) → AllByRecursion P xs → sum_by f xs ≤ sum_by g xs
 most_sum P f g [] less h = omega arith

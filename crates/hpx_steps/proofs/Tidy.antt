@@ -5,17 +5,7 @@ use Rattle.hpx_steps.proofs.Objects.{stand}
 pub retidy : (k n log births births' : ℕ) (objects objects' : List Standing) → births ≤ births'
     → ((o : Id) → is_some (find (is_standing o) objects) ≡ true → is_some (find (is_standing o) objects') ≡ true)
     → (i : Item) → IsTidyIn k n log births objects i → IsTidyIn k n log births' objects' i
-retidy k n log births births' objects objects' le stand (Accepted act) h = (h.0, h.1, stand (target_of act) h.2)
-retidy k n log births births' objects objects' le stand (StandsHere x) h = (h.0, λ kind home. let low = h.1 kind home in omega (arith, low, le))
-retidy k n log births births' objects objects' le stand (Came p) h = h
-retidy k n log births births' objects objects' le stand (Mailed p) h = h
-retidy k n log births births' objects objects' le stand (OnDesk p) h = h
-retidy k n log births births' objects objects' le stand (Going x) h = h
-retidy k n log births births' objects objects' le stand (Running act) h = h
-retidy k n log births births' objects objects' le stand (Pending w) h = h
-retidy k n log births births' objects objects' le stand (Working w) h = h
-retidy k n log births births' objects objects' le stand (IsDue d) h = h
-retidy k n log births births' objects objects' le stand (Loose id) h = h
+retidy k n log births births' objects objects' le stand b h = grind arith
 
 -- an object of kind Plain keeps no ids
 none_long : {X : Type 0} (xs : List X) → length xs ≡ 0 → xs ≡ []
