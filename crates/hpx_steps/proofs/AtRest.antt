@@ -47,15 +47,7 @@ module _ (t : Tables) where
           (zeros t.accepted) (zeros t.accepted) (ones t.accepted) (λ o. zeros t.accepted)
 
   hopping_is : weigh hopping (at_rest t) ≡ sum_by (weight Actions) (messages t)
-  hopping_is = omega (
-    arith,
-    sum_by-append (weight Actions) t.desk (map (λ (x : Outgoing). x.parcel) t.outgoing),
-    map_sum (weight Actions) (λ (x : Outgoing). x.parcel) t.outgoing,
-    zeros t.accepted,
-    zeros t.running,
-    zeros t.pending,
-    zeros t.objects,
-  )
+  hopping_is = search (arith, sum_by-append, map_sum, zeros)
 
   joined_is : weigh joined (at_rest t) ≡ length t.accepted
   joined_is = omega (arith, zeros t.desk, zeros t.outgoing, ones t.accepted, zeros t.running, zeros t.pending, zeros t.objects)

@@ -21,13 +21,7 @@ one_lent b = grind arith
 
 pub lent_all : (o : Id) (ids : List Id) → bare_names o (map bare ids) ≡ names_of o ids
 lent_all o [] = refl
-lent_all o (id ∷ ids) = omega (
-  arith,
-  lent_all o ids,
-  one_lent (same_object o id),
-  sum_by-cons (λ (y : Id). cond (same_object o y && not (is_some y.log)) 1 0) (bare id) (map bare ids),
-  sum_by-cons (λ (y : Id). cond (same_object o y) 1 0) id ids,
-)
+lent_all o (id ∷ ids) = search (arith, one_lent, sum_by-cons, lent_all o ids)
 
 pub no_tokens : (f : Token → ℕ) (ids : List Id) → sum_by f (tokens_of (map bare ids)) ≡ 0
 no_tokens f [] = refl

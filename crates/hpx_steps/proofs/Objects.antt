@@ -93,8 +93,7 @@ single_more (x ∷ xs) y single other = (none_more (is_standing x.object) xs y s
 pub single_found : (xs : List Standing) (j : ℕ) (x : Standing) (o : Id) → Single xs → slice_get xs j ≡ Some x → same_object o x.object ≡ true
     → find (is_standing o) xs ≡ Some x
 single_found [] j x o single at same = cc
-single_found (z ∷ xs) zero x o single at same =
-    let e : z ≡ x = some_same z x at in rw (e, same) refl
+single_found (z ∷ xs) zero x o single at same = cc
 single_found (z ∷ xs) (suc j) x o single at same =
     let f : same_object z.object x.object ≡ false = none_passes (is_standing z.object) xs j x single.0 at in
     let g : same_object o z.object ≡ false =

@@ -65,18 +65,7 @@ parcels_sum w s = grind (arith, sum_by-append, map_sum)
 -- what is seen of messages
 pub seen_sum : {Y : Type 0} (f : Y → ℕ) (h : Parcel → List Y) (s : Turn)
     → sum_by f (flat_map h (parcels s)) ≡ weigh (by_parcel (λ p. sum_by f (h p))) s
-seen_sum f h s = omega (
-  arith,
-  flat_sum f h (parcels s),
-  parcels_sum (λ p. sum_by f (h p)) s,
-  zeros s.tables.accepted,
-  zeros s.tables.running,
-  zeros s.tables.pending,
-  zeros s.working,
-  zeros s.tables.objects,
-  zeros s.due,
-  zeros s.loose,
-)
+seen_sum f h s = search (arith, flat_sum, parcels_sum, zeros)
 
 -- a weight of own messages
 abbrev pub by_own : (Parcel → ℕ) → Item → ℕ
@@ -87,23 +76,7 @@ by_own w _ = 0
 
 pub own_sum : {Y : Type 0} (f : Y → ℕ) (h : Parcel → List Y) (s : Turn)
     → sum_by f (flat_map h (own_parcels s)) ≡ weigh (by_own (λ p. sum_by f (h p))) s
-own_sum f h s =
-    let w : Parcel → ℕ = λ p. sum_by f (h p) in
-    let outs = map (λ (x : Outgoing). x.parcel) s.tables.outgoing in
-    omega (
-      arith,
-      flat_sum f h (own_parcels s),
-      sum_by-append w,
-      map_sum w (λ (x : Outgoing). x.parcel) s.tables.outgoing,
-      zeros s.came,
-      zeros s.tables.accepted,
-      zeros s.tables.running,
-      zeros s.tables.pending,
-      zeros s.working,
-      zeros s.tables.objects,
-      zeros s.due,
-      zeros s.loose,
-    )
+own_sum f h s = search (arith, ℕ, flat_sum, sum_by-append, map_sum, zeros)
 
 -- all tokens
 pub view_worth : (f : Token → ℕ) (s : Turn) → sum_by f (tokens s) ≡ weigh (worth f) s
