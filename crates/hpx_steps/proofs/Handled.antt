@@ -13,8 +13,7 @@ abbrev pub Writing : Rules → Turn → List Event → Turn → Type 0
 Writing r s es s' = Steps r s (map (λ e. Writes e) es) s'
 
 pub writes_append : (r : Rules) (s m s' : Turn) (es fs : List Event) → Writing r s es m → Writing r m fs s' → Writing r s (es ++ fs) s'
-writes_append r s m s' es fs a b = subst (λ labels. Steps r s labels s') (sym (map-append (λ e. Writes e) es fs))
-    (steps_append r s m s' (map (λ e. Writes e) es) (map (λ e. Writes e) fs) a b)
+writes_append r s m s' es fs a b = grind (arith, map-append, steps_append)
 
 pub written_events : (es : List Event) → written (map (λ e. Writes e) es) ≡ es
 written_events [] = refl
