@@ -1,5 +1,5 @@
 -- Ids with their credits, and without.
-use Rattle.hpx_steps.proofs.Common.{AllByRecursion, Bool, HasRightCredit, Id, List, MatchOption, None, Option, Some, State, Token, [], and_true, ap, arith, bare, bare_names, bare_state, cond, credit_list, false, filter, held, is_asked, is_some, managed, map, names_of, nat_le, nat_tests, not, refl, same_object, suc, sum_by, sum_by-cons, sym, take, tokens_of, true, with_credit, zero, ℕ, ◌&&◌, ◌++◌, ◌<◌, ◌∙◌, ◌∷◌, ◌≡◌, ◌≤◌}
+use Rattle.hpx_steps.proofs.Common.{AllByRecursion, Bool, HasRightCredit, Id, List, None, Option, Some, State, Token, [], ap, arith, bare, bare_names, bare_state, cond, credit_list, false, filter, held, is_asked, is_some, managed, map, names_of, nat_le, nat_tests, refl, sum_by, sum_by-cons, sym, tokens_of, true, with_credit, ℕ, ◌&&◌, ◌++◌, ◌<◌, ◌∙◌, ◌∷◌, ◌≡◌, ◌≤◌}
 use Rattle.hpx_steps.proofs.Cover.{held_ids, held_or_bare}
 use Rattle.hpx_steps.proofs.Sums.{ids_append}
 

@@ -1,10 +1,9 @@
 -- A commit makes an object.
-use Rattle.hpx_steps.proofs.Common.{Bears, Bool, Born, Entry, Event, HasCommits, HasPlaces, Id, IsBirth, IsCommit, IsSound, IsTidy, List, Make, None, Option, Record, Rules, Some, Standing, StandsHere, State, StaysAt, TidyAt, Token, Turn, View, Waits, Working, [], ap, append-nil, arith, asking, bare, bare_act, bare_due, bare_id, bare_standing, birth_of, birth_state, cases_Bool, cond, count_by, count_in, counted, false, false_from, filter, find, find_record, fired_of, follows_born, held_token, id_at, ids_named, inl, inr, is_asked, is_asked_for, is_recorded, is_standing, length, map, map-append, names_of, option_map_or, refl, refusals_of, same_object, same_object-true, session, some_same, subst, sum_by, sum_by-cons, sym, take, tokens, tokens_of, true, view, works_on, worth, wrote, ℕ, ◌++◌, ◌+◌, ◌^◌, ◌∙◌, ◌∷◌, ◌≡◌, ◌≤◌}
-use Rattle.hpx_steps.proofs.Tools.{Changes, Keeps, Sees, all_among, by_rows, counts_near, first_turns, holding, if_so, more_come, numbered_so, objects_change, orders_so, pays_so, recommit, sees_by, sees_leads, take_place, then, view_asking, view_worth, work_commits, working_change}
+use Rattle.hpx_steps.proofs.Common.{Bears, Bool, Born, Entry, Event, HasPlaces, Id, IsBirth, IsCommit, IsSound, IsTidy, List, Make, None, Option, Record, Rules, Some, Standing, StandsHere, State, StaysAt, TidyAt, Token, Turn, View, Waits, Working, [], ap, append-nil, arith, asking, bare, bare_due, bare_id, bare_standing, birth_of, birth_state, cond, count_by, count_in, counted, false, false_from, find, find_record, follows_born, held_token, id_at, ids_named, inl, is_asked, is_asked_for, is_recorded, is_standing, length, map, map-append, refl, same_object, same_object-true, session, some_same, subst, sum_by, sum_by-cons, sym, take, tokens, tokens_of, true, view, works_on, worth, wrote, ℕ, ◌++◌, ◌+◌, ◌^◌, ◌∙◌, ◌∷◌, ◌≡◌, ◌≤◌}
+use Rattle.hpx_steps.proofs.Tools.{Changes, Keeps, all_among, by_rows, counts_near, first_turns, holding, if_so, more_come, numbered_so, objects_change, orders_so, pays_so, recommit, sees_by, sees_leads, take_place, then, view_asking, view_worth, work_commits, working_change}
 use Rattle.hpx_steps.proofs.Beside.{more_commits}
-use Rattle.hpx_steps.proofs.Objects.{single_more, stand_more}
+use Rattle.hpx_steps.proofs.Objects.{retidy, single_more, stand_more}
 use Rattle.hpx_steps.proofs.Records.{found_counted}
-use Rattle.hpx_steps.proofs.Tidy.{retidy}
 
 module _ (r : Rules) (s : Turn) (entries : List Entry) (h : IsSound r s entries) (w : Waits) (rest : List Waits) (make : Make) (hand : List Id) (due : s.due ≡ [])
     (works : s.working ≡ w ∷ rest) (fit : IsBirth (birth_of make)) (lacks : w.asked ≡ []) (own : take (length (ids_named w)) hand ≡ take (length (ids_named w)) w.hand)
@@ -105,9 +104,6 @@ module _ (r : Rules) (s : Turn) (entries : List Entry) (h : IsSound r s entries)
     last = Some e;
   }
 
-  sees : Sees seen now
-  sees = grind (arith, sees_by, map-append, view_asking, asking)
-
   pub bear_keeps : Keeps r s now e
   bear_keeps = record {
     leads = (
@@ -118,7 +114,7 @@ module _ (r : Rules) (s : Turn) (entries : List Entry) (h : IsSound r s entries)
             sums = λ f fair. omega (arith, view_worth f, change.0 (worth f), more f, ap (λ n. f (held_token o n)) h.rules.credit_log, sum_by-cons f (held_token o r.credit_log) []);
           })
           counts_more,
-      sees_leads r seen now sees,
+      sees_leads r seen now (grind (arith, sees_by, map-append, view_asking, asking)),
     );
     tidy = tidy;
     places = places_now;

@@ -1,10 +1,10 @@
 -- What stands beside commits: where one begins, ends or stands elsewhere among them, and where objects come and go.
-use Rattle.hpx_steps.proofs.Common.{Act, AllByRecursion, Apart, Bool, HasCommits, HasObject, HasRightCredit, Id, IsWhole, Job, List, Single, Some, Standing, State, Waits, [], action_of, acts_on, all_append, all_at, all_parts, all_remove, all_set, ap, append_assoc, arith, bare, bare_names, bare_state, cases_Bool, cond, drop, eqb-true, false, find, fired_of, inl, inr, is_busy, is_standing, list_any, map, map-append, names_of, refl, remove, same_object, same_object-from, same_object-sym, same_object-true, set, slice_get, split_get, subst, suc, sum_by, sum_by-append, sum_by-cons, sum_middle, sym, take, target_of, true, ℕ, ◌++◌, ◌==◌, ◌∙◌, ◌∷◌, ◌≡◌}
+use Rattle.hpx_steps.proofs.Common.{Act, AllByRecursion, Apart, Bool, HasCommits, HasObject, HasRightCredit, Id, IsWhole, Job, List, Single, Some, Standing, State, Waits, [], action_of, acts_on, all_append, all_at, all_parts, all_remove, all_set, ap, append_assoc, arith, bare, bare_names, bare_state, cond, drop, eqb-true, false, find, fired_of, is_busy, is_standing, list_any, map, map-append, names_of, refl, remove, same_object, same_object-from, same_object-sym, set, slice_get, split_get, subst, suc, sum_by, sum_by-append, sum_by-cons, sum_middle, sym, take, target_of, true, ℕ, ◌++◌, ◌==◌, ◌∙◌, ◌∷◌, ◌≡◌}
 use Rattle.hpx_steps.proofs.ByRows.{if_so}
 use Rattle.hpx_steps.proofs.Bare.{lent_all, no_bare}
 use Rattle.hpx_steps.proofs.Busy.{apart_alone, apart_less, apart_moved, busy_moved, busy_none, busy_parts, busy_same, keeps, never, none_busy, none_of}
-use Rattle.hpx_steps.proofs.Lists.{less_sum, set_sum}
 use Rattle.hpx_steps.proofs.Objects.{all_but, find_less, find_more, find_set, get_set, set_same, single_found, single_set}
+use Rattle.hpx_steps.proofs.Sums.{less_sum, set_sum}
 
 -- its object is found as well among other objects
 object_on : (xs ys : List Standing) (w : Waits) (h : HasObject xs w) → find (is_standing (target_of w.job.action)) ys ≡ Some h.standing → HasObject ys w

@@ -1,5 +1,5 @@
 -- What many entries have in common.
-use Rattle.hpx_steps.proofs.Common.{Actions, AreNumbered, Ask, Bool, Event, Id, IsOwn, Item, List, Local, Parcel, Row, Rules, SameTokens, SendsOwn, Tables, Turn, View, ap, arith, arrives_at, asked_by, asks_for, asks_under, causes, come, cond, count_by, count_in, counts_of, done_after, false, find, fires_one, freeing, given_to, gives_for, goes, gone, gone_to, hopping, is_answer, is_recorded, joined, joins, length, list_any, ne_eqb, outs_by, own, parcel_asks, parcel_frees, refl, same_object, same_refusal, spends, subst, sym, tokens, true, unpaid, view, waits_for, weigh, wrote, ℕ, ◌+◌, ◌∙◌, ◌≡◌, ◌≢◌, ◌≤◌}
+use Rattle.hpx_steps.proofs.Common.{Actions, AreNumbered, Bool, Event, Id, IsOwn, Item, List, Local, Parcel, Row, Rules, SameTokens, SendsOwn, Tables, Turn, View, ap, arith, arrives_at, asked_by, asks_for, asks_under, causes, come, cond, count_by, counts_of, done_after, fires_one, freeing, given_to, gives_for, goes, gone, gone_to, hopping, joined, joins, length, outs_by, own, parcel_asks, parcel_frees, same_object, spends, subst, sym, tokens, unpaid, view, waits_for, weigh, wrote, ℕ, ◌+◌, ◌∙◌, ◌≡◌, ◌≢◌, ◌≤◌}
 use Rattle.hpx_steps.proofs.Changes.{Sums, total}
 use Rattle.hpx_steps.proofs.Seen.{Sees, as_seen}
 use Rattle.hpx_steps.proofs.Sums.{by_own, by_parcel, own_sum, seen_sum}

@@ -1,5 +1,5 @@
 -- The primitive changes of a turn: what all weights are then, and what is there that was not there before.
-use Rattle.hpx_steps.proofs.Common.{Accepted, Act, AllByRecursion, Among, Bool, Came, Due, Going, Has, HasInHand, Holds, Id, IsDue, Item, List, Loose, Mailed, OnDesk, Outgoing, Parcel, Pending, Running, Some, Standing, StandsHere, Turn, Waits, Working, [], ap, arith, cond, drops, false, going, inl, inr, is_other, mails_if, map, may_stay, not, parcel_for, posts, refl, remove, sent_as, set, slice_get, some_same, suc, sum_by, sum_by-append, sum_by-cons, sym, target_of, true, weigh, zero, ℕ, ◌++◌, ◌+◌, ◌∷◌, ◌≡◌, ◌⊎◌}
+use Rattle.hpx_steps.proofs.Common.{Accepted, Act, AllByRecursion, Among, Bool, Came, Due, Going, Has, HasInHand, Holds, Id, IsDue, Item, List, Loose, Mailed, OnDesk, Outgoing, Parcel, Pending, Running, Some, Standing, StandsHere, Turn, Waits, Working, [], ap, arith, cond, drops, false, going, inl, inr, is_other, mails_if, map, may_stay, not, parcel_for, posts, refl, remove, sent_as, set, slice_get, some_same, suc, sum_by, sum_by-append, sum_by-cons, target_of, true, weigh, zero, ℕ, ◌++◌, ◌+◌, ◌∷◌, ◌≡◌, ◌⊎◌}
 
 -- ---- what is among others
 
@@ -308,9 +308,6 @@ is_frame p s (inr h) = false
 pub hand_is : (p : Parcel) (s : Turn) (hand : HasInHand p s) → Has s (in_hand (is_frame p s hand) p)
 hand_is p s (inl h) = rw h.0 (inl refl)
 hand_is p s (inr h) = rw h.1 (inl refl)
-
-none_comes : (s : Turn) → Comes [] s (drops s)
-none_comes s = comes_by [] s (drops s) (λ x m. absurd m) (λ x m. absurd m) (λ x m. inl m) (λ x m. inl m) (λ x m. inl m) (λ x m. inl m) (λ x m. inl m) (λ x m. inl m) (λ x m. inl m) (λ x m. inl m) (λ x m. inl m)
 
 pub drop_change : (p : Parcel) (s : Turn) (hand : HasInHand p s) → Changes (in_hand (is_frame p s hand) p ∷ []) [] s (drops s)
 drop_change p s (inl h) = grind arith

@@ -1,5 +1,5 @@
 -- A commit in work is done, or fails: its objects are made, its ids are halved, it ends, what is due is sent, and what nobody names is given up.
-use Rattle.hpx_steps.proofs.Common.{Act, AllByRecursion, AreMade, AreWithin, Birth, Commits, Deals, Done, Due, Ends, Entry, Event, HasCredit, HasRightCredit, Id, IsBirth, IsFitDue, IsKept, IsLeftBy, Job, Lasts, List, MatchOption, None, Option, Remains, Rules, Some, Standing, Stands, StandsHere, State, Step, Stock, Suspend, Tables, Turn, Waits, Writes, [], all_at, all_set, answered_by, ap, append-nil, append_assoc, arith, at_all, at_rest, bare, bare_act, bare_standing, bare_state, birth_of, births_of, cond, due_of, ends, false, find, find_passes, get_before, hand_ids, id_at, ids_named, ids_of, is_some, is_standing, length, length-map, map, name_of, named, objects_of, records_of, refl, remove, rules_of, set, slice_get, splits_from, state_after, subst, suc, sym, target_of, ups, waits_with, with_credit, with_due, with_left, written_due, wrote, zero, ℕ, ◌++◌, ◌+◌, ◌<◌, ◌∙◌, ◌∷◌, ◌≡◌, ◌≤◌}
+use Rattle.hpx_steps.proofs.Common.{Act, AllByRecursion, AreMade, AreWithin, Birth, Commits, Deals, Done, Due, Ends, Entry, Event, HasCredit, HasRightCredit, Id, IsBirth, IsFitDue, IsKept, IsLeftBy, Job, Lasts, List, None, Option, Remains, Rules, Some, Standing, Stands, StandsHere, State, Step, Stock, Suspend, Tables, Turn, Waits, Writes, [], all_at, all_set, answered_by, ap, append-nil, append_assoc, arith, at_all, at_rest, bare, bare_act, bare_standing, bare_state, birth_of, births_of, cond, due_of, ends, false, find, find_passes, get_before, hand_ids, id_at, ids_named, ids_of, is_some, is_standing, length, length-map, map, name_of, named, objects_of, records_of, refl, remove, rules_of, set, slice_get, splits_from, state_after, subst, suc, sym, target_of, ups, waits_with, with_credit, with_due, with_left, written_due, wrote, zero, ℕ, ◌++◌, ◌+◌, ◌<◌, ◌∙◌, ◌∷◌, ◌≡◌, ◌≤◌}
 use Rattle.hpx_steps.proofs.Tools.{all_among, find_more, get_set, right_log, single_found, single_set, some_log}
 use Rattle.hpx_value.specs.declared.outcome.Outcome.{Outcome}
 use Rattle.hpx_steps.proofs.Made.{Drawn, made_so}

@@ -1,5 +1,5 @@
 -- Once all ids of a hand are halved, its credits are those that are dealt, and those that nobody names.
-use Rattle.hpx_steps.proofs.Common.{Act, AllByRecursion, AreWithin, Bool, Deals, Due, Fits, HasRightCredit, Id, List, MatchOption, MessageDue, None, Option, PrintDue, SameDeal, Some, State, Stock, Token, [], action_ids, all_append, all_at, all_set, ap, append-nil, arith, bare, cases_eq, cases_lt, cond, credit_list, deal_stays, deal_then, dealt, drop, drop-drop, due_failed, due_filled, due_ids, failed_sums, false, filled, filled_all, filled_due, filled_sums, flat_map, half, halves_ahead, halves_taken, held, id_at, ids_due, ids_had, inl, inr, is_managed, length, length-append, length-set, managed, map, named, nat_le, nat_tests, option_map, refl, set, shared_from, shares, state_failed, subst, suc, sum_by, sum_by-cons, sums_dealt, sym, take, take-append-drop, take_half, take_halves, tokens_of, true, unnamed, unnamed_from, unused, unused_all, unused_rest, ups_failed, zero, ℕ, ◌&&◌, ◌++◌, ◌+◌, ◌-◌, ◌<◌, ◌==◌, ◌∙◌, ◌∷◌, ◌≡◌, ◌≤◌}
+use Rattle.hpx_steps.proofs.Common.{Act, AllByRecursion, AreWithin, Bool, Deals, Due, Fits, HasRightCredit, Id, List, None, SameDeal, State, Stock, Token, [], action_ids, all_append, all_at, all_set, ap, append-nil, arith, bare, cases_eq, cases_lt, cond, deal_stays, deal_then, dealt, drop, drop-drop, due_failed, due_filled, due_ids, failed_sums, false, filled, filled_all, filled_due, filled_sums, flat_map, half, halves_ahead, halves_taken, id_at, ids_due, ids_had, inl, inr, is_managed, length, length-append, length-set, managed, map, named, refl, shared_from, shares, state_failed, subst, suc, sum_by, sum_by-cons, sums_dealt, sym, take, take-append-drop, take_half, take_halves, tokens_of, true, unnamed, unnamed_from, unused, unused_all, unused_rest, ups_failed, zero, ℕ, ◌&&◌, ◌++◌, ◌+◌, ◌-◌, ◌<◌, ◌==◌, ◌∙◌, ◌∷◌, ◌≡◌, ◌≤◌}
 use Rattle.hpx_steps.proofs.Tools.{ids_append, ids_each, none_tokens, place_at}
 use Rattle.hpx_steps.proofs.Work.{halved_from}
 

@@ -5,8 +5,7 @@ use Rattle.hpx_steps.proofs.Tools.{Changes, Keeps, Sees, among_at, bare_all, by_
 use Rattle.hpx_steps.proofs.Bare.{bare_lent}
 use Rattle.hpx_steps.proofs.Beside.{end_commits}
 use Rattle.hpx_steps.proofs.Changes.{all_come, total_append}
-use Rattle.hpx_steps.proofs.Tidy.{retidy}
-use Rattle.hpx_journal.specs.Rows.{is_refused}
+use Rattle.hpx_steps.proofs.Objects.{retidy}
 
 any_bare : (o : Id) (ids : List Id) → list_any (same_object o) (map bare ids) ≡ list_any (same_object o) ids
 any_bare o [] = refl
@@ -299,14 +298,11 @@ module _ (r : Rules) (s : Turn) (entries : List Entry) (h : IsSound r s entries)
         (any_turned (same_object o) (map bare w.job.state.ids) (map bare w.job.action.ids)
         (ap (list_any (same_object o)) (sym (map-append bare w.job.state.ids w.job.action.ids)) ∙ (any_bare o (ids_named w) ∙ its.refused o was_refused)))
 
-    some_refused : list_any (is_refused (bare_act act) (bare_standing x).state) (refusals_of (commits s)) ≡ true
-    some_refused = grind (arith, refusals_split, same_name-refl, named)
-
     pub failed_keeps : Keeps r s failed (Done (name_of w.job.action) true)
     failed_keeps = done_keeps true (
       seen_failed,
       follows_fail r (view s) (map bare_act s.tables.running) (map bare_act (map action_of (rest ++ s.tables.pending))) (bare_act act) (bare_standing x) (length (refusals_of (rest ++ s.tables.pending)))
-          (ap (map bare_due) g.due) fresh fires found some_refused (omega (arith, failing_less, ap (λ k. length (refusal_of w.job.action k)) was_refused))
+          (ap (map bare_due) g.due) fresh fires found (grind (arith, refusals_split, same_name-refl, named)) (omega (arith, failing_less, ap (λ k. length (refusal_of w.job.action k)) was_refused))
           (λ b. sees_covers r seen_failed failed sees_failed (view_covered failed tidy commits_now.lent)),
       sees_leads r seen_failed failed sees_failed,
     )

@@ -1,5 +1,5 @@
 -- An id is put at a place of a hand.
-use Rattle.hpx_steps.proofs.Common.{AllByRecursion, Bool, Id, List, Some, Waits, [], ap, arith, bare, cond, count_by, count_same, drop, false, filter, id_at, is_asked, is_asked_for, length, list_any, map, names_of, refl, same_object, same_object-refl, set, slice_get, some_same, suc, sum_by-cons, sym, take, true, zero, ℕ, ◌&&◌, ◌++◌, ◌+◌, ◌<◌, ◌==◌, ◌||◌, ◌∙◌, ◌∷◌, ◌≡◌}
+use Rattle.hpx_steps.proofs.Common.{AllByRecursion, Bool, Id, List, Some, Waits, [], ap, arith, bare, cond, count_by, count_same, drop, false, filter, id_at, is_asked, is_asked_for, length, list_any, map, names_of, refl, same_object, set, slice_get, some_same, suc, sum_by-cons, sym, take, true, zero, ℕ, ◌&&◌, ◌++◌, ◌+◌, ◌<◌, ◌==◌, ◌∙◌, ◌∷◌, ◌≡◌}
 use Rattle.hpx_tables.specs.declared.pending.Asked.{Asked}
 
 -- ---- places

@@ -4,7 +4,6 @@ pub mod Changes
 pub mod Seen
 pub mod Cover
 pub mod Bare
-pub mod Lists
 pub mod Objects
 pub mod Busy
 pub mod Beside
@@ -17,7 +16,6 @@ pub mod Mails
 pub mod Puts
 pub mod Calm
 pub mod Hands
-pub mod Tidy
 pub mod Recommit
 pub mod Tools
 pub mod Up
@@ -43,7 +41,6 @@ pub mod Given
 pub mod Unheld
 pub mod Freed
 pub mod Step
-pub mod Rest
 pub mod AtRest
 pub mod Right
 pub mod Handled

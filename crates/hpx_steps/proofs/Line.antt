@@ -1,5 +1,5 @@
 -- A line is fed.
-use Rattle.hpx_steps.proofs.Common.{Accepted, Act, Entry, Feeds, IsFit, IsSound, Line, List, Name, Rules, Some, TidyAt, Turn, View, [], ap, arith, bare_due, draws, follows_line, is_other, length, line_act, lit≤, map, posts, refl, subst, sym, target_of, view, waiting, worth, wrote, ℕ, ◌++◌, ◌+◌, ◌∷◌, ◌≡◌, ◌≤◌}
+use Rattle.hpx_steps.proofs.Common.{Accepted, Act, Entry, Feeds, IsFit, IsSound, Line, List, Name, Rules, Some, TidyAt, Turn, View, [], ap, arith, bare_due, draws, follows_line, is_other, length, line_act, map, posts, refl, subst, sym, target_of, view, waiting, worth, wrote, ℕ, ◌++◌, ◌+◌, ◌∷◌, ◌≡◌, ◌≤◌}
 use Rattle.hpx_steps.proofs.Tools.{Changes, Keeps, Put, Sees, asks_of, by_rows, counts_near, frees_of, holding, numbered_so, orders_so, pays_so, post_change, post_waits, put_as, same_asks, same_dead, sees_by, sees_leads, told_as, view_worth}
 
 -- a line is well formed

@@ -1,5 +1,5 @@
 -- What a commit makes stands as it was made, behind what stood before.
-use Rattle.hpx_steps.proofs.Common.{AllByRecursion, AreMade, Birth, Bool, Id, IsBirth, List, Make, Standing, State, [], all_append, ap, append_assoc, arith, bare, bare_id, bare_standing, bare_state, birth_of, birth_state, cases_Bool, false, find, ids_of, inl, inr, is_standing, map, map-append, objects_of, refl, same_object-refl, same_object-true, subst, sym, true, ℕ, ◌++◌, ◌+◌, ◌<◌, ◌∙◌, ◌∷◌, ◌≡◌, ◌≤◌}
+use Rattle.hpx_steps.proofs.Common.{AllByRecursion, AreMade, Birth, Bool, Id, IsBirth, List, Make, Standing, State, [], all_append, ap, append_assoc, arith, bare, bare_id, bare_standing, bare_state, birth_of, birth_state, cases_Bool, false, find, ids_of, is_standing, map, map-append, objects_of, refl, same_object-refl, same_object-true, subst, sym, true, ℕ, ◌++◌, ◌+◌, ◌<◌, ◌∙◌, ◌∷◌, ◌≡◌, ◌≤◌}
 
 -- it has a number that was drawn, if it was born here
 abbrev pub Drawn : ℕ → ℕ → Standing → Type 0

@@ -1,7 +1,7 @@
 -- The first message on the desk is taken up.
-use Rattle.hpx_steps.proofs.Common.{Entry, IsSound, IsTidy, List, Mail, Mailed, OnDesk, Outgoing, Parcel, Rules, Some, TakesUp, TidyAt, Turn, View, [], ap, arith, bare_act, bare_due, flat_map, follows_mail, inl, kind_of, map, parcel_acts, parcels, refl, subst, sym, view, worth, wrote, ℕ, ◌++◌, ◌∙◌, ◌∷◌, ◌≡◌, ◌≤◌}
-use Rattle.hpx_steps.proofs.Tools.{Changes, Keeps, Sees, by_rows, counts_near, first_goes, holding, one_comes, same_dead, same_asks, sees_leads, then, view_worth}
-use Rattle.hpx_steps.proofs.Calm.{asks_of, frees_of, numbered_so, orders_so, own_asks, pays_so, sees_by}
+use Rattle.hpx_steps.proofs.Common.{Entry, IsSound, IsTidy, List, Mail, Mailed, OnDesk, Parcel, Rules, Some, TakesUp, TidyAt, Turn, View, [], ap, arith, bare_due, follows_mail, inl, kind_of, map, refl, subst, sym, view, wrote, ℕ, ◌∷◌, ◌≡◌, ◌≤◌}
+use Rattle.hpx_steps.proofs.Tools.{Changes, Keeps, by_rows, counts_near, first_goes, holding, one_comes, sees_leads, then}
+use Rattle.hpx_steps.proofs.Calm.{numbered_so, orders_so, own_asks, pays_so}
 use Rattle.hpx_steps.proofs.Changes.{desk_change, mailed_change}
 
 kind_low : (p : Parcel) → (1 ≤ kind_of p) × (kind_of p ≤ 10)
@@ -23,21 +23,15 @@ module _ (r : Rules) (s : Turn) (entries : List Entry) (h : IsSound r s entries)
   tidy : IsTidy now
   tidy = holding (TidyAt s) (Mailed p ∷ []) s now change.1 h.tidy (its, tt)
 
-  same_parcels : parcels now ≡ parcels s
-  same_parcels = grind arith
-
   abbrev seen : View
   seen = record (view s) { last = Some (Mail (kind_of p)) }
-
-  sees : Sees seen now
-  sees = grind arith
 
   pub mail_keeps : Keeps r s now (Mail (kind_of p))
   mail_keeps = record {
     leads = (
       seen,
       follows_mail r (view s) (kind_of p) (ap (map bare_due) due) fresh (kind_low p).0 (kind_low p).1,
-      sees_leads r seen now sees,
+      sees_leads r seen now (grind arith),
     );
     tidy = tidy;
     places = h.places;

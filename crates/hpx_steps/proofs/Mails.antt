@@ -1,5 +1,5 @@
 -- One more message: what it weighs and that it is tidy, wherever it is put.
-use Rattle.hpx_steps.proofs.Common.{None, AllByRecursion, Bool, Came, FreesNone, Going, HasInHand, Id, IsOwn, IsParcel, IsTidy, IsTidyIn, Item, Mailed, MatchOption, MayGoTo, OnDesk, Option, Parcel, Some, Tables, Token, Turn, [], ap, arith, bare, cond, credit_list, false, going, held, held_token, inl, inr, is_other, log_of, map, nat_tests, owed_token, owing, own, refl, sum_by, sum_by-cons, tokens_of, true, ℕ, ◌++◌, ◌<◌, ◌∙◌, ◌∷◌, ◌≡◌, ◌≢◌, ◌≤◌}
+use Rattle.hpx_steps.proofs.Common.{AllByRecursion, Bool, Came, FreesNone, Going, HasInHand, Id, IsOwn, IsParcel, IsTidy, IsTidyIn, Item, Mailed, MatchOption, MayGoTo, OnDesk, Option, Parcel, Some, Tables, Token, Turn, [], arith, bare, cond, credit_list, false, going, held_token, inl, inr, is_other, log_of, map, nat_tests, owed_token, owing, own, refl, sum_by, tokens_of, true, ℕ, ◌++◌, ◌<◌, ◌∷◌, ◌≡◌, ◌≢◌, ◌≤◌}
 use Rattle.hpx_steps.proofs.Changes.{sent_if, total}
 
 -- a message that weighs the same on the desk and away

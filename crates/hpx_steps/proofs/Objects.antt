@@ -1,5 +1,5 @@
 -- Objects that stand here: what is found among them where one has another state, where one comes, and where one goes.
-use Rattle.hpx_steps.proofs.Common.{AllByRecursion, Bool, Id, List, None, Single, Some, Standing, [], ap, cases_Bool, cond, false, false_from, find, inl, inr, is_some, is_standing, refl, remove, same_object, same_object-from, same_object-sym, set, slice_get, some_same, suc, sym, true, zero, ℕ, ◌++◌, ◌∙◌, ◌∷◌, ◌≡◌}
+use Rattle.hpx_steps.proofs.Common.{AllByRecursion, Bool, Id, IsKept, IsTidyIn, Item, List, None, Single, Some, Standing, [], ap, arith, cond, false, false_from, find, is_some, is_standing, length, refl, remove, same_object, same_object-from, same_object-sym, set, slice_get, some_same, suc, sym, true, zero, ℕ, ◌++◌, ◌∙◌, ◌∷◌, ◌≡◌, ◌≤◌}
 use Rattle.hpx_steps.proofs.ByRows.{if_so}
 
 module _ (p : Standing → Bool) where
@@ -117,3 +117,18 @@ all_but P (z ∷ xs) zero x y single h p all = (p, others xs single.0 all.1)
         )
 all_but P (z ∷ xs) (suc j) x y single h p all =
     (all.0 (none_passes (is_standing z.object) xs j x single.0 h), all_but P xs j x y single.1 h p all.1)
+
+-- ---- what is tidy stays tidy where other objects stand
+
+pub retidy : (k n log births births' : ℕ) (objects objects' : List Standing) → births ≤ births'
+    → ((o : Id) → is_some (find (is_standing o) objects) ≡ true → is_some (find (is_standing o) objects') ≡ true)
+    → (i : Item) → IsTidyIn k n log births objects i → IsTidyIn k n log births' objects' i
+retidy k n log births births' objects objects' le stand b h = grind arith
+
+-- an object of kind Plain keeps no ids
+none_long : {X : Type 0} (xs : List X) → length xs ≡ 0 → xs ≡ []
+none_long [] h = refl
+none_long (x ∷ xs) h = absurd (omega (arith, h))
+
+pub plain_ids : (x : Standing) → IsKept x → x.object.kind ≡ 7 → x.state.ids ≡ []
+plain_ids x kept kind = grind (arith, none_long)

@@ -1,6 +1,6 @@
 -- One more action: what it weighs and that it is tidy, whether it is accepted or goes in a message.
-use Rattle.hpx_steps.proofs.Common.{Accepted, Act, AllByRecursion, Apply, Bool, FreesNone, Going, Id, IfSome, IsFit, IsOwn, IsParcel, IsTidyIn, Item, List, MayGoTo, Move, None, OnDesk, Option, Parcel, Row, Some, Tables, [], and_true, ap, arith, bare, bare_act, brings, cases_Bool, cond, eqb-false, eqb-true, false, going, id_at, inl, inr, is_movable, is_other, kept, kind_of, map, may_stay, move_to, moves_on, not, of_act, one_if, parcel_for, place_in, refl, stands_here, subst, sym, target_of, true, weight, ℕ, ◌&&◌, ◌==◌, ◌||◌, ◌∙◌, ◌∷◌, ◌≡◌, ◌≤◌, ◌⊎◌}
-use Rattle.hpx_steps.proofs.ByRows.{by_bool, by_rows, if_so}
+use Rattle.hpx_steps.proofs.Common.{Accepted, Act, AllByRecursion, Apply, Bool, FreesNone, Going, Id, IfSome, IsFit, IsOwn, IsParcel, IsTidyIn, Item, List, MayGoTo, Move, None, OnDesk, Option, Parcel, Row, Tables, [], and_true, ap, arith, bare, bare_act, brings, cond, false, going, id_at, inl, inr, is_movable, is_other, kept, kind_of, map, may_stay, move_to, moves_on, not, of_act, one_if, parcel_for, place_in, refl, stands_here, subst, sym, target_of, true, weight, ℕ, ◌&&◌, ◌==◌, ◌||◌, ◌∷◌, ◌≡◌, ◌≤◌, ◌⊎◌}
+use Rattle.hpx_steps.proofs.ByRows.{by_bool}
 use Rattle.hpx_steps.proofs.Changes.{put_as, sent_if}
 use Rattle.hpx_steps.proofs.Mails.{mail_tidy}
 

@@ -1,7 +1,6 @@
 -- What a commit in work has in its hand changes: its job stays.
-use Rattle.hpx_steps.proofs.Lists.{less_sum}
 use Rattle.hpx_steps.proofs.Mails.{held_by}
-use Rattle.hpx_steps.proofs.Sums.{ids_each, view_worth}
+use Rattle.hpx_steps.proofs.Sums.{ids_each, less_sum, view_worth}
 use Rattle.hpx_steps.proofs.Common.{AllByRecursion, AskedFor, HasCommits, Id, IsCommit, List, Option, Some, Token, Turn, Waits, [], ap, arith, bare, commits, cond, count_by, counts_of, counts_true, false, filter, held_token, id_at, ids_named, is_asked, length, length-map, length-take, list_any, map, refl, same_object, same_token, set, slice_get, some_same, subst, suc, sum_by, sum_by-cons, sym, take, take-append-le, token_own, tokens, tokens_of, true, zero, ℕ, ◌++◌, ◌<◌, ◌==◌, ◌∙◌, ◌∷◌, ◌≡◌, ◌≤◌}
 
 -- its hand has all that its object and its action name

@@ -1,15 +1,7 @@
 -- What was asked for is put into the hand of the commit that waits for it.
-use Rattle.hpx_steps.proofs.Common.{AskedFor, Bool, HasCredit, HasRightCredit, HasSplit, Id, IsCommit, IsShort, List, MatchOption, None, Option, Some, Waits, all_append, all_at, all_remove, and_true, ap, append_assoc, arith, bare, cases_Bool, cond, count_by, eq-eqb, eqb-true, false, first_stock, id_at, ids_named, inl, inr, is_asked, is_asked_for, is_some, length, length-append, list_any, log_of, nat_le, not, own_ids, place_bare, place_some, refilled, refl, remove, same_object, same_object-true, set, slice_get, some_same, subst, sym, true, whole_stock, ℕ, ◌&&◌, ◌++◌, ◌+◌, ◌<◌, ◌==◌, ◌∙◌, ◌≡◌, ◌≢◌, ◌≤◌, ◌⊎◌}
+use Rattle.hpx_steps.proofs.Common.{AskedFor, Bool, HasCredit, HasRightCredit, HasSplit, Id, IsCommit, IsShort, List, Option, Some, Waits, all_append, all_at, all_remove, and_true, ap, append_assoc, arith, bare, cases_Bool, cond, count_by, eq-eqb, eqb-true, false, first_stock, id_at, ids_named, inl, inr, is_asked, is_asked_for, is_some, length, length-append, list_any, log_of, nat_le, not, own_ids, place_bare, place_some, refilled, refl, remove, same_object, same_object-true, set, slice_get, some_same, subst, sym, true, whole_stock, ℕ, ◌&&◌, ◌++◌, ◌+◌, ◌<◌, ◌==◌, ◌∙◌, ◌≡◌, ◌≤◌, ◌⊎◌}
 use Rattle.hpx_steps.proofs.Tools.{front_place, hand_long, has_not_asked, if_so, less_sum, not_asked, place_at, put_elsewhere, put_names, put_there, recommit, some_log, take_place}
 use Rattle.hpx_steps.proofs.Hands.{any_place, names_place, put_behind}
-
--- one of log 0 is refused
-refused_some : (b : Bool) (o : Id) (was : Option Id) → b ≡ true → cond b (Some o) was ≢ None
-refused_some b o was e = grind arith
-
--- and stays so
-refused_still : (b : Bool) (o : Id) (was : Option Id) → was ≢ None → cond b (Some o) was ≢ None
-refused_still b o was h = grind arith
 
 short_still : (log : ℕ) (b : Bool) (o : Id) (was : Option Id) (id : Id) → IsShort log was id → IsShort log (cond b (Some o) was) id
 short_still log b o was id c = grind arith
@@ -73,9 +65,6 @@ module _ (k l log : ℕ) (w : Waits) (n : ℕ) (ask : AskedFor) (id : Id) (entry
       ap (λ c. nat_le 16 c && not (is_some (id_at (first_stock w held.made).hand p).log)) kind
       ∙ (ap (λ b. nat_le 16 (id_at start.hand p).kind && not b) (place_some (length own) start fits held.within p inside) ∙ not_asked (id_at start.hand p) right)
 
-  given_short : IsShort log filled.refused id
-  given_short = grind arith
-
   -- its hand is still that of its job, split ahead
   pub still_split : HasSplit log (refilled n ask.place id w)
   still_split = record {
@@ -96,7 +85,7 @@ module _ (k l log : ℕ) (w : Waits) (n : ℕ) (ask : AskedFor) (id : Id) (entry
     short = λ p lt none. elim (cases_Bool (p == ask.place)) [
       | inl t ↦
           subst (λ q. IsShort log filled.refused (id_at filled.hand q)) (sym (eqb-true p ask.place t))
-          (subst (IsShort log filled.refused) (sym (put_there w.hand ask.place id inside)) given_short)
+          (subst (IsShort log filled.refused) (sym (put_there w.hand ask.place id inside)) (grind arith))
       | inr f ↦
           subst (IsShort log filled.refused)
           (sym (put_elsewhere w.hand ask.place p id (λ e. let t : true ≡ false = sym (eq-eqb p ask.place e) ∙ f in cc)))

@@ -1,5 +1,5 @@
 -- What a message breaks no rule says of the tables.
-use Rattle.hpx_steps.proofs.Common.{Act, Bool, Broken, Id, None, Option, Parcel, Some, Tables, and_true, arith, awaits, breaks, brings_right, broken, broken_free, broken_give, broken_go, broken_near, broken_object, broken_return, cases_Bool, count_here, credit, eqb-true, false, held_here, if◌then◌else◌, inl, inr, is_far, is_live, is_to_here, length, list_any, nat_lt, not, refl, stands_here, target_of, true, waits_here, ℕ, ◌&&◌, ◌==◌, ◌≡◌, ◌≤◌}
+use Rattle.hpx_steps.proofs.Common.{Act, Broken, Id, None, Option, Parcel, Some, Tables, arith, awaits, breaks, brings_right, broken, broken_free, broken_give, broken_go, broken_near, broken_object, broken_return, count_here, credit, false, held_here, is_far, is_live, is_to_here, list_any, not, stands_here, target_of, true, waits_here, ℕ, ◌&&◌, ◌≡◌, ◌≤◌}
 use Rattle.hpx_steps.proofs.Tools.{if_so}
 
 not_broken : {X : Type 0} (x : X) → Some x ≡ None → ⊥
@@ -9,9 +9,6 @@ not_broken x e = cc
 pub return_right : (t : Tables) (p : Parcel) (id : Id) (other : Option Broken) → broken_return t p id other ≡ None
     → (is_live t id ≡ true) × (credit id ≤ count_here t id) × (other ≡ None)
 return_right t p id other h = grind arith
-
-not_true : (b : Bool) → not b ≡ true → b ≡ false
-not_true b h = grind arith
 
 pub free_right : (t : Tables) (p : Parcel) (o : Id) → broken_free t p o ≡ None → (stands_here t o ≡ true) × (waits_here t o ≡ false) × (held_here t o ≡ 0)
 free_right t p o h = grind arith

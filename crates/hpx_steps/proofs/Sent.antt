@@ -1,5 +1,5 @@
 -- The first of what is due is sent.
-use Rattle.hpx_steps.proofs.Common.{Accepted, Act, Apply, Bool, Due, Entry, Going, IsDue, IsFit, IsSound, IsTidy, Item, List, Message, MessageDue, Move, Name, OnDesk, Parcel, Row, Rules, Sends, Sent, Some, TidyAt, Turn, View, [], ap, arith, asked_by, asks_as, asks_for, asks_under, bare_due, bare_message, brings, causes, count_by, draws, false, follows_sent, freeing, given_to, gives_for, goes, going, hopping, inl, inr, is_other, joined, kind_of, map, may_stay, named_act, of_act, one_if, parcel_asks, parcel_frees, parcel_tokens, posts, refl, same_object, sum_by, sym, target_of, tokens_of, true, unpaid, view, waiting, waits_for, weigh, weight, worth, wrote, ℕ, ◌++◌, ◌+◌, ◌==◌, ◌||◌, ◌∙◌, ◌∷◌, ◌≡◌, ◌≤◌, ◌⊎◌}
+use Rattle.hpx_steps.proofs.Common.{Accepted, Act, Apply, Due, Entry, Going, IsDue, IsFit, IsSound, IsTidy, Item, List, Message, MessageDue, Move, Name, OnDesk, Parcel, Row, Rules, Sends, Sent, Some, TidyAt, Turn, View, [], ap, arith, asked_by, asks_as, asks_for, asks_under, bare_due, bare_message, causes, count_by, draws, follows_sent, freeing, given_to, gives_for, goes, going, hopping, inl, is_other, joined, map, may_stay, named_act, of_act, parcel_asks, parcel_frees, parcel_tokens, posts, refl, same_object, sum_by, sym, target_of, tokens_of, unpaid, view, waiting, waits_for, weigh, worth, wrote, ℕ, ◌++◌, ◌+◌, ◌==◌, ◌∷◌, ◌≡◌, ◌⊎◌}
 use Rattle.hpx_steps.proofs.Tools.{Changes, Keeps, Put, Sees, asks_of, both, bound_none, brings_few, by_rows, carried, counts_near, due_change, fewer, first_goes, frees_of, holding, post_change, post_waits, put_as, put_less, put_sum, put_tidy, same_asks, same_dead, sees_by, sees_leads, then, told_as, view_worth, weighs_act}
 
 module _ (r : Rules) (s : Turn) (entries : List Entry) (h : IsSound r s entries) (m : Message) (rest : List Due) (fresh : s.fresh ≡ []) (due : s.due ≡ MessageDue m ∷ rest) where

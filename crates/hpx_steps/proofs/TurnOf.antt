@@ -1,10 +1,10 @@
 -- A turn: a message is taken up and dealt with, a frame goes, a line is fed, an action is fired.
-use Rattle.hpx_steps.proofs.Common.{Accepts, Act, Apply, Arrived, Ask, Bool, Cached, DealsWith, Entry, Event, Fire, Free, Give, Go, HasInHand, Id, In, IsAct, IsCalm, IsParcel, IsSound, IsTold, Label, Leaves, Line, List, Mail, MayGoTo, Move, None, OnDesk, Option, Out, Outcome, Outgoing, Parcel, Return, Rules, Shipped, Some, Standing, Stands, State, Step, Steps, Tables, TidyAt, Turn, Writes, [], ap, are_far, arith, at_all, at_rest, breaks, broken, broken_act, broken_move, broken_near, cases_Bool, cond, credit_in, effects, eq-eqb, false, find, fired_acts, held_here, id_at, ids_held, if◌then◌else◌, inl, inr, is_busy, is_far, is_far_act, is_live, is_lost, is_movable, is_standing, is_to, is_to_here, kind_of, leaves, length, line_act, map, may_stay, min, move_to, moves_far, moves_on, name_of, nat_le, nat_lt, nat_tests, ne_eqb, not, parcel_of, place_in, refl, remove, rules_of, slice_get, stands_here, subst, suc, sum_by-cons, sym, target_of, travels_in, true, waits_here, with_act, written, zero, ℕ, ◌&&◌, ◌++◌, ◌+◌, ◌-◌, ◌<◌, ◌==◌, ◌^◌, ◌||◌, ◌∙◌, ◌∷◌, ◌≡◌, ◌≢◌, ◌≤◌, ◌⊎◌}
-use Rattle.hpx_steps.proofs.Tools.{if_so, none_of}
+use Rattle.hpx_steps.proofs.Common.{Accepts, Act, Apply, Arrived, Ask, Cached, DealsWith, Entry, Event, Fire, Free, Give, Go, HasInHand, Id, In, IsAct, IsParcel, IsSound, IsTold, Label, Leaves, Line, List, Mail, MayGoTo, Move, None, OnDesk, Option, Out, Outcome, Outgoing, Parcel, Return, Rules, Shipped, Some, Standing, Stands, State, Step, Steps, Tables, TidyAt, Turn, Writes, [], ap, are_far, arith, at_all, at_rest, breaks, broken, broken_act, broken_move, broken_near, effects, false, find, fired_acts, held_here, id_at, if◌then◌else◌, inl, inr, is_busy, is_far, is_far_act, is_standing, kind_of, leaves, length, line_act, may_stay, min, move_to, moves_far, name_of, nat_le, nat_tests, not, parcel_of, refl, remove, rules_of, slice_get, stands_here, subst, suc, sym, target_of, travels_in, true, waits_here, with_act, written, zero, ℕ, ◌&&◌, ◌++◌, ◌+◌, ◌-◌, ◌<◌, ◌==◌, ◌^◌, ◌∙◌, ◌∷◌, ◌≡◌, ◌≢◌, ◌≤◌, ◌⊎◌}
+use Rattle.hpx_steps.proofs.Tools.{none_of}
 use Rattle.hpx_steps.proofs.Handled.{Leads, act_leads, asked_leads, freed_leads, kept_here, returned_leads}
-use Rattle.hpx_steps.proofs.Rest.{rest_sound}
 use Rattle.hpx_steps.proofs.Right.{go_wrong, near_right, object_wrong, return_right}
 use Rattle.hpx_steps.proofs.Step.{steps_sound}
+use Rattle.hpx_steps.proofs.Still.{rest_sound}
 
 -- where one step after another leads from rest to rest
 pub turn_stands : (act_of : ℕ → ℕ → ℕ → State → Act → Outcome) (t t' : Tables) (entries : List Entry) (labels : List Label) (l : Option Event)
@@ -32,10 +32,6 @@ module _ (n : ℕ) where
 
 -- an action that is taken from the desk may wait here
 module _ (t : Tables) (act : Act) where
-  -- its object is a root or of this home, and stands here
-  stands_so : is_lost t (target_of act) ≡ false → (target_of act).home ≡ t.here → stands_here t (target_of act) ≡ true
-  stands_so lost home = grind arith
-
   stays_apply : act.code ≢ 1 → broken_act t (Apply act) act ≡ None → (target_of act).home ≡ t.here → may_stay t act ≡ true
   stays_apply code right home = grind arith
 

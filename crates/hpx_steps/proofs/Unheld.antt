@@ -1,5 +1,5 @@
 -- Where no credit of an object is held, no action here is on it.
-use Rattle.hpx_steps.proofs.Common.{Accepted, Act, AllByRecursion, Apply, Arrived, Ask, Bool, Cached, Credit, Free, Give, Go, Going, HasInHand, Id, IsFit, IsParcel, IsTidy, List, Move, None, OnDesk, Option, Outgoing, Parcel, Return, Running, Shipped, Some, Token, Turn, Waits, [], act_names, action_of, acts_named, acts_on, all_append, and_false, ap, arith, bare_act, cases_Bool, cond, credit, credit_in, credit_list, credits_of, false, fired_of, flat_map, held, held_here, ids_held, inl, inr, is_held, list_any, map, messages, owing, parcel_acts, parcel_tokens, pow_pos, refl, same_object, same_object-true, session, sum_by, sum_by-append, sum_by-cons, sym, true, view, waiting, waits_here, ℕ, ◌++◌, ◌+◌, ◌∙◌, ◌∷◌, ◌≡◌, ◌≤◌}
+use Rattle.hpx_steps.proofs.Common.{Accepted, Act, AllByRecursion, Apply, Arrived, Ask, Bool, Cached, Credit, Free, Give, Go, Going, HasInHand, Id, IsFit, IsParcel, IsTidy, List, Move, None, OnDesk, Option, Outgoing, Parcel, Return, Running, Shipped, Some, Token, Turn, Waits, [], act_names, action_of, acts_named, acts_on, all_append, and_false, ap, arith, bare_act, cond, credit, credit_in, credit_list, credits_of, false, fired_of, flat_map, held, held_here, ids_held, is_held, list_any, map, messages, owing, parcel_acts, parcel_tokens, pow_pos, refl, same_object, sum_by, sum_by-append, sum_by-cons, true, view, waiting, waits_here, ℕ, ◌++◌, ◌+◌, ◌∙◌, ◌∷◌, ◌≡◌, ◌≤◌}
 use Rattle.hpx_steps.proofs.Tools.{all_among, drop_waits, ids_append, ids_flat, if_so, none_of, target-bare, weighs}
 use Rattle.hpx_steps.proofs.Busy.{or_false}
 use Rattle.hpx_steps.proofs.Cover.{held_acts}
