@@ -1,13 +1,12 @@
 -- An ask is answered: more credit is granted, or refused.
-use Rattle.hpx_steps.proofs.Common.{Ask, Bool, Came, Count, Entry, Give, Going, Granted, Grants, HasCredit, HasInHand, HasLeastCredit, HasPlaces, Id, IsSound, IsTidy, Item, Leads, List, Mailed, MatchOption, OnDesk, Option, Parcel, Reason, Record, Recounts, Refused, Refuses, Row, Rules, Some, StaysAt, Tables, TidyAt, Token, Turn, View, [], ap, arith, asked_by, asks_for, asks_under, bare, bare_due, cases_Bool, causes, cond, count_by, count_in, counted, counts_of, counts_true, drops, eq-eqb, false, find, find_record, flat_map, follows_granted, follows_refused, freeing, given_to, gives_for, goes, going, hopping, inl, inr, is_least, is_other, is_recorded, is_refusal, is_refused, joined, log_of, mails, map, nat_lt, nat_tests, ne_eqb, one_if, option_map_or, owed_token, owes, parcel_asks, parcel_tokens, parcels, pow_pos, raised, refl, same_object, same_object-true, same_token, some_same, subst, sum_by, sum_by-cons, sym, token_own, tokens, true, unpaid, view, waiting, waits_for, weigh, weight, with_records, worth, wrote, ℕ, ◌&&◌, ◌+◌, ◌-◌, ◌<◌, ◌==◌, ◌^◌, ◌∙◌, ◌∷◌, ◌≡◌, ◌≢◌, ◌≤◌, ◌⊎◌}
-use Rattle.hpx_steps.proofs.Tools.{Changes, Keeps, Sees, asks_of, bound_none, by_rows, counts_near, drop_change, drop_waits, fewer, frees_of, hand_fit, holding, in_hand, is_frame, mail_change, mail_tidy, mail_waits, owed_by, same_asks, same_dead, sees_leads, sent_if, then, told_as, total, view_worth}
-use Rattle.hpx_steps.proofs.Mails.{own_is}
+use Rattle.hpx_steps.proofs.Common.{Ask, Bool, Came, Count, Entry, Give, Going, Granted, Grants, HasCredit, HasInHand, HasLeastCredit, HasPlaces, Id, IsSound, IsTidy, Item, Leads, List, Mailed, MatchOption, OnDesk, Option, Parcel, Reason, Record, Recounts, Refused, Refuses, Row, Rules, Some, StaysAt, Tables, TidyAt, Token, Turn, View, [], ap, arith, asked_by, asks_for, asks_under, bare, bare_due, cases_Bool, causes, cond, count_by, count_in, counted, counts_of, counts_true, drops, eq-eqb, false, find, find_record, flat_map, follows_granted, follows_refused, freeing, given_to, gives_for, goes, going, hopping, inl, inr, is_least, is_other, is_recorded, is_refusal, is_refused, joined, log_of, mails, map, nat_lt, nat_tests, ne_eqb, one_if, option_map_or, owed_token, owes, parcel_asks, parcel_tokens, parcels, pow_pos, raised, refl, same_object, same_object-true, same_token, some_same, subst, sum_by, sum_by-cons, sym, token_own, tokens, true, unpaid, view, waiting, waits_for, weigh, weight, with_records, worth, wrote, ℕ, ◌+◌, ◌-◌, ◌<◌, ◌==◌, ◌^◌, ◌∙◌, ◌∷◌, ◌≡◌, ◌≢◌, ◌≤◌, ◌⊎◌}
+use Rattle.hpx_steps.proofs.Tools.{Changes, Keeps, Sees, asks_of, bound_none, by_bool, by_rows, counts_near, drop_change, drop_moves, drop_waits, fewer, frees_of, hand_fit, holding, if_so, in_hand, is_frame, mail_change, mail_tidy, mail_waits, owed_by, same_asks, same_dead, sees_leads, sent_if, then, told_as, total, view_worth}
+use Rattle.hpx_steps.proofs.Mails.{own_is, sent_total}
 use Rattle.hpx_steps.proofs.Records.{found_counted, one_recounted, places_still}
 
 -- what a message weighs that is sent, on the desk or away
 sent_either : (w : Item → ℕ) (b : Bool) (to : ℕ) (p : Parcel) → total w (sent_if true b to p) ≡ cond b (w (Going (going to p))) (w (OnDesk p))
-sent_either w true to p = omega arith
-sent_either w false to p = omega arith
+sent_either w b to p = grind arith
 
 not_less : (a b : ℕ) → b ≤ a → nat_lt a b ≡ false
 not_less a b h = grind (arith, nat_tests)
@@ -44,53 +43,24 @@ module _ (r : Rules) (s : Turn) (entries : List Entry) (h : IsSound r s entries)
   -- where messages weigh the same wherever they are
   pub moves : (w : Item → ℕ) (m n : ℕ) → w (Came (Ask id asker entry)) ≡ m → w (Mailed (Ask id asker entry)) ≡ m → w (OnDesk give) ≡ n
       → w (Going (going asker give)) ≡ n → weigh w now + m ≡ weigh w s + n
-  moves w m n a b c d = omega (arith, turns w, hand_is_so (is_frame (Ask id asker entry) s hand), sent_so other)
-    where
-      hand_is_so : (from : Bool) → w (in_hand from (Ask id asker entry)) ≡ m
-      hand_is_so true = a
-      hand_is_so false = b
-
-      sent_so : (o : Bool) → cond o (w (Going (going asker give))) (w (OnDesk give)) ≡ n
-      sent_so true = d
-      sent_so false = c
+  moves w m n a b c d = omega (arith, drop_moves (Ask id asker entry) s hand w m a b, (mail_change true asker give (with_records records (drops s))).0 w, sent_total w true other asker give n c d)
 
   pub tidy : IsTidy now
   tidy = holding (TidyAt s) (sent_if true other asker give) s now change.1 h.tidy
       (mail_tidy s.tables true asker give (λ b. credit) (λ b. sym home) (λ b. brings) (λ b c. tt))
 
-  -- a message asks for k what it is for
-  abbrev for_one : Id → ℕ → ℕ → Bool
-  for_one o n e = (e == n) && same_object o id
-
   asked_less : (o : Id) (n : ℕ) → cond other 0 (0 + gives_for o n give) ≤ asks_for s.tables.here o n (Ask id asker entry)
-  asked_less o n = each other refl
-    where
-      each : (b : Bool) → is_other s.tables asker ≡ b → cond b 0 (0 + gives_for o n give) ≤ asks_for s.tables.here o n (Ask id asker entry)
-      each true e = omega arith
-      each false e = rw (eq-eqb asker s.tables.here (asker_here s.tables asker near e)) (omega arith)
+  asked_less o n = if_so other (λ t. rw t (omega arith)) (λ f. rw (f, eq-eqb asker s.tables.here (asker_here s.tables asker near f)) (omega arith))
 
   given_less : (j : ℕ) (o : Id) (n : ℕ) → cond other (cond (asker == j) (gives_for o n give) 0) 0 ≤ asks_for j o n (Ask id asker entry)
-  given_less j o n = each other (asker == j)
-    where
-      each : (b c : Bool) → cond b (cond c (gives_for o n give) 0) 0 ≤ one_if (c && ((entry == n) && same_object o id))
-      each true true = omega arith
-      each true false = omega arith
-      each false c = omega arith
+  given_less j o n = grind arith
 
   -- an Ask that is in hand from the own desk is the own
   given_was : (j : ℕ) → j ≢ s.tables.here → (o : Id) (n : ℕ) → given_to j o n was ≡ asks_for j o n (Ask id asker entry)
-  given_was j d o n = each (is_frame (Ask id asker entry) s hand)
-    where
-      each : (b : Bool) → given_to j o n (in_hand b (Ask id asker entry)) ≡ asks_for j o n (Ask id asker entry)
-      each true = refl
-      each false = refl
+  given_was j d o n = by_bool (λ b. given_to j o n (in_hand b (Ask id asker entry)) ≡ asks_for j o n (Ask id asker entry)) refl refl (is_frame (Ask id asker entry) s hand)
 
   asked_was : (o : Id) (n : ℕ) → asked_by s.tables.here o n was ≡ asks_for s.tables.here o n (Ask id asker entry)
-  asked_was o n = each (is_frame (Ask id asker entry) s hand)
-    where
-      each : (b : Bool) → asked_by s.tables.here o n (in_hand b (Ask id asker entry)) ≡ asks_for s.tables.here o n (Ask id asker entry)
-      each true = omega arith
-      each false = omega arith
+  asked_was o n = grind arith
 
   pub waits : waiting now ≡ waiting s
   waits = mail_waits true asker give (with_records records (drops s)) refl ∙ drop_waits (Ask id asker entry) s hand refl
@@ -143,20 +113,9 @@ module _ (r : Rules) (s : Turn) (entries : List Entry) (h : IsSound r s entries)
   -- the Ask owes its credit
   one_owed : 1 ≤ count_by (same_token (owed_token (bare id) 0)) (tokens s)
   one_owed =
-      let f : Token → ℕ = counts_of (same_token (owed_token (bare id) 0)) in
-      let k : weigh (worth f) (drops s) + (worth f (in_hand (is_frame (Ask id asker entry) s hand) (Ask id asker entry)) + 0) ≡ weigh (worth f) s + 0 = (drop_change (Ask id asker entry) s hand).0 (worth f) in
-      omega (
-        arith,
-        k,
-        each f (is_frame (Ask id asker entry) s hand),
-        view_worth f s,
-        owed_by f id 0 least.0,
-        counts_true (same_token (owed_token (bare id) 0)) (owed_token (bare id) 0) (token_own (owed_token (bare id) 0)),
-      )
-    where
-      each : (f : Token → ℕ) (b : Bool) → worth f (in_hand b (Ask id asker entry)) ≡ sum_by f (parcel_tokens (Ask id asker entry))
-      each f true = refl
-      each f false = refl
+      let t : Token = owed_token (bare id) 0 in
+      let f : Token → ℕ = counts_of (same_token t) in
+      omega (arith, drop_moves (Ask id asker entry) s hand (worth f) (f t) (owed_by f id 0 least.0) (owed_by f id 0 least.0), view_worth f s, counts_true (same_token t) t (token_own t))
 
   was_counted : count_in (find (is_recorded (bare id)) (map counted s.tables.records)) ≡ option_map_or (λ (x : Record). x.count) (find_record id s.tables.records) 0
   was_counted = found_counted id s.tables.records
@@ -174,9 +133,6 @@ module _ (r : Rules) (s : Turn) (entries : List Entry) (h : IsSound r s entries)
 
     abbrev grants : Turn
     grants = wrote (Count (bare id) count Granted) (mails asker (Give (record id { log = Some s.tables.profile.credit_log }) entry) (with_records records (drops s)))
-
-    tidy_then : IsTidy grants
-    tidy_then = tidy r s entries h id asker entry count (Some log) Granted records hand near home least.1 (inr refl) some none
 
     traded : (f : Token → ℕ) → sum_by f (tokens grants) + f (owed_token (bare id) 0) ≡ sum_by f (tokens s) + f (owed_token (bare id) log)
     traded f = omega (
@@ -203,9 +159,6 @@ module _ (r : Rules) (s : Turn) (entries : List Entry) (h : IsSound r s entries)
     raised_is : raised s.tables.profile old ≡ record old { count = old.count + 2 ^ log - 1 }
     raised_is = let e : nat_lt s.tables.profile.credit_limit (old.count + 2 ^ log - 1) ≡ false = not_less s.tables.profile.credit_limit (old.count + 2 ^ log - 1) (omega (arith, sum, limit)) in rw e refl
 
-    raised_count : (raised s.tables.profile old).count ≡ count
-    raised_count = ap (λ (x : Record). x.count) raised_is ∙ omega (arith, sum)
-
     pub granted_keeps : Keeps r s grants (Count (bare id) count Granted)
     granted_keeps = answered_keeps r s entries h id asker entry count (Some log) Granted records hand near home least.1 (inr refl) some none (
       seen,
@@ -216,7 +169,7 @@ module _ (r : Rules) (s : Turn) (entries : List Entry) (h : IsSound r s entries)
             sums = λ f weight. omega (arith, traded f, ap (λ n. f (owed_token (bare id) n)) h.rules.credit_log, sum_by-cons f);
           })
           (λ x at. one_recounted id old (Some (raised s.tables.profile old)) s.tables.records records recounts x
-          ∙ ap (λ n. cond (same_object x (bare id)) n (count_in (find (is_recorded x) (map counted s.tables.records)))) raised_count),
+          ∙ ap (λ n. cond (same_object x (bare id)) n (count_in (find (is_recorded x) (map counted s.tables.records)))) (ap (λ (x : Record). x.count) raised_is ∙ omega (arith, sum))),
       sees_leads r seen grants sees,
     )
         (places_still s.tables id old (Some (raised s.tables.profile old)) records recounts

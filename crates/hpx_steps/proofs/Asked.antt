@@ -1,5 +1,5 @@
 -- An id is asked for.
-use Rattle.hpx_steps.proofs.Common.{AreNumbered, Ask, Asked, AskedFor, AsksFor, Bool, Entry, Going, HasLeastCredit, Id, IsCommit, IsSound, IsTidy, Item, List, OnDesk, Parcel, Row, Rules, Some, TidyAt, Token, Turn, View, Waits, Working, [], all_append, ap, arith, asked_by, asking, asks_as, asks_for, asks_under, bare, bare_act, bare_due, cases_Bool, causes, cond, count_by, counts_of, eq-eqb, eqb-true, false, fired_of, follows_asked, freeing, given_to, goes, going, held_token, hopping, id_at, ids_named, inl, inr, is_asked, is_asked_for, is_other, joined, length, mails, map, nat_le, nat_tests, one_if, owed_token, parcel_asks, refl, refusals_of, same_object, set, slice_get, subst, sum_by, sum_by-append, sum_by-cons, sym, tokens, tokens_of, true, unpaid, view, waiting, waits_for, weigh, weight, worth, wrote, ℕ, ◌&&◌, ◌++◌, ◌+◌, ◌<◌, ◌==◌, ◌∙◌, ◌∷◌, ◌≡◌, ◌≤◌}
+use Rattle.hpx_steps.proofs.Common.{AreNumbered, Ask, Asked, AskedFor, AsksFor, Bool, Entry, Going, HasLeastCredit, Id, IsCommit, IsSound, IsTidy, Item, List, OnDesk, Parcel, Row, Rules, Some, TidyAt, Token, Turn, View, Waits, Working, [], all_append, ap, arith, asked_by, asking, asks_as, asks_for, asks_under, bare, bare_act, bare_due, cases_Bool, causes, cond, count_by, counts_of, eq-eqb, eqb-true, false, fired_of, follows_asked, freeing, given_to, goes, going, held_token, hopping, id_at, ids_named, inl, inr, is_asked, is_asked_for, is_other, joined, length, mails, map, one_if, owed_token, parcel_asks, refl, refusals_of, same_object, set, slice_get, subst, sum_by, sum_by-append, sum_by-cons, sym, tokens, tokens_of, true, unpaid, view, waiting, waits_for, weigh, weight, worth, wrote, ℕ, ◌&&◌, ◌++◌, ◌+◌, ◌<◌, ◌==◌, ◌∙◌, ◌∷◌, ◌≡◌}
 use Rattle.hpx_steps.proofs.Tools.{Changes, Keeps, Sees, asks_of, at_place, bound_none, by_rows, counts_near, first_turns, frees_of, has_not_asked, held_by, holding, ids_each, mail_change, mail_tidy, mail_waits, no_tokens, owed_by, put_asked, put_bare, put_elsewhere, put_for, put_names, put_there, recommit, same_dead, seen_sum, sees_by, sees_leads, sent_if, sent_total, set_sum, then, token_held, told_as, total, view_asking, view_worth, work_commits, working_change}
 
 module _ (r : Rules) (s : Turn) (entries : List Entry) (h : IsSound r s entries) (w : Waits) (rest : List Waits) (p : ℕ) (id : Id) (due : s.due ≡ []) (fresh : s.fresh ≡ [])
@@ -49,10 +49,7 @@ module _ (r : Rules) (s : Turn) (entries : List Entry) (h : IsSound r s entries)
   was_not = has_not_asked id 0 least.0
 
   is_now : is_asked (bare id) ≡ true
-  is_now = each id.kind least.1
-    where
-      each : (kind : ℕ) → 16 ≤ kind → (nat_le 16 kind && true) ≡ true
-      each kind le = grind (arith, nat_tests)
+  is_now = grind arith
 
   fit_commit : IsCommit s.tables.here s.tables.localities asker
   fit_commit = recommit s.tables.here s.tables.localities w (set w.hand p (bare id)) (w.asked ++ record { entry = number; place = p } ∷ []) w.places w.refused its

@@ -1,5 +1,5 @@
 -- Between turns all that holds of a turn is what holds of the tables, and the other way round.
-use Rattle.hpx_steps.proofs.Common.{Accepted, Act, Actions, AllByRecursion, AreFired, ArePaused, AreRules, Came, Entry, FreesNone, Going, HasObject, Id, IfSome, IsDue, IsFit, IsForHere, IsKept, IsOnItsWay, IsOwn, IsParcel, IsPaused, IsSound, Item, List, Loose, Mailed, OnDesk, Outgoing, Parcel, Pending, Row, Rules, Running, Standing, StandsAtRest, StandsFor, StandsHere, Tables, TidyAt, Waits, Working, [], all_append, all_parts, ap, append-nil, arith, asked_by, asks_for, at_rest, bare_act, bound_for, flat_map, freeing, given_to, gives_for, hopping, ids_here, joined, kept_ids, length, map, messages, move_to, of_act, parcel_tokens, part, queued, refl, stands_here, subst, sum_by, sum_by-append, sum_by-cons, sym, target_of, tokens_of, true, weigh, weight, ℕ, ◌++◌, ◌+◌, ◌∙◌, ◌∷◌, ◌≡◌, ◌≢◌, ◌≤◌}
+use Rattle.hpx_steps.proofs.Common.{Accepted, Act, Actions, AllByRecursion, AreFired, ArePaused, AreRules, Came, Entry, FreesNone, Going, HasObject, Id, IfSome, IsDue, IsFit, IsForHere, IsKept, IsOnItsWay, IsOwn, IsParcel, IsPaused, IsSound, Item, List, Loose, Mailed, OnDesk, Outgoing, Parcel, Pending, Row, Rules, Running, Standing, StandsAtRest, StandsFor, StandsHere, Tables, TidyAt, Waits, Working, [], all_append, all_parts, append-nil, arith, asked_by, asks_for, at_rest, bare_act, bound_for, freeing, given_to, gives_for, hopping, joined, length, map, messages, move_to, of_act, part, queued, refl, stands_here, subst, sum_by, sum_by-append, sum_by-cons, sym, target_of, true, weigh, weight, ℕ, ◌+◌, ◌∷◌, ◌≡◌, ◌≢◌, ◌≤◌}
 use Rattle.hpx_steps.proofs.Tools.{all_among, among_all, by_rows, long_sum, map_sum, zeros}
 use Rattle.hpx_steps.specs.Rest.{IsTidy, tokens, unpaid, view, waits_for}
 use Rattle.hpx_steps.specs.Rows.{unpaid as turn_unpaid}
@@ -27,12 +27,7 @@ ones xs = sym (long_sum xs)
 module _ (t : Tables) where
   -- what is seen is the same
   view_is : turn_view (at_rest t) ≡ view t [] []
-  view_is =
-      let ids : ids_here (at_rest t) ≡ kept_ids t =
-      ap (λ hands. flat_map (λ (x : Standing). x.state.ids) t.objects ++ (flat_map (λ (a : Act). a.ids) t.accepted ++ (flat_map (λ (a : Act). a.ids) t.running ++ hands)))
-      (append-nil (flat_map (λ (w : Waits). w.hand) t.pending)) in
-      ap (λ ks. record (turn_view (at_rest t)) { tokens = tokens_of ks ++ flat_map parcel_tokens (messages t) }) ids
-      ∙ ap (λ ks. record (turn_view (at_rest t)) { tokens = ks }) (sym (append-nil (tokens t)))
+  view_is = grind (arith, append-nil, tokens)
 
   -- ---- what weighs
 
@@ -52,15 +47,7 @@ module _ (t : Tables) where
           (zeros t.accepted) (zeros t.accepted) (ones t.accepted) (λ o. zeros t.accepted)
 
   hopping_is : weigh hopping (at_rest t) ≡ sum_by (weight Actions) (messages t)
-  hopping_is = omega (
-    arith,
-    sum_by-append (weight Actions) t.desk (map (λ (x : Outgoing). x.parcel) t.outgoing),
-    map_sum (weight Actions) (λ (x : Outgoing). x.parcel) t.outgoing,
-    zeros t.accepted,
-    zeros t.running,
-    zeros t.pending,
-    zeros t.objects,
-  )
+  hopping_is = search (arith, sum_by-append, map_sum, zeros)
 
   joined_is : weigh joined (at_rest t) ≡ length t.accepted
   joined_is = omega (arith, zeros t.desk, zeros t.outgoing, ones t.accepted, zeros t.running, zeros t.pending, zeros t.objects)

@@ -1,5 +1,5 @@
 -- Ids with their credits, and without.
-use Rattle.hpx_steps.proofs.Common.{AllByRecursion, Bool, HasRightCredit, Id, List, MatchOption, None, Option, Some, State, Token, [], and_true, ap, arith, bare, bare_names, bare_state, cond, credit_list, false, filter, held, is_asked, is_some, managed, map, names_of, nat_le, nat_tests, not, refl, same_object, suc, sum_by, sum_by-cons, sym, take, tokens_of, true, with_credit, zero, ℕ, ◌&&◌, ◌++◌, ◌<◌, ◌∙◌, ◌∷◌, ◌≡◌, ◌≤◌}
+use Rattle.hpx_steps.proofs.Common.{AllByRecursion, Bool, HasRightCredit, Id, List, None, Option, Some, State, Token, [], ap, arith, bare, bare_names, bare_state, cond, credit_list, false, filter, held, is_asked, is_some, managed, map, names_of, nat_le, nat_tests, refl, sum_by, sum_by-cons, sym, tokens_of, true, with_credit, ℕ, ◌&&◌, ◌++◌, ◌<◌, ◌∙◌, ◌∷◌, ◌≡◌, ◌≤◌}
 use Rattle.hpx_steps.proofs.Cover.{held_ids, held_or_bare}
 use Rattle.hpx_steps.proofs.Sums.{ids_append}
 
@@ -7,44 +7,21 @@ is_below : (kind : ℕ) → kind < 16 → nat_le 16 kind ≡ false
 is_below kind e = grind (arith, nat_tests)
 
 pub not_asked : (id : Id) → HasRightCredit id → is_asked id ≡ false
-not_asked id h = each id.log h (nat_le 16 id.kind) refl
-  where
-    each : (l : Option ℕ) → MatchOption l (id.kind < 16) (λ x. 16 ≤ id.kind) → (b : Bool) → nat_le 16 id.kind ≡ b → (b && not (is_some l)) ≡ false
-    each None low true e = absurd (let f : true ≡ false = sym e ∙ is_below id.kind low in cc)
-    each None low false e = refl
-    each (Some x) right true e = refl
-    each (Some x) right false e = refl
+not_asked id h = grind arith
 
 -- an id with a credit was not asked for
 pub has_not_asked : (id : Id) (l : ℕ) → id.log ≡ Some l → is_asked id ≡ false
-has_not_asked id l e = ap (λ k. nat_le 16 id.kind && not (is_some k)) e ∙ none (nat_le 16 id.kind)
-  where
-    none : (b : Bool) → (b && false) ≡ false
-    none true = refl
-    none false = refl
-
-pub none_asked : (ids : List Id) (n : ℕ) → AllByRecursion HasRightCredit ids → filter is_asked (take n ids) ≡ []
-none_asked [] zero h = refl
-none_asked [] (suc n) h = refl
-none_asked (id ∷ ids) zero h = refl
-none_asked (id ∷ ids) (suc n) h = rw (not_asked id h.0) (none_asked ids n h.1)
+has_not_asked id l e = grind arith
 
 pub no_bare : (o : Id) → 16 ≤ o.kind → (ids : List Id) → AllByRecursion HasRightCredit ids → bare_names o ids ≡ 0
 no_bare o managed ids h = omega (arith, held_or_bare o ids, held_ids o managed ids h)
 
 one_lent : (b : Bool) → ◌≡◌ {A = ℕ} (cond (b && true) 1 0) (cond b 1 0)
-one_lent true = refl
-one_lent false = refl
+one_lent b = grind arith
 
 pub lent_all : (o : Id) (ids : List Id) → bare_names o (map bare ids) ≡ names_of o ids
 lent_all o [] = refl
-lent_all o (id ∷ ids) = omega (
-  arith,
-  lent_all o ids,
-  one_lent (same_object o id),
-  sum_by-cons (λ (y : Id). cond (same_object o y && not (is_some y.log)) 1 0) (bare id) (map bare ids),
-  sum_by-cons (λ (y : Id). cond (same_object o y) 1 0) id ids,
-)
+lent_all o (id ∷ ids) = search (arith, one_lent, sum_by-cons, lent_all o ids)
 
 pub no_tokens : (f : Token → ℕ) (ids : List Id) → sum_by f (tokens_of (map bare ids)) ≡ 0
 no_tokens f [] = refl
@@ -69,11 +46,7 @@ all_none (id ∷ ids) h = rw (not_asked id h.0) (all_none ids h.1)
 
 -- an id that was asked for has no credit
 pub bare_tokens : (f : Token → ℕ) (id : Id) → is_asked id ≡ true → sum_by f (tokens_of (id ∷ [])) ≡ 0
-bare_tokens f id h = each id.log (and_true (nat_le 16 id.kind) (not (is_some id.log)) h).1
-  where
-    each : (l : Option ℕ) → not (is_some l) ≡ true → sum_by f (map held (credit_list id l ++ [])) ≡ 0
-    each None e = refl
-    each (Some l) e = absurd (cc)
+bare_tokens f id h = grind arith
 
 -- those that have a credit have all the tokens
 pub credit_tokens : (f : Token → ℕ) (ids : List Id) → sum_by f (tokens_of (with_credit ids)) ≡ sum_by f (tokens_of ids)
@@ -87,8 +60,4 @@ credit_tokens f (id ∷ ids) = each (credit_tokens f ids) id.log refl
 
 pub all_with : (ids : List Id) → AllByRecursion HasRightCredit ids → AllByRecursion HasRightCredit (with_credit ids)
 all_with [] h = tt
-all_with (id ∷ ids) h = each (is_some id.log) (all_with ids h.1)
-  where
-    each : (b : Bool) → AllByRecursion HasRightCredit (with_credit ids) → AllByRecursion HasRightCredit (cond b (id ∷ with_credit ids) (with_credit ids))
-    each true rest = (h.0, rest)
-    each false rest = rest
+all_with (id ∷ ids) h = grind (arith, Bool, all_with ids h.1)

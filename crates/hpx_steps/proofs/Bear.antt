@@ -1,10 +1,9 @@
 -- A commit makes an object.
-use Rattle.hpx_steps.proofs.Common.{Bears, Bool, Born, Entry, Event, HasCommits, HasPlaces, Id, IsBirth, IsCommit, IsSound, IsTidy, List, Make, None, Option, Record, Rules, Some, Standing, StandsHere, State, StaysAt, TidyAt, Token, Turn, View, Waits, Working, [], ap, append-nil, arith, asking, bare, bare_act, bare_due, bare_id, bare_standing, birth_of, birth_state, cases_Bool, cond, count_by, count_in, counted, false, false_from, filter, find, find_record, fired_of, follows_born, held_token, id_at, ids_named, inl, inr, is_asked, is_asked_for, is_recorded, is_standing, length, map, map-append, names_of, option_map_or, refl, refusals_of, same_object, same_object-true, session, some_same, subst, sum_by, sum_by-cons, sym, take, tokens, tokens_of, true, view, works_on, worth, wrote, ℕ, ◌++◌, ◌+◌, ◌^◌, ◌∙◌, ◌∷◌, ◌≡◌, ◌≤◌}
-use Rattle.hpx_steps.proofs.Tools.{Changes, Keeps, Sees, all_among, by_rows, counts_near, first_turns, holding, more_come, numbered_so, objects_change, orders_so, pays_so, recommit, sees_by, sees_leads, take_place, then, view_asking, view_worth, work_commits, working_change}
+use Rattle.hpx_steps.proofs.Common.{Bears, Bool, Born, Entry, Event, HasPlaces, Id, IsBirth, IsCommit, IsSound, IsTidy, List, Make, None, Option, Record, Rules, Some, Standing, StandsHere, State, StaysAt, TidyAt, Token, Turn, View, Waits, Working, [], ap, append-nil, arith, asking, bare, bare_due, bare_id, bare_standing, birth_of, birth_state, cond, count_by, count_in, counted, false, false_from, find, find_record, follows_born, held_token, id_at, ids_named, inl, is_asked, is_asked_for, is_recorded, is_standing, length, map, map-append, refl, same_object, same_object-true, session, some_same, subst, sum_by, sum_by-cons, sym, take, tokens, tokens_of, true, view, works_on, worth, wrote, ℕ, ◌++◌, ◌+◌, ◌^◌, ◌∙◌, ◌∷◌, ◌≡◌, ◌≤◌}
+use Rattle.hpx_steps.proofs.Tools.{Changes, Keeps, all_among, by_rows, counts_near, first_turns, holding, if_so, more_come, numbered_so, objects_change, orders_so, pays_so, recommit, sees_by, sees_leads, take_place, then, view_asking, view_worth, work_commits, working_change}
 use Rattle.hpx_steps.proofs.Beside.{more_commits}
-use Rattle.hpx_steps.proofs.Objects.{single_more, stand_more}
+use Rattle.hpx_steps.proofs.Objects.{retidy, single_more, stand_more}
 use Rattle.hpx_steps.proofs.Records.{found_counted}
-use Rattle.hpx_steps.proofs.Tidy.{retidy}
 
 module _ (r : Rules) (s : Turn) (entries : List Entry) (h : IsSound r s entries) (w : Waits) (rest : List Waits) (make : Make) (hand : List Id) (due : s.due ≡ [])
     (works : s.working ≡ w ∷ rest) (fit : IsBirth (birth_of make)) (lacks : w.asked ≡ []) (own : take (length (ids_named w)) hand ≡ take (length (ids_named w)) w.hand)
@@ -51,14 +50,7 @@ module _ (r : Rules) (s : Turn) (entries : List Entry) (h : IsSound r s entries)
 
   -- none of its number stands here
   other : (x : Standing) → TidyAt s (StandsHere x) → same_object x.object o ≡ false
-  other x k = false_from (same_object x.object o) (λ t.
-      let same : bare x.object ≡ o = same_object-true x.object o t in
-      let kind : x.object.kind ≡ make.kind = ap (λ (y : Id). y.kind) same in
-      let home : x.object.home ≡ s.tables.here = ap (λ (y : Id). y.home) same in
-      let number : x.object.number ≡ s.tables.births + 1 = ap (λ (y : Id). y.number) same in
-      let least : 16 ≤ make.kind = fit.least in
-      let low : x.object.number ≤ s.tables.births = k.1 (omega (arith, kind, least)) home in
-      absurd (omega (arith, low, number)))
+  other x k = grind arith
 
   tidy : IsTidy now
   tidy = holding (TidyAt now) (Working bearer ∷ StandsHere new ∷ []) s now change.1
@@ -66,23 +58,16 @@ module _ (r : Rules) (s : Turn) (entries : List Entry) (h : IsSound r s entries)
       (λ q. stand_more (is_standing q) s.tables.objects (new ∷ [])) y (h.tidy y m))
       (fit_commit, ((record { kind = fit.most; state = fit.state; plain = λ k. let least : 16 ≤ make.kind = fit.least in absurd (omega (arith, least, k)) }, λ kind home. omega arith), tt))
 
-  commits_now : HasCommits (s.tables.objects ++ new ∷ []) s.tables.running (bearer ∷ rest ++ s.tables.pending)
-  commits_now = more_commits s.tables.objects s.tables.running (bearer ∷ rest ++ s.tables.pending) new refl (work_commits s w bearer rest works refl h.commits)
-
   -- ---- records
 
   found_more : (x : Id) → find_record x (s.tables.records ++ made ∷ []) ≡ cond (same_object x o) (Some made) (find_record x s.tables.records)
-  found_more x = elim (cases_Bool (same_object x o)) [
-    | inl t ↦ rw t (past s.tables.records t (ap (λ (y : Id). find_record y s.tables.records) (same_object-true x o t) ∙ h.places.unborn o (omega arith)))
-    | inr f ↦ rw f (before s.tables.records f)
-  ]
+  found_more x = if_so (same_object x o)
+      (λ t. rw t (past s.tables.records t (ap (λ (y : Id). find_record y s.tables.records) (same_object-true x o t) ∙ h.places.unborn o (omega arith))))
+      (λ f. rw f (before s.tables.records f))
     where
       past : (rs : List Record) → same_object x o ≡ true → find_record x rs ≡ None → find_record x (rs ++ made ∷ []) ≡ Some made
       past [] t none = rw t refl
-      past (y ∷ ys) t none = elim (cases_Bool (same_object x y.gid)) [
-        | inl a ↦ absurd (let k : Some y ≡ None = rw a at none in cc)
-        | inr b ↦ rw b (past ys t (rw b at none))
-      ]
+      past (y ∷ ys) t none = if_so (same_object x y.gid) (λ a. absurd (let k : Some y ≡ None = rw a at none in cc)) (λ b. rw b (past ys t (rw b at none)))
 
       before : (rs : List Record) → same_object x o ≡ false → find_record x (rs ++ made ∷ []) ≡ find_record x rs
       before [] f = rw f refl
@@ -90,13 +75,7 @@ module _ (r : Rules) (s : Turn) (entries : List Entry) (h : IsSound r s entries)
 
   counts_more : (x : Id) → x.home ≡ s.tables.here → count_in (find (is_recorded x) (map counted (s.tables.records ++ made ∷ [])))
       ≡ cond (same_object x o) (2 ^ r.credit_log) (count_in (find (is_recorded x) (map counted s.tables.records)))
-  counts_more x at = found_counted x (s.tables.records ++ made ∷ []) ∙ (ap (λ (k : Option Record). option_map_or (λ (y : Record). y.count) k 0) (found_more x)
-      ∙ (each (same_object x o) ∙ ap (λ n. cond (same_object x o) (2 ^ r.credit_log) n) (sym (found_counted x s.tables.records))))
-    where
-      each : (b : Bool) → option_map_or (λ (y : Record). y.count) (cond b (Some made) (find_record x s.tables.records)) 0
-          ≡ cond b (2 ^ r.credit_log) (option_map_or (λ (y : Record). y.count) (find_record x s.tables.records) 0)
-      each true = ap (λ n. 2 ^ n) (sym h.rules.credit_log)
-      each false = refl
+  counts_more x at = grind (arith, found_counted, Option, found_more, Bool)
 
   places_now : HasPlaces s.tables.here (s.tables.births + 1) (s.tables.objects ++ new ∷ []) (s.tables.records ++ made ∷ [])
   places_now = record {
@@ -125,12 +104,6 @@ module _ (r : Rules) (s : Turn) (entries : List Entry) (h : IsSound r s entries)
     last = Some e;
   }
 
-  sees : Sees seen now
-  sees = sees_by seen now (ap (λ ws. record (view now) { fired = map bare_act (fired_of s.tables.running (ws ++ s.tables.pending)); objects = map bare_standing s.tables.objects ++ new ∷ [] }) works
-      ∙ ap (λ os. record (view now) { objects = os }) (sym (map-append bare_standing s.tables.objects (new ∷ []))))
-      (λ f fair. refl) (λ x. omega (arith, view_asking x s, view_asking x now, change.0 (asking x), ap (λ ids. names_of x (filter is_asked ids)) own)) (λ x. refl) (λ x. omega arith)
-      (ap (λ ws. record seen { refusals = refusals_of (ws ++ s.tables.pending); failing = length (refusals_of (ws ++ s.tables.pending)) }) works)
-
   pub bear_keeps : Keeps r s now e
   bear_keeps = record {
     leads = (
@@ -141,11 +114,11 @@ module _ (r : Rules) (s : Turn) (entries : List Entry) (h : IsSound r s entries)
             sums = λ f fair. omega (arith, view_worth f, change.0 (worth f), more f, ap (λ n. f (held_token o n)) h.rules.credit_log, sum_by-cons f (held_token o r.credit_log) []);
           })
           counts_more,
-      sees_leads r seen now sees,
+      sees_leads r seen now (grind (arith, sees_by, map-append, view_asking, asking)),
     );
     tidy = tidy;
     places = places_now;
-    commits = commits_now;
+    commits = more_commits s.tables.objects s.tables.running (bearer ∷ rest ++ s.tables.pending) new refl (work_commits s w bearer rest works refl h.commits);
     numbered = numbered_so r s now e (Working w ∷ []) (Working bearer ∷ StandsHere new ∷ []) change.0 (omega arith) (λ n. omega arith);
     pays = pays_so r s now e (Working w ∷ []) (Working bearer ∷ StandsHere new ∷ []) change.0 (by_rows _ refl refl refl refl refl refl refl (λ o. refl)) (omega arith) (omega arith) (λ o. omega arith);
     orders = orders_so r s now e (Working w ∷ []) (Working bearer ∷ StandsHere new ∷ []) change.0 tt (λ o n. omega (arith, ap (λ ys. count_by (is_asked_for w o n) ys) lacks, ap (λ ys. count_by (is_asked_for bearer o n) ys) lacks)) (λ j d o n. omega arith);

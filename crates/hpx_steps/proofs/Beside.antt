@@ -1,9 +1,10 @@
 -- What stands beside commits: where one begins, ends or stands elsewhere among them, and where objects come and go.
-use Rattle.hpx_steps.proofs.Common.{Act, AllByRecursion, Apart, Bool, HasCommits, HasObject, HasRightCredit, Id, IsWhole, Job, List, Single, Some, Standing, State, Waits, [], action_of, acts_on, all_append, all_at, all_parts, all_remove, all_set, ap, append_assoc, arith, bare, bare_names, bare_state, cases_Bool, cond, drop, eqb-true, false, find, fired_of, inl, inr, is_busy, is_standing, list_any, map, map-append, names_of, refl, remove, same_object, same_object-from, same_object-sym, same_object-true, set, slice_get, split_get, subst, suc, sum_by, sum_by-append, sum_by-cons, sum_middle, sym, take, target_of, true, ℕ, ◌++◌, ◌==◌, ◌∙◌, ◌∷◌, ◌≡◌}
+use Rattle.hpx_steps.proofs.Common.{Act, AllByRecursion, Apart, Bool, HasCommits, HasObject, HasRightCredit, Id, IsWhole, Job, List, Single, Some, Standing, State, Waits, [], action_of, acts_on, all_append, all_at, all_parts, all_remove, all_set, ap, append_assoc, arith, bare, bare_names, bare_state, cond, drop, eqb-true, false, find, fired_of, is_busy, is_standing, list_any, map, map-append, names_of, refl, remove, same_object, same_object-from, same_object-sym, set, slice_get, split_get, subst, suc, sum_by, sum_by-append, sum_by-cons, sum_middle, sym, take, target_of, true, ℕ, ◌++◌, ◌==◌, ◌∙◌, ◌∷◌, ◌≡◌}
+use Rattle.hpx_steps.proofs.ByRows.{if_so}
 use Rattle.hpx_steps.proofs.Bare.{lent_all, no_bare}
-use Rattle.hpx_steps.proofs.Busy.{apart_alone, apart_less, apart_moved, busy_moved, busy_none, busy_parts, busy_same, keeps, none_busy, none_of}
-use Rattle.hpx_steps.proofs.Lists.{less_sum, set_sum}
+use Rattle.hpx_steps.proofs.Busy.{apart_alone, apart_less, apart_moved, busy_moved, busy_none, busy_parts, busy_same, keeps, never, none_busy, none_of}
 use Rattle.hpx_steps.proofs.Objects.{all_but, find_less, find_more, find_set, get_set, set_same, single_found, single_set}
+use Rattle.hpx_steps.proofs.Sums.{less_sum, set_sum}
 
 -- its object is found as well among other objects
 object_on : (xs ys : List Standing) (w : Waits) (h : HasObject xs w) → find (is_standing (target_of w.job.action)) ys ≡ Some h.standing → HasObject ys w
@@ -11,18 +12,10 @@ object_on xs ys w h found = record { standing = h.standing; found = found; kind 
 
 -- an object with no action on it is not busy
 no_act : (o : Id) (cs : List Waits) → list_any (λ (w : Waits). acts_on o w.job.action) cs ≡ false → is_busy o (map action_of cs) ≡ false
-no_act o [] h = either (o.kind == 7)
-  where
-    either : (b : Bool) → cond b false false ≡ false
-    either true = refl
-    either false = refl
+no_act o [] h = never (o.kind == 7)
 no_act o (w ∷ cs) h =
     let k = none_of (acts_on o w.job.action) (list_any (λ (y : Waits). acts_on o y.job.action) cs) h in
-    none_busy o w.job.action (map action_of cs) (ap (cond (o.kind == 7) false) k.0 ∙ either (o.kind == 7)) (no_act o cs k.1)
-  where
-    either : (b : Bool) → cond b false false ≡ false
-    either true = refl
-    either false = refl
+    none_busy o w.job.action (map action_of cs) (ap (cond (o.kind == 7) false) k.0 ∙ never (o.kind == 7)) (no_act o cs k.1)
 
 -- ---- an object has another state
 
@@ -30,22 +23,11 @@ module _ (objects : List Standing) (j : ℕ) (act : Act) (old new : Standing) (s
     (same : same_object (target_of act) old.object ≡ true) (name : new.object ≡ old.object) (plain : old.object.kind ≡ 7 → new ≡ old) where
   found_set : (o : Id) (x : Standing) → (same_object o old.object ≡ true → old.object.kind ≡ 7) → find (is_standing o) objects ≡ Some x
       → find (is_standing o) (set objects j new) ≡ Some x
-  found_set o x is_plain found = elim (cases_Bool (same_object o old.object)) [
-    | inl t ↦ ap (λ y. find (is_standing o) (set objects j y)) (plain (is_plain t)) ∙ (ap (find (is_standing o)) (set_same objects j old stands) ∙ found)
-    | inr f ↦ find_set (is_standing o) objects j old new stands f (ap (same_object o) name ∙ f) ∙ found
-  ]
+  found_set o x is_plain found = grind (arith, if_so, set_same, old, find_set)
 
   -- only a plain object has other fired actions
   only_plain : (w : Waits) → keeps (target_of act) w.job.action ≡ false → same_object (target_of w.job.action) old.object ≡ true → old.object.kind ≡ 7
-  only_plain w none t =
-      let both : same_object (target_of act) (target_of w.job.action) ≡ true =
-      same_object-from (target_of act) old.object (target_of w.job.action) same ∙ same_object-sym (target_of w.job.action) old.object t in
-      let kind : (target_of act).kind ≡ old.object.kind = ap (λ (o : Id). o.kind) (same_object-true (target_of act) old.object same) in
-      sym kind ∙ at ((target_of act).kind == 7) refl (ap (λ b. cond ((target_of act).kind == 7) false b) (sym both) ∙ none)
-    where
-      at : (b : Bool) → ((target_of act).kind == 7) ≡ b → cond b false true ≡ false → (target_of act).kind ≡ 7
-      at true e z = eqb-true (target_of act).kind 7 e
-      at false e z = absurd (cc)
+  only_plain w none t = grind arith
 
   pub each_set : (ws : List Waits) → is_busy (target_of act) (map action_of ws) ≡ false → AllByRecursion (HasObject objects) ws
       → AllByRecursion (HasObject (set objects j new)) ws
@@ -116,12 +98,9 @@ module _ (objects : List Standing) (running : List Act) (cs : List Waits) (h : H
         lent_whole : keeps x.object w.job.action ≡ false → AllByRecursion HasRightCredit (map bare x.state.ids)
         lent_whole free = subst (λ ids. AllByRecursion HasRightCredit (map bare ids)) (sym (plain (at (x.object.kind == 7) refl free))) tt
           where
-            on : acts_on x.object w.job.action ≡ true
-            on = ap (λ a. same_object x.object (target_of a)) is ∙ same_object-sym (target_of act) x.object same
-
             at : (b : Bool) → (x.object.kind == 7) ≡ b → cond b false (acts_on x.object w.job.action) ≡ false → x.object.kind ≡ 7
             at true e z = eqb-true x.object.kind 7 e
-            at false e z = absurd (let f : true ≡ false = sym on ∙ z in cc)
+            at false e z = absurd (let f : true ≡ false = sym (ap (λ a. same_object x.object (target_of a)) is ∙ same_object-sym (target_of act) x.object same) ∙ z in cc)
 
 -- ---- a commit ends
 
@@ -151,19 +130,14 @@ module _ (objects : List Standing) (running : List Act) (w : Waits) (cs : List W
       others : (xs : List Standing) → AllByRecursion (IsWhole (w ∷ cs)) xs → AllByRecursion (λ (z : Standing). same_object z.object x.object ≡ false → IsWhole cs z) xs
       others [] all = tt
       others (z ∷ zs) all = (
-        (λ other b. all.0 (none_busy z.object w.job.action (map action_of cs) (ap (cond (z.object.kind == 7) false) (off z other) ∙ either (z.object.kind == 7)) b)),
+        (λ other b. all.0 (none_busy z.object w.job.action (map action_of cs) (ap (cond (z.object.kind == 7) false) (off z other) ∙ never (z.object.kind == 7)) b)),
         others zs all.1,
       )
         where
-          either : (b : Bool) → cond b false false ≡ false
-          either true = refl
-          either false = refl
-
           off : (z : Standing) → same_object z.object x.object ≡ false → same_object z.object (target_of w.job.action) ≡ false
-          off z other = elim (cases_Bool (same_object z.object (target_of w.job.action))) [
-            | inr f ↦ f
-            | inl t ↦ absurd (let e : true ≡ false = sym (same_object-from z.object (target_of w.job.action) x.object t ∙ same) ∙ other in cc)
-          ]
+          off z other = if_so (same_object z.object (target_of w.job.action))
+              (λ t. absurd (let e : true ≡ false = sym (same_object-from z.object (target_of w.job.action) x.object t ∙ same) ∙ other in cc))
+              (λ f. f)
 
 -- ---- a commit stands elsewhere among the others, and may have another hand
 
@@ -239,11 +213,7 @@ more_commits objects running cs x none h = record {
 module _ (objects : List Standing) (running : List Act) (cs : List Waits) (i : ℕ) (x : Standing) (there : slice_get objects i ≡ Some x) (o : Id)
     (same : same_object o x.object ≡ true) (idle : list_any (λ (w : Waits). acts_on o w.job.action) cs ≡ false) (h : HasCommits objects running cs) where
   other : (w : Waits) → acts_on o w.job.action ≡ false → is_standing (target_of w.job.action) x ≡ false
-  other w none = elim (cases_Bool (same_object (target_of w.job.action) x.object)) [
-    | inr f ↦ f
-    | inl t ↦ absurd (let e : true ≡ false =
-        sym (same_object-sym (target_of w.job.action) x.object t) ∙ (sym (same_object-from o x.object (target_of w.job.action) same) ∙ none) in cc)
-  ]
+  other w none = grind arith
 
   each_less : (ws : List Waits) → list_any (λ (w : Waits). acts_on o w.job.action) ws ≡ false → AllByRecursion (HasObject objects) ws
       → AllByRecursion (HasObject (remove objects i)) ws
@@ -255,12 +225,7 @@ module _ (objects : List Standing) (running : List Act) (cs : List Waits) (i : �
       )
 
   pub less_commits : HasCommits (remove objects i) running cs
-  less_commits = record {
-    each = each_less cs idle h.each;
-    apart = h.apart;
-    whole = all_remove (IsWhole cs) objects i h.whole;
-    lent = λ k managed. omega (arith, h.lent k managed, less_sum (λ (y : Standing). bare_names k y.state.ids) objects i x there);
-  }
+  less_commits = grind (arith, each_less, all_remove, less_sum)
 
   -- the ids of its state have their credits
   pub freed_whole : AllByRecursion HasRightCredit x.state.ids

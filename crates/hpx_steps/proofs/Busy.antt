@@ -1,5 +1,6 @@
 -- Busy objects, and what is found in lists without credits.
 use Rattle.hpx_steps.proofs.Common.{Act, Apart, Bool, Id, List, None, Option, Some, Standing, [], acts_on, ap, bare, bare_act, bare_standing, cases_Bool, cond, false, find, inl, inr, is_busy, is_standing, list_any, map, map-append, refl, same_object, same_object-sym, same_object-true, subst, sym, target_of, true, ◌++◌, ◌==◌, ◌||◌, ◌∙◌, ◌∷◌, ◌≡◌}
+use Rattle.hpx_steps.proofs.ByRows.{if_so}
 use Rattle.hpx_steps.proofs.Puts.{target-bare}
 
 pub or_false : (a b : Bool) → a ≡ false → b ≡ false → (a || b) ≡ false
@@ -9,15 +10,17 @@ pub none_of : (a b : Bool) → (a || b) ≡ false → (a ≡ false) × (b ≡ fa
 none_of true b h = absurd (cc)
 none_of false b h = (refl, h)
 
+-- what is false both ways
+pub never : (b : Bool) → cond b false false ≡ false
+never true = refl
+never false = refl
+
 -- whether an action keeps o busy
 abbrev pub keeps : Id → Act → Bool
 keeps o act = cond (o.kind == 7) false (acts_on o act)
 
 busy_first : (o : Id) (act : Act) (acts : List Act) → is_busy o (act ∷ acts) ≡ (keeps o act || is_busy o acts)
-busy_first o act acts = elim (cases_Bool (o.kind == 7)) [
-  | inl t ↦ rw t refl
-  | inr t ↦ rw t refl
-]
+busy_first o act acts = if_so (o.kind == 7) (λ t. rw t refl) (λ t. rw t refl)
 
 pub busy_none : (o : Id) (act : Act) (acts : List Act) → is_busy o (act ∷ acts) ≡ false → (keeps o act ≡ false) × (is_busy o acts ≡ false)
 busy_none o act acts h = none_of (keeps o act) (is_busy o acts) (sym (busy_first o act acts) ∙ h)
@@ -37,19 +40,11 @@ keeps_both a b h = elim (cases_Bool (same_object (target_of b) (target_of a))) [
       let kind : (target_of b).kind ≡ (target_of a).kind = ap (λ (o : Id). o.kind) (same_object-true (target_of b) (target_of a) t) in
       ap (λ k. cond (k == 7) false (same_object (target_of b) (target_of a))) kind
       ∙ (ap (λ c. cond ((target_of a).kind == 7) false c) (t ∙ sym same) ∙ h)
-  | inr t ↦ ap (λ c. cond ((target_of b).kind == 7) false c) t ∙ either ((target_of b).kind == 7)
+  | inr t ↦ ap (λ c. cond ((target_of b).kind == 7) false c) t ∙ never ((target_of b).kind == 7)
 ]
-  where
-    either : (b : Bool) → cond b false false ≡ false
-    either true = refl
-    either false = refl
 
 pub busy_parts : (o : Id) (l m : List Act) → is_busy o (l ++ m) ≡ false → (is_busy o l ≡ false) × (is_busy o m ≡ false)
-busy_parts o [] m h = (none_at (o.kind == 7), h)
-  where
-    none_at : (b : Bool) → cond b false false ≡ false
-    none_at true = refl
-    none_at false = refl
+busy_parts o [] m h = (never (o.kind == 7), h)
 busy_parts o (x ∷ l) m h =
     let first = busy_none o x (l ++ m) h in
     let rest = busy_parts o l m first.1 in (none_busy o x l first.0 rest.0, rest.1)
@@ -97,10 +92,9 @@ apart_moved act l m l' m' same h =
 pub found-bare : (o : Id) (xs : List Standing) (x : Standing) → find (is_standing o) xs ≡ Some x
     → find (is_standing (bare o)) (map bare_standing xs) ≡ Some (bare_standing x)
 found-bare o [] x h = cc
-found-bare o (y ∷ ys) x h = elim (cases_Bool (is_standing o y)) [
-  | inl t ↦ rw t (let e : Some y ≡ Some x = rw t at h in ap (λ (z : Option Standing). option_bare z) e)
-  | inr t ↦ rw t (found-bare o ys x (rw t at h))
-]
+found-bare o (y ∷ ys) x h = if_so (is_standing o y)
+    (λ t. rw t (let e : Some y ≡ Some x = rw t at h in ap (λ (z : Option Standing). option_bare z) e))
+    (λ t. rw t (found-bare o ys x (rw t at h)))
   where
     option_bare : Option Standing → Option Standing
     option_bare None = None

@@ -1,14 +1,9 @@
 -- What many entries have in common.
-use Rattle.hpx_steps.proofs.Common.{Actions, AreNumbered, Ask, Bool, Event, Id, IsOwn, Item, List, Local, Parcel, Row, Rules, SameTokens, SendsOwn, Tables, Turn, View, ap, arith, arrives_at, asked_by, asks_for, asks_under, causes, come, cond, count_by, count_in, counts_of, done_after, false, find, fires_one, freeing, given_to, gives_for, goes, gone, gone_to, hopping, is_answer, is_recorded, joined, joins, length, list_any, ne_eqb, outs_by, own, parcel_asks, parcel_frees, refl, same_object, same_refusal, spends, subst, sym, tokens, true, unpaid, view, waits_for, weigh, wrote, ℕ, ◌+◌, ◌∙◌, ◌≡◌, ◌≢◌, ◌≤◌}
+use Rattle.hpx_steps.proofs.Common.{Actions, AreNumbered, Bool, Event, Id, IsOwn, Item, List, Local, Parcel, Row, Rules, SameTokens, SendsOwn, Tables, Turn, View, ap, arith, arrives_at, asked_by, asks_for, asks_under, causes, come, cond, count_by, counts_of, done_after, fires_one, freeing, given_to, gives_for, goes, gone, gone_to, hopping, joined, joins, length, outs_by, own, parcel_asks, parcel_frees, same_object, spends, subst, sym, tokens, unpaid, view, waits_for, weigh, wrote, ℕ, ◌+◌, ◌∙◌, ◌≡◌, ◌≢◌, ◌≤◌}
 use Rattle.hpx_steps.proofs.Changes.{Sums, total}
 use Rattle.hpx_steps.proofs.Seen.{Sees, as_seen}
 use Rattle.hpx_steps.proofs.Sums.{by_own, by_parcel, own_sum, seen_sum}
 use Rattle.hpx_steps.proofs.Then.{Counts, Keeps, Orders, Pays, comes_to_free, fewer, frees_now}
-
--- one way for true, and one for false
-pub by_bool : (P : Bool → Type 0) → P true → P false → (b : Bool) → P b
-by_bool P a b true = a
-by_bool P a b false = b
 
 -- an entry that tells of the same thing under another name
 pub told_as : {X : Type 0} (r : Rules) (s s' : Turn) (e : X → Event) (t : X → Turn) (x y : X) → x ≡ y → s' ≡ wrote (e x) (t x)
@@ -28,18 +23,7 @@ NearNumbers t t' = SameNumbers (record t { births = t'.births; serial = t'.seria
 pub counts_near : (s s' : Turn) (e : Event) → NearNumbers s.tables s'.tables → s'.tables.births ≤ s.tables.births + 1 → s'.tables.serial ≤ s.tables.serial + 1
     → s'.tables.asked ≤ s.tables.asked + 1 → s'.tables.sent ≡ s.tables.sent + length (outs_by s.tables.here e)
     → s'.tables.taken ≡ s.tables.taken + length (arrives_at s.tables.here e) → ((l : Local) → done_after l e ≡ l.done) → Counts s s' e
-counts_near s s' e near born few asked sent taken done = record {
-  here = ap (λ (t : Tables). t.here) near;
-  localities = ap (λ (t : Tables). t.localities) near;
-  profile = ap (λ (t : Tables). t.profile) near;
-  born = born;
-  few = few;
-  asked = asked;
-  sent = sent;
-  taken = taken;
-  few_answers = omega (arith, ap (λ (t : Tables). t.answered) near);
-  answered = λ l shown. omega (arith, ap (λ (t : Tables). t.answered) near, ap (count_by is_answer) (done l));
-}
+counts_near s s' e near born few asked sent taken done = grind arith
 
 -- ---- what goes and what comes pays, and keeps the order
 
@@ -47,12 +31,7 @@ module _ (r : Rules) (s s' : Turn) (e : Event) (out into : List Item) (sums : Su
   pub pays_so : ((row : Row) → goes r row e + total (unpaid row) into ≡ total (unpaid row) out + causes r row e)
       → spends r e + total hopping into ≤ total hopping out + causes r Actions e → joins e + total joined out ≤ fires_one e + total joined into
       → ((o : Id) → comes_to_free r o e + total (freeing o) out ≤ frees_now o e + total (freeing o) into) → Pays r s s' e
-  pays_so rows once fired frees = record {
-    rows = λ row. omega (arith, sums (unpaid row), rows row);
-    once = omega (arith, sums hopping, once);
-    fired = omega (arith, sums joined, fired);
-    frees = λ o. omega (arith, sums (freeing o), frees o);
-  }
+  pays_so rows once fired frees = grind arith
 
   pub orders_so : SendsOwn r s.tables.localities s.tables.here s.tables.profile.credit_log e
       → ((o : Id) (n : ℕ) → gone r (asks_for s.tables.here o n) e + total (asked_by s.tables.here o n) into + total (waits_for o n) out
@@ -88,23 +67,12 @@ same_dead x s s' less = omega (arith, own_sum (counts_of (same_object x)) parcel
 pub sees_by : (v : View) (s' : Turn) → as_seen v s' ≡ view s' → SameTokens v.tokens (tokens s') → ((x : Id) → count_by (same_object x) v.asking ≡ count_by (same_object x) (view s').asking)
     → ((x : Id) → count_by (same_object x) v.asks ≡ count_by (same_object x) (view s').asks) → ((x : Id) → count_by (same_object x) (view s').dead ≤ count_by (same_object x) v.dead)
     → v ≡ record v { live = (view s').live; refusals = (view s').refusals; failing = (view s').failing } → Sees v s'
-sees_by v s' rest tokens asking asks dead same = record {
-  rest = rest;
-  tokens = tokens;
-  asking = asking;
-  asks = asks;
-  live = λ x home. ap (λ (u : View). count_in (find (is_recorded x) u.live)) same;
-  dead = dead;
-  refusals = λ x k. ap (λ (u : View). list_any (same_refusal x) u.refusals) same ∙ k;
-  failing = omega (arith, ap (λ (u : View). u.failing) same);
-}
+sees_by v s' rest tokens asking asks dead same = grind arith
 
 -- what counts nothing counts nothing to j
 pub bound_none : (b : Bool) (n : ℕ) → n ≡ 0 → ◌≡◌ {A = ℕ} (cond b n 0) 0
-bound_none true n e = e
-bound_none false n e = refl
+bound_none b n e = grind arith
 
 -- an own message asks nothing for others
 pub own_asks : (k log j : ℕ) → j ≢ k → (o : Id) (n : ℕ) (p : Parcel) → IsOwn k log p → asks_for j o n p ≡ 0
-own_asks k log j d o n (Ask id asker entry) own = rw (ne_eqb asker j (λ e. d (sym e ∙ own))) refl
-own_asks k log j d o n _ own = refl
+own_asks k log j d o n b own = grind arith

@@ -1,14 +1,11 @@
 -- The primitive changes of a turn: what all weights are then, and what is there that was not there before.
-use Rattle.hpx_steps.proofs.Common.{Accepted, Act, AllByRecursion, Among, Bool, Came, Due, Going, Has, HasInHand, Holds, Id, IsDue, Item, List, Loose, Mailed, OnDesk, Outgoing, Parcel, Pending, Running, Some, Standing, StandsHere, Turn, Waits, Working, [], ap, arith, cond, drops, false, going, inl, inr, is_other, mails_if, map, may_stay, not, parcel_for, posts, refl, remove, sent_as, set, slice_get, some_same, suc, sum_by, sum_by-append, sum_by-cons, sym, target_of, true, weigh, zero, ℕ, ◌++◌, ◌+◌, ◌∷◌, ◌≡◌, ◌⊎◌}
+use Rattle.hpx_steps.proofs.Common.{Accepted, Act, AllByRecursion, Among, Bool, Came, Due, Going, Has, HasInHand, Holds, Id, IsDue, Item, List, Loose, Mailed, OnDesk, Outgoing, Parcel, Pending, Running, Some, Standing, StandsHere, Turn, Waits, Working, [], ap, arith, cond, drops, false, going, inl, inr, is_other, mails_if, map, may_stay, not, parcel_for, posts, refl, remove, sent_as, set, slice_get, some_same, suc, sum_by, sum_by-append, sum_by-cons, target_of, true, weigh, zero, ℕ, ◌++◌, ◌+◌, ◌∷◌, ◌≡◌, ◌⊎◌}
 
 -- ---- what is among others
 
 pub among_all : {X : Type 0} (P : X → Type 0) (x : X) (xs : List X) → Among x xs → AllByRecursion P xs → P x
 among_all P x [] m h = absurd m
-among_all P x (y ∷ ys) (inl e) h = all_here e h.0
-  where
-    all_here : y ≡ x → P y → P x
-    all_here e k = rw (sym e) k
+among_all P x (y ∷ ys) (inl e) h = grind arith
 among_all P x (y ∷ ys) (inr m) h = among_all P x ys m h.1
 
 pub all_among : {X : Type 0} (P : X → Type 0) (xs : List X) → ((x : X) → Among x xs → P x) → AllByRecursion P xs
@@ -32,10 +29,7 @@ among_right x (z ∷ zs) ys m = inr (among_right x zs ys m)
 pub among_either : {X : Type 0} (x : X) (xs ys : List X) → Among x (xs ++ ys) → Among x xs ⊎ Among x ys
 among_either x [] ys m = inr m
 among_either x (z ∷ zs) ys (inl e) = inl (inl e)
-among_either x (z ∷ zs) ys (inr m) = elim (among_either x zs ys m) [
-  | inl a ↦ inl (inr a)
-  | inr b ↦ inr b
-]
+among_either x (z ∷ zs) ys (inr m) = grind (arith, m, among_either x zs ys m)
 
 among_removed : {X : Type 0} (xs : List X) (i : ℕ) (x : X) → Among x (remove xs i) → Among x xs
 among_removed [] zero x m = m
@@ -49,10 +43,7 @@ among_set [] i y x m = absurd m
 among_set (z ∷ zs) zero y x (inl e) = inr e
 among_set (z ∷ zs) zero y x (inr m) = inl (inr m)
 among_set (z ∷ zs) (suc i) y x (inl e) = inl (inl e)
-among_set (z ∷ zs) (suc i) y x (inr m) = elim (among_set zs i y x m) [
-  | inl a ↦ inl (inr a)
-  | inr e ↦ inr e
-]
+among_set (z ∷ zs) (suc i) y x (inr m) = grind (arith, i, m, among_set zs i y x m)
 
 among_map : {X : Type 0} (c : X → Item) (x : X) (xs : List X) → Among x xs → Among (c x) (map c xs)
 among_map c x [] m = m
@@ -88,23 +79,11 @@ Changes out into s s' = Sums out into s s' × Comes into s s'
 
 -- what holds of all, and of those that come, holds of all then
 pub holding : (P : Item → Type 0) (into : List Item) (s s' : Turn) → Comes into s s' → Holds P s → AllByRecursion P into → Holds P s'
-holding P into s s' k h new i m = elim (k i m) [
-  | inl a ↦ h i a
-  | inr b ↦ among_all P i into b new
-]
+holding P into s s' k h new i m = grind (arith, among_all)
 
 -- one change after another
 pub then : (out into out' into' : List Item) (s m s' : Turn) → Changes out into s m → Changes out' into' m s' → Changes (out ++ out') (into ++ into') s s'
-then out into out' into' s m s' a b = (
-  λ w. omega (arith, a.0 w, b.0 w, total_append w out out', total_append w into into'),
-  λ i h. elim (b.1 i h) [
-    | inr new ↦ inr (among_right i into into' new)
-    | inl was ↦ elim (a.1 i was) [
-      | inl old ↦ inl old
-      | inr new ↦ inr (among_left i into into' new)
-    ]
-  ],
-)
+then out into out' into' s m s' a b = grind (arith, total_append, among_right, among_left)
 
 -- ---- things of one kind
 
@@ -125,11 +104,7 @@ module _ {X : Type 0} (c : X → Item) where
       comes y (inr m) = inl m
 
   pub one_comes : (xs : List X) (x : X) → xs ≡ [] → Trade c [] (c x ∷ []) xs (x ∷ [])
-  one_comes xs x is = record { sums = λ w. omega (arith, ap (sum_by (λ y. w (c y))) is, sum_by-cons (λ y. w (c y)) x []); there = comes }
-    where
-      comes : (y : X) → Among y (x ∷ []) → Among y xs ⊎ Among (c y) (c x ∷ [])
-      comes y (inl e) = inr (inl (ap c e))
-      comes y (inr m) = absurd m
+  one_comes xs x is = grind arith
 
   pub first_turns : (xs : List X) (x y : X) (rest : List X) → xs ≡ x ∷ rest → Trade c (c x ∷ []) (c y ∷ []) xs (y ∷ rest)
   first_turns xs x y rest is = record {
@@ -334,20 +309,14 @@ pub hand_is : (p : Parcel) (s : Turn) (hand : HasInHand p s) → Has s (in_hand 
 hand_is p s (inl h) = rw h.0 (inl refl)
 hand_is p s (inr h) = rw h.1 (inl refl)
 
-none_comes : (s : Turn) → Comes [] s (drops s)
-none_comes s = comes_by [] s (drops s) (λ x m. absurd m) (λ x m. absurd m) (λ x m. inl m) (λ x m. inl m) (λ x m. inl m) (λ x m. inl m) (λ x m. inl m) (λ x m. inl m) (λ x m. inl m) (λ x m. inl m) (λ x m. inl m)
-
 pub drop_change : (p : Parcel) (s : Turn) (hand : HasInHand p s) → Changes (in_hand (is_frame p s hand) p ∷ []) [] s (drops s)
-drop_change p s (inl h) = (
-  λ w. omega (arith, ap (sum_by (λ x. w (Came x))) h.0, ap (sum_by (λ x. w (Mailed x))) h.1, sum_by-cons (λ x. w (Came x)) p []),
-  none_comes s,
-)
-drop_change p s (inr h) = (
-  λ w. omega (arith, ap (sum_by (λ x. w (Came x))) h.0, ap (sum_by (λ x. w (Mailed x))) h.1, sum_by-cons (λ x. w (Mailed x)) p []),
-  none_comes s,
-)
+drop_change p s (inl h) = grind arith
+drop_change p s (inr h) = grind arith
 
--- whose weight sees no difference between frames and the desk
+-- its weight, where that sees no difference between frames and the desk
+pub hand_weighs : (p : Parcel) (s : Turn) (hand : HasInHand p s) (w : Item → ℕ) (n : ℕ) → w (Came p) ≡ n → w (Mailed p) ≡ n → w (in_hand (is_frame p s hand) p) ≡ n
+hand_weighs p s (inl h) w n a b = a
+hand_weighs p s (inr h) w n a b = b
+
 pub drop_moves : (p : Parcel) (s : Turn) → HasInHand p s → (w : Item → ℕ) (n : ℕ) → w (Came p) ≡ n → w (Mailed p) ≡ n → weigh w (drops s) + n ≡ weigh w s
-drop_moves p s (inl h) w n a b = omega (arith, (drop_change p s (inl h)).0 w, a)
-drop_moves p s (inr h) w n a b = omega (arith, (drop_change p s (inr h)).0 w, b)
+drop_moves p s hand w n a b = omega (arith, (drop_change p s hand).0 w, hand_weighs p s hand w n a b)

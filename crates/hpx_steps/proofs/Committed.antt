@@ -1,6 +1,6 @@
 -- A commit in work is done, or fails: its objects are made, its ids are halved, it ends, what is due is sent, and what nobody names is given up.
-use Rattle.hpx_steps.proofs.Common.{Act, AllByRecursion, AreMade, AreWithin, Birth, Commits, Deals, Done, Due, Ends, Entry, Event, HasCredit, HasRightCredit, Id, IsBirth, IsFitDue, IsKept, IsLeftBy, Job, Lasts, List, MatchOption, None, Option, Remains, Rules, Some, Standing, Stands, StandsHere, State, Step, Stock, Suspend, Tables, Turn, Waits, Writes, [], all_at, all_set, answered_by, ap, append-nil, append_assoc, arith, at_all, at_rest, bare, bare_act, bare_standing, bare_state, birth_of, births_of, cond, due_of, ends, false, find, find_passes, get_before, hand_ids, id_at, ids_named, ids_of, is_some, is_standing, length, length-map, map, name_of, named, objects_of, records_of, refl, remove, rules_of, set, slice_get, splits_from, state_after, subst, suc, sym, target_of, ups, waits_with, with_credit, with_due, with_left, written_due, wrote, zero, ℕ, ◌++◌, ◌+◌, ◌<◌, ◌∙◌, ◌∷◌, ◌≡◌, ◌≤◌}
-use Rattle.hpx_steps.proofs.Tools.{all_among, find_more, get_set, single_found, single_set}
+use Rattle.hpx_steps.proofs.Common.{Act, AllByRecursion, AreMade, AreWithin, Birth, Commits, Deals, Done, Due, Ends, Entry, Event, HasCredit, HasRightCredit, Id, IsBirth, IsFitDue, IsKept, IsLeftBy, Job, Lasts, List, None, Option, Remains, Rules, Some, Standing, Stands, StandsHere, State, Step, Stock, Suspend, Tables, Turn, Waits, Writes, [], all_at, all_set, answered_by, ap, append-nil, append_assoc, arith, at_all, at_rest, bare, bare_act, bare_standing, bare_state, birth_of, births_of, cond, due_of, ends, false, find, find_passes, get_before, hand_ids, id_at, ids_named, ids_of, is_some, is_standing, length, length-map, map, name_of, named, objects_of, records_of, refl, remove, rules_of, set, slice_get, splits_from, state_after, subst, suc, sym, target_of, ups, waits_with, with_credit, with_due, with_left, written_due, wrote, zero, ℕ, ◌++◌, ◌+◌, ◌<◌, ◌∙◌, ◌∷◌, ◌≡◌, ◌≤◌}
+use Rattle.hpx_steps.proofs.Tools.{all_among, find_more, get_set, right_log, single_found, single_set, some_log}
 use Rattle.hpx_value.specs.declared.outcome.Outcome.{Outcome}
 use Rattle.hpx_steps.proofs.Made.{Drawn, made_so}
 use Rattle.hpx_steps.proofs.Handled.{Writing, due_steps, let_go, ups_steps, with_loose, writes_append, written_events}
@@ -10,11 +10,7 @@ use Rattle.hpx_steps.proofs.Work.{births_steps, halved_from, splits_steps, with_
 -- ids that all have a credit
 with_all : (ids : List Id) → AllByRecursion HasCredit ids → with_credit ids ≡ ids
 with_all [] h = refl
-with_all (id ∷ ids) h = each id.log h.0 (with_all ids h.1)
-  where
-    each : (l : Option ℕ) → MatchOption l ⊥ (λ x. 16 ≤ id.kind) → with_credit ids ≡ ids → cond (is_some l) (id ∷ with_credit ids) (with_credit ids) ≡ id ∷ ids
-    each None k rest = absurd k
-    each (Some l) k rest = ap (λ is. id ∷ is) rest
+with_all (id ∷ ids) h = ap (λ l. cond (is_some l) (id ∷ with_credit ids) (with_credit ids)) (some_log id.kind id.log h.0) ∙ ap (λ is. id ∷ is) (with_all ids h.1)
 
 -- what an action left is sent and given up
 pub left_steps : (r : Rules) (s : Turn) (due : List Due) (loose : List Id) → s.fresh ≡ [] → AllByRecursion HasCredit loose
@@ -33,31 +29,14 @@ left_steps r s due loose fresh credit =
 
 pub all_right : (ids : List Id) → AllByRecursion HasCredit ids → AllByRecursion HasRightCredit ids
 all_right [] h = tt
-all_right (id ∷ ids) h = (each id.log h.0, all_right ids h.1)
-  where
-    each : (l : Option ℕ) → MatchOption l ⊥ (λ x. 16 ≤ id.kind) → MatchOption l (id.kind < 16) (λ x. 16 ≤ id.kind)
-    each None k = absurd k
-    each (Some l) k = k
+all_right (id ∷ ids) h = (right_log id.kind id.log h.0, all_right ids h.1)
 
 -- it ends, under the name of its action
 pub ends_so : (s : Turn) (w : Waits) (rest : List Waits) (j : ℕ) (x : Standing) (left : Remains) → s.due ≡ [] → s.working ≡ w ∷ rest → w.asked ≡ [] → slice_get s.tables.objects j ≡ Some x
     → find (is_standing (target_of w.job.action)) s.tables.objects ≡ Some x → IsKept (record { object = x.object; state = left.state }) → (x.object.kind ≡ 7 → left.state ≡ x.state)
     → AllByRecursion HasRightCredit left.state.ids → AllByRecursion IsFitDue left.due → AllByRecursion HasCredit left.loose → Deals w.hand left.state left.due left.loose
     → Ends s (name_of w.job.action) w rest j x left
-ends_so s w rest j x left due works lacks stands found kept plain credit fits given_up deals = record {
-  due = due;
-  works = works;
-  lacks = lacks;
-  name = refl;
-  stands = stands;
-  found = found;
-  kept = kept;
-  plain = plain;
-  credit = credit;
-  fits = fits;
-  given_up = all_right left.loose given_up;
-  deals = deals;
-}
+ends_so s w rest j x left due works lacks stands found kept plain credit fits given_up deals = grind (arith, all_right)
 
 -- ---- a commit with this in its hand, and these places named there
 
@@ -144,25 +123,7 @@ pub begins : (r : Rules) (t : Tables) (i j : ℕ) (job : Job) (out : Outcome) (x
     → (later : List Id) → AllByRecursion (λ (id : Id). id.log ≡ None) later → (places : List ℕ)
     → Step r (at_rest t) Suspend (record (at_rest (record t { running = remove t.running i; objects = set t.objects j (record { object = x.object; state = bare_state x.state }) }))
     { working = waits_with job out t.localities [] (record { hand = hand_ids job.state job.action later; places = places }) ∷ [] })
-begins r t i j job out x runs stands found here kind state few later none places = record {
-  calm = record { due = refl; fresh = refl };
-  i = i;
-  j = j;
-  job = job;
-  outcome = out;
-  x = x;
-  runs = runs;
-  stands = stands;
-  found = found;
-  here = here;
-  kind = kind;
-  state = state;
-  few = few;
-  later = later;
-  none = none;
-  places = places;
-  now = refl;
-}
+begins r t i j job out x runs stands found here kind state few later none places = grind arith
 
 module _ (act_of : ℕ → ℕ → ℕ → State → Act → Outcome) (t : Tables) (entries : List Entry) (h : Stands act_of t entries) (i j : ℕ) (job : Job) (out : Outcome) (x : Standing)
     (runs : slice_get t.running i ≡ Some job.action) (stands : slice_get t.objects j ≡ Some x) (found : find (is_standing (target_of job.action)) t.objects ≡ Some x)

@@ -23,10 +23,7 @@ module _ (o : Id) (managed : 16 ≤ o.kind) where
 
   one_held : (id : Id) (log : Option ℕ) → MatchOption log (id.kind < 16) (λ x. 16 ≤ id.kind) → (b : Bool) → same_object o id ≡ b
       → sum_by holds (map held (credit_list id log ++ [])) ≡ cond b 1 0
-  one_held id None right true e = let k : 16 ≤ id.kind = same_kind id e in absurd (omega (arith, k, right))
-  one_held id None right false e = refl
-  one_held id (Some log) right true e = rw e refl
-  one_held id (Some log) right false e = rw e refl
+  one_held id b right c e = grind arith
 
   -- each id that names o has a held token
   pub held_ids : (ids : List Id) → AllByRecursion HasRightCredit ids → weighs holds ids ≡ names (map bare ids)
@@ -69,8 +66,7 @@ all_due (MessageDue m ∷ xs) h = (h.0.sent.credit, all_due xs h.1)
 all_due (PrintDue bytes ∷ xs) h = (tt, all_due xs h.1)
 
 due_bare : (x : Due) → due_ids (bare_due x) ≡ map bare (due_ids x)
-due_bare (MessageDue m) = refl
-due_bare (PrintDue bytes) = refl
+due_bare b = grind arith
 
 -- ids that name o have held tokens, or no credit
 pub held_or_bare : (o : Id) (ids : List Id) → count_by (same_object o) (map bare ids) ≡ weighs (held_counts o) ids + bare_names o ids
@@ -95,14 +91,7 @@ held_states : (o : Id) → 16 ≤ o.kind → (xs : List Standing)
     → sum_by (λ (y : Standing). count_by (same_object o) y.state.ids) (map bare_standing xs)
     ≡ weighs (held_counts o) (flat_map (λ (x : Standing). x.state.ids) xs) + sum_by (λ (x : Standing). bare_names o x.state.ids) xs
 held_states o managed [] = refl
-held_states o managed (x ∷ xs) = omega (
-  arith,
-  sum_by-cons (λ (y : Standing). count_by (same_object o) y.state.ids) (bare_standing x) (map bare_standing xs),
-  sum_by-cons (λ (y : Standing). bare_names o y.state.ids) x xs,
-  ids_append (held_counts o) x.state.ids (flat_map (λ (y : Standing). y.state.ids) xs),
-  held_or_bare o x.state.ids,
-  held_states o managed xs,
-)
+held_states o managed (x ∷ xs) = search (arith, sum_by-cons, ids_append, held_or_bare, held_states o managed xs)
 
 -- the same names, with or without credits
 names_bare : (o : Id) (ids : List Id) → count_by (same_object o) (map bare ids) ≡ count_by (same_object o) ids
@@ -222,13 +211,7 @@ view_covered s tidy lent o managed =
         sum_by-append (λ (w : Waits). weighs (held_counts o) w.hand) s.working s.tables.pending,
         ids_flat (held_counts o) due_ids s.due,
       );
-      pending = omega (
-        arith,
-        view_worth (owed_counts o) s,
-        parcels_sum owed s,
-        flat_sum (λ (x : Id). cond (same_object o x) 1 0) parcel_asks (parcels s),
-        less asks owed (λ p h. asks_owed o p h),
-      );
+      pending = omega (arith, view_worth (owed_counts o) s, parcels_sum owed s, flat_sum (λ (x : Id). cond (same_object o x) 1 0) parcel_asks (parcels s), less asks owed (λ p h. asks_owed o p h));
     }
   where
     hands : (w : Waits) → Among w (commits s) → map bare (own_ids w) ≡ map bare (ids_named w)

@@ -1,25 +1,17 @@
 -- Once all ids of a hand are halved, its credits are those that are dealt, and those that nobody names.
-use Rattle.hpx_steps.proofs.Common.{Act, AllByRecursion, AreWithin, Bool, Deals, Due, Fits, HasRightCredit, Id, List, MatchOption, MessageDue, None, Option, PrintDue, SameDeal, Some, State, Stock, Token, [], action_ids, all_append, all_at, all_set, ap, append-nil, arith, bare, cases_eq, cases_lt, cond, credit_list, deal_stays, deal_then, dealt, drop, drop-drop, due_failed, due_filled, due_ids, failed_sums, false, filled, filled_all, filled_due, filled_sums, flat_map, half, halves_ahead, halves_taken, held, id_at, ids_due, ids_had, inl, inr, is_managed, length, length-append, length-set, managed, map, named, nat_le, nat_tests, option_map, refl, set, shared_from, shares, state_failed, subst, suc, sum_by, sum_by-cons, sums_dealt, sym, take, take-append-drop, take_half, take_halves, tokens_of, true, unnamed, unnamed_from, unused, unused_all, unused_rest, ups_failed, zero, ℕ, ◌&&◌, ◌++◌, ◌+◌, ◌-◌, ◌<◌, ◌==◌, ◌∙◌, ◌∷◌, ◌≡◌, ◌≤◌}
+use Rattle.hpx_steps.proofs.Common.{Act, AllByRecursion, AreWithin, Bool, Deals, Due, Fits, HasRightCredit, Id, List, None, SameDeal, State, Stock, Token, [], action_ids, all_append, all_at, all_set, ap, append-nil, arith, bare, cases_eq, cases_lt, cond, deal_stays, deal_then, dealt, drop, drop-drop, due_failed, due_filled, due_ids, failed_sums, false, filled, filled_all, filled_due, filled_sums, flat_map, half, halves_ahead, halves_taken, id_at, ids_due, ids_had, inl, inr, is_managed, length, length-append, length-set, managed, map, named, refl, shared_from, shares, state_failed, subst, suc, sum_by, sum_by-cons, sums_dealt, sym, take, take-append-drop, take_half, take_halves, tokens_of, true, unnamed, unnamed_from, unused, unused_all, unused_rest, ups_failed, zero, ℕ, ◌&&◌, ◌++◌, ◌+◌, ◌-◌, ◌<◌, ◌==◌, ◌∙◌, ◌∷◌, ◌≡◌, ◌≤◌}
 use Rattle.hpx_steps.proofs.Tools.{ids_append, ids_each, none_tokens, place_at}
 use Rattle.hpx_steps.proofs.Work.{halved_from}
 
 half_right : (id : Id) → HasRightCredit id → HasRightCredit (half id)
-half_right id h = each id.log h
-  where
-    each : (l : Option ℕ) → MatchOption l (id.kind < 16) (λ x. 16 ≤ id.kind) → MatchOption (option_map (λ (n : ℕ). n - 1) l) (id.kind < 16) (λ x. 16 ≤ id.kind)
-    each None k = k
-    each (Some l) k = k
+half_right id h = grind arith
 
 right_at : (ids : List Id) (p : ℕ) → p < length ids → AllByRecursion HasRightCredit ids → HasRightCredit (id_at ids p)
 right_at ids p lt h = all_at HasRightCredit ids p (id_at ids p) h (place_at ids p lt)
 
 halves_right : (k p : ℕ) (st : Stock) → p < length st.hand → AllByRecursion HasRightCredit st.hand → AllByRecursion HasRightCredit (take_halves k p st).hand
 halves_right zero p st lt h = h
-halves_right (suc k) p st lt h =
-    let x : Id = id_at st.hand p in
-    let right : HasRightCredit (half x) = half_right x (right_at st.hand p lt h) in
-    halves_right k p (take_half p st) (omega (arith, lt, length-set st.hand p (half x), length-append (set st.hand p (half x)) (half x ∷ [])))
-    (all_append HasRightCredit (set st.hand p (half x)) (half x ∷ []) (all_set HasRightCredit st.hand p (half x) h right) (right, tt))
+halves_right (suc k) p st lt h = grind (arith, half_right, right_at, length-set, length-append, all_append, all_set, halves_right k p (take_half p st))
 
 -- all that is to be halved before place p, and behind n places, is named once at most
 pub record IsLow (n p : ℕ) (st : Stock) : Type 0 where
@@ -56,14 +48,7 @@ all_low (suc m) n p st le h =
 
 -- an id of no managed object has no credit
 unmanaged : (g : Token → ℕ) (i : Id) → is_managed i ≡ false → HasRightCredit i → sum_by g (tokens_of (i ∷ [])) ≡ 0
-unmanaged g i m h = at i.log h
-  where
-    low_kind : (kind : ℕ) → nat_le 16 kind ≡ false → kind < 16
-    low_kind kind k = search (arith, nat_tests, k)
-
-    at : (l : Option ℕ) → MatchOption l (i.kind < 16) (λ x. 16 ≤ i.kind) → sum_by g (map held (credit_list i l ++ [])) ≡ 0
-    at None k = refl
-    at (Some l) k = absurd (let low = low_kind i.kind m in omega (arith, low, k))
+unmanaged g i m h = grind arith
 
 -- where each place is named once at most, those who name get the ids as they are
 low_tokens : (f : Token → ℕ) (ids : List Id) (places : List ℕ) (p : ℕ) → AllByRecursion HasRightCredit ids → ((q : ℕ) → p ≤ q → q < p + length ids → named places q ≤ 1)
@@ -131,9 +116,7 @@ managed_tokens f (id ∷ ids) h = each (is_managed id) refl (managed_tokens f id
     each false m rest = omega (arith, rest, ids_append f (id ∷ []) ids, unmanaged f id m h.0)
 
 same_due : (due : List Due) → flat_map due_ids due ≡ flat_map ids_due due
-same_due [] = refl
-same_due (MessageDue m ∷ rest) = ap (λ ids. m.ids ++ ids) (same_due rest)
-same_due (PrintDue bytes ∷ rest) = same_due rest
+same_due b = grind arith
 
 -- where a hand is dealt to a state and to what is due, all credits of the hand, once its ids are halved, are there, or loose
 pub plan_deals : (hand : List Id) (places : List ℕ) (state : State) (due : List Due) → AreWithin hand places → AllByRecursion HasRightCredit hand

@@ -1,10 +1,18 @@
--- An action ends: what holds of what it leaves, whether it is done or fails.
-use Rattle.hpx_steps.proofs.Common.{Act, Agree, Agree-found, AllByRecursion, AskedFor, Bool, Done, Due, Ends, Entry, HasCommits, HasPlaces, Id, IsCommit, IsDue, IsSound, IsTidy, Item, Leads, List, Loose, Name, Option, Refusal, Remains, Row, Rules, Some, Standing, StandsHere, State, TidyAt, Token, Turn, Waits, Working, [], action_of, all_append, answered_by, any_counted, ap, arith, asked_by, asking, asks_under, bare_act, bare_standing, bare_state, causes, commits, cond, count_by, counted_any, counts_of, due_ids, ends, false, filter, find, find_passes, fired_of, freeing, given_to, goes, hopping, id_at, ids_named, inl, is_act, is_answer, is_asked, is_asked_for, is_standing, joined, length, length-append, list_any, map, map-append, means, name_of, names_of, option_to_list, own, own_ids, refl, refusal_of, refusals_of, same_object, same_refusal, session, set, some_same, subst, suc, sum_by, sum_by-append, sum_by-cons, sym, take, target_of, tokens, tokens_of, true, unpaid, view, waits_for, weigh, worth, wrote, zero, ℕ, ◌&&◌, ◌++◌, ◌+◌, ◌<◌, ◌==◌, ◌∙◌, ◌∷◌, ◌≡◌, ◌≤◌}
-use Rattle.hpx_steps.proofs.Tools.{Changes, Keeps, among_at, by_rows, due_change, fewer, first_goes, found-bare, holding, ids_each, ids_flat, loose_change, more_come, no_tokens, none_sum, objects_change, one_turns, single_set, stand_set, target-bare, then, total, total_map, view_asking, view_worth, working_change}
+-- An action ends: what holds of what it leaves, and that it is done, or fails.
+use Rattle.hpx_steps.proofs.Common.{Act, Agree, Agree-found, AllByRecursion, AreMade, AskedFor, Bool, Commits, Done, Due, Ends, Entry, Event, Fails, HasCommits, HasPlaces, Id, IsCommit, IsDue, IsSound, IsTidy, Item, Leads, List, Loose, Name, Option, Refusal, Remains, Row, Rules, Some, Standing, StandsHere, State, TidyAt, Token, Turn, View, Waits, Working, [], action_of, all_append, answered_by, any_counted, ap, arith, asked_by, asking, asks_under, bare, bare_act, bare_due, bare_standing, bare_state, causes, commits, cond, count_by, count_in, counted_any, counts_of, drop, due_ids, due_of, ends, failure, false, filter, find, find_passes, fired_of, follows_done, follows_fail, freeing, given_to, goes, hopping, id_at, ids_named, inl, is_act, is_answer, is_asked, is_asked_for, is_recorded, is_standing, joined, length, length-append, list_any, map, map-append, means, name_of, names_of, option_to_list, own, own_ids, refl, refusal_of, refusals_of, same_name-refl, same_object, same_refusal, session, set, some_same, split_get, split_set, state_after, subst, suc, sum_by, sum_by-append, sum_by-cons, sym, take, target_of, tokens, tokens_of, true, unpaid, view, waits_for, weigh, worth, wrote, zero, ℕ, ◌&&◌, ◌++◌, ◌+◌, ◌<◌, ◌==◌, ◌||◌, ◌∙◌, ◌∷◌, ◌≡◌, ◌≤◌}
+use Rattle.hpx_steps.proofs.Seen.{as_seen}
+use Rattle.hpx_steps.proofs.Tools.{Changes, Keeps, Sees, among_at, bare_all, by_rows, due_change, fewer, first_goes, found-bare, holding, ids_each, ids_flat, loose_change, more_come, no_tokens, none_sum, objects_change, one_turns, same_map, sees_covers, sees_leads, single_set, stand_set, target-bare, then, told_as, total, total_map, view_asking, view_covered, view_worth, working_change}
 use Rattle.hpx_steps.proofs.Bare.{bare_lent}
 use Rattle.hpx_steps.proofs.Beside.{end_commits}
 use Rattle.hpx_steps.proofs.Changes.{all_come, total_append}
-use Rattle.hpx_steps.proofs.Tidy.{retidy}
+use Rattle.hpx_steps.proofs.Objects.{retidy}
+
+any_bare : (o : Id) (ids : List Id) → list_any (same_object o) (map bare ids) ≡ list_any (same_object o) ids
+any_bare o [] = refl
+any_bare o (id ∷ ids) = ap (λ b. same_object o id || b) (any_bare o ids)
+
+any_turned : (p : Id → Bool) (xs ys : List Id) → list_any p (xs ++ ys) ≡ true → list_any p (ys ++ xs) ≡ true
+any_turned p xs ys h = any_counted p (ys ++ xs) (omega (arith, counted_any p (xs ++ ys) h, sum_by-append (counts_of p)))
 
 module _ (r : Rules) (s : Turn) (entries : List Entry) (h : IsSound r s entries) (w : Waits) (rest : List Waits) (j : ℕ) (x : Standing) (left : Remains)
     (g : Ends s (name_of w.job.action) w rest j x left) where
@@ -82,12 +90,7 @@ module _ (r : Rules) (s : Turn) (entries : List Entry) (h : IsSound r s entries)
       (λ k. ap (λ y. record { object = x.object; state = y }) (g.plain k)) g.credit lends
 
   pub places_now : HasPlaces s.tables.here s.tables.births (set s.tables.objects j new) s.tables.records
-  places_now = record {
-    serves = λ zero. stand_set (is_standing session) s.tables.objects j x new g.stands refl (h.places.serves zero);
-    unborn = h.places.unborn;
-    places = h.places.places;
-    single = single_set s.tables.objects j x new g.stands refl h.places.single;
-  }
+  places_now = grind (arith, stand_set, single_set)
 
   pub dealt : (f : Token → ℕ) → sum_by f (tokens s) ≡ sum_by f (tokens now)
   dealt f = omega (
@@ -145,15 +148,25 @@ module _ (r : Rules) (s : Turn) (entries : List Entry) (h : IsSound r s entries)
   refusals_split = ap (λ ws. refusals_of (ws ++ s.tables.pending)) g.works
 
   pub refusals_less : (y : Refusal) → list_any (same_refusal y) (refusals_of (rest ++ s.tables.pending)) ≡ true → list_any (same_refusal y) (refusals_of (commits s)) ≡ true
-  refusals_less y k = any_counted (same_refusal y) (refusals_of (commits s)) (omega (
-    arith,
-    counted_any (same_refusal y) (refusals_of (rest ++ s.tables.pending)) k,
-    ap (sum_by (counts_of (same_refusal y))) refusals_split,
-    sum_by-append (counts_of (same_refusal y)) refused (refusals_of (rest ++ s.tables.pending)),
-  ))
+  refusals_less y k = grind arith
 
   pub failing_less : length (refusals_of (commits s)) ≡ length refused + length (refusals_of (rest ++ s.tables.pending))
   failing_less = ap (λ (xs : List Refusal). length xs) refusals_split ∙ length-append refused (refusals_of (rest ++ s.tables.pending))
+
+  -- so it is seen with an entry
+  ends_seen : (v : View) (e : Event) → as_seen v (wrote e now) ≡ view (wrote e now)
+      → v ≡ record v { tokens = tokens s; asking = (view s).asking; asks = (view s).asks; live = (view s).live; dead = (view s).dead; refusals = (view s).refusals }
+      → length (refusals_of (rest ++ s.tables.pending)) ≤ v.failing → Sees v (wrote e now)
+  ends_seen v e rest same failing = record {
+    rest = rest;
+    tokens = λ f fair. ap (λ (u : View). sum_by f u.tokens) same ∙ dealt f;
+    asking = λ o. ap (λ (u : View). count_by (same_object o) u.asking) same ∙ asking_same o;
+    asks = λ o. ap (λ (u : View). count_by (same_object o) u.asks) same;
+    live = λ o home. ap (λ (u : View). count_in (find (is_recorded o) u.live)) same;
+    dead = λ o. omega (arith, ap (λ (u : View). count_by (same_object o) u.dead) same);
+    refusals = λ y k. ap (λ (u : View). list_any (same_refusal y) u.refusals) same ∙ refusals_less y k;
+    failing = failing;
+  }
 
   -- so it is with its Done
   pub done_keeps : (failed : Bool) → Leads r (view s) (Done (name_of w.job.action) failed ∷ []) (view (wrote (Done (name_of w.job.action) failed) now))
@@ -210,7 +223,100 @@ module _ (r : Rules) (s : Turn) (entries : List Entry) (h : IsSound r s entries)
       costs : (row : Row) → goes r row (Done (name_of w.job.action) failed) ≡ causes r row (Done (name_of w.job.action) failed)
       costs = by_rows (λ row. goes r row (Done (name_of w.job.action) failed) ≡ causes r row (Done (name_of w.job.action) failed)) refl refl refl refl refl refl refl (λ o. refl)
 
+  -- ---- it is done
+
+  module _ (right : w.outcome ≡ r.outcome_of x.object.kind s.tables.here x.state (bare_act w.job.action)) (made : AreMade w.outcome.makes s.fresh (map bare_standing s.tables.objects))
+      (says : bare_state left.state ≡ state_after x.state (bare_act w.job.action) s.fresh w.outcome)
+      (leaves : map bare_due left.due ≡ due_of x.state (bare_act w.job.action) s.fresh w.outcome) where
+    abbrev done : Turn
+    done = wrote (Done (name_of w.job.action) false) (ends j w rest x left s)
+
+    abbrev before : List Standing
+    before = map bare_standing (take j s.tables.objects)
+
+    abbrev behind : List Standing
+    behind = map bare_standing (drop (suc j) s.tables.objects)
+
+    objects_are : (view s).objects ≡ before ++ bare_standing x ∷ behind
+    objects_are = ap (map bare_standing) (split_get s.tables.objects j x g.stands) ∙ simp map-append
+
+    abbrev seen : View
+    seen = record (view s) {
+      fired = map bare_act s.tables.running ++ map bare_act (map action_of (rest ++ s.tables.pending));
+      objects = before ++ record { object = bare x.object; state = state_after (bare_state x.state) (bare_act act) s.fresh w.outcome } ∷ behind;
+      fresh = [];
+      due = due_of (bare_state x.state) (bare_act act) s.fresh w.outcome;
+      last = Some (Done (name_of w.job.action) false);
+    }
+
+    objects_then : before ++ record { object = bare x.object; state = state_after (bare_state x.state) (bare_act act) s.fresh w.outcome } ∷ behind ≡ (view done).objects
+    objects_then =
+        ap (λ y. before ++ record { object = bare x.object; state = y } ∷ behind) (ap (λ y. state_after y (bare_act act) s.fresh w.outcome) bare_x ∙ sym says)
+        ∙ (sym (map-append bare_standing (take j s.tables.objects) (new ∷ drop (suc j) s.tables.objects)) ∙ ap (map bare_standing) (sym (split_set s.tables.objects j x new g.stands)))
+
+    sees : Sees seen done
+    sees = ends_seen seen (Done (name_of w.job.action) false) (ap (λ fs. record (view done) { fired = fs; objects = seen.objects; due = seen.due }) fires_then
+        ∙ (ap (λ os. record (view done) { objects = os; due = seen.due }) objects_then
+        ∙ ap (λ ds. record (view done) { due = ds }) (ap (λ y. due_of y (bare_act act) s.fresh w.outcome) bare_x ∙ sym leaves))) refl (omega (arith, failing_less))
+
+    pub committed_keeps : Keeps r s done (Done (name_of w.job.action) false)
+    committed_keeps = done_keeps false (
+      seen,
+      follows_done r (view s) (map bare_act s.tables.running) (map bare_act (map action_of (rest ++ s.tables.pending))) before behind (bare_act act) (bare_standing x) w.outcome
+          (ap (map bare_due) g.due) fires objects_are found (right ∙ ap (λ y. r.outcome_of x.object.kind s.tables.here y (bare_act act)) (sym bare_x)) made
+          (λ b. sees_covers r seen done sees (view_covered done tidy commits_now.lent)),
+      sees_leads r seen done sees,
+    )
+
+  -- ---- it fails: it could get no credit
+
+  module _ (fresh : s.fresh ≡ []) (o : Id) (was_refused : w.refused ≡ Some o) (says : bare_state left.state ≡ bare_state w.job.state)
+      (leaves : map bare_due left.due ≡ failure (bare_act w.job.action)) where
+    abbrev failed : Turn
+    failed = wrote (Done (name_of w.job.action) true) (ends j w rest x left s)
+
+    abbrev seen_failed : View
+    seen_failed = record (view s) {
+      fired = map bare_act s.tables.running ++ map bare_act (map action_of (rest ++ s.tables.pending));
+      due = failure (bare_act act);
+      failing = length (refusals_of (rest ++ s.tables.pending));
+      last = Some (Done (name_of w.job.action) true);
+    }
+
+    objects_same : (view s).objects ≡ (view failed).objects
+    objects_same = sym (same_map bare_standing s.tables.objects j x new g.stands (ap (λ y. record { object = bare x.object; state = y }) (says ∙ (sym lends ∙ sym bare_x))))
+
+    sees_failed : Sees seen_failed failed
+    sees_failed = ends_seen seen_failed (Done (name_of w.job.action) true)
+        (ap (λ fs. record (view failed) { fired = fs; objects = seen_failed.objects; due = seen_failed.due; fresh = s.fresh }) fires_then
+        ∙ (ap (λ os. record (view failed) { objects = os; due = seen_failed.due; fresh = s.fresh }) objects_same
+        ∙ (ap (λ ds. record (view failed) { due = ds; fresh = s.fresh }) (sym leaves) ∙ ap (λ fs. record (view failed) { fresh = fs }) fresh))) refl (omega arith)
+
+    -- an id of the action or of its object was refused
+    named : list_any (same_object o) ((bare_act act).ids ++ (bare_standing x).state.ids) ≡ true
+    named = subst (λ ids. list_any (same_object o) (map bare w.job.action.ids ++ ids) ≡ true) (sym (bare_all w.job.state.ids) ∙ ap (λ (y : State). map bare y.ids) (sym lends))
+        (any_turned (same_object o) (map bare w.job.state.ids) (map bare w.job.action.ids)
+        (ap (list_any (same_object o)) (sym (map-append bare w.job.state.ids w.job.action.ids)) ∙ (any_bare o (ids_named w) ∙ its.refused o was_refused)))
+
+    pub failed_keeps : Keeps r s failed (Done (name_of w.job.action) true)
+    failed_keeps = done_keeps true (
+      seen_failed,
+      follows_fail r (view s) (map bare_act s.tables.running) (map bare_act (map action_of (rest ++ s.tables.pending))) (bare_act act) (bare_standing x) (length (refusals_of (rest ++ s.tables.pending)))
+          (ap (map bare_due) g.due) fresh fires found (grind (arith, refusals_split, same_name-refl, named)) (omega (arith, failing_less, ap (λ k. length (refusal_of w.job.action k)) was_refused))
+          (λ b. sees_covers r seen_failed failed sees_failed (view_covered failed tidy commits_now.lent)),
+      sees_leads r seen_failed failed sees_failed,
+    )
+
 -- under the name of its own action
-pub own_ends : (s : Turn) (a : Name) (w : Waits) (rest : List Waits) (j : ℕ) (x : Standing) (left : Remains) → Ends s a w rest j x left
-    → Ends s (name_of w.job.action) w rest j x left
+own_ends : (s : Turn) (a : Name) (w : Waits) (rest : List Waits) (j : ℕ) (x : Standing) (left : Remains) → Ends s a w rest j x left → Ends s (name_of w.job.action) w rest j x left
 own_ends s a w rest j x left g = subst (λ n. Ends s n w rest j x left) g.name g
+
+pub done_step : (r : Rules) (s s' : Turn) (entries : List Entry) (a : Name) → IsSound r s entries → Commits r s a s' → Keeps r s s' (Done a false)
+done_step r s s' entries a h g =
+    told_as r s s' (λ n. Done n false) (λ n. ends g.j g.w g.rest g.x g.left s) a (name_of g.w.job.action) g.ending.name g.now
+    (committed_keeps r s entries h g.w g.rest g.j g.x g.left (own_ends s a g.w g.rest g.j g.x g.left g.ending) g.right g.made g.says g.leaves)
+
+pub failed_step : (r : Rules) (s s' : Turn) (entries : List Entry) (a : Name) → IsSound r s entries → Fails s a s' → Keeps r s s' (Done a true)
+failed_step r s s' entries a h g =
+    told_as r s s' (λ n. Done n true) (λ n. ends g.j g.w g.rest g.x g.left s) a (name_of g.w.job.action) g.ending.name g.now
+    (failed_keeps r s entries h g.w g.rest g.j g.x g.left (own_ends s a g.w g.rest g.j g.x g.left g.ending) g.fresh g.refusal g.refused g.says g.leaves)

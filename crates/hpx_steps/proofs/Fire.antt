@@ -32,20 +32,14 @@ module _ (r : Rules) (s : Turn) (entries : List Entry) (h : IsSound r s entries)
   waits : waiting s ≡ front ++ bare_act act ∷ back
   waits = ap (λ xs. map bare_act xs ++ flat_map parcel_acts (parcels s)) (split_get s.tables.accepted i act there) ∙ simp (map-append, append_assoc)
 
-  waits_then : front ++ back ≡ waiting now
-  waits_then = simp (map-append, append_assoc)
-
   abbrev running : List Act
   running = map bare_act s.tables.running ++ bare_act act ∷ map bare_act (map action_of (commits s))
-
-  fires_then : running ≡ (view now).fired
-  fires_then = simp (map-append, append_assoc)
 
   abbrev seen : View
   seen = record (view s) { waiting = front ++ back; fired = running; last = Some (Fire (name_of act)) }
 
   sees : Sees seen now
-  sees = sees_by seen now (ap (λ ws. record (view now) { waiting = ws; fired = running }) waits_then ∙ ap (λ fs. record (view now) { fired = fs }) fires_then)
+  sees = sees_by seen now (ap (λ ws. record (view now) { waiting = ws; fired = running }) (simp (map-append, append_assoc)) ∙ ap (λ fs. record (view now) { fired = fs }) (simp (map-append, append_assoc)))
       (λ f weight. omega (arith, view_worth f s, view_worth f now, change.0 (worth f))) (λ x. refl) (λ x. refl) (λ x. omega arith) refl
 
   pub fire_keeps : Keeps r s now (Fire (name_of act))

@@ -1,6 +1,6 @@
 -- A dead object goes.
-use Rattle.hpx_steps.proofs.Common.{Accepted, Act, AllByRecursion, Bool, Came, Entry, Follows, Free, Freed, Going, Has, HasInHand, HasRightCredit, Id, IsDue, IsForHere, IsManaged, IsSound, IsTidy, IsTold, Item, List, Loose, Mailed, None, OnDesk, Outgoing, Pending, Row, Rules, Running, Some, Standing, StandsHere, TidyAt, Token, Turn, View, Waits, Working, [], acts_on, any_counted, ap, arith, asked_by, asks_under, bare_act, bare_due, bare_standing, causes, commits, cond, count_by, credit_list, drop, drops, false, false_from, find, find_passes, flat_map, follows_freed_mailed, follows_freed_taken, freeing, given_to, goes, held, held_here, hopping, inl, inr, is_some, is_standing, joined, list_any, map, map-append, owes, parcel_frees, refl, remove, same_object, same_object-from, same_object-refl, same_object-sym, same_object-true, session, slice_get, split_get, subst, suc, sum_by, sum_by-cons, sym, take, target_of, true, unpaid, view, waiting, waits_for, waits_here, weigh, with_credit, worth, wrote, ℕ, ◌++◌, ◌+◌, ◌∙◌, ◌∷◌, ◌≡◌, ◌≤◌}
-use Rattle.hpx_steps.proofs.Tools.{Changes, Keeps, Sees, among_all, among_at, asks_of, by_rows, counts_near, drop_change, drop_waits, fewer, frees_of, hand_fit, holding, ids_each, in_hand, is_frame, loose_change, more_come, none_of, none_sum, objects_change, one_goes, same_asks, same_dead, sees_leads, target-bare, then, total, total_map, view_worth, zeros}
+use Rattle.hpx_steps.proofs.Common.{Accepted, Act, AllByRecursion, Came, Entry, Follows, Free, Freed, Going, Has, HasInHand, HasRightCredit, Id, IsDue, IsForHere, IsManaged, IsSound, IsTidy, IsTold, Item, List, Loose, Mailed, None, OnDesk, Outgoing, Pending, Row, Rules, Running, Some, Standing, StandsHere, TidyAt, Token, Turn, View, Waits, Working, [], acts_on, any_counted, ap, arith, asked_by, asks_under, bare_act, bare_due, bare_standing, causes, commits, cond, count_by, credit_list, drop, drops, false, false_from, find, find_passes, flat_map, follows_freed_mailed, follows_freed_taken, freeing, given_to, goes, held, held_here, hopping, inl, inr, is_some, is_standing, joined, list_any, map, map-append, owes, parcel_frees, refl, remove, same_object, same_object-from, same_object-refl, same_object-sym, same_object-true, session, slice_get, split_get, subst, suc, sum_by, sum_by-cons, sym, take, target_of, true, unpaid, view, waiting, waits_for, waits_here, weigh, with_credit, worth, wrote, ℕ, ◌++◌, ◌+◌, ◌∙◌, ◌∷◌, ◌≡◌, ◌≤◌}
+use Rattle.hpx_steps.proofs.Tools.{Changes, Keeps, Sees, among_all, among_at, asks_of, by_bool, by_rows, counts_near, drop_change, drop_waits, fewer, frees_of, hand_fit, hand_weighs, holding, ids_each, in_hand, is_frame, loose_change, more_come, none_of, none_sum, objects_change, one_goes, same_asks, same_dead, sees_by, sees_leads, target-bare, then, total, total_map, view_worth, zeros}
 use Rattle.hpx_steps.specs.Steps.{Frees}
 use Rattle.hpx_steps.proofs.Bare.{all_with, credit_tokens}
 use Rattle.hpx_steps.proofs.Beside.{freed_whole, less_commits}
@@ -12,10 +12,7 @@ module _ (r : Rules) (s : Turn) (entries : List Entry) (h : IsSound r s entries)
     (told : IsTold r (Free o) s) (there : slice_get s.tables.objects i ≡ Some x) (found : find (is_standing o) s.tables.objects ≡ Some x)
     (idle : waits_here s.tables o ≡ false) (unheld : held_here s.tables o ≡ 0) where
   hand : HasInHand (Free o) s
-  hand = elim told [
-    | inl k ↦ inr (k.0, k.1)
-    | inr k ↦ inl (k.0, k.1)
-  ]
+  hand = grind arith
 
   abbrev now : Turn
   now = wrote (Freed o) (record (drops s) { loose = s.loose ++ with_credit x.state.ids; tables = record s.tables { objects = remove s.tables.objects i } })
@@ -42,11 +39,7 @@ module _ (r : Rules) (s : Turn) (entries : List Entry) (h : IsSound r s entries)
 
   -- one that sees neither the Free nor the object
   stays : (f : Item → ℕ) → f (Came (Free o)) ≡ 0 → f (Mailed (Free o)) ≡ 0 → f (StandsHere x) ≡ 0 → ((id : Id) → f (Loose id) ≡ 0) → weigh f now ≡ weigh f s
-  stays f a b c d = omega (arith, moves f, from (is_frame (Free o) s hand), c, none_sum (λ id. f (Loose id)) (with_credit x.state.ids) d)
-    where
-      from : (k : Bool) → f (in_hand k (Free o)) ≡ 0
-      from true = a
-      from false = b
+  stays f a b c d = omega (arith, moves f, hand_weighs (Free o) s hand f 0 a b, c, none_sum (λ id. f (Loose id)) (with_credit x.state.ids) d)
 
   bare_o : (o.log ≡ None) × (16 ≤ o.kind)
   bare_o = hand_fit (Free o) s h.tidy hand
@@ -120,22 +113,14 @@ module _ (r : Rules) (s : Turn) (entries : List Entry) (h : IsSound r s entries)
   seen = record (view s) { objects = l ++ m; last = Some (Freed o) }
 
   sees : Sees seen now
-  sees = record {
-    rest = ap (λ os. record (view now) { objects = os; waiting = waiting s }) (sym (map-append bare_standing (take i s.tables.objects) (drop (suc i) s.tables.objects)))
-        ∙ ap (λ ws. record (view now) { waiting = ws }) (sym (drop_waits (Free o) s hand refl));
-    tokens = λ f fair. omega (arith, view_worth f s, view_worth f now, moves (worth f), freed_tokens f (is_frame (Free o) s hand), ids_each f (with_credit x.state.ids), credit_tokens f x.state.ids);
-    asking = λ q. refl;
-    asks = λ q. same_asks q s now (omega (arith, stays (asks_of q) refl refl refl (λ id. refl)));
-    live = λ q home. refl;
-    dead = λ q. same_dead q s now (omega (arith, moves (frees_of q), zeros (with_credit x.state.ids)));
-    refusals = λ y k. k;
-    failing = omega arith;
-  }
+  sees = sees_by seen now (ap (λ os. record (view now) { objects = os; waiting = waiting s }) (sym (map-append bare_standing (take i s.tables.objects) (drop (suc i) s.tables.objects)))
+      ∙ ap (λ ws. record (view now) { waiting = ws }) (sym (drop_waits (Free o) s hand refl)))
+      (λ f fair. omega (arith, view_worth f s, view_worth f now, moves (worth f), freed_tokens f, ids_each f (with_credit x.state.ids), credit_tokens f x.state.ids)) (λ q. refl)
+      (λ q. same_asks q s now (omega (arith, stays (asks_of q) refl refl refl (λ id. refl)))) (λ q. same_dead q s now (omega (arith, moves (frees_of q), zeros (with_credit x.state.ids)))) refl
     where
       -- a Free has no credit
-      freed_tokens : (f : Token → ℕ) (b : Bool) → worth f (in_hand b (Free o)) ≡ 0
-      freed_tokens f true = ap (λ lg. sum_by f (map held (credit_list o lg ++ []))) bare_o.0
-      freed_tokens f false = ap (λ lg. sum_by f (map held (credit_list o lg ++ []))) bare_o.0
+      freed_tokens : (f : Token → ℕ) → worth f was ≡ 0
+      freed_tokens f = let none : sum_by f (map held (credit_list o o.log ++ [])) ≡ 0 = ap (λ lg. sum_by f (map held (credit_list o lg ++ []))) bare_o.0 in hand_weighs (Free o) s hand (worth f) 0 none none
 
   follows : Follows r (view s) (Freed o) (record (view s) { objects = l ++ m; last = Some (Freed o) })
   follows = elim told [
@@ -171,10 +156,10 @@ module _ (r : Rules) (s : Turn) (entries : List Entry) (h : IsSound r s entries)
     commits = less_commits s.tables.objects s.tables.running (commits s) i x there o same all_idle h.commits;
     numbered = fewer s now (omega arith) (λ n. omega (arith, stays (asks_under n) refl refl refl (λ id. refl)));
     pays = record {
-      rows = λ row. omega (arith, moves (unpaid row), zeros (with_credit x.state.ids), costs row (is_frame (Free o) s hand));
+      rows = λ row. omega (arith, moves (unpaid row), zeros (with_credit x.state.ids), hand_weighs (Free o) s hand (unpaid row) (owes row (Free o)) refl refl, costs row);
       once = omega (arith, stays hopping refl refl refl (λ id. refl));
       fired = omega (arith, stays joined refl refl refl (λ id. refl));
-      frees = λ q. omega (arith, moves (freeing q), zeros (with_credit x.state.ids), freed_so q (is_frame (Free o) s hand));
+      frees = λ q. omega (arith, moves (freeing q), zeros (with_credit x.state.ids), by_bool (λ b. freeing q (in_hand b (Free o)) ≤ frees_now q (Freed o)) (omega arith) (omega arith) (is_frame (Free o) s hand));
     };
     orders = record {
       sent = tt;
@@ -184,15 +169,8 @@ module _ (r : Rules) (s : Turn) (entries : List Entry) (h : IsSound r s entries)
     counts = counts_near s now (Freed o) refl (omega arith) (omega arith) (omega arith) (omega arith) (omega arith) (λ lc. refl);
   }
     where
-      costs : (row : Row) (b : Bool) → goes r row (Freed o) ≡ unpaid row (in_hand b (Free o)) + causes r row (Freed o)
-      costs row true = by_rows (λ row. goes r row (Freed o) ≡ owes row (Free o) + causes r row (Freed o))
-          (omega arith) (omega arith) (omega arith) (omega arith) (omega arith) (omega arith) (omega arith) (λ q. omega arith) row
-      costs row false = by_rows (λ row. goes r row (Freed o) ≡ owes row (Free o) + causes r row (Freed o))
-          (omega arith) (omega arith) (omega arith) (omega arith) (omega arith) (omega arith) (omega arith) (λ q. omega arith) row
-
-      freed_so : (q : Id) (b : Bool) → freeing q (in_hand b (Free o)) ≤ frees_now q (Freed o)
-      freed_so q true = omega arith
-      freed_so q false = omega arith
+      costs : (row : Row) → goes r row (Freed o) ≡ owes row (Free o) + causes r row (Freed o)
+      costs = by_rows (λ row. goes r row (Freed o) ≡ owes row (Free o) + causes r row (Freed o)) (omega arith) (omega arith) (omega arith) (omega arith) (omega arith) (omega arith) (omega arith) (λ q. omega arith)
 
 pub freed_step : (r : Rules) (s s' : Turn) (entries : List Entry) (o : Id) → IsSound r s entries → Frees r s o s' → Keeps r s s' (Freed o)
 freed_step r s s' entries o h g = subst (λ x. Keeps r s x (Freed o)) (sym g.now)

@@ -1,6 +1,6 @@
 -- Credit that was asked for is given to a commit that waits for it.
-use Rattle.hpx_steps.proofs.Common.{Act, AskedFor, Bool, Came, Entry, Give, Given, HasCommits, HasCredit, HasInHand, Id, IsCommit, IsGiven, IsSound, IsTidy, Item, List, Mailed, Pending, Refusal, Row, Rules, Some, TidyAt, Token, Turn, View, Waits, Working, [], action_of, and_true, any_counted, ap, append_assoc, arith, asked_by, asking, asks_under, bare, bare_act, bare_due, causes, commits, cond, count_by, counted_any, counts_false, counts_of, counts_true, drop, drops, eqb-true, false, fired_of, follows_given, freeing, given_to, gives_for, goes, goes_on, held_token, hopping, id_at, ids_named, is_asked, is_asked_for, is_least, joined, length, log_of, map, name_of, one_if, owed_token, owes, parcel_asks, refilled, refl, refusal_of, refusals_of, remove, same_object, same_refusal, same_token, set, slice_get, split_get, split_set, subst, suc, sum_by, sum_by-append, sum_by-cons, sum_middle, sym, take, token_own, tokens, tokens_of, true, unpaid, view, waiting, waits_for, weigh, worth, wrote, ℕ, ◌&&◌, ◌++◌, ◌+◌, ◌==◌, ◌∙◌, ◌∷◌, ◌≡◌, ◌≤◌, ◌⊎◌}
-use Rattle.hpx_steps.proofs.Tools.{Changes, Keeps, Sees, among_at, asks_of, by_rows, counts_near, drop_change, drop_waits, fewer, fired_leads, first_comes, flat_sum, frees_of, hand_fit, has_not_asked, held_by, holding, ids_each, in_hand, is_fired, is_frame, leads_on, less_sum, long_sum, map_sum, move_commits, one_goes, one_turns, owed_by, pending_change, put_asked, put_bare, put_for, same_dead, same_fired, seen_sum, sees_leads, set_sum, then, view_asking, view_worth, was_fired, working_change}
+use Rattle.hpx_steps.proofs.Common.{Act, AskedFor, Bool, Came, Entry, Give, Given, HasCommits, HasCredit, HasInHand, Id, IsCommit, IsGiven, IsSound, IsTidy, Item, List, Mailed, Pending, Refusal, Row, Rules, Some, TidyAt, Token, Turn, View, Waits, Working, [], action_of, and_true, any_counted, ap, append_assoc, arith, asked_by, asking, asks_under, bare, bare_act, bare_due, causes, commits, cond, count_by, counted_any, counts_false, counts_of, counts_true, drop, drops, eqb-true, false, fired_of, follows_given, freeing, given_to, gives_for, goes, goes_on, held_token, hopping, id_at, ids_named, is_asked, is_asked_for, is_least, joined, length, log_of, map, name_of, one_if, owed_token, owes, parcel_asks, refilled, refl, refusal_of, refusals_of, remove, same_object, same_token, set, slice_get, split_get, split_set, subst, suc, sum_by, sum_by-append, sum_by-cons, sym, take, token_own, tokens, tokens_of, true, unpaid, view, waits_for, weigh, worth, wrote, ℕ, ◌&&◌, ◌++◌, ◌+◌, ◌==◌, ◌∙◌, ◌∷◌, ◌≡◌, ◌≤◌, ◌⊎◌}
+use Rattle.hpx_steps.proofs.Tools.{Changes, Keeps, among_at, asks_of, by_bool, by_commit, by_rows, counts_near, drop_change, drop_waits, fewer, fired_leads, fired_sum, first_comes, hand_fit, hand_weighs, has_not_asked, held_by, holding, ids_each, in_hand, is_fired, is_frame, leads_on, less_sum, long_sum, map_sum, move_commits, one_goes, one_turns, owed_by, pending_change, put_asked, put_bare, put_for, refuses, same_dead, same_fired, seen_sum, sees_leads, set_sum, then, view_asking, view_refusals, view_worth, was_fired, working_change}
 use Rattle.hpx_steps.proofs.Bare.{bare_tokens}
 use Rattle.hpx_steps.proofs.Refilled.{asked_at_place, asked_low, asked_same, still_commit, still_split, was_asked}
 
@@ -23,22 +23,14 @@ goes_so i w w' working pending there b =
   where
     each : (b : Bool) → working ++ pending ≡ (working ++ take i pending) ++ w ∷ drop (suc i) pending
         → Goes i w w' working pending (cond b (w' ∷ working) working) (cond b (remove pending i) (set pending i w'))
-    each true was = record {
-      l = working ++ take i pending;
-      m = drop (suc i) pending;
-      l' = [];
-      m' = working ++ remove pending i;
-      was = was;
-      is = refl;
-      same = append_assoc working (take i pending) (drop (suc i) pending);
-    }
+    each true was = record { l = working ++ take i pending; m = drop (suc i) pending; l' = []; m' = working ++ remove pending i; was = was; is = refl; same = simp append_assoc }
     each false was = record {
       l = working ++ take i pending;
       m = drop (suc i) pending;
       l' = working ++ take i pending;
       m' = drop (suc i) pending;
       was = was;
-      is = ap (λ xs. working ++ xs) (split_set pending i w w' there) ∙ sym (append_assoc working (take i pending) (w' ∷ drop (suc i) pending));
+      is = ap (λ xs. working ++ xs) (split_set pending i w w' there) ∙ simp append_assoc;
       same = refl;
     }
 
@@ -80,15 +72,7 @@ module _ (r : Rules) (s : Turn) (entries : List Entry) (h : IsSound r s entries)
       → weigh f now + (m + f (Pending w)) ≡ weigh f s + f (Pending given)
   moves f m a b same =
       let k : weigh f now + (f was + (f (Pending w) + 0)) ≡ weigh f s + (f (item last) + 0) = change.0 f in
-      omega (arith, k, from (is_frame (Give id entry) s hand), either last)
-    where
-      from : (c : Bool) → f (in_hand c (Give id entry)) ≡ m
-      from true = a
-      from false = b
-
-      either : (c : Bool) → f (item c) ≡ f (Pending given)
-      either true = same
-      either false = refl
+      omega (arith, k, hand_weighs (Give id entry) s hand f m a b, by_bool (λ c. f (item c) ≡ f (Pending given)) same refl last)
 
   its : TidyAt s (Pending w)
   its = h.tidy (Pending w) (among_at s.tables.pending i w there)
@@ -128,9 +112,6 @@ module _ (r : Rules) (s : Turn) (entries : List Entry) (h : IsSound r s entries)
   gave : is_asked (id_at w.hand ask.place) ≡ true
   gave = was_asked s.tables.here s.tables.localities s.tables.profile.credit_log w n ask id entry its.0 its.1 asked for credit brings
 
-  goes_now : Goes i w given s.working s.tables.pending now.working now.tables.pending
-  goes_now = goes_so i w given s.working s.tables.pending there last
-
   -- the credit comes into the hand
   tokens_hand : (f : Token → ℕ) → sum_by f (tokens_of given.hand) ≡ sum_by f (tokens_of w.hand) + f (held_token (bare id) log)
   tokens_hand f = omega (
@@ -162,41 +143,18 @@ module _ (r : Rules) (s : Turn) (entries : List Entry) (h : IsSound r s entries)
   -- ---- refusals
 
   abbrev k : Goes i w given s.working s.tables.pending now.working now.tables.pending
-  k = goes_now
-
-  split_refusals : (f : Refusal → ℕ) (ls ms : List Waits) (v : Waits)
-      → sum_by f (refusals_of (ls ++ v ∷ ms)) ≡ sum_by f (refusals_of (ls ++ ms)) + sum_by f (refusal_of v.job.action v.refused)
-  split_refusals f ls ms v = omega (arith, flat_sum f (λ (y : Waits). refusal_of y.job.action y.refused), sum_middle (λ (y : Waits). sum_by f (refusal_of y.job.action y.refused)) ls v ms)
+  k = goes_so i w given s.working s.tables.pending there last
 
   turned_refusals : (f : Refusal → ℕ) → sum_by f (refusals_of (commits now)) + sum_by f (refusal_of w.job.action w.refused)
       ≡ sum_by f (refusals_of (commits s)) + sum_by f (refusal_of w.job.action given.refused)
-  turned_refusals f = omega (
-    arith,
-    ap (λ ws. sum_by f (refusals_of ws)) k.is,
-    ap (λ ws. sum_by f (refusals_of ws)) k.was,
-    split_refusals f k.l k.m w,
-    split_refusals f k.l' k.m' given,
-    ap (λ ws. sum_by f (refusals_of ws)) k.same,
-  )
+  turned_refusals f = omega (arith, view_refusals f s, view_refusals f now, moves (by_commit (refuses f)) 0 refl refl refl)
 
   -- a refusal of each fired action
   abbrev refusing : Act → Refusal
   refusing act = record { action = name_of act; object = bare id }
 
   among_fired : (f : Refusal → ℕ) → f (refusing (bare_act w.job.action)) ≤ sum_by f (map refusing (view s).fired)
-  among_fired f =
-      let front : List Act = map bare_act (s.tables.running ++ map action_of k.l) in
-      let back : List Act = map bare_act (map action_of k.m) in
-      let fires : (view s).fired ≡ map bare_act ((s.tables.running ++ map action_of k.l) ++ w.job.action ∷ map action_of k.m) =
-      ap (λ ws. map bare_act (fired_of s.tables.running ws)) k.was
-      ∙ ap (map bare_act) (was_fired s.tables.objects s.tables.running k.l k.m k.l' k.m' w given refl k.same) in
-      omega (
-        arith,
-        ap (λ acts. sum_by f (map refusing acts)) fires,
-        map_sum f refusing (map bare_act ((s.tables.running ++ map action_of k.l) ++ w.job.action ∷ map action_of k.m)),
-        map_sum (λ a. f (refusing a)) bare_act ((s.tables.running ++ map action_of k.l) ++ w.job.action ∷ map action_of k.m),
-        sum_middle (λ a. f (refusing (bare_act a))) (s.tables.running ++ map action_of k.l) w.job.action (map action_of k.m),
-      )
+  among_fired f = grind (arith, map_sum, commits, fired_sum, less_sum, i, there)
 
   refused_more : (f : Refusal → ℕ) → sum_by f (refusals_of (commits now))
       ≤ sum_by f (cond (log == 0) (map refusing (view s).fired) [] ++ refusals_of (commits s))
@@ -217,23 +175,13 @@ module _ (r : Rules) (s : Turn) (entries : List Entry) (h : IsSound r s entries)
   failing_more : length (refusals_of (commits now)) ≤ cond (log == 0) (length (refusals_of (commits s)) + 1) (length (refusals_of (commits s)))
   failing_more = each (log == 0) (ap (λ l. cond (l == 0) (Some (bare id)) w.refused) log_is)
     where
+      long : length (refusals_of (commits now)) + sum_by (λ x. 1) (refusal_of w.job.action w.refused) ≡ length (refusals_of (commits s)) + sum_by (λ x. 1) (refusal_of w.job.action given.refused)
+      long = omega (arith, turned_refusals (λ x. 1), long_sum (refusals_of (commits now)), long_sum (refusals_of (commits s)))
+
       each : (b : Bool) → given.refused ≡ cond b (Some (bare id)) w.refused
           → length (refusals_of (commits now)) ≤ cond b (length (refusals_of (commits s)) + 1) (length (refusals_of (commits s)))
-      each true e = omega (
-        arith,
-        turned_refusals (λ x. 1),
-        long_sum (refusals_of (commits now)),
-        long_sum (refusals_of (commits s)),
-        ap (λ o. sum_by (λ x. 1) (refusal_of w.job.action o)) e,
-        sum_by-cons (λ x. 1) (refusing w.job.action) [],
-      )
-      each false e = omega (
-        arith,
-        turned_refusals (λ x. 1),
-        long_sum (refusals_of (commits now)),
-        long_sum (refusals_of (commits s)),
-        ap (λ o. sum_by (λ x. 1) (refusal_of w.job.action o)) e,
-      )
+      each true e = omega (arith, long, ap (λ o. sum_by (λ x. 1) (refusal_of w.job.action o)) e, sum_by-cons (λ x. 1) (refusing w.job.action) [])
+      each false e = omega (arith, long, ap (λ o. sum_by (λ x. 1) (refusal_of w.job.action o)) e)
 
   -- ---- what is seen
 
@@ -249,20 +197,6 @@ module _ (r : Rules) (s : Turn) (entries : List Entry) (h : IsSound r s entries)
 
   abbrev seen : View
   seen = record told { fired = map bare_act ((s.tables.running ++ map action_of k.l') ++ w.job.action ∷ map action_of k.m') }
-
-  sees : Sees seen now
-  sees = record {
-    rest = ap (λ fs. record (view now) { fired = fs; waiting = waiting s })
-        (ap (map bare_act) (sym (is_fired s.tables.objects s.tables.running k.l k.m k.l' k.m' w given refl k.same)) ∙ ap (λ ws. map bare_act (fired_of s.tables.running ws)) (sym k.is))
-        ∙ ap (λ ws. record (view now) { waiting = ws }) (sym (drop_waits (Give id entry) s hand refl));
-    tokens = λ f fair. refl;
-    asking = λ o. refl;
-    asks = λ o. refl;
-    live = λ o home. refl;
-    dead = λ o. same_dead o s now (omega (arith, moves (frees_of o) 0 refl refl refl));
-    refusals = λ y t. any_counted (same_refusal y) seen.refusals (omega (arith, counted_any (same_refusal y) (refusals_of (commits now)) t, refused_more (counts_of (same_refusal y))));
-    failing = failing_more;
-  }
 
   one_owed : 1 ≤ count_by (same_token (owed_token (bare id) log)) (tokens s)
   one_owed = omega (
@@ -289,7 +223,7 @@ module _ (r : Rules) (s : Turn) (entries : List Entry) (h : IsSound r s entries)
           (ap (λ ws. map bare_act (fired_of s.tables.running ws)) k.was
           ∙ ap (map bare_act) (was_fired s.tables.objects s.tables.running k.l k.m k.l' k.m' w given refl k.same))
           (same_fired s.tables.objects s.tables.running k.l k.m k.l' k.m' w given refl k.same))
-          (sees_leads r seen now sees),
+          (sees_leads r seen now (grind (arith, is_fired, drop_waits, tokens, asking, same_dead, moves, any_counted, counted_any, commits, refused_more, counts_of, failing_more))),
     );
     tidy = tidy;
     places = h.places;

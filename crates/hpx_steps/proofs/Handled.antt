@@ -1,6 +1,6 @@
 -- What calls do is one step after another.
-use Rattle.hpx_steps.proofs.Common.{Act, Apply, Ask, Bool, Count, DealsWith, Due, Event, Free, Freed, Give, Given, Gives, Granted, HasCredit, HasInHand, HasLeastCredit, Id, IsCalm, IsTold, Label, Leaves, List, MatchOption, MessageDue, Move, None, Option, Parcel, Place, Print, PrintDue, Record, Refused, Return, Returned, Rules, Sent, Some, Standing, Step, Steps, Tables, Turn, Up, Writes, [], and_true, answered, ap, append-nil, arith, bare, brings_right, broken_free, cases_Bool, cond, count_here, credit, credit_of_log, draws, drops, eq-eqb, eqb-false, eqb-true, false, find, find_record, freed, goes_on, held_here, ids_in, inl, inr, is_live, is_some, is_standing, length, log_of, lowered, mails, map, map-append, may_stay, more_here, nat_lt, nat_tests, ne_eqb, option_and_then, option_map, option_map_or, or_cases, place_or_0, posts, pow_pos, raised, record_here, refl, remove, returned, set, slice_get, stands_here, subst, suc, sym, true, up_of, ups, waits_here, with_accepted, with_act, with_credit, with_due, with_mail, with_mail_if, with_return, with_returns, without, written, written_by, written_due, wrote, ℕ, ◌++◌, ◌+◌, ◌-◌, ◌<◌, ◌==◌, ◌^◌, ◌∙◌, ◌∷◌, ◌≡◌, ◌≢◌, ◌≤◌, ◌⊎◌}
-use Rattle.hpx_steps.proofs.Tools.{flat_append}
+use Rattle.hpx_steps.proofs.Common.{Act, Apply, Ask, Bool, Count, DealsWith, Due, Event, Free, Freed, Give, Given, Gives, Granted, HasCredit, HasInHand, HasLeastCredit, Id, IsCalm, IsTold, Label, Leaves, List, MatchOption, MessageDue, Move, None, Option, Parcel, Place, Print, PrintDue, Record, Refused, Return, Returned, Rules, Sent, Some, Standing, Step, Steps, Tables, Turn, Up, Writes, [], and_true, answered, ap, append-nil, arith, bare, brings_right, broken_free, cond, count_here, credit, credit_of_log, draws, drops, eqb-true, false, find, find_record, freed, goes_on, held_here, ids_in, is_live, is_some, is_standing, length, log_of, lowered, mails, map, map-append, may_stay, more_here, nat_lt, nat_tests, option_and_then, option_map, option_map_or, place_or_0, posts, pow_pos, raised, record_here, refl, remove, returned, set, slice_get, stands_here, subst, suc, sym, true, up_of, ups, waits_here, with_accepted, with_act, with_credit, with_due, with_mail, with_mail_if, with_return, with_returns, without, written, written_by, written_due, wrote, ℕ, ◌++◌, ◌+◌, ◌-◌, ◌<◌, ◌==◌, ◌^◌, ◌∙◌, ◌∷◌, ◌≡◌, ◌≢◌, ◌≤◌, ◌⊎◌}
+use Rattle.hpx_steps.proofs.Tools.{flat_append, if_so}
 use Rattle.hpx_value.specs.Values.{named}
 use Rattle.hpx_steps.proofs.Right.{free_right}
 
@@ -13,8 +13,7 @@ abbrev pub Writing : Rules → Turn → List Event → Turn → Type 0
 Writing r s es s' = Steps r s (map (λ e. Writes e) es) s'
 
 pub writes_append : (r : Rules) (s m s' : Turn) (es fs : List Event) → Writing r s es m → Writing r m fs s' → Writing r s (es ++ fs) s'
-writes_append r s m s' es fs a b = subst (λ labels. Steps r s labels s') (sym (map-append (λ e. Writes e) es fs))
-    (steps_append r s m s' (map (λ e. Writes e) es) (map (λ e. Writes e) fs) a b)
+writes_append r s m s' es fs a b = grind (arith, map-append, steps_append)
 
 pub written_events : (es : List Event) → written (map (λ e. Writes e) es) ≡ es
 written_events [] = refl
@@ -80,6 +79,10 @@ pub record Leads (r : Rules) (s : Turn) (t' : Tables) (events : List Event) : Ty
   pub writes : written labels ≡ events
   pub steps : Steps r s labels (record (drops s) { tables = t'; last = last })
 
+-- by one entry
+pub one_leads : (r : Rules) (s : Turn) (t' : Tables) (e : Event) → Step r s (Writes e) (record (drops s) { tables = t'; last = Some e }) → Leads r s t' (e ∷ [])
+one_leads r s t' e step = record { last = Some e; labels = Writes e ∷ []; writes = refl; steps = (record (drops s) { tables = t'; last = Some e }, step, refl) }
+
 -- an action that may stay is accepted
 pub kept_here : (t : Tables) (act : Act) → may_stay t act ≡ true → with_act act t ≡ with_accepted act t
 kept_here t act stay = rw stay (simp append-nil)
@@ -99,28 +102,16 @@ module _ (r : Rules) (s : Turn) (calm : IsCalm s) (t' : Tables) where
     );
   }
 
-  -- one that is accepted
-  pub accepted_leads : (act : Act) (p : Parcel) → (p ≡ Apply act) ⊎ (p ≡ Move act) → HasInHand p s → may_stay s.tables act ≡ true
-      → t' ≡ with_accepted act s.tables → Leads r s t' []
-  accepted_leads act p carries hand stay is = act_leads act p carries hand (λ m. stay) (is ∙ sym (kept_here s.tables act stay))
-
   -- ---- records
 
   record_of_live : (o : Id) → is_live s.tables o ≡ true → (x : Record) × (find_record o s.tables.records ≡ Some x)
-  record_of_live o live = each (find_record o s.tables.records) (and_true (o.home == s.tables.here) (is_some (record_here s.tables o)) live).1
-    where
-      each : (k : Option Record) → is_some k ≡ true → (x : Record) × (k ≡ Some x)
-      each None e = absurd (cc)
-      each (Some x) e = (x, refl)
+  record_of_live o live = grind arith
 
   home_of_live : (o : Id) → is_live s.tables o ≡ true → o.home ≡ s.tables.here
   home_of_live o live = eqb-true o.home s.tables.here (and_true (o.home == s.tables.here) (is_some (record_here s.tables o)) live).0
 
   same_last : (a b c : ℕ) → c + b ≡ a → (c == 0) ≡ (a == b)
-  same_last a b c e = elim (cases_Bool (a == b)) [
-    | inl t ↦ let i = eqb-true a b t in eq-eqb c 0 (omega (arith, i, e)) ∙ sym t
-    | inr t ↦ let i = eqb-false a b t in ne_eqb c 0 (λ z. i (omega (arith, z, e))) ∙ sym t
-  ]
+  same_last a b c e = grind arith
 
   -- credit that comes home
   pub returned_leads : (id : Id) → HasInHand (Return id) s → HasCredit id → is_live s.tables id ≡ true → credit id ≤ count_here s.tables id
@@ -133,36 +124,26 @@ module _ (r : Rules) (s : Turn) (calm : IsCalm s) (t' : Tables) where
           let old = record_of_live id live in
           let was : count_here s.tables id ≡ old.0.count = ap (λ (o : Option Record). option_map_or (λ (x : Record). x.count) o 0) old.1 in
           let worth : credit id ≡ 2 ^ log = ap credit_of_log e in
-          let event : Event = Count (bare id) (count_here s.tables id - 2 ^ log) (Returned log) in
-          let count : ℕ = count_here s.tables id - 2 ^ log in record {
-            last = Some event;
-            labels = Writes event ∷ [];
-            writes = refl;
-            steps = (
-              record (drops s) { tables = t'; last = Some event },
-              record {
-                calm = calm;
-                id = id;
-                old = old.0;
-                records = t'.records;
-                hand = hand;
-                object = refl;
-                home = home_of_live id live;
-                has = e;
-                sum = omega (arith, was, worth, enough);
-                recounts = record {
-                  was = old.1;
-                  own = leaves.own ∙ ap (option_and_then (λ (x : Record). lowered x id)) old.1;
-                  others = leaves.others;
-                };
-                now = ap (λ t. record (drops s) { tables = t; last = Some event })
-                    (deals ∙ (ap (λ b. record (with_mail_if b (place_or_0 s.tables id) (Free (bare id)) s.tables) { records = t'.records })
-                    (sym (same_last (count_here s.tables id) (credit id) (count_here s.tables id - 2 ^ log) (omega (arith, worth, enough))))
-                    ∙ ap (λ (o : Option Record). record (with_mail_if ((count_here s.tables id - 2 ^ log) == 0) (option_map_or (λ (x : Record). x.place) o 0) (Free (bare id)) s.tables) { records = t'.records }) old.1));
-              },
-              refl,
-            );
-          }
+          let event : Event = Count (bare id) (count_here s.tables id - 2 ^ log) (Returned log) in one_leads r s t' event (record {
+            calm = calm;
+            id = id;
+            old = old.0;
+            records = t'.records;
+            hand = hand;
+            object = refl;
+            home = home_of_live id live;
+            has = e;
+            sum = omega (arith, was, worth, enough);
+            recounts = record {
+              was = old.1;
+              own = leaves.own ∙ ap (option_and_then (λ (x : Record). lowered x id)) old.1;
+              others = leaves.others;
+            };
+            now = ap (λ t. record (drops s) { tables = t; last = Some event })
+                (deals ∙ (ap (λ b. record (with_mail_if b (place_or_0 s.tables id) (Free (bare id)) s.tables) { records = t'.records })
+                (sym (same_last (count_here s.tables id) (credit id) (count_here s.tables id - 2 ^ log) (omega (arith, worth, enough))))
+                ∙ ap (λ (o : Option Record). record (with_mail_if ((count_here s.tables id - 2 ^ log) == 0) (option_map_or (λ (x : Record). x.place) o 0) (Free (bare id)) s.tables) { records = t'.records }) old.1));
+          })
 
   -- an ask
   pub asked_leads : (id : Id) (asker entry : ℕ) → HasInHand (Ask id asker entry) s → HasLeastCredit id → asker < s.tables.localities → 1 ≤ s.tables.profile.credit_log
@@ -194,66 +175,48 @@ module _ (r : Rules) (s : Turn) (calm : IsCalm s) (t' : Tables) where
       each : (b : Bool) → nat_lt s.tables.profile.credit_limit (more_here s.tables id) ≡ b
           → Leads r s t' (cond b (Count (bare id) (count_here s.tables id) Refused) (Count (bare id) (more_here s.tables id) Granted) ∷ [])
       each true e =
-          let event : Event = Count (bare id) (count_here s.tables id) Refused in record {
-            last = Some event;
-            labels = Writes event ∷ [];
-            writes = refl;
-            steps = (
-              record (drops s) { tables = t'; last = Some event },
-              record {
-                calm = calm;
-                id = id;
-                asker = asker;
-                entry = entry;
-                old = old.0;
-                records = t'.records;
-                live = omega (arith, was, one, enough);
-                hand = hand;
-                near = near;
-                object = refl;
-                home = home_of_live id live;
-                same = was;
-                limit = let l : s.tables.profile.credit_limit < more_here s.tables id = is_less s.tables.profile.credit_limit (more_here s.tables id) e in omega (arith, l, pow_pos s.tables.profile.credit_log);
-                recounts = record {
-                  was = old.1;
-                  own = own ∙ ap (λ c. Some (cond c old.0 (record old.0 { count = old.0.count + 2 ^ s.tables.profile.credit_log - 1 }))) (lim ∙ e);
-                  others = leaves.others;
-                };
-                now = ap (λ t. record (drops s) { tables = t; last = Some event })
-                    (deals ∙ ap (λ c. record (with_mail asker (Give (cond c id (record id { log = Some s.tables.profile.credit_log })) entry) s.tables) { records = t'.records }) e);
-              },
-              refl,
-            );
-          }
+          let event : Event = Count (bare id) (count_here s.tables id) Refused in one_leads r s t' event (record {
+            calm = calm;
+            id = id;
+            asker = asker;
+            entry = entry;
+            old = old.0;
+            records = t'.records;
+            live = omega (arith, was, one, enough);
+            hand = hand;
+            near = near;
+            object = refl;
+            home = home_of_live id live;
+            same = was;
+            limit = let l : s.tables.profile.credit_limit < more_here s.tables id = is_less s.tables.profile.credit_limit (more_here s.tables id) e in omega (arith, l, pow_pos s.tables.profile.credit_log);
+            recounts = record {
+              was = old.1;
+              own = own ∙ ap (λ c. Some (cond c old.0 (record old.0 { count = old.0.count + 2 ^ s.tables.profile.credit_log - 1 }))) (lim ∙ e);
+              others = leaves.others;
+            };
+            now = ap (λ t. record (drops s) { tables = t; last = Some event })
+                (deals ∙ ap (λ c. record (with_mail asker (Give (cond c id (record id { log = Some s.tables.profile.credit_log })) entry) s.tables) { records = t'.records }) e);
+          })
       each false e =
-          let event : Event = Count (bare id) (more_here s.tables id) Granted in record {
-            last = Some event;
-            labels = Writes event ∷ [];
-            writes = refl;
-            steps = (
-              record (drops s) { tables = t'; last = Some event },
-              record {
-                calm = calm;
-                id = id;
-                asker = asker;
-                entry = entry;
-                old = old.0;
-                records = t'.records;
-                live = omega (arith, was, one, enough);
-                lasts = lasts;
-                hand = hand;
-                near = near;
-                object = refl;
-                home = home_of_live id live;
-                sum = omega (arith, was, one, enough);
-                limit = is_at_most s.tables.profile.credit_limit (more_here s.tables id) e;
-                recounts = record { was = old.1; own = own; others = leaves.others };
-                now = ap (λ t. record (drops s) { tables = t; last = Some event })
-                    (deals ∙ ap (λ c. record (with_mail asker (Give (cond c id (record id { log = Some s.tables.profile.credit_log })) entry) s.tables) { records = t'.records }) e);
-              },
-              refl,
-            );
-          }
+          let event : Event = Count (bare id) (more_here s.tables id) Granted in one_leads r s t' event (record {
+            calm = calm;
+            id = id;
+            asker = asker;
+            entry = entry;
+            old = old.0;
+            records = t'.records;
+            live = omega (arith, was, one, enough);
+            lasts = lasts;
+            hand = hand;
+            near = near;
+            object = refl;
+            home = home_of_live id live;
+            sum = omega (arith, was, one, enough);
+            limit = is_at_most s.tables.profile.credit_limit (more_here s.tables id) e;
+            recounts = record { was = old.1; own = own; others = leaves.others };
+            now = ap (λ t. record (drops s) { tables = t; last = Some event })
+                (deals ∙ ap (λ c. record (with_mail asker (Give (cond c id (record id { log = Some s.tables.profile.credit_log })) entry) s.tables) { records = t'.records }) e);
+          })
 
 -- ---- an object is freed
 
@@ -274,12 +237,9 @@ pub record Found (p : Standing → Bool) (xs : List Standing) (x : Standing) : T
 
 found_place : (p : Standing → Bool) (xs : List Standing) (x : Standing) → find p xs ≡ Some x → Found p xs x
 found_place p [] x h = cc
-found_place p (y ∷ ys) x h = elim (cases_Bool (p y)) [
-  | inl t ↦ record { i = 0; there = rw t at h; less = rw t refl }
-  | inr f ↦
-      let k = found_place p ys x (rw f at h) in
-      record { i = suc k.i; there = k.there; less = rw f (ap (λ zs. y ∷ zs) k.less) }
-]
+found_place p (y ∷ ys) x h = if_so (p y)
+    (λ t. record { i = 0; there = rw t at h; less = rw t refl })
+    (λ f. let k = found_place p ys x (rw f at h) in record { i = suc k.i; there = k.there; less = rw f (ap (λ zs. y ∷ zs) k.less) })
 
 pub freed_leads : (r : Rules) (s : Turn) (t' : Tables) (o : Id) → IsCalm s → s.working ≡ [] → s.loose ≡ [] → IsTold r (Free o) s → broken_free s.tables (Free o) o ≡ None
     → DealsWith (Free o) s.tables t' → Leaves (Free o) s.tables t' → Leads r s t' (freed o (find (is_standing o) s.tables.objects))
@@ -317,40 +277,13 @@ freed_leads r s t' o calm alone empty told right deals leaves = each (find (is_s
 pub given_leads : (r : Rules) (s : Turn) (t' : Tables) (id : Id) (entry : ℕ) → IsCalm s → HasInHand (Give id entry) s → HasCredit id → brings_right s.tables id ≡ true
     → (g : Gives id entry s.tables t')
     → Step r s (Writes (Given (bare id) (log_of id.log))) (wrote (Given (bare id) (log_of id.log)) (goes_on g.i g.after (drops s)))
-given_leads r s t' id entry calm hand credit right g = record {
-  calm = calm;
-  id = id;
-  entry = entry;
-  hand = hand;
-  object = refl;
-  has = logged id.log credit;
-  right = elim (or_cases (log_of id.log == 0) (log_of id.log == s.tables.profile.credit_log) right) [
-    | inl a ↦ inl (eqb-true (log_of id.log) 0 a)
-    | inr b ↦ inr (eqb-true (log_of id.log) s.tables.profile.credit_log b)
-  ];
-  i = g.i;
-  before = g.before;
-  after = g.after;
-  there = g.there;
-  first = g.first;
-  refills = g.refills;
-  now = refl;
-}
-  where
-    logged : (l : Option ℕ) → MatchOption l ⊥ (λ x. 16 ≤ id.kind) → l ≡ Some (log_of l)
-    logged None h = absurd h
-    logged (Some log) h = refl
+given_leads r s t' id entry calm hand credit right g = grind (arith, nat_tests)
 
 -- where it waits on
 pub given_waits : (r : Rules) (s : Turn) (t' : Tables) (id : Id) (entry : ℕ) → IsCalm s → HasInHand (Give id entry) s → HasCredit id → brings_right s.tables id ≡ true
     → (g : Gives id entry s.tables t') → (length g.after.asked == 0) ≡ false → Leads r s t' (Given (bare id) (log_of id.log) ∷ [])
 given_waits r s t' id entry calm hand credit right g waits =
-    let event : Event = Given (bare id) (log_of id.log) in record {
-      last = Some event;
-      labels = Writes event ∷ [];
-      writes = refl;
-      steps = (wrote event (goes_on g.i g.after (drops s)), given_leads r s t' id entry calm hand credit right g, sym then_is);
-    }
+    one_leads r s t' (Given (bare id) (log_of id.log)) (subst (Step r s (Writes (Given (bare id) (log_of id.log)))) then_is (given_leads r s t' id entry calm hand credit right g))
   where
     then_is : wrote (Given (bare id) (log_of id.log)) (goes_on g.i g.after (drops s)) ≡ record (drops s) { tables = t'; last = Some (Given (bare id) (log_of id.log)) }
     then_is =

@@ -1,5 +1,5 @@
 -- An id is put at a place of a hand.
-use Rattle.hpx_steps.proofs.Common.{AllByRecursion, Bool, Id, List, Some, Waits, [], ap, arith, bare, cond, count_by, count_same, drop, false, filter, id_at, is_asked, is_asked_for, length, list_any, map, names_of, refl, same_object, same_object-refl, set, slice_get, some_same, suc, sum_by-cons, sym, take, true, zero, ℕ, ◌&&◌, ◌++◌, ◌+◌, ◌<◌, ◌==◌, ◌||◌, ◌∙◌, ◌∷◌, ◌≡◌}
+use Rattle.hpx_steps.proofs.Common.{AllByRecursion, Bool, Id, List, Some, Waits, [], ap, arith, bare, cond, count_by, count_same, drop, false, filter, id_at, is_asked, is_asked_for, length, list_any, map, names_of, refl, same_object, set, slice_get, some_same, suc, sum_by-cons, sym, take, true, zero, ℕ, ◌&&◌, ◌++◌, ◌+◌, ◌<◌, ◌==◌, ◌∙◌, ◌∷◌, ◌≡◌}
 use Rattle.hpx_tables.specs.declared.pending.Asked.{Asked}
 
 -- ---- places
@@ -31,13 +31,8 @@ names_place xs ys e p = sym (at xs p) ∙ (ap (λ zs. id_at zs p) e ∙ at ys p)
 -- an id of the object of one at a place names one of them
 pub any_place : (o : Id) (ids : List Id) (p : ℕ) → p < length ids → bare o ≡ bare (id_at ids p) → list_any (same_object o) ids ≡ true
 any_place o [] p lt same = absurd (omega (arith, lt))
-any_place o (x ∷ xs) zero lt same =
-    let here : same_object o x ≡ true = ap (λ (y : Id). same_object o y) (sym same) ∙ same_object-refl o in rw here refl
-any_place o (x ∷ xs) (suc p) lt same = rw (any_place o xs p (omega (arith, lt)) same) (or_true (same_object o x))
-  where
-    or_true : (b : Bool) → (b || true) ≡ true
-    or_true true = refl
-    or_true false = refl
+any_place o (x ∷ xs) zero lt same = grind arith
+any_place o (x ∷ xs) (suc p) lt same = grind (arith, Bool, any_place o xs p)
 
 -- ---- another id at a place
 

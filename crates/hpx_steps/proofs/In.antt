@@ -1,6 +1,6 @@
 -- A frame comes in.
 use Rattle.hpx_steps.proofs.Common.{weighed, Actions, Came, ComesIn, Entry, Id, In, IsParcel, IsSound, IsTidy, List, Outgoing, Parcel, Rules, Some, TidyAt, Turn, View, [], ap, arith, asks_for, bare_act, bare_due, count_by, counts_of, flat_map, follows_in, gives_for, map, owes, parcel_acts, parcel_asks, refl, same_object, subst, sym, tokens, travels_in, view, worth, wrote, ℕ, ◌++◌, ◌+◌, ◌∷◌, ◌≡◌}
-use Rattle.hpx_steps.proofs.Tools.{Changes, Keeps, Sees, asks_of, counts_near, holding, numbered_so, one_comes, orders_so, pays_so, seen_sum, sees_by, sees_leads, view_worth}
+use Rattle.hpx_steps.proofs.Tools.{Changes, Keeps, asks_of, counts_near, holding, numbered_so, one_comes, orders_so, pays_so, seen_sum, sees_by, sees_leads, view_worth}
 use Rattle.hpx_steps.proofs.Changes.{came_change}
 
 module _ (r : Rules) (s : Turn) (entries : List Entry) (h : IsSound r s entries) (p : Parcel) (bytes : List ℕ) (due : s.due ≡ []) (fresh : s.fresh ≡ [])
@@ -35,16 +35,13 @@ module _ (r : Rules) (s : Turn) (entries : List Entry) (h : IsSound r s entries)
   asks_more : (x : Id) → count_by (same_object x) (view now).asks ≡ count_by (same_object x) (view s).asks + count_by (same_object x) (parcel_asks p)
   asks_more x = omega (arith, seen_sum (counts_of (same_object x)) parcel_asks, change.0 (asks_of x))
 
-  sees : Sees seen now
-  sees = sees_by seen now refl (λ f weight. refl) (λ x. refl) (λ x. refl) (λ x. omega arith) refl
-
   pub in_keeps : Keeps r s now (In bytes)
   in_keeps = record {
     leads = (
       seen,
       follows_in r (view s) p bytes (map bare_act s.tables.accepted) (flat_map parcel_acts others) (tokens now) (view now).asks (ap (map bare_due) due) fresh spelled
           fit none waits (record { sums = λ f weight. omega (arith, view_worth f s, view_worth f now, change.0 (worth f)) }) asks_more,
-      sees_leads r seen now sees,
+      sees_leads r seen now (sees_by seen now refl (λ f weight. refl) (λ x. refl) (λ x. refl) (λ x. omega arith) refl),
     );
     tidy = tidy;
     places = h.places;

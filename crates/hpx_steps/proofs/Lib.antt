@@ -4,7 +4,6 @@ pub mod Changes
 pub mod Seen
 pub mod Cover
 pub mod Bare
-pub mod Lists
 pub mod Objects
 pub mod Busy
 pub mod Beside
@@ -17,7 +16,6 @@ pub mod Mails
 pub mod Puts
 pub mod Calm
 pub mod Hands
-pub mod Tidy
 pub mod Recommit
 pub mod Tools
 pub mod Up
@@ -38,14 +36,11 @@ pub mod Asked
 pub mod Pause
 pub mod Bear
 pub mod Ending
-pub mod Done
-pub mod Failed
 pub mod Refilled
 pub mod Given
 pub mod Unheld
 pub mod Freed
 pub mod Step
-pub mod Rest
 pub mod AtRest
 pub mod Right
 pub mod Handled

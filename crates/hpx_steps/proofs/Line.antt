@@ -1,23 +1,10 @@
 -- A line is fed.
-use Rattle.hpx_steps.proofs.Common.{Accepted, Act, Entry, Feeds, IsFit, IsSound, Line, List, Name, Rules, Some, TidyAt, Turn, View, [], ap, arith, bare_due, draws, follows_line, is_other, length, line_act, lit≤, map, posts, refl, subst, sym, target_of, view, waiting, worth, wrote, ℕ, ◌++◌, ◌+◌, ◌∷◌, ◌≡◌, ◌≤◌}
+use Rattle.hpx_steps.proofs.Common.{Accepted, Act, Entry, Feeds, IsFit, IsSound, Line, List, Name, Rules, Some, TidyAt, Turn, View, [], ap, arith, bare_due, draws, follows_line, is_other, length, line_act, map, posts, refl, subst, sym, target_of, view, waiting, worth, wrote, ℕ, ◌++◌, ◌+◌, ◌∷◌, ◌≡◌, ◌≤◌}
 use Rattle.hpx_steps.proofs.Tools.{Changes, Keeps, Put, Sees, asks_of, by_rows, counts_near, frees_of, holding, numbered_so, orders_so, pays_so, post_change, post_waits, put_as, same_asks, same_dead, sees_by, sees_leads, told_as, view_worth}
 
 -- a line is well formed
 line_fit : (a : Name) (bytes : List ℕ) → length bytes ≤ 1025 → IsFit (line_act a bytes)
-line_fit a bytes short = record {
-  sent = record {
-    shape = record {
-      values = record { few = lit≤ tt; each = (omega (arith, short), tt) };
-      refs = tt;
-      few_refs = lit≤ tt;
-      cont = tt;
-      ids = refl;
-      short = omega (arith, short);
-    };
-    credit = (lit≤ tt, tt);
-  };
-  moves = λ e. absurd (omega (arith, e));
-}
+line_fit a bytes short = grind arith
 
 module _ (r : Rules) (s : Turn) (entries : List Entry) (h : IsSound r s entries) (bytes : List ℕ) (due : s.due ≡ []) (fresh : s.fresh ≡ []) (first : s.tables.here ≡ 0)
     (short : length bytes ≤ 1025) where
@@ -62,6 +49,4 @@ module _ (r : Rules) (s : Turn) (entries : List Entry) (h : IsSound r s entries)
   }
 
 pub line_step : (r : Rules) (s s' : Turn) (entries : List Entry) (a : Name) (bytes : List ℕ) → IsSound r s entries → Feeds s a bytes s' → Keeps r s s' (Line a bytes)
-line_step r s s' entries a bytes h g =
-    told_as r s s' (λ n. Line n bytes) (λ n. posts (line_act n bytes) (draws s)) a (record { origin = s.tables.here; serial = s.tables.serial + 1 }) g.name g.now
-    (line_keeps r s entries h bytes g.calm.due g.calm.fresh g.here g.short)
+line_step r s s' entries a bytes h g = grind (arith, told_as, line_keeps)

@@ -1,5 +1,5 @@
 -- What a commit makes stands as it was made, behind what stood before.
-use Rattle.hpx_steps.proofs.Common.{AllByRecursion, AreMade, Birth, Bool, Id, IsBirth, List, Make, Standing, State, [], all_append, ap, append_assoc, arith, bare, bare_id, bare_standing, bare_state, birth_of, birth_state, cases_Bool, false, find, ids_of, inl, inr, is_standing, map, map-append, objects_of, refl, same_object-refl, same_object-true, subst, sym, true, ℕ, ◌++◌, ◌+◌, ◌<◌, ◌∙◌, ◌∷◌, ◌≡◌, ◌≤◌}
+use Rattle.hpx_steps.proofs.Common.{AllByRecursion, AreMade, Birth, Bool, Id, IsBirth, List, Make, Standing, State, [], all_append, ap, append_assoc, arith, bare, bare_id, bare_standing, bare_state, birth_of, birth_state, cases_Bool, false, find, ids_of, is_standing, map, map-append, objects_of, refl, same_object-refl, same_object-true, subst, sym, true, ℕ, ◌++◌, ◌+◌, ◌<◌, ◌∙◌, ◌∷◌, ◌≡◌, ◌≤◌}
 
 -- it has a number that was drawn, if it was born here
 abbrev pub Drawn : ℕ → ℕ → Standing → Type 0
@@ -11,9 +11,7 @@ bare_alone s none = ap (λ ids. record { drawn = s.drawn; values = s.values; con
 -- what is made shows no credit
 bare_made : (here n : ℕ) (xs : List Birth) → AllByRecursion IsBirth xs → map bare_standing (objects_of here n xs) ≡ objects_of here n xs
 bare_made here n [] h = refl
-bare_made here n (x ∷ xs) h =
-    ap (λ s. record { object = bare_id here x.kind (n + 1); state = s } ∷ map bare_standing (objects_of here (n + 1) xs)) (bare_alone x.state h.0.none)
-    ∙ ap (λ ys. record { object = bare_id here x.kind (n + 1); state = x.state } ∷ ys) (bare_made here (n + 1) xs h.1)
+bare_made here n (x ∷ xs) h = grind (arith, bare_alone, bare_made here (n + 1) xs h.1)
 
 find_past : (p : Standing → Bool) (xs ys : List Standing) → AllByRecursion (λ x. p x ≡ false) xs → find p (xs ++ ys) ≡ find p ys
 find_past p [] ys h = refl
@@ -23,19 +21,7 @@ find_past p (x ∷ xs) ys h = let e = h.0 in rw e (find_past p xs ys h.1)
 other_than : (here n : ℕ) (o : Id) → 16 ≤ o.kind → o.home ≡ here → n < o.number → (xs : List Standing) → AllByRecursion (Drawn here n) xs
     → AllByRecursion (λ x. is_standing o x ≡ false) xs
 other_than here n o managed home late [] h = tt
-other_than here n o managed home late (x ∷ xs) h = (
-  elim (cases_Bool (is_standing o x)) [
-    | inl t ↦
-        let same = same_object-true o x.object t in
-        let kind : o.kind ≡ x.object.kind = ap (λ (y : Id). y.kind) same in
-        let there : o.home ≡ x.object.home = ap (λ (y : Id). y.home) same in
-        let number : o.number ≡ x.object.number = ap (λ (y : Id). y.number) same in
-        let low : x.object.number ≤ n = h.0 (omega (arith, kind, managed)) (sym there ∙ home) in
-        absurd (omega (arith, low, number, late))
-    | inr f ↦ f
-  ],
-  other_than here n o managed home late xs h.1,
-)
+other_than here n o managed home late (x ∷ xs) h = grind (arith, cases_Bool, same_object-true, other_than here n o managed home late xs h.1)
 
 are_made : (here n log : ℕ) (makes : List Make) (before : List Standing) → AllByRecursion IsBirth (map birth_of makes) → AllByRecursion (Drawn here n) before
     → AreMade makes (map bare (ids_of here n log (map birth_of makes))) (before ++ objects_of here n (map birth_of makes))
@@ -65,7 +51,4 @@ bare_drawn here n (x ∷ xs) h = (h.0, bare_drawn here n xs h.1)
 
 pub made_so : (here n log : ℕ) (makes : List Make) (before : List Standing) → AllByRecursion IsBirth (map birth_of makes) → AllByRecursion (Drawn here n) before
     → AreMade makes (map bare (ids_of here n log (map birth_of makes))) (map bare_standing (before ++ objects_of here n (map birth_of makes)))
-made_so here n log makes before fit drawn =
-    subst (AreMade makes (map bare (ids_of here n log (map birth_of makes))))
-    (sym (map-append bare_standing before (objects_of here n (map birth_of makes)) ∙ ap (λ xs. map bare_standing before ++ xs) (bare_made here n (map birth_of makes) fit)))
-    (are_made here n log makes (map bare_standing before) fit (bare_drawn here n before drawn))
+made_so here n log makes before fit drawn = grind (arith, map-append, bare_made, are_made, bare_drawn)

@@ -1,14 +1,11 @@
 -- The first message on the desk is taken up.
-use Rattle.hpx_steps.proofs.Common.{Entry, IsSound, IsTidy, List, Mail, Mailed, OnDesk, Outgoing, Parcel, Rules, Some, TakesUp, TidyAt, Turn, View, [], ap, arith, bare_act, bare_due, flat_map, follows_mail, inl, kind_of, map, parcel_acts, parcels, refl, subst, sym, view, worth, wrote, ℕ, ◌++◌, ◌∙◌, ◌∷◌, ◌≡◌, ◌≤◌}
-use Rattle.hpx_steps.proofs.Tools.{Changes, Keeps, Sees, by_rows, counts_near, first_goes, holding, one_comes, same_dead, same_asks, sees_leads, then, view_worth}
-use Rattle.hpx_steps.proofs.Calm.{asks_of, frees_of, numbered_so, orders_so, own_asks, pays_so, sees_by}
+use Rattle.hpx_steps.proofs.Common.{Entry, IsSound, IsTidy, List, Mail, Mailed, OnDesk, Parcel, Rules, Some, TakesUp, TidyAt, Turn, View, [], ap, arith, bare_due, follows_mail, inl, kind_of, map, refl, subst, sym, view, wrote, ℕ, ◌∷◌, ◌≡◌, ◌≤◌}
+use Rattle.hpx_steps.proofs.Tools.{Changes, Keeps, by_rows, counts_near, first_goes, holding, one_comes, sees_leads, then}
+use Rattle.hpx_steps.proofs.Calm.{numbered_so, orders_so, own_asks, pays_so}
 use Rattle.hpx_steps.proofs.Changes.{desk_change, mailed_change}
 
 kind_low : (p : Parcel) → (1 ≤ kind_of p) × (kind_of p ≤ 10)
-kind_low p = each p
-  where
-    each : (p : Parcel) → (1 ≤ kind_of p) × (kind_of p ≤ 10)
-    each p = search arith
+kind_low p = grind arith
 
 module _ (r : Rules) (s : Turn) (entries : List Entry) (h : IsSound r s entries) (p : Parcel) (rest : List Parcel) (due : s.due ≡ []) (fresh : s.fresh ≡ [])
     (first : s.tables.desk ≡ p ∷ rest) (empty : s.mailed ≡ []) where
@@ -26,25 +23,15 @@ module _ (r : Rules) (s : Turn) (entries : List Entry) (h : IsSound r s entries)
   tidy : IsTidy now
   tidy = holding (TidyAt s) (Mailed p ∷ []) s now change.1 h.tidy (its, tt)
 
-  same_parcels : parcels now ≡ parcels s
-  same_parcels =
-      let outs = map (λ (x : Outgoing). x.parcel) s.tables.outgoing in
-      ap (λ xs. s.came ++ xs) (ap (λ xs. xs ++ outs) (sym first) ∙ ap (λ xs. xs ++ (s.tables.desk ++ outs)) (sym empty))
-
   abbrev seen : View
   seen = record (view s) { last = Some (Mail (kind_of p)) }
-
-  sees : Sees seen now
-  sees = sees_by seen now (ap (λ ps. record (view now) { waiting = map bare_act s.tables.accepted ++ flat_map parcel_acts ps }) (sym same_parcels))
-      (λ f weight. omega (arith, view_worth f s, view_worth f now, change.0 (worth f))) (λ x. refl)
-      (λ x. same_asks x s now (omega (arith, change.0 (asks_of x)))) (λ x. same_dead x s now (omega (arith, change.0 (frees_of x)))) refl
 
   pub mail_keeps : Keeps r s now (Mail (kind_of p))
   mail_keeps = record {
     leads = (
       seen,
       follows_mail r (view s) (kind_of p) (ap (map bare_due) due) fresh (kind_low p).0 (kind_low p).1,
-      sees_leads r seen now sees,
+      sees_leads r seen now (grind arith),
     );
     tidy = tidy;
     places = h.places;

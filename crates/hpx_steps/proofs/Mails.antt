@@ -1,19 +1,15 @@
 -- One more message: what it weighs and that it is tidy, wherever it is put.
-use Rattle.hpx_steps.proofs.Common.{AllByRecursion, Bool, Came, FreesNone, Going, HasInHand, Id, IsOwn, IsParcel, IsTidy, IsTidyIn, Item, Mailed, MayGoTo, OnDesk, Parcel, Some, Tables, Token, Turn, [], ap, arith, bare, cond, credit_list, false, going, held, held_token, inl, inr, is_other, map, nat_tests, owed_token, owing, own, refl, sum_by, sum_by-cons, tokens_of, true, ℕ, ◌++◌, ◌<◌, ◌∙◌, ◌∷◌, ◌≡◌, ◌≢◌}
+use Rattle.hpx_steps.proofs.Common.{AllByRecursion, Bool, Came, FreesNone, Going, HasInHand, Id, IsOwn, IsParcel, IsTidy, IsTidyIn, Item, Mailed, MatchOption, MayGoTo, OnDesk, Option, Parcel, Some, Tables, Token, Turn, [], arith, bare, cond, credit_list, false, going, held_token, inl, inr, is_other, log_of, map, nat_tests, owed_token, owing, own, refl, sum_by, tokens_of, true, ℕ, ◌++◌, ◌<◌, ◌∷◌, ◌≡◌, ◌≢◌, ◌≤◌}
 use Rattle.hpx_steps.proofs.Changes.{sent_if, total}
 
 -- a message that weighs the same on the desk and away
 pub sent_total : (w : Item → ℕ) (b other : Bool) (to : ℕ) (p : Parcel) (n : ℕ) → w (OnDesk p) ≡ n → w (Going (going to p)) ≡ n
     → total w (sent_if b other to p) ≡ cond b n 0
-sent_total w true true to p n a e = omega (arith, e)
-sent_total w true false to p n a e = omega (arith, a)
-sent_total w false other to p n a e = refl
+sent_total w b other to p n a e = grind arith
 
 sent_all : (P : Item → Type 0) (b other : Bool) (to : ℕ) (p : Parcel) → (b ≡ true → other ≡ false → P (OnDesk p))
     → (b ≡ true → other ≡ true → P (Going (going to p))) → AllByRecursion P (sent_if b other to p)
-sent_all P true true to p desk out = (out refl refl, tt)
-sent_all P true false to p desk out = (desk refl refl, tt)
-sent_all P false other to p desk out = tt
+sent_all b c other to p desk out = grind arith
 
 pub other_is : (t : Tables) (to : ℕ) → is_other t to ≡ true → (to < t.localities) × (to ≢ t.here)
 other_is t to h = search (arith, nat_tests, h)
@@ -24,23 +20,27 @@ own_is t to h lt = grind (arith, nat_tests)
 pub mail_tidy : (t : Tables) (b : Bool) (to : ℕ) (p : Parcel) → (b ≡ true → IsParcel p) → (b ≡ true → MayGoTo t.here to p)
     → (b ≡ true → IsOwn t.here t.profile.credit_log p) → (b ≡ true → is_other t to ≡ true → FreesNone p)
     → AllByRecursion (IsTidyIn t.here t.localities t.profile.credit_log t.births t.objects) (sent_if b (is_other t to) to p)
-mail_tidy t b to p fit may own stays = sent_all (IsTidyIn t.here t.localities t.profile.credit_log t.births t.objects) b (is_other t to) to p
-    (λ c e. (fit c, record { to = to; may = may c; here = own_is t to e }, own c))
-    (λ c e. (fit c, record { somewhere = (other_is t to e).0; away = (other_is t to e).1; may = may c }, own c, stays c e))
+mail_tidy t b to p fit may own stays = grind arith
 
 -- ---- the token of an id
 
 pub held_by : (f : Token → ℕ) (id : Id) (log : ℕ) → id.log ≡ Some log → sum_by f (tokens_of (id ∷ [])) ≡ f (held_token (bare id) log)
-held_by f id log some =
-    ap (λ l. sum_by f (map held (credit_list id l ++ []))) some ∙ omega (arith, sum_by-cons f (held_token (bare id) log) [])
+held_by f id log some = grind arith
 
 pub owed_by : (f : Token → ℕ) (id : Id) (log : ℕ) → id.log ≡ Some log
     → sum_by f (map owing (credit_list id id.log ++ [])) ≡ f (owed_token (bare id) log)
-owed_by f id log some =
-    ap (λ l. sum_by f (map owing (credit_list id l ++ []))) some ∙ omega (arith, sum_by-cons f (owed_token (bare id) log) [])
+owed_by f id log some = grind arith
 
 -- ---- the message in hand is well formed
 
 pub hand_fit : (p : Parcel) (s : Turn) → IsTidy s → HasInHand p s → IsParcel p
 hand_fit p s h (inl k) = h (Came p) (rw k.0 (inl refl))
 hand_fit p s h (inr k) = (h (Mailed p) (rw k.1 (inl refl))).0
+
+-- ---- a credit that is there
+
+pub some_log : (kind : ℕ) (l : Option ℕ) → MatchOption l ⊥ (λ x. 16 ≤ kind) → l ≡ Some (log_of l)
+some_log kind b h = grind arith
+
+pub right_log : (kind : ℕ) (l : Option ℕ) → MatchOption l ⊥ (λ x. 16 ≤ kind) → MatchOption l (kind < 16) (λ x. 16 ≤ kind)
+right_log kind b h = grind arith

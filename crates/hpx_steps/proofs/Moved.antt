@@ -33,19 +33,7 @@ module _ (r : Rules) (v : View) (ws fs : List Act) (waiting : (xs : List Act) �
   ordered = record v { waiting = ws; fired = fs }
 
   ordered_shows : (s : Local) → Shows v s → Shows ordered s
-  ordered_shows s shown = record {
-    acts = record {
-      here = shown.acts.here;
-      serial = shown.acts.serial;
-      waiting = waiting s.waiting shown.acts.waiting;
-      fired = fired s.fired shown.acts.fired;
-      due = shown.acts.due;
-    };
-    objects = record { number = shown.objects.number; objects = shown.objects.objects; travels = shown.objects.travels; fresh = shown.objects.fresh };
-    credit = record { tokens = shown.credit.tokens; asking = shown.credit.asking; asks = shown.credit.asks };
-    counts = record { live = shown.counts.live; dead = shown.counts.dead; refusals = shown.counts.refusals; failing = shown.counts.failing };
-    last = shown.last;
-  }
+  ordered_shows s shown = grind arith
 
   ordered_leads : Leads r v [] (record v { waiting = ws; fired = fs })
   ordered_leads = (refl, λ covered o managed. record { named = omega (arith, (covered o managed).named, names o); pending = (covered o managed).pending }, ordered_shows)

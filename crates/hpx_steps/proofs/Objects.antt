@@ -1,5 +1,6 @@
 -- Objects that stand here: what is found among them where one has another state, where one comes, and where one goes.
-use Rattle.hpx_steps.proofs.Common.{AllByRecursion, Bool, Id, List, None, Single, Some, Standing, [], ap, cases_Bool, cond, false, false_from, find, inl, inr, is_some, is_standing, refl, remove, same_object, same_object-from, same_object-sym, set, slice_get, some_same, suc, sym, true, zero, ℕ, ◌++◌, ◌∙◌, ◌∷◌, ◌≡◌}
+use Rattle.hpx_steps.proofs.Common.{AllByRecursion, Bool, Id, IsKept, IsTidyIn, Item, List, None, Single, Some, Standing, [], ap, arith, cond, false, false_from, find, is_some, is_standing, length, refl, remove, same_object, same_object-from, same_object-sym, set, slice_get, some_same, suc, sym, true, zero, ℕ, ◌++◌, ◌∙◌, ◌∷◌, ◌≡◌, ◌≤◌}
+use Rattle.hpx_steps.proofs.ByRows.{if_so}
 
 module _ (p : Standing → Bool) where
   abbrev pub stand : List Standing → Bool
@@ -9,36 +10,21 @@ module _ (p : Standing → Bool) where
   stand_set [] j x y at same h = cc
   stand_set (z ∷ xs) zero x y at same h =
       let e : z ≡ x = some_same z x at in
-      elim (cases_Bool (p x)) [
-        | inl t ↦ rw (same, t) refl
-        | inr f ↦ rw (same, f) (rw (e, f) at h)
-      ]
-  stand_set (z ∷ xs) (suc j) x y at same h = elim (cases_Bool (p z)) [
-    | inl t ↦ rw t refl
-    | inr f ↦ rw f (stand_set xs j x y at same (rw f at h))
-  ]
+      if_so (p x) (λ t. rw (same, t) refl) (λ f. rw (same, f) (rw (e, f) at h))
+  stand_set (z ∷ xs) (suc j) x y at same h = if_so (p z) (λ t. rw t refl) (λ f. rw f (stand_set xs j x y at same (rw f at h)))
 
   pub stand_more : (xs ys : List Standing) → stand xs ≡ true → stand (xs ++ ys) ≡ true
   stand_more [] ys h = cc
-  stand_more (z ∷ xs) ys h = elim (cases_Bool (p z)) [
-    | inl t ↦ rw t refl
-    | inr f ↦ rw f (stand_more xs ys (rw f at h))
-  ]
+  stand_more (z ∷ xs) ys h = if_so (p z) (λ t. rw t refl) (λ f. rw f (stand_more xs ys (rw f at h)))
 
   pub stand_less : (xs : List Standing) (i : ℕ) (x : Standing) → slice_get xs i ≡ Some x → p x ≡ false → stand xs ≡ true → stand (remove xs i) ≡ true
   stand_less [] i x at other h = cc
   stand_less (z ∷ xs) zero x at other h = let e : z ≡ x = some_same z x at in (rw (e, other) at h)
-  stand_less (z ∷ xs) (suc i) x at other h = elim (cases_Bool (p z)) [
-    | inl t ↦ rw t refl
-    | inr f ↦ rw f (stand_less xs i x at other (rw f at h))
-  ]
+  stand_less (z ∷ xs) (suc i) x at other h = if_so (p z) (λ t. rw t refl) (λ f. rw f (stand_less xs i x at other (rw f at h)))
 
   pub find_more : (xs ys : List Standing) (x : Standing) → find p xs ≡ Some x → find p (xs ++ ys) ≡ Some x
   find_more [] ys x h = cc
-  find_more (z ∷ xs) ys x h = elim (cases_Bool (p z)) [
-    | inl t ↦ rw t (rw t at h)
-    | inr f ↦ rw f (find_more xs ys x (rw f at h))
-  ]
+  find_more (z ∷ xs) ys x h = if_so (p z) (λ t. rw t (rw t at h)) (λ f. rw f (find_more xs ys x (rw f at h)))
 
   pub find_set : (xs : List Standing) (i : ℕ) (x y : Standing) → slice_get xs i ≡ Some x → p x ≡ false → p y ≡ false → find p (set xs i y) ≡ find p xs
   find_set [] i x y h other new = refl
@@ -53,45 +39,26 @@ module _ (p : Standing → Bool) where
 
   none_set : (xs : List Standing) (j : ℕ) (x y : Standing) → slice_get xs j ≡ Some x → p y ≡ p x → find p xs ≡ None → find p (set xs j y) ≡ None
   none_set [] j x y h same none = cc
-  none_set (z ∷ xs) zero x y h same none = elim (cases_Bool (p z)) [
-    | inl t ↦ absurd (let e : Some z ≡ None = rw t at none in cc)
-    | inr f ↦ let e : p y ≡ false = same ∙ (ap p (sym (some_same z x h)) ∙ f) in rw e (rw f at none)
-  ]
-  none_set (z ∷ xs) (suc j) x y h same none = elim (cases_Bool (p z)) [
-    | inl t ↦ absurd (let e : Some z ≡ None = rw t at none in cc)
-    | inr f ↦ rw f (none_set xs j x y h same (rw f at none))
-  ]
+  none_set (z ∷ xs) zero x y h same none = if_so (p z)
+      (λ t. absurd (let e : Some z ≡ None = rw t at none in cc))
+      (λ f. let e : p y ≡ false = same ∙ (ap p (sym (some_same z x h)) ∙ f) in rw e (rw f at none))
+  none_set (z ∷ xs) (suc j) x y h same none = if_so (p z) (λ t. absurd (let e : Some z ≡ None = rw t at none in cc)) (λ f. rw f (none_set xs j x y h same (rw f at none)))
 
   none_less : (xs : List Standing) (j : ℕ) → find p xs ≡ None → find p (remove xs j) ≡ None
   none_less [] zero none = refl
   none_less [] (suc j) none = refl
-  none_less (z ∷ xs) zero none = elim (cases_Bool (p z)) [
-    | inl t ↦ absurd (let e : Some z ≡ None = rw t at none in cc)
-    | inr f ↦ rw f at none
-  ]
-  none_less (z ∷ xs) (suc j) none = elim (cases_Bool (p z)) [
-    | inl t ↦ absurd (let e : Some z ≡ None = rw t at none in cc)
-    | inr f ↦ rw f (none_less xs j (rw f at none))
-  ]
+  none_less (z ∷ xs) zero none = if_so (p z) (λ t. absurd (let e : Some z ≡ None = rw t at none in cc)) (λ f. rw f at none)
+  none_less (z ∷ xs) (suc j) none = if_so (p z) (λ t. absurd (let e : Some z ≡ None = rw t at none in cc)) (λ f. rw f (none_less xs j (rw f at none)))
 
   none_more : (xs : List Standing) (y : Standing) → find p xs ≡ None → p y ≡ false → find p (xs ++ y ∷ []) ≡ None
   none_more [] y none other = rw other refl
-  none_more (z ∷ xs) y none other = elim (cases_Bool (p z)) [
-    | inl t ↦ absurd (let e : Some z ≡ None = rw t at none in cc)
-    | inr f ↦ rw f (none_more xs y (rw f at none) other)
-  ]
+  none_more (z ∷ xs) y none other = if_so (p z) (λ t. absurd (let e : Some z ≡ None = rw t at none in cc)) (λ f. rw f (none_more xs y (rw f at none) other))
 
   -- so none passes
   pub none_passes : (xs : List Standing) (j : ℕ) (x : Standing) → find p xs ≡ None → slice_get xs j ≡ Some x → p x ≡ false
   none_passes [] j x none h = cc
-  none_passes (z ∷ xs) zero x none h = elim (cases_Bool (p z)) [
-    | inl t ↦ absurd (let e : Some z ≡ None = rw t at none in cc)
-    | inr f ↦ ap p (sym (some_same z x h)) ∙ f
-  ]
-  none_passes (z ∷ xs) (suc j) x none h = elim (cases_Bool (p z)) [
-    | inl t ↦ absurd (let e : Some z ≡ None = rw t at none in cc)
-    | inr f ↦ none_passes xs j x (rw f at none) h
-  ]
+  none_passes (z ∷ xs) zero x none h = if_so (p z) (λ t. absurd (let e : Some z ≡ None = rw t at none in cc)) (λ f. ap p (sym (some_same z x h)) ∙ f)
+  none_passes (z ∷ xs) (suc j) x none h = if_so (p z) (λ t. absurd (let e : Some z ≡ None = rw t at none in cc)) (λ f. none_passes xs j x (rw f at none) h)
 
 pub set_same : (xs : List Standing) (i : ℕ) (x : Standing) → slice_get xs i ≡ Some x → set xs i x ≡ xs
 set_same [] i x h = refl
@@ -126,8 +93,7 @@ single_more (x ∷ xs) y single other = (none_more (is_standing x.object) xs y s
 pub single_found : (xs : List Standing) (j : ℕ) (x : Standing) (o : Id) → Single xs → slice_get xs j ≡ Some x → same_object o x.object ≡ true
     → find (is_standing o) xs ≡ Some x
 single_found [] j x o single at same = cc
-single_found (z ∷ xs) zero x o single at same =
-    let e : z ≡ x = some_same z x at in rw (e, same) refl
+single_found (z ∷ xs) zero x o single at same = cc
 single_found (z ∷ xs) (suc j) x o single at same =
     let f : same_object z.object x.object ≡ false = none_passes (is_standing z.object) xs j x single.0 at in
     let g : same_object o z.object ≡ false =
@@ -151,3 +117,18 @@ all_but P (z ∷ xs) zero x y single h p all = (p, others xs single.0 all.1)
         )
 all_but P (z ∷ xs) (suc j) x y single h p all =
     (all.0 (none_passes (is_standing z.object) xs j x single.0 h), all_but P xs j x y single.1 h p all.1)
+
+-- ---- what is tidy stays tidy where other objects stand
+
+pub retidy : (k n log births births' : ℕ) (objects objects' : List Standing) → births ≤ births'
+    → ((o : Id) → is_some (find (is_standing o) objects) ≡ true → is_some (find (is_standing o) objects') ≡ true)
+    → (i : Item) → IsTidyIn k n log births objects i → IsTidyIn k n log births' objects' i
+retidy k n log births births' objects objects' le stand b h = grind arith
+
+-- an object of kind Plain keeps no ids
+none_long : {X : Type 0} (xs : List X) → length xs ≡ 0 → xs ≡ []
+none_long [] h = refl
+none_long (x ∷ xs) h = absurd (omega (arith, h))
+
+pub plain_ids : (x : Standing) → IsKept x → x.object.kind ≡ 7 → x.state.ids ≡ []
+plain_ids x kept kind = grind (arith, none_long)

@@ -1,21 +1,12 @@
 -- A frame goes out.
-use Rattle.hpx_steps.proofs.Common.{weighed, Act, Apply, Arrived, Ask, Cached, Entry, Free, FreesNone, Give, Go, GoesOut, Going, IsSound, IsTidy, List, MayGoTo, MayLeave, Move, Out, Outgoing, Parcel, Return, Rules, Shipped, Some, TidyAt, Turn, View, [], ap, append_assoc, arith, asks_for, bare_due, brings, cond, counts_of, flat_map, follows_out, gives_for, inl, map, parcel_acts, parcel_asks, refl, same_object, tokens, view, weight, worth, wrote, ℕ, ◌++◌, ◌+◌, ◌==◌, ◌∷◌, ◌≡◌}
+use Rattle.hpx_steps.proofs.Common.{weighed, Act, Entry, FreesNone, GoesOut, Going, IsSound, IsTidy, List, MayGoTo, MayLeave, Out, Outgoing, Parcel, Rules, Some, TidyAt, Turn, View, [], ap, append_assoc, arith, asks_for, bare_due, brings, cond, counts_of, flat_map, follows_out, gives_for, inl, map, parcel_acts, parcel_asks, refl, same_object, tokens, view, weight, worth, wrote, ℕ, ◌++◌, ◌+◌, ◌==◌, ◌∷◌, ◌≡◌}
 use Rattle.hpx_steps.proofs.Tools.{Changes, Keeps, Sees, asks_of, counts_near, first_goes, flat_append, frees_of, holding, numbered_so, orders_so, pays_so, same_dead, seen_sum, sees_by, sees_covers, sees_leads, told_as, view_covered, view_worth}
 use Rattle.hpx_steps.proofs.Changes.{outgoing_change}
 use Rattle.hpx_steps.proofs.Waits.{acts_before}
 
 -- what may go may leave what is seen
 may_leave : (v : View) (to : ℕ) (p : Parcel) → FreesNone p → MayGoTo v.here to p → MayLeave v to p
-may_leave v to (Apply act) none may = tt
-may_leave v to (Move act) none may = tt
-may_leave v to (Return id) none may = may
-may_leave v to (Ask id asker entry) none may = may
-may_leave v to (Give id entry) none may = may
-may_leave v to (Free o) none may = absurd none
-may_leave v to (Cached o place) none may = absurd may
-may_leave v to (Go act) none may = absurd may
-may_leave v to (Shipped act state) none may = absurd may
-may_leave v to (Arrived id place) none may = absurd may
+may_leave v to b none may = grind arith
 
 module _ (r : Rules) (s : Turn) (entries : List Entry) (h : IsSound r s entries) (x : Outgoing) (rest : List Outgoing) (bytes : List ℕ) (due : s.due ≡ []) (fresh : s.fresh ≡ [])
     (first : s.tables.outgoing ≡ x ∷ rest) (spelled : r.parcel_of bytes ≡ Some x.parcel) where
@@ -41,9 +32,6 @@ module _ (r : Rules) (s : Turn) (entries : List Entry) (h : IsSound r s entries)
   abbrev back : List Act
   back = flat_map parcel_acts (map (λ (y : Outgoing). y.parcel) rest)
 
-  waits : (view s).waiting ≡ front ++ (parcel_acts x.parcel ++ back)
-  waits = rw first (simp (flat_append, append_assoc))
-
   waits_then : front ++ back ≡ (view now).waiting
   waits_then = simp (flat_append, append_assoc)
 
@@ -58,7 +46,7 @@ module _ (r : Rules) (s : Turn) (entries : List Entry) (h : IsSound r s entries)
     leads = (
       seen,
       follows_out r (view s) x.parcel bytes front back (tokens now) (view now).asks (ap (map bare_due) due) fresh spelled x.to
-          (omega (arith, its.1.somewhere, h.rules.localities)) its.1.away (may_leave (view s) x.to x.parcel its.3 its.1.may) waits
+          (omega (arith, its.1.somewhere, h.rules.localities)) its.1.away (may_leave (view s) x.to x.parcel its.3 its.1.may) (rw first (simp (flat_append, append_assoc)))
           (record { sums = λ f weight. omega (arith, view_worth f s, view_worth f now, change.0 (worth f)) })
           (λ o. omega (arith, seen_sum (counts_of (same_object o)) parcel_asks, change.0 (asks_of o)))
           (λ before. sees_covers r seen now sees (view_covered now tidy h.commits.lent)),

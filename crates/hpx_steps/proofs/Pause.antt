@@ -1,6 +1,6 @@
 -- A commit begins to wait.
-use Rattle.hpx_steps.proofs.Common.{Entry, HasCommits, HasSplit, IsCommit, IsSound, List, Pauses, Pending, Refusal, Rules, TidyAt, Turn, View, Waits, Working, [], action_of, any_counted, ap, append-nil, append_assoc, arith, asked_by, asking, asks_under, bare_act, commits, counted_any, counts_of, fired_of, freeing, given_to, hopping, inl, joined, map, refl, refusal_of, refusals_of, same_refusal, subst, sum_by, sum_by-append, sym, unpaid, view, waits_for, worth, ℕ, ◌++◌, ◌∙◌, ◌∷◌, ◌≡◌, ◌≢◌}
-use Rattle.hpx_steps.proofs.Tools.{Changes, Sees, Stills, fewer, fired_leads, first_goes, flat_append, holding, is_fired, leads_on, long_sum, more_come, move_commits, pending_change, recommit, same_fired, sees_leads, then, view_asking, view_worth, was_fired, working_change}
+use Rattle.hpx_steps.proofs.Common.{Entry, HasCommits, HasSplit, IsCommit, IsSound, List, Pauses, Pending, Refusal, Rules, TidyAt, Turn, View, Waits, Working, [], action_of, any_counted, ap, append-nil, append_assoc, arith, asked_by, asking, asks_under, bare_act, commits, counted_any, counts_of, fired_of, freeing, given_to, hopping, inl, joined, map, refl, refusals_of, same_refusal, subst, sum_by, sym, unpaid, view, waits_for, worth, ℕ, ◌++◌, ◌∙◌, ◌∷◌, ◌≡◌, ◌≢◌}
+use Rattle.hpx_steps.proofs.Tools.{Changes, Sees, Stills, by_commit, fewer, fired_leads, first_goes, holding, is_fired, leads_on, long_sum, more_come, move_commits, pending_change, recommit, refuses, same_fired, sees_leads, then, view_asking, view_refusals, view_worth, was_fired, working_change}
 
 module _ (r : Rules) (s : Turn) (entries : List Entry) (h : IsSound r s entries) (w : Waits) (rest : List Waits) (places : List ℕ) (works : s.working ≡ w ∷ rest)
     (lacks : w.asked ≢ []) (split : HasSplit s.tables.profile.credit_log (record w { places = places })) where
@@ -40,18 +40,9 @@ module _ (r : Rules) (s : Turn) (entries : List Entry) (h : IsSound r s entries)
   fires = ap (λ ws. map bare_act (fired_of s.tables.running (ws ++ s.tables.pending))) works
       ∙ ap (map bare_act) (was_fired s.tables.objects s.tables.running [] others others [] w waiter refl same)
 
-  refusals : refusals_of (commits s) ≡ refusals_of (w ∷ others)
-  refusals = ap (λ ws. refusals_of (ws ++ s.tables.pending)) works
-
   -- in another order
   refused : (f : Refusal → ℕ) → sum_by f (refusals_of (commits now)) ≡ sum_by f (refusals_of (commits s))
-  refused f = omega (
-    arith,
-    ap (λ ws. sum_by f (refusals_of ws)) (sym behind),
-    ap (sum_by f) (flat_append (λ (x : Waits). refusal_of x.job.action x.refused) others (waiter ∷ [])),
-    sum_by-append f,
-    ap (sum_by f) refusals,
-  )
+  refused f = omega (arith, view_refusals f s, view_refusals f now, change.0 (by_commit (refuses f)))
 
   sees : Sees (record seen { last = s.last }) now
   sees = record {

@@ -1,6 +1,6 @@
 -- An action that is in hand waits here, or goes on.
-use Rattle.hpx_steps.proofs.Common.{Accepted, Act, Apply, Bool, Came, Entry, Going, HasInHand, IsApplied, IsFit, IsMove, IsParcel, IsSound, Item, List, Mailed, Move, OnDesk, Parcel, Places, Row, Rules, TidyAt, Turn, View, [], ap, arith, asked_by, asks_as, asks_for, asks_under, bare_act, brings, count_by, drops, false, freeing, frees_one, given_to, gives_for, going, hopping, inl, inr, is_other, joined, kind_of, may_stay, of_act, one_if, owes, parcel_acts, parcel_asks, parcel_frees, parcel_tokens, posts, refl, same_object, subst, sum_by, sym, target_of, tokens_of, true, unpaid, view, waiting, waits_for, weigh, weight, worth, ℕ, ◌++◌, ◌+◌, ◌==◌, ◌||◌, ◌∙◌, ◌∷◌, ◌≡◌, ◌≢◌, ◌≤◌, ◌⊎◌}
-use Rattle.hpx_steps.proofs.Tools.{Changes, Put, Sees, Stills, bound_none, by_own, by_parcel, by_rows, drop_change, fewer, hand_fit, holding, in_hand, is_frame, leads_on, post_change, post_waits, put_as, put_less, put_sum, put_tidy, same_dead, same_asks, sees_leads, then, view_worth}
+use Rattle.hpx_steps.proofs.Common.{Accepted, Act, Apply, Came, Entry, Going, HasInHand, IsApplied, IsFit, IsMove, IsParcel, IsSound, Item, List, Mailed, Move, OnDesk, Parcel, Places, Row, Rules, TidyAt, Turn, View, [], ap, arith, asked_by, asks_as, asks_for, asks_under, bare_act, brings, count_by, drops, freeing, frees_one, given_to, gives_for, going, hopping, inl, inr, is_other, joined, may_stay, of_act, owes, parcel_acts, parcel_asks, parcel_frees, parcel_tokens, posts, refl, same_object, subst, sum_by, sym, target_of, tokens_of, true, unpaid, view, waiting, waits_for, weigh, worth, ℕ, ◌++◌, ◌+◌, ◌==◌, ◌∙◌, ◌∷◌, ◌≡◌, ◌≢◌, ◌≤◌, ◌⊎◌}
+use Rattle.hpx_steps.proofs.Tools.{Changes, Put, Sees, Stills, both, bound_none, brings_few, by_own, by_parcel, carried, drop_change, fewer, hand_fit, hand_weighs, holding, in_hand, is_frame, leads_on, post_change, post_waits, put_as, put_less, put_sum, put_tidy, same_asks, same_dead, sees_leads, then, view_worth, weighs_act}
 use Rattle.hpx_steps.proofs.Moved.{waits_leads}
 use Rattle.hpx_steps.proofs.Waits.{hand_waits}
 
@@ -8,10 +8,7 @@ module _ (r : Rules) (s : Turn) (entries : List Entry) (h : IsSound r s entries)
     (hand : HasInHand p s) (stays : s.mailed ≢ [] → may_stay s.tables act ≡ true) where
   -- what holds of both holds of it
   of_both : (P : Parcel → Type 0) → P (Apply act) → P (Move act) → P p
-  of_both P a b = elim carries [
-    | inl e ↦ subst P (sym e) a
-    | inr e ↦ subst P (sym e) b
-  ]
+  of_both P a b = grind arith
 
   abbrev now : Turn
   now = posts act (drops s)
@@ -31,19 +28,7 @@ module _ (r : Rules) (s : Turn) (entries : List Entry) (h : IsSound r s entries)
   -- a weight that sees an action wherever it is
   moves : (w : Item → ℕ) (n : ℕ) → w (Came p) ≡ n → w (Mailed p) ≡ n → w (Accepted act) ≡ n
       → ((q : Parcel) → (q ≡ Apply act) ⊎ (q ≡ Move act) → (w (OnDesk q) ≡ n) × ((to : ℕ) → w (Going (going to q)) ≡ n)) → weigh w now ≡ weigh w s
-  moves w n a b c d = omega (arith, turns w, from (is_frame p s hand), put_sum w (may_stay s.tables act) (is_other s.tables (target_of act).home) act n c d)
-    where
-      from : (b : Bool) → w (in_hand b p) ≡ n
-      from true = a
-      from false = b
-
-  -- by what messages weigh
-  carried : (f : Parcel → ℕ) (n : ℕ) → f (Apply act) ≡ n → f (Move act) ≡ n → (q : Parcel) → (q ≡ Apply act) ⊎ (q ≡ Move act) → f q ≡ n
-  carried f n a b q (inl e) = ap f e ∙ a
-  carried f n a b q (inr e) = ap f e ∙ b
-
-  both : (f : Parcel → ℕ) (n : ℕ) → f (Apply act) ≡ n → f (Move act) ≡ n → (q : Parcel) → (q ≡ Apply act) ⊎ (q ≡ Move act) → (f q ≡ n) × ((to : ℕ) → f q ≡ n)
-  both f n a b q e = (carried f n a b q e, λ to. carried f n a b q e)
+  moves w n a b c d = omega (arith, turns w, hand_weighs p s hand w n a b, put_sum w (may_stay s.tables act) (is_other s.tables (target_of act).home) act n c d)
 
   fit : IsFit act
   fit = elim carries [
@@ -64,7 +49,7 @@ module _ (r : Rules) (s : Turn) (entries : List Entry) (h : IsSound r s entries)
   seen = record (view s) { waiting = put.front ++ bare_act act ∷ put.back }
 
   none : (f : Parcel → ℕ) → f (Apply act) ≡ 0 → f (Move act) ≡ 0 → f p ≡ 0
-  none f a b = carried f 0 a b p carries
+  none f a b = carried act f 0 a b p carries
 
   sees : Sees (record seen { last = s.last }) now
   sees = record {
@@ -72,34 +57,22 @@ module _ (r : Rules) (s : Turn) (entries : List Entry) (h : IsSound r s entries)
     tokens = λ f weight. omega (
       arith,
       view_worth f,
-      moves (worth f) (sum_by f (tokens_of act.ids)) (of_both (λ q. sum_by f (parcel_tokens q) ≡ sum_by f (tokens_of act.ids)) refl refl) (of_both (λ q. sum_by f (parcel_tokens q) ≡ sum_by f (tokens_of act.ids)) refl refl) refl (both (λ q. sum_by f (parcel_tokens q)) (sum_by f (tokens_of act.ids)) refl refl),
+      moves (worth f) (sum_by f (tokens_of act.ids)) (of_both (λ q. sum_by f (parcel_tokens q) ≡ sum_by f (tokens_of act.ids)) refl refl) (of_both (λ q. sum_by f (parcel_tokens q) ≡ sum_by f (tokens_of act.ids)) refl refl) refl (both act (λ q. sum_by f (parcel_tokens q)) (sum_by f (tokens_of act.ids)) refl refl),
     );
     asking = λ x. refl;
     asks = λ x.
         let f : Parcel → ℕ = λ q. count_by (same_object x) (parcel_asks q) in
-        same_asks x s now (omega (arith, moves (by_parcel f) 0 (none f refl refl) (none f refl refl) refl (both f 0 refl refl)));
+        same_asks x s now (omega (arith, moves (by_parcel f) 0 (none f refl refl) (none f refl refl) refl (both act f 0 refl refl)));
     live = λ x home. refl;
     dead = λ x.
         let f : Parcel → ℕ = λ q. count_by (same_object x) (parcel_frees q) in
-        same_dead x s now (omega (arith, moves (by_own f) 0 refl (none f refl refl) refl (both f 0 refl refl)));
+        same_dead x s now (omega (arith, moves (by_own f) 0 refl (none f refl refl) refl (both act f 0 refl refl)));
     refusals = λ x k. k;
     failing = omega arith;
   }
 
-  -- each action counts as one, wherever it is
-  weighs_one : (row : Row) → weight row p ≡ of_act row
-  weighs_one row = of_both (λ q. weight row q ≡ of_act row)
-      (by_rows (λ x. weight x (Apply act) ≡ of_act x) refl refl refl refl refl refl refl (λ o. refl) row)
-      (by_rows (λ x. weight x (Move act) ≡ of_act x) refl refl refl refl refl refl refl (λ o. refl) row)
-
   owes_one : (row : Row) → owes row p ≡ of_act row
-  owes_one row = of_both (λ q. owes row q ≡ of_act row)
-      (by_rows (λ x. owes x (Apply act) ≡ of_act x) refl refl refl refl refl refl refl (λ o. refl) row)
-      (by_rows (λ x. owes x (Move act) ≡ of_act x) refl refl refl refl refl refl refl (λ o. refl) row)
-
-  sent_one : (row : Row) (q : Parcel) → (q ≡ Apply act) ⊎ (q ≡ Move act) → (weight row q ≡ of_act row) × ((to : ℕ) → weight row q ≡ of_act row)
-  sent_one row = both (weight row) (of_act row) (by_rows (λ x. weight x (Apply act) ≡ of_act x) refl refl refl refl refl refl refl (λ o. refl) row)
-      (by_rows (λ x. weight x (Move act) ≡ of_act x) refl refl refl refl refl refl refl (λ o. refl) row)
+  owes_one row = grind arith
 
   one : brings p ≡ 1
   one = of_both (λ q. brings q ≡ 1) refl refl
@@ -107,20 +80,13 @@ module _ (r : Rules) (s : Turn) (entries : List Entry) (h : IsSound r s entries)
   -- from a frame it may go on, from the desk it is accepted
   from_where : (hopping item ≤ hopping was) × (joined was ≤ joined item)
   from_where = elim hand as (λ k. (hopping item ≤ hopping (in_hand (is_frame p s k) p)) × (joined (in_hand (is_frame p s k) p) ≤ joined item)) [
-    | inl k ↦ (omega (arith, put_less hopping (may_stay s.tables act) (is_other s.tables (target_of act).home) act 1 (omega arith) (λ q. (few q, λ to. few q)), one), omega arith)
+    | inl k ↦ (omega (arith, put_less hopping (may_stay s.tables act) (is_other s.tables (target_of act).home) act 1 (omega arith) (λ q. (brings_few q, λ to. brings_few q)), one), omega arith)
     | inr k ↦
         let stay : may_stay s.tables act ≡ true = stays (λ e. absurd (let z : p ∷ [] ≡ [] = sym k.1 ∙ e in cc)) in (
           subst (λ b. hopping (put_as b (is_other s.tables (target_of act).home) act) ≤ 0) (sym stay) (omega arith),
           subst (λ b. brings p ≤ joined (put_as b (is_other s.tables (target_of act).home) act)) (sym stay) (omega (arith, one)),
         )
   ]
-    where
-      few : (q : Parcel) → brings q ≤ 1
-      few q = each ((kind_of q == 1) || (kind_of q == 6))
-        where
-          each : (b : Bool) → one_if b ≤ 1
-          each true = omega arith
-          each false = omega arith
 
   pub place_stills : Stills r s now
   place_stills = record {
@@ -130,22 +96,22 @@ module _ (r : Rules) (s : Turn) (entries : List Entry) (h : IsSound r s entries)
     tidy = holding (TidyAt s) (item ∷ []) s now change.1 h.tidy (put_tidy s.tables act fit, tt);
     places = h.places;
     commits = h.commits;
-    numbered = fewer s now (omega arith) (λ n. omega (arith, moves (asks_under n) 0 refl (none (asks_as n) refl refl) refl (both (asks_as n) 0 refl refl)));
-    rows = λ row. moves (unpaid row) (of_act row) (owes_one row) (owes_one row) refl (sent_one row);
+    numbered = fewer s now (omega arith) (λ n. omega (arith, moves (asks_under n) 0 refl (none (asks_as n) refl refl) refl (both act (asks_as n) 0 refl refl)));
+    rows = λ row. moves (unpaid row) (of_act row) (owes_one row) (owes_one row) refl (weighs_act act row);
     once = omega (arith, turns hopping, from_where.0);
     fired = omega (arith, turns joined, from_where.1);
-    frees = λ o. omega (arith, moves (freeing o) 0 (none (frees_one o) refl refl) refl refl (both (λ q. 0) 0 refl refl));
+    frees = λ o. omega (arith, moves (freeing o) 0 (none (frees_one o) refl refl) refl refl (both act (λ q. 0) 0 refl refl));
     asked = λ o n.
         let f : Parcel → ℕ = λ q. asks_for s.tables.here o n q + gives_for o n q in
         omega (
           arith,
-          moves (asked_by s.tables.here o n) 0 (none f refl refl) (none f refl refl) refl (λ q e. (carried f 0 refl refl q e, λ to. carried (asks_for s.tables.here o n) 0 refl refl q e)),
-          moves (waits_for o n) 0 refl refl refl (both (λ q. 0) 0 refl refl),
+          moves (asked_by s.tables.here o n) 0 (none f refl refl) (none f refl refl) refl (λ q e. (carried act f 0 refl refl q e, λ to. carried act (asks_for s.tables.here o n) 0 refl refl q e)),
+          moves (waits_for o n) 0 refl refl refl (both act (λ q. 0) 0 refl refl),
         );
     given = λ j d o n. omega (
       arith,
       moves (given_to j o n) 0 (none (asks_for j o n) refl refl) (none (asks_for j o n) refl refl) refl
-          (λ q e. (refl, λ to. bound_none (to == j) (gives_for o n q) (carried (gives_for o n) 0 refl refl q e))),
+          (λ q e. (refl, λ to. bound_none (to == j) (gives_for o n q) (carried act (gives_for o n) 0 refl refl q e))),
     );
   }
 

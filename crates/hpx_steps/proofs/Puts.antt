@@ -1,15 +1,12 @@
 -- One more action: what it weighs and that it is tidy, whether it is accepted or goes in a message.
-use Rattle.hpx_steps.proofs.Common.{Accepted, Act, AllByRecursion, Apply, Bool, FreesNone, Going, Id, IfSome, IsFit, IsOwn, IsParcel, IsTidyIn, Item, List, MayGoTo, Move, None, OnDesk, Option, Parcel, Some, Tables, [], and_true, ap, bare, bare_act, cases_Bool, cond, eqb-false, eqb-true, false, going, id_at, inl, inr, is_movable, is_other, kept, map, may_stay, move_to, moves_on, not, parcel_for, place_in, refl, stands_here, subst, sym, target_of, true, ℕ, ◌&&◌, ◌==◌, ◌∷◌, ◌≡◌, ◌≤◌, ◌⊎◌}
+use Rattle.hpx_steps.proofs.Common.{Accepted, Act, AllByRecursion, Apply, Bool, FreesNone, Going, Id, IfSome, IsFit, IsOwn, IsParcel, IsTidyIn, Item, List, MayGoTo, Move, None, OnDesk, Option, Parcel, Row, Tables, [], and_true, ap, arith, bare, bare_act, brings, cond, false, going, id_at, inl, inr, is_movable, is_other, kept, kind_of, map, may_stay, move_to, moves_on, not, of_act, one_if, parcel_for, place_in, refl, stands_here, subst, sym, target_of, true, weight, ℕ, ◌&&◌, ◌==◌, ◌||◌, ◌∷◌, ◌≡◌, ◌≤◌, ◌⊎◌}
+use Rattle.hpx_steps.proofs.ByRows.{by_bool}
 use Rattle.hpx_steps.proofs.Changes.{put_as, sent_if}
 use Rattle.hpx_steps.proofs.Mails.{mail_tidy}
 
 -- an action as a message is an Apply or a Move
 pub as_parcel : (P : Parcel → Type 0) (act : Act) → P (Apply act) → P (Move act) → P (parcel_for act)
-as_parcel P act a b = each (act.code == 1)
-  where
-    each : (c : Bool) → P (cond c (Move act) (Apply act))
-    each true = b
-    each false = a
+as_parcel P act a b = grind arith
 
 pub put_sum : (w : Item → ℕ) (stay other : Bool) (act : Act) (n : ℕ) → w (Accepted act) ≡ n
     → ((p : Parcel) → (p ≡ Apply act) ⊎ (p ≡ Move act) → (w (OnDesk p) ≡ n) × ((to : ℕ) → w (Going (going to p)) ≡ n)) → w (put_as stay other act) ≡ n
@@ -33,6 +30,20 @@ put_less w stay other act n kept sent = each stay other
     each false true = (sent (parcel_for act)).1 (target_of act).home
     each false false = (sent (parcel_for act)).0
 
+-- by what messages weigh
+pub carried : (act : Act) (f : Parcel → ℕ) (n : ℕ) → f (Apply act) ≡ n → f (Move act) ≡ n → (p : Parcel) → (p ≡ Apply act) ⊎ (p ≡ Move act) → f p ≡ n
+carried act f n a b p c = grind arith
+
+pub both : (act : Act) (f : Parcel → ℕ) (n : ℕ) → f (Apply act) ≡ n → f (Move act) ≡ n → (p : Parcel) → (p ≡ Apply act) ⊎ (p ≡ Move act) → (f p ≡ n) × ((to : ℕ) → f p ≡ n)
+both act f n a b p e = (carried act f n a b p e, λ to. carried act f n a b p e)
+
+-- a message counts an action as one, and brings one at most
+pub weighs_act : (act : Act) (row : Row) (p : Parcel) → (p ≡ Apply act) ⊎ (p ≡ Move act) → (weight row p ≡ of_act row) × ((to : ℕ) → weight row p ≡ of_act row)
+weighs_act act row = grind arith
+
+pub brings_few : (p : Parcel) → brings p ≤ 1
+brings_few p = by_bool (λ b. one_if b ≤ 1) (omega arith) (omega arith) ((kind_of p == 1) || (kind_of p == 6))
+
 -- ---- it is tidy
 
 pub target-bare : (act : Act) → target_of (bare_act act) ≡ bare (target_of act)
@@ -46,21 +57,13 @@ move_to-bare : (act : Act) → move_to (bare_act act) ≡ move_to act
 move_to-bare act = ap (λ (o : Id). cond ((act.code == 1) && is_movable o.kind) (place_in act.args) None) (target-bare act)
 
 here_only : (k : ℕ) (to : Option ℕ) → moves_on k to ≡ false → IfSome to (λ x. x ≡ k)
-here_only k None h = tt
-here_only k (Some x) h = elim (cases_Bool (x == k)) [
-  | inl b ↦ eqb-true x k b
-  | inr b ↦ absurd (let e : not false ≡ false = rw b at h in cc)
-]
+here_only k b h = grind arith
 
 not_false : (b : Bool) → not b ≡ true → b ≡ false
-not_false true h = cc
-not_false false h = refl
+not_false b h = grind arith
 
 fit_parcel : (act : Act) → IsFit act → IsParcel (parcel_for act)
-fit_parcel act fit = elim (cases_Bool (act.code == 1)) [
-  | inl b ↦ rw b (let e = eqb-true act.code 1 b in record { sent = fit.sent; code = e; target = (fit.moves e).0; args = (fit.moves e).1 })
-  | inr b ↦ rw b (record { sent = fit.sent; code = eqb-false act.code 1 b })
-]
+fit_parcel act fit = grind arith
 
 pub put_tidy : (t : Tables) (act : Act) → IsFit act
     → IsTidyIn t.here t.localities t.profile.credit_log t.births t.objects (put_as (may_stay t act) (is_other t (target_of act).home) act)

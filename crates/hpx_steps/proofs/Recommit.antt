@@ -1,7 +1,6 @@
 -- What a commit in work has in its hand changes: its job stays.
-use Rattle.hpx_steps.proofs.Lists.{less_sum}
 use Rattle.hpx_steps.proofs.Mails.{held_by}
-use Rattle.hpx_steps.proofs.Sums.{ids_each, view_worth}
+use Rattle.hpx_steps.proofs.Sums.{ids_each, less_sum, view_worth}
 use Rattle.hpx_steps.proofs.Common.{AllByRecursion, AskedFor, HasCommits, Id, IsCommit, List, Option, Some, Token, Turn, Waits, [], ap, arith, bare, commits, cond, count_by, counts_of, counts_true, false, filter, held_token, id_at, ids_named, is_asked, length, length-map, length-take, list_any, map, refl, same_object, same_token, set, slice_get, some_same, subst, suc, sum_by, sum_by-cons, sym, take, take-append-le, token_own, tokens, tokens_of, true, zero, ℕ, ◌++◌, ◌<◌, ◌==◌, ◌∙◌, ◌∷◌, ◌≡◌, ◌≤◌}
 
 -- its hand has all that its object and its action name
@@ -20,8 +19,7 @@ pub recommit : (k n : ℕ) (w : Waits) (hand : List Id) (asked : List AskedFor) 
     → ((o : Id) → refused ≡ Some o → list_any (same_object o) (ids_named w) ≡ true)
     → ((p : ℕ) → p < length (ids_named w) → count_by (λ (x : AskedFor). x.place == p) asked ≡ cond (is_asked (id_at hand p)) 1 0)
     → IsCommit k n (record w { hand = hand; asked = asked; places = places; refused = refused })
-recommit k n w hand asked places refused h own within named once =
-    record { job = h.job; here = h.here; localities = h.localities; few = h.few; hand = own; within = within; refused = named; once = once }
+recommit k n w hand asked places refused h own within named once = grind arith
 
 -- the first commit in work has the same job, and the same action
 pub work_commits : (s : Turn) (w w' : Waits) (rest : List Waits) → s.working ≡ w ∷ rest → w' ≡ record w { hand = w'.hand; asked = w'.asked; places = w'.places; refused = w'.refused }
@@ -59,20 +57,15 @@ pub first_map : (g : Id → Id) (n p : ℕ) (hand more : List Id) (x y : Id) →
     → map g (take n (set hand p y ++ more)) ≡ map g (take n hand)
 first_map g zero p hand more x y at same le = refl
 first_map g (suc n) p [] more x y at same le = absurd (cc)
-first_map g (suc n) zero (z ∷ hand) more x y at same le =
-    let e : z ≡ x = some_same z x at in
-    ap (λ k. k ∷ map g (take n (hand ++ more))) (same ∙ ap g (sym e)) ∙ ap (λ ks. g z ∷ map g ks) (take-append-le n hand more (omega (arith, le)))
+first_map g (suc n) zero (z ∷ hand) more x y at same le = grind (arith, some_same, hand, take-append-le)
 first_map g (suc n) (suc p) (z ∷ hand) more x y at same le = ap (λ ks. g z ∷ ks) (first_map g n p hand more x y at same (omega (arith, le)))
 
 pub first_asked : (n p : ℕ) (hand more : List Id) (x y : Id) → slice_get hand p ≡ Some x → is_asked x ≡ false → is_asked y ≡ false → n ≤ length hand
     → filter is_asked (take n (set hand p y ++ more)) ≡ filter is_asked (take n hand)
 first_asked zero p hand more x y at a b le = refl
 first_asked (suc n) p [] more x y at a b le = absurd (cc)
-first_asked (suc n) zero (z ∷ hand) more x y at a b le =
-    let e : is_asked z ≡ false = ap is_asked (some_same z x at) ∙ a in
-    rw (b, e) (ap (filter is_asked) (take-append-le n hand more (omega (arith, le))))
-first_asked (suc n) (suc p) (z ∷ hand) more x y at a b le =
-    ap (λ ks. cond (is_asked z) (z ∷ ks) ks) (first_asked n p hand more x y at a b (omega (arith, le)))
+first_asked (suc n) zero (z ∷ hand) more x y at a b le = grind (arith, some_same, take-append-le, hand)
+first_asked (suc n) (suc p) (z ∷ hand) more x y at a b le = grind (arith, hand, first_asked n p hand more x y at a b)
 
 -- at each of these places an id is asked for as before
 pub first_at : (n p q : ℕ) (hand more : List Id) (x y : Id) → slice_get hand p ≡ Some x → is_asked y ≡ is_asked x → q < n → n ≤ length hand

@@ -1,19 +1,14 @@
 -- The record of one object changes.
 use Rattle.hpx_steps.proofs.Common.{HasPlaces, Id, List, Option, Record, Recounts, Some, StaysAt, Tables, [], ap, bare, cases_Bool, cond, count_in, counted, false, find, find_record, inl, inr, is_recorded, map, option_map_or, refl, same_object, same_object-sym, same_object-true, sym, true, ◌∙◌, ◌∷◌, ◌≡◌}
+use Rattle.hpx_steps.proofs.Tools.{if_so}
 
 pub found_counted : (x : Id) (rs : List Record)
     → count_in (find (is_recorded x) (map counted rs)) ≡ option_map_or (λ (r : Record). r.count) (find_record x rs) 0
 found_counted x [] = refl
-found_counted x (r ∷ rs) = elim (cases_Bool (same_object x r.gid)) [
-  | inl t ↦ rw t refl
-  | inr t ↦ rw t (found_counted x rs)
-]
+found_counted x (r ∷ rs) = if_so (same_object x r.gid) (λ t. rw t refl) (λ t. rw t (found_counted x rs))
 
 other_way : (a b : Id) → same_object a b ≡ false → same_object b a ≡ false
-other_way a b h = elim (cases_Bool (same_object b a)) [
-  | inl t ↦ absurd (let e : true ≡ false = sym (same_object-sym b a t) ∙ h in cc)
-  | inr t ↦ t
-]
+other_way a b h = if_so (same_object b a) (λ t. absurd (let e : true ≡ false = sym (same_object-sym b a t) ∙ h in cc)) (λ t. t)
 
 -- the record of one object changes, and no other
 pub one_recounted : (id : Id) (old : Record) (made : Option Record) (rs rs' : List Record) → Recounts id old made rs rs' → (x : Id)
@@ -36,15 +31,10 @@ pub places_still : (t : Tables) (id : Id) (old : Record) (made : Option Record) 
 places_still t id old made rs' k stays h = record {
   serves = h.serves;
   single = h.single;
-  unborn = λ o late. elim (cases_Bool (same_object id o)) [
-    | inl same ↦ absurd (let e : find_record id t.records ≡ find_record o t.records = ap (λ (y : Id). find_record y t.records) (same_object-true id o same) in
-        let n = h.unborn o late in let w = k.was in cc)
-    | inr other ↦ k.others o other ∙ h.unborn o late
-  ];
-  places = λ o x is. elim (cases_Bool (same_object id o)) [
-    | inl same ↦
-        let e : find_record o rs' ≡ find_record id rs' = ap (λ (y : Id). find_record y rs') (sym (same_object-true id o same)) in
-        stays x (sym k.own ∙ (sym e ∙ is)) (h.places id old k.was)
-    | inr other ↦ h.places o x (sym (k.others o other) ∙ is)
-  ];
+  unborn = λ o late. if_so (same_object id o)
+      (λ same. absurd (let e : find_record id t.records ≡ find_record o t.records = ap (λ (y : Id). find_record y t.records) (same_object-true id o same) in let n = h.unborn o late in let w = k.was in cc))
+      (λ other. k.others o other ∙ h.unborn o late);
+  places = λ o x is. if_so (same_object id o)
+      (λ same. let e : find_record o rs' ≡ find_record id rs' = ap (λ (y : Id). find_record y rs') (sym (same_object-true id o same)) in stays x (sym k.own ∙ (sym e ∙ is)) (h.places id old k.was))
+      (λ other. h.places o x (sym (k.others o other) ∙ is));
 }

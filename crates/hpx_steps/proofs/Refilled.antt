@@ -1,29 +1,10 @@
 -- What was asked for is put into the hand of the commit that waits for it.
-use Rattle.hpx_steps.proofs.Common.{AskedFor, Bool, HasCredit, HasRightCredit, HasSplit, Id, IsCommit, IsShort, List, MatchOption, None, Option, Some, Waits, all_append, all_at, all_remove, and_true, ap, append_assoc, arith, bare, cases_Bool, cond, count_by, eq-eqb, eqb-true, false, first_stock, id_at, ids_named, inl, inr, is_asked, is_asked_for, is_some, length, length-append, list_any, log_of, nat_le, not, own_ids, place_bare, place_some, refilled, refl, remove, same_object, same_object-true, set, slice_get, some_same, subst, sym, true, whole_stock, ℕ, ◌&&◌, ◌++◌, ◌+◌, ◌<◌, ◌==◌, ◌∙◌, ◌≡◌, ◌≢◌, ◌≤◌, ◌⊎◌}
-use Rattle.hpx_steps.proofs.Tools.{front_place, hand_long, has_not_asked, less_sum, not_asked, place_at, put_elsewhere, put_names, put_there, recommit, take_place}
+use Rattle.hpx_steps.proofs.Common.{AskedFor, Bool, HasCredit, HasRightCredit, HasSplit, Id, IsCommit, IsShort, List, Option, Some, Waits, all_append, all_at, all_remove, and_true, ap, append_assoc, arith, bare, cases_Bool, cond, count_by, eq-eqb, eqb-true, false, first_stock, id_at, ids_named, inl, inr, is_asked, is_asked_for, is_some, length, length-append, list_any, log_of, nat_le, not, own_ids, place_bare, place_some, refilled, refl, remove, same_object, same_object-true, set, slice_get, some_same, subst, sym, true, whole_stock, ℕ, ◌&&◌, ◌++◌, ◌+◌, ◌<◌, ◌==◌, ◌∙◌, ◌≡◌, ◌≤◌, ◌⊎◌}
+use Rattle.hpx_steps.proofs.Tools.{front_place, hand_long, has_not_asked, if_so, less_sum, not_asked, place_at, put_elsewhere, put_names, put_there, recommit, some_log, take_place}
 use Rattle.hpx_steps.proofs.Hands.{any_place, names_place, put_behind}
 
-own_log : (id : Id) → HasCredit id → id.log ≡ Some (log_of id.log)
-own_log id h = at id.log refl h
-  where
-    at : (log : Option ℕ) → id.log ≡ log → MatchOption log ⊥ (λ l. 16 ≤ id.kind) → id.log ≡ Some (log_of id.log)
-    at None e n = absurd n
-    at (Some l) e n = e ∙ ap (λ o. Some (log_of o)) (sym e)
-
--- one of log 0 is refused
-refused_some : (b : Bool) (o : Id) (was : Option Id) → b ≡ true → cond b (Some o) was ≢ None
-refused_some true o was e = λ none. cc
-refused_some false o was e = absurd (cc)
-
--- and stays so
-refused_still : (b : Bool) (o : Id) (was : Option Id) → was ≢ None → cond b (Some o) was ≢ None
-refused_still true o was h = λ none. cc
-refused_still false o was h = h
-
 short_still : (log : ℕ) (b : Bool) (o : Id) (was : Option Id) (id : Id) → IsShort log was id → IsShort log (cond b (Some o) was) id
-short_still log b o was id (inl none) = inl none
-short_still log b o was id (inr (inl more)) = inr (inl more)
-short_still log b o was id (inr (inr least)) = inr (inr (least.0, refused_still b o was least.1))
+short_still log b o was id c = grind arith
 
 module _ (k l log : ℕ) (w : Waits) (n : ℕ) (ask : AskedFor) (id : Id) (entry : ℕ) (its : IsCommit k l w) (held : HasSplit log w)
     (there : slice_get w.asked n ≡ Some ask) (for : is_asked_for w id entry ask ≡ true) (credit : HasCredit id)
@@ -50,13 +31,10 @@ module _ (k l log : ℕ) (w : Waits) (n : ℕ) (ask : AskedFor) (id : Id) (entry
   one = ap {B = ℕ} (λ b. cond b 1 0) (eq-eqb ask.place ask.place refl)
 
   pub was_asked : is_asked (id_at w.hand ask.place) ≡ true
-  was_asked = elim (cases_Bool (is_asked (id_at w.hand ask.place))) [
-    | inl t ↦ t
-    | inr f ↦ absurd (omega (arith, left ask.place, one, its.once ask.place asked_low, ap {B = ℕ} (λ b. cond b 1 0) f))
-  ]
+  was_asked = if_so (is_asked (id_at w.hand ask.place)) (λ t. t) (λ f. absurd (omega (arith, left ask.place, one, its.once ask.place asked_low, ap {B = ℕ} (λ b. cond b 1 0) f)))
 
   pub asked_no_more : is_asked id ≡ false
-  asked_no_more = has_not_asked id (log_of id.log) (own_log id credit)
+  asked_no_more = has_not_asked id (log_of id.log) (some_log id.kind id.log credit)
 
   once_then : (q : ℕ) → q < length (ids_named w)
       → count_by (λ (x : AskedFor). x.place == q) (remove w.asked n) ≡ cond (is_asked (id_at (set w.hand ask.place id) q)) 1 0
@@ -87,12 +65,6 @@ module _ (k l log : ℕ) (w : Waits) (n : ℕ) (ask : AskedFor) (id : Id) (entry
       ap (λ c. nat_le 16 c && not (is_some (id_at (first_stock w held.made).hand p).log)) kind
       ∙ (ap (λ b. nat_le 16 (id_at start.hand p).kind && not b) (place_some (length own) start fits held.within p inside) ∙ not_asked (id_at start.hand p) right)
 
-  given_short : IsShort log filled.refused id
-  given_short = elim brings [
-    | inl z ↦ inr (inr (own_log id credit ∙ ap Some z, refused_some (log_of id.log == 0) (bare id) w.refused (eq-eqb (log_of id.log) 0 z)))
-    | inr e ↦ inr (inl (own_log id credit ∙ ap Some e))
-  ]
-
   -- its hand is still that of its job, split ahead
   pub still_split : HasSplit log (refilled n ask.place id w)
   still_split = record {
@@ -113,7 +85,7 @@ module _ (k l log : ℕ) (w : Waits) (n : ℕ) (ask : AskedFor) (id : Id) (entry
     short = λ p lt none. elim (cases_Bool (p == ask.place)) [
       | inl t ↦
           subst (λ q. IsShort log filled.refused (id_at filled.hand q)) (sym (eqb-true p ask.place t))
-          (subst (IsShort log filled.refused) (sym (put_there w.hand ask.place id inside)) given_short)
+          (subst (IsShort log filled.refused) (sym (put_there w.hand ask.place id inside)) (grind arith))
       | inr f ↦
           subst (IsShort log filled.refused)
           (sym (put_elsewhere w.hand ask.place p id (λ e. let t : true ≡ false = sym (eq-eqb p ask.place e) ∙ f in cc)))

@@ -1,21 +1,14 @@
 -- Credit comes home.
-use Rattle.hpx_steps.proofs.Common.{Bool, Came, Count, Entry, Event, Free, Going, HasInHand, Id, IsParcel, IsSound, IsTidy, Item, List, Mailed, MatchOption, None, OnDesk, Option, Record, Recounts, Return, Returned, Row, Rules, Some, StaysAt, Tables, TakesBack, TidyAt, Token, Turn, View, [], ap, arith, asked_by, asks_under, bare, bare_due, cases_Bool, causes, cond, count_by, count_in, counted, counts_of, counts_true, credit, credit_of_log, drops, eqb-true, false, find, follows_returned, freeing, given_to, goes, going, hopping, inl, inr, is_other, is_recorded, joined, lowered, mails_if, map, one_if, option_map_or, owed_token, owes, parcel_frees, refl, same_object, same_token, some_same, subst, sum_by, sum_by-cons, sym, token_own, tokens, true, unpaid, view, waits_for, weigh, weight, with_records, worth, wrote, ℕ, ◌&&◌, ◌++◌, ◌+◌, ◌-◌, ◌==◌, ◌^◌, ◌∙◌, ◌∷◌, ◌≡◌, ◌≤◌}
-use Rattle.hpx_steps.proofs.Tools.{Changes, Keeps, Sees, asks_of, bound_none, by_rows, counts_near, drop_change, drop_waits, fewer, frees_of, hand_fit, holding, in_hand, is_frame, mail_change, mail_tidy, mail_waits, owed_by, own_sum, same_asks, sees_covers, sees_leads, sent_if, sent_total, then, told_as, total, view_covered, view_worth}
+use Rattle.hpx_steps.proofs.Common.{Bool, Came, Count, Entry, Event, Free, Going, HasInHand, Id, IsSound, IsTidy, Item, List, Mailed, MatchOption, OnDesk, Option, Record, Recounts, Return, Returned, Row, Rules, Some, StaysAt, Tables, TakesBack, TidyAt, Token, Turn, View, [], ap, arith, asked_by, asks_under, bare, bare_due, causes, cond, count_by, count_in, counted, counts_of, counts_true, credit, credit_of_log, drops, eqb-true, false, find, follows_returned, freeing, given_to, goes, going, hopping, is_other, is_recorded, joined, lowered, mails_if, map, one_if, option_map_or, owed_token, owes, parcel_frees, refl, same_object, same_token, subst, sum_by, sum_by-cons, sym, token_own, tokens, true, unpaid, view, waits_for, weigh, weight, with_records, worth, wrote, ℕ, ◌&&◌, ◌++◌, ◌+◌, ◌==◌, ◌^◌, ◌∙◌, ◌∷◌, ◌≡◌, ◌≤◌}
+use Rattle.hpx_steps.proofs.Tools.{Changes, Keeps, Sees, asks_of, bound_none, by_rows, counts_near, drop_change, drop_waits, fewer, frees_of, hand_fit, hand_weighs, holding, if_so, in_hand, is_frame, mail_change, mail_tidy, mail_waits, owed_by, own_sum, same_asks, sees_covers, sees_leads, sent_if, sent_total, then, told_as, total, view_covered, view_worth}
 use Rattle.hpx_steps.proofs.Mails.{other_is}
 use Rattle.hpx_steps.proofs.Records.{found_counted, one_recounted, places_still}
 
 lowered_stays : (k : ℕ) (old x : Record) (id : Id) → lowered old id ≡ Some x → StaysAt k old → StaysAt k x
-lowered_stays k old x id is at = elim (cases_Bool (old.count == credit id)) [
-  | inl t ↦ absurd (let e : None ≡ Some x = rw t at is in cc)
-  | inr t ↦ let e : Some (record old { count = old.count - credit id }) ≡ Some x = rw t at is in
-      subst (StaysAt k) (some_same _ x e) (at.0, at.1)
-]
+lowered_stays k old x id is at = grind arith
 
 lowered_count : (old : Record) (id : Id) (count : ℕ) → count + credit id ≡ old.count → option_map_or (λ (r : Record). r.count) (lowered old id) 0 ≡ count
-lowered_count old id count sum = elim (cases_Bool (old.count == credit id)) [
-  | inl t ↦ rw t (let e = eqb-true old.count (credit id) t in omega (arith, e, sum))
-  | inr t ↦ rw t (omega (arith, sum))
-]
+lowered_count old id count sum = if_so (old.count == credit id) (λ t. rw t (let e = eqb-true old.count (credit id) t in omega (arith, e, sum))) (λ t. rw t (omega (arith, sum)))
 
 here_is_no_other : (t : Tables) (to : ℕ) → to ≡ t.here → is_other t to ≡ true → ⊥
 here_is_no_other t to same other = (other_is t to other).1 same
@@ -50,25 +43,15 @@ module _ (r : Rules) (s : Turn) (entries : List Entry) (h : IsSound r s entries)
       → w (Going (going old.place (Free (bare id)))) ≡ n → weigh w now + m ≡ weigh w s + cond dead n 0
   moves w m n a b c d =
       let k : weigh w now + (w was + 0) ≡ weigh w s + total w (sent_if dead other old.place (Free (bare id))) = change.0 w in
-      omega (arith, k, hand_sum (is_frame (Return id) s hand), sent_total w dead other old.place (Free (bare id)) n c d)
-    where
-      hand_sum : (from : Bool) → w (in_hand from (Return id)) ≡ m
-      hand_sum true = a
-      hand_sum false = b
+      omega (arith, k, hand_weighs (Return id) s hand w m a b, sent_total w dead other old.place (Free (bare id)) n c d)
 
   -- one that does not count the Free
   leaves : (w : Item → ℕ) (m : ℕ) → w (Came (Return id)) ≡ m → w (Mailed (Return id)) ≡ m → w (OnDesk (Free (bare id))) ≡ 0
       → w (Going (going old.place (Free (bare id)))) ≡ 0 → weigh w now + m ≡ weigh w s
-  leaves w m a b c d = omega (arith, moves w m 0 a b c d, none (count == 0))
-    where
-      none : (b : Bool) → ◌≡◌ {A = ℕ} (cond b 0 0) 0
-      none b = bound_none b 0 refl
-
-  in_tidy : IsParcel (Return id)
-  in_tidy = hand_fit (Return id) s h.tidy hand
+  leaves w m a b c d = omega (arith, moves w m 0 a b c d, bound_none dead 0 refl)
 
   managed : 16 ≤ id.kind
-  managed = subst (λ l. MatchOption l ⊥ (λ x. 16 ≤ id.kind)) has in_tidy
+  managed = subst (λ l. MatchOption l ⊥ (λ x. 16 ≤ id.kind)) has (hand_fit (Return id) s h.tidy hand)
 
   stays : StaysAt s.tables.here old
   stays = h.places.places id old recounts.was
@@ -111,12 +94,6 @@ module _ (r : Rules) (s : Turn) (entries : List Entry) (h : IsSound r s entries)
       if_dead true x = omega (arith, sum_by-cons (counts_of (same_object x)) (bare id) (view s).dead, sum_by-cons (counts_of (same_object x)) (bare id) [])
       if_dead false x = omega arith
 
-  worth_all : credit id ≡ 2 ^ log
-  worth_all = ap credit_of_log has
-
-  made : option_map_or (λ (x : Record). x.count) (lowered old id) 0 ≡ count
-  made = lowered_count old id count (omega (arith, sum, worth_all))
-
   pub returned_keeps : Keeps r s now e
   returned_keeps = record {
     leads = (
@@ -130,7 +107,7 @@ module _ (r : Rules) (s : Turn) (entries : List Entry) (h : IsSound r s entries)
           ))
           (record { sums = λ f weight. omega (arith, gone f, sum_by-cons f (owed_token (bare id) log) []) })
           (λ x at. one_recounted id old (lowered old id) s.tables.records records recounts x
-          ∙ ap (λ n. cond (same_object x (bare id)) n (count_in (find (is_recorded x) (map counted s.tables.records)))) made)
+          ∙ ap (λ n. cond (same_object x (bare id)) n (count_in (find (is_recorded x) (map counted s.tables.records)))) (lowered_count old id count (omega (arith, sum, ap credit_of_log has))))
           (λ b. sees_covers r seen now sees (view_covered now tidy h.commits.lent)),
       sees_leads r seen now sees,
     );

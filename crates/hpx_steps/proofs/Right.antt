@@ -1,5 +1,6 @@
 -- What a message breaks no rule says of the tables.
-use Rattle.hpx_steps.proofs.Common.{Act, Bool, Broken, Id, None, Option, Parcel, Some, Tables, and_true, arith, awaits, breaks, brings_right, broken, broken_free, broken_give, broken_go, broken_near, broken_object, broken_return, cases_Bool, count_here, credit, eqb-true, false, held_here, if◌then◌else◌, inl, inr, is_far, is_live, is_to_here, length, list_any, nat_lt, not, refl, stands_here, target_of, true, waits_here, ℕ, ◌&&◌, ◌==◌, ◌≡◌, ◌≤◌}
+use Rattle.hpx_steps.proofs.Common.{Act, Broken, Id, None, Option, Parcel, Some, Tables, arith, awaits, breaks, brings_right, broken, broken_free, broken_give, broken_go, broken_near, broken_object, broken_return, count_here, credit, false, held_here, is_far, is_live, is_to_here, list_any, not, stands_here, target_of, true, waits_here, ℕ, ◌&&◌, ◌≡◌, ◌≤◌}
+use Rattle.hpx_steps.proofs.Tools.{if_so}
 
 not_broken : {X : Type 0} (x : X) → Some x ≡ None → ⊥
 not_broken x e = cc
@@ -7,50 +8,21 @@ not_broken x e = cc
 -- an id that comes home
 pub return_right : (t : Tables) (p : Parcel) (id : Id) (other : Option Broken) → broken_return t p id other ≡ None
     → (is_live t id ≡ true) × (credit id ≤ count_here t id) × (other ≡ None)
-return_right t p id other h = elim (cases_Bool (is_live t id)) [
-  | inr l ↦ absurd (let e : breaks 1 p (length t.records) ≡ None = rw l at h in not_broken _ e)
-  | inl l ↦
-      let e : (if nat_lt (count_here t id) (credit id) then breaks 2 p (count_here t id) else other) ≡ None = rw l at h in
-      elim (cases_Bool (nat_lt (count_here t id) (credit id))) [
-        | inl b ↦ absurd (let f : breaks 2 p (count_here t id) ≡ None = rw b at e in not_broken _ f)
-        | inr b ↦ (l, search (arith, b), rw b at e)
-      ]
-]
-
-not_true : (b : Bool) → not b ≡ true → b ≡ false
-not_true true h = absurd (cc)
-not_true false h = refl
+return_right t p id other h = grind arith
 
 pub free_right : (t : Tables) (p : Parcel) (o : Id) → broken_free t p o ≡ None → (stands_here t o ≡ true) × (waits_here t o ≡ false) × (held_here t o ≡ 0)
-free_right t p o h = elim (cases_Bool (stands_here t o && (not (waits_here t o) && (held_here t o == 0)))) [
-  | inl b ↦
-      let parts = and_true (stands_here t o) (not (waits_here t o) && (held_here t o == 0)) b in
-      let more = and_true (not (waits_here t o)) (held_here t o == 0) parts.1 in (parts.0, not_true (waits_here t o) more.0, eqb-true (held_here t o) 0 more.1)
-  | inr b ↦ absurd (not_broken _ (rw b at h))
-]
+free_right t p o h = grind arith
 
 pub give_right : (t : Tables) (p : Parcel) (id : Id) (entry : ℕ) → broken_give t p id entry ≡ None
     → (list_any (awaits id entry) t.pending ≡ true) × (brings_right t id ≡ true)
-give_right t p id entry h = elim (cases_Bool (list_any (awaits id entry) t.pending && brings_right t id)) [
-  | inl b ↦ and_true (list_any (awaits id entry) t.pending) (brings_right t id) b
-  | inr b ↦ absurd (not_broken _ (rw b at h))
-]
+give_right t p id entry h = grind arith
 
 pub go_wrong : (t : Tables) (p : Parcel) (act : Act) → broken_go t p act ≡ None → ⊥
-go_wrong t p act h = elim (cases_Bool (stands_here t (target_of act) && not (is_to_here t act))) [
-  | inl b ↦ not_broken _ (rw b at h)
-  | inr b ↦ not_broken _ (rw b at h)
-]
+go_wrong t p act h = if_so (stands_here t (target_of act) && not (is_to_here t act)) (λ b. not_broken _ (rw b at h)) (λ b. not_broken _ (rw b at h))
 
 pub object_wrong : (t : Tables) (p : Parcel) (act : Act) → broken_object t p act ≡ None → ⊥
-object_wrong t p act h = elim (cases_Bool (stands_here t (target_of act))) [
-  | inl b ↦ not_broken _ (rw b at h)
-  | inr b ↦ not_broken _ (rw b at h)
-]
+object_wrong t p act h = if_so (stands_here t (target_of act)) (λ b. not_broken _ (rw b at h)) (λ b. not_broken _ (rw b at h))
 
 -- all that it names is near
 pub near_right : (t : Tables) (p : Parcel) → broken t p ≡ None → (is_far t.localities p ≡ false) × (broken_near t p ≡ None)
-near_right t p h = elim (cases_Bool (is_far t.localities p)) [
-  | inl b ↦ absurd (let e : breaks 9 p t.localities ≡ None = rw b at h in not_broken _ e)
-  | inr b ↦ (b, rw b at h)
-]
+near_right t p h = if_so (is_far t.localities p) (λ b. absurd (let e : breaks 9 p t.localities ≡ None = rw b at h in not_broken _ e)) (λ b. (b, rw b at h))

@@ -1,6 +1,6 @@
 -- The first of what is due is sent.
-use Rattle.hpx_steps.proofs.Common.{Accepted, Act, Apply, Bool, Due, Entry, Going, IsDue, IsFit, IsSound, IsTidy, Item, List, Message, MessageDue, Move, Name, OnDesk, Parcel, Row, Rules, Sends, Sent, Some, TidyAt, Turn, View, [], ap, arith, asked_by, asks_as, asks_for, asks_under, bare_due, bare_message, brings, causes, count_by, draws, false, follows_sent, freeing, given_to, gives_for, goes, going, hopping, inl, inr, is_other, joined, kind_of, map, may_stay, named_act, of_act, one_if, parcel_asks, parcel_frees, parcel_tokens, posts, refl, same_object, sum_by, sym, target_of, tokens_of, true, unpaid, view, waiting, waits_for, weigh, weight, worth, wrote, ℕ, ◌++◌, ◌+◌, ◌==◌, ◌||◌, ◌∙◌, ◌∷◌, ◌≡◌, ◌≤◌, ◌⊎◌}
-use Rattle.hpx_steps.proofs.Tools.{Changes, Keeps, Put, Sees, asks_of, bound_none, by_rows, counts_near, due_change, fewer, first_goes, frees_of, holding, post_change, post_waits, put_as, put_less, put_sum, put_tidy, same_asks, same_dead, sees_by, sees_leads, then, told_as, view_worth}
+use Rattle.hpx_steps.proofs.Common.{Accepted, Act, Apply, Due, Entry, Going, IsDue, IsFit, IsSound, IsTidy, Item, List, Message, MessageDue, Move, Name, OnDesk, Parcel, Row, Rules, Sends, Sent, Some, TidyAt, Turn, View, [], ap, arith, asked_by, asks_as, asks_for, asks_under, bare_due, bare_message, causes, count_by, draws, follows_sent, freeing, given_to, gives_for, goes, going, hopping, inl, is_other, joined, map, may_stay, named_act, of_act, parcel_asks, parcel_frees, parcel_tokens, posts, refl, same_object, sum_by, sym, target_of, tokens_of, unpaid, view, waiting, waits_for, weigh, worth, wrote, ℕ, ◌++◌, ◌+◌, ◌==◌, ◌∷◌, ◌≡◌, ◌⊎◌}
+use Rattle.hpx_steps.proofs.Tools.{Changes, Keeps, Put, Sees, asks_of, both, bound_none, brings_few, by_rows, carried, counts_near, due_change, fewer, first_goes, frees_of, holding, post_change, post_waits, put_as, put_less, put_sum, put_tidy, same_asks, same_dead, sees_by, sees_leads, then, told_as, view_worth, weighs_act}
 
 module _ (r : Rules) (s : Turn) (entries : List Entry) (h : IsSound r s entries) (m : Message) (rest : List Due) (fresh : s.fresh ≡ []) (due : s.due ≡ MessageDue m ∷ rest) where
   abbrev name : Name
@@ -33,14 +33,6 @@ module _ (r : Rules) (s : Turn) (entries : List Entry) (h : IsSound r s entries)
       → weigh w now + w (IsDue (MessageDue m)) ≡ weigh w s + n
   moves w n a b = omega (arith, turned w, put_sum w (may_stay s.tables act) (is_other s.tables (target_of act).home) act n a b)
 
-  -- by what messages weigh
-  carried : (f : Parcel → ℕ) (n : ℕ) → f (Apply act) ≡ n → f (Move act) ≡ n → (p : Parcel) → (p ≡ Apply act) ⊎ (p ≡ Move act) → f p ≡ n
-  carried f n a b p (inl e) = ap f e ∙ a
-  carried f n a b p (inr e) = ap f e ∙ b
-
-  both : (f : Parcel → ℕ) (n : ℕ) → f (Apply act) ≡ n → f (Move act) ≡ n → (p : Parcel) → (p ≡ Apply act) ⊎ (p ≡ Move act) → (f p ≡ n) × ((to : ℕ) → f p ≡ n)
-  both f n a b p e = (carried f n a b p e, λ to. carried f n a b p e)
-
   fit : IsFit act
   fit = let d = h.tidy (IsDue (MessageDue m)) (rw due (inl refl)) in record { sent = record { shape = d.sent.shape; credit = d.sent.credit }; moves = d.moves }
 
@@ -60,9 +52,9 @@ module _ (r : Rules) (s : Turn) (entries : List Entry) (h : IsSound r s entries)
 
   sees : Sees seen now
   sees = sees_by seen now (ap (λ ws. record (view now) { waiting = ws }) (sym put.is))
-      (λ f weight. omega (arith, view_worth f s, view_worth f now, moves (worth f) (sum_by f (tokens_of m.ids)) refl (both (λ p. sum_by f (parcel_tokens p)) (sum_by f (tokens_of m.ids)) refl refl))) (λ x. refl)
-      (λ x. same_asks x s now (omega (arith, moves (asks_of x) 0 refl (both (λ p. count_by (same_object x) (parcel_asks p)) 0 refl refl))))
-      (λ x. same_dead x s now (omega (arith, moves (frees_of x) 0 refl (both (λ p. count_by (same_object x) (parcel_frees p)) 0 refl refl)))) refl
+      (λ f weight. omega (arith, view_worth f s, view_worth f now, moves (worth f) (sum_by f (tokens_of m.ids)) refl (both act (λ p. sum_by f (parcel_tokens p)) (sum_by f (tokens_of m.ids)) refl refl))) (λ x. refl)
+      (λ x. same_asks x s now (omega (arith, moves (asks_of x) 0 refl (both act (λ p. count_by (same_object x) (parcel_asks p)) 0 refl refl))))
+      (λ x. same_dead x s now (omega (arith, moves (frees_of x) 0 refl (both act (λ p. count_by (same_object x) (parcel_frees p)) 0 refl refl)))) refl
 
   pub sent_keeps : Keeps r s now (Sent name)
   sent_keeps = record {
@@ -74,38 +66,25 @@ module _ (r : Rules) (s : Turn) (entries : List Entry) (h : IsSound r s entries)
     tidy = tidy;
     places = h.places;
     commits = h.commits;
-    numbered = fewer s now (omega arith) (λ n. omega (arith, moves (asks_under n) 0 refl (both (asks_as n) 0 refl refl)));
+    numbered = fewer s now (omega arith) (λ n. omega (arith, moves (asks_under n) 0 refl (both act (asks_as n) 0 refl refl)));
     pays = record {
-      rows = λ row. omega (arith, moves (unpaid row) (of_act row) refl (both (weight row) (of_act row) (applied row) (moved row)), costs row);
-      once = omega (arith, turned hopping, put_less hopping (may_stay s.tables act) (is_other s.tables (target_of act).home) act 1 (omega arith) (λ p. (few p, λ to. few p)));
+      rows = λ row. omega (arith, moves (unpaid row) (of_act row) refl (weighs_act act row), costs row);
+      once = omega (arith, turned hopping, put_less hopping (may_stay s.tables act) (is_other s.tables (target_of act).home) act 1 (omega arith) (λ p. (brings_few p, λ to. brings_few p)));
       fired = omega (arith, turned joined);
-      frees = λ o. omega (arith, moves (freeing o) 0 refl (both (λ p. 0) 0 refl refl));
+      frees = λ o. omega (arith, moves (freeing o) 0 refl (both act (λ p. 0) 0 refl refl));
     };
     orders = record {
       sent = tt;
       asked = λ o n. omega (
         arith,
-        moves (asked_by s.tables.here o n) 0 refl (λ p e. (carried (λ q. asks_for s.tables.here o n q + gives_for o n q) 0 refl refl p e, λ to. carried (asks_for s.tables.here o n) 0 refl refl p e)),
-        moves (waits_for o n) 0 refl (both (λ p. 0) 0 refl refl),
+        moves (asked_by s.tables.here o n) 0 refl (λ p e. (carried act (λ q. asks_for s.tables.here o n q + gives_for o n q) 0 refl refl p e, λ to. carried act (asks_for s.tables.here o n) 0 refl refl p e)),
+        moves (waits_for o n) 0 refl (both act (λ p. 0) 0 refl refl),
       );
-      given = λ j d o n. omega (arith, moves (given_to j o n) 0 refl (λ p e. (refl, λ to. bound_none (to == j) (gives_for o n p) (carried (gives_for o n) 0 refl refl p e))));
+      given = λ j d o n. omega (arith, moves (given_to j o n) 0 refl (λ p e. (refl, λ to. bound_none (to == j) (gives_for o n p) (carried act (gives_for o n) 0 refl refl p e))));
     };
     counts = counts_near s now (Sent name) refl (omega arith) (omega arith) (omega arith) (omega arith) (omega arith) (λ l. refl);
   }
     where
-      few : (p : Parcel) → brings p ≤ 1
-      few p = each ((kind_of p == 1) || (kind_of p == 6))
-        where
-          each : (b : Bool) → one_if b ≤ 1
-          each true = omega arith
-          each false = omega arith
-
-      applied : (row : Row) → weight row (Apply act) ≡ of_act row
-      applied = by_rows (λ row. weight row (Apply act) ≡ of_act row) refl refl refl refl refl refl refl (λ o. refl)
-
-      moved : (row : Row) → weight row (Move act) ≡ of_act row
-      moved = by_rows (λ row. weight row (Move act) ≡ of_act row) refl refl refl refl refl refl refl (λ o. refl)
-
       costs : (row : Row) → goes r row (Sent name) + of_act row ≡ causes r row (Sent name)
       costs = by_rows (λ row. goes r row (Sent name) + of_act row ≡ causes r row (Sent name)) refl refl refl refl refl refl refl (λ o. refl)
 

@@ -22,14 +22,7 @@ module _ (r : Rules) (s : Turn) (entries : List Entry) (h : IsSound r s entries)
 
   -- the id goes, and two halves come
   tokens_hand : (f : Token → ℕ) → sum_by f (tokens_of split.hand) + f (held_token (bare id) log) ≡ sum_by f (tokens_of w.hand) + (f (held_token (bare id) (log - 1)) + f (held_token (bare id) (log - 1)))
-  tokens_hand f = omega (
-    arith,
-    ids_append f (set w.hand p (half id)) (half id ∷ []),
-    ids_each f,
-    set_sum (λ y. sum_by f (tokens_of (y ∷ []))) w.hand p id (half id) at,
-    held_by f id log has,
-    held_by f (half id) (log - 1) halved,
-  )
+  tokens_hand f = grind (arith, ids_append, ids_each, set_sum, held_by, halved)
 
   abbrev many : ℕ
   many = length (ids_named w)

@@ -1,5 +1,5 @@
 -- What is done without an entry.
-use Rattle.hpx_steps.proofs.Common.{AllByRecursion, AreFired, AreNumbered, AreNumbers, AreRules, Entry, Event, HasCommits, HasPlaces, Id, IsOrderly, IsPaid, IsSound, IsTidy, Leads, List, Row, Rules, SendsOwn, StandsFor, Tables, Turn, [], all_count, ap, append-nil, arith, asked_by, asks_for, come, commits, freeing, given_to, gives_for, gone, grow, hopping, joined, map, part, subst, sym, unpaid, view, waits_for, weigh, ℕ, ◌+◌, ◌∙◌, ◌∷◌, ◌≡◌, ◌≢◌, ◌≤◌}
+use Rattle.hpx_steps.proofs.Common.{AllByRecursion, AreFired, AreNumbered, AreNumbers, AreRules, Entry, Event, HasCommits, HasPlaces, Id, IsOrderly, IsPaid, IsSound, IsTidy, Leads, List, None, Row, Rules, SendsOwn, StandsFor, Tables, Turn, [], all_count, ap, append-nil, arith, asked_by, asks_for, come, commits, freeing, given_to, gives_for, gone, grow, hopping, joined, map, part, refl, subst, sym, unpaid, view, waits_for, weaker_leads, weigh, ℕ, ◌+◌, ◌∙◌, ◌∷◌, ◌≡◌, ◌≢◌, ◌≤◌}
 use Rattle.hpx_steps.proofs.Calm.{SameNumbers}
 
 pub record Stills (r : Rules) (s s' : Turn) : Type 0 where
@@ -49,3 +49,31 @@ still_sound r s s' entries h k =
           (record { born = h.numbers.born; few = h.numbers.few; asked = h.numbers.asked; sent = h.numbers.sent; taken = h.numbers.taken; few_answers = h.numbers.few_answers; answered = h.numbers.answered }) in
           record { born = n.born; few = n.few; asked = n.asked; sent = n.sent; taken = n.taken; few_answers = n.few_answers; answered = n.answered };
     }
+
+-- ---- between turns the last entry is forgotten
+
+abbrev pub forgets : Turn → Turn
+forgets s = record s { last = None }
+
+pub rest_sound : (r : Rules) (s : Turn) (entries : List Entry) → IsSound r s entries → IsSound r (forgets s) entries
+rest_sound r s entries h = record {
+  rules = record { localities = h.rules.localities; credit_log = h.rules.credit_log; credit_limit = h.rules.credit_limit };
+  keeps = subst (StandsFor r (view (forgets s))) (append-nil entries)
+      (grow r (view s) (view (forgets s)) entries [] h.keeps
+      (weaker_leads r (view s) (view s).tokens (view s).asking (view s).asks (view s).live (view s).dead (view s).refusals (view s).failing
+      (λ f weight. refl) (λ x. refl) (λ x. refl) (λ x home. refl) (λ x d. d) (λ x d. d) (omega arith)));
+  tidy = h.tidy;
+  places = h.places;
+  commits = h.commits;
+  paid = record { rows = h.paid.rows; once = h.paid.once; fired = h.paid.fired; frees = h.paid.frees };
+  orderly = record { sent = h.orderly.sent; asked = h.orderly.asked; given = h.orderly.given };
+  numbers = record {
+    born = h.numbers.born;
+    few = h.numbers.few;
+    asked = h.numbers.asked;
+    sent = h.numbers.sent;
+    taken = h.numbers.taken;
+    few_answers = h.numbers.few_answers;
+    answered = h.numbers.answered;
+  };
+}

@@ -1,5 +1,5 @@
 -- What lists weigh, and what is seen of a turn by what it weighs.
-use Rattle.hpx_steps.proofs.Common.{Act, AllByRecursion, Came, Going, Id, Item, List, Mailed, OnDesk, Outgoing, Parcel, Standing, Token, Turn, Waits, [], ap, append_assoc, arith, asking, asking_of, commits, cond, count_by, credit_list, credits_of, due_ids, filter, flat_map, held, ids_here, is_asked, map, map-append, own_ids, own_parcels, parcel_tokens, parcels, refl, same_object, sum_by, sum_by-append, sum_by-cons, sym, tokens, tokens_of, weigh, worth, ℕ, ◌++◌, ◌+◌, ◌∙◌, ◌∷◌, ◌≡◌, ◌≤◌}
+use Rattle.hpx_steps.proofs.Common.{Act, AllByRecursion, Came, Going, Id, Item, List, Mailed, OnDesk, Outgoing, Parcel, Pending, Refusal, Some, Standing, Token, Turn, Waits, Working, [], action_of, ap, append_assoc, arith, asking, asking_of, commits, cond, count_by, credit_list, credits_of, drop, due_ids, filter, fired_of, flat_map, ids_here, is_asked, length, map, map-append, own_ids, own_parcels, parcel_tokens, parcels, refl, refusal_of, refusals_of, remove, same_object, set, slice_get, split_get, split_set, suc, sum_by, sum_by-append, sum_by-cons, sum_middle, sym, take, tokens, tokens_of, weigh, worth, ℕ, ◌++◌, ◌+◌, ◌∙◌, ◌∷◌, ◌≡◌, ◌≤◌}
 
 -- ---- lists
 
@@ -16,8 +16,7 @@ map_sum f g [] = refl
 map_sum f g (x ∷ xs) = omega (arith, map_sum f g xs, sum_by-cons f (g x) (map g xs), sum_by-cons (λ y. f (g y)) x xs)
 
 pub same_sum : {X : Type 0} (f g : X → ℕ) (xs : List X) → ((x : X) → f x ≡ g x) → sum_by f xs ≡ sum_by g xs
-same_sum f g [] same = refl
-same_sum f g (x ∷ xs) same = omega (arith, sum_by-cons f x xs, sum_by-cons g x xs, same x, same_sum f g xs same)
+same_sum f g b same = grind arith
 
 pub most_sum : {X : Type 0} (P : X → Type 0) (f g : X → ℕ) (xs : List X) → ((x : X) → P x → f x ≤ g x) → AllByRecursion P xs → sum_by f xs ≤ sum_by g xs
 most_sum P f g [] less h = omega arith
@@ -35,8 +34,7 @@ weighs f ids = sum_by f (tokens_of ids)
 
 module _ (f : Token → ℕ) where
   pub ids_append : (xs ys : List Id) → sum_by f (tokens_of (xs ++ ys)) ≡ sum_by f (tokens_of xs) + sum_by f (tokens_of ys)
-  ids_append xs ys = ap (sum_by f) (ap (map held) (credits_append xs ys) ∙ map-append held (credits_of xs) (credits_of ys))
-      ∙ sum_by-append f (tokens_of xs) (tokens_of ys)
+  ids_append xs ys = grind (arith, credits_append, map-append, sum_by-append)
 
   pub ids_flat : {X : Type 0} (g : X → List Id) (xs : List X) → sum_by f (tokens_of (flat_map g xs)) ≡ sum_by (λ x. sum_by f (tokens_of (g x))) xs
   ids_flat g [] = refl
@@ -62,25 +60,12 @@ zeros (x ∷ xs) = omega (arith, sum_by-cons (λ y. 0) x xs, zeros xs)
 
 pub parcels_sum : (w : Parcel → ℕ) (s : Turn) → sum_by w (parcels s)
     ≡ sum_by w s.came + sum_by w s.mailed + sum_by w s.tables.desk + sum_by (λ (x : Outgoing). w x.parcel) s.tables.outgoing
-parcels_sum w s =
-    let outs = map (λ (x : Outgoing). x.parcel) s.tables.outgoing in
-    omega (arith, sum_by-append w, map_sum w (λ (x : Outgoing). x.parcel) s.tables.outgoing)
+parcels_sum w s = grind (arith, sum_by-append, map_sum)
 
 -- what is seen of messages
 pub seen_sum : {Y : Type 0} (f : Y → ℕ) (h : Parcel → List Y) (s : Turn)
     → sum_by f (flat_map h (parcels s)) ≡ weigh (by_parcel (λ p. sum_by f (h p))) s
-seen_sum f h s = omega (
-  arith,
-  flat_sum f h (parcels s),
-  parcels_sum (λ p. sum_by f (h p)) s,
-  zeros s.tables.accepted,
-  zeros s.tables.running,
-  zeros s.tables.pending,
-  zeros s.working,
-  zeros s.tables.objects,
-  zeros s.due,
-  zeros s.loose,
-)
+seen_sum f h s = search (arith, flat_sum, parcels_sum, zeros)
 
 -- a weight of own messages
 abbrev pub by_own : (Parcel → ℕ) → Item → ℕ
@@ -91,23 +76,7 @@ by_own w _ = 0
 
 pub own_sum : {Y : Type 0} (f : Y → ℕ) (h : Parcel → List Y) (s : Turn)
     → sum_by f (flat_map h (own_parcels s)) ≡ weigh (by_own (λ p. sum_by f (h p))) s
-own_sum f h s =
-    let w : Parcel → ℕ = λ p. sum_by f (h p) in
-    let outs = map (λ (x : Outgoing). x.parcel) s.tables.outgoing in
-    omega (
-      arith,
-      flat_sum f h (own_parcels s),
-      sum_by-append w,
-      map_sum w (λ (x : Outgoing). x.parcel) s.tables.outgoing,
-      zeros s.came,
-      zeros s.tables.accepted,
-      zeros s.tables.running,
-      zeros s.tables.pending,
-      zeros s.working,
-      zeros s.tables.objects,
-      zeros s.due,
-      zeros s.loose,
-    )
+own_sum f h s = search (arith, ℕ, flat_sum, sum_by-append, map_sum, zeros)
 
 -- all tokens
 pub view_worth : (f : Token → ℕ) (s : Turn) → sum_by f (tokens s) ≡ weigh (worth f) s
@@ -125,19 +94,56 @@ view_worth f s = omega (
   ids_each f s.loose,
 )
 
+-- a weight of commits
+abbrev pub by_commit : (Waits → ℕ) → Item → ℕ
+by_commit f (Pending w) = f w
+by_commit f (Working w) = f w
+by_commit f _ = 0
+
+commits_sum : (f : Waits → ℕ) (s : Turn) → sum_by f (commits s) ≡ weigh (by_commit f) s
+commits_sum f s = omega (arith, sum_by-append f s.working s.tables.pending, zeros s.came, zeros s.mailed, zeros s.tables.desk, zeros s.tables.outgoing, zeros s.tables.accepted, zeros s.tables.running, zeros s.tables.objects, zeros s.due, zeros s.loose)
+
 -- what was asked for
 pub view_asking : (o : Id) (s : Turn) → count_by (same_object o) (asking_of (commits s)) ≡ weigh (asking o) s
-view_asking o s = omega (
+view_asking o s = omega (arith, flat_sum (λ (x : Id). cond (same_object o x) 1 0) (λ (w : Waits). filter is_asked (own_ids w)) (commits s), commits_sum (λ (w : Waits). count_by (same_object o) (filter is_asked (own_ids w))) s)
+
+-- refusals
+abbrev pub refuses : (Refusal → ℕ) → Waits → ℕ
+refuses f w = sum_by f (refusal_of w.job.action w.refused)
+
+pub view_refusals : (f : Refusal → ℕ) (s : Turn) → sum_by f (refusals_of (commits s)) ≡ weigh (by_commit (refuses f)) s
+view_refusals f s = omega (arith, flat_sum f (λ (w : Waits). refusal_of w.job.action w.refused) (commits s), commits_sum (refuses f) s)
+
+-- fired actions
+pub fired_sum : (f : Act → ℕ) (s : Turn) → sum_by f (fired_of s.tables.running (commits s))
+    ≡ sum_by f s.tables.running + (sum_by (λ (w : Waits). f w.job.action) s.working + sum_by (λ (w : Waits). f w.job.action) s.tables.pending)
+fired_sum f s = omega (arith, sum_by-append f s.tables.running (map action_of (commits s)), map_sum f action_of (commits s), sum_by-append (λ (w : Waits). f w.job.action) s.working s.tables.pending)
+
+-- ---- sums over lists, where one element goes, and where another stands in its place
+
+pub less_sum : {X : Type 0} (f : X → ℕ) (xs : List X) (i : ℕ) (x : X) → slice_get xs i ≡ Some x → sum_by f xs ≡ sum_by f (remove xs i) + f x
+less_sum f xs i x there = ap (sum_by f) (split_get xs i x there) ∙ sum_middle f (take i xs) x (drop (suc i) xs)
+
+pub set_sum : {X : Type 0} (f : X → ℕ) (xs : List X) (i : ℕ) (x y : X) → slice_get xs i ≡ Some x → sum_by f (set xs i y) + f x ≡ sum_by f xs + f y
+set_sum f xs i x y h = omega (
   arith,
-  flat_sum (λ (x : Id). cond (same_object o x) 1 0) (λ (w : Waits). filter is_asked (own_ids w)) (commits s),
-  sum_by-append (λ (w : Waits). count_by (same_object o) (filter is_asked (own_ids w))) s.working s.tables.pending,
-  zeros s.came,
-  zeros s.mailed,
-  zeros s.tables.desk,
-  zeros s.tables.outgoing,
-  zeros s.tables.accepted,
-  zeros s.tables.running,
-  zeros s.tables.objects,
-  zeros s.due,
-  zeros s.loose,
+  ap (sum_by f) (split_get xs i x h),
+  ap (sum_by f) (split_set xs i x y h),
+  sum_middle f (take i xs) x (drop (suc i) xs),
+  sum_middle f (take i xs) y (drop (suc i) xs),
 )
+
+-- one of a list is another that is seen the same
+pub same_map : {X Y : Type 0} (g : X → Y) (xs : List X) (i : ℕ) (x y : X) → slice_get xs i ≡ Some x → g y ≡ g x → map g (set xs i y) ≡ map g xs
+same_map g xs i x y h same =
+    let middle : map g (take i xs) ++ g y ∷ map g (drop (suc i) xs) ≡ map g (take i xs) ++ g x ∷ map g (drop (suc i) xs) = ap (λ z. map g (take i xs) ++ z ∷ map g (drop (suc i) xs)) same in
+    ap (map g) (split_set xs i x y h) ∙ simp map-append middle ∙ sym (ap (map g) (split_get xs i x h))
+
+-- as many as there are
+pub long_sum : {X : Type 0} (xs : List X) → length xs ≡ sum_by (λ x. 1) xs
+long_sum [] = refl
+long_sum (x ∷ xs) = omega (arith, long_sum xs, sum_by-cons (λ y. 1) x xs)
+
+pub none_sum : {X : Type 0} (f : X → ℕ) (xs : List X) → ((x : X) → f x ≡ 0) → sum_by f xs ≡ 0
+none_sum f [] none = refl
+none_sum f (x ∷ xs) none = omega (arith, none x, none_sum f xs none, sum_by-cons f x xs)

@@ -1,19 +1,12 @@
 -- A commit begins: its object and its action put their ids into its hand.
-use Rattle.hpx_steps.proofs.Common.{Act, AllByRecursion, Entry, HasCommits, HasRightCredit, Id, IsCommit, IsFit, IsSound, IsState, IsTidy, Job, List, None, Outcome, Rules, Running, Some, Standing, StandsHere, State, Suspends, TidyAt, Turn, View, Waits, Working, [], action_of, all_append, ap, append_assoc, arith, asked_by, asking, asks_under, bare, bare_act, bare_standing, bare_state, commits, cond, drop, filter, find, find_passes, freeing, given_to, hand_ids, hopping, id_at, is_asked, is_standing, joined, length, length-map, map, names_of, own_ids, refl, remove, same_object, session, set, slice_get, split_get, subst, suc, sum_by, sym, take, take_at, target_of, tokens_of, true, unpaid, view, waits_for, waits_with, worth, ℕ, ◌++◌, ◌<◌, ◌∙◌, ◌∷◌, ◌≡◌, ◌≤◌}
+use Rattle.hpx_steps.proofs.Common.{Act, AllByRecursion, Entry, HasRightCredit, Id, IsCommit, IsFit, IsSound, IsState, IsTidy, Job, List, None, Outcome, Rules, Running, Some, Standing, StandsHere, State, Suspends, TidyAt, Turn, View, Waits, Working, [], action_of, all_append, ap, append_assoc, arith, asked_by, asking, asks_under, bare, bare_act, bare_standing, bare_state, commits, cond, drop, filter, find, find_passes, freeing, given_to, hand_ids, hopping, id_at, is_asked, is_standing, joined, length, length-map, map, names_of, own_ids, refl, remove, same_object, session, set, slice_get, split_get, subst, suc, sum_by, sym, take, take_at, target_of, tokens_of, true, unpaid, view, waits_for, waits_with, worth, ℕ, ◌++◌, ◌<◌, ◌∙◌, ◌∷◌, ◌≡◌, ◌≤◌}
 use Rattle.hpx_steps.proofs.Tools.{Changes, Sees, Stills, among_at, bare_all, fewer, fired_leads, first_comes, front_place, holding, ids_append, leads_on, no_tokens, none_tokens, not_asked, objects_change, one_goes, one_turns, running_change, same_map, sees_leads, single_set, stand_set, then, view_asking, view_worth, working_change}
 use Rattle.hpx_steps.proofs.Bare.{all_none}
 use Rattle.hpx_steps.proofs.Beside.{begin_commits, runs_whole}
-use Rattle.hpx_steps.proofs.Tidy.{plain_ids, retidy}
+use Rattle.hpx_steps.proofs.Objects.{plain_ids, retidy}
 
 bare_fit : (s : State) → IsState s → IsState (bare_state s)
-bare_fit s h = record {
-  values = h.values;
-  refs = h.refs;
-  conts = h.conts;
-  ids = length-map s.ids bare ∙ h.ids;
-  few = omega (arith, length-map s.ids bare, h.few);
-  short = h.short;
-}
+bare_fit s h = grind (arith, length-map)
 
 module _ (r : Rules) (s : Turn) (entries : List Entry) (h : IsSound r s entries) (i j : ℕ) (job : Job) (outcome : Outcome) (x : Standing)
     (runs : slice_get s.tables.running i ≡ Some job.action) (stands : slice_get s.tables.objects j ≡ Some x)
@@ -93,9 +86,6 @@ module _ (r : Rules) (s : Turn) (entries : List Entry) (h : IsSound r s entries)
   abbrev acts : List Act
   acts = map action_of (commits s)
 
-  commits_now : HasCommits (set s.tables.objects j new) (remove s.tables.running i) (w ∷ commits s)
-  commits_now = begin_commits s.tables.objects s.tables.running (commits s) h.commits i job.action runs h.places.single w refl j x stands same kind state (plain_ids x kept.0)
-
   abbrev seen : View
   seen = record (view s) { fired = map bare_act (remove s.tables.running i ++ job.action ∷ map action_of (commits s)) }
 
@@ -129,7 +119,7 @@ module _ (r : Rules) (s : Turn) (entries : List Entry) (h : IsSound r s entries)
       places = h.places.places;
       single = single_set s.tables.objects j x new stands refl h.places.single;
     };
-    commits = commits_now;
+    commits = begin_commits s.tables.objects s.tables.running (commits s) h.commits i job.action runs h.places.single w refl j x stands same kind state (plain_ids x kept.0);
     numbered = fewer s now (omega arith) (λ n. omega (arith, change.0 (asks_under n)));
     rows = λ row. omega (arith, change.0 (unpaid row));
     once = omega (arith, change.0 hopping);

@@ -80,8 +80,7 @@ module _ (r : Rules) (s s' : Turn) (e : Event) (entries : List Entry) (h : IsSou
   old = part s.tables.here entries
 
   grown : part s'.tables.here (entries ++ one) ≡ old ++ one
-  grown = ap (λ x. part x (entries ++ one)) k.counts.here
-      ∙ (part_append here entries one ∙ ap (λ zs. old ++ zs) (part_at here one (refl, tt)))
+  grown = grind (arith, one, part_append, here, old, part_at)
 
   more : (f : Event → ℕ) → all_count f (old ++ one) ≡ all_count f old + f e
   more f = omega (arith, sum_by-append (λ (x : Entry). f x.event) old one, sum_by-cons (λ (x : Entry). f x.event) (entry_at here e) [])

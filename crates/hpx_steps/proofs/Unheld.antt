@@ -1,6 +1,6 @@
 -- Where no credit of an object is held, no action here is on it.
-use Rattle.hpx_steps.proofs.Common.{Accepted, Act, AllByRecursion, Apply, Arrived, Ask, Bool, Cached, Credit, Free, Give, Go, Going, HasInHand, Id, IsFit, IsParcel, IsTidy, List, Move, None, OnDesk, Option, Outgoing, Parcel, Return, Running, Shipped, Some, Token, Turn, Waits, [], act_names, action_of, acts_named, acts_on, all_append, and_false, ap, arith, bare_act, cases_Bool, cond, credit, credit_in, credit_list, credits_of, false, fired_of, flat_map, held, held_here, ids_held, inl, inr, is_held, list_any, map, messages, owing, parcel_acts, parcel_tokens, pow_pos, refl, same_object, same_object-true, session, sum_by, sum_by-append, sum_by-cons, sym, true, view, waiting, waits_here, ℕ, ◌++◌, ◌+◌, ◌∙◌, ◌∷◌, ◌≡◌, ◌≤◌}
-use Rattle.hpx_steps.proofs.Tools.{all_among, drop_waits, ids_append, ids_flat, none_of, target-bare, weighs}
+use Rattle.hpx_steps.proofs.Common.{Accepted, Act, AllByRecursion, Apply, Arrived, Ask, Bool, Cached, Credit, Free, Give, Go, Going, HasInHand, Id, IsFit, IsParcel, IsTidy, List, Move, None, OnDesk, Option, Outgoing, Parcel, Return, Running, Shipped, Some, Token, Turn, Waits, [], act_names, action_of, acts_named, acts_on, all_append, and_false, ap, arith, bare_act, cond, credit, credit_in, credit_list, credits_of, false, fired_of, flat_map, held, held_here, ids_held, is_held, list_any, map, messages, owing, parcel_acts, parcel_tokens, pow_pos, refl, same_object, sum_by, sum_by-append, sum_by-cons, true, view, waiting, waits_here, ℕ, ◌++◌, ◌+◌, ◌∙◌, ◌∷◌, ◌≡◌, ◌≤◌}
+use Rattle.hpx_steps.proofs.Tools.{all_among, drop_waits, ids_append, ids_flat, if_so, none_of, target-bare, weighs}
 use Rattle.hpx_steps.proofs.Busy.{or_false}
 use Rattle.hpx_steps.proofs.Cover.{held_acts}
 
@@ -43,19 +43,16 @@ module _ (o : Id) where
   parcel_worth (Free id) h = omega (arith, bare_holds id h.0)
 
   one_name : 16 ≤ o.kind → (act : Act) (ids : List Id) → act.ids ≡ ids → acts_on o act ≡ true → 1 ≤ act_names o act
-  one_name managed act [] e h =
-      let k : same_object o session ≡ true = rw e at h in
-      absurd (let kind : o.kind ≡ 1 = ap (λ (x : Id). x.kind) (same_object-true o session k) in omega (arith, managed, kind))
+  one_name managed act [] e h = grind arith
   one_name managed act (id ∷ ids) e h =
       let k : same_object o id ≡ true = rw e at h in
       rw e (omega (arith, sum_by-cons (λ x. cond (same_object o x) 1 0) id ids, ap {B = ℕ} (λ b. cond b 1 0) k))
 
   no_acts : 16 ≤ o.kind → (xs : List Act) → sum_by (act_names o) xs ≡ 0 → list_any (acts_on o) xs ≡ false
   no_acts managed [] h = refl
-  no_acts managed (x ∷ xs) h = elim (cases_Bool (acts_on o x)) [
-    | inl t ↦ absurd (omega (arith, h, sum_by-cons (act_names o) x xs, one_name managed x x.ids refl t))
-    | inr t ↦ rw t (no_acts managed xs (omega (arith, h, sum_by-cons (act_names o) x xs)))
-  ]
+  no_acts managed (x ∷ xs) h = if_so (acts_on o x)
+      (λ t. absurd (omega (arith, h, sum_by-cons (act_names o) x xs, one_name managed x x.ids refl t)))
+      (λ t. rw t (no_acts managed xs (omega (arith, h, sum_by-cons (act_names o) x xs))))
 
   acts_worth : 16 ≤ o.kind → (xs : List Act) → AllByRecursion IsFit xs → sum_by (act_names o) (map bare_act xs) ≤ sum_by (λ (a : Act). credit_in o a.ids) xs
   acts_worth managed xs fit = omega (arith, held_acts o managed xs fit, ids_flat holds (λ (a : Act). a.ids) xs, each xs)
@@ -114,14 +111,7 @@ module _ (o : Id) where
     none_accepted = no_acts managed (map bare_act s.tables.accepted) (omega (arith, names_none))
 
     pub none_waits : (p : Parcel) → HasInHand p s → parcel_acts p ≡ [] → list_any (acts_on o) (waiting s) ≡ false
-    none_waits p hand empty = no_acts managed (waiting s) (omega (
-      arith,
-      names_none,
-      ap (sum_by (act_names o)) (sym (drop_waits p s hand empty)),
-      sum_by-append (act_names o) (map bare_act s.tables.accepted) (flat_map parcel_acts (messages s.tables)),
-    ))
+    none_waits p hand empty = grind (arith, no_acts, managed, names_none, act_names, drop_waits, sum_by-append)
 
     pub none_fired : waits_here s.tables o ≡ false → s.working ≡ [] → list_any (acts_on o) (view s).fired ≡ false
-    none_fired idle alone =
-        ap (λ ws. list_any (acts_on o) (map bare_act (fired_of s.tables.running (ws ++ s.tables.pending)))) alone
-        ∙ fired_none s.tables.running s.tables.pending (no_acts managed (map bare_act s.tables.running) (omega (arith, names_none))) idle
+    none_fired idle alone = grind (arith, fired_none, no_acts, managed, names_none)

@@ -1,5 +1,5 @@
 -- An id is given up.
-use Rattle.hpx_steps.proofs.Common.{Entry, Event, GivesUp, Going, HasCredit, HasRightCredit, Id, IsSound, IsTidy, Item, List, Loose, MatchOption, None, OnDesk, Return, Row, Rules, Some, TidyAt, Token, Turn, Up, View, [], ap, arith, asked_by, asks_under, bare, bare_due, causes, counts_of, counts_true, follows_up, freeing, given_to, goes, going, held_token, hopping, inl, is_other, joined, mails, map, owed_token, refl, same_token, sum_by, sum_by-cons, sym, token_own, tokens, true, unpaid, view, waits_for, weigh, weight, worth, wrote, ℕ, ◌+◌, ◌<◌, ◌==◌, ◌∷◌, ◌≡◌, ◌≤◌}
+use Rattle.hpx_steps.proofs.Common.{Entry, Event, GivesUp, Going, HasCredit, Id, IsSound, IsTidy, Item, List, Loose, MatchOption, OnDesk, Return, Row, Rules, Some, TidyAt, Token, Turn, Up, View, [], ap, arith, asked_by, asks_under, bare, bare_due, causes, counts_of, counts_true, follows_up, freeing, given_to, goes, going, held_token, hopping, inl, is_other, joined, mails, map, owed_token, refl, same_token, subst, sum_by, sum_by-cons, sym, token_own, tokens, true, unpaid, view, waits_for, weigh, weight, worth, wrote, ℕ, ◌+◌, ◌<◌, ◌==◌, ◌∷◌, ◌≡◌, ◌≤◌}
 use Rattle.hpx_steps.proofs.Tools.{Changes, Keeps, Sees, asks_of, bound_none, by_rows, counts_near, fewer, first_goes, frees_of, held_by, holding, loose_change, mail_change, mail_tidy, mail_waits, owed_by, same_asks, same_dead, sees_by, sees_covers, sees_leads, sent_if, sent_total, then, told_as, total, view_covered, view_worth}
 
 module _ (r : Rules) (s : Turn) (entries : List Entry) (h : IsSound r s entries) (log : ℕ) (id : Id) (rest : List Id) (due : s.due ≡ []) (fresh : s.fresh ≡ [])
@@ -23,15 +23,8 @@ module _ (r : Rules) (s : Turn) (entries : List Entry) (h : IsSound r s entries)
       let k : weigh w now + (w (Loose id) + 0) ≡ weigh w s + total w sent = change.0 w in
       omega (arith, k, sent_total w true (is_other s.tables id.home) id.home (Return id) n a b)
 
-  right : HasRightCredit id
-  right = h.tidy (Loose id) (rw first (inl refl))
-
   credit : HasCredit id
-  credit = credited id.log has right
-    where
-      credited : (l : _) → l ≡ Some log → MatchOption l (id.kind < 16) (λ x. 16 ≤ id.kind) → MatchOption l ⊥ (λ x. 16 ≤ id.kind)
-      credited None e k = absurd (cc)
-      credited (Some x) e k = k
+  credit = subst (λ l. MatchOption l ⊥ (λ x. 16 ≤ id.kind)) (sym has) (subst (λ l. MatchOption l (id.kind < 16) (λ x. 16 ≤ id.kind)) has (h.tidy (Loose id) (rw first (inl refl))))
 
   tidy : IsTidy now
   tidy = holding (TidyAt s) sent s now change.1 h.tidy (mail_tidy s.tables true id.home (Return id) (λ b. credit) (λ b. refl) (λ b. tt) (λ b c. tt))

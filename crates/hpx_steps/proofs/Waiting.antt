@@ -42,10 +42,7 @@ asks_aside k n (id ∷ ids) ws t = asks_aside k (n + 1) ids ws (with_mail id.hom
 
 some_asked : (n : ℕ) (ps : List ℕ) → 1 ≤ length ps → asked_at n ps ≢ []
 some_asked n [] some e = absurd (omega (arith, some))
-some_asked n (p ∷ ps) some e = absurd (cons_nil e)
-  where
-    cons_nil : record { entry = n + 1; place = p } ∷ asked_at (n + 1) ps ≡ [] → ⊥
-    cons_nil e = cc e
+some_asked n (p ∷ ps) some e = grind arith
 
 -- ---- from rest to rest
 

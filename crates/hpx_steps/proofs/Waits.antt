@@ -47,9 +47,7 @@ mailed_among false other to p desk outgoing none = simp append-nil
 
 -- a message that brings no action
 pub mail_waits : (b : Bool) (to : ℕ) (p : Parcel) (s : Turn) → parcel_acts p ≡ [] → waiting (mails_if b to p s) ≡ waiting s
-mail_waits b to p s none =
-    waits_parts (mails_if b to p s)
-    ∙ (ap (λ xs. acts_before s ++ xs) (mailed_among b (is_other s.tables to) to p s.tables.desk s.tables.outgoing none) ∙ sym (waits_parts s))
+mail_waits b to p s none = simp (waits_parts, mailed_among)
 
 -- a message in hand that brings none
 pub drop_waits : (p : Parcel) (s : Turn) → HasInHand p s → parcel_acts p ≡ [] → waiting (drops s) ≡ waiting s
