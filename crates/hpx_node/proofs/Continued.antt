@@ -185,15 +185,7 @@ module _ (act_of : ℕ → ℕ → ℕ → State → Act → Outcome) (t : Table
 pub only_give : (act_of : ℕ → ℕ → ℕ → State → Act → Outcome) (t : Tables) (p : Parcel) (y : Ready) → IsReadyFor act_of t p y → (P : Type 0)
     → ((id : Id) (entry : ℕ) → p ≡ Give id entry → IsReady act_of t id entry y → P) → P
 only_give act_of t (Give id entry) y ready P h = h id entry refl ready
-only_give act_of t (Apply act) y ready P h = absurd ready
-only_give act_of t (Return id) y ready P h = absurd ready
-only_give act_of t (Ask id asker entry) y ready P h = absurd ready
-only_give act_of t (Cached id place) y ready P h = absurd ready
-only_give act_of t (Move act) y ready P h = absurd ready
-only_give act_of t (Go act) y ready P h = absurd ready
-only_give act_of t (Shipped act state) y ready P h = absurd ready
-only_give act_of t (Arrived id place) y ready P h = absurd ready
-only_give act_of t (Free o) y ready P h = absurd ready
+only_give act_of t _ y ready P h = absurd ready
 
 -- where it is a Give, it is given
 abbrev pub IsGiven : Parcel → Tables → Tables → Type 0

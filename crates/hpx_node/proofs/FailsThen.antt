@@ -88,12 +88,4 @@ module _ (t : Tables) (n : ℕ) (d : List Parcel) (mid : Tables) (id : Id) (entr
 pub only_fails : (t : Tables) (p : Parcel) (y : Failing) → IsFailingFor t p y → (P : Type 0)
     → ((id : Id) (entry : ℕ) → p ≡ Give id entry → IsFailing t id entry y → P) → P
 only_fails t (Give id entry) y fails P h = h id entry refl fails
-only_fails t (Apply act) y fails P h = absurd fails
-only_fails t (Return id) y fails P h = absurd fails
-only_fails t (Ask id asker entry) y fails P h = absurd fails
-only_fails t (Cached id place) y fails P h = absurd fails
-only_fails t (Move act) y fails P h = absurd fails
-only_fails t (Go act) y fails P h = absurd fails
-only_fails t (Shipped act state) y fails P h = absurd fails
-only_fails t (Arrived id place) y fails P h = absurd fails
-only_fails t (Free o) y fails P h = absurd fails
+only_fails t _ y fails P h = absurd fails

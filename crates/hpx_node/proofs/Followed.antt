@@ -260,29 +260,13 @@ module _ (act_of : ℕ → ℕ → ℕ → State → Act → Outcome)
     where
       alike : (p : Parcel) → (completes u p ≡ completes t p) × (dooms u p ≡ dooms t p)
       alike (Give id entry) = (refl, refl)
-      alike (Apply act) = (refl, refl)
-      alike (Return id) = (refl, refl)
-      alike (Ask id asker entry) = (refl, refl)
-      alike (Cached id place) = (refl, refl)
-      alike (Move act) = (refl, refl)
-      alike (Go act) = (refl, refl)
-      alike (Shipped act state) = (refl, refl)
-      alike (Arrived id place) = (refl, refl)
-      alike (Free o) = (refl, refl)
+      alike _ = (refl, refl)
 
   -- a message that was dealt with: credit that is given, or another
   dealt_leads : (p : Parcel) → HasInHand p (in_hand (record t { taken = n; desk = d }) came mailed l) → IsRight t p → IsGiven p (record t { taken = n; desk = d }) mid
       → (((id : Id) (entry : ℕ) → p ≡ Give id entry → ⊥) → Leads r s mid (effects t p)) → completes t p ≡ false → dooms t p ≡ false → Leads r s mid (effects t p)
   dealt_leads (Give id entry) hand k gives other rest safe = waiting_leads id entry hand k (gives id entry refl) rest safe
-  dealt_leads (Apply act) hand k gives other rest safe = other (λ id entry e. absurd (cc))
-  dealt_leads (Return o) hand k gives other rest safe = other (λ id entry e. absurd (cc))
-  dealt_leads (Ask o asker m) hand k gives other rest safe = other (λ id entry e. absurd (cc))
-  dealt_leads (Cached o place) hand k gives other rest safe = other (λ id entry e. absurd (cc))
-  dealt_leads (Move act) hand k gives other rest safe = other (λ id entry e. absurd (cc))
-  dealt_leads (Go act) hand k gives other rest safe = other (λ id entry e. absurd (cc))
-  dealt_leads (Shipped act state) hand k gives other rest safe = other (λ id entry e. absurd (cc))
-  dealt_leads (Arrived o place) hand k gives other rest safe = other (λ id entry e. absurd (cc))
-  dealt_leads (Free o) hand k gives other rest safe = other (λ id entry e. absurd (cc))
+  dealt_leads _ hand k gives other rest safe = other (λ id entry e. absurd (cc))
 
   pub is_continued : (p : Parcel) (x : Next) → IsNext act_of t p x → HasInHand p (in_hand (record t { taken = n; desk = d }) came mailed l) → IsRight t p
       → IsGiven p (record t { taken = n; desk = d }) mid
