@@ -11,6 +11,7 @@ pub mod Fed
 pub mod Few
 pub mod FewEntries
 pub mod Followed
+pub mod Given
 pub mod GoesOn
 pub mod HandLeft
 pub mod Held
