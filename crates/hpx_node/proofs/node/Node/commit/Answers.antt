@@ -63,11 +63,11 @@ returns g c =
       stands = runs_stands g.A.Acts.act_of g.met.A.Acts.is_blind t c.leave.new.self.tables d.job d.outcome c.requires.fit c.requires.few laws right p c.requires.prepared
           c.requires.own c.args.i c.args.j c.requires.at below c.args.book.now.entries c.leave.new.book.entries c.requires.stands written
           (runs_goes t d.job d.outcome p c.requires.prepared c.requires.own c.args.i c.args.j c.requires.at c.make.new.self.tables
-    c.settle.new.self.tables c.make.ensures.made c.settle.ensures.running c.settle.ensures.objects c.settle.ensures.rest c.leave.new.self.tables c.leave.ensures.goes
-    c.leave.ensures.rest);
+          c.settle.new.self.tables c.make.ensures.made c.settle.ensures.running c.settle.ensures.objects c.settle.ensures.rest c.leave.new.self.tables c.leave.ensures.goes
+          c.leave.ensures.rest);
       turn = adds_commit t d.job d.outcome p c.requires.prepared c.requires.own c.leave.new.self.tables c.args.book.now.entries c.leave.new.book.entries written;
       committed = written;
       ends = runs_commits t d.job d.outcome p c.requires.prepared c.requires.own c.args.i c.args.j c.requires.at c.make.new.self.tables
-    c.settle.new.self.tables c.make.ensures.made c.settle.ensures.running c.settle.ensures.objects c.settle.ensures.rest c.leave.new.self.tables c.leave.ensures.goes
-    c.leave.ensures.rest;
+          c.settle.new.self.tables c.make.ensures.made c.settle.ensures.running c.settle.ensures.objects c.settle.ensures.rest c.leave.new.self.tables c.leave.ensures.goes
+          c.leave.ensures.rest;
     }
