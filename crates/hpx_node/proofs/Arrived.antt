@@ -1,5 +1,5 @@
 -- A message is taken up and dealt with, as the calls write it.
-use Rattle.hpx_node.proofs.Common.{Apply, Arrived, Ask, Cached, DealsWith, Entry, Event, Free, Give, Go, Id, In, Leaves, List, Move, None, Option, Parcel, Profile, Record, Return, Shipped, Some, Tables, [], ap, append_assoc, arith, arrives, arrives_at, asked, at_all, cases_Bool, effects, find, find_record, ids_in, inl, inr, ins, is_standing, length, length-append, lowered, option_and_then, option_map, part, refl, sym, with_return, with_returns, without, ℕ, ◌++◌, ◌==◌, ◌∙◌, ◌∷◌, ◌≡◌, ◌≤◌}
+use Rattle.hpx_node.proofs.Common.{Ask, DealsWith, Entry, Event, Free, Give, Id, In, Leaves, List, None, Option, Parcel, Profile, Record, Return, Some, Tables, [], ap, append_assoc, arith, arrives, arrives_at, asked, at_all, cases_Bool, effects, find, find_record, ids_in, inl, inr, ins, is_standing, length, length-append, lowered, option_and_then, option_map, part, refl, sym, with_return, with_returns, without, ℕ, ◌++◌, ◌==◌, ◌∙◌, ◌∷◌, ◌≡◌, ◌≤◌}
 
 -- ---- the number of frames that came is no more than that of entries
 

@@ -1,30 +1,8 @@
 -- A commit that was prepared before its last credit came goes on with it.
-use Rattle.hpx_node.proofs.Common.{Act, Apply, Arrived, Ask, Asked, Bool, Cached, DealsWith, Free, Give, Gives, Go, Id, IsPrepared, IsReady, IsReadyFor, Job, List, MayResume, Move, None, Option, Outcome, Parcel, Prepared, Ready, Refills, Return, Shipped, Some, State, Tables, Waits, [], and_true, ap, arith, awaits, bare, cases_Bool, cond, eqb-true, false, find, hand_with, inl, inr, is_asked_for, is_last, is_some, length, list_any, log_of, not, put_for, refl, remove, set, slice_get, slice_get_less, some_same, stock_with, subst, suc, sym, take, true, waits_for_one, zero, ℕ, ◌+◌, ◌<◌, ◌==◌, ◌∙◌, ◌∷◌, ◌≡◌}
+use Rattle.hpx_node.proofs.Common.{Act, Asked, DealsWith, Give, Gives, Id, IsReady, IsReadyFor, List, MayResume, Option, Outcome, Parcel, Ready, Refills, Some, State, Tables, Waits, [], ap, hand_with, put_for, refl, set, slice_get, some_same, stock_with, subst, sym, ℕ, ◌+◌, ◌∙◌, ◌≡◌}
 use Rattle.hpx_node.proofs.Given.{IsGivenTo, given_to, last_parts, none_asked}
 
 -- ---- once it is given
-
--- what was prepared is so whatever was taken and waits
-prepared_on : (t : Tables) (job : Job) (out : Outcome) (p : Prepared) (n : ℕ) (d : List Parcel) (ws : List Waits) → IsPrepared t job out p
-    → IsPrepared (record t { taken = n; desk = d; pending = ws }) job out p
-prepared_on t job out p n d ws is = record {
-  births = is.births;
-  stock = record { names = is.stock.names; credit = is.stock.credit; few = is.stock.few; lasts = is.stock.lasts };
-  state_left = is.state_left;
-  due_left = is.due_left;
-  ups_left = is.ups_left;
-  limits = let l = is.limits in record {
-    fit = l.fit;
-    due_fit = l.due_fit;
-    ups_fit = l.ups_fit;
-    births = l.births;
-    cuts = l.cuts;
-    due = l.due;
-    ups = l.ups;
-    entries = l.entries;
-    light = l.light;
-  };
-}
 
 module _ (act_of : ℕ → ℕ → ℕ → State → Act → Outcome) (t : Tables) (n : ℕ) (d : List Parcel) (mid : Tables) (id : Id) (entry : ℕ) (y : Ready) (ready : IsReady act_of t id entry y)
     (g : Gives id entry (record t { taken = n; desk = d }) mid) where
@@ -34,20 +12,9 @@ module _ (act_of : ℕ → ℕ → ℕ → State → Act → Outcome) (t : Table
   may_then : (hand : List Id) (asked : List Asked) (refused : Option Id) → hand ≡ hand_with id entry ready.before
       → MayResume (record t { taken = n; desk = d; pending = set t.pending g.i g.after }) (record ready.before { hand = hand; asked = asked; refused = refused }) y.j y.prepared
   may_then hand asked refused is = record {
-    place = let p = ready.place in record {
-      job = p.job;
-      here = p.here;
-      localities = p.localities;
-      few = p.few;
-      standing = p.standing;
-      stands = p.stands;
-      found = p.found;
-      kept = p.kept;
-      kind = p.kind;
-      state = p.state;
-    };
+    place = ready.place;
     kept = ready.kept;
-    prepared = prepared_on t ready.before.job ready.before.outcome y.prepared n d (set t.pending g.i g.after) ready.prepared;
+    prepared = ready.prepared;
     stock = ready.stock ∙ ap (stock_with t ready.before) (sym is);
   }
 

@@ -1,5 +1,5 @@
 -- An action whose failure was planned before its commit's last answer came fails with it.
-use Rattle.hpx_node.proofs.Common.{Apply, Arrived, Ask, Asked, Bool, Cached, Failing, Free, Give, Gives, Go, HasCredit, HasSplit, Id, IsCommit, IsFailing, IsFailingFor, IsFailure, IsLeftFailed, IsPaused, IsTidy, List, Move, MustFail, None, Option, Parcel, Refills, Return, Shipped, Some, Tables, Waits, [], and_true, ap, arith, awaits, bare, bare_state, cond, eqb-true, failed_remains, false, find, is_asked_for, is_some, is_standing, length, log_of, refl, remove, set, slice_get, slice_get_less, some_same, still_commit, still_split, subst, suc, sym, target_of, true, zero, ℕ, ◌==◌, ◌||◌, ◌∙◌, ◌∷◌, ◌≡◌, ◌⊎◌}
+use Rattle.hpx_node.proofs.Common.{Bool, Failing, Give, Gives, HasCredit, Id, IsFailing, IsFailingFor, IsFailure, IsLeftFailed, IsTidy, List, MustFail, None, Option, Parcel, Some, Tables, Waits, [], and_true, ap, bare, bare_state, cond, failed_remains, false, find, is_some, is_standing, length, log_of, refl, slice_get, some_same, subst, sym, target_of, true, ℕ, ◌==◌, ◌||◌, ◌∙◌, ◌≡◌, ◌⊎◌}
 use Rattle.hpx_node.proofs.LeftFailed.{left_failed}
 use Rattle.hpx_node.proofs.Paused.{paused_at}
 use Rattle.hpx_node.proofs.Given.{IsGivenTo, IsStill, given_to, none_asked, still}

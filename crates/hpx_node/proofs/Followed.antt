@@ -1,7 +1,7 @@
 -- What follows a message that is dealt with, and what it writes.
-use Rattle.hpx_node.proofs.Common.{Act, Apply, Arrived, Ask, AskedFor, Bool, Cached, Commits, Continues, Entry, Event, Failing, Fails, Free, Give, Gives, Go, HasCredit, HasFollowed, HasInHand, Id, IfFollows, IsFailing, IsNext, IsParcel, IsReady, IsTidy, KeepsLaws, Leads, List, MayFollow, MayResume, Move, Next, None, Option, Outcome, Parcel, Ready, Return, Rules, Shipped, Some, Standing, State, Tables, Turn, Waits, Writes, [], answered_by, ap, append-nil, arith, awaits, bare_act, bare_state, brings_right, broken_near, cases_Bool, committed_from, completes, dooms, due_left, effects, eq-eqb, failed_events, failed_remains, fails_first, false, find, full_stock, get_or, give_right, given_event, given_fails, given_waits, in_hand, inl, inr, is_asked_for, is_last, is_some, length, log_of, message_of, named, ne_eqb, not, refl, remove, rules_of, set, slice_get, some_same, state_left, subst, suc, sym, take, true, ups_left, with_left, zero, ℕ, ◌&&◌, ◌++◌, ◌+◌, ◌==◌, ◌||◌, ◌∙◌, ◌∷◌, ◌≡◌, ◌⊎◌}
+use Rattle.hpx_node.proofs.Common.{Act, AskedFor, Bool, Commits, Continues, Entry, Event, Failing, Fails, Give, Gives, HasCredit, HasFollowed, HasInHand, Id, IfFollows, IsFailing, IsNext, IsParcel, IsReady, IsTidy, KeepsLaws, Leads, List, MayFollow, MayResume, Next, None, Option, Outcome, Parcel, Ready, Rules, Some, Standing, State, Tables, Turn, Waits, Writes, [], answered_by, ap, append-nil, arith, awaits, bare_act, bare_state, brings_right, broken_near, committed_from, completes, dooms, due_left, effects, eq-eqb, failed_events, failed_remains, fails_first, false, find, full_stock, get_or, give_right, given_event, given_fails, given_waits, in_hand, is_asked_for, is_last, is_some, length, log_of, message_of, named, ne_eqb, not, refl, remove, rules_of, set, slice_get, some_same, state_left, subst, sym, true, ups_left, with_left, ℕ, ◌&&◌, ◌++◌, ◌+◌, ◌==◌, ◌||◌, ◌∙◌, ◌∷◌, ◌≡◌, ◌⊎◌}
 use Rattle.hpx_node.proofs.Continued.{IsGiven, after_is, at, may_after, may_given, none_then, only_give}
-use Rattle.hpx_node.proofs.Given.{any_at, find_at, less_long}
+use Rattle.hpx_commit.proofs.Lists.{any_at, find_at, less_long, remove_set}
 use Rattle.hpx_node.proofs.FailsThen.{at as fails_at, found_then, given, left, must_then, only_fails, plan_then, refused}
 use Rattle.hpx_node.proofs.GoesOn.{goes_leads}
 use Rattle.hpx_node.proofs.ReadyStock.{brings_by}
@@ -64,11 +64,6 @@ next_gives P act_of t p (nexts.GoesOn y) is h = only_give act_of t p y is P (λ 
 next_gives P act_of t p (nexts.Fails y) is h = only_fails t p y is P (λ id entry e fails. h id entry e)
 
 -- ---- it has followed
-
-remove_set : (ws : List Waits) (i : ℕ) (w : Waits) → remove (set ws i w) i ≡ remove ws i
-remove_set [] i w = refl
-remove_set (v ∷ ws) zero w = refl
-remove_set (v ∷ ws) (suc i) w = ap (λ us. v ∷ us) (remove_set ws i w)
 
 waits_on : (a l r : Bool) → (not a && (l && not r)) ≡ false → (l && (a || r)) ≡ false → l ≡ false
 waits_on a false r g h = refl

@@ -1,48 +1,7 @@
 -- A commit that is given an id: it is the first that waits for it.
-use Rattle.hpx_node.proofs.Common.{inl, inr, Asked, Bool, Gives, HasCredit, HasSplit, Id, IsCommit, IsPaused, List, None, Option, Parcel, Refills, Some, Tables, Waits, [], and_true, ap, arith, awaits, cases_Bool, eqb-true, false, find, is_asked_for, is_last, is_some, length, length-set, list_any, log_of, not, refl, remove, set, slice_get, slice_get_less, some_same, still_commit, still_split, suc, subst, sym, take, true, waits_for_one, zero, ℕ, ◌+◌, ◌<◌, ◌==◌, ◌⊎◌, ◌∙◌, ◌∷◌, ◌≡◌}
+use Rattle.hpx_node.proofs.Common.{Bool, Gives, HasCredit, HasSplit, Id, IsCommit, IsPaused, List, None, Option, Parcel, Refills, Some, Tables, Waits, [], and_true, ap, arith, awaits, eqb-true, false, find, is_asked_for, is_last, is_some, length, length-set, log_of, not, refl, remove, set, slice_get, slice_get_less, some_same, still_commit, still_split, subst, sym, take, true, waits_for_one, ℕ, ◌<◌, ◌==◌, ◌⊎◌, ◌∙◌, ◌≡◌}
+use Rattle.hpx_commit.proofs.Lists.{any_at, first_same, get_set, less_long, none_long}
 use Rattle.hpx_node.proofs.Paused.{commit_of}
-
--- ---- lists
-
-pub any_at : {X : Type 0} (p : X → Bool) (xs : List X) (i : ℕ) (x : X) → slice_get xs i ≡ Some x → p x ≡ true → list_any p xs ≡ true
-any_at p [] i x h t = cc
-any_at p (y ∷ xs) zero x h t = let e : p y ≡ true = ap p (some_same y x h) ∙ t in rw e refl
-any_at p (y ∷ xs) (suc i) x h t = elim (cases_Bool (p y)) [
-  | inl a ↦ rw a refl
-  | inr f ↦ rw f (any_at p xs i x h t)
-]
-
-pub find_at : {X : Type 0} (p : X → Bool) (xs : List X) (i : ℕ) (x : X) → slice_get xs i ≡ Some x → p x ≡ true → find p (take i xs) ≡ None → find p xs ≡ Some x
-find_at p [] i x h t none = cc
-find_at p (z ∷ xs) zero x h t none = let e : p z ≡ true = ap p (some_same z x h) ∙ t in rw e h
-find_at p (z ∷ xs) (suc i) x h t none = elim (cases_Bool (p z)) [
-  | inl e ↦ absurd (let f : Some z ≡ None = rw e at none in cc)
-  | inr e ↦ rw e (find_at p xs i x h t (rw e at none))
-]
-
--- the first that passes is at one place
-first_same : {X : Type 0} (p : X → Bool) (xs : List X) (i k : ℕ) (x y : X) → slice_get xs i ≡ Some x → slice_get xs k ≡ Some y → p x ≡ true → p y ≡ true
-    → find p (take i xs) ≡ None → find p (take k xs) ≡ None → i ≡ k
-first_same p [] i k x y h g s t a b = cc
-first_same p (z ∷ xs) zero zero x y h g s t a b = refl
-first_same p (z ∷ xs) zero (suc k) x y h g s t a b =
-    let e : p z ≡ true = ap p (some_same z x h) ∙ s in absurd (let f : Some z ≡ None = rw e at b in cc)
-first_same p (z ∷ xs) (suc i) zero x y h g s t a b =
-    let e : p z ≡ true = ap p (some_same z y g) ∙ t in absurd (let f : Some z ≡ None = rw e at a in cc)
-first_same p (z ∷ xs) (suc i) (suc k) x y h g s t a b = elim (cases_Bool (p z)) [
-  | inl e ↦ absurd (let f : Some z ≡ None = rw e at a in cc)
-  | inr e ↦ ap suc (first_same p xs i k x y h g s t (rw e at a) (rw e at b))
-]
-
-get_set : {X : Type 0} (xs : List X) (i : ℕ) (x : X) → i < length xs → slice_get (set xs i x) i ≡ Some x
-get_set [] i x lt = absurd (omega (arith, lt))
-get_set (y ∷ xs) zero x lt = refl
-get_set (y ∷ xs) (suc i) x lt = get_set xs i x (omega (arith, lt))
-
-pub less_long : {X : Type 0} (xs : List X) (i : ℕ) (x : X) → slice_get xs i ≡ Some x → length (remove xs i) + 1 ≡ length xs
-less_long [] i x h = cc
-less_long (y ∷ xs) zero x h = omega arith
-less_long (y ∷ xs) (suc i) x h = omega (arith, less_long xs i x h)
 
 -- ---- the commit
 
@@ -84,11 +43,7 @@ still t w w' id entry was refills credit brings =
 pub none_asked : (w w' : Waits) (id : Id) (entry : ℕ) → Refills id entry w w' → (length w.asked == 1) ≡ true → w'.asked ≡ []
 none_asked w w' id entry refills one =
     ap (λ (v : Waits). v.asked) refills.now
-    ∙ none (remove w.asked refills.k) (omega (arith, less_long w.asked refills.k refills.ask refills.there, eqb-true (length w.asked) 1 one))
-  where
-    none : (xs : List Asked) → length xs ≡ 0 → xs ≡ []
-    none [] h = refl
-    none (x ∷ xs) h = absurd (omega (arith, h))
+    ∙ none_long (remove w.asked refills.k) (omega (arith, less_long w.asked refills.k refills.ask refills.there, eqb-true (length w.asked) 1 one))
 
 -- what makes an id the last
 pub last_parts : (id : Id) (w : Waits) → is_last id (Some w) ≡ true → ((log_of id.log == 0) ≡ false) × ((length w.asked == 1) ≡ true) × (w.refused ≡ None)

@@ -1,5 +1,5 @@
 -- A commit that waited goes on with its last credit: what it does leads back to rest.
-use Rattle.hpx_node.proofs.Common.{Act, AllByRecursion, Commits, Done, Event, Give, Gives, HasCredit, HasInHand, HasSplit, Id, IsCommit, IsPaused, IsStock, IsTidy, KeepsLaws, Leads, List, MayResume, None, Option, Outcome, Parcel, Prepared, Rules, Standing, State, Stock, Tables, Waits, [], ap, append_assoc, arith, bare_act, bare_state, birth_of, births_of, brings_right, committed_from, committed_to, drop, due_dealt, false, full_stock, given_done, given_event, hand_long, ids_named, in_hand, length, length-append, length-drop, length-take, made_of, map, message_of, name_of, named, refl, remains, remove, rules_of, set, some_same, splits_from, still_commit, still_split, subst, sym, take, take-append-drop, true, unnamed, ups, written_due, ℕ, ◌++◌, ◌+◌, ◌∙◌, ◌∷◌, ◌≡◌, ◌≤◌}
+use Rattle.hpx_node.proofs.Common.{Act, AllByRecursion, Commits, Done, Event, Give, Gives, HasCredit, HasInHand, Id, IsStock, IsTidy, KeepsLaws, Leads, List, MayResume, None, Option, Outcome, Parcel, Prepared, Rules, Standing, State, Stock, Tables, Waits, [], ap, append_assoc, arith, bare_act, bare_state, birth_of, births_of, brings_right, committed_from, committed_to, drop, due_dealt, false, full_stock, given_done, given_event, hand_long, ids_named, in_hand, length, length-append, length-drop, length-take, made_of, map, message_of, name_of, named, refl, remains, remove, rules_of, set, some_same, splits_from, subst, sym, take, take-append-drop, true, unnamed, ups, written_due, ℕ, ◌++◌, ◌+◌, ◌∙◌, ◌∷◌, ◌≡◌, ◌≤◌}
 use Rattle.hpx_commit.proofs.FullStock.{replaced_split}
 use Rattle.hpx_node.proofs.HandLeft.{has_left}
 use Rattle.hpx_node.proofs.LeftBy.{left_by}

@@ -4,7 +4,6 @@ pub mod Committing
 pub mod Continued
 pub mod Credits
 pub mod Failed
-pub mod FailedDue
 pub mod FailedPlan
 pub mod FailsThen
 pub mod Fed

@@ -1,29 +1,15 @@
 -- With the last credit in its place, what a commit deals may be dealt.
-use Rattle.hpx_node.proofs.Common.{Bool, HasCredit, HasRightCredit, HasSplit, Id, IsCommit, IsPaused, IsShort, IsStock, KeepsLaws, List, None, Option, Refills, Some, Tables, Waits, [], and_true, ap, arith, awaits, bare, brings_right, cases_Bool, come_long, come_short, come_stock, cond, eqb-true, false, find, hand_with, id_at, ids_named, inl, inr, is_asked, is_asked_for, is_last, is_managed, is_some, length, list_any, log_of, made_of, ne_eqb, not, put_for, refilled, refl, remove, set, slice_get, still_commit, still_split, stock_with, subst, suc, sym, true, waits_for_one, waits_managed, ℕ, ◌&&◌, ◌+◌, ◌==◌, ◌∙◌, ◌∷◌, ◌≡◌, ◌≤◌, ◌⊎◌}
+use Rattle.hpx_node.proofs.Common.{Bool, HasCredit, HasRightCredit, Id, IsPaused, IsShort, IsStock, KeepsLaws, List, None, Option, Refills, Some, Tables, Waits, [], ap, awaits, bare, brings_right, cases_Bool, come_long, come_short, come_stock, cond, eqb-true, false, hand_with, id_at, ids_named, inl, inr, is_asked, is_asked_for, is_last, is_managed, is_some, length, log_of, made_of, ne_eqb, not, put_for, refilled, refl, remove, set, stock_with, subst, sym, true, waits_for_one, waits_managed, ℕ, ◌&&◌, ◌+◌, ◌==◌, ◌∙◌, ◌≡◌, ◌≤◌, ◌⊎◌}
 use Rattle.hpx_node.proofs.Given.{IsStill, last_parts, none_asked, still}
 use Rattle.hpx_node.proofs.Planned.{AreMade, made_of_job, rights}
 use Rattle.hpx_node.proofs.LeftFailed.{given}
+use Rattle.hpx_commit.proofs.Lists.{Found, any_place}
 
 -- with these ids in its hand, what a commit deals may be dealt
 pub record IsStockReady (t : Tables) (w : Waits) (hand : List Id) : Type 0 where
   pub stock : IsStock t w.job w.outcome (stock_with t w hand)
   pub long : length (ids_named w) + length (made_of t w.outcome) ≤ length hand
   pub short : length hand ≤ 1024
-
--- what passes is found at a place
-pub record Found {X : Type 0} (p : X → Bool) (xs : List X) : Type 0 where
-  pub k : ℕ
-  pub x : X
-  pub there : slice_get xs k ≡ Some x
-  pub passes : p x ≡ true
-  pub found : find p xs ≡ Some x
-
-pub any_place : {X : Type 0} (p : X → Bool) (xs : List X) → list_any p xs ≡ true → Found p xs
-any_place p [] h = absurd (cc)
-any_place p (x ∷ xs) h = elim (cases_Bool (p x)) [
-  | inl t ↦ record { k = 0; x = x; there = refl; passes = t; found = rw t refl }
-  | inr f ↦ let rest = any_place p xs (rw f at h) in record { k = suc rest.k; x = rest.x; there = rest.there; passes = rest.passes; found = rw f rest.found }
-]
 
 -- an id that did not last came with the credit of a new object
 has_come : (log : ℕ) (refused : Option Id) (id : Id) → is_asked id ≡ false → is_managed id ≡ true → IsShort log refused id → refused ≡ None → id.log ≡ Some log
@@ -62,13 +48,12 @@ module _ (t : Tables) (w : Waits) (id : Id) (entry : ℕ) (paused : IsPaused t.h
 
   stock : IsStock t w.job w.outcome (stock_with t w (set w.hand f.x.place id))
   stock =
-      let deals = come_stock HasRightCredit HasCredit rights t.localities w.job.kind w.job.at w.job.state w.job.action w.outcome laws few k.its.job.state k.its.job.action.sent.shape k.its.job.credit
+      come_stock HasRightCredit HasCredit rights t.localities w.job.kind w.job.at w.job.state w.job.action w.outcome laws few k.its.job.state k.its.job.action.sent.shape k.its.job.credit
       k.its.job.action.sent.credit (made_of t w.outcome) are.kinds are.credit k.split.made now.hand w.places t.profile.credit_log k.split.kinds k.split.places k.split.rest k.its.hand log are.logs
       k.split.own (λ p lt h. has_come t.profile.credit_log now.refused (id_at now.hand p) (given t.here t.localities t.profile.credit_log now k.its k.split none_left p lt)
       (waits_managed HasRightCredit HasCredit rights t.localities w.job.kind w.job.at w.job.state w.job.action w.outcome laws few k.its.job.state k.its.job.action.sent.shape k.its.job.credit
       k.its.job.action.sent.credit (made_of t w.outcome) are.kinds are.credit k.split.made now.hand w.places t.profile.credit_log k.split.kinds k.split.places k.split.rest k.its.hand p lt h)
-      (k.split.short p lt h) none_refused) in
-      record { names = deals.names; credit = deals.credit; few = deals.few; lasts = deals.lasts }
+      (k.split.short p lt h) none_refused)
 
   hand_is : set w.hand f.x.place id ≡ hand_with id entry w
   hand_is = sym (ap (put_for w.hand id) f.found)

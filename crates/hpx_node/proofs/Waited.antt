@@ -1,5 +1,5 @@
 -- A commit begins to wait, as the calls do it.
-use Rattle.hpx_node.proofs.Common.{Act, AllByRecursion, AllLast, AreWithin, Ask, Begins, Entry, Err, HasCredit, HasLeastCredit, HasRightCredit, HasSplit, Id, IfOk, IsAt, IsBefore, IsFitJob, IsKept, IsState, IsTidy, Job, KeepsLaws, Lasting, List, Ok, Outcome, Pauses, Result, Some, Standing, Stands, State, Stock, Tables, Waits, [], action_few, ahead, all_at, ap, append_assoc, arith, asked_at, asked_events, at_all, at_all_append, bare, bare_state, drop, first_cuts, get_or, hand_before, hand_ids, hand_kinds, hand_of, id_at, inl, is_managed, lacking, length, length-append, length-map, made_of, managed_same, managed_there, map, none_short, own_many, places_in_hand, places_named, refl, remove, set, short_before, short_places, slice_get, some_same, split_stock, splits_before, stock_before, subst, sym, take, take_more, true, waits_with, with_asks, with_mail, ℕ, ◌++◌, ◌+◌, ◌<◌, ◌∙◌, ◌∷◌, ◌≡◌, ◌≤◌}
+use Rattle.hpx_node.proofs.Common.{Act, AllByRecursion, AllLast, AreWithin, Ask, Begins, Entry, HasCredit, HasLeastCredit, HasRightCredit, HasSplit, Id, IsAt, IsBefore, IsFitJob, IsKept, IsState, IsTidy, Job, KeepsLaws, Lasting, List, Outcome, Pauses, Some, Standing, Stands, State, Stock, Tables, Waits, [], action_few, ahead, all_at, ap, append_assoc, arith, asked_at, asked_events, at_all, at_all_append, bare, bare_state, drop, first_cuts, get_or, hand_before, hand_kinds, hand_of, id_at, inl, is_managed, lacking, length, length-append, length-map, made_of, managed_same, managed_there, map, none_short, own_many, places_in_hand, places_named, refl, remove, set, short_before, short_places, slice_get, some_same, split_stock, splits_before, stock_before, subst, sym, take, take_more, true, waits_with, with_asks, with_mail, ℕ, ◌++◌, ◌+◌, ◌<◌, ◌∙◌, ◌∷◌, ◌≡◌, ◌≤◌}
 use Rattle.hpx_commit.proofs.Stripped.{short_few, stripped_behind, stripped_places}
 use Rattle.hpx_node.specs.declared.node.wait.Before.{Before}
 use Rattle.hpx_steps.proofs.Waiting.{asks_rest, wait_stands}
@@ -258,7 +258,3 @@ pub begins_from : (s t u : Tables) (job : Job) (out : Outcome) (e e0 e1 : List E
     → Begins t u job out e0 e1 → Begins s u job out e e1
 begins_from s t u job out e e0 e1 same is h =
     subst (λ x. Begins x u job out e e1) same (subst (λ es. Begins t u job out es e1) is h)
-
-pub ok_map : {X E : Type 0} (r : Result X E) (P Q : X → Type 0) → IfOk r P → ((x : X) → P x → Q x) → IfOk r Q
-ok_map (Ok x) P Q h f = f x h
-ok_map (Err e) P Q h f = tt

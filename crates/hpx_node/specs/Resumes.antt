@@ -3,6 +3,7 @@ use Rattle.std.specs.Prelude.{ℕ, Bool, true, false, List, ◌≡◌, ◌≤◌
 use Rattle.std.specs.List.{find, remove, slice_get}
 use Rattle.hpx_value.specs.Laws.{KeepsLaws}
 use Rattle.hpx_value.specs.Values.{bare_state}
+use Rattle.hpx_value.specs.declared.acts.Job.{Job}
 use Rattle.hpx_journal.specs.Data.{Id, State, Act, Outcome, Parcel, Give}
 use Rattle.hpx_journal.specs.Entries.{target_of}
 use Rattle.hpx_journal.specs.Local.{is_standing}
@@ -28,18 +29,22 @@ stock_with t w hand = replaced_from (length (ids_named w)) (made_of t w.outcome)
 abbrev pub full_stock : Tables → Waits → Stock
 full_stock t w = stock_with t w w.hand
 
--- the object of a commit stands at j, as its job found it, but without credits
-pub record IsInPlace (t : Tables) (w : Waits) (j : ℕ) : Type 0 where
-  pub job : IsFitJob w.job
-  pub here : w.job.at ≡ t.here
-  pub localities : w.localities ≡ t.localities
-  pub few : t.localities ≤ 64
+-- the object of a job stands at j among these, as the job found it, but without credits; the job is of locality k of m
+pub record IsKeptFor (k m : ℕ) (objects : List Standing) (of : Job) (n j : ℕ) : Type 0 where
+  pub job : IsFitJob of
+  pub here : of.at ≡ k
+  pub localities : n ≡ m
+  pub few : m ≤ 64
   pub standing : Standing
-  pub stands : slice_get t.objects j ≡ Some standing
-  pub found : find (is_standing (target_of w.job.action)) t.objects ≡ Some standing
+  pub stands : slice_get objects j ≡ Some standing
+  pub found : find (is_standing (target_of of.action)) objects ≡ Some standing
   pub kept : IsKept standing
-  pub kind : standing.object.kind ≡ w.job.kind
-  pub state : standing.state ≡ bare_state w.job.state
+  pub kind : standing.object.kind ≡ of.kind
+  pub state : standing.state ≡ bare_state of.state
+
+-- so does that of a commit
+abbrev pub IsInPlace : Tables → Waits → ℕ → Type 0
+IsInPlace t w j = IsKeptFor t.here t.localities t.objects w.job w.localities j
 
 -- it is prepared to go on
 pub record MayResume (t : Tables) (w : Waits) (j : ℕ) (p : Prepared) : Type 0 where

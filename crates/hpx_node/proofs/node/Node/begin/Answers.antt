@@ -1,4 +1,4 @@
-use Rattle.hpx_node.proofs.Common.{KeepsLaws, Locality, Tables, ap, arith, asked_events, at_all, first_cuts, length, refl, slice_get_less, subst, ◌++◌, ◌∙◌, ◌≤◌}
+use Rattle.hpx_node.proofs.Common.{Locality, Tables, ap, arith, asked_events, at_all, first_cuts, length, refl, slice_get_less, ◌++◌, ◌∙◌, ◌≤◌}
 use Rattle.hpx_node.proofs.TurnSteps.{adds_asks}
 use Rattle.hpx_node.proofs.Waited.{before_short, before_own, before_least, lacks_few, kept_before, begins_by, something}
 use Rattle.hpx_node.proofs.Turned.{at_rest_tidy}

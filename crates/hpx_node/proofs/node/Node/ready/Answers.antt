@@ -85,7 +85,7 @@ returns-clause-some g c =
     let stands = rw (c.as_slice-2.ensures.value, c.target.ensures, c.action.ensures) at c.in-Some-place_of.ensures.found in
     let object = ap (λ (x : Locality). find (is_standing (target_of w.job.action)) x.tables.objects) (sym c.self.view_is)
     ∙ (stands ∙ ap (λ (x : Locality). slice_get x.tables.objects c.in-Some-place_of.j) c.self.view_is) in
-    let place = in_place t w c.in-Some-place_of.j was c.requires.tidy.objects (sym object ∙ was.found) in
+    let place = in_place _ _ _ _ w c.in-Some-place_of.j was c.requires.tidy.objects (sym object ∙ was.found) in
     let p = c.in_ok-prepared.prepared in
     let prepared = c.in_ok-prepared.ensures.prepared in
     subst (λ q. IsReadyFor g.A.Acts.act_of t q (record { i = c.in-Some.i; j = c.in-Some-place_of.j; prepared = c.in_ok-prepared.prepared })) (sym c.in-Give.is)

@@ -1,4 +1,4 @@
-use Rattle.hpx_node.proofs.Common.{Done, Some, [], ap, false, name_of, set, slice_get, slice_get_is, some_same, sym, ◌++◌, ◌∙◌, ◌∷◌, ◌≡◌}
+use Rattle.hpx_node.proofs.Common.{Done, Some, [], ap, false, name_of, slice_get, slice_get_is, some_same, sym, ◌++◌, ◌∙◌, ◌∷◌, ◌≡◌}
 use Rattle.hpx_node.proofs.node.Node.settle.Goals as goal
 
 pub returns-clause-entries : goal.returns-clause-entries

@@ -1,4 +1,4 @@
-use Rattle.hpx_node.proofs.Common.{Done, Some, Waits, [], ap, false, name_of, set, slice_get, slice_get_is, some_same, sym, ◌++◌, ◌∙◌, ◌∷◌, ◌≡◌}
+use Rattle.hpx_node.proofs.Common.{Done, Some, Waits, [], ap, name_of, slice_get, slice_get_is, some_same, sym, ◌++◌, ◌∙◌, ◌∷◌, ◌≡◌}
 use Rattle.hpx_node.proofs.node.Node.settle_waiting.Goals as goal
 
 pub returns-clause-entries : goal.returns-clause-entries
