@@ -1,27 +1,8 @@
 -- What a commit writes.
-use Rattle.std.specs.Prelude.{ℕ, false, List, ◌∷◌, ◌++◌, ◌+◌, ◌≡◌, ◌≤◌, Some, length, map, set}
-use Rattle.std.specs.List.{AllByRecursion, find, slice_get, remove}
-use Rattle.hpx_value.specs.Hands.{hand_ids, due_of, state_after}
-use Rattle.hpx_value.specs.declared.acts.Job.{Job}
+use Rattle.hpx_node.specs.Names.{AllByRecursion, Done, Due, Event, Id, IsAt, IsFitDue, Job, List, MayDeal, Outcome, Prepared, Remains, Some, Standing, State, Stock, Tables, answered_by, at_all, dealt, due_of, false, filled, filled_due, find, hand_ids, is_standing, length, map, name_of, places_named, remove, set, slice_get, splits_from, state_after, target_of, total_weight, unnamed, unused, ups, with_left, written_due, ℕ, ◌++◌, ◌+◌, ◌∷◌, ◌≡◌, ◌≤◌}
 use Rattle.hpx_parcel.specs.Parcels.{HasCredit, HasRightCredit}
-use Rattle.hpx_journal.specs.Data.{Id, State, Outcome, Due}
-use Rattle.hpx_journal.specs.Entries.{name_of, target_of}
-use Rattle.hpx_journal.specs.Local.{is_standing}
-use Rattle.hpx_journal.specs.Weights.{total_weight}
-use Rattle.hpx_part.specs.Data.{Event, Done, Standing}
-use Rattle.hpx_part.specs.Parts.{at_all}
-use Rattle.hpx_tables.specs.Awaited.{answered_by}
 use Rattle.hpx_tables.specs.declared.births.Birth.{Birth}
 use Rattle.hpx_tables.specs.Births.{IsBirth, birth_of, births_of, objects_of, records_of, ids_of}
-use Rattle.hpx_commit.specs.Deals.{places_named, dealt, unnamed, filled, unused, filled_due}
-use Rattle.hpx_commit.specs.Stocks.{Stock, MayDeal}
-use Rattle.hpx_node.specs.declared.node.finish.Prepared.{Prepared}
-use Rattle.hpx_tables.specs.Fit.{IsFitDue}
-use Rattle.hpx_tables.specs.Jobs.{IsAt}
-use Rattle.hpx_steps.specs.Calls.{ups, with_left, written_due}
-use Rattle.hpx_steps.specs.Steps.{Remains}
-use Rattle.hpx_tables.specs.Splits.{splits_from}
-use Rattle.hpx_tables.specs.Tables.{Tables}
 
 -- ---- a commit
 

@@ -1,23 +1,8 @@
 -- A commit that waited and goes on, once all that it asked for has come.
-use Rattle.std.specs.Prelude.{ℕ, Bool, true, false, List, ◌≡◌, ◌≤◌, ◌==◌, ◌&&◌, not, length, take, Option, Some, None}
-use Rattle.std.specs.List.{find, remove, slice_get}
+use Rattle.hpx_node.specs.Names.{Act, Bool, Event, Give, Gives, Id, IsFitJob, IsKept, Job, List, None, Option, Outcome, Parcel, Prepared, Some, Standing, State, Stock, Tables, Waits, awaits, bare_state, false, find, hand_with, ids_named, is_standing, length, log_of, not, remove, replaced_from, slice_get, take, target_of, true, waits_for_one, ℕ, ◌&&◌, ◌==◌, ◌≡◌, ◌≤◌}
 use Rattle.hpx_value.specs.Laws.{KeepsLaws}
-use Rattle.hpx_value.specs.Values.{bare_state}
-use Rattle.hpx_value.specs.declared.acts.Job.{Job}
-use Rattle.hpx_journal.specs.Data.{Id, State, Act, Outcome, Parcel, Give}
-use Rattle.hpx_journal.specs.Entries.{target_of}
-use Rattle.hpx_journal.specs.Local.{is_standing}
-use Rattle.hpx_part.specs.Data.{Event, Standing}
-use Rattle.hpx_commit.specs.Deals.{log_of}
-use Rattle.hpx_commit.specs.Stocks.{Stock, replaced_from}
-use Rattle.hpx_node.specs.declared.node.finish.Prepared.{Prepared}
 use Rattle.hpx_node.specs.declared.node.resume.Ready.{Ready}
 use Rattle.hpx_node.specs.Commits.{made_of, committed_from, IsPrepared, Commits}
-use Rattle.hpx_tables.specs.Fit.{IsKept}
-use Rattle.hpx_tables.specs.Jobs.{IsFitJob}
-use Rattle.hpx_tables.specs.Pending.{Waits, ids_named, awaits, waits_for_one, hand_with}
-use Rattle.hpx_steps.specs.Calls.{Gives}
-use Rattle.hpx_tables.specs.Tables.{Tables}
 
 -- ---- a commit for which all has come
 
