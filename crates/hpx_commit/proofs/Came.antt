@@ -8,7 +8,7 @@ use Rattle.hpx_value.specs.Laws.{KeepsLaws}
 use Rattle.hpx_value.specs.Mentions.{mentions, kind_at}
 use Rattle.hpx_value.specs.Shapes.{IsState, IsAct}
 use Rattle.hpx_commit.specs.Deals.{is_managed, log_of, named, places_named, Lasts, AreWithin, AllLast}
-use Rattle.hpx_commit.specs.Stocks.{Stock, ahead, replaced_from, short_places, Lasting, SameNames}
+use Rattle.hpx_commit.specs.Stocks.{MayDeal, Stock, ahead, replaced_from, short_places, Lasting, SameNames}
 use Rattle.hpx_commit.proofs.Ahead.{ahead_same}
 use Rattle.hpx_commit.proofs.Common.{State, Act, Outcome, Make}
 use Rattle.hpx_commit.proofs.Deals.{all_last_seen}
@@ -24,13 +24,6 @@ use Rattle.hpx_commit.proofs.Stripped.{short_once}
 -- each of these ids has the credit of a new object
 abbrev pub HaveLog : ℕ → List Id → Type 0
 HaveLog log ids = AllByRecursion (λ (id : Id). id.log ≡ Some log) ids
-
--- a stock that may be dealt as this one: it names the same, and each id has its credit, which lasts for all who name it
-pub record MayDeal (P : Id → Type 0) (s t : Stock) : Type 0 where
-  pub names : SameNames s t
-  pub credit : AllByRecursion P t.hand
-  pub few : length t.hand ≤ 1024
-  pub lasts : AllLast t.hand t.places
 
 module _ (P Q : Id → Type 0) (are : AreRight P Q) (n kind here : ℕ) (s : State) (a : Act) (out : Outcome) (laws : KeepsLaws n kind here s a out)
     (few : n ≤ 64) (state : IsState s) (action : IsAct a) (credit : AllByRecursion P s.ids) (own_credit : AllByRecursion P a.ids)

@@ -18,6 +18,8 @@ pub mod FullStock
 pub mod BareHands
 pub mod DueFilled
 pub mod HandFit
+pub mod FailedHas
+pub mod Lists
 pub mod Planned
 pub mod Came
 pub mod HandLeft

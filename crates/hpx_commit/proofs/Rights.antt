@@ -14,6 +14,7 @@ pub record AreRight (P Q : Id → Type 0) : Type 0 where
   pub says : (id : Id) → P id → is_some id.log ≡ is_managed id
   pub so : (id : Id) → is_some id.log ≡ is_managed id → P id
   pub has : (id : Id) → is_some id.log ≡ true → is_managed id ≡ true → Q id
+  pub had : (id : Id) → Q id → P id
 
 module _ (P Q : Id → Type 0) (are : AreRight P Q) where
   pub right_half : (id : Id) → P id → P (half id)
@@ -59,3 +60,7 @@ module _ (P Q : Id → Type 0) (are : AreRight P Q) where
     | inl t ↦ rw t (has_right id t h.0, managed_has ids h.1)
     | inr f ↦ rw f (managed_has ids h.1)
   ]
+
+  pub had_right : (ids : List Id) → AllByRecursion Q ids → AllByRecursion P ids
+  had_right [] h = tt
+  had_right (id ∷ ids) h = (are.had id h.0, had_right ids h.1)

@@ -1,9 +1,9 @@
 -- Halves of ids that are taken ahead for those who name them first, where not all of an id's credit lasts for all.
 use Rattle.std.specs.Prelude.{ℕ, zero, suc, true, cond, not, is_some, nat_le, min, List, [], ◌∷◌, ◌++◌, ◌≡◌, ◌≤◌, ◌<◌, ◌+◌, ◌-◌, ◌==◌, set, length, map}
-use Rattle.std.specs.List.{filter}
+use Rattle.std.specs.List.{filter, AllByRecursion}
 use Rattle.hpx_value.specs.Ids.{Id, bare}
 use Rattle.hpx_value.specs.Hands.{id_at}
-use Rattle.hpx_commit.specs.Deals.{log_of, half, named, dealt, shares, unnamed, Lasts, AreWithin}
+use Rattle.hpx_commit.specs.Deals.{log_of, half, named, dealt, shares, unnamed, Lasts, AllLast, AreWithin}
 
 -- ids, and the places among them that are named, in order
 pub record Stock : Type 0 where
@@ -93,6 +93,13 @@ pub record SameNames (s t : Stock) : Type 0 where
   pub as_many : length t.places ≡ length s.places
   pub names : map (λ p. bare (id_at t.hand p)) t.places ≡ map (λ p. bare (id_at s.hand p)) s.places
   pub left : unnamed t.hand t.places ≡ unnamed s.hand s.places
+
+-- a stock that may be dealt in place of one: it names what that names, P holds of each id, and each lasts for all who name it
+pub record MayDeal (P : Id → Type 0) (s t : Stock) : Type 0 where
+  pub names : SameNames s t
+  pub credit : AllByRecursion P t.hand
+  pub few : length t.hand ≤ 1024
+  pub lasts : AllLast t.hand t.places
 
 -- all who name places get what they got before
 pub record SameDeal (s t : Stock) : Type 0 where

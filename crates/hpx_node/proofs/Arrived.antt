@@ -1,5 +1,5 @@
 -- A message is taken up and dealt with, as the calls write it.
-use Rattle.hpx_node.proofs.Common.{Apply, Arrived, Ask, Cached, DealsWith, Entry, Event, Free, Give, Go, Id, In, Leaves, List, Move, None, Option, Parcel, Profile, Record, Return, Shipped, Some, Tables, [], ap, append_assoc, arith, arrives, arrives_at, asked, at_all, cases_Bool, effects, find, find_record, ids_in, inl, inr, ins, is_standing, length, length-append, lowered, option_and_then, option_map, part, refl, sym, with_return, with_returns, without, ℕ, ◌++◌, ◌==◌, ◌∙◌, ◌∷◌, ◌≡◌, ◌≤◌}
+use Rattle.hpx_node.proofs.Common.{Ask, DealsWith, Entry, Event, Free, Give, Id, In, Leaves, List, None, Option, Parcel, Profile, Record, Return, Some, Tables, [], ap, append_assoc, arith, arrives, arrives_at, asked, at_all, cases_Bool, effects, find, find_record, ids_in, inl, inr, ins, is_standing, length, length-append, lowered, option_and_then, option_map, part, refl, sym, with_return, with_returns, without, ℕ, ◌++◌, ◌==◌, ◌∙◌, ◌∷◌, ◌≡◌, ◌≤◌}
 
 -- ---- the number of frames that came is no more than that of entries
 
@@ -37,10 +37,6 @@ abbrev pub only : Tables → Tables → Tables
 only t u = record t { accepted = u.accepted; pending = u.pending; desk = u.desk; outgoing = u.outgoing; objects = u.objects; records = u.records }
 
 pub deals_rest : (p : Parcel) (t t' : Tables) → DealsWith p t t' → t' ≡ only t t'
-deals_rest (Apply act) t t' h = h ∙ ap (only t) (sym h)
-deals_rest (Move act) t t' h = h ∙ ap (only t) (sym h)
-deals_rest (Return id) t t' h = h ∙ ap (only t) (sym h)
-deals_rest (Ask id asker entry) t t' h = h ∙ ap (only t) (sym h)
 deals_rest (Give id entry) t t' h = h.rest ∙ ap (only t) (sym h.rest)
 deals_rest (Free o) t t' h =
     let went : Tables = with_returns (ids_in (find (is_standing o) t.objects)) t in
@@ -49,10 +45,7 @@ deals_rest (Free o) t t' h =
     ∙ (ap (λ (y : Tables). record y { objects = t'.objects }) rest
     ∙ (ap (λ (y : Tables). record t { accepted = y.accepted; pending = y.pending; desk = went.desk; outgoing = went.outgoing; objects = t'.objects; records = y.records }) (sym rest)
     ∙ ap (only t) (sym h)))
-deals_rest (Cached id place) t t' h = h ∙ ap (only t) (sym h)
-deals_rest (Go act) t t' h = h ∙ ap (only t) (sym h)
-deals_rest (Shipped act state) t t' h = h ∙ ap (only t) (sym h)
-deals_rest (Arrived id place) t t' h = h ∙ ap (only t) (sym h)
+deals_rest _ t t' h = h ∙ ap (only t) (sym h)
 
 -- ---- what is written
 
@@ -61,18 +54,9 @@ pub entries_join : (k : ℕ) (e : Event) (events : List Event) (before now after
 entries_join k e events before now after one grows =
     grows ∙ (ap (λ xs. xs ++ at_all k events) one ∙ append_assoc before (record { at = k; event = e } ∷ []) (at_all k events))
 
--- what a message does is the same after the frame was counted
-pub effects_taken : (t : Tables) (n : ℕ) (p : Parcel) → effects (record t { taken = n }) p ≡ effects t p
-effects_taken t n (Apply act) = refl
-effects_taken t n (Return id) = refl
-effects_taken t n (Ask id asker entry) = refl
-effects_taken t n (Give id entry) = refl
-effects_taken t n (Cached id place) = refl
-effects_taken t n (Move act) = refl
-effects_taken t n (Go act) = refl
-effects_taken t n (Shipped act state) = refl
-effects_taken t n (Arrived id place) = refl
-effects_taken t n (Free o) = refl
+-- what a message does is the same after the frame was counted, and without messages on the desk
+pub effects_same : (t : Tables) (n : ℕ) (d : List Parcel) (p : Parcel) → effects (record t { taken = n; desk = d }) p ≡ effects t p
+effects_same t n d _ = refl
 
 -- so the entries are those that the frame asks for
 pub taken_writes : (t u : Tables) (n : ℕ) (p : Parcel) (bytes : List ℕ) (before now after : List Entry) → t ≡ u
@@ -80,14 +64,8 @@ pub taken_writes : (t u : Tables) (n : ℕ) (p : Parcel) (bytes : List ℕ) (bef
     → after ≡ before ++ at_all u.here (In bytes ∷ effects u p)
 taken_writes t u n p bytes before now after seen one grows =
     entries_join t.here (In bytes) (effects (record t { taken = n }) p) before now after one grows
-    ∙ (ap (λ es. before ++ at_all t.here (In bytes ∷ es)) (effects_taken t n p)
+    ∙ (ap (λ es. before ++ at_all t.here (In bytes ∷ es)) (effects_same t n t.desk p)
     ∙ ap (λ (x : Tables). before ++ at_all x.here (In bytes ∷ effects x p)) seen)
-
-pub effects_desk : (t : Tables) (desk : List Parcel) (p : Parcel) → effects (record t { desk = desk }) p ≡ effects t p
-effects_desk t desk (Return id) = refl
-effects_desk t desk (Ask id asker entry) = refl
-effects_desk t desk (Free o) = refl
-effects_desk t desk _ = refl
 
 -- all the same where only records, objects and the profile are as before
 pub leaves_from : (p : Parcel) (t m t' : Tables) → m.records ≡ t.records → m.profile ≡ t.profile → m.objects ≡ t.objects → Leaves p m t' → Leaves p t t'
@@ -100,10 +78,4 @@ leaves_from (Ask id asker entry) t m t' records profile objects h = record {
   others = λ x away. h.others x away ∙ ap (find_record x) records;
 }
 leaves_from (Free o) t m t' records profile objects h = h ∙ ap (without (is_standing o)) objects
-leaves_from (Apply act) t m t' records profile objects h = h
-leaves_from (Give id entry) t m t' records profile objects h = h
-leaves_from (Cached id place) t m t' records profile objects h = h
-leaves_from (Move act) t m t' records profile objects h = h
-leaves_from (Go act) t m t' records profile objects h = h
-leaves_from (Shipped act state) t m t' records profile objects h = h
-leaves_from (Arrived id place) t m t' records profile objects h = h
+leaves_from _ t m t' records profile objects h = h

@@ -1,14 +1,8 @@
 -- A failure is planned before the last id is in the hand.
-use Rattle.hpx_node.proofs.Common.{AllByRecursion, Asked, Bool, Err, Id, IfOk, IsFailure, IsPaused, IsTidy, Job, KeepsLaws, List, None, Ok, Option, Outcome, Plan, Refills, Result, Some, Tables, Waits, [], action_ids, ap, arith, cases_Bool, drop, drop-set-lt, due_failed, find, hand_long, hand_with, ids_named, inl, inr, is_asked_for, length, length-set, put_for, refl, set, slice_get, some_same, state_failed, subst, sym, ups_failed, ups_left, ℕ, ◌+◌, ◌<◌, ◌∙◌, ◌∷◌, ◌≡◌, ◌≤◌}
+use Rattle.hpx_node.proofs.Common.{Asked, Id, IsFailure, IsPaused, IsTidy, Job, KeepsLaws, List, None, Option, Outcome, Plan, Refills, Some, Tables, Waits, [], action_ids, ap, arith, drop, drop-set-lt, due_failed, find, hand_long, hand_with, ids_named, is_asked_for, length, length-set, put_for, refl, set, slice_get, some_same, state_failed, subst, sym, ups_failed, ups_left, ℕ, ◌+◌, ◌<◌, ◌∙◌, ◌≡◌, ◌≤◌}
 use Rattle.hpx_node.proofs.HandLeft.{HasLeft, has_left}
 use Rattle.hpx_node.proofs.Paused.{commit_of, paused_at}
-
-all_found : {X : Type 0} (P : X → Type 0) (p : X → Bool) (xs : List X) (x : X) → AllByRecursion P xs → find p xs ≡ Some x → P x
-all_found P p [] x all h = cc
-all_found P p (y ∷ ys) x all h = elim (cases_Bool (p y)) [
-  | inl t ↦ let e : Some y ≡ Some x = rw t at h in subst P (some_same y x e) all.0
-  | inr f ↦ all_found P p ys x all.1 (rw f at h)
-]
+use Rattle.hpx_commit.proofs.Lists.{all_found}
 
 module _ (t : Tables) (i : ℕ) (w : Waits) (id : Id) (entry : ℕ) (tidy : IsTidy t []) (there : slice_get t.pending i ≡ Some w) where
   paused : IsPaused t.here t.localities t.profile.credit_log t.objects w
@@ -69,7 +63,3 @@ module _ (pending : List Waits) (i : ℕ) (v : Waits) (id : Id) (entry : ℕ) (j
 
   pub failure_few : length (ups_left (record v { hand = hand_with id entry v })) ≤ 226 → length p.ups.items ≤ 256
   failure_few few = omega (arith, few, ap (λ (ids : List Id). length ids) ups_are)
-
-pub ok_three : {X E : Type 0} (r : Result X E) (P Q R S : X → Type 0) → IfOk r P → IfOk r Q → IfOk r R → ((x : X) → P x → Q x → R x → S x) → IfOk r S
-ok_three (Ok x) P Q R S h i j f = f x h i j
-ok_three (Err e) P Q R S h i j f = tt

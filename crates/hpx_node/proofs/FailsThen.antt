@@ -1,15 +1,9 @@
 -- An action whose failure was planned before its commit's last answer came fails with it.
-use Rattle.hpx_node.proofs.Common.{Apply, Arrived, Ask, Asked, Bool, Cached, Failing, Free, Give, Gives, Go, HasCredit, HasSplit, Id, IsCommit, IsFailing, IsFailingFor, IsFailure, IsLeftFailed, IsPaused, IsTidy, List, Move, MustFail, None, Option, Parcel, Refills, Return, Shipped, Some, Tables, Waits, [], and_true, ap, arith, awaits, bare, bare_state, cond, eqb-true, failed_remains, false, find, is_asked_for, is_some, is_standing, length, log_of, refl, remove, set, slice_get, slice_get_less, some_same, still_commit, still_split, subst, suc, sym, target_of, true, zero, ℕ, ◌==◌, ◌||◌, ◌∙◌, ◌∷◌, ◌≡◌, ◌⊎◌}
+use Rattle.hpx_node.proofs.Common.{Bool, Failing, Give, Gives, HasCredit, Id, IsFailing, IsFailingFor, IsFailure, IsLeftFailed, IsTidy, List, MustFail, None, Option, Parcel, Some, Tables, Waits, [], and_true, ap, bare, bare_state, cond, failed_remains, false, find, is_some, is_standing, length, log_of, refl, slice_get, some_same, subst, sym, target_of, true, ℕ, ◌==◌, ◌||◌, ◌∙◌, ◌≡◌, ◌⊎◌}
 use Rattle.hpx_node.proofs.LeftFailed.{left_failed}
-use Rattle.hpx_node.proofs.Paused.{commit_of, paused_at}
-use Rattle.hpx_node.proofs.Continued.{any_at, first_same, get_set}
+use Rattle.hpx_node.proofs.Paused.{paused_at}
+use Rattle.hpx_node.proofs.Given.{IsGivenTo, IsStill, given_to, none_asked, still}
 use Rattle.hpx_node.proofs.FailedPlan.{failure_then}
-
-one_gone : (xs : List Asked) (k : ℕ) (x : Asked) → slice_get xs k ≡ Some x → length xs ≡ 1 → remove xs k ≡ []
-one_gone [] k x h one = cc
-one_gone (y ∷ []) zero x h one = refl
-one_gone (y ∷ []) (suc k) x h one = cc
-one_gone (y ∷ z ∷ zs) k x h one = absurd (omega (arith, one))
 
 some_of : (b : Bool) (new : Id) (old : Option Id) → (b || is_some old) ≡ true → (o : Id) × (cond b (Some new) old ≡ Some o)
 some_of true new old h = (new, refl)
@@ -18,62 +12,37 @@ some_of false new None h = absurd (cc)
 
 module _ (t : Tables) (n : ℕ) (d : List Parcel) (mid : Tables) (id : Id) (entry : ℕ) (y : Failing) (fails : IsFailing t id entry y)
     (g : Gives id entry (record t { taken = n; desk = d }) mid) where
-  g_for : awaits id entry g.before ≡ true
-  g_for = any_at (is_asked_for g.before id entry) g.before.asked g.refills.k g.refills.ask g.refills.there g.refills.for
-
-  pub same_place : g.i ≡ y.i
-  same_place = first_same (awaits id entry) t.pending g.i y.i g.before fails.commit g.there fails.there g_for fails.for g.first fails.first
-
-  same_before : g.before ≡ fails.commit
-  same_before = some_same g.before fails.commit (sym g.there ∙ (ap (slice_get t.pending) same_place ∙ fails.there))
-
-  refills : Refills id entry fails.commit g.after
-  refills = subst (λ v. Refills id entry v g.after) same_before g.refills
-
-  pub now_there : slice_get mid.pending y.i ≡ Some g.after
-  now_there =
-      ap (λ (x : Tables). slice_get x.pending y.i) g.rest
-      ∙ (ap (slice_get (set t.pending g.i g.after)) (sym same_place)
-      ∙ get_set t.pending g.i g.after (slice_get_less t.pending g.i g.before g.there))
+  pub at : IsGivenTo t mid id entry g.i y.i fails.commit g.after
+  at = given_to t n d mid id entry g y.i fails.commit fails.there fails.for fails.first
 
   last : ((length fails.commit.asked == 1) ≡ true) × (((log_of id.log == 0) || is_some fails.commit.refused) ≡ true)
   last = and_true (length fails.commit.asked == 1) ((log_of id.log == 0) || is_some fails.commit.refused) fails.last
 
   pub given : g.after.asked ≡ []
-  given =
-      ap (λ (v : Waits). v.asked) refills.now
-      ∙ one_gone fails.commit.asked refills.k refills.ask refills.there (eqb-true (length fails.commit.asked) 1 last.0)
+  given = none_asked fails.commit g.after id entry at.refills last.0
 
   refused_by : (o : Id) × (cond (log_of id.log == 0) (Some (bare id)) fails.commit.refused ≡ Some o)
   refused_by = some_of (log_of id.log == 0) (bare id) fails.commit.refused last.1
 
   pub refused : (o : Id) × (g.after.refused ≡ Some o)
-  refused = (refused_by.0, ap (λ (v : Waits). v.refused) refills.now ∙ refused_by.1)
+  refused = (refused_by.0, ap (λ (v : Waits). v.refused) at.refills.now ∙ refused_by.1)
 
   pub found_then : find (is_standing (target_of g.after.job.action)) t.objects ≡ Some fails.place.standing
-  found_then = ap (λ (v : Waits). find (is_standing (target_of v.job.action)) t.objects) refills.now ∙ fails.place.found
+  found_then = ap (λ (v : Waits). find (is_standing (target_of v.job.action)) t.objects) at.refills.now ∙ fails.place.found
 
   -- what it leaves is right
   module _ (tidy : IsTidy t []) (credit : HasCredit id) (brings : (log_of id.log ≡ 0) ⊎ (log_of id.log ≡ t.profile.credit_log)) where
-    was : IsPaused t.here t.localities t.profile.credit_log t.objects fails.commit
-    was = paused_at t y.i fails.commit tidy fails.there
-
-    its : IsCommit t.here t.localities g.after
-    its = subst (IsCommit t.here t.localities) (sym refills.now) (still_commit t.here t.localities t.profile.credit_log fails.commit refills.k refills.ask id entry
-        (commit_of t.here t.localities t.profile.credit_log t.objects fails.commit was) was.split refills.there refills.for credit brings)
-
-    split : HasSplit t.profile.credit_log g.after
-    split = subst (HasSplit t.profile.credit_log) (sym refills.now) (still_split t.here t.localities t.profile.credit_log fails.commit refills.k refills.ask id entry
-        (commit_of t.here t.localities t.profile.credit_log t.objects fails.commit was) was.split refills.there refills.for credit brings)
+    k : IsStill t g.after
+    k = still t fails.commit g.after id entry (paused_at t y.i fails.commit tidy fails.there) at.refills credit brings
 
     pub left : IsLeftFailed g.after fails.place.standing (failed_remains g.after)
-    left = left_failed t.here t.localities t.profile.credit_log g.after its split given fails.place.standing fails.place.kept
-        (fails.place.state ∙ ap (λ (v : Waits). bare_state v.job.state) (sym refills.now))
+    left = left_failed t.here t.localities t.profile.credit_log g.after k.its k.split given fails.place.standing fails.place.kept
+        (fails.place.state ∙ ap (λ (v : Waits). bare_state v.job.state) (sym at.refills.now))
 
     pub must_then : MustFail y.i y.j mid
     must_then = record {
       commit = g.after;
-      there = now_there;
+      there = at.now;
       standing = fails.place.standing;
       stands = ap (λ (x : Tables). slice_get x.objects y.j) g.rest ∙ fails.place.stands;
       found = ap (λ (x : Tables). find (is_standing (target_of g.after.job.action)) x.objects) g.rest ∙ found_then;
@@ -81,19 +50,11 @@ module _ (t : Tables) (n : ℕ) (d : List Parcel) (mid : Tables) (id : Id) (entr
     }
 
   pub plan_then : (w : Waits) → slice_get mid.pending y.i ≡ Some w → IsFailure w y.plan
-  plan_then w h = subst (λ v. IsFailure v y.plan) (some_same g.after w (sym now_there ∙ h))
-      (failure_then fails.commit g.after id entry y.plan refills fails.plan)
+  plan_then w h = subst (λ v. IsFailure v y.plan) (some_same g.after w (sym at.now ∙ h))
+      (failure_then fails.commit g.after id entry y.plan at.refills fails.plan)
 
 -- only a Give makes one fail
 pub only_fails : (t : Tables) (p : Parcel) (y : Failing) → IsFailingFor t p y → (P : Type 0)
     → ((id : Id) (entry : ℕ) → p ≡ Give id entry → IsFailing t id entry y → P) → P
 only_fails t (Give id entry) y fails P h = h id entry refl fails
-only_fails t (Apply act) y fails P h = absurd fails
-only_fails t (Return id) y fails P h = absurd fails
-only_fails t (Ask id asker entry) y fails P h = absurd fails
-only_fails t (Cached id place) y fails P h = absurd fails
-only_fails t (Move act) y fails P h = absurd fails
-only_fails t (Go act) y fails P h = absurd fails
-only_fails t (Shipped act state) y fails P h = absurd fails
-only_fails t (Arrived id place) y fails P h = absurd fails
-only_fails t (Free o) y fails P h = absurd fails
+only_fails t _ y fails P h = absurd fails

@@ -1,7 +1,8 @@
 -- What follows a message that is dealt with, and what it writes.
-use Rattle.hpx_node.proofs.Common.{Act, Apply, Arrived, Ask, AskedFor, Bool, Cached, Commits, Continues, Entry, Event, Failing, Fails, Free, Give, Gives, Go, HasCredit, HasFollowed, HasInHand, Id, IfFollows, IsFailing, IsNext, IsParcel, IsReady, IsTidy, KeepsLaws, Leads, List, MayFollow, MayResume, Move, Next, None, Option, Outcome, Parcel, Ready, Return, Rules, Shipped, Some, Standing, State, Tables, Turn, Waits, Writes, [], answered_by, ap, append-nil, arith, awaits, bare_act, bare_state, brings_right, broken_near, cases_Bool, committed_from, completes, dooms, due_left, effects, eq-eqb, failed_events, failed_remains, fails_first, false, find, full_stock, get_or, give_right, given_event, given_fails, given_waits, in_hand, inl, inr, is_asked_for, is_last, is_some, length, log_of, message_of, named, ne_eqb, not, refl, remove, rules_of, set, slice_get, some_same, state_left, subst, suc, sym, take, true, ups_left, with_left, zero, ℕ, ◌&&◌, ◌++◌, ◌+◌, ◌==◌, ◌||◌, ◌∙◌, ◌∷◌, ◌≡◌, ◌⊎◌}
-use Rattle.hpx_node.proofs.Continued.{IsGiven, after_is, any_at, less_long, may_after, may_given, none_then, now_there, only_give, same_place, waits_inside}
-use Rattle.hpx_node.proofs.FailsThen.{found_then, given, left, must_then, only_fails, plan_then, refused, same_place as fails_place, now_there as fails_there}
+use Rattle.hpx_node.proofs.Common.{Act, AskedFor, Bool, Commits, Continues, Entry, Event, Failing, Fails, Give, Gives, HasCredit, HasFollowed, HasInHand, Id, IfFollows, IsFailing, IsNext, IsParcel, IsReady, IsTidy, KeepsLaws, Leads, List, MayFollow, MayResume, Next, None, Option, Outcome, Parcel, Ready, Rules, Some, Standing, State, Tables, Turn, Waits, Writes, [], answered_by, ap, append-nil, arith, awaits, bare_act, bare_state, brings_right, broken_near, committed_from, completes, dooms, due_left, effects, eq-eqb, failed_events, failed_remains, fails_first, false, find, full_stock, get_or, give_right, given_event, given_fails, given_waits, in_hand, is_asked_for, is_last, is_some, length, log_of, message_of, named, ne_eqb, not, refl, remove, rules_of, set, slice_get, some_same, state_left, subst, sym, true, ups_left, with_left, ℕ, ◌&&◌, ◌++◌, ◌+◌, ◌==◌, ◌||◌, ◌∙◌, ◌∷◌, ◌≡◌, ◌⊎◌}
+use Rattle.hpx_node.proofs.Continued.{IsGiven, after_is, at, may_after, may_given, none_then, only_give}
+use Rattle.hpx_commit.proofs.Lists.{any_at, find_at, less_long, remove_set}
+use Rattle.hpx_node.proofs.FailsThen.{at as fails_at, found_then, given, left, must_then, only_fails, plan_then, refused}
 use Rattle.hpx_node.proofs.GoesOn.{goes_leads}
 use Rattle.hpx_node.proofs.ReadyStock.{brings_by}
 use Rattle.hpx_node.specs.declared.node.next.Next.TheVariants as nexts
@@ -12,14 +13,6 @@ pub record IsContinued (r : Rules) (s : Turn) (effects : List Event) (p : Parcel
   pub continues : Continues p t mid t' more
   pub writes : Writes more mid t' entries entries'
   pub leads : Leads r s t' (effects ++ more)
-
-pub find_at : {X : Type 0} (p : X → Bool) (xs : List X) (i : ℕ) (x : X) → slice_get xs i ≡ Some x → p x ≡ true → find p (take i xs) ≡ None → find p xs ≡ Some x
-find_at p [] i x h t none = cc
-find_at p (z ∷ xs) zero x h t none = let e : p z ≡ true = ap p (some_same z x h) ∙ t in rw e h
-find_at p (z ∷ xs) (suc i) x h t none = elim (cases_Bool (p z)) [
-  | inl e ↦ absurd (let f : Some z ≡ None = rw e at none in cc)
-  | inr e ↦ rw e (find_at p xs i x h t (rw e at none))
-]
 
 not_both : (a l r : Bool) → (not a && (l && not r)) ≡ true → (l && (a || r)) ≡ true → ⊥
 not_both true l r g h = cc
@@ -53,7 +46,7 @@ pub may_follow : (act_of : ℕ → ℕ → ℕ → State → Act → Outcome) (t
     → IsGiven p (record t { taken = n; desk = d }) mid → MayFollow mid x
 may_follow act_of t n d mid p nexts.Rests k is gives = tt
 may_follow act_of t n d mid p (nexts.GoesOn y) k is gives = only_give act_of t p y is (MayFollow mid (nexts.GoesOn y)) (λ id entry e ready.
-    (waits_inside act_of t n d mid id entry y ready (gives id entry e), may_given act_of t n d mid id entry y ready (gives id entry e)))
+    ((at act_of t n d mid id entry y ready (gives id entry e)).inside, may_given act_of t n d mid id entry y ready (gives id entry e)))
 may_follow act_of t n d mid p (nexts.Fails y) k is gives = only_fails t p y is (MayFollow mid (nexts.Fails y)) (λ id entry e fails.
     let b = brings_so t p id entry k e in
     (must_then t n d mid id entry y fails (gives id entry e) k.tidy b.0 b.1, plan_then t n d mid id entry y fails (gives id entry e), fails.few))
@@ -71,11 +64,6 @@ next_gives P act_of t p (nexts.GoesOn y) is h = only_give act_of t p y is P (λ 
 next_gives P act_of t p (nexts.Fails y) is h = only_fails t p y is P (λ id entry e fails. h id entry e)
 
 -- ---- it has followed
-
-remove_set : (ws : List Waits) (i : ℕ) (w : Waits) → remove (set ws i w) i ≡ remove ws i
-remove_set [] i w = refl
-remove_set (v ∷ ws) zero w = refl
-remove_set (v ∷ ws) (suc i) w = ap (λ us. v ∷ us) (remove_set ws i w)
 
 waits_on : (a l r : Bool) → (not a && (l && not r)) ≡ false → (l && (a || r)) ≡ false → l ≡ false
 waits_on a false r g h = refl
@@ -119,10 +107,10 @@ module _ (act_of : ℕ → ℕ → ℕ → State → Act → Outcome)
       completes_is = ap (is_last id) (find_at (awaits id entry) t.pending y.i ready.before ready.there ready.for ready.first) ∙ ready.last
 
       place_is : g.i ≡ y.i
-      place_is = same_place act_of t n d mid id entry y ready g
+      place_is = (at act_of t n d mid id entry y ready g).place
 
       after_there : slice_get mid.pending y.i ≡ Some g.after
-      after_there = sym (ap (slice_get mid.pending) place_is) ∙ now_there act_of t n d mid id entry y ready g
+      after_there = (at act_of t n d mid id entry y ready g).now
 
       same : g.after ≡ record ready.before { hand = g.after.hand; asked = g.after.asked; refused = g.after.refused }
       same = after_is act_of t n d mid id entry y ready g
@@ -174,11 +162,11 @@ module _ (act_of : ℕ → ℕ → ℕ → State → Act → Outcome)
       dooms_is : fails_first id (find (awaits id entry) t.pending) ≡ true
       dooms_is = ap (fails_first id) (find_at (awaits id entry) t.pending y.i is.commit is.there is.for is.first) ∙ is.last
 
-      fails_at : g.i ≡ y.i
-      fails_at = fails_place t n d mid id entry y is g
+      failed_at : g.i ≡ y.i
+      failed_at = (fails_at t n d mid id entry y is g).place
 
       same_commit : fails.commit ≡ g.after
-      same_commit = some_same fails.commit g.after (sym fails.there ∙ fails_there t n d mid id entry y is g)
+      same_commit = some_same fails.commit g.after (sym fails.there ∙ (fails_at t n d mid id entry y is g).now)
 
       x_is : fails.standing ≡ is.place.standing
       x_is = some_same fails.standing is.place.standing (sym fails.stands ∙ (ap (λ (m : Tables). slice_get m.objects y.j) g.rest ∙ is.place.stands))
@@ -195,7 +183,7 @@ module _ (act_of : ℕ → ℕ → ℕ → State → Act → Outcome)
           fails.rest
           ∙ (ap (λ w. to mid y.i w fails.standing) same_commit
           ∙ (ap (λ x. to mid y.i g.after x) x_is
-          ∙ (ap (λ i. to mid i g.after is.place.standing) (sym fails_at)
+          ∙ (ap (λ i. to mid i g.after is.place.standing) (sym failed_at)
           ∙ (ap (λ m. to m g.i g.after is.place.standing) g.rest
           ∙ ap (λ ws. with_left (due_left g.after) (ups_left g.after) (record u {
             pending = ws;
@@ -221,11 +209,11 @@ module _ (act_of : ℕ → ℕ → ℕ → State → Act → Outcome)
           fails = λ yes. record {
             gives = gave;
             j = y.j;
-            fails = subst (λ i. Fails i y.j mid t') (sym fails_at) fails;
+            fails = subst (λ i. Fails i y.j mid t') (sym failed_at) fails;
             what = refl;
           };
         };
-        writes = writes g.after (fails_there t n d mid id entry y is g);
+        writes = writes g.after ((fails_at t n d mid id entry y is g).now);
         leads = failed_leads;
       }
 
@@ -260,29 +248,13 @@ module _ (act_of : ℕ → ℕ → ℕ → State → Act → Outcome)
     where
       alike : (p : Parcel) → (completes u p ≡ completes t p) × (dooms u p ≡ dooms t p)
       alike (Give id entry) = (refl, refl)
-      alike (Apply act) = (refl, refl)
-      alike (Return id) = (refl, refl)
-      alike (Ask id asker entry) = (refl, refl)
-      alike (Cached id place) = (refl, refl)
-      alike (Move act) = (refl, refl)
-      alike (Go act) = (refl, refl)
-      alike (Shipped act state) = (refl, refl)
-      alike (Arrived id place) = (refl, refl)
-      alike (Free o) = (refl, refl)
+      alike _ = (refl, refl)
 
   -- a message that was dealt with: credit that is given, or another
   dealt_leads : (p : Parcel) → HasInHand p (in_hand (record t { taken = n; desk = d }) came mailed l) → IsRight t p → IsGiven p (record t { taken = n; desk = d }) mid
       → (((id : Id) (entry : ℕ) → p ≡ Give id entry → ⊥) → Leads r s mid (effects t p)) → completes t p ≡ false → dooms t p ≡ false → Leads r s mid (effects t p)
   dealt_leads (Give id entry) hand k gives other rest safe = waiting_leads id entry hand k (gives id entry refl) rest safe
-  dealt_leads (Apply act) hand k gives other rest safe = other (λ id entry e. absurd (cc))
-  dealt_leads (Return o) hand k gives other rest safe = other (λ id entry e. absurd (cc))
-  dealt_leads (Ask o asker m) hand k gives other rest safe = other (λ id entry e. absurd (cc))
-  dealt_leads (Cached o place) hand k gives other rest safe = other (λ id entry e. absurd (cc))
-  dealt_leads (Move act) hand k gives other rest safe = other (λ id entry e. absurd (cc))
-  dealt_leads (Go act) hand k gives other rest safe = other (λ id entry e. absurd (cc))
-  dealt_leads (Shipped act state) hand k gives other rest safe = other (λ id entry e. absurd (cc))
-  dealt_leads (Arrived o place) hand k gives other rest safe = other (λ id entry e. absurd (cc))
-  dealt_leads (Free o) hand k gives other rest safe = other (λ id entry e. absurd (cc))
+  dealt_leads _ hand k gives other rest safe = other (λ id entry e. absurd (cc))
 
   pub is_continued : (p : Parcel) (x : Next) → IsNext act_of t p x → HasInHand p (in_hand (record t { taken = n; desk = d }) came mailed l) → IsRight t p
       → IsGiven p (record t { taken = n; desk = d }) mid

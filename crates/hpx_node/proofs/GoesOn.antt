@@ -1,9 +1,10 @@
 -- A commit that waited goes on with its last credit: what it does leads back to rest.
-use Rattle.hpx_node.proofs.Common.{Act, AllByRecursion, Commits, Done, Event, Give, Gives, HasCredit, HasInHand, HasSplit, Id, IsCommit, IsPaused, IsStock, IsTidy, KeepsLaws, Leads, List, MayResume, None, Option, Outcome, Parcel, Prepared, Rules, Standing, State, Stock, Tables, Waits, [], ap, append_assoc, arith, bare_act, bare_state, birth_of, births_of, brings_right, committed_from, committed_to, drop, due_dealt, false, full_stock, given_done, given_event, hand_long, ids_named, in_hand, length, length-append, length-drop, length-take, made_of, map, message_of, name_of, named, refl, remains, remove, rules_of, set, some_same, splits_from, still_commit, still_split, subst, sym, take, take-append-drop, true, unnamed, ups, written_due, ℕ, ◌++◌, ◌+◌, ◌∙◌, ◌∷◌, ◌≡◌, ◌≤◌}
+use Rattle.hpx_node.proofs.Common.{Act, AllByRecursion, Commits, Done, Event, Give, Gives, HasCredit, HasInHand, Id, IsStock, IsTidy, KeepsLaws, Leads, List, MayResume, None, Option, Outcome, Parcel, Prepared, Rules, Standing, State, Stock, Tables, Waits, [], ap, append_assoc, arith, bare_act, bare_state, birth_of, births_of, brings_right, committed_from, committed_to, drop, due_dealt, false, full_stock, given_done, given_event, hand_long, ids_named, in_hand, length, length-append, length-drop, length-take, made_of, map, message_of, name_of, named, refl, remains, remove, rules_of, set, some_same, splits_from, subst, sym, take, take-append-drop, true, unnamed, ups, written_due, ℕ, ◌++◌, ◌+◌, ◌∙◌, ◌∷◌, ◌≡◌, ◌≤◌}
 use Rattle.hpx_commit.proofs.FullStock.{replaced_split}
 use Rattle.hpx_node.proofs.HandLeft.{has_left}
 use Rattle.hpx_node.proofs.LeftBy.{left_by}
-use Rattle.hpx_node.proofs.Paused.{commit_of, paused_at}
+use Rattle.hpx_node.proofs.Given.{IsStill, still}
+use Rattle.hpx_node.proofs.Paused.{paused_at}
 use Rattle.hpx_node.proofs.PlanWeights.{written_same}
 use Rattle.hpx_node.proofs.Planned.{made_fit, made_long}
 use Rattle.hpx_node.proofs.ReadyStock.{brings_by}
@@ -34,16 +35,8 @@ module _ (act_of : ℕ → ℕ → ℕ → State → Act → Outcome)
 
   -- ---- its hand
 
-  was : IsPaused t.here t.localities t.profile.credit_log t.objects g.before
-  was = paused_at t g.i g.before tidy g.there
-
-  its : IsCommit t.here t.localities g.after
-  its = subst (IsCommit t.here t.localities) (sym g.refills.now) (still_commit t.here t.localities t.profile.credit_log g.before g.refills.k g.refills.ask id entry
-      (commit_of t.here t.localities t.profile.credit_log t.objects g.before was) was.split g.refills.there g.refills.for credit (brings_by t id right))
-
-  split : HasSplit t.profile.credit_log g.after
-  split = subst (HasSplit t.profile.credit_log) (sym g.refills.now) (still_split t.here t.localities t.profile.credit_log g.before g.refills.k g.refills.ask id entry
-      (commit_of t.here t.localities t.profile.credit_log t.objects g.before was) was.split g.refills.there g.refills.for credit (brings_by t id right))
+  k : IsStill t g.after
+  k = still t g.before g.after id entry (paused_at t g.i g.before tidy g.there) g.refills credit (brings_by t id right)
 
   abbrev own : ℕ
   own = length (ids_named w)
@@ -69,7 +62,7 @@ module _ (act_of : ℕ → ℕ → ℕ → State → Act → Outcome)
   enough : own + length made ≤ length w.hand
   enough = omega (
     arith,
-    (has_left t.profile.credit_log w w.hand its.job split refl).long (hand_long t.here t.localities w its),
+    (has_left t.profile.credit_log w w.hand k.its.job k.split refl).long (hand_long t.here t.localities w k.its),
     length-append w.job.state.ids w.job.action.ids,
     many,
   )
@@ -81,7 +74,7 @@ module _ (act_of : ℕ → ℕ → ℕ → State → Act → Outcome)
   later_bare =
       subst (λ k. AllByRecursion (λ (o : Id). o.log ≡ None) (take k (drop own w.hand))) (sym many)
       (subst (λ k. AllByRecursion (λ (o : Id). o.log ≡ None) (take (length w.outcome.makes) (drop k w.hand))) (sym (length-append w.job.state.ids w.job.action.ids))
-      (has_left t.profile.credit_log w w.hand its.job split refl).later)
+      (has_left t.profile.credit_log w w.hand k.its.job k.split refl).later)
 
   stock_is : full_stock u w ≡ s
   stock_is = replaced_split own made w.hand w.places enough
@@ -110,9 +103,9 @@ module _ (act_of : ℕ → ℕ → ℕ → State → Act → Outcome)
       ++ (Done (name_of w.job.action) false ∷ (due ++ ups (unnamed s.hand s.places)))))) (sym end_is)
       (given_done r u mid came mailed l id entry hand credit right g none front later back w.places hand_is later_bare
       (omega (arith, many, enough, length-take (length made) (drop own w.hand), length-drop own w.hand))
-      (omega (arith, enough, length-take own w.hand)) (made_fit m w.job w.outcome its.job may.place.few laws) j x (remains u w.job w.outcome s)
+      (omega (arith, enough, length-take own w.hand)) (made_fit m w.job w.outcome k.its.job may.place.few laws) j x (remains u w.job w.outcome s)
       its_stock.names.within (λ q lt. its_stock.lasts q) may.place.stands may.place.found tidy.drawn
-      (left_by m w.job w.outcome its.job may.place.few laws s its_stock x may.place.kept may.place.kind may.place.state act_of blind its_outcome its.here))
+      (left_by m w.job w.outcome k.its.job may.place.few laws s its_stock x may.place.kept may.place.kind may.place.state act_of blind its_outcome k.its.here))
 
   pub goes_leads : Leads r (in_hand u came mailed l) t' (given_event id ∷ committed_from u w.job w.outcome (full_stock u w))
   goes_leads =

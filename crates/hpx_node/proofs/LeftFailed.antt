@@ -1,8 +1,10 @@
 -- What an action leaves that fails: its object keeps its state and has its credits again, and the rest is due or given up.
-use Rattle.hpx_node.proofs.Common.{AllByRecursion, Asked, Bool, HasCredit, HasRightCredit, HasSplit, Id, IsCommit, IsKept, IsLeftFailed, List, Standing, State, Waits, [], action_ids, ap, arith, bare, bare_alone, bare_state, both_right, both_same, cond, count_by, fail_deals, failed_remains, false, halves_ahead, id_at, ids_named, is_asked, is_managed, is_some, length, length-map, map, not, refl, state_filled, state_left, sym, take, true, ℕ, ◌&&◌, ◌<◌, ◌==◌, ◌∙◌, ◌≡◌}
-use Rattle.hpx_node.proofs.FailedDue.{credit_right, due_right, failed_due, failed_fit, ups_credit}
+use Rattle.hpx_node.proofs.Common.{AllByRecursion, Asked, Bool, HasCredit, HasRightCredit, HasSplit, Id, IsCommit, IsFitDue, IsKept, IsLeftFailed, IsMovable, IsPlace, List, Standing, State, Waits, [], action_ids, ap, arith, bare, bare_alone, bare_due, bare_state, both_right, both_same, cond, count_by, due_failed, due_left, fail_deals, failed_remains, false, halves_ahead, id_at, ids_named, is_asked, is_managed, is_some, length, length-map, map, not, refl, state_filled, state_left, sym, take, true, ℕ, ◌&&◌, ◌<◌, ◌==◌, ◌∙◌, ◌≡◌}
+use Rattle.hpx_commit.proofs.Failed.{due_bare}
+use Rattle.hpx_commit.proofs.FailedHas.{failed_fit, ups_have}
+use Rattle.hpx_commit.proofs.Rights.{had_right}
 use Rattle.hpx_node.proofs.HandLeft.{HasLeft, has_left}
-use Rattle.hpx_node.proofs.Planned.{none_of, rights}
+use Rattle.hpx_node.proofs.Planned.{due_credit, may_be_due, none_of, rights}
 use Rattle.hpx_node.proofs.Plain.{no_ids}
 
 -- what was asked for was given
@@ -30,6 +32,10 @@ module _ (k n log : ℕ) (w : Waits) (its : IsCommit k n w) (split : HasSplit lo
   names = both_same HasRightCredit HasCredit rights w.job.state w.job.action w.outcome its.job.credit its.job.action.sent.credit w.hand split.made split.kinds
       (none_of split.made split.bare) split.within split.rest its.hand
 
+  fits : AllByRecursion IsFitDue (due_left w)
+  fits = failed_fit HasRightCredit HasCredit rights (λ ids args. IsMovable ids × IsPlace args) IsFitDue may_be_due (λ bytes. tt)
+      (action_ids w.job.state w.job.action w.hand) w.job.action.cont credits.1
+
   module _ (x : Standing) (kept : IsKept x) (state : x.state ≡ bare_state w.job.state) where
     plain : x.object.kind ≡ 7 → (w.job.state.values ≡ []) × (w.job.state.conts ≡ [])
     plain e = (ap (λ (s : State). s.values) (sym state) ∙ (kept.plain e).0, ap (λ (s : State). s.conts) (sym state) ∙ (kept.plain e).1)
@@ -37,7 +43,8 @@ module _ (k n log : ℕ) (w : Waits) (its : IsCommit k n w) (split : HasSplit lo
     pub left_failed : IsLeftFailed w x (failed_remains w)
     left_failed = record {
       says = ap (λ ids. record { drawn = w.job.state.drawn; values = w.job.state.values; conts = w.job.state.conts; ids = ids }) names.0;
-      leaves = sym (failed_due w.job.action (action_ids w.job.state w.job.action w.hand) names.1);
+      leaves = due_bare bare_due (λ m. refl) (λ bytes. refl) (action_ids w.job.state w.job.action w.hand) w.job.action.cont
+          ∙ ap (λ xs. due_failed xs w.job.action.cont) names.1;
       kept = record {
         kind = kept.kind;
         state = state_filled w.job.state (state_left w).ids
@@ -50,10 +57,10 @@ module _ (k n log : ℕ) (w : Waits) (its : IsCommit k n w) (split : HasSplit lo
           ap (λ ids. record { drawn = w.job.state.drawn; values = w.job.state.values; conts = w.job.state.conts; ids = ids }) ids
           ∙ (sym (bare_alone w.job.state no) ∙ sym state);
       credit = credits.0;
-      fits = failed_fit (action_ids w.job.state w.job.action w.hand) w.job.action.cont credits.1;
-      given_up = ups_credit w.job.state w.job.action (length w.outcome.makes) w.hand credits.1 left.halves;
+      fits = fits;
+      given_up = ups_have HasRightCredit HasCredit rights w.job.state w.job.action (length w.outcome.makes) w.hand credits.1 left.halves;
       deals = fail_deals w.job.state w.job.action (length w.outcome.makes) w.hand credits.0 credits.1
-          (credit_right (halves_ahead w.job.state w.job.action (length w.outcome.makes) w.hand) left.halves)
-          (due_right w.job.state w.job.action (length w.outcome.makes) w.hand credits.1 left.halves)
+          (had_right HasRightCredit HasCredit rights (halves_ahead w.job.state w.job.action (length w.outcome.makes) w.hand) left.halves)
+          (due_credit (due_left w) fits)
           left.later;
     }

@@ -4,13 +4,13 @@ pub mod Committing
 pub mod Continued
 pub mod Credits
 pub mod Failed
-pub mod FailedDue
 pub mod FailedPlan
 pub mod FailsThen
 pub mod Fed
 pub mod Few
 pub mod FewEntries
 pub mod Followed
+pub mod Given
 pub mod GoesOn
 pub mod HandLeft
 pub mod Held

@@ -1,5 +1,6 @@
 -- A commit that waits, by what its tables say.
-use Rattle.hpx_node.proofs.Common.{Act, AllByRecursion, Apart, Asked, Bool, HasRightCredit, Id, IsCommit, IsFit, IsFitJob, IsInPlace, IsKept, IsPaused, IsState, IsTidy, Job, KeepsLaws, List, Outcome, Some, Standing, State, Tables, Waits, [], action_of, acts_on, all_at, any_over, ap, append_assoc, arith, cond, drop, false, find, find_passes, hand_long, is_busy, is_standing, length, map, refl, slice_get, split_get, subst, suc, sym, take, target_of, true, waits_here, zero, ℕ, ◌++◌, ◌<◌, ◌==◌, ◌∙◌, ◌∷◌, ◌≡◌, ◌≤◌}
+use Rattle.hpx_node.proofs.Common.{Act, AllByRecursion, Apart, Asked, Bool, HasRightCredit, Id, IsCommit, IsFit, IsFitJob, IsKept, IsPaused, IsState, IsTidy, Job, KeepsLaws, List, Outcome, Some, Standing, State, Tables, Waits, [], action_of, acts_on, all_at, any_over, ap, append_assoc, arith, cond, drop, false, find, find_passes, hand_long, is_busy, is_standing, length, map, refl, slice_get, split_get, subst, suc, sym, take, target_of, true, waits_here, ℕ, ◌++◌, ◌<◌, ◌==◌, ◌∙◌, ◌∷◌, ◌≡◌, ◌≤◌}
+use Rattle.hpx_node.specs.Resumes.{IsKeptFor}
 use Rattle.hpx_steps.proofs.Busy.{apart_alone, busy_parts, busy_same}
 
 pub paused_at : (t : Tables) (i : ℕ) (w : Waits) → IsTidy t [] → slice_get t.pending i ≡ Some w
@@ -26,9 +27,9 @@ pub asked_within : (k n log : ℕ) (objects : List Standing) (w : Waits) → IsP
 asked_within k n log objects w h = lower_all _ (length w.hand) (hand_long k n w (commit_of k n log objects w h)) w.asked h.within
 
 -- where its object is found at j
-pub in_place : (t : Tables) (w : Waits) (j : ℕ) (paused : IsPaused t.here t.localities t.profile.credit_log t.objects w) → AllByRecursion IsKept t.objects
-    → slice_get t.objects j ≡ Some paused.standing → IsInPlace t w j
-in_place t w j paused kept stands = record {
+pub in_place : (k n log : ℕ) (objects : List Standing) (w : Waits) (j : ℕ) (paused : IsPaused k n log objects w) → AllByRecursion IsKept objects
+    → slice_get objects j ≡ Some paused.standing → IsKeptFor k n objects w.job w.localities j
+in_place k n log objects w j paused kept stands = record {
   job = paused.job;
   here = paused.here;
   localities = paused.localities;
@@ -36,7 +37,7 @@ in_place t w j paused kept stands = record {
   standing = paused.standing;
   stands = stands;
   found = paused.found;
-  kept = all_at IsKept t.objects j paused.standing kept stands;
+  kept = all_at IsKept objects j paused.standing kept stands;
   kind = paused.kind;
   state = paused.state;
 }
@@ -69,11 +70,6 @@ fit_job t job i j x tidy runs found stands kept state =
           (all_at (λ (y : Standing). is_busy y.object (map action_of t.pending) ≡ false → AllByRecursion HasRightCredit y.state.ids) t.objects j x tidy.paused.whole stands
           (sym (busy_same (target_of job.action) x.object (map action_of t.pending) (find_passes (is_standing (target_of job.action)) t.objects x found)) ∙ idle));
     }
-
-pub get_some : {X : Type 0} (xs : List X) (k : ℕ) → k < length xs → (x : X) × (slice_get xs k ≡ Some x)
-get_some [] k h = absurd (omega (arith, h))
-get_some (x ∷ xs) zero h = (x, refl)
-get_some (x ∷ xs) (suc k) h = get_some xs k (omega (arith, h))
 
 -- the same job and outcome keep the laws, and are right
 pub laws_by : (n m : ℕ) (job job' : Job) (out out' : Outcome) → n ≡ m → job ≡ job' → out ≡ out'

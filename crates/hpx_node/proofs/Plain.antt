@@ -1,10 +1,7 @@
 -- A commit leaves an object of kind Plain as it was.
-use Rattle.hpx_node.proofs.Common.{IsFitJob, IsState, IsStock, Job, KeepsLaws, List, Outcome, State, Stock, Tables, [], ap, arith, conts_from, hand_slot, length, map, refl, refs_in, renumbered, state_dealt, sym, ◌∙◌, ◌∷◌, ◌≡◌, ◌≤◌}
+use Rattle.hpx_node.proofs.Common.{IsFitJob, IsState, IsStock, Job, KeepsLaws, Outcome, State, Stock, Tables, [], ap, arith, conts_from, hand_slot, length, map, refs_in, renumbered, state_dealt, sym, ◌∙◌, ◌≡◌, ◌≤◌}
 use Rattle.hpx_node.proofs.Planned.{planned_of}
-
-none_long : {X : Type 0} (xs : List X) → length xs ≡ 0 → xs ≡ []
-none_long [] h = refl
-none_long (x ∷ xs) h = absurd (omega (arith, h))
+use Rattle.hpx_commit.proofs.Lists.{none_long}
 
 pub no_ids : (s : State) → IsState s → s.values ≡ [] → s.conts ≡ [] → s.ids ≡ []
 no_ids s fit values conts = none_long s.ids (omega (arith, fit.ids, ap (λ vs. length (refs_in vs)) values, ap (λ cs. length cs) conts))

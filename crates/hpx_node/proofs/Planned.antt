@@ -5,11 +5,12 @@ use Rattle.hpx_commit.proofs.HandFit.{fit_due, hand_right}
 use Rattle.hpx_commit.proofs.Naming.{unmanaged}
 use Rattle.hpx_commit.proofs.Places.{is_least}
 use Rattle.hpx_commit.proofs.Short.{yes}
+use Rattle.hpx_value.specs.Shapes.{IsMessage}
 
 -- ---- credits
 
 pub rights : AreRight HasRightCredit HasCredit
-rights = record { says = λ id h. says id.kind id.log h; so = λ id h. so id.kind id.log h; has = λ id h t. has id.kind id.log h t }
+rights = record { says = λ id h. says id.kind id.log h; so = λ id h. so id.kind id.log h; has = λ id h t. has id.kind id.log h t; had = λ id h. had id.kind id.log h }
   where
     says : (kind : ℕ) (log : Option ℕ) → MatchOption log (kind < 16) (λ l. 16 ≤ kind) → is_some log ≡ nat_le 16 kind
     says kind None h = sym (unmanaged kind h)
@@ -22,6 +23,10 @@ rights = record { says = λ id h. says id.kind id.log h; so = λ id h. so id.kin
     has : (kind : ℕ) (log : Option ℕ) → is_some log ≡ true → nat_le 16 kind ≡ true → MatchOption log ⊥ (λ l. 16 ≤ kind)
     has kind None e t = absurd (cc)
     has kind (Some l) e t = is_least kind t
+
+    had : (kind : ℕ) (log : Option ℕ) → MatchOption log ⊥ (λ l. 16 ≤ kind) → MatchOption log (kind < 16) (λ l. 16 ≤ kind)
+    had kind None e = absurd e
+    had kind (Some l) e = e
 
 pub none_of : (ids : List Id) → AllByRecursion IsBare ids → HaveNone ids
 none_of [] h = tt
@@ -40,6 +45,10 @@ due_filled m ids same many credit fit = record {
     movable (x ∷ xs) [] e n h = absurd (omega (arith, n))
     movable (x ∷ xs) (y ∷ ys) e n h =
         let k : y.kind ≡ x.kind = ap (λ (z : Id). z.kind) (same_at bare (y ∷ ys) (x ∷ xs) 0 e) in (omega (arith, k, h.0), omega (arith, k, h.1))
+
+-- a well-formed message with its credits may be due
+pub may_be_due : (m : Message) → IsMessage m → AllByRecursion HasRightCredit m.ids → (m.code ≡ 1 → IsMovable m.ids × IsPlace m.args) → IsFitDue (MessageDue m)
+may_be_due m shape credit moves = record { sent = record { shape = shape; credit = credit }; moves = moves }
 
 -- the ids of what is due have their credits
 pub due_credit : (due : List Due) → AllByRecursion IsFitDue due → AllByRecursion HasRightCredit (flat_map ids_due due)
@@ -109,7 +118,7 @@ module _ (t : Tables) (job : Job) (out : Outcome) (fit : IsFitJob job) (few : t.
   due_has : AllByRecursion IsFitDue (due_of job.state job.action (made_of t out) out)
   due_has = fit_due HasRightCredit HasCredit rights t.localities job.kind job.at job.state job.action out laws few (made_of t out) are.kinds fit.credit
       fit.action.sent.credit are.credit (λ ids args. IsMovable ids × IsPlace args) IsFitDue (λ target ids at low high most. ((low, high), (at, most, refl)))
-      (λ m shape credit moves. record { sent = record { shape = shape; credit = credit }; moves = moves }) (λ bytes. tt)
+      may_be_due (λ bytes. tt)
 
   pub planned_of : (s : Stock) → IsStock t job out s
       → IsPlanned HasRightCredit HasCredit IsFitDue bare_due job.state job.action (made_of t out) out s

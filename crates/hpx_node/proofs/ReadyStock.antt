@@ -1,30 +1,15 @@
 -- With the last credit in its place, what a commit deals may be dealt.
-use Rattle.hpx_node.proofs.Common.{Bool, HasCredit, HasRightCredit, HasSplit, Id, IsCommit, IsPaused, IsShort, IsStock, KeepsLaws, List, None, Option, Some, Tables, Waits, [], and_true, ap, arith, awaits, bare, brings_right, cases_Bool, come_long, come_short, come_stock, cond, eqb-true, false, find, hand_with, id_at, ids_named, inl, inr, is_asked, is_asked_for, is_last, is_managed, is_some, length, list_any, log_of, made_of, ne_eqb, not, put_for, refilled, refl, remove, set, slice_get, still_commit, still_split, stock_with, subst, suc, sym, true, waits_for_one, waits_managed, ℕ, ◌&&◌, ◌+◌, ◌==◌, ◌∙◌, ◌∷◌, ◌≡◌, ◌≤◌, ◌⊎◌}
-use Rattle.hpx_node.proofs.Continued.{less_long, none_long, none_some, off}
+use Rattle.hpx_node.proofs.Common.{Bool, HasCredit, HasRightCredit, Id, IsPaused, IsShort, IsStock, KeepsLaws, List, None, Option, Refills, Some, Tables, Waits, [], ap, awaits, bare, brings_right, cases_Bool, come_long, come_short, come_stock, cond, eqb-true, false, hand_with, id_at, ids_named, inl, inr, is_asked, is_asked_for, is_last, is_managed, is_some, length, log_of, made_of, ne_eqb, not, put_for, refilled, refl, remove, set, stock_with, subst, sym, true, waits_for_one, waits_managed, ℕ, ◌&&◌, ◌+◌, ◌==◌, ◌∙◌, ◌≡◌, ◌≤◌, ◌⊎◌}
+use Rattle.hpx_node.proofs.Given.{IsStill, last_parts, none_asked, still}
 use Rattle.hpx_node.proofs.Planned.{AreMade, made_of_job, rights}
 use Rattle.hpx_node.proofs.LeftFailed.{given}
-use Rattle.hpx_node.proofs.Paused.{commit_of}
+use Rattle.hpx_commit.proofs.Lists.{Found, any_place}
 
 -- with these ids in its hand, what a commit deals may be dealt
 pub record IsStockReady (t : Tables) (w : Waits) (hand : List Id) : Type 0 where
   pub stock : IsStock t w.job w.outcome (stock_with t w hand)
   pub long : length (ids_named w) + length (made_of t w.outcome) ≤ length hand
   pub short : length hand ≤ 1024
-
--- what passes is found at a place
-pub record Found {X : Type 0} (p : X → Bool) (xs : List X) : Type 0 where
-  pub k : ℕ
-  pub x : X
-  pub there : slice_get xs k ≡ Some x
-  pub passes : p x ≡ true
-  pub found : find p xs ≡ Some x
-
-pub any_place : {X : Type 0} (p : X → Bool) (xs : List X) → list_any p xs ≡ true → Found p xs
-any_place p [] h = absurd (cc)
-any_place p (x ∷ xs) h = elim (cases_Bool (p x)) [
-  | inl t ↦ record { k = 0; x = x; there = refl; passes = t; found = rw t refl }
-  | inr f ↦ let rest = any_place p xs (rw f at h) in record { k = suc rest.k; x = rest.x; there = rest.there; passes = rest.passes; found = rw f rest.found }
-]
 
 -- an id that did not last came with the credit of a new object
 has_come : (log : ℕ) (refused : Option Id) (id : Id) → is_asked id ≡ false → is_managed id ≡ true → IsShort log refused id → refused ≡ None → id.log ≡ Some log
@@ -43,39 +28,32 @@ module _ (t : Tables) (w : Waits) (id : Id) (entry : ℕ) (paused : IsPaused t.h
   abbrev now : Waits
   now = refilled f.k f.x.place id w
 
-  its : IsCommit t.here t.localities (refilled f.k f.x.place id w)
-  its = still_commit t.here t.localities t.profile.credit_log w f.k f.x id entry (commit_of _ _ _ t.objects w paused) paused.split f.there f.passes credit brings
+  refills : Refills id entry w (refilled f.k f.x.place id w)
+  refills = record { k = f.k; ask = f.x; first = f.found; there = f.there; for = f.passes; now = refl }
 
-  still : HasSplit t.profile.credit_log (refilled f.k f.x.place id w)
-  still = still_split t.here t.localities t.profile.credit_log w f.k f.x id entry (commit_of _ _ _ t.objects w paused) paused.split f.there f.passes credit brings
+  k : IsStill t (refilled f.k f.x.place id w)
+  k = still t w now id entry paused refills credit brings
 
-  parts : (not (log_of id.log == 0) ≡ true) × (waits_for_one w ≡ true)
-  parts = and_true (not (log_of id.log == 0)) (waits_for_one w) last
+  parts : ((log_of id.log == 0) ≡ false) × ((length w.asked == 1) ≡ true) × (w.refused ≡ None)
+  parts = last_parts id w last
 
   none_left : remove w.asked f.k ≡ []
-  none_left = none_long (remove w.asked f.k) (omega (
-    arith,
-    less_long w.asked f.k f.x f.there,
-    eqb-true (length w.asked) 1 (and_true (length w.asked == 1) (not (is_some w.refused)) parts.1).0,
-  ))
+  none_left = none_asked w now id entry refills parts.1
 
   none_refused : cond (log_of id.log == 0) (Some (bare id)) w.refused ≡ None
-  none_refused =
-      ap (λ b. cond b (Some (bare id)) w.refused) (off (log_of id.log == 0) parts.0)
-      ∙ none_some w.refused (and_true (length w.asked == 1) (not (is_some w.refused)) parts.1).1
+  none_refused = ap (λ b. cond b (Some (bare id)) w.refused) parts.0 ∙ parts.2
 
   are : AreMade t.profile.credit_log w.outcome.makes (made_of t w.outcome)
-  are = made_of_job t.localities t w.job w.outcome laws its.job
+  are = made_of_job t.localities t w.job w.outcome laws k.its.job
 
   stock : IsStock t w.job w.outcome (stock_with t w (set w.hand f.x.place id))
   stock =
-      let deals = come_stock HasRightCredit HasCredit rights t.localities w.job.kind w.job.at w.job.state w.job.action w.outcome laws few its.job.state its.job.action.sent.shape its.job.credit
-      its.job.action.sent.credit (made_of t w.outcome) are.kinds are.credit still.made now.hand w.places t.profile.credit_log still.kinds still.places still.rest its.hand log are.logs
-      still.own (λ p lt h. has_come t.profile.credit_log now.refused (id_at now.hand p) (given t.here t.localities t.profile.credit_log now its still none_left p lt)
-      (waits_managed HasRightCredit HasCredit rights t.localities w.job.kind w.job.at w.job.state w.job.action w.outcome laws few its.job.state its.job.action.sent.shape its.job.credit
-      its.job.action.sent.credit (made_of t w.outcome) are.kinds are.credit still.made now.hand w.places t.profile.credit_log still.kinds still.places still.rest its.hand p lt h)
-      (still.short p lt h) none_refused) in
-      record { names = deals.names; credit = deals.credit; few = deals.few; lasts = deals.lasts }
+      come_stock HasRightCredit HasCredit rights t.localities w.job.kind w.job.at w.job.state w.job.action w.outcome laws few k.its.job.state k.its.job.action.sent.shape k.its.job.credit
+      k.its.job.action.sent.credit (made_of t w.outcome) are.kinds are.credit k.split.made now.hand w.places t.profile.credit_log k.split.kinds k.split.places k.split.rest k.its.hand log are.logs
+      k.split.own (λ p lt h. has_come t.profile.credit_log now.refused (id_at now.hand p) (given t.here t.localities t.profile.credit_log now k.its k.split none_left p lt)
+      (waits_managed HasRightCredit HasCredit rights t.localities w.job.kind w.job.at w.job.state w.job.action w.outcome laws few k.its.job.state k.its.job.action.sent.shape k.its.job.credit
+      k.its.job.action.sent.credit (made_of t w.outcome) are.kinds are.credit k.split.made now.hand w.places t.profile.credit_log k.split.kinds k.split.places k.split.rest k.its.hand p lt h)
+      (k.split.short p lt h) none_refused)
 
   hand_is : set w.hand f.x.place id ≡ hand_with id entry w
   hand_is = sym (ap (put_for w.hand id) f.found)
@@ -85,13 +63,13 @@ module _ (t : Tables) (w : Waits) (id : Id) (entry : ℕ) (paused : IsPaused t.h
 
   ready_long : length (ids_named w) + length (made_of t w.outcome) ≤ length (hand_with id entry w)
   ready_long = subst (λ (xs : List Id). length (ids_named w) + length (made_of t w.outcome) ≤ length xs) hand_is
-      (come_long HasRightCredit HasCredit rights t.localities w.job.kind w.job.at w.job.state w.job.action w.outcome laws few its.job.state its.job.action.sent.shape its.job.credit
-      its.job.action.sent.credit (made_of t w.outcome) are.kinds are.credit still.made now.hand w.places t.profile.credit_log still.kinds still.places still.rest its.hand)
+      (come_long HasRightCredit HasCredit rights t.localities w.job.kind w.job.at w.job.state w.job.action w.outcome laws few k.its.job.state k.its.job.action.sent.shape k.its.job.credit
+      k.its.job.action.sent.credit (made_of t w.outcome) are.kinds are.credit k.split.made now.hand w.places t.profile.credit_log k.split.kinds k.split.places k.split.rest k.its.hand)
 
   ready_short : length (hand_with id entry w) ≤ 1024
   ready_short = subst (λ (xs : List Id). length xs ≤ 1024) hand_is
-      (come_short HasRightCredit HasCredit rights t.localities w.job.kind w.job.at w.job.state w.job.action w.outcome laws few its.job.state its.job.action.sent.shape its.job.credit
-      its.job.action.sent.credit (made_of t w.outcome) are.kinds are.credit still.made now.hand w.places t.profile.credit_log still.kinds still.places still.rest its.hand)
+      (come_short HasRightCredit HasCredit rights t.localities w.job.kind w.job.at w.job.state w.job.action w.outcome laws few k.its.job.state k.its.job.action.sent.shape k.its.job.credit
+      k.its.job.action.sent.credit (made_of t w.outcome) are.kinds are.credit k.split.made now.hand w.places t.profile.credit_log k.split.kinds k.split.places k.split.rest k.its.hand)
 
   pub is_ready : IsStockReady t w (hand_with id entry w)
   is_ready = record { stock = ready_stock; long = ready_long; short = ready_short }

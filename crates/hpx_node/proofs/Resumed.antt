@@ -4,6 +4,13 @@ use Rattle.hpx_node.proofs.Committing.{all_committed, all_written}
 use Rattle.hpx_node.proofs.FewEntries.{at_all_length}
 use Rattle.hpx_node.proofs.Turns.{grown_weighs}
 
+-- the commit at i has gone on, and is short and light
+pub record HasResumed (t : Tables) (i j : ℕ) (t' : Tables) (e e' : List Entry) : Type 0 where
+  pub writes : (v : Waits) → slice_get t.pending i ≡ Some v → Writes (committed_from t v.job v.outcome (full_stock t v)) t t' e e'
+  pub commits : (v : Waits) → slice_get t.pending i ≡ Some v → Commits v.job v.outcome (full_stock t v) j (record t { pending = remove t.pending i }) t'
+  pub few : length e' ≤ length e + 596
+  pub light : total_weight e' ≤ total_weight e + 2380288
+
 module _ (t : Tables) (w : Waits) (i j : ℕ) (p : Prepared) (there : slice_get t.pending i ≡ Some w) (may : MayResume t w j p)
     (t1 t2 : Tables) (made : Makes p.births.items [] t t1) (pending : t2.pending ≡ remove t1.pending i)
     (objects : (x : Standing) → slice_get t1.objects j ≡ Some x → t2.objects ≡ set t1.objects j (record { object = x.object; state = p.plan.state }))
@@ -26,36 +33,30 @@ module _ (t : Tables) (w : Waits) (i j : ℕ) (p : Prepared) (there : slice_get 
   all = all_written t w.job w.outcome p may.prepared j may.place.standing may.place.stands t.running (remove t.pending i) t1 t2 made objects rest_is e0 e1 e2 e3 first
       (done w still_waits) left
 
-  pub resumed_written : (v : Waits) → slice_get t.pending i ≡ Some v → Writes (committed_from t v.job v.outcome (full_stock t v)) t t3 e0 e3
-  resumed_written v at =
-      subst (λ u. Writes (committed_from t u.job u.outcome (full_stock t u)) t t3 e0 e3) (some_same w v (sym there ∙ at)) (record {
-        here = ap (λ (x : Tables). x.here) sends ∙ (ap (λ (x : Tables). x.here) rest ∙ ap (λ (x : Tables). x.here) made.rest);
-        localities = ap (λ (x : Tables). x.localities) sends ∙ (ap (λ (x : Tables). x.localities) rest ∙ ap (λ (x : Tables). x.localities) made.rest);
-        profile = ap (λ (x : Tables). x.profile) sends ∙ (ap (λ (x : Tables). x.profile) rest ∙ ap (λ (x : Tables). x.profile) made.rest);
-        grows = all ∙ ap (λ s. e0 ++ at_all t.here (committed_from t w.job w.outcome s)) may.stock;
-      })
-
-  pub resumed_commits : (v : Waits) → slice_get t.pending i ≡ Some v → Commits v.job v.outcome (full_stock t v) j (record t { pending = remove t.pending i }) t3
-  resumed_commits v at =
-      subst (λ u. Commits u.job u.outcome (full_stock t u) j (record t { pending = remove t.pending i }) t3) (some_same w v (sym there ∙ at)) (record {
-        standing = may.place.standing;
-        stands = may.place.stands;
-        found = may.place.found;
-        goes = all_committed t w.job w.outcome p may.prepared j may.place.standing may.place.stands t.running (remove t.pending i) t1 t2 made objects rest_is t3 goes
-            ∙ ap (λ (s : Stock). committed_to w.job w.outcome s j may.place.standing (record t { pending = remove t.pending i })) may.stock;
-      })
-
-  pub resumed_few : length e3 ≤ length e0 + 596
-  resumed_few = omega (
-    arith,
-    ap (λ (es : List Entry). length es) all,
-    length-append e0 (at_all t.here (committed_from t w.job w.outcome p.stock)),
-    at_all_length t.here (committed_from t w.job w.outcome p.stock),
-    may.prepared.limits.entries,
-  )
-
-  pub resumed_light : total_weight e3 ≤ total_weight e0 + 2380288
-  resumed_light = omega (arith, grown_weighs t.here (committed_from t w.job w.outcome p.stock) e0 e3 all, may.prepared.limits.light)
+  pub resumed : HasResumed t i j t3 e0 e3
+  resumed = record {
+    writes = λ v at. subst (λ u. Writes (committed_from t u.job u.outcome (full_stock t u)) t t3 e0 e3) (some_same w v (sym there ∙ at)) (record {
+      here = ap (λ (x : Tables). x.here) sends ∙ (ap (λ (x : Tables). x.here) rest ∙ ap (λ (x : Tables). x.here) made.rest);
+      localities = ap (λ (x : Tables). x.localities) sends ∙ (ap (λ (x : Tables). x.localities) rest ∙ ap (λ (x : Tables). x.localities) made.rest);
+      profile = ap (λ (x : Tables). x.profile) sends ∙ (ap (λ (x : Tables). x.profile) rest ∙ ap (λ (x : Tables). x.profile) made.rest);
+      grows = all ∙ ap (λ s. e0 ++ at_all t.here (committed_from t w.job w.outcome s)) may.stock;
+    });
+    commits = λ v at. subst (λ u. Commits u.job u.outcome (full_stock t u) j (record t { pending = remove t.pending i }) t3) (some_same w v (sym there ∙ at)) (record {
+      standing = may.place.standing;
+      stands = may.place.stands;
+      found = may.place.found;
+      goes = all_committed t w.job w.outcome p may.prepared j may.place.standing may.place.stands t.running (remove t.pending i) t1 t2 made objects rest_is t3 goes
+          ∙ ap (λ (s : Stock). committed_to w.job w.outcome s j may.place.standing (record t { pending = remove t.pending i })) may.stock;
+    });
+    few = omega (
+      arith,
+      ap (λ (es : List Entry). length es) all,
+      length-append e0 (at_all t.here (committed_from t w.job w.outcome p.stock)),
+      at_all_length t.here (committed_from t w.job w.outcome p.stock),
+      may.prepared.limits.entries,
+    );
+    light = omega (arith, grown_weighs t.here (committed_from t w.job w.outcome p.stock) e0 e3 all, may.prepared.limits.light);
+  }
 
 -- its object keeps its form
 pub resumed_kept : (t : Tables) (w : Waits) (j : ℕ) (p : Prepared) (may : MayResume t w j p) (t1 : Tables) → slice_get t1.objects j ≡ Some may.place.standing

@@ -1,14 +1,8 @@
 -- Memory is made, and nothing else changes.
-use Rattle.hpx_node.proofs.Common.{Book, Broken, Entry, Err, Event, In, List, Mail, None, Ok, OnOk, OnlySpare, Option, Parcel, Result, Tables, Writes, ap, arith, at_all, broken, broken_near, effects, false, get_or, kind_of, min, near_right, subst, sym, ℕ, ◌++◌, ◌-◌, ◌∙◌, ◌∷◌, ◌≡◌, ◌≤◌}
-use Rattle.std.specs.Result.{is_err}
-use Rattle.hpx_node.proofs.Arrived.{effects_desk}
+use Rattle.hpx_node.proofs.Common.{Book, Broken, Entry, Event, In, List, Mail, None, OnlySpare, Option, Parcel, Tables, Writes, ap, arith, at_all, broken, broken_near, effects, get_or, kind_of, min, near_right, subst, sym, ℕ, ◌++◌, ◌-◌, ◌∙◌, ◌∷◌, ◌≡◌, ◌≤◌}
+use Rattle.hpx_node.proofs.Arrived.{effects_same}
 use Rattle.hpx_node.proofs.Right.{near_popped}
 use Rattle.hpx_node.proofs.Same.{writes_then}
-
--- what is said of an answer that is no error
-pub when_ok : {X E : Type 0} (answer : Result X E) (P : Type 0) → is_err answer ≡ false → OnOk answer P → P
-when_ok (Ok x) P fine h = h
-when_ok (Err e) P fine h = absurd (cc)
 
 -- a message less on the desk leaves no less memory
 pub spare_popped : (n accepted capacity long capacity' long' rest : ℕ) → n ≤ min (min accepted (capacity - long)) rest → capacity' ≡ capacity → long' ≤ long
@@ -38,7 +32,7 @@ pub cleared_writes : (t m t' u : Tables) (b n : Book) (p : Parcel) (rest : List 
     → Writes (Mail (kind_of p) ∷ (effects t p ++ more)) t u b.entries later
 cleared_writes t m t' u b n p rest entries later more same writes wrote =
     let events : effects (record m { desk = rest }) p ≡ effects t p =
-    effects_desk m rest p ∙ ap (λ (y : Tables). effects y p) same.tables in
+    effects_same m m.taken rest p ∙ ap (λ (y : Tables). effects y p) same.tables in
     let here : m.here ≡ t.here = ap (λ (u : Tables). u.here) same.tables in
     writes_then (Mail (kind_of p) ∷ effects t p) more t t' u b.entries entries later
     (record {

@@ -1,9 +1,9 @@
 -- A message is taken up, dealt with, and what follows it is done: all that holds goes on to hold.
-use Rattle.hpx_node.proofs.Common.{Accepts, Act, Book, Broken, DealsWith, Entry, HasFollowed, HasRoom, In, IsNext, IsParcel, IsTidy, Leaves, List, Mail, MayFollow, Next, None, OnlySpare, Option, Outcome, Parcel, Some, Stands, StandsAtRest, State, Tables, Writes, [], ap, arith, bare_act, bare_state, broken, desk_accepts, desk_leads, desk_stands, effects, frame_leads, frame_stands, get_or, inl, inr, kind_of, message_of, named, near_right, parcel_of, refl, rest_stands, rules_of, subst, sym, ℕ, ◌++◌, ◌+◌, ◌<◌, ◌^◌, ◌∙◌, ◌∷◌, ◌≡◌, ◌≤◌}
+use Rattle.hpx_node.proofs.Common.{Accepts, Act, AllByRecursion, Book, Broken, DealsWith, Entry, HasFollowed, HasRoom, In, IsNext, IsParcel, IsTidy, Leaves, List, Mail, MayFollow, Next, None, OnlySpare, Option, Outcome, Outgoing, Parcel, Some, Stands, StandsAtRest, State, Tables, Writes, [], ap, arith, bare_act, bare_state, broken, desk_accepts, desk_leads, desk_stands, effects, frame_leads, frame_stands, get_or, inl, inr, kind_of, map, message_of, named, near_right, parcel_of, refl, rest_stands, rules_of, subst, sym, ℕ, ◌++◌, ◌+◌, ◌<◌, ◌^◌, ◌∙◌, ◌∷◌, ◌≡◌, ◌≤◌}
 use Rattle.hpx_node.specs.Handled.{Clears, Takes}
 use Rattle.hpx_node.proofs.Arrived.{deals_rest, ins_few, leaves_from}
 use Rattle.hpx_node.proofs.Continued.{IsGiven, given_frame, given_mail}
-use Rattle.hpx_node.proofs.Followed.{IsRight, is_continued, may_follow}
+use Rattle.hpx_node.proofs.Followed.{IsRight, is_continued, may_follow, next_first}
 use Rattle.hpx_node.proofs.Right.{no_travel}
 use Rattle.hpx_node.proofs.Spared.{cleared_writes, first_there, none_here, took_writes}
 
@@ -33,15 +33,22 @@ are_few act_of t entries room h =
 pub asked_few : (act_of : ℕ → ℕ → ℕ → State → Act → Outcome) (t : Tables) (entries : List Entry) → HasRoom entries → Stands act_of t entries → t.asked + 1024 < 2 ^ 64
 asked_few act_of t entries room h = let k = (at_rest act_of t entries h).stands in omega (arith, k.asked, room.entries)
 
--- they stay, where a message is dealt with
-pub still_few : (t u mid : Tables) (p : Parcel) → AreFew t → DealsWith p u mid → u.births ≡ t.births → u.serial ≡ t.serial → u.answered ≡ t.answered
-    → (mid.births + 1024 < 2 ^ 32) × (mid.serial + 1024 < 2 ^ 64) × (mid.answered + 1 < 2 ^ 64)
-still_few t u mid p few deals births serial answered =
-    let rest = deals_rest p u mid deals in (
-      omega (arith, few.births, births, ap (λ (x : Tables). x.births) rest),
-      omega (arith, few.serial, serial, ap (λ (x : Tables). x.serial) rest),
-      omega (arith, few.answers, answered, ap (λ (x : Tables). x.answered) rest),
-    )
+-- once a message is dealt with this may follow, and the numbers stay few
+pub record FollowsOn (mid : Tables) (x : Next) : Type 0 where
+  pub may : MayFollow mid x
+  pub births : mid.births + 1024 < 2 ^ 32
+  pub serial : mid.serial + 1024 < 2 ^ 64
+  pub answers : mid.answered + 1 < 2 ^ 64
+
+follows_on : (t s u mid : Tables) (p : Parcel) (x : Next) → AreFew t → s ≡ t → DealsWith p u mid → u.births ≡ s.births → u.serial ≡ s.serial
+    → u.answered ≡ s.answered → MayFollow mid x → FollowsOn mid x
+follows_on t s u mid p x few same deals births serial answered may =
+    let rest = deals_rest p u mid deals in record {
+      may = may;
+      births = omega (arith, few.births, births, ap (λ (y : Tables). y.births) rest, ap (λ (y : Tables). y.births) same);
+      serial = omega (arith, few.serial, serial, ap (λ (y : Tables). y.serial) rest, ap (λ (y : Tables). y.serial) same);
+      answers = omega (arith, few.answers, answered, ap (λ (y : Tables). y.answered) rest, ap (λ (y : Tables). y.answered) same);
+    }
 
 -- ---- a frame
 
@@ -54,8 +61,9 @@ module _ (act_of : ℕ → ℕ → ℕ → State → Act → Outcome) (t s mid :
   gives : IsGiven p (record t { taken = t.taken + 1; desk = t.desk }) mid
   gives = given_frame t s mid p same.tables deals
 
-  pub frame_follows : MayFollow mid x
-  frame_follows = may_follow act_of t (t.taken + 1) t.desk mid p x is_right next gives
+  pub frame_follows : HasRoom b.entries → FollowsOn mid x
+  frame_follows room = follows_on t s (record s { taken = s.taken + 1 }) mid p x (are_few act_of t b.entries room h) same.tables deals refl refl refl
+      (may_follow act_of t (t.taken + 1) t.desk mid p x is_right next gives)
 
   module _ (blind : (n kind here : ℕ) (s : State) (a : Act) → act_of n kind here s a ≡ act_of n kind here (bare_state s) (named 0 0 (message_of (bare_act a))))
       (lasts : 1 ≤ t.profile.credit_log) (bytes frame : List ℕ) (entries later : List Entry) (copy : bytes ≡ frame) (spelled : parcel_of frame ≡ Some p)
@@ -87,11 +95,17 @@ module _ (act_of : ℕ → ℕ → ℕ → State → Act → Outcome) (t s mid :
 
 -- ---- a message from the desk
 
-module _ (act_of : ℕ → ℕ → ℕ → State → Act → Outcome) (t m mid : Tables) (b n : Book) (p q : Parcel) (rest : List Parcel) (o : Option Broken) (x : Next)
-    (same : OnlySpare t m b n) (fit : IsParcel p) (first : m.desk ≡ p ∷ rest) (is : q ≡ get_or t.desk 0 q) (told : o ≡ broken t q) (none : o ≡ None)
-    (next : IsNext act_of t p x) (deals : DealsWith p (record m { desk = rest }) mid) (h : Stands act_of t b.entries) where
+module _ (act_of : ℕ → ℕ → ℕ → State → Act → Outcome) (t m mid : Tables) (b n : Book) (p q again : Parcel) (rest : List Parcel) (o : Option Broken) (x : Next)
+    (same : OnlySpare t m b n) (first : m.desk ≡ p ∷ rest) (is : q ≡ get_or t.desk 0 q) (told : o ≡ broken t q) (none : o ≡ None)
+    (looked : again ≡ get_or t.desk 0 again) (seen : IsNext act_of t again x) (deals : DealsWith p (record m { desk = rest }) mid) (h : Stands act_of t b.entries) where
   first_is : t.desk ≡ p ∷ rest
   first_is = first_there t m p q rest o same.tables first is told none
+
+  fit : IsParcel p
+  fit = (subst (AllByRecursion IsParcel) (ap (λ ds. ds ++ map (λ (y : Outgoing). y.parcel) t.outgoing) first_is) (at_rest_tidy act_of t b.entries h).messages).0
+
+  pub desk_next : IsNext act_of t p x
+  desk_next = next_first act_of t m p again rest x same.tables first looked seen
 
   its_right : broken t p ≡ None
   its_right = none_here t m p q rest o same.tables first is told none
@@ -102,8 +116,9 @@ module _ (act_of : ℕ → ℕ → ℕ → State → Act → Outcome) (t m mid :
   mail_gives : IsGiven p (record t { taken = t.taken; desk = rest }) mid
   mail_gives = given_mail t m mid p rest same.tables deals
 
-  pub desk_follows : MayFollow mid x
-  desk_follows = may_follow act_of t t.taken rest mid p x mail_is_right next mail_gives
+  pub desk_follows : HasRoom b.entries → FollowsOn mid x
+  desk_follows room = follows_on t m (record m { desk = rest }) mid p x (are_few act_of t b.entries room h) same.tables deals refl refl refl
+      (may_follow act_of t t.taken rest mid p x mail_is_right desk_next mail_gives)
 
   module _ (blind : (n kind here : ℕ) (s : State) (a : Act) → act_of n kind here s a ≡ act_of n kind here (bare_state s) (named 0 0 (message_of (bare_act a))))
       (lasts : 1 ≤ t.profile.credit_log) (entries later : List Entry)
@@ -116,7 +131,7 @@ module _ (act_of : ℕ → ℕ → ℕ → State → Act → Outcome) (t m mid :
         let accepts : Accepts p (record t { desk = rest }) mid = desk_accepts act_of t mid b.entries h lasts p rest first_is its_right there in
         let left : Leaves p t mid =
         leaves_from p t (record m { desk = rest }) mid (ap (λ (v : Tables). v.records) same.tables) (ap (λ (v : Tables). v.profile) same.tables) (ap (λ (v : Tables). v.objects) same.tables) leaves in
-        let k = is_continued act_of blind t t.taken rest [] (p ∷ []) (Some (Mail (kind_of p))) mid t' entries later p x next (inr (refl, refl)) mail_is_right mail_gives
+        let k = is_continued act_of blind t t.taken rest [] (p ∷ []) (Some (Mail (kind_of p))) mid t' entries later p x desk_next (inr (refl, refl)) mail_is_right mail_gives
         (λ other. desk_leads act_of t mid b.entries h lasts p rest first_is its_right other accepts left) running followed in
         let wrote = cleared_writes t m mid t' b n p rest entries later k.more same writes k.writes in (
           record {

@@ -1,5 +1,5 @@
 -- A commit begins to wait, as the calls do it.
-use Rattle.hpx_node.proofs.Common.{Act, AllByRecursion, AllLast, AreWithin, Ask, Begins, Entry, Err, HasCredit, HasLeastCredit, HasRightCredit, HasSplit, Id, IfOk, IsAt, IsBefore, IsFitJob, IsKept, IsState, IsTidy, Job, KeepsLaws, Lasting, List, Ok, Outcome, Pauses, Result, Some, Standing, Stands, State, Stock, Tables, Waits, [], action_few, ahead, all_at, ap, append_assoc, arith, asked_at, asked_events, at_all, at_all_append, bare, bare_state, drop, first_cuts, get_or, hand_before, hand_ids, hand_kinds, hand_of, id_at, inl, is_managed, lacking, length, length-append, length-map, made_of, managed_same, managed_there, map, none_short, own_many, places_in_hand, places_named, refl, remove, set, short_before, short_places, slice_get, some_same, split_stock, splits_before, stock_before, subst, sym, take, take_more, true, waits_with, with_asks, with_mail, ℕ, ◌++◌, ◌+◌, ◌<◌, ◌∙◌, ◌∷◌, ◌≡◌, ◌≤◌}
+use Rattle.hpx_node.proofs.Common.{Act, AllByRecursion, AllLast, AreWithin, Ask, Begins, Entry, HasCredit, HasLeastCredit, HasRightCredit, HasSplit, Id, IsAt, IsBefore, IsFitJob, IsKept, IsState, IsTidy, Job, KeepsLaws, Lasting, List, Outcome, Pauses, Some, Standing, Stands, State, Stock, Tables, Waits, [], action_few, ahead, all_at, ap, append_assoc, arith, asked_at, asked_events, at_all, at_all_append, bare, bare_state, drop, first_cuts, get_or, hand_before, hand_kinds, hand_of, id_at, inl, is_managed, lacking, length, length-append, length-map, made_of, managed_same, managed_there, map, none_short, own_many, places_in_hand, places_named, refl, remove, set, short_before, short_places, slice_get, some_same, split_stock, splits_before, stock_before, subst, sym, take, take_more, true, waits_with, with_asks, with_mail, ℕ, ◌++◌, ◌+◌, ◌<◌, ◌∙◌, ◌∷◌, ◌≡◌, ◌≤◌}
 use Rattle.hpx_commit.proofs.Stripped.{short_few, stripped_behind, stripped_places}
 use Rattle.hpx_node.specs.declared.node.wait.Before.{Before}
 use Rattle.hpx_steps.proofs.Waiting.{asks_rest, wait_stands}
@@ -128,15 +128,11 @@ module _ (n : ℕ) (t : Tables) (job : Job) (out : Outcome) (laws : KeepsLaws n 
 pub split_by : (t : Tables) (job : Job) (out : Outcome) (own : ℕ) (hand : List Id) (places : List ℕ) (s : Stock)
     → s ≡ ahead own (record { hand = hand; places = places }) → own ≡ own_many job → hand ≡ hand_before t job out → places ≡ places_in_hand t job out
     → s ≡ split_stock t job out
-split_by t job out own hand places s is many same named =
-    is
-    ∙ (ap (λ k. ahead k (record { hand = hand; places = places })) many
-    ∙ (ap (λ xs. ahead (own_many job) (record { hand = xs; places = places })) same
-    ∙ ap (λ ps. ahead (own_many job) (record { hand = hand_before t job out; places = ps })) named))
+split_by t job out own hand places s is many same named = is ∙ rw (many, same, named)
 
 pub short_by : (t : Tables) (job : Job) (out : Outcome) (own : ℕ) (s : Stock) (short : List ℕ) → short ≡ short_places own s → own ≡ own_many job
     → s ≡ split_stock t job out → short ≡ short_before t job out
-short_by t job out own s short is many same = is ∙ (ap (λ k. short_places k s) many ∙ ap (short_places (own_many job)) same)
+short_by t job out own s short is many same = is ∙ rw (many, same)
 
 module _ (t : Tables) (job : Job) (out : Outcome) (b : Before) (is : IsBefore t job out b) where
   pub before_own : b.own ≤ length b.hand.items
@@ -156,75 +152,57 @@ module _ (t : Tables) (job : Job) (out : Outcome) (b : Before) (is : IsBefore t 
       let same : x.state ≡ job.state = ap (λ (y : Standing). y.state) (some_same x at.standing (sym stands ∙ at.stands)) ∙ at.state in
       subst (λ s. IsKept (record { object = x.object; state = s })) (sym is.state) (lent_kept x job.state kept same fit.state)
 
-  module _ (fit : IsFitJob job) (few : t.localities ≤ 64) (laws : KeepsLaws t.localities job.kind job.at job.state job.action out) where
+  module _ (n : ℕ) (laws : KeepsLaws n job.kind job.at job.state job.action out) (fit : IsFitJob job) where
     pub before_short : length (first_cuts b.own 0 b.hand.items b.places.items) ≤ 192
-    before_short =
-        subst (λ (ps : List ℕ). length (first_cuts b.own 0 b.hand.items ps) ≤ 192) (sym is.places)
-        (subst (λ (ids : List Id). length (first_cuts b.own 0 ids (places_in_hand t job out)) ≤ 192) (sym is.hand)
-        (omega (
-          arith,
-          first_few b.own 0 (hand_ids job.state job.action (map bare (made_of t out))) (hand_ids job.state job.action (made_of t out))
-              (places_in_hand t job out) (hands_long t.localities t job out laws fit),
-          own_cuts t job out fit few laws,
-        )))
+    before_short = rw (is.places, is.hand) (omega (
+      arith,
+      first_few b.own 0 (hand_before t job out) (hand_of t job out) (places_in_hand t job out) (hands_long n t job out laws fit),
+      own_cuts n t job out laws fit,
+    ))
 
     pub lacks_few : length b.lacking.items ≤ 162
     lacks_few = omega (
       arith,
       ap (λ (xs : List Id). length xs) is.lacking,
       length-map (short_before t job out) (id_at (split_stock t job out).hand),
-      short_many t.localities t job out laws fit,
+      short_many n t job out laws fit,
     )
 
     pub before_least : AllByRecursion HasLeastCredit b.lacking.items
-    before_least = subst (AllByRecursion HasLeastCredit) (sym is.lacking)
-        (all_map HasLeastCredit (id_at (split_stock t job out).hand) (short_before t job out) (least_split t.localities t job out laws fit))
+    before_least = rw is.lacking (all_map HasLeastCredit (id_at (split_stock t job out).hand) (short_before t job out) (least_split n t job out laws fit))
 
 -- so it begins to wait, and all that holds goes on to hold
-pub begins_by : (act_of : ℕ → ℕ → ℕ → State → Act → Outcome) (t m t' : Tables) (job : Job) (out : Outcome) (localities : ℕ) (b : Before) (i j : ℕ) (w : Waits)
-    (e0 e1 : List Entry) → IsFitJob job → t.localities ≤ 64 → KeepsLaws t.localities job.kind job.at job.state job.action out → IsBefore t job out b
-    → localities ≡ t.localities → job.at < localities → w ≡ waits_with job out localities b.asked.items b.stock → Pauses i j job w t m
+pub begins_by : (act_of : ℕ → ℕ → ℕ → State → Act → Outcome) (t m t' : Tables) (job : Job) (out : Outcome) (n : ℕ) (b : Before) (i j : ℕ) (w : Waits)
+    (e0 e1 : List Entry) → IsFitJob job → t.localities ≤ 64 → KeepsLaws n job.kind job.at job.state job.action out → IsBefore t job out b
+    → n ≡ t.localities → job.at < n → w ≡ waits_with job out n b.asked.items b.stock → Pauses i j job w t m
     → t' ≡ record (with_asks m.here m.asked b.lacking.items m) { asked = m.asked + length b.lacking.items }
     → e1 ≡ (e0 ++ at_all t.here (first_cuts b.own 0 b.hand.items b.places.items)) ++ at_all t.here (asked_events b.lacking.items)
     → 1 ≤ length (lacking t job out) → Stands act_of t e0 → Stands act_of t' e1 × Begins t t' job out e0 e1
-begins_by act_of t m t' job out localities b i j w e0 e1 fit few laws is n below w_is pauses asked cut some h =
-    let later : List Id = map bare (made_of t out) in
-    let places : List ℕ = places_in_hand t job out in
+begins_by act_of t m t' job out n b i j w e0 e1 fit few laws is near below w_is pauses asked cut some h =
     let ids : List Id = lacking t job out in
-    let within = within_hand t.localities t job out laws fit in
-    let same : w ≡ waits_with job out t.localities (asked_at t.asked (short_before t job out)) (stock_before t job out) =
-    w_is
-    ∙ (ap (λ k. waits_with job out k b.asked.items b.stock) n
-    ∙ (ap (λ xs. waits_with job out t.localities xs b.stock) is.asked
-    ∙ ap (waits_with job out t.localities (asked_at t.asked (short_before t job out))) is.stock)) in
-    let now : Pauses i j job (waits_with job out t.localities (asked_at t.asked (short_before t job out)) (stock_before t job out)) t m =
-    subst (λ v. Pauses i j job v t m) same pauses in
-    let written : e1 ≡ e0 ++ at_all t.here (splits_before t job out ++ asked_events (lacking t job out)) =
-    cut
-    ∙ (ap (λ k. (e0 ++ at_all t.here (first_cuts k 0 b.hand.items b.places.items)) ++ at_all t.here (asked_events b.lacking.items)) is.own
-    ∙ (ap (λ xs. (e0 ++ at_all t.here (first_cuts (own_many job) 0 xs b.places.items)) ++ at_all t.here (asked_events b.lacking.items)) is.hand
-    ∙ (ap (λ ps. (e0 ++ at_all t.here (first_cuts (own_many job) 0 (hand_before t job out) ps)) ++ at_all t.here (asked_events b.lacking.items)) is.places
-    ∙ (ap (λ xs. (e0 ++ at_all t.here (splits_before t job out)) ++ at_all t.here (asked_events xs)) is.lacking
-    ∙ (append_assoc e0 (at_all t.here (splits_before t job out)) (at_all t.here (asked_events ids))
-    ∙ ap (λ es. e0 ++ es) (sym (at_all_append t.here (splits_before t job out) (asked_events ids)))))))) in
-    let asks : t' ≡ record (with_asks t.here t.asked (lacking t job out) m) { asked = t.asked + length (lacking t job out) } =
-    asked
-    ∙ (ap (λ xs. record (with_asks m.here m.asked xs m) { asked = m.asked + length xs }) is.lacking
-    ∙ ap (λ (y : Tables). record (with_asks y.here y.asked ids m) { asked = y.asked + length ids }) now.rest) in
-    let at = now.at in
     let v : Waits = waits_with job out t.localities (asked_at t.asked (short_before t job out)) (stock_before t job out) in
+    let now : Pauses i j job (waits_with job out t.localities (asked_at t.asked (short_before t job out)) (stock_before t job out)) t m =
+    subst (λ u. Pauses i j job u t m) (w_is ∙ rw (near, is.asked, is.stock)) pauses in
+    let written : e1 ≡ e0 ++ at_all t.here (splits_before t job out ++ asked_events (lacking t job out)) =
+    (rw (is.own, is.hand, is.places, is.lacking) at cut)
+    ∙ (append_assoc e0 (at_all t.here (splits_before t job out)) (at_all t.here (asked_events ids))
+    ∙ ap (λ es. e0 ++ es) (sym (at_all_append t.here (splits_before t job out) (asked_events ids)))) in
+    let asks : t' ≡ record (with_asks t.here t.asked (lacking t job out) m) { asked = t.asked + length (lacking t job out) } =
+    (rw is.lacking at asked) ∙ ap (λ (y : Tables). record (with_asks y.here y.asked ids m) { asked = y.asked + length ids }) now.rest in
+    let at = now.at in
     let waited : State → Tables = λ (s : State). record (with_asks t.here t.asked (lacking t job out) (record t {
       running = remove t.running i;
       objects = set t.objects j (record { object = at.standing.object; state = bare_state s });
       pending = t.pending ++ v ∷ [];
     })) { asked = t.asked + length (lacking t job out) } in
-    let stands = wait_stands act_of t e0 h i j job out at.standing at.runs at.stands at.found at.here (sym at.kind) (sym at.state)
-    (few, subst (λ k. job.at < k) n below) later (none_of later (made_of_job t.localities t job out laws fit).bare) places within
-    (least_split t.localities t job out laws fit) (omega (arith, some, length-map (short_before t job out) (id_at (split_stock t job out).hand))) (fresh_split t.localities t job out laws fit t.profile.credit_log t.localities t.asked) in
     let ends : t' ≡ waited at.standing.state =
     asks
     ∙ (ap (λ (y : Tables). record (with_asks t.here t.asked (lacking t job out) y) { asked = t.asked + length (lacking t job out) }) now.rest
-    ∙ ap waited (sym at.state)) in (
+    ∙ ap waited (sym at.state)) in
+    let stands = wait_stands act_of t e0 h i j job out at.standing at.runs at.stands at.found at.here (sym at.kind) (sym at.state)
+    (few, omega (arith, below, near)) (map bare (made_of t out)) (none_of (map bare (made_of t out)) (made_of_job n t job out laws fit).bare) (places_in_hand t job out)
+    (within_hand n t job out laws fit) (least_split n t job out laws fit)
+    (omega (arith, some, length-map (short_before t job out) (id_at (split_stock t job out).hand))) (fresh_split n t job out laws fit t.profile.credit_log t.localities t.asked) in (
       subst (λ (y : Tables). Stands act_of y e1) (sym ends) (subst (Stands act_of (waited at.standing.state)) (sym written) stands),
       record {
         i = i;
@@ -280,7 +258,3 @@ pub begins_from : (s t u : Tables) (job : Job) (out : Outcome) (e e0 e1 : List E
     → Begins t u job out e0 e1 → Begins s u job out e e1
 begins_from s t u job out e e0 e1 same is h =
     subst (λ x. Begins x u job out e e1) same (subst (λ es. Begins t u job out es e1) is h)
-
-pub ok_map : {X E : Type 0} (r : Result X E) (P Q : X → Type 0) → IfOk r P → ((x : X) → P x → Q x) → IfOk r Q
-ok_map (Ok x) P Q h f = f x h
-ok_map (Err e) P Q h f = tt

@@ -1,19 +1,7 @@
 -- A commit that has to wait: what it writes before, what it has in hand then, and what it asks for.
-use Rattle.std.specs.Prelude.{ℕ, List, [], ◌∷◌, ◌++◌, ◌+◌, ◌≡◌, ◌≤◌, map, length, set}
-use Rattle.std.specs.List.{remove}
+use Rattle.hpx_node.specs.Names.{Entry, Event, Id, IsAt, Job, List, Outcome, Stock, Tables, Waits, [], ahead, asked_at, asked_events, bare_state, first_cuts, hand_ids, id_at, length, map, remove, set, short_places, stripped, waits_with, with_asks, ℕ, ◌++◌, ◌+◌, ◌∷◌, ◌≡◌, ◌≤◌}
 use Rattle.hpx_value.specs.Ids.{bare}
-use Rattle.hpx_value.specs.Values.{bare_state}
-use Rattle.hpx_value.specs.Hands.{hand_ids, id_at}
-use Rattle.hpx_value.specs.declared.acts.Job.{Job}
-use Rattle.hpx_journal.specs.Data.{Id, Outcome}
-use Rattle.hpx_part.specs.Data.{Event, Entry}
-use Rattle.hpx_commit.specs.Stocks.{Stock, ahead, short_places, stripped}
-use Rattle.hpx_tables.specs.Splits.{first_cuts, asked_events}
 use Rattle.hpx_node.specs.Commits.{made_of, places_in_hand}
-use Rattle.hpx_steps.specs.Calls.{with_asks}
-use Rattle.hpx_tables.specs.Jobs.{IsAt}
-use Rattle.hpx_tables.specs.Pending.{Waits, asked_at, waits_with}
-use Rattle.hpx_tables.specs.Tables.{Tables}
 use Rattle.hpx_node.specs.Changes.{Writes}
 use Rattle.hpx_node.specs.declared.node.wait.Before.{Before}
 

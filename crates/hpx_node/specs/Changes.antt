@@ -1,9 +1,5 @@
 -- What a call of a node changes.
-use Rattle.std.specs.Prelude.{List, ◌++◌, ◌≡◌}
-use Rattle.hpx_journal.specs.Weights.{Book}
-use Rattle.hpx_part.specs.Data.{Event, Entry}
-use Rattle.hpx_part.specs.Parts.{at_all}
-use Rattle.hpx_tables.specs.Tables.{Tables}
+use Rattle.hpx_node.specs.Names.{Book, Entry, Event, List, Tables, at_all, ◌++◌, ◌≡◌}
 
 -- nothing but for how much more there is memory
 pub record OnlySpare (t t' : Tables) (b b' : Book) : Type 0 where

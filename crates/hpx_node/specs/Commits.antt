@@ -1,26 +1,8 @@
 -- What a commit writes.
-use Rattle.std.specs.Prelude.{ℕ, false, List, ◌∷◌, ◌++◌, ◌+◌, ◌≡◌, ◌≤◌, Some, length, map, set}
-use Rattle.std.specs.List.{AllByRecursion, find, slice_get, remove}
-use Rattle.hpx_value.specs.Hands.{hand_ids, due_of, state_after}
-use Rattle.hpx_value.specs.declared.acts.Job.{Job}
+use Rattle.hpx_node.specs.Names.{AllByRecursion, Done, Due, Event, Id, IsAt, IsFitDue, Job, List, MayDeal, Outcome, Prepared, Remains, Some, Standing, State, Stock, Tables, answered_by, at_all, dealt, due_of, false, filled, filled_due, find, hand_ids, is_standing, length, map, name_of, places_named, remove, set, slice_get, splits_from, state_after, target_of, total_weight, unnamed, unused, ups, with_left, written_due, ℕ, ◌++◌, ◌+◌, ◌∷◌, ◌≡◌, ◌≤◌}
 use Rattle.hpx_parcel.specs.Parcels.{HasCredit, HasRightCredit}
-use Rattle.hpx_journal.specs.Data.{Id, State, Outcome, Due}
-use Rattle.hpx_journal.specs.Entries.{name_of, target_of}
-use Rattle.hpx_journal.specs.Local.{is_standing}
-use Rattle.hpx_journal.specs.Weights.{total_weight}
-use Rattle.hpx_part.specs.Data.{Event, Done, Standing}
-use Rattle.hpx_part.specs.Parts.{at_all}
-use Rattle.hpx_tables.specs.Awaited.{answered_by}
+use Rattle.hpx_tables.specs.declared.births.Birth.{Birth}
 use Rattle.hpx_tables.specs.Births.{IsBirth, birth_of, births_of, objects_of, records_of, ids_of}
-use Rattle.hpx_commit.specs.Deals.{places_named, dealt, AllLast, unnamed, filled, unused, filled_due}
-use Rattle.hpx_commit.specs.Stocks.{Stock, SameNames}
-use Rattle.hpx_node.specs.declared.node.finish.Prepared.{Prepared}
-use Rattle.hpx_tables.specs.Fit.{IsFitDue}
-use Rattle.hpx_tables.specs.Jobs.{IsAt}
-use Rattle.hpx_steps.specs.Calls.{ups, with_left, written_due}
-use Rattle.hpx_steps.specs.Steps.{Remains}
-use Rattle.hpx_tables.specs.Splits.{splits_from}
-use Rattle.hpx_tables.specs.Tables.{Tables}
 
 -- ---- a commit
 
@@ -68,15 +50,12 @@ due_dealt t job out s = filled_due (due_of job.state job.action (made_of t out) 
 abbrev pub remains : Tables → Job → Outcome → Stock → Remains
 remains t job out s = record { state = state_dealt t job out s; due = due_dealt t job out s; loose = unnamed s.hand s.places }
 
--- a stock that may be dealt: it names what the hand names, and each id has its credit, which lasts for all who name it
-pub record IsStock (t : Tables) (job : Job) (out : Outcome) (s : Stock) : Type 0 where
-  pub names : SameNames (own_stock t job out) s
-  pub credit : AllByRecursion HasRightCredit s.hand
-  pub few : length s.hand ≤ 1024
-  pub lasts : AllLast s.hand s.places
+-- a stock that may be dealt in place of that of the hand, with the right credits
+abbrev pub IsStock : Tables → Job → Outcome → Stock → Type 0
+IsStock t job out s = MayDeal HasRightCredit (own_stock t job out) s
 
--- what it makes is well formed, and so is what it leaves, and they are few; all that it writes is few, and light
-pub record IsLimited (t : Tables) (job : Job) (out : Outcome) (p : Prepared) : Type 0 where
+-- what it makes is well formed, and so is what it leaves, and they are few; all that it writes, at k, is few, and light
+pub record IsLimited (k : ℕ) (wrote : List Event) (p : Prepared) : Type 0 where
   pub fit : AllByRecursion IsBirth p.births.items
   pub due_fit : AllByRecursion IsFitDue p.plan.due.items
   pub ups_fit : AllByRecursion HasCredit p.plan.ups.items
@@ -84,17 +63,21 @@ pub record IsLimited (t : Tables) (job : Job) (out : Outcome) (p : Prepared) : T
   pub cuts : length (splits_from 0 p.stock.hand p.stock.places) ≤ 192
   pub due : length p.plan.due.items ≤ 177
   pub ups : length p.plan.ups.items ≤ 194
-  pub entries : length (committed_from t job out p.stock) ≤ 596
-  pub light : total_weight (at_all t.here (committed_from t job out p.stock)) ≤ 2380288
+  pub entries : length wrote ≤ 596
+  pub light : total_weight (at_all k wrote) ≤ 2380288
 
--- a commit, before its first change: what it makes, a stock that may be dealt, the new state, what is due, and what nobody names
-pub record IsPrepared (t : Tables) (job : Job) (out : Outcome) (p : Prepared) : Type 0 where
-  pub births : p.births.items ≡ map birth_of out.makes
-  pub stock : IsStock t job out p.stock
-  pub state_left : p.plan.state ≡ state_dealt t job out p.stock
-  pub due_left : p.plan.due.items ≡ due_dealt t job out p.stock
-  pub ups_left : p.plan.ups.items ≡ unnamed p.stock.hand p.stock.places
-  pub limits : IsLimited t job out p
+-- before the first change: what is made, a stock in place of one, what is left where it is dealt, and what is written then, at k
+pub record IsReadyToWrite (k : ℕ) (made : List Birth) (own : Stock) (left : Stock → Remains) (wrote : Stock → List Event) (p : Prepared) : Type 0 where
+  pub births : p.births.items ≡ made
+  pub stock : MayDeal HasRightCredit own p.stock
+  pub state_left : p.plan.state ≡ (left p.stock).state
+  pub due_left : p.plan.due.items ≡ (left p.stock).due
+  pub ups_left : p.plan.ups.items ≡ (left p.stock).loose
+  pub limits : IsLimited k (wrote p.stock) p
+
+-- so is a commit
+abbrev pub IsPrepared : Tables → Job → Outcome → Prepared → Type 0
+IsPrepared t job out p = IsReadyToWrite t.here (map birth_of out.makes) (own_stock t job out) (remains t job out) (committed_from t job out) p
 
 -- ---- where a commit leads
 

@@ -1,19 +1,9 @@
 -- An action that could get no credit: what it leaves, and what is written.
-use Rattle.std.specs.Prelude.{ℕ, Bool, true, false, List, ◌∷◌, ◌++◌, ◌≡◌, ◌≤◌, ◌+◌, Option, Some, None, set, take, length}
-use Rattle.std.specs.List.{find, slice_get, remove}
-use Rattle.hpx_journal.specs.Data.{Id, State, Due, Parcel, Give}
-use Rattle.hpx_journal.specs.Entries.{name_of, target_of}
-use Rattle.hpx_journal.specs.Local.{is_standing}
-use Rattle.hpx_part.specs.Data.{Event, Done, Standing}
+use Rattle.hpx_node.specs.Names.{Bool, Done, Due, Event, Give, Gives, Id, List, None, Option, Parcel, Remains, Some, Standing, State, Tables, Waits, answered_by, awaits, fails_with, false, find, hand_with, is_standing, length, name_of, remove, set, slice_get, take, target_of, true, ups, with_left, written_due, ℕ, ◌++◌, ◌+◌, ◌∷◌, ◌≡◌, ◌≤◌}
 use Rattle.hpx_commit.specs.Failures.{action_ids, state_failed, due_failed, ups_failed}
 use Rattle.hpx_commit.specs.declared.plan.Plan.{Plan}
 use Rattle.hpx_node.specs.declared.node.fail.Failing.{Failing}
-use Rattle.hpx_tables.specs.Awaited.{answered_by}
-use Rattle.hpx_tables.specs.Pending.{Waits, awaits, fails_with, hand_with}
-use Rattle.hpx_steps.specs.Calls.{Gives, ups, with_left, written_due}
 use Rattle.hpx_steps.specs.Left.{IsLeftFailed}
-use Rattle.hpx_steps.specs.Steps.{Remains}
-use Rattle.hpx_tables.specs.Tables.{Tables}
 use Rattle.hpx_node.specs.Resumes.{IsInPlace}
 
 -- the state of its object, as it was, with what is left of its credits

@@ -1,17 +1,13 @@
 -- What a node does with a message that it takes up.
-use Rattle.std.specs.Prelude.{ℕ, List, ◌∷◌, ◌++◌, ◌≡◌, ◌+◌, Some, None}
+use Rattle.hpx_node.specs.Names.{Accepts, DealsWith, Entry, Event, In, Leaves, List, Mail, None, Parcel, Some, Tables, effects, ℕ, ◌++◌, ◌+◌, ◌∷◌, ◌≡◌}
 use Rattle.hpx_parcel.specs.Reading.{parcel_of, IsRefused}
-use Rattle.hpx_journal.specs.Data.{Parcel}
-use Rattle.hpx_part.specs.Data.{Entry, Event, In, Mail}
 use Rattle.hpx_tables.specs.Strange.{broken}
-use Rattle.hpx_tables.specs.Tables.{Tables}
-use Rattle.hpx_steps.specs.Calls.{DealsWith, Accepts, Leaves, effects}
 use Rattle.hpx_steps.specs.Rows.{kind_of}
 use Rattle.hpx_node.specs.Changes.{Writes}
 use Rattle.hpx_node.specs.Next.{Continues}
 use Rattle.hpx_node.specs.declared.parts.TakeFault.{TakeFault}
-use Rattle.hpx_node.specs.declared.parts.TakeFault.TheVariants as take_faults
 use Rattle.hpx_node.specs.declared.parts.DeskFault.{DeskFault}
+use Rattle.hpx_node.specs.declared.parts.TakeFault.TheVariants as take_faults
 use Rattle.hpx_node.specs.declared.parts.DeskFault.TheVariants as desk_faults
 
 -- a frame is accepted: it spells a message that breaks no rule, whose action, if it has one, waits; where it brings a commit its

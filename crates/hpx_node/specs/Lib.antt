@@ -6,3 +6,4 @@ pub mod Fails
 pub mod Next
 pub mod Resumes
 pub mod Handled
+pub mod Names

@@ -1,6 +1,5 @@
 -- A locality as clauses see it.
-use Rattle.std.specs.Prelude.{ℕ, List, map}
-use Rattle.hpx_tables.specs.Tables.{Tables}
+use Rattle.hpx_node.specs.Names.{List, Tables, map, ℕ}
 
 pub record Locality : Type 0 where
   pub tables : Tables  -- what it keeps

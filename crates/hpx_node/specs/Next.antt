@@ -1,16 +1,11 @@
 -- What follows a message: a commit that gets its last answer goes on, or its action fails.
-use Rattle.std.specs.Prelude.{ℕ, true, false, List, [], ◌≡◌, ◌<◌, ◌≤◌, Some, length}
-use Rattle.std.specs.List.{slice_get, remove}
-use Rattle.hpx_journal.specs.Data.{State, Act, Outcome, Parcel}
-use Rattle.hpx_part.specs.Data.{Event, Entry}
+use Rattle.hpx_node.specs.Names.{Act, Entry, Event, List, Outcome, Parcel, Some, State, Tables, Waits, [], false, length, remove, slice_get, true, ℕ, ◌<◌, ◌≡◌, ◌≤◌}
 use Rattle.hpx_node.specs.declared.node.next.Next.{Next}
-use Rattle.hpx_node.specs.declared.node.next.Next.TheVariants as nexts
 use Rattle.hpx_node.specs.Changes.{Writes}
 use Rattle.hpx_node.specs.Commits.{committed_from, Commits}
 use Rattle.hpx_node.specs.Fails.{MustFail, IsFailure, Fails, IsFailingFor, dooms, failed_events, FailsWith}
-use Rattle.hpx_tables.specs.Pending.{Waits}
 use Rattle.hpx_node.specs.Resumes.{MayResume, IsReadyFor, completes, full_stock, GoesWith}
-use Rattle.hpx_tables.specs.Tables.{Tables}
+use Rattle.hpx_node.specs.declared.node.next.Next.TheVariants as nexts
 
 -- what a message will be followed by
 abbrev pub IsNext : (ℕ → ℕ → ℕ → State → Act → Outcome) → Tables → Parcel → Next → Type 0

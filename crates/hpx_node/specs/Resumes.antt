@@ -1,22 +1,8 @@
 -- A commit that waited and goes on, once all that it asked for has come.
-use Rattle.std.specs.Prelude.{ℕ, Bool, true, false, List, ◌≡◌, ◌≤◌, ◌==◌, ◌&&◌, not, length, take, Option, Some, None}
-use Rattle.std.specs.List.{find, remove, slice_get}
+use Rattle.hpx_node.specs.Names.{Act, Bool, Event, Give, Gives, Id, IsFitJob, IsKept, Job, List, None, Option, Outcome, Parcel, Prepared, Some, Standing, State, Stock, Tables, Waits, awaits, bare_state, false, find, hand_with, ids_named, is_standing, length, log_of, not, remove, replaced_from, slice_get, take, target_of, true, waits_for_one, ℕ, ◌&&◌, ◌==◌, ◌≡◌, ◌≤◌}
 use Rattle.hpx_value.specs.Laws.{KeepsLaws}
-use Rattle.hpx_value.specs.Values.{bare_state}
-use Rattle.hpx_journal.specs.Data.{Id, State, Act, Outcome, Parcel, Give}
-use Rattle.hpx_journal.specs.Entries.{target_of}
-use Rattle.hpx_journal.specs.Local.{is_standing}
-use Rattle.hpx_part.specs.Data.{Event, Standing}
-use Rattle.hpx_commit.specs.Deals.{log_of}
-use Rattle.hpx_commit.specs.Stocks.{Stock, replaced_from}
-use Rattle.hpx_node.specs.declared.node.finish.Prepared.{Prepared}
 use Rattle.hpx_node.specs.declared.node.resume.Ready.{Ready}
 use Rattle.hpx_node.specs.Commits.{made_of, committed_from, IsPrepared, Commits}
-use Rattle.hpx_tables.specs.Fit.{IsKept}
-use Rattle.hpx_tables.specs.Jobs.{IsFitJob}
-use Rattle.hpx_tables.specs.Pending.{Waits, ids_named, awaits, waits_for_one, hand_with}
-use Rattle.hpx_steps.specs.Calls.{Gives}
-use Rattle.hpx_tables.specs.Tables.{Tables}
 
 -- ---- a commit for which all has come
 
@@ -28,18 +14,22 @@ stock_with t w hand = replaced_from (length (ids_named w)) (made_of t w.outcome)
 abbrev pub full_stock : Tables → Waits → Stock
 full_stock t w = stock_with t w w.hand
 
--- the object of a commit stands at j, as its job found it, but without credits
-pub record IsInPlace (t : Tables) (w : Waits) (j : ℕ) : Type 0 where
-  pub job : IsFitJob w.job
-  pub here : w.job.at ≡ t.here
-  pub localities : w.localities ≡ t.localities
-  pub few : t.localities ≤ 64
+-- the object of a job stands at j among these, as the job found it, but without credits; the job is of locality k of m
+pub record IsKeptFor (k m : ℕ) (objects : List Standing) (of : Job) (n j : ℕ) : Type 0 where
+  pub job : IsFitJob of
+  pub here : of.at ≡ k
+  pub localities : n ≡ m
+  pub few : m ≤ 64
   pub standing : Standing
-  pub stands : slice_get t.objects j ≡ Some standing
-  pub found : find (is_standing (target_of w.job.action)) t.objects ≡ Some standing
+  pub stands : slice_get objects j ≡ Some standing
+  pub found : find (is_standing (target_of of.action)) objects ≡ Some standing
   pub kept : IsKept standing
-  pub kind : standing.object.kind ≡ w.job.kind
-  pub state : standing.state ≡ bare_state w.job.state
+  pub kind : standing.object.kind ≡ of.kind
+  pub state : standing.state ≡ bare_state of.state
+
+-- so does that of a commit
+abbrev pub IsInPlace : Tables → Waits → ℕ → Type 0
+IsInPlace t w j = IsKeptFor t.here t.localities t.objects w.job w.localities j
 
 -- it is prepared to go on
 pub record MayResume (t : Tables) (w : Waits) (j : ℕ) (p : Prepared) : Type 0 where

@@ -1,31 +1,22 @@
 //! Failing an action that could get no credit: its object keeps its state, its continuation is answered, and the rest is given up.
-ghost use Rattle.std.specs.Prelude.{◌≡◌, ◌≤◌, ◌<◌, ◌+◌, ◌^◌, ◌∷◌, ◌++◌, [], true, false, Some, None, IfOk, IfSome, IfNone, length, option_map, set};
-ghost use Rattle.std.specs.List.{remove, slice_get};
-ghost use Rattle.hpx_journal.specs.Entries.{name_of};
+ghost use Rattle.std.specs.Prelude.{◌≡◌, ◌≤◌, ◌<◌, ◌+◌, ◌^◌, [], false, Some, IfOk, IfSome, IfNone, length};
+ghost use Rattle.std.specs.List.{slice_get};
 ghost use Rattle.hpx_journal.specs.Weights.{total_weight};
-ghost use Rattle.hpx_part.specs.Data.{Done};
-ghost use Rattle.hpx_part.specs.Parts.{at_all};
-ghost use Rattle.hpx_tables.specs.Awaited.{answered_by};
 ghost use Rattle.hpx_node.specs.Fails.{MustFail, IsFailure, Fails, IsFailingFor, dooms, failed_events};
 ghost use Rattle.hpx_node.specs.Changes.{Writes};
-ghost use Rattle.hpx_tables.specs.Fit.{IsKept};
-ghost use Rattle.hpx_tables.specs.Pending.{hand_with, action_of};
+ghost use Rattle.hpx_tables.specs.Pending.{hand_with};
 ghost use Rattle.hpx_steps.specs.Rest.{IsTidy};
 
 use crate::node::Node;
 use hpx_commit::failure::plan_failure;
 use hpx_commit::plan::Plan;
-use hpx_journal::entry::{Entry, Event};
 use hpx_journal::journal::Journal;
-use hpx_journal::local::name_of;
 use hpx_parcel::parcel::Parcel;
-use hpx_tables::find::{answered_by, place_of, target, waiting_at};
-use hpx_tables::kept::Kept;
+use hpx_tables::find::{place_of, target, waiting_at};
 use hpx_tables::pending::lawful;
 use hpx_value::acts::Acts;
 use hpx_value::gid::Gid;
 use hpx_value::memory::OutOfMemory;
-use hpx_value::value::State;
 use std::alloc::Global;
 
 /// An action that fails, before its first change: where its commit waits, where its object stands, and what it leaves.
@@ -82,37 +73,6 @@ impl<A: Acts + Copy> Node<A> {
         Ok(Some(Failing { i, j, plan }))
     }
 
-    /// The commit at i waits no more: its action is done, and failed. Its object, at j, has this state.
-    fn abandon(&mut self, book: &mut Journal, i: usize, j: usize, state: State)
-        requires waits { i < length self.old.tables.pending }
-        requires object { j < length self.old.tables.objects }
-        requires kept { (x : _) → slice_get self.old.tables.objects j ≡ Some x → IsKept (record { object = x.object; state = state }) }
-        requires answers { self.old.tables.answered + 1 < 2 ^ 64 }
-        requires page { 1 ≤ book.old.spare }
-        ensures pending { self.new.tables.pending ≡ remove self.old.tables.pending i }
-        ensures objects { (x : _) → slice_get self.old.tables.objects j ≡ Some x → self.new.tables.objects ≡ set self.old.tables.objects j (record { object = x.object; state = state }) }
-        ensures rest { self.new.tables ≡ record self.old.tables {
-          pending = self.new.tables.pending;
-          objects = self.new.tables.objects;
-          answered = self.old.tables.answered + answered_by (option_map action_of (slice_get self.old.tables.pending i));
-        } }
-        ensures spare { self.old.spare ≤ self.new.spare }
-        ensures page { book.new.spare + 1 ≡ book.old.spare }
-        ensures entries { (w : _) → slice_get self.old.tables.pending i ≡ Some w → book.new.entries ≡ book.old.entries ++ at_all self.old.tables.here (Done (name_of w.job.action) true ∷ []) }
-    {
-        let waits = self.pending.remove(i);
-        self.answered += answered_by(waits.action());
-        let object = self.objects[j].object();
-        self.objects[j] = Kept::new(object, state);
-        book.push(Entry {
-            at: self.here,
-            event: Event::Done {
-                action: name_of(waits.action()),
-                failed: true,
-            },
-        });
-    }
-
     /// Fails the action whose commit is at i, and whose object stands at j. It takes no memory.
     pub(crate) fn fail(&mut self, book: &mut Journal, i: usize, j: usize, plan: Plan)
         requires must { MustFail i j self.old.tables }
@@ -131,7 +91,7 @@ impl<A: Acts + Copy> Node<A> {
         ensures light { total_weight book.new.entries ≤ total_weight book.old.entries + 16640 }
     {
         let Plan { state, due, ups } = plan;
-        self.abandon(book, i, j, state);
+        self.settle_waiting(book, i, j, state, true);
         self.leave(book, due, ups);
     }
 }

@@ -27,7 +27,6 @@ use hpx_journal::journal::Journal;
 use hpx_journal::local::name_of;
 use hpx_parcel::parcel::Parcel;
 use hpx_tables::find::{answered_by, place_of, target, waiting_at};
-use hpx_tables::kept::Kept;
 use hpx_tables::pending::{Pending, lawful};
 use hpx_value::acts::Acts;
 use hpx_value::gid::Gid;
@@ -101,8 +100,15 @@ impl<A: Acts + Copy> Node<A> {
         Ok(Some(Ready { i, j, prepared }))
     }
 
-    /// Commits the job of a commit that waited: it waits no more, and its object has the new state.
-    fn settle_waiting(&mut self, book: &mut Journal, i: usize, j: usize, state: State)
+    /// Ends the job of a commit that waited: it waits no more, its action is done or failed, and its object has this state.
+    pub(crate) fn settle_waiting(
+        &mut self,
+        book: &mut Journal,
+        i: usize,
+        j: usize,
+        state: State,
+        failed: bool,
+    )
         requires waits { i < length self.old.tables.pending }
         requires object { j < length self.old.tables.objects }
         requires kept { (x : _) → slice_get self.old.tables.objects j ≡ Some x → IsKept (record { object = x.object; state = state }) }
@@ -118,17 +124,17 @@ impl<A: Acts + Copy> Node<A> {
         ensures spare { self.old.spare ≤ self.new.spare }
         ensures page { book.new.spare + 1 ≡ book.old.spare }
         ensures entries { (w : _) → slice_get self.old.tables.pending i ≡ Some w
-            → book.new.entries ≡ book.old.entries ++ at_all self.old.tables.here (Done (name_of w.job.action) false ∷ []) }
+            → book.new.entries ≡ book.old.entries ++ at_all self.old.tables.here (Done (name_of w.job.action) failed ∷ []) }
     {
+        let at = self.here;
         let waits = self.pending.remove(i);
         self.answered += answered_by(waits.action());
-        let object = self.objects[j].object();
-        self.objects[j] = Kept::new(object, state);
+        self.put_state(j, state);
         book.push(Entry {
-            at: self.here,
+            at,
             event: Event::Done {
                 action: name_of(waits.action()),
-                failed: false,
+                failed,
             },
         });
     }
@@ -160,7 +166,7 @@ impl<A: Acts + Copy> Node<A> {
             plan: Plan { state, due, ups },
         } = prepared;
         self.make(book, births, &stock);
-        self.settle_waiting(book, i, j, state);
+        self.settle_waiting(book, i, j, state, false);
         self.leave(book, due, ups);
     }
 }

@@ -87,6 +87,18 @@ impl<A: Acts + Copy> Node<A> {
         push_splits(book, self.here, stock.hand(), stock.places());
     }
 
+    /// Puts a state in place of that of the object at j.
+    pub(crate) fn put_state(&mut self, j: usize, state: State)
+        requires object { j < length self.old.tables.objects }
+        requires kept { (x : _) → slice_get self.old.tables.objects j ≡ Some x → IsKept (record { object = x.object; state = state }) }
+        ensures objects { (x : _) → slice_get self.old.tables.objects j ≡ Some x → self.new.tables.objects ≡ set self.old.tables.objects j (record { object = x.object; state = state }) }
+        ensures rest { self.new.tables ≡ record self.old.tables { objects = self.new.tables.objects } }
+        ensures spare { self.old.spare ≤ self.new.spare }
+    {
+        let object = self.objects[j].object();
+        self.objects[j] = Kept::new(object, state);
+    }
+
     /// Commits the job itself: its action runs no more, and its object has the new state.
     pub(crate) fn settle(&mut self, book: &mut Journal, i: usize, j: usize, state: State)
         requires action { i < length self.old.tables.running }
@@ -105,12 +117,12 @@ impl<A: Acts + Copy> Node<A> {
         ensures page { book.new.spare + 1 ≡ book.old.spare }
         ensures entries { (act : _) → slice_get self.old.tables.running i ≡ Some act → book.new.entries ≡ book.old.entries ++ at_all self.old.tables.here (Done (name_of act) false ∷ []) }
     {
+        let at = self.here;
         let act = self.running.remove(i);
         self.answered += answered_by(act.act());
-        let object = self.objects[j].object();
-        self.objects[j] = Kept::new(object, state);
+        self.put_state(j, state);
         book.push(Entry {
-            at: self.here,
+            at,
             event: Event::Done {
                 action: act.name(),
                 failed: false,

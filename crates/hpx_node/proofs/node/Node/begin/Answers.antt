@@ -1,31 +1,23 @@
-use Rattle.hpx_node.proofs.Common.{KeepsLaws, Locality, Tables, ap, arith, asked_events, at_all, first_cuts, length, refl, slice_get_less, subst, ◌++◌, ◌∙◌, ◌≤◌}
+use Rattle.hpx_node.proofs.Common.{Locality, Tables, ap, arith, asked_events, at_all, first_cuts, length, refl, slice_get_less, ◌++◌, ◌∙◌, ◌≤◌}
 use Rattle.hpx_node.proofs.TurnSteps.{adds_asks}
 use Rattle.hpx_node.proofs.Waited.{before_short, before_own, before_least, lacks_few, kept_before, begins_by, something}
 use Rattle.hpx_node.proofs.Turned.{at_rest_tidy}
 use Rattle.hpx_node.proofs.node.Node.begin.Goals as goal
 
-pub push_first_splits-requires-clause-own : goal.push_first_splits-requires-clause-own
-push_first_splits-requires-clause-own g c =
-    rw c.as_slice.ensures.value (before_own c.args.self.now.tables c.args.done.job c.args.done.outcome c.args.before c.requires.before)
-
-pub push_first_splits-requires-clause-page : goal.push_first_splits-requires-clause-page
-push_first_splits-requires-clause-page g c =
-    let d = c.args.done in
-    let t = c.args.self.now.tables in
-    let laws = subst (λ n. KeepsLaws n d.job.kind d.job.at d.job.state d.job.action d.outcome) c.requires.localities c.requires.laws in
+pub push_first_splits-requires : goal.push_first_splits-requires
+push_first_splits-requires g c =
     let short : length (first_cuts c.args.before.own 0 c.as_slice.result.now c.as_slice-2.result.now) ≤ 192 =
-    rw (c.as_slice.ensures.value, c.as_slice-2.ensures.value) (before_short t d.job d.outcome c.args.before c.requires.before c.requires.fit c.requires.few laws) in
-    omega (arith, short, c.requires.page)
+    rw (c.as_slice.ensures.value, c.as_slice-2.ensures.value) (before_short c.args.self.now.tables c.args.done.job c.args.done.outcome c.args.before c.requires.before c.args.done.localities c.requires.laws c.requires.fit) in
+    record {
+      own = rw c.as_slice.ensures.value (before_own c.args.self.now.tables c.args.done.job c.args.done.outcome c.args.before c.requires.before);
+      page = omega (arith, short, c.requires.page);
+    }
 
 pub push_asks-requires : goal.push_asks-requires
 push_asks-requires g c =
-    let d = c.args.done in
-    let t = c.args.self.now.tables in
-    let laws = subst (λ n. KeepsLaws n d.job.kind d.job.at d.job.state d.job.action d.outcome) c.requires.localities c.requires.laws in
     let short : length (first_cuts c.args.before.own 0 c.as_slice.result.now c.as_slice-2.result.now) ≤ 192 =
-    rw (c.as_slice.ensures.value, c.as_slice-2.ensures.value) (before_short t d.job d.outcome c.args.before c.requires.before c.requires.fit c.requires.few laws) in
-    let few : length c.as_slice-3.result.now ≤ 162 =
-    rw c.as_slice-3.ensures.value (lacks_few t d.job d.outcome c.args.before c.requires.before c.requires.fit c.requires.few laws) in
+    rw (c.as_slice.ensures.value, c.as_slice-2.ensures.value) (before_short c.args.self.now.tables c.args.done.job c.args.done.outcome c.args.before c.requires.before c.args.done.localities c.requires.laws c.requires.fit) in
+    let few : length c.as_slice-3.result.now ≤ 162 = rw c.as_slice-3.ensures.value (lacks_few c.args.self.now.tables c.args.done.job c.args.done.outcome c.args.before c.requires.before c.args.done.localities c.requires.laws c.requires.fit) in
     omega (arith, short, few, c.push_first_splits.ensures.page, c.requires.page)
 
 pub pause-requires-clause-object : goal.pause-requires-clause-object
@@ -35,71 +27,35 @@ pub pause-requires-clause-kept : goal.pause-requires-clause-kept
 pause-requires-clause-kept g c =
     kept_before c.args.self.now.tables c.args.done.job c.args.done.outcome c.args.before c.requires.before c.args.i c.args.j c.requires.at c.requires.fit (at_rest_tidy g.A.Acts.act_of _ _ c.requires.stands)
 
-pub ask_all-requires-clause-least : goal.ask_all-requires-clause-least
-ask_all-requires-clause-least g c =
-    let d = c.args.done in
-    let laws = subst (λ n. KeepsLaws n d.job.kind d.job.at d.job.state d.job.action d.outcome) c.requires.localities c.requires.laws in
-    rw c.as_slice-4.ensures.value
-    (before_least c.args.self.now.tables d.job d.outcome c.args.before c.requires.before c.requires.fit c.requires.few laws)
+pub ask_all-requires : goal.ask_all-requires
+ask_all-requires g c =
+    let few : length c.as_slice-4.result.now ≤ 162 = rw c.as_slice-4.ensures.value (lacks_few c.args.self.now.tables c.args.done.job c.args.done.outcome c.args.before c.requires.before c.args.done.localities c.requires.laws c.requires.fit) in
+    record {
+      least = rw c.as_slice-4.ensures.value (before_least c.args.self.now.tables c.args.done.job c.args.done.outcome c.args.before c.requires.before c.args.done.localities c.requires.laws c.requires.fit);
+      few = omega (arith, few, c.requires.asked, ap (λ (x : Tables). x.asked) c.pause.ensures.pauses.rest);
+      spare = omega (arith, few, c.requires.spare, c.pause.ensures.spare);
+    }
 
-pub ask_all-requires-clause-few : goal.ask_all-requires-clause-few
-ask_all-requires-clause-few g c =
+pub returns : goal.returns
+returns g c =
     let d = c.args.done in
     let t = c.args.self.now.tables in
-    let laws = subst (λ n. KeepsLaws n d.job.kind d.job.at d.job.state d.job.action d.outcome) c.requires.localities c.requires.laws in
-    let few : length c.as_slice-4.result.now ≤ 162 =
-    rw c.as_slice-4.ensures.value (lacks_few t d.job d.outcome c.args.before c.requires.before c.requires.fit c.requires.few laws) in
-    omega (arith, few, c.requires.asked, ap (λ (x : Tables). x.asked) c.pause.ensures.pauses.rest)
-
-pub ask_all-requires-clause-spare : goal.ask_all-requires-clause-spare
-ask_all-requires-clause-spare g c =
-    let d = c.args.done in
-    let t = c.args.self.now.tables in
-    let laws = subst (λ n. KeepsLaws n d.job.kind d.job.at d.job.state d.job.action d.outcome) c.requires.localities c.requires.laws in
-    let few : length c.as_slice-4.result.now ≤ 162 =
-    rw c.as_slice-4.ensures.value (lacks_few t d.job d.outcome c.args.before c.requires.before c.requires.fit c.requires.few laws) in
-    omega (arith, few, c.requires.spare, c.pause.ensures.spare)
-
-pub returns-clause-stands : goal.returns-clause-stands
-returns-clause-stands g c =
-    let d = c.args.done in
-    let t = c.args.self.now.tables in
-    let laws = subst (λ n. KeepsLaws n d.job.kind d.job.at d.job.state d.job.action d.outcome) c.requires.localities c.requires.laws in
-    let pauses = rw c.new.ensures at c.pause.ensures.pauses in
-    let asks = rw c.as_slice-4.ensures.value at c.ask_all.ensures.asks in
-    let here = ap (λ (x : Locality). x.tables.here) c.self.view_is in
-    let cut = rw (c.as_slice.ensures.value, c.as_slice-2.ensures.value, here) at c.push_first_splits.ensures.entries in
-    let asked = rw (c.as_slice-3.ensures.value, here) at c.push_asks.ensures.entries in
-    let valid = rw (ap (λ (x : Locality). x.tables.profile) c.self.view_is) at c.self.invariant.3 in
-    let some = something t.localities t d.job d.outcome laws c.requires.fit c.requires.few valid.log_least c.requires.short in
-    (begins_by g.A.Acts.act_of t c.pause.new.self.tables c.ask_all.new.self.tables d.job d.outcome d.localities c.args.before c.args.i c.args.j _ c.args.book.now.entries
-    c.push_asks.new.book.entries c.requires.fit c.requires.few laws c.requires.before c.requires.localities c.requires.here refl pauses asks
-    (asked ∙ ap (λ es. es ++ at_all t.here (asked_events c.args.before.lacking.items)) cut) some c.requires.stands).0
-
-pub returns-clause-begins : goal.returns-clause-begins
-returns-clause-begins g c =
-    let d = c.args.done in
-    let t = c.args.self.now.tables in
-    let laws = subst (λ n. KeepsLaws n d.job.kind d.job.at d.job.state d.job.action d.outcome) c.requires.localities c.requires.laws in
-    let pauses = rw c.new.ensures at c.pause.ensures.pauses in
-    let asks = rw c.as_slice-4.ensures.value at c.ask_all.ensures.asks in
-    let here = ap (λ (x : Locality). x.tables.here) c.self.view_is in
-    let cut = rw (c.as_slice.ensures.value, c.as_slice-2.ensures.value, here) at c.push_first_splits.ensures.entries in
-    let asked = rw (c.as_slice-3.ensures.value, here) at c.push_asks.ensures.entries in
-    let valid = rw (ap (λ (x : Locality). x.tables.profile) c.self.view_is) at c.self.invariant.3 in
-    let some = something t.localities t d.job d.outcome laws c.requires.fit c.requires.few valid.log_least c.requires.short in
-    (begins_by g.A.Acts.act_of t c.pause.new.self.tables c.ask_all.new.self.tables d.job d.outcome d.localities c.args.before c.args.i c.args.j _ c.args.book.now.entries
-    c.push_asks.new.book.entries c.requires.fit c.requires.few laws c.requires.before c.requires.localities c.requires.here refl pauses asks
-    (asked ∙ ap (λ es. es ++ at_all t.here (asked_events c.args.before.lacking.items)) cut) some c.requires.stands).1
-
-pub returns-clause-turn : goal.returns-clause-turn
-returns-clause-turn g c =
-    let d = c.args.done in
-    let t = c.args.self.now.tables in
-    let laws = subst (λ n. KeepsLaws n d.job.kind d.job.at d.job.state d.job.action d.outcome) c.requires.localities c.requires.laws in
     let short : length (first_cuts c.args.before.own 0 c.as_slice.result.now c.as_slice-2.result.now) ≤ 192 =
-    rw (c.as_slice.ensures.value, c.as_slice-2.ensures.value) (before_short t d.job d.outcome c.args.before c.requires.before c.requires.fit c.requires.few laws) in
-    let few : length c.as_slice-3.result.now ≤ 162 =
-    rw c.as_slice-3.ensures.value (lacks_few t d.job d.outcome c.args.before c.requires.before c.requires.fit c.requires.few laws) in
-    adds_asks c.self.inside.here c.args.before.own c.as_slice.result.now c.as_slice-2.result.now c.as_slice-3.result.now _ _ _
-    c.push_first_splits.ensures.entries c.push_asks.ensures.entries short few
+    rw (c.as_slice.ensures.value, c.as_slice-2.ensures.value) (before_short c.args.self.now.tables c.args.done.job c.args.done.outcome c.args.before c.requires.before c.args.done.localities c.requires.laws c.requires.fit) in
+    let few : length c.as_slice-3.result.now ≤ 162 = rw c.as_slice-3.ensures.value (lacks_few c.args.self.now.tables c.args.done.job c.args.done.outcome c.args.before c.requires.before c.args.done.localities c.requires.laws c.requires.fit) in
+    let pauses = rw c.new.ensures at c.pause.ensures.pauses in
+    let asks = rw c.as_slice-4.ensures.value at c.ask_all.ensures.asks in
+    let here = ap (λ (x : Locality). x.tables.here) c.self.view_is in
+    let cut = rw (c.as_slice.ensures.value, c.as_slice-2.ensures.value, here) at c.push_first_splits.ensures.entries in
+    let asked = rw (c.as_slice-3.ensures.value, here) at c.push_asks.ensures.entries in
+    let valid = rw (ap (λ (x : Locality). x.tables.profile) c.self.view_is) at c.self.invariant.3 in
+    let some = something d.localities t d.job d.outcome c.requires.laws c.requires.fit (omega (arith, c.requires.localities, c.requires.few)) valid.log_least c.requires.short in
+    let k = begins_by g.A.Acts.act_of t c.pause.new.self.tables c.ask_all.new.self.tables d.job d.outcome d.localities c.args.before c.args.i c.args.j _ c.args.book.now.entries
+    c.push_asks.new.book.entries c.requires.fit c.requires.few c.requires.laws c.requires.before c.requires.localities c.requires.here refl pauses asks
+    (asked ∙ ap (λ es. es ++ at_all t.here (asked_events c.args.before.lacking.items)) cut) some c.requires.stands in
+    record {
+      stands = k.0;
+      turn = adds_asks c.self.inside.here c.args.before.own c.as_slice.result.now c.as_slice-2.result.now c.as_slice-3.result.now _ _ _
+          c.push_first_splits.ensures.entries c.push_asks.ensures.entries short few;
+      begins = k.1;
+    }

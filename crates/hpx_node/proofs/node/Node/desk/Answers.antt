@@ -1,9 +1,10 @@
-use Rattle.hpx_node.proofs.Common.{AllByRecursion, IsParcel, IsTidy, Locality, Outgoing, Parcel, Stands, Tables, [], ap, arith, get_or, map, subst, sym, ◌++◌, ◌∙◌, ◌∷◌, ◌≡◌, ◌≤◌}
+use Rattle.hpx_node.proofs.Common.{IsTidy, Locality, Parcel, Stands, Tables, [], ap, arith, get_or, subst, sym, ◌∙◌, ◌∷◌, ◌≡◌, ◌≤◌}
 use Rattle.hpx_node.proofs.FewEntries.{popped_tidy}
-use Rattle.hpx_node.proofs.Followed.{next_first, next_gives}
+use Rattle.hpx_node.proofs.Followed.{next_gives}
 use Rattle.hpx_node.proofs.Same.{same_too}
-use Rattle.hpx_node.proofs.Spared.{first_there, mail_by, spare_popped, when_ok}
-use Rattle.hpx_node.proofs.Turned.{are_few, at_rest_tidy, desk_clears, desk_follows, still_few}
+use Rattle.hpx_commit.proofs.Lists.{when_ok}
+use Rattle.hpx_node.proofs.Spared.{mail_by, spare_popped}
+use Rattle.hpx_node.proofs.Turned.{are_few, at_rest_tidy, desk_clears, desk_follows, desk_next}
 use Rattle.hpx_node.proofs.Turns.{adds_none}
 use Rattle.hpx_node.proofs.TurnSteps.{adds_steps}
 use Rattle.hpx_node.proofs.node.Node.desk.Goals as goal
@@ -41,101 +42,44 @@ enter_mail-requires-clause-spare g c =
     let made = rw (← c.self-2.view_is) at kept in
     spare_popped 1280 _ _ _ _ _ _ made c.in-Some-pop_front.ensures.capacity (omega (arith, c.in-Some-pop_front.ensures.len))
 
-pub follow-requires-clause-may : goal.follow-requires-clause-may
-follow-requires-clause-may g c =
-    let t = c.args.self.now.tables in
-    let p = c.into_parcel.result in
-    let rest = c.pop_front.new.self.items in
+pub follow-requires : goal.follow-requires
+follow-requires g c =
     let same = rw (← c.self-2.view_is) at c.reserve_turn.ensures.same in
     let first = c.in-Some-pop_front.ensures.items ∙ ap (λ (q : Parcel). q ∷ c.pop_front.new.self.items) (sym c.into_parcel.ensures.parcel) in
-    let is = (rw (← c.parcel-2.ensures.parcel) at c.index-2.ensures) ∙ ap (λ (x : Locality). get_or x.tables.desk 0 c.parcel-2.result.now) c.self.view_is in
-    let next = next_first g.A.Acts.act_of t _ p c.parcel-2.result.now rest c.in-Ok.next same.tables first is c.in-Ok.ensures in
-    let looked = (rw (← c.parcel.ensures.parcel) at c.index.ensures) ∙ ap (λ (x : Locality). get_or x.tables.desk 0 c.parcel.result.now) c.self.view_is in
-    let tidy = at_rest_tidy g.A.Acts.act_of _ _ c.requires.stands in
-    let at_first = first_there t _ p c.parcel.result.now rest c.broken.result same.tables first looked c.broken.ensures c.in_default.is in
-    let fit = (subst (AllByRecursion IsParcel) (ap (λ ds. ds ++ map (λ (x : Outgoing). x.parcel) t.outgoing) at_first) tidy.messages).0 in
-    desk_follows g.A.Acts.act_of t _ c.enter_mail.new.self.tables _ _ p c.parcel.result.now rest c.broken.result c.in-Ok.next same fit first looked c.broken.ensures c.in_default.is
-    next c.enter_mail.ensures.deals c.requires.stands
+    let is = (rw (← c.parcel.ensures.parcel) at c.index.ensures) ∙ ap (λ (x : Locality). get_or x.tables.desk 0 c.parcel.result.now) c.self.view_is in
+    let looked = (rw (← c.parcel-2.ensures.parcel) at c.index-2.ensures) ∙ ap (λ (x : Locality). get_or x.tables.desk 0 c.parcel-2.result.now) c.self.view_is in
+    let next = desk_next g.A.Acts.act_of c.args.self.now.tables _ c.enter_mail.new.self.tables _ _ c.into_parcel.result c.parcel.result.now c.parcel-2.result.now c.pop_front.new.self.items
+    c.broken.result c.in-Ok.next same first is c.broken.ensures c.in_default.is looked c.in-Ok.ensures c.enter_mail.ensures.deals c.requires.stands in
+    let k = desk_follows g.A.Acts.act_of c.args.self.now.tables _ c.enter_mail.new.self.tables _ _ c.into_parcel.result c.parcel.result.now c.parcel-2.result.now c.pop_front.new.self.items
+    c.broken.result c.in-Ok.next same first is c.broken.ensures c.in_default.is looked c.in-Ok.ensures c.enter_mail.ensures.deals c.requires.stands c.requires.room in record {
+      may = k.may;
+      births = k.births;
+      serial = k.serial;
+      answers = k.answers;
+      spare = next_gives (1024 ≤ c.enter_mail.new.self.spare) g.A.Acts.act_of c.args.self.now.tables c.into_parcel.result c.in-Ok.next next (λ id entry e. c.enter_mail.ensures.spare id entry e);
+      page = next_gives (1024 ≤ c.enter_mail.new.book.spare) g.A.Acts.act_of c.args.self.now.tables c.into_parcel.result c.in-Ok.next next (λ id entry e. c.enter_mail.ensures.page id entry e);
+    }
 
-pub follow-requires-clause-births : goal.follow-requires-clause-births
-follow-requires-clause-births g c =
-    let same = rw (← c.self-2.view_is) at c.reserve_turn.ensures.same.tables in
-    (still_few c.args.self.now.tables _ _ c.into_parcel.result (are_few g.A.Acts.act_of _ _ c.requires.room c.requires.stands) c.enter_mail.ensures.deals
-    (ap (λ (t : Tables). t.births) same) (ap (λ (t : Tables). t.serial) same) (ap (λ (t : Tables). t.answered) same)).0
-
-pub follow-requires-clause-serial : goal.follow-requires-clause-serial
-follow-requires-clause-serial g c =
-    let same = rw (← c.self-2.view_is) at c.reserve_turn.ensures.same.tables in
-    (still_few c.args.self.now.tables _ _ c.into_parcel.result (are_few g.A.Acts.act_of _ _ c.requires.room c.requires.stands) c.enter_mail.ensures.deals
-    (ap (λ (t : Tables). t.births) same) (ap (λ (t : Tables). t.serial) same) (ap (λ (t : Tables). t.answered) same)).1
-
-pub follow-requires-clause-answers : goal.follow-requires-clause-answers
-follow-requires-clause-answers g c =
-    let same = rw (← c.self-2.view_is) at c.reserve_turn.ensures.same.tables in
-    (still_few c.args.self.now.tables _ _ c.into_parcel.result (are_few g.A.Acts.act_of _ _ c.requires.room c.requires.stands) c.enter_mail.ensures.deals
-    (ap (λ (t : Tables). t.births) same) (ap (λ (t : Tables). t.serial) same) (ap (λ (t : Tables). t.answered) same)).2
-
-pub follow-requires-clause-spare : goal.follow-requires-clause-spare
-follow-requires-clause-spare g c =
-    let t = c.args.self.now.tables in
-    let p = c.into_parcel.result in
-    let rest = c.pop_front.new.self.items in
+pub returns : goal.returns
+returns g c =
     let same = rw (← c.self-2.view_is) at c.reserve_turn.ensures.same in
     let first = c.in-Some-pop_front.ensures.items ∙ ap (λ (q : Parcel). q ∷ c.pop_front.new.self.items) (sym c.into_parcel.ensures.parcel) in
-    let is = (rw (← c.parcel-2.ensures.parcel) at c.index-2.ensures) ∙ ap (λ (x : Locality). get_or x.tables.desk 0 c.parcel-2.result.now) c.self.view_is in
-    let next = next_first g.A.Acts.act_of t _ p c.parcel-2.result.now rest c.in-Ok.next same.tables first is c.in-Ok.ensures in
-    next_gives (1024 ≤ c.enter_mail.new.self.spare) g.A.Acts.act_of t p c.in-Ok.next next (λ id entry e. c.enter_mail.ensures.spare id entry e)
-
-pub follow-requires-clause-page : goal.follow-requires-clause-page
-follow-requires-clause-page g c =
-    let t = c.args.self.now.tables in
-    let p = c.into_parcel.result in
-    let rest = c.pop_front.new.self.items in
-    let same = rw (← c.self-2.view_is) at c.reserve_turn.ensures.same in
-    let first = c.in-Some-pop_front.ensures.items ∙ ap (λ (q : Parcel). q ∷ c.pop_front.new.self.items) (sym c.into_parcel.ensures.parcel) in
-    let is = (rw (← c.parcel-2.ensures.parcel) at c.index-2.ensures) ∙ ap (λ (x : Locality). get_or x.tables.desk 0 c.parcel-2.result.now) c.self.view_is in
-    let next = next_first g.A.Acts.act_of t _ p c.parcel-2.result.now rest c.in-Ok.next same.tables first is c.in-Ok.ensures in
-    next_gives (1024 ≤ c.enter_mail.new.book.spare) g.A.Acts.act_of t p c.in-Ok.next next (λ id entry e. c.enter_mail.ensures.page id entry e)
-
-pub returns-clause-cleared : goal.returns-clause-cleared
-returns-clause-cleared g c =
-    let t = c.args.self.now.tables in
-    let p = c.into_parcel.result in
-    let rest = c.pop_front.new.self.items in
-    let same = rw (← c.self-2.view_is) at c.reserve_turn.ensures.same in
-    let first = c.in-Some-pop_front.ensures.items ∙ ap (λ (q : Parcel). q ∷ c.pop_front.new.self.items) (sym c.into_parcel.ensures.parcel) in
-    let is = (rw (← c.parcel-2.ensures.parcel) at c.index-2.ensures) ∙ ap (λ (x : Locality). get_or x.tables.desk 0 c.parcel-2.result.now) c.self.view_is in
-    let next = next_first g.A.Acts.act_of t _ p c.parcel-2.result.now rest c.in-Ok.next same.tables first is c.in-Ok.ensures in
-    let looked = (rw (← c.parcel.ensures.parcel) at c.index.ensures) ∙ ap (λ (x : Locality). get_or x.tables.desk 0 c.parcel.result.now) c.self.view_is in
-    let tidy = at_rest_tidy g.A.Acts.act_of _ _ c.requires.stands in
-    let at_first = first_there t _ p c.parcel.result.now rest c.broken.result same.tables first looked c.broken.ensures c.in_default.is in
-    let fit = (subst (AllByRecursion IsParcel) (ap (λ ds. ds ++ map (λ (x : Outgoing). x.parcel) t.outgoing) at_first) tidy.messages).0 in
+    let is = (rw (← c.parcel.ensures.parcel) at c.index.ensures) ∙ ap (λ (x : Locality). get_or x.tables.desk 0 c.parcel.result.now) c.self.view_is in
+    let looked = (rw (← c.parcel-2.ensures.parcel) at c.index-2.ensures) ∙ ap (λ (x : Locality). get_or x.tables.desk 0 c.parcel-2.result.now) c.self.view_is in
     let log = subst (λ (x : Locality). 8 ≤ x.tables.profile.credit_log) c.self.view_is c.self.invariant.3.log_least in
-    λ ok. (desk_clears g.A.Acts.act_of t _ c.enter_mail.new.self.tables _ _ p c.parcel.result.now rest c.broken.result c.in-Ok.next same fit first looked c.broken.ensures c.in_default.is
-    next c.enter_mail.ensures.deals c.requires.stands g.met.A.Acts.is_blind (omega (arith, log)) c.enter_mail.new.book.entries c.follow.new.book.entries c.enter_mail.ensures.writes c.enter_mail.ensures.leaves
-    c.enter_mail.ensures.taken c.enter_mail.ensures.sent c.follow.new.self.tables c.follow.ensures.running c.follow.ensures.followed c.follow.ensures.taken c.follow.ensures.sent).0
-
-pub returns-clause-stands : goal.returns-clause-stands
-returns-clause-stands g c =
-    let t = c.args.self.now.tables in
-    let p = c.into_parcel.result in
-    let rest = c.pop_front.new.self.items in
-    let same = rw (← c.self-2.view_is) at c.reserve_turn.ensures.same in
-    let first = c.in-Some-pop_front.ensures.items ∙ ap (λ (q : Parcel). q ∷ c.pop_front.new.self.items) (sym c.into_parcel.ensures.parcel) in
-    let is = (rw (← c.parcel-2.ensures.parcel) at c.index-2.ensures) ∙ ap (λ (x : Locality). get_or x.tables.desk 0 c.parcel-2.result.now) c.self.view_is in
-    let next = next_first g.A.Acts.act_of t _ p c.parcel-2.result.now rest c.in-Ok.next same.tables first is c.in-Ok.ensures in
-    let looked = (rw (← c.parcel.ensures.parcel) at c.index.ensures) ∙ ap (λ (x : Locality). get_or x.tables.desk 0 c.parcel.result.now) c.self.view_is in
-    let tidy = at_rest_tidy g.A.Acts.act_of _ _ c.requires.stands in
-    let at_first = first_there t _ p c.parcel.result.now rest c.broken.result same.tables first looked c.broken.ensures c.in_default.is in
-    let fit = (subst (AllByRecursion IsParcel) (ap (λ ds. ds ++ map (λ (x : Outgoing). x.parcel) t.outgoing) at_first) tidy.messages).0 in
-    let log = subst (λ (x : Locality). 8 ≤ x.tables.profile.credit_log) c.self.view_is c.self.invariant.3.log_least in
-    (desk_clears g.A.Acts.act_of t _ c.enter_mail.new.self.tables _ _ p c.parcel.result.now rest c.broken.result c.in-Ok.next same fit first looked c.broken.ensures c.in_default.is
-    next c.enter_mail.ensures.deals c.requires.stands g.met.A.Acts.is_blind (omega (arith, log)) c.enter_mail.new.book.entries c.follow.new.book.entries c.enter_mail.ensures.writes c.enter_mail.ensures.leaves
-    c.enter_mail.ensures.taken c.enter_mail.ensures.sent c.follow.new.self.tables c.follow.ensures.running c.follow.ensures.followed c.follow.ensures.taken c.follow.ensures.sent).1
+    let k = desk_clears g.A.Acts.act_of c.args.self.now.tables _ c.enter_mail.new.self.tables _ _ c.into_parcel.result c.parcel.result.now c.parcel-2.result.now c.pop_front.new.self.items
+    c.broken.result c.in-Ok.next same first is c.broken.ensures c.in_default.is looked c.in-Ok.ensures c.enter_mail.ensures.deals c.requires.stands g.met.A.Acts.is_blind (omega (arith, log))
+    c.enter_mail.new.book.entries c.follow.new.book.entries c.enter_mail.ensures.writes c.enter_mail.ensures.leaves c.enter_mail.ensures.taken c.enter_mail.ensures.sent
+    c.follow.new.self.tables c.follow.ensures.running c.follow.ensures.followed c.follow.ensures.taken c.follow.ensures.sent in
+    record {
+      stands = k.1;
+      running = c.follow.ensures.running ∙ (c.enter_mail.ensures.running ∙ ap (λ (x : Tables). x.running) same.tables);
+      turn = adds_steps _ _ _ _ c.reserve_turn.ensures.same.entries c.enter_mail.ensures.few c.enter_mail.ensures.light c.follow.ensures.few c.follow.ensures.light;
+      cleared = λ ok. k.0;
+      empty = λ no. absurd (cc);
+      err = tt;
+      cause = tt;
+    }
 
 pub returns-then-is_err-clause-turn : goal.returns-then-is_err-clause-turn
 returns-then-is_err-clause-turn g c = adds_none _ _ c.reserve_turn.ensures.same.entries
-
-pub returns-clause-turn : goal.returns-clause-turn
-returns-clause-turn g c = adds_steps _ _ _ _ c.reserve_turn.ensures.same.entries
-    c.enter_mail.ensures.few c.enter_mail.ensures.light c.follow.ensures.few c.follow.ensures.light

@@ -3,63 +3,46 @@ use Rattle.hpx_node.proofs.Failed.{plan_due, plan_ups, plan_few, plan_kept, then
 use Rattle.hpx_node.proofs.TurnSteps.{fails_light}
 use Rattle.hpx_node.proofs.node.Node.fail.Goals as goal
 
-pub abandon-requires-clause-waits : goal.abandon-requires-clause-waits
-abandon-requires-clause-waits g c =
-    slice_get_less c.args.self.now.tables.pending c.args.i c.requires.must.commit c.requires.must.there
+pub settle_waiting-requires : goal.settle_waiting-requires
+settle_waiting-requires g c = let must = c.requires.must in record {
+  waits = slice_get_less c.args.self.now.tables.pending c.args.i must.commit must.there;
+  object = slice_get_less c.args.self.now.tables.objects c.args.j must.standing must.stands;
+  kept = plan_kept c.args.self.now.tables c.args.i c.args.j c.requires.must c.args.plan c.requires.plan;
+  answers = c.requires.answers;
+  page = omega (arith, c.requires.page);
+}
 
-pub abandon-requires-clause-object : goal.abandon-requires-clause-object
-abandon-requires-clause-object g c =
-    slice_get_less c.args.self.now.tables.objects c.args.j c.requires.must.standing c.requires.must.stands
-
-pub abandon-requires-clause-kept : goal.abandon-requires-clause-kept
-abandon-requires-clause-kept g c =
-    plan_kept c.args.self.now.tables c.args.i c.args.j c.requires.must c.args.plan c.requires.plan
-
-pub leave-requires-clause-fit : goal.leave-requires-clause-fit
-leave-requires-clause-fit g c =
-    plan_due c.args.self.now.tables c.args.i c.args.j c.requires.must c.args.plan c.requires.plan
-
-pub leave-requires-clause-credit : goal.leave-requires-clause-credit
-leave-requires-clause-credit g c =
-    plan_ups c.args.self.now.tables c.args.i c.args.j c.requires.must c.args.plan c.requires.plan
-
-pub leave-requires-clause-spare : goal.leave-requires-clause-spare
-leave-requires-clause-spare g c =
-    let few = plan_few c.args.self.now.tables c.args.i c.args.j c.requires.must c.args.plan c.requires.plan in
-    omega (arith, few, c.abandon.ensures.spare, c.requires.few, c.requires.spare)
-
-pub leave-requires-clause-page : goal.leave-requires-clause-page
-leave-requires-clause-page g c =
-    let few = plan_few c.args.self.now.tables c.args.i c.args.j c.requires.must c.args.plan c.requires.plan in
-    omega (arith, few, c.abandon.ensures.page, c.requires.few, c.requires.page)
-
-pub leave-requires-clause-few : goal.leave-requires-clause-few
-leave-requires-clause-few g c =
-    let few = plan_few c.args.self.now.tables c.args.i c.args.j c.requires.must c.args.plan c.requires.plan in
-    omega (arith, few, ap (λ (x : Tables). x.serial) c.abandon.ensures.rest, c.requires.serial)
+pub leave-requires : goal.leave-requires
+leave-requires g c = let few = plan_few c.args.self.now.tables c.args.i c.args.j c.requires.must c.args.plan c.requires.plan in record {
+  fit = plan_due c.args.self.now.tables c.args.i c.args.j c.requires.must c.args.plan c.requires.plan;
+  credit = plan_ups c.args.self.now.tables c.args.i c.args.j c.requires.must c.args.plan c.requires.plan;
+  spare = omega (arith, few, c.settle_waiting.ensures.spare, c.requires.few, c.requires.spare);
+  page = omega (arith, few, c.settle_waiting.ensures.page, c.requires.few, c.requires.page);
+  few = omega (arith, few, ap (λ (x : Tables). x.serial) c.settle_waiting.ensures.rest, c.requires.serial);
+}
 
 pub returns-clause-fails : goal.returns-clause-fails
-returns-clause-fails g c = then_fails c.args.self.now.tables c.args.i c.args.j c.requires.must c.args.plan c.requires.plan c.abandon.new.self.tables c.abandon.ensures.pending c.abandon.ensures.objects
-    c.abandon.ensures.rest c.leave.new.self.tables c.leave.ensures.goes c.leave.ensures.rest
+returns-clause-fails g c = then_fails c.args.self.now.tables c.args.i c.args.j c.requires.must c.args.plan c.requires.plan c.settle_waiting.new.self.tables c.settle_waiting.ensures.pending c.settle_waiting.ensures.objects
+    c.settle_waiting.ensures.rest c.leave.new.self.tables c.leave.ensures.goes c.leave.ensures.rest
 
 pub returns-clause-writes : goal.returns-clause-writes
-returns-clause-writes g c = then_writes c.args.self.now.tables c.args.i c.args.j c.requires.must c.args.plan c.requires.plan c.abandon.new.self.tables c.abandon.ensures.pending c.abandon.ensures.objects
-    c.abandon.ensures.rest c.leave.new.self.tables c.leave.ensures.goes c.leave.ensures.rest c.args.book.now.entries c.abandon.new.book.entries c.leave.new.book.entries
-    c.abandon.ensures.entries c.leave.ensures.writes
+returns-clause-writes g c = then_writes c.args.self.now.tables c.args.i c.args.j c.requires.must c.args.plan c.requires.plan c.settle_waiting.new.self.tables c.settle_waiting.ensures.pending c.settle_waiting.ensures.objects
+    c.settle_waiting.ensures.rest c.leave.new.self.tables c.leave.ensures.goes c.leave.ensures.rest c.args.book.now.entries c.settle_waiting.new.book.entries c.leave.new.book.entries
+    c.settle_waiting.ensures.entries c.leave.ensures.writes
 
 pub returns-clause-few : goal.returns-clause-few
-returns-clause-few g c = then_few c.args.self.now.tables c.args.i c.args.j c.requires.must c.args.plan c.requires.plan c.abandon.new.self.tables c.abandon.ensures.pending c.abandon.ensures.objects
-    c.abandon.ensures.rest c.leave.new.self.tables c.leave.ensures.goes c.leave.ensures.rest c.args.book.now.entries c.abandon.new.book.entries c.leave.new.book.entries
-    c.abandon.ensures.entries c.leave.ensures.writes c.requires.few
+returns-clause-few g c = then_few c.args.self.now.tables c.args.i c.args.j c.requires.must c.args.plan c.requires.plan c.settle_waiting.new.self.tables c.settle_waiting.ensures.pending c.settle_waiting.ensures.objects
+    c.settle_waiting.ensures.rest c.leave.new.self.tables c.leave.ensures.goes c.leave.ensures.rest c.args.book.now.entries c.settle_waiting.new.book.entries c.leave.new.book.entries
+    c.settle_waiting.ensures.entries c.leave.ensures.writes c.requires.few
 
 pub returns-clause-running : goal.returns-clause-running
-returns-clause-running g c = ap (λ (x : Tables). x.running) c.leave.ensures.rest ∙ ap (λ (x : Tables). x.running) c.abandon.ensures.rest
+returns-clause-running g c = ap (λ (x : Tables). x.running) c.leave.ensures.rest ∙ ap (λ (x : Tables). x.running) c.settle_waiting.ensures.rest
 
 pub returns-clause-taken : goal.returns-clause-taken
-returns-clause-taken g c = ap (λ (x : Tables). x.taken) c.leave.ensures.rest ∙ ap (λ (x : Tables). x.taken) c.abandon.ensures.rest
+returns-clause-taken g c = ap (λ (x : Tables). x.taken) c.leave.ensures.rest ∙ ap (λ (x : Tables). x.taken) c.settle_waiting.ensures.rest
 
 pub returns-clause-sent : goal.returns-clause-sent
-returns-clause-sent g c = ap (λ (x : Tables). x.sent) c.leave.ensures.rest ∙ ap (λ (x : Tables). x.sent) c.abandon.ensures.rest
+returns-clause-sent g c = ap (λ (x : Tables). x.sent) c.leave.ensures.rest ∙ ap (λ (x : Tables). x.sent) c.settle_waiting.ensures.rest
 
 pub returns-clause-light : goal.returns-clause-light
 returns-clause-light g c =

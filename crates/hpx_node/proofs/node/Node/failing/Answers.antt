@@ -20,7 +20,7 @@ returns-clause-some g c =
       first = first;
       for = find_passes (awaits c.in-Give.id c.in-Give.entry) c.self.inside.pending.items c.index-waits.result.now (found ∙ there);
       last = sym c.fails_with.ensures ∙ c.if-not-fails_with.false;
-      place = in_place _ c.index-waits.result.now c.in-Some-place_of.j paused tidy.objects (sym object ∙ paused.found);
+      place = in_place _ _ _ _ c.index-waits.result.now c.in-Some-place_of.j paused tidy.objects (sym object ∙ paused.found);
       plan = plan c.index-waits.result.now there;
       few = c.in_ok-plan.ensures.few;
     })

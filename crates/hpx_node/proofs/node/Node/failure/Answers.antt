@@ -1,33 +1,19 @@
 use Rattle.hpx_node.proofs.Common.{IsFitJob, Job, ap, arith, length, slice_get_is, subst, sym, ◌<◌, ◌∙◌}
-use Rattle.hpx_node.proofs.FailedPlan.{plan_long, plan_limit, failure_is, failure_few, ok_three}
-use Rattle.hpx_node.proofs.Waited.{ok_map}
+use Rattle.hpx_node.proofs.FailedPlan.{plan_long, plan_limit, failure_is, failure_few}
+use Rattle.hpx_commit.proofs.Lists.{ok_map, ok_three}
 use Rattle.hpx_node.proofs.Paused.{asked_within, paused_at}
 use Rattle.hpx_node.proofs.node.Node.failure.Goals as goal
 
-pub lawful-requires-clause-localities : goal.lawful-requires-clause-localities
-lawful-requires-clause-localities g c =
+pub lawful-requires : goal.lawful-requires
+lawful-requires g c =
     let inside : c.args.i < length c.self.inside.pending.items = rw (← c.self.view_is) at c.requires.there in
     let there = slice_get_is c.self.inside.pending.items c.args.i c.index-waits.result.now inside c.index-waits.ensures in
     let tidy = rw (← c.self.view_is) at c.requires.tidy in
-    let paused = paused_at _ c.args.i c.index-waits.result.now tidy there in
-    let few = paused.few.0 in
-    omega (arith, c.done-done.ensures.localities, paused.localities, few)
-
-pub lawful-requires-clause-at : goal.lawful-requires-clause-at
-lawful-requires-clause-at g c =
-    let inside : c.args.i < length c.self.inside.pending.items = rw (← c.self.view_is) at c.requires.there in
-    let there = slice_get_is c.self.inside.pending.items c.args.i c.index-waits.result.now inside c.index-waits.ensures in
-    let tidy = rw (← c.self.view_is) at c.requires.tidy in
-    let paused = paused_at _ c.args.i c.index-waits.result.now tidy there in
-    let below = paused.few.1 in
-    omega (arith, c.done-done.ensures.localities, paused.localities, below, ap (λ (j : Job). j.at) c.done-done.ensures.job)
-
-pub lawful-requires-clause-fit : goal.lawful-requires-clause-fit
-lawful-requires-clause-fit g c =
-    let inside : c.args.i < length c.self.inside.pending.items = rw (← c.self.view_is) at c.requires.there in
-    let there = slice_get_is c.self.inside.pending.items c.args.i c.index-waits.result.now inside c.index-waits.ensures in
-    let tidy = rw (← c.self.view_is) at c.requires.tidy in
-    subst IsFitJob (sym c.done-done.ensures.job) (paused_at _ c.args.i c.index-waits.result.now tidy there).job
+    let paused = paused_at _ c.args.i c.index-waits.result.now tidy there in record {
+      localities = omega (arith, c.done-done.ensures.localities, paused.localities, paused.few.0);
+      at = omega (arith, c.done-done.ensures.localities, paused.localities, paused.few.1, ap (λ (j : Job). j.at) c.done-done.ensures.job);
+      fit = subst IsFitJob (sym c.done-done.ensures.job) paused.job;
+    }
 
 pub hand_with-requires : goal.hand_with-requires
 hand_with-requires g c =

@@ -1,5 +1,5 @@
 use Rattle.hpx_node.proofs.Common.{Book, Stands, ap, ◌∙◌}
-use Rattle.hpx_node.proofs.Waited.{ok_map}
+use Rattle.hpx_commit.proofs.Lists.{ok_map}
 use Rattle.hpx_node.proofs.Same.{same_too}
 use Rattle.hpx_node.proofs.Turns.{turn_from, adds_none}
 use Rattle.hpx_node.proofs.SameCommit.{prepared_same, ends_from}
@@ -23,7 +23,7 @@ pub prepare-requires-clause-few : goal.prepare-requires-clause-few
 prepare-requires-clause-few g c = (are_few g.A.Acts.act_of _ _ c.requires.room c.requires.stands).births
 
 pub commit-requires-clause-prepared : goal.commit-requires-clause-prepared
-commit-requires-clause-prepared g c = prepared_same c.args.self.now.tables _ _ _ _ c.reserve.ensures.same
+commit-requires-clause-prepared g c = prepared_same c.args.self.now.tables _ c.args.done.job c.args.done.outcome _ c.reserve.ensures.same
     (rw c.in-Ok-Some.field-0-is at c.in-Ok-Some.ensures.some)
 
 pub commit-requires-clause-stands : goal.commit-requires-clause-stands

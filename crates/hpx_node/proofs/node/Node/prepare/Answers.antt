@@ -40,4 +40,4 @@ prepare_from-requires-clause-stock g c =
     let is : c.all_last.result ≡ true = let no = c.if-not-all_last.false in cc in
     let own = own_is t d.job d.outcome c.requires.fit (omega (arith, c.requires.localities, c.requires.near)) c.lawful.ensures (test.0 is) in
     rw (c.in_ok-stock.ensures, c.ids-2.ensures, c.as_slice-4.ensures.value, c.in_ok-places.ensures, c.in_ok-hand.ensures.0, c.in_ok-hand.ensures.1, c.in_ok-hand.ensures.2, c.as_slice-2.ensures.value, c.in_ok-made.ensures, c.as_slice.ensures, c.job-job.ensures, c.outcome-outcome.ensures)
-    (record { names = own.names; credit = own.credit; few = own.few; lasts = own.lasts })
+    own

@@ -24,58 +24,25 @@ module _ (x y : Locality) (e : x ≡ y) (i : ℕ) (w : Waits) (lt : i < length x
     stock_at laws log credit last = is_ready y.tables w o n was_at was_at.few.0 laws (subst (λ (z : Locality). 8 ≤ z.tables.profile.credit_log) e log) credit
         (brings_by y.tables o (give_right y.tables (Give o n) o n right).1) for_at last
 
-pub lawful-requires-clause-localities : goal.lawful-requires-clause-localities
-lawful-requires-clause-localities g c =
+pub lawful-requires : goal.lawful-requires
+lawful-requires g c =
     let inside : c.in-Some.i < length c.self.inside.pending.items = rw (c.as_slice.ensures.value) at c.in-Some.ensures.inside in
     let was = was_at _ _ c.self.view_is c.in-Some.i c.index-waits.result.now inside c.index-waits.ensures c.requires.tidy in
-    omega (arith, c.done.ensures.localities, was.localities, was.few.0)
-
-pub lawful-requires-clause-at : goal.lawful-requires-clause-at
-lawful-requires-clause-at g c =
-    let inside : c.in-Some.i < length c.self.inside.pending.items = rw (c.as_slice.ensures.value) at c.in-Some.ensures.inside in
-    let was = was_at _ _ c.self.view_is c.in-Some.i c.index-waits.result.now inside c.index-waits.ensures c.requires.tidy in
-    omega (arith, c.done.ensures.localities, was.localities, was.few.1, ap (λ (x : Job). x.at) c.done.ensures.job)
-
-pub lawful-requires-clause-fit : goal.lawful-requires-clause-fit
-lawful-requires-clause-fit g c =
-    let inside : c.in-Some.i < length c.self.inside.pending.items = rw (c.as_slice.ensures.value) at c.in-Some.ensures.inside in
-    let was = was_at _ _ c.self.view_is c.in-Some.i c.index-waits.result.now inside c.index-waits.ensures c.requires.tidy in
-    subst IsFitJob (sym c.done.ensures.job) was.job
+    record {
+      localities = omega (arith, c.done.ensures.localities, was.localities, was.few.0);
+      at = omega (arith, c.done.ensures.localities, was.localities, was.few.1, ap (λ (x : Job). x.at) c.done.ensures.job);
+      fit = subst IsFitJob (sym c.done.ensures.job) was.job;
+    }
 
 pub hand_with-requires : goal.hand_with-requires
 hand_with-requires g c =
     let t = c.args.self.now.tables in
-    let w = c.index-waits.result.now in
     let inside : c.in-Some.i < length c.self.inside.pending.items = rw (c.as_slice.ensures.value) at c.in-Some.ensures.inside in
     let was = was_at _ _ c.self.view_is c.in-Some.i c.index-waits.result.now inside c.index-waits.ensures c.requires.tidy in
-    asked_within t.here t.localities t.profile.credit_log t.objects w was
+    asked_within t.here t.localities t.profile.credit_log t.objects c.index-waits.result.now was
 
-pub prepare_waiting-requires-clause-localities : goal.prepare_waiting-requires-clause-localities
-prepare_waiting-requires-clause-localities g c =
-    let inside : c.in-Some.i < length c.self.inside.pending.items = rw (c.as_slice.ensures.value) at c.in-Some.ensures.inside in
-    let was = was_at _ _ c.self.view_is c.in-Some.i c.index-waits.result.now inside c.index-waits.ensures c.requires.tidy in
-    was.localities
-
-pub prepare_waiting-requires-clause-near : goal.prepare_waiting-requires-clause-near
-prepare_waiting-requires-clause-near g c =
-    let inside : c.in-Some.i < length c.self.inside.pending.items = rw (c.as_slice.ensures.value) at c.in-Some.ensures.inside in
-    let was = was_at _ _ c.self.view_is c.in-Some.i c.index-waits.result.now inside c.index-waits.ensures c.requires.tidy in
-    was.few.0
-
-pub prepare_waiting-requires-clause-at : goal.prepare_waiting-requires-clause-at
-prepare_waiting-requires-clause-at g c =
-    let inside : c.in-Some.i < length c.self.inside.pending.items = rw (c.as_slice.ensures.value) at c.in-Some.ensures.inside in
-    let was = was_at _ _ c.self.view_is c.in-Some.i c.index-waits.result.now inside c.index-waits.ensures c.requires.tidy in
-    omega (arith, was.localities, was.few.1)
-
-pub prepare_waiting-requires-clause-fit : goal.prepare_waiting-requires-clause-fit
-prepare_waiting-requires-clause-fit g c =
-    let inside : c.in-Some.i < length c.self.inside.pending.items = rw (c.as_slice.ensures.value) at c.in-Some.ensures.inside in
-    let was = was_at _ _ c.self.view_is c.in-Some.i c.index-waits.result.now inside c.index-waits.ensures c.requires.tidy in
-    was.job
-
-pub prepare_waiting-requires-clause-fits : goal.prepare_waiting-requires-clause-fits
-prepare_waiting-requires-clause-fits g c =
+pub prepare_waiting-requires : goal.prepare_waiting-requires
+prepare_waiting-requires g c =
     let t = c.args.self.now.tables in
     let w = c.index-waits.result.now in
     let inside : c.in-Some.i < length c.self.inside.pending.items = rw (c.as_slice.ensures.value) at c.in-Some.ensures.inside in
@@ -89,41 +56,16 @@ prepare_waiting-requires-clause-fits g c =
     let laws = laws_by c.done.result.now.localities t.localities c.done.result.now.job w.job c.done.result.now.outcome w.outcome (c.done.ensures.localities ∙ was.localities)
     c.done.ensures.job c.done.ensures.outcome c.lawful.ensures in
     let k = stock_at _ _ c.self.view_is c.in-Some.i w inside c.index-waits.ensures c.requires.tidy o c.in-Give.entry right found laws c.self.invariant.3.log_least credit last in
-    rw (c.as_slice-3.ensures.value, c.in_ok-hand.ensures) (omega (arith, k.long, made_long t.here t.births t.profile.credit_log w.outcome.makes))
-
-pub prepare_waiting-requires-clause-short : goal.prepare_waiting-requires-clause-short
-prepare_waiting-requires-clause-short g c =
-    let t = c.args.self.now.tables in
-    let w = c.index-waits.result.now in
-    let inside : c.in-Some.i < length c.self.inside.pending.items = rw (c.as_slice.ensures.value) at c.in-Some.ensures.inside in
-    let was = was_at _ _ c.self.view_is c.in-Some.i c.index-waits.result.now inside c.index-waits.ensures c.requires.tidy in
-    let o = c.in-Give.id in
-    let right = subst (λ p. broken_near c.args.self.now.tables p ≡ None) c.in-Give.is c.requires.right in
-    let credit : HasCredit c.in-Give.id = subst IsParcel c.in-Give.is c.requires.fit in
-    let found = rw (c.as_slice.ensures.value) at c.in-Some.ensures.found in
-    let yes : c.waits_for_one.result ≡ true = let no = c.if-not-waits_for_one.false in cc in
-    let last = last_is o w c.log_of.result c.waits_for_one.result c.log_of.ensures.log c.waits_for_one.ensures c.if-log_of-eq0.false yes in
-    let laws = laws_by c.done.result.now.localities t.localities c.done.result.now.job w.job c.done.result.now.outcome w.outcome (c.done.ensures.localities ∙ was.localities)
-    c.done.ensures.job c.done.ensures.outcome c.lawful.ensures in
-    let k = stock_at _ _ c.self.view_is c.in-Some.i w inside c.index-waits.ensures c.requires.tidy o c.in-Give.entry right found laws c.self.invariant.3.log_least credit last in
-    rw (c.as_slice-3.ensures.value, c.in_ok-hand.ensures) k.short
-
-pub prepare_waiting-requires-clause-stock : goal.prepare_waiting-requires-clause-stock
-prepare_waiting-requires-clause-stock g c =
-    let t = c.args.self.now.tables in
-    let w = c.index-waits.result.now in
-    let inside : c.in-Some.i < length c.self.inside.pending.items = rw (c.as_slice.ensures.value) at c.in-Some.ensures.inside in
-    let was = was_at _ _ c.self.view_is c.in-Some.i c.index-waits.result.now inside c.index-waits.ensures c.requires.tidy in
-    let o = c.in-Give.id in
-    let right = subst (λ p. broken_near c.args.self.now.tables p ≡ None) c.in-Give.is c.requires.right in
-    let credit : HasCredit c.in-Give.id = subst IsParcel c.in-Give.is c.requires.fit in
-    let found = rw (c.as_slice.ensures.value) at c.in-Some.ensures.found in
-    let yes : c.waits_for_one.result ≡ true = let no = c.if-not-waits_for_one.false in cc in
-    let last = last_is o w c.log_of.result c.waits_for_one.result c.log_of.ensures.log c.waits_for_one.ensures c.if-log_of-eq0.false yes in
-    let laws = laws_by c.done.result.now.localities t.localities c.done.result.now.job w.job c.done.result.now.outcome w.outcome (c.done.ensures.localities ∙ was.localities)
-    c.done.ensures.job c.done.ensures.outcome c.lawful.ensures in
-    let k = stock_at _ _ c.self.view_is c.in-Some.i w inside c.index-waits.ensures c.requires.tidy o c.in-Give.entry right found laws c.self.invariant.3.log_least credit last in
-    rw (c.as_slice-3.ensures.value, c.in_ok-hand.ensures) k.stock
+    record {
+      localities = was.localities;
+      near = was.few.0;
+      at = omega (arith, was.localities, was.few.1);
+      fit = was.job;
+      few = c.requires.few;
+      fits = rw (c.as_slice-3.ensures.value, c.in_ok-hand.ensures) (omega (arith, k.long, made_long t.here t.births t.profile.credit_log w.outcome.makes));
+      short = rw (c.as_slice-3.ensures.value, c.in_ok-hand.ensures) k.short;
+      stock = rw (c.as_slice-3.ensures.value, c.in_ok-hand.ensures) k.stock;
+    }
 
 pub returns-clause-some : goal.returns-clause-some
 returns-clause-some g c =
@@ -143,7 +85,7 @@ returns-clause-some g c =
     let stands = rw (c.as_slice-2.ensures.value, c.target.ensures, c.action.ensures) at c.in-Some-place_of.ensures.found in
     let object = ap (λ (x : Locality). find (is_standing (target_of w.job.action)) x.tables.objects) (sym c.self.view_is)
     ∙ (stands ∙ ap (λ (x : Locality). slice_get x.tables.objects c.in-Some-place_of.j) c.self.view_is) in
-    let place = in_place t w c.in-Some-place_of.j was c.requires.tidy.objects (sym object ∙ was.found) in
+    let place = in_place _ _ _ _ w c.in-Some-place_of.j was c.requires.tidy.objects (sym object ∙ was.found) in
     let p = c.in_ok-prepared.prepared in
     let prepared = c.in_ok-prepared.ensures.prepared in
     subst (λ q. IsReadyFor g.A.Acts.act_of t q (record { i = c.in-Some.i; j = c.in-Some-place_of.j; prepared = c.in_ok-prepared.prepared })) (sym c.in-Give.is)

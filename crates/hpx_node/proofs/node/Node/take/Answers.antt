@@ -1,7 +1,7 @@
 use Rattle.hpx_node.proofs.Common.{IsTidy, Some, Stands, Tables, [], ap, arith, near_right, parcel_of, parcel_spelled, subst, sym, ◌∙◌, ◌≡◌, ◌≤◌}
 use Rattle.hpx_node.proofs.Followed.{next_gives}
 use Rattle.hpx_node.proofs.Same.{same_too}
-use Rattle.hpx_node.proofs.Turned.{are_few, at_rest_tidy, frame_follows, frame_takes, still_few}
+use Rattle.hpx_node.proofs.Turned.{are_few, at_rest_tidy, frame_follows, frame_takes}
 use Rattle.hpx_node.proofs.Turns.{adds_none}
 use Rattle.hpx_node.proofs.TurnSteps.{adds_steps}
 use Rattle.hpx_node.proofs.node.Node.take.Goals as goal
@@ -24,68 +24,43 @@ pub enter_frame-requires-clause-tidy : goal.enter_frame-requires-clause-tidy
 enter_frame-requires-clause-tidy g c =
     subst (λ (t : Tables). IsTidy t []) (sym c.reserve_turn.ensures.same.tables) (at_rest_tidy g.A.Acts.act_of _ _ c.requires.stands)
 
-pub follow-requires-clause-may : goal.follow-requires-clause-may
-follow-requires-clause-may g c =
+pub follow-requires : goal.follow-requires
+follow-requires g c =
     let spelled : parcel_of c.args.frame.now ≡ Some c.in-Ok.parcel = rw (c.as_slice.ensures) at c.in-Ok.ensures.read in
-    frame_follows g.A.Acts.act_of c.args.self.now.tables c.reserve_turn.new.self.tables c.enter_frame.new.self.tables c.args.book.now c.reserve_turn.new.book c.in-Ok.parcel
+    let k = frame_follows g.A.Acts.act_of c.args.self.now.tables c.reserve_turn.new.self.tables c.enter_frame.new.self.tables c.args.book.now c.reserve_turn.new.book c.in-Ok.parcel
     c.in-Ok-next.next c.reserve_turn.ensures.same (parcel_spelled c.args.frame.now c.in-Ok.parcel spelled).parcel (sym c.broken.ensures ∙ c.in_default.is) c.in-Ok-next.ensures
-    c.enter_frame.ensures.deals c.requires.stands
-
-pub follow-requires-clause-births : goal.follow-requires-clause-births
-follow-requires-clause-births g c =
-    let same = c.reserve_turn.ensures.same.tables in
-    (still_few c.args.self.now.tables _ _ c.in-Ok.parcel (are_few g.A.Acts.act_of _ _ c.requires.room c.requires.stands) c.enter_frame.ensures.deals
-    (ap (λ (t : Tables). t.births) same) (ap (λ (t : Tables). t.serial) same) (ap (λ (t : Tables). t.answered) same)).0
-
-pub follow-requires-clause-serial : goal.follow-requires-clause-serial
-follow-requires-clause-serial g c =
-    let same = c.reserve_turn.ensures.same.tables in
-    (still_few c.args.self.now.tables _ _ c.in-Ok.parcel (are_few g.A.Acts.act_of _ _ c.requires.room c.requires.stands) c.enter_frame.ensures.deals
-    (ap (λ (t : Tables). t.births) same) (ap (λ (t : Tables). t.serial) same) (ap (λ (t : Tables). t.answered) same)).1
-
-pub follow-requires-clause-answers : goal.follow-requires-clause-answers
-follow-requires-clause-answers g c =
-    let same = c.reserve_turn.ensures.same.tables in
-    (still_few c.args.self.now.tables _ _ c.in-Ok.parcel (are_few g.A.Acts.act_of _ _ c.requires.room c.requires.stands) c.enter_frame.ensures.deals
-    (ap (λ (t : Tables). t.births) same) (ap (λ (t : Tables). t.serial) same) (ap (λ (t : Tables). t.answered) same)).2
-
-pub follow-requires-clause-spare : goal.follow-requires-clause-spare
-follow-requires-clause-spare g c =
-    next_gives (1024 ≤ c.enter_frame.new.self.spare) g.A.Acts.act_of c.args.self.now.tables c.in-Ok.parcel c.in-Ok-next.next c.in-Ok-next.ensures
-    (λ id entry e. c.enter_frame.ensures.spare id entry e)
-
-pub follow-requires-clause-page : goal.follow-requires-clause-page
-follow-requires-clause-page g c =
-    next_gives (1024 ≤ c.enter_frame.new.book.spare) g.A.Acts.act_of c.args.self.now.tables c.in-Ok.parcel c.in-Ok-next.next c.in-Ok-next.ensures
-    (λ id entry e. c.enter_frame.ensures.page id entry e)
+    c.enter_frame.ensures.deals c.requires.stands c.requires.room in record {
+      may = k.may;
+      births = k.births;
+      serial = k.serial;
+      answers = k.answers;
+      spare = next_gives (1024 ≤ c.enter_frame.new.self.spare) g.A.Acts.act_of c.args.self.now.tables c.in-Ok.parcel c.in-Ok-next.next c.in-Ok-next.ensures
+          (λ id entry e. c.enter_frame.ensures.spare id entry e);
+      page = next_gives (1024 ≤ c.enter_frame.new.book.spare) g.A.Acts.act_of c.args.self.now.tables c.in-Ok.parcel c.in-Ok-next.next c.in-Ok-next.ensures
+          (λ id entry e. c.enter_frame.ensures.page id entry e);
+    }
 
 pub returns-then-is_err-clause-stands : goal.returns-then-is_err-clause-stands
 returns-then-is_err-clause-stands g c =
     same_too (Stands g.A.Acts.act_of) c.args.self.now.tables _ _ _ c.requires.stands c.reserve_turn.ensures.same.tables c.reserve_turn.ensures.same.entries
 
-pub returns-clause-ok : goal.returns-clause-ok
-returns-clause-ok g c =
+pub returns : goal.returns
+returns g c =
     let spelled : parcel_of c.args.frame.now ≡ Some c.in-Ok.parcel = rw (c.as_slice.ensures) at c.in-Ok.ensures.read in
     let log = subst (λ (x : Tables). 8 ≤ x.profile.credit_log) c.reserve_turn.ensures.same.tables c.enter_frame.ensures.log in
-    (frame_takes g.A.Acts.act_of c.args.self.now.tables c.reserve_turn.new.self.tables c.enter_frame.new.self.tables c.args.book.now c.reserve_turn.new.book c.in-Ok.parcel
+    let k = frame_takes g.A.Acts.act_of c.args.self.now.tables c.reserve_turn.new.self.tables c.enter_frame.new.self.tables c.args.book.now c.reserve_turn.new.book c.in-Ok.parcel
     c.in-Ok-next.next c.reserve_turn.ensures.same (parcel_spelled c.args.frame.now c.in-Ok.parcel spelled).parcel (sym c.broken.ensures ∙ c.in_default.is) c.in-Ok-next.ensures
     c.enter_frame.ensures.deals c.requires.stands g.met.A.Acts.is_blind (omega (arith, log)) c.in-Ok-duplicate.bytes c.args.frame.now c.enter_frame.new.book.entries
     c.follow.new.book.entries c.in-Ok-duplicate.ensures spelled c.enter_frame.ensures.writes c.enter_frame.ensures.leaves c.enter_frame.ensures.taken c.enter_frame.ensures.sent
-    c.follow.new.self.tables c.follow.ensures.running c.follow.ensures.followed c.follow.ensures.taken c.follow.ensures.sent).0
-
-pub returns-clause-stands : goal.returns-clause-stands
-returns-clause-stands g c =
-    let spelled : parcel_of c.args.frame.now ≡ Some c.in-Ok.parcel = rw (c.as_slice.ensures) at c.in-Ok.ensures.read in
-    let log = subst (λ (x : Tables). 8 ≤ x.profile.credit_log) c.reserve_turn.ensures.same.tables c.enter_frame.ensures.log in
-    (frame_takes g.A.Acts.act_of c.args.self.now.tables c.reserve_turn.new.self.tables c.enter_frame.new.self.tables c.args.book.now c.reserve_turn.new.book c.in-Ok.parcel
-    c.in-Ok-next.next c.reserve_turn.ensures.same (parcel_spelled c.args.frame.now c.in-Ok.parcel spelled).parcel (sym c.broken.ensures ∙ c.in_default.is) c.in-Ok-next.ensures
-    c.enter_frame.ensures.deals c.requires.stands g.met.A.Acts.is_blind (omega (arith, log)) c.in-Ok-duplicate.bytes c.args.frame.now c.enter_frame.new.book.entries
-    c.follow.new.book.entries c.in-Ok-duplicate.ensures spelled c.enter_frame.ensures.writes c.enter_frame.ensures.leaves c.enter_frame.ensures.taken c.enter_frame.ensures.sent
-    c.follow.new.self.tables c.follow.ensures.running c.follow.ensures.followed c.follow.ensures.taken c.follow.ensures.sent).1
+    c.follow.new.self.tables c.follow.ensures.running c.follow.ensures.followed c.follow.ensures.taken c.follow.ensures.sent in
+    record {
+      stands = k.1;
+      running = c.follow.ensures.running ∙ (c.enter_frame.ensures.running ∙ ap (λ (x : Tables). x.running) c.reserve_turn.ensures.same.tables);
+      turn = adds_steps _ _ _ _ c.reserve_turn.ensures.same.entries c.enter_frame.ensures.few c.enter_frame.ensures.light c.follow.ensures.few c.follow.ensures.light;
+      ok = k.0;
+      err = tt;
+      cause = tt;
+    }
 
 pub returns-then-is_err-clause-turn : goal.returns-then-is_err-clause-turn
 returns-then-is_err-clause-turn g c = adds_none _ _ c.reserve_turn.ensures.same.entries
-
-pub returns-clause-turn : goal.returns-clause-turn
-returns-clause-turn g c = adds_steps _ _ _ _ c.reserve_turn.ensures.same.entries
-    c.enter_frame.ensures.few c.enter_frame.ensures.light c.follow.ensures.few c.follow.ensures.light

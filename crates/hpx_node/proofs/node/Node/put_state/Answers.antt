@@ -1,5 +1,5 @@
-use Rattle.hpx_node.proofs.Common.{Done, Some, Waits, [], ap, name_of, set, slice_get, slice_get_is, some_same, sym, true, ◌++◌, ◌∙◌, ◌∷◌, ◌≡◌}
-use Rattle.hpx_node.proofs.node.Node.abandon.Goals as goal
+use Rattle.hpx_node.proofs.Common.{Some, ap, set, slice_get, slice_get_is, some_same, sym, ◌∙◌, ◌≡◌}
+use Rattle.hpx_node.proofs.node.Node.put_state.Goals as goal
 
 pub new-requires : goal.new-requires
 new-requires g c =
@@ -15,13 +15,3 @@ returns-clause-objects g c =
     slice_get_is c.self.inside.objects.items c.args.j c.index.result.now inside c.index.ensures in
     λ x h. let e : c.index.result.now ≡ x = some_same c.index.result.now x (sym is ∙ (rw (← c.self.view_is) at h)) in
     rw (← c.self.view_is, c.new.ensures, c.object-object.ensures) (ap (λ y. set c.self.inside.objects.items c.args.j (record { object = y.object; state = c.args.state })) e)
-
-pub returns-clause-entries : goal.returns-clause-entries
-returns-clause-entries g c =
-    let inside = rw (← c.self.view_is) at c.requires.waits in
-    let is : slice_get c.self.inside.pending.items c.args.i ≡ Some c.remove-waits.result =
-    slice_get_is c.self.inside.pending.items c.args.i c.remove-waits.result inside c.remove-waits.ensures.value in
-    λ w h. let e : c.remove-waits.result ≡ w = some_same c.remove-waits.result w (sym is ∙ (rw (← c.self.view_is) at h)) in
-    rw (← c.self.view_is) (c.push.ensures.entries
-    ∙ ap (λ n. c.args.book.now.entries ++ record { at = c.self.inside.here; event = Done n true } ∷ [])
-    (c.name_of.ensures ∙ (ap name_of c.action-2.ensures ∙ ap (λ (v : Waits). name_of v.job.action) e)))
