@@ -144,7 +144,7 @@ fn serve_all<S: Source, K: Sink, F: Fabric>(
     ensures write { result.1 ≡ Err SessionFault.Write → Rose (K.faults sink.old) (K.faults sink.new) }
     ensures fabric { result.1 ≡ Err SessionFault.Fabric → Rose (F.faults fabric.old) (F.faults fabric.new) }
     ensures full { result.1 ≡ Err SessionFault.JournalFull → IfSome result.0 (λ w. HasRoom w.journal.entries → ⊥) }
-    ensures room { result.1 ≢ Err SessionFault.JournalFull → result.1 ≢ Err SessionFault.OutOfMemory → IfSome result.0 (λ w. HasRoom w.journal.entries) }
+    ensures room { result.1 ≢ Err SessionFault.JournalFull → IfSome result.0 (λ w. HasRoom w.journal.entries) }
 
     ensures read_only { result.1 ≢ Err SessionFault.Read → S.faults source.new ≡ S.faults source.old }
     ensures write_only { result.1 ≢ Err SessionFault.Write → K.faults sink.new ≡ K.faults sink.old }
@@ -208,7 +208,7 @@ pub fn run<S: Source, K: Sink, E: Sink, F: Fabric>(
     ensures write_only { result.status ≢ 3 → K.faults sink.new ≡ K.faults sink.old }
     ensures fabric_only { result.status ≢ 4 → F.faults result.fabric ≡ F.faults fabric }
     ensures full { result.status ≡ 5 → IfSome result.world (λ w. HasRoom w.journal.entries → ⊥) }
-    ensures room { result.status ≢ 5 → result.status ≢ 6 → IfSome result.world (λ w. HasRoom w.journal.entries) }
+    ensures room { result.status ≢ 5 → IfSome result.world (λ w. HasRoom w.journal.entries) }
     ensures taken { result.status ≡ 9 → S.taken source.new ≡ S.taken source.old + 67108864 }
     ensures input { (input : _) → S.left source.old ≡ Some input → result.status ≡ 9 → IsInputFull input (S.left source.new) }
     ensures read_on { (input : _) → S.left source.old ≡ Some input → result.status ≡ 2 → (n : ℕ) × IsReadOn n input (S.left source.new) }

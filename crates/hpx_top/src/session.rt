@@ -12,7 +12,7 @@ ghost use Rattle.hpx_world.specs.Steps.{IsUnfed};
 ghost use Rattle.hpx_world.specs.Turns.{DidFeed};
 ghost use Rattle.hpx_world.specs.declared.turns.Turned.{Turned};
 ghost use Rattle.app_console.specs.Lines.{is_long, opening};
-ghost use Rattle.hpx_top.specs.Reader.{HasRead, bytes_left};
+ghost use Rattle.hpx_top.specs.Reader.{HasRead, IsFull, bytes_left};
 ghost use Rattle.hpx_top.specs.Session.{rules, IsAmple, IsRested, FeedsAtMost, Feeds, IsLineEndedBy, WritesFront, IsServing, IsOver, IsCutBy, IsStopped};
 ghost use Rattle.hpx_top.specs.Ends.{IsWhole, IsEndedBy, IsBegun, IsReadFrom, IsReadUp, IsReadOn, IsInputFull};
 
@@ -104,13 +104,15 @@ fn show<K: Sink>(journal: &Journal, cut: u64, sink: &mut K) -> Result<(), Sessio
     Ok(())
 }
 
-/// What a refusal of the world is for a session.
-fn fault_of(fault: WorldFault<AllActs>) -> SessionFault
+/// What a refusal of the world is for a session. A job that was not run is want of memory only where its journal has room.
+fn fault_of(fault: WorldFault<AllActs>, room: bool) -> SessionFault
     ensures fabric { result ≡ SessionFault.Fabric → fault ≡ WorldFault.Fabric }
     ensures fabric_too { fault ≡ WorldFault.Fabric → result ≡ SessionFault.Fabric }
-    ensures full { result ≡ SessionFault.JournalFull → (e w : ℕ) × (u : _) × (fault ≡ WorldFault.JournalFull e w u) }
+    ensures full { result ≡ SessionFault.JournalFull →
+        ((e w : ℕ) × (u : _) × (fault ≡ WorldFault.JournalFull e w u)) ⊎ ((job : _) × (fault ≡ WorldFault.NotRun job) × (room ≡ false)) }
     ensures full_too { (e w : ℕ) (u : _) → fault ≡ WorldFault.JournalFull e w u → result ≡ SessionFault.JournalFull }
-    ensures memory { result ≡ SessionFault.OutOfMemory → ((u : _) × (fault ≡ WorldFault.OutOfMemory u)) ⊎ ((job : _) × (fault ≡ WorldFault.NotRun job)) }
+    ensures memory { result ≡ SessionFault.OutOfMemory →
+        ((u : _) × (fault ≡ WorldFault.OutOfMemory u)) ⊎ ((job : _) × (fault ≡ WorldFault.NotRun job) × (room ≡ true)) }
     ensures bad_frame { result ≡ SessionFault.BadFrame → (to : _) × (frame : _) × (at : _) × (why : _) × (fault ≡ WorldFault.BadFrame to frame at why) }
     ensures strange { result ≡ SessionFault.Strange →
         ((to : _) × (frame : _) × (rule : _) × (object : _) × (kept : _) × (fault ≡ WorldFault.Strange to frame rule object kept))
@@ -139,7 +141,8 @@ fn fault_of(fault: WorldFault<AllActs>) -> SessionFault
             undone: _,
         } => SessionFault::JournalFull,
         WorldFault::OutOfMemory { undone: _ } => SessionFault::OutOfMemory,
-        WorldFault::NotRun { job: _ } => SessionFault::OutOfMemory,
+        WorldFault::NotRun { job: _ } if room => SessionFault::OutOfMemory,
+        WorldFault::NotRun { job: _ } => SessionFault::JournalFull,
     }
 }
 
@@ -167,7 +170,7 @@ fn begin<F: Fabric>(
 {
     match world.turn(alloc, Choice::Feed(text), fabric) {
         Ok(_) => Ok(()),
-        Err(fault) => Err(fault_of(fault)),
+        Err(fault) => Err(fault_of(fault, world.journal().room())),
     }
 }
 
@@ -188,7 +191,7 @@ fn settle<F: Fabric>(
 
     ensures fabric { result ≡ Err SessionFault.Fabric → Rose (F.faults fabric.old) (F.faults fabric.new) }
     ensures full { result ≡ Err SessionFault.JournalFull → HasRoom world.new.journal.entries → ⊥ }
-    ensures room { result ≢ Err SessionFault.JournalFull → result ≢ Err SessionFault.OutOfMemory → HasRoom world.new.journal.entries }
+    ensures room { result ≢ Err SessionFault.JournalFull → HasRoom world.new.journal.entries }
     ensures cause { IfErr result (λ fault. (fault ≡ SessionFault.Fabric) ⊎ (fault ≡ SessionFault.JournalFull) ⊎ (fault ≡ SessionFault.OutOfMemory)) }
     ensures stands { result ≢ Err SessionFault.Fabric → F.faults fabric.new ≡ F.faults fabric.old }
 {
@@ -196,7 +199,7 @@ fn settle<F: Fabric>(
     world.law();
     match drained {
         Ok(()) => Ok(()),
-        Err(fault) => Err(fault_of(fault)),
+        Err(fault) => Err(fault_of(fault, world.journal().room())),
     }
 }
 
@@ -221,7 +224,7 @@ fn feed<F: Fabric>(
 
     ensures fabric { result ≡ Err SessionFault.Fabric → Rose (F.faults fabric.old) (F.faults fabric.new) }
     ensures full { result ≡ Err SessionFault.JournalFull → HasRoom world.new.journal.entries → ⊥ }
-    ensures room { result ≢ Err SessionFault.JournalFull → result ≢ Err SessionFault.OutOfMemory → HasRoom world.new.journal.entries }
+    ensures room { result ≢ Err SessionFault.JournalFull → HasRoom world.new.journal.entries }
     ensures other { (result ≢ Err SessionFault.Read) × (result ≢ Err SessionFault.Write) × (result ≢ Err SessionFault.InputFull) }
     ensures no_frame { result ≢ Err SessionFault.BadFrame }
     ensures no_parcel { result ≢ Err SessionFault.Strange }
@@ -250,7 +253,7 @@ fn open<F: Fabric>(
 
     ensures fabric { result ≡ Err SessionFault.Fabric → Rose (F.faults fabric.old) (F.faults fabric.new) }
     ensures full { result ≡ Err SessionFault.JournalFull → HasRoom world.new.journal.entries → ⊥ }
-    ensures room { result ≢ Err SessionFault.JournalFull → result ≢ Err SessionFault.OutOfMemory → HasRoom world.new.journal.entries }
+    ensures room { HasRoom world.old.journal.entries → result ≢ Err SessionFault.JournalFull → HasRoom world.new.journal.entries }
     ensures other { (result ≢ Err SessionFault.Read) × (result ≢ Err SessionFault.Write) × (result ≢ Err SessionFault.InputFull) }
     ensures no_frame { result ≢ Err SessionFault.BadFrame }
     ensures no_parcel { result ≢ Err SessionFault.Strange }
@@ -286,7 +289,7 @@ fn serve_text<K: Sink, F: Fabric>(
     ensures write { result ≡ Err SessionFault.Write → Rose (K.faults sink.old) (K.faults sink.new) }
     ensures fabric { result ≡ Err SessionFault.Fabric → Rose (F.faults fabric.old) (F.faults fabric.new) }
     ensures full { result ≡ Err SessionFault.JournalFull → HasRoom world.new.journal.entries → ⊥ }
-    ensures room { result ≢ Err SessionFault.JournalFull → result ≢ Err SessionFault.OutOfMemory → HasRoom world.new.journal.entries }
+    ensures room { HasRoom world.old.journal.entries → result ≢ Err SessionFault.JournalFull → HasRoom world.new.journal.entries }
     ensures no_frame { result ≢ Err SessionFault.BadFrame }
     ensures no_parcel { result ≢ Err SessionFault.Strange }
     ensures write_only { result ≢ Err SessionFault.Write → K.faults sink.new ≡ K.faults sink.old }
@@ -344,8 +347,9 @@ fn serve_line<S: Source, K: Sink, F: Fabric>(
     ensures write { result ≡ Err SessionFault.Write → Rose (K.faults sink.old) (K.faults sink.new) }
     ensures fabric { result ≡ Err SessionFault.Fabric → Rose (F.faults fabric.old) (F.faults fabric.new) }
     ensures full { result ≡ Err SessionFault.JournalFull → HasRoom world.new.journal.entries → ⊥ }
-    ensures room { HasRoom world.old.journal.entries → result ≢ Err SessionFault.JournalFull → result ≢ Err SessionFault.OutOfMemory → HasRoom world.new.journal.entries }
+    ensures room { HasRoom world.old.journal.entries → result ≢ Err SessionFault.JournalFull → HasRoom world.new.journal.entries }
     ensures full_input { result ≡ Err SessionFault.InputFull → reader.new.read ≡ 67108864 }
+    ensures memory { result ≡ Err SessionFault.OutOfMemory → IsFull reader.new → bytes_left reader.new < bytes_left reader.old }
     ensures read_only { result ≢ Err SessionFault.Read → S.faults source.new ≡ S.faults source.old }
     ensures no_frame { result ≢ Err SessionFault.BadFrame }
     ensures no_parcel { result ≢ Err SessionFault.Strange }
@@ -405,7 +409,7 @@ pub fn serve<S: Source, K: Sink, F: Fabric>(
     ensures write { result ≡ Err SessionFault.Write → Rose (K.faults sink.old) (K.faults sink.new) }
     ensures fabric { result ≡ Err SessionFault.Fabric → Rose (F.faults fabric.old) (F.faults fabric.new) }
     ensures full { result ≡ Err SessionFault.JournalFull → HasRoom world.new.journal.entries → ⊥ }
-    ensures room { result ≢ Err SessionFault.JournalFull → result ≢ Err SessionFault.OutOfMemory → HasRoom world.new.journal.entries }
+    ensures room { result ≢ Err SessionFault.JournalFull → HasRoom world.new.journal.entries }
     ensures read_only { result ≢ Err SessionFault.Read → S.faults source.new ≡ S.faults source.old }
     ensures no_frame { result ≢ Err SessionFault.BadFrame }
     ensures no_parcel { result ≢ Err SessionFault.Strange }

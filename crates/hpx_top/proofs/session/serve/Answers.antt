@@ -4,7 +4,8 @@ use Rattle.hpx_ports.specs.Told.{followed}
 use Rattle.hpx_top.specs.Session.{IsAmple, WritesFront}
 use Rattle.hpx_top.proofs.ShowLemmas.{if_err_from, err_of, no_err}
 use Rattle.hpx_top.proofs.SessionLemmas.{serving_open, under_start}
-use Rattle.hpx_top.proofs.FeedLemmas.{same_rules, cut_write, cut_opening}
+use Rattle.hpx_journal.specs.Weights.{HasRoom}
+use Rattle.hpx_top.proofs.FeedLemmas.{same_rules, cut_write, cut_opening, room_none}
 use Rattle.hpx_top.proofs.EndLemmas.{all_lines, whole_from, begun_over, read_up_from, read_on_from, read_from, read_from_none, ended_from, begun_from, ended_opening, begun_opening, read_none, cut_same, over_same}
 use Rattle.hpx_top.proofs.session.serve.Goals as goal
 
@@ -66,7 +67,7 @@ loop-reader-init g c = record {
   source_stands = refl;
   sink_stands = c.in_ok-write.ensures.stands;
   fabric_stands = c.in_ok-open.ensures.stands (no_err _ _);
-  room = c.in_ok-open.ensures.room (no_err _ _) (no_err _ _);
+  room = c.in_ok-open.ensures.room (subst HasRoom (sym c.requires.empty) room_none) (no_err _ _);
 }
 
 pub loop-reader-preserved : goal.loop-reader-preserved
@@ -86,7 +87,7 @@ loop-reader-preserved g c =
       source_stands = c.in_ok-serve_line.ensures.read_only (no_err _ _) ∙ c.loop-reader.invariant.source_stands;
       sink_stands = c.in_ok-serve_line.ensures.write_only (no_err _ _) ∙ c.loop-reader.invariant.sink_stands;
       fabric_stands = c.in_ok-serve_line.ensures.fabric_only (no_err _ _) ∙ c.loop-reader.invariant.fabric_stands;
-      room = c.in_ok-serve_line.ensures.room c.loop-reader.invariant.room (no_err _ _) (no_err _ _);
+      room = c.in_ok-serve_line.ensures.room c.loop-reader.invariant.room (no_err _ _);
     }
 
 pub returns-in_err-serve_line-clause-ended : goal.returns-in_err-serve_line-clause-ended
