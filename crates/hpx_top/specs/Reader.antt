@@ -1,5 +1,5 @@
 -- A reader of lines: what it holds, what is left of its input, and what each of its answers says.
-use Rattle.std.specs.Prelude.{ℕ, Bool, true, false, Option, Some, Result, Ok, Err, IfSome, List, [], ◌∷◌, ◌++◌, ◌≡◌, ◌==◌, ◌&&◌, not, ◌+◌, ◌-◌, ◌^◌, ◌<◌, length, if◌then◌else◌}
+use Rattle.std.specs.Prelude.{ℕ, zero, suc, Bool, true, false, Option, Some, Result, Ok, Err, IfSome, List, [], ◌∷◌, ◌++◌, ◌≡◌, ◌==◌, ◌&&◌, not, ◌+◌, ◌-◌, ◌^◌, ◌<◌, length, if◌then◌else◌}
 use Rattle.std.specs.Option.{option_map}
 use Rattle.std.specs.List.{slice_split, list_any}
 use Rattle.hpx_ports.specs.Told.{preceded}
@@ -77,6 +77,11 @@ Answers Full old new left later = IsFull new × (input_left new later ≡ input_
 abbrev pub behind_line : List ℕ → List ℕ
 behind_line [] = []
 behind_line (b ∷ bytes) = if is_newline b then bytes else behind_line bytes
+
+-- behind so many
+abbrev pub behind : ℕ → List ℕ → List ℕ
+behind zero bytes = bytes
+behind (suc n) bytes = behind_line (behind n bytes)
 
 -- a line that is handed out leaves what is behind the first newline
 abbrev pub LeavesBehind : Next → Option (List ℕ) → Option (List ℕ) → Type 0

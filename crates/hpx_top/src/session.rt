@@ -1,6 +1,7 @@
 //! A session of the console: each line that is read is fed, and what it prints is written.
 ghost use Rattle.std.specs.Prelude.{◌≡◌, ◌≢◌, ◌≤◌, ◌<◌, ◌+◌, ◌∷◌, ◌⊎◌, ℕ, [], Ok, Err, Some, OnOk, OnErr, IfErr, IfSome, length, drop, true, false, slice_get};
 ghost use Rattle.std.specs.List.{concat};
+ghost use Rattle.std.specs.Option.{option_map};
 ghost use Rattle.hpx_journal.specs.Pool.{prints_by, prints_of};
 ghost use Rattle.hpx_journal.specs.Weights.{HasRoom};
 ghost use Rattle.hpx_ports.specs.Faults.{Rose};
@@ -12,9 +13,9 @@ ghost use Rattle.hpx_world.specs.Steps.{IsUnfed};
 ghost use Rattle.hpx_world.specs.Turns.{DidFeed};
 ghost use Rattle.hpx_world.specs.declared.turns.Turned.{Turned};
 ghost use Rattle.app_console.specs.Lines.{is_long, opening};
-ghost use Rattle.hpx_top.specs.Reader.{HasRead, IsFull, bytes_left};
-ghost use Rattle.hpx_top.specs.Session.{rules, IsAmple, IsRested, FeedsAtMost, Feeds, IsLineEndedBy, WritesFront, IsServing, IsOver, IsCutBy, IsStopped};
-ghost use Rattle.hpx_top.specs.Ends.{IsWhole, IsEndedBy, IsBegun, IsReadFrom, IsReadUp, IsReadOn, IsInputFull};
+ghost use Rattle.hpx_top.specs.Reader.{HasRead, IsOut, input_left, bytes_left, behind_line};
+ghost use Rattle.hpx_top.specs.Session.{rules, IsAmple, IsRested, FeedsAtMost, Feeds, IsLineEndedBy, WritesFront, IsServing, IsServingAt, IsCutAt, IsOver, IsCutBy, IsStopped};
+ghost use Rattle.hpx_top.specs.Ends.{IsWhole, IsEndedBy, IsBegun, IsShort, IsReadFrom, IsReadUp, IsReadOn, IsInputFull};
 
 use crate::acts::AllActs;
 use crate::reader::{LineReader, Next, ReadFault};
@@ -318,9 +319,13 @@ fn serve_line<S: Source, K: Sink, F: Fabric>(
     requires rest { IsRested world.old }
     requires carrying { IsCarrying (rules world.old) world.old.hand (F.flight fabric.old) (F.trace fabric.old) world.old.journal.entries }
 
-    ensures line { result ≡ Ok true → (all : _) (before : _) →
-        IsServing (rules world.old) all before reader.old (S.left source.old) world.old.journal.entries (K.held sink.old) →
-        IsServing (rules world.old) all before reader.new (S.left source.new) world.new.journal.entries (K.held sink.new) }
+    ensures line { result ≡ Ok true → (all : _) (before : _) (count : ℕ) →
+        IsServingAt count (rules world.old) all before reader.old (S.left source.old) world.old.journal.entries (K.held sink.old) →
+        IsServingAt (count + 1) (rules world.old) all before reader.new (S.left source.new) world.new.journal.entries (K.held sink.new) }
+    ensures behind { result ≡ Ok true → input_left reader.new (S.left source.new) ≡ option_map behind_line (input_left reader.old (S.left source.old)) }
+    ensures short { result ≡ Err SessionFault.OutOfMemory → (all : _) (before : _) (count : ℕ) →
+        IsServingAt count (rules world.old) all before reader.old (S.left source.old) world.old.journal.entries (K.held sink.old) →
+        IsCutAt count (length world.old.nodes) 1 all before world.new.journal.entries (K.held sink.new) }
     ensures over { result ≡ Ok false → (all : _) (before : _) →
         IsServing (rules world.old) all before reader.old (S.left source.old) world.old.journal.entries (K.held sink.old) →
         IsOver (length world.old.nodes) reader.new.ended all before world.new.journal.entries (K.held sink.new) }
@@ -349,7 +354,7 @@ fn serve_line<S: Source, K: Sink, F: Fabric>(
     ensures full { result ≡ Err SessionFault.JournalFull → HasRoom world.new.journal.entries → ⊥ }
     ensures room { HasRoom world.old.journal.entries → result ≢ Err SessionFault.JournalFull → HasRoom world.new.journal.entries }
     ensures full_input { result ≡ Err SessionFault.InputFull → reader.new.read ≡ 67108864 }
-    ensures memory { result ≡ Err SessionFault.OutOfMemory → IsFull reader.new → bytes_left reader.new < bytes_left reader.old }
+    ensures out { result ≡ Err SessionFault.OutOfMemory → IsOut reader.new (input_left reader.old (S.left source.old)) (S.left source.new) → ⊥ }
     ensures read_only { result ≢ Err SessionFault.Read → S.faults source.new ≡ S.faults source.old }
     ensures no_frame { result ≢ Err SessionFault.BadFrame }
     ensures no_parcel { result ≢ Err SessionFault.Strange }
@@ -395,6 +400,8 @@ pub fn serve<S: Source, K: Sink, F: Fabric>(
     ensures read_up { (input : _) → S.left source.old ≡ Some input → OnOk result (IsReadUp input (S.left source.new)) }
     ensures ended { (input : _) → S.left source.old ≡ Some input →
         IfErr result (λ fault. IsEndedBy fault (length world.old.nodes) input world.new.journal.entries (K.held sink.old) (K.held sink.new)) }
+    ensures short { (input : _) → S.left source.old ≡ Some input → result ≡ Err SessionFault.OutOfMemory →
+        IsShort (length world.old.nodes) input (S.left source.new) world.new.journal.entries (K.held sink.old) (K.held sink.new) }
     ensures begun { (input : _) → S.left source.old ≡ Some input → IsBegun (length world.old.nodes) input world.new.journal.entries (K.held sink.old) (K.held sink.new) }
     ensures input { (input : _) → S.left source.old ≡ Some input → result ≡ Err SessionFault.InputFull → IsInputFull input (S.left source.new) }
     ensures read_on { (input : _) → S.left source.old ≡ Some input → result ≡ Err SessionFault.Read → (n : ℕ) × IsReadOn n input (S.left source.new) }
