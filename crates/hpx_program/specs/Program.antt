@@ -1,12 +1,12 @@
 -- What the program did with its ports, by the status that it ends with.
-use Rattle.std.specs.Prelude.{ℕ, Option, IfSome, List, ◌≡◌, ◌≢◌, ◌⊎◌, ◌+◌, ◌<◌, ◌≤◌}
+use Rattle.std.specs.Prelude.{ℕ, Option, Some, IfSome, List, ◌≡◌, ◌≢◌, ◌⊎◌, ◌+◌, ◌<◌, ◌≤◌}
 use Rattle.hpx_journal.specs.declared.entry.Entry.{Entry}
 use Rattle.hpx_journal.specs.Weights.{HasRoom}
 use Rattle.hpx_ports.specs.Faults.{Rose}
 use Rattle.hpx_ports.specs.Told.{followed}
 use Rattle.hpx_world.specs.Places.{Places}
 use Rattle.hpx_top.specs.Session.{WritesFront}
-use Rattle.hpx_top.specs.Ends.{IsWhole, IsBrokenOff, IsBrokenIn, IsBrokenAtOpening, IsBegun, IsReadFrom, IsReadUp}
+use Rattle.hpx_top.specs.Ends.{IsWhole, IsBrokenOff, IsBrokenIn, IsBrokenAtOpening, IsBegun, IsShort, IsReadFrom, IsReadUp}
 
 -- what is left to read and how many bytes were read, what was written, and how often reading, writing and the fabric failed
 pub record Ports : Type 0 where
@@ -41,6 +41,7 @@ pub record HasCause (status : ℕ) (world : Option Places) (x z : Ports) : Type 
   pub write : status ≡ 3 → Rose x.write_faults z.write_faults
   pub frame : status ≡ 4 → Rose x.frame_faults z.frame_faults
   pub full : status ≡ 5 → IfSome world (λ w. HasRoom w.journal.entries → ⊥)
+  pub room : status ≢ 5 → IfSome world (λ w. HasRoom w.journal.entries)
   pub input : status ≡ 9 → z.taken ≡ x.taken + 67108864
   pub read_only : status ≢ 2 → z.read_faults ≡ x.read_faults
   pub write_only : status ≢ 3 → z.write_faults ≡ x.write_faults
@@ -54,3 +55,7 @@ pub record HasServed (status : ℕ) (input : List ℕ) (entries : List Entry) (x
   pub begun : IsBegun 2 input entries x.text z.text
   pub between_lines : (status ≡ 2) ⊎ (status ≡ 9) → IsBrokenOff 2 0 input entries x.text z.text
   pub in_a_line : (status ≡ 4) ⊎ (status ≡ 5) → IsBrokenIn 2 input entries x.text z.text ⊎ IsBrokenAtOpening entries x.text z.text
+
+-- where memory was wanting, the input was not full behind the lines that were handled
+abbrev pub IsShortIn : ℕ → Option Places → Option (List ℕ) → Option (List ℕ) → Option (List ℕ) → Option (List ℕ) → Type 0
+IsShortIn status world left later old new = IfSome world (λ w. (input : List ℕ) → left ≡ Some input → status ≡ 6 → IsShort 2 input later w.journal.entries old new)

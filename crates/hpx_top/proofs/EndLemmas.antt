@@ -1,16 +1,17 @@
 -- What the end of a session says of the bytes of its input.
-use Rattle.std.specs.Prelude.{IfSome, Result, Err, ◌≢◌, ◌≤◌}
+use Rattle.std.specs.Prelude.{IfSome, Result, Err, ◌≢◌, ◌≤◌, ◌<◌, suc}
+use Rattle.std.specs.Option.{option_map}
 use Rattle.std.specs.List.{list_any, slice_split}
 use Rattle.std.proofs.Common.{ℕ, Bool, true, false, List, [], ◌∷◌, ◌++◌, ◌≡◌, ◌+◌, ◌⊎◌, length, Option, Some, None, refl, sym, ap, ◌∙◌, subst, inl, inr, arith, append-nil, append_assoc, length-append}
 use Rattle.hpx_journal.specs.declared.entry.Entry.{Entry}
 use Rattle.hpx_ports.specs.Told.{preceded, followed}
 use Rattle.app_console.specs.Lines.{IsFront, is_quit, is_newline, before_quit, lines_in, lines_of, quits}
 use Rattle.hpx_top.specs.Texts.{fed, text_of}
-use Rattle.hpx_top.specs.Reader.{Reading, HasRead, lines_left}
+use Rattle.hpx_top.specs.Reader.{Reading, HasRead, IsOut, input_left, lines_left, behind_line, behind}
 use Rattle.hpx_top.specs.declared.session.SessionFault.{SessionFault}
 use Rattle.hpx_top.specs.declared.session.SessionFault.TheVariants.{Read, Write, Fabric, JournalFull, OutOfMemory, BadFrame, Strange, InputFull}
-use Rattle.hpx_top.specs.Session.{lines_fed, IsCut, IsCutIn, IsCutAtOpening, IsCutBy, IsOver, IsUnderWay, IsStopped}
-use Rattle.hpx_top.specs.Ends.{IsWhole, IsBrokenOff, IsBrokenIn, IsBrokenAtOpening, IsBegun, IsEndedBy, IsReadFrom, IsReadUp, IsReadOn}
+use Rattle.hpx_top.specs.Session.{lines_fed, IsCut, IsCutAt, IsCutIn, IsCutAtOpening, IsCutBy, IsOver, IsUnderWay, IsStopped}
+use Rattle.hpx_top.specs.Ends.{IsWhole, IsBrokenOff, IsBrokenIn, IsBrokenAtOpening, IsBegun, IsFullBehind, IsShort, IsEndedBy, IsReadFrom, IsReadUp, IsReadOn}
 use Rattle.hpx_top.proofs.LineLemmas.{told_rest, before_quit_append, text_front, front_then, followed_nothing}
 use Rattle.hpx_top.proofs.SessionLemmas.{under_cut, under_in, under_opening, under_over}
 
@@ -248,3 +249,63 @@ read_none left reading h = subst (λ r. HasRead left r left) (sym h) (record {
     nothing : (o : Option (List ℕ)) → o ≡ preceded [] o
     nothing None = refl
     nothing (Some xs) = refl
+
+-- ---- where memory was wanting
+
+-- what is behind the lines that were handled
+pub behind_more : (bytes mid later : Option (List ℕ)) (n : ℕ) → mid ≡ option_map (behind n) bytes → later ≡ option_map behind_line mid → later ≡ option_map (behind (n + 1)) bytes
+behind_more None mid later n h next = next ∙ ap (option_map behind_line) h
+behind_more (Some bytes) mid later n h next =
+    let one : n + 1 ≡ suc n = omega arith in
+    next ∙ ap (option_map behind_line) h ∙ ap (λ k. Some (behind k bytes)) (sym one)
+
+pub behind_start : (left : Option (List ℕ)) (reading : Reading) → reading ≡ record { pending = []; read = 0; ended = false } → input_left reading left ≡ option_map (behind 0) left
+behind_start left reading h = ap (λ r. input_left r left) h ∙ none left
+  where
+    none : (o : Option (List ℕ)) → preceded [] o ≡ option_map (behind 0) o
+    none None = refl
+    none (Some bytes) = refl
+
+-- the input was full there
+full_out : (count : ℕ) (input : List ℕ) (before rest : Option (List ℕ)) (reading : Reading) → before ≡ Some (behind count input) → HasRead (Some input) reading rest
+    → IsFullBehind count input rest → IsOut reading before rest
+full_out count input before rest reading is h f =
+    let told = told_rest input h.front rest h.next in
+    let same : Some told.0 ≡ Some f.rest = sym told.1 ∙ f.left_is in
+    let rests : told.0 ≡ f.rest = cc in
+    let all : length input ≡ length h.front + length told.0 = ap length told.2 ∙ length-append h.front told.0 in
+    let full : length input ≡ length f.front + length f.rest = ap length f.input_is ∙ length-append f.front f.rest in
+    let read : reading.read ≡ 67108864 = omega (arith, all, full, ap length rests, f.count, h.count) in
+    record {
+      read = read;
+      goes_on = still reading.ended h.below read;
+      piece = f.piece;
+      rest = f.rest;
+      input_is = is ∙ ap (λ bytes. Some bytes) f.behind_is;
+      left_is = f.left_is;
+      no_line = f.no_line;
+    }
+  where
+    still : (ended : Bool) → (ended ≡ true → reading.read < 67108864) → reading.read ≡ 67108864 → ended ≡ false
+    still false below read = refl
+    still true below read = absurd (let less : reading.read < 67108864 = below refl in omega (arith, read))
+
+short_at : (count n : ℕ) (input : List ℕ) (before rest : Option (List ℕ)) (reading : Reading) (entries : List Entry) (old new : Option (List ℕ))
+    → IsCutAt count n 1 (Some (lines_in (slice_split is_newline input))) old entries new → before ≡ Some (behind count input) → HasRead (Some input) reading rest
+    → (IsOut reading before rest → ⊥) → IsShort n input rest entries old new
+unfolding broken_at
+short_at count n input before rest reading entries old new c is h never = inl (
+  broken_at n 1 input entries old new c.0,
+  λ f. never (full_out count input before rest reading is h (subst (λ k. IsFullBehind k input rest) c.1 f)),
+)
+
+pub short_from : (count n : ℕ) (input : List ℕ) (left before rest : Option (List ℕ)) (reading : Reading) (entries : List Entry) (old new : Option (List ℕ)) → left ≡ Some input
+    → IsCutAt count n 1 (all_lines left) old entries new → before ≡ option_map (behind count) left → HasRead left reading rest
+    → (IsOut reading before rest → ⊥) → IsShort n input rest entries old new
+short_from count n input left before rest reading entries old new h c is read never =
+    short_at count n input before rest reading entries old new
+    (subst (λ all. IsCutAt count n 1 all old entries new) (told input left h) c) (is ∙ ap (option_map (behind count)) h)
+    (subst (λ all. HasRead all reading rest) h read) never
+
+pub short_opening : (n : ℕ) (input : List ℕ) (rest : Option (List ℕ)) (entries : List Entry) (old new : Option (List ℕ)) → IsCutAtOpening old entries new → IsShort n input rest entries old new
+short_opening n input rest entries old new c = inr (opening_broken entries old new c)

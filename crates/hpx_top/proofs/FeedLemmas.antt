@@ -167,11 +167,15 @@ pub neither : {A B : Type 0} → (A → ⊥) → (B → ⊥) → A ⊎ B → ⊥
 neither a b (inl x) = a x
 neither a b (inr y) = b y
 
--- neither full nor out of memory
-pub room_by : (f : SessionFault) (R : Type 0) → (f ≡ Fabric) ⊎ (f ≡ JournalFull) ⊎ (f ≡ OutOfMemory) → (f ≢ JournalFull) → (f ≢ OutOfMemory) → (f ≡ Fabric → R) → R
+-- by what can come where the journal is not full
+pub room_by : (f : SessionFault) (R : Type 0) → (f ≡ Fabric) ⊎ (f ≡ JournalFull) ⊎ (f ≡ OutOfMemory) → (f ≢ JournalFull) → (f ≡ OutOfMemory → R) → (f ≡ Fabric → R) → R
 room_by f R (inl e) full memory there = there e
 room_by f R (inr (inl e)) full memory there = absurd (full e)
-room_by f R (inr (inr e)) full memory there = absurd (memory e)
+room_by f R (inr (inr e)) full memory there = memory e
+
+-- before anything is written there is room
+pub room_none : HasRoom []
+room_none = record { entries = omega arith; weight = omega arith }
 
 -- what holds at Ok, from what else holds there
 pub on_ok : {T E : Type 0} (r : Result T E) (P Q : Type 0) → ((x : T) → r ≡ Ok x → P → Q) → OnOk r P → OnOk r Q

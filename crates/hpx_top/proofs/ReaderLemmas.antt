@@ -1,10 +1,10 @@
 -- Bytes in which lines are looked for, and the lines that are left.
-use Rattle.std.specs.Prelude.{ℕ, Bool, true, false, Option, Some, None, Result, Ok, Err, IfSome, IfOk, OnOk, List, [], ◌∷◌, ◌++◌, ◌≡◌, ◌||◌, ◌+◌, ◌-◌, ◌<◌, ◌≤◌, length, take, drop, refl, if◌then◌else◌}
+use Rattle.std.specs.Prelude.{ℕ, Bool, true, false, Option, Some, None, Result, Ok, Err, IfSome, IfOk, OnOk, OnErr, IsErrOf, List, [], ◌∷◌, ◌++◌, ◌≡◌, ◌||◌, ◌+◌, ◌-◌, ◌<◌, ◌≤◌, length, take, drop, refl, if◌then◌else◌}
 use Rattle.std.specs.Option.{option_map}
 use Rattle.std.specs.List.{slice_split, list_any}
 use Rattle.std.specs.Str.Lines.{strip_carriage_return}
 use Rattle.std.proofs.Common.{sym, ap, ◌∙◌, subst, arith, append_assoc, append-nil}
-use Rattle.std.proofs.lemmas.List.{take-append-drop, take-append-le, take-take, take_all, take_rest, drop-drop, length-take, length-drop, length-append}
+use Rattle.std.proofs.lemmas.List.{append_cancel_right, take-append-drop, take-append-le, take-take, take_all, take_rest, drop-drop, length-take, length-drop, length-append}
 use Rattle.std.proofs.lemmas.List.Folds.{list_any-append}
 use Rattle.std.proofs.Math.Seq.{take-add, take-append-add}
 use Rattle.std.proofs.Math.ListN.{drop_of_length-le}
@@ -15,7 +15,8 @@ use Rattle.hpx_top.specs.declared.reader.Next.TheVariants.{Line, Long, Quit, End
 use Rattle.app_console.specs.Lines.{is_long, is_quit, is_newline, IsPiece, lines_in}
 use Rattle.hpx_top.specs.Pending.{IsNewlineAt, IsSearched, ReadsOnto}
 use Rattle.hpx_top.specs.declared.reader.ReadFault.{ReadFault}
-use Rattle.hpx_top.specs.Reader.{Reading, HasRead, still_left, input_left, lines_left, bytes_left, Answers, LeavesFewer, IsLast, next_of}
+use Rattle.hpx_top.specs.declared.reader.ReadFault.TheVariants.{Failed, OutOfMemory}
+use Rattle.hpx_top.specs.Reader.{Reading, HasRead, still_left, input_left, lines_left, bytes_left, behind_line, Answers, LeavesFewer, LeavesBehind, IsFull, IsOut, IsNoLine, IsLast, next_of}
 use Rattle.hpx_top.proofs.PlainLemmas.{lines_in-first, lines_in-last}
 
 -- ---- pieces
@@ -198,6 +199,130 @@ handed_out-fewer (Err fault) count old mid new is kept some within = tt
 handed_out-fewer (Ok next) count old mid new is kept some within =
     let less : (67108864 - mid.read) + length (drop count mid.pending) < bytes_left old = omega (arith, length-drop count mid.pending) in
     leaves_fewer next old new (subst (λ new. bytes_left new < bytes_left old) (sym is) less)
+
+-- ---- what is behind the first newline
+
+or_left : (a b : Bool) → (a || b) ≡ false → a ≡ false
+or_left false b h = refl
+or_left true b h = h
+
+or_right : (a b : Bool) → (a || b) ≡ false → b ≡ false
+or_right false b h = h
+or_right true b h = absurd (let never : true ≡ false = h in cc)
+
+pub behind_first : (piece rest : List ℕ) → IsPiece piece → behind_line (piece ++ 10 ∷ rest) ≡ rest
+behind_first [] rest none = refl
+behind_first (b ∷ piece) rest none =
+    ap (λ t. if t then piece ++ 10 ∷ rest else behind_line (piece ++ 10 ∷ rest)) (or_left (is_newline b) (list_any is_newline piece) none)
+    ∙ behind_first piece rest (or_right (is_newline b) (list_any is_newline piece) none)
+
+pub behind_none : (piece : List ℕ) → IsPiece piece → behind_line piece ≡ []
+behind_none [] none = refl
+behind_none (b ∷ piece) none =
+    ap (λ t. if t then piece else behind_line piece) (or_left (is_newline b) (list_any is_newline piece) none)
+    ∙ behind_none piece (or_right (is_newline b) (list_any is_newline piece) none)
+
+pub left_behind-newline : (reading : Reading) (n : ℕ) (left : Option (List ℕ)) → IsNewlineAt reading.pending n
+    → input_left (record reading { pending = drop (n + 1) reading.pending }) left ≡ option_map behind_line (input_left reading left)
+left_behind-newline reading n left here = by_left (still_left reading.ended left)
+  where
+    by_left : (told : Option (List ℕ)) → preceded (drop (n + 1) reading.pending) told ≡ option_map behind_line (preceded reading.pending told)
+    by_left None = refl
+    by_left (Some bytes) = sym
+        (ap (λ input. Some (behind_line (input ++ bytes))) here.is
+        ∙ ap (λ input. Some (behind_line input)) (append_assoc (take n reading.pending) (10 ∷ drop (n + 1) reading.pending) bytes)
+        ∙ ap Some (behind_first (take n reading.pending) (drop (n + 1) reading.pending ++ bytes) here.whole))
+
+pub left_behind-last : (reading : Reading) (n : ℕ) (left : Option (List ℕ)) → IsLast reading n
+    → input_left (record reading { pending = drop n reading.pending }) left ≡ option_map behind_line (input_left reading left)
+left_behind-last reading n left last = by_left (still_left reading.ended left) (at_end reading.ended left last.ended)
+  where
+    at_end : (ended : Bool) (left : Option (List ℕ)) → ended ≡ true → IfSome (still_left ended left) (λ bytes. bytes ≡ [])
+    at_end false left h = absurd (cc)
+    at_end true None h = tt
+    at_end true (Some bytes) h = refl
+
+    by_left : (told : Option (List ℕ)) → IfSome told (λ bytes. bytes ≡ []) → preceded (drop n reading.pending) told ≡ option_map behind_line (preceded reading.pending told)
+    by_left None none = refl
+    by_left (Some bytes) none =
+        let gone : drop n reading.pending ≡ [] = drop_of_length-le reading.pending (omega (arith, last.count)) in
+        ap (λ front. Some (front ++ bytes)) gone ∙ ap Some none
+        ∙ sym (ap (λ more. Some (behind_line (reading.pending ++ more))) none
+        ∙ ap (λ input. Some (behind_line input)) (append-nil reading.pending)
+        ∙ ap Some (behind_none reading.pending last.no_line))
+
+leaves_behind : (next : Next) (old new : Option (List ℕ)) → new ≡ option_map behind_line old → LeavesBehind next old new
+leaves_behind (Line line) old new is = is
+leaves_behind Long old new is = is
+leaves_behind Quit old new is = tt
+leaves_behind End old new is = tt
+leaves_behind Full old new is = tt
+
+pub handed_out-behind : (result : Result Next ReadFault) (rest : List ℕ) (old mid new : Reading) (left later : Option (List ℕ))
+    → OnOk result (new ≡ record mid { pending = rest }) → input_left mid later ≡ input_left old left
+    → input_left (record mid { pending = rest }) later ≡ option_map behind_line (input_left mid later)
+    → IfOk result (λ next. LeavesBehind next (input_left old left) (input_left new later))
+handed_out-behind (Err fault) rest old mid new left later is same behind = tt
+handed_out-behind (Ok next) rest old mid new left later is same behind =
+    leaves_behind next (input_left old left) (input_left new later) (ap (λ r. input_left r later) is ∙ behind ∙ ap (option_map behind_line) same)
+
+-- ---- where the input is full
+
+-- bytes with a newline are no piece
+newline_no_piece : (bytes : List ℕ) (n : ℕ) → IsNewlineAt bytes n → IsPiece bytes → ⊥
+newline_no_piece bytes n here piece =
+    let any : list_any is_newline bytes ≡ true =
+    ap (list_any is_newline) here.is ∙ (list_any-append is_newline (take n bytes) (10 ∷ drop (n + 1) bytes) ∙ ap (λ b. b || true) here.whole) in
+    let none : list_any is_newline bytes ≡ false = piece in
+    cc
+
+-- what is pending there is what was read of the bytes that are left
+pending_out : (mid new : Reading) (input left : Option (List ℕ)) → (out : IsOut new input left) → input_left mid left ≡ input → mid.ended ≡ false → mid.pending ≡ out.piece
+pending_out mid new input left out same goes_on =
+    let told : Some (mid.pending ++ out.rest) ≡ Some (out.piece ++ out.rest) =
+    sym (ap (λ b. preceded mid.pending (still_left b left)) goes_on ∙ ap (λ o. preceded mid.pending o) out.left_is) ∙ (same ∙ out.input_is) in
+    append_cancel_right mid.pending out.piece out.rest (some_is told)
+  where
+    some_is : {a b : List ℕ} → Some a ≡ Some b → a ≡ b
+    some_is h = cc
+
+-- where a newline is pending, the input is not full, nor at its end
+pub not_full-newline : (result : Result Next ReadFault) (mid new : Reading) (n : ℕ) → OnErr result (new ≡ mid) → IsNewlineAt mid.pending n → IsErrOf result OutOfMemory
+    → IsFull new → ⊥
+not_full-newline (Ok next) mid new n same here err full = absurd (let never : Ok next ≡ Err OutOfMemory = err in cc)
+not_full-newline (Err fault) mid new n same here err full = newline_no_piece mid.pending n here (subst (λ r. IsPiece r.pending) same full.no_line)
+
+pub not_full-last : (result : Result Next ReadFault) (mid new : Reading) (n : ℕ) → OnErr result (new ≡ mid) → IsLast mid n → IsErrOf result OutOfMemory
+    → IsFull new → ⊥
+not_full-last (Ok next) mid new n same last err full = absurd (let never : Ok next ≡ Err OutOfMemory = err in cc)
+not_full-last (Err fault) mid new n same last err full =
+    let goes_on : mid.ended ≡ false = subst (λ r. r.ended ≡ false) same full.goes_on in
+    let ended : mid.ended ≡ true = last.ended in
+    cc
+
+-- whether a read has met the end is left as it is
+kept_on : (result : Result Next ReadFault) (mid new : Reading) (rest : List ℕ) → OnOk result (new ≡ record mid { pending = rest }) → OnErr result (new ≡ mid) → new.ended ≡ mid.ended
+kept_on (Ok next) mid new rest is same = ap (λ r. r.ended) is
+kept_on (Err fault) mid new rest is same = ap (λ r. r.ended) same
+
+pub out-newline : (result : Result Next ReadFault) (mid new : Reading) (n : ℕ) (rest : List ℕ) (input left : Option (List ℕ)) → OnOk result (new ≡ record mid { pending = rest })
+    → OnErr result (new ≡ mid) → IsNewlineAt mid.pending n → input_left mid left ≡ input → IsOut new input left → IsNoLine result
+out-newline result mid new n rest input left is err here same out = absurd
+    (newline_no_piece mid.pending n here
+    (subst IsPiece (sym (pending_out mid new input left out same (sym (kept_on result mid new rest is err) ∙ out.goes_on))) out.no_line))
+
+pub out-last : (result : Result Next ReadFault) (mid new : Reading) (n : ℕ) (rest : List ℕ) (input left : Option (List ℕ)) → OnOk result (new ≡ record mid { pending = rest })
+    → OnErr result (new ≡ mid) → IsLast mid n → IsOut new input left → IsNoLine result
+out-last result mid new n rest input left is err last out =
+    let ended : mid.ended ≡ true = last.ended in
+    let goes_on : mid.ended ≡ false = sym (kept_on result mid new rest is err) ∙ out.goes_on in
+    absurd (cc)
+
+-- nor is memory wanting where all was read
+pub out-err : (fault : ReadFault) (new : Reading) (input left : Option (List ℕ)) → (fault ≡ OutOfMemory → new.read < 67108864) → IsOut new input left
+    → IsNoLine (Err fault)
+out-err Failed new input left below out = tt
+out-err OutOfMemory new input left below out = let less : new.read < 67108864 = below refl in omega (arith, out.read)
 
 -- ---- what was read
 

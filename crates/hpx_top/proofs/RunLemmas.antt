@@ -81,21 +81,14 @@ ended_within n r None input old new (inr s) none h = absurd (let six = no_world 
 ended_within n r (Some w) input old new s none h =
     within r (λ f. IsEndedBy f n input w.journal.entries old new) (IsBrokenIn n input w.journal.entries old new ⊎ IsBrokenAtOpening w.journal.entries old new) s (λ e. e) (λ e. e) h
 
-without : {T : Type 0} (r : Result T SessionFault) (P : SessionFault → Type 0) (Q : Type 0) → status_after r ≡ 6 → (P OutOfMemory → Q) → IfErr r P → Q
-without (Ok x) P Q s memory h = absurd (omega arith)
-without (Err Read) P Q s memory h = absurd (omega arith)
-without (Err Write) P Q s memory h = absurd (omega arith)
-without (Err Fabric) P Q s memory h = absurd (omega arith)
-without (Err JournalFull) P Q s memory h = absurd (omega arith)
-without (Err OutOfMemory) P Q s memory h = memory h
-without (Err BadFrame) P Q s memory h = absurd (omega arith)
-without (Err Strange) P Q s memory h = absurd (omega arith)
-without (Err InputFull) P Q s memory h = absurd (omega arith)
-
--- status 6 comes before a line, or within it
-pub ended_without : {T : Type 0} (n : ℕ) (r : Result T SessionFault) (o : Option Places) (input : List ℕ) (old new : Option (List ℕ))
-    → status_after r ≡ 6 → IfSome o (λ w. IfErr r (λ f. IsEndedBy f n input w.journal.entries old new))
-    → IfSome o (λ w. IsBrokenOff n 1 input w.journal.entries old new ⊎ IsBrokenAtOpening w.journal.entries old new)
-ended_without n r None input old new s h = tt
-ended_without n r (Some w) input old new s h =
-    without r (λ f. IsEndedBy f n input w.journal.entries old new) (IsBrokenOff n 1 input w.journal.entries old new ⊎ IsBrokenAtOpening w.journal.entries old new) s (λ e. e) h
+-- status 6 comes of want of memory
+pub was_short : {T : Type 0} (r : Result T SessionFault) → status_after r ≡ 6 → r ≡ Err OutOfMemory
+was_short (Ok x) s = absurd (omega arith)
+was_short (Err Read) s = absurd (omega arith)
+was_short (Err Write) s = absurd (omega arith)
+was_short (Err Fabric) s = absurd (omega arith)
+was_short (Err JournalFull) s = absurd (omega arith)
+was_short (Err OutOfMemory) s = refl
+was_short (Err BadFrame) s = absurd (omega arith)
+was_short (Err Strange) s = absurd (omega arith)
+was_short (Err InputFull) s = absurd (omega arith)

@@ -25,7 +25,7 @@ use Rattle.app_console.proofs.JournalText.{law_opened_whole}
 use Rattle.hpx_top.specs.Acts.{act_of}
 use Rattle.hpx_top.specs.Texts.{commands, fed, lines_text, text_of}
 use Rattle.hpx_top.specs.Reader.{Reading, lines_left, input_left, bytes_left, TakesLine, TakesLong, TakesQuit, IsAtEnd, IsFull}
-use Rattle.hpx_top.specs.Session.{lines_fed, FeedsAtMost, HasFed, WritesFront, Feeds, IsJournalOf, HandsOut, IsServing, IsCut, IsCutIn, IsCutAtOpening, IsOver, IsUnderWay, IsStopped, AllButOne}
+use Rattle.hpx_top.specs.Session.{lines_fed, FeedsAtMost, HasFed, WritesFront, Feeds, IsJournalOf, HandsOut, IsServing, IsServingAt, IsCut, IsCutAt, IsCutIn, IsCutAtOpening, IsOver, IsUnderWay, IsStopped, AllButOne}
 use Rattle.hpx_top.proofs.LineLemmas.{followed_twice, preceded_nothing, preceded_twice, long_more, front_all, text_front, fed_short, fed_long, goes_on_more, goes_on_less, long_goes_on, session_lines, session_count, others_count, others_more, line_shown}
 
 -- ---- the journal
@@ -150,6 +150,13 @@ serving_open r all before now reading left old new whole few empty f held = reco
   held = held ∙ ap (followed before) (sym (append-nil commands));
 }
 
+-- no line was handled then
+pub serving_open-at : (r : Rules) (all : Option (List (List ℕ))) (before now : Option (List ℕ)) (reading : Reading) (left : Option (List ℕ)) (old new : List Entry)
+    → all ≡ lines_left reading left → bytes_left reading ≤ 67108864 → old ≡ [] → Feeds r opening old new → now ≡ followed before commands
+    → IsServingAt 0 r all before reading left new now
+unfolding serving_open
+serving_open-at r all before now reading left old new whole few empty f held = (serving_open r all before now reading left old new whole few empty f held, refl)
+
 -- a line was fed, and what it prints was written
 pub serving_line : (n : ℕ) (p : Profile) (all : Option (List (List ℕ))) (before now mid later : Option (List ℕ)) (reading next : Reading) (left rest : Option (List ℕ))
     (old new : List Entry) (line : List ℕ) → 1 ≤ n → n ≤ 64 → IsServing (rules_of act_of n p) all before reading left old now → mid ≡ followed now prompt
@@ -178,6 +185,27 @@ serving_long r all before now mid later reading next left rest entries s prompte
   held = held_more before now mid later commands (lines_text r.localities s.lines) prompt too_long (lines_text r.localities (s.lines ++ takes.line ∷ []))
       s.held prompted shown (long_more r.localities s.lines takes.line takes.long);
 }
+
+-- one line more was handled
+pub serving_line-at : (count n : ℕ) (p : Profile) (all : Option (List (List ℕ))) (before now mid later : Option (List ℕ)) (reading next : Reading) (left rest : Option (List ℕ))
+    (old new : List Entry) (line : List ℕ) → 1 ≤ n → n ≤ 64 → IsServingAt count (rules_of act_of n p) all before reading left old now → mid ≡ followed now prompt
+    → TakesLine line (lines_left reading left) (lines_left next rest) → bytes_left next < bytes_left reading → Feeds (rules_of act_of n p) (97 ∷ line) old new
+    → later ≡ followed mid (concat (prints_of (drop (length old) new))) → IsServingAt (count + 1) (rules_of act_of n p) all before next rest new later
+unfolding serving_line
+serving_line-at count n p all before now mid later reading next left rest old new line some few s prompted takes fewer f shown = (
+  serving_line n p all before now mid later reading next left rest old new line some few s.0 prompted takes fewer f shown,
+  length-append s.0.lines (line ∷ []) ∙ ap (λ k. k + 1) s.1,
+)
+
+pub serving_long-at : (count : ℕ) (r : Rules) (all : Option (List (List ℕ))) (before now mid later : Option (List ℕ)) (reading next : Reading) (left rest : Option (List ℕ))
+    (entries : List Entry) → IsServingAt count r all before reading left entries now → mid ≡ followed now prompt
+    → TakesLong (lines_left reading left) (lines_left next rest) → bytes_left next < bytes_left reading
+    → later ≡ followed mid too_long → IsServingAt (count + 1) r all before next rest entries later
+unfolding serving_long
+serving_long-at count r all before now mid later reading next left rest entries s prompted takes fewer shown = (
+  serving_long r all before now mid later reading next left rest entries s.0 prompted takes fewer shown,
+  length-append s.0.lines (takes.line ∷ []) ∙ ap (λ k. k + 1) s.1,
+)
 
 -- ---- where it ends
 
@@ -210,6 +238,22 @@ cut_line r all before now mid reading next left rest old new line s prompted tak
   journal = one ∙ (ap (λ ls. ls ++ (97 ∷ line) ∷ []) (journal_lines r s.lines old s.journal) ∙ sym (fed_short s.lines line takes.fits));
   held = held_prompt before now mid commands (lines_text r.localities s.lines) prompt s.held prompted;
 }
+
+-- so many lines were handled
+pub cut_here-at : (count most : ℕ) (r : Rules) (all : Option (List (List ℕ))) (before now mid : Option (List ℕ)) (reading : Reading) (left : Option (List ℕ))
+    (old new : List Entry) → IsServingAt count r all before reading left old now → mid ≡ followed now prompt → lines_fed new ≡ lines_fed old
+    → IsCutAt count r.localities most all before new mid
+unfolding cut_here
+cut_here-at count most r all before now mid reading left old new s prompted same = (cut_here most r all before now mid reading left old new s.0 prompted same, s.1)
+
+pub cut_line-at : (count : ℕ) (r : Rules) (all : Option (List (List ℕ))) (before now mid : Option (List ℕ)) (reading next : Reading) (left rest : Option (List ℕ))
+    (old new : List Entry) (line : List ℕ) → IsServingAt count r all before reading left old now → mid ≡ followed now prompt
+    → TakesLine line (lines_left reading left) (lines_left next rest) → FeedsAtMost (97 ∷ line) old new → IsCutAt count r.localities 1 all before new mid
+unfolding cut_line cut_here
+cut_line-at count r all before now mid reading next left rest old new line s prompted takes (inl same) =
+    (cut_line r all before now mid reading next left rest old new line s.0 prompted takes (inl same), s.1)
+cut_line-at count r all before now mid reading next left rest old new line s prompted takes (inr one) =
+    (cut_line r all before now mid reading next left rest old new line s.0 prompted takes (inr one), s.1)
 
 last_none : (o : Option (List (List ℕ))) → IfSome o (λ lines. lines ≡ []) → IfSome o (λ others. before_quit others ≡ [])
 last_none None h = h

@@ -1,6 +1,7 @@
--- What cannot come of a world over a fabric that tells, and what a fault of its fabric leaves.
-use Rattle.std.proofs.Common.{ℕ, List, ◌≡◌, sym, subst}
+-- What cannot come of a world over a fabric that tells, and what a fault of steps leaves.
+use Rattle.std.proofs.Common.{ℕ, List, Option, Some, None, ◌≡◌, sym, subst}
 use Rattle.hpx_value.specs.declared.acts.Acts.{Ghosts}
+use Rattle.hpx_value.specs.declared.acts.Done.{Done}
 use Rattle.hpx_parcel.specs.declared.parcel.Why.{Why}
 use Rattle.hpx_journal.specs.Data.{Id}
 use Rattle.hpx_journal.specs.Entries.{Rules}
@@ -36,3 +37,23 @@ pub fabric_room : {A : Type 0} {g : Ghosts A} (act_of : Meaning) (fault : WorldF
 fabric_room {A} {g} act_of fault x z e h =
     let stops : RefusedDrain {A = A} {g = g} act_of faults.Fabric x z = subst (λ f. RefusedDrain act_of f x z) e h in
     subst (λ es. HasRoom es) (sym stops.thus.2.0.journal) stops.thus.0
+
+-- so had steps for which memory was wanting
+pub memory_room : {A : Type 0} {g : Ghosts A} (act_of : Meaning) (fault : WorldFault A g) (u : Option (Done A g)) (x z : Stage) → fault ≡ faults.OutOfMemory u
+    → RefusedDrain act_of fault x z → HasRoom z.entries
+memory_room {A} {g} act_of fault None x z e h =
+    let stops : RefusedDrain {A = A} {g = g} act_of (faults.OutOfMemory None) x z = subst (λ f. RefusedDrain act_of f x z) e h in
+    subst (λ es. HasRoom es) (sym stops.thus.1.0.journal) stops.thus.0
+memory_room {A} {g} act_of fault (Some done) x z e h =
+    let stops : RefusedDrain {A = A} {g = g} act_of (faults.OutOfMemory (Some done)) x z = subst (λ f. RefusedDrain act_of f x z) e h in
+    stops.thus.1
+
+-- a journal that is full where steps end has no room there
+pub full_none : {A : Type 0} {g : Ghosts A} (act_of : Meaning) (fault : WorldFault A g) (n w : ℕ) (u : Option (Done A g)) (x z : Stage) → fault ≡ faults.JournalFull n w u
+    → RefusedDrain act_of fault x z → HasRoom z.entries → ⊥
+full_none {A} {g} act_of fault n w None x z e h room =
+    let stops : RefusedDrain {A = A} {g = g} act_of (faults.JournalFull n w None) x z = subst (λ f. RefusedDrain act_of f x z) e h in
+    stops.thus.1.full (subst (λ es. HasRoom es) stops.thus.0.0.journal room)
+full_none {A} {g} act_of fault n w (Some done) x z e h room =
+    let stops : RefusedDrain {A = A} {g = g} act_of (faults.JournalFull n w (Some done)) x z = subst (λ f. RefusedDrain act_of f x z) e h in
+    stops.thus.2.full room

@@ -7,6 +7,7 @@ use Rattle.hpx_top.specs.declared.session.SessionFault.{SessionFault}
 use Rattle.hpx_top.specs.declared.session.SessionFault.TheVariants.{Read, Write, OutOfMemory, InputFull}
 use Rattle.app_console.specs.Lines.{IsFront, is_long, is_quit, is_newline, IsPiece, lines_in, lines_of, quits, opening}
 use Rattle.hpx_top.specs.Texts.{commands, fed, text_of}
+use Rattle.hpx_top.specs.Reader.{behind}
 use Rattle.hpx_top.specs.Session.{lines_fed, HasFed, AllButOne}
 
 -- the lines of the input were fed, up to its end or to `quit`, and the whole text was written
@@ -83,6 +84,22 @@ pub record IsReadOn (n : ℕ) (input : List ℕ) (left : Option (List ℕ)) : Ty
 -- 67,108,864 bytes of the input were read, and no `quit` among them
 abbrev pub IsInputFull : List ℕ → Option (List ℕ) → Type 0
 IsInputFull input left = IsReadOn 67108864 input left
+
+-- 67,108,864 bytes of the input were read, and behind so many lines no newline is among them
+pub record IsFullBehind (lines : ℕ) (input : List ℕ) (left : Option (List ℕ)) : Type 0 where
+  pub front : List ℕ
+  pub rest : List ℕ
+  pub piece : List ℕ
+  pub input_is : input ≡ front ++ rest
+  pub left_is : left ≡ Some rest
+  pub count : length front ≡ 67108864
+  pub behind_is : behind lines input ≡ piece ++ rest
+  pub no_line : IsPiece piece
+
+-- Memory was wanting at a line, or as the accumulator was made; not where the input is full behind the lines that were handled.
+abbrev pub IsShort : ℕ → List ℕ → Option (List ℕ) → List Entry → Option (List ℕ) → Option (List ℕ) → Type 0
+IsShort n input left entries old new =
+    ((b : IsBrokenOff n 1 input entries old new) × (IsFullBehind (length b.handled) input left → ⊥)) ⊎ IsBrokenAtOpening entries old new
 
 -- how a session was broken off: at a write anywhere, otherwise behind a prompt, or in the line behind it, or where the accumulator is made
 abbrev pub IsEndedBy : SessionFault → ℕ → List ℕ → List Entry → Option (List ℕ) → Option (List ℕ) → Type 0

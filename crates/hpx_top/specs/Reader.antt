@@ -1,10 +1,12 @@
 -- A reader of lines: what it holds, what is left of its input, and what each of its answers says.
-use Rattle.std.specs.Prelude.{ℕ, Bool, true, false, Option, IfSome, List, [], ◌∷◌, ◌≡◌, ◌==◌, ◌&&◌, not, ◌+◌, ◌-◌, ◌^◌, ◌<◌, length, if◌then◌else◌}
+use Rattle.std.specs.Prelude.{ℕ, zero, suc, Bool, true, false, Option, Some, Result, Ok, Err, IfSome, List, [], ◌∷◌, ◌++◌, ◌≡◌, ◌==◌, ◌&&◌, not, ◌+◌, ◌-◌, ◌^◌, ◌<◌, length, if◌then◌else◌}
 use Rattle.std.specs.Option.{option_map}
 use Rattle.std.specs.List.{slice_split, list_any}
 use Rattle.hpx_ports.specs.Told.{preceded}
 use Rattle.hpx_top.specs.declared.reader.Next.{Next}
 use Rattle.hpx_top.specs.declared.reader.Next.TheVariants.{Line, Long, Quit, End, Full}
+use Rattle.hpx_top.specs.declared.reader.ReadFault.{ReadFault}
+use Rattle.hpx_top.specs.declared.reader.ReadFault.TheVariants.{OutOfMemory}
 use Rattle.hpx_top.specs.declared.reader.Found.{Found}
 use Rattle.hpx_top.specs.declared.reader.Found.TheVariants.{Newline, Last, Over, AtLimit}
 use Rattle.app_console.specs.Lines.{is_long, is_quit, is_newline, IsPiece, lines_in}
@@ -70,6 +72,39 @@ Answers Long old new left later = TakesLong (lines_left old left) (lines_left ne
 Answers Quit old new left later = TakesQuit (lines_left old left) (lines_left new later)
 Answers End old new left later = IsAtEnd new (input_left old left) (lines_left old left) × (input_left new later ≡ input_left old left)
 Answers Full old new left later = IsFull new × (input_left new later ≡ input_left old left)
+
+-- the bytes behind the first newline, none without one
+abbrev pub behind_line : List ℕ → List ℕ
+behind_line [] = []
+behind_line (b ∷ bytes) = if is_newline b then bytes else behind_line bytes
+
+-- behind so many
+abbrev pub behind : ℕ → List ℕ → List ℕ
+behind zero bytes = bytes
+behind (suc n) bytes = behind_line (behind n bytes)
+
+-- a line that is handed out leaves what is behind the first newline
+abbrev pub LeavesBehind : Next → Option (List ℕ) → Option (List ℕ) → Type 0
+LeavesBehind (Line line) old new = new ≡ option_map behind_line old
+LeavesBehind Long old new = new ≡ option_map behind_line old
+LeavesBehind _ old new = Unit {0}
+
+-- all that may be read was read, no read has met the end, and what was left before a call has no newline in what was read of it
+pub record IsOut (reading : Reading) (input left : Option (List ℕ)) : Type 0 where
+  pub read : reading.read ≡ 67108864
+  pub goes_on : reading.ended ≡ false
+  pub piece : List ℕ
+  pub rest : List ℕ
+  pub input_is : input ≡ Some (piece ++ rest)
+  pub left_is : left ≡ Some rest
+  pub no_line : IsPiece piece
+
+-- what is not answered then: a line, or that memory is wanting
+abbrev pub IsNoLine : Result Next ReadFault → Type 0
+IsNoLine (Ok (Line line)) = ⊥
+IsNoLine (Ok Long) = ⊥
+IsNoLine (Err OutOfMemory) = ⊥
+IsNoLine _ = Unit {0}
 
 -- how many bytes may still be handed out or read
 abbrev pub bytes_left : Reading → ℕ

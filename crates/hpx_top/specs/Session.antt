@@ -1,5 +1,6 @@
 -- How far a session has come: the lines that were handled, what was fed for them, and what was written.
 use Rattle.std.specs.Prelude.{ℕ, Bool, true, false, Option, Some, None, IfSome, List, [], ◌∷◌, ◌++◌, ◌≡◌, ◌+◌, ◌≤◌, ◌^◌, ◌⊎◌, length, drop}
+use Rattle.std.specs.Option.{option_map}
 use Rattle.std.specs.List.{concat, list_any}
 use Rattle.hpx_value.specs.declared.profile.Profile.{Profile}
 use Rattle.hpx_journal.specs.declared.entry.Entry.{Entry}
@@ -19,7 +20,7 @@ use Rattle.hpx_top.specs.Acts.{act_of}
 use Rattle.hpx_top.specs.Texts.{commands, fed, lines_text, text_of}
 use Rattle.hpx_top.specs.declared.session.SessionFault.{SessionFault}
 use Rattle.hpx_top.specs.declared.session.SessionFault.TheVariants.{Read, Write, OutOfMemory, InputFull}
-use Rattle.hpx_top.specs.Reader.{Reading, lines_left, bytes_left}
+use Rattle.hpx_top.specs.Reader.{Reading, input_left, lines_left, bytes_left, behind}
 
 -- ---- the world of a console
 
@@ -120,6 +121,17 @@ pub record IsServing (r : Rules) (all : Option (List (List ℕ))) (before : Opti
   pub journal : IsJournalOf r lines entries
   pub held : now ≡ followed before (commands ++ lines_text r.localities lines)
 
+-- so many were handled
+abbrev pub IsServingAt : ℕ → Rules → Option (List (List ℕ)) → Option (List ℕ) → Reading → Option (List ℕ) → List Entry → Option (List ℕ) → Type 0
+IsServingAt count r all before reading left entries now = (s : IsServing r all before reading left entries now) × (length s.lines ≡ count)
+
+-- and the others are behind so many newlines of all bytes
+pub record IsHandling (r : Rules) (bytes : Option (List ℕ)) (all : Option (List (List ℕ))) (before : Option (List ℕ)) (reading : Reading) (left : Option (List ℕ))
+    (entries : List Entry) (now : Option (List ℕ)) : Type 0 where
+  pub count : ℕ
+  pub serving : IsServingAt count r all before reading left entries now
+  pub behind_is : input_left reading left ≡ option_map (behind count) bytes
+
 -- After a prompt: the text is that of the lines that were handled. Of the lines behind them one may have been fed.
 pub record IsCut (n most : ℕ) (all : Option (List (List ℕ))) (before : Option (List ℕ)) (entries : List Entry) (now : Option (List ℕ)) : Type 0 where
   pub lines : List (List ℕ)
@@ -129,6 +141,10 @@ pub record IsCut (n most : ℕ) (all : Option (List (List ℕ))) (before : Optio
   pub few : length next ≤ most
   pub journal : lines_fed entries ≡ fed (lines ++ next)
   pub held : now ≡ followed before (text_of n lines)
+
+-- so many were handled
+abbrev pub IsCutAt : ℕ → ℕ → ℕ → Option (List (List ℕ)) → Option (List ℕ) → List Entry → Option (List ℕ) → Type 0
+IsCutAt count n most all before entries now = (c : IsCut n most all before entries now) × (length c.lines ≡ count)
 
 -- In a line behind a prompt: the text is that of the lines before it. It is not too long, and it may have been fed.
 pub record IsCutIn (n : ℕ) (all : Option (List (List ℕ))) (before : Option (List ℕ)) (entries : List Entry) (now : Option (List ℕ)) : Type 0 where

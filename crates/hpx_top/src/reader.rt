@@ -4,7 +4,7 @@ ghost use Rattle.std.specs.Prelude.{◌≡◌, ◌+◌, ◌<◌, ◌≤◌, true
 ghost use Rattle.std.specs.Str.Lines.{strip_carriage_return};
 ghost use Rattle.hpx_ports.specs.Faults.{Rose};
 ghost use Rattle.app_console.specs.Lines.{IsPiece};
-ghost use Rattle.hpx_top.specs.Reader.{input_left, bytes_left, reads_left, wants_more, IsFound, last_of, next_of, Answers, LeavesFewer, HasRead};
+ghost use Rattle.hpx_top.specs.Reader.{input_left, bytes_left, reads_left, wants_more, IsFound, IsFull, IsOut, IsNoLine, last_of, next_of, Answers, LeavesFewer, LeavesBehind, HasRead};
 
 mod pending;
 
@@ -140,6 +140,7 @@ impl LineReader {
         ensures full { self.old.read ≡ 67108864 → self.old.ended ≡ false → IsPiece self.old.pending → result ≡ Ok Found.AtLimit }
         ensures no_line { IsErrOf result ReadFault.Failed → IsPiece self.new.pending }
         ensures goes_on { IsErrOf result ReadFault.Failed → self.new.ended ≡ false }
+        ensures memory { IsErrOf result ReadFault.OutOfMemory → self.new.read < 67108864 }
         ensures still { wants_more self.old ≡ false → source.new ≡ source.old }
         ensures cause { IsErrOf result ReadFault.Failed → Rose (S.faults source.old) (S.faults source.new) }
         ensures stands { (IsErrOf result ReadFault.Failed → ⊥) → S.faults source.new ≡ S.faults source.old }
@@ -177,9 +178,12 @@ impl LineReader {
         ensures ok { IfOk result (λ next. Answers next self.old self.new (S.left source.old) (S.left source.new)) }
         ensures err { OnErr result (input_left self.new (S.left source.new) ≡ input_left self.old (S.left source.old)) }
         ensures fewer { IfOk result (λ next. LeavesFewer next self.old self.new) }
+        ensures behind { IfOk result (λ next. LeavesBehind next (input_left self.old (S.left source.old)) (input_left self.new (S.left source.new))) }
         ensures full { self.old.read ≡ 67108864 → self.old.ended ≡ false → IsPiece self.old.pending → result ≡ Ok Next.Full }
         ensures no_line { IsErrOf result ReadFault.Failed → IsPiece self.new.pending }
         ensures goes_on { IsErrOf result ReadFault.Failed → self.new.ended ≡ false }
+        ensures out { IsOut self.new (input_left self.old (S.left source.old)) (S.left source.new) → IsNoLine result }
+        ensures memory { IsErrOf result ReadFault.OutOfMemory → IsFull self.new → ⊥ }
         ensures still { wants_more self.old ≡ false → source.new ≡ source.old }
         ensures reads { (all : _) → HasRead all self.old (S.left source.old) → HasRead all self.new (S.left source.new) }
         ensures counted { self.new.read + S.taken source.old ≡ self.old.read + S.taken source.new }

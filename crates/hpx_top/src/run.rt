@@ -8,7 +8,7 @@ ghost use Rattle.hpx_ports.specs.Told.{followed};
 ghost use Rattle.hpx_world.specs.Audit.{audit_lines, IsAudit, StandAtHome};
 ghost use Rattle.hpx_world.specs.Away.{IsCarrying};
 ghost use Rattle.hpx_world.specs.Promises.{KeepsPromises};
-ghost use Rattle.hpx_top.specs.Ends.{IsWhole, IsBrokenOff, IsBrokenIn, IsBrokenAtOpening, IsBegun, IsEndedBy, IsReadFrom, IsReadUp, IsReadOn, IsInputFull};
+ghost use Rattle.hpx_top.specs.Ends.{IsWhole, IsBrokenOff, IsBrokenIn, IsBrokenAtOpening, IsBegun, IsShort, IsEndedBy, IsReadFrom, IsReadUp, IsReadOn, IsInputFull};
 ghost use Rattle.hpx_top.specs.Session.{rules, profile, AllGranted, AllDone, IsRested, WritesFront, entries_in};
 ghost use Rattle.hpx_options.specs.Texts.{bad_word_text};
 ghost use Rattle.hpx_top.specs.Statuses.{IsStatus, status_of, status_line};
@@ -120,6 +120,8 @@ fn serve_all<S: Source, K: Sink, F: Fabric>(
     ensures read_up { (input : _) → S.left source.old ≡ Some input → OnOk result.1 (IsReadUp input (S.left source.new)) }
     ensures ended { (input : _) → S.left source.old ≡ Some input → IfSome result.0 (λ w.
         IfErr result.1 (λ fault. IsEndedBy fault 2 input w.journal.entries (K.held sink.old) (K.held sink.new))) }
+    ensures short { (input : _) → S.left source.old ≡ Some input → result.1 ≡ Err SessionFault.OutOfMemory →
+        IfSome result.0 (λ w. IsShort 2 input (S.left source.new) w.journal.entries (K.held sink.old) (K.held sink.new)) }
     ensures begun { (input : _) → S.left source.old ≡ Some input → IsBegun 2 input (entries_in result.0) (K.held sink.old) (K.held sink.new) }
     ensures input { (input : _) → S.left source.old ≡ Some input → result.1 ≡ Err SessionFault.InputFull → IsInputFull input (S.left source.new) }
     ensures read_on { (input : _) → S.left source.old ≡ Some input → result.1 ≡ Err SessionFault.Read → (n : ℕ) × IsReadOn n input (S.left source.new) }
@@ -144,7 +146,7 @@ fn serve_all<S: Source, K: Sink, F: Fabric>(
     ensures write { result.1 ≡ Err SessionFault.Write → Rose (K.faults sink.old) (K.faults sink.new) }
     ensures fabric { result.1 ≡ Err SessionFault.Fabric → Rose (F.faults fabric.old) (F.faults fabric.new) }
     ensures full { result.1 ≡ Err SessionFault.JournalFull → IfSome result.0 (λ w. HasRoom w.journal.entries → ⊥) }
-    ensures room { result.1 ≢ Err SessionFault.JournalFull → result.1 ≢ Err SessionFault.OutOfMemory → IfSome result.0 (λ w. HasRoom w.journal.entries) }
+    ensures room { result.1 ≢ Err SessionFault.JournalFull → IfSome result.0 (λ w. HasRoom w.journal.entries) }
 
     ensures read_only { result.1 ≢ Err SessionFault.Read → S.faults source.new ≡ S.faults source.old }
     ensures write_only { result.1 ≢ Err SessionFault.Write → K.faults sink.new ≡ K.faults sink.old }
@@ -193,8 +195,7 @@ pub fn run<S: Source, K: Sink, E: Sink, F: Fabric>(
         ⊎ IsBrokenAtOpening (entries_in result.world) (K.held sink.old) (K.held sink.new) }
 
     ensures at_most_a_line { (input : _) → S.left source.old ≡ Some input → result.status ≡ 6 →
-        IfSome result.world (λ w. IsBrokenOff 2 1 input w.journal.entries (K.held sink.old) (K.held sink.new)
-        ⊎ IsBrokenAtOpening w.journal.entries (K.held sink.old) (K.held sink.new)) }
+        IfSome result.world (λ w. IsShort 2 input (S.left source.new) w.journal.entries (K.held sink.old) (K.held sink.new)) }
     ensures untouched { result.world ≡ None → (source.new ≡ source.old) × (sink.new ≡ sink.old) × (result.fabric ≡ fabric) }
 
     ensures reads { (input : _) → S.left source.old ≡ Some input → IsReadFrom input (S.left source.new) (S.taken source.old) (S.taken source.new) }
@@ -208,7 +209,7 @@ pub fn run<S: Source, K: Sink, E: Sink, F: Fabric>(
     ensures write_only { result.status ≢ 3 → K.faults sink.new ≡ K.faults sink.old }
     ensures fabric_only { result.status ≢ 4 → F.faults result.fabric ≡ F.faults fabric }
     ensures full { result.status ≡ 5 → IfSome result.world (λ w. HasRoom w.journal.entries → ⊥) }
-    ensures room { result.status ≢ 5 → result.status ≢ 6 → IfSome result.world (λ w. HasRoom w.journal.entries) }
+    ensures room { result.status ≢ 5 → IfSome result.world (λ w. HasRoom w.journal.entries) }
     ensures taken { result.status ≡ 9 → S.taken source.new ≡ S.taken source.old + 67108864 }
     ensures input { (input : _) → S.left source.old ≡ Some input → result.status ≡ 9 → IsInputFull input (S.left source.new) }
     ensures read_on { (input : _) → S.left source.old ≡ Some input → result.status ≡ 2 → (n : ℕ) × IsReadOn n input (S.left source.new) }

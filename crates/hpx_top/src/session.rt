@@ -1,6 +1,7 @@
 //! A session of the console: each line that is read is fed, and what it prints is written.
 ghost use Rattle.std.specs.Prelude.{◌≡◌, ◌≢◌, ◌≤◌, ◌<◌, ◌+◌, ◌∷◌, ◌⊎◌, ℕ, [], Ok, Err, Some, OnOk, OnErr, IfErr, IfSome, length, drop, true, false, slice_get};
 ghost use Rattle.std.specs.List.{concat};
+ghost use Rattle.std.specs.Option.{option_map};
 ghost use Rattle.hpx_journal.specs.Pool.{prints_by, prints_of};
 ghost use Rattle.hpx_journal.specs.Weights.{HasRoom};
 ghost use Rattle.hpx_ports.specs.Faults.{Rose};
@@ -12,9 +13,9 @@ ghost use Rattle.hpx_world.specs.Steps.{IsUnfed};
 ghost use Rattle.hpx_world.specs.Turns.{DidFeed};
 ghost use Rattle.hpx_world.specs.declared.turns.Turned.{Turned};
 ghost use Rattle.app_console.specs.Lines.{is_long, opening};
-ghost use Rattle.hpx_top.specs.Reader.{HasRead, bytes_left};
-ghost use Rattle.hpx_top.specs.Session.{rules, IsAmple, IsRested, FeedsAtMost, Feeds, IsLineEndedBy, WritesFront, IsServing, IsOver, IsCutBy, IsStopped};
-ghost use Rattle.hpx_top.specs.Ends.{IsWhole, IsEndedBy, IsBegun, IsReadFrom, IsReadUp, IsReadOn, IsInputFull};
+ghost use Rattle.hpx_top.specs.Reader.{HasRead, IsOut, input_left, bytes_left, behind_line};
+ghost use Rattle.hpx_top.specs.Session.{rules, IsAmple, IsRested, FeedsAtMost, Feeds, IsLineEndedBy, WritesFront, IsServing, IsServingAt, IsCutAt, IsOver, IsCutBy, IsStopped};
+ghost use Rattle.hpx_top.specs.Ends.{IsWhole, IsEndedBy, IsBegun, IsShort, IsReadFrom, IsReadUp, IsReadOn, IsInputFull};
 
 use crate::acts::AllActs;
 use crate::reader::{LineReader, Next, ReadFault};
@@ -104,13 +105,15 @@ fn show<K: Sink>(journal: &Journal, cut: u64, sink: &mut K) -> Result<(), Sessio
     Ok(())
 }
 
-/// What a refusal of the world is for a session.
-fn fault_of(fault: WorldFault<AllActs>) -> SessionFault
+/// What a refusal of the world is for a session. A job that was not run is want of memory only where its journal has room.
+fn fault_of(fault: WorldFault<AllActs>, room: bool) -> SessionFault
     ensures fabric { result ≡ SessionFault.Fabric → fault ≡ WorldFault.Fabric }
     ensures fabric_too { fault ≡ WorldFault.Fabric → result ≡ SessionFault.Fabric }
-    ensures full { result ≡ SessionFault.JournalFull → (e w : ℕ) × (u : _) × (fault ≡ WorldFault.JournalFull e w u) }
+    ensures full { result ≡ SessionFault.JournalFull →
+        ((e w : ℕ) × (u : _) × (fault ≡ WorldFault.JournalFull e w u)) ⊎ ((job : _) × (fault ≡ WorldFault.NotRun job) × (room ≡ false)) }
     ensures full_too { (e w : ℕ) (u : _) → fault ≡ WorldFault.JournalFull e w u → result ≡ SessionFault.JournalFull }
-    ensures memory { result ≡ SessionFault.OutOfMemory → ((u : _) × (fault ≡ WorldFault.OutOfMemory u)) ⊎ ((job : _) × (fault ≡ WorldFault.NotRun job)) }
+    ensures memory { result ≡ SessionFault.OutOfMemory →
+        ((u : _) × (fault ≡ WorldFault.OutOfMemory u)) ⊎ ((job : _) × (fault ≡ WorldFault.NotRun job) × (room ≡ true)) }
     ensures bad_frame { result ≡ SessionFault.BadFrame → (to : _) × (frame : _) × (at : _) × (why : _) × (fault ≡ WorldFault.BadFrame to frame at why) }
     ensures strange { result ≡ SessionFault.Strange →
         ((to : _) × (frame : _) × (rule : _) × (object : _) × (kept : _) × (fault ≡ WorldFault.Strange to frame rule object kept))
@@ -139,7 +142,8 @@ fn fault_of(fault: WorldFault<AllActs>) -> SessionFault
             undone: _,
         } => SessionFault::JournalFull,
         WorldFault::OutOfMemory { undone: _ } => SessionFault::OutOfMemory,
-        WorldFault::NotRun { job: _ } => SessionFault::OutOfMemory,
+        WorldFault::NotRun { job: _ } if room => SessionFault::OutOfMemory,
+        WorldFault::NotRun { job: _ } => SessionFault::JournalFull,
     }
 }
 
@@ -167,7 +171,7 @@ fn begin<F: Fabric>(
 {
     match world.turn(alloc, Choice::Feed(text), fabric) {
         Ok(_) => Ok(()),
-        Err(fault) => Err(fault_of(fault)),
+        Err(fault) => Err(fault_of(fault, world.journal().room())),
     }
 }
 
@@ -188,7 +192,7 @@ fn settle<F: Fabric>(
 
     ensures fabric { result ≡ Err SessionFault.Fabric → Rose (F.faults fabric.old) (F.faults fabric.new) }
     ensures full { result ≡ Err SessionFault.JournalFull → HasRoom world.new.journal.entries → ⊥ }
-    ensures room { result ≢ Err SessionFault.JournalFull → result ≢ Err SessionFault.OutOfMemory → HasRoom world.new.journal.entries }
+    ensures room { result ≢ Err SessionFault.JournalFull → HasRoom world.new.journal.entries }
     ensures cause { IfErr result (λ fault. (fault ≡ SessionFault.Fabric) ⊎ (fault ≡ SessionFault.JournalFull) ⊎ (fault ≡ SessionFault.OutOfMemory)) }
     ensures stands { result ≢ Err SessionFault.Fabric → F.faults fabric.new ≡ F.faults fabric.old }
 {
@@ -196,7 +200,7 @@ fn settle<F: Fabric>(
     world.law();
     match drained {
         Ok(()) => Ok(()),
-        Err(fault) => Err(fault_of(fault)),
+        Err(fault) => Err(fault_of(fault, world.journal().room())),
     }
 }
 
@@ -221,7 +225,7 @@ fn feed<F: Fabric>(
 
     ensures fabric { result ≡ Err SessionFault.Fabric → Rose (F.faults fabric.old) (F.faults fabric.new) }
     ensures full { result ≡ Err SessionFault.JournalFull → HasRoom world.new.journal.entries → ⊥ }
-    ensures room { result ≢ Err SessionFault.JournalFull → result ≢ Err SessionFault.OutOfMemory → HasRoom world.new.journal.entries }
+    ensures room { result ≢ Err SessionFault.JournalFull → HasRoom world.new.journal.entries }
     ensures other { (result ≢ Err SessionFault.Read) × (result ≢ Err SessionFault.Write) × (result ≢ Err SessionFault.InputFull) }
     ensures no_frame { result ≢ Err SessionFault.BadFrame }
     ensures no_parcel { result ≢ Err SessionFault.Strange }
@@ -250,7 +254,7 @@ fn open<F: Fabric>(
 
     ensures fabric { result ≡ Err SessionFault.Fabric → Rose (F.faults fabric.old) (F.faults fabric.new) }
     ensures full { result ≡ Err SessionFault.JournalFull → HasRoom world.new.journal.entries → ⊥ }
-    ensures room { result ≢ Err SessionFault.JournalFull → result ≢ Err SessionFault.OutOfMemory → HasRoom world.new.journal.entries }
+    ensures room { HasRoom world.old.journal.entries → result ≢ Err SessionFault.JournalFull → HasRoom world.new.journal.entries }
     ensures other { (result ≢ Err SessionFault.Read) × (result ≢ Err SessionFault.Write) × (result ≢ Err SessionFault.InputFull) }
     ensures no_frame { result ≢ Err SessionFault.BadFrame }
     ensures no_parcel { result ≢ Err SessionFault.Strange }
@@ -286,7 +290,7 @@ fn serve_text<K: Sink, F: Fabric>(
     ensures write { result ≡ Err SessionFault.Write → Rose (K.faults sink.old) (K.faults sink.new) }
     ensures fabric { result ≡ Err SessionFault.Fabric → Rose (F.faults fabric.old) (F.faults fabric.new) }
     ensures full { result ≡ Err SessionFault.JournalFull → HasRoom world.new.journal.entries → ⊥ }
-    ensures room { result ≢ Err SessionFault.JournalFull → result ≢ Err SessionFault.OutOfMemory → HasRoom world.new.journal.entries }
+    ensures room { HasRoom world.old.journal.entries → result ≢ Err SessionFault.JournalFull → HasRoom world.new.journal.entries }
     ensures no_frame { result ≢ Err SessionFault.BadFrame }
     ensures no_parcel { result ≢ Err SessionFault.Strange }
     ensures write_only { result ≢ Err SessionFault.Write → K.faults sink.new ≡ K.faults sink.old }
@@ -315,9 +319,13 @@ fn serve_line<S: Source, K: Sink, F: Fabric>(
     requires rest { IsRested world.old }
     requires carrying { IsCarrying (rules world.old) world.old.hand (F.flight fabric.old) (F.trace fabric.old) world.old.journal.entries }
 
-    ensures line { result ≡ Ok true → (all : _) (before : _) →
-        IsServing (rules world.old) all before reader.old (S.left source.old) world.old.journal.entries (K.held sink.old) →
-        IsServing (rules world.old) all before reader.new (S.left source.new) world.new.journal.entries (K.held sink.new) }
+    ensures line { result ≡ Ok true → (all : _) (before : _) (count : ℕ) →
+        IsServingAt count (rules world.old) all before reader.old (S.left source.old) world.old.journal.entries (K.held sink.old) →
+        IsServingAt (count + 1) (rules world.old) all before reader.new (S.left source.new) world.new.journal.entries (K.held sink.new) }
+    ensures behind { result ≡ Ok true → input_left reader.new (S.left source.new) ≡ option_map behind_line (input_left reader.old (S.left source.old)) }
+    ensures short { result ≡ Err SessionFault.OutOfMemory → (all : _) (before : _) (count : ℕ) →
+        IsServingAt count (rules world.old) all before reader.old (S.left source.old) world.old.journal.entries (K.held sink.old) →
+        IsCutAt count (length world.old.nodes) 1 all before world.new.journal.entries (K.held sink.new) }
     ensures over { result ≡ Ok false → (all : _) (before : _) →
         IsServing (rules world.old) all before reader.old (S.left source.old) world.old.journal.entries (K.held sink.old) →
         IsOver (length world.old.nodes) reader.new.ended all before world.new.journal.entries (K.held sink.new) }
@@ -344,8 +352,9 @@ fn serve_line<S: Source, K: Sink, F: Fabric>(
     ensures write { result ≡ Err SessionFault.Write → Rose (K.faults sink.old) (K.faults sink.new) }
     ensures fabric { result ≡ Err SessionFault.Fabric → Rose (F.faults fabric.old) (F.faults fabric.new) }
     ensures full { result ≡ Err SessionFault.JournalFull → HasRoom world.new.journal.entries → ⊥ }
-    ensures room { HasRoom world.old.journal.entries → result ≢ Err SessionFault.JournalFull → result ≢ Err SessionFault.OutOfMemory → HasRoom world.new.journal.entries }
+    ensures room { HasRoom world.old.journal.entries → result ≢ Err SessionFault.JournalFull → HasRoom world.new.journal.entries }
     ensures full_input { result ≡ Err SessionFault.InputFull → reader.new.read ≡ 67108864 }
+    ensures out { result ≡ Err SessionFault.OutOfMemory → IsOut reader.new (input_left reader.old (S.left source.old)) (S.left source.new) → ⊥ }
     ensures read_only { result ≢ Err SessionFault.Read → S.faults source.new ≡ S.faults source.old }
     ensures no_frame { result ≢ Err SessionFault.BadFrame }
     ensures no_parcel { result ≢ Err SessionFault.Strange }
@@ -391,6 +400,8 @@ pub fn serve<S: Source, K: Sink, F: Fabric>(
     ensures read_up { (input : _) → S.left source.old ≡ Some input → OnOk result (IsReadUp input (S.left source.new)) }
     ensures ended { (input : _) → S.left source.old ≡ Some input →
         IfErr result (λ fault. IsEndedBy fault (length world.old.nodes) input world.new.journal.entries (K.held sink.old) (K.held sink.new)) }
+    ensures short { (input : _) → S.left source.old ≡ Some input → result ≡ Err SessionFault.OutOfMemory →
+        IsShort (length world.old.nodes) input (S.left source.new) world.new.journal.entries (K.held sink.old) (K.held sink.new) }
     ensures begun { (input : _) → S.left source.old ≡ Some input → IsBegun (length world.old.nodes) input world.new.journal.entries (K.held sink.old) (K.held sink.new) }
     ensures input { (input : _) → S.left source.old ≡ Some input → result ≡ Err SessionFault.InputFull → IsInputFull input (S.left source.new) }
     ensures read_on { (input : _) → S.left source.old ≡ Some input → result ≡ Err SessionFault.Read → (n : ℕ) × IsReadOn n input (S.left source.new) }
@@ -405,7 +416,7 @@ pub fn serve<S: Source, K: Sink, F: Fabric>(
     ensures write { result ≡ Err SessionFault.Write → Rose (K.faults sink.old) (K.faults sink.new) }
     ensures fabric { result ≡ Err SessionFault.Fabric → Rose (F.faults fabric.old) (F.faults fabric.new) }
     ensures full { result ≡ Err SessionFault.JournalFull → HasRoom world.new.journal.entries → ⊥ }
-    ensures room { result ≢ Err SessionFault.JournalFull → result ≢ Err SessionFault.OutOfMemory → HasRoom world.new.journal.entries }
+    ensures room { result ≢ Err SessionFault.JournalFull → HasRoom world.new.journal.entries }
     ensures read_only { result ≢ Err SessionFault.Read → S.faults source.new ≡ S.faults source.old }
     ensures no_frame { result ≢ Err SessionFault.BadFrame }
     ensures no_parcel { result ≢ Err SessionFault.Strange }

@@ -1,4 +1,4 @@
-use Rattle.hpx_program.proofs.Served.{served_in}
+use Rattle.hpx_program.proofs.Served.{served_in, short_in}
 use Rattle.hpx_program.proofs.program.program.Goals as goal
 
 pub returns-in-Ok-clause-served : goal.returns-in-Ok-clause-served
@@ -10,3 +10,6 @@ returns-in-Ok-clause-served g c = served_in c.run.result.world _ _ _ _ (λ input
   between_lines = c.run.ensures.between_lines input is;
   in_a_line = c.run.ensures.in_a_line input is;
 })
+
+pub returns-in-Ok-clause-short : goal.returns-in-Ok-clause-short
+returns-in-Ok-clause-short g c = short_in c.run.result.world c.run.result.status _ _ _ _ c.run.ensures.at_most_a_line

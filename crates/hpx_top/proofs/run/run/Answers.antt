@@ -5,7 +5,7 @@ use Rattle.hpx_top.specs.Statuses.{status_after}
 use Rattle.hpx_top.specs.Usage.{bad_word}
 use Rattle.hpx_top.proofs.ShowLemmas.{nothing_said}
 use Rattle.hpx_top.proofs.EndLemmas.{begun_nothing}
-use Rattle.hpx_top.proofs.RunLemmas.{ended_well, ended_between, ended_within, ended_without}
+use Rattle.hpx_top.proofs.RunLemmas.{ended_well, ended_between, ended_within, was_short}
 use Rattle.hpx_top.proofs.run.run.Goals as goal
 use Rattle.hpx_top.proofs.run.run.Goals.{in-Ok, in-Err}
 
@@ -54,7 +54,7 @@ returns-clause-at_most_a_line g c =
       | in-Ok w ↦ w.status-is ∙ ap status_after (sym w.in-Ok.is)
       | in-Err w ↦ w.status-is ∙ (w.line_of-status.ensures.status ∙ ap status_after (sym w.in-Err.is))
     ] in
-    λ input h s. ended_without 2 c.serve_all-world.result.1 c.serve_all-world.result.0 input _ _ (sym is ∙ s) (c.serve_all-world.ensures.ended input h)
+    λ input h s. c.serve_all-world.ensures.short input h (was_short c.serve_all-world.result.1 (sym is ∙ s))
 
 pub returns-in-Some-clause-usage_line : goal.returns-in-Some-clause-usage_line
 returns-in-Some-clause-usage_line g c = λ place bad calm.

@@ -1,6 +1,6 @@
 use Rattle.std.specs.Prelude.{OnOk, IfErr}
 use Rattle.std.proofs.Common.{[], length, refl, sym, ◌≡◌, ◌∙◌, subst}
-use Rattle.hpx_top.specs.Ends.{IsWhole, IsEndedBy, IsBegun}
+use Rattle.hpx_top.specs.Ends.{IsWhole, IsEndedBy, IsBegun, IsShort}
 use Rattle.hpx_top.specs.Session.{profile, IsAmple, AllDone, IsRested}
 use Rattle.hpx_top.proofs.EndLemmas.{begun_nothing}
 use Rattle.hpx_top.proofs.FeedLemmas.{ample_profile, all_granted, all_done, on_ok, still}
@@ -43,3 +43,8 @@ returns-clause-all_done g c =
 pub returns-clause-at_home : goal.returns-clause-at_home
 returns-clause-at_home g c =
     let w = c.serve-served.new.world in c.law.ensures.at_home (still (length w.nodes) w.profile) c.serve-served.ensures.carrying.carried
+
+pub returns-clause-short : goal.returns-clause-short
+returns-clause-short g c = λ input h e.
+    subst (λ n. IsShort n input (g.S.Source.left c.serve-served.new.source) c.serve-served.new.world.journal.entries (g.K.Sink.held c.args.sink.now) (g.K.Sink.held c.serve-served.new.sink))
+    c.in-Ok.ensures.count (c.serve-served.ensures.short input h e)

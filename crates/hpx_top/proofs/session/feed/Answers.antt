@@ -16,7 +16,7 @@ returns-clause-fed g c =
     let new = same_rules c.begin.new.world c.settle.new.world c.settle.ensures.count c.settle.ensures.profile in
     let es = c.settle.new.world.journal.entries in
     on_ok c.settle.result (IsRested c.settle.new.world) _ (λ x is rest.
-    feeds (length w.nodes) w.profile c.args.text w.journal.entries es fed c.requires.ample (c.settle.ensures.room (λ e. cc) (λ e. cc))
+    feeds (length w.nodes) w.profile c.args.text w.journal.entries es fed c.requires.ample (c.settle.ensures.room (λ e. cc))
     (subst (λ r. KeepsPromises r es) (new ∙ mid) c.settle.ensures.promises) (subst (λ r. IsAtRest r (replayed r es)) (new ∙ mid) rest.rest))
     (c.settle.ensures.rest none)
 

@@ -1,11 +1,12 @@
-use Rattle.std.proofs.Common.{ℕ, List, Option, ◌≡◌, length, Ok, Err, refl, sym, ap, ◌∙◌, arith, subst}
-use Rattle.hpx_top.specs.declared.session.SessionFault.TheVariants.{Read, InputFull}
+use Rattle.std.proofs.Common.{ℕ, List, Option, ◌≡◌, ◌+◌, length, Ok, Err, refl, sym, ap, ◌∙◌, arith, subst}
+use Rattle.hpx_top.specs.declared.session.SessionFault.TheVariants.{Read, OutOfMemory, InputFull}
 use Rattle.hpx_ports.specs.Told.{followed}
-use Rattle.hpx_top.specs.Session.{IsAmple, WritesFront}
+use Rattle.hpx_top.specs.Session.{IsAmple, IsCutAt, WritesFront}
 use Rattle.hpx_top.proofs.ShowLemmas.{if_err_from, err_of, no_err}
-use Rattle.hpx_top.proofs.SessionLemmas.{serving_open, under_start}
-use Rattle.hpx_top.proofs.FeedLemmas.{same_rules, cut_write, cut_opening}
-use Rattle.hpx_top.proofs.EndLemmas.{all_lines, whole_from, begun_over, read_up_from, read_on_from, read_from, read_from_none, ended_from, begun_from, ended_opening, begun_opening, read_none, cut_same, over_same}
+use Rattle.hpx_top.proofs.SessionLemmas.{serving_open-at, under_start}
+use Rattle.hpx_journal.specs.Weights.{HasRoom}
+use Rattle.hpx_top.proofs.FeedLemmas.{same_rules, cut_write, cut_opening, room_none}
+use Rattle.hpx_top.proofs.EndLemmas.{all_lines, whole_from, begun_over, read_up_from, read_on_from, read_from, read_from_none, ended_from, begun_from, ended_opening, begun_opening, read_none, cut_same, over_same, behind_start, behind_more, short_from, short_opening}
 use Rattle.hpx_top.proofs.session.serve.Goals as goal
 
 -- the front of a text that is another
@@ -52,9 +53,13 @@ returns-in_err-write-clause-reads g c =
 
 pub loop-reader-init : goal.loop-reader-init
 loop-reader-init g c = record {
-  serving = serving_open _ (all_lines (g.S.Source.left c.args.source.now)) (g.K.Sink.held c.args.sink.now) (g.K.Sink.held c.write.new.sink)
-      c.new-reader.result (g.S.Source.left c.args.source.now) c.args.world.now.journal.entries c.open.new.world.journal.entries
-      (rw c.new-reader.ensures refl) (rw c.new-reader.ensures (omega arith)) c.requires.empty c.in_ok-open.ensures.fed (c.in_ok-write.ensures.held ∙ ap (followed (g.K.Sink.held c.args.sink.now)) c.help.ensures);
+  handling = record {
+    count = 0;
+    serving = serving_open-at _ (all_lines (g.S.Source.left c.args.source.now)) (g.K.Sink.held c.args.sink.now) (g.K.Sink.held c.write.new.sink)
+        c.new-reader.result (g.S.Source.left c.args.source.now) c.args.world.now.journal.entries c.open.new.world.journal.entries
+        (rw c.new-reader.ensures refl) (rw c.new-reader.ensures (omega arith)) c.requires.empty c.in_ok-open.ensures.fed (c.in_ok-write.ensures.held ∙ ap (followed (g.K.Sink.held c.args.sink.now)) c.help.ensures);
+    behind_is = behind_start (g.S.Source.left c.args.source.now) c.new-reader.result c.new-reader.ensures;
+  };
   reads = read_none (g.S.Source.left c.args.source.now) c.new-reader.result c.new-reader.ensures;
   counted = rw c.new-reader.ensures (omega arith);
   limit = rw c.new-reader.ensures (omega arith);
@@ -66,15 +71,21 @@ loop-reader-init g c = record {
   source_stands = refl;
   sink_stands = c.in_ok-write.ensures.stands;
   fabric_stands = c.in_ok-open.ensures.stands (no_err _ _);
-  room = c.in_ok-open.ensures.room (no_err _ _) (no_err _ _);
+  room = c.in_ok-open.ensures.room (subst HasRoom (sym c.requires.empty) room_none) (no_err _ _);
 }
 
 pub loop-reader-preserved : goal.loop-reader-preserved
 loop-reader-preserved g c =
-    let serving = rw (← same_rules c.args.world.now c.loop-reader.world c.loop-reader.invariant.count c.loop-reader.invariant.profile) at c.loop-reader.invariant.serving in
-    let next = c.in_ok-serve_line.ensures.line (ap (λ b. Ok b) c.if-branch.true) _ _ serving in
+    let was = c.loop-reader.invariant.handling in
+    let serving = rw (← same_rules c.args.world.now c.loop-reader.world c.loop-reader.invariant.count c.loop-reader.invariant.profile) at was.serving in
+    let goes_on = ap (λ b. Ok b) c.if-branch.true in
+    let next = c.in_ok-serve_line.ensures.line goes_on _ _ was.count serving in
     record {
-      serving = rw (same_rules c.args.world.now c.loop-reader.world c.loop-reader.invariant.count c.loop-reader.invariant.profile) at next;
+      handling = record {
+        count = was.count + 1;
+        serving = rw (same_rules c.args.world.now c.loop-reader.world c.loop-reader.invariant.count c.loop-reader.invariant.profile) at next;
+        behind_is = behind_more (g.S.Source.left c.args.source.now) _ _ was.count was.behind_is (c.in_ok-serve_line.ensures.behind goes_on);
+      };
       reads = c.serve_line.ensures.reads _ c.loop-reader.invariant.reads;
       counted = omega (arith, c.loop-reader.invariant.counted, c.serve_line.ensures.counted);
       limit = c.serve_line.ensures.limit c.loop-reader.invariant.limit;
@@ -86,12 +97,12 @@ loop-reader-preserved g c =
       source_stands = c.in_ok-serve_line.ensures.read_only (no_err _ _) ∙ c.loop-reader.invariant.source_stands;
       sink_stands = c.in_ok-serve_line.ensures.write_only (no_err _ _) ∙ c.loop-reader.invariant.sink_stands;
       fabric_stands = c.in_ok-serve_line.ensures.fabric_only (no_err _ _) ∙ c.loop-reader.invariant.fabric_stands;
-      room = c.in_ok-serve_line.ensures.room c.loop-reader.invariant.room (no_err _ _) (no_err _ _);
+      room = c.in_ok-serve_line.ensures.room c.loop-reader.invariant.room (no_err _ _);
     }
 
 pub returns-in_err-serve_line-clause-ended : goal.returns-in_err-serve_line-clause-ended
 returns-in_err-serve_line-clause-ended g c =
-    let serving = rw (← same_rules c.args.world.now c.loop-reader.world c.loop-reader.invariant.count c.loop-reader.invariant.profile) at c.loop-reader.invariant.serving in
+    let serving = rw (← same_rules c.args.world.now c.loop-reader.world c.loop-reader.invariant.count c.loop-reader.invariant.profile) at c.loop-reader.invariant.handling.serving.0 in
     let cut = cut_same c.in_err-serve_line.field-0.0 (all_lines (g.S.Source.left c.args.source.now)) (g.K.Sink.held c.args.sink.now) (g.K.Sink.held c.serve_line.new.sink)
     c.serve_line.new.world.journal.entries (length c.loop-reader.world.nodes) (length c.args.world.now.nodes) c.loop-reader.invariant.count (c.in_err-serve_line.ensures.err _ _ serving) in
     λ input h. if_err_from c.from_residual-in_err-serve_line.result c.in_err-serve_line.field-0.0 _ c.from_residual-in_err-serve_line.ensures.1
@@ -99,22 +110,40 @@ returns-in_err-serve_line-clause-ended g c =
 
 pub returns-in_err-serve_line-clause-begun : goal.returns-in_err-serve_line-clause-begun
 returns-in_err-serve_line-clause-begun g c =
-    let serving = rw (← same_rules c.args.world.now c.loop-reader.world c.loop-reader.invariant.count c.loop-reader.invariant.profile) at c.loop-reader.invariant.serving in
+    let serving = rw (← same_rules c.args.world.now c.loop-reader.world c.loop-reader.invariant.count c.loop-reader.invariant.profile) at c.loop-reader.invariant.handling.serving.0 in
     let cut = cut_same c.in_err-serve_line.field-0.0 (all_lines (g.S.Source.left c.args.source.now)) (g.K.Sink.held c.args.sink.now) (g.K.Sink.held c.serve_line.new.sink)
     c.serve_line.new.world.journal.entries (length c.loop-reader.world.nodes) (length c.args.world.now.nodes) c.loop-reader.invariant.count (c.in_err-serve_line.ensures.err _ _ serving) in
     λ input h. begun_from (length c.args.world.now.nodes) c.in_err-serve_line.field-0.0 input (g.S.Source.left c.args.source.now) _ _ _ h cut
 
 pub returns-in_err-serve_line-clause-input : goal.returns-in_err-serve_line-clause-input
 returns-in_err-serve_line-clause-input g c =
-    let serving = rw (← same_rules c.args.world.now c.loop-reader.world c.loop-reader.invariant.count c.loop-reader.invariant.profile) at c.loop-reader.invariant.serving in
+    let serving = rw (← same_rules c.args.world.now c.loop-reader.world c.loop-reader.invariant.count c.loop-reader.invariant.profile) at c.loop-reader.invariant.handling.serving.0 in
     λ input h e.
     let is = ap (λ f. Err f) (err_of c.from_residual-in_err-serve_line.result c.in_err-serve_line.field-0.0 InputFull c.from_residual-in_err-serve_line.ensures.1 e) in
     read_on_from 67108864 input (g.S.Source.left c.args.source.now) (g.S.Source.left c.serve_line.new.source) c.serve_line.new.reader h
     (c.in_err-serve_line.ensures.input is _ _ serving) (c.serve_line.ensures.reads _ c.loop-reader.invariant.reads) (c.in_err-serve_line.ensures.full_input is)
 
+pub returns-in_err-serve_line-clause-short : goal.returns-in_err-serve_line-clause-short
+returns-in_err-serve_line-clause-short g c =
+    let was = c.loop-reader.invariant.handling in
+    let serving = rw (← same_rules c.args.world.now c.loop-reader.world c.loop-reader.invariant.count c.loop-reader.invariant.profile) at was.serving in
+    λ input h e.
+    let is = ap (λ f. Err f) (err_of c.from_residual-in_err-serve_line.result c.in_err-serve_line.field-0.0 OutOfMemory c.from_residual-in_err-serve_line.ensures.1 e) in
+    let cut = subst (λ n. IsCutAt was.count n 1 (all_lines (g.S.Source.left c.args.source.now)) (g.K.Sink.held c.args.sink.now)
+    c.serve_line.new.world.journal.entries (g.K.Sink.held c.serve_line.new.sink)) c.loop-reader.invariant.count
+    (c.in_err-serve_line.ensures.short is _ _ was.count serving) in
+    short_from was.count (length c.args.world.now.nodes) input (g.S.Source.left c.args.source.now) _ (g.S.Source.left c.serve_line.new.source) c.serve_line.new.reader
+    c.serve_line.new.world.journal.entries (g.K.Sink.held c.args.sink.now) (g.K.Sink.held c.serve_line.new.sink) h cut was.behind_is
+    (c.serve_line.ensures.reads _ c.loop-reader.invariant.reads) (c.in_err-serve_line.ensures.out is)
+
+pub returns-in_err-open-clause-short : goal.returns-in_err-open-clause-short
+returns-in_err-open-clause-short g c =
+    let cut = cut_opening (g.K.Sink.held c.args.sink.now) (g.K.Sink.held c.write.new.sink) _ _ c.requires.empty c.in_err-open.ensures.once (c.in_ok-write.ensures.held ∙ ap (followed (g.K.Sink.held c.args.sink.now)) c.help.ensures) in
+    λ input h e. short_opening (length c.args.world.now.nodes) input (g.S.Source.left c.args.source.now) _ (g.K.Sink.held c.args.sink.now) (g.K.Sink.held c.write.new.sink) cut
+
 pub returns-in_err-serve_line-clause-read_on : goal.returns-in_err-serve_line-clause-read_on
 returns-in_err-serve_line-clause-read_on g c =
-    let serving = rw (← same_rules c.args.world.now c.loop-reader.world c.loop-reader.invariant.count c.loop-reader.invariant.profile) at c.loop-reader.invariant.serving in
+    let serving = rw (← same_rules c.args.world.now c.loop-reader.world c.loop-reader.invariant.count c.loop-reader.invariant.profile) at c.loop-reader.invariant.handling.serving.0 in
     λ input h e.
     let is = ap (λ f. Err f) (err_of c.from_residual-in_err-serve_line.result c.in_err-serve_line.field-0.0 Read c.from_residual-in_err-serve_line.ensures.1 e) in (
       c.serve_line.new.reader.read,
@@ -154,13 +183,13 @@ returns-clause-limit g c =
 
 pub returns-clause-whole : goal.returns-clause-whole
 returns-clause-whole g c =
-    let serving = rw (← same_rules c.args.world.now c.loop-reader.world c.loop-reader.invariant.count c.loop-reader.invariant.profile) at c.loop-reader.invariant.serving in
+    let serving = rw (← same_rules c.args.world.now c.loop-reader.world c.loop-reader.invariant.count c.loop-reader.invariant.profile) at c.loop-reader.invariant.handling.serving.0 in
     let over = over_same (length c.loop-reader.world.nodes) (length c.args.world.now.nodes) c.loop-reader.invariant.count (c.in_ok-serve_line.ensures.over (ap (λ b. Ok b) c.if-branch.false) _ _ serving) in
     λ input h. whole_from (length c.args.world.now.nodes) c.serve_line.new.reader.ended input (g.S.Source.left c.args.source.now) _ _ _ h over
 
 pub returns-clause-read_up : goal.returns-clause-read_up
 returns-clause-read_up g c =
-    let serving = rw (← same_rules c.args.world.now c.loop-reader.world c.loop-reader.invariant.count c.loop-reader.invariant.profile) at c.loop-reader.invariant.serving in
+    let serving = rw (← same_rules c.args.world.now c.loop-reader.world c.loop-reader.invariant.count c.loop-reader.invariant.profile) at c.loop-reader.invariant.handling.serving.0 in
     let over = over_same (length c.loop-reader.world.nodes) (length c.args.world.now.nodes) c.loop-reader.invariant.count (c.in_ok-serve_line.ensures.over (ap (λ b. Ok b) c.if-branch.false) _ _ serving) in
     λ input h. read_up_from (length c.args.world.now.nodes) c.serve_line.new.reader.ended input (g.S.Source.left c.args.source.now) (g.S.Source.left c.serve_line.new.source)
     c.serve_line.new.reader c.serve_line.new.world.journal.entries (g.K.Sink.held c.args.sink.now) (g.K.Sink.held c.serve_line.new.sink) h over
@@ -168,6 +197,6 @@ returns-clause-read_up g c =
 
 pub returns-clause-begun : goal.returns-clause-begun
 returns-clause-begun g c =
-    let serving = rw (← same_rules c.args.world.now c.loop-reader.world c.loop-reader.invariant.count c.loop-reader.invariant.profile) at c.loop-reader.invariant.serving in
+    let serving = rw (← same_rules c.args.world.now c.loop-reader.world c.loop-reader.invariant.count c.loop-reader.invariant.profile) at c.loop-reader.invariant.handling.serving.0 in
     let over = over_same (length c.loop-reader.world.nodes) (length c.args.world.now.nodes) c.loop-reader.invariant.count (c.in_ok-serve_line.ensures.over (ap (λ b. Ok b) c.if-branch.false) _ _ serving) in
     λ input h. begun_over (length c.args.world.now.nodes) c.serve_line.new.reader.ended input (g.S.Source.left c.args.source.now) _ _ _ h over

@@ -2,13 +2,14 @@ use Rattle.std.proofs.Common.{◌≡◌, ◌+◌, ◌≤◌, [], false, length}
 use Rattle.hpx_journal.specs.Weights.{HasRoom}
 use Rattle.hpx_world.specs.Away.{IsCarrying}
 use Rattle.hpx_top.specs.Reader.{HasRead, bytes_left, lines_left}
-use Rattle.hpx_top.specs.Session.{rules, IsAmple, IsRested, IsServing}
+use Rattle.hpx_top.specs.Session.{rules, IsAmple, IsRested, IsHandling}
 use Rattle.hpx_top.proofs.session.serve.Given as goal
 
 abbrev pub invariant-loop-reader : goal.invariant-loop-reader
 invariant-loop-reader g l =
     record {
-      serving : IsServing (rules l.fn.world) (lines_left (record { pending = []; read = 0; ended = false }) (g.S.Source.left l.fn.source))
+      handling : IsHandling (rules l.fn.world) (g.S.Source.left l.fn.source)
+          (lines_left (record { pending = []; read = 0; ended = false }) (g.S.Source.left l.fn.source))
           (g.K.Sink.held l.fn.sink) l.reader (g.S.Source.left l.source) l.world.journal.entries (g.K.Sink.held l.sink);
       reads : HasRead (g.S.Source.left l.fn.source) l.reader (g.S.Source.left l.source);
       counted : l.reader.read + g.S.Source.taken l.fn.source ≡ g.S.Source.taken l.source;

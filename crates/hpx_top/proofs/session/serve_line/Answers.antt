@@ -1,8 +1,9 @@
-use Rattle.std.proofs.Common.{length, refl, Err, ap, ◌∙◌}
+use Rattle.std.proofs.Common.{length, refl, Err, ap, ◌∙◌, subst}
 use Rattle.hpx_top.specs.Reader.{lines_left}
-use Rattle.hpx_top.specs.Session.{rules}
-use Rattle.hpx_top.proofs.ShowLemmas.{if_err_from}
-use Rattle.hpx_top.proofs.SessionLemmas.{serving_line, serving_long, cut_here, over_end, over_quit, under_prompt, under_long, stopped_full, stopped_read}
+use Rattle.hpx_top.specs.declared.session.SessionFault.TheVariants.{OutOfMemory}
+use Rattle.hpx_top.specs.Session.{rules, IsLineEndedBy}
+use Rattle.hpx_top.proofs.ShowLemmas.{if_err_from, err_of}
+use Rattle.hpx_top.proofs.SessionLemmas.{serving_line-at, serving_long-at, cut_here, cut_here-at, cut_line-at, over_end, over_quit, under_prompt, under_long, stopped_full, stopped_read}
 use Rattle.hpx_top.proofs.FeedLemmas.{cut_write, cut_text}
 use Rattle.hpx_top.proofs.session.serve_line.Goals as goal
 
@@ -36,7 +37,7 @@ pub returns-in_ok-serve_text-in-Ok-Line-clause-line : goal.returns-in_ok-serve_t
 returns-in_ok-serve_text-in-Ok-Line-clause-line g c =
     let takes = rw c.in-Ok-Line.field-0-is at c.in-Ok-Line.ensures.ok in
     let fewer = rw c.in-Ok-Line.field-0-is at c.in-Ok-Line.ensures.fewer in
-    (λ h all before s. serving_line (length c.args.world.now.nodes) c.args.world.now.profile all before
+    (λ h all before count s. serving_line-at count (length c.args.world.now.nodes) c.args.world.now.profile all before
     (g.K.Sink.held c.args.sink.now) (g.K.Sink.held c.write.new.sink) (g.K.Sink.held c.serve_text.new.sink) c.args.reader.now c.next_line.new.self
     (g.S.Source.left c.args.source.now) (g.S.Source.left c.next_line.new.source) c.args.world.now.journal.entries c.serve_text.new.world.journal.entries
     _ c.requires.some c.requires.few s c.in_ok-write.ensures.held takes fewer c.in_ok-serve_text-in-Ok-Line.ensures.fed
@@ -46,7 +47,7 @@ pub returns-in_ok-write-in-Ok-Long-clause-line : goal.returns-in_ok-write-in-Ok-
 returns-in_ok-write-in-Ok-Long-clause-line g c =
     let takes = rw c.in-Ok-Long.field-0-is at c.in-Ok-Long.ensures.ok in
     let fewer = rw c.in-Ok-Long.field-0-is at c.in-Ok-Long.ensures.fewer in
-    (λ h all before s. serving_long (rules c.args.world.now) all before
+    (λ h all before count s. serving_long-at count (rules c.args.world.now) all before
     (g.K.Sink.held c.args.sink.now) (g.K.Sink.held c.write.new.sink) _ c.args.reader.now c.next_line.new.self
     (g.S.Source.left c.args.source.now) (g.S.Source.left c.next_line.new.source) c.args.world.now.journal.entries
     s c.in_ok-write.ensures.held takes fewer c.in_ok-write-in-Ok-Long.ensures.held)
@@ -93,3 +94,33 @@ pub returns-in-Err-OutOfMemory-clause-err : goal.returns-in-Err-OutOfMemory-clau
 returns-in-Err-OutOfMemory-clause-err g c = λ all before s.
     cut_here 1 (rules c.args.world.now) all before (g.K.Sink.held c.args.sink.now) (g.K.Sink.held c.write.new.sink) c.args.reader.now
     (g.S.Source.left c.args.source.now) c.args.world.now.journal.entries c.args.world.now.journal.entries s c.in_ok-write.ensures.held refl
+
+pub returns-in_ok-serve_text-in-Ok-Line-clause-behind : goal.returns-in_ok-serve_text-in-Ok-Line-clause-behind
+returns-in_ok-serve_text-in-Ok-Line-clause-behind g c =
+    let behind = rw c.in-Ok-Line.field-0-is at c.in-Ok-Line.ensures.behind in
+    (λ h. behind)
+
+pub returns-in_ok-write-in-Ok-Long-clause-behind : goal.returns-in_ok-write-in-Ok-Long-clause-behind
+returns-in_ok-write-in-Ok-Long-clause-behind g c =
+    let behind = rw c.in-Ok-Long.field-0-is at c.in-Ok-Long.ensures.behind in
+    (λ h. behind)
+
+pub returns-in-Err-OutOfMemory-clause-short : goal.returns-in-Err-OutOfMemory-clause-short
+returns-in-Err-OutOfMemory-clause-short g c = λ h all before count s.
+    cut_here-at count 1 (rules c.args.world.now) all before (g.K.Sink.held c.args.sink.now) (g.K.Sink.held c.write.new.sink) c.args.reader.now
+    (g.S.Source.left c.args.source.now) c.args.world.now.journal.entries c.args.world.now.journal.entries s c.in_ok-write.ensures.held refl
+
+-- where memory was wanting in the line, it was fed once at most
+pub returns-in_err-serve_text-in-Ok-Line-clause-short : goal.returns-in_err-serve_text-in-Ok-Line-clause-short
+returns-in_err-serve_text-in-Ok-Line-clause-short g c = λ h all before count s.
+    let takes = rw c.in-Ok-Line.field-0-is at c.in-Ok-Line.ensures.ok in
+    let is = err_of c.from_residual-in_err-serve_text-in-Ok-Line.result c.in_err-serve_text-in-Ok-Line.field-0.0 OutOfMemory c.from_residual-in_err-serve_text-in-Ok-Line.ensures.1 h in
+    let ended = subst (λ f. IsLineEndedBy f (rules c.args.world.now) c.in-Ok-Line.line c.args.world.now.journal.entries c.serve_text.new.world.journal.entries
+    (g.K.Sink.held c.write.new.sink) (g.K.Sink.held c.serve_text.new.sink)) is c.in_err-serve_text-in-Ok-Line.ensures.err in
+    cut_line-at count (rules c.args.world.now) all before (g.K.Sink.held c.args.sink.now) (g.K.Sink.held c.serve_text.new.sink) c.args.reader.now c.next_line.new.self
+    (g.S.Source.left c.args.source.now) (g.S.Source.left c.next_line.new.source) c.args.world.now.journal.entries c.serve_text.new.world.journal.entries
+    _ s (ended.1 ∙ c.in_ok-write.ensures.held) takes ended.0
+
+pub returns-in_err-serve_text-in-Ok-Line-clause-out : goal.returns-in_err-serve_text-in-Ok-Line-clause-out
+returns-in_err-serve_text-in-Ok-Line-clause-out g c = λ h out.
+    let no = rw (c.in-Ok-Line.is, c.in-Ok-Line.field-0-is) at c.next_line.ensures.out out in no
