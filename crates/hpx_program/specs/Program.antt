@@ -1,5 +1,5 @@
 -- What the program did with its ports, by the status that it ends with.
-use Rattle.std.specs.Prelude.{ℕ, Option, Some, Ok, IfSome, List, ◌≡◌, ◌≢◌, ◌⊎◌, ◌+◌, ◌<◌, ◌≤◌}
+use Rattle.std.specs.Prelude.{ℕ, Option, Some, Ok, IfSome, List, ◌≡◌, ◌≢◌, ◌⊎◌, ◌+◌, ◌<◌}
 use Rattle.hpx_journal.specs.declared.entry.Entry.{Entry}
 use Rattle.hpx_journal.specs.Weights.{HasRoom}
 use Rattle.hpx_ports.specs.Faults.{Rose}
