@@ -1,5 +1,5 @@
 -- What calls of the console do: who waits at an object is told as all others there, and an answer to the caller says the same or nothing.
-use Rattle.std.specs.Prelude.{ℕ, zero, suc, ℤ, pos, negsuc, Bool, true, false, nat_le, nat_lt, List, [], ◌∷◌, ◌++◌, ◌+◌, ◌+ℤ◌, ◌-◌, ◌≡◌, ◌==◌, ◌&&◌, ◌⊎◌, Option, Some, None, codes, length, refl, if◌then◌else◌}
+use Rattle.std.specs.Prelude.{ℕ, zero, suc, ℤ, pos, negsuc, Bool, true, false, nat_le, List, [], ◌∷◌, ◌+◌, ◌+ℤ◌, ◌≡◌, ◌==◌, ◌&&◌, ◌⊎◌, Option, Some, None, codes, length, refl, if◌then◌else◌}
 use Rattle.std.specs.Str.{bytes_eq}
 use Rattle.std.proofs.Common.{sym, ap, ◌∙◌, subst, inl, inr}
 use Rattle.std.proofs.lemmas.Bool.{cond_both, eqb-true, leb-true, lt-ltb}

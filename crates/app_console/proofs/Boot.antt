@@ -1,8 +1,8 @@
 -- At boot the pool holds what the plain space holds.
-use Rattle.std.specs.Prelude.{pos, ◌==◌, ◌&&◌, if◌then◌else◌}
+use Rattle.std.specs.Prelude.{◌==◌, ◌&&◌}
 use Rattle.std.specs.List.{find, AllByRecursion}
 use Rattle.std.specs.Option.{option_map}
-use Rattle.std.proofs.Common.{ℕ, zero, suc, Bool, true, false, cond, List, [], ◌∷◌, ◌++◌, ◌≡◌, ◌≢◌, ◌+◌, ◌<◌, ◌≤◌, ◌⊎◌, Option, Some, None, refl, sym, ap, ◌∙◌, subst, inl, inr, length, arith, lit≤}
+use Rattle.std.proofs.Common.{ℕ, Bool, true, false, cond, List, [], ◌∷◌, ◌++◌, ◌≡◌, ◌≢◌, ◌<◌, ◌≤◌, Option, Some, refl, sym, ap, ◌∙◌, subst, inl, inr, length, arith, lit≤}
 use Rattle.std.proofs.lemmas.Bool.{eq-eqb}
 use Rattle.hpx_value.specs.Ids.{Id, bare_id, same_object}
 use Rattle.hpx_value.specs.Values.{empty_state}
@@ -16,12 +16,9 @@ use Rattle.hpx_journal.specs.Entries.{Rules}
 use Rattle.hpx_journal.proofs.Same.{same_object-true}
 use Rattle.hpx_journal.proofs.Reduced.{boot_shows}
 use Rattle.hpx_calls.specs.Ids.{state_of, IsReadable}
-use Rattle.app_console.specs.Types.{Consoles}
-use Rattle.app_console.specs.Judging.{judging}
+use Rattle.app_console.specs.Judging.{Acting, judging}
 use Rattle.app_console.specs.Plain.{Who, RootOf, Thing, at_boot, first_item, root_content}
 use Rattle.app_console.proofs.Alikes.{IsOurs, waiter}
-use Rattle.app_console.proofs.Seen.{IsFit}
-use Rattle.app_console.proofs.Effects.{desk_of}
 use Rattle.app_console.proofs.Fit.{at, IsIn, IsGoodContent, held_over, Fits}
 use Rattle.app_console.proofs.Steps.{Settled}
 
@@ -56,9 +53,9 @@ by_root n P two four three five kind place i = by_kind i.0
     by_kind (inr ((inr (inl e)), z)) = one_place 5 place e refl (five place z)
     by_kind (inr ((inr (inr e)), z)) = absurd (i.2 e)
 
-module _ (cs : Consoles) (n log limit : ℕ) (parcel_of : List ℕ → Option Parcel) (some : 1 ≤ n) where
+module _ (acts : Acting) (n log limit : ℕ) (parcel_of : List ℕ → Option Parcel) (some : 1 ≤ n) where
   abbrev rules : Rules
-  rules = judging cs n log limit parcel_of
+  rules = judging acts n log limit parcel_of
 
   abbrev pub boot : Pool
   boot = boot_pool rules

@@ -1,14 +1,12 @@
 -- An object acts on what a line asks for: over ids it does what the plain object does.
-use Rattle.std.specs.Prelude.{ℤ, pos, is_some, ◌==◌, ◌&&◌, nat_le, nat_lt}
-use Rattle.std.specs.List.{list_any, AllByRecursion}
-use Rattle.std.proofs.Common.{ℕ, zero, suc, Bool, true, false, cond, List, [], ◌∷◌, ◌++◌, ◌≡◌, ◌≢◌, ◌+◌, ◌<◌, ◌≤◌, ◌⊎◌, Option, Some, None, IfSome, refl, sym, ap, ◌∙◌, subst, inl, inr, length, map, take, drop, arith, append-nil}
-use Rattle.std.proofs.lemmas.Bool.{ne_eqb, lt-ltb, le-leb, cases_Bool}
+use Rattle.std.specs.Prelude.{pos, is_some}
+use Rattle.std.proofs.Common.{ℕ, zero, suc, true, cond, List, [], ◌∷◌, ◌++◌, ◌≡◌, ◌≢◌, ◌<◌, ◌≤◌, Option, Some, IfSome, refl, sym, ap, ◌∙◌, subst, length, map, take, drop, append-nil}
 use Rattle.std.proofs.lemmas.List.{length-map, map-append}
 use Rattle.hpx_value.specs.Ids.{Id, same_object}
 use Rattle.hpx_value.specs.Values.{named}
 use Rattle.hpx_value.specs.Shapes.{IsAct}
 use Rattle.hpx_value.specs.Laws.{birth_state}
-use Rattle.hpx_value.specs.Hands.{Slot, session, id_at, state_after, sent, replied, due_of}
+use Rattle.hpx_value.specs.Hands.{Slot, id_at, state_after, sent, replied, due_of}
 use Rattle.hpx_value.specs.declared.value.State.{State}
 use Rattle.hpx_value.specs.declared.value.Act.{Act}
 use Rattle.hpx_value.specs.declared.value.Message.{Message}
@@ -29,13 +27,12 @@ use Rattle.hpx_calls.specs.declared.effect.Called.{Called}
 use Rattle.hpx_calls.specs.Requests.{request_of}
 use Rattle.hpx_calls.specs.Tables.{called}
 use Rattle.hpx_calls.specs.Outcomes.{outcome_of, comes_to, called_in}
-use Rattle.hpx_calls.specs.Histories.{Object, Call, Told, Answered, Setting, own, each, joined, still, tells, called_on, next}
-use Rattle.hpx_calls.specs.Ids.{state_of, IsReadable, IsCalled, call_of, setting_of, makes_for, message_for, due_for}
+use Rattle.hpx_calls.specs.Histories.{Object, Told, own, each, still, tells, called_on, next}
+use Rattle.hpx_calls.specs.Ids.{state_of, IsReadable, call_of, setting_of, makes_for, message_for}
 use Rattle.hpx_calls.proofs.Lives.{is_called}
-use Rattle.app_console.specs.Types.{Consoles, Spelled}
-use Rattle.app_console.specs.Session.{act_of, outcome_on}
+use Rattle.app_console.specs.Types.{Spelled}
+use Rattle.app_console.specs.Judging.{Acting}
 use Rattle.app_console.specs.Plain.{Who, Datum}
-use Rattle.app_console.proofs.SessionLaws.{place}
 use Rattle.hpx_calls.specs.Mapped.{content_seen, effect_seen, called_seen}
 use Rattle.app_console.proofs.Kernel.{request_is, waiter_is, called_over}
 use Rattle.app_console.proofs.Comings.{set_of}
@@ -194,11 +191,6 @@ outcome_prints : (n kind here : ℕ) (s : State) (a : Act) → (outcome_of n kin
 unfolding outcome_of
 outcome_prints n kind here s a = prints_none here s a (layout spelled (called_in n kind here s a).content) (called_in n kind here s a).effect
 
-pub others_act : (cs : Consoles) (n kind here : ℕ) (s : State) (a : Act) → n ≤ 64 → here < n → kind ≢ 1 → kind ≢ 7
-    → act_of cs n kind here s a ≡ outcome_of n kind here s a
-unfolding act_of
-others_act cs n kind here s a few low one seven = rw (place n here few low, ne_eqb kind 1 one, ne_eqb kind 7 seven) refl
-
 -- what the object leaves, over ids, where the plain object does c
 pub record DoesCall (ref : ℕ → Id) (n kind here : ℕ) (slots : List ℕ) (drawn : ℕ) (c : Called Datum) (m : Message) (s : State) (made : List Id) (out : Outcome) : Type 0 where
   pub state : state_after s (named 0 0 m) made out ≡ state_of 0 (held_over ref c.content (slots_after c.effect slots drawn))
@@ -207,7 +199,7 @@ pub record DoesCall (ref : ℕ → Id) (n kind here : ℕ) (slots : List ℕ) (d
   pub prints : out.prints ≡ []
   pub readable : IsReadable n kind (held_over ref c.content (slots_after c.effect slots drawn))
 
-module _ (cs : Consoles) (ref : ℕ → Id) (n kind here : ℕ) (x : Content Datum) (slots : List ℕ) (drawn w : ℕ) (who : Who) (code : ℕ) (args : List Datum) (few : n ≤ 64) (low : here < n)
+module _ (acts : Acting) (ref : ℕ → Id) (n kind here : ℕ) (x : Content Datum) (slots : List ℕ) (drawn w : ℕ) (who : Who) (code : ℕ) (args : List Datum) (few : n ≤ 64) (low : here < n)
     (one : kind ≢ 1) (seven : kind ≢ 7) (size : length slots ≡ w) (shown : IsReadable n kind (held_over ref x slots)) (act : IsAct (named 0 0 (asked ref drawn who code args))) where
   abbrev the_call : Called Datum
   the_call = called (plain Who) here kind w true x (request_of (plain Who) code true args)
@@ -255,10 +247,10 @@ module _ (cs : Consoles) (ref : ℕ → Id) (n kind here : ℕ) (x : Content Dat
   over_answers (Moves to) h = tt
   over_answers (Makes y) h = tt
 
-  pub does_call : (made : List Id) → IsAnswering the_call.effect → DoesCall ref n kind here slots drawn the_call m (state_of 0 o) made (act_of cs n kind here (state_of 0 o) (named 0 0 m))
+  pub does_call : (made : List Id) → IsAnswering the_call.effect → DoesCall ref n kind here slots drawn the_call m (state_of 0 o) made (acts.act_of n kind here (state_of 0 o) (named 0 0 m))
   does_call made answering =
       let h = is_called n kind here 0 o (named 0 0 m) made shown act in
-      subst (DoesCall ref n kind here slots drawn the_call m (state_of 0 o) made) (sym (others_act cs n kind here (state_of 0 o) (named 0 0 m) few low one seven)) (record {
+      subst (DoesCall ref n kind here slots drawn the_call m (state_of 0 o) made) (sym (acts.others n kind here (state_of 0 o) (named 0 0 m) few low one seven)) (record {
         state = h.state ∙ ap (state_of 0) (next_is made);
         sets =
             sym (sent_is m (state_of 0 o) made (outcome_of n kind here (state_of 0 o) (named 0 0 m)))

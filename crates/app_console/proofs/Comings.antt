@@ -1,6 +1,6 @@
 -- Answers that are to come at the session, each to a slot of its own: whichever comes first, the rest come as before.
-use Rattle.std.specs.Prelude.{ℤ, pos, ◌==◌}
-use Rattle.std.proofs.Common.{ℕ, zero, suc, true, false, cond, List, [], ◌∷◌, ◌++◌, ◌≡◌, ◌≢◌, ◌+◌, ◌≤◌, Option, Some, None, refl, sym, ap, ◌∙◌, subst, inl, inr, ◌⊎◌, length, arith}
+use Rattle.std.specs.Prelude.{pos, ◌==◌}
+use Rattle.std.proofs.Common.{ℕ, zero, suc, true, false, cond, List, [], ◌∷◌, ◌++◌, ◌≡◌, ◌≢◌, ◌+◌, ◌≤◌, Some, None, refl, sym, ap, ◌∙◌, subst, inl, inr, ◌⊎◌, length, arith}
 use Rattle.std.proofs.lemmas.Bool.{cases_Bool, eqb-true, ne_eqb}
 use Rattle.hpx_value.specs.Ids.{Id}
 use Rattle.hpx_value.specs.Hands.{session}

@@ -1,16 +1,15 @@
 -- A call is made: what each effect leaves to come.
-use Rattle.std.specs.Prelude.{ℤ, pos, codes}
+use Rattle.std.specs.Prelude.{pos}
 use Rattle.std.specs.List.{concat, list_any, AllByRecursion}
 use Rattle.std.specs.Option.{option_map}
 use Rattle.std.specs.Str.{bytes_eq}
-use Rattle.std.proofs.Common.{ℕ, zero, suc, Bool, true, false, cond, eqb, List, [], ◌∷◌, ◌++◌, ◌≡◌, ◌≢◌, ◌+◌, ◌-◌, ◌*◌, ◌<◌, ◌≤◌, Option, Some, None, refl, sym, ap, ◌∙◌, subst, inl, inr, ◌⊎◌, length, map, take, drop, arith, append-nil, append_assoc, length-append}
+use Rattle.std.proofs.Common.{ℕ, zero, suc, Bool, true, false, cond, eqb, List, [], ◌∷◌, ◌++◌, ◌≡◌, ◌≢◌, ◌+◌, ◌-◌, ◌*◌, ◌<◌, ◌≤◌, Option, Some, None, refl, sym, ap, ◌∙◌, subst, inl, inr, ◌⊎◌, length, take, drop, arith, append-nil, append_assoc, length-append}
 use Rattle.std.proofs.lemmas.Bool.{cases_Bool, cond_both}
-use Rattle.std.proofs.lemmas.List.{length-map, length-drop, length-take-le}
+use Rattle.std.proofs.lemmas.List.{length-drop}
 use Rattle.hpx_value.specs.Ids.{Id, same_object}
 use Rattle.hpx_value.specs.Laws.{birth_state}
-use Rattle.hpx_value.specs.Hands.{session, id_at}
+use Rattle.hpx_value.specs.Hands.{session}
 use Rattle.hpx_value.specs.declared.value.State.{State}
-use Rattle.hpx_value.specs.declared.value.Message.{Message}
 use Rattle.hpx_value.specs.declared.outcome.Make.{Make}
 use Rattle.hpx_journal.specs.Pool.{Pool, with_made, AreNew}
 use Rattle.hpx_journal.proofs.Same.{same_object-refl, same_object-true, same_object-sym, same_object-from}
@@ -21,18 +20,18 @@ use Rattle.hpx_calls.specs.declared.content.Content.TheVariants.{Table, Maker, S
 use Rattle.hpx_calls.specs.declared.effect.Effect.{Effect}
 use Rattle.hpx_calls.specs.declared.effect.Effect.TheVariants.{Silent, Answers, Waits, Frees, Starts, Hands, Moves, Makes}
 use Rattle.hpx_calls.specs.Outcomes.{kind_of}
-use Rattle.hpx_calls.specs.Histories.{Setting, Told as Tolds, Answered, own, each, still, tells}
+use Rattle.hpx_calls.specs.Histories.{Told as Tolds, own, each, still, tells}
 use Rattle.hpx_calls.specs.Ids.{numbered, ids_in, state_of, IsReadable, makes_for}
 use Rattle.app_console.specs.Types.{Naming, What, NotSaid, Told, Released, Bound, Await, Desk}
 use Rattle.app_console.specs.Commands.{answer_text}
 use Rattle.app_console.specs.Desks.{answered, opened, held_at, desk_out, without, erased}
 use Rattle.app_console.specs.Session.{printed}
-use Rattle.app_console.specs.Plain.{Who, Thing, Datum, Item, Plain, End, set_item, same_who, with_made as with_made_item, count_made, names_told, text_told, count_told}
+use Rattle.app_console.specs.Plain.{Who, Thing, Datum, Item, Plain, End, set_item, with_made as with_made_item, count_made, names_told, text_told, count_told}
 use Rattle.hpx_calls.specs.Mapped.{content_seen, effect_seen}
 use Rattle.app_console.proofs.Alikes.{IsOurs, IsBlank, IsBorn, IsPlainWhat, waiter, Said}
 use Rattle.app_console.proofs.Namings.{IsWhat}
 use Rattle.app_console.proofs.Seen.{IsFit}
-use Rattle.app_console.proofs.Named.{names_over, answered_over, text_over, opened_answered, opened_plain, IsNew, IsFitName, IsFitAwait, HasNameRoom, answered_each, answered_few, kind_over, length-over}
+use Rattle.app_console.proofs.Named.{names_over, answered_over, text_over, opened_answered, opened_plain, IsNew, IsFitAwait, HasNameRoom, answered_each, answered_few, kind_over}
 use Rattle.app_console.proofs.Comings.{times, says, set_of, Coming}
 use Rattle.app_console.proofs.Fit.{at, IsIn, held_over, kept_who, IsGood, IsGoodContent, value_over, value_more, thing_good, Stands, Placed, Fits, IsChange, changed, stands_set, placed_set, Among, set_slots, more_ref, at_new, at_kept, grown, placed_more, stands_more}
 use Rattle.app_console.proofs.Slots.{among_take, among_drop, distinct_take, distinct_drop, parted, among_end, distinct_end, length_end, erased_all, held_all, length_all, await, held_here, held_past, last_coming, all_coming, times_add}

@@ -1,15 +1,15 @@
 -- What the pool's objects and slots are to the plain space.
-use Rattle.std.specs.Prelude.{◌==◌, ◌&&◌, ℤ}
-use Rattle.std.proofs.Common.{ℕ, suc, Bool, true, false, cond, ltb, List, [], ◌∷◌, ◌++◌, ◌≡◌, ◌≢◌, ◌+◌, ◌<◌, ◌≤◌, Option, Some, None, refl, sym, ap, ◌∙◌, subst, inl, inr, ◌⊎◌, length, map, arith}
+use Rattle.std.specs.Prelude.{◌==◌, ◌&&◌}
+use Rattle.std.proofs.Common.{ℕ, Bool, true, false, cond, ltb, List, [], ◌∷◌, ◌++◌, ◌≡◌, ◌≢◌, ◌+◌, ◌<◌, ◌≤◌, Option, Some, None, refl, sym, ap, ◌∙◌, subst, inl, inr, ◌⊎◌, length, map, arith}
 use Rattle.std.specs.List.{AllByRecursion}
-use Rattle.std.proofs.lemmas.Bool.{cases_Bool, eqb-true, ne_eqb, eq-eqb, and_parts, lt-ltb, ltb-true, le-ltb}
-use Rattle.hpx_value.specs.Ids.{Id, bare, bare_id, same_object}
+use Rattle.std.proofs.lemmas.Bool.{cases_Bool, eqb-true, ne_eqb, eq-eqb, lt-ltb, ltb-true}
+use Rattle.hpx_value.specs.Ids.{Id, bare_id, same_object}
 use Rattle.hpx_value.specs.Hands.{Slot, session}
 use Rattle.hpx_value.specs.Laws.{IsRoot}
 use Rattle.hpx_value.specs.declared.value.State.{State}
 use Rattle.hpx_value.specs.declared.value.Message.{Message}
 use Rattle.hpx_journal.proofs.Same.{same_object-refl, same_object-sym}
-use Rattle.hpx_calls.specs.Values.{Value, Nothing, Flag, Int, Text, Ref, Fault, Ints, plain, mapped}
+use Rattle.hpx_calls.specs.Values.{Value, Nothing, Flag, Int, Text, Ref, Fault, Ints, mapped}
 use Rattle.hpx_calls.specs.declared.content.Pair.{Pair}
 use Rattle.hpx_calls.specs.declared.content.Given.{Given}
 use Rattle.hpx_calls.specs.declared.content.Content.{Content}

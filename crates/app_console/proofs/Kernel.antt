@@ -1,7 +1,6 @@
 -- An action that a line asks for, as the pool has it, is the plain call over ids; and it comes to what the plain call comes to.
-use Rattle.std.specs.Prelude.{ℕ, zero, suc, Bool, true, false, List, [], ◌∷◌, ◌++◌, ◌+◌, ◌≡◌, Option, Some, None, length, map, refl}
-use Rattle.std.proofs.Common.{sym, ap, ◌∙◌, arith}
-use Rattle.std.specs.List.{slice_index_or}
+use Rattle.std.specs.Prelude.{ℕ, suc, true, List, [], ◌∷◌, ◌++◌, ◌+◌, ◌≡◌, Some, length, map, refl}
+use Rattle.std.proofs.Common.{ap, ◌∙◌, arith}
 use Rattle.hpx_value.specs.Ids.{Id}
 use Rattle.hpx_value.specs.Values.{named}
 use Rattle.hpx_value.specs.Hands.{Slot, session, id_at}
@@ -14,7 +13,7 @@ use Rattle.hpx_calls.specs.Ids.{call_of, ids_in}
 use Rattle.hpx_calls.proofs.Seen.{seen_again}
 use Rattle.app_console.specs.Plain.{Who, Datum}
 use Rattle.app_console.proofs.Fit.{at, asked, session_slot}
-use Rattle.hpx_calls.specs.Mapped.{content_seen, request_seen, called_seen}
+use Rattle.hpx_calls.specs.Mapped.{content_seen, called_seen}
 use Rattle.hpx_calls.proofs.OverAlike.{called_is_seen, request_is_seen}
 
 -- the last of some ids

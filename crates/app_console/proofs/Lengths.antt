@@ -1,10 +1,10 @@
 -- Texts are short enough to be printed.
-use Rattle.std.specs.Prelude.{ℕ, zero, suc, ℤ, pos, negsuc, Bool, true, false, nat_le, ◌/◌, ◌%◌, List, [], ◌∷◌, ◌++◌, ◌≡◌, ◌+◌, ◌≤◌, ◌==◌, codes, length, if◌then◌else◌}
+use Rattle.std.specs.Prelude.{ℕ, zero, suc, ℤ, pos, negsuc, Bool, false, nat_le, ◌/◌, ◌%◌, List, [], ◌∷◌, ◌++◌, ◌+◌, ◌≤◌, ◌==◌, codes, length, if◌then◌else◌}
 use Rattle.std.specs.List.{AllByRecursion, filter, slice_split, onto_first}
 use Rattle.std.specs.Fmt.{digits, digits_onto, digit_glyph, decimal}
 use Rattle.std.proofs.Common.{arith, length-append, lit≤}
 use Rattle.std.proofs.lemmas.Bool.{cond_both, leb-true}
-use Rattle.hpx_calls.specs.Values.{Value, Nothing, Flag, Int, Text, Ref, Fault, Ints, Look}
+use Rattle.hpx_calls.specs.Values.{Value, Nothing, Flag, Int, Text, Ref, Fault, Ints}
 use Rattle.app_console.specs.Types.{Console, Space, AccumulatorConsole, Own, Refusal, BadCommand, BadName, NameInUse, UnknownName, NotReady, NoSuchLocality, BadNumber, NotMovable, TooManyNames, TooManyPending, What, NotSaid, Told, Released, Bound}
 use Rattle.app_console.specs.Console.{number_text, fault_word, fault_text, is_filled, is_blank, words_of}
 use Rattle.app_console.specs.Commands.{help_of, refusal_word, refusal_text, clipped, told_text, good_text, answer_text}

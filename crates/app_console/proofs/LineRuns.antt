@@ -5,9 +5,9 @@ use Rattle.hpx_parcel.specs.declared.parcel.Parcel.{Parcel}
 use Rattle.hpx_journal.specs.Entries.{Rules, line_message}
 use Rattle.hpx_journal.specs.Pool.{Pool, fed}
 use Rattle.hpx_journal.specs.Sessions.{IsStep, Steps, IsPlainBlock, IsPlainFront, at_rest}
-use Rattle.app_console.specs.Types.{Consoles, Console}
+use Rattle.app_console.specs.Types.{Console}
 use Rattle.app_console.specs.Session
-use Rattle.app_console.specs.Judging.{judging}
+use Rattle.app_console.specs.Judging.{Acting, judging}
 use Rattle.app_console.specs.Plain.{Plain, End, call_by, call_end, line_end}
 use Rattle.app_console.specs.Lines.{IsFront}
 use Rattle.app_console.proofs.Comings.{times}
@@ -55,10 +55,10 @@ waits n k v bytes p h = record {
   printed = refl;
 }
 
-module _ (cs : Consoles) (n log limit : ℕ) (parcel_of : List ℕ → Option Parcel) (some : 1 ≤ n) (few : n ≤ 64) (k : ℕ) (little : k + 1 ≤ 4000000000) (lower : k ≤ 4000000000) (v : Plain) (con : Console)
-    (mark : ℕ) (line : List ℕ) (mark_is : Session.console_of cs mark ≡ Some con) (short : length line ≤ 16384) (first : IsFirst con v) where
+module _ (acts : Acting) (n log limit : ℕ) (parcel_of : List ℕ → Option Parcel) (some : 1 ≤ n) (few : n ≤ 64) (k : ℕ) (little : k + 1 ≤ 4000000000) (lower : k ≤ 4000000000) (v : Plain) (con : Console)
+    (mark : ℕ) (line : List ℕ) (mark_is : Session.console_of acts.consoles mark ≡ Some con) (short : length line ≤ 16384) (first : IsFirst con v) where
   abbrev r : Rules
-  r = judging cs n log limit parcel_of
+  r = judging acts n log limit parcel_of
 
   abbrev e : End
   e = line_end con n v line
@@ -70,13 +70,13 @@ module _ (cs : Consoles) (n log limit : ℕ) (parcel_of : List ℕ → Option Pa
   asked_next q x is h = let P : End → Type 0 = λ z. Answering n (k + 1) z.plain z.text q in subst P (sym is) h
 
   phase_step : (p q : Pool) → Phase p → IsStep r p q → Phase q
-  phase_step p q (inl f) step = inr (line_step cs n log limit parcel_of some few k lower v con mark line mark_is short first p q f step)
-  phase_step p q (inr (inl x)) step = by_step (ask_step cs n log limit parcel_of some few (k + 1) v x.who x.code x.args x.what p q x.asking step)
+  phase_step p q (inl f) step = inr (line_step acts n log limit parcel_of some few k lower v con mark line mark_is short first p q f step)
+  phase_step p q (inr (inl x)) step = by_step (ask_step acts n log limit parcel_of some few (k + 1) v x.who x.code x.args x.what p q x.asking step)
     where
       by_step : Asking n (k + 1) v x.who x.code x.args x.what q ⊎ Answering n (k + 1) (call_end v x.who (call_by x.code x.args x.what)).plain (call_end v x.who (call_by x.code x.args x.what)).text q → Phase q
       by_step (inl y) = inr (inl (record { who = x.who; code = x.code; args = x.args; what = x.what; asking = y; ends = x.ends }))
       by_step (inr y) = inr (inr (asked_next q (call_end v x.who (call_by x.code x.args x.what)) x.ends y))
-  phase_step p q (inr (inr x)) step = inr (inr (answer_step cs n log limit parcel_of few (k + 1) little e.plain e.text p q x step))
+  phase_step p q (inr (inr x)) step = inr (inr (answer_step acts n log limit parcel_of few (k + 1) little e.plain e.text p q x step))
 
   phases : (j : ℕ) (p q : Pool) → Phase p → Steps r j p q → Phase q
   phases zero p q x is = subst Phase (sym is) x

@@ -1,9 +1,9 @@
 -- A line over the plain pool: it is read, and what it asks for is asked; then it is over, and the plain space is as the line leaves it.
-use Rattle.std.specs.Prelude.{ℤ, pos, ◌==◌, if◌then◌else◌}
+use Rattle.std.specs.Prelude.{is_some, ◌==◌, if◌then◌else◌}
 use Rattle.std.specs.List.{concat, AllByRecursion}
 use Rattle.std.specs.Option.{option_map}
 use Rattle.std.specs.Str.{bytes_eq}
-use Rattle.std.proofs.Common.{ℕ, zero, suc, Bool, true, false, cond, List, [], ◌∷◌, ◌++◌, ◌≡◌, ◌≢◌, ◌+◌, ◌<◌, ◌≤◌, ◌⊎◌, Option, Some, None, refl, sym, ap, ◌∙◌, subst, inl, inr, length, map, arith, append-nil}
+use Rattle.std.proofs.Common.{ℕ, Bool, true, false, cond, List, [], ◌∷◌, ◌++◌, ◌≡◌, ◌≢◌, ◌+◌, ◌<◌, ◌≤◌, ◌⊎◌, Option, Some, None, refl, sym, ap, ◌∙◌, subst, inl, inr, length, map, arith, append-nil}
 use Rattle.std.proofs.lemmas.Bool.{cases_Bool, cond_both, eqb-true, eqb-false}
 use Rattle.std.proofs.lemmas.List.{length-map}
 use Rattle.hpx_value.specs.Ids.{Id, same_object}
@@ -17,20 +17,20 @@ use Rattle.hpx_value.specs.declared.outcome.Sending.{Sending}
 use Rattle.hpx_value.specs.declared.outcome.Outcome.{Outcome}
 use Rattle.hpx_parcel.specs.declared.parcel.Parcel.{Parcel}
 use Rattle.hpx_journal.specs.Entries.{Rules, line_message}
-use Rattle.hpx_journal.specs.Pool.{Pool, moves_to, sent_by, acted, AreNew, IsActed, IsMoved, fed}
-use Rattle.hpx_journal.specs.Sessions.{IsStep, Steps, IsPlainBlock, at_rest}
+use Rattle.hpx_journal.specs.Pool.{Pool, moves_to, sent_by, acted, AreNew, IsActed, IsMoved}
+use Rattle.hpx_journal.specs.Sessions.{IsStep}
 use Rattle.hpx_journal.proofs.Same.{same_object-refl, same_object-true}
-use Rattle.hpx_calls.specs.Values.{Value, Nothing, Flag, Int, Text, Ref, Fault, Ints, plain, mapped, spelled, seen}
+use Rattle.hpx_calls.specs.Values.{Value, Ref, plain, mapped, spelled, seen}
 use Rattle.hpx_calls.specs.Ids.{numbered, ids_in}
 use Rattle.hpx_calls.proofs.Seen.{renumbered_is, ids_seen}
-use Rattle.app_console.specs.Types.{Consoles, Console, Space, AccumulatorConsole, Own, Spelled, SpelledUnit, SpelledFlag, SpelledInt, SpelledText, SpelledRef, SpelledFault, SpelledInts, Naming, What, NotSaid, Told, Released, Bound, Await, Desk, Status, Unknown, Pending, Stands as StandsFor, Argument, GivenWord, GivenObject, GivenNumber, Goal, Named, RootAt, Plan, DoesNothing, ShowsHelp, Refuses, GivesUp, Calls}
+use Rattle.app_console.specs.Types.{Console, Space, AccumulatorConsole, Own, Spelled, SpelledUnit, SpelledFlag, SpelledInt, SpelledText, SpelledRef, SpelledFault, SpelledInts, Naming, What, NotSaid, Told, Released, Bound, Await, Desk, Status, Stands as StandsFor, Argument, GivenWord, GivenObject, GivenNumber, Goal, Named, RootAt, Plan, DoesNothing, ShowsHelp, Refuses, GivesUp, Calls}
 use Rattle.app_console.specs.Commands.{Sight, help_of, refusal_text, plan_of}
 use Rattle.app_console.specs.Desks
 use Rattle.app_console.specs.Session
 use Rattle.app_console.specs.Session.{given, or_nothing}
-use Rattle.app_console.specs.Judging.{judging}
-use Rattle.app_console.specs.Plain.{Who, RootOf, Thing, Datum, Item, Plain, End, call_by, call_end, who_of, who_by, goal_end, plan_end, line_end, sight_of, kind_by}
-use Rattle.app_console.proofs.Namings.{IsPlace, IsNaming, IsWhat}
+use Rattle.app_console.specs.Judging.{Acting, judging}
+use Rattle.app_console.specs.Plain.{Who, RootOf, Datum, Item, Plain, End, call_by, call_end, who_of, who_by, goal_end, plan_end, line_end, sight_of, kind_by}
+use Rattle.app_console.proofs.Namings.{IsPlace, IsNaming}
 use Rattle.app_console.proofs.Seen.{IsFit, IsRef, names_seen, naming_seen, desk_seen, opened_seen, without_seen, seek_seen, all_given_seen}
 use Rattle.app_console.proofs.Seen as Seen
 use Rattle.app_console.proofs.Named.{names_over, naming_over, without_over, seek_over, all_given_over, length-over, IsNew, HasNameRoom, opened_each, opened_few, without_fit, without_few, kind_over, IsFitName}
@@ -39,10 +39,10 @@ use Rattle.app_console.proofs.Fit.{at, IsIn, asked, IsGood, good_ref, Placed, Fi
 use Rattle.app_console.proofs.Fit as Fit
 use Rattle.app_console.proofs.Slots.{await}
 use Rattle.app_console.proofs.Called.{IsAlike, next_of, acted_alike}
-use Rattle.app_console.proofs.Effects.{session_state, desk_of, IsNamed, AreNamed, Answering, concat_printed}
+use Rattle.app_console.proofs.Effects.{session_state, desk_of, AreNamed, Answering, concat_printed}
 use Rattle.app_console.proofs.Plans.{IsPlan, IsCall, IsGoal, IsMove, IsFresh, HasRoom, plan_fine}
-use Rattle.app_console.proofs.SessionKeeps.{IsShort, question, given_all}
-use Rattle.app_console.proofs.Steps.{Settled, Asking, IsMoveNow, ask_step, answer_step, session_leaves, session_desk, shown_at, session_acts, over}
+use Rattle.app_console.proofs.SessionKeeps.{question, given_all}
+use Rattle.app_console.proofs.Steps.{Asking, IsMoveNow, session_leaves, session_desk, shown_at}
 
 heads : {X : Type 0} (x y : X) (xs ys : List X) → x ∷ xs ≡ y ∷ ys → x ≡ y
 heads x y xs ys e = cc
@@ -175,10 +175,10 @@ abbrev pub IsFirst : Console → Plain → Type 0
 IsFirst Own v = v.names ≡ []
 IsFirst _ v = Unit {0}
 
-module _ (cs : Consoles) (n log limit : ℕ) (parcel_of : List ℕ → Option Parcel) (some : 1 ≤ n) (few : n ≤ 64) (k : ℕ) (little : k ≤ 4000000000) (v : Plain) (con : Console)
-    (mark : ℕ) (line : List ℕ) (mark_is : Session.console_of cs mark ≡ Some con) (short : length line ≤ 16384) (first : IsFirst con v) (p q : Pool) (h : Fed n k v (mark ∷ line) p) where
+module _ (acts : Acting) (n log limit : ℕ) (parcel_of : List ℕ → Option Parcel) (some : 1 ≤ n) (few : n ≤ 64) (k : ℕ) (little : k ≤ 4000000000) (v : Plain) (con : Console)
+    (mark : ℕ) (line : List ℕ) (mark_is : Session.console_of acts.consoles mark ≡ Some con) (short : length line ≤ 16384) (first : IsFirst con v) (p q : Pool) (h : Fed n k v (mark ∷ line) p) where
   abbrev r : Rules
-  r = judging cs n log limit parcel_of
+  r = judging acts n log limit parcel_of
 
   abbrev m : Message
   m = line_message (mark ∷ line)
@@ -243,12 +243,12 @@ module _ (cs : Consoles) (n log limit : ℕ) (parcel_of : List ℕ → Option Pa
   names_few : length v.names ≤ 100
   names_few = let l = length-over (at h.ref) v.names in let f = h.fit.few_names in omega arith
 
-  outcome : Session.act_of cs n 1 here s a ≡ Session.planned con h.drawn c (plan_of con (sight_of n v) line)
+  outcome : acts.act_of n 1 here s a ≡ Session.planned con h.drawn c (plan_of con (sight_of n v) line)
   unfolding Session.session_outcome
   outcome =
       let low = h.few in
-      session_acts cs n here s a few h.home
-      ∙ (ap (Session.session_by cs n s a) (shown_at h.drawn d c (omega arith) back.shown)
+      acts.session n here s a c few h.home (shown_at h.drawn d c (omega arith) back.shown) (ap is_some mark_is)
+      ∙ (ap (Session.session_by acts.consoles n s a) (shown_at h.drawn d c (omega arith) back.shown)
       ∙ (ap (Session.line_of n s a c line) mark_is ∙ ap (λ z. Session.planned con h.drawn c (plan_of con z line)) sight_same))
 
   -- ---- what is spoken
@@ -271,7 +271,7 @@ module _ (cs : Consoles) (n log limit : ℕ) (parcel_of : List ℕ → Option Pa
     printed : q.printed ≡ texts
     alike : IsAlike q.states
 
-  spoken : (drawn : ℕ) (e : Desk Spelled) (sends : List Sending) (texts : List (List ℕ)) → Session.act_of cs n 1 here s a ≡ Session.spoken drawn e sends texts → IsActed r p q
+  spoken : (drawn : ℕ) (e : Desk Spelled) (sends : List Sending) (texts : List (List ℕ)) → acts.act_of n 1 here s a ≡ Session.spoken drawn e sends texts → IsActed r p q
       → IsSpoken drawn e sends texts
   spoken drawn e sends texts is act =
       let out : Outcome = Session.spoken drawn e sends texts in
@@ -447,7 +447,7 @@ module _ (cs : Consoles) (n log limit : ℕ) (parcel_of : List ℕ → Option Pa
         | inr e ↦ inl (eqb-false code 1 e)
       ]
 
-  by_plan : (plan : Plan) → IsPlan con (sight_of n v) plan → Session.act_of cs n 1 here s a ≡ Session.planned con h.drawn c plan → IsActed r p q
+  by_plan : (plan : Plan) → IsPlan con (sight_of n v) plan → acts.act_of n 1 here s a ≡ Session.planned con h.drawn c plan → IsActed r p q
       → IsAsked n (k + 1) v (plan_end con v plan) q ⊎ Answering n (k + 1) (plan_end con v plan).plain (plan_end con v plan).text q
   by_plan DoesNothing g e act = inr (quiet c.names v.names [] [] names_are h.names h.fit refl (spoken h.drawn c [] [] e act))
   by_plan ShowsHelp g e act = inr (quiet c.names v.names (Session.printed (help_of con)) (help_of con) names_are h.names h.fit (concat_printed (help_of con)) (spoken h.drawn c [] (Session.printed (help_of con)) e act))

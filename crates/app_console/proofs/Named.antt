@@ -1,18 +1,16 @@
 -- The session's names are the plain space's, over ids.
-use Rattle.std.specs.Prelude.{ℤ}
 use Rattle.std.specs.List.{AllByRecursion}
 use Rattle.std.specs.Option.{option_map}
 use Rattle.std.specs.Str.{bytes_eq}
-use Rattle.std.proofs.Common.{ℕ, suc, Bool, true, false, cond, eqb, List, [], ◌∷◌, ◌++◌, ◌≡◌, ◌≢◌, ◌+◌, ◌≤◌, ◌<◌, Option, Some, None, refl, sym, ap, ◌∙◌, subst, length, map, arith}
+use Rattle.std.proofs.Common.{ℕ, suc, Bool, true, false, cond, eqb, List, [], ◌∷◌, ◌++◌, ◌≡◌, ◌+◌, ◌≤◌, ◌<◌, Option, Some, None, refl, sym, ap, ◌∙◌, subst, length, map, arith}
 use Rattle.std.proofs.lemmas.Bool.{cond_both}
 use Rattle.std.proofs.lemmas.Slice.Eq.{bytes_eq-Decides}
 use Rattle.hpx_value.specs.Ids.{Id}
-use Rattle.hpx_calls.specs.Values.{Value, Nothing, Flag, Int, Text, Ref, Fault, Ints, Look, Sort, plain, mapped}
-use Rattle.app_console.specs.Types.{Naming, What, NotSaid, Told, Released, Bound, Await, Desk, Status, Unknown, Pending, Stands as StandsFor, Argument, GivenWord, GivenObject, GivenNumber}
+use Rattle.hpx_calls.specs.Values.{Value, Nothing, Flag, Int, Text, Ref, Fault, Ints, plain, mapped}
+use Rattle.app_console.specs.Types.{Naming, What, NotSaid, Told, Released, Bound, Await, Unknown, Argument, GivenWord, GivenObject, GivenNumber}
 use Rattle.app_console.specs.Desks
 use Rattle.app_console.specs.Session.{given, or_nothing}
 use Rattle.app_console.specs.Commands.{answer_text}
-use Rattle.app_console.specs.Plain.{Who, Datum}
 use Rattle.app_console.proofs.Alikes.{IsPlainWhat}
 use Rattle.app_console.proofs.Namings.{IsWhat}
 use Rattle.app_console.proofs.Seen.{IsRef, IsFit}

@@ -1,15 +1,14 @@
 -- What a session keeps: its names and awaited answers within their bounds, and the places that they name.
-use Rattle.std.specs.Prelude.{ℕ, zero, suc, ℤ, pos, negsuc, Bool, true, false, nat_le, List, [], ◌∷◌, ◌++◌, ◌≡◌, ◌+◌, ◌*◌, ◌≤◌, ◌<◌, ◌==◌, ◌&&◌, Option, Some, None, length, map, refl, if◌then◌else◌}
+use Rattle.std.specs.Prelude.{ℕ, suc, ℤ, pos, negsuc, Bool, true, false, nat_le, List, [], ◌∷◌, ◌++◌, ◌≡◌, ◌+◌, ◌*◌, ◌≤◌, ◌<◌, ◌==◌, ◌&&◌, Option, Some, None, length, refl, if◌then◌else◌}
 use Rattle.std.specs.List.{AllByRecursion, count_by}
 use Rattle.std.specs.Str.{bytes_eq}
 use Rattle.std.proofs.Common.{sym, ap, ◌∙◌, subst, arith, lit≤, length-append, append_assoc}
-use Rattle.std.proofs.lemmas.Bool.{cond_both, and_parts, eqb-true, leb-true, cases_Bool}
+use Rattle.std.proofs.lemmas.Bool.{cond_both, and_parts, leb-true}
 use Rattle.hpx_value.specs.Values.{refs_in}
 use Rattle.hpx_value.specs.Shapes.{IsValue, IsCount, values_size, value_size}
 use Rattle.hpx_value.specs.declared.value.Value.{Value}
 use Rattle.hpx_value.specs.declared.value.Value.TheVariants.{Unit as Nothing, Flag, Int, Text, Ref, Fault, Ints}
-use Rattle.hpx_calls.specs.Values.{spelled, Look}
-use Rattle.hpx_calls.specs.Values as Looks
+use Rattle.hpx_calls.specs.Values.{spelled}
 use Rattle.hpx_calls.proofs.Keeps.{count-append, all_append, once_counted}
 use Rattle.app_console.specs.Types.{Naming, What, NotSaid, Told, Released, Bound, Await, Desk}
 use Rattle.app_console.specs.Desks

@@ -1,19 +1,18 @@
 -- No object sends a MOVE by itself, and no line of the accumulator's console asks for one.
-use Rattle.std.specs.Prelude.{ℕ, pos, Bool, true, false, nat_lt, nat_le, List, [], ◌∷◌, ◌++◌, ◌≡◌, ◌≢◌, ◌+◌, ◌≤◌, ◌<◌, ◌==◌, ◌&&◌, Option, Some, None, length, refl, if◌then◌else◌}
+use Rattle.std.specs.Prelude.{ℕ, pos, Bool, true, false, List, [], ◌∷◌, ◌++◌, ◌≡◌, ◌≢◌, ◌<◌, ◌==◌, Option, Some, None, length, refl, if◌then◌else◌}
 use Rattle.std.specs.List.{AllByRecursion}
 use Rattle.std.specs.Str.{bytes_eq}
 use Rattle.std.proofs.Common.{subst, arith}
-use Rattle.std.proofs.lemmas.Bool.{cond_both, and_parts, eqb-false, leb-true}
+use Rattle.std.proofs.lemmas.Bool.{cond_both, eqb-false}
 use Rattle.hpx_value.specs.Shapes.{IsAct, IsState}
 use Rattle.hpx_value.specs.Laws.{target_kind, IsMovable, MovesBelow}
-use Rattle.hpx_value.specs.Kept.{stays}
 use Rattle.hpx_calls.specs.declared.effect.Effect.{Effect}
 use Rattle.hpx_calls.specs.declared.effect.Effect.TheVariants.{Silent as IsSilent, Answers, Waits, Frees, Starts, Hands, Moves, Makes}
 use Rattle.hpx_calls.specs.Outcomes.{comes_to, outcome_of, called_in}
 use Rattle.hpx_calls.specs.Values.{spelled}
 use Rattle.hpx_calls.specs.Contents.{layout}
 use Rattle.hpx_calls.proofs.Lawful.{every_keeps}
-use Rattle.app_console.specs.Types.{Spelled, SpelledInt, SpelledText, SpelledFault, Cont, State, Act, Root, Sending, Outcome, What, Desk, Consoles, AccumulatorAlone, Console, Space, AccumulatorConsole, Own, Does, Helps, Drops, Sends, Row, Refusal, Plan, DoesNothing, ShowsHelp, Refuses, GivesUp, Calls}
+use Rattle.app_console.specs.Types.{Spelled, SpelledInt, SpelledText, Cont, State, Act, Root, Sending, Outcome, What, Desk, AccumulatorAlone, Console, Space, AccumulatorConsole, Own, Does, Helps, Drops, Sends, Row, Refusal, Plan, DoesNothing, ShowsHelp, Refuses, GivesUp, Calls}
 use Rattle.app_console.specs.Console.{words_of}
 use Rattle.app_console.specs.Commands
 use Rattle.app_console.specs.Commands.{Command, Sight}

@@ -1,13 +1,13 @@
 -- What a line asks for is lawful: each row of the tables, and each argument that passes.
-use Rattle.std.specs.Prelude.{ℕ, zero, suc, ℤ, pos, negsuc, Bool, true, false, nat_lt, nat_le, List, [], ◌∷◌, ◌++◌, ◌≡◌, ◌≢◌, ◌+◌, ◌-◌, ◌≤◌, ◌<◌, ◌==◌, ◌&&◌, ◌⊎◌, ◌%◌, Option, Some, None, length, map, refl, if◌then◌else◌}
+use Rattle.std.specs.Prelude.{ℕ, ℤ, pos, negsuc, Bool, true, false, nat_lt, nat_le, List, [], ◌∷◌, ◌++◌, ◌≡◌, ◌≢◌, ◌-◌, ◌≤◌, ◌<◌, ◌==◌, ◌&&◌, ◌⊎◌, Option, Some, None, length, map, refl, if◌then◌else◌}
 use Rattle.std.specs.List.{AllByRecursion, list_all}
 use Rattle.std.specs.Str.{bytes_eq}
-use Rattle.std.proofs.Common.{sym, ap, ◌∙◌, subst, arith, lit≤, lit<, inl, inr}
+use Rattle.std.proofs.Common.{sym, ap, ◌∙◌, subst, arith, lit≤, inl, inr}
 use Rattle.std.proofs.Math.Nat.{mod-lt}
 use Rattle.std.proofs.lemmas.Bool.{cond_both, and_parts, cases_Bool, eqb-true, eqb-false, leb-true, ltb-true, lt-ltb}
 use Rattle.std.proofs.lemmas.List.{length-map}
 use Rattle.hpx_value.specs.Laws.{IsRoot}
-use Rattle.app_console.specs.Types.{Console, Space, AccumulatorConsole, Own, Need, NewName, BoundName, AnyName, It, NewIt, Locality, Number, Count, Receiver, First, RootHome, RootThere, RootBeside, Kind, Accumulator, Promise, Channel, Latch, Barrier, Arg, Word, Object, NumberOf, KindName, Answer, Silent, Tells, Releases, Binds, Does, Helps, Drops, Sends, Row, Refusal, BadCommand, BadName, NoSuchLocality, NotMovable, TooManyNames, TooManyPending, Status, Unknown, Pending, Stands, Argument, GivenWord, GivenObject, GivenNumber, Goal, Named, RootAt, Plan, DoesNothing, ShowsHelp, Refuses, GivesUp, Calls, What, NotSaid, Told, Released, Bound}
+use Rattle.app_console.specs.Types.{Console, Space, AccumulatorConsole, Own, Need, NewName, BoundName, It, Locality, Receiver, First, RootHome, RootThere, RootBeside, Kind, Accumulator, Promise, Channel, Latch, Barrier, Arg, Word, Object, NumberOf, KindName, Answer, Silent, Tells, Releases, Binds, Does, Helps, Drops, Sends, Row, Refusal, BadName, NoSuchLocality, NotMovable, TooManyNames, TooManyPending, Status, Unknown, Pending, Stands, Argument, GivenWord, GivenNumber, Goal, Named, RootAt, Plan, Calls, What, Bound}
 use Rattle.app_console.specs.Console.{words_of, number_of}
 use Rattle.app_console.specs.Commands
 use Rattle.app_console.specs.Commands.{Command, Sight}

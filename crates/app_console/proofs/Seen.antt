@@ -1,19 +1,16 @@
 -- A session's state seen over ids: what is read off it, and what its operations leave.
-use Rattle.std.specs.Prelude.{ℕ, zero, suc, ℤ, pos, negsuc, Bool, true, false, nat_le, List, [], ◌∷◌, ◌++◌, ◌≡◌, ◌+◌, ◌≤◌, ◌==◌, ◌&&◌, Option, Some, None, length, map, refl, if◌then◌else◌}
+use Rattle.std.specs.Prelude.{ℕ, suc, pos, Bool, true, false, nat_le, List, [], ◌∷◌, ◌++◌, ◌≡◌, ◌≤◌, ◌&&◌, Option, Some, None, length, map, refl, if◌then◌else◌}
 use Rattle.std.specs.List.{AllByRecursion}
 use Rattle.std.specs.Option.{option_map}
 use Rattle.std.specs.Str.{bytes_eq}
-use Rattle.std.proofs.Common.{sym, ap, ◌∙◌, subst, arith, append-nil}
-use Rattle.std.proofs.lemmas.Bool.{cond_both, le-leb}
-use Rattle.hpx_value.specs.Ids.{Id}
-use Rattle.hpx_value.specs.Values.{refs_in}
-use Rattle.hpx_value.specs.Hands.{id_at}
+use Rattle.std.proofs.Common.{sym, ap, ◌∙◌}
+use Rattle.std.proofs.lemmas.Bool.{le-leb}
 use Rattle.hpx_value.specs.declared.value.Value.TheVariants.{Unit as SpelledUnit, Flag as SpelledFlag, Int as SpelledInt, Text as SpelledText, Ref as SpelledRef, Fault as SpelledFault, Ints as SpelledInts}
-use Rattle.hpx_calls.specs.Values.{Value, Nothing, Flag, Int, Text, Ref, Fault, Ints, Look, Sort, plain, spelled, seen, shifted}
-use Rattle.app_console.specs.Types.{Spelled, Naming, What, NotSaid, Told, Released, Bound, Await, Desk, Status, Argument, GivenWord, GivenObject, GivenNumber}
+use Rattle.hpx_calls.specs.Values.{Value, Nothing, Flag, Int, Text, Ref, Fault, Ints, plain, spelled, seen}
+use Rattle.app_console.specs.Types.{Spelled, Naming, What, NotSaid, Told, Released, Bound, Await, Desk, Argument, GivenWord, GivenObject, GivenNumber}
 use Rattle.app_console.specs.Desks
 use Rattle.app_console.specs.Session.{given, or_nothing}
-use Rattle.app_console.proofs.Namings.{IsPlace, IsNaming, IsWhat}
+use Rattle.app_console.proofs.Namings.{IsWhat}
 
 module _ {R : Type 0} (see : ℕ → R) where
   abbrev pub naming_seen : Naming Spelled → Naming (Value R)

@@ -1,13 +1,13 @@
 -- Actions on the session keep the laws.
-use Rattle.std.specs.Prelude.{ℕ, zero, suc, ℤ, pos, negsuc, Bool, true, false, nat_lt, nat_le, List, [], ◌∷◌, ◌++◌, ◌≡◌, ◌≢◌, ◌+◌, ◌*◌, ◌<◌, ◌≤◌, ◌==◌, ◌&&◌, ◌⊎◌, Option, Some, None, length, map, flat_map, refl, if◌then◌else◌}
+use Rattle.std.specs.Prelude.{ℕ, zero, suc, pos, Bool, true, false, nat_lt, nat_le, List, [], ◌∷◌, ◌++◌, ◌≡◌, ◌≢◌, ◌+◌, ◌*◌, ◌<◌, ◌≤◌, ◌==◌, ◌&&◌, ◌⊎◌, Option, Some, None, length, map, refl, if◌then◌else◌}
 use Rattle.std.specs.List.{AllByRecursion, count_by, slice_index_or}
 use Rattle.std.specs.Str.{bytes_eq}
 use Rattle.std.proofs.Common.{sym, ap, ◌∙◌, subst, arith, lit≤, inl, inr, length-append}
-use Rattle.std.proofs.lemmas.Bool.{cond_both, and_parts, eqb-true, leb-true, le-ltb}
+use Rattle.std.proofs.lemmas.Bool.{cond_both, and_parts, eqb-true, le-ltb}
 use Rattle.std.proofs.lemmas.List.{length-map}
 use Rattle.std.proofs.lemmas.List.Sums.{count_by-le-length}
-use Rattle.hpx_value.specs.Ids.{Id, bare_id}
-use Rattle.hpx_value.specs.Values.{refs_in, message_of}
+use Rattle.hpx_value.specs.Ids.{Id}
+use Rattle.hpx_value.specs.Values.{refs_in}
 use Rattle.hpx_value.specs.declared.value.State.{State}
 use Rattle.hpx_value.specs.declared.value.Act.{Act}
 use Rattle.hpx_value.specs.declared.value.Value.{Value}
@@ -17,20 +17,20 @@ use Rattle.hpx_value.specs.declared.outcome.Outcome.{Outcome}
 use Rattle.hpx_value.specs.declared.outcome.Sending.{Sending}
 use Rattle.hpx_value.specs.declared.outcome.Target.{Target}
 use Rattle.hpx_value.specs.declared.outcome.Target.TheVariants.{Place, Root}
-use Rattle.hpx_value.specs.Shapes.{IsValue, AreValues, IsAct, IsState, IsMessage, IsCount, values_size, value_size, listed}
-use Rattle.hpx_value.specs.Hands.{Slot, session, id_at, hand_ids, hand_slots, renumbered, addressed, sent, target_id, send_slot}
+use Rattle.hpx_value.specs.Shapes.{IsValue, IsAct, IsState, IsMessage, IsCount, values_size, value_size, listed}
+use Rattle.hpx_value.specs.Hands.{session, id_at, hand_ids, hand_slots, renumbered, addressed, target_id, send_slot}
 use Rattle.hpx_value.specs.Kept.{stays}
 use Rattle.hpx_value.specs.Mentions.{mentions, kind_at, target_places, handed_places}
 use Rattle.hpx_value.specs.Laws.{KeepsLaws, UsesEachOnce, IsTarget, MovesBelow, IsMovable, uses, is_made_slot, target_kind, handed_on, owns, made_slots, makes_slot, drawn_slots, draws}
 use Rattle.hpx_value.proofs.Kept as HandLemmas
 use Rattle.hpx_calls.specs.Values.{spelled, shifted}
-use Rattle.hpx_calls.proofs.Keeps.{count-append, all_append, at_below}
-use Rattle.app_console.specs.Types.{Consoles, Console, Here, Naming, What, NotSaid, Told, Released, Bound, Await, Desk, Argument, GivenWord, GivenObject, GivenNumber, Goal, Named, RootAt, Plan, DoesNothing, ShowsHelp, Refuses, GivesUp, Calls, Stands, Status}
-use Rattle.app_console.specs.Commands.{Sight, help_of, plan_of, refusal_text, answer_text}
+use Rattle.hpx_calls.proofs.Keeps.{count-append, all_append}
+use Rattle.app_console.specs.Types.{Consoles, Console, Here, Naming, What, NotSaid, Told, Released, Bound, Desk, Argument, GivenWord, GivenObject, GivenNumber, Goal, Named, RootAt, Plan, DoesNothing, ShowsHelp, Refuses, GivesUp, Calls, Stands}
+use Rattle.app_console.specs.Commands.{help_of, plan_of, refusal_text, answer_text}
 use Rattle.app_console.specs.Desks
 use Rattle.app_console.specs.Session
 use Rattle.app_console.proofs.Lengths.{IsPrint, help_fits, refusal_fits, answer_fits, printed_fits, printed_few}
-use Rattle.app_console.proofs.Namings.{IsPlace, IsNaming, IsWhat, AreNamings, AreAwaits, IsDesk, AreKept, name_refs, places_to, few_refs, wider, less_names, more_names, less_awaits, more_awaits, held_what, desk_kept, desk_shown_is, all_back}
+use Rattle.app_console.proofs.Namings.{IsPlace, IsNaming, IsWhat, AreNamings, AreAwaits, IsDesk, name_refs, places_to, few_refs, wider, less_names, more_names, less_awaits, more_awaits, held_what, desk_kept, desk_shown_is, all_back}
 use Rattle.app_console.proofs.Plans.{IsPlan, IsCall, IsGiven, IsGoal, IsMove, plan_fine}
 
 -- ---- values whose Refs are numbered anew

@@ -1,24 +1,20 @@
 -- All actions keep the laws, and look neither at names nor at credits.
-use Rattle.std.specs.Prelude.{ℕ, zero, suc, pos, negsuc, Bool, true, false, nat_lt, nat_le, List, [], ◌∷◌, ◌++◌, ◌+◌, ◌≡◌, ◌≢◌, ◌<◌, ◌≤◌, ◌==◌, ◌&&◌, Option, Some, None, length, map, refl, if◌then◌else◌}
-use Rattle.std.proofs.Common.{sym, ap, ◌∙◌, subst, arith, lit≤, inl, inr}
-use Rattle.std.specs.List.{AllByRecursion, slice_index_or}
+use Rattle.std.specs.Prelude.{ℕ, zero, suc, pos, true, List, [], ◌∷◌, ◌≡◌, ◌<◌, ◌≤◌, ◌==◌, Option, Some, None, length, map, refl, if◌then◌else◌}
+use Rattle.std.proofs.Common.{sym, ap, ◌∙◌, subst, arith}
 use Rattle.std.proofs.lemmas.Bool.{cond_both, eqb-true, eqb-false, le-leb, lt-ltb}
 use Rattle.std.proofs.lemmas.List.{length-map}
 use Rattle.hpx_value.specs.Ids.{Id, bare}
 use Rattle.hpx_value.specs.Values.{named, message_of, bare_act, bare_state}
 use Rattle.hpx_value.specs.declared.value.State.{State}
 use Rattle.hpx_value.specs.declared.value.Act.{Act}
-use Rattle.hpx_value.specs.declared.outcome.Outcome.{Outcome}
 use Rattle.hpx_value.specs.Shapes.{IsAct, IsState}
-use Rattle.hpx_value.specs.Hands.{id_at, session}
-use Rattle.hpx_value.specs.Laws.{KeepsLaws, IsMovable, IsManaged}
+use Rattle.hpx_value.specs.Hands.{id_at}
+use Rattle.hpx_value.specs.Laws.{KeepsLaws}
 use Rattle.hpx_value.specs.Kept.{stays}
-use Rattle.hpx_value.proofs.Kept.{stays_keeps}
 use Rattle.hpx_calls.specs.Outcomes.{outcome_of}
-use Rattle.hpx_calls.specs.Values.{spelled, shifted}
 use Rattle.hpx_calls.proofs.Lawful.{every_keeps}
 use Rattle.hpx_calls.proofs.Blind.{outcome_blind}
-use Rattle.app_console.specs.Types.{Spelled, SpelledUnit, SpelledInt, SpelledText, SpelledRef, SpelledFault, Cont, Naming, What, Await, Desk, Consoles, Console, Status, Plan}
+use Rattle.app_console.specs.Types.{Spelled, SpelledInt, SpelledText, SpelledFault, Cont, Naming, What, Desk, Consoles, Console}
 use Rattle.app_console.specs.Commands.{Sight, plan_of}
 use Rattle.app_console.specs.Desks.{status_in, status_by, held_at}
 use Rattle.app_console.specs.Session

@@ -10,10 +10,10 @@ use Rattle.hpx_journal.specs.Sessions.{IsPlainBlock, IsPlainSession, IsPlainFron
 use Rattle.app_console.specs.Types.{Consoles, AllConsoles, Console, Space, AccumulatorConsole, Own}
 use Rattle.app_console.specs.Console.{prompt}
 use Rattle.app_console.specs.Session
-use Rattle.app_console.specs.Judging.{judging}
+use Rattle.app_console.specs.Judging.{Acting, judging}
 use Rattle.app_console.specs.Plain.{Plain, End, at_boot, line_end, opened}
 use Rattle.app_console.specs.Lines.{IsFront, is_long, opening, first_of, others_of}
-use Rattle.app_console.specs.Text.{too_long, after_line, text_of_line, lines_text, marked, written, IsUsers}
+use Rattle.app_console.specs.Text.{too_long, lines_text, marked, written, IsUsers}
 use Rattle.app_console.proofs.LineSteps.{IsFirst}
 use Rattle.app_console.proofs.LineRuns.{block, front}
 use Rattle.app_console.proofs.Steps.{Settled}
@@ -40,12 +40,12 @@ always_first cs Space mark h v = tt
 always_first cs AccumulatorConsole mark h v = tt
 always_first cs Own mark h v = absurd h
 
-module _ (cs : Consoles) (n log limit : ℕ) (parcel_of : List ℕ → Option Parcel) (some : 1 ≤ n) (few : n ≤ 64) (con : Console) (mark : ℕ) (users : IsUsers cs con mark) where
+module _ (acts : Acting) (n log limit : ℕ) (parcel_of : List ℕ → Option Parcel) (some : 1 ≤ n) (few : n ≤ 64) (con : Console) (mark : ℕ) (users : IsUsers acts.consoles con mark) where
   abbrev r : Rules
-  r = judging cs n log limit parcel_of
+  r = judging acts n log limit parcel_of
 
-  known : Session.console_of cs mark ≡ Some con
-  known = mark_known cs con mark users
+  known : Session.console_of acts.consoles mark ≡ Some con
+  known = mark_known acts.consoles con mark users
 
   -- one line and those behind it, by whether it is too long
   line_text_is : (b : Bool) (k : ℕ) (v : Plain) (line : List ℕ) (lines : List (List ℕ)) (texts : List (List (List ℕ))) (p : Pool)
@@ -59,7 +59,7 @@ module _ (cs : Consoles) (n log limit : ℕ) (parcel_of : List ℕ → Option Pa
   line_text_is true k v line lines texts p e h settled same next session = ap (λ t. prompt ++ (too_long ++ t)) (same texts session)
   line_text_is false k v line lines [] p e h settled same next session = absurd session
   line_text_is false k v line lines (text ∷ texts) p e h settled same next session =
-      let read = block cs n log limit parcel_of some few k h (omega arith) v con mark line known (fits_line line e) (always_first cs con mark users v) text p session.0 settled session.1 in
+      let read = block acts n log limit parcel_of some few k h (omega arith) v con mark line known (fits_line line e) (always_first acts.consoles con mark users v) text p session.0 settled session.1 in
       ap (λ t. prompt ++ (t ++ written lines texts)) read.1
       ∙ ap (λ t. prompt ++ ((line_end con n v line).text ++ t)) (next session.0 texts read.0 session.2)
 
@@ -78,7 +78,7 @@ module _ (cs : Consoles) (n log limit : ℕ) (parcel_of : List ℕ → Option Pa
       → IsFront (prompt ++ concat text) (prompt ++ ((if b then too_long else (line_end con n v line).text) ++ []))
   broken_line true k v line text p e f h settled part = cc
   broken_line false k v line text p e f h settled part =
-      let begun = front cs n log limit parcel_of some few k h (omega arith) v con mark line known (fits_line line e) (always_first cs con mark users v) text p settled part in
+      let begun = front acts n log limit parcel_of some few k h (omega arith) v con mark line known (fits_line line e) (always_first acts.consoles con mark users v) text p settled part in
       record {
         later = begun.later;
         is = append_assoc prompt (concat text) begun.later ∙ ap (λ t. prompt ++ t) (begun.is ∙ sym (append-nil (line_end con n v line).text));
@@ -98,7 +98,7 @@ module _ (cs : Consoles) (n log limit : ℕ) (parcel_of : List ℕ → Option Pa
       front_longer prompt too_long (written lines texts) (prompt ++ concat text) (lines_text con n v (lines ++ line ∷ [])) (same texts session)
   broken_line_behind false k v first lines [] line text p e h settled same next session = absurd session
   broken_line_behind false k v first lines (t ∷ texts) line text p e h settled same next session =
-      let read = block cs n log limit parcel_of some few k h (omega arith) v con mark first known (fits_line first e) (always_first cs con mark users v) t p session.0 settled session.1 in
+      let read = block acts n log limit parcel_of some few k h (omega arith) v con mark first known (fits_line first e) (always_first acts.consoles con mark users v) t p session.0 settled session.1 in
       let behind = next session.0 texts read.0 session.2 in
       subst (λ x. IsFront ((prompt ++ (concat t ++ written lines texts)) ++ (prompt ++ concat text))
       (prompt ++ (x ++ lines_text con n (line_end con n v first).plain (lines ++ line ∷ [])))) read.1
@@ -119,14 +119,14 @@ module _ (cs : Consoles) (n log limit : ℕ) (parcel_of : List ℕ → Option Pa
   -- ---- from boot on
 
   pub whole_from_boot : (lines : List (List ℕ)) (texts : List (List (List ℕ))) → length lines ≤ 4000000000
-      → IsPlainSession r (boot cs n log limit parcel_of some) (marked mark lines) texts → written lines texts ≡ lines_text con n (at_boot n) lines
-  whole_from_boot lines texts h session = session_text 0 (at_boot n) lines texts (boot cs n log limit parcel_of some) (omega arith) (boot_settled cs n log limit parcel_of some) session
+      → IsPlainSession r (boot acts n log limit parcel_of some) (marked mark lines) texts → written lines texts ≡ lines_text con n (at_boot n) lines
+  whole_from_boot lines texts h session = session_text 0 (at_boot n) lines texts (boot acts n log limit parcel_of some) (omega arith) (boot_settled acts n log limit parcel_of some) session
 
   pub broken_from_boot : (lines : List (List ℕ)) (texts : List (List (List ℕ))) (line : List ℕ) (text : List (List ℕ)) → length lines + 1 ≤ 4000000000 → is_long line ≡ false
-      → IsPlainBrokenOff r (boot cs n log limit parcel_of some) (marked mark lines) texts (mark ∷ line) text
+      → IsPlainBrokenOff r (boot acts n log limit parcel_of some) (marked mark lines) texts (mark ∷ line) text
       → IsFront (written lines texts ++ (prompt ++ concat text)) (lines_text con n (at_boot n) (lines ++ line ∷ []))
   broken_from_boot lines texts line text h short session =
-      broken_text 0 (at_boot n) lines texts line text (boot cs n log limit parcel_of some) (omega arith) short (boot_settled cs n log limit parcel_of some) session
+      broken_text 0 (at_boot n) lines texts line text (boot acts n log limit parcel_of some) (omega arith) short (boot_settled acts n log limit parcel_of some) session
 
   -- ---- once an accumulator was made
 
@@ -136,14 +136,14 @@ module _ (cs : Consoles) (n log limit : ℕ) (parcel_of : List ℕ → Option Pa
   nothing_said : first_end.text ≡ []
   nothing_said = refl
 
-  begun : (text : List (List ℕ)) (p' : Pool) → IsPlainBlock r (boot cs n log limit parcel_of some) opening text p' → Settled n 1 (opened n) p' × (concat text ≡ [])
+  begun : (text : List (List ℕ)) (p' : Pool) → IsPlainBlock r (boot acts n log limit parcel_of some) opening text p' → Settled n 1 (opened n) p' × (concat text ≡ [])
   begun text p' b =
-      let read = block cs n log limit parcel_of some few 0 (lit≤ tt) (lit≤ tt) (at_boot n) Own 111 (codes "open") refl (lit≤ tt) refl text (boot cs n log limit parcel_of some) p' (boot_settled cs n log limit parcel_of some) b in
+      let read = block acts n log limit parcel_of some few 0 (lit≤ tt) (lit≤ tt) (at_boot n) Own 111 (codes "open") refl (lit≤ tt) refl text (boot acts n log limit parcel_of some) p' (boot_settled acts n log limit parcel_of some) b in
       (read.0, read.1 ∙ nothing_said)
 
-  pub opening_front : (text : List (List ℕ)) → IsPlainFront r (boot cs n log limit parcel_of some) opening text → concat text ≡ []
+  pub opening_front : (text : List (List ℕ)) → IsPlainFront r (boot acts n log limit parcel_of some) opening text → concat text ≡ []
   opening_front text part =
-      let part' = front cs n log limit parcel_of some few 0 (lit≤ tt) (lit≤ tt) (at_boot n) Own 111 (codes "open") refl (lit≤ tt) refl text (boot cs n log limit parcel_of some) (boot_settled cs n log limit parcel_of some) part in
+      let part' = front acts n log limit parcel_of some few 0 (lit≤ tt) (lit≤ tt) (at_boot n) Own 111 (codes "open") refl (lit≤ tt) refl text (boot acts n log limit parcel_of some) (boot_settled acts n log limit parcel_of some) part in
       nothing (concat text) part'.later (part'.is ∙ nothing_said)
     where
       nothing : (xs ys : List ℕ) → xs ++ ys ≡ [] → xs ≡ []
@@ -151,7 +151,7 @@ module _ (cs : Consoles) (n log limit : ℕ) (parcel_of : List ℕ → Option Pa
       nothing (x ∷ xs) ys e = cc
 
   pub whole_text : (lines : List (List ℕ)) (texts : List (List (List ℕ))) → length lines + 1 ≤ 4000000000
-      → IsPlainSession r (boot cs n log limit parcel_of some) (opening ∷ marked mark lines) texts
+      → IsPlainSession r (boot acts n log limit parcel_of some) (opening ∷ marked mark lines) texts
       → (first_of texts ≡ []) × (written lines (others_of texts) ≡ lines_text con n (opened n) lines)
   whole_text lines [] h session = absurd session
   whole_text lines (text ∷ texts) h session =
@@ -159,7 +159,7 @@ module _ (cs : Consoles) (n log limit : ℕ) (parcel_of : List ℕ → Option Pa
 
   pub broken_text_off : (lines : List (List ℕ)) (texts : List (List (List ℕ))) (line : List ℕ) (text : List (List ℕ))
       → length lines + 2 ≤ 4000000000 → is_long line ≡ false
-      → IsPlainBrokenOff r (boot cs n log limit parcel_of some) (opening ∷ marked mark lines) texts (mark ∷ line) text
+      → IsPlainBrokenOff r (boot acts n log limit parcel_of some) (opening ∷ marked mark lines) texts (mark ∷ line) text
       → IsFront (written lines (others_of texts) ++ (prompt ++ concat text)) (lines_text con n (opened n) (lines ++ line ∷ []))
   broken_text_off lines [] line text h short session = absurd session
   broken_text_off lines (t ∷ texts) line text h short session =

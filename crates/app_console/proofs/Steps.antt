@@ -1,30 +1,25 @@
 -- A line over the plain pool, step by step: it is read, an action is asked, answers come, and it is over.
-use Rattle.std.specs.Prelude.{ℤ, pos, ◌==◌, ◌&&◌, nat_le, nat_lt, if◌then◌else◌}
-use Rattle.std.specs.List.{concat, list_any, AllByRecursion}
-use Rattle.std.specs.Option.{option_map}
-use Rattle.std.specs.Str.{bytes_eq}
-use Rattle.std.proofs.Common.{ℕ, zero, suc, Bool, true, false, cond, List, [], ◌∷◌, ◌++◌, ◌≡◌, ◌≢◌, ◌+◌, ◌-◌, ◌<◌, ◌≤◌, ◌⊎◌, Option, Some, None, IfSome, refl, sym, ap, ◌∙◌, subst, inl, inr, length, map, arith, lit≤, lit<, append-nil, append_assoc}
-use Rattle.std.proofs.lemmas.Bool.{cases_Bool, cond_both, ne_eqb, eq-eqb, eqb-true, lt-ltb, le-leb}
-use Rattle.std.proofs.lemmas.List.{length-map}
-use Rattle.hpx_value.specs.Ids.{Id, bare_id, same_object}
+use Rattle.std.specs.Prelude.{pos, if◌then◌else◌}
+use Rattle.std.specs.List.{concat, AllByRecursion}
+use Rattle.std.proofs.Common.{ℕ, Bool, true, false, cond, List, [], ◌∷◌, ◌++◌, ◌≡◌, ◌≢◌, ◌+◌, ◌<◌, ◌≤◌, ◌⊎◌, Option, Some, None, IfSome, refl, sym, ap, ◌∙◌, subst, inl, inr, length, map, arith, lit<, append-nil, append_assoc}
+use Rattle.std.proofs.lemmas.Bool.{cases_Bool, cond_both, ne_eqb, lt-ltb, le-leb}
+use Rattle.hpx_value.specs.Ids.{Id, same_object}
 use Rattle.hpx_value.specs.Values.{named, refs_in}
-use Rattle.hpx_value.specs.Shapes.{IsAct, IsMessage}
-use Rattle.hpx_value.specs.Hands.{Slot, session, id_at, hand_ids, state_after, sent, replied, renumbered, addressed, target_id}
-use Rattle.hpx_value.specs.Kept.{stays}
+use Rattle.hpx_value.specs.Shapes.{IsAct}
+use Rattle.hpx_value.specs.Hands.{session, id_at, hand_ids, state_after, sent, replied}
 use Rattle.hpx_value.specs.declared.value.State.{State}
 use Rattle.hpx_value.specs.declared.value.Act.{Act}
 use Rattle.hpx_value.specs.declared.value.Message.{Message}
 use Rattle.hpx_value.specs.declared.outcome.Sending.{Sending}
 use Rattle.hpx_value.specs.declared.outcome.Outcome.{Outcome}
-use Rattle.hpx_value.specs.declared.outcome.SendCont.TheVariants.{Here}
 use Rattle.hpx_parcel.specs.declared.parcel.Parcel.{Parcel}
-use Rattle.hpx_journal.specs.Entries.{Rules, line_message}
+use Rattle.hpx_journal.specs.Entries.{Rules}
 use Rattle.hpx_journal.specs.Pool.{Pool, target_in, moves_to, outcome_in, sent_by, acted, with_made, AreNew, IsActed, IsMoved, carried}
 use Rattle.hpx_journal.specs.Sessions.{IsStep}
 use Rattle.hpx_journal.proofs.Same.{same_object-refl, same_object-true}
 use Rattle.hpx_calls.specs.Values.{Value, Nothing, Flag, Int, Text, Ref, Fault, Ints, plain, mapped, spelled, seen, shifted}
 use Rattle.hpx_calls.specs.declared.content.Content.{Content}
-use Rattle.hpx_calls.specs.declared.content.Content.TheVariants.{Table, Maker, Size, Number, Row, Promise, Dataflow, Started, Channel, Latch, Barrier, Unreadable}
+use Rattle.hpx_calls.specs.declared.content.Content.TheVariants.{Dataflow, Started, Unreadable}
 use Rattle.hpx_calls.specs.declared.effect.Effect.{Effect}
 use Rattle.hpx_calls.specs.declared.effect.Effect.TheVariants.{Silent, Answers, Waits, Frees, Starts, Hands, Moves, Makes}
 use Rattle.hpx_calls.specs.declared.effect.Called.{Called}
@@ -33,27 +28,26 @@ use Rattle.hpx_calls.specs.Tables as Tables
 use Rattle.hpx_calls.specs.Ids.{numbered, ids_in, state_of}
 use Rattle.hpx_calls.proofs.Asked.{IsBelow}
 use Rattle.hpx_calls.proofs.Seen.{seen_again, seen_behind, renumbered_is, ids_seen}
-use Rattle.app_console.specs.Types.{Consoles, Console, Spelled, SpelledUnit, SpelledFlag, SpelledInt, SpelledText, SpelledRef, SpelledFault, SpelledInts, Naming, What, NotSaid, Told, Released, Bound, Await, Desk, Status, Unknown, Pending, Stands as StandsFor, Argument, GivenWord, GivenObject, GivenNumber, Goal, Named, RootAt, Plan, DoesNothing, ShowsHelp, Refuses, GivesUp, Calls}
-use Rattle.app_console.specs.Commands.{Sight, answer_text, help_of, refusal_text, plan_of}
+use Rattle.app_console.specs.Types.{Spelled, SpelledUnit, SpelledFlag, SpelledInt, SpelledText, SpelledRef, SpelledFault, SpelledInts, Naming, What, Await, Desk}
+use Rattle.app_console.specs.Commands.{answer_text}
 use Rattle.app_console.specs.Desks
 use Rattle.app_console.specs.Session
-use Rattle.app_console.specs.Judging.{judging}
-use Rattle.app_console.specs.Plain.{Who, RootOf, Thing, Datum, Item, Plain, End, call_by, call_end, place_at, moved, who_of, who_by, goal_end, plan_end, line_end, sight_of, kind_by}
-use Rattle.app_console.proofs.SessionLaws.{place}
+use Rattle.app_console.specs.Judging.{Acting, is_own, judging}
+use Rattle.app_console.specs.Plain.{Who, Datum, Plain, call_by, call_end, place_at}
 use Rattle.hpx_calls.specs.Mapped.{content_seen, effect_seen, called_seen}
 use Rattle.hpx_calls.proofs.OverAlike.{called_is_seen, request_is_seen}
 use Rattle.app_console.proofs.Kernel.{called_over}
-use Rattle.app_console.proofs.Alikes.{IsOurs, IsBorn, waiter, Said, Paired, called_fine, says_well, paired}
+use Rattle.app_console.proofs.Alikes.{IsOurs, IsBorn, waiter, Said, called_fine, says_well, paired}
 use Rattle.app_console.proofs.Stills.{still, stays as stays_there}
-use Rattle.app_console.proofs.Namings.{IsWhat, IsNaming, IsPlace}
-use Rattle.app_console.proofs.Seen.{IsFit, desk_seen, names_seen, desk_laid, answered_seen, opened_seen, without_seen, seek_seen, all_given_seen, length-seen, IsReadBack, desk_read_back}
-use Rattle.app_console.proofs.Named.{names_over, answered_over, without_over, seek_over, all_given_over, text_over, length-over, IsNew, HasNameRoom, opened_each, opened_few, taken_fit, what_held, kind_over, IsFitName, IsFitAwait}
+use Rattle.app_console.proofs.Namings.{IsWhat}
+use Rattle.app_console.proofs.Seen.{IsFit, desk_seen, names_seen, desk_laid, answered_seen, IsReadBack, desk_read_back}
+use Rattle.app_console.proofs.Named.{names_over, text_over, IsNew, HasNameRoom, taken_fit, what_held, kind_over}
 use Rattle.app_console.proofs.Comings.{times, says, set_of, Coming, pick}
 use Rattle.app_console.proofs.Fit.{at, IsIn, held_over, asked, kept_who, IsGood, IsGoodContent, good_ref, Placed, Fits}
 use Rattle.app_console.proofs.Fit as Fit
 use Rattle.app_console.proofs.Slots.{await, times_add}
-use Rattle.app_console.proofs.Called.{IsAlike, IsAnswering, IsNext, next_of, acted_alike, DoesCall, does_call, slots_after, sets_after}
-use Rattle.app_console.proofs.Effects.{session_state, desk_of, IsNamed, AreNamed, Answering, IsLeft, effect_ends, end_then, concat_printed}
+use Rattle.app_console.proofs.Called.{IsAlike, IsAnswering, next_of, acted_alike, does_call, slots_after}
+use Rattle.app_console.proofs.Effects.{session_state, desk_of, AreNamed, Answering, effect_ends}
 
 -- ---- the phases
 
@@ -134,10 +128,10 @@ said_answers at what (Makes x) h = tt
 
 -- ---- an action is asked
 
-module _ (cs : Consoles) (n log limit : ℕ) (parcel_of : List ℕ → Option Parcel) (some : 1 ≤ n) (few : n ≤ 64) (k : ℕ) (v : Plain) (who : Who) (code : ℕ) (args : List Datum) (what : What) (p q : Pool)
+module _ (acts : Acting) (n log limit : ℕ) (parcel_of : List ℕ → Option Parcel) (some : 1 ≤ n) (few : n ≤ 64) (k : ℕ) (v : Plain) (who : Who) (code : ℕ) (args : List Datum) (what : What) (p q : Pool)
     (h : Asking n k v who code args what p) where
   abbrev r : Rules
-  r = judging cs n log limit parcel_of
+  r = judging acts n log limit parcel_of
 
   abbrev m : Message
   m = asked h.ref h.drawn who code args
@@ -231,14 +225,14 @@ module _ (cs : Consoles) (n log limit : ℕ) (parcel_of : List ℕ → Option Pa
   acted_step a =
       let nx = next_of r p q m s h.pending (h.stands who h.isin) a in
       let th = there nx.there in
-      let out : Outcome = Session.act_of cs n kind t s (named 0 0 m) in
+      let out : Outcome = acts.act_of n kind t s (named 0 0 m) in
       let next : q ≡ acted p t m s nx.made [] out =
-      nx.next ∙ (ap (λ i. acted p i m s nx.made [] (Session.act_of cs n (at h.ref who).kind i s (named 0 0 m))) th.here_is
-      ∙ ap (λ i. acted p t m s nx.made [] (Session.act_of cs n i t s (named 0 0 m))) kind_is) in
-      let does = does_call cs h.ref n kind t x (h.slots who) h.drawn w who code args few th.low (h.fits.apart who h.isin).0 (h.fits.apart who h.isin).1 (h.fits.sizes who h.isin) (h.fits.readable who h.isin) h.act nx.made
+      nx.next ∙ (ap (λ i. acted p i m s nx.made [] (acts.act_of n (at h.ref who).kind i s (named 0 0 m))) th.here_is
+      ∙ ap (λ i. acted p t m s nx.made [] (acts.act_of n i t s (named 0 0 m))) kind_is) in
+      let does = does_call acts h.ref n kind t x (h.slots who) h.drawn w who code args few th.low (h.fits.apart who h.isin).0 (h.fits.apart who h.isin).1 (h.fits.sizes who h.isin) (h.fits.readable who h.isin) h.act nx.made
       (said_answers (waiter x) what the_call.effect the_fine.2) in
       let new : AreNew p.states t out.makes nx.made =
-      let P : ℕ → ℕ → Type 0 = λ i j. AreNew p.states i (Session.act_of cs n j i s (named 0 0 m)).makes nx.made in
+      let P : ℕ → ℕ → Type 0 = λ i j. AreNew p.states i (acts.act_of n j i s (named 0 0 m)).makes nx.made in
       subst (λ j. P t j) kind_is (subst (λ i. P i (at h.ref who).kind) th.here_is nx.new) in
       effect_ends n k v h.ref h.slots h.drawn h.aw some h.few h.fits h.named p q h.stands h.alike h.home who h.isin what t th.low h.others th.here_is h.wise h.room h.new_name h.fit_now h.fit_old h.desk
       the_call.content (ap (λ c. c.content) good_call) the_fine.0 the_fine.1 the_call.effect nx.made the_fine.2 (ap (λ c. c.effect) good_call) born_over (record {
@@ -326,10 +320,6 @@ session_desk drawn d rest h = desk_read_back (id_at (ids_in (Desks.desk_out (pla
 pub shown_at : (drawn : ℕ) (d : Desk (Value Id)) (c : Desk Spelled) → drawn ≤ 4000000000 → Desks.desk_shown spelled (numbered 0 (Desks.desk_out (plain Id) d)) ≡ Some c → Session.desk_at (session_state drawn d) ≡ Some c
 shown_at drawn d c few e = ap (λ (b : Bool). if b then Desks.desk_shown spelled (numbered 0 (Desks.desk_out (plain Id) d)) else None) (le-leb drawn 4000000000 few) ∙ e
 
-pub session_acts : (cs : Consoles) (n here : ℕ) (s : State) (a : Act) → n ≤ 64 → here < n → Session.act_of cs n 1 here s a ≡ Session.session_outcome cs n s a
-unfolding Session.act_of
-session_acts cs n here s a few low = rw (place n here few low) refl
-
 -- the one value that is set
 abbrev one_spelled : Value Id → Spelled
 one_spelled Nothing = SpelledUnit
@@ -362,19 +352,19 @@ one_text what v = ap (answer_text what) (looks v) ∙ text_over (λ (i : Id). tt
     looks (Ints zs) = refl
 
 -- an answer, taken
-record IsTaken (cs : Consoles) (n here drawn : ℕ) (names : List (Naming (Value Id))) (aw : List Await) (slot : ℕ) (v : Value Id) (what : What) : Type 0 where
+record IsTaken (acts : Acting) (n here drawn : ℕ) (names : List (Naming (Value Id))) (aw : List Await) (slot : ℕ) (v : Value Id) (what : What) : Type 0 where
   out : Outcome
-  out_is : Session.act_of cs n 1 here (session_state drawn (desk_of names aw)) (named 0 0 (set_of slot v)) ≡ out
+  out_is : acts.act_of n 1 here (session_state drawn (desk_of names aw)) (named 0 0 (set_of slot v)) ≡ out
   makes : out.makes ≡ []
   sends : out.sends ≡ []
   replies : out.replies ≡ []
   prints : out.prints ≡ says what v
   state : state_after (session_state drawn (desk_of names aw)) (named 0 0 (set_of slot v)) [] out ≡ session_state drawn (desk_of (Desks.answered (plain Id) what v names) (Desks.erased slot aw))
 
-taken : (cs : Consoles) (n here drawn : ℕ) (names : List (Naming (Value Id))) (aw : List Await) (slot : ℕ) (v : Value Id) (what : What) → n ≤ 64 → here < n → drawn ≤ 4000000000 → IsFit (desk_of names aw)
-    → Desks.held_at slot aw ≡ Some what → IsTaken cs n here drawn names aw slot v what
+taken : (acts : Acting) (n here drawn : ℕ) (names : List (Naming (Value Id))) (aw : List Await) (slot : ℕ) (v : Value Id) (what : What) → n ≤ 64 → here < n → drawn ≤ 4000000000 → IsFit (desk_of names aw)
+    → Desks.held_at slot aw ≡ Some what → IsTaken acts n here drawn names aw slot v what
 unfolding Session.session_outcome
-taken cs n here drawn names aw slot v what few low little fit held =
+taken acts n here drawn names aw slot v what few low little fit held =
     let d : Desk (Value Id) = desk_of names aw in
     let st : State = session_state drawn d in
     let a : Act = named 0 0 (set_of slot v) in
@@ -389,9 +379,9 @@ taken cs n here drawn names aw slot v what few low little fit held =
     record {
       out = out;
       out_is =
-          session_acts cs n here st a few low
-          ∙ (ap (Session.session_by cs n st a) shown
-          ∙ (ap (λ vs. Session.session_args cs n st a c 3 (SpelledInt (pos slot) ∷ vs)) (one_numbered v)
+          acts.session n here st a c few low shown (ap (λ vs. is_own acts.consoles (SpelledInt (pos slot) ∷ vs)) (one_numbered v))
+          ∙ (ap (Session.session_by acts.consoles n st a) shown
+          ∙ (ap (λ vs. Session.session_args acts.consoles n st a c 3 (SpelledInt (pos slot) ∷ vs)) (one_numbered v)
           ∙ ap (Session.taken st a c slot (one_spelled v)) (ap (Desks.held_at slot) awaits ∙ held)));
       makes = refl;
       sends = refl;
@@ -430,9 +420,9 @@ taken cs n here drawn names aw slot v what few low little fit held =
 
 -- ---- any answer acts
 
-module _ (cs : Consoles) (n log limit : ℕ) (parcel_of : List ℕ → Option Parcel) (few : n ≤ 64) (k : ℕ) (little : k ≤ 4000000000) (v : Plain) (whole : List ℕ) (p q : Pool) (h : Answering n k v whole p) where
+module _ (acts : Acting) (n log limit : ℕ) (parcel_of : List ℕ → Option Parcel) (few : n ≤ 64) (k : ℕ) (little : k ≤ 4000000000) (v : Plain) (whole : List ℕ) (p q : Pool) (h : Answering n k v whole p) where
   abbrev rules : Rules
-  rules = judging cs n log limit parcel_of
+  rules = judging acts n log limit parcel_of
 
   some_same : {X : Type 0} (x y : X) → Some x ≡ Some y → x ≡ y
   some_same x y e = cc
@@ -457,8 +447,8 @@ module _ (cs : Consoles) (n log limit : ℕ) (parcel_of : List ℕ → Option Pa
       let same : a.state ≡ st = some_same a.state st (sym a.stands ∙ (ap p.states target ∙ h.desk)) in
       let here : ℕ = p.places session in
       let low = h.few in
-      let tk = taken cs n here h.drawn h.names h.awaited i.slot i.value i.what few h.home (omega arith) h.fit i.held in
-      let next1 : q ≡ acted p here set st a.made (a.before ++ a.behind) (Session.act_of cs n 1 here st (named 0 0 set)) =
+      let tk = taken acts n here h.drawn h.names h.awaited i.slot i.value i.what few h.home (omega arith) h.fit i.held in
+      let next1 : q ≡ acted p here set st a.made (a.before ++ a.behind) (acts.act_of n 1 here st (named 0 0 set)) =
       a.next ∙ (ap (λ x. acted p (p.places (target_in x)) x a.state a.made (a.before ++ a.behind) (outcome_in rules (p.places (target_in x)) x a.state)) i.message
       ∙ ap (λ x. acted p here set x a.made (a.before ++ a.behind) (outcome_in rules here set x)) same) in
       let next2 : q ≡ acted p here set st a.made (a.before ++ a.behind) tk.out = next1 ∙ ap (acted p here set st a.made (a.before ++ a.behind)) tk.out_is in

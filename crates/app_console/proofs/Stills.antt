@@ -1,10 +1,10 @@
 -- Only an action of code 1 asks to move.
-use Rattle.std.specs.Prelude.{ℕ, ℤ, pos, negsuc, Bool, true, false, nat_le, List, [], ◌∷◌, ◌≡◌, ◌≢◌, ◌==◌, refl, if◌then◌else◌}
+use Rattle.std.specs.Prelude.{ℕ, ℤ, Bool, true, List, [], ◌∷◌, ◌≡◌, ◌≢◌, ◌==◌, refl, if◌then◌else◌}
 use Rattle.std.proofs.lemmas.Bool.{cond_both, eqb-true}
 use Rattle.hpx_calls.specs.Values.{Nothing, Flag, Int, Text, Ref, Fault, Ints, Look, Sort}
 use Rattle.hpx_calls.specs.declared.request.Request.{Request}
 use Rattle.hpx_calls.specs.declared.request.Request.TheVariants.{Move}
-use Rattle.hpx_calls.specs.Requests.{is_key, asks_bare, asks_move, asks_one, asks_register, asks_step, asks_two, asks_many, request_of}
+use Rattle.hpx_calls.specs.Requests.{is_key, asks_bare, asks_one, asks_register, asks_step, asks_two, asks_many, request_of}
 use Rattle.app_console.specs.Plain.{moved}
 
 abbrev IsStill : {V : Type 0} → Request V → Type 0

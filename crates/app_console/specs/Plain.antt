@@ -1,7 +1,6 @@
 -- The plain space: names, objects with plain contents and places, and who waits there; lines are applied one after another.
-use Rattle.std.specs.Prelude.{ℕ, zero, suc, ℤ, pos, Bool, true, false, List, [], ◌∷◌, ◌++◌, ◌+◌, ◌-◌, ◌==◌, ◌&&◌, Option, Some, None, length, codes, map, is_some, if◌then◌else◌}
-use Rattle.std.specs.List.{concat, flat_map}
-use Rattle.hpx_calls.specs.Values.{Value, Ref, Int, plain}
+use Rattle.std.specs.Prelude.{ℕ, suc, Bool, true, false, List, [], ◌∷◌, ◌++◌, ◌+◌, ◌-◌, ◌==◌, ◌&&◌, Option, Some, None, length, codes, map, if◌then◌else◌}
+use Rattle.hpx_calls.specs.Values.{Value, Ref, plain}
 use Rattle.hpx_calls.specs.declared.request.Request.{Request}
 use Rattle.hpx_calls.specs.declared.request.Request.TheVariants.{Move}
 use Rattle.hpx_calls.specs.Requests.{request_of}
@@ -12,7 +11,7 @@ use Rattle.hpx_calls.specs.declared.effect.Effect.{Effect}
 use Rattle.hpx_calls.specs.declared.effect.Effect.TheVariants.{Makes}
 use Rattle.hpx_calls.specs.Outcomes.{kind_of}
 use Rattle.hpx_calls.specs.Histories.{Call, Object as Held, Setting, Told, Answered, Begun, called_on, next, tells}
-use Rattle.app_console.specs.Types.{Naming, What, Desk, Console, Own, Goal, Named, RootAt, Plan, DoesNothing, ShowsHelp, Refuses, GivesUp, Calls}
+use Rattle.app_console.specs.Types.{Naming, What, Console, Own, Goal, Named, RootAt, Plan, DoesNothing, ShowsHelp, Refuses, GivesUp, Calls}
 use Rattle.app_console.specs.Commands.{Sight, help_of, refusal_text, plan_of, answer_text}
 use Rattle.app_console.specs.Desks.{seek, status_in, without, answered}
 use Rattle.app_console.specs.Session.{given}

@@ -1,10 +1,10 @@
 -- What actions on the session do, and what actions do at all.
-use Rattle.std.specs.Prelude.{ℕ, ℤ, pos, negsuc, Bool, true, false, nat_lt, nat_le, List, [], ◌∷◌, ◌++◌, ◌+◌, ◌==◌, ◌&&◌, Option, Some, None, length, map, if◌then◌else◌}
+use Rattle.std.specs.Prelude.{ℕ, pos, Bool, nat_lt, nat_le, List, [], ◌∷◌, ◌+◌, ◌==◌, ◌&&◌, Option, Some, None, length, map, if◌then◌else◌}
 use Rattle.hpx_value.specs.Kept.{stays}
 use Rattle.hpx_value.specs.Hands.{id_at}
 use Rattle.hpx_calls.specs.Values.{Sort, spelled, shifted}
 use Rattle.hpx_calls.specs.Outcomes.{outcome_of}
-use Rattle.app_console.specs.Types.{Spelled, SpelledInt, SpelledText, SpelledRef, SpelledFault, Cont, State, Act, Target, Place, Root, Here, Sending, Outcome, Naming, What, Await, Desk, Consoles, AllConsoles, AccumulatorAlone, Console, Space, AccumulatorConsole, Own, Argument, GivenWord, GivenObject, GivenNumber, Goal, Named, RootAt, Plan, DoesNothing, ShowsHelp, Refuses, GivesUp, Calls}
+use Rattle.app_console.specs.Types.{Spelled, SpelledInt, SpelledText, SpelledRef, SpelledFault, Cont, State, Act, Target, Place, Root, Here, Sending, Outcome, Naming, What, Desk, Consoles, AllConsoles, AccumulatorAlone, Console, Space, AccumulatorConsole, Own, Argument, GivenWord, GivenObject, GivenNumber, Goal, Named, RootAt, Plan, DoesNothing, ShowsHelp, Refuses, GivesUp, Calls}
 use Rattle.app_console.specs.Commands.{Sight, help_of, plan_of, refusal_text, answer_text}
 use Rattle.app_console.specs.Desks.{seek, status_in, without, opened, answered, held_at, erased, desk_out, desk_shown}
 

@@ -14,7 +14,7 @@ ghost use Rattle.app_console.specs.Console.{prompt};
 ghost use Rattle.app_console.specs.Types.{Console, State, Act};
 ghost use Rattle.app_console.specs.Lines.{is_long, opening, first_of, others_of, IsFront};
 ghost use Rattle.app_console.specs.Session.{act_of};
-ghost use Rattle.app_console.specs.Judging.{judging};
+ghost use Rattle.app_console.specs.Judging.{Acting, judging};
 ghost use Rattle.app_console.specs.Plain.{at_boot, opened};
 ghost use Rattle.app_console.specs.Text.{IsUsers, marked, written, lines_text};
 
@@ -22,32 +22,33 @@ use crate::table::Consoles;
 
 /// Whatever the order in which frames come: where each line of a console that is not too long is fed, and each only once
 /// nothing is pending, the console writes what the plain space says, as long as no action fails. Where a line is broken off,
-/// it has written the front of that. So it is from boot on, and where the top call first has its own line fed.
+/// it has written the front of that. So it is from boot on, and where the top call first has its own line fed, for all acts
+/// of which the session reads the console.
 pub fn session_law()
-    ensures plain { (cs : Consoles) (con : Console) (mark n log limit : ℕ) (parcel_of : List ℕ → Option Parcel) (lines : List (List ℕ))
-        (blocks : List (List Entry)) → IsUsers cs con mark → 1 ≤ n → n ≤ 64 → length lines < 4000000000 →
-        HasGrammar (judging cs n log limit parcel_of) → NoneFails (entries_of blocks) →
-        IsSession (judging cs n log limit parcel_of) [] (marked mark lines) blocks →
+    ensures plain { (acts : Acting) (con : Console) (mark n log limit : ℕ) (parcel_of : List ℕ → Option Parcel) (lines : List (List ℕ))
+        (blocks : List (List Entry)) → IsUsers acts.consoles con mark → 1 ≤ n → n ≤ 64 → length lines < 4000000000 →
+        HasGrammar (judging acts n log limit parcel_of) → NoneFails (entries_of blocks) →
+        IsSession (judging acts n log limit parcel_of) [] (marked mark lines) blocks →
         written lines (shown blocks) ≡ lines_text con n (at_boot n) lines }
-    ensures broken_off { (cs : Consoles) (con : Console) (mark n log limit : ℕ) (parcel_of : List ℕ → Option Parcel) (lines : List (List ℕ))
-        (blocks : List (List Entry)) (line : List ℕ) (es : List Entry) → IsUsers cs con mark → 1 ≤ n → n ≤ 64 → length lines < 3999999999 →
-        is_long line ≡ false → HasGrammar (judging cs n log limit parcel_of) →
-        IsSession (judging cs n log limit parcel_of) [] (marked mark lines) blocks → BeginsWith (mark ∷ line) es →
-        IsLegal (judging cs n log limit parcel_of) (entries_of blocks ++ es) → NoneFails (entries_of blocks ++ es) →
+    ensures broken_off { (acts : Acting) (con : Console) (mark n log limit : ℕ) (parcel_of : List ℕ → Option Parcel) (lines : List (List ℕ))
+        (blocks : List (List Entry)) (line : List ℕ) (es : List Entry) → IsUsers acts.consoles con mark → 1 ≤ n → n ≤ 64 → length lines < 3999999999 →
+        is_long line ≡ false → HasGrammar (judging acts n log limit parcel_of) →
+        IsSession (judging acts n log limit parcel_of) [] (marked mark lines) blocks → BeginsWith (mark ∷ line) es →
+        IsLegal (judging acts n log limit parcel_of) (entries_of blocks ++ es) → NoneFails (entries_of blocks ++ es) →
         IsFront (written lines (shown blocks) ++ (prompt ++ concat (prints_of es))) (lines_text con n (at_boot n) (lines ++ line ∷ [])) }
-    ensures opens { (cs : Consoles) (n log limit : ℕ) (parcel_of : List ℕ → Option Parcel) (es : List Entry) → 1 ≤ n → n ≤ 64 →
-        HasGrammar (judging cs n log limit parcel_of) → BeginsWith opening es → IsLegal (judging cs n log limit parcel_of) es → NoneFails es →
+    ensures opens { (acts : Acting) (n log limit : ℕ) (parcel_of : List ℕ → Option Parcel) (es : List Entry) → 1 ≤ n → n ≤ 64 →
+        HasGrammar (judging acts n log limit parcel_of) → BeginsWith opening es → IsLegal (judging acts n log limit parcel_of) es → NoneFails es →
         concat (prints_of es) ≡ [] }
-    ensures opened_whole { (cs : Consoles) (con : Console) (mark n log limit : ℕ) (parcel_of : List ℕ → Option Parcel) (lines : List (List ℕ))
-        (blocks : List (List Entry)) → IsUsers cs con mark → 1 ≤ n → n ≤ 64 → length lines < 4000000000 →
-        HasGrammar (judging cs n log limit parcel_of) → NoneFails (entries_of blocks) →
-        IsSession (judging cs n log limit parcel_of) [] (opening ∷ marked mark lines) blocks →
+    ensures opened_whole { (acts : Acting) (con : Console) (mark n log limit : ℕ) (parcel_of : List ℕ → Option Parcel) (lines : List (List ℕ))
+        (blocks : List (List Entry)) → IsUsers acts.consoles con mark → 1 ≤ n → n ≤ 64 → length lines < 4000000000 →
+        HasGrammar (judging acts n log limit parcel_of) → NoneFails (entries_of blocks) →
+        IsSession (judging acts n log limit parcel_of) [] (opening ∷ marked mark lines) blocks →
         (first_of (shown blocks) ≡ []) × (written lines (others_of (shown blocks)) ≡ lines_text con n (opened n) lines) }
-    ensures opened_broken_off { (cs : Consoles) (con : Console) (mark n log limit : ℕ) (parcel_of : List ℕ → Option Parcel)
-        (lines : List (List ℕ)) (blocks : List (List Entry)) (line : List ℕ) (es : List Entry) → IsUsers cs con mark → 1 ≤ n → n ≤ 64 →
-        length lines < 3999999999 → is_long line ≡ false → HasGrammar (judging cs n log limit parcel_of) →
-        IsSession (judging cs n log limit parcel_of) [] (opening ∷ marked mark lines) blocks → BeginsWith (mark ∷ line) es →
-        IsLegal (judging cs n log limit parcel_of) (entries_of blocks ++ es) → NoneFails (entries_of blocks ++ es) →
+    ensures opened_broken_off { (acts : Acting) (con : Console) (mark n log limit : ℕ) (parcel_of : List ℕ → Option Parcel)
+        (lines : List (List ℕ)) (blocks : List (List Entry)) (line : List ℕ) (es : List Entry) → IsUsers acts.consoles con mark → 1 ≤ n → n ≤ 64 →
+        length lines < 3999999999 → is_long line ≡ false → HasGrammar (judging acts n log limit parcel_of) →
+        IsSession (judging acts n log limit parcel_of) [] (opening ∷ marked mark lines) blocks → BeginsWith (mark ∷ line) es →
+        IsLegal (judging acts n log limit parcel_of) (entries_of blocks ++ es) → NoneFails (entries_of blocks ++ es) →
         IsFront (written lines (others_of (shown blocks)) ++ (prompt ++ concat (prints_of es))) (lines_text con n (opened n) (lines ++ line ∷ [])) }
 {}
 

@@ -1,20 +1,39 @@
--- What a run says of a session, where there is a world.
-use Rattle.std.specs.Prelude.{ℕ, List, Option, Some, None, IfSome, ◌≡◌}
+-- What a run says of its task, where there is a world.
+use Rattle.std.specs.Prelude.{ℕ, List, Option, Result, Some, None, Ok, Err, IfSome, ◌≡◌}
+use Rattle.std.proofs.Common.{refl, sym, ap, ◌∙◌, subst}
 use Rattle.hpx_world.specs.Places.{Places}
+use Rattle.hpx_top.specs.declared.task.Task.{Task}
+use Rattle.hpx_top.specs.declared.task.Task.TheVariants.{Accumulator}
+use Rattle.hpx_top.specs.Usage.{bad_word, place_of, task_in}
 use Rattle.hpx_top.specs.Session.{entries_in}
 use Rattle.hpx_top.specs.Ends.{IsShort}
-use Rattle.hpx_program.specs.Program.{Ports, HasServed, IsShortIn}
+use Rattle.hpx_program.specs.Program.{Ports, HasDone, HasServed, IsShortIn}
 
--- what holds of the entries that a run left, holds of those of its world
-pub served_in : (world : Option Places) (status : ℕ) (told : Option (List ℕ)) (x z : Ports)
-    → ((input : List ℕ) → told ≡ Some input → HasServed status input (entries_in world) x z)
-    → IfSome world (λ w. (input : List ℕ) → told ≡ Some input → HasServed status input w.journal.entries x z)
-served_in None status told x z served = tt
-served_in (Some w) status told x z served = served
+same_words : {X : Type 0} (x y : X) → Some x ≡ Some y → x ≡ y
+same_words x y e = cc
+
+-- what holds of the entries that a run left, holds of those of its world: a task was asked for
+pub done_in : (world : Option Places) (words : List (List ℕ)) (told : Option (List (List ℕ))) (status : ℕ) (x z : Ports)
+    → IfSome told (λ ws. words ≡ ws)
+    → ((place : ℕ) → bad_word words ≡ Some place → world ≡ None)
+    → ((task : Task) → task_in words ≡ Ok task → (input : List ℕ) → x.left ≡ Some input → HasServed task status input (entries_in world) x z)
+    → IfSome world (λ w. HasDone told status w.journal.entries x z)
+done_in None words told status x z same refused served = tt
+done_in (Some w) words told status x z same refused served = by_task (task_in words) refl
+  where
+    by_task : (asked : Result Task ℕ) → task_in words ≡ asked → HasDone told status w.journal.entries x z
+    by_task (Ok task) is = record {
+      task = task;
+      asked = λ ws e. ap task_in (sym (subst (λ o. IfSome o (λ vs. words ≡ vs)) e same)) ∙ is;
+      served = served task is;
+    }
+    by_task (Err place) is = absurd (let none : Some w ≡ None = refused place (ap place_of is) in cc)
 
 -- the same of a run for which memory was wanting
-pub short_in : (world : Option Places) (status : ℕ) (left later old new : Option (List ℕ))
-    → ((input : List ℕ) → left ≡ Some input → status ≡ 6 → IfSome world (λ w. IsShort 2 input later w.journal.entries old new))
-    → IsShortIn status world left later old new
-short_in None status left later old new short = tt
-short_in (Some w) status left later old new short = short
+pub short_in : (world : Option Places) (words : List (List ℕ)) (told : Option (List (List ℕ))) (status : ℕ) (left later old new : Option (List ℕ))
+    → IfSome told (λ ws. words ≡ ws)
+    → ((input : List ℕ) → task_in words ≡ Ok Accumulator → left ≡ Some input → status ≡ 6 → IfSome world (λ w. IsShort 2 input later w.journal.entries old new))
+    → IsShortIn told status world left later old new
+short_in None words told status left later old new same short = tt
+short_in (Some w) words told status left later old new same short =
+    λ ws e console input is six. short input (ap task_in (subst (λ o. IfSome o (λ vs. words ≡ vs)) e same) ∙ console) is six

@@ -2,7 +2,7 @@ ghost use Rattle.std.specs.Prelude.{◌≡◌, ◌≢◌, ◌⊎◌, [], Some, N
 ghost use Rattle.hpx_options.specs.Texts.{bad_word_text};
 ghost use Rattle.hpx_top.specs.Statuses.{IsStatus, status_line};
 ghost use Rattle.hpx_top.specs.Usage.{bad_word};
-ghost use Rattle.hpx_program.specs.Program.{Ports, Errors, Says, NothingFailed, HasCause, HasServed, IsShortIn};
+ghost use Rattle.hpx_program.specs.Program.{Ports, Errors, Says, NothingFailed, HasCause, HasDone, IsShortIn};
 
 use hpx_ports::fabric::Fabric;
 use hpx_ports::sink::{Sink, write_all};
@@ -99,8 +99,8 @@ pub fn program<W: Words, S: Source, K: Sink, E: Sink, F: Fabric>(
           write_faults = K.faults sink.new;
           frame_faults = F.faults result.fabric;
         } in
-        IfSome result.world (λ w. (input : _) → S.left source.old ≡ Some input → HasServed result.status input w.journal.entries x z) }
-    ensures short { IsShortIn result.status result.world (S.left source.old) (S.left source.new) (K.held sink.old) (K.held sink.new) }
+        IfSome result.world (λ w. HasDone (W.words given.now) result.status w.journal.entries x z) }
+    ensures short { IsShortIn (W.words given.now) result.status result.world (S.left source.old) (S.left source.new) (K.held sink.old) (K.held sink.new) }
 {
     match all_words(alloc, given) {
         Ok(words) => run(alloc, &words, source, sink, err, fabric),

@@ -28,8 +28,8 @@ use Rattle.hpx_world.specs.Steps.{IsUnfed}
 use Rattle.hpx_world.specs.Turns.{Feeds as FeedsAt, next_name, DidFeed}
 use Rattle.app_console.specs.Console.{prompt}
 use Rattle.app_console.specs.Lines.{opening}
-use Rattle.app_console.proofs.NothingMoves.{nothing_moves}
 use Rattle.hpx_top.specs.Acts.{act_of}
+use Rattle.hpx_top.proofs.ActLemmas.{all_still}
 use Rattle.hpx_top.specs.Texts.{commands}
 use Rattle.hpx_top.specs.declared.session.SessionFault.{SessionFault}
 use Rattle.hpx_top.specs.declared.session.SessionFault.TheVariants.{Read, Write, Fabric, JournalFull, OutOfMemory, BadFrame, Strange, InputFull}
@@ -113,7 +113,7 @@ none_out text turned.Empty nodes nodes' old new d passive = absurd d
 -- ---- no MOVE is sent
 
 pub still : (n : ℕ) (p : Profile) → NothingMoves (rules_of act_of n p)
-still n p = record { codes = λ kind here s a low state act. nothing_moves n kind here s a low state act }
+still n p = record { codes = λ kind here s a low state act. all_still n kind here s a low state act }
 
 -- ---- no action fails
 

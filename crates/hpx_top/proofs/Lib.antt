@@ -1,9 +1,12 @@
+pub mod ActLemmas
 pub mod Carried
 pub mod PlainLemmas
 pub mod ReaderLemmas
 pub mod LineLemmas
 pub mod SessionLemmas
 pub mod FeedLemmas
+pub mod ComputeLemmas
+pub mod TaskLemmas
 pub mod ShowLemmas
 pub mod EndLemmas
 pub mod RunLemmas

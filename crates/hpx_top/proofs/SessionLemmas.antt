@@ -17,12 +17,12 @@ use Rattle.hpx_parcel.specs.Reading.{parcel_of}
 use Rattle.hpx_ports.specs.Told.{preceded, followed}
 use Rattle.hpx_world.proofs.Sound.{spells_well}
 use Rattle.app_console.specs.declared.table.Console.TheVariants.{Accumulator as AccumulatorConsole}
-use Rattle.app_console.specs.declared.table.Consoles.TheVariants.{Accumulator as AccumulatorAlone}
 use Rattle.app_console.specs.Console.{prompt}
 use Rattle.app_console.specs.Lines.{IsPiece, is_long, is_quit, is_newline, lines_in, before_quit, opening, others_of}
 use Rattle.app_console.specs.Text.{too_long, written}
 use Rattle.app_console.proofs.JournalText.{law_opened_whole}
 use Rattle.hpx_top.specs.Acts.{act_of}
+use Rattle.hpx_top.proofs.ActLemmas.{acting}
 use Rattle.hpx_top.specs.Texts.{commands, fed, lines_text, text_of}
 use Rattle.hpx_top.specs.Reader.{Reading, lines_left, input_left, bytes_left, TakesLine, TakesLong, TakesQuit, IsAtEnd, IsFull}
 use Rattle.hpx_top.specs.Session.{lines_fed, FeedsAtMost, HasFed, WritesFront, Feeds, IsJournalOf, HandsOut, IsServing, IsServingAt, IsCut, IsCutAt, IsCutIn, IsCutAtOpening, IsOver, IsUnderWay, IsStopped, AllButOne}
@@ -82,7 +82,7 @@ journal_more r lines line old new short j f = record {
 journal_text : (n : ℕ) (p : Profile) (lines : List (List ℕ)) (entries : List Entry) → 1 ≤ n → n ≤ 64 → length lines < 4000000000
     → (j : IsJournalOf (rules_of act_of n p) lines entries) → written lines (others_of (shown j.blocks)) ≡ lines_text n lines
 journal_text n p lines entries some few short j =
-    (law_opened_whole AccumulatorAlone n p.credit_log p.credit_limit parcel_of some few AccumulatorConsole 97 refl lines j.blocks short (spells_well act_of n p) (subst NoneFails j.entries_are j.calm) j.session).1
+    (law_opened_whole acting n p.credit_log p.credit_limit parcel_of some few AccumulatorConsole 97 refl lines j.blocks short (spells_well act_of n p) (subst NoneFails j.entries_are j.calm) j.session).1
 
 -- what a line prints is its text
 pub line_prints : (n : ℕ) (p : Profile) (lines : List (List ℕ)) (line : List ℕ) (old new : List Entry) → 1 ≤ n → n ≤ 64 → length lines + 1 < 4000000000

@@ -2,7 +2,9 @@ pub mod Pending
 pub mod Reader
 pub mod Usage
 pub mod Acts
+pub mod ActLaws
 pub mod Texts
 pub mod Session
 pub mod Ends
 pub mod Statuses
+pub mod Computed

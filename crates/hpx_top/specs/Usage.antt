@@ -1,16 +1,15 @@
--- The words that the program takes.
-use Rattle.std.specs.Prelude.{ℕ, Bool, true, false, not, ◌&&◌, ◌==◌, ◌^◌, List, Option, Some, None, if◌then◌else◌}
+-- The words that the program takes, and what they ask for.
+use Rattle.std.specs.Prelude.{ℕ, Bool, true, false, not, nat_le, ◌&&◌, ◌==◌, ◌≤◌, ◌^◌, List, Option, Some, None, Result, Ok, Err, if◌then◌else◌}
 use Rattle.hpx_value.specs.declared.profile.Profile.{Profile}
 use Rattle.hpx_options.specs.declared.settings.App.{App}
-use Rattle.hpx_options.specs.declared.settings.App.TheVariants.{Accumulator}
+use Rattle.hpx_options.specs.declared.settings.App.TheVariants as Apps
 use Rattle.hpx_options.specs.declared.settings.Mode.{Mode}
 use Rattle.hpx_options.specs.declared.settings.Mode.TheVariants.{Hosted}
 use Rattle.hpx_options.specs.declared.settings.Settings.{Settings}
 use Rattle.hpx_options.specs.Meanings.{Reading, Means, BadWord, is_empty, reading_of}
-
-abbrev pub is_accumulator : App → Bool
-is_accumulator Accumulator = true
-is_accumulator _ = false
+use Rattle.app_compute.specs.FibLaw.{IsQuestion}
+use Rattle.hpx_top.specs.declared.task.Task.{Task}
+use Rattle.hpx_top.specs.declared.task.Task.TheVariants.{Accumulator, Fib}
 
 abbrev pub is_alone : Mode → Bool
 is_alone Hosted = true
@@ -20,16 +19,55 @@ is_alone _ = false
 abbrev pub is_usual : Profile → Bool
 is_usual p = (p.credit_log == 31) && (p.credit_limit == 2 ^ 100) && (p.cache == 64)
 
--- what is built: the accumulator over two localities, in one process on one thread, without counters or a journal that is written
-abbrev pub is_built : Settings → Bool
-is_built settings =
-    is_accumulator settings.app && (settings.localities == 2) && (settings.threads == 1) && is_alone settings.mode
-    && is_usual settings.profile && is_empty settings.counters && not settings.settle && not settings.journal
+-- in one process on one thread, without counters or a journal that is written
+abbrev pub is_plain : Settings → Bool
+is_plain settings =
+    (settings.threads == 1) && is_alone settings.mode && is_usual settings.profile && is_empty settings.counters && not settings.settle
+    && not settings.journal
 
--- the place, from 1, of a word that does not fit; 0 where a word is missing, words clash, or what they mean is not built
-abbrev pub bad_place : Reading → Option ℕ
-bad_place (BadWord place) = Some place
-bad_place (Means settings) = if is_built settings then None else Some 0
+-- a number up to 92, and a threshold from 2 to 92
+abbrev pub are_asked : ℕ → ℕ → Bool
+are_asked number threshold = nat_le number 92 && nat_le 2 threshold && nat_le threshold 92
+
+abbrev pub are_places : ℕ → Bool
+are_places n = nat_le 1 n && nat_le n 64
+
+-- what is built: the accumulator over two localities, and Fibonacci numbers over any number of them
+abbrev pub task_by : App → ℕ → Option Task
+task_by Apps.Accumulator n = if n == 2 then Some Accumulator else None
+task_by (Apps.Fib number threshold) n =
+    if are_asked number threshold && are_places n then Some (Fib (record { number = number; threshold = threshold }) n) else None
+task_by _ n = None
+
+abbrev pub task_of : Settings → Option Task
+task_of settings = if is_plain settings then task_by settings.app settings.localities else None
+
+-- what words ask for; or the place, from 1, of a word that does not fit; 0 where a word is missing, words clash, or what they mean is not built
+abbrev pub or_nowhere : Option Task → Result Task ℕ
+or_nowhere None = Err 0
+or_nowhere (Some task) = Ok task
+
+abbrev pub reading_task : Reading → Result Task ℕ
+reading_task (BadWord place) = Err place
+reading_task (Means settings) = or_nowhere (task_of settings)
+
+abbrev pub task_in : List (List ℕ) → Result Task ℕ
+task_in words = reading_task (reading_of words)
+
+-- the place of a word that is refused
+abbrev pub place_of : Result Task ℕ → Option ℕ
+place_of (Ok task) = None
+place_of (Err place) = Some place
 
 abbrev pub bad_word : List (List ℕ) → Option ℕ
-bad_word words = bad_place (reading_of words)
+bad_word words = place_of (task_in words)
+
+-- at how many localities a task is done
+abbrev pub places_of : Task → ℕ
+places_of Accumulator = 2
+places_of (Fib question n) = n
+
+-- a task in the ranges of its numbers
+abbrev pub IsTask : Task → Type 0
+IsTask Accumulator = Unit {0}
+IsTask (Fib question n) = IsQuestion question.number question.threshold × (1 ≤ n) × (n ≤ 64)

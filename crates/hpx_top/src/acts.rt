@@ -1,7 +1,9 @@
 //! What all actions do: sessions, name services, numbers and control objects, by their kinds.
 ghost use Rattle.std.specs.Prelude.{◌≡◌, IfOk};
-ghost use Rattle.app_console.specs.Session.{act_of as outcome_at};
+ghost use Rattle.hpx_top.specs.Acts.{all_of};
 
+use app_compute::act::compute_act;
+use app_compute::session::{computes, session_act as computing_act};
 use app_console::act::session_act;
 use app_console::stay::refused;
 use app_console::table::Consoles;
@@ -15,7 +17,8 @@ use hpx_value::outcome::Outcome;
 use hpx_value::value::{Act, State};
 use std::alloc::Global;
 
-/// What actions do at a number of localities from 1 to 64, where a session reads the lines of the accumulator's console.
+/// What actions do at a number of localities from 1 to 64, where a session reads the lines of the accumulator's console, or
+/// computes.
 #[derive(Clone, Copy, Debug, PartialEq, Eq)]
 pub struct AllActs {
     pub localities: u32,
@@ -24,7 +27,8 @@ pub struct AllActs {
 const MOST_LOCALITIES: u32 = 64;
 
 impl Acts for AllActs {
-    ghost use Rattle.hpx_top.specs.Acts.{act_of, keeps_laws, is_blind};
+    ghost use Rattle.hpx_top.specs.Acts.{act_of};
+    ghost use Rattle.hpx_top.specs.ActLaws.{keeps_laws, is_blind};
 
     ghost count = { λ acts. acts.localities };
 
@@ -58,10 +62,9 @@ impl Acts for AllActs {
     ghost is_blind = { is_blind };
 }
 
-/// The outcome of an action on an object of any kind, where a session reads the lines of these consoles. The plain object
-/// has no actions yet. An `Err` is for want of memory, or where a hand has more than 65,535 places or continuations, as none
-/// has that is well formed.
-#[tactic(auto, unfolding(app_console::specs::Session::act_of))]
+/// The outcome of an action on an object of any kind, where a session reads the lines of these consoles, or computes. An
+/// `Err` is for want of memory, or where a hand has more than 65,535 places or continuations, as none has that is well formed.
+#[tactic(auto, unfolding(crate::specs::Acts::all_of, app_console::specs::Session::act_of))]
 pub fn all_act(
     alloc: Global,
     consoles: Consoles,
@@ -71,14 +74,15 @@ pub fn all_act(
     state: &State,
     action: &Act,
 ) -> Result<Outcome, OutOfMemory>
-    ensures { IfOk result (λ outcome. outcome ≡ outcome_at consoles localities kind here state.now action.now) }
+    ensures { IfOk result (λ outcome. outcome ≡ all_of consoles localities kind here state.now action.now) }
 {
     if here >= localities || localities > MOST_LOCALITIES {
         return refused(alloc, state, action);
     }
     match kind {
+        SESSION if computes(state, action) => computing_act(alloc, here, state, action),
         SESSION => session_act(alloc, consoles, localities, state, action),
-        PLAIN => refused(alloc, state, action),
+        PLAIN => compute_act(alloc, kind, here, localities, state, action),
         _ if kind < FIRST_MANAGED => names_act(alloc, kind, here, localities, state, action),
         _ if kind <= LAST_MOVABLE => number_act(alloc, kind, here, state, action),
         _ => lco_act(alloc, kind, here, state, action),

@@ -1,7 +1,9 @@
-//! A session of the console over all localities, and the top call.
+//! A session of the console over all localities, applications that compute, and the top call.
 #![tactic(auto)]
 
 pub mod acts;
+mod compute;
 pub mod reader;
 pub mod run;
 pub mod session;
+pub mod task;

@@ -11,19 +11,20 @@ ghost use Rattle.hpx_world.specs.Promises.{KeepsPromises};
 ghost use Rattle.hpx_top.specs.Ends.{IsWhole, IsBrokenOff, IsBrokenIn, IsBrokenAtOpening, IsBegun, IsShort, IsEndedBy, IsReadFrom, IsReadUp, IsReadOn, IsInputFull};
 ghost use Rattle.hpx_top.specs.Session.{rules, profile, AllGranted, AllDone, IsRested, WritesFront, entries_in};
 ghost use Rattle.hpx_options.specs.Texts.{bad_word_text};
-ghost use Rattle.hpx_top.specs.Statuses.{IsStatus, status_of, status_line};
-ghost use Rattle.hpx_top.specs.Usage.{is_usual, is_built, bad_word};
+ghost use Rattle.hpx_top.specs.Statuses.{IsStatus, status_after, status_of, status_line};
+ghost use Rattle.hpx_top.specs.Usage.{IsTask, bad_word, places_of, task_in};
+ghost use Rattle.hpx_top.specs.Computed.{HasComputed, task_line, task_texts};
 
 use crate::acts::AllActs;
-use crate::session::{SessionFault, serve};
-use hpx_options::options::read;
-use hpx_options::settings::{App, Mode, OptionFault, Settings};
+use crate::compute::{compute_all, task_line};
+use crate::session::{PROFILE, SessionFault, serve};
+use crate::task::{Task, task_in};
 use hpx_options::texts;
 use hpx_ports::fabric::Fabric;
 use hpx_ports::sink::{Sink, write_all};
 use hpx_ports::source::Source;
 use hpx_value::items::Texts;
-use hpx_value::profile::Profile;
+use hpx_value::memory::OutOfMemory;
 use hpx_world::world::World;
 use std::alloc::Global;
 
@@ -33,46 +34,6 @@ pub struct End<F: Fabric> {
     pub status: u8,
     pub world: Option<World<AllActs>>,
     pub fabric: F,
-}
-
-/// A new object has the most credit that an id can have, and no count comes near the greatest one.
-const PROFILE: Profile = Profile {
-    credit_log: 31,
-    credit_limit: 1 << 62,
-    cache: 64,
-};
-
-/// Whether what the words mean is built: the accumulator over two localities, with all else as usual.
-fn is_built(settings: &Settings) -> bool
-    ensures { result ≡ is_built settings.now }
-{
-    matches!(settings.app, App::Accumulator)
-        && settings.localities == 2
-        && settings.threads == 1
-        && matches!(settings.mode, Mode::Hosted)
-        && is_usual(settings.profile)
-        && settings.counters.is_empty()
-        && !settings.settle
-        && !settings.journal
-}
-
-/// Whether credit and cache are as usual. No count comes near the greatest one, which is that of `PROFILE` in a world.
-fn is_usual(profile: Profile) -> bool
-    ensures { result ≡ is_usual profile }
-{
-    profile.credit_log == 31 && profile.credit_limit == 1 << 100 && profile.cache == 64
-}
-
-/// The place, from 1, of a word that does not fit; 0 where a word is missing, words clash, or what they mean is not built.
-pub fn bad_word(alloc: Global, words: &Texts) -> Option<u32>
-    ensures { result ≡ bad_word words.now }
-{
-    match read(alloc, words) {
-        Ok(settings) => (!is_built(&settings)).then_some(0),
-        Err(OptionFault::Usage { place }) => Some(place),
-        // Counters alone take memory, and they are not built.
-        Err(OptionFault::OutOfMemory) => Some(0),
-    }
 }
 
 /// The line and the status of a session that ended early.
@@ -161,6 +122,79 @@ fn serve_all<S: Source, K: Sink, F: Fabric>(
     (Some(world), served)
 }
 
+/// At how many localities a task is done.
+fn places_of(task: Task) -> u32
+    ensures { result ≡ places_of task }
+{
+    match task {
+        Task::Accumulator => 2,
+        Task::Fib {
+            question: _,
+            localities,
+        } => localities,
+    }
+}
+
+/// A task, on a fabric in which nothing is in flight yet.
+fn run_task<S: Source, K: Sink, F: Fabric>(
+    alloc: Global,
+    task: Task,
+    source: &mut S,
+    sink: &mut K,
+    fabric: &mut F,
+) -> (Option<World<AllActs>>, Result<(), SessionFault>)
+    requires task { IsTask task }
+    requires flight { F.flight fabric.old ≡ Some [] }
+    requires trace { F.trace fabric.old ≡ Some [] }
+
+    ensures computed { (line : _) → task_line task ≡ Some line →
+        HasComputed line (task_texts task) (status_after result.1) (entries_in result.0) (K.held sink.old) (K.held sink.new) }
+    ensures unread { (line : _) → task_line task ≡ Some line → source.new ≡ source.old }
+    ensures whole { (input : _) → task ≡ Task.Accumulator → S.left source.old ≡ Some input → OnOk result.1 (IsWhole 2 input (entries_in result.0) (K.held sink.old) (K.held sink.new)) }
+    ensures reads { (input : _) → S.left source.old ≡ Some input → IsReadFrom input (S.left source.new) (S.taken source.old) (S.taken source.new) }
+    ensures limit { S.taken source.new ≤ S.taken source.old + 67108864 }
+    ensures read_up { (input : _) → task ≡ Task.Accumulator → S.left source.old ≡ Some input → OnOk result.1 (IsReadUp input (S.left source.new)) }
+    ensures ended { (input : _) → task ≡ Task.Accumulator → S.left source.old ≡ Some input → IfSome result.0 (λ w.
+        IfErr result.1 (λ fault. IsEndedBy fault 2 input w.journal.entries (K.held sink.old) (K.held sink.new))) }
+    ensures short { (input : _) → task ≡ Task.Accumulator → S.left source.old ≡ Some input → result.1 ≡ Err SessionFault.OutOfMemory →
+        IfSome result.0 (λ w. IsShort 2 input (S.left source.new) w.journal.entries (K.held sink.old) (K.held sink.new)) }
+    ensures begun { (input : _) → task ≡ Task.Accumulator → S.left source.old ≡ Some input → IsBegun 2 input (entries_in result.0) (K.held sink.old) (K.held sink.new) }
+    ensures input { (input : _) → S.left source.old ≡ Some input → result.1 ≡ Err SessionFault.InputFull → IsInputFull input (S.left source.new) }
+    ensures read_on { (input : _) → S.left source.old ≡ Some input → result.1 ≡ Err SessionFault.Read → (n : ℕ) × IsReadOn n input (S.left source.new) }
+    ensures taken { result.1 ≡ Err SessionFault.InputFull → S.taken source.new ≡ S.taken source.old + 67108864 }
+
+    ensures none { result.0 ≡ None → result.1 ≡ Err SessionFault.OutOfMemory }
+    ensures untouched { result.0 ≡ None → (source.new ≡ source.old) × (sink.new ≡ sink.old) × (fabric.new ≡ fabric.old) }
+    ensures localities { IfSome result.0 (λ w. length w.nodes ≡ places_of task) }
+    ensures profile { IfSome result.0 (λ w. w.profile ≡ profile) }
+    ensures granted { IfSome result.0 (λ w. AllGranted w.journal.entries) }
+    ensures rest { OnOk result.1 (IfSome result.0 (λ w. IsRested w)) }
+    ensures all_done { OnOk result.1 (IfSome result.0 (λ w. AllDone w.journal.entries)) }
+    ensures promises { IfSome result.0 (λ w. KeepsPromises (rules w) w.journal.entries) }
+    ensures within { IfSome result.0 (λ w. IsWithin w.journal.entries) }
+    ensures audit { IfSome result.0 (λ w. IsAudit (rules w) (replayed (rules w) w.journal.entries) (audit_lines w.nodes)) }
+    ensures at_home { IfSome result.0 (λ w. StandAtHome (rules w) (replayed (rules w) w.journal.entries) (audit_lines w.nodes)) }
+    ensures carrying { IfSome result.0 (λ w. IsCarrying (rules w) w.hand (F.flight fabric.new) (F.trace fabric.new) w.journal.entries) }
+    ensures no_frame { result.1 ≢ Err SessionFault.BadFrame }
+    ensures no_parcel { result.1 ≢ Err SessionFault.Strange }
+
+    ensures read { result.1 ≡ Err SessionFault.Read → Rose (S.faults source.old) (S.faults source.new) }
+    ensures write { result.1 ≡ Err SessionFault.Write → Rose (K.faults sink.old) (K.faults sink.new) }
+    ensures fabric { result.1 ≡ Err SessionFault.Fabric → Rose (F.faults fabric.old) (F.faults fabric.new) }
+    ensures full { result.1 ≡ Err SessionFault.JournalFull → IfSome result.0 (λ w. HasRoom w.journal.entries → ⊥) }
+    ensures room { result.1 ≢ Err SessionFault.JournalFull → IfSome result.0 (λ w. HasRoom w.journal.entries) }
+
+    ensures read_only { result.1 ≢ Err SessionFault.Read → S.faults source.new ≡ S.faults source.old }
+    ensures write_only { result.1 ≢ Err SessionFault.Write → K.faults sink.new ≡ K.faults sink.old }
+    ensures fabric_only { result.1 ≢ Err SessionFault.Fabric → F.faults fabric.new ≡ F.faults fabric.old }
+{
+    match task_line(alloc, task) {
+        Ok(None) => serve_all(alloc, source, sink, fabric),
+        Ok(Some(line)) => compute_all(alloc, places_of(task), line, sink, fabric),
+        Err(OutOfMemory) => (None, Err(SessionFault::OutOfMemory)),
+    }
+}
+
 /// Runs the program on its words. A status other than 0 writes one line on `err`; where that fails, the status stays.
 pub fn run<S: Source, K: Sink, E: Sink, F: Fabric>(
     alloc: Global,
@@ -185,22 +219,25 @@ pub fn run<S: Source, K: Sink, E: Sink, F: Fabric>(
     ensures silent { result.status ≡ 0 → err.new ≡ err.old }
     ensures no_other { IsStatus result.status }
 
-    ensures whole { (input : _) → S.left source.old ≡ Some input → result.status ≡ 0 →
+    ensures computed { (task : _) (line : _) → task_in words.now ≡ Ok task → task_line task ≡ Some line →
+        HasComputed line (task_texts task) result.status (entries_in result.world) (K.held sink.old) (K.held sink.new) }
+    ensures unread { (task : _) (line : _) → task_in words.now ≡ Ok task → task_line task ≡ Some line → source.new ≡ source.old }
+    ensures whole { (input : _) → task_in words.now ≡ Ok Task.Accumulator → S.left source.old ≡ Some input → result.status ≡ 0 →
         IsWhole 2 input (entries_in result.world) (K.held sink.old) (K.held sink.new) }
-    ensures begun { (input : _) → S.left source.old ≡ Some input → IsBegun 2 input (entries_in result.world) (K.held sink.old) (K.held sink.new) }
-    ensures between_lines { (input : _) → S.left source.old ≡ Some input → (result.status ≡ 2) ⊎ (result.status ≡ 9) →
+    ensures begun { (input : _) → task_in words.now ≡ Ok Task.Accumulator → S.left source.old ≡ Some input → IsBegun 2 input (entries_in result.world) (K.held sink.old) (K.held sink.new) }
+    ensures between_lines { (input : _) → task_in words.now ≡ Ok Task.Accumulator → S.left source.old ≡ Some input → (result.status ≡ 2) ⊎ (result.status ≡ 9) →
         IsBrokenOff 2 0 input (entries_in result.world) (K.held sink.old) (K.held sink.new) }
-    ensures in_a_line { (input : _) → S.left source.old ≡ Some input → (result.status ≡ 4) ⊎ (result.status ≡ 5) →
+    ensures in_a_line { (input : _) → task_in words.now ≡ Ok Task.Accumulator → S.left source.old ≡ Some input → (result.status ≡ 4) ⊎ (result.status ≡ 5) →
         IsBrokenIn 2 input (entries_in result.world) (K.held sink.old) (K.held sink.new)
         ⊎ IsBrokenAtOpening (entries_in result.world) (K.held sink.old) (K.held sink.new) }
 
-    ensures at_most_a_line { (input : _) → S.left source.old ≡ Some input → result.status ≡ 6 →
+    ensures at_most_a_line { (input : _) → task_in words.now ≡ Ok Task.Accumulator → S.left source.old ≡ Some input → result.status ≡ 6 →
         IfSome result.world (λ w. IsShort 2 input (S.left source.new) w.journal.entries (K.held sink.old) (K.held sink.new)) }
     ensures untouched { result.world ≡ None → (source.new ≡ source.old) × (sink.new ≡ sink.old) × (result.fabric ≡ fabric) }
 
     ensures reads { (input : _) → S.left source.old ≡ Some input → IsReadFrom input (S.left source.new) (S.taken source.old) (S.taken source.new) }
     ensures limit { S.taken source.new ≤ S.taken source.old + 67108864 }
-    ensures read_up { (input : _) → S.left source.old ≡ Some input → result.status ≡ 0 → IsReadUp input (S.left source.new) }
+    ensures read_up { (input : _) → task_in words.now ≡ Ok Task.Accumulator → S.left source.old ≡ Some input → result.status ≡ 0 → IsReadUp input (S.left source.new) }
     ensures rest { result.status ≡ 0 → IfSome result.world (λ w. IsRested w) }
     ensures read { result.status ≡ 2 → Rose (S.faults source.old) (S.faults source.new) }
     ensures write { result.status ≡ 3 → Rose (K.faults sink.old) (K.faults sink.new) }
@@ -215,7 +252,7 @@ pub fn run<S: Source, K: Sink, E: Sink, F: Fabric>(
     ensures read_on { (input : _) → S.left source.old ≡ Some input → result.status ≡ 2 → (n : ℕ) × IsReadOn n input (S.left source.new) }
     ensures world { result.world ≡ None → (result.status ≡ 1) ⊎ (result.status ≡ 6) }
 
-    ensures localities { IfSome result.world (λ w. length w.nodes ≡ 2) }
+    ensures localities { (task : _) → task_in words.now ≡ Ok task → IfSome result.world (λ w. length w.nodes ≡ places_of task) }
     ensures profile { IfSome result.world (λ w. w.profile ≡ profile) }
     ensures granted { IfSome result.world (λ w. AllGranted w.journal.entries) }
     ensures all_done { result.status ≡ 0 → IfSome result.world (λ w. AllDone w.journal.entries) }
@@ -229,15 +266,18 @@ pub fn run<S: Source, K: Sink, E: Sink, F: Fabric>(
         (Rose (F.faults fabric) (F.faults result.fabric) → ⊥) → S.taken source.new < S.taken source.old + 67108864 →
         IfSome result.world (λ w. HasRoom w.journal.entries) → (result.status ≡ 0) ⊎ (result.status ≡ 6) }
 {
-    if let Some(place) = bad_word(alloc, words) {
-        say(err, texts::bad_word(place).as_str().as_bytes());
-        return End {
-            status: 1,
-            world: None,
-            fabric,
-        };
-    }
-    let (world, served) = serve_all(alloc, source, sink, &mut fabric);
+    let task = match task_in(alloc, words) {
+        Ok(task) => task,
+        Err(place) => {
+            say(err, texts::bad_word(place).as_str().as_bytes());
+            return End {
+                status: 1,
+                world: None,
+                fabric,
+            };
+        }
+    };
+    let (world, served) = run_task(alloc, task, source, sink, &mut fabric);
     let status = match served {
         Ok(()) => 0,
         Err(fault) => {

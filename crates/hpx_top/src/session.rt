@@ -29,6 +29,7 @@ use hpx_ports::fault::Failed;
 use hpx_ports::sink::{Sink, write_all};
 use hpx_ports::source::Source;
 use hpx_value::items::Text;
+use hpx_value::profile::Profile;
 use hpx_world::turns::{Choice, WorldFault};
 use hpx_world::world::World;
 use std::alloc::Global;
@@ -54,6 +55,13 @@ pub enum SessionFault {
     #[error("input full")]
     InputFull,
 }
+
+/// A new object has the most credit that an id can have, and no count comes near the greatest one.
+pub(crate) const PROFILE: Profile = Profile {
+    credit_log: 31,
+    credit_limit: 1 << 62,
+    cache: 64,
+};
 
 fn write<K: Sink>(sink: &mut K, bytes: &[u8]) -> Result<(), SessionFault>
     ensures held { OnOk result (K.held sink.new ≡ followed (K.held sink.old) bytes.now) }
@@ -92,7 +100,7 @@ fn show_entry<K: Sink>(journal: &Journal, i: u64, sink: &mut K) -> Result<(), Se
 }
 
 /// Writes what was printed since a cut of the journal.
-fn show<K: Sink>(journal: &Journal, cut: u64, sink: &mut K) -> Result<(), SessionFault>
+pub(crate) fn show<K: Sink>(journal: &Journal, cut: u64, sink: &mut K) -> Result<(), SessionFault>
     requires within { cut ≤ length journal.now.entries }
     ensures held { OnOk result (K.held sink.new ≡ followed (K.held sink.old) (concat (prints_of (drop cut journal.now.entries)))) }
     ensures front { OnErr result (WritesFront (concat (prints_of (drop cut journal.now.entries))) (K.held sink.old) (K.held sink.new)) }
@@ -205,7 +213,7 @@ fn settle<F: Fabric>(
 }
 
 /// Feeds a text, and lets the world come to rest.
-fn feed<F: Fabric>(
+pub(crate) fn feed<F: Fabric>(
     alloc: Global,
     world: &mut World<AllActs>,
     text: Text,

@@ -389,7 +389,7 @@ fn other_words_are_refused(rt: HostRuntime) -> Result<(), Fail> {
         (&[b"accumulator"], b"hpx: bad word 0\n"),
         (&[b"fob"], b"hpx: bad word 1\n"),
         // What is not built yet.
-        (&[b"fib"], b"hpx: bad word 0\n"),
+        (&[b"space"], b"hpx: bad word 0\n"),
         (
             &[b"accumulator", b"--hpx:localities=3"],
             b"hpx: bad word 0\n",

@@ -1,0 +1,5 @@
+//! The applications that compute, by what a person reads.
+#![tactic(auto)]
+
+#[cfg(test)]
+mod rows;

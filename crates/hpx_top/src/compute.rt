@@ -1,0 +1,127 @@
+//! Applications that compute: one line is fed, and what it prints is written once all is done.
+ghost use Rattle.std.specs.Prelude.{◌≡◌, ◌≢◌, ◌≤◌, [], Err, Some, None, OnOk, IfOk, IfErr, IfSome, length};
+ghost use Rattle.hpx_journal.specs.Weights.{HasRoom};
+ghost use Rattle.hpx_journal.specs.Whole.{replayed};
+ghost use Rattle.hpx_steps.specs.Limits.{IsWithin};
+ghost use Rattle.hpx_ports.specs.Faults.{Rose};
+ghost use Rattle.hpx_world.specs.Audit.{audit_lines, IsAudit, StandAtHome};
+ghost use Rattle.hpx_world.specs.Away.{IsCarrying};
+ghost use Rattle.hpx_world.specs.Promises.{KeepsPromises};
+ghost use Rattle.hpx_world.specs.Quiet.{IsQuiet};
+ghost use Rattle.hpx_top.specs.Computed.{IsAnswered, IsUnanswered, task_line};
+ghost use Rattle.hpx_top.specs.Session.{rules, profile, AllGranted, AllDone, IsAmple, IsRested};
+
+use crate::acts::AllActs;
+use crate::session::{PROFILE, SessionFault, feed, show};
+use crate::task::Task;
+use app_compute::line::fib_line;
+use app_compute::session::MARK;
+use app_console::lines::marked;
+use hpx_ports::fabric::Fabric;
+use hpx_ports::sink::Sink;
+use hpx_value::items::Text;
+use hpx_value::memory::OutOfMemory;
+use hpx_world::world::World;
+use std::alloc::Global;
+
+/// The line that is fed for a task: none for a console.
+pub(crate) fn task_line(alloc: Global, task: Task) -> Result<Option<Text>, OutOfMemory>
+    ensures { IfOk result (λ line. line ≡ task_line task) }
+{
+    match task {
+        Task::Accumulator => Ok(None),
+        Task::Fib {
+            question,
+            localities: _,
+        } => {
+            let line = fib_line(alloc, question.number, question.threshold)?;
+            Ok(Some(marked(alloc, MARK, line.as_slice())?))
+        }
+    }
+}
+
+/// Feeds the line at boot, and writes what is printed once the world has come to rest.
+fn answer<K: Sink, F: Fabric>(
+    alloc: Global,
+    world: &mut World<AllActs>,
+    line: Text,
+    sink: &mut K,
+    fabric: &mut F,
+) -> Result<(), SessionFault>
+    requires short { length line ≤ 1025 }
+    requires empty { world.old.journal.entries ≡ [] }
+    requires ample { IsAmple world.old.profile }
+    requires quiet { IsQuiet world.old.nodes world.old.hand }
+    requires carrying { IsCarrying (rules world.old) world.old.hand (F.flight fabric.old) (F.trace fabric.old) world.old.journal.entries }
+
+    ensures carrying { IsCarrying (rules world.new) world.new.hand (F.flight fabric.new) (F.trace fabric.new) world.new.journal.entries }
+    ensures count { length world.new.nodes ≡ length world.old.nodes }
+    ensures profile { world.new.profile ≡ world.old.profile }
+    ensures answered { OnOk result (IsAnswered (rules world.old) line world.new.journal.entries (K.held sink.old) (K.held sink.new)) }
+    ensures unanswered { IfErr result (λ fault. IsUnanswered fault (rules world.old) line world.new.journal.entries (K.held sink.old) (K.held sink.new)) }
+    ensures rest { OnOk result (IsRested world.new) }
+
+    ensures write { result ≡ Err SessionFault.Write → Rose (K.faults sink.old) (K.faults sink.new) }
+    ensures fabric { result ≡ Err SessionFault.Fabric → Rose (F.faults fabric.old) (F.faults fabric.new) }
+    ensures full { result ≡ Err SessionFault.JournalFull → HasRoom world.new.journal.entries → ⊥ }
+    ensures room { result ≢ Err SessionFault.JournalFull → HasRoom world.new.journal.entries }
+    ensures no_frame { result ≢ Err SessionFault.BadFrame }
+    ensures no_parcel { result ≢ Err SessionFault.Strange }
+    ensures write_only { result ≢ Err SessionFault.Write → K.faults sink.new ≡ K.faults sink.old }
+    ensures fabric_only { result ≢ Err SessionFault.Fabric → F.faults fabric.new ≡ F.faults fabric.old }
+{
+    feed(alloc, world, line, fabric)?;
+    show(world.journal(), 0, sink)
+}
+
+/// Feeds the line to so many localities, on a fabric in which nothing is in flight yet, and writes what is printed.
+#[tactic(auto, using(crate::proofs::Carried::carrying_start))]
+pub(crate) fn compute_all<K: Sink, F: Fabric>(
+    alloc: Global,
+    localities: u32,
+    line: Text,
+    sink: &mut K,
+    fabric: &mut F,
+) -> (Option<World<AllActs>>, Result<(), SessionFault>)
+    requires some { 1 ≤ localities }
+    requires few { localities ≤ 64 }
+    requires short { length line ≤ 1025 }
+    requires flight { F.flight fabric.old ≡ Some [] }
+    requires trace { F.trace fabric.old ≡ Some [] }
+
+    ensures answered { IfSome result.0 (λ w. OnOk result.1 (IsAnswered (rules w) line w.journal.entries (K.held sink.old) (K.held sink.new))) }
+    ensures unanswered { IfSome result.0 (λ w.
+        IfErr result.1 (λ fault. IsUnanswered fault (rules w) line w.journal.entries (K.held sink.old) (K.held sink.new))) }
+
+    ensures none { result.0 ≡ None → result.1 ≡ Err SessionFault.OutOfMemory }
+    ensures untouched { result.0 ≡ None → (sink.new ≡ sink.old) × (fabric.new ≡ fabric.old) }
+    ensures localities { IfSome result.0 (λ w. length w.nodes ≡ localities) }
+    ensures profile { IfSome result.0 (λ w. w.profile ≡ profile) }
+    ensures granted { IfSome result.0 (λ w. AllGranted w.journal.entries) }
+    ensures rest { OnOk result.1 (IfSome result.0 (λ w. IsRested w)) }
+    ensures all_done { OnOk result.1 (IfSome result.0 (λ w. AllDone w.journal.entries)) }
+    ensures promises { IfSome result.0 (λ w. KeepsPromises (rules w) w.journal.entries) }
+    ensures within { IfSome result.0 (λ w. IsWithin w.journal.entries) }
+    ensures audit { IfSome result.0 (λ w. IsAudit (rules w) (replayed (rules w) w.journal.entries) (audit_lines w.nodes)) }
+    ensures at_home { IfSome result.0 (λ w. StandAtHome (rules w) (replayed (rules w) w.journal.entries) (audit_lines w.nodes)) }
+    ensures carrying { IfSome result.0 (λ w. IsCarrying (rules w) w.hand (F.flight fabric.new) (F.trace fabric.new) w.journal.entries) }
+    ensures no_frame { result.1 ≢ Err SessionFault.BadFrame }
+    ensures no_parcel { result.1 ≢ Err SessionFault.Strange }
+    ensures no_read { (result.1 ≢ Err SessionFault.Read) × (result.1 ≢ Err SessionFault.InputFull) }
+
+    ensures write { result.1 ≡ Err SessionFault.Write → Rose (K.faults sink.old) (K.faults sink.new) }
+    ensures fabric { result.1 ≡ Err SessionFault.Fabric → Rose (F.faults fabric.old) (F.faults fabric.new) }
+    ensures full { result.1 ≡ Err SessionFault.JournalFull → IfSome result.0 (λ w. HasRoom w.journal.entries → ⊥) }
+    ensures room { result.1 ≢ Err SessionFault.JournalFull → IfSome result.0 (λ w. HasRoom w.journal.entries) }
+
+    ensures write_only { result.1 ≢ Err SessionFault.Write → K.faults sink.new ≡ K.faults sink.old }
+    ensures fabric_only { result.1 ≢ Err SessionFault.Fabric → F.faults fabric.new ≡ F.faults fabric.old }
+{
+    let mut world = match World::boot(alloc, AllActs { localities }, PROFILE) {
+        Ok(world) => world,
+        Err(_) => return (None, Err(SessionFault::OutOfMemory)),
+    };
+    let answered = answer(alloc, &mut world, line, sink, fabric);
+    world.law();
+    (Some(world), answered)
+}
