@@ -56,28 +56,14 @@ pub struct Seen {
     pub front: Option<u32>,
 }
 
-impl Seen {
-    /// Whether it is all the same.
-    pub fn same(self, other: Seen) -> bool {
-        self == other
-    }
-}
-
 /// The number: the first object that is made at locality 1.
 pub fn number() -> Gid {
     Gid::new(1, 16, 1)
 }
 
 impl Site {
-    /// One of two localities, at boot, where an object may have no more credit than at its birth.
-    pub fn boot(alloc: Global, here: u32) -> Result<Site, OutOfMemory>
-        requires { here < 2 }
-    {
-        Site::with_limit(alloc, here, 256)
-    }
-
     /// One of two localities, at boot, with so much credit for an object at most.
-    pub fn with_limit(alloc: Global, here: u32, credit_limit: u128) -> Result<Site, OutOfMemory>
+    pub fn boot(alloc: Global, here: u32, credit_limit: u128) -> Result<Site, OutOfMemory>
         requires { here < 2 }
     {
         let profile = Profile {
@@ -104,7 +90,7 @@ impl Site {
     }
 
     /// The next job, if there is one.
-    pub fn fire(&mut self, alloc: Global) -> Result<Option<Job>, OutOfMemory> {
+    fn fire(&mut self, alloc: Global) -> Result<Option<Job>, OutOfMemory> {
         if !self.book.room() {
             return Err(OutOfMemory);
         }
@@ -112,7 +98,7 @@ impl Site {
     }
 
     /// Commits a job that is done.
-    pub fn finish(&mut self, alloc: Global, done: Done<Trial>) -> Result<Finished, OutOfMemory> {
+    fn finish(&mut self, alloc: Global, done: Done<Trial>) -> Result<Finished, OutOfMemory> {
         if !self.book.room() {
             return Err(OutOfMemory);
         }
@@ -131,6 +117,22 @@ impl Site {
             }
             None => Ok(None),
         }
+    }
+
+    /// Runs the next job twice, and finishes it twice.
+    pub fn twice(&mut self, alloc: Global) -> Result<(Option<Finished>, Option<Finished>), OutOfMemory> {
+        let Some(job) = self.fire(alloc)? else {
+            return Ok((None, None));
+        };
+        let again = Job {
+            at: job.at,
+            kind: job.kind,
+            state: job.state.duplicate(alloc)?,
+            action: job.action.duplicate(alloc)?,
+        };
+        let one = self.finish(alloc, compute(alloc, job)?)?;
+        let other = self.finish(alloc, compute(alloc, again)?)?;
+        Ok((Some(one), Some(other)))
     }
 
     /// Takes a frame, or refuses it.
@@ -221,7 +223,7 @@ impl Site {
 }
 
 /// A job, done.
-pub fn compute(alloc: Global, job: Job) -> Result<Done<Trial>, OutOfMemory> {
+fn compute(alloc: Global, job: Job) -> Result<Done<Trial>, OutOfMemory> {
     match Done::compute(alloc, &Trial, job) {
         Ok(done) => Ok(done),
         Err(_) => Err(OutOfMemory),
