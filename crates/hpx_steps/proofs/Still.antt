@@ -40,9 +40,7 @@ still_sound r s s' entries h k =
       });
       orderly = subst (IsOrderly r s') (sym there) (record {
         sent = subst (λ (t : Tables). AllByRecursion (λ (e : Entry). SendsOwn r t.localities t.here t.profile.credit_log e.event) es) (sym k.same) h.orderly.sent;
-        asked = λ o n. subst (λ j. all_count (gone r (asks_for j o n)) es + weigh (asked_by j o n) s'
-            ≤ weigh (waits_for o n) s' + (all_count (come r (gives_for o n)) es + all_count (come r (asks_for j o n)) es)) (sym here)
-            (omega (arith, h.orderly.asked o n, k.asked o n));
+        asked = λ o n. rw here (omega (arith, h.orderly.asked o n, k.asked o n));
         given = λ j d o n. let d' : j ≢ s.tables.here = λ e. d (e ∙ sym here) in omega (arith, h.orderly.given j d' o n, k.given j d' o n);
       });
       numbers = let n = subst (λ (t : Tables). AreNumbers r (record s { tables = t }) entries) (sym k.same)

@@ -98,19 +98,11 @@ module _ (r : Rules) (s s' : Turn) (e : Event) (entries : List Entry) (h : IsSou
   orderly_then =
       let sends : AllByRecursion (λ (x : Entry). SendsOwn r s.tables.localities here s.tables.profile.credit_log x.event) (old ++ one) =
       all_append (λ (x : Entry). SendsOwn r s.tables.localities here s.tables.profile.credit_log x.event) old one h.orderly.sent (k.orders.sent, tt) in record {
-        sent = subst (λ n. AllByRecursion (λ (x : Entry). SendsOwn r n s'.tables.here s'.tables.profile.credit_log x.event) (old ++ one)) (sym k.counts.localities)
-            (subst (λ n. AllByRecursion (λ (x : Entry). SendsOwn r s.tables.localities n s'.tables.profile.credit_log x.event) (old ++ one)) (sym k.counts.here)
-            (subst (λ p. AllByRecursion (λ (x : Entry). SendsOwn r s.tables.localities here p.credit_log x.event) (old ++ one)) (sym k.counts.profile) sends));
-        asked = λ o n. subst (λ j. all_count (gone r (asks_for j o n)) (old ++ one) + weigh (asked_by j o n) s'
-            ≤ weigh (waits_for o n) s' + (all_count (come r (gives_for o n)) (old ++ one) + all_count (come r (asks_for j o n)) (old ++ one))) (sym k.counts.here)
+        sent = rw (k.counts.localities, k.counts.here, k.counts.profile) sends;
+        asked = λ o n. rw k.counts.here
             (omega (arith, h.orderly.asked o n, k.orders.asked o n, more (gone r (asks_for here o n)), more (come r (gives_for o n)), more (come r (asks_for here o n))));
-        given = λ j d o n. omega (
-          arith,
-          h.orderly.given j (λ i. d (i ∙ sym k.counts.here)) o n,
-          k.orders.given j (λ i. d (i ∙ sym k.counts.here)) o n,
-          more (gone_to r j (gives_for o n)),
-          more (come r (asks_for j o n)),
-        );
+        given = λ j d o n. let d' : j ≢ here = λ i. d (i ∙ sym k.counts.here) in
+            omega (arith, h.orderly.given j d' o n, k.orders.given j d' o n, more (gone_to r j (gives_for o n)), more (come r (asks_for j o n)));
       }
 
   numbers_then : AreNumbers r s' (entries ++ one)
@@ -121,20 +113,11 @@ module _ (r : Rules) (s s' : Turn) (e : Event) (entries : List Entry) (h : IsSou
     sent = k.counts.sent ∙ (omega (arith, h.numbers.sent, outs_more old) ∙ ap (λ zs. length (outs zs)) (sym grown));
     taken = k.counts.taken ∙ (omega (arith, h.numbers.taken, ins_more old) ∙ ap (λ zs. length (ins zs)) (sym grown));
     few_answers = omega (arith, h.numbers.few_answers, k.counts.few_answers, length-append entries one);
-    answered =
-        subst (λ j. IsClean r (at_boot r j) (part j (entries ++ one)) → s'.tables.answered ≡ count_by is_answer (run_local r (at_boot r j) (part j (entries ++ one))).done)
-        (sym k.counts.here)
-        (subst (λ zs. IsClean r (at_boot r here) zs → s'.tables.answered ≡ count_by is_answer (run_local r (at_boot r here) zs).done) (sym grown_here)
-        (λ clean.
+    answered = rw (k.counts.here, grown_here) (λ clean.
         let first = (clean_front r (at_boot r here) old one clean).0 in
         let l : Local = run_local r (at_boot r here) old in
-        omega (
-          arith,
-          h.numbers.answered first,
-          k.counts.answered l (h.keeps.shows first).acts.fired,
-          ap (λ (x : Local). count_by is_answer x.done) (run_local_append r (at_boot r here) old one),
-          ap (count_by is_answer) (done_is r l e),
-        )));
+        omega (arith, h.numbers.answered first, k.counts.answered l (h.keeps.shows first).acts.fired, ap (λ (x : Local). count_by is_answer x.done) (run_local_append r (at_boot r here) old one),
+        ap (count_by is_answer) (done_is r l e)));
   }
     where
       grown_here : part here (entries ++ one) ≡ old ++ one
