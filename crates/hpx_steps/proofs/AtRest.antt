@@ -6,13 +6,6 @@ use Rattle.hpx_steps.specs.Rows.{unpaid as turn_unpaid}
 use Rattle.hpx_steps.specs.Sound.{IsTidy as turn_tidy, waits_for as turn_waits_for}
 use Rattle.hpx_steps.specs.Turn.{view as turn_view}
 
-alls : {X : Type 0} (P Q R : X → Type 0) (xs : List X) → ((x : X) → P x → Q x → R x) → AllByRecursion P xs → AllByRecursion Q xs → AllByRecursion R xs
-alls P Q R [] f a b = tt
-alls P Q R (x ∷ xs) f a b = (f x a.0 b.0, alls P Q R xs f a.1 b.1)
-
-one_all : {X : Type 0} (P Q : X → Type 0) (xs : List X) → ((x : X) → P x → Q x) → AllByRecursion P xs → AllByRecursion Q xs
-one_all P Q xs f a = alls P P Q xs (λ x p q. f x p) a a
-
 all_carried : (P : Parcel → Type 0) (xs : List Outgoing) → AllByRecursion (λ (x : Outgoing). P x.parcel) xs → AllByRecursion P (map (λ (x : Outgoing). x.parcel) xs)
 all_carried P [] h = tt
 all_carried P (x ∷ xs) h = (h.0, all_carried P xs h.1)
@@ -20,9 +13,6 @@ all_carried P (x ∷ xs) h = (h.0, all_carried P xs h.1)
 carried_all : (P : Parcel → Type 0) (xs : List Outgoing) → AllByRecursion P (map (λ (x : Outgoing). x.parcel) xs) → AllByRecursion (λ (x : Outgoing). P x.parcel) xs
 carried_all P [] h = tt
 carried_all P (x ∷ xs) h = (h.0, carried_all P xs h.1)
-
-ones : {X : Type 0} (xs : List X) → sum_by (λ x. 1) xs ≡ length xs
-ones xs = sym (long_sum xs)
 
 module _ (t : Tables) where
   -- what is seen is the same
@@ -44,13 +34,13 @@ module _ (t : Tables) where
     where
       acts : (row : Row) → sum_by (λ (a : Act). of_act row) t.accepted ≡ queued row t.accepted
       acts = by_rows (λ row. sum_by (λ (a : Act). of_act row) t.accepted ≡ queued row t.accepted) (zeros t.accepted) (zeros t.accepted) (zeros t.accepted) (zeros t.accepted)
-          (zeros t.accepted) (zeros t.accepted) (ones t.accepted) (λ o. zeros t.accepted)
+          (zeros t.accepted) (zeros t.accepted) (sym (long_sum t.accepted)) (λ o. zeros t.accepted)
 
   hopping_is : weigh hopping (at_rest t) ≡ sum_by (weight Actions) (messages t)
   hopping_is = search (arith, sum_by-append, map_sum, zeros)
 
   joined_is : weigh joined (at_rest t) ≡ length t.accepted
-  joined_is = omega (arith, zeros t.desk, zeros t.outgoing, ones t.accepted, zeros t.running, zeros t.pending, zeros t.objects)
+  joined_is = omega (arith, zeros t.desk, zeros t.outgoing, sym (long_sum t.accepted), zeros t.running, zeros t.pending, zeros t.objects)
 
   freeing_is : (o : Id) → weigh (freeing o) (at_rest t) ≡ 0
   freeing_is o = omega (arith, zeros t.desk, zeros t.outgoing, zeros t.accepted, zeros t.running, zeros t.pending, zeros t.objects)
@@ -72,13 +62,11 @@ module _ (t : Tables) where
   -- ---- from a turn
 
   module _ (r : Rules) (entries : List Entry) (h : IsSound r (at_rest t) entries) where
-    abbrev P : Item → Type 0
-    P = TidyAt (at_rest t)
-
     paused : ArePaused t.here t.localities t.profile.credit_log t.objects t.running t.pending
     paused = record {
-      each = alls (λ w. P (Pending w)) (HasObject t.objects) (IsPaused t.here t.localities t.profile.credit_log t.objects) t.pending
-          (λ w a b. record {
+      each = all_among (IsPaused t.here t.localities t.profile.credit_log t.objects) t.pending (λ w m.
+          let a = h.tidy (Pending w) m in
+          let b = among_all (HasObject t.objects) w t.pending m h.commits.each in record {
             job = a.0.job;
             here = a.0.here;
             localities = a.0.localities;
@@ -92,8 +80,7 @@ module _ (t : Tables) where
             refused = a.0.refused;
             once = a.0.once;
             split = a.1;
-          })
-          (all_among (λ w. P (Pending w)) t.pending (λ w m. h.tidy (Pending w) m)) h.commits.each;
+          });
       single = h.places.single;
       apart = h.commits.apart;
       whole = h.commits.whole;
@@ -211,8 +198,9 @@ module _ (t : Tables) where
         single = h.stands.tidy.paused.single;
       };
       commits = record {
-        each = one_all (IsPaused t.here t.localities t.profile.credit_log t.objects) (HasObject t.objects) t.pending
-            (λ w p. record { standing = p.standing; found = p.found; kind = p.kind; state = p.state }) h.stands.tidy.paused.each;
+        each = all_among (HasObject t.objects) t.pending (λ w m.
+            let p = among_all (IsPaused t.here t.localities t.profile.credit_log t.objects) w t.pending m h.stands.tidy.paused.each in
+            record { standing = p.standing; found = p.found; kind = p.kind; state = p.state });
         apart = h.stands.tidy.paused.apart;
         whole = h.stands.tidy.paused.whole;
         lent = h.stands.tidy.paused.lent;

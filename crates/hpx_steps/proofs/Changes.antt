@@ -1,5 +1,6 @@
 -- The primitive changes of a turn: what all weights are then, and what is there that was not there before.
 use Rattle.hpx_steps.proofs.Common.{Accepted, Act, AllByRecursion, Among, Bool, Came, Due, Going, Has, HasInHand, Holds, Id, IsDue, Item, List, Loose, Mailed, OnDesk, Outgoing, Parcel, Pending, Running, Some, Standing, StandsHere, Turn, Waits, Working, [], ap, arith, cond, drops, false, going, inl, inr, is_other, mails_if, map, may_stay, not, parcel_for, posts, refl, remove, sent_as, set, slice_get, some_same, subst, suc, sum_by, sum_by-append, sum_by-cons, target_of, true, weigh, zero, ℕ, ◌++◌, ◌+◌, ◌∷◌, ◌≡◌, ◌⊎◌}
+use Rattle.hpx_steps.proofs.Sums.{less_sum, set_sum}
 
 -- ---- what is among others
 
@@ -132,26 +133,16 @@ module _ {X : Type 0} (c : X → Item) where
   }
 
   pub one_goes : (xs : List X) (i : ℕ) (x : X) → slice_get xs i ≡ Some x → Trade c (c x ∷ []) [] xs (remove xs i)
-  one_goes xs i x h = record { sums = λ w. omega (arith, less (λ y. w (c y)) xs i h); there = λ y m. inl (among_removed xs i y m) }
-    where
-      less : (f : X → ℕ) (xs : List X) (i : ℕ) → slice_get xs i ≡ Some x → sum_by f (remove xs i) + f x ≡ sum_by f xs
-      less f [] i e = cc
-      less f (y ∷ ys) zero e = omega (arith, sum_by-cons f y ys, ap f (some_same y x e))
-      less f (y ∷ ys) (suc i) e = omega (arith, sum_by-cons f y ys, sum_by-cons f y (remove ys i), less f ys i e)
+  one_goes xs i x h = record { sums = λ w. omega (arith, less_sum (λ y. w (c y)) xs i x h); there = λ y m. inl (among_removed xs i y m) }
 
   pub one_turns : (xs : List X) (i : ℕ) (x y : X) → slice_get xs i ≡ Some x → Trade c (c x ∷ []) (c y ∷ []) xs (set xs i y)
   one_turns xs i x y h = record {
-    sums = λ w. omega (arith, turned (λ z. w (c z)) xs i h);
+    sums = λ w. omega (arith, set_sum (λ z. w (c z)) xs i x y h);
     there = λ z m. elim (among_set xs i y z m) [
       | inl a ↦ inl a
       | inr e ↦ inr (inl (ap c e))
     ];
   }
-    where
-      turned : (f : X → ℕ) (xs : List X) (i : ℕ) → slice_get xs i ≡ Some x → sum_by f (set xs i y) + f x ≡ sum_by f xs + f y
-      turned f [] i e = cc
-      turned f (z ∷ zs) zero e = omega (arith, sum_by-cons f z zs, sum_by-cons f y zs, ap f (some_same z x e))
-      turned f (z ∷ zs) (suc i) e = omega (arith, sum_by-cons f z zs, sum_by-cons f z (set zs i y), turned f zs i e)
 
 -- ---- the same in a turn
 
