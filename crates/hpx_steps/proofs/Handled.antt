@@ -151,12 +151,6 @@ module _ (r : Rules) (s : Turn) (calm : IsCalm s) (t' : Tables) where
       → Leads r s t' (answered s.tables id)
   asked_leads id asker entry hand least near lasts live enough deals leaves = each (nat_lt s.tables.profile.credit_limit (more_here s.tables id)) refl
     where
-      is_less : (a b : ℕ) → nat_lt a b ≡ true → a < b
-      is_less a b k = search (arith, nat_tests, k)
-
-      is_at_most : (a b : ℕ) → nat_lt a b ≡ false → b ≤ a
-      is_at_most a b k = search (arith, nat_tests, k)
-
       old : (x : Record) × (find_record id s.tables.records ≡ Some x)
       old = record_of_live id live
 
@@ -188,7 +182,7 @@ module _ (r : Rules) (s : Turn) (calm : IsCalm s) (t' : Tables) where
             object = refl;
             home = home_of_live id live;
             same = was;
-            limit = let l : s.tables.profile.credit_limit < more_here s.tables id = is_less s.tables.profile.credit_limit (more_here s.tables id) e in omega (arith, l, pow_pos s.tables.profile.credit_log);
+            limit = let l : s.tables.profile.credit_limit < more_here s.tables id = search (arith, nat_tests, e) in omega (arith, l, pow_pos s.tables.profile.credit_log);
             recounts = record {
               was = old.1;
               own = own ∙ ap (λ c. Some (cond c old.0 (record old.0 { count = old.0.count + 2 ^ s.tables.profile.credit_log - 1 }))) (lim ∙ e);
@@ -212,7 +206,7 @@ module _ (r : Rules) (s : Turn) (calm : IsCalm s) (t' : Tables) where
             object = refl;
             home = home_of_live id live;
             sum = omega (arith, was, one, enough);
-            limit = is_at_most s.tables.profile.credit_limit (more_here s.tables id) e;
+            limit = search (arith, nat_tests, e);
             recounts = record { was = old.1; own = own; others = leaves.others };
             now = ap (λ t. record (drops s) { tables = t; last = Some event })
                 (deals ∙ ap (λ c. record (with_mail asker (Give (cond c id (record id { log = Some s.tables.profile.credit_log })) entry) s.tables) { records = t'.records }) e);
