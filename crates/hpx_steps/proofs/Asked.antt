@@ -45,9 +45,6 @@ module _ (r : Rules) (s : Turn) (entries : List Entry) (h : IsSound r s entries)
   there : (p < length w.hand) × (id_at w.hand p ≡ id)
   there = at_place w.hand p id at
 
-  was_not : is_asked id ≡ false
-  was_not = has_not_asked id 0 least.0
-
   is_now : is_asked (bare id) ≡ true
   is_now = grind arith
 
@@ -68,7 +65,7 @@ module _ (r : Rules) (s : Turn) (entries : List Entry) (h : IsSound r s entries)
               ap {B = ℕ} (λ (x : Id). cond (is_asked x) 1 0) (put_there w.hand p (bare id) there.0),
               ap {B = ℕ} (λ b. cond b 1 0) is_now,
               ap {B = ℕ} (λ (x : Id). cond (is_asked x) 1 0) there.1,
-              ap {B = ℕ} (λ b. cond b 1 0) was_not,
+              ap {B = ℕ} (λ b. cond b 1 0) (has_not_asked id 0 least.0),
             )))
         | inr f ↦
             rw f (omega (arith, ap {B = ℕ} (λ (x : Id). cond (is_asked x) 1 0) (put_elsewhere w.hand p q (bare id) (λ e. let t : true ≡ false = sym (eq-eqb p q (sym e)) ∙ f in cc))))
@@ -114,7 +111,7 @@ module _ (r : Rules) (s : Turn) (entries : List Entry) (h : IsSound r s entries)
     view_asking o,
     moves (asking o) 0 refl refl,
     put_asked o (length (ids_named w)) w.hand p id (bare id) low at,
-    ap {B = ℕ} (λ b. cond b (cond (same_object o id) 1 0) 0) was_not,
+    ap {B = ℕ} (λ b. cond b (cond (same_object o id) 1 0) 0) (has_not_asked id 0 least.0),
     ap {B = ℕ} (λ b. cond b (cond (same_object o id) 1 0) 0) is_now,
     sum_by-cons (λ x. cond (same_object o x) 1 0) (bare id) [],
   )

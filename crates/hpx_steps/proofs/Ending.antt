@@ -37,17 +37,14 @@ module _ (r : Rules) (s : Turn) (entries : List Entry) (h : IsSound r s entries)
   abbrev settled : Turn
   settled = record less { tables = record s.tables { objects = set s.tables.objects j new } }
 
-  abbrev owing : Turn
-  owing = record settled { due = left.due }
-
   change : Changes (Working w ∷ StandsHere x ∷ []) (StandsHere new ∷ (dues ++ looses)) s now
   change = then (Working w ∷ []) [] (StandsHere x ∷ []) (StandsHere new ∷ (dues ++ looses)) s less now
       (working_change (Working w ∷ []) [] s rest (first_goes (λ y. Working y) s.working w rest g.works))
       (then (StandsHere x ∷ []) (StandsHere new ∷ []) [] (dues ++ looses) less settled now
       (objects_change (StandsHere x ∷ []) (StandsHere new ∷ []) less (set s.tables.objects j new) (one_turns (λ y. StandsHere y) s.tables.objects j x new g.stands))
-      (then [] dues [] looses settled owing now
+      (then [] dues [] looses settled (record settled { due = left.due }) now
       (due_change [] dues settled left.due (all_come (λ y. IsDue y) s.due left.due g.due))
-      (loose_change [] looses owing (s.loose ++ left.loose) (more_come (λ y. Loose y) s.loose left.loose))))
+      (loose_change [] looses (record settled { due = left.due }) (s.loose ++ left.loose) (more_come (λ y. Loose y) s.loose left.loose))))
 
   -- a weight before and after
   pub moves : (f : Item → ℕ) → weigh f now + (f (Working w) + f (StandsHere x)) ≡ weigh f s + (f (StandsHere new) + (sum_by (λ d. f (IsDue d)) left.due + sum_by (λ i. f (Loose i)) left.loose))

@@ -46,9 +46,6 @@ module _ (r : Rules) (s : Turn) (entries : List Entry) (h : IsSound r s entries)
   abbrev last : Bool
   last = length given.asked == 0
 
-  abbrev was : Item
-  was = in_hand (is_frame (Give id entry) s hand) (Give id entry)
-
   -- the commit then
   abbrev item : Bool → Item
   item b = cond b (Working given) (Pending given)
@@ -65,13 +62,13 @@ module _ (r : Rules) (s : Turn) (entries : List Entry) (h : IsSound r s entries)
 
   change : Changes (in_hand (is_frame (Give id entry) s hand) (Give id entry) ∷ Pending w ∷ [])
       (cond (length (refilled n ask.place id w).asked == 0) (Working (refilled n ask.place id w)) (Pending (refilled n ask.place id w)) ∷ []) s now
-  change = then (was ∷ []) [] (Pending w ∷ []) (item last ∷ []) s (drops s) now (drop_change (Give id entry) s hand) (turned last)
+  change = then ((in_hand (is_frame (Give id entry) s hand) (Give id entry)) ∷ []) [] (Pending w ∷ []) (item last ∷ []) s (drops s) now (drop_change (Give id entry) s hand) (turned last)
 
   -- a weight before and after, that sees no difference between commits in work and those that wait
   moves : (f : Item → ℕ) (m : ℕ) → f (Came (Give id entry)) ≡ m → f (Mailed (Give id entry)) ≡ m → f (Working given) ≡ f (Pending given)
       → weigh f now + (m + f (Pending w)) ≡ weigh f s + f (Pending given)
   moves f m a b same =
-      let k : weigh f now + (f was + (f (Pending w) + 0)) ≡ weigh f s + (f (item last) + 0) = change.0 f in
+      let k : weigh f now + (f (in_hand (is_frame (Give id entry) s hand) (Give id entry)) + (f (Pending w) + 0)) ≡ weigh f s + (f (item last) + 0) = change.0 f in
       omega (arith, k, hand_weighs (Give id entry) s hand f m a b, by_bool (λ c. f (item c) ≡ f (Pending given)) same refl last)
 
   its : TidyAt s (Pending w)

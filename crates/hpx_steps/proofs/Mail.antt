@@ -23,15 +23,12 @@ module _ (r : Rules) (s : Turn) (entries : List Entry) (h : IsSound r s entries)
   tidy : IsTidy now
   tidy = holding (TidyAt s) (Mailed p ∷ []) s now change.1 h.tidy (its, tt)
 
-  abbrev seen : View
-  seen = record (view s) { last = Some (Mail (kind_of p)) }
-
   pub mail_keeps : Keeps r s now (Mail (kind_of p))
   mail_keeps = record {
     leads = (
-      seen,
+      (record (view s) { last = Some (Mail (kind_of p)) }),
       follows_mail r (view s) (kind_of p) (ap (map bare_due) due) fresh (kind_low p).0 (kind_low p).1,
-      sees_leads r seen now (grind arith),
+      sees_leads r (record (view s) { last = Some (Mail (kind_of p)) }) now (grind arith),
     );
     tidy = tidy;
     places = h.places;

@@ -143,9 +143,6 @@ module _ (act_of : ℕ → ℕ → ℕ → State → Act → Outcome) (t t' : Ta
     its : TidyAt (at_rest t) (OnDesk p)
     its = h.tidy (OnDesk p) (rw first (inl refl))
 
-    near : is_far t.localities p ≡ false
-    near = (near_right t p right).0
-
     -- its object is of this home
     home_here : (act : Act) → ((to : ℕ) → MayGoTo t.here to p → to ≡ (target_of act).home) → IsAct act → is_far_act t.localities act ≡ false → (target_of act).home ≡ t.here
     home_here act goes shape far =
@@ -159,7 +156,7 @@ module _ (act_of : ℕ → ℕ → ℕ → State → Act → Outcome) (t t' : Ta
 
     -- its action may stay
     stays : (act : Act) → (p ≡ Apply act) ⊎ (p ≡ Move act) → may_stay (record t { desk = rest }) act ≡ true
-    stays act is = each p is near its (near_right t p right).1 (λ to m. m)
+    stays act is = each p is ((near_right t p right).0) its (near_right t p right).1 (λ to m. m)
       where
         each : (q : Parcel) → (q ≡ Apply act) ⊎ (q ≡ Move act) → is_far t.localities q ≡ false → TidyAt (at_rest t) (OnDesk q) → broken_near t q ≡ None
             → ((to : ℕ) → MayGoTo t.here to p → MayGoTo t.here to q) → may_stay (record t { desk = rest }) act ≡ true
@@ -171,7 +168,7 @@ module _ (act_of : ℕ → ℕ → ℕ → State → Act → Outcome) (t t' : Ta
 
     pub desk_leads : ((id : Id) (entry : ℕ) → p ≡ Give id entry → ⊥) → Accepts p (record t { desk = rest }) t' → Leaves p t t' → Leads r (mailed p rest) t' (effects t p)
     desk_leads other accepts = message_leads r t t' rest t.taken [] (p ∷ []) (Some (Mail (kind_of p))) lasts p (inr (refl, refl)) (inl (refl, refl, refl)) its.0
-        near (near_right t p right).1 popped other (λ m. stays) ((same_deals p (record t { desk = rest }) t' stays).1 accepts)
+        ((near_right t p right).0) (near_right t p right).1 popped other (λ m. stays) ((same_deals p (record t { desk = rest }) t' stays).1 accepts)
 
     -- what is done with it is what is done with a message from the desk: its action is accepted
     pub desk_accepts : DealsWith p (record t { desk = rest }) t' → Accepts p (record t { desk = rest }) t'
