@@ -46,8 +46,7 @@ module _ (r : Rules) (s : Turn) (entries : List Entry) (h : IsSound r s entries)
   moves w m n a b c d = omega (arith, drop_moves (Ask id asker entry) s hand w m a b, (mail_change true asker give (with_records records (drops s))).0 w, sent_total w true other asker give n c d)
 
   pub tidy : IsTidy now
-  tidy = holding (TidyAt s) (sent_if true other asker give) s now change.1 h.tidy
-      (mail_tidy s.tables true asker give (λ b. credit) (λ b. sym home) (λ b. brings) (λ b c. tt))
+  tidy = holding (TidyAt s) (sent_if true other asker give) s now change.1 h.tidy (mail_tidy s.tables true asker give (λ b. credit) (λ b. sym home) (λ b. brings) (λ b c. tt))
 
   asked_less : (o : Id) (n : ℕ) → cond other 0 (0 + gives_for o n give) ≤ asks_for s.tables.here o n (Ask id asker entry)
   asked_less o n = if_so other (λ t. rw t (omega arith)) (λ f. rw (f, eq-eqb asker s.tables.here (asker_here s.tables asker near f)) (omega arith))
@@ -165,14 +164,11 @@ module _ (r : Rules) (s : Turn) (entries : List Entry) (h : IsSound r s entries)
       follows_granted r (view s) (bare id) refl home old.count count (tokens grants) (map counted records) (ap (map bare_due) due) fresh
           (was_counted ∙ ap (λ (o : Option Record). option_map_or (λ (x : Record). x.count) o 0) recounts.was) live
           (sum ∙ ap (λ n. old.count + 2 ^ n) (sym h.rules.credit_log)) (subst (λ n. count ≤ n) (sym h.rules.credit_limit) limit) one_owed
-          (record {
-            sums = λ f weight. omega (arith, traded f, ap (λ n. f (owed_token (bare id) n)) h.rules.credit_log, sum_by-cons f);
-          })
+          (record { sums = λ f weight. omega (arith, traded f, ap (λ n. f (owed_token (bare id) n)) h.rules.credit_log, sum_by-cons f) })
           (λ x at. one_recounted id old (Some (raised s.tables.profile old)) s.tables.records records recounts x
           ∙ ap (λ n. cond (same_object x (bare id)) n (count_in (find (is_recorded x) (map counted s.tables.records)))) (ap (λ (x : Record). x.count) raised_is ∙ omega (arith, sum))),
       sees_leads r seen grants sees,
-    )
-        (places_still s.tables id old (Some (raised s.tables.profile old)) records recounts
+    ) (places_still s.tables id old (Some (raised s.tables.profile old)) records recounts
         (λ x is at. subst (StaysAt s.tables.here) (sym raised_is ∙ some_same (raised s.tables.profile old) x is) (at.0, at.1)) h.places)
 
   module _ (records : List Record) (same : count ≡ old.count) (limit : s.tables.profile.credit_limit + 1 < count + 2 ^ s.tables.profile.credit_log)

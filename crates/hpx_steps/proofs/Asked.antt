@@ -123,8 +123,7 @@ module _ (r : Rules) (s : Turn) (entries : List Entry) (h : IsSound r s entries)
   asked_keeps = record {
     leads = (
       seen,
-      follows_asked r (view s) (bare id) refl (tokens now) (view now).asking (view now).asks (ap (map bare_due) due) fresh
-          (token_held s w rest p id 0 works at least.0)
+      follows_asked r (view s) (bare id) refl (tokens now) (view now).asking (view now).asks (ap (map bare_due) due) fresh (token_held s w rest p id 0 works at least.0)
           (record { sums = λ f fair. omega (arith, traded f, sum_by-cons f (held_token (bare id) 0) [], sum_by-cons f (owed_token (bare id) 0) []) }) asked_more asks_more,
       sees_leads r seen now sees,
     );
@@ -155,10 +154,7 @@ module _ (r : Rules) (s : Turn) (entries : List Entry) (h : IsSound r s entries)
         | inl t ↦
             let e : number ≡ n = eqb-true number n t in
             let k : weigh (asks_under n) s ≡ 0 = (once n).1 (omega (arith, e)) in
-            let one : asks_as n ask ≡ 1 = ap one_if t in (
-              omega (arith, moves (asks_under n) (asks_as n ask) refl refl, k, one),
-              λ late. absurd (omega (arith, late, e)),
-            )
+            let one : asks_as n ask ≡ 1 = ap one_if t in (omega (arith, moves (asks_under n) (asks_as n ask) refl refl, k, one), λ late. absurd (omega (arith, late, e)))
         | inr f ↦
             let none : asks_as n ask ≡ 0 = ap one_if f in (
               omega (arith, moves (asks_under n) (asks_as n ask) refl refl, none, (once n).0),

@@ -101,10 +101,7 @@ module _ (t : Tables) where
       drawn = all_among (λ (x : Standing). 16 ≤ x.object.kind → x.object.home ≡ t.here → x.object.number ≤ t.births) t.objects (λ x m. (h.tidy (StandsHere x) m).1);
       unborn = h.places.unborn;
       places = h.places.places;
-      ways = (
-        all_among (IsOnItsWay t.localities t.here) t.outgoing (λ x m. (h.tidy (Going x) m).1),
-        all_among (IsForHere t.localities t.here) t.desk (λ p m. (h.tidy (OnDesk p) m).1),
-      );
+      ways = (all_among (IsOnItsWay t.localities t.here) t.outgoing (λ x m. (h.tidy (Going x) m).1), all_among (IsForHere t.localities t.here) t.desk (λ p m. (h.tidy (OnDesk p) m).1));
       paused = paused;
     }
 
@@ -130,8 +127,7 @@ module _ (t : Tables) where
       orderly = record {
         sent = h.orderly.sent;
         own = all_among (IsOwn t.here t.profile.credit_log) t.desk (λ p m. (h.tidy (OnDesk p) m).2);
-        away = all_among (λ (x : Outgoing). IsOwn t.here t.profile.credit_log x.parcel × FreesNone x.parcel) t.outgoing
-            (λ x m. let k = h.tidy (Going x) m in (k.2, k.3));
+        away = all_among (λ (x : Outgoing). IsOwn t.here t.profile.credit_log x.parcel × FreesNone x.parcel) t.outgoing (λ x m. let k = h.tidy (Going x) m in (k.2, k.3));
         asked = λ o n. omega (arith, h.orderly.asked o n, asked_is t.here o n, waits_is o n);
         given = λ j d o n. omega (arith, h.orderly.given j d o n, given_is j o n);
       };
@@ -165,16 +161,7 @@ module _ (t : Tables) where
     tidies (Running a) m = among_all IsFit a t.running m h.stands.tidy.running
     tidies (Pending w) m =
         let p = among_all (IsPaused t.here t.localities t.profile.credit_log t.objects) w t.pending m h.stands.tidy.paused.each in (
-          record {
-            job = p.job;
-            here = p.here;
-            localities = p.localities;
-            few = p.few;
-            hand = p.hand;
-            within = p.within;
-            refused = p.refused;
-            once = p.once;
-          },
+          record { job = p.job; here = p.here; localities = p.localities; few = p.few; hand = p.hand; within = p.within; refused = p.refused; once = p.once },
           p.split,
           among_all (λ (v : Waits). v.asked ≢ []) w t.pending m h.lacks,
         )
@@ -191,12 +178,7 @@ module _ (t : Tables) where
       rules = rules;
       keeps = subst (λ v. StandsFor r v entries) (sym view_is) h.stands.keeps;
       tidy = tidies;
-      places = record {
-        serves = h.stands.tidy.serves;
-        unborn = h.stands.tidy.unborn;
-        places = h.stands.tidy.places;
-        single = h.stands.tidy.paused.single;
-      };
+      places = record { serves = h.stands.tidy.serves; unborn = h.stands.tidy.unborn; places = h.stands.tidy.places; single = h.stands.tidy.paused.single };
       commits = record {
         each = all_among (HasObject t.objects) t.pending (λ w m.
             let p = among_all (IsPaused t.here t.localities t.profile.credit_log t.objects) w t.pending m h.stands.tidy.paused.each in

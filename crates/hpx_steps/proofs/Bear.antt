@@ -61,8 +61,7 @@ module _ (r : Rules) (s : Turn) (entries : List Entry) (h : IsSound r s entries)
   -- ---- records
 
   found_more : (x : Id) → find_record x (s.tables.records ++ made ∷ []) ≡ cond (same_object x o) (Some made) (find_record x s.tables.records)
-  found_more x = if_so (same_object x o)
-      (λ t. rw t (past s.tables.records t (ap (λ (y : Id). find_record y s.tables.records) (same_object-true x o t) ∙ h.places.unborn o (omega arith))))
+  found_more x = if_so (same_object x o) (λ t. rw t (past s.tables.records t (ap (λ (y : Id). find_record y s.tables.records) (same_object-true x o t) ∙ h.places.unborn o (omega arith))))
       (λ f. rw f (before s.tables.records f))
     where
       past : (rs : List Record) → same_object x o ≡ true → find_record x rs ≡ None → find_record x (rs ++ made ∷ []) ≡ Some made
@@ -84,8 +83,7 @@ module _ (r : Rules) (s : Turn) (entries : List Entry) (h : IsSound r s entries)
         let off : same_object x o ≡ false = false_from (same_object x o) (λ t. let n : x.number ≡ s.tables.births + 1 = ap (λ (y : Id). y.number) (same_object-true x o t) in absurd (omega (arith, n, late))) in
         found_more x ∙ (ap (λ b. cond b (Some made) (find_record x s.tables.records)) off ∙ h.places.unborn x (omega (arith, late)));
     places = λ x y is. at x y (same_object x o) refl (sym (found_more x) ∙ is);
-    single = single_more s.tables.objects new h.places.single
-        (all_among (λ (x : Standing). same_object x.object o ≡ false) s.tables.objects (λ x m. other x (h.tidy (StandsHere x) m)));
+    single = single_more s.tables.objects new h.places.single (all_among (λ (x : Standing). same_object x.object o ≡ false) s.tables.objects (λ x m. other x (h.tidy (StandsHere x) m)));
   }
     where
       at : (x : Id) (y : Record) (b : Bool) → same_object x o ≡ b → cond (same_object x o) (Some made) (find_record x s.tables.records) ≡ Some y → StaysAt s.tables.here y
@@ -110,9 +108,7 @@ module _ (r : Rules) (s : Turn) (entries : List Entry) (h : IsSound r s entries)
       seen,
       follows_born r (view s) o (birth_state make) (map bare_standing s.tables.objects) [] (tokens now) (map counted (s.tables.records ++ made ∷ [])) (ap (map bare_due) due)
           refl refl (fit.least, fit.most) refl refl refl refl fit.state (sym (append-nil (map bare_standing s.tables.objects)))
-          (record {
-            sums = λ f fair. omega (arith, view_worth f, change.0 (worth f), more f, ap (λ n. f (held_token o n)) h.rules.credit_log, sum_by-cons f (held_token o r.credit_log) []);
-          })
+          (record { sums = λ f fair. omega (arith, view_worth f, change.0 (worth f), more f, ap (λ n. f (held_token o n)) h.rules.credit_log, sum_by-cons f (held_token o r.credit_log) []) })
           counts_more,
       sees_leads r seen now (grind (arith, sees_by, map-append, view_asking, asking)),
     );

@@ -21,16 +21,14 @@ no_act o (w ∷ cs) h =
 
 module _ (objects : List Standing) (j : ℕ) (act : Act) (old new : Standing) (stands : slice_get objects j ≡ Some old)
     (same : same_object (target_of act) old.object ≡ true) (name : new.object ≡ old.object) (plain : old.object.kind ≡ 7 → new ≡ old) where
-  found_set : (o : Id) (x : Standing) → (same_object o old.object ≡ true → old.object.kind ≡ 7) → find (is_standing o) objects ≡ Some x
-      → find (is_standing o) (set objects j new) ≡ Some x
+  found_set : (o : Id) (x : Standing) → (same_object o old.object ≡ true → old.object.kind ≡ 7) → find (is_standing o) objects ≡ Some x → find (is_standing o) (set objects j new) ≡ Some x
   found_set o x is_plain found = grind (arith, if_so, set_same, old, find_set)
 
   -- only a plain object has other fired actions
   only_plain : (w : Waits) → keeps (target_of act) w.job.action ≡ false → same_object (target_of w.job.action) old.object ≡ true → old.object.kind ≡ 7
   only_plain w none t = grind arith
 
-  pub each_set : (ws : List Waits) → is_busy (target_of act) (map action_of ws) ≡ false → AllByRecursion (HasObject objects) ws
-      → AllByRecursion (HasObject (set objects j new)) ws
+  pub each_set : (ws : List Waits) → is_busy (target_of act) (map action_of ws) ≡ false → AllByRecursion (HasObject objects) ws → AllByRecursion (HasObject (set objects j new)) ws
   each_set [] none all = tt
   each_set (w ∷ ws) none all =
       let rest = busy_none (target_of act) w.job.action (map action_of ws) none in (
@@ -40,16 +38,13 @@ module _ (objects : List Standing) (j : ℕ) (act : Act) (old new : Standing) (s
 
 -- ---- a commit begins
 
-module _ (objects : List Standing) (running : List Act) (cs : List Waits) (h : HasCommits objects running cs) (i : ℕ) (act : Act)
-    (runs : slice_get running i ≡ Some act) where
+module _ (objects : List Standing) (running : List Act) (cs : List Waits) (h : HasCommits objects running cs) (i : ℕ) (act : Act) (runs : slice_get running i ≡ Some act) where
   split : fired_of running cs ≡ take i running ++ act ∷ (drop (suc i) running ++ map action_of cs)
-  split = ap (λ xs. xs ++ map action_of cs) (split_get running i act runs)
-      ∙ append_assoc (take i running) (act ∷ drop (suc i) running) (map action_of cs)
+  split = ap (λ xs. xs ++ map action_of cs) (split_get running i act runs) ∙ append_assoc (take i running) (act ∷ drop (suc i) running) (map action_of cs)
 
   -- no commit keeps the object of an action that runs busy
   pub runs_alone : is_busy (target_of act) (map action_of cs) ≡ false
-  runs_alone = (busy_parts (target_of act) (drop (suc i) running) (map action_of cs)
-      (busy_parts (target_of act) (take i running) (drop (suc i) running ++ map action_of cs)
+  runs_alone = (busy_parts (target_of act) (drop (suc i) running) (map action_of cs) (busy_parts (target_of act) (take i running) (drop (suc i) running ++ map action_of cs)
       (apart_alone (take i running) act (drop (suc i) running ++ map action_of cs) (subst Apart split h.apart))).1).1
 
   -- so the ids of its object have their credits
@@ -181,8 +176,7 @@ module _ (objects : List Standing) (running : List Act) (l m l' m' : List Waits)
       acts_then = map-append action_of l' (w' ∷ m') ∙ ap (λ (j : Job). map action_of l' ++ j.action ∷ map action_of m') job
 
       as_busy : (o : Id) → is_busy o (map action_of (l' ++ w' ∷ m')) ≡ false → is_busy o (map action_of (l ++ w ∷ m)) ≡ false
-      as_busy o b = ap (is_busy o) (map-append action_of l (w ∷ m))
-          ∙ busy_moved o act (map action_of l) (map action_of m) (map action_of l') (map action_of m')
+      as_busy o b = ap (is_busy o) (map-append action_of l (w ∷ m)) ∙ busy_moved o act (map action_of l) (map action_of m) (map action_of l') (map action_of m')
           (sym (map-append action_of l m) ∙ (ap (map action_of) same ∙ map-append action_of l' m')) (sym (ap (is_busy o) acts_then) ∙ b)
 
       wholes : (xs : List Standing) → AllByRecursion (IsWhole (l ++ w ∷ m)) xs → AllByRecursion (IsWhole (l' ++ w' ∷ m')) xs
@@ -215,8 +209,7 @@ module _ (objects : List Standing) (running : List Act) (cs : List Waits) (i : �
   other : (w : Waits) → acts_on o w.job.action ≡ false → is_standing (target_of w.job.action) x ≡ false
   other w none = grind arith
 
-  each_less : (ws : List Waits) → list_any (λ (w : Waits). acts_on o w.job.action) ws ≡ false → AllByRecursion (HasObject objects) ws
-      → AllByRecursion (HasObject (remove objects i)) ws
+  each_less : (ws : List Waits) → list_any (λ (w : Waits). acts_on o w.job.action) ws ≡ false → AllByRecursion (HasObject objects) ws → AllByRecursion (HasObject (remove objects i)) ws
   each_less [] none all = tt
   each_less (w ∷ ws) none all =
       let rest = none_of (acts_on o w.job.action) (list_any (λ (y : Waits). acts_on o y.job.action) ws) none in (

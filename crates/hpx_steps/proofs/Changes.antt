@@ -108,10 +108,7 @@ module _ {X : Type 0} (c : X → Item) where
   one_comes xs x is = grind arith
 
   pub first_turns : (xs : List X) (x y : X) (rest : List X) → xs ≡ x ∷ rest → Trade c (c x ∷ []) (c y ∷ []) xs (y ∷ rest)
-  first_turns xs x y rest is = record {
-    sums = λ w. omega (arith, ap (sum_by (λ z. w (c z))) is, sum_by-cons (λ z. w (c z)) x rest, sum_by-cons (λ z. w (c z)) y rest);
-    there = turns;
-  }
+  first_turns xs x y rest is = record { sums = λ w. omega (arith, ap (sum_by (λ z. w (c z))) is, sum_by-cons (λ z. w (c z)) x rest, sum_by-cons (λ z. w (c z)) y rest); there = turns }
     where
       turns : (z : X) → Among z (y ∷ rest) → Among z xs ⊎ Among (c z) (c y ∷ [])
       turns z (inl e) = inr (inl (ap c e))
@@ -127,10 +124,7 @@ module _ {X : Type 0} (c : X → Item) where
   }
 
   pub all_come : (xs ys : List X) → xs ≡ [] → Trade c [] (map c ys) xs ys
-  all_come xs ys is = record {
-    sums = λ w. omega (arith, ap (sum_by (λ y. w (c y))) is, total_map c w ys);
-    there = λ y m. inr (among_map c y ys m);
-  }
+  all_come xs ys is = record { sums = λ w. omega (arith, ap (sum_by (λ y. w (c y))) is, total_map c w ys); there = λ y m. inr (among_map c y ys m) }
 
   pub one_goes : (xs : List X) (i : ℕ) (x : X) → slice_get xs i ≡ Some x → Trade c (c x ∷ []) [] xs (remove xs i)
   one_goes xs i x h = record { sums = λ w. omega (arith, less_sum (λ y. w (c y)) xs i x h); there = λ y m. inl (among_removed xs i y m) }

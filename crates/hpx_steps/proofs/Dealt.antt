@@ -101,8 +101,7 @@ halved_tokens hand places within right f =
 -- ---- what is planned
 
 -- ids of right credit weigh as the managed ones among them
-managed_tokens : (f : Token → ℕ) (ids : List Id) → AllByRecursion HasRightCredit ids
-    → sum_by f (tokens_of ids) ≡ sum_by (λ i. sum_by f (tokens_of (i ∷ []))) (managed ids)
+managed_tokens : (f : Token → ℕ) (ids : List Id) → AllByRecursion HasRightCredit ids → sum_by f (tokens_of ids) ≡ sum_by (λ i. sum_by f (tokens_of (i ∷ []))) (managed ids)
 managed_tokens f [] h = refl
 managed_tokens f (id ∷ ids) h = each (is_managed id) refl (managed_tokens f ids h.1)
   where

@@ -56,8 +56,7 @@ module _ (r : Rules) (s : Turn) (entries : List Entry) (h : IsSound r s entries)
     places = h.places;
     commits = record {
       each = h.commits.each;
-      apart = subst Apart (sym (append_assoc s.tables.running (act ∷ []) (map action_of (commits s))))
-          (apart_more s.tables.running act (map action_of (commits s)) h.commits.apart idle);
+      apart = subst Apart (sym (append_assoc s.tables.running (act ∷ []) (map action_of (commits s)))) (apart_more s.tables.running act (map action_of (commits s)) h.commits.apart idle);
       whole = h.commits.whole;
       lent = h.commits.lent;
     };

@@ -27,8 +27,7 @@ module _ (r : Rules) (s : Turn) (entries : List Entry) (h : IsSound r s entries)
   less = record (drops s) { tables = record s.tables { objects = remove s.tables.objects i } }
 
   change : Changes (in_hand (is_frame (Free o) s hand) (Free o) ∷ StandsHere x ∷ []) (map (λ id. Loose id) (with_credit x.state.ids)) s now
-  change = then (was ∷ []) [] (StandsHere x ∷ []) looses s (drops s) now (drop_change (Free o) s hand)
-      (then (StandsHere x ∷ []) [] [] looses (drops s) less now
+  change = then (was ∷ []) [] (StandsHere x ∷ []) looses s (drops s) now (drop_change (Free o) s hand) (then (StandsHere x ∷ []) [] [] looses (drops s) less now
       (objects_change (StandsHere x ∷ []) [] (drops s) (remove s.tables.objects i) (one_goes (λ y. StandsHere y) s.tables.objects i x there))
       (loose_change [] looses less (s.loose ++ with_credit x.state.ids) (more_come (λ y. Loose y) s.loose (with_credit x.state.ids))))
 
@@ -133,12 +132,11 @@ module _ (r : Rules) (s : Turn) (entries : List Entry) (h : IsSound r s entries)
   ]
     where
       dead_one : s.mailed ≡ Free o ∷ [] → 1 ≤ count_by (same_object o) (view s).dead
-      dead_one is = subst (λ ps. 1 ≤ count_by (same_object o) (flat_map parcel_frees (ps ++ (s.tables.desk ++ map (λ (y : Outgoing). y.parcel) s.tables.outgoing)))) (sym is)
-          (omega (
-            arith,
-            sum_by-cons (λ q. cond (same_object o q) 1 0) o (flat_map parcel_frees (s.tables.desk ++ map (λ (y : Outgoing). y.parcel) s.tables.outgoing)),
-            ap {B = ℕ} (λ b. cond b 1 0) (same_object-refl o),
-          ))
+      dead_one is = subst (λ ps. 1 ≤ count_by (same_object o) (flat_map parcel_frees (ps ++ (s.tables.desk ++ map (λ (y : Outgoing). y.parcel) s.tables.outgoing)))) (sym is) (omega (
+        arith,
+        sum_by-cons (λ q. cond (same_object o q) 1 0) o (flat_map parcel_frees (s.tables.desk ++ map (λ (y : Outgoing). y.parcel) s.tables.outgoing)),
+        ap {B = ℕ} (λ b. cond b 1 0) (same_object-refl o),
+      ))
 
   pub freed_keeps : Keeps r s now (Freed o)
   freed_keeps = record {
@@ -173,5 +171,4 @@ module _ (r : Rules) (s : Turn) (entries : List Entry) (h : IsSound r s entries)
       costs = by_rows (λ row. goes r row (Freed o) ≡ owes row (Free o) + causes r row (Freed o)) (omega arith) (omega arith) (omega arith) (omega arith) (omega arith) (omega arith) (omega arith) (λ q. omega arith)
 
 pub freed_step : (r : Rules) (s s' : Turn) (entries : List Entry) (o : Id) → IsSound r s entries → Frees r s o s' → Keeps r s s' (Freed o)
-freed_step r s s' entries o h g = subst (λ x. Keeps r s x (Freed o)) (sym g.now)
-    (freed_keeps r s entries h o g.i g.x g.calm.due g.calm.fresh g.alone g.told g.there g.found g.idle g.unheld)
+freed_step r s s' entries o h g = subst (λ x. Keeps r s x (Freed o)) (sym g.now) (freed_keeps r s entries h o g.i g.x g.calm.due g.calm.fresh g.alone g.told g.there g.found g.idle g.unheld)

@@ -153,8 +153,7 @@ module _ (r : Rules) (s : Turn) (entries : List Entry) (h : IsSound r s entries)
   among_fired : (f : Refusal → ℕ) → f (refusing (bare_act w.job.action)) ≤ sum_by f (map refusing (view s).fired)
   among_fired f = grind (arith, map_sum, commits, fired_sum, less_sum, i, there)
 
-  refused_more : (f : Refusal → ℕ) → sum_by f (refusals_of (commits now))
-      ≤ sum_by f (cond (log == 0) (map refusing (view s).fired) [] ++ refusals_of (commits s))
+  refused_more : (f : Refusal → ℕ) → sum_by f (refusals_of (commits now)) ≤ sum_by f (cond (log == 0) (map refusing (view s).fired) [] ++ refusals_of (commits s))
   refused_more f = omega (
     arith,
     turned_refusals f,
@@ -163,8 +162,7 @@ module _ (r : Rules) (s : Turn) (entries : List Entry) (h : IsSound r s entries)
     sum_by-append f (cond (log == 0) (map refusing (view s).fired) []) (refusals_of (commits s)),
   )
     where
-      each : (b : Bool) → given.refused ≡ cond b (Some (bare id)) w.refused
-          → sum_by f (refusal_of w.job.action given.refused)
+      each : (b : Bool) → given.refused ≡ cond b (Some (bare id)) w.refused → sum_by f (refusal_of w.job.action given.refused)
           ≤ sum_by f (refusal_of w.job.action w.refused) + sum_by f (cond b (map refusing (view s).fired) [])
       each true e = omega (arith, ap (λ o. sum_by f (refusal_of w.job.action o)) e, among_fired f, sum_by-cons f (refusing w.job.action) [])
       each false e = omega (arith, ap (λ o. sum_by f (refusal_of w.job.action o)) e)
@@ -262,5 +260,4 @@ given_step r s s' entries o log h g = subst (λ x. Keeps r s s' (Given x log)) (
     (given_keeps r s entries h g.id g.entry log g.i g.refills.k g.before g.refills.ask g.calm.due g.calm.fresh g.hand g.has g.right g.there g.refills.there g.refills.for))
   where
     again : s' ≡ wrote (Given (bare g.id) log) (goes_on g.i (refilled g.refills.k g.refills.ask.place g.id g.before) (drops s))
-    again = g.now ∙ (ap (λ x. wrote (Given x log) (goes_on g.i g.after (drops s))) g.object
-        ∙ ap (λ v. wrote (Given (bare g.id) log) (goes_on g.i v (drops s))) g.refills.now)
+    again = g.now ∙ (ap (λ x. wrote (Given x log) (goes_on g.i g.after (drops s))) g.object ∙ ap (λ v. wrote (Given (bare g.id) log) (goes_on g.i v (drops s))) g.refills.now)

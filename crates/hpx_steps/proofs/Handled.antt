@@ -45,11 +45,7 @@ ups_steps r s (id ∷ ids) due fresh = each id.log refl (λ t e. ups_steps r (re
         let now : Turn = wrote (Up (bare id) log) (mails id.home (Return id) (with_loose (with_credit ids) s)) in
         let more = rest (with_mail id.home (Return id) s.tables) (Some (Up (bare id) log)) in (
           more.0,
-          (
-            now,
-            record { calm = record { due = due; fresh = fresh }; id = id; rest = with_credit ids; first = refl; object = refl; has = is; now = refl },
-            more.1,
-          ),
+          (now, record { calm = record { due = due; fresh = fresh }; id = id; rest = with_credit ids; first = refl; object = refl; has = is; now = refl }, more.1),
         )
 
 -- ---- what is due is sent and printed
@@ -65,10 +61,7 @@ due_steps r s (MessageDue m ∷ due) fresh =
     )
 due_steps r s (PrintDue bytes ∷ due) fresh =
     let now : Turn = wrote (Print bytes) (record s { due = due }) in
-    let more = due_steps r (record s { last = now.last }) due fresh in (
-      more.0,
-      (now, record { fresh = fresh; rest = due; due = refl; now = refl }, more.1),
-    )
+    let more = due_steps r (record s { last = now.last }) due fresh in (more.0, (now, record { fresh = fresh; rest = due; due = refl; now = refl }, more.1))
 
 -- ---- a message in hand is dealt with
 
@@ -89,17 +82,12 @@ kept_here t act stay = rw stay (simp append-nil)
 
 module _ (r : Rules) (s : Turn) (calm : IsCalm s) (t' : Tables) where
   -- an action that may go on
-  pub act_leads : (act : Act) (p : Parcel) → (p ≡ Apply act) ⊎ (p ≡ Move act) → HasInHand p s → (s.mailed ≢ [] → may_stay s.tables act ≡ true)
-      → t' ≡ with_act act s.tables → Leads r s t' []
+  pub act_leads : (act : Act) (p : Parcel) → (p ≡ Apply act) ⊎ (p ≡ Move act) → HasInHand p s → (s.mailed ≢ [] → may_stay s.tables act ≡ true) → t' ≡ with_act act s.tables → Leads r s t' []
   act_leads act p carries hand stays is = record {
     last = s.last;
     labels = Place ∷ [];
     writes = refl;
-    steps = (
-      record (drops s) { tables = t' },
-      record { act = act; parcel = p; brings = carries; hand = hand; stays = stays; now = ap (λ t. record (drops s) { tables = t }) is },
-      refl,
-    );
+    steps = (record (drops s) { tables = t' }, record { act = act; parcel = p; brings = carries; hand = hand; stays = stays; now = ap (λ t. record (drops s) { tables = t }) is }, refl);
   }
 
   -- ---- records
@@ -134,11 +122,7 @@ module _ (r : Rules) (s : Turn) (calm : IsCalm s) (t' : Tables) where
             home = home_of_live id live;
             has = e;
             sum = omega (arith, was, worth, enough);
-            recounts = record {
-              was = old.1;
-              own = leaves.own ∙ ap (option_and_then (λ (x : Record). lowered x id)) old.1;
-              others = leaves.others;
-            };
+            recounts = record { was = old.1; own = leaves.own ∙ ap (option_and_then (λ (x : Record). lowered x id)) old.1; others = leaves.others };
             now = ap (λ t. record (drops s) { tables = t; last = Some event })
                 (deals ∙ (ap (λ b. record (with_mail_if b (place_or_0 s.tables id) (Free (bare id)) s.tables) { records = t'.records })
                 (sym (same_last (count_here s.tables id) (credit id) (count_here s.tables id - 2 ^ log) (omega (arith, worth, enough))))
@@ -231,8 +215,7 @@ pub record Found (p : Standing → Bool) (xs : List Standing) (x : Standing) : T
 
 found_place : (p : Standing → Bool) (xs : List Standing) (x : Standing) → find p xs ≡ Some x → Found p xs x
 found_place p [] x h = cc
-found_place p (y ∷ ys) x h = if_so (p y)
-    (λ t. record { i = 0; there = rw t at h; less = rw t refl })
+found_place p (y ∷ ys) x h = if_so (p y) (λ t. record { i = 0; there = rw t at h; less = rw t refl })
     (λ f. let k = found_place p ys x (rw f at h) in record { i = suc k.i; there = k.there; less = rw f (ap (λ zs. y ∷ zs) k.less) })
 
 pub freed_leads : (r : Rules) (s : Turn) (t' : Tables) (o : Id) → IsCalm s → s.working ≡ [] → s.loose ≡ [] → IsTold r (Free o) s → broken_free s.tables (Free o) o ≡ None

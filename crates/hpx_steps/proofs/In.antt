@@ -47,13 +47,11 @@ module _ (r : Rules) (s : Turn) (entries : List Entry) (h : IsSound r s entries)
     places = h.places;
     commits = h.commits;
     numbered = numbered_so r s now (In bytes) [] (Came p ∷ []) change.0 (omega arith) (λ n. omega arith);
-    pays = pays_so r s now (In bytes) [] (Came p ∷ []) change.0 (λ row. omega (arith, told (owes row))) (omega (arith, told (owes Actions))) (omega arith)
-        (λ o. rw spelled (omega arith));
+    pays = pays_so r s now (In bytes) [] (Came p ∷ []) change.0 (λ row. omega (arith, told (owes row))) (omega (arith, told (owes Actions))) (omega arith) (λ o. rw spelled (omega arith));
     orders = orders_so r s now (In bytes) [] (Came p ∷ []) change.0 tt
         (λ o n. omega (arith, told (gives_for o n), told (asks_for s.tables.here o n))) (λ j d o n. omega (arith, told (asks_for j o n)));
     counts = counts_near s now (In bytes) refl (omega arith) (omega arith) (omega arith) (omega arith) refl (λ l. refl);
   }
 
 pub in_step : (r : Rules) (s s' : Turn) (entries : List Entry) (bytes : List ℕ) → IsSound r s entries → ComesIn r s bytes s' → Keeps r s s' (In bytes)
-in_step r s s' entries bytes h g = subst (λ x. Keeps r s x (In bytes)) (sym g.now)
-    (in_keeps r s entries h g.parcel bytes g.calm.due g.calm.fresh g.free.came g.spelled g.fit g.none)
+in_step r s s' entries bytes h g = subst (λ x. Keeps r s x (In bytes)) (sym g.now) (in_keeps r s entries h g.parcel bytes g.calm.due g.calm.fresh g.free.came g.spelled g.fit g.none)

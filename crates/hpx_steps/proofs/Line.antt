@@ -34,11 +34,7 @@ module _ (r : Rules) (s : Turn) (entries : List Entry) (h : IsSound r s entries)
 
   pub line_keeps : Keeps r s now (Line name bytes)
   line_keeps = record {
-    leads = (
-      seen,
-      follows_line r (view s) put.front put.back bytes (ap (map bare_due) due) fresh first short put.was,
-      sees_leads r seen now sees,
-    );
+    leads = (seen, follows_line r (view s) put.front put.back bytes (ap (map bare_due) due) fresh first short put.was, sees_leads r seen now sees);
     tidy = holding (TidyAt s) (Accepted act ∷ []) s now change.1 h.tidy ((line_fit name bytes short, tt, h.places.serves first), tt);
     places = h.places;
     commits = h.commits;

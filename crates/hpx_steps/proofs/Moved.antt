@@ -3,8 +3,7 @@ use Rattle.hpx_steps.proofs.Common.{Act, Agree, Bool, Id, Leads, List, Local, Ru
 use Rattle.hpx_steps.proofs.Busy.{bare_middle}
 
 -- what is in one place of the list may be in another
-agree_moved : {K X : Type 0} (test : K → X → Bool) (xs l m l' m' : List X) (x : X) → l ++ m ≡ l' ++ m' → Agree test xs (l ++ x ∷ m)
-    → Agree test xs (l' ++ x ∷ m')
+agree_moved : {K X : Type 0} (test : K → X → Bool) (xs l m l' m' : List X) (x : X) → l ++ m ≡ l' ++ m' → Agree test xs (l ++ x ∷ m) → Agree test xs (l' ++ x ∷ m')
 agree_moved test xs l m l' m' x same agree =
     let counts : (k : _) → count_by (test k) (l ++ m) ≡ count_by (test k) (l' ++ m') = λ k. ap (count_by (test k)) same in record {
       single = agree.single;

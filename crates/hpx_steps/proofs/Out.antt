@@ -57,14 +57,12 @@ module _ (r : Rules) (s : Turn) (entries : List Entry) (h : IsSound r s entries)
     commits = h.commits;
     numbered = numbered_so r s now (Out x.to bytes) (Going x ∷ []) [] change.0 (omega arith) (λ n. omega arith);
     pays = pays_so r s now (Out x.to bytes) (Going x ∷ []) [] change.0 (λ row. omega (arith, told (weight row))) (omega (arith, told brings)) (omega arith) (λ o. omega arith);
-    orders = orders_so r s now (Out x.to bytes) (Going x ∷ []) [] change.0
-        (record { parcel = x.parcel; spelled = spelled; way = its.1; own = its.2; stays = its.3 })
+    orders = orders_so r s now (Out x.to bytes) (Going x ∷ []) [] change.0 (record { parcel = x.parcel; spelled = spelled; way = its.1; own = its.2; stays = its.3 })
         (λ o n. omega (arith, told (asks_for s.tables.here o n))) (λ j d o n. omega (arith, ap (λ k. cond (x.to == j) k 0) (told (gives_for o n))));
     counts = counts_near s now (Out x.to bytes) refl (omega arith) (omega arith) (omega arith) refl (omega arith) (λ l. refl);
   }
 
-pub out_step : (r : Rules) (s s' : Turn) (entries : List Entry) (to : ℕ) (bytes : List ℕ) → IsSound r s entries
-    → GoesOut r s to bytes s' → Keeps r s s' (Out to bytes)
+pub out_step : (r : Rules) (s s' : Turn) (entries : List Entry) (to : ℕ) (bytes : List ℕ) → IsSound r s entries → GoesOut r s to bytes s' → Keeps r s s' (Out to bytes)
 out_step r s s' entries to bytes h g =
     told_as r s s' (λ n. Out n bytes) (λ n. record s { tables = record s.tables { outgoing = g.rest; sent = s.tables.sent + 1 } }) to g.first.to g.place g.now
     (out_keeps r s entries h g.first g.rest bytes g.calm.due g.calm.fresh g.is g.spelled)

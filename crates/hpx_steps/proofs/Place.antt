@@ -91,8 +91,7 @@ module _ (r : Rules) (s : Turn) (entries : List Entry) (h : IsSound r s entries)
   pub place_stills : Stills r s now
   place_stills = record {
     same = refl;
-    leads = leads_on r (view s) seen (view now)
-        (waits_leads r (view s) from_hand.front from_hand.back put.front put.back (bare_act act) same from_hand.is) (sees_leads r seen now sees);
+    leads = leads_on r (view s) seen (view now) (waits_leads r (view s) from_hand.front from_hand.back put.front put.back (bare_act act) same from_hand.is) (sees_leads r seen now sees);
     tidy = holding (TidyAt s) (item ∷ []) s now change.1 h.tidy (put_tidy s.tables act fit, tt);
     places = h.places;
     commits = h.commits;

@@ -36,8 +36,7 @@ module _ (k l log : ℕ) (w : Waits) (n : ℕ) (ask : AskedFor) (id : Id) (entry
   pub asked_no_more : is_asked id ≡ false
   asked_no_more = has_not_asked id (log_of id.log) (some_log id.kind id.log credit)
 
-  once_then : (q : ℕ) → q < length (ids_named w)
-      → count_by (λ (x : AskedFor). x.place == q) (remove w.asked n) ≡ cond (is_asked (id_at (set w.hand ask.place id) q)) 1 0
+  once_then : (q : ℕ) → q < length (ids_named w) → count_by (λ (x : AskedFor). x.place == q) (remove w.asked n) ≡ cond (is_asked (id_at (set w.hand ask.place id) q)) 1 0
   once_then q lt = elim (cases_Bool (ask.place == q)) [
     | inl t ↦
         let e : ask.place ≡ q = eqb-true ask.place q t in

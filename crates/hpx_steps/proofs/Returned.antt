@@ -35,8 +35,7 @@ module _ (r : Rules) (s : Turn) (entries : List Entry) (h : IsSound r s entries)
   was = in_hand (is_frame (Return id) s hand) (Return id)
 
   change : Changes (in_hand (is_frame (Return id) s hand) (Return id) ∷ []) (sent_if (count == 0) (is_other s.tables old.place) old.place (Free (bare id))) s now
-  change = then (was ∷ []) [] [] (sent_if dead other old.place (Free (bare id))) s before now
-      (drop_change (Return id) s hand) (mail_change dead old.place (Free (bare id)) before)
+  change = then (was ∷ []) [] [] (sent_if dead other old.place (Free (bare id))) s before now (drop_change (Return id) s hand) (mail_change dead old.place (Free (bare id)) before)
 
   -- a weight before and after, where messages weigh the same wherever they are
   moves : (w : Item → ℕ) (m n : ℕ) → w (Came (Return id)) ≡ m → w (Mailed (Return id)) ≡ m → w (OnDesk (Free (bare id))) ≡ n
@@ -83,8 +82,7 @@ module _ (r : Rules) (s : Turn) (entries : List Entry) (h : IsSound r s entries)
     failing = omega arith;
   }
     where
-      dies : (x : Id) → weigh (frees_of x) now + frees_of x was
-          ≡ weigh (frees_of x) s + cond dead (count_by (same_object x) (bare id ∷ [])) 0
+      dies : (x : Id) → weigh (frees_of x) now + frees_of x was ≡ weigh (frees_of x) s + cond dead (count_by (same_object x) (bare id ∷ [])) 0
       dies x =
           let w : Item → ℕ = frees_of x in
           let k : weigh w now + (w was + 0) ≡ weigh w s + total w (sent_if dead other old.place (Free (bare id))) = change.0 w in
@@ -143,8 +141,7 @@ module _ (r : Rules) (s : Turn) (entries : List Entry) (h : IsSound r s entries)
           (omega (arith, none dead)) (omega (arith, none dead)) (omega (arith, none dead)) (omega arith) (omega (arith, none dead)) (omega (arith, none dead)) (omega (arith, none dead))
           (λ o. omega (arith, if_last dead (same_object o (bare id))))
 
-pub returned_step : (r : Rules) (s s' : Turn) (entries : List Entry) (o : Id) (count log : ℕ) → IsSound r s entries → TakesBack s o count log s'
-    → Keeps r s s' (Count o count (Returned log))
+pub returned_step : (r : Rules) (s s' : Turn) (entries : List Entry) (o : Id) (count log : ℕ) → IsSound r s entries → TakesBack s o count log s' → Keeps r s s' (Count o count (Returned log))
 returned_step r s s' entries o count log h g =
     told_as r s s' (λ x. Count x count (Returned log)) (λ x. mails_if (count == 0) g.old.place (Free (bare g.id)) (with_records g.records (drops s))) o (bare g.id) g.object g.now
     (returned_keeps r s entries h g.id log count g.old g.records g.calm.due g.calm.fresh g.hand g.home g.has g.sum g.recounts)

@@ -33,26 +33,10 @@ module _ (r : Rules) (v : View) (s : Turn) (sees : Sees v s) where
   seen_shows : (l : Local) → Shows v l → Shows (as_seen v s) l
   seen_shows l h =
       let w = weak.2 l h in record {
-        acts = record {
-          here = w.acts.here;
-          serial = w.acts.serial;
-          waiting = w.acts.waiting;
-          fired = w.acts.fired;
-          due = w.acts.due;
-        };
-        objects = record {
-          number = w.objects.number;
-          objects = w.objects.objects;
-          travels = w.objects.travels;
-          fresh = w.objects.fresh;
-        };
+        acts = record { here = w.acts.here; serial = w.acts.serial; waiting = w.acts.waiting; fired = w.acts.fired; due = w.acts.due };
+        objects = record { number = w.objects.number; objects = w.objects.objects; travels = w.objects.travels; fresh = w.objects.fresh };
         credit = record { tokens = w.credit.tokens; asking = w.credit.asking; asks = w.credit.asks };
-        counts = record {
-          live = w.counts.live;
-          dead = w.counts.dead;
-          refusals = w.counts.refusals;
-          failing = w.counts.failing;
-        };
+        counts = record { live = w.counts.live; dead = w.counts.dead; refusals = w.counts.refusals; failing = w.counts.failing };
         last = h.last;
       }
 

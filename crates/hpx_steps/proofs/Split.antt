@@ -50,11 +50,8 @@ module _ (r : Rules) (s : Turn) (entries : List Entry) (h : IsSound r s entries)
   split_keeps = record {
     leads = (
       seen,
-      follows_split r (view s) (bare id) refl log (tokens now) (ap (map bare_due) due) enough
-          (token_held s w rest p id log works at has)
-          (record {
-            sums = λ f fair. omega (arith, view_worth f, change.0 (worth f), tokens_hand f, sum_by-cons f);
-          }),
+      follows_split r (view s) (bare id) refl log (tokens now) (ap (map bare_due) due) enough (token_held s w rest p id log works at has)
+          (record { sums = λ f fair. omega (arith, view_worth f, change.0 (worth f), tokens_hand f, sum_by-cons f) }),
       sees_leads r seen now sees,
     );
     tidy = holding (TidyAt s) (Working split ∷ []) s now change.1 h.tidy (fit_commit, tt);

@@ -56,8 +56,7 @@ forgets s = record s { last = None }
 pub rest_sound : (r : Rules) (s : Turn) (entries : List Entry) → IsSound r s entries → IsSound r (forgets s) entries
 rest_sound r s entries h = record {
   rules = record { localities = h.rules.localities; credit_log = h.rules.credit_log; credit_limit = h.rules.credit_limit };
-  keeps = subst (StandsFor r (view (forgets s))) (append-nil entries)
-      (grow r (view s) (view (forgets s)) entries [] h.keeps
+  keeps = subst (StandsFor r (view (forgets s))) (append-nil entries) (grow r (view s) (view (forgets s)) entries [] h.keeps
       (weaker_leads r (view s) (view s).tokens (view s).asking (view s).asks (view s).live (view s).dead (view s).refusals (view s).failing
       (λ f weight. refl) (λ x. refl) (λ x. refl) (λ x home. refl) (λ x d. d) (λ x d. d) (omega arith)));
   tidy = h.tidy;

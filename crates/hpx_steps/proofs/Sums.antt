@@ -58,13 +58,11 @@ pub zeros : {X : Type 0} (xs : List X) → sum_by (λ x. 0) xs ≡ 0
 zeros [] = refl
 zeros (x ∷ xs) = omega (arith, sum_by-cons (λ y. 0) x xs, zeros xs)
 
-pub parcels_sum : (w : Parcel → ℕ) (s : Turn) → sum_by w (parcels s)
-    ≡ sum_by w s.came + sum_by w s.mailed + sum_by w s.tables.desk + sum_by (λ (x : Outgoing). w x.parcel) s.tables.outgoing
+pub parcels_sum : (w : Parcel → ℕ) (s : Turn) → sum_by w (parcels s) ≡ sum_by w s.came + sum_by w s.mailed + sum_by w s.tables.desk + sum_by (λ (x : Outgoing). w x.parcel) s.tables.outgoing
 parcels_sum w s = grind (arith, sum_by-append, map_sum)
 
 -- what is seen of messages
-pub seen_sum : {Y : Type 0} (f : Y → ℕ) (h : Parcel → List Y) (s : Turn)
-    → sum_by f (flat_map h (parcels s)) ≡ weigh (by_parcel (λ p. sum_by f (h p))) s
+pub seen_sum : {Y : Type 0} (f : Y → ℕ) (h : Parcel → List Y) (s : Turn) → sum_by f (flat_map h (parcels s)) ≡ weigh (by_parcel (λ p. sum_by f (h p))) s
 seen_sum f h s = search (arith, flat_sum, parcels_sum, zeros)
 
 -- a weight of own messages
@@ -74,8 +72,7 @@ by_own w (OnDesk p) = w p
 by_own w (Going x) = w x.parcel
 by_own w _ = 0
 
-pub own_sum : {Y : Type 0} (f : Y → ℕ) (h : Parcel → List Y) (s : Turn)
-    → sum_by f (flat_map h (own_parcels s)) ≡ weigh (by_own (λ p. sum_by f (h p))) s
+pub own_sum : {Y : Type 0} (f : Y → ℕ) (h : Parcel → List Y) (s : Turn) → sum_by f (flat_map h (own_parcels s)) ≡ weigh (by_own (λ p. sum_by f (h p))) s
 own_sum f h s = search (arith, ℕ, flat_sum, sum_by-append, map_sum, zeros)
 
 -- all tokens

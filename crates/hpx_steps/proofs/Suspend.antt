@@ -25,10 +25,7 @@ module _ (r : Rules) (s : Turn) (entries : List Entry) (h : IsSound r s entries)
   abbrev now : Turn
   now = record s {
     working = waits_with job outcome s.tables.localities [] (record { hand = hand_ids job.state job.action later; places = places }) ∷ s.working;
-    tables = record s.tables {
-      running = remove s.tables.running i;
-      objects = set s.tables.objects j (record { object = x.object; state = bare_state x.state });
-    };
+    tables = record s.tables { running = remove s.tables.running i; objects = set s.tables.objects j (record { object = x.object; state = bare_state x.state }) };
   }
 
   abbrev less : Turn
@@ -107,8 +104,7 @@ module _ (r : Rules) (s : Turn) (entries : List Entry) (h : IsSound r s entries)
   pub suspend_stills : Stills r s now
   suspend_stills = record {
     same = refl;
-    leads = leads_on r (view s) seen (view now)
-        (fired_leads r (view s) (take i s.tables.running) (drop (suc i) s.tables.running ++ acts) (remove s.tables.running i) acts job.action
+    leads = leads_on r (view s) seen (view now) (fired_leads r (view s) (take i s.tables.running) (drop (suc i) s.tables.running ++ acts) (remove s.tables.running i) acts job.action
         (ap (map bare_act) (ap (λ xs. xs ++ acts) (split_get s.tables.running i job.action runs) ∙ append_assoc (take i s.tables.running) (job.action ∷ drop (suc i) s.tables.running) acts))
         (sym (append_assoc (take i s.tables.running) (drop (suc i) s.tables.running) acts)))
         (sees_leads r seen now sees);

@@ -23,8 +23,7 @@ pub record Orders (r : Rules) (s s' : Turn) (e : Event) : Type 0 where
   pub sent : SendsOwn r s.tables.localities s.tables.here s.tables.profile.credit_log e
   pub asked : (o : Id) (n : ℕ) → gone r (asks_for s.tables.here o n) e + weigh (asked_by s.tables.here o n) s' + weigh (waits_for o n) s
       ≤ weigh (asked_by s.tables.here o n) s + weigh (waits_for o n) s' + (come r (gives_for o n) e + come r (asks_for s.tables.here o n) e)
-  pub given : (j : ℕ) → j ≢ s.tables.here → (o : Id) (n : ℕ)
-      → gone_to r j (gives_for o n) e + weigh (given_to j o n) s' ≤ weigh (given_to j o n) s + come r (asks_for j o n) e
+  pub given : (j : ℕ) → j ≢ s.tables.here → (o : Id) (n : ℕ) → gone_to r j (gives_for o n) e + weigh (given_to j o n) s' ≤ weigh (given_to j o n) s + come r (asks_for j o n) e
 
 -- ---- and counts
 
@@ -116,8 +115,13 @@ module _ (r : Rules) (s s' : Turn) (e : Event) (entries : List Entry) (h : IsSou
     answered = rw (k.counts.here, grown_here) (λ clean.
         let first = (clean_front r (at_boot r here) old one clean).0 in
         let l : Local = run_local r (at_boot r here) old in
-        omega (arith, h.numbers.answered first, k.counts.answered l (h.keeps.shows first).acts.fired, ap (λ (x : Local). count_by is_answer x.done) (run_local_append r (at_boot r here) old one),
-        ap (count_by is_answer) (done_is r l e)));
+        omega (
+          arith,
+          h.numbers.answered first,
+          k.counts.answered l (h.keeps.shows first).acts.fired,
+          ap (λ (x : Local). count_by is_answer x.done) (run_local_append r (at_boot r here) old one),
+          ap (count_by is_answer) (done_is r l e),
+        ));
   }
     where
       grown_here : part here (entries ++ one) ≡ old ++ one

@@ -97,15 +97,7 @@ module _ (act_of : ℕ → ℕ → ℕ → State → Act → Outcome) (t t' : Ta
       subst (λ es. Stands act_of t' (entries ++ at_all t.here (In bytes ∷ es))) leads.writes
       (turn_stands act_of t t' entries (Writes (In bytes) ∷ leads.labels) leads.last h (
         came p bytes,
-        record {
-          calm = record { due = refl; fresh = refl };
-          free = record { came = refl; mailed = refl };
-          parcel = p;
-          spelled = spelled;
-          fit = fit;
-          none = none;
-          now = refl;
-        },
+        record { calm = record { due = refl; fresh = refl }; free = record { came = refl; mailed = refl }; parcel = p; spelled = spelled; fit = fit; none = none; now = refl },
         leads.steps,
       ))
 
@@ -126,15 +118,7 @@ module _ (act_of : ℕ → ℕ → ℕ → State → Act → Outcome) (t t' : Ta
       subst (λ es. Stands act_of t' (entries ++ at_all t.here (Mail (kind_of p) ∷ es))) leads.writes
       (turn_stands act_of t t' entries (Writes (Mail (kind_of p)) ∷ leads.labels) leads.last h (
         mailed p rest,
-        record {
-          calm = record { due = refl; fresh = refl };
-          free = record { came = refl; mailed = refl };
-          parcel = p;
-          rest = rest;
-          first = first;
-          sort = refl;
-          now = refl;
-        },
+        record { calm = record { due = refl; fresh = refl }; free = record { came = refl; mailed = refl }; parcel = p; rest = rest; first = first; sort = refl; now = refl },
         leads.steps,
       ))
 

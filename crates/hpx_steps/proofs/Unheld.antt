@@ -50,8 +50,7 @@ module _ (o : Id) where
 
   no_acts : 16 ≤ o.kind → (xs : List Act) → sum_by (act_names o) xs ≡ 0 → list_any (acts_on o) xs ≡ false
   no_acts managed [] h = refl
-  no_acts managed (x ∷ xs) h = if_so (acts_on o x)
-      (λ t. absurd (omega (arith, h, sum_by-cons (act_names o) x xs, one_name managed x x.ids refl t)))
+  no_acts managed (x ∷ xs) h = if_so (acts_on o x) (λ t. absurd (omega (arith, h, sum_by-cons (act_names o) x xs, one_name managed x x.ids refl t)))
       (λ t. rw t (no_acts managed xs (omega (arith, h, sum_by-cons (act_names o) x xs))))
 
   acts_worth : 16 ≤ o.kind → (xs : List Act) → AllByRecursion IsFit xs → sum_by (act_names o) (map bare_act xs) ≤ sum_by (λ (a : Act). credit_in o a.ids) xs
@@ -61,8 +60,7 @@ module _ (o : Id) where
       each [] = omega arith
       each (y ∷ ys) = omega (arith, ids_worth y.ids, each ys, sum_by-cons (λ (a : Act). weighs holds a.ids) y ys, sum_by-cons (λ (a : Act). credit_in o a.ids) y ys)
 
-  parcels_worth : 16 ≤ o.kind → (ps : List Parcel) → AllByRecursion IsParcel ps
-      → sum_by (act_names o) (flat_map parcel_acts ps) ≤ sum_by (λ p. credit_in o (ids_held p)) ps
+  parcels_worth : 16 ≤ o.kind → (ps : List Parcel) → AllByRecursion IsParcel ps → sum_by (act_names o) (flat_map parcel_acts ps) ≤ sum_by (λ p. credit_in o (ids_held p)) ps
   parcels_worth managed [] h = omega arith
   parcels_worth managed (p ∷ ps) h = omega (
     arith,

@@ -132,8 +132,7 @@ halves_steps r s w rest (suc k) p st log due lacks inside has enough =
 -- ---- a hand is split ahead
 
 -- where the log allows none, there is nothing to do
-halves_any : (r : Rules) (s : Turn) (w : Waits) (rest : List Waits) (k p : ℕ) (st : Stock) → s.due ≡ [] → w.asked ≡ [] → p < length st.hand
-    → k ≤ log_of (id_at st.hand p).log
+halves_any : (r : Rules) (s : Turn) (w : Waits) (rest : List Waits) (k p : ℕ) (st : Stock) → s.due ≡ [] → w.asked ≡ [] → p < length st.hand → k ≤ log_of (id_at st.hand p).log
     → (l : Option Event) × Writing r (with_hand w rest st.hand s) (cuts (id_at st.hand p) (suc k)) (record (with_hand w rest (take_halves k p st).hand s) { last = l })
 halves_any r s w rest zero p st due lacks inside enough = (s.last, refl)
 halves_any r s w rest (suc k) p st due lacks inside enough = each (id_at st.hand p).log refl enough
@@ -191,9 +190,11 @@ module _ (r : Rules) (w : Waits) (rest : List Waits) (hand : List Id) (places : 
       let first : cuts (id_at st.hand p) (suc h) ≡ cuts (id_at hand p) (suc (halvings (id_at hand p) (named places p))) = ap (λ x. cuts x (suc h)) here.0 ∙ ap (λ k. cuts (id_at hand p) (suc k)) h_is in
       let all : cuts (id_at st.hand p) (suc h) ++ first_cuts n (p + 1) (drop (p + 1) hand) places ≡ first_cuts (suc n) p (drop p hand) places =
       ap (λ es. es ++ first_cuts n (p + 1) (drop (p + 1) hand) places) first ∙ ap (λ ids. first_cuts (suc n) p ids places) (sym (drop_place p inside)) in
-      let end : Turn = record (with_hand w rest (ahead_from n (p + 1) next).hand s) { last = more.0 } in
-      (more.0, subst (λ es. Writing r (with_hand w rest st.hand s) es end) all
-          (writes_append r (with_hand w rest st.hand s) (record (with_hand w rest next.hand s) { last = one.0 }) end (cuts (id_at st.hand p) (suc h)) (first_cuts n (p + 1) (drop (p + 1) hand) places) one.1 more.1))
+      let end : Turn = record (with_hand w rest (ahead_from n (p + 1) next).hand s) { last = more.0 } in (
+        more.0,
+        subst (λ es. Writing r (with_hand w rest st.hand s) es end) all
+            (writes_append r (with_hand w rest st.hand s) (record (with_hand w rest next.hand s) { last = one.0 }) end (cuts (id_at st.hand p) (suc h)) (first_cuts n (p + 1) (drop (p + 1) hand) places) one.1 more.1),
+      )
 
   pub splits_steps : (s : Turn) (n p : ℕ) (st : Stock) → s.due ≡ [] → p + n ≡ length hand → AreWithin st.hand st.places → length hand ≤ length st.hand → IsAsBefore p hand places st
       → ((q : ℕ) → q < length hand → Lasts (id_at hand q) (named places q))
@@ -214,9 +215,11 @@ module _ (r : Rules) (w : Waits) (rest : List Waits) (hand : List Id) (places : 
       ap (λ x. cuts x (suc h)) here.0 ∙ (ap (λ k. cuts (id_at hand p) k) (plus_one h) ∙ cuts_of (id_at hand p) (named places p) h (ap (λ k. k - 1) here.1)) in
       let all : cuts (id_at st.hand p) (suc h) ++ splits_from (p + 1) (drop (p + 1) hand) places ≡ splits_from p (drop p hand) places =
       ap (λ es. es ++ splits_from (p + 1) (drop (p + 1) hand) places) first ∙ ap (λ ids. splits_from p ids places) (sym (drop_place p inside)) in
-      let end : Turn = record (with_hand w rest (halved_from n (p + 1) next).hand s) { last = more.0 } in
-      (more.0, subst (λ es. Writing r (with_hand w rest st.hand s) es end) all
-          (writes_append r (with_hand w rest st.hand s) (record (with_hand w rest next.hand s) { last = one.0 }) end (cuts (id_at st.hand p) (suc h)) (splits_from (p + 1) (drop (p + 1) hand) places) one.1 more.1))
+      let end : Turn = record (with_hand w rest (halved_from n (p + 1) next).hand s) { last = more.0 } in (
+        more.0,
+        subst (λ es. Writing r (with_hand w rest st.hand s) es end) all
+            (writes_append r (with_hand w rest st.hand s) (record (with_hand w rest next.hand s) { last = one.0 }) end (cuts (id_at st.hand p) (suc h)) (splits_from (p + 1) (drop (p + 1) hand) places) one.1 more.1),
+      )
 
 -- ---- ids are asked for
 
@@ -236,8 +239,7 @@ pub asks_steps : (r : Rules) (s : Turn) (w : Waits) (rest : List Waits) (asked :
       last = l;
       tables = record (with_asks s.tables.here s.tables.asked ids s.tables) { asked = s.tables.asked + length ids };
     })
-asks_steps r s w rest asked [] [] st due fresh can =
-    (s.last, let none : s.tables.asked + 0 ≡ s.tables.asked = omega arith in rw none (simp append-nil))
+asks_steps r s w rest asked [] [] st due fresh can = (s.last, let none : s.tables.asked + 0 ≡ s.tables.asked = omega arith in rw none (simp append-nil))
 asks_steps r s w rest asked [] (id ∷ ids) st due fresh can = absurd can
 asks_steps r s w rest asked (p ∷ ps) [] st due fresh can = absurd can
 asks_steps r s w rest asked (p ∷ ps) (id ∷ ids) st due fresh can =
@@ -265,11 +267,10 @@ asks_steps r s w rest asked (p ∷ ps) (id ∷ ids) st due fresh can =
           least = can.2;
           now = refl;
         },
-        subst (λ hs. Writing r (asking_turn w rest hs (asked ++ ask ∷ []) m) (asked_events ids)
-            (record (asking_turn w rest (stripped ps next).hand (asked ++ ask ∷ asked_at (n + 1) ps) s) {
-              last = more.0;
-              tables = record (with_asks s.tables.here n (id ∷ ids) s.tables) { asked = n + suc (length ids) };
-            })) hand_is
+        subst (λ hs. Writing r (asking_turn w rest hs (asked ++ ask ∷ []) m) (asked_events ids) (record (asking_turn w rest (stripped ps next).hand (asked ++ ask ∷ asked_at (n + 1) ps) s) {
+          last = more.0;
+          tables = record (with_asks s.tables.here n (id ∷ ids) s.tables) { asked = n + suc (length ids) };
+        })) hand_is
             (let sum : (n + 1) + length ids ≡ n + suc (length ids) = omega arith in
             rw (sum, asks_counted s.tables.here (n + 1) (n + 1) ids (with_mail id.home (Ask id s.tables.here (n + 1)) s.tables)) at (simp append_assoc at more.1)),
       ),
