@@ -1,5 +1,5 @@
 -- Between turns all that holds of a turn is what holds of the tables, and the other way round.
-use Rattle.hpx_steps.proofs.Common.{Accepted, Act, Actions, AllByRecursion, AreFired, ArePaused, AreRules, Came, Entry, FreesNone, Going, HasObject, Id, IfSome, IsDue, IsFit, IsForHere, IsKept, IsOnItsWay, IsOwn, IsParcel, IsPaused, IsSound, Item, List, Loose, Mailed, OnDesk, Outgoing, Parcel, Pending, Row, Rules, Running, Standing, StandsAtRest, StandsFor, StandsHere, Tables, TidyAt, Waits, Working, [], all_append, all_parts, append-nil, arith, asked_by, asks_for, at_rest, bare_act, bound_for, freeing, given_to, gives_for, hopping, joined, length, map, messages, move_to, of_act, part, queued, refl, stands_here, subst, sum_by, sum_by-append, sum_by-cons, sym, target_of, true, weigh, weight, ℕ, ◌+◌, ◌∷◌, ◌≡◌, ◌≢◌, ◌≤◌}
+use Rattle.hpx_steps.proofs.Common.{Accepted, Act, Actions, AllByRecursion, AreFired, ArePaused, AreRules, Came, Entry, FreesNone, Going, HasObject, Id, IfSome, IsDue, IsFit, IsForHere, IsKept, IsOnItsWay, IsOwn, IsParcel, IsPaused, IsSound, List, Loose, Mailed, OnDesk, Outgoing, Parcel, Pending, Row, Rules, Running, Standing, StandsAtRest, StandsFor, StandsHere, Tables, Waits, Working, [], all_append, all_parts, append-nil, arith, asked_by, asks_for, at_rest, bare_act, bound_for, freeing, given_to, gives_for, hopping, joined, length, map, messages, move_to, of_act, part, queued, refl, stands_here, subst, sum_by, sum_by-append, sum_by-cons, sym, target_of, true, weigh, weight, ℕ, ◌+◌, ◌∷◌, ◌≡◌, ◌≢◌, ◌≤◌}
 use Rattle.hpx_steps.proofs.Tools.{all_among, among_all, by_rows, long_sum, map_sum, zeros}
 use Rattle.hpx_steps.specs.Rest.{IsTidy, tokens, unpaid, view, waits_for}
 use Rattle.hpx_steps.specs.Rows.{unpaid as turn_unpaid}

@@ -1,5 +1,5 @@
 -- What is done without an entry.
-use Rattle.hpx_steps.proofs.Common.{AllByRecursion, AreFired, AreNumbered, AreNumbers, AreRules, Entry, Event, HasCommits, HasPlaces, Id, IsOrderly, IsPaid, IsSound, IsTidy, Leads, List, None, Row, Rules, SendsOwn, StandsFor, Tables, Turn, [], all_count, ap, append-nil, arith, asked_by, asks_for, come, commits, freeing, given_to, gives_for, gone, grow, hopping, joined, map, part, refl, subst, sym, unpaid, view, waits_for, weaker_leads, weigh, ℕ, ◌+◌, ◌∙◌, ◌∷◌, ◌≡◌, ◌≢◌, ◌≤◌}
+use Rattle.hpx_steps.proofs.Common.{AllByRecursion, AreFired, AreNumbered, AreNumbers, AreRules, Entry, Event, HasCommits, HasPlaces, Id, IsOrderly, IsPaid, IsSound, IsTidy, Leads, List, None, Row, Rules, SendsOwn, StandsFor, Tables, Turn, [], ap, append-nil, arith, asked_by, commits, freeing, given_to, grow, hopping, joined, map, part, refl, subst, sym, unpaid, view, waits_for, weaker_leads, weigh, ℕ, ◌+◌, ◌∙◌, ◌∷◌, ◌≡◌, ◌≢◌, ◌≤◌}
 use Rattle.hpx_steps.proofs.Calm.{SameNumbers}
 
 pub record Stills (r : Rules) (s s' : Turn) : Type 0 where

@@ -1,7 +1,7 @@
 -- A commit in work: its objects are made, its ids are halved and asked for, one after another.
-use Rattle.hpx_steps.proofs.Common.{AllByRecursion, AreWithin, Ask, Asked, AskedFor, Born, Event, HasLeastCredit, Id, IsBirth, Lasts, List, Make, None, Option, Record, Rules, Some, Split, Standing, Steps, Stock, Tables, Turn, Waits, Writes, [], ahead_from, ap, append-nil, append_assoc, arith, asked_at, asked_events, bare, bare_id, birth_of, birth_state, births_of, cuts, cuts_of, drop, drop_at, first_cuts, half, halves_taken, halvings, halvings_have, halvings_need, halvings_same, id_at, ids_named, ids_of, length, length-append, length-set, log_of, map, map-append, named, objects_of, option_map, plus_one, records_of, refl, replaced, session, set, slice_get, splits_from, stripped, subst, suc, sym, take-append-le, take_half, take_halves, with_asks, with_mail, zero, ℕ, ◌++◌, ◌+◌, ◌-◌, ◌<◌, ◌^◌, ◌∙◌, ◌∷◌, ◌≡◌, ◌≤◌}
+use Rattle.hpx_steps.proofs.Common.{AllByRecursion, AreWithin, Ask, Asked, AskedFor, Born, Event, HasLeastCredit, Id, IsBirth, Lasts, List, Make, None, Option, Rules, Some, Split, Stock, Tables, Turn, Waits, [], ahead_from, ap, append-nil, append_assoc, arith, asked_at, asked_events, bare, bare_id, birth_of, birth_state, births_of, cuts, cuts_of, drop, drop_at, first_cuts, half, halves_taken, halvings, halvings_have, halvings_need, halvings_same, id_at, ids_named, ids_of, length, length-append, length-set, log_of, map, named, objects_of, option_map, plus_one, records_of, refl, replaced, session, set, slice_get, splits_from, stripped, subst, suc, sym, take-append-le, take_half, take_halves, with_asks, with_mail, zero, ℕ, ◌++◌, ◌+◌, ◌-◌, ◌<◌, ◌^◌, ◌∙◌, ◌∷◌, ◌≡◌, ◌≤◌}
 use Rattle.hpx_steps.proofs.Tools.{at_place, held_by, ids_append, none_tokens, place_at}
-use Rattle.hpx_steps.proofs.Handled.{Writing, steps_append, writes_append}
+use Rattle.hpx_steps.proofs.Handled.{Writing, writes_append}
 
 -- the first commit in work has this hand
 abbrev pub with_hand : Waits → List Waits → List Id → Turn → Turn
