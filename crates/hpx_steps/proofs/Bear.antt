@@ -1,8 +1,6 @@
 -- A commit makes an object.
 use Rattle.hpx_steps.proofs.Common.{Bears, Bool, Born, Entry, Event, HasPlaces, Id, IsBirth, IsCommit, IsSound, IsTidy, List, Make, None, Option, Record, Rules, Some, Standing, StandsHere, State, StaysAt, TidyAt, Token, Turn, View, Waits, Working, [], ap, append-nil, arith, asking, bare, bare_due, bare_id, bare_standing, birth_of, birth_state, cond, count_by, count_in, counted, false, false_from, find, find_record, follows_born, held_token, id_at, ids_named, inl, is_asked, is_asked_for, is_recorded, is_standing, length, map, map-append, refl, same_object, same_object-true, session, some_same, subst, sum_by, sum_by-cons, sym, take, tokens, tokens_of, true, view, works_on, worth, wrote, ℕ, ◌++◌, ◌+◌, ◌^◌, ◌∙◌, ◌∷◌, ◌≡◌, ◌≤◌}
-use Rattle.hpx_steps.proofs.Tools.{Changes, Keeps, all_among, by_rows, counts_near, first_turns, holding, if_so, more_come, numbered_so, objects_change, orders_so, pays_so, recommit, sees_by, sees_leads, take_place, then, view_asking, view_worth, work_commits, working_change}
-use Rattle.hpx_steps.proofs.Beside.{more_commits}
-use Rattle.hpx_steps.proofs.Objects.{retidy, single_more, stand_more}
+use Rattle.hpx_steps.proofs.Tools.{Changes, Keeps, all_among, by_rows, counts_near, first_turns, holding, if_so, more_come, more_commits, numbered_so, objects_change, orders_so, pays_so, recommit, retidy, sees_by, sees_leads, single_more, stand_more, take_place, then, view_asking, view_worth, work_commits, working_change}
 use Rattle.hpx_steps.proofs.Records.{found_counted}
 
 module _ (r : Rules) (s : Turn) (entries : List Entry) (h : IsSound r s entries) (w : Waits) (rest : List Waits) (make : Make) (hand : List Id) (due : s.due ≡ [])

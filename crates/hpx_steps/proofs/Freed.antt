@@ -1,11 +1,7 @@
 -- A dead object goes.
 use Rattle.hpx_steps.proofs.Common.{Accepted, Act, AllByRecursion, Came, Entry, Follows, Free, Freed, Going, Has, HasInHand, HasRightCredit, Id, IsDue, IsForHere, IsManaged, IsSound, IsTidy, IsTold, Item, List, Loose, Mailed, None, OnDesk, Outgoing, Pending, Row, Rules, Running, Some, Standing, StandsHere, TidyAt, Token, Turn, View, Waits, Working, [], acts_on, any_counted, ap, arith, asked_by, asks_under, bare_act, bare_due, bare_standing, causes, commits, cond, count_by, credit_list, drop, drops, false, false_from, find, find_passes, flat_map, follows_freed_mailed, follows_freed_taken, freeing, given_to, goes, held, held_here, hopping, inl, inr, is_some, is_standing, joined, list_any, map, map-append, owes, parcel_frees, refl, remove, same_object, same_object-from, same_object-refl, same_object-sym, same_object-true, session, slice_get, split_get, subst, suc, sum_by, sum_by-cons, sym, take, target_of, true, unpaid, view, waiting, waits_for, waits_here, weigh, with_credit, worth, wrote, ℕ, ◌++◌, ◌+◌, ◌∙◌, ◌∷◌, ◌≡◌, ◌≤◌}
-use Rattle.hpx_steps.proofs.Tools.{Changes, Keeps, Sees, among_all, among_at, asks_of, by_bool, by_rows, counts_near, drop_change, drop_waits, fewer, frees_of, hand_fit, hand_weighs, holding, ids_each, in_hand, is_frame, loose_change, more_come, none_of, none_sum, objects_change, one_goes, same_asks, same_dead, sees_by, sees_leads, target-bare, then, total, total_map, view_worth, zeros}
+use Rattle.hpx_steps.proofs.Tools.{Changes, Keeps, Sees, all_with, among_all, among_at, asks_of, by_bool, by_rows, counts_near, credit_tokens, drop_change, drop_waits, fewer, freed_whole, frees_now, frees_of, hand_fit, hand_weighs, holding, ids_each, in_hand, is_frame, less_commits, loose_change, more_come, none_of, none_sum, objects_change, one_goes, same_asks, same_dead, sees_by, sees_leads, single_less, stand_less, target-bare, then, total, total_map, view_worth, zeros}
 use Rattle.hpx_steps.specs.Steps.{Frees}
-use Rattle.hpx_steps.proofs.Bare.{all_with, credit_tokens}
-use Rattle.hpx_steps.proofs.Beside.{freed_whole, less_commits}
-use Rattle.hpx_steps.proofs.Objects.{single_less, stand_less}
-use Rattle.hpx_steps.proofs.Then.{frees_now}
 use Rattle.hpx_steps.proofs.Unheld.{none_accepted, none_fired, none_waits}
 
 module _ (r : Rules) (s : Turn) (entries : List Entry) (h : IsSound r s entries) (o : Id) (i : ℕ) (x : Standing) (due : s.due ≡ []) (fresh : s.fresh ≡ []) (alone : s.working ≡ [])

@@ -1,7 +1,6 @@
 -- A frame comes in.
 use Rattle.hpx_steps.proofs.Common.{weighed, Actions, Came, ComesIn, Entry, Id, In, IsParcel, IsSound, IsTidy, List, Outgoing, Parcel, Rules, Some, TidyAt, Turn, View, [], ap, arith, asks_for, bare_act, bare_due, count_by, counts_of, flat_map, follows_in, gives_for, map, owes, parcel_acts, parcel_asks, refl, same_object, subst, sym, tokens, travels_in, view, worth, wrote, ℕ, ◌++◌, ◌+◌, ◌∷◌, ◌≡◌}
-use Rattle.hpx_steps.proofs.Tools.{Changes, Keeps, asks_of, counts_near, holding, numbered_so, one_comes, orders_so, pays_so, seen_sum, sees_by, sees_leads, view_worth}
-use Rattle.hpx_steps.proofs.Changes.{came_change}
+use Rattle.hpx_steps.proofs.Tools.{Changes, Keeps, asks_of, came_change, counts_near, holding, numbered_so, one_comes, orders_so, pays_so, seen_sum, sees_by, sees_leads, view_worth}
 
 module _ (r : Rules) (s : Turn) (entries : List Entry) (h : IsSound r s entries) (p : Parcel) (bytes : List ℕ) (due : s.due ≡ []) (fresh : s.fresh ≡ [])
     (empty : s.came ≡ []) (spelled : r.parcel_of bytes ≡ Some p) (fit : IsParcel p) (none : travels_in (Some p) ≡ []) where

@@ -1,8 +1,6 @@
 -- The first message on the desk is taken up.
 use Rattle.hpx_steps.proofs.Common.{Entry, IsSound, IsTidy, List, Mail, Mailed, OnDesk, Parcel, Rules, Some, TakesUp, TidyAt, Turn, [], ap, arith, bare_due, follows_mail, inl, kind_of, map, refl, subst, sym, view, wrote, ℕ, ◌∷◌, ◌≡◌, ◌≤◌}
-use Rattle.hpx_steps.proofs.Tools.{Changes, Keeps, by_rows, counts_near, first_goes, holding, one_comes, sees_leads, then}
-use Rattle.hpx_steps.proofs.Calm.{numbered_so, orders_so, own_asks, pays_so}
-use Rattle.hpx_steps.proofs.Changes.{desk_change, mailed_change}
+use Rattle.hpx_steps.proofs.Tools.{Changes, Keeps, by_rows, counts_near, desk_change, first_goes, holding, mailed_change, numbered_so, one_comes, orders_so, own_asks, pays_so, sees_leads, then}
 
 kind_low : (p : Parcel) → (1 ≤ kind_of p) × (kind_of p ≤ 10)
 kind_low p = grind arith

@@ -1,8 +1,6 @@
 -- A frame goes out.
 use Rattle.hpx_steps.proofs.Common.{weighed, Act, Entry, FreesNone, GoesOut, Going, IsSound, IsTidy, List, MayGoTo, MayLeave, Out, Outgoing, Parcel, Rules, Some, TidyAt, Turn, View, [], ap, append_assoc, arith, asks_for, bare_due, brings, cond, counts_of, flat_map, follows_out, gives_for, inl, map, parcel_acts, parcel_asks, refl, same_object, tokens, view, weight, worth, wrote, ℕ, ◌++◌, ◌+◌, ◌==◌, ◌∷◌, ◌≡◌}
-use Rattle.hpx_steps.proofs.Tools.{Changes, Keeps, Sees, asks_of, counts_near, first_goes, flat_append, frees_of, holding, numbered_so, orders_so, pays_so, same_dead, seen_sum, sees_by, sees_covers, sees_leads, told_as, view_covered, view_worth}
-use Rattle.hpx_steps.proofs.Changes.{outgoing_change}
-use Rattle.hpx_steps.proofs.Waits.{acts_before}
+use Rattle.hpx_steps.proofs.Tools.{Changes, Keeps, Sees, acts_before, asks_of, counts_near, first_goes, flat_append, frees_of, holding, numbered_so, orders_so, outgoing_change, pays_so, same_dead, seen_sum, sees_by, sees_covers, sees_leads, told_as, view_covered, view_worth}
 
 -- what may go may leave what is seen
 may_leave : (v : View) (to : ℕ) (p : Parcel) → FreesNone p → MayGoTo v.here to p → MayLeave v to p

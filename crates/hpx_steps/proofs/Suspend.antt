@@ -1,9 +1,6 @@
 -- A commit begins: its object and its action put their ids into its hand.
 use Rattle.hpx_steps.proofs.Common.{Act, AllByRecursion, Entry, HasRightCredit, Id, IsCommit, IsFit, IsSound, IsState, IsTidy, Job, List, None, Outcome, Rules, Running, Some, Standing, StandsHere, State, Suspends, TidyAt, Turn, View, Waits, Working, [], action_of, all_append, ap, append_assoc, arith, asked_by, asking, asks_under, bare, bare_act, bare_standing, bare_state, commits, cond, drop, filter, find, find_passes, freeing, given_to, hand_ids, hopping, id_at, is_asked, is_standing, joined, length, length-map, map, names_of, own_ids, refl, remove, same_object, session, set, slice_get, split_get, subst, suc, sum_by, sym, take, take_at, target_of, tokens_of, true, unpaid, view, waits_for, waits_with, worth, ℕ, ◌++◌, ◌<◌, ◌∙◌, ◌∷◌, ◌≡◌, ◌≤◌}
-use Rattle.hpx_steps.proofs.Tools.{Changes, Sees, Stills, among_at, bare_all, fewer, fired_leads, first_comes, front_place, holding, ids_append, leads_on, no_tokens, none_tokens, not_asked, objects_change, one_goes, one_turns, running_change, same_map, sees_leads, single_set, stand_set, then, view_asking, view_worth, working_change}
-use Rattle.hpx_steps.proofs.Bare.{all_none}
-use Rattle.hpx_steps.proofs.Beside.{begin_commits, runs_whole}
-use Rattle.hpx_steps.proofs.Objects.{plain_ids, retidy}
+use Rattle.hpx_steps.proofs.Tools.{Changes, Sees, Stills, all_none, among_at, bare_all, begin_commits, fewer, fired_leads, first_comes, front_place, holding, ids_append, leads_on, no_tokens, none_tokens, not_asked, objects_change, one_goes, one_turns, plain_ids, retidy, running_change, runs_whole, same_map, sees_leads, single_set, stand_set, then, view_asking, view_worth, working_change}
 
 bare_fit : (s : State) → IsState s → IsState (bare_state s)
 bare_fit s h = grind (arith, length-map)

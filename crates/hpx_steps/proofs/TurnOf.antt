@@ -1,10 +1,9 @@
 -- A turn: a message is taken up and dealt with, a frame goes, a line is fed, an action is fired.
 use Rattle.hpx_steps.proofs.Common.{Accepts, Act, Apply, Arrived, Ask, Cached, DealsWith, Entry, Event, Fire, Free, Give, Go, HasInHand, Id, In, IsAct, IsParcel, IsSound, IsTold, Label, Leaves, Line, List, Mail, MayGoTo, Move, None, OnDesk, Option, Out, Outcome, Outgoing, Parcel, Return, Rules, Shipped, Some, Standing, Stands, State, Step, Steps, Tables, TidyAt, Turn, Writes, [], ap, are_far, arith, at_all, at_rest, breaks, broken, broken_act, broken_move, broken_near, effects, false, find, fired_acts, held_here, id_at, if◌then◌else◌, inl, inr, is_busy, is_far, is_far_act, is_standing, kind_of, leaves, length, line_act, may_stay, min, move_to, moves_far, name_of, nat_le, nat_tests, not, parcel_of, refl, remove, rules_of, slice_get, stands_here, subst, suc, sym, target_of, travels_in, true, waits_here, with_act, written, zero, ℕ, ◌&&◌, ◌++◌, ◌+◌, ◌-◌, ◌<◌, ◌==◌, ◌^◌, ◌∙◌, ◌∷◌, ◌≡◌, ◌≢◌, ◌≤◌, ◌⊎◌}
-use Rattle.hpx_steps.proofs.Tools.{none_of}
+use Rattle.hpx_steps.proofs.Tools.{none_of, rest_sound}
 use Rattle.hpx_steps.proofs.Handled.{Leads, act_leads, asked_leads, freed_leads, kept_here, returned_leads}
 use Rattle.hpx_steps.proofs.Right.{go_wrong, near_right, object_wrong, return_right}
 use Rattle.hpx_steps.proofs.Step.{steps_sound}
-use Rattle.hpx_steps.proofs.Still.{rest_sound}
 
 -- where one step after another leads from rest to rest
 pub turn_stands : (act_of : ℕ → ℕ → ℕ → State → Act → Outcome) (t t' : Tables) (entries : List Entry) (labels : List Label) (l : Option Event)
