@@ -87,7 +87,8 @@ held_or_bare o (id ∷ ids) = omega (
 held_states : (o : Id) → 16 ≤ o.kind → (xs : List Standing) → sum_by (λ (y : Standing). count_by (same_object o) y.state.ids) (map bare_standing xs)
     ≡ weighs (held_counts o) (flat_map (λ (x : Standing). x.state.ids) xs) + sum_by (λ (x : Standing). bare_names o x.state.ids) xs
 held_states o managed [] = refl
-held_states o managed (x ∷ xs) = search (arith, sum_by-cons, ids_append, held_or_bare, held_states o managed xs)
+held_states o managed (x ∷ xs) = omega (arith, sum_by-cons (λ (y : Standing). count_by (same_object o) y.state.ids), sum_by-cons (λ (y : Standing). bare_names o y.state.ids), ids_append (held_counts o),
+    held_or_bare o x.state.ids, held_states o managed xs)
 
 -- the same names, with or without credits
 names_bare : (o : Id) (ids : List Id) → count_by (same_object o) (map bare ids) ≡ count_by (same_object o) ids

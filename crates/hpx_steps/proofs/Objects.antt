@@ -8,7 +8,9 @@ module _ (p : Standing → Bool) where
 
   pub stand_set : (xs : List Standing) (j : ℕ) (x y : Standing) → slice_get xs j ≡ Some x → p y ≡ p x → stand xs ≡ true → stand (set xs j y) ≡ true
   stand_set [] j x y at same h = cc
-  stand_set (z ∷ xs) zero x y at same h = grind arith
+  stand_set (z ∷ xs) zero x y at same h =
+      let e : z ≡ x = some_same z x at in
+      if_so (p x) (λ t. rw (same, t) refl) (λ f. rw (same, f) (rw (e, f) at h))
   stand_set (z ∷ xs) (suc j) x y at same h = if_so (p z) (λ t. rw t refl) (λ f. rw f (stand_set xs j x y at same (rw f at h)))
 
   pub stand_more : (xs ys : List Standing) → stand xs ≡ true → stand (xs ++ ys) ≡ true
@@ -37,7 +39,8 @@ module _ (p : Standing → Bool) where
 
   none_set : (xs : List Standing) (j : ℕ) (x y : Standing) → slice_get xs j ≡ Some x → p y ≡ p x → find p xs ≡ None → find p (set xs j y) ≡ None
   none_set [] j x y h same none = cc
-  none_set (z ∷ xs) zero x y h same none = grind arith
+  none_set (z ∷ xs) zero x y h same none = if_so (p z) (λ t. absurd (let e : Some z ≡ None = rw t at none in cc))
+      (λ f. let e : p y ≡ false = same ∙ (ap p (sym (some_same z x h)) ∙ f) in rw e (rw f at none))
   none_set (z ∷ xs) (suc j) x y h same none = if_so (p z) (λ t. absurd (let e : Some z ≡ None = rw t at none in cc)) (λ f. rw f (none_set xs j x y h same (rw f at none)))
 
   none_less : (xs : List Standing) (j : ℕ) → find p xs ≡ None → find p (remove xs j) ≡ None
@@ -87,7 +90,11 @@ single_more (x ∷ xs) y single other = (none_more (is_standing x.object) xs y s
 pub single_found : (xs : List Standing) (j : ℕ) (x : Standing) (o : Id) → Single xs → slice_get xs j ≡ Some x → same_object o x.object ≡ true → find (is_standing o) xs ≡ Some x
 single_found [] j x o single at same = cc
 single_found (z ∷ xs) zero x o single at same = cc
-single_found (z ∷ xs) (suc j) x o single at same = grind (arith, false_from, same_object-sym, same_object-from, single_found xs j x o single.1 at same)
+single_found (z ∷ xs) (suc j) x o single at same =
+    let f : same_object z.object x.object ≡ false = none_passes (is_standing z.object) xs j x single.0 at in
+    let g : same_object o z.object ≡ false =
+    false_from (same_object o z.object) (λ t. let e : true ≡ false = sym (same_object-sym x.object z.object (sym (same_object-from o x.object z.object same) ∙ t)) ∙ f in cc) in
+    rw g (single_found xs j x o single.1 at same)
 
 -- what holds of other objects than the one that is set holds of all
 pub all_but : (P : Standing → Type 0) (xs : List Standing) (j : ℕ) (x y : Standing) → Single xs → slice_get xs j ≡ Some x → P y
