@@ -198,13 +198,5 @@ module _ (t : Tables) where
         asked = λ o n. omega (arith, h.orderly.asked o n, asked_is t.here o n, waits_is o n);
         given = λ j d o n. omega (arith, h.orderly.given j d o n, given_is j o n);
       };
-      numbers = record {
-        born = h.stands.born;
-        few = h.stands.few;
-        asked = h.stands.asked;
-        sent = h.stands.sent;
-        taken = h.stands.taken;
-        few_answers = h.stands.few_answers;
-        answered = h.stands.answered;
-      };
+      numbers = grind arith;
     }

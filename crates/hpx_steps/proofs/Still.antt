@@ -64,13 +64,5 @@ rest_sound r s entries h = record {
   commits = h.commits;
   paid = record { rows = h.paid.rows; once = h.paid.once; fired = h.paid.fired; frees = h.paid.frees };
   orderly = record { sent = h.orderly.sent; asked = h.orderly.asked; given = h.orderly.given };
-  numbers = record {
-    born = h.numbers.born;
-    few = h.numbers.few;
-    asked = h.numbers.asked;
-    sent = h.numbers.sent;
-    taken = h.numbers.taken;
-    few_answers = h.numbers.few_answers;
-    answered = h.numbers.answered;
-  };
+  numbers = grind arith;
 }
