@@ -177,11 +177,7 @@ module _ (r : Rules) (s : Turn) (entries : List Entry) (h : IsSound r s entries)
     };
     orders = record {
       sent = tt;
-      asked = λ o n. omega (
-        arith,
-        stays (asked_by s.tables.here o n) refl refl refl (λ d. refl) (λ i. refl),
-        stays (waits_for o n) (ap (λ ys. count_by (is_asked_for w o n) ys) g.lacks) refl refl (λ d. refl) (λ i. refl),
-      );
+      asked = grind arith;
       given = λ k d o n. omega (arith, stays (given_to k o n) refl refl refl (λ y. refl) (λ i. refl));
     };
     counts = record {

@@ -167,11 +167,7 @@ module _ (r : Rules) (s : Turn) (calm : IsCalm s) (t' : Tables) where
             home = home_of_live id live;
             same = was;
             limit = let l : s.tables.profile.credit_limit < more_here s.tables id = search (arith, nat_tests, e) in omega (arith, l, pow_pos s.tables.profile.credit_log);
-            recounts = record {
-              was = old.1;
-              own = own ∙ ap (λ c. Some (cond c old.0 (record old.0 { count = old.0.count + 2 ^ s.tables.profile.credit_log - 1 }))) (lim ∙ e);
-              others = leaves.others;
-            };
+            recounts = grind arith;
             now = ap (λ t. record (drops s) { tables = t; last = Some event })
                 (deals ∙ ap (λ c. record (with_mail asker (Give (cond c id (record id { log = Some s.tables.profile.credit_log })) entry) s.tables) { records = t'.records }) e);
           })

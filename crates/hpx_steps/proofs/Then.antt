@@ -138,11 +138,7 @@ module _ (r : Rules) (s s' : Turn) (e : Event) (entries : List Entry) (h : IsSou
   -- so all holds still
   pub sound_then : IsSound r s' (entries ++ one)
   sound_then = record {
-    rules = record {
-      localities = h.rules.localities ∙ sym k.counts.localities;
-      credit_log = h.rules.credit_log ∙ ap (λ (p : Profile). p.credit_log) (sym k.counts.profile);
-      credit_limit = h.rules.credit_limit ∙ ap (λ (p : Profile). p.credit_limit) (sym k.counts.profile);
-    };
+    rules = grind arith;
     keeps = grow r (view s) (view s') entries (e ∷ []) h.keeps k.leads;
     tidy = k.tidy;
     places = k.places;
