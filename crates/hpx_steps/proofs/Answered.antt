@@ -69,8 +69,7 @@ module _ (r : Rules) (s : Turn) (entries : List Entry) (h : IsSound r s entries)
   pub dead : (x : Id) → count_by (same_object x) (view now).dead ≤ count_by (same_object x) (view s).dead
   dead x = same_dead x s now (omega (arith, moves (frees_of x) 0 0 refl refl refl refl))
 
-  pub answered_keeps : Leads r (view s) (Count (bare id) count why ∷ []) (view now) → HasPlaces s.tables.here s.tables.births s.tables.objects records
-      → Keeps r s now (Count (bare id) count why)
+  pub answered_keeps : Leads r (view s) (Count (bare id) count why ∷ []) (view now) → HasPlaces s.tables.here s.tables.births s.tables.objects records → Keeps r s now (Count (bare id) count why)
   answered_keeps leads places = record {
     leads = leads;
     tidy = tidy;

@@ -70,8 +70,7 @@ module _ (objects : List Standing) (running : List Act) (cs : List Waits) (h : H
         each_set objects j act x lends stands same refl (λ k. ap (λ ids. record { object = x.object; state = record x.state { ids = ids } }) (ap (map bare) (plain k) ∙ sym (plain k)))
             cs runs_alone h.each,
       );
-      apart = subst (λ a. Apart (remove running i ++ a ∷ map action_of cs)) (sym is)
-          (apart_moved act (take i running) (drop (suc i) running ++ map action_of cs) (remove running i) (map action_of cs)
+      apart = subst (λ a. Apart (remove running i ++ a ∷ map action_of cs)) (sym is) (apart_moved act (take i running) (drop (suc i) running ++ map action_of cs) (remove running i) (map action_of cs)
           (sym (append_assoc (take i running) (drop (suc i) running) (map action_of cs))) (subst Apart split h.apart));
       whole = all_set (IsWhole (w ∷ cs)) objects j lends (wholes objects h.whole) (λ b. lent_whole (busy_none x.object w.job.action (map action_of cs) b).0);
       lent = λ o managed. omega (
@@ -185,8 +184,7 @@ module _ (objects : List Standing) (running : List Act) (l m l' m' : List Waits)
 
 -- ---- an object comes, and one goes
 
-pub more_commits : (objects : List Standing) (running : List Act) (cs : List Waits) (x : Standing) → x.state.ids ≡ [] → HasCommits objects running cs
-    → HasCommits (objects ++ x ∷ []) running cs
+pub more_commits : (objects : List Standing) (running : List Act) (cs : List Waits) (x : Standing) → x.state.ids ≡ [] → HasCommits objects running cs → HasCommits (objects ++ x ∷ []) running cs
 more_commits objects running cs x none h = record {
   each = each cs h.each;
   apart = h.apart;

@@ -86,8 +86,7 @@ apart_moved act l m l' m' same h = apart_more l' act m' (subst Apart same (apart
 
 pub found-bare : (o : Id) (xs : List Standing) (x : Standing) → find (is_standing o) xs ≡ Some x → find (is_standing (bare o)) (map bare_standing xs) ≡ Some (bare_standing x)
 found-bare o [] x h = cc
-found-bare o (y ∷ ys) x h = if_so (is_standing o y) (λ t. rw t (let e : Some y ≡ Some x = rw t at h in ap (λ (z : Option Standing). option_bare z) e))
-    (λ t. rw t (found-bare o ys x (rw t at h)))
+found-bare o (y ∷ ys) x h = if_so (is_standing o y) (λ t. rw t (let e : Some y ≡ Some x = rw t at h in ap (λ (z : Option Standing). option_bare z) e)) (λ t. rw t (found-bare o ys x (rw t at h)))
   where
     option_bare : Option Standing → Option Standing
     option_bare None = None

@@ -21,8 +21,7 @@ module _ (o : Id) (managed : 16 ≤ o.kind) where
   same_kind : (id : Id) → same_object o id ≡ true → 16 ≤ id.kind
   same_kind id h = let e = ap (λ (x : Id). x.kind) (same_object-true o id h) in omega (arith, e, managed)
 
-  one_held : (id : Id) (log : Option ℕ) → MatchOption log (id.kind < 16) (λ x. 16 ≤ id.kind) → (b : Bool) → same_object o id ≡ b
-      → sum_by holds (map held (credit_list id log ++ [])) ≡ cond b 1 0
+  one_held : (id : Id) (log : Option ℕ) → MatchOption log (id.kind < 16) (λ x. 16 ≤ id.kind) → (b : Bool) → same_object o id ≡ b → sum_by holds (map held (credit_list id log ++ [])) ≡ cond b 1 0
   one_held id b right c e = grind arith
 
   -- each id that names o has a held token
@@ -37,8 +36,7 @@ module _ (o : Id) (managed : 16 ≤ o.kind) where
   )
 
   -- so has each of what has ids
-  pub held_each : {X Y : Type 0} (b : X → Y) (n : Y → List Id) (g : X → List Id) → ((x : X) → n (b x) ≡ map bare (g x)) → (xs : List X)
-      → AllByRecursion (λ x. AllByRecursion HasRightCredit (g x)) xs
+  pub held_each : {X Y : Type 0} (b : X → Y) (n : Y → List Id) (g : X → List Id) → ((x : X) → n (b x) ≡ map bare (g x)) → (xs : List X) → AllByRecursion (λ x. AllByRecursion HasRightCredit (g x)) xs
       → sum_by (λ y. names (n y)) (map b xs) ≡ weighs holds (flat_map g xs)
   held_each b n g same [] h = refl
   held_each b n g same (x ∷ xs) h = omega (
@@ -87,8 +85,14 @@ held_or_bare o (id ∷ ids) = omega (
 held_states : (o : Id) → 16 ≤ o.kind → (xs : List Standing) → sum_by (λ (y : Standing). count_by (same_object o) y.state.ids) (map bare_standing xs)
     ≡ weighs (held_counts o) (flat_map (λ (x : Standing). x.state.ids) xs) + sum_by (λ (x : Standing). bare_names o x.state.ids) xs
 held_states o managed [] = refl
-held_states o managed (x ∷ xs) = omega (arith, sum_by-cons (λ (y : Standing). count_by (same_object o) y.state.ids), sum_by-cons (λ (y : Standing). bare_names o y.state.ids), ids_append (held_counts o),
-    held_or_bare o x.state.ids, held_states o managed xs)
+held_states o managed (x ∷ xs) = omega (
+  arith,
+  sum_by-cons (λ (y : Standing). count_by (same_object o) y.state.ids),
+  sum_by-cons (λ (y : Standing). bare_names o y.state.ids),
+  ids_append (held_counts o),
+  held_or_bare o x.state.ids,
+  held_states o managed xs,
+)
 
 -- the same names, with or without credits
 names_bare : (o : Id) (ids : List Id) → count_by (same_object o) (map bare ids) ≡ count_by (same_object o) ids
@@ -109,8 +113,7 @@ bare_asked o managed (id ∷ ids) = elim (cases_Bool (is_asked id)) [
     sum_by-cons (λ x. cond (same_object o x) 1 0) id (filter is_asked ids),
     no_more (same_object o id) (not (is_some id.log)),
   ))
-  | inr f ↦ rw f
-      (omega (arith, bare_asked o managed ids, sum_by-cons (λ (x : Id). cond (same_object o x && not (is_some x.log)) 1 0) id ids, none (same_object o id) (not (is_some id.log)) refl f))
+  | inr f ↦ rw f (omega (arith, bare_asked o managed ids, sum_by-cons (λ (x : Id). cond (same_object o x && not (is_some x.log)) 1 0) id ids, none (same_object o id) (not (is_some id.log)) refl f))
 ]
   where
     no_more : (a b : Bool) → cond (a && b) 1 0 ≤ cond a 1 0

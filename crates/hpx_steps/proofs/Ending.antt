@@ -175,11 +175,7 @@ module _ (r : Rules) (s : Turn) (entries : List Entry) (h : IsSound r s entries)
       fired = omega (arith, stays joined refl refl refl (λ d. refl) (λ i. refl));
       frees = λ o. omega (arith, stays (freeing o) refl refl refl (λ d. refl) (λ i. refl));
     };
-    orders = record {
-      sent = tt;
-      asked = grind arith;
-      given = λ k d o n. omega (arith, stays (given_to k o n) refl refl refl (λ y. refl) (λ i. refl));
-    };
+    orders = record { sent = tt; asked = grind arith; given = λ k d o n. omega (arith, stays (given_to k o n) refl refl refl (λ y. refl) (λ i. refl)) };
     counts = record {
       here = refl;
       localities = refl;

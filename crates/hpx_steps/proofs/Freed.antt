@@ -74,8 +74,7 @@ module _ (r : Rules) (s : Turn) (entries : List Entry) (h : IsSound r s entries)
       let k = h.tidy (Accepted a) m in (
         k.0,
         k.1,
-        other (target_of a) (among_all (λ (b : Act). same_object (target_of b) x.object ≡ false) a s.tables.accepted m
-            (accepted_off s.tables.accepted (none_accepted o s h.tidy bare_o.1 unheld))) k.2,
+        other (target_of a) (among_all (λ (b : Act). same_object (target_of b) x.object ≡ false) a s.tables.accepted m (accepted_off s.tables.accepted (none_accepted o s h.tidy bare_o.1 unheld))) k.2,
       )
   retidied (Came p) m = h.tidy (Came p) m
   retidied (Mailed p) m = h.tidy (Mailed p) m

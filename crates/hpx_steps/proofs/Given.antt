@@ -172,8 +172,7 @@ module _ (r : Rules) (s : Turn) (entries : List Entry) (h : IsSound r s entries)
       long : length (refusals_of (commits now)) + sum_by (λ x. 1) (refusal_of w.job.action w.refused) ≡ length (refusals_of (commits s)) + sum_by (λ x. 1) (refusal_of w.job.action given.refused)
       long = omega (arith, turned_refusals (λ x. 1), long_sum (refusals_of (commits now)), long_sum (refusals_of (commits s)))
 
-      each : (b : Bool) → given.refused ≡ cond b (Some (bare id)) w.refused
-          → length (refusals_of (commits now)) ≤ cond b (length (refusals_of (commits s)) + 1) (length (refusals_of (commits s)))
+      each : (b : Bool) → given.refused ≡ cond b (Some (bare id)) w.refused → length (refusals_of (commits now)) ≤ cond b (length (refusals_of (commits s)) + 1) (length (refusals_of (commits s)))
       each true e = omega (arith, long, ap (λ o. sum_by (λ x. 1) (refusal_of w.job.action o)) e, sum_by-cons (λ x. 1) (refusing w.job.action) [])
       each false e = omega (arith, long, ap (λ o. sum_by (λ x. 1) (refusal_of w.job.action o)) e)
 
@@ -212,8 +211,7 @@ module _ (r : Rules) (s : Turn) (entries : List Entry) (h : IsSound r s entries)
       follows_given r (view s) (bare id) refl log (tokens now) (view now).asking (view now).asks (ap (map bare_due) due) fresh
           (subst (λ c. (log ≡ 0) ⊎ (log ≡ c)) (sym h.rules.credit_log) right) one_owed
           (record { sums = λ f fair. omega (arith, traded f, sum_by-cons f (owed_token (bare id) log) [], sum_by-cons f (held_token (bare id) log) []) }) asking_less asks_less,
-      leads_on r told seen (view now)
-          (fired_leads r told (s.tables.running ++ map action_of k.l) (map action_of k.m) (s.tables.running ++ map action_of k.l') (map action_of k.m') w.job.action
+      leads_on r told seen (view now) (fired_leads r told (s.tables.running ++ map action_of k.l) (map action_of k.m) (s.tables.running ++ map action_of k.l') (map action_of k.m') w.job.action
           (ap (λ ws. map bare_act (fired_of s.tables.running ws)) k.was
           ∙ ap (map bare_act) (was_fired s.tables.objects s.tables.running k.l k.m k.l' k.m' w given refl k.same))
           (same_fired s.tables.objects s.tables.running k.l k.m k.l' k.m' w given refl k.same))

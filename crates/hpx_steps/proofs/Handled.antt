@@ -31,8 +31,7 @@ with_loose ids s = record s { loose = ids }
 abbrev pub let_go : List Id → Option Event → Turn → Turn
 let_go ids l s = record s { loose = []; tables = with_returns ids s.tables; last = l }
 
-pub ups_steps : (r : Rules) (s : Turn) (ids : List Id) → s.due ≡ [] → s.fresh ≡ []
-    → (l : Option Event) × Steps r (with_loose (with_credit ids) s) (map (λ e. Writes e) (ups ids)) (let_go ids l s)
+pub ups_steps : (r : Rules) (s : Turn) (ids : List Id) → s.due ≡ [] → s.fresh ≡ [] → (l : Option Event) × Steps r (with_loose (with_credit ids) s) (map (λ e. Writes e) (ups ids)) (let_go ids l s)
 ups_steps r s [] due fresh = (s.last, refl)
 ups_steps r s (id ∷ ids) due fresh = each id.log refl (λ t e. ups_steps r (record s { tables = t; last = e }) ids due fresh)
   where
@@ -123,8 +122,7 @@ module _ (r : Rules) (s : Turn) (calm : IsCalm s) (t' : Tables) where
             has = e;
             sum = omega (arith, was, worth, enough);
             recounts = record { was = old.1; own = leaves.own ∙ ap (option_and_then (λ (x : Record). lowered x id)) old.1; others = leaves.others };
-            now = ap (λ t. record (drops s) { tables = t; last = Some event })
-                (deals ∙ (ap (λ b. record (with_mail_if b (place_or_0 s.tables id) (Free (bare id)) s.tables) { records = t'.records })
+            now = ap (λ t. record (drops s) { tables = t; last = Some event }) (deals ∙ (ap (λ b. record (with_mail_if b (place_or_0 s.tables id) (Free (bare id)) s.tables) { records = t'.records })
                 (sym (same_last (count_here s.tables id) (credit id) (count_here s.tables id - 2 ^ log) (omega (arith, worth, enough))))
                 ∙ ap (λ (o : Option Record). record (with_mail_if ((count_here s.tables id - 2 ^ log) == 0) (option_map_or (λ (x : Record). x.place) o 0) (Free (bare id)) s.tables) { records = t'.records }) old.1));
           })

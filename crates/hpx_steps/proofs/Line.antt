@@ -15,8 +15,7 @@ module _ (r : Rules) (s : Turn) (entries : List Entry) (h : IsSound r s entries)
   act = line_act name bytes
 
   abbrev now : Turn
-  now = wrote (Line (record { origin = s.tables.here; serial = s.tables.serial + 1 }) bytes)
-      (posts (line_act (record { origin = s.tables.here; serial = s.tables.serial + 1 }) bytes) (draws s))
+  now = wrote (Line (record { origin = s.tables.here; serial = s.tables.serial + 1 }) bytes) (posts (line_act (record { origin = s.tables.here; serial = s.tables.serial + 1 }) bytes) (draws s))
 
   -- the session stands here, so the line is accepted
   change : Changes [] (Accepted (line_act (record { origin = s.tables.here; serial = s.tables.serial + 1 }) bytes) ∷ []) s now

@@ -73,8 +73,20 @@ by_own w (Going x) = w x.parcel
 by_own w _ = 0
 
 pub own_sum : {Y : Type 0} (f : Y → ℕ) (h : Parcel → List Y) (s : Turn) → sum_by f (flat_map h (own_parcels s)) ≡ weigh (by_own (λ p. sum_by f (h p))) s
-own_sum f h s = omega (arith, flat_sum f h (own_parcels s), sum_by-append (λ p. sum_by f (h p)), map_sum (λ p. sum_by f (h p)) (λ (x : Outgoing). x.parcel), zeros s.came,
-    zeros s.tables.accepted, zeros s.tables.running, zeros s.tables.pending, zeros s.working, zeros s.tables.objects, zeros s.due, zeros s.loose)
+own_sum f h s = omega (
+  arith,
+  flat_sum f h (own_parcels s),
+  sum_by-append (λ p. sum_by f (h p)),
+  map_sum (λ p. sum_by f (h p)) (λ (x : Outgoing). x.parcel),
+  zeros s.came,
+  zeros s.tables.accepted,
+  zeros s.tables.running,
+  zeros s.tables.pending,
+  zeros s.working,
+  zeros s.tables.objects,
+  zeros s.due,
+  zeros s.loose,
+)
 
 -- all tokens
 pub view_worth : (f : Token → ℕ) (s : Turn) → sum_by f (tokens s) ≡ weigh (worth f) s

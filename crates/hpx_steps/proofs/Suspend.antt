@@ -123,5 +123,4 @@ module _ (r : Rules) (s : Turn) (entries : List Entry) (h : IsSound r s entries)
   }
 
 pub suspend_step : (r : Rules) (s s' : Turn) (entries : List Entry) → IsSound r s entries → Suspends s s' → Stills r s s'
-suspend_step r s s' entries h g = subst (Stills r s) (sym g.now)
-    (suspend_stills r s entries h g.i g.j g.job g.outcome g.x g.runs g.stands g.found g.here g.kind g.state g.few g.later g.none g.places)
+suspend_step r s s' entries h g = subst (Stills r s) (sym g.now) (suspend_stills r s entries h g.i g.j g.job g.outcome g.x g.runs g.stands g.found g.here g.kind g.state g.few g.later g.none g.places)

@@ -98,8 +98,7 @@ module _ (r : Rules) (s s' : Turn) (e : Event) (entries : List Entry) (h : IsSou
       let sends : AllByRecursion (λ (x : Entry). SendsOwn r s.tables.localities here s.tables.profile.credit_log x.event) (old ++ one) =
       all_append (λ (x : Entry). SendsOwn r s.tables.localities here s.tables.profile.credit_log x.event) old one h.orderly.sent (k.orders.sent, tt) in record {
         sent = rw (k.counts.localities, k.counts.here, k.counts.profile) sends;
-        asked = λ o n. rw k.counts.here
-            (omega (arith, h.orderly.asked o n, k.orders.asked o n, more (gone r (asks_for here o n)), more (come r (gives_for o n)), more (come r (asks_for here o n))));
+        asked = λ o n. rw k.counts.here (omega (arith, h.orderly.asked o n, k.orders.asked o n, more (gone r (asks_for here o n)), more (come r (gives_for o n)), more (come r (asks_for here o n))));
         given = λ j d o n. let d' : j ≢ here = λ i. d (i ∙ sym k.counts.here) in
             omega (arith, h.orderly.given j d' o n, k.orders.given j d' o n, more (gone_to r j (gives_for o n)), more (come r (asks_for j o n)));
       }

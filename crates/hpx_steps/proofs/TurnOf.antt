@@ -171,8 +171,7 @@ module _ (act_of : ℕ → ℕ → ℕ → State → Act → Outcome) (t t' : Ta
     now = ap (λ u. record (at_rest u) { last = Some (Out x.to bytes) }) now;
   })
 
-  pub line_stands : (bytes : List ℕ) → t.here ≡ 0 → length bytes ≤ 1025
-      → t' ≡ with_act (line_act (record { origin = t.here; serial = t.serial + 1 }) bytes) (record t { serial = t.serial + 1 })
+  pub line_stands : (bytes : List ℕ) → t.here ≡ 0 → length bytes ≤ 1025 → t' ≡ with_act (line_act (record { origin = t.here; serial = t.serial + 1 }) bytes) (record t { serial = t.serial + 1 })
       → Stands act_of t' (entries ++ at_all t.here (Line (record { origin = t.here; serial = t.serial + 1 }) bytes ∷ []))
   line_stands bytes here short now =
       let e : Event = Line (record { origin = t.here; serial = t.serial + 1 }) bytes in one_stands act_of t t' entries e h

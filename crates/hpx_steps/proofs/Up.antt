@@ -50,8 +50,7 @@ module _ (r : Rules) (s : Turn) (entries : List Entry) (h : IsSound r s entries)
         sum_by-cons (λ x. worth (counts_of (same_token (held_token (bare id) log))) (Loose x)) id rest,
         held_by (counts_of (same_token (held_token (bare id) log))) id log has,
         counts_true (same_token (held_token (bare id) log)) (held_token (bare id) log) (token_own (held_token (bare id) log)),
-      ))
-          (record { sums = λ f weight. omega (arith, traded f, sum_by-cons f (held_token (bare id) log) [], sum_by-cons f (owed_token (bare id) log) []) })
+      )) (record { sums = λ f weight. omega (arith, traded f, sum_by-cons f (held_token (bare id) log) [], sum_by-cons f (owed_token (bare id) log) []) })
           (λ before. sees_covers r seen now sees (view_covered now tidy h.commits.lent)),
       sees_leads r seen now sees,
     );

@@ -90,8 +90,7 @@ births_steps r s w rest front (y ∷ ys) back before (x ∷ xs) due lacks makes 
 -- ---- an id is halved
 
 -- as often, one half behind all each time
-pub halves_steps : (r : Rules) (s : Turn) (w : Waits) (rest : List Waits) (k p : ℕ) (st : Stock) (log : ℕ) → s.due ≡ [] → w.asked ≡ [] → p < length st.hand
-    → (id_at st.hand p).log ≡ Some log → k ≤ log
+pub halves_steps : (r : Rules) (s : Turn) (w : Waits) (rest : List Waits) (k p : ℕ) (st : Stock) (log : ℕ) → s.due ≡ [] → w.asked ≡ [] → p < length st.hand → (id_at st.hand p).log ≡ Some log → k ≤ log
     → (l : Option Event) × Writing r (with_hand w rest st.hand s) (cuts (id_at st.hand p) (suc k)) (record (with_hand w rest (take_halves k p st).hand s) { last = l })
 halves_steps r s w rest zero p st log due lacks inside has enough = (s.last, refl)
 halves_steps r s w rest (suc k) p st log due lacks inside has enough =
@@ -270,8 +269,7 @@ asks_steps r s w rest asked (p ∷ ps) (id ∷ ids) st due fresh can =
         subst (λ hs. Writing r (asking_turn w rest hs (asked ++ ask ∷ []) m) (asked_events ids) (record (asking_turn w rest (stripped ps next).hand (asked ++ ask ∷ asked_at (n + 1) ps) s) {
           last = more.0;
           tables = record (with_asks s.tables.here n (id ∷ ids) s.tables) { asked = n + suc (length ids) };
-        })) hand_is
-            (let sum : (n + 1) + length ids ≡ n + suc (length ids) = omega arith in
+        })) hand_is (let sum : (n + 1) + length ids ≡ n + suc (length ids) = omega arith in
             rw (sum, asks_counted s.tables.here (n + 1) (n + 1) ids (with_mail id.home (Ask id s.tables.here (n + 1)) s.tables)) at (simp append_assoc at more.1)),
       ),
     )
