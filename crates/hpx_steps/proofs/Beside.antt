@@ -17,6 +17,12 @@ no_act o (w ∷ cs) h =
     let k = none_of (acts_on o w.job.action) (list_any (λ (y : Waits). acts_on o y.job.action) cs) h in
     none_busy o w.job.action (map action_of cs) (ap (cond (o.kind == 7) false) k.0 ∙ never (o.kind == 7)) (no_act o cs k.1)
 
+-- what is whole is so beside commits that keep no less busy
+wholes : (cs cs' : List Waits) → ((o : Id) → is_busy o (map action_of cs') ≡ false → is_busy o (map action_of cs) ≡ false) → (xs : List Standing) → AllByRecursion (IsWhole cs) xs
+    → AllByRecursion (IsWhole cs') xs
+wholes cs cs' busy [] all = tt
+wholes cs cs' busy (y ∷ ys) all = ((λ b. all.0 (busy y.object b)), wholes cs cs' busy ys all.1)
+
 -- ---- an object has another state
 
 module _ (objects : List Standing) (j : ℕ) (act : Act) (old new : Standing) (stands : slice_get objects j ≡ Some old)
@@ -72,7 +78,7 @@ module _ (objects : List Standing) (running : List Act) (cs : List Waits) (h : H
       );
       apart = subst (λ a. Apart (remove running i ++ a ∷ map action_of cs)) (sym is) (apart_moved act (take i running) (drop (suc i) running ++ map action_of cs) (remove running i) (map action_of cs)
           (sym (append_assoc (take i running) (drop (suc i) running) (map action_of cs))) (subst Apart split h.apart));
-      whole = all_set (IsWhole (w ∷ cs)) objects j lends (wholes objects h.whole) (λ b. lent_whole (busy_none x.object w.job.action (map action_of cs) b).0);
+      whole = all_set (IsWhole (w ∷ cs)) objects j lends (wholes cs (w ∷ cs) (λ o b. (busy_none o w.job.action (map action_of cs) b).1) objects h.whole) (λ b. lent_whole (busy_none x.object w.job.action (map action_of cs) b).0);
       lent = λ o managed. omega (
         arith,
         h.lent o managed,
@@ -84,10 +90,6 @@ module _ (objects : List Standing) (running : List Act) (cs : List Waits) (h : H
       );
     }
       where
-        wholes : (xs : List Standing) → AllByRecursion (IsWhole cs) xs → AllByRecursion (IsWhole (w ∷ cs)) xs
-        wholes [] all = tt
-        wholes (y ∷ ys) all = ((λ b. all.0 (busy_none y.object w.job.action (map action_of cs) b).1), wholes ys all.1)
-
         -- what is not busy is plain, and has no ids
         lent_whole : keeps x.object w.job.action ≡ false → AllByRecursion HasRightCredit (map bare x.state.ids)
         lent_whole free = subst (λ ids. AllByRecursion HasRightCredit (map bare ids)) (sym (plain (at (x.object.kind == 7) refl free))) tt
@@ -160,7 +162,7 @@ module _ (objects : List Standing) (running : List Act) (l m l' m' : List Waits)
         (record { standing = parts.1.0.standing; found = parts.1.0.found; kind = parts.1.0.kind; state = parts.1.0.state }) in
         all_append (HasObject objects) l' (w' ∷ m') rest.0 (on, rest.1);
     apart = subst Apart (sym is_fired) (apart_moved act (running ++ map action_of l) (map action_of m) (running ++ map action_of l') (map action_of m') same_fired (subst Apart was_fired h.apart));
-    whole = wholes objects h.whole;
+    whole = wholes (l ++ w ∷ m) (l' ++ w' ∷ m') as_busy objects h.whole;
     lent = λ o managed. omega (
       arith,
       h.lent o managed,
@@ -177,10 +179,6 @@ module _ (objects : List Standing) (running : List Act) (l m l' m' : List Waits)
       as_busy : (o : Id) → is_busy o (map action_of (l' ++ w' ∷ m')) ≡ false → is_busy o (map action_of (l ++ w ∷ m)) ≡ false
       as_busy o b = ap (is_busy o) (map-append action_of l (w ∷ m)) ∙ busy_moved o act (map action_of l) (map action_of m) (map action_of l') (map action_of m')
           (sym (map-append action_of l m) ∙ (ap (map action_of) same ∙ map-append action_of l' m')) (sym (ap (is_busy o) acts_then) ∙ b)
-
-      wholes : (xs : List Standing) → AllByRecursion (IsWhole (l ++ w ∷ m)) xs → AllByRecursion (IsWhole (l' ++ w' ∷ m')) xs
-      wholes [] all = tt
-      wholes (y ∷ ys) all = ((λ b. all.0 (as_busy y.object b)), wholes ys all.1)
 
 -- ---- an object comes, and one goes
 

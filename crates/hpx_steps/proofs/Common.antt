@@ -17,7 +17,6 @@ pub use Rattle.hpx_value.specs.Shapes.{IsAct, IsState}
 pub use Rattle.hpx_value.specs.Values.{bare_act, bare_message, bare_state, named as named_act}
 pub use Rattle.hpx_value.specs.declared.acts.Job.{Job}
 pub use Rattle.hpx_value.specs.declared.outcome.Make.{Make}
-pub use Rattle.hpx_value.specs.declared.profile.Profile.{Profile}
 pub use Rattle.hpx_parcel.specs.Credits.{Credit, credit_list, credits_of}
 pub use Rattle.hpx_parcel.specs.Parcels.{HasCredit, HasLeastCredit, HasRightCredit, IsApplied, IsMove, IsParcel}
 pub use Rattle.hpx_parcel.specs.Reading.{parcel_of}

@@ -1,5 +1,5 @@
 -- An action ends: what holds of what it leaves, and that it is done, or fails.
-use Rattle.hpx_steps.proofs.Common.{Act, Agree, Agree-found, AllByRecursion, AreMade, AskedFor, Bool, Commits, Done, Due, Ends, Entry, Event, Fails, HasCommits, HasPlaces, Id, IsCommit, IsDue, IsSound, IsTidy, Item, Leads, List, Loose, Name, Option, Refusal, Remains, Row, Rules, Some, Standing, StandsHere, State, TidyAt, Token, Turn, View, Waits, Working, [], action_of, all_append, answered_by, any_counted, ap, arith, asked_by, asking, asks_under, bare, bare_act, bare_due, bare_standing, bare_state, causes, commits, cond, count_by, count_in, counted_any, counts_of, drop, due_ids, due_of, ends, failure, false, filter, find, find_passes, fired_of, follows_done, follows_fail, freeing, given_to, goes, hopping, id_at, ids_named, inl, is_act, is_answer, is_asked, is_asked_for, is_recorded, is_standing, joined, length, length-append, list_any, map, map-append, means, name_of, names_of, option_to_list, own, own_ids, refl, refusal_of, refusals_of, same_name-refl, same_object, same_refusal, session, set, some_same, split_get, split_set, state_after, subst, suc, sum_by, sum_by-append, sum_by-cons, sym, take, target_of, tokens, tokens_of, true, unpaid, view, waits_for, weigh, worth, wrote, zero, ℕ, ◌&&◌, ◌++◌, ◌+◌, ◌<◌, ◌==◌, ◌||◌, ◌∙◌, ◌∷◌, ◌≡◌, ◌≤◌}
+use Rattle.hpx_steps.proofs.Common.{Act, Agree, Agree-found, AllByRecursion, AreMade, AskedFor, Bool, Commits, Done, Due, Ends, Entry, Event, Fails, HasCommits, HasPlaces, Id, IsCommit, IsDue, IsSound, IsTidy, Item, Leads, List, Loose, Name, Option, Refusal, Remains, Row, Rules, Some, Standing, StandsHere, State, TidyAt, Token, Turn, View, Waits, Working, [], action_of, all_append, answered_by, any_counted, ap, arith, asking, asks_under, bare, bare_act, bare_due, bare_standing, bare_state, causes, commits, cond, count_by, count_in, counted_any, counts_of, drop, due_ids, due_of, ends, failure, false, filter, find, find_passes, fired_of, follows_done, follows_fail, freeing, given_to, goes, hopping, id_at, ids_named, inl, is_act, is_answer, is_asked, is_recorded, is_standing, joined, length, length-append, list_any, map, map-append, means, name_of, names_of, option_to_list, own, own_ids, refl, refusal_of, refusals_of, same_name-refl, same_object, same_refusal, session, set, some_same, split_get, split_set, state_after, subst, suc, sum_by, sum_by-append, sum_by-cons, sym, take, target_of, tokens, tokens_of, true, unpaid, view, weigh, worth, wrote, zero, ℕ, ◌&&◌, ◌++◌, ◌+◌, ◌<◌, ◌==◌, ◌||◌, ◌∙◌, ◌∷◌, ◌≡◌, ◌≤◌}
 use Rattle.hpx_steps.proofs.Tools.{Changes, Keeps, Sees, all_come, among_at, as_seen, bare_all, bare_lent, by_rows, due_change, end_commits, fewer, first_goes, found-bare, holding, ids_each, ids_flat, loose_change, more_come, no_tokens, none_sum, objects_change, one_turns, retidy, same_map, sees_covers, sees_leads, single_set, stand_set, target-bare, then, told_as, total, total_append, total_map, view_asking, view_covered, view_worth, working_change}
 
 any_bare : (o : Id) (ids : List Id) → list_any (same_object o) (map bare ids) ≡ list_any (same_object o) ids

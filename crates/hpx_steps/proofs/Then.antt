@@ -1,5 +1,5 @@
 -- One more entry: what has to be shown of it once, for all that holds of a locality and its part.
-use Rattle.hpx_steps.proofs.Common.{Actions, Agree, AllByRecursion, AreFired, AreNumbered, AreNumbers, Entry, Event, HasCommits, HasPlaces, Id, IsOrderly, IsPaid, IsSound, IsTidy, Leads, List, Local, Profile, Row, Rules, SendsOwn, Turn, [], all_append, all_count, ap, arith, arrives_at, asked_by, asks_for, asks_under, at_all, at_boot, bare_act, causes, clean_front, come, commits, cond, count_by, done_after, entry_at, fired_of, fires_one, freeing, given_to, gives_for, goes, gone, gone_to, grow, hopping, ins, is_act, is_answer, is_free_of, is_freed, joined, joins, length, length-append, map, map-append, outs, outs_by, part, part_append, part_at, refl, run_local, run_local_append, spends, subst, sum_by-append, sum_by-cons, sym, takes_such, unpaid, view, waits_for, weigh, ℕ, ◌++◌, ◌+◌, ◌∙◌, ◌∷◌, ◌≡◌, ◌≢◌, ◌≤◌}
+use Rattle.hpx_steps.proofs.Common.{Actions, Agree, AllByRecursion, AreFired, AreNumbered, AreNumbers, Entry, Event, HasCommits, HasPlaces, Id, IsOrderly, IsPaid, IsSound, IsTidy, Leads, List, Local, Row, Rules, SendsOwn, Turn, [], all_append, all_count, ap, arith, arrives_at, asked_by, asks_for, asks_under, at_all, at_boot, bare_act, causes, clean_front, come, commits, cond, count_by, done_after, entry_at, fired_of, fires_one, freeing, given_to, gives_for, goes, gone, gone_to, grow, hopping, ins, is_act, is_answer, is_free_of, is_freed, joined, joins, length, length-append, map, map-append, outs, outs_by, part, part_append, part_at, refl, run_local, run_local_append, spends, subst, sum_by-append, sum_by-cons, sym, takes_such, unpaid, view, waits_for, weigh, ℕ, ◌++◌, ◌+◌, ◌∙◌, ◌∷◌, ◌≡◌, ◌≢◌, ◌≤◌}
 use Rattle.hpx_journal.specs.Local.{after}
 
 -- ---- one entry pays
