@@ -145,9 +145,6 @@ module _ (r : Rules) (s : Turn) (calm : IsCalm s) (t' : Tables) where
       own : find_record id t'.records ≡ Some (raised s.tables.profile old.0)
       own = leaves.own ∙ ap (option_map (raised s.tables.profile)) old.1
 
-      lim : nat_lt s.tables.profile.credit_limit (old.0.count + 2 ^ s.tables.profile.credit_log - 1) ≡ nat_lt s.tables.profile.credit_limit (more_here s.tables id)
-      lim = ap (λ n. nat_lt s.tables.profile.credit_limit (n + 2 ^ s.tables.profile.credit_log - 1)) (sym was)
-
       each : (b : Bool) → nat_lt s.tables.profile.credit_limit (more_here s.tables id) ≡ b
           → Leads r s t' (cond b (Count (bare id) (count_here s.tables id) Refused) (Count (bare id) (more_here s.tables id) Granted) ∷ [])
       each true e =
