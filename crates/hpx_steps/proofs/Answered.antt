@@ -1,7 +1,6 @@
 -- An ask is answered: more credit is granted, or refused.
 use Rattle.hpx_steps.proofs.Common.{Ask, Bool, Came, Count, Entry, Give, Going, Granted, Grants, HasCredit, HasInHand, HasLeastCredit, HasPlaces, Id, IsSound, IsTidy, Item, Leads, List, Mailed, MatchOption, OnDesk, Option, Parcel, Reason, Record, Recounts, Refused, Refuses, Row, Rules, Some, StaysAt, Tables, TidyAt, Token, Turn, View, [], ap, arith, asked_by, asks_for, asks_under, bare, bare_due, cases_Bool, causes, cond, count_by, count_in, counted, counts_of, counts_true, drops, eq-eqb, false, find, find_record, flat_map, follows_granted, follows_refused, freeing, given_to, gives_for, goes, going, hopping, inl, inr, is_least, is_other, is_recorded, is_refusal, is_refused, joined, log_of, mails, map, nat_lt, nat_tests, ne_eqb, one_if, option_map_or, owed_token, owes, parcel_asks, parcel_tokens, parcels, pow_pos, raised, refl, same_object, same_object-true, same_token, some_same, subst, sum_by, sum_by-cons, sym, token_own, tokens, true, unpaid, view, waiting, waits_for, weigh, weight, with_records, worth, wrote, ℕ, ◌+◌, ◌-◌, ◌<◌, ◌==◌, ◌^◌, ◌∙◌, ◌∷◌, ◌≡◌, ◌≢◌, ◌≤◌, ◌⊎◌}
-use Rattle.hpx_steps.proofs.Tools.{Changes, Keeps, Sees, asks_of, bound_none, by_bool, by_rows, counts_near, drop_change, drop_moves, drop_waits, fewer, frees_of, hand_fit, holding, if_so, in_hand, is_frame, mail_change, mail_tidy, mail_waits, owed_by, same_asks, same_dead, sees_leads, sent_if, then, told_as, total, view_worth}
-use Rattle.hpx_steps.proofs.Mails.{own_is, sent_total}
+use Rattle.hpx_steps.proofs.Tools.{Changes, Keeps, Sees, asks_of, bound_none, by_bool, by_rows, counts_near, drop_change, drop_moves, drop_waits, fewer, frees_of, hand_fit, holding, if_so, in_hand, is_frame, mail_change, mail_tidy, mail_waits, owed_by, own_is, same_asks, same_dead, sees_leads, sent_if, sent_total, then, told_as, total, view_worth}
 use Rattle.hpx_steps.proofs.Records.{found_counted, one_recounted, places_still}
 
 -- what a message weighs that is sent, on the desk or away
@@ -46,8 +45,7 @@ module _ (r : Rules) (s : Turn) (entries : List Entry) (h : IsSound r s entries)
   moves w m n a b c d = omega (arith, drop_moves (Ask id asker entry) s hand w m a b, (mail_change true asker give (with_records records (drops s))).0 w, sent_total w true other asker give n c d)
 
   pub tidy : IsTidy now
-  tidy = holding (TidyAt s) (sent_if true other asker give) s now change.1 h.tidy
-      (mail_tidy s.tables true asker give (λ b. credit) (λ b. sym home) (λ b. brings) (λ b c. tt))
+  tidy = holding (TidyAt s) (sent_if true other asker give) s now change.1 h.tidy (mail_tidy s.tables true asker give (λ b. credit) (λ b. sym home) (λ b. brings) (λ b c. tt))
 
   asked_less : (o : Id) (n : ℕ) → cond other 0 (0 + gives_for o n give) ≤ asks_for s.tables.here o n (Ask id asker entry)
   asked_less o n = if_so other (λ t. rw t (omega arith)) (λ f. rw (f, eq-eqb asker s.tables.here (asker_here s.tables asker near f)) (omega arith))
@@ -71,8 +69,7 @@ module _ (r : Rules) (s : Turn) (entries : List Entry) (h : IsSound r s entries)
   pub dead : (x : Id) → count_by (same_object x) (view now).dead ≤ count_by (same_object x) (view s).dead
   dead x = same_dead x s now (omega (arith, moves (frees_of x) 0 0 refl refl refl refl))
 
-  pub answered_keeps : Leads r (view s) (Count (bare id) count why ∷ []) (view now) → HasPlaces s.tables.here s.tables.births s.tables.objects records
-      → Keeps r s now (Count (bare id) count why)
+  pub answered_keeps : Leads r (view s) (Count (bare id) count why ∷ []) (view now) → HasPlaces s.tables.here s.tables.births s.tables.objects records → Keeps r s now (Count (bare id) count why)
   answered_keeps leads places = record {
     leads = leads;
     tidy = tidy;
@@ -165,14 +162,11 @@ module _ (r : Rules) (s : Turn) (entries : List Entry) (h : IsSound r s entries)
       follows_granted r (view s) (bare id) refl home old.count count (tokens grants) (map counted records) (ap (map bare_due) due) fresh
           (was_counted ∙ ap (λ (o : Option Record). option_map_or (λ (x : Record). x.count) o 0) recounts.was) live
           (sum ∙ ap (λ n. old.count + 2 ^ n) (sym h.rules.credit_log)) (subst (λ n. count ≤ n) (sym h.rules.credit_limit) limit) one_owed
-          (record {
-            sums = λ f weight. omega (arith, traded f, ap (λ n. f (owed_token (bare id) n)) h.rules.credit_log, sum_by-cons f);
-          })
+          (record { sums = λ f weight. omega (arith, traded f, ap (λ n. f (owed_token (bare id) n)) h.rules.credit_log, sum_by-cons f) })
           (λ x at. one_recounted id old (Some (raised s.tables.profile old)) s.tables.records records recounts x
           ∙ ap (λ n. cond (same_object x (bare id)) n (count_in (find (is_recorded x) (map counted s.tables.records)))) (ap (λ (x : Record). x.count) raised_is ∙ omega (arith, sum))),
       sees_leads r seen grants sees,
-    )
-        (places_still s.tables id old (Some (raised s.tables.profile old)) records recounts
+    ) (places_still s.tables id old (Some (raised s.tables.profile old)) records recounts
         (λ x is at. subst (StaysAt s.tables.here) (sym raised_is ∙ some_same (raised s.tables.profile old) x is) (at.0, at.1)) h.places)
 
   module _ (records : List Record) (same : count ≡ old.count) (limit : s.tables.profile.credit_limit + 1 < count + 2 ^ s.tables.profile.credit_log)

@@ -45,9 +45,6 @@ module _ (r : Rules) (s : Turn) (entries : List Entry) (h : IsSound r s entries)
   there : (p < length w.hand) × (id_at w.hand p ≡ id)
   there = at_place w.hand p id at
 
-  was_not : is_asked id ≡ false
-  was_not = has_not_asked id 0 least.0
-
   is_now : is_asked (bare id) ≡ true
   is_now = grind arith
 
@@ -68,7 +65,7 @@ module _ (r : Rules) (s : Turn) (entries : List Entry) (h : IsSound r s entries)
               ap {B = ℕ} (λ (x : Id). cond (is_asked x) 1 0) (put_there w.hand p (bare id) there.0),
               ap {B = ℕ} (λ b. cond b 1 0) is_now,
               ap {B = ℕ} (λ (x : Id). cond (is_asked x) 1 0) there.1,
-              ap {B = ℕ} (λ b. cond b 1 0) was_not,
+              ap {B = ℕ} (λ b. cond b 1 0) (has_not_asked id 0 least.0),
             )))
         | inr f ↦
             rw f (omega (arith, ap {B = ℕ} (λ (x : Id). cond (is_asked x) 1 0) (put_elsewhere w.hand p q (bare id) (λ e. let t : true ≡ false = sym (eq-eqb p q (sym e)) ∙ f in cc))))
@@ -83,8 +80,7 @@ module _ (r : Rules) (s : Turn) (entries : List Entry) (h : IsSound r s entries)
       )
 
   tidy : IsTidy now
-  tidy = holding (TidyAt s) (Working asker ∷ sent_if true other id.home ask) s now change.1 h.tidy
-      (fit_commit, mail_tidy s.tables true id.home ask (λ b. least) (λ b. refl) (λ b. refl) (λ b c. tt))
+  tidy = holding (TidyAt s) (Working asker ∷ sent_if true other id.home ask) s now change.1 h.tidy (fit_commit, mail_tidy s.tables true id.home ask (λ b. least) (λ b. refl) (λ b. refl) (λ b c. tt))
 
   -- the id gives its credit up
   tokens_hand : (f : Token → ℕ) → sum_by f (tokens_of asker.hand) + f (held_token (bare id) 0) ≡ sum_by f (tokens_of w.hand)
@@ -114,7 +110,7 @@ module _ (r : Rules) (s : Turn) (entries : List Entry) (h : IsSound r s entries)
     view_asking o,
     moves (asking o) 0 refl refl,
     put_asked o (length (ids_named w)) w.hand p id (bare id) low at,
-    ap {B = ℕ} (λ b. cond b (cond (same_object o id) 1 0) 0) was_not,
+    ap {B = ℕ} (λ b. cond b (cond (same_object o id) 1 0) 0) (has_not_asked id 0 least.0),
     ap {B = ℕ} (λ b. cond b (cond (same_object o id) 1 0) 0) is_now,
     sum_by-cons (λ x. cond (same_object o x) 1 0) (bare id) [],
   )
@@ -126,8 +122,7 @@ module _ (r : Rules) (s : Turn) (entries : List Entry) (h : IsSound r s entries)
   asked_keeps = record {
     leads = (
       seen,
-      follows_asked r (view s) (bare id) refl (tokens now) (view now).asking (view now).asks (ap (map bare_due) due) fresh
-          (token_held s w rest p id 0 works at least.0)
+      follows_asked r (view s) (bare id) refl (tokens now) (view now).asking (view now).asks (ap (map bare_due) due) fresh (token_held s w rest p id 0 works at least.0)
           (record { sums = λ f fair. omega (arith, traded f, sum_by-cons f (held_token (bare id) 0) [], sum_by-cons f (owed_token (bare id) 0) []) }) asked_more asks_more,
       sees_leads r seen now sees,
     );
@@ -158,10 +153,7 @@ module _ (r : Rules) (s : Turn) (entries : List Entry) (h : IsSound r s entries)
         | inl t ↦
             let e : number ≡ n = eqb-true number n t in
             let k : weigh (asks_under n) s ≡ 0 = (once n).1 (omega (arith, e)) in
-            let one : asks_as n ask ≡ 1 = ap one_if t in (
-              omega (arith, moves (asks_under n) (asks_as n ask) refl refl, k, one),
-              λ late. absurd (omega (arith, late, e)),
-            )
+            let one : asks_as n ask ≡ 1 = ap one_if t in (omega (arith, moves (asks_under n) (asks_as n ask) refl refl, k, one), λ late. absurd (omega (arith, late, e)))
         | inr f ↦
             let none : asks_as n ask ≡ 0 = ap one_if f in (
               omega (arith, moves (asks_under n) (asks_as n ask) refl refl, none, (once n).0),

@@ -1,17 +1,10 @@
 -- Between turns all that holds of a turn is what holds of the tables, and the other way round.
-use Rattle.hpx_steps.proofs.Common.{Accepted, Act, Actions, AllByRecursion, AreFired, ArePaused, AreRules, Came, Entry, FreesNone, Going, HasObject, Id, IfSome, IsDue, IsFit, IsForHere, IsKept, IsOnItsWay, IsOwn, IsParcel, IsPaused, IsSound, Item, List, Loose, Mailed, OnDesk, Outgoing, Parcel, Pending, Row, Rules, Running, Standing, StandsAtRest, StandsFor, StandsHere, Tables, TidyAt, Waits, Working, [], all_append, all_parts, append-nil, arith, asked_by, asks_for, at_rest, bare_act, bound_for, freeing, given_to, gives_for, hopping, joined, length, map, messages, move_to, of_act, part, queued, refl, stands_here, subst, sum_by, sum_by-append, sum_by-cons, sym, target_of, true, weigh, weight, ℕ, ◌+◌, ◌∷◌, ◌≡◌, ◌≢◌, ◌≤◌}
+use Rattle.hpx_steps.proofs.Common.{Accepted, Act, Actions, AllByRecursion, AreFired, ArePaused, AreRules, Came, Entry, FreesNone, Going, HasObject, Id, IfSome, IsDue, IsFit, IsForHere, IsKept, IsOnItsWay, IsOwn, IsParcel, IsPaused, IsSound, List, Loose, Mailed, OnDesk, Outgoing, Parcel, Pending, Row, Rules, Running, Standing, StandsAtRest, StandsFor, StandsHere, Tables, Waits, Working, [], all_append, all_parts, append-nil, arith, asked_by, asks_for, at_rest, bare_act, bound_for, freeing, given_to, gives_for, hopping, joined, length, map, messages, move_to, of_act, part, queued, refl, stands_here, subst, sum_by, sum_by-append, sum_by-cons, sym, target_of, true, weigh, weight, ℕ, ◌+◌, ◌∷◌, ◌≡◌, ◌≢◌, ◌≤◌}
 use Rattle.hpx_steps.proofs.Tools.{all_among, among_all, by_rows, long_sum, map_sum, zeros}
 use Rattle.hpx_steps.specs.Rest.{IsTidy, tokens, unpaid, view, waits_for}
 use Rattle.hpx_steps.specs.Rows.{unpaid as turn_unpaid}
 use Rattle.hpx_steps.specs.Sound.{IsTidy as turn_tidy, waits_for as turn_waits_for}
 use Rattle.hpx_steps.specs.Turn.{view as turn_view}
-
-alls : {X : Type 0} (P Q R : X → Type 0) (xs : List X) → ((x : X) → P x → Q x → R x) → AllByRecursion P xs → AllByRecursion Q xs → AllByRecursion R xs
-alls P Q R [] f a b = tt
-alls P Q R (x ∷ xs) f a b = (f x a.0 b.0, alls P Q R xs f a.1 b.1)
-
-one_all : {X : Type 0} (P Q : X → Type 0) (xs : List X) → ((x : X) → P x → Q x) → AllByRecursion P xs → AllByRecursion Q xs
-one_all P Q xs f a = alls P P Q xs (λ x p q. f x p) a a
 
 all_carried : (P : Parcel → Type 0) (xs : List Outgoing) → AllByRecursion (λ (x : Outgoing). P x.parcel) xs → AllByRecursion P (map (λ (x : Outgoing). x.parcel) xs)
 all_carried P [] h = tt
@@ -20,9 +13,6 @@ all_carried P (x ∷ xs) h = (h.0, all_carried P xs h.1)
 carried_all : (P : Parcel → Type 0) (xs : List Outgoing) → AllByRecursion P (map (λ (x : Outgoing). x.parcel) xs) → AllByRecursion (λ (x : Outgoing). P x.parcel) xs
 carried_all P [] h = tt
 carried_all P (x ∷ xs) h = (h.0, carried_all P xs h.1)
-
-ones : {X : Type 0} (xs : List X) → sum_by (λ x. 1) xs ≡ length xs
-ones xs = sym (long_sum xs)
 
 module _ (t : Tables) where
   -- what is seen is the same
@@ -44,13 +34,13 @@ module _ (t : Tables) where
     where
       acts : (row : Row) → sum_by (λ (a : Act). of_act row) t.accepted ≡ queued row t.accepted
       acts = by_rows (λ row. sum_by (λ (a : Act). of_act row) t.accepted ≡ queued row t.accepted) (zeros t.accepted) (zeros t.accepted) (zeros t.accepted) (zeros t.accepted)
-          (zeros t.accepted) (zeros t.accepted) (ones t.accepted) (λ o. zeros t.accepted)
+          (zeros t.accepted) (zeros t.accepted) (sym (long_sum t.accepted)) (λ o. zeros t.accepted)
 
   hopping_is : weigh hopping (at_rest t) ≡ sum_by (weight Actions) (messages t)
   hopping_is = search (arith, sum_by-append, map_sum, zeros)
 
   joined_is : weigh joined (at_rest t) ≡ length t.accepted
-  joined_is = omega (arith, zeros t.desk, zeros t.outgoing, ones t.accepted, zeros t.running, zeros t.pending, zeros t.objects)
+  joined_is = omega (arith, zeros t.desk, zeros t.outgoing, sym (long_sum t.accepted), zeros t.running, zeros t.pending, zeros t.objects)
 
   freeing_is : (o : Id) → weigh (freeing o) (at_rest t) ≡ 0
   freeing_is o = omega (arith, zeros t.desk, zeros t.outgoing, zeros t.accepted, zeros t.running, zeros t.pending, zeros t.objects)
@@ -72,13 +62,11 @@ module _ (t : Tables) where
   -- ---- from a turn
 
   module _ (r : Rules) (entries : List Entry) (h : IsSound r (at_rest t) entries) where
-    abbrev P : Item → Type 0
-    P = TidyAt (at_rest t)
-
     paused : ArePaused t.here t.localities t.profile.credit_log t.objects t.running t.pending
     paused = record {
-      each = alls (λ w. P (Pending w)) (HasObject t.objects) (IsPaused t.here t.localities t.profile.credit_log t.objects) t.pending
-          (λ w a b. record {
+      each = all_among (IsPaused t.here t.localities t.profile.credit_log t.objects) t.pending (λ w m.
+          let a = h.tidy (Pending w) m in
+          let b = among_all (HasObject t.objects) w t.pending m h.commits.each in record {
             job = a.0.job;
             here = a.0.here;
             localities = a.0.localities;
@@ -92,8 +80,7 @@ module _ (t : Tables) where
             refused = a.0.refused;
             once = a.0.once;
             split = a.1;
-          })
-          (all_among (λ w. P (Pending w)) t.pending (λ w m. h.tidy (Pending w) m)) h.commits.each;
+          });
       single = h.places.single;
       apart = h.commits.apart;
       whole = h.commits.whole;
@@ -114,10 +101,7 @@ module _ (t : Tables) where
       drawn = all_among (λ (x : Standing). 16 ≤ x.object.kind → x.object.home ≡ t.here → x.object.number ≤ t.births) t.objects (λ x m. (h.tidy (StandsHere x) m).1);
       unborn = h.places.unborn;
       places = h.places.places;
-      ways = (
-        all_among (IsOnItsWay t.localities t.here) t.outgoing (λ x m. (h.tidy (Going x) m).1),
-        all_among (IsForHere t.localities t.here) t.desk (λ p m. (h.tidy (OnDesk p) m).1),
-      );
+      ways = (all_among (IsOnItsWay t.localities t.here) t.outgoing (λ x m. (h.tidy (Going x) m).1), all_among (IsForHere t.localities t.here) t.desk (λ p m. (h.tidy (OnDesk p) m).1));
       paused = paused;
     }
 
@@ -143,8 +127,7 @@ module _ (t : Tables) where
       orderly = record {
         sent = h.orderly.sent;
         own = all_among (IsOwn t.here t.profile.credit_log) t.desk (λ p m. (h.tidy (OnDesk p) m).2);
-        away = all_among (λ (x : Outgoing). IsOwn t.here t.profile.credit_log x.parcel × FreesNone x.parcel) t.outgoing
-            (λ x m. let k = h.tidy (Going x) m in (k.2, k.3));
+        away = all_among (λ (x : Outgoing). IsOwn t.here t.profile.credit_log x.parcel × FreesNone x.parcel) t.outgoing (λ x m. let k = h.tidy (Going x) m in (k.2, k.3));
         asked = λ o n. omega (arith, h.orderly.asked o n, asked_is t.here o n, waits_is o n);
         given = λ j d o n. omega (arith, h.orderly.given j d o n, given_is j o n);
       };
@@ -178,16 +161,7 @@ module _ (t : Tables) where
     tidies (Running a) m = among_all IsFit a t.running m h.stands.tidy.running
     tidies (Pending w) m =
         let p = among_all (IsPaused t.here t.localities t.profile.credit_log t.objects) w t.pending m h.stands.tidy.paused.each in (
-          record {
-            job = p.job;
-            here = p.here;
-            localities = p.localities;
-            few = p.few;
-            hand = p.hand;
-            within = p.within;
-            refused = p.refused;
-            once = p.once;
-          },
+          record { job = p.job; here = p.here; localities = p.localities; few = p.few; hand = p.hand; within = p.within; refused = p.refused; once = p.once },
           p.split,
           among_all (λ (v : Waits). v.asked ≢ []) w t.pending m h.lacks,
         )
@@ -204,15 +178,11 @@ module _ (t : Tables) where
       rules = rules;
       keeps = subst (λ v. StandsFor r v entries) (sym view_is) h.stands.keeps;
       tidy = tidies;
-      places = record {
-        serves = h.stands.tidy.serves;
-        unborn = h.stands.tidy.unborn;
-        places = h.stands.tidy.places;
-        single = h.stands.tidy.paused.single;
-      };
+      places = record { serves = h.stands.tidy.serves; unborn = h.stands.tidy.unborn; places = h.stands.tidy.places; single = h.stands.tidy.paused.single };
       commits = record {
-        each = one_all (IsPaused t.here t.localities t.profile.credit_log t.objects) (HasObject t.objects) t.pending
-            (λ w p. record { standing = p.standing; found = p.found; kind = p.kind; state = p.state }) h.stands.tidy.paused.each;
+        each = all_among (HasObject t.objects) t.pending (λ w m.
+            let p = among_all (IsPaused t.here t.localities t.profile.credit_log t.objects) w t.pending m h.stands.tidy.paused.each in
+            record { standing = p.standing; found = p.found; kind = p.kind; state = p.state });
         apart = h.stands.tidy.paused.apart;
         whole = h.stands.tidy.paused.whole;
         lent = h.stands.tidy.paused.lent;
@@ -228,13 +198,5 @@ module _ (t : Tables) where
         asked = λ o n. omega (arith, h.orderly.asked o n, asked_is t.here o n, waits_is o n);
         given = λ j d o n. omega (arith, h.orderly.given j d o n, given_is j o n);
       };
-      numbers = record {
-        born = h.stands.born;
-        few = h.stands.few;
-        asked = h.stands.asked;
-        sent = h.stands.sent;
-        taken = h.stands.taken;
-        few_answers = h.stands.few_answers;
-        answered = h.stands.answered;
-      };
+      numbers = grind arith;
     }

@@ -1,8 +1,6 @@
 -- A commit makes an object.
 use Rattle.hpx_steps.proofs.Common.{Bears, Bool, Born, Entry, Event, HasPlaces, Id, IsBirth, IsCommit, IsSound, IsTidy, List, Make, None, Option, Record, Rules, Some, Standing, StandsHere, State, StaysAt, TidyAt, Token, Turn, View, Waits, Working, [], ap, append-nil, arith, asking, bare, bare_due, bare_id, bare_standing, birth_of, birth_state, cond, count_by, count_in, counted, false, false_from, find, find_record, follows_born, held_token, id_at, ids_named, inl, is_asked, is_asked_for, is_recorded, is_standing, length, map, map-append, refl, same_object, same_object-true, session, some_same, subst, sum_by, sum_by-cons, sym, take, tokens, tokens_of, true, view, works_on, worth, wrote, ℕ, ◌++◌, ◌+◌, ◌^◌, ◌∙◌, ◌∷◌, ◌≡◌, ◌≤◌}
-use Rattle.hpx_steps.proofs.Tools.{Changes, Keeps, all_among, by_rows, counts_near, first_turns, holding, if_so, more_come, numbered_so, objects_change, orders_so, pays_so, recommit, sees_by, sees_leads, take_place, then, view_asking, view_worth, work_commits, working_change}
-use Rattle.hpx_steps.proofs.Beside.{more_commits}
-use Rattle.hpx_steps.proofs.Objects.{retidy, single_more, stand_more}
+use Rattle.hpx_steps.proofs.Tools.{Changes, Keeps, all_among, by_rows, counts_near, first_turns, holding, if_so, more_come, more_commits, numbered_so, objects_change, orders_so, pays_so, recommit, retidy, sees_by, sees_leads, single_more, stand_more, take_place, then, view_asking, view_worth, work_commits, working_change}
 use Rattle.hpx_steps.proofs.Records.{found_counted}
 
 module _ (r : Rules) (s : Turn) (entries : List Entry) (h : IsSound r s entries) (w : Waits) (rest : List Waits) (make : Make) (hand : List Id) (due : s.due ≡ [])
@@ -61,8 +59,7 @@ module _ (r : Rules) (s : Turn) (entries : List Entry) (h : IsSound r s entries)
   -- ---- records
 
   found_more : (x : Id) → find_record x (s.tables.records ++ made ∷ []) ≡ cond (same_object x o) (Some made) (find_record x s.tables.records)
-  found_more x = if_so (same_object x o)
-      (λ t. rw t (past s.tables.records t (ap (λ (y : Id). find_record y s.tables.records) (same_object-true x o t) ∙ h.places.unborn o (omega arith))))
+  found_more x = if_so (same_object x o) (λ t. rw t (past s.tables.records t (ap (λ (y : Id). find_record y s.tables.records) (same_object-true x o t) ∙ h.places.unborn o (omega arith))))
       (λ f. rw f (before s.tables.records f))
     where
       past : (rs : List Record) → same_object x o ≡ true → find_record x rs ≡ None → find_record x (rs ++ made ∷ []) ≡ Some made
@@ -84,8 +81,7 @@ module _ (r : Rules) (s : Turn) (entries : List Entry) (h : IsSound r s entries)
         let off : same_object x o ≡ false = false_from (same_object x o) (λ t. let n : x.number ≡ s.tables.births + 1 = ap (λ (y : Id). y.number) (same_object-true x o t) in absurd (omega (arith, n, late))) in
         found_more x ∙ (ap (λ b. cond b (Some made) (find_record x s.tables.records)) off ∙ h.places.unborn x (omega (arith, late)));
     places = λ x y is. at x y (same_object x o) refl (sym (found_more x) ∙ is);
-    single = single_more s.tables.objects new h.places.single
-        (all_among (λ (x : Standing). same_object x.object o ≡ false) s.tables.objects (λ x m. other x (h.tidy (StandsHere x) m)));
+    single = single_more s.tables.objects new h.places.single (all_among (λ (x : Standing). same_object x.object o ≡ false) s.tables.objects (λ x m. other x (h.tidy (StandsHere x) m)));
   }
     where
       at : (x : Id) (y : Record) (b : Bool) → same_object x o ≡ b → cond (same_object x o) (Some made) (find_record x s.tables.records) ≡ Some y → StaysAt s.tables.here y
@@ -110,9 +106,7 @@ module _ (r : Rules) (s : Turn) (entries : List Entry) (h : IsSound r s entries)
       seen,
       follows_born r (view s) o (birth_state make) (map bare_standing s.tables.objects) [] (tokens now) (map counted (s.tables.records ++ made ∷ [])) (ap (map bare_due) due)
           refl refl (fit.least, fit.most) refl refl refl refl fit.state (sym (append-nil (map bare_standing s.tables.objects)))
-          (record {
-            sums = λ f fair. omega (arith, view_worth f, change.0 (worth f), more f, ap (λ n. f (held_token o n)) h.rules.credit_log, sum_by-cons f (held_token o r.credit_log) []);
-          })
+          (record { sums = λ f fair. omega (arith, view_worth f, change.0 (worth f), more f, ap (λ n. f (held_token o n)) h.rules.credit_log, sum_by-cons f (held_token o r.credit_log) []) })
           counts_more,
       sees_leads r seen now (grind (arith, sees_by, map-append, view_asking, asking)),
     );

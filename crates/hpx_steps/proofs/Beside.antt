@@ -17,20 +17,24 @@ no_act o (w ∷ cs) h =
     let k = none_of (acts_on o w.job.action) (list_any (λ (y : Waits). acts_on o y.job.action) cs) h in
     none_busy o w.job.action (map action_of cs) (ap (cond (o.kind == 7) false) k.0 ∙ never (o.kind == 7)) (no_act o cs k.1)
 
+-- what is whole is so beside commits that keep no less busy
+wholes : (cs cs' : List Waits) → ((o : Id) → is_busy o (map action_of cs') ≡ false → is_busy o (map action_of cs) ≡ false) → (xs : List Standing) → AllByRecursion (IsWhole cs) xs
+    → AllByRecursion (IsWhole cs') xs
+wholes cs cs' busy [] all = tt
+wholes cs cs' busy (y ∷ ys) all = ((λ b. all.0 (busy y.object b)), wholes cs cs' busy ys all.1)
+
 -- ---- an object has another state
 
 module _ (objects : List Standing) (j : ℕ) (act : Act) (old new : Standing) (stands : slice_get objects j ≡ Some old)
     (same : same_object (target_of act) old.object ≡ true) (name : new.object ≡ old.object) (plain : old.object.kind ≡ 7 → new ≡ old) where
-  found_set : (o : Id) (x : Standing) → (same_object o old.object ≡ true → old.object.kind ≡ 7) → find (is_standing o) objects ≡ Some x
-      → find (is_standing o) (set objects j new) ≡ Some x
+  found_set : (o : Id) (x : Standing) → (same_object o old.object ≡ true → old.object.kind ≡ 7) → find (is_standing o) objects ≡ Some x → find (is_standing o) (set objects j new) ≡ Some x
   found_set o x is_plain found = grind (arith, if_so, set_same, old, find_set)
 
   -- only a plain object has other fired actions
   only_plain : (w : Waits) → keeps (target_of act) w.job.action ≡ false → same_object (target_of w.job.action) old.object ≡ true → old.object.kind ≡ 7
   only_plain w none t = grind arith
 
-  pub each_set : (ws : List Waits) → is_busy (target_of act) (map action_of ws) ≡ false → AllByRecursion (HasObject objects) ws
-      → AllByRecursion (HasObject (set objects j new)) ws
+  pub each_set : (ws : List Waits) → is_busy (target_of act) (map action_of ws) ≡ false → AllByRecursion (HasObject objects) ws → AllByRecursion (HasObject (set objects j new)) ws
   each_set [] none all = tt
   each_set (w ∷ ws) none all =
       let rest = busy_none (target_of act) w.job.action (map action_of ws) none in (
@@ -40,16 +44,13 @@ module _ (objects : List Standing) (j : ℕ) (act : Act) (old new : Standing) (s
 
 -- ---- a commit begins
 
-module _ (objects : List Standing) (running : List Act) (cs : List Waits) (h : HasCommits objects running cs) (i : ℕ) (act : Act)
-    (runs : slice_get running i ≡ Some act) where
+module _ (objects : List Standing) (running : List Act) (cs : List Waits) (h : HasCommits objects running cs) (i : ℕ) (act : Act) (runs : slice_get running i ≡ Some act) where
   split : fired_of running cs ≡ take i running ++ act ∷ (drop (suc i) running ++ map action_of cs)
-  split = ap (λ xs. xs ++ map action_of cs) (split_get running i act runs)
-      ∙ append_assoc (take i running) (act ∷ drop (suc i) running) (map action_of cs)
+  split = ap (λ xs. xs ++ map action_of cs) (split_get running i act runs) ∙ append_assoc (take i running) (act ∷ drop (suc i) running) (map action_of cs)
 
   -- no commit keeps the object of an action that runs busy
   pub runs_alone : is_busy (target_of act) (map action_of cs) ≡ false
-  runs_alone = (busy_parts (target_of act) (drop (suc i) running) (map action_of cs)
-      (busy_parts (target_of act) (take i running) (drop (suc i) running ++ map action_of cs)
+  runs_alone = (busy_parts (target_of act) (drop (suc i) running) (map action_of cs) (busy_parts (target_of act) (take i running) (drop (suc i) running ++ map action_of cs)
       (apart_alone (take i running) act (drop (suc i) running ++ map action_of cs) (subst Apart split h.apart))).1).1
 
   -- so the ids of its object have their credits
@@ -75,10 +76,9 @@ module _ (objects : List Standing) (running : List Act) (cs : List Waits) (h : H
         each_set objects j act x lends stands same refl (λ k. ap (λ ids. record { object = x.object; state = record x.state { ids = ids } }) (ap (map bare) (plain k) ∙ sym (plain k)))
             cs runs_alone h.each,
       );
-      apart = subst (λ a. Apart (remove running i ++ a ∷ map action_of cs)) (sym is)
-          (apart_moved act (take i running) (drop (suc i) running ++ map action_of cs) (remove running i) (map action_of cs)
+      apart = subst (λ a. Apart (remove running i ++ a ∷ map action_of cs)) (sym is) (apart_moved act (take i running) (drop (suc i) running ++ map action_of cs) (remove running i) (map action_of cs)
           (sym (append_assoc (take i running) (drop (suc i) running) (map action_of cs))) (subst Apart split h.apart));
-      whole = all_set (IsWhole (w ∷ cs)) objects j lends (wholes objects h.whole) (λ b. lent_whole (busy_none x.object w.job.action (map action_of cs) b).0);
+      whole = all_set (IsWhole (w ∷ cs)) objects j lends (wholes cs (w ∷ cs) (λ o b. (busy_none o w.job.action (map action_of cs) b).1) objects h.whole) (λ b. lent_whole (busy_none x.object w.job.action (map action_of cs) b).0);
       lent = λ o managed. omega (
         arith,
         h.lent o managed,
@@ -90,10 +90,6 @@ module _ (objects : List Standing) (running : List Act) (cs : List Waits) (h : H
       );
     }
       where
-        wholes : (xs : List Standing) → AllByRecursion (IsWhole cs) xs → AllByRecursion (IsWhole (w ∷ cs)) xs
-        wholes [] all = tt
-        wholes (y ∷ ys) all = ((λ b. all.0 (busy_none y.object w.job.action (map action_of cs) b).1), wholes ys all.1)
-
         -- what is not busy is plain, and has no ids
         lent_whole : keeps x.object w.job.action ≡ false → AllByRecursion HasRightCredit (map bare x.state.ids)
         lent_whole free = subst (λ ids. AllByRecursion HasRightCredit (map bare ids)) (sym (plain (at (x.object.kind == 7) refl free))) tt
@@ -166,7 +162,7 @@ module _ (objects : List Standing) (running : List Act) (l m l' m' : List Waits)
         (record { standing = parts.1.0.standing; found = parts.1.0.found; kind = parts.1.0.kind; state = parts.1.0.state }) in
         all_append (HasObject objects) l' (w' ∷ m') rest.0 (on, rest.1);
     apart = subst Apart (sym is_fired) (apart_moved act (running ++ map action_of l) (map action_of m) (running ++ map action_of l') (map action_of m') same_fired (subst Apart was_fired h.apart));
-    whole = wholes objects h.whole;
+    whole = wholes (l ++ w ∷ m) (l' ++ w' ∷ m') as_busy objects h.whole;
     lent = λ o managed. omega (
       arith,
       h.lent o managed,
@@ -181,18 +177,12 @@ module _ (objects : List Standing) (running : List Act) (l m l' m' : List Waits)
       acts_then = map-append action_of l' (w' ∷ m') ∙ ap (λ (j : Job). map action_of l' ++ j.action ∷ map action_of m') job
 
       as_busy : (o : Id) → is_busy o (map action_of (l' ++ w' ∷ m')) ≡ false → is_busy o (map action_of (l ++ w ∷ m)) ≡ false
-      as_busy o b = ap (is_busy o) (map-append action_of l (w ∷ m))
-          ∙ busy_moved o act (map action_of l) (map action_of m) (map action_of l') (map action_of m')
+      as_busy o b = ap (is_busy o) (map-append action_of l (w ∷ m)) ∙ busy_moved o act (map action_of l) (map action_of m) (map action_of l') (map action_of m')
           (sym (map-append action_of l m) ∙ (ap (map action_of) same ∙ map-append action_of l' m')) (sym (ap (is_busy o) acts_then) ∙ b)
-
-      wholes : (xs : List Standing) → AllByRecursion (IsWhole (l ++ w ∷ m)) xs → AllByRecursion (IsWhole (l' ++ w' ∷ m')) xs
-      wholes [] all = tt
-      wholes (y ∷ ys) all = ((λ b. all.0 (as_busy y.object b)), wholes ys all.1)
 
 -- ---- an object comes, and one goes
 
-pub more_commits : (objects : List Standing) (running : List Act) (cs : List Waits) (x : Standing) → x.state.ids ≡ [] → HasCommits objects running cs
-    → HasCommits (objects ++ x ∷ []) running cs
+pub more_commits : (objects : List Standing) (running : List Act) (cs : List Waits) (x : Standing) → x.state.ids ≡ [] → HasCommits objects running cs → HasCommits (objects ++ x ∷ []) running cs
 more_commits objects running cs x none h = record {
   each = each cs h.each;
   apart = h.apart;
@@ -215,8 +205,7 @@ module _ (objects : List Standing) (running : List Act) (cs : List Waits) (i : �
   other : (w : Waits) → acts_on o w.job.action ≡ false → is_standing (target_of w.job.action) x ≡ false
   other w none = grind arith
 
-  each_less : (ws : List Waits) → list_any (λ (w : Waits). acts_on o w.job.action) ws ≡ false → AllByRecursion (HasObject objects) ws
-      → AllByRecursion (HasObject (remove objects i)) ws
+  each_less : (ws : List Waits) → list_any (λ (w : Waits). acts_on o w.job.action) ws ≡ false → AllByRecursion (HasObject objects) ws → AllByRecursion (HasObject (remove objects i)) ws
   each_less [] none all = tt
   each_less (w ∷ ws) none all =
       let rest = none_of (acts_on o w.job.action) (list_any (λ (y : Waits). acts_on o y.job.action) ws) none in (

@@ -64,10 +64,7 @@ busy_less o (x ∷ l) act m h =
 pub apart_more : (l : List Act) (act : Act) (m : List Act) → Apart (l ++ m) → is_busy (target_of act) (l ++ m) ≡ false → Apart (l ++ act ∷ m)
 apart_more [] act m h free = (free, h)
 apart_more (x ∷ l) act m h free =
-    let first = busy_none (target_of act) x (l ++ m) free in (
-      busy_middle (target_of x) l act m h.0 (keeps_both act x first.0),
-      apart_more l act m h.1 first.1,
-    )
+    let first = busy_none (target_of act) x (l ++ m) free in (busy_middle (target_of x) l act m h.0 (keeps_both act x first.0), apart_more l act m h.1 first.1)
 
 -- one action less
 pub apart_less : (l : List Act) (act : Act) (m : List Act) → Apart (l ++ act ∷ m) → Apart (l ++ m)
@@ -77,8 +74,7 @@ apart_less (x ∷ l) act m h = ((busy_less (target_of x) l act m h.0).1, apart_l
 -- an action is apart from all others
 pub apart_alone : (l : List Act) (act : Act) (m : List Act) → Apart (l ++ act ∷ m) → is_busy (target_of act) (l ++ m) ≡ false
 apart_alone [] act m h = h.0
-apart_alone (x ∷ l) act m h =
-    none_busy (target_of act) x (l ++ m) (keeps_both x act (busy_less (target_of x) l act m h.0).0) (apart_alone l act m h.1)
+apart_alone (x ∷ l) act m h = none_busy (target_of act) x (l ++ m) (keeps_both x act (busy_less (target_of x) l act m h.0).0) (apart_alone l act m h.1)
 
 -- an action may stand elsewhere
 pub busy_moved : (o : Id) (act : Act) (l m l' m' : List Act) → l ++ m ≡ l' ++ m' → is_busy o (l' ++ act ∷ m') ≡ false → is_busy o (l ++ act ∷ m) ≡ false
@@ -86,15 +82,11 @@ busy_moved o act l m l' m' same h =
     let k = busy_less o l' act m' h in busy_middle o l act m (ap (is_busy o) same ∙ k.1) k.0
 
 pub apart_moved : (act : Act) (l m l' m' : List Act) → l ++ m ≡ l' ++ m' → Apart (l ++ act ∷ m) → Apart (l' ++ act ∷ m')
-apart_moved act l m l' m' same h =
-    apart_more l' act m' (subst Apart same (apart_less l act m h)) (ap (is_busy (target_of act)) (sym same) ∙ apart_alone l act m h)
+apart_moved act l m l' m' same h = apart_more l' act m' (subst Apart same (apart_less l act m h)) (ap (is_busy (target_of act)) (sym same) ∙ apart_alone l act m h)
 
-pub found-bare : (o : Id) (xs : List Standing) (x : Standing) → find (is_standing o) xs ≡ Some x
-    → find (is_standing (bare o)) (map bare_standing xs) ≡ Some (bare_standing x)
+pub found-bare : (o : Id) (xs : List Standing) (x : Standing) → find (is_standing o) xs ≡ Some x → find (is_standing (bare o)) (map bare_standing xs) ≡ Some (bare_standing x)
 found-bare o [] x h = cc
-found-bare o (y ∷ ys) x h = if_so (is_standing o y)
-    (λ t. rw t (let e : Some y ≡ Some x = rw t at h in ap (λ (z : Option Standing). option_bare z) e))
-    (λ t. rw t (found-bare o ys x (rw t at h)))
+found-bare o (y ∷ ys) x h = if_so (is_standing o y) (λ t. rw t (let e : Some y ≡ Some x = rw t at h in ap (λ (z : Option Standing). option_bare z) e)) (λ t. rw t (found-bare o ys x (rw t at h)))
   where
     option_bare : Option Standing → Option Standing
     option_bare None = None

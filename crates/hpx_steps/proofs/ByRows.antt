@@ -2,8 +2,7 @@
 use Rattle.hpx_steps.proofs.Common.{Actions, Asks, Bool, Counts, Frees, FreesOf, Id, Refusals, Returns, Row, false, refl, true, ◌≡◌}
 use Rattle.hpx_steps.specs.Rows.{Gives}
 
-pub by_rows : (P : Row → Type 0) → P Returns → P Asks → P Gives → P Frees → P Counts → P Refusals → P Actions
-    → ((o : Id) → P (FreesOf o)) → (row : Row) → P row
+pub by_rows : (P : Row → Type 0) → P Returns → P Asks → P Gives → P Frees → P Counts → P Refusals → P Actions → ((o : Id) → P (FreesOf o)) → (row : Row) → P row
 by_rows P a b c d e f g h Returns = a
 by_rows P a b c d e f g h Asks = b
 by_rows P a b c d e f g h Gives = c

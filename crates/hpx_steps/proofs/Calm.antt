@@ -6,8 +6,7 @@ use Rattle.hpx_steps.proofs.Sums.{by_own, by_parcel, own_sum, seen_sum}
 use Rattle.hpx_steps.proofs.Then.{Counts, Keeps, Orders, Pays, comes_to_free, fewer, frees_now}
 
 -- an entry that tells of the same thing under another name
-pub told_as : {X : Type 0} (r : Rules) (s s' : Turn) (e : X → Event) (t : X → Turn) (x y : X) → x ≡ y → s' ≡ wrote (e x) (t x)
-    → Keeps r s (wrote (e y) (t y)) (e y) → Keeps r s s' (e x)
+pub told_as : {X : Type 0} (r : Rules) (s s' : Turn) (e : X → Event) (t : X → Turn) (x y : X) → x ≡ y → s' ≡ wrote (e x) (t x) → Keeps r s (wrote (e y) (t y)) (e y) → Keeps r s s' (e x)
 told_as r s s' e t x y same now k = subst (λ z. Keeps r s s' (e z)) (sym same) (subst (λ u. Keeps r s u (e y)) (sym (now ∙ ap (λ z. wrote (e z) (t z)) same)) k)
 
 -- ---- numbers

@@ -1,5 +1,6 @@
 -- The primitive changes of a turn: what all weights are then, and what is there that was not there before.
-use Rattle.hpx_steps.proofs.Common.{Accepted, Act, AllByRecursion, Among, Bool, Came, Due, Going, Has, HasInHand, Holds, Id, IsDue, Item, List, Loose, Mailed, OnDesk, Outgoing, Parcel, Pending, Running, Some, Standing, StandsHere, Turn, Waits, Working, [], ap, arith, cond, drops, false, going, inl, inr, is_other, mails_if, map, may_stay, not, parcel_for, posts, refl, remove, sent_as, set, slice_get, some_same, suc, sum_by, sum_by-append, sum_by-cons, target_of, true, weigh, zero, ℕ, ◌++◌, ◌+◌, ◌∷◌, ◌≡◌, ◌⊎◌}
+use Rattle.hpx_steps.proofs.Common.{Accepted, Act, AllByRecursion, Among, Bool, Came, Due, Going, Has, HasInHand, Holds, Id, IsDue, Item, List, Loose, Mailed, OnDesk, Outgoing, Parcel, Pending, Running, Some, Standing, StandsHere, Turn, Waits, Working, [], ap, arith, cond, drops, false, going, inl, inr, is_other, mails_if, map, may_stay, not, parcel_for, posts, refl, remove, sent_as, set, slice_get, some_same, subst, suc, sum_by, sum_by-append, sum_by-cons, target_of, true, weigh, zero, ℕ, ◌++◌, ◌+◌, ◌∷◌, ◌≡◌, ◌⊎◌}
+use Rattle.hpx_steps.proofs.Sums.{less_sum, set_sum}
 
 -- ---- what is among others
 
@@ -107,10 +108,7 @@ module _ {X : Type 0} (c : X → Item) where
   one_comes xs x is = grind arith
 
   pub first_turns : (xs : List X) (x y : X) (rest : List X) → xs ≡ x ∷ rest → Trade c (c x ∷ []) (c y ∷ []) xs (y ∷ rest)
-  first_turns xs x y rest is = record {
-    sums = λ w. omega (arith, ap (sum_by (λ z. w (c z))) is, sum_by-cons (λ z. w (c z)) x rest, sum_by-cons (λ z. w (c z)) y rest);
-    there = turns;
-  }
+  first_turns xs x y rest is = record { sums = λ w. omega (arith, ap (sum_by (λ z. w (c z))) is, sum_by-cons (λ z. w (c z)) x rest, sum_by-cons (λ z. w (c z)) y rest); there = turns }
     where
       turns : (z : X) → Among z (y ∷ rest) → Among z xs ⊎ Among (c z) (c y ∷ [])
       turns z (inl e) = inr (inl (ap c e))
@@ -126,32 +124,19 @@ module _ {X : Type 0} (c : X → Item) where
   }
 
   pub all_come : (xs ys : List X) → xs ≡ [] → Trade c [] (map c ys) xs ys
-  all_come xs ys is = record {
-    sums = λ w. omega (arith, ap (sum_by (λ y. w (c y))) is, total_map c w ys);
-    there = λ y m. inr (among_map c y ys m);
-  }
+  all_come xs ys is = record { sums = λ w. omega (arith, ap (sum_by (λ y. w (c y))) is, total_map c w ys); there = λ y m. inr (among_map c y ys m) }
 
   pub one_goes : (xs : List X) (i : ℕ) (x : X) → slice_get xs i ≡ Some x → Trade c (c x ∷ []) [] xs (remove xs i)
-  one_goes xs i x h = record { sums = λ w. omega (arith, less (λ y. w (c y)) xs i h); there = λ y m. inl (among_removed xs i y m) }
-    where
-      less : (f : X → ℕ) (xs : List X) (i : ℕ) → slice_get xs i ≡ Some x → sum_by f (remove xs i) + f x ≡ sum_by f xs
-      less f [] i e = cc
-      less f (y ∷ ys) zero e = omega (arith, sum_by-cons f y ys, ap f (some_same y x e))
-      less f (y ∷ ys) (suc i) e = omega (arith, sum_by-cons f y ys, sum_by-cons f y (remove ys i), less f ys i e)
+  one_goes xs i x h = record { sums = λ w. omega (arith, less_sum (λ y. w (c y)) xs i x h); there = λ y m. inl (among_removed xs i y m) }
 
   pub one_turns : (xs : List X) (i : ℕ) (x y : X) → slice_get xs i ≡ Some x → Trade c (c x ∷ []) (c y ∷ []) xs (set xs i y)
   one_turns xs i x y h = record {
-    sums = λ w. omega (arith, turned (λ z. w (c z)) xs i h);
+    sums = λ w. omega (arith, set_sum (λ z. w (c z)) xs i x y h);
     there = λ z m. elim (among_set xs i y z m) [
       | inl a ↦ inl a
       | inr e ↦ inr (inl (ap c e))
     ];
   }
-    where
-      turned : (f : X → ℕ) (xs : List X) (i : ℕ) → slice_get xs i ≡ Some x → sum_by f (set xs i y) + f x ≡ sum_by f xs + f y
-      turned f [] i e = cc
-      turned f (z ∷ zs) zero e = omega (arith, sum_by-cons f z zs, sum_by-cons f y zs, ap f (some_same z x e))
-      turned f (z ∷ zs) (suc i) e = omega (arith, sum_by-cons f z zs, sum_by-cons f z (set zs i y), turned f zs i e)
 
 -- ---- the same in a turn
 
@@ -218,45 +203,20 @@ abbrev pub sent_if : Bool → Bool → ℕ → Parcel → List Item
 sent_if b other to p = cond b (sent_as other to p ∷ []) []
 
 pub mail_change : (b : Bool) (to : ℕ) (p : Parcel) (s : Turn) → Changes [] (sent_if b (is_other s.tables to) to p) s (mails_if b to p s)
-mail_change b to p s = (
-  λ w. omega (
-    arith,
-    sum_by-append (λ x. w (OnDesk x)) s.tables.desk (cond b (cond other [] (p ∷ [])) []),
-    sum_by-append (λ x. w (Going x)) s.tables.outgoing (cond b (cond other (going to p ∷ []) []) []),
-    both b other w,
-  ),
-  comes_by (sent_if b other to p) s (mails_if b to p s) (λ x m. inl m) (λ x m. inl m)
-      (λ x m. elim (among_either x s.tables.desk (cond b (cond other [] (p ∷ [])) []) m) [
-        | inl a ↦ inl a
-        | inr k ↦ inr (desk b other x k)
-      ])
-      (λ x m. elim (among_either x s.tables.outgoing (cond b (cond other (going to p ∷ []) []) []) m) [
-        | inl a ↦ inl a
-        | inr k ↦ inr (out b other x k)
-      ])
-      (λ x m. inl m) (λ x m. inl m) (λ x m. inl m) (λ x m. inl m) (λ x m. inl m) (λ x m. inl m) (λ x m. inl m),
-)
+mail_change b to p s =
+    let other : Bool = is_other s.tables to in
+    let here : List Parcel = cond b (cond other [] (p ∷ [])) [] in
+    let away : List Outgoing = cond b (cond other (going to p ∷ []) []) [] in
+    let mid : Turn = record s { tables = record s.tables { desk = s.tables.desk ++ here } } in
+    subst (λ is. Changes [] is s (mails_if b to p s)) (all b other)
+    (then [] (map (λ x. OnDesk x) here) [] (map (λ x. Going x) away) s mid (mails_if b to p s)
+    (desk_change [] (map (λ x. OnDesk x) here) s (s.tables.desk ++ here) (more_come (λ x. OnDesk x) s.tables.desk here))
+    (outgoing_change [] (map (λ x. Going x) away) mid (s.tables.outgoing ++ away) (more_come (λ x. Going x) s.tables.outgoing away)))
   where
-    other : Bool
-    other = is_other s.tables to
-
-    both : (b o : Bool) (w : Item → ℕ)
-        → sum_by (λ x. w (OnDesk x)) (cond b (cond o [] (p ∷ [])) []) + sum_by (λ x. w (Going x)) (cond b (cond o (going to p ∷ []) []) []) ≡ total w (sent_if b o to p)
-    both true true w = omega (arith, sum_by-cons (λ x. w (Going x)) (going to p) [])
-    both true false w = omega (arith, sum_by-cons (λ x. w (OnDesk x)) p [])
-    both false o w = refl
-
-    desk : (b o : Bool) (x : Parcel) → Among x (cond b (cond o [] (p ∷ [])) []) → Among (OnDesk x) (sent_if b o to p)
-    desk true true x m = absurd m
-    desk true false x (inl e) = inl (ap (λ q. OnDesk q) e)
-    desk true false x (inr m) = absurd m
-    desk false o x m = absurd m
-
-    out : (b o : Bool) (x : Outgoing) → Among x (cond b (cond o (going to p ∷ []) []) []) → Among (Going x) (sent_if b o to p)
-    out true true x (inl e) = inl (ap (λ q. Going q) e)
-    out true true x (inr m) = absurd m
-    out true false x m = absurd m
-    out false o x m = absurd m
+    all : (b o : Bool) → map (λ x. OnDesk x) (cond b (cond o [] (p ∷ [])) []) ++ map (λ x. Going x) (cond b (cond o (going to p ∷ []) []) []) ≡ sent_if b o to p
+    all true true = refl
+    all true false = refl
+    all false o = refl
 
 -- ---- one more action
 
@@ -267,33 +227,16 @@ put_as stay other act = cond stay (Accepted act) (sent_as other (target_of act).
 pub post_change : (act : Act) (s : Turn) → Changes [] (put_as (may_stay s.tables act) (is_other s.tables (target_of act).home) act ∷ []) s (posts act s)
 post_change act s =
     let stay : Bool = may_stay s.tables act in
-    let other : Bool = is_other s.tables (target_of act).home in
     let mailed : Turn = mails_if (not stay) (target_of act).home (parcel_for act) s in
-    let mail = mail_change (not stay) (target_of act).home (parcel_for act) s in
-    let more = accepted_change [] (map (λ x. Accepted x) (cond stay (act ∷ []) [])) mailed
-    (s.tables.accepted ++ cond stay (act ∷ []) []) (more_come (λ x. Accepted x) s.tables.accepted (cond stay (act ∷ []) [])) in (
-      λ w. omega (arith, mail.0 w, more.0 w, sums stay other w),
-      λ i m. elim (more.1 i m) [
-        | inr a ↦ inr (inl_of stay other i a)
-        | inl h ↦ elim (mail.1 i h) [
-          | inl k ↦ inl k
-          | inr b ↦ inr (inr_of stay other i b)
-        ]
-      ],
-    )
+    let kept : List Act = cond stay (act ∷ []) [] in
+    subst (λ is. Changes [] is s (posts act s)) (all stay (is_other s.tables (target_of act).home))
+    (then [] (sent_if (not stay) (is_other s.tables (target_of act).home) (target_of act).home (parcel_for act)) [] (map (λ x. Accepted x) kept) s mailed (posts act s)
+    (mail_change (not stay) (target_of act).home (parcel_for act) s)
+    (accepted_change [] (map (λ x. Accepted x) kept) mailed (s.tables.accepted ++ kept) (more_come (λ x. Accepted x) s.tables.accepted kept)))
   where
-    sums : (stay other : Bool) (w : Item → ℕ)
-        → total w (map (λ x. Accepted x) (cond stay (act ∷ []) [])) + total w (sent_if (not stay) other (target_of act).home (parcel_for act)) ≡ total w (put_as stay other act ∷ [])
-    sums true other w = omega arith
-    sums false other w = omega arith
-
-    inl_of : (stay other : Bool) (i : Item) → Among i (map (λ x. Accepted x) (cond stay (act ∷ []) [])) → Among i (put_as stay other act ∷ [])
-    inl_of true other i m = m
-    inl_of false other i m = absurd m
-
-    inr_of : (stay other : Bool) (i : Item) → Among i (sent_if (not stay) other (target_of act).home (parcel_for act)) → Among i (put_as stay other act ∷ [])
-    inr_of true other i m = absurd m
-    inr_of false other i m = m
+    all : (stay other : Bool) → sent_if (not stay) other (target_of act).home (parcel_for act) ++ map (λ x. Accepted x) (cond stay (act ∷ []) []) ≡ put_as stay other act ∷ []
+    all true other = refl
+    all false other = refl
 
 -- ---- the message in hand
 

@@ -194,8 +194,7 @@ module _ (act_of : ℕ → ℕ → ℕ → State → Act → Outcome) (t : Table
       (turn_stands act_of t (committed left) entries (Suspend ∷ map (λ e. Writes e) events) more.0 h (
         begun,
         begins r t i j job out x runs stands found at kind state few later (all_none_log made) places,
-        subst (λ z. Writing r z events ends) (ap (λ ids. record s { working = record w { hand = ids } ∷ [] }) (sym hand_is))
-            (subst (λ os. Writing r (with_hand w [] (own ++ (later ++ [])) s) events
+        subst (λ z. Writing r z events ends) (ap (λ ids. record s { working = record w { hand = ids } ∷ [] }) (sym hand_is)) (subst (λ os. Writing r (with_hand w [] (own ++ (later ++ [])) s) events
             (record (at_rest (with_left left.due left.loose (record t {
               running = remove t.running i;
               births = t.births + length out.makes;

@@ -1,9 +1,9 @@
 -- The names of the crates below and of the definitions that most proofs cite, passed on from one place. Declares nothing.
-pub use Rattle.std.proofs.Common.{Bool, List, None, Option, Some, [], ap, append-nil, append_assoc, arith, cond, drop, false, inl, inr, length, length-append, lit≤, map, refl, set, subst, suc, sym, take, true, zero, ℕ, ◌++◌, ◌+◌, ◌-◌, ◌<◌, ◌∙◌, ◌∷◌, ◌≡◌, ◌≢◌, ◌≤◌}
+pub use Rattle.std.proofs.Common.{Bool, List, None, Option, Some, [], ap, append-nil, append_assoc, arith, cond, drop, false, inl, inr, length, length-append, map, refl, set, subst, suc, sym, take, true, zero, ℕ, ◌++◌, ◌+◌, ◌-◌, ◌<◌, ◌∙◌, ◌∷◌, ◌≡◌, ◌≢◌, ◌≤◌}
 pub use Rattle.std.proofs.Math.Bool.{and-true}
 pub use Rattle.std.proofs.Math.ListN.{length-set}
 pub use Rattle.std.proofs.Math.Pow.{pow_pos}
-pub use Rattle.std.proofs.lemmas.Bool.{cases_Bool, cases_eq, cases_lt, eq-eqb, eqb-false, eqb-true, ne_eqb}
+pub use Rattle.std.proofs.lemmas.Bool.{cases_Bool, cases_eq, cases_lt, eq-eqb, eqb-true, ne_eqb}
 pub use Rattle.std.proofs.lemmas.Bool.Decides.{nat_tests}
 pub use Rattle.std.proofs.lemmas.List.{drop-drop, length-map, length-take, map-append, take-append-drop, take-append-le, take_at}
 pub use Rattle.std.proofs.lemmas.List.Sums.{sum_by-append, sum_by-cons}
@@ -14,14 +14,13 @@ pub use Rattle.hpx_value.specs.Hands.{due_of, hand_ids, id_at, session, state_af
 pub use Rattle.hpx_value.specs.Ids.{bare, bare_id, credit, credit_of_log, same_object}
 pub use Rattle.hpx_value.specs.Laws.{birth_state}
 pub use Rattle.hpx_value.specs.Shapes.{IsAct, IsState}
-pub use Rattle.hpx_value.specs.Values.{bare_act, bare_message, bare_state, named as named_act, refs_in}
+pub use Rattle.hpx_value.specs.Values.{bare_act, bare_message, bare_state, named as named_act}
 pub use Rattle.hpx_value.specs.declared.acts.Job.{Job}
 pub use Rattle.hpx_value.specs.declared.outcome.Make.{Make}
-pub use Rattle.hpx_value.specs.declared.profile.Profile.{Profile}
 pub use Rattle.hpx_parcel.specs.Credits.{Credit, credit_list, credits_of}
 pub use Rattle.hpx_parcel.specs.Parcels.{HasCredit, HasLeastCredit, HasRightCredit, IsApplied, IsMove, IsParcel}
 pub use Rattle.hpx_parcel.specs.Reading.{parcel_of}
-pub use Rattle.hpx_journal.proofs.Bools.{and_false, false_from, or_cases}
+pub use Rattle.hpx_journal.proofs.Bools.{and_false, false_from}
 pub use Rattle.hpx_journal.proofs.Grow.{part_append, part_at}
 pub use Rattle.hpx_journal.proofs.Same.{and_true, held-Counts, owed-Counts, same_name-refl, same_object-from, same_object-refl, same_object-sym, same_object-true}
 pub use Rattle.hpx_journal.specs.Bags.{without}
@@ -32,10 +31,10 @@ pub use Rattle.hpx_journal.specs.Frames.{travels_in}
 pub use Rattle.hpx_journal.specs.Laws.{entry_at, ins, is_free_of, is_freed, outs, outs_by, takes_such}
 pub use Rattle.hpx_journal.specs.Local.{acts_on, count_in, done_after, failure, is_act, is_busy, is_recorded, is_standing, leaves}
 pub use Rattle.hpx_journal.specs.Names.{due_ids}
-pub use Rattle.hpx_journal.specs.Rows.{AreMade, IsManaged, is_to}
+pub use Rattle.hpx_journal.specs.Rows.{AreMade, IsManaged}
 pub use Rattle.hpx_journal.specs.Sessions.{shown}
 pub use Rattle.hpx_journal.specs.Tokens.{held, held_token, is_held, is_owed, owed_token, owing, same_token}
-pub use Rattle.hpx_journal.specs.Whole.{IsClean, arrives, arrives_at, part, run_local}
+pub use Rattle.hpx_journal.specs.Whole.{arrives_at, part, run_local}
 pub use Rattle.hpx_journal.specs.declared.entry.Event.TheVariants.{Looked}
 pub use Rattle.hpx_part.proofs.ActRows.{follows_fire, follows_line, follows_mail, follows_print, follows_sent}
 pub use Rattle.hpx_part.proofs.Covered.{act_names, owed_counts}
@@ -75,7 +74,7 @@ pub use Rattle.hpx_tables.specs.Fit.{IsFit, IsFitDue, IsKept, parcel_for}
 pub use Rattle.hpx_tables.specs.Kept.{count_here, credit_in, held_here, ids_held, record_here, stands_here, waits_here}
 pub use Rattle.hpx_tables.specs.Pending.{Waits, action_of, asked_at, asking_of, awaits, fired_of, ids_named, is_asked, is_asked_for, own_ids, refilled, refusal_of, refusals_of, waits_with}
 pub use Rattle.hpx_tables.specs.Splits.{asked_events, cuts, first_cuts, splits_from}
-pub use Rattle.hpx_tables.specs.Strange.{are_far, breaks, brings_right, broken, broken_act, broken_free, broken_give, broken_go, broken_move, broken_near, broken_object, broken_return, is_far, is_far_act, is_live, is_lost, is_to_here, moves_far}
+pub use Rattle.hpx_tables.specs.Strange.{are_far, breaks, brings_right, broken, broken_act, broken_free, broken_give, broken_go, broken_move, broken_near, broken_object, broken_return, is_far, is_far_act, is_live, is_to_here, moves_far}
 pub use Rattle.hpx_tables.specs.Tables.{Tables, fired_acts, messages}
 pub use Rattle.hpx_tables.specs.declared.births.Birth.{Birth}
 pub use Rattle.hpx_tables.specs.declared.kept.Outgoing.{Outgoing}
@@ -88,7 +87,7 @@ pub use Rattle.hpx_steps.specs.Left.{IsLeftBy, IsLeftFailed}
 pub use Rattle.hpx_steps.specs.Mail.{draws, going, is_other, mails, mails_if, may_stay, moves_on, posts, sent_as, with_act, with_mail, with_mail_if, with_return, wrote}
 pub use Rattle.hpx_steps.specs.Numbered.{AreNumbered, asks_as, asks_under}
 pub use Rattle.hpx_steps.specs.Paused.{Apart, AreLent, HasCommits, HasObject, HasSplit, IsCommit, IsShort, IsWhole, Single, bare_names, first_stock, names_of, whole_stock}
-pub use Rattle.hpx_steps.specs.Rest.{ArePaused, IsPaused, Stands, StandsAtRest, bound_for, kept_ids, queued, rules_of}
+pub use Rattle.hpx_steps.specs.Rest.{ArePaused, IsPaused, Stands, StandsAtRest, bound_for, queued, rules_of}
 pub use Rattle.hpx_steps.specs.Rows.{Actions, AreFired, Asks, Counts, Frees, FreesOf, Refusals, Returns, Row, brings, causes, fires_one, freeing, frees_one, goes, hopping, is_least, is_refusal, is_refused, joined, joins, kind_of, of_act, one_if, owes, spends, unpaid, weighed, weight}
 pub use Rattle.hpx_steps.specs.Sound.{AreNumbers, AreRules, FreesNone, HasPlaces, IsOrderly, IsOwn, IsPaid, IsSound, IsTidy, IsTidyIn, SendsOwn, StaysAt, TidyAt, all_count, asked_by, asking, asks_for, come, given_to, gives_for, gone, gone_to, waits_for, worth}
 pub use Rattle.hpx_steps.specs.Steps.{AsksFor, Bears, ComesIn, Commits, Deals, Ends, Fails, Feeds, Fires, GivesUp, GoesOut, Grants, HasInHand, IsCalm, IsGiven, IsTold, Label, Pause, Pauses, Place, Places, Prints, Recounts, Refuses, Remains, Sends, Splits, Step, Steps, Suspend, Suspends, TakesBack, TakesUp, Writes, drops, ends, goes_on, with_credit, with_records, works_on, written, written_by}

@@ -21,8 +21,7 @@ module _ (o : Id) (managed : 16 ≤ o.kind) where
   same_kind : (id : Id) → same_object o id ≡ true → 16 ≤ id.kind
   same_kind id h = let e = ap (λ (x : Id). x.kind) (same_object-true o id h) in omega (arith, e, managed)
 
-  one_held : (id : Id) (log : Option ℕ) → MatchOption log (id.kind < 16) (λ x. 16 ≤ id.kind) → (b : Bool) → same_object o id ≡ b
-      → sum_by holds (map held (credit_list id log ++ [])) ≡ cond b 1 0
+  one_held : (id : Id) (log : Option ℕ) → MatchOption log (id.kind < 16) (λ x. 16 ≤ id.kind) → (b : Bool) → same_object o id ≡ b → sum_by holds (map held (credit_list id log ++ [])) ≡ cond b 1 0
   one_held id b right c e = grind arith
 
   -- each id that names o has a held token
@@ -37,8 +36,7 @@ module _ (o : Id) (managed : 16 ≤ o.kind) where
   )
 
   -- so has each of what has ids
-  pub held_each : {X Y : Type 0} (b : X → Y) (n : Y → List Id) (g : X → List Id) → ((x : X) → n (b x) ≡ map bare (g x)) → (xs : List X)
-      → AllByRecursion (λ x. AllByRecursion HasRightCredit (g x)) xs
+  pub held_each : {X Y : Type 0} (b : X → Y) (n : Y → List Id) (g : X → List Id) → ((x : X) → n (b x) ≡ map bare (g x)) → (xs : List X) → AllByRecursion (λ x. AllByRecursion HasRightCredit (g x)) xs
       → sum_by (λ y. names (n y)) (map b xs) ≡ weighs holds (flat_map g xs)
   held_each b n g same [] h = refl
   held_each b n g same (x ∷ xs) h = omega (
@@ -55,10 +53,8 @@ all_fit [] h = tt
 all_fit (x ∷ xs) h = (h.0.sent.credit, all_fit xs h.1)
 
 -- so has each name in actions
-pub held_acts : (o : Id) → 16 ≤ o.kind → (xs : List Act) → AllByRecursion IsFit xs
-    → sum_by (act_names o) (map bare_act xs) ≡ weighs (held_counts o) (flat_map (λ (a : Act). a.ids) xs)
-held_acts o managed xs h =
-    held_each o managed bare_act (λ (a : Act). a.ids) (λ (a : Act). a.ids) (λ x. refl) xs (all_fit xs h)
+pub held_acts : (o : Id) → 16 ≤ o.kind → (xs : List Act) → AllByRecursion IsFit xs → sum_by (act_names o) (map bare_act xs) ≡ weighs (held_counts o) (flat_map (λ (a : Act). a.ids) xs)
+held_acts o managed xs h = held_each o managed bare_act (λ (a : Act). a.ids) (λ (a : Act). a.ids) (λ x. refl) xs (all_fit xs h)
 
 all_due : (xs : List Due) → AllByRecursion IsFitDue xs → AllByRecursion (λ x. AllByRecursion HasRightCredit (due_ids x)) xs
 all_due [] h = tt
@@ -80,18 +76,23 @@ held_or_bare o (id ∷ ids) = omega (
   sum_by-cons (λ (x : Id). cond (same_object o x && not (is_some x.log)) 1 0) id ids,
 )
   where
-    one : (log : Option ℕ) (b : Bool) → same_object o id ≡ b
-        → cond b 1 0 ≡ sum_by (held_counts o) (map held (credit_list id log ++ [])) + cond (b && not (is_some log)) 1 0
+    one : (log : Option ℕ) (b : Bool) → same_object o id ≡ b → cond b 1 0 ≡ sum_by (held_counts o) (map held (credit_list id log ++ [])) + cond (b && not (is_some log)) 1 0
     one None true e = refl
     one None false e = refl
     one (Some log) true e = rw e refl
     one (Some log) false e = rw e refl
 
-held_states : (o : Id) → 16 ≤ o.kind → (xs : List Standing)
-    → sum_by (λ (y : Standing). count_by (same_object o) y.state.ids) (map bare_standing xs)
+held_states : (o : Id) → 16 ≤ o.kind → (xs : List Standing) → sum_by (λ (y : Standing). count_by (same_object o) y.state.ids) (map bare_standing xs)
     ≡ weighs (held_counts o) (flat_map (λ (x : Standing). x.state.ids) xs) + sum_by (λ (x : Standing). bare_names o x.state.ids) xs
 held_states o managed [] = refl
-held_states o managed (x ∷ xs) = search (arith, sum_by-cons, ids_append, held_or_bare, held_states o managed xs)
+held_states o managed (x ∷ xs) = omega (
+  arith,
+  sum_by-cons (λ (y : Standing). count_by (same_object o) y.state.ids),
+  sum_by-cons (λ (y : Standing). bare_names o y.state.ids),
+  ids_append (held_counts o),
+  held_or_bare o x.state.ids,
+  held_states o managed xs,
+)
 
 -- the same names, with or without credits
 names_bare : (o : Id) (ids : List Id) → count_by (same_object o) (map bare ids) ≡ count_by (same_object o) ids
@@ -105,16 +106,14 @@ is_below kind e = grind (arith, nat_tests)
 bare_asked : (o : Id) → 16 ≤ o.kind → (ids : List Id) → bare_names o ids ≤ count_by (same_object o) (filter is_asked ids)
 bare_asked o managed [] = omega arith
 bare_asked o managed (id ∷ ids) = elim (cases_Bool (is_asked id)) [
-  | inl t ↦ rw t
-      (omega (
-        arith,
-        bare_asked o managed ids,
-        sum_by-cons (λ (x : Id). cond (same_object o x && not (is_some x.log)) 1 0) id ids,
-        sum_by-cons (λ x. cond (same_object o x) 1 0) id (filter is_asked ids),
-        no_more (same_object o id) (not (is_some id.log)),
-      ))
-  | inr f ↦ rw f
-      (omega (arith, bare_asked o managed ids, sum_by-cons (λ (x : Id). cond (same_object o x && not (is_some x.log)) 1 0) id ids, none (same_object o id) (not (is_some id.log)) refl f))
+  | inl t ↦ rw t (omega (
+    arith,
+    bare_asked o managed ids,
+    sum_by-cons (λ (x : Id). cond (same_object o x && not (is_some x.log)) 1 0) id ids,
+    sum_by-cons (λ x. cond (same_object o x) 1 0) id (filter is_asked ids),
+    no_more (same_object o id) (not (is_some id.log)),
+  ))
+  | inr f ↦ rw f (omega (arith, bare_asked o managed ids, sum_by-cons (λ (x : Id). cond (same_object o x && not (is_some x.log)) 1 0) id ids, none (same_object o id) (not (is_some id.log)) refl f))
 ]
   where
     no_more : (a b : Bool) → cond (a && b) 1 0 ≤ cond a 1 0
@@ -131,8 +130,7 @@ bare_asked o managed (id ∷ ids) = elim (cases_Bool (is_asked id)) [
     none false b e g = refl
 
 -- what the object and the action of a commit that waits name is in its hand, or was asked for
-in_hand : (o : Id) → 16 ≤ o.kind → (w : Waits) → map bare (own_ids w) ≡ map bare (ids_named w)
-    → count_by (same_object o) w.job.state.ids + count_by (same_object o) w.job.action.ids
+in_hand : (o : Id) → 16 ≤ o.kind → (w : Waits) → map bare (own_ids w) ≡ map bare (ids_named w) → count_by (same_object o) w.job.state.ids + count_by (same_object o) w.job.action.ids
     ≤ weighs (held_counts o) w.hand + count_by (same_object o) (filter is_asked (own_ids w))
 in_hand o managed w h =
     omega (
@@ -161,8 +159,7 @@ in_hands o managed (w ∷ ws) h = omega (
 )
 
 -- the names in fired actions
-fired_names : (o : Id) (running : List Act) (ws : List Waits)
-    → sum_by (act_names o) (map bare_act (fired_of running ws))
+fired_names : (o : Id) (running : List Act) (ws : List Waits) → sum_by (act_names o) (map bare_act (fired_of running ws))
     ≡ sum_by (act_names o) (map bare_act running) + sum_by (λ (w : Waits). count_by (same_object o) w.job.action.ids) ws
 fired_names o [] [] = refl
 fired_names o [] (w ∷ ws) = omega (

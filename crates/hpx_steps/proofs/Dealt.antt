@@ -1,5 +1,5 @@
 -- Once all ids of a hand are halved, its credits are those that are dealt, and those that nobody names.
-use Rattle.hpx_steps.proofs.Common.{Act, AllByRecursion, AreWithin, Bool, Deals, Due, Fits, HasRightCredit, Id, List, None, SameDeal, State, Stock, Token, [], action_ids, all_append, all_at, all_set, ap, append-nil, arith, bare, cases_eq, cases_lt, cond, deal_stays, deal_then, dealt, drop, drop-drop, due_failed, due_filled, due_ids, failed_sums, false, filled, filled_all, filled_due, filled_sums, flat_map, half, halves_ahead, halves_taken, id_at, ids_due, ids_had, inl, inr, is_managed, length, length-append, length-set, managed, map, named, refl, shared_from, shares, state_failed, subst, suc, sum_by, sum_by-cons, sums_dealt, sym, take, take-append-drop, take_half, take_halves, tokens_of, true, unnamed, unnamed_from, unused, unused_all, unused_rest, ups_failed, zero, ℕ, ◌&&◌, ◌++◌, ◌+◌, ◌-◌, ◌<◌, ◌==◌, ◌∙◌, ◌∷◌, ◌≡◌, ◌≤◌}
+use Rattle.hpx_steps.proofs.Common.{Act, AllByRecursion, AreWithin, Bool, Deals, Due, Fits, HasRightCredit, Id, List, None, SameDeal, State, Stock, Token, [], action_ids, all_append, all_at, all_set, and_false, ap, append-nil, arith, bare, cases_eq, cases_lt, cond, deal_stays, deal_then, dealt, drop, drop-drop, due_failed, due_filled, due_ids, failed_sums, false, filled, filled_all, filled_due, filled_sums, flat_map, half, halves_ahead, halves_taken, id_at, ids_due, ids_had, inl, inr, is_managed, length, length-append, length-set, managed, map, named, refl, shared_from, shares, state_failed, subst, suc, sum_by, sum_by-cons, sums_dealt, sym, take, take-append-drop, take_half, take_halves, tokens_of, true, unnamed, unnamed_from, unused, unused_all, unused_rest, ups_failed, zero, ℕ, ◌&&◌, ◌++◌, ◌+◌, ◌-◌, ◌<◌, ◌==◌, ◌∙◌, ◌∷◌, ◌≡◌, ◌≤◌}
 use Rattle.hpx_steps.proofs.Tools.{ids_append, ids_each, none_tokens, place_at}
 use Rattle.hpx_steps.proofs.Work.{halved_from}
 
@@ -58,17 +58,13 @@ low_tokens f (id ∷ ids) places p right low =
     each (named places p) refl (low p (omega arith) (omega arith)) (is_managed id) refl
     (low_tokens f ids places (p + 1) right.1 (λ q le lt. low q (omega (arith, le)) (omega (arith, lt))))
   where
-    none : (b : Bool) → (b && false) ≡ false
-    none true = refl
-    none false = refl
-
     each : (n : ℕ) → named places p ≡ n → n ≤ 1 → (b : Bool) → is_managed id ≡ b
         → sum_by f (tokens_of ids) ≡ sum_by (λ i. sum_by f (tokens_of (i ∷ []))) (shared_from (p + 1) ids places) + sum_by f (tokens_of (unnamed_from (p + 1) ids places))
         → sum_by f (tokens_of (id ∷ ids)) ≡ sum_by (λ i. sum_by f (tokens_of (i ∷ []))) (shares id (named places p) ++ shared_from (p + 1) ids places)
         + sum_by f (tokens_of (cond (is_managed id && (named places p == 0)) (id ∷ unnamed_from (p + 1) ids places) (unnamed_from (p + 1) ids places)))
     each zero e le true m rest = rw (e, m) (omega (arith, rest, ids_append f (id ∷ []) ids, ids_append f (id ∷ []) (unnamed_from (p + 1) ids places)))
     each zero e le false m rest = rw (e, m) (omega (arith, rest, ids_append f (id ∷ []) ids, unmanaged f id m right.0))
-    each (suc zero) e le b m rest = rw e (rw (none (is_managed id)) (omega (
+    each (suc zero) e le b m rest = rw e (rw (and_false (is_managed id)) (omega (
       arith,
       rest,
       ids_append f (id ∷ []) ids,
@@ -105,8 +101,7 @@ halved_tokens hand places within right f =
 -- ---- what is planned
 
 -- ids of right credit weigh as the managed ones among them
-managed_tokens : (f : Token → ℕ) (ids : List Id) → AllByRecursion HasRightCredit ids
-    → sum_by f (tokens_of ids) ≡ sum_by (λ i. sum_by f (tokens_of (i ∷ []))) (managed ids)
+managed_tokens : (f : Token → ℕ) (ids : List Id) → AllByRecursion HasRightCredit ids → sum_by f (tokens_of ids) ≡ sum_by (λ i. sum_by f (tokens_of (i ∷ []))) (managed ids)
 managed_tokens f [] h = refl
 managed_tokens f (id ∷ ids) h = each (is_managed id) refl (managed_tokens f ids h.1)
   where

@@ -1,11 +1,6 @@
 -- An action ends: what holds of what it leaves, and that it is done, or fails.
-use Rattle.hpx_steps.proofs.Common.{Act, Agree, Agree-found, AllByRecursion, AreMade, AskedFor, Bool, Commits, Done, Due, Ends, Entry, Event, Fails, HasCommits, HasPlaces, Id, IsCommit, IsDue, IsSound, IsTidy, Item, Leads, List, Loose, Name, Option, Refusal, Remains, Row, Rules, Some, Standing, StandsHere, State, TidyAt, Token, Turn, View, Waits, Working, [], action_of, all_append, answered_by, any_counted, ap, arith, asked_by, asking, asks_under, bare, bare_act, bare_due, bare_standing, bare_state, causes, commits, cond, count_by, count_in, counted_any, counts_of, drop, due_ids, due_of, ends, failure, false, filter, find, find_passes, fired_of, follows_done, follows_fail, freeing, given_to, goes, hopping, id_at, ids_named, inl, is_act, is_answer, is_asked, is_asked_for, is_recorded, is_standing, joined, length, length-append, list_any, map, map-append, means, name_of, names_of, option_to_list, own, own_ids, refl, refusal_of, refusals_of, same_name-refl, same_object, same_refusal, session, set, some_same, split_get, split_set, state_after, subst, suc, sum_by, sum_by-append, sum_by-cons, sym, take, target_of, tokens, tokens_of, true, unpaid, view, waits_for, weigh, worth, wrote, zero, ℕ, ◌&&◌, ◌++◌, ◌+◌, ◌<◌, ◌==◌, ◌||◌, ◌∙◌, ◌∷◌, ◌≡◌, ◌≤◌}
-use Rattle.hpx_steps.proofs.Seen.{as_seen}
-use Rattle.hpx_steps.proofs.Tools.{Changes, Keeps, Sees, among_at, bare_all, by_rows, due_change, fewer, first_goes, found-bare, holding, ids_each, ids_flat, loose_change, more_come, no_tokens, none_sum, objects_change, one_turns, same_map, sees_covers, sees_leads, single_set, stand_set, target-bare, then, told_as, total, total_map, view_asking, view_covered, view_worth, working_change}
-use Rattle.hpx_steps.proofs.Bare.{bare_lent}
-use Rattle.hpx_steps.proofs.Beside.{end_commits}
-use Rattle.hpx_steps.proofs.Changes.{all_come, total_append}
-use Rattle.hpx_steps.proofs.Objects.{retidy}
+use Rattle.hpx_steps.proofs.Common.{Act, Agree, Agree-found, AllByRecursion, AreMade, AskedFor, Bool, Commits, Done, Due, Ends, Entry, Event, Fails, HasCommits, HasPlaces, Id, IsCommit, IsDue, IsSound, IsTidy, Item, Leads, List, Loose, Name, Option, Refusal, Remains, Row, Rules, Some, Standing, StandsHere, State, TidyAt, Token, Turn, View, Waits, Working, [], action_of, all_append, answered_by, any_counted, ap, arith, asking, asks_under, bare, bare_act, bare_due, bare_standing, bare_state, causes, commits, cond, count_by, count_in, counted_any, counts_of, drop, due_ids, due_of, ends, failure, false, filter, find, find_passes, fired_of, follows_done, follows_fail, freeing, given_to, goes, hopping, id_at, ids_named, inl, is_act, is_answer, is_asked, is_recorded, is_standing, joined, length, length-append, list_any, map, map-append, means, name_of, names_of, option_to_list, own, own_ids, refl, refusal_of, refusals_of, same_name-refl, same_object, same_refusal, session, set, some_same, split_get, split_set, state_after, subst, suc, sum_by, sum_by-append, sum_by-cons, sym, take, target_of, tokens, tokens_of, true, unpaid, view, weigh, worth, wrote, zero, ℕ, ◌&&◌, ◌++◌, ◌+◌, ◌<◌, ◌==◌, ◌||◌, ◌∙◌, ◌∷◌, ◌≡◌, ◌≤◌}
+use Rattle.hpx_steps.proofs.Tools.{Changes, Keeps, Sees, all_come, among_at, as_seen, bare_all, bare_lent, by_rows, due_change, end_commits, fewer, first_goes, found-bare, holding, ids_each, ids_flat, loose_change, more_come, no_tokens, none_sum, objects_change, one_turns, retidy, same_map, sees_covers, sees_leads, single_set, stand_set, target-bare, then, told_as, total, total_append, total_map, view_asking, view_covered, view_worth, working_change}
 
 any_bare : (o : Id) (ids : List Id) → list_any (same_object o) (map bare ids) ≡ list_any (same_object o) ids
 any_bare o [] = refl
@@ -37,17 +32,14 @@ module _ (r : Rules) (s : Turn) (entries : List Entry) (h : IsSound r s entries)
   abbrev settled : Turn
   settled = record less { tables = record s.tables { objects = set s.tables.objects j new } }
 
-  abbrev owing : Turn
-  owing = record settled { due = left.due }
-
   change : Changes (Working w ∷ StandsHere x ∷ []) (StandsHere new ∷ (dues ++ looses)) s now
   change = then (Working w ∷ []) [] (StandsHere x ∷ []) (StandsHere new ∷ (dues ++ looses)) s less now
       (working_change (Working w ∷ []) [] s rest (first_goes (λ y. Working y) s.working w rest g.works))
       (then (StandsHere x ∷ []) (StandsHere new ∷ []) [] (dues ++ looses) less settled now
       (objects_change (StandsHere x ∷ []) (StandsHere new ∷ []) less (set s.tables.objects j new) (one_turns (λ y. StandsHere y) s.tables.objects j x new g.stands))
-      (then [] dues [] looses settled owing now
+      (then [] dues [] looses settled (record settled { due = left.due }) now
       (due_change [] dues settled left.due (all_come (λ y. IsDue y) s.due left.due g.due))
-      (loose_change [] looses owing (s.loose ++ left.loose) (more_come (λ y. Loose y) s.loose left.loose))))
+      (loose_change [] looses (record settled { due = left.due }) (s.loose ++ left.loose) (more_come (λ y. Loose y) s.loose left.loose))))
 
   -- a weight before and after
   pub moves : (f : Item → ℕ) → weigh f now + (f (Working w) + f (StandsHere x)) ≡ weigh f s + (f (StandsHere new) + (sum_by (λ d. f (IsDue d)) left.due + sum_by (λ i. f (Loose i)) left.loose))
@@ -183,15 +175,7 @@ module _ (r : Rules) (s : Turn) (entries : List Entry) (h : IsSound r s entries)
       fired = omega (arith, stays joined refl refl refl (λ d. refl) (λ i. refl));
       frees = λ o. omega (arith, stays (freeing o) refl refl refl (λ d. refl) (λ i. refl));
     };
-    orders = record {
-      sent = tt;
-      asked = λ o n. omega (
-        arith,
-        stays (asked_by s.tables.here o n) refl refl refl (λ d. refl) (λ i. refl),
-        stays (waits_for o n) (ap (λ ys. count_by (is_asked_for w o n) ys) g.lacks) refl refl (λ d. refl) (λ i. refl),
-      );
-      given = λ k d o n. omega (arith, stays (given_to k o n) refl refl refl (λ y. refl) (λ i. refl));
-    };
+    orders = record { sent = tt; asked = grind arith; given = λ k d o n. omega (arith, stays (given_to k o n) refl refl refl (λ y. refl) (λ i. refl)) };
     counts = record {
       here = refl;
       localities = refl;

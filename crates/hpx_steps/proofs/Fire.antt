@@ -1,8 +1,6 @@
 -- An accepted action runs.
 use Rattle.hpx_steps.proofs.Common.{Accepted, Act, Apart, Entry, Fire, Fires, IsSound, IsTidy, List, Name, Rules, Running, Some, Standing, TidyAt, Turn, View, [], action_of, ap, append_assoc, arith, bare_act, bare_due, bare_standing, commits, drop, false, find, fired_of, flat_map, follows_fire, is_busy, is_standing, map, map-append, name_of, parcel_acts, parcels, refl, remove, slice_get, split_get, subst, suc, sym, take, target_of, view, waiting, worth, wrote, ℕ, ◌++◌, ◌∙◌, ◌∷◌, ◌≡◌}
-use Rattle.hpx_steps.proofs.Tools.{Changes, Keeps, Sees, among_at, by_rows, counts_near, found-bare, holding, more_come, numbered_so, one_goes, orders_so, pays_so, running_change, sees_by, sees_leads, target-bare, then, told_as, view_worth}
-use Rattle.hpx_steps.proofs.Busy.{apart_more, busy-bare}
-use Rattle.hpx_steps.proofs.Changes.{accepted_change}
+use Rattle.hpx_steps.proofs.Tools.{Changes, Keeps, Sees, accepted_change, among_at, apart_more, busy-bare, by_rows, counts_near, found-bare, holding, more_come, numbered_so, one_goes, orders_so, pays_so, running_change, sees_by, sees_leads, target-bare, then, told_as, view_worth}
 
 module _ (r : Rules) (s : Turn) (entries : List Entry) (h : IsSound r s entries) (i : ℕ) (act : Act) (x : Standing) (due : s.due ≡ []) (fresh : s.fresh ≡ [])
     (there : slice_get s.tables.accepted i ≡ Some act) (stands : find (is_standing (target_of act)) s.tables.objects ≡ Some x)
@@ -56,8 +54,7 @@ module _ (r : Rules) (s : Turn) (entries : List Entry) (h : IsSound r s entries)
     places = h.places;
     commits = record {
       each = h.commits.each;
-      apart = subst Apart (sym (append_assoc s.tables.running (act ∷ []) (map action_of (commits s))))
-          (apart_more s.tables.running act (map action_of (commits s)) h.commits.apart idle);
+      apart = subst Apart (sym (append_assoc s.tables.running (act ∷ []) (map action_of (commits s)))) (apart_more s.tables.running act (map action_of (commits s)) h.commits.apart idle);
       whole = h.commits.whole;
       lent = h.commits.lent;
     };

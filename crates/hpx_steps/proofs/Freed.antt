@@ -1,11 +1,7 @@
 -- A dead object goes.
 use Rattle.hpx_steps.proofs.Common.{Accepted, Act, AllByRecursion, Came, Entry, Follows, Free, Freed, Going, Has, HasInHand, HasRightCredit, Id, IsDue, IsForHere, IsManaged, IsSound, IsTidy, IsTold, Item, List, Loose, Mailed, None, OnDesk, Outgoing, Pending, Row, Rules, Running, Some, Standing, StandsHere, TidyAt, Token, Turn, View, Waits, Working, [], acts_on, any_counted, ap, arith, asked_by, asks_under, bare_act, bare_due, bare_standing, causes, commits, cond, count_by, credit_list, drop, drops, false, false_from, find, find_passes, flat_map, follows_freed_mailed, follows_freed_taken, freeing, given_to, goes, held, held_here, hopping, inl, inr, is_some, is_standing, joined, list_any, map, map-append, owes, parcel_frees, refl, remove, same_object, same_object-from, same_object-refl, same_object-sym, same_object-true, session, slice_get, split_get, subst, suc, sum_by, sum_by-cons, sym, take, target_of, true, unpaid, view, waiting, waits_for, waits_here, weigh, with_credit, worth, wrote, ℕ, ◌++◌, ◌+◌, ◌∙◌, ◌∷◌, ◌≡◌, ◌≤◌}
-use Rattle.hpx_steps.proofs.Tools.{Changes, Keeps, Sees, among_all, among_at, asks_of, by_bool, by_rows, counts_near, drop_change, drop_waits, fewer, frees_of, hand_fit, hand_weighs, holding, ids_each, in_hand, is_frame, loose_change, more_come, none_of, none_sum, objects_change, one_goes, same_asks, same_dead, sees_by, sees_leads, target-bare, then, total, total_map, view_worth, zeros}
+use Rattle.hpx_steps.proofs.Tools.{Changes, Keeps, Sees, all_with, among_all, among_at, asks_of, by_bool, by_rows, counts_near, credit_tokens, drop_change, drop_waits, fewer, freed_whole, frees_now, frees_of, hand_fit, hand_weighs, holding, ids_each, in_hand, is_frame, less_commits, loose_change, more_come, none_of, none_sum, objects_change, one_goes, same_asks, same_dead, sees_by, sees_leads, single_less, stand_less, target-bare, then, total, total_map, view_worth, zeros}
 use Rattle.hpx_steps.specs.Steps.{Frees}
-use Rattle.hpx_steps.proofs.Bare.{all_with, credit_tokens}
-use Rattle.hpx_steps.proofs.Beside.{freed_whole, less_commits}
-use Rattle.hpx_steps.proofs.Objects.{single_less, stand_less}
-use Rattle.hpx_steps.proofs.Then.{frees_now}
 use Rattle.hpx_steps.proofs.Unheld.{none_accepted, none_fired, none_waits}
 
 module _ (r : Rules) (s : Turn) (entries : List Entry) (h : IsSound r s entries) (o : Id) (i : ℕ) (x : Standing) (due : s.due ≡ []) (fresh : s.fresh ≡ []) (alone : s.working ≡ [])
@@ -27,8 +23,7 @@ module _ (r : Rules) (s : Turn) (entries : List Entry) (h : IsSound r s entries)
   less = record (drops s) { tables = record s.tables { objects = remove s.tables.objects i } }
 
   change : Changes (in_hand (is_frame (Free o) s hand) (Free o) ∷ StandsHere x ∷ []) (map (λ id. Loose id) (with_credit x.state.ids)) s now
-  change = then (was ∷ []) [] (StandsHere x ∷ []) looses s (drops s) now (drop_change (Free o) s hand)
-      (then (StandsHere x ∷ []) [] [] looses (drops s) less now
+  change = then (was ∷ []) [] (StandsHere x ∷ []) looses s (drops s) now (drop_change (Free o) s hand) (then (StandsHere x ∷ []) [] [] looses (drops s) less now
       (objects_change (StandsHere x ∷ []) [] (drops s) (remove s.tables.objects i) (one_goes (λ y. StandsHere y) s.tables.objects i x there))
       (loose_change [] looses less (s.loose ++ with_credit x.state.ids) (more_come (λ y. Loose y) s.loose (with_credit x.state.ids))))
 
@@ -79,8 +74,7 @@ module _ (r : Rules) (s : Turn) (entries : List Entry) (h : IsSound r s entries)
       let k = h.tidy (Accepted a) m in (
         k.0,
         k.1,
-        other (target_of a) (among_all (λ (b : Act). same_object (target_of b) x.object ≡ false) a s.tables.accepted m
-            (accepted_off s.tables.accepted (none_accepted o s h.tidy bare_o.1 unheld))) k.2,
+        other (target_of a) (among_all (λ (b : Act). same_object (target_of b) x.object ≡ false) a s.tables.accepted m (accepted_off s.tables.accepted (none_accepted o s h.tidy bare_o.1 unheld))) k.2,
       )
   retidied (Came p) m = h.tidy (Came p) m
   retidied (Mailed p) m = h.tidy (Mailed p) m
@@ -133,12 +127,11 @@ module _ (r : Rules) (s : Turn) (entries : List Entry) (h : IsSound r s entries)
   ]
     where
       dead_one : s.mailed ≡ Free o ∷ [] → 1 ≤ count_by (same_object o) (view s).dead
-      dead_one is = subst (λ ps. 1 ≤ count_by (same_object o) (flat_map parcel_frees (ps ++ (s.tables.desk ++ map (λ (y : Outgoing). y.parcel) s.tables.outgoing)))) (sym is)
-          (omega (
-            arith,
-            sum_by-cons (λ q. cond (same_object o q) 1 0) o (flat_map parcel_frees (s.tables.desk ++ map (λ (y : Outgoing). y.parcel) s.tables.outgoing)),
-            ap {B = ℕ} (λ b. cond b 1 0) (same_object-refl o),
-          ))
+      dead_one is = subst (λ ps. 1 ≤ count_by (same_object o) (flat_map parcel_frees (ps ++ (s.tables.desk ++ map (λ (y : Outgoing). y.parcel) s.tables.outgoing)))) (sym is) (omega (
+        arith,
+        sum_by-cons (λ q. cond (same_object o q) 1 0) o (flat_map parcel_frees (s.tables.desk ++ map (λ (y : Outgoing). y.parcel) s.tables.outgoing)),
+        ap {B = ℕ} (λ b. cond b 1 0) (same_object-refl o),
+      ))
 
   pub freed_keeps : Keeps r s now (Freed o)
   freed_keeps = record {
@@ -173,5 +166,4 @@ module _ (r : Rules) (s : Turn) (entries : List Entry) (h : IsSound r s entries)
       costs = by_rows (λ row. goes r row (Freed o) ≡ owes row (Free o) + causes r row (Freed o)) (omega arith) (omega arith) (omega arith) (omega arith) (omega arith) (omega arith) (omega arith) (λ q. omega arith)
 
 pub freed_step : (r : Rules) (s s' : Turn) (entries : List Entry) (o : Id) → IsSound r s entries → Frees r s o s' → Keeps r s s' (Freed o)
-freed_step r s s' entries o h g = subst (λ x. Keeps r s x (Freed o)) (sym g.now)
-    (freed_keeps r s entries h o g.i g.x g.calm.due g.calm.fresh g.alone g.told g.there g.found g.idle g.unheld)
+freed_step r s s' entries o h g = subst (λ x. Keeps r s x (Freed o)) (sym g.now) (freed_keeps r s entries h o g.i g.x g.calm.due g.calm.fresh g.alone g.told g.there g.found g.idle g.unheld)

@@ -1,7 +1,6 @@
 -- Credit that was asked for is given to a commit that waits for it.
 use Rattle.hpx_steps.proofs.Common.{Act, AskedFor, Bool, Came, Entry, Give, Given, HasCommits, HasCredit, HasInHand, Id, IsCommit, IsGiven, IsSound, IsTidy, Item, List, Mailed, Pending, Refusal, Row, Rules, Some, TidyAt, Token, Turn, View, Waits, Working, [], action_of, and_true, any_counted, ap, append_assoc, arith, asked_by, asking, asks_under, bare, bare_act, bare_due, causes, commits, cond, count_by, counted_any, counts_false, counts_of, counts_true, drop, drops, eqb-true, false, fired_of, follows_given, freeing, given_to, gives_for, goes, goes_on, held_token, hopping, id_at, ids_named, is_asked, is_asked_for, is_least, joined, length, log_of, map, name_of, one_if, owed_token, owes, parcel_asks, refilled, refl, refusal_of, refusals_of, remove, same_object, same_token, set, slice_get, split_get, split_set, subst, suc, sum_by, sum_by-append, sum_by-cons, sym, take, token_own, tokens, tokens_of, true, unpaid, view, waits_for, weigh, worth, wrote, ℕ, ◌&&◌, ◌++◌, ◌+◌, ◌==◌, ◌∙◌, ◌∷◌, ◌≡◌, ◌≤◌, ◌⊎◌}
-use Rattle.hpx_steps.proofs.Tools.{Changes, Keeps, among_at, asks_of, by_bool, by_commit, by_rows, counts_near, drop_change, drop_waits, fewer, fired_leads, fired_sum, first_comes, hand_fit, hand_weighs, has_not_asked, held_by, holding, ids_each, in_hand, is_fired, is_frame, leads_on, less_sum, long_sum, map_sum, move_commits, one_goes, one_turns, owed_by, pending_change, put_asked, put_bare, put_for, refuses, same_dead, same_fired, seen_sum, sees_leads, set_sum, then, view_asking, view_refusals, view_worth, was_fired, working_change}
-use Rattle.hpx_steps.proofs.Bare.{bare_tokens}
+use Rattle.hpx_steps.proofs.Tools.{Changes, Keeps, among_at, asks_of, bare_tokens, by_bool, by_commit, by_rows, counts_near, drop_change, drop_waits, fewer, fired_leads, fired_sum, first_comes, hand_fit, hand_weighs, has_not_asked, held_by, holding, ids_each, in_hand, is_fired, is_frame, leads_on, less_sum, long_sum, map_sum, move_commits, one_goes, one_turns, owed_by, pending_change, put_asked, put_bare, put_for, refuses, same_dead, same_fired, seen_sum, sees_leads, set_sum, then, view_asking, view_refusals, view_worth, was_fired, working_change}
 use Rattle.hpx_steps.proofs.Refilled.{asked_at_place, asked_low, asked_same, still_commit, still_split, was_asked}
 
 -- a commit that waited stands elsewhere, or where it stood
@@ -46,9 +45,6 @@ module _ (r : Rules) (s : Turn) (entries : List Entry) (h : IsSound r s entries)
   abbrev last : Bool
   last = length given.asked == 0
 
-  abbrev was : Item
-  was = in_hand (is_frame (Give id entry) s hand) (Give id entry)
-
   -- the commit then
   abbrev item : Bool → Item
   item b = cond b (Working given) (Pending given)
@@ -65,13 +61,13 @@ module _ (r : Rules) (s : Turn) (entries : List Entry) (h : IsSound r s entries)
 
   change : Changes (in_hand (is_frame (Give id entry) s hand) (Give id entry) ∷ Pending w ∷ [])
       (cond (length (refilled n ask.place id w).asked == 0) (Working (refilled n ask.place id w)) (Pending (refilled n ask.place id w)) ∷ []) s now
-  change = then (was ∷ []) [] (Pending w ∷ []) (item last ∷ []) s (drops s) now (drop_change (Give id entry) s hand) (turned last)
+  change = then ((in_hand (is_frame (Give id entry) s hand) (Give id entry)) ∷ []) [] (Pending w ∷ []) (item last ∷ []) s (drops s) now (drop_change (Give id entry) s hand) (turned last)
 
   -- a weight before and after, that sees no difference between commits in work and those that wait
   moves : (f : Item → ℕ) (m : ℕ) → f (Came (Give id entry)) ≡ m → f (Mailed (Give id entry)) ≡ m → f (Working given) ≡ f (Pending given)
       → weigh f now + (m + f (Pending w)) ≡ weigh f s + f (Pending given)
   moves f m a b same =
-      let k : weigh f now + (f was + (f (Pending w) + 0)) ≡ weigh f s + (f (item last) + 0) = change.0 f in
+      let k : weigh f now + (f (in_hand (is_frame (Give id entry) s hand) (Give id entry)) + (f (Pending w) + 0)) ≡ weigh f s + (f (item last) + 0) = change.0 f in
       omega (arith, k, hand_weighs (Give id entry) s hand f m a b, by_bool (λ c. f (item c) ≡ f (Pending given)) same refl last)
 
   its : TidyAt s (Pending w)
@@ -156,8 +152,7 @@ module _ (r : Rules) (s : Turn) (entries : List Entry) (h : IsSound r s entries)
   among_fired : (f : Refusal → ℕ) → f (refusing (bare_act w.job.action)) ≤ sum_by f (map refusing (view s).fired)
   among_fired f = grind (arith, map_sum, commits, fired_sum, less_sum, i, there)
 
-  refused_more : (f : Refusal → ℕ) → sum_by f (refusals_of (commits now))
-      ≤ sum_by f (cond (log == 0) (map refusing (view s).fired) [] ++ refusals_of (commits s))
+  refused_more : (f : Refusal → ℕ) → sum_by f (refusals_of (commits now)) ≤ sum_by f (cond (log == 0) (map refusing (view s).fired) [] ++ refusals_of (commits s))
   refused_more f = omega (
     arith,
     turned_refusals f,
@@ -166,8 +161,7 @@ module _ (r : Rules) (s : Turn) (entries : List Entry) (h : IsSound r s entries)
     sum_by-append f (cond (log == 0) (map refusing (view s).fired) []) (refusals_of (commits s)),
   )
     where
-      each : (b : Bool) → given.refused ≡ cond b (Some (bare id)) w.refused
-          → sum_by f (refusal_of w.job.action given.refused)
+      each : (b : Bool) → given.refused ≡ cond b (Some (bare id)) w.refused → sum_by f (refusal_of w.job.action given.refused)
           ≤ sum_by f (refusal_of w.job.action w.refused) + sum_by f (cond b (map refusing (view s).fired) [])
       each true e = omega (arith, ap (λ o. sum_by f (refusal_of w.job.action o)) e, among_fired f, sum_by-cons f (refusing w.job.action) [])
       each false e = omega (arith, ap (λ o. sum_by f (refusal_of w.job.action o)) e)
@@ -178,8 +172,7 @@ module _ (r : Rules) (s : Turn) (entries : List Entry) (h : IsSound r s entries)
       long : length (refusals_of (commits now)) + sum_by (λ x. 1) (refusal_of w.job.action w.refused) ≡ length (refusals_of (commits s)) + sum_by (λ x. 1) (refusal_of w.job.action given.refused)
       long = omega (arith, turned_refusals (λ x. 1), long_sum (refusals_of (commits now)), long_sum (refusals_of (commits s)))
 
-      each : (b : Bool) → given.refused ≡ cond b (Some (bare id)) w.refused
-          → length (refusals_of (commits now)) ≤ cond b (length (refusals_of (commits s)) + 1) (length (refusals_of (commits s)))
+      each : (b : Bool) → given.refused ≡ cond b (Some (bare id)) w.refused → length (refusals_of (commits now)) ≤ cond b (length (refusals_of (commits s)) + 1) (length (refusals_of (commits s)))
       each true e = omega (arith, long, ap (λ o. sum_by (λ x. 1) (refusal_of w.job.action o)) e, sum_by-cons (λ x. 1) (refusing w.job.action) [])
       each false e = omega (arith, long, ap (λ o. sum_by (λ x. 1) (refusal_of w.job.action o)) e)
 
@@ -218,8 +211,7 @@ module _ (r : Rules) (s : Turn) (entries : List Entry) (h : IsSound r s entries)
       follows_given r (view s) (bare id) refl log (tokens now) (view now).asking (view now).asks (ap (map bare_due) due) fresh
           (subst (λ c. (log ≡ 0) ⊎ (log ≡ c)) (sym h.rules.credit_log) right) one_owed
           (record { sums = λ f fair. omega (arith, traded f, sum_by-cons f (owed_token (bare id) log) [], sum_by-cons f (held_token (bare id) log) []) }) asking_less asks_less,
-      leads_on r told seen (view now)
-          (fired_leads r told (s.tables.running ++ map action_of k.l) (map action_of k.m) (s.tables.running ++ map action_of k.l') (map action_of k.m') w.job.action
+      leads_on r told seen (view now) (fired_leads r told (s.tables.running ++ map action_of k.l) (map action_of k.m) (s.tables.running ++ map action_of k.l') (map action_of k.m') w.job.action
           (ap (λ ws. map bare_act (fired_of s.tables.running ws)) k.was
           ∙ ap (map bare_act) (was_fired s.tables.objects s.tables.running k.l k.m k.l' k.m' w given refl k.same))
           (same_fired s.tables.objects s.tables.running k.l k.m k.l' k.m' w given refl k.same))
@@ -265,5 +257,4 @@ given_step r s s' entries o log h g = subst (λ x. Keeps r s s' (Given x log)) (
     (given_keeps r s entries h g.id g.entry log g.i g.refills.k g.before g.refills.ask g.calm.due g.calm.fresh g.hand g.has g.right g.there g.refills.there g.refills.for))
   where
     again : s' ≡ wrote (Given (bare g.id) log) (goes_on g.i (refilled g.refills.k g.refills.ask.place g.id g.before) (drops s))
-    again = g.now ∙ (ap (λ x. wrote (Given x log) (goes_on g.i g.after (drops s))) g.object
-        ∙ ap (λ v. wrote (Given (bare g.id) log) (goes_on g.i v (drops s))) g.refills.now)
+    again = g.now ∙ (ap (λ x. wrote (Given x log) (goes_on g.i g.after (drops s))) g.object ∙ ap (λ v. wrote (Given (bare g.id) log) (goes_on g.i v (drops s))) g.refills.now)

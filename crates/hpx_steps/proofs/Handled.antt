@@ -31,8 +31,7 @@ with_loose ids s = record s { loose = ids }
 abbrev pub let_go : List Id → Option Event → Turn → Turn
 let_go ids l s = record s { loose = []; tables = with_returns ids s.tables; last = l }
 
-pub ups_steps : (r : Rules) (s : Turn) (ids : List Id) → s.due ≡ [] → s.fresh ≡ []
-    → (l : Option Event) × Steps r (with_loose (with_credit ids) s) (map (λ e. Writes e) (ups ids)) (let_go ids l s)
+pub ups_steps : (r : Rules) (s : Turn) (ids : List Id) → s.due ≡ [] → s.fresh ≡ [] → (l : Option Event) × Steps r (with_loose (with_credit ids) s) (map (λ e. Writes e) (ups ids)) (let_go ids l s)
 ups_steps r s [] due fresh = (s.last, refl)
 ups_steps r s (id ∷ ids) due fresh = each id.log refl (λ t e. ups_steps r (record s { tables = t; last = e }) ids due fresh)
   where
@@ -45,11 +44,7 @@ ups_steps r s (id ∷ ids) due fresh = each id.log refl (λ t e. ups_steps r (re
         let now : Turn = wrote (Up (bare id) log) (mails id.home (Return id) (with_loose (with_credit ids) s)) in
         let more = rest (with_mail id.home (Return id) s.tables) (Some (Up (bare id) log)) in (
           more.0,
-          (
-            now,
-            record { calm = record { due = due; fresh = fresh }; id = id; rest = with_credit ids; first = refl; object = refl; has = is; now = refl },
-            more.1,
-          ),
+          (now, record { calm = record { due = due; fresh = fresh }; id = id; rest = with_credit ids; first = refl; object = refl; has = is; now = refl }, more.1),
         )
 
 -- ---- what is due is sent and printed
@@ -65,10 +60,7 @@ due_steps r s (MessageDue m ∷ due) fresh =
     )
 due_steps r s (PrintDue bytes ∷ due) fresh =
     let now : Turn = wrote (Print bytes) (record s { due = due }) in
-    let more = due_steps r (record s { last = now.last }) due fresh in (
-      more.0,
-      (now, record { fresh = fresh; rest = due; due = refl; now = refl }, more.1),
-    )
+    let more = due_steps r (record s { last = now.last }) due fresh in (more.0, (now, record { fresh = fresh; rest = due; due = refl; now = refl }, more.1))
 
 -- ---- a message in hand is dealt with
 
@@ -89,17 +81,12 @@ kept_here t act stay = rw stay (simp append-nil)
 
 module _ (r : Rules) (s : Turn) (calm : IsCalm s) (t' : Tables) where
   -- an action that may go on
-  pub act_leads : (act : Act) (p : Parcel) → (p ≡ Apply act) ⊎ (p ≡ Move act) → HasInHand p s → (s.mailed ≢ [] → may_stay s.tables act ≡ true)
-      → t' ≡ with_act act s.tables → Leads r s t' []
+  pub act_leads : (act : Act) (p : Parcel) → (p ≡ Apply act) ⊎ (p ≡ Move act) → HasInHand p s → (s.mailed ≢ [] → may_stay s.tables act ≡ true) → t' ≡ with_act act s.tables → Leads r s t' []
   act_leads act p carries hand stays is = record {
     last = s.last;
     labels = Place ∷ [];
     writes = refl;
-    steps = (
-      record (drops s) { tables = t' },
-      record { act = act; parcel = p; brings = carries; hand = hand; stays = stays; now = ap (λ t. record (drops s) { tables = t }) is },
-      refl,
-    );
+    steps = (record (drops s) { tables = t' }, record { act = act; parcel = p; brings = carries; hand = hand; stays = stays; now = ap (λ t. record (drops s) { tables = t }) is }, refl);
   }
 
   -- ---- records
@@ -134,13 +121,8 @@ module _ (r : Rules) (s : Turn) (calm : IsCalm s) (t' : Tables) where
             home = home_of_live id live;
             has = e;
             sum = omega (arith, was, worth, enough);
-            recounts = record {
-              was = old.1;
-              own = leaves.own ∙ ap (option_and_then (λ (x : Record). lowered x id)) old.1;
-              others = leaves.others;
-            };
-            now = ap (λ t. record (drops s) { tables = t; last = Some event })
-                (deals ∙ (ap (λ b. record (with_mail_if b (place_or_0 s.tables id) (Free (bare id)) s.tables) { records = t'.records })
+            recounts = record { was = old.1; own = leaves.own ∙ ap (option_and_then (λ (x : Record). lowered x id)) old.1; others = leaves.others };
+            now = ap (λ t. record (drops s) { tables = t; last = Some event }) (deals ∙ (ap (λ b. record (with_mail_if b (place_or_0 s.tables id) (Free (bare id)) s.tables) { records = t'.records })
                 (sym (same_last (count_here s.tables id) (credit id) (count_here s.tables id - 2 ^ log) (omega (arith, worth, enough))))
                 ∙ ap (λ (o : Option Record). record (with_mail_if ((count_here s.tables id - 2 ^ log) == 0) (option_map_or (λ (x : Record). x.place) o 0) (Free (bare id)) s.tables) { records = t'.records }) old.1));
           })
@@ -151,12 +133,6 @@ module _ (r : Rules) (s : Turn) (calm : IsCalm s) (t' : Tables) where
       → Leads r s t' (answered s.tables id)
   asked_leads id asker entry hand least near lasts live enough deals leaves = each (nat_lt s.tables.profile.credit_limit (more_here s.tables id)) refl
     where
-      is_less : (a b : ℕ) → nat_lt a b ≡ true → a < b
-      is_less a b k = search (arith, nat_tests, k)
-
-      is_at_most : (a b : ℕ) → nat_lt a b ≡ false → b ≤ a
-      is_at_most a b k = search (arith, nat_tests, k)
-
       old : (x : Record) × (find_record id s.tables.records ≡ Some x)
       old = record_of_live id live
 
@@ -168,9 +144,6 @@ module _ (r : Rules) (s : Turn) (calm : IsCalm s) (t' : Tables) where
 
       own : find_record id t'.records ≡ Some (raised s.tables.profile old.0)
       own = leaves.own ∙ ap (option_map (raised s.tables.profile)) old.1
-
-      lim : nat_lt s.tables.profile.credit_limit (old.0.count + 2 ^ s.tables.profile.credit_log - 1) ≡ nat_lt s.tables.profile.credit_limit (more_here s.tables id)
-      lim = ap (λ n. nat_lt s.tables.profile.credit_limit (n + 2 ^ s.tables.profile.credit_log - 1)) (sym was)
 
       each : (b : Bool) → nat_lt s.tables.profile.credit_limit (more_here s.tables id) ≡ b
           → Leads r s t' (cond b (Count (bare id) (count_here s.tables id) Refused) (Count (bare id) (more_here s.tables id) Granted) ∷ [])
@@ -188,12 +161,8 @@ module _ (r : Rules) (s : Turn) (calm : IsCalm s) (t' : Tables) where
             object = refl;
             home = home_of_live id live;
             same = was;
-            limit = let l : s.tables.profile.credit_limit < more_here s.tables id = is_less s.tables.profile.credit_limit (more_here s.tables id) e in omega (arith, l, pow_pos s.tables.profile.credit_log);
-            recounts = record {
-              was = old.1;
-              own = own ∙ ap (λ c. Some (cond c old.0 (record old.0 { count = old.0.count + 2 ^ s.tables.profile.credit_log - 1 }))) (lim ∙ e);
-              others = leaves.others;
-            };
+            limit = let l : s.tables.profile.credit_limit < more_here s.tables id = search (arith, nat_tests, e) in omega (arith, l, pow_pos s.tables.profile.credit_log);
+            recounts = grind arith;
             now = ap (λ t. record (drops s) { tables = t; last = Some event })
                 (deals ∙ ap (λ c. record (with_mail asker (Give (cond c id (record id { log = Some s.tables.profile.credit_log })) entry) s.tables) { records = t'.records }) e);
           })
@@ -212,7 +181,7 @@ module _ (r : Rules) (s : Turn) (calm : IsCalm s) (t' : Tables) where
             object = refl;
             home = home_of_live id live;
             sum = omega (arith, was, one, enough);
-            limit = is_at_most s.tables.profile.credit_limit (more_here s.tables id) e;
+            limit = search (arith, nat_tests, e);
             recounts = record { was = old.1; own = own; others = leaves.others };
             now = ap (λ t. record (drops s) { tables = t; last = Some event })
                 (deals ∙ ap (λ c. record (with_mail asker (Give (cond c id (record id { log = Some s.tables.profile.credit_log })) entry) s.tables) { records = t'.records }) e);
@@ -237,8 +206,7 @@ pub record Found (p : Standing → Bool) (xs : List Standing) (x : Standing) : T
 
 found_place : (p : Standing → Bool) (xs : List Standing) (x : Standing) → find p xs ≡ Some x → Found p xs x
 found_place p [] x h = cc
-found_place p (y ∷ ys) x h = if_so (p y)
-    (λ t. record { i = 0; there = rw t at h; less = rw t refl })
+found_place p (y ∷ ys) x h = if_so (p y) (λ t. record { i = 0; there = rw t at h; less = rw t refl })
     (λ f. let k = found_place p ys x (rw f at h) in record { i = suc k.i; there = k.there; less = rw f (ap (λ zs. y ∷ zs) k.less) })
 
 pub freed_leads : (r : Rules) (s : Turn) (t' : Tables) (o : Id) → IsCalm s → s.working ≡ [] → s.loose ≡ [] → IsTold r (Free o) s → broken_free s.tables (Free o) o ≡ None

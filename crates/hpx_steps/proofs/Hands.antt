@@ -90,8 +90,7 @@ put_asked o (suc n) (z ∷ zs) zero x y lt at = omega (arith, one y (is_asked y)
 put_asked o (suc n) (z ∷ zs) (suc p) x y lt at = asked_behind o z (take n (set zs p y)) (take n zs) (asks_one o x) (asks_one o y) (put_asked o n zs p x y (omega (arith, lt)) at) (is_asked z) refl
 
 -- what waits for an id waits for one of the same object
-pub put_for : (w w' : Waits) (o : Id) (n : ℕ) → ((q : ℕ) → bare (id_at w'.hand q) ≡ bare (id_at w.hand q)) → (xs : List Asked)
-    → count_by (is_asked_for w' o n) xs ≡ count_by (is_asked_for w o n) xs
+pub put_for : (w w' : Waits) (o : Id) (n : ℕ) → ((q : ℕ) → bare (id_at w'.hand q) ≡ bare (id_at w.hand q)) → (xs : List Asked) → count_by (is_asked_for w' o n) xs ≡ count_by (is_asked_for w o n) xs
 put_for w w' o n same xs = count_same (is_asked_for w' o n) (is_asked_for w o n) (λ x. ap (λ (y : Id). (x.entry == n) && same_object o y) (same x.place)) xs
 
 pub place_at : (ids : List Id) (p : ℕ) → p < length ids → slice_get ids p ≡ Some (id_at ids p)

@@ -1,7 +1,6 @@
 -- A frame comes in.
 use Rattle.hpx_steps.proofs.Common.{weighed, Actions, Came, ComesIn, Entry, Id, In, IsParcel, IsSound, IsTidy, List, Outgoing, Parcel, Rules, Some, TidyAt, Turn, View, [], ap, arith, asks_for, bare_act, bare_due, count_by, counts_of, flat_map, follows_in, gives_for, map, owes, parcel_acts, parcel_asks, refl, same_object, subst, sym, tokens, travels_in, view, worth, wrote, ℕ, ◌++◌, ◌+◌, ◌∷◌, ◌≡◌}
-use Rattle.hpx_steps.proofs.Tools.{Changes, Keeps, asks_of, counts_near, holding, numbered_so, one_comes, orders_so, pays_so, seen_sum, sees_by, sees_leads, view_worth}
-use Rattle.hpx_steps.proofs.Changes.{came_change}
+use Rattle.hpx_steps.proofs.Tools.{Changes, Keeps, asks_of, came_change, counts_near, holding, numbered_so, one_comes, orders_so, pays_so, seen_sum, sees_by, sees_leads, view_worth}
 
 module _ (r : Rules) (s : Turn) (entries : List Entry) (h : IsSound r s entries) (p : Parcel) (bytes : List ℕ) (due : s.due ≡ []) (fresh : s.fresh ≡ [])
     (empty : s.came ≡ []) (spelled : r.parcel_of bytes ≡ Some p) (fit : IsParcel p) (none : travels_in (Some p) ≡ []) where
@@ -47,13 +46,11 @@ module _ (r : Rules) (s : Turn) (entries : List Entry) (h : IsSound r s entries)
     places = h.places;
     commits = h.commits;
     numbered = numbered_so r s now (In bytes) [] (Came p ∷ []) change.0 (omega arith) (λ n. omega arith);
-    pays = pays_so r s now (In bytes) [] (Came p ∷ []) change.0 (λ row. omega (arith, told (owes row))) (omega (arith, told (owes Actions))) (omega arith)
-        (λ o. rw spelled (omega arith));
+    pays = pays_so r s now (In bytes) [] (Came p ∷ []) change.0 (λ row. omega (arith, told (owes row))) (omega (arith, told (owes Actions))) (omega arith) (λ o. rw spelled (omega arith));
     orders = orders_so r s now (In bytes) [] (Came p ∷ []) change.0 tt
         (λ o n. omega (arith, told (gives_for o n), told (asks_for s.tables.here o n))) (λ j d o n. omega (arith, told (asks_for j o n)));
     counts = counts_near s now (In bytes) refl (omega arith) (omega arith) (omega arith) (omega arith) refl (λ l. refl);
   }
 
 pub in_step : (r : Rules) (s s' : Turn) (entries : List Entry) (bytes : List ℕ) → IsSound r s entries → ComesIn r s bytes s' → Keeps r s s' (In bytes)
-in_step r s s' entries bytes h g = subst (λ x. Keeps r s x (In bytes)) (sym g.now)
-    (in_keeps r s entries h g.parcel bytes g.calm.due g.calm.fresh g.free.came g.spelled g.fit g.none)
+in_step r s s' entries bytes h g = subst (λ x. Keeps r s x (In bytes)) (sym g.now) (in_keeps r s entries h g.parcel bytes g.calm.due g.calm.fresh g.free.came g.spelled g.fit g.none)

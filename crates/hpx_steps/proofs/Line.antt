@@ -15,8 +15,7 @@ module _ (r : Rules) (s : Turn) (entries : List Entry) (h : IsSound r s entries)
   act = line_act name bytes
 
   abbrev now : Turn
-  now = wrote (Line (record { origin = s.tables.here; serial = s.tables.serial + 1 }) bytes)
-      (posts (line_act (record { origin = s.tables.here; serial = s.tables.serial + 1 }) bytes) (draws s))
+  now = wrote (Line (record { origin = s.tables.here; serial = s.tables.serial + 1 }) bytes) (posts (line_act (record { origin = s.tables.here; serial = s.tables.serial + 1 }) bytes) (draws s))
 
   -- the session stands here, so the line is accepted
   change : Changes [] (Accepted (line_act (record { origin = s.tables.here; serial = s.tables.serial + 1 }) bytes) ∷ []) s now
@@ -34,11 +33,7 @@ module _ (r : Rules) (s : Turn) (entries : List Entry) (h : IsSound r s entries)
 
   pub line_keeps : Keeps r s now (Line name bytes)
   line_keeps = record {
-    leads = (
-      seen,
-      follows_line r (view s) put.front put.back bytes (ap (map bare_due) due) fresh first short put.was,
-      sees_leads r seen now sees,
-    );
+    leads = (seen, follows_line r (view s) put.front put.back bytes (ap (map bare_due) due) fresh first short put.was, sees_leads r seen now sees);
     tidy = holding (TidyAt s) (Accepted act ∷ []) s now change.1 h.tidy ((line_fit name bytes short, tt, h.places.serves first), tt);
     places = h.places;
     commits = h.commits;

@@ -18,8 +18,7 @@ find_past p [] ys h = refl
 find_past p (x ∷ xs) ys h = let e = h.0 in rw e (find_past p xs ys h.1)
 
 -- what has a later number is none of these
-other_than : (here n : ℕ) (o : Id) → 16 ≤ o.kind → o.home ≡ here → n < o.number → (xs : List Standing) → AllByRecursion (Drawn here n) xs
-    → AllByRecursion (λ x. is_standing o x ≡ false) xs
+other_than : (here n : ℕ) (o : Id) → 16 ≤ o.kind → o.home ≡ here → n < o.number → (xs : List Standing) → AllByRecursion (Drawn here n) xs → AllByRecursion (λ x. is_standing o x ≡ false) xs
 other_than here n o managed home late [] h = tt
 other_than here n o managed home late (x ∷ xs) h = grind (arith, cases_Bool, same_object-true, other_than here n o managed home late xs h.1)
 
@@ -36,8 +35,7 @@ are_made here n log (make ∷ makes) before fit drawn =
     let own : is_standing (bare_id here make.kind (n + 1)) new ≡ true = same_object-refl o in (
       refl,
       past ∙ rw own refl,
-      subst (AreMade makes (map bare (ids_of here (n + 1) log (map birth_of makes)))) (append_assoc before (new ∷ []) rest)
-          (are_made here (n + 1) log makes (before ++ new ∷ []) fit.1
+      subst (AreMade makes (map bare (ids_of here (n + 1) log (map birth_of makes)))) (append_assoc before (new ∷ []) rest) (are_made here (n + 1) log makes (before ++ new ∷ []) fit.1
           (all_append (Drawn here (n + 1)) before (new ∷ []) (more before drawn) ((λ managed home. omega arith), tt))),
     )
   where

@@ -1,8 +1,6 @@
 -- The first message on the desk is taken up.
-use Rattle.hpx_steps.proofs.Common.{Entry, IsSound, IsTidy, List, Mail, Mailed, OnDesk, Parcel, Rules, Some, TakesUp, TidyAt, Turn, View, [], ap, arith, bare_due, follows_mail, inl, kind_of, map, refl, subst, sym, view, wrote, ℕ, ◌∷◌, ◌≡◌, ◌≤◌}
-use Rattle.hpx_steps.proofs.Tools.{Changes, Keeps, by_rows, counts_near, first_goes, holding, one_comes, sees_leads, then}
-use Rattle.hpx_steps.proofs.Calm.{numbered_so, orders_so, own_asks, pays_so}
-use Rattle.hpx_steps.proofs.Changes.{desk_change, mailed_change}
+use Rattle.hpx_steps.proofs.Common.{Entry, IsSound, IsTidy, List, Mail, Mailed, OnDesk, Parcel, Rules, Some, TakesUp, TidyAt, Turn, [], ap, arith, bare_due, follows_mail, inl, kind_of, map, refl, subst, sym, view, wrote, ℕ, ◌∷◌, ◌≡◌, ◌≤◌}
+use Rattle.hpx_steps.proofs.Tools.{Changes, Keeps, by_rows, counts_near, desk_change, first_goes, holding, mailed_change, numbered_so, one_comes, orders_so, own_asks, pays_so, sees_leads, then}
 
 kind_low : (p : Parcel) → (1 ≤ kind_of p) × (kind_of p ≤ 10)
 kind_low p = grind arith
@@ -23,15 +21,12 @@ module _ (r : Rules) (s : Turn) (entries : List Entry) (h : IsSound r s entries)
   tidy : IsTidy now
   tidy = holding (TidyAt s) (Mailed p ∷ []) s now change.1 h.tidy (its, tt)
 
-  abbrev seen : View
-  seen = record (view s) { last = Some (Mail (kind_of p)) }
-
   pub mail_keeps : Keeps r s now (Mail (kind_of p))
   mail_keeps = record {
     leads = (
-      seen,
+      (record (view s) { last = Some (Mail (kind_of p)) }),
       follows_mail r (view s) (kind_of p) (ap (map bare_due) due) fresh (kind_low p).0 (kind_low p).1,
-      sees_leads r seen now (grind arith),
+      sees_leads r (record (view s) { last = Some (Mail (kind_of p)) }) now (grind arith),
     );
     tidy = tidy;
     places = h.places;

@@ -3,8 +3,7 @@ use Rattle.hpx_steps.proofs.Common.{AllByRecursion, Bool, Came, FreesNone, Going
 use Rattle.hpx_steps.proofs.Changes.{sent_if, total}
 
 -- a message that weighs the same on the desk and away
-pub sent_total : (w : Item → ℕ) (b other : Bool) (to : ℕ) (p : Parcel) (n : ℕ) → w (OnDesk p) ≡ n → w (Going (going to p)) ≡ n
-    → total w (sent_if b other to p) ≡ cond b n 0
+pub sent_total : (w : Item → ℕ) (b other : Bool) (to : ℕ) (p : Parcel) (n : ℕ) → w (OnDesk p) ≡ n → w (Going (going to p)) ≡ n → total w (sent_if b other to p) ≡ cond b n 0
 sent_total w b other to p n a e = grind arith
 
 sent_all : (P : Item → Type 0) (b other : Bool) (to : ℕ) (p : Parcel) → (b ≡ true → other ≡ false → P (OnDesk p))
@@ -27,8 +26,7 @@ mail_tidy t b to p fit may own stays = grind arith
 pub held_by : (f : Token → ℕ) (id : Id) (log : ℕ) → id.log ≡ Some log → sum_by f (tokens_of (id ∷ [])) ≡ f (held_token (bare id) log)
 held_by f id log some = grind arith
 
-pub owed_by : (f : Token → ℕ) (id : Id) (log : ℕ) → id.log ≡ Some log
-    → sum_by f (map owing (credit_list id id.log ++ [])) ≡ f (owed_token (bare id) log)
+pub owed_by : (f : Token → ℕ) (id : Id) (log : ℕ) → id.log ≡ Some log → sum_by f (map owing (credit_list id id.log ++ [])) ≡ f (owed_token (bare id) log)
 owed_by f id log some = grind arith
 
 -- ---- the message in hand is well formed

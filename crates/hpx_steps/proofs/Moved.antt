@@ -3,8 +3,7 @@ use Rattle.hpx_steps.proofs.Common.{Act, Agree, Bool, Id, Leads, List, Local, Ru
 use Rattle.hpx_steps.proofs.Busy.{bare_middle}
 
 -- what is in one place of the list may be in another
-agree_moved : {K X : Type 0} (test : K → X → Bool) (xs l m l' m' : List X) (x : X) → l ++ m ≡ l' ++ m' → Agree test xs (l ++ x ∷ m)
-    → Agree test xs (l' ++ x ∷ m')
+agree_moved : {K X : Type 0} (test : K → X → Bool) (xs l m l' m' : List X) (x : X) → l ++ m ≡ l' ++ m' → Agree test xs (l ++ x ∷ m) → Agree test xs (l' ++ x ∷ m')
 agree_moved test xs l m l' m' x same agree =
     let counts : (k : _) → count_by (test k) (l ++ m) ≡ count_by (test k) (l' ++ m') = λ k. ap (count_by (test k)) same in record {
       single = agree.single;
@@ -26,8 +25,7 @@ pub leads_on : (r : Rules) (v m w : View) → Leads r v [] m → Leads r m [] w 
 leads_on r v m w a b = (b.0 ∙ a.0, λ c. b.1 (a.1 c), λ s h. b.2 s (a.2 s h))
 
 -- the actions that wait, and those that are fired, in another order
-module _ (r : Rules) (v : View) (ws fs : List Act) (waiting : (xs : List Act) → Agree is_act xs v.waiting → Agree is_act xs ws)
-    (fired : (xs : List Act) → Agree is_act xs v.fired → Agree is_act xs fs)
+module _ (r : Rules) (v : View) (ws fs : List Act) (waiting : (xs : List Act) → Agree is_act xs v.waiting → Agree is_act xs ws) (fired : (xs : List Act) → Agree is_act xs v.fired → Agree is_act xs fs)
     (names : (o : Id) → sum_by (act_names o) ws + sum_by (act_names o) fs ≡ sum_by (act_names o) v.waiting + sum_by (act_names o) v.fired) where
   abbrev ordered : View
   ordered = record v { waiting = ws; fired = fs }

@@ -39,8 +39,7 @@ module _ (p : Standing → Bool) where
 
   none_set : (xs : List Standing) (j : ℕ) (x y : Standing) → slice_get xs j ≡ Some x → p y ≡ p x → find p xs ≡ None → find p (set xs j y) ≡ None
   none_set [] j x y h same none = cc
-  none_set (z ∷ xs) zero x y h same none = if_so (p z)
-      (λ t. absurd (let e : Some z ≡ None = rw t at none in cc))
+  none_set (z ∷ xs) zero x y h same none = if_so (p z) (λ t. absurd (let e : Some z ≡ None = rw t at none in cc))
       (λ f. let e : p y ≡ false = same ∙ (ap p (sym (some_same z x h)) ∙ f) in rw e (rw f at none))
   none_set (z ∷ xs) (suc j) x y h same none = if_so (p z) (λ t. absurd (let e : Some z ≡ None = rw t at none in cc)) (λ f. rw f (none_set xs j x y h same (rw f at none)))
 
@@ -74,10 +73,8 @@ get_set (z ∷ xs) (suc i) x y h = get_set xs i x y h
 
 pub single_set : (xs : List Standing) (j : ℕ) (x y : Standing) → slice_get xs j ≡ Some x → y.object ≡ x.object → Single xs → Single (set xs j y)
 single_set [] j x y h same single = tt
-single_set (z ∷ xs) zero x y h same single =
-    (ap (λ o. find (is_standing o) xs) (same ∙ ap (λ (v : Standing). v.object) (sym (some_same z x h))) ∙ single.0, single.1)
-single_set (z ∷ xs) (suc j) x y h same single =
-    (none_set (is_standing z.object) xs j x y h (ap (same_object z.object) same) single.0, single_set xs j x y h same single.1)
+single_set (z ∷ xs) zero x y h same single = (ap (λ o. find (is_standing o) xs) (same ∙ ap (λ (v : Standing). v.object) (sym (some_same z x h))) ∙ single.0, single.1)
+single_set (z ∷ xs) (suc j) x y h same single = (none_set (is_standing z.object) xs j x y h (ap (same_object z.object) same) single.0, single_set xs j x y h same single.1)
 
 pub single_less : (xs : List Standing) (j : ℕ) → Single xs → Single (remove xs j)
 single_less [] zero single = tt
@@ -90,8 +87,7 @@ single_more [] y single other = (refl, tt)
 single_more (x ∷ xs) y single other = (none_more (is_standing x.object) xs y single.0 other.0, single_more xs y single.1 other.1)
 
 -- so the one at j is found
-pub single_found : (xs : List Standing) (j : ℕ) (x : Standing) (o : Id) → Single xs → slice_get xs j ≡ Some x → same_object o x.object ≡ true
-    → find (is_standing o) xs ≡ Some x
+pub single_found : (xs : List Standing) (j : ℕ) (x : Standing) (o : Id) → Single xs → slice_get xs j ≡ Some x → same_object o x.object ≡ true → find (is_standing o) xs ≡ Some x
 single_found [] j x o single at same = cc
 single_found (z ∷ xs) zero x o single at same = cc
 single_found (z ∷ xs) (suc j) x o single at same =
@@ -106,8 +102,7 @@ pub all_but : (P : Standing → Type 0) (xs : List Standing) (j : ℕ) (x y : St
 all_but P [] j x y single h p all = tt
 all_but P (z ∷ xs) zero x y single h p all = (p, others xs single.0 all.1)
   where
-    others : (ys : List Standing) → find (is_standing z.object) ys ≡ None → AllByRecursion (λ (v : Standing). same_object v.object x.object ≡ false → P v) ys
-        → AllByRecursion P ys
+    others : (ys : List Standing) → find (is_standing z.object) ys ≡ None → AllByRecursion (λ (v : Standing). same_object v.object x.object ≡ false → P v) ys → AllByRecursion P ys
     others [] none a = tt
     others (v ∷ ys) none a =
         let f : same_object z.object v.object ≡ false = none_passes (is_standing z.object) (v ∷ ys) 0 v none refl in
@@ -115,8 +110,7 @@ all_but P (z ∷ xs) zero x y single h p all = (p, others xs single.0 all.1)
           a.0 (false_from (same_object v.object x.object) (λ t. let e : true ≡ false = sym (same_object-sym v.object x.object t) ∙ g in cc)),
           others ys (none_less (is_standing z.object) (v ∷ ys) 0 none) a.1,
         )
-all_but P (z ∷ xs) (suc j) x y single h p all =
-    (all.0 (none_passes (is_standing z.object) xs j x single.0 h), all_but P xs j x y single.1 h p all.1)
+all_but P (z ∷ xs) (suc j) x y single h p all = (all.0 (none_passes (is_standing z.object) xs j x single.0 h), all_but P xs j x y single.1 h p all.1)
 
 -- ---- what is tidy stays tidy where other objects stand
 

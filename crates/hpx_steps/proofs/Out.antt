@@ -1,8 +1,6 @@
 -- A frame goes out.
 use Rattle.hpx_steps.proofs.Common.{weighed, Act, Entry, FreesNone, GoesOut, Going, IsSound, IsTidy, List, MayGoTo, MayLeave, Out, Outgoing, Parcel, Rules, Some, TidyAt, Turn, View, [], ap, append_assoc, arith, asks_for, bare_due, brings, cond, counts_of, flat_map, follows_out, gives_for, inl, map, parcel_acts, parcel_asks, refl, same_object, tokens, view, weight, worth, wrote, ℕ, ◌++◌, ◌+◌, ◌==◌, ◌∷◌, ◌≡◌}
-use Rattle.hpx_steps.proofs.Tools.{Changes, Keeps, Sees, asks_of, counts_near, first_goes, flat_append, frees_of, holding, numbered_so, orders_so, pays_so, same_dead, seen_sum, sees_by, sees_covers, sees_leads, told_as, view_covered, view_worth}
-use Rattle.hpx_steps.proofs.Changes.{outgoing_change}
-use Rattle.hpx_steps.proofs.Waits.{acts_before}
+use Rattle.hpx_steps.proofs.Tools.{Changes, Keeps, Sees, acts_before, asks_of, counts_near, first_goes, flat_append, frees_of, holding, numbered_so, orders_so, outgoing_change, pays_so, same_dead, seen_sum, sees_by, sees_covers, sees_leads, told_as, view_covered, view_worth}
 
 -- what may go may leave what is seen
 may_leave : (v : View) (to : ℕ) (p : Parcel) → FreesNone p → MayGoTo v.here to p → MayLeave v to p
@@ -57,14 +55,12 @@ module _ (r : Rules) (s : Turn) (entries : List Entry) (h : IsSound r s entries)
     commits = h.commits;
     numbered = numbered_so r s now (Out x.to bytes) (Going x ∷ []) [] change.0 (omega arith) (λ n. omega arith);
     pays = pays_so r s now (Out x.to bytes) (Going x ∷ []) [] change.0 (λ row. omega (arith, told (weight row))) (omega (arith, told brings)) (omega arith) (λ o. omega arith);
-    orders = orders_so r s now (Out x.to bytes) (Going x ∷ []) [] change.0
-        (record { parcel = x.parcel; spelled = spelled; way = its.1; own = its.2; stays = its.3 })
+    orders = orders_so r s now (Out x.to bytes) (Going x ∷ []) [] change.0 (record { parcel = x.parcel; spelled = spelled; way = its.1; own = its.2; stays = its.3 })
         (λ o n. omega (arith, told (asks_for s.tables.here o n))) (λ j d o n. omega (arith, ap (λ k. cond (x.to == j) k 0) (told (gives_for o n))));
     counts = counts_near s now (Out x.to bytes) refl (omega arith) (omega arith) (omega arith) refl (omega arith) (λ l. refl);
   }
 
-pub out_step : (r : Rules) (s s' : Turn) (entries : List Entry) (to : ℕ) (bytes : List ℕ) → IsSound r s entries
-    → GoesOut r s to bytes s' → Keeps r s s' (Out to bytes)
+pub out_step : (r : Rules) (s s' : Turn) (entries : List Entry) (to : ℕ) (bytes : List ℕ) → IsSound r s entries → GoesOut r s to bytes s' → Keeps r s s' (Out to bytes)
 out_step r s s' entries to bytes h g =
     told_as r s s' (λ n. Out n bytes) (λ n. record s { tables = record s.tables { outgoing = g.rest; sent = s.tables.sent + 1 } }) to g.first.to g.place g.now
     (out_keeps r s entries h g.first g.rest bytes g.calm.due g.calm.fresh g.is g.spelled)

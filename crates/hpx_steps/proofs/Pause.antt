@@ -11,8 +11,7 @@ module _ (r : Rules) (s : Turn) (entries : List Entry) (h : IsSound r s entries)
   now = record s { working = rest; tables = record s.tables { pending = s.tables.pending ++ record w { places = places } ∷ [] } }
 
   change : Changes (Working w ∷ []) (Pending waiter ∷ []) s now
-  change = then (Working w ∷ []) [] [] (Pending waiter ∷ []) s (record s { working = rest }) now
-      (working_change (Working w ∷ []) [] s rest (first_goes (λ x. Working x) s.working w rest works))
+  change = then (Working w ∷ []) [] [] (Pending waiter ∷ []) s (record s { working = rest }) now (working_change (Working w ∷ []) [] s rest (first_goes (λ x. Working x) s.working w rest works))
       (pending_change [] (Pending waiter ∷ []) (record s { working = rest }) (s.tables.pending ++ waiter ∷ []) (more_come (λ x. Pending x) s.tables.pending (waiter ∷ [])))
 
   its : IsCommit s.tables.here s.tables.localities w
@@ -37,8 +36,7 @@ module _ (r : Rules) (s : Turn) (entries : List Entry) (h : IsSound r s entries)
   seen = record (view s) { fired = map bare_act ((s.tables.running ++ map action_of others) ++ w.job.action ∷ map action_of []) }
 
   fires : (view s).fired ≡ map bare_act ((s.tables.running ++ map action_of []) ++ w.job.action ∷ map action_of others)
-  fires = ap (λ ws. map bare_act (fired_of s.tables.running (ws ++ s.tables.pending))) works
-      ∙ ap (map bare_act) (was_fired s.tables.objects s.tables.running [] others others [] w waiter refl same)
+  fires = ap (λ ws. map bare_act (fired_of s.tables.running (ws ++ s.tables.pending))) works ∙ ap (map bare_act) (was_fired s.tables.objects s.tables.running [] others others [] w waiter refl same)
 
   -- in another order
   refused : (f : Refusal → ℕ) → sum_by f (refusals_of (commits now)) ≡ sum_by f (refusals_of (commits s))
@@ -53,8 +51,7 @@ module _ (r : Rules) (s : Turn) (entries : List Entry) (h : IsSound r s entries)
     asks = λ o. refl;
     live = λ o home. refl;
     dead = λ o. omega arith;
-    refusals = λ y k. any_counted (same_refusal y) (refusals_of (commits s))
-        (omega (arith, counted_any (same_refusal y) (refusals_of (commits now)) k, refused (counts_of (same_refusal y))));
+    refusals = λ y k. any_counted (same_refusal y) (refusals_of (commits s)) (omega (arith, counted_any (same_refusal y) (refusals_of (commits now)) k, refused (counts_of (same_refusal y))));
     failing = omega (arith, long_sum (refusals_of (commits s)), long_sum (refusals_of (commits now)), refused (λ x. 1));
   }
 

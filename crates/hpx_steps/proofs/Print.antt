@@ -2,8 +2,7 @@
 use Rattle.hpx_steps.proofs.Common.{Due, Entry, IsDue, IsSound, List, Print, PrintDue, Prints, Rules, Some, TidyAt, Turn, View, [], ap, arith, bare_due, follows_print, map, refl, subst, sym, view, worth, wrote, ℕ, ◌∷◌, ◌≡◌}
 use Rattle.hpx_steps.proofs.Tools.{Changes, Keeps, Sees, by_rows, counts_near, due_change, first_goes, holding, numbered_so, orders_so, pays_so, sees_by, sees_leads, view_worth}
 
-module _ (r : Rules) (s : Turn) (entries : List Entry) (h : IsSound r s entries) (bytes : List ℕ) (rest : List Due) (fresh : s.fresh ≡ [])
-    (due : s.due ≡ PrintDue bytes ∷ rest) where
+module _ (r : Rules) (s : Turn) (entries : List Entry) (h : IsSound r s entries) (bytes : List ℕ) (rest : List Due) (fresh : s.fresh ≡ []) (due : s.due ≡ PrintDue bytes ∷ rest) where
   abbrev now : Turn
   now = wrote (Print bytes) (record s { due = rest })
 

@@ -65,8 +65,7 @@ not_false b h = grind arith
 fit_parcel : (act : Act) → IsFit act → IsParcel (parcel_for act)
 fit_parcel act fit = grind arith
 
-pub put_tidy : (t : Tables) (act : Act) → IsFit act
-    → IsTidyIn t.here t.localities t.profile.credit_log t.births t.objects (put_as (may_stay t act) (is_other t (target_of act).home) act)
+pub put_tidy : (t : Tables) (act : Act) → IsFit act → IsTidyIn t.here t.localities t.profile.credit_log t.births t.objects (put_as (may_stay t act) (is_other t (target_of act).home) act)
 put_tidy t act fit = each (may_stay t act) refl
   where
     sent : AllByRecursion (IsTidyIn t.here t.localities t.profile.credit_log t.births t.objects) (sent_if true (is_other t (target_of act).home) (target_of act).home (parcel_for act))

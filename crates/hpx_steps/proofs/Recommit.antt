@@ -53,8 +53,7 @@ token_held s w rest p id log works at has =
 
 -- ---- the first n of a hand, with another id at a place and more behind
 
-pub first_map : (g : Id → Id) (n p : ℕ) (hand more : List Id) (x y : Id) → slice_get hand p ≡ Some x → g y ≡ g x → n ≤ length hand
-    → map g (take n (set hand p y ++ more)) ≡ map g (take n hand)
+pub first_map : (g : Id → Id) (n p : ℕ) (hand more : List Id) (x y : Id) → slice_get hand p ≡ Some x → g y ≡ g x → n ≤ length hand → map g (take n (set hand p y ++ more)) ≡ map g (take n hand)
 first_map g zero p hand more x y at same le = refl
 first_map g (suc n) p [] more x y at same le = absurd (cc)
 first_map g (suc n) zero (z ∷ hand) more x y at same le = grind (arith, some_same, hand, take-append-le)

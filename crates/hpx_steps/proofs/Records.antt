@@ -2,8 +2,7 @@
 use Rattle.hpx_steps.proofs.Common.{HasPlaces, Id, List, Option, Record, Recounts, Some, StaysAt, Tables, [], ap, bare, cases_Bool, cond, count_in, counted, false, find, find_record, inl, inr, is_recorded, map, option_map_or, refl, same_object, same_object-sym, same_object-true, sym, true, ◌∙◌, ◌∷◌, ◌≡◌}
 use Rattle.hpx_steps.proofs.Tools.{if_so}
 
-pub found_counted : (x : Id) (rs : List Record)
-    → count_in (find (is_recorded x) (map counted rs)) ≡ option_map_or (λ (r : Record). r.count) (find_record x rs) 0
+pub found_counted : (x : Id) (rs : List Record) → count_in (find (is_recorded x) (map counted rs)) ≡ option_map_or (λ (r : Record). r.count) (find_record x rs) 0
 found_counted x [] = refl
 found_counted x (r ∷ rs) = if_so (same_object x r.gid) (λ t. rw t refl) (λ t. rw t (found_counted x rs))
 
@@ -11,8 +10,7 @@ other_way : (a b : Id) → same_object a b ≡ false → same_object b a ≡ fal
 other_way a b h = if_so (same_object b a) (λ t. absurd (let e : true ≡ false = sym (same_object-sym b a t) ∙ h in cc)) (λ t. t)
 
 -- the record of one object changes, and no other
-pub one_recounted : (id : Id) (old : Record) (made : Option Record) (rs rs' : List Record) → Recounts id old made rs rs' → (x : Id)
-    → count_in (find (is_recorded x) (map counted rs'))
+pub one_recounted : (id : Id) (old : Record) (made : Option Record) (rs rs' : List Record) → Recounts id old made rs rs' → (x : Id) → count_in (find (is_recorded x) (map counted rs'))
     ≡ cond (same_object x (bare id)) (option_map_or (λ (r : Record). r.count) made 0) (count_in (find (is_recorded x) (map counted rs)))
 one_recounted id old made rs rs' k x = elim (cases_Bool (same_object x (bare id))) [
   | inl t ↦

@@ -1,7 +1,6 @@
 -- What was asked for is put into the hand of the commit that waits for it.
 use Rattle.hpx_steps.proofs.Common.{AskedFor, Bool, HasCredit, HasRightCredit, HasSplit, Id, IsCommit, IsShort, List, Option, Some, Waits, all_append, all_at, all_remove, and_true, ap, append_assoc, arith, bare, cases_Bool, cond, count_by, eq-eqb, eqb-true, false, first_stock, id_at, ids_named, inl, inr, is_asked, is_asked_for, is_some, length, length-append, list_any, log_of, nat_le, not, own_ids, place_bare, place_some, refilled, refl, remove, same_object, same_object-true, set, slice_get, some_same, subst, sym, true, whole_stock, ℕ, ◌&&◌, ◌++◌, ◌+◌, ◌<◌, ◌==◌, ◌∙◌, ◌≡◌, ◌≤◌, ◌⊎◌}
-use Rattle.hpx_steps.proofs.Tools.{front_place, hand_long, has_not_asked, if_so, less_sum, not_asked, place_at, put_elsewhere, put_names, put_there, recommit, some_log, take_place}
-use Rattle.hpx_steps.proofs.Hands.{any_place, names_place, put_behind}
+use Rattle.hpx_steps.proofs.Tools.{any_place, front_place, hand_long, has_not_asked, if_so, less_sum, names_place, not_asked, place_at, put_behind, put_elsewhere, put_names, put_there, recommit, some_log, take_place}
 
 short_still : (log : ℕ) (b : Bool) (o : Id) (was : Option Id) (id : Id) → IsShort log was id → IsShort log (cond b (Some o) was) id
 short_still log b o was id c = grind arith
@@ -36,8 +35,7 @@ module _ (k l log : ℕ) (w : Waits) (n : ℕ) (ask : AskedFor) (id : Id) (entry
   pub asked_no_more : is_asked id ≡ false
   asked_no_more = has_not_asked id (log_of id.log) (some_log id.kind id.log credit)
 
-  once_then : (q : ℕ) → q < length (ids_named w)
-      → count_by (λ (x : AskedFor). x.place == q) (remove w.asked n) ≡ cond (is_asked (id_at (set w.hand ask.place id) q)) 1 0
+  once_then : (q : ℕ) → q < length (ids_named w) → count_by (λ (x : AskedFor). x.place == q) (remove w.asked n) ≡ cond (is_asked (id_at (set w.hand ask.place id) q)) 1 0
   once_then q lt = elim (cases_Bool (ask.place == q)) [
     | inl t ↦
         let e : ask.place ≡ q = eqb-true ask.place q t in

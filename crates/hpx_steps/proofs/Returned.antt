@@ -1,7 +1,6 @@
 -- Credit comes home.
 use Rattle.hpx_steps.proofs.Common.{Bool, Came, Count, Entry, Event, Free, Going, HasInHand, Id, IsSound, IsTidy, Item, List, Mailed, MatchOption, OnDesk, Option, Record, Recounts, Return, Returned, Row, Rules, Some, StaysAt, Tables, TakesBack, TidyAt, Token, Turn, View, [], ap, arith, asked_by, asks_under, bare, bare_due, causes, cond, count_by, count_in, counted, counts_of, counts_true, credit, credit_of_log, drops, eqb-true, false, find, follows_returned, freeing, given_to, goes, going, hopping, is_other, is_recorded, joined, lowered, mails_if, map, one_if, option_map_or, owed_token, owes, parcel_frees, refl, same_object, same_token, subst, sum_by, sum_by-cons, sym, token_own, tokens, true, unpaid, view, waits_for, weigh, weight, with_records, worth, wrote, ℕ, ◌&&◌, ◌++◌, ◌+◌, ◌==◌, ◌^◌, ◌∙◌, ◌∷◌, ◌≡◌, ◌≤◌}
-use Rattle.hpx_steps.proofs.Tools.{Changes, Keeps, Sees, asks_of, bound_none, by_rows, counts_near, drop_change, drop_waits, fewer, frees_of, hand_fit, hand_weighs, holding, if_so, in_hand, is_frame, mail_change, mail_tidy, mail_waits, owed_by, own_sum, same_asks, sees_covers, sees_leads, sent_if, sent_total, then, told_as, total, view_covered, view_worth}
-use Rattle.hpx_steps.proofs.Mails.{other_is}
+use Rattle.hpx_steps.proofs.Tools.{Changes, Keeps, Sees, asks_of, bound_none, by_rows, counts_near, drop_change, drop_waits, fewer, frees_of, hand_fit, hand_weighs, holding, if_so, in_hand, is_frame, mail_change, mail_tidy, mail_waits, other_is, owed_by, own_sum, same_asks, sees_covers, sees_leads, sent_if, sent_total, then, told_as, total, view_covered, view_worth}
 use Rattle.hpx_steps.proofs.Records.{found_counted, one_recounted, places_still}
 
 lowered_stays : (k : ℕ) (old x : Record) (id : Id) → lowered old id ≡ Some x → StaysAt k old → StaysAt k x
@@ -35,8 +34,7 @@ module _ (r : Rules) (s : Turn) (entries : List Entry) (h : IsSound r s entries)
   was = in_hand (is_frame (Return id) s hand) (Return id)
 
   change : Changes (in_hand (is_frame (Return id) s hand) (Return id) ∷ []) (sent_if (count == 0) (is_other s.tables old.place) old.place (Free (bare id))) s now
-  change = then (was ∷ []) [] [] (sent_if dead other old.place (Free (bare id))) s before now
-      (drop_change (Return id) s hand) (mail_change dead old.place (Free (bare id)) before)
+  change = then (was ∷ []) [] [] (sent_if dead other old.place (Free (bare id))) s before now (drop_change (Return id) s hand) (mail_change dead old.place (Free (bare id)) before)
 
   -- a weight before and after, where messages weigh the same wherever they are
   moves : (w : Item → ℕ) (m n : ℕ) → w (Came (Return id)) ≡ m → w (Mailed (Return id)) ≡ m → w (OnDesk (Free (bare id))) ≡ n
@@ -83,8 +81,7 @@ module _ (r : Rules) (s : Turn) (entries : List Entry) (h : IsSound r s entries)
     failing = omega arith;
   }
     where
-      dies : (x : Id) → weigh (frees_of x) now + frees_of x was
-          ≡ weigh (frees_of x) s + cond dead (count_by (same_object x) (bare id ∷ [])) 0
+      dies : (x : Id) → weigh (frees_of x) now + frees_of x was ≡ weigh (frees_of x) s + cond dead (count_by (same_object x) (bare id ∷ [])) 0
       dies x =
           let w : Item → ℕ = frees_of x in
           let k : weigh w now + (w was + 0) ≡ weigh w s + total w (sent_if dead other old.place (Free (bare id))) = change.0 w in
@@ -143,8 +140,7 @@ module _ (r : Rules) (s : Turn) (entries : List Entry) (h : IsSound r s entries)
           (omega (arith, none dead)) (omega (arith, none dead)) (omega (arith, none dead)) (omega arith) (omega (arith, none dead)) (omega (arith, none dead)) (omega (arith, none dead))
           (λ o. omega (arith, if_last dead (same_object o (bare id))))
 
-pub returned_step : (r : Rules) (s s' : Turn) (entries : List Entry) (o : Id) (count log : ℕ) → IsSound r s entries → TakesBack s o count log s'
-    → Keeps r s s' (Count o count (Returned log))
+pub returned_step : (r : Rules) (s s' : Turn) (entries : List Entry) (o : Id) (count log : ℕ) → IsSound r s entries → TakesBack s o count log s' → Keeps r s s' (Count o count (Returned log))
 returned_step r s s' entries o count log h g =
     told_as r s s' (λ x. Count x count (Returned log)) (λ x. mails_if (count == 0) g.old.place (Free (bare g.id)) (with_records g.records (drops s))) o (bare g.id) g.object g.now
     (returned_keeps r s entries h g.id log count g.old g.records g.calm.due g.calm.fresh g.hand g.home g.has g.sum g.recounts)

@@ -6,15 +6,13 @@ not_broken : {X : Type 0} (x : X) → Some x ≡ None → ⊥
 not_broken x e = cc
 
 -- an id that comes home
-pub return_right : (t : Tables) (p : Parcel) (id : Id) (other : Option Broken) → broken_return t p id other ≡ None
-    → (is_live t id ≡ true) × (credit id ≤ count_here t id) × (other ≡ None)
+pub return_right : (t : Tables) (p : Parcel) (id : Id) (other : Option Broken) → broken_return t p id other ≡ None → (is_live t id ≡ true) × (credit id ≤ count_here t id) × (other ≡ None)
 return_right t p id other h = grind arith
 
 pub free_right : (t : Tables) (p : Parcel) (o : Id) → broken_free t p o ≡ None → (stands_here t o ≡ true) × (waits_here t o ≡ false) × (held_here t o ≡ 0)
 free_right t p o h = grind arith
 
-pub give_right : (t : Tables) (p : Parcel) (id : Id) (entry : ℕ) → broken_give t p id entry ≡ None
-    → (list_any (awaits id entry) t.pending ≡ true) × (brings_right t id ≡ true)
+pub give_right : (t : Tables) (p : Parcel) (id : Id) (entry : ℕ) → broken_give t p id entry ≡ None → (list_any (awaits id entry) t.pending ≡ true) × (brings_right t id ≡ true)
 give_right t p id entry h = grind arith
 
 pub go_wrong : (t : Tables) (p : Parcel) (act : Act) → broken_go t p act ≡ None → ⊥

@@ -31,30 +31,7 @@ module _ (r : Rules) (v : View) (s : Turn) (sees : Sees v s) where
       (λ x h. any_counted (same_object x) v.dead (omega (arith, sees.dead x, counted_any (same_object x) (view s).dead h))) sees.refusals sees.failing
 
   seen_shows : (l : Local) → Shows v l → Shows (as_seen v s) l
-  seen_shows l h =
-      let w = weak.2 l h in record {
-        acts = record {
-          here = w.acts.here;
-          serial = w.acts.serial;
-          waiting = w.acts.waiting;
-          fired = w.acts.fired;
-          due = w.acts.due;
-        };
-        objects = record {
-          number = w.objects.number;
-          objects = w.objects.objects;
-          travels = w.objects.travels;
-          fresh = w.objects.fresh;
-        };
-        credit = record { tokens = w.credit.tokens; asking = w.credit.asking; asks = w.credit.asks };
-        counts = record {
-          live = w.counts.live;
-          dead = w.counts.dead;
-          refusals = w.counts.refusals;
-          failing = w.counts.failing;
-        };
-        last = h.last;
-      }
+  seen_shows l h = let w : Shows v l = h in let k = weak.2 l h in grind arith
 
   seen_covered : IsCovered v → IsCovered (as_seen v s)
   seen_covered h o managed = record { named = (weak.1 h o managed).named; pending = (weak.1 h o managed).pending }

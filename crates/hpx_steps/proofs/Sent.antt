@@ -13,8 +13,7 @@ module _ (r : Rules) (s : Turn) (entries : List Entry) (h : IsSound r s entries)
   before = draws (record s { due = rest })
 
   abbrev now : Turn
-  now = wrote (Sent (record { origin = s.tables.here; serial = s.tables.serial + 1 }))
-      (posts (named_act s.tables.here (s.tables.serial + 1) m) (draws (record s { due = rest })))
+  now = wrote (Sent (record { origin = s.tables.here; serial = s.tables.serial + 1 })) (posts (named_act s.tables.here (s.tables.serial + 1) m) (draws (record s { due = rest })))
 
   abbrev item : Item
   item = put_as (may_stay s.tables act) (is_other s.tables (target_of act).home) act
@@ -28,8 +27,7 @@ module _ (r : Rules) (s : Turn) (entries : List Entry) (h : IsSound r s entries)
   turned w = let k : weigh w now + (w (IsDue (MessageDue m)) + 0) ≡ weigh w s + (w item + 0) = change.0 w in omega (arith, k)
 
   -- a weight before and after, where an action weighs the same wherever it waits
-  moves : (w : Item → ℕ) (n : ℕ) → w (Accepted act) ≡ n
-      → ((p : Parcel) → (p ≡ Apply act) ⊎ (p ≡ Move act) → (w (OnDesk p) ≡ n) × ((to : ℕ) → w (Going (going to p)) ≡ n))
+  moves : (w : Item → ℕ) (n : ℕ) → w (Accepted act) ≡ n → ((p : Parcel) → (p ≡ Apply act) ⊎ (p ≡ Move act) → (w (OnDesk p) ≡ n) × ((to : ℕ) → w (Going (going to p)) ≡ n))
       → weigh w now + w (IsDue (MessageDue m)) ≡ weigh w s + n
   moves w n a b = omega (arith, turned w, put_sum w (may_stay s.tables act) (is_other s.tables (target_of act).home) act n a b)
 
@@ -58,11 +56,7 @@ module _ (r : Rules) (s : Turn) (entries : List Entry) (h : IsSound r s entries)
 
   pub sent_keeps : Keeps r s now (Sent name)
   sent_keeps = record {
-    leads = (
-      seen,
-      follows_sent r (view s) (bare_message m) (map bare_due rest) put.front put.back fresh (ap (map bare_due) due) put.was,
-      sees_leads r seen now sees,
-    );
+    leads = (seen, follows_sent r (view s) (bare_message m) (map bare_due rest) put.front put.back fresh (ap (map bare_due) due) put.was, sees_leads r seen now sees);
     tidy = tidy;
     places = h.places;
     commits = h.commits;

@@ -1,7 +1,6 @@
 -- An id in the hand of a commit is halved.
 use Rattle.hpx_steps.proofs.Common.{Entry, Id, IsCommit, IsSound, List, Rules, Some, Split, Splits, TidyAt, Token, Turn, View, Waits, Working, [], ap, arith, asking, bare, bare_act, bare_due, cond, count_by, false, fired_of, follows_split, half, held_token, ids_named, inl, is_asked, is_asked_for, length, map, names_of, option_map, refl, refusals_of, set, slice_get, sum_by, sum_by-cons, sym, tokens, tokens_of, view, works_on, worth, wrote, ℕ, ◌++◌, ◌+◌, ◌-◌, ◌∙◌, ◌∷◌, ◌≡◌, ◌≤◌}
-use Rattle.hpx_steps.proofs.Tools.{Changes, Keeps, Sees, by_rows, counts_near, first_turns, hand_long, has_not_asked, held_by, holding, ids_append, ids_each, numbered_so, orders_so, pays_so, sees_by, sees_leads, set_sum, told_as, view_asking, view_worth, working_change}
-use Rattle.hpx_steps.proofs.Recommit.{first_asked, first_at, first_map, recommit, token_held, work_commits}
+use Rattle.hpx_steps.proofs.Tools.{Changes, Keeps, Sees, by_rows, counts_near, first_asked, first_at, first_map, first_turns, hand_long, has_not_asked, held_by, holding, ids_append, ids_each, numbered_so, orders_so, pays_so, recommit, sees_by, sees_leads, set_sum, token_held, told_as, view_asking, view_worth, work_commits, working_change}
 
 module _ (r : Rules) (s : Turn) (entries : List Entry) (h : IsSound r s entries) (w : Waits) (rest : List Waits) (p : ℕ) (id : Id) (log : ℕ) (due : s.due ≡ [])
     (works : s.working ≡ w ∷ rest) (at : slice_get w.hand p ≡ Some id) (has : id.log ≡ Some log) (enough : 1 ≤ log) (lacks : w.asked ≡ []) where
@@ -50,11 +49,8 @@ module _ (r : Rules) (s : Turn) (entries : List Entry) (h : IsSound r s entries)
   split_keeps = record {
     leads = (
       seen,
-      follows_split r (view s) (bare id) refl log (tokens now) (ap (map bare_due) due) enough
-          (token_held s w rest p id log works at has)
-          (record {
-            sums = λ f fair. omega (arith, view_worth f, change.0 (worth f), tokens_hand f, sum_by-cons f);
-          }),
+      follows_split r (view s) (bare id) refl log (tokens now) (ap (map bare_due) due) enough (token_held s w rest p id log works at has)
+          (record { sums = λ f fair. omega (arith, view_worth f, change.0 (worth f), tokens_hand f, sum_by-cons f) }),
       sees_leads r seen now sees,
     );
     tidy = holding (TidyAt s) (Working split ∷ []) s now change.1 h.tidy (fit_commit, tt);

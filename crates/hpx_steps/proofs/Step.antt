@@ -1,9 +1,7 @@
 -- Each step keeps all that holds.
 use Rattle.hpx_steps.proofs.Common.{AreNumbered, Asked, Born, Count, Done, Entry, Event, Fire, Freed, Given, Granted, In, IsSound, Label, Landed, Left, Line, List, Looked, Mail, Out, Pause, Place, Print, Refused, Returned, Rules, Sent, Split, Step, Steps, Suspend, Tables, Turn, Up, Writes, [], ap, append-nil, append_assoc, at_all, entry_at, false, map-append, refl, subst, sym, true, written, written_by, ◌++◌, ◌∙◌, ◌∷◌, ◌≡◌}
-use Rattle.hpx_steps.proofs.Tools.{Keeps, Stills}
+use Rattle.hpx_steps.proofs.Tools.{Keeps, Stills, sound_then, still_sound}
 use Rattle.hpx_part.specs.Data.{Looked}
-use Rattle.hpx_steps.proofs.Still.{still_sound}
-use Rattle.hpx_steps.proofs.Then.{sound_then}
 
 -- all holds then, and the locality is the same
 pub record Sound (r : Rules) (s s' : Turn) (entries : List Entry) (events : List Event) : Type 0 where

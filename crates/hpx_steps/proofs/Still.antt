@@ -1,5 +1,5 @@
 -- What is done without an entry.
-use Rattle.hpx_steps.proofs.Common.{AllByRecursion, AreFired, AreNumbered, AreNumbers, AreRules, Entry, Event, HasCommits, HasPlaces, Id, IsOrderly, IsPaid, IsSound, IsTidy, Leads, List, None, Row, Rules, SendsOwn, StandsFor, Tables, Turn, [], all_count, ap, append-nil, arith, asked_by, asks_for, come, commits, freeing, given_to, gives_for, gone, grow, hopping, joined, map, part, refl, subst, sym, unpaid, view, waits_for, weaker_leads, weigh, ℕ, ◌+◌, ◌∙◌, ◌∷◌, ◌≡◌, ◌≢◌, ◌≤◌}
+use Rattle.hpx_steps.proofs.Common.{AllByRecursion, AreFired, AreNumbered, AreNumbers, AreRules, Entry, Event, HasCommits, HasPlaces, Id, IsOrderly, IsPaid, IsSound, IsTidy, Leads, List, None, Row, Rules, SendsOwn, StandsFor, Tables, Turn, [], ap, append-nil, arith, asked_by, commits, freeing, given_to, grow, hopping, joined, map, part, refl, subst, sym, unpaid, view, waits_for, weaker_leads, weigh, ℕ, ◌+◌, ◌∙◌, ◌∷◌, ◌≡◌, ◌≢◌, ◌≤◌}
 use Rattle.hpx_steps.proofs.Calm.{SameNumbers}
 
 pub record Stills (r : Rules) (s s' : Turn) : Type 0 where
@@ -40,9 +40,7 @@ still_sound r s s' entries h k =
       });
       orderly = subst (IsOrderly r s') (sym there) (record {
         sent = subst (λ (t : Tables). AllByRecursion (λ (e : Entry). SendsOwn r t.localities t.here t.profile.credit_log e.event) es) (sym k.same) h.orderly.sent;
-        asked = λ o n. subst (λ j. all_count (gone r (asks_for j o n)) es + weigh (asked_by j o n) s'
-            ≤ weigh (waits_for o n) s' + (all_count (come r (gives_for o n)) es + all_count (come r (asks_for j o n)) es)) (sym here)
-            (omega (arith, h.orderly.asked o n, k.asked o n));
+        asked = λ o n. rw here (omega (arith, h.orderly.asked o n, k.asked o n));
         given = λ j d o n. let d' : j ≢ s.tables.here = λ e. d (e ∙ sym here) in omega (arith, h.orderly.given j d' o n, k.given j d' o n);
       });
       numbers = let n = subst (λ (t : Tables). AreNumbers r (record s { tables = t }) entries) (sym k.same)
@@ -58,8 +56,7 @@ forgets s = record s { last = None }
 pub rest_sound : (r : Rules) (s : Turn) (entries : List Entry) → IsSound r s entries → IsSound r (forgets s) entries
 rest_sound r s entries h = record {
   rules = record { localities = h.rules.localities; credit_log = h.rules.credit_log; credit_limit = h.rules.credit_limit };
-  keeps = subst (StandsFor r (view (forgets s))) (append-nil entries)
-      (grow r (view s) (view (forgets s)) entries [] h.keeps
+  keeps = subst (StandsFor r (view (forgets s))) (append-nil entries) (grow r (view s) (view (forgets s)) entries [] h.keeps
       (weaker_leads r (view s) (view s).tokens (view s).asking (view s).asks (view s).live (view s).dead (view s).refusals (view s).failing
       (λ f weight. refl) (λ x. refl) (λ x. refl) (λ x home. refl) (λ x d. d) (λ x d. d) (omega arith)));
   tidy = h.tidy;
@@ -67,13 +64,5 @@ rest_sound r s entries h = record {
   commits = h.commits;
   paid = record { rows = h.paid.rows; once = h.paid.once; fired = h.paid.fired; frees = h.paid.frees };
   orderly = record { sent = h.orderly.sent; asked = h.orderly.asked; given = h.orderly.given };
-  numbers = record {
-    born = h.numbers.born;
-    few = h.numbers.few;
-    asked = h.numbers.asked;
-    sent = h.numbers.sent;
-    taken = h.numbers.taken;
-    few_answers = h.numbers.few_answers;
-    answered = h.numbers.answered;
-  };
+  numbers = grind arith;
 }

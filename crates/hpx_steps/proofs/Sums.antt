@@ -58,14 +58,12 @@ pub zeros : {X : Type 0} (xs : List X) → sum_by (λ x. 0) xs ≡ 0
 zeros [] = refl
 zeros (x ∷ xs) = omega (arith, sum_by-cons (λ y. 0) x xs, zeros xs)
 
-pub parcels_sum : (w : Parcel → ℕ) (s : Turn) → sum_by w (parcels s)
-    ≡ sum_by w s.came + sum_by w s.mailed + sum_by w s.tables.desk + sum_by (λ (x : Outgoing). w x.parcel) s.tables.outgoing
-parcels_sum w s = grind (arith, sum_by-append, map_sum)
+pub parcels_sum : (w : Parcel → ℕ) (s : Turn) → sum_by w (parcels s) ≡ sum_by w s.came + sum_by w s.mailed + sum_by w s.tables.desk + sum_by (λ (x : Outgoing). w x.parcel) s.tables.outgoing
+parcels_sum w s = omega (arith, sum_by-append w, map_sum w (λ (x : Outgoing). x.parcel))
 
 -- what is seen of messages
-pub seen_sum : {Y : Type 0} (f : Y → ℕ) (h : Parcel → List Y) (s : Turn)
-    → sum_by f (flat_map h (parcels s)) ≡ weigh (by_parcel (λ p. sum_by f (h p))) s
-seen_sum f h s = search (arith, flat_sum, parcels_sum, zeros)
+pub seen_sum : {Y : Type 0} (f : Y → ℕ) (h : Parcel → List Y) (s : Turn) → sum_by f (flat_map h (parcels s)) ≡ weigh (by_parcel (λ p. sum_by f (h p))) s
+seen_sum f h s = omega (arith, flat_sum f h (parcels s), parcels_sum (λ p. sum_by f (h p)) s, zeros s.tables.accepted, zeros s.tables.running, zeros s.tables.pending, zeros s.working, zeros s.tables.objects, zeros s.due, zeros s.loose)
 
 -- a weight of own messages
 abbrev pub by_own : (Parcel → ℕ) → Item → ℕ
@@ -74,9 +72,21 @@ by_own w (OnDesk p) = w p
 by_own w (Going x) = w x.parcel
 by_own w _ = 0
 
-pub own_sum : {Y : Type 0} (f : Y → ℕ) (h : Parcel → List Y) (s : Turn)
-    → sum_by f (flat_map h (own_parcels s)) ≡ weigh (by_own (λ p. sum_by f (h p))) s
-own_sum f h s = search (arith, ℕ, flat_sum, sum_by-append, map_sum, zeros)
+pub own_sum : {Y : Type 0} (f : Y → ℕ) (h : Parcel → List Y) (s : Turn) → sum_by f (flat_map h (own_parcels s)) ≡ weigh (by_own (λ p. sum_by f (h p))) s
+own_sum f h s = omega (
+  arith,
+  flat_sum f h (own_parcels s),
+  sum_by-append (λ p. sum_by f (h p)),
+  map_sum (λ p. sum_by f (h p)) (λ (x : Outgoing). x.parcel),
+  zeros s.came,
+  zeros s.tables.accepted,
+  zeros s.tables.running,
+  zeros s.tables.pending,
+  zeros s.working,
+  zeros s.tables.objects,
+  zeros s.due,
+  zeros s.loose,
+)
 
 -- all tokens
 pub view_worth : (f : Token → ℕ) (s : Turn) → sum_by f (tokens s) ≡ weigh (worth f) s

@@ -1,9 +1,6 @@
 -- A commit begins: its object and its action put their ids into its hand.
 use Rattle.hpx_steps.proofs.Common.{Act, AllByRecursion, Entry, HasRightCredit, Id, IsCommit, IsFit, IsSound, IsState, IsTidy, Job, List, None, Outcome, Rules, Running, Some, Standing, StandsHere, State, Suspends, TidyAt, Turn, View, Waits, Working, [], action_of, all_append, ap, append_assoc, arith, asked_by, asking, asks_under, bare, bare_act, bare_standing, bare_state, commits, cond, drop, filter, find, find_passes, freeing, given_to, hand_ids, hopping, id_at, is_asked, is_standing, joined, length, length-map, map, names_of, own_ids, refl, remove, same_object, session, set, slice_get, split_get, subst, suc, sum_by, sym, take, take_at, target_of, tokens_of, true, unpaid, view, waits_for, waits_with, worth, ℕ, ◌++◌, ◌<◌, ◌∙◌, ◌∷◌, ◌≡◌, ◌≤◌}
-use Rattle.hpx_steps.proofs.Tools.{Changes, Sees, Stills, among_at, bare_all, fewer, fired_leads, first_comes, front_place, holding, ids_append, leads_on, no_tokens, none_tokens, not_asked, objects_change, one_goes, one_turns, running_change, same_map, sees_leads, single_set, stand_set, then, view_asking, view_worth, working_change}
-use Rattle.hpx_steps.proofs.Bare.{all_none}
-use Rattle.hpx_steps.proofs.Beside.{begin_commits, runs_whole}
-use Rattle.hpx_steps.proofs.Objects.{plain_ids, retidy}
+use Rattle.hpx_steps.proofs.Tools.{Changes, Sees, Stills, all_none, among_at, bare_all, begin_commits, fewer, fired_leads, first_comes, front_place, holding, ids_append, leads_on, no_tokens, none_tokens, not_asked, objects_change, one_goes, one_turns, plain_ids, retidy, running_change, runs_whole, same_map, sees_leads, single_set, stand_set, then, view_asking, view_worth, working_change}
 
 bare_fit : (s : State) → IsState s → IsState (bare_state s)
 bare_fit s h = grind (arith, length-map)
@@ -25,10 +22,7 @@ module _ (r : Rules) (s : Turn) (entries : List Entry) (h : IsSound r s entries)
   abbrev now : Turn
   now = record s {
     working = waits_with job outcome s.tables.localities [] (record { hand = hand_ids job.state job.action later; places = places }) ∷ s.working;
-    tables = record s.tables {
-      running = remove s.tables.running i;
-      objects = set s.tables.objects j (record { object = x.object; state = bare_state x.state });
-    };
+    tables = record s.tables { running = remove s.tables.running i; objects = set s.tables.objects j (record { object = x.object; state = bare_state x.state }) };
   }
 
   abbrev less : Turn
@@ -107,8 +101,7 @@ module _ (r : Rules) (s : Turn) (entries : List Entry) (h : IsSound r s entries)
   pub suspend_stills : Stills r s now
   suspend_stills = record {
     same = refl;
-    leads = leads_on r (view s) seen (view now)
-        (fired_leads r (view s) (take i s.tables.running) (drop (suc i) s.tables.running ++ acts) (remove s.tables.running i) acts job.action
+    leads = leads_on r (view s) seen (view now) (fired_leads r (view s) (take i s.tables.running) (drop (suc i) s.tables.running ++ acts) (remove s.tables.running i) acts job.action
         (ap (map bare_act) (ap (λ xs. xs ++ acts) (split_get s.tables.running i job.action runs) ∙ append_assoc (take i s.tables.running) (job.action ∷ drop (suc i) s.tables.running) acts))
         (sym (append_assoc (take i s.tables.running) (drop (suc i) s.tables.running) acts)))
         (sees_leads r seen now sees);
@@ -130,5 +123,4 @@ module _ (r : Rules) (s : Turn) (entries : List Entry) (h : IsSound r s entries)
   }
 
 pub suspend_step : (r : Rules) (s s' : Turn) (entries : List Entry) → IsSound r s entries → Suspends s s' → Stills r s s'
-suspend_step r s s' entries h g = subst (Stills r s) (sym g.now)
-    (suspend_stills r s entries h g.i g.j g.job g.outcome g.x g.runs g.stands g.found g.here g.kind g.state g.few g.later g.none g.places)
+suspend_step r s s' entries h g = subst (Stills r s) (sym g.now) (suspend_stills r s entries h g.i g.j g.job g.outcome g.x g.runs g.stands g.found g.here g.kind g.state g.few g.later g.none g.places)

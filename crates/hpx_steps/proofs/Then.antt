@@ -1,5 +1,5 @@
 -- One more entry: what has to be shown of it once, for all that holds of a locality and its part.
-use Rattle.hpx_steps.proofs.Common.{Actions, Agree, AllByRecursion, AreFired, AreNumbered, AreNumbers, Entry, Event, HasCommits, HasPlaces, Id, IsClean, IsOrderly, IsPaid, IsSound, IsTidy, Leads, List, Local, Profile, Row, Rules, SendsOwn, Turn, [], all_append, all_count, ap, arith, arrives_at, asked_by, asks_for, asks_under, at_all, at_boot, bare_act, causes, clean_front, come, commits, cond, count_by, done_after, entry_at, fired_of, fires_one, freeing, given_to, gives_for, goes, gone, gone_to, grow, hopping, ins, is_act, is_answer, is_free_of, is_freed, joined, joins, length, length-append, map, map-append, outs, outs_by, part, part_append, part_at, refl, run_local, run_local_append, spends, subst, sum_by-append, sum_by-cons, sym, takes_such, unpaid, view, waits_for, weigh, ℕ, ◌++◌, ◌+◌, ◌∙◌, ◌∷◌, ◌≡◌, ◌≢◌, ◌≤◌}
+use Rattle.hpx_steps.proofs.Common.{Actions, Agree, AllByRecursion, AreFired, AreNumbered, AreNumbers, Entry, Event, HasCommits, HasPlaces, Id, IsOrderly, IsPaid, IsSound, IsTidy, Leads, List, Local, Row, Rules, SendsOwn, Turn, [], all_append, all_count, ap, arith, arrives_at, asked_by, asks_for, asks_under, at_all, at_boot, bare_act, causes, clean_front, come, commits, cond, count_by, done_after, entry_at, fired_of, fires_one, freeing, given_to, gives_for, goes, gone, gone_to, grow, hopping, ins, is_act, is_answer, is_free_of, is_freed, joined, joins, length, length-append, map, map-append, outs, outs_by, part, part_append, part_at, refl, run_local, run_local_append, spends, subst, sum_by-append, sum_by-cons, sym, takes_such, unpaid, view, waits_for, weigh, ℕ, ◌++◌, ◌+◌, ◌∙◌, ◌∷◌, ◌≡◌, ◌≢◌, ◌≤◌}
 use Rattle.hpx_journal.specs.Local.{after}
 
 -- ---- one entry pays
@@ -23,8 +23,7 @@ pub record Orders (r : Rules) (s s' : Turn) (e : Event) : Type 0 where
   pub sent : SendsOwn r s.tables.localities s.tables.here s.tables.profile.credit_log e
   pub asked : (o : Id) (n : ℕ) → gone r (asks_for s.tables.here o n) e + weigh (asked_by s.tables.here o n) s' + weigh (waits_for o n) s
       ≤ weigh (asked_by s.tables.here o n) s + weigh (waits_for o n) s' + (come r (gives_for o n) e + come r (asks_for s.tables.here o n) e)
-  pub given : (j : ℕ) → j ≢ s.tables.here → (o : Id) (n : ℕ)
-      → gone_to r j (gives_for o n) e + weigh (given_to j o n) s' ≤ weigh (given_to j o n) s + come r (asks_for j o n) e
+  pub given : (j : ℕ) → j ≢ s.tables.here → (o : Id) (n : ℕ) → gone_to r j (gives_for o n) e + weigh (given_to j o n) s' ≤ weigh (given_to j o n) s + come r (asks_for j o n) e
 
 -- ---- and counts
 
@@ -98,19 +97,10 @@ module _ (r : Rules) (s s' : Turn) (e : Event) (entries : List Entry) (h : IsSou
   orderly_then =
       let sends : AllByRecursion (λ (x : Entry). SendsOwn r s.tables.localities here s.tables.profile.credit_log x.event) (old ++ one) =
       all_append (λ (x : Entry). SendsOwn r s.tables.localities here s.tables.profile.credit_log x.event) old one h.orderly.sent (k.orders.sent, tt) in record {
-        sent = subst (λ n. AllByRecursion (λ (x : Entry). SendsOwn r n s'.tables.here s'.tables.profile.credit_log x.event) (old ++ one)) (sym k.counts.localities)
-            (subst (λ n. AllByRecursion (λ (x : Entry). SendsOwn r s.tables.localities n s'.tables.profile.credit_log x.event) (old ++ one)) (sym k.counts.here)
-            (subst (λ p. AllByRecursion (λ (x : Entry). SendsOwn r s.tables.localities here p.credit_log x.event) (old ++ one)) (sym k.counts.profile) sends));
-        asked = λ o n. subst (λ j. all_count (gone r (asks_for j o n)) (old ++ one) + weigh (asked_by j o n) s'
-            ≤ weigh (waits_for o n) s' + (all_count (come r (gives_for o n)) (old ++ one) + all_count (come r (asks_for j o n)) (old ++ one))) (sym k.counts.here)
-            (omega (arith, h.orderly.asked o n, k.orders.asked o n, more (gone r (asks_for here o n)), more (come r (gives_for o n)), more (come r (asks_for here o n))));
-        given = λ j d o n. omega (
-          arith,
-          h.orderly.given j (λ i. d (i ∙ sym k.counts.here)) o n,
-          k.orders.given j (λ i. d (i ∙ sym k.counts.here)) o n,
-          more (gone_to r j (gives_for o n)),
-          more (come r (asks_for j o n)),
-        );
+        sent = rw (k.counts.localities, k.counts.here, k.counts.profile) sends;
+        asked = λ o n. rw k.counts.here (omega (arith, h.orderly.asked o n, k.orders.asked o n, more (gone r (asks_for here o n)), more (come r (gives_for o n)), more (come r (asks_for here o n))));
+        given = λ j d o n. let d' : j ≢ here = λ i. d (i ∙ sym k.counts.here) in
+            omega (arith, h.orderly.given j d' o n, k.orders.given j d' o n, more (gone_to r j (gives_for o n)), more (come r (asks_for j o n)));
       }
 
   numbers_then : AreNumbers r s' (entries ++ one)
@@ -121,11 +111,7 @@ module _ (r : Rules) (s s' : Turn) (e : Event) (entries : List Entry) (h : IsSou
     sent = k.counts.sent ∙ (omega (arith, h.numbers.sent, outs_more old) ∙ ap (λ zs. length (outs zs)) (sym grown));
     taken = k.counts.taken ∙ (omega (arith, h.numbers.taken, ins_more old) ∙ ap (λ zs. length (ins zs)) (sym grown));
     few_answers = omega (arith, h.numbers.few_answers, k.counts.few_answers, length-append entries one);
-    answered =
-        subst (λ j. IsClean r (at_boot r j) (part j (entries ++ one)) → s'.tables.answered ≡ count_by is_answer (run_local r (at_boot r j) (part j (entries ++ one))).done)
-        (sym k.counts.here)
-        (subst (λ zs. IsClean r (at_boot r here) zs → s'.tables.answered ≡ count_by is_answer (run_local r (at_boot r here) zs).done) (sym grown_here)
-        (λ clean.
+    answered = rw (k.counts.here, grown_here) (λ clean.
         let first = (clean_front r (at_boot r here) old one clean).0 in
         let l : Local = run_local r (at_boot r here) old in
         omega (
@@ -134,7 +120,7 @@ module _ (r : Rules) (s s' : Turn) (e : Event) (entries : List Entry) (h : IsSou
           k.counts.answered l (h.keeps.shows first).acts.fired,
           ap (λ (x : Local). count_by is_answer x.done) (run_local_append r (at_boot r here) old one),
           ap (count_by is_answer) (done_is r l e),
-        )));
+        ));
   }
     where
       grown_here : part here (entries ++ one) ≡ old ++ one
@@ -151,11 +137,7 @@ module _ (r : Rules) (s s' : Turn) (e : Event) (entries : List Entry) (h : IsSou
   -- so all holds still
   pub sound_then : IsSound r s' (entries ++ one)
   sound_then = record {
-    rules = record {
-      localities = h.rules.localities ∙ sym k.counts.localities;
-      credit_log = h.rules.credit_log ∙ ap (λ (p : Profile). p.credit_log) (sym k.counts.profile);
-      credit_limit = h.rules.credit_limit ∙ ap (λ (p : Profile). p.credit_limit) (sym k.counts.profile);
-    };
+    rules = grind arith;
     keeps = grow r (view s) (view s') entries (e ∷ []) h.keeps k.leads;
     tidy = k.tidy;
     places = k.places;

@@ -1,10 +1,9 @@
 -- A turn: a message is taken up and dealt with, a frame goes, a line is fed, an action is fired.
 use Rattle.hpx_steps.proofs.Common.{Accepts, Act, Apply, Arrived, Ask, Cached, DealsWith, Entry, Event, Fire, Free, Give, Go, HasInHand, Id, In, IsAct, IsParcel, IsSound, IsTold, Label, Leaves, Line, List, Mail, MayGoTo, Move, None, OnDesk, Option, Out, Outcome, Outgoing, Parcel, Return, Rules, Shipped, Some, Standing, Stands, State, Step, Steps, Tables, TidyAt, Turn, Writes, [], ap, are_far, arith, at_all, at_rest, breaks, broken, broken_act, broken_move, broken_near, effects, false, find, fired_acts, held_here, id_at, if◌then◌else◌, inl, inr, is_busy, is_far, is_far_act, is_standing, kind_of, leaves, length, line_act, may_stay, min, move_to, moves_far, name_of, nat_le, nat_tests, not, parcel_of, refl, remove, rules_of, slice_get, stands_here, subst, suc, sym, target_of, travels_in, true, waits_here, with_act, written, zero, ℕ, ◌&&◌, ◌++◌, ◌+◌, ◌-◌, ◌<◌, ◌==◌, ◌^◌, ◌∙◌, ◌∷◌, ◌≡◌, ◌≢◌, ◌≤◌, ◌⊎◌}
-use Rattle.hpx_steps.proofs.Tools.{none_of}
+use Rattle.hpx_steps.proofs.Tools.{none_of, rest_sound}
 use Rattle.hpx_steps.proofs.Handled.{Leads, act_leads, asked_leads, freed_leads, kept_here, returned_leads}
 use Rattle.hpx_steps.proofs.Right.{go_wrong, near_right, object_wrong, return_right}
 use Rattle.hpx_steps.proofs.Step.{steps_sound}
-use Rattle.hpx_steps.proofs.Still.{rest_sound}
 
 -- where one step after another leads from rest to rest
 pub turn_stands : (act_of : ℕ → ℕ → ℕ → State → Act → Outcome) (t t' : Tables) (entries : List Entry) (labels : List Label) (l : Option Event)
@@ -97,15 +96,7 @@ module _ (act_of : ℕ → ℕ → ℕ → State → Act → Outcome) (t t' : Ta
       subst (λ es. Stands act_of t' (entries ++ at_all t.here (In bytes ∷ es))) leads.writes
       (turn_stands act_of t t' entries (Writes (In bytes) ∷ leads.labels) leads.last h (
         came p bytes,
-        record {
-          calm = record { due = refl; fresh = refl };
-          free = record { came = refl; mailed = refl };
-          parcel = p;
-          spelled = spelled;
-          fit = fit;
-          none = none;
-          now = refl;
-        },
+        record { calm = record { due = refl; fresh = refl }; free = record { came = refl; mailed = refl }; parcel = p; spelled = spelled; fit = fit; none = none; now = refl },
         leads.steps,
       ))
 
@@ -126,15 +117,7 @@ module _ (act_of : ℕ → ℕ → ℕ → State → Act → Outcome) (t t' : Ta
       subst (λ es. Stands act_of t' (entries ++ at_all t.here (Mail (kind_of p) ∷ es))) leads.writes
       (turn_stands act_of t t' entries (Writes (Mail (kind_of p)) ∷ leads.labels) leads.last h (
         mailed p rest,
-        record {
-          calm = record { due = refl; fresh = refl };
-          free = record { came = refl; mailed = refl };
-          parcel = p;
-          rest = rest;
-          first = first;
-          sort = refl;
-          now = refl;
-        },
+        record { calm = record { due = refl; fresh = refl }; free = record { came = refl; mailed = refl }; parcel = p; rest = rest; first = first; sort = refl; now = refl },
         leads.steps,
       ))
 
@@ -142,9 +125,6 @@ module _ (act_of : ℕ → ℕ → ℕ → State → Act → Outcome) (t t' : Ta
   module _ (p : Parcel) (rest : List Parcel) (first : t.desk ≡ p ∷ rest) (right : broken t p ≡ None) where
     its : TidyAt (at_rest t) (OnDesk p)
     its = h.tidy (OnDesk p) (rw first (inl refl))
-
-    near : is_far t.localities p ≡ false
-    near = (near_right t p right).0
 
     -- its object is of this home
     home_here : (act : Act) → ((to : ℕ) → MayGoTo t.here to p → to ≡ (target_of act).home) → IsAct act → is_far_act t.localities act ≡ false → (target_of act).home ≡ t.here
@@ -159,7 +139,7 @@ module _ (act_of : ℕ → ℕ → ℕ → State → Act → Outcome) (t t' : Ta
 
     -- its action may stay
     stays : (act : Act) → (p ≡ Apply act) ⊎ (p ≡ Move act) → may_stay (record t { desk = rest }) act ≡ true
-    stays act is = each p is near its (near_right t p right).1 (λ to m. m)
+    stays act is = each p is ((near_right t p right).0) its (near_right t p right).1 (λ to m. m)
       where
         each : (q : Parcel) → (q ≡ Apply act) ⊎ (q ≡ Move act) → is_far t.localities q ≡ false → TidyAt (at_rest t) (OnDesk q) → broken_near t q ≡ None
             → ((to : ℕ) → MayGoTo t.here to p → MayGoTo t.here to q) → may_stay (record t { desk = rest }) act ≡ true
@@ -171,7 +151,7 @@ module _ (act_of : ℕ → ℕ → ℕ → State → Act → Outcome) (t t' : Ta
 
     pub desk_leads : ((id : Id) (entry : ℕ) → p ≡ Give id entry → ⊥) → Accepts p (record t { desk = rest }) t' → Leaves p t t' → Leads r (mailed p rest) t' (effects t p)
     desk_leads other accepts = message_leads r t t' rest t.taken [] (p ∷ []) (Some (Mail (kind_of p))) lasts p (inr (refl, refl)) (inl (refl, refl, refl)) its.0
-        near (near_right t p right).1 popped other (λ m. stays) ((same_deals p (record t { desk = rest }) t' stays).1 accepts)
+        ((near_right t p right).0) (near_right t p right).1 popped other (λ m. stays) ((same_deals p (record t { desk = rest }) t' stays).1 accepts)
 
     -- what is done with it is what is done with a message from the desk: its action is accepted
     pub desk_accepts : DealsWith p (record t { desk = rest }) t' → Accepts p (record t { desk = rest }) t'
@@ -191,8 +171,7 @@ module _ (act_of : ℕ → ℕ → ℕ → State → Act → Outcome) (t t' : Ta
     now = ap (λ u. record (at_rest u) { last = Some (Out x.to bytes) }) now;
   })
 
-  pub line_stands : (bytes : List ℕ) → t.here ≡ 0 → length bytes ≤ 1025
-      → t' ≡ with_act (line_act (record { origin = t.here; serial = t.serial + 1 }) bytes) (record t { serial = t.serial + 1 })
+  pub line_stands : (bytes : List ℕ) → t.here ≡ 0 → length bytes ≤ 1025 → t' ≡ with_act (line_act (record { origin = t.here; serial = t.serial + 1 }) bytes) (record t { serial = t.serial + 1 })
       → Stands act_of t' (entries ++ at_all t.here (Line (record { origin = t.here; serial = t.serial + 1 }) bytes ∷ []))
   line_stands bytes here short now =
       let e : Event = Line (record { origin = t.here; serial = t.serial + 1 }) bytes in one_stands act_of t t' entries e h

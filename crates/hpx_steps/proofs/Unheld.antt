@@ -1,8 +1,6 @@
 -- Where no credit of an object is held, no action here is on it.
 use Rattle.hpx_steps.proofs.Common.{Accepted, Act, AllByRecursion, Apply, Arrived, Ask, Bool, Cached, Credit, Free, Give, Go, Going, HasInHand, Id, IsFit, IsParcel, IsTidy, List, Move, None, OnDesk, Option, Outgoing, Parcel, Return, Running, Shipped, Some, Token, Turn, Waits, [], act_names, action_of, acts_named, acts_on, all_append, and_false, ap, arith, bare_act, cond, credit, credit_in, credit_list, credits_of, false, fired_of, flat_map, held, held_here, ids_held, is_held, list_any, map, messages, owing, parcel_acts, parcel_tokens, pow_pos, refl, same_object, sum_by, sum_by-append, sum_by-cons, true, view, waiting, waits_here, ℕ, ◌++◌, ◌+◌, ◌∙◌, ◌∷◌, ◌≡◌, ◌≤◌}
-use Rattle.hpx_steps.proofs.Tools.{all_among, drop_waits, ids_append, ids_flat, if_so, none_of, target-bare, weighs}
-use Rattle.hpx_steps.proofs.Busy.{or_false}
-use Rattle.hpx_steps.proofs.Cover.{held_acts}
+use Rattle.hpx_steps.proofs.Tools.{all_among, drop_waits, held_acts, ids_append, ids_flat, if_so, none_of, or_false, target-bare, weighs}
 
 module _ (o : Id) where
   abbrev holds : Token → ℕ
@@ -50,8 +48,7 @@ module _ (o : Id) where
 
   no_acts : 16 ≤ o.kind → (xs : List Act) → sum_by (act_names o) xs ≡ 0 → list_any (acts_on o) xs ≡ false
   no_acts managed [] h = refl
-  no_acts managed (x ∷ xs) h = if_so (acts_on o x)
-      (λ t. absurd (omega (arith, h, sum_by-cons (act_names o) x xs, one_name managed x x.ids refl t)))
+  no_acts managed (x ∷ xs) h = if_so (acts_on o x) (λ t. absurd (omega (arith, h, sum_by-cons (act_names o) x xs, one_name managed x x.ids refl t)))
       (λ t. rw t (no_acts managed xs (omega (arith, h, sum_by-cons (act_names o) x xs))))
 
   acts_worth : 16 ≤ o.kind → (xs : List Act) → AllByRecursion IsFit xs → sum_by (act_names o) (map bare_act xs) ≤ sum_by (λ (a : Act). credit_in o a.ids) xs
@@ -61,8 +58,7 @@ module _ (o : Id) where
       each [] = omega arith
       each (y ∷ ys) = omega (arith, ids_worth y.ids, each ys, sum_by-cons (λ (a : Act). weighs holds a.ids) y ys, sum_by-cons (λ (a : Act). credit_in o a.ids) y ys)
 
-  parcels_worth : 16 ≤ o.kind → (ps : List Parcel) → AllByRecursion IsParcel ps
-      → sum_by (act_names o) (flat_map parcel_acts ps) ≤ sum_by (λ p. credit_in o (ids_held p)) ps
+  parcels_worth : 16 ≤ o.kind → (ps : List Parcel) → AllByRecursion IsParcel ps → sum_by (act_names o) (flat_map parcel_acts ps) ≤ sum_by (λ p. credit_in o (ids_held p)) ps
   parcels_worth managed [] h = omega arith
   parcels_worth managed (p ∷ ps) h = omega (
     arith,

@@ -43,16 +43,14 @@ module _ (r : Rules) (s : Turn) (entries : List Entry) (h : IsSound r s entries)
   up_keeps = record {
     leads = (
       seen,
-      follows_up r (view s) (bare id) refl log (tokens now) (ap (map bare_due) due) fresh
-          (omega (
-            arith,
-            view_worth (counts_of (same_token (held_token (bare id) log))) s,
-            ap (sum_by (λ x. worth (counts_of (same_token (held_token (bare id) log))) (Loose x))) first,
-            sum_by-cons (λ x. worth (counts_of (same_token (held_token (bare id) log))) (Loose x)) id rest,
-            held_by (counts_of (same_token (held_token (bare id) log))) id log has,
-            counts_true (same_token (held_token (bare id) log)) (held_token (bare id) log) (token_own (held_token (bare id) log)),
-          ))
-          (record { sums = λ f weight. omega (arith, traded f, sum_by-cons f (held_token (bare id) log) [], sum_by-cons f (owed_token (bare id) log) []) })
+      follows_up r (view s) (bare id) refl log (tokens now) (ap (map bare_due) due) fresh (omega (
+        arith,
+        view_worth (counts_of (same_token (held_token (bare id) log))) s,
+        ap (sum_by (λ x. worth (counts_of (same_token (held_token (bare id) log))) (Loose x))) first,
+        sum_by-cons (λ x. worth (counts_of (same_token (held_token (bare id) log))) (Loose x)) id rest,
+        held_by (counts_of (same_token (held_token (bare id) log))) id log has,
+        counts_true (same_token (held_token (bare id) log)) (held_token (bare id) log) (token_own (held_token (bare id) log)),
+      )) (record { sums = λ f weight. omega (arith, traded f, sum_by-cons f (held_token (bare id) log) [], sum_by-cons f (owed_token (bare id) log) []) })
           (λ before. sees_covers r seen now sees (view_covered now tidy h.commits.lent)),
       sees_leads r seen now sees,
     );

@@ -23,12 +23,7 @@ shorts_can (suc k) p n st hand le long same least =
         → (AllByRecursion (λ q. HasLeastCredit (id_at st.hand q)) after → CanBeAsked n (set hand p (bare (id_at st.hand p))) after (map (id_at st.hand) after))
         → CanBeAsked n hand (cond b after (p ∷ after)) (map (id_at st.hand) (cond b after (p ∷ after)))
     each after true h here behind = here h
-    each after false h here behind = (
-      omega (arith, le),
-      place_at hand p (omega (arith, le, long)) ∙ ap Some (same p (omega arith) (omega (arith, le))),
-      h.0,
-      behind h.1,
-    )
+    each after false h here behind = (omega (arith, le), place_at hand p (omega (arith, le, long)) ∙ ap Some (same p (omega arith) (omega (arith, le))), h.0, behind h.1)
 
 -- only messages come with asks
 pub asks_rest : (k n : ℕ) (ids : List Id) (t : Tables) → with_asks k n ids t ≡ record t { desk = (with_asks k n ids t).desk; outgoing = (with_asks k n ids t).outgoing }

@@ -14,8 +14,7 @@ pub waits_parts : (s : Turn) → waiting s ≡ acts_before s ++ acts_away s.tabl
 waits_parts s = simp (flat_append, append_assoc)
 
 -- with one more message to another, or on the desk
-acts_out : (desk : List Parcel) (outgoing : List Outgoing) (to : ℕ) (p : Parcel)
-    → acts_away desk (outgoing ++ going to p ∷ []) ≡ acts_away desk outgoing ++ parcel_acts p
+acts_out : (desk : List Parcel) (outgoing : List Outgoing) (to : ℕ) (p : Parcel) → acts_away desk (outgoing ++ going to p ∷ []) ≡ acts_away desk outgoing ++ parcel_acts p
 acts_out desk outgoing to p = simp (flat_append, map-append, append_assoc, append-nil)
 
 acts_desk : (desk : List Parcel) (outgoing : List Outgoing) (p : Parcel)
@@ -76,8 +75,7 @@ one_act act = each (act.code == 1)
     each true = refl
     each false = refl
 
-put : (stay other : Bool) (act : Act) (a m : List Act) (desk : List Parcel) (outgoing : List Outgoing)
-    → Put act ((a ++ m) ++ acts_away desk outgoing)
+put : (stay other : Bool) (act : Act) (a m : List Act) (desk : List Parcel) (outgoing : List Outgoing) → Put act ((a ++ m) ++ acts_away desk outgoing)
     ((a ++ (map bare_act (cond stay (act ∷ []) []) ++ m))
     ++ acts_away (desk ++ cond (not stay) (cond other [] (parcel_for act ∷ [])) [])
     (outgoing ++ cond (not stay) (cond other (going (target_of act).home (parcel_for act) ∷ []) []) []))
@@ -98,8 +96,7 @@ post_waits act s =
       front = k.front;
       back = k.back;
       was = waits_parts s ∙ k.was;
-      is = waits_parts (posts act s)
-          ∙ (ap (λ xs. xs ++ acts_away (posts act s).tables.desk (posts act s).tables.outgoing)
+      is = waits_parts (posts act s) ∙ (ap (λ xs. xs ++ acts_away (posts act s).tables.desk (posts act s).tables.outgoing)
           (ap (λ xs. xs ++ m) (map-append bare_act s.tables.accepted (cond stay (act ∷ []) []))
           ∙ append_assoc (map bare_act s.tables.accepted) (map bare_act (cond stay (act ∷ []) [])) m)
           ∙ k.is);

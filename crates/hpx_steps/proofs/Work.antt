@@ -1,7 +1,7 @@
 -- A commit in work: its objects are made, its ids are halved and asked for, one after another.
-use Rattle.hpx_steps.proofs.Common.{AllByRecursion, AreWithin, Ask, Asked, AskedFor, Born, Event, HasLeastCredit, Id, IsBirth, Lasts, List, Make, None, Option, Record, Rules, Some, Split, Standing, Steps, Stock, Tables, Turn, Waits, Writes, [], ahead_from, ap, append-nil, append_assoc, arith, asked_at, asked_events, bare, bare_id, birth_of, birth_state, births_of, cuts, cuts_of, drop, drop_at, first_cuts, half, halves_taken, halvings, halvings_have, halvings_need, halvings_same, id_at, ids_named, ids_of, length, length-append, length-set, log_of, map, map-append, named, objects_of, option_map, plus_one, records_of, refl, replaced, session, set, slice_get, splits_from, stripped, subst, suc, sym, take-append-le, take_half, take_halves, with_asks, with_mail, zero, ℕ, ◌++◌, ◌+◌, ◌-◌, ◌<◌, ◌^◌, ◌∙◌, ◌∷◌, ◌≡◌, ◌≤◌}
+use Rattle.hpx_steps.proofs.Common.{AllByRecursion, AreWithin, Ask, Asked, AskedFor, Born, Event, HasLeastCredit, Id, IsBirth, Lasts, List, Make, None, Option, Rules, Some, Split, Stock, Tables, Turn, Waits, [], ahead_from, ap, append-nil, append_assoc, arith, asked_at, asked_events, bare, bare_id, birth_of, birth_state, births_of, cuts, cuts_of, drop, drop_at, first_cuts, half, halves_taken, halvings, halvings_have, halvings_need, halvings_same, id_at, ids_named, ids_of, length, length-append, length-set, log_of, map, named, objects_of, option_map, plus_one, records_of, refl, replaced, session, set, slice_get, splits_from, stripped, subst, suc, sym, take-append-le, take_half, take_halves, with_asks, with_mail, zero, ℕ, ◌++◌, ◌+◌, ◌-◌, ◌<◌, ◌^◌, ◌∙◌, ◌∷◌, ◌≡◌, ◌≤◌}
 use Rattle.hpx_steps.proofs.Tools.{at_place, held_by, ids_append, none_tokens, place_at}
-use Rattle.hpx_steps.proofs.Handled.{Writing, steps_append}
+use Rattle.hpx_steps.proofs.Handled.{Writing, writes_append}
 
 -- the first commit in work has this hand
 abbrev pub with_hand : Waits → List Waits → List Id → Turn → Turn
@@ -83,35 +83,14 @@ births_steps r s w rest front (y ∷ ys) back before (x ∷ xs) due lacks makes 
           );
           now = refl;
         },
-        subst (λ z. Writing r z (births_of s.tables.here (s.tables.births + 1) (map birth_of xs)) (with_births w rest front back (x ∷ xs) more.0 s))
-            (ap (λ hs. with_hand w rest hs m) (sym hand))
-            (subst (Writing r (with_hand w rest ((front ++ id ∷ []) ++ (ys ++ back)) m) (births_of s.tables.here (s.tables.births + 1) (map birth_of xs))) (ends o id (record { gid = o; count = 2 ^ s.tables.profile.credit_log; place = s.tables.here; moving = None }) (record { object = o; state = birth_state x }) more.0
-            (map bare (ids_of s.tables.here (s.tables.births + 1) s.tables.profile.credit_log (map birth_of xs))) (ids_of s.tables.here (s.tables.births + 1) s.tables.profile.credit_log (map birth_of xs))
-            (records_of s.tables.here (s.tables.births + 1) s.tables.profile.credit_log (map birth_of xs)) (objects_of s.tables.here (s.tables.births + 1) (map birth_of xs))) more.1),
+        (let births : (s.tables.births + 1) + length xs ≡ s.tables.births + suc (length xs) = omega arith in rw births at (simp append_assoc at more.1)),
       ),
     )
-  where
-    ends : (o id : Id) (made : Record) (new : Standing) (l : Option Event) (fs ids : List Id) (rs : List Record) (os : List Standing)
-        → record s {
-          fresh = (s.fresh ++ o ∷ []) ++ fs;
-          working = record w { hand = (front ++ id ∷ []) ++ (ids ++ back) } ∷ rest;
-          last = l;
-          tables = record s.tables { births = (s.tables.births + 1) + length xs; records = (s.tables.records ++ made ∷ []) ++ rs; objects = (s.tables.objects ++ new ∷ []) ++ os };
-        }
-        ≡ record s {
-          fresh = s.fresh ++ o ∷ fs;
-          working = record w { hand = front ++ id ∷ (ids ++ back) } ∷ rest;
-          last = l;
-          tables = record s.tables { births = s.tables.births + suc (length xs); records = s.tables.records ++ made ∷ rs; objects = s.tables.objects ++ new ∷ os };
-        }
-    ends o id made new l fs ids rs os =
-        let births : (s.tables.births + 1) + length xs ≡ s.tables.births + suc (length xs) = omega arith in rw births (simp append_assoc)
 
 -- ---- an id is halved
 
 -- as often, one half behind all each time
-pub halves_steps : (r : Rules) (s : Turn) (w : Waits) (rest : List Waits) (k p : ℕ) (st : Stock) (log : ℕ) → s.due ≡ [] → w.asked ≡ [] → p < length st.hand
-    → (id_at st.hand p).log ≡ Some log → k ≤ log
+pub halves_steps : (r : Rules) (s : Turn) (w : Waits) (rest : List Waits) (k p : ℕ) (st : Stock) (log : ℕ) → s.due ≡ [] → w.asked ≡ [] → p < length st.hand → (id_at st.hand p).log ≡ Some log → k ≤ log
     → (l : Option Event) × Writing r (with_hand w rest st.hand s) (cuts (id_at st.hand p) (suc k)) (record (with_hand w rest (take_halves k p st).hand s) { last = l })
 halves_steps r s w rest zero p st log due lacks inside has enough = (s.last, refl)
 halves_steps r s w rest (suc k) p st log due lacks inside has enough =
@@ -152,8 +131,7 @@ halves_steps r s w rest (suc k) p st log due lacks inside has enough =
 -- ---- a hand is split ahead
 
 -- where the log allows none, there is nothing to do
-halves_any : (r : Rules) (s : Turn) (w : Waits) (rest : List Waits) (k p : ℕ) (st : Stock) → s.due ≡ [] → w.asked ≡ [] → p < length st.hand
-    → k ≤ log_of (id_at st.hand p).log
+halves_any : (r : Rules) (s : Turn) (w : Waits) (rest : List Waits) (k p : ℕ) (st : Stock) → s.due ≡ [] → w.asked ≡ [] → p < length st.hand → k ≤ log_of (id_at st.hand p).log
     → (l : Option Event) × Writing r (with_hand w rest st.hand s) (cuts (id_at st.hand p) (suc k)) (record (with_hand w rest (take_halves k p st).hand s) { last = l })
 halves_any r s w rest zero p st due lacks inside enough = (s.last, refl)
 halves_any r s w rest (suc k) p st due lacks inside enough = each (id_at st.hand p).log refl enough
@@ -209,14 +187,12 @@ module _ (r : Rules) (w : Waits) (rest : List Waits) (hand : List Id) (places : 
       let one = halves_any r s w rest h p st due lacks (omega (arith, inside, long)) (halvings_have (id_at st.hand p) (named st.places p)) in
       let more = ahead_steps (record s { last = one.0 }) n (p + 1) next due (omega (arith, le)) after.0 after.1 after.2 in
       let first : cuts (id_at st.hand p) (suc h) ≡ cuts (id_at hand p) (suc (halvings (id_at hand p) (named places p))) = ap (λ x. cuts x (suc h)) here.0 ∙ ap (λ k. cuts (id_at hand p) (suc k)) h_is in
-      let all : map (λ e. Writes e) (cuts (id_at st.hand p) (suc h)) ++ map (λ e. Writes e) (first_cuts n (p + 1) (drop (p + 1) hand) places)
-      ≡ map (λ e. Writes e) (first_cuts (suc n) p (drop p hand) places) =
-      sym (map-append (λ e. Writes e) (cuts (id_at st.hand p) (suc h)) (first_cuts n (p + 1) (drop (p + 1) hand) places))
-      ∙ ap (map (λ e. Writes e)) (ap (λ es. es ++ first_cuts n (p + 1) (drop (p + 1) hand) places) first ∙ ap (λ ids. first_cuts (suc n) p ids places) (sym (drop_place p inside))) in (
+      let all : cuts (id_at st.hand p) (suc h) ++ first_cuts n (p + 1) (drop (p + 1) hand) places ≡ first_cuts (suc n) p (drop p hand) places =
+      ap (λ es. es ++ first_cuts n (p + 1) (drop (p + 1) hand) places) first ∙ ap (λ ids. first_cuts (suc n) p ids places) (sym (drop_place p inside)) in
+      let end : Turn = record (with_hand w rest (ahead_from n (p + 1) next).hand s) { last = more.0 } in (
         more.0,
-        subst (λ labels. Steps r (with_hand w rest st.hand s) labels (record (with_hand w rest (ahead_from n (p + 1) next).hand s) { last = more.0 })) all
-            (steps_append r (with_hand w rest st.hand s) (record (with_hand w rest next.hand s) { last = one.0 }) (record (with_hand w rest (ahead_from n (p + 1) next).hand s) { last = more.0 })
-            (map (λ e. Writes e) (cuts (id_at st.hand p) (suc h))) (map (λ e. Writes e) (first_cuts n (p + 1) (drop (p + 1) hand) places)) one.1 more.1),
+        subst (λ es. Writing r (with_hand w rest st.hand s) es end) all
+            (writes_append r (with_hand w rest st.hand s) (record (with_hand w rest next.hand s) { last = one.0 }) end (cuts (id_at st.hand p) (suc h)) (first_cuts n (p + 1) (drop (p + 1) hand) places) one.1 more.1),
       )
 
   pub splits_steps : (s : Turn) (n p : ℕ) (st : Stock) → s.due ≡ [] → p + n ≡ length hand → AreWithin st.hand st.places → length hand ≤ length st.hand → IsAsBefore p hand places st
@@ -236,14 +212,12 @@ module _ (r : Rules) (w : Waits) (rest : List Waits) (hand : List Id) (places : 
       let more = splits_steps (record s { last = one.0 }) n (p + 1) next due (omega (arith, le)) after.0 after.1 after.2 lasts in
       let first : cuts (id_at st.hand p) (suc h) ≡ cuts (id_at hand p) (named places p) =
       ap (λ x. cuts x (suc h)) here.0 ∙ (ap (λ k. cuts (id_at hand p) k) (plus_one h) ∙ cuts_of (id_at hand p) (named places p) h (ap (λ k. k - 1) here.1)) in
-      let all : map (λ e. Writes e) (cuts (id_at st.hand p) (suc h)) ++ map (λ e. Writes e) (splits_from (p + 1) (drop (p + 1) hand) places)
-      ≡ map (λ e. Writes e) (splits_from p (drop p hand) places) =
-      sym (map-append (λ e. Writes e) (cuts (id_at st.hand p) (suc h)) (splits_from (p + 1) (drop (p + 1) hand) places))
-      ∙ ap (map (λ e. Writes e)) (ap (λ es. es ++ splits_from (p + 1) (drop (p + 1) hand) places) first ∙ ap (λ ids. splits_from p ids places) (sym (drop_place p inside))) in (
+      let all : cuts (id_at st.hand p) (suc h) ++ splits_from (p + 1) (drop (p + 1) hand) places ≡ splits_from p (drop p hand) places =
+      ap (λ es. es ++ splits_from (p + 1) (drop (p + 1) hand) places) first ∙ ap (λ ids. splits_from p ids places) (sym (drop_place p inside)) in
+      let end : Turn = record (with_hand w rest (halved_from n (p + 1) next).hand s) { last = more.0 } in (
         more.0,
-        subst (λ labels. Steps r (with_hand w rest st.hand s) labels (record (with_hand w rest (halved_from n (p + 1) next).hand s) { last = more.0 })) all
-            (steps_append r (with_hand w rest st.hand s) (record (with_hand w rest next.hand s) { last = one.0 }) (record (with_hand w rest (halved_from n (p + 1) next).hand s) { last = more.0 })
-            (map (λ e. Writes e) (cuts (id_at st.hand p) (suc h))) (map (λ e. Writes e) (splits_from (p + 1) (drop (p + 1) hand) places)) one.1 more.1),
+        subst (λ es. Writing r (with_hand w rest st.hand s) es end) all
+            (writes_append r (with_hand w rest st.hand s) (record (with_hand w rest next.hand s) { last = one.0 }) end (cuts (id_at st.hand p) (suc h)) (splits_from (p + 1) (drop (p + 1) hand) places) one.1 more.1),
       )
 
 -- ---- ids are asked for
@@ -264,8 +238,7 @@ pub asks_steps : (r : Rules) (s : Turn) (w : Waits) (rest : List Waits) (asked :
       last = l;
       tables = record (with_asks s.tables.here s.tables.asked ids s.tables) { asked = s.tables.asked + length ids };
     })
-asks_steps r s w rest asked [] [] st due fresh can =
-    (s.last, let none : s.tables.asked + 0 ≡ s.tables.asked = omega arith in rw none (simp append-nil))
+asks_steps r s w rest asked [] [] st due fresh can = (s.last, let none : s.tables.asked + 0 ≡ s.tables.asked = omega arith in rw none (simp append-nil))
 asks_steps r s w rest asked [] (id ∷ ids) st due fresh can = absurd can
 asks_steps r s w rest asked (p ∷ ps) [] st due fresh can = absurd can
 asks_steps r s w rest asked (p ∷ ps) (id ∷ ids) st due fresh can =
@@ -293,29 +266,14 @@ asks_steps r s w rest asked (p ∷ ps) (id ∷ ids) st due fresh can =
           least = can.2;
           now = refl;
         },
-        subst (λ hs. Writing r (asking_turn w rest hs (asked ++ ask ∷ []) m) (asked_events ids)
-            (record (asking_turn w rest (stripped ps next).hand (asked ++ ask ∷ asked_at (n + 1) ps) s) {
-              last = more.0;
-              tables = record (with_asks s.tables.here n (id ∷ ids) s.tables) { asked = n + suc (length ids) };
-            })) hand_is
-            (subst (Writing r (asking_turn w rest next.hand (asked ++ ask ∷ []) m) (asked_events ids)) (ends next.hand (stripped ps next).hand more.0) more.1),
+        subst (λ hs. Writing r (asking_turn w rest hs (asked ++ ask ∷ []) m) (asked_events ids) (record (asking_turn w rest (stripped ps next).hand (asked ++ ask ∷ asked_at (n + 1) ps) s) {
+          last = more.0;
+          tables = record (with_asks s.tables.here n (id ∷ ids) s.tables) { asked = n + suc (length ids) };
+        })) hand_is (let sum : (n + 1) + length ids ≡ n + suc (length ids) = omega arith in
+            rw (sum, asks_counted s.tables.here (n + 1) (n + 1) ids (with_mail id.home (Ask id s.tables.here (n + 1)) s.tables)) at (simp append_assoc at more.1)),
       ),
     )
   where
     asks_counted : (k n a : ℕ) (is : List Id) (t : Tables) → with_asks k n is (record t { asked = a }) ≡ record (with_asks k n is t) { asked = a }
     asks_counted k n a [] t = refl
     asks_counted k n a (i ∷ is) t = asks_counted k (n + 1) a is (with_mail i.home (Ask i k (n + 1)) t)
-
-    ends : (before hs : List Id) (l : Option Event)
-        → record (asking_turn w rest hs ((asked ++ record { entry = s.tables.asked + 1; place = p } ∷ []) ++ asked_at (s.tables.asked + 1) ps) s) {
-          last = l;
-          tables = record (with_asks s.tables.here (s.tables.asked + 1) ids (with_mail id.home (Ask id s.tables.here (s.tables.asked + 1)) (record s.tables { asked = s.tables.asked + 1 })))
-              { asked = (s.tables.asked + 1) + length ids };
-        }
-        ≡ record (asking_turn w rest hs (asked ++ record { entry = s.tables.asked + 1; place = p } ∷ asked_at (s.tables.asked + 1) ps) s) {
-          last = l;
-          tables = record (with_asks s.tables.here s.tables.asked (id ∷ ids) s.tables) { asked = s.tables.asked + suc (length ids) };
-        }
-    ends before hs l =
-        let n : (s.tables.asked + 1) + length ids ≡ s.tables.asked + suc (length ids) = omega arith in
-        rw (n, asks_counted s.tables.here (s.tables.asked + 1) (s.tables.asked + 1) ids (with_mail id.home (Ask id s.tables.here (s.tables.asked + 1)) s.tables)) (simp append_assoc)

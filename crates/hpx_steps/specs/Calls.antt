@@ -38,12 +38,12 @@ abbrev pub with_asks : ℕ → ℕ → List Id → Tables → Tables
 with_asks k n [] t = t
 with_asks k n (id ∷ ids) t = with_asks k (n + 1) ids (with_mail id.home (Ask id k (n + 1)) t)
 
--- an id is given up, if it has a credit
+-- the entry by which an id is given up, if it has a credit
 abbrev pub up_of : Id → Option ℕ → List Event
 up_of id None = []
 up_of id (Some log) = Up (bare id) log ∷ []
 
--- these ids are given up
+-- an Up for each of these ids that has a credit, in order
 abbrev pub ups : List Id → List Event
 ups ids = flat_map (λ id. up_of id id.log) ids
 
