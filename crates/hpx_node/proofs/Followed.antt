@@ -179,17 +179,12 @@ module _ (act_of : ℕ → ℕ → ℕ → State → Act → Outcome)
       })
 
       end_is : t' ≡ to u g.i g.after is.place.standing
-      end_is =
-          fails.rest
-          ∙ (ap (λ w. to mid y.i w fails.standing) same_commit
-          ∙ (ap (λ x. to mid y.i g.after x) x_is
-          ∙ (ap (λ i. to mid i g.after is.place.standing) (sym failed_at)
-          ∙ (ap (λ m. to m g.i g.after is.place.standing) g.rest
+      end_is = fails.rest ∙ rw (same_commit, x_is, ← failed_at) (ap (λ m. to m g.i g.after is.place.standing) g.rest
           ∙ ap (λ ws. with_left (due_left g.after) (ups_left g.after) (record u {
             pending = ws;
             objects = set t.objects y.j (record { object = is.place.standing.object; state = state_left g.after });
             answered = t.answered + answered_by (Some g.after.job.action);
-          })) (remove_set t.pending g.i g.after)))))
+          })) (remove_set t.pending g.i g.after))
 
       failed_leads : Leads r s t' (given_event id ∷ failed_events mid g.after)
       failed_leads =

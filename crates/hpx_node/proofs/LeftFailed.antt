@@ -5,7 +5,7 @@ use Rattle.hpx_commit.proofs.FailedHas.{failed_fit, ups_have}
 use Rattle.hpx_commit.proofs.Rights.{had_right}
 use Rattle.hpx_node.proofs.HandLeft.{HasLeft, has_left}
 use Rattle.hpx_node.proofs.Planned.{due_credit, may_be_due, none_of, rights}
-use Rattle.hpx_node.proofs.Plain.{no_ids}
+use Rattle.hpx_commit.proofs.Planned.{no_ids}
 
 -- what was asked for was given
 none_left : (p : ℕ) (asked : List Asked) (b : Bool) → asked ≡ [] → count_by (λ (x : Asked). x.place == p) asked ≡ cond b 1 0 → b ≡ false

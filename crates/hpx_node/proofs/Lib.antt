@@ -22,7 +22,6 @@ pub mod Made
 pub mod Numbers
 pub mod OfPrepared
 pub mod Paused
-pub mod Plain
 pub mod PlanLimits
 pub mod PlanRoom
 pub mod PlanWeights

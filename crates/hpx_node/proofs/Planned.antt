@@ -121,7 +121,7 @@ module _ (t : Tables) (job : Job) (out : Outcome) (fit : IsFitJob job) (few : t.
       may_be_due (λ bytes. tt)
 
   pub planned_of : (s : Stock) → IsStock t job out s
-      → IsPlanned HasRightCredit HasCredit IsFitDue bare_due job.state job.action (made_of t out) out s
+      → IsPlanned HasRightCredit HasCredit IsFitDue bare_due job.kind job.state job.action (made_of t out) out s
   planned_of s is = planned HasRightCredit HasCredit rights IsFitDue bare_due (λ m. refl) (λ bytes. refl) (λ bytes. tt) due_filled
       t.localities job.kind job.at job.state job.action out laws few fit.state fit.action.sent.shape (made_of t out) are.kinds fit.credit
       fit.action.sent.credit are.credit due_has s is.names is.credit

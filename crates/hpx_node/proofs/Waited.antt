@@ -1,5 +1,5 @@
 -- A commit begins to wait, as the calls do it.
-use Rattle.hpx_node.proofs.Common.{Act, AllByRecursion, AllLast, AreWithin, Ask, Begins, Entry, HasCredit, HasLeastCredit, HasRightCredit, HasSplit, Id, IsAt, IsBefore, IsFitJob, IsKept, IsState, IsTidy, Job, KeepsLaws, Lasting, List, Outcome, Pauses, Some, Standing, Stands, State, Stock, Tables, Waits, [], action_few, ahead, all_at, ap, append_assoc, arith, asked_at, asked_events, at_all, at_all_append, bare, bare_state, drop, first_cuts, get_or, hand_before, hand_kinds, hand_of, id_at, inl, is_managed, lacking, length, length-append, length-map, made_of, managed_same, managed_there, map, none_short, own_many, places_in_hand, places_named, refl, remove, set, short_before, short_places, slice_get, some_same, split_stock, splits_before, stock_before, subst, sym, take, take_more, true, waits_with, with_asks, with_mail, ℕ, ◌++◌, ◌+◌, ◌<◌, ◌∙◌, ◌∷◌, ◌≡◌, ◌≤◌}
+use Rattle.hpx_node.proofs.Common.{Act, AllByRecursion, AllLast, AreWithin, Ask, Begins, Entry, HasCredit, HasLeastCredit, HasRightCredit, HasSplit, Id, IsAt, IsBefore, IsFitJob, IsKept, IsState, IsTidy, Job, KeepsLaws, Lasting, List, Outcome, Pauses, Some, Standing, Stands, State, Stock, Tables, Waits, [], action_few, ahead, all_at, ap, append_assoc, arith, asked_at, asked_events, at_all, at_all_append, bare, bare_state, drop, first_cuts, get_or, hand_before, hand_kinds, hand_of, id_at, inl, is_managed, lacking, length, length-append, length-map, made_of, managed_same, managed_there, map, none_short, own_many, places_in_hand, places_named, refl, remove, set, short_before, short_places, slice_get, some_same, split_stock, splits_before, state_filled, stock_before, subst, sym, take, take_more, true, waits_with, with_asks, with_mail, ℕ, ◌++◌, ◌+◌, ◌<◌, ◌∙◌, ◌∷◌, ◌≡◌, ◌≤◌}
 use Rattle.hpx_commit.proofs.Stripped.{short_few, stripped_behind, stripped_places}
 use Rattle.hpx_node.specs.declared.node.wait.Before.{Before}
 use Rattle.hpx_steps.proofs.Waiting.{asks_rest, wait_stands}
@@ -26,21 +26,11 @@ pauses_by t t' i j job w at x stands e = record {
   }) (some_same x at.standing (sym stands ∙ at.stands));
 }
 
-bare_fit : (s : State) → IsState s → IsState (bare_state s)
-bare_fit s h = record {
-  values = h.values;
-  refs = h.refs;
-  conts = h.conts;
-  ids = length-map s.ids bare ∙ h.ids;
-  few = omega (arith, length-map s.ids bare, h.few);
-  short = h.short;
-}
-
 -- an object keeps its state without credits
 pub lent_kept : (x : Standing) (s : State) → IsKept x → x.state ≡ s → IsState s → IsKept (record { object = x.object; state = bare_state s })
 lent_kept x s kept same fit = record {
   kind = kept.kind;
-  state = bare_fit s fit;
+  state = state_filled s (map bare s.ids) (length-map s.ids bare) fit;
   plain = λ e. (ap (λ (y : State). y.values) (sym same) ∙ (kept.plain e).0, ap (λ (y : State). y.conts) (sym same) ∙ (kept.plain e).1);
 }
 
