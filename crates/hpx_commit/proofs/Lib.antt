@@ -20,6 +20,7 @@ pub mod DueFilled
 pub mod HandFit
 pub mod FailedHas
 pub mod Lists
+pub mod DueWeights
 pub mod Planned
 pub mod Came
 pub mod HandLeft

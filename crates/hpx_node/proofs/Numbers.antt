@@ -7,6 +7,7 @@ use Rattle.hpx_part.proofs.Covered.{act_names, object_names, due_names}
 use Rattle.hpx_part.proofs.Keys.{means, own, stood, means_object, own_object}
 use Rattle.hpx_steps.proofs.Cover.{held_counts, held_each}
 use Rattle.hpx_node.proofs.Sums.{weigh, weigh_append, tokens_sum, view_sum}
+use Rattle.hpx_commit.proofs.Lists.{all_imp}
 
 -- ---- worths look at no credit of an id
 
@@ -191,18 +192,13 @@ either_way : (b : Bool) → cond b false false ≡ false
 either_way true = refl
 either_way false = refl
 
-whole_ids : (xs : List Standing) → AllByRecursion (λ (x : Standing). is_busy x.object [] ≡ false → AllByRecursion HasRightCredit x.state.ids) xs
-    → AllByRecursion (λ (x : Standing). AllByRecursion HasRightCredit x.state.ids) xs
-whole_ids [] h = tt
-whole_ids (x ∷ xs) h = (h.0 (either_way (x.object.kind == 7)), whole_ids xs h.1)
-
 pub rest_shown : (t : Tables) (s : Local) (o : Id) → 16 ≤ o.kind → IsPassive t → IsTidy t [] → Shows (view t [] []) s
     → count_by (is_held o) s.tokens ≡ names o s
 rest_shown t s o managed passive tidy shown =
     let none : messages t ≡ [] =
     ap (λ (d : List Parcel). d ++ map (λ (x : Outgoing). x.parcel) t.outgoing) passive.desk
     ∙ ap (λ (xs : List Outgoing). map (λ (x : Outgoing). x.parcel) xs) passive.outgoing in
-    let whole = whole_ids t.objects (subst (λ (ws : List Waits). AllByRecursion (λ (x : Standing). is_busy x.object (map action_of ws) ≡ false → AllByRecursion HasRightCredit x.state.ids) t.objects)
+    let whole = all_imp _ (λ (x : Standing). AllByRecursion HasRightCredit x.state.ids) (λ x h. h (either_way (x.object.kind == 7))) t.objects (subst (λ (ws : List Waits). AllByRecursion (λ (x : Standing). is_busy x.object (map action_of ws) ≡ false → AllByRecursion HasRightCredit x.state.ids) t.objects)
     passive.pending tidy.paused.whole) in
     let waits : (view t [] []).waiting ≡ [] =
     ap (λ (xs : List Act). map bare_act xs ++ flat_map (λ p. acts_in (Some p)) (messages t)) passive.accepted ∙ ap (λ ps. flat_map (λ p. acts_in (Some p)) ps) none in

@@ -1,5 +1,6 @@
 -- A commit that waits, by what its tables say.
 use Rattle.hpx_node.proofs.Common.{Act, AllByRecursion, Apart, Asked, Bool, HasRightCredit, Id, IsCommit, IsFit, IsFitJob, IsKept, IsPaused, IsState, IsTidy, Job, KeepsLaws, List, Outcome, Some, Standing, State, Tables, Waits, [], action_of, acts_on, all_at, any_over, ap, append_assoc, arith, cond, drop, false, find, find_passes, hand_long, is_busy, is_standing, length, map, refl, slice_get, split_get, subst, suc, sym, take, target_of, true, waits_here, ℕ, ◌++◌, ◌<◌, ◌==◌, ◌∙◌, ◌∷◌, ◌≡◌, ◌≤◌}
+use Rattle.hpx_commit.proofs.Lists.{all_imp}
 use Rattle.hpx_node.specs.Resumes.{IsKeptFor}
 use Rattle.hpx_steps.proofs.Busy.{apart_alone, busy_parts, busy_same}
 
@@ -19,12 +20,9 @@ commit_of k n log objects w h = record {
   once = h.once;
 }
 
-lower_all : (n m : ℕ) → n ≤ m → (xs : List Asked) → AllByRecursion (λ (x : Asked). x.place < n) xs → AllByRecursion (λ (x : Asked). x.place < m) xs
-lower_all n m le [] h = tt
-lower_all n m le (x ∷ xs) h = (let lt = h.0 in omega (arith, lt, le), lower_all n m le xs h.1)
-
 pub asked_within : (k n log : ℕ) (objects : List Standing) (w : Waits) → IsPaused k n log objects w → AllByRecursion (λ (x : Asked). x.place < length w.hand) w.asked
-asked_within k n log objects w h = lower_all _ (length w.hand) (hand_long k n w (commit_of k n log objects w h)) w.asked h.within
+asked_within k n log objects w h =
+    let long = hand_long k n w (commit_of k n log objects w h) in all_imp _ (λ (x : Asked). x.place < length w.hand) (λ x lt. omega (arith, lt, long)) w.asked h.within
 
 -- where its object is found at j
 pub in_place : (k n log : ℕ) (objects : List Standing) (w : Waits) (j : ℕ) (paused : IsPaused k n log objects w) → AllByRecursion IsKept objects
