@@ -19,6 +19,7 @@ pub mod BareHands
 pub mod DueFilled
 pub mod HandFit
 pub mod FailedHas
+pub mod Jobs
 pub mod Lists
 pub mod DueWeights
 pub mod Planned

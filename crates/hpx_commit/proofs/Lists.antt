@@ -1,5 +1,5 @@
 -- Lists and answers of any kind.
-use Rattle.std.proofs.Common.{ℕ, min, zero, suc, Bool, true, false, List, [], ◌∷◌, ◌≡◌, ◌+◌, ◌<◌, Option, Some, None, set, take, length, refl, ap, ◌∙◌, arith, inl, inr, subst}
+use Rattle.std.proofs.Common.{ℕ, min, zero, suc, Bool, true, false, List, [], ◌∷◌, ◌≡◌, ◌+◌, ◌<◌, Some, None, set, take, length, refl, ap, ◌∙◌, arith, inl, inr, subst}
 use Rattle.std.specs.Prelude.{Result, Ok, Err, IfOk, OnOk}
 use Rattle.std.specs.List.{AllByRecursion, find, list_any, remove, slice_get, sum_by}
 use Rattle.std.specs.Result.{is_err}

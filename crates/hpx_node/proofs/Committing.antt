@@ -1,5 +1,5 @@
 -- A prepared commit, written step by step, leaves what one step would leave.
-use Rattle.hpx_node.proofs.Common.{Act, Birth, Done, Due, Entry, Event, Id, IsPrepared, Job, List, Makes, Outcome, Prepared, Record, Some, Standing, State, Tables, Waits, [], answered_by, ap, append-nil, append_assoc, arith, at_all, at_all_append, birth_of, births_of, committed_from, committed_to, dealt, due_dealt, due_of, false, get_before, length, length-map, made_of, map, name_of, objects_of, records_of, set, slice_get, slice_get_less, splits_from, state_after, sym, unnamed, unused, ups, with_left, with_settled, written_due, ℕ, ◌++◌, ◌+◌, ◌<◌, ◌∙◌, ◌∷◌, ◌≡◌}
+use Rattle.hpx_node.proofs.Common.{Act, Birth, Done, Due, Entry, Event, IsPrepared, Job, List, Makes, Outcome, Prepared, Record, Some, Standing, Tables, Waits, [], answered_by, ap, append-nil, append_assoc, arith, at_all, at_all_append, birth_of, births_of, committed_from, committed_to, dealt, due_of, false, get_before, length, length-map, made_of, map, name_of, objects_of, records_of, set, slice_get, slice_get_less, splits_from, state_after, sym, unnamed, unused, ups, with_left, with_settled, written_due, ℕ, ◌++◌, ◌+◌, ◌<◌, ◌∙◌, ◌∷◌, ◌≡◌}
 use Rattle.hpx_node.proofs.PlanWeights.{written_same}
 
 -- entries that are written one list after another
@@ -63,7 +63,11 @@ module _ (t : Tables) (job : Job) (out : Outcome) (p : Prepared) (is : IsPrepare
         written_on t.here e0 e1 e2 e3 (first_of p.births.items) (Done (name_of job.action) false ∷ []) (written_due t.here t.serial p.plan.due.items ++ ups p.plan.ups.items)
         first (done ∙ ap (λ (y : Tables). e1 ++ at_all y.here (Done (name_of job.action) false ∷ [])) made.rest)
         (left ∙ ap (λ (y : Tables). e2 ++ at_all y.here (written_due y.here y.serial p.plan.due.items ++ ups p.plan.ups.items)) settled_to)
-        ∙ ap (λ es. e0 ++ at_all t.here es) (rw (is.due_left, is.ups_left, is.births,
-        written_same t.here t.serial due_said (unused (state_after job.state job.action (made_of t out) out).ids (dealt p.stock.hand p.stock.places)))
+        ∙ ap (λ es. e0 ++ at_all t.here es) (rw (
+          is.due_left,
+          is.ups_left,
+          is.births,
+          written_same t.here t.serial due_said (unused (state_after job.state job.action (made_of t out) out).ids (dealt p.stock.hand p.stock.places)),
+        )
         (append_assoc (births_of t.here t.births (map birth_of out.makes)) (splits_from 0 p.stock.hand p.stock.places)
         (Done (name_of job.action) false ∷ (written_due t.here t.serial due_said ++ ups (unnamed p.stock.hand p.stock.places)))))

@@ -1,6 +1,5 @@
 -- An action fails, as the call writes it.
-use Rattle.hpx_node.proofs.Common.{AllByRecursion, Done, Due, Entry, Fails, HasCredit, Id, IsFailure, IsFitDue, IsKept, List, MustFail, OnlySends, Plan, Some, Standing, Tables, Waits, Writes, [], action_ids, action_of, answered_by, ap, append_assoc, arith, at_all, due_left, failed_events, length, length-append, name_of, option_map, remove, set, slice_get, some_same, state_left, subst, sym, true, ups, ups_left, with_left, written_due, ℕ, ◌++◌, ◌+◌, ◌∙◌, ◌∷◌, ◌≡◌, ◌≤◌}
-use Rattle.hpx_commit.proofs.FailedHas.{failed_few}
+use Rattle.hpx_node.proofs.Common.{AllByRecursion, Done, Due, Entry, Fails, HasCredit, Id, IsFailure, IsFitDue, IsKept, List, MustFail, OnlySends, Plan, Some, Standing, Tables, Waits, Writes, [], action_ids, action_of, answered_by, ap, append_assoc, arith, at_all, due_left, failed_events, failed_few, length, length-append, name_of, option_map, remove, set, slice_get, some_same, state_left, subst, sym, true, ups, ups_left, with_left, written_due, ℕ, ◌++◌, ◌+◌, ◌∙◌, ◌∷◌, ◌≡◌, ◌≤◌}
 use Rattle.hpx_node.proofs.FewEntries.{at_all_length}
 use Rattle.hpx_node.proofs.PlanWeights.{ups_few, written_few}
 

@@ -1,7 +1,6 @@
 -- What follows a message that is dealt with, and what it writes.
-use Rattle.hpx_node.proofs.Common.{Act, AskedFor, Bool, Commits, Continues, Entry, Event, Failing, Fails, Give, Gives, HasCredit, HasFollowed, HasInHand, Id, IfFollows, IsFailing, IsNext, IsParcel, IsReady, IsTidy, KeepsLaws, Leads, List, MayFollow, MayResume, Next, None, Option, Outcome, Parcel, Ready, Rules, Some, Standing, State, Tables, Turn, Waits, Writes, [], answered_by, ap, append-nil, arith, awaits, bare_act, bare_state, brings_right, broken_near, committed_from, completes, dooms, due_left, effects, eq-eqb, failed_events, failed_remains, fails_first, false, find, full_stock, get_or, give_right, given_event, given_fails, given_waits, in_hand, is_asked_for, is_last, is_some, length, log_of, message_of, named, ne_eqb, not, refl, remove, rules_of, set, slice_get, some_same, state_left, subst, sym, true, ups_left, with_left, ℕ, ◌&&◌, ◌++◌, ◌+◌, ◌==◌, ◌||◌, ◌∙◌, ◌∷◌, ◌≡◌, ◌⊎◌}
+use Rattle.hpx_node.proofs.Common.{Act, AskedFor, Bool, Commits, Continues, Entry, Event, Failing, Fails, Give, Gives, HasCredit, HasFollowed, HasInHand, Id, IfFollows, IsFailing, IsNext, IsParcel, IsReady, IsTidy, KeepsLaws, Leads, List, MayFollow, MayResume, Next, None, Option, Outcome, Parcel, Ready, Rules, Some, Standing, State, Tables, Turn, Waits, Writes, [], answered_by, any_at, ap, append-nil, arith, awaits, bare_act, bare_state, brings_right, broken_near, committed_from, completes, dooms, due_left, effects, eq-eqb, failed_events, failed_remains, fails_first, false, find, find_at, full_stock, get_or, give_right, given_event, given_fails, given_waits, in_hand, is_asked_for, is_last, is_some, length, less_long, log_of, message_of, named, ne_eqb, not, refl, remove, remove_set, rules_of, set, slice_get, some_same, state_left, subst, sym, true, ups_left, with_left, ℕ, ◌&&◌, ◌++◌, ◌+◌, ◌==◌, ◌||◌, ◌∙◌, ◌∷◌, ◌≡◌, ◌⊎◌}
 use Rattle.hpx_node.proofs.Continued.{IsGiven, after_is, at, may_after, may_given, none_then, only_give}
-use Rattle.hpx_commit.proofs.Lists.{any_at, find_at, less_long, remove_set}
 use Rattle.hpx_node.proofs.FailsThen.{at as fails_at, found_then, given, left, must_then, only_fails, plan_then, refused}
 use Rattle.hpx_node.proofs.GoesOn.{goes_leads}
 use Rattle.hpx_node.proofs.ReadyStock.{brings_by}

@@ -1,6 +1,5 @@
 -- Credit that is held at a node: by its tables, and by its tokens.
-use Rattle.hpx_node.proofs.Common.{Act, Id, List, Outgoing, Parcel, Standing, Waits, [], ap, arith, credit_in, ids_held, map, min, refl, sum_by, sum_by-append, sum_by-cons, ℕ, ◌++◌, ◌+◌, ◌∙◌, ◌∷◌, ◌≡◌}
-use Rattle.hpx_commit.proofs.Lists.{capped_sum}
+use Rattle.hpx_node.proofs.Common.{Act, Id, List, Outgoing, Parcel, Standing, Waits, [], ap, arith, capped_sum, credit_in, ids_held, map, min, refl, sum_by, sum_by-append, sum_by-cons, ℕ, ◌++◌, ◌+◌, ◌∙◌, ◌∷◌, ◌≡◌}
 
 sum_outgoing : (f : Parcel → ℕ) (xs : List Outgoing) → sum_by f (map (λ (x : Outgoing). x.parcel) xs) ≡ sum_by (λ (x : Outgoing). f x.parcel) xs
 sum_outgoing f [] = refl

@@ -1,7 +1,6 @@
 -- What a commit leaves that is planned.
-use Rattle.hpx_node.proofs.Common.{Act, HasCredit, HasRightCredit, IsFitDue, IsFitJob, IsKept, IsLeftBy, IsPlanned, IsStock, Job, KeepsLaws, Outcome, Standing, State, Stock, Tables, [], ap, bare, bare_act, bare_alone, bare_due, bare_state, due_of, halved_from, length, made_of, map, message_of, named, plan_deals, remains, rules_of, state_after, state_dealt, sym, ℕ, ◌∙◌, ◌≡◌, ◌≤◌}
+use Rattle.hpx_node.proofs.Common.{Act, HasCredit, HasRightCredit, IsFitDue, IsFitJob, IsKept, IsLeftBy, IsPlanned, IsStock, Job, KeepsLaws, Outcome, Standing, State, Stock, Tables, [], ap, bare, bare_act, bare_alone, bare_due, bare_state, due_of, halved_from, length, made_of, map, message_of, named, no_ids, plan_deals, remains, rules_of, state_after, state_dealt, sym, ℕ, ◌∙◌, ◌≡◌, ◌≤◌}
 use Rattle.hpx_commit.proofs.BareHands.{blind_of}
-use Rattle.hpx_commit.proofs.Planned.{no_ids}
 use Rattle.hpx_node.proofs.Planned.{due_credit, planned_of}
 
 module _ (t : Tables) (job : Job) (out : Outcome) (fit : IsFitJob job) (few : t.localities ≤ 64)

@@ -34,7 +34,6 @@ pub mod Routed
 pub mod RowLaws
 pub mod Runs
 pub mod Same
-pub mod SameCommit
 pub mod Spared
 pub mod Sums
 pub mod Targets

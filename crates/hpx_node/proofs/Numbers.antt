@@ -1,5 +1,5 @@
 -- What a node's tables tell, by what stands at its locality.
-use Rattle.hpx_node.proofs.Common.{Act, Agree-sum, AllByRecursion, Apply, Arrived, Ask, Bool, Cached, Free, Give, Go, HasRightCredit, Id, IsBare, IsParcel, IsPassive, IsTidy, List, Local, Move, None, Option, Outgoing, Parcel, Return, Shipped, Some, Standing, Tables, Travel, Waits, [], action_of, acts_in, ap, arith, awaited_at, awaited_here, bare_act, bare_standing, cases_Bool, cond, count_by, credit, credit_in, credit_of_log, credit_owed, drawn_by, false, find, flat_map, held-Counts, held_here, held_worth, ids_held, inl, inr, is_act, is_answer, is_busy, is_some, is_standing, map, messages, name_of, names, owed_here, owed_worth, parcel_tokens, refl, same_object, same_object-through, same_token-true, session, stands_here, subst, sum_by, sum_by-append, sum_by-cons, sym, true, view, zero-add, ℕ, ◌++◌, ◌-◌, ◌==◌, ◌^◌, ◌∙◌, ◌∷◌, ◌≡◌, ◌≤◌}
+use Rattle.hpx_node.proofs.Common.{Act, Agree-sum, AllByRecursion, Apply, Arrived, Ask, Bool, Cached, Free, Give, Go, HasRightCredit, Id, IsBare, IsParcel, IsPassive, IsTidy, List, Local, Move, None, Option, Outgoing, Parcel, Return, Shipped, Some, Standing, Tables, Travel, Waits, [], action_of, acts_in, all_imp, ap, arith, awaited_at, awaited_here, bare_act, bare_standing, cases_Bool, cond, count_by, credit, credit_in, credit_of_log, credit_owed, drawn_by, false, find, flat_map, held-Counts, held_here, held_worth, ids_held, inl, inr, is_act, is_answer, is_busy, is_some, is_standing, map, messages, name_of, names, owed_here, owed_worth, parcel_tokens, refl, same_object, same_object-through, same_token-true, session, stands_here, subst, sum_by, sum_by-append, sum_by-cons, sym, true, view, zero-add, ℕ, ◌++◌, ◌-◌, ◌==◌, ◌^◌, ◌∙◌, ◌∷◌, ◌≡◌, ◌≤◌}
 use Rattle.hpx_parcel.specs.Credits.{credit_list, credits_of}
 use Rattle.hpx_journal.specs.Tokens.{held, owing, is_held}
 use Rattle.hpx_part.specs.Shows.{IsWeight, Shows}
@@ -7,7 +7,6 @@ use Rattle.hpx_part.proofs.Covered.{act_names, object_names, due_names}
 use Rattle.hpx_part.proofs.Keys.{means, own, stood, means_object, own_object}
 use Rattle.hpx_steps.proofs.Cover.{held_counts, held_each}
 use Rattle.hpx_node.proofs.Sums.{weigh, weigh_append, tokens_sum, view_sum}
-use Rattle.hpx_commit.proofs.Lists.{all_imp}
 
 -- ---- worths look at no credit of an id
 

@@ -1,7 +1,6 @@
 -- What the entries of a commit weigh.
-use Rattle.hpx_node.proofs.Common.{Act, AllByRecursion, Birth, Born, Due, Event, Id, IsBirth, List, Message, MessageDue, None, Option, Outcome, Print, PrintDue, Sent, Some, Split, State, Up, [], ap, arith, at_all, at_all_append, bare, bare_id, births_of, cuts, due_of, filled_due, half, length, length-append, log_of, map, refl, replied, sent, splits_from, state_size, suc, sum_by, sum_by-append, sum_by-cons, total_weight, unused, up_of, ups, weight_of, written_due, zero, ℕ, ◌*◌, ◌++◌, ◌+◌, ◌∙◌, ◌∷◌, ◌≡◌, ◌≤◌}
+use Rattle.hpx_node.proofs.Common.{Act, AllByRecursion, Birth, Born, Due, Event, Id, IsBirth, List, MessageDue, None, Option, Outcome, Print, PrintDue, Sent, Some, Split, State, Up, [], ap, arith, at_all, at_all_append, bare, bare_id, births_of, cuts, due_of, due_weight, filled_due, half, length, length-append, light_due, log_of, refl, splits_from, state_size, suc, sum_by, sum_by-append, sum_by-cons, total_weight, unused, up_of, ups, weight_of, written_due, zero, ℕ, ◌*◌, ◌++◌, ◌+◌, ◌∙◌, ◌∷◌, ◌≡◌, ◌≤◌}
 use Rattle.hpx_commit.specs.Deals.{named}
-use Rattle.hpx_commit.proofs.DueWeights.{due_weight, light_due}
 
 -- nothing that was dealt is written
 pub written_same : (here serial : ℕ) (due : List Due) (ds : List Id) → written_due here serial (filled_due due ds) ≡ written_due here serial due

@@ -1,12 +1,10 @@
 -- A commit of a locality: what it makes, and what it leaves that deals a stock.
-use Rattle.hpx_node.proofs.Common.{AllByRecursion, AreRight, AreWithin, Due, HasCredit, HasRightCredit, HaveLog, HaveNone, Id, IsBare, IsBirth, IsFitDue, IsFitJob, IsManaged, IsMovable, IsPlace, IsPlanned, IsState, IsStock, Job, KeepsLaws, List, MatchOption, Message, MessageDue, None, Option, Outcome, PrintDue, Some, Stock, Tables, [], all_append, ap, arith, bare, bare_due, birth_of, birth_state, due_of, flat_map, hand_of, ids_due, ids_of, is_below, is_some, length, made_of, map, message_filled, nat_le, own_few, own_within, places_in_hand, planned, refl, refs_in, same_at, suc, sym, true, ℕ, ◌+◌, ◌<◌, ◌∷◌, ◌≡◌, ◌≤◌}
+use Rattle.hpx_node.proofs.Common.{AllByRecursion, AreRight, AreWithin, Due, HasCredit, HasRightCredit, HaveLog, HaveNone, Id, IsBare, IsBirth, IsFitDue, IsFitJob, IsManaged, IsMessage, IsMovable, IsPlace, IsPlanned, IsState, IsStock, Job, KeepsLaws, List, MatchOption, Message, MessageDue, None, Option, Outcome, PrintDue, Some, Stock, Tables, [], all_append, all_imp, ap, arith, bare, bare_due, birth_of, birth_state, due_of, flat_map, hand_of, ids_due, ids_of, is_below, is_some, length, made_of, map, message_filled, nat_le, own_few, own_within, places_in_hand, planned, refl, refs_in, same_at, suc, sym, true, ℕ, ◌+◌, ◌<◌, ◌∷◌, ◌≡◌, ◌≤◌}
 use Rattle.hpx_value.specs.declared.outcome.Make.{Make}
 use Rattle.hpx_commit.proofs.HandFit.{fit_due, hand_right}
-use Rattle.hpx_commit.proofs.Lists.{all_imp}
 use Rattle.hpx_commit.proofs.Naming.{unmanaged}
 use Rattle.hpx_commit.proofs.Places.{is_least}
 use Rattle.hpx_commit.proofs.Short.{yes}
-use Rattle.hpx_value.specs.Shapes.{IsMessage}
 
 -- ---- credits
 

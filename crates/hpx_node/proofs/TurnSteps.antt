@@ -1,10 +1,9 @@
 -- What the steps of a turn add to a journal.
-use Rattle.hpx_node.proofs.Common.{AddsATurn, AllByRecursion, Ask, Bool, Cont, Count, Done, Entry, Fault, Free, Give, Granted, Id, IsFailure, IsPrepared, IsTidy, Job, List, MessageDue, None, Option, Outcome, Parcel, Plan, Prepared, PrintDue, Refused, Return, Some, Standing, Tables, Waits, Writes, [], action_ids, all_append, answer, ap, arith, asked_events, at_all, bare, bytes_in, codes, committed, committed_from, cond, count_here, cuts, due_failed, due_left, effects, failed_events, false, find, first_cuts, freed, half, halvings, id_at, if◌then◌else◌, is_standing, length, length-append, more_here, name_of, nat_lt, own_stock, refl, returned, slot_at, subst, suc, sum_by, sum_by-append, sum_by-cons, total_weight, true, up_of, ups, ups_left, weight_of, written_due, zero, ℕ, ◌++◌, ◌+◌, ◌==◌, ◌∷◌, ◌≡◌, ◌≤◌}
+use Rattle.hpx_node.proofs.Common.{AddsATurn, AllByRecursion, Ask, Bool, Count, Done, Entry, Free, Give, Granted, Id, IsFailure, IsPrepared, IsTidy, Job, List, None, Option, Outcome, Parcel, Plan, Prepared, Refused, Return, Some, Standing, Tables, Waits, Writes, [], action_ids, all_append, ap, arith, asked_events, at_all, bare, bytes_in, committed, committed_from, count_here, cuts, due_left, effects, failed_events, failed_light, false, find, first_cuts, freed, half, halvings, if◌then◌else◌, is_standing, length, length-append, more_here, name_of, nat_lt, own_stock, refl, returned, subst, suc, sum_by-append, sum_by-cons, total_weight, true, up_of, ups, ups_left, weight_of, written_due, zero, ℕ, ◌++◌, ◌+◌, ◌∷◌, ◌≡◌, ◌≤◌}
 use Rattle.hpx_commit.specs.Deals.{named}
 use Rattle.hpx_node.proofs.FewEntries.{at_all_length, effects_few}
 use Rattle.hpx_node.proofs.PlanWeights.{weighs, weighs_append, weighs_cons, weighs_due, ups_light}
 use Rattle.hpx_node.proofs.Turns.{adds_grown, grown_weighs, HasNoBytes, bare_weighs}
-use Rattle.hpx_commit.proofs.DueWeights.{failed_light}
 
 -- ---- a commit, or one that begins to wait
 

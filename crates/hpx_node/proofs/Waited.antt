@@ -1,14 +1,12 @@
 -- A commit begins to wait, as the calls do it.
-use Rattle.hpx_node.proofs.Common.{Act, AllByRecursion, AllLast, AreWithin, Ask, Begins, Entry, HasCredit, HasLeastCredit, HasRightCredit, HasSplit, Id, IsAt, IsBefore, IsFitJob, IsKept, IsState, IsTidy, Job, KeepsLaws, Lasting, List, Outcome, Pauses, Some, Standing, Stands, State, Stock, Tables, Waits, [], action_few, ahead, all_at, ap, append_assoc, arith, asked_at, asked_events, at_all, at_all_append, bare, bare_state, drop, first_cuts, get_or, hand_before, hand_kinds, hand_of, id_at, inl, is_managed, lacking, length, length-append, length-map, made_of, managed_same, managed_there, map, none_short, own_many, places_in_hand, places_named, refl, remove, set, short_before, short_places, slice_get, some_same, split_stock, splits_before, state_filled, stock_before, subst, sym, take, take_more, true, waits_with, with_asks, with_mail, ℕ, ◌++◌, ◌+◌, ◌<◌, ◌∙◌, ◌∷◌, ◌≡◌, ◌≤◌}
-use Rattle.hpx_commit.proofs.Stripped.{short_few, stripped_behind, stripped_places}
+use Rattle.hpx_node.proofs.Common.{Act, AllByRecursion, AllLast, AreWithin, Ask, Begins, Entry, HasCredit, HasLeastCredit, HasRightCredit, HasSplit, Id, IsAt, IsBefore, IsFitJob, IsKept, IsState, IsTidy, Job, KeepsLaws, List, Outcome, Pauses, Some, Standing, Stands, State, Stock, Tables, Waits, [], action_few, ahead, all_at, ap, append_assoc, arith, asked_at, asked_events, at_all, at_all_append, bare, bare_state, first_cuts, get_or, hand_before, hand_of, id_at, inl, lacking, length, length-append, length-map, made_of, map, none_short, own_many, places_in_hand, refl, remove, set, short_before, short_places, slice_get, some_same, split_stock, splits_before, state_filled, stock_before, subst, sym, take, take_more, waits_with, with_asks, with_mail, ℕ, ◌++◌, ◌+◌, ◌<◌, ◌∙◌, ◌∷◌, ◌≡◌, ◌≤◌}
+use Rattle.hpx_commit.proofs.Stripped.{short_few}
 use Rattle.hpx_node.specs.declared.node.wait.Before.{Before}
 use Rattle.hpx_steps.proofs.Waiting.{asks_rest, wait_stands}
 use Rattle.hpx_tables.proofs.FirstCuts.{first_few}
 use Rattle.hpx_node.proofs.PlanLimits.{own_cuts}
 use Rattle.hpx_node.proofs.Planned.{AreMade, bare_kinds, hand_within, made_of_job, none_of, rights}
-use Rattle.hpx_value.specs.Mentions.{mentions}
 use Rattle.hpx_commit.specs.Deals.{named}
-use Rattle.hpx_commit.proofs.Moved.{wider}
 use Rattle.hpx_commit.proofs.ShortHand.{fits, hands_long, later_within, least_all, left_own, left_places, left_rest, left_short, short_within, within}
 
 pub pauses_by : (t t' : Tables) (i j : ℕ) (job : Job) (w : Waits) (at : IsAt t i j job) (x : Standing) → slice_get t.objects j ≡ Some x

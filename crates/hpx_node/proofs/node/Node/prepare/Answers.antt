@@ -1,5 +1,4 @@
-use Rattle.hpx_node.proofs.Common.{arith, false, true, ◌≡◌}
-use Rattle.hpx_commit.proofs.Lists.{all_imp}
+use Rattle.hpx_node.proofs.Common.{all_imp, arith, false, true, ◌≡◌}
 use Rattle.hpx_node.proofs.PlanLimits.{own_is}
 use Rattle.hpx_node.proofs.Planned.{hand_few, hand_within}
 use Rattle.hpx_node.proofs.node.Node.prepare.Goals as goal
