@@ -87,9 +87,6 @@ module _ (act_of : ℕ → ℕ → ℕ → State → Act → Outcome)
 
   module _ (id : Id) (entry : ℕ) (hand : HasInHand (Give id entry) (in_hand (record t { taken = n; desk = d }) came mailed l)) (k : IsRight t (Give id entry))
       (g : Gives id entry (record t { taken = n; desk = d }) mid) where
-    abbrev gave : Gives id entry (record t { taken = n; desk = d }) mid
-    gave = record { i = g.i; before = g.before; after = g.after; there = g.there; first = g.first; refills = g.refills; rest = g.rest }
-
     credit : HasCredit id
     credit = k.fit
 
@@ -139,7 +136,7 @@ module _ (act_of : ℕ → ℕ → ℕ → State → Act → Outcome)
         continues = record {
           rests = λ no none. absurd (let e : true ≡ false = sym completes_is ∙ no in cc);
           goes = λ yes. record {
-            gives = gave;
+            gives = g;
             goes = record {
               j = y.j;
               what = refl;
@@ -201,7 +198,7 @@ module _ (act_of : ℕ → ℕ → ℕ → State → Act → Outcome)
           rests = λ no none. absurd (let e : true ≡ false = sym dooms_is ∙ none in cc);
           goes = λ yes. absurd (never_both id (find (awaits id entry) t.pending) yes dooms_is);
           fails = λ yes. record {
-            gives = gave;
+            gives = g;
             j = y.j;
             fails = subst (λ i. Fails i y.j mid t') (sym failed_at) fails;
             what = refl;
