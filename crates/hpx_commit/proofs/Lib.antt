@@ -19,7 +19,9 @@ pub mod BareHands
 pub mod DueFilled
 pub mod HandFit
 pub mod FailedHas
+pub mod Jobs
 pub mod Lists
+pub mod DueWeights
 pub mod Planned
 pub mod Came
 pub mod HandLeft

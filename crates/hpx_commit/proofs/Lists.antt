@@ -1,5 +1,5 @@
 -- Lists and answers of any kind.
-use Rattle.std.proofs.Common.{ℕ, zero, suc, Bool, true, false, List, [], ◌∷◌, ◌≡◌, ◌+◌, ◌<◌, Option, Some, None, set, take, length, refl, ap, ◌∙◌, arith, inl, inr, subst}
+use Rattle.std.proofs.Common.{ℕ, min, zero, suc, Bool, true, false, List, [], ◌∷◌, ◌≡◌, ◌+◌, ◌<◌, Some, None, set, take, length, refl, ap, ◌∙◌, arith, inl, inr, subst}
 use Rattle.std.specs.Prelude.{Result, Ok, Err, IfOk, OnOk}
 use Rattle.std.specs.List.{AllByRecursion, find, list_any, remove, slice_get, sum_by}
 use Rattle.std.specs.Result.{is_err}
@@ -56,6 +56,10 @@ any_place p (x ∷ xs) h = elim (cases_Bool (p x)) [
   | inr f ↦ let rest = any_place p xs (rw f at h) in record { k = suc rest.k; x = rest.x; there = rest.there; passes = rest.passes; found = rw f rest.found }
 ]
 
+pub all_imp : {X : Type 0} (P Q : X → Type 0) → ((x : X) → P x → Q x) → (xs : List X) → AllByRecursion P xs → AllByRecursion Q xs
+all_imp P Q f [] h = tt
+all_imp P Q f (x ∷ xs) h = (f x h.0, all_imp P Q f xs h.1)
+
 pub all_found : {X : Type 0} (P : X → Type 0) (p : X → Bool) (xs : List X) (x : X) → AllByRecursion P xs → find p xs ≡ Some x → P x
 all_found P p [] x all h = cc
 all_found P p (y ∷ xs) x all h = elim (cases_Bool (p y)) [
@@ -95,6 +99,21 @@ pub sums_two : {X : Type 0} (f g h k : X → ℕ) → ((x : X) → f x + g x ≡
 sums_two f g h k e [] = refl
 sums_two f g h k e (x ∷ xs) =
     omega (arith, e x, sum_by-cons f x xs, sum_by-cons g x xs, sum_by-cons h x xs, sum_by-cons k x xs, sums_two f g h k e xs)
+
+-- ---- sums up to a cap
+
+capped : (cap a b : ℕ) → min cap (min cap a + min cap b) ≡ min cap (a + b)
+capped cap a b = omega arith
+
+pub capped_sum : (cap a b c d e h s1 s2 s3 s4 s5 : ℕ) → s1 ≡ min cap (min cap a + min cap b) → s2 ≡ min cap (s1 + min cap c) → s3 ≡ min cap (s2 + min cap d)
+    → s4 ≡ min cap (s3 + min cap e) → s5 ≡ min cap (s4 + min cap h) → s5 ≡ min cap (a + b + c + d + (e + h))
+capped_sum cap a b c d e h s1 s2 s3 s4 s5 h1 h2 h3 h4 h5 =
+    let i1 : s1 ≡ min cap (a + b) = h1 ∙ capped cap a b in
+    let i2 : s2 ≡ min cap (a + b + c) = h2 ∙ (ap (λ s. min cap (s + min cap c)) i1 ∙ capped cap (a + b) c) in
+    let i3 : s3 ≡ min cap (a + b + c + d) = h3 ∙ (ap (λ s. min cap (s + min cap d)) i2 ∙ capped cap (a + b + c) d) in
+    let i4 : s4 ≡ min cap (a + b + c + d + e) = h4 ∙ (ap (λ s. min cap (s + min cap e)) i3 ∙ capped cap (a + b + c + d) e) in
+    let i5 : s5 ≡ min cap (a + b + c + d + e + h) = h5 ∙ (ap (λ s. min cap (s + min cap h)) i4 ∙ capped cap (a + b + c + d + e) h) in
+    i5 ∙ ap (min cap) (omega arith)
 
 -- ---- answers
 

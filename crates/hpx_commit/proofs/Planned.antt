@@ -6,9 +6,9 @@ use Rattle.std.proofs.lemmas.Bool.{cases_Bool}
 use Rattle.std.proofs.lemmas.List.{length-map}
 use Rattle.std.proofs.lemmas.List.Sums.{length-filter, count_by-le-length}
 use Rattle.hpx_value.specs.Ids.{Id, bare}
-use Rattle.hpx_value.specs.Values.{bare_act, bare_state, bare_message}
+use Rattle.hpx_value.specs.Values.{refs_in, bare_act, bare_state, bare_message}
 use Rattle.hpx_value.specs.Shapes.{IsState, IsAct, listed}
-use Rattle.hpx_value.specs.Hands.{id_at, hand_ids, hand_slots, sent, replied, due_of, state_after}
+use Rattle.hpx_value.specs.Hands.{conts_from, hand_slot, renumbered, id_at, hand_ids, hand_slots, sent, replied, due_of, state_after}
 use Rattle.hpx_value.specs.Laws.{KeepsLaws, UsesEachOnce, uses, handed_on, answered}
 use Rattle.hpx_value.specs.Mentions.{mentions}
 use Rattle.hpx_value.proofs.Uses.{used_below, used_few}
@@ -21,6 +21,7 @@ use Rattle.hpx_commit.proofs.Deals.{names_dealt}
 use Rattle.hpx_commit.proofs.DueFilled.{managed_append, due_same, length-filled, length-filled_due, state_filled, due_each}
 use Rattle.hpx_commit.proofs.Fills.{Fits, filled_same, unused_rest, filled_all, unused_all}
 use Rattle.hpx_commit.proofs.HandFit.{state_right}
+use Rattle.hpx_commit.proofs.Lists.{none_long}
 use Rattle.hpx_commit.proofs.Naming.{managed, names_match, places_within}
 use Rattle.hpx_commit.proofs.Places.{kind_of}
 use Rattle.hpx_commit.proofs.Rights.{AreRight, right_dealt, unnamed_has}
@@ -102,6 +103,18 @@ module _ (n kind here : ℕ) (s : State) (a : Act) (out : Outcome) (laws : Keeps
     count_by-le-length (λ p. is_managed (id_at (hand_ids s a made) p)) (mentions s a out),
   )
 
+-- ---- an object of kind Plain, which keeps nothing
+
+pub no_ids : (s : State) → IsState s → s.values ≡ [] → s.conts ≡ [] → s.ids ≡ []
+no_ids s fit values conts = none_long s.ids (omega (arith, fit.ids, ap (λ vs. length (refs_in vs)) values, ap (λ cs. length cs) conts))
+
+same_state : (s u : State) → s.drawn ≡ u.drawn → s.values ≡ u.values → s.conts ≡ u.conts → s.ids ≡ u.ids → s ≡ u
+same_state s u drawn values conts ids =
+    ap (λ x. record { drawn = x; values = s.values; conts = s.conts; ids = s.ids }) drawn
+    ∙ (ap (λ x. record { drawn = u.drawn; values = x; conts = s.conts; ids = s.ids }) values
+    ∙ (ap (λ x. record { drawn = u.drawn; values = u.values; conts = x; ids = s.ids }) conts
+    ∙ ap (λ x. record { drawn = u.drawn; values = u.values; conts = u.conts; ids = x }) ids))
+
 -- ---- what is planned
 
 abbrev pub state_of : State → Act → List Id → Outcome → List Id → State
@@ -110,8 +123,14 @@ state_of s a made out ds = record (state_after s a made out) { ids = filled (sta
 abbrev pub due_from : State → Act → List Id → Outcome → List Id → List Due
 due_from s a made out ds = filled_due (due_of s a made out) (unused (state_after s a made out).ids ds)
 
+-- it keeps nothing, and is as another
+pub record IsPlain (s t : State) : Type 0 where
+  pub values : t.values ≡ []
+  pub conts : t.conts ≡ []
+  pub same : t ≡ s
+
 -- it is well formed and has its credits, as what the outcome leaves; without credits it is what the outcome leaves; and it is few
-pub record IsPlanned (P Q : Id → Type 0) (D : Due → Type 0) (g : Due → Due) (s : State) (a : Act) (made : List Id) (out : Outcome) (u : Stock) : Type 0 where
+pub record IsPlanned (P Q : Id → Type 0) (D : Due → Type 0) (g : Due → Due) (kind : ℕ) (s : State) (a : Act) (made : List Id) (out : Outcome) (u : Stock) : Type 0 where
   pub names : Fits (state_after s a made out).ids (dealt u.hand u.places) (managed (map bare (flat_map ids_due (due_of s a made out))))
   pub state_had : AllByRecursion P (state_after s a made out).ids
   pub due_had : AllByRecursion D (due_of s a made out)
@@ -125,6 +144,7 @@ pub record IsPlanned (P Q : Id → Type 0) (D : Due → Type 0) (g : Due → Due
   pub replies_few : length out.replies ≤ 129
   pub due_few : length (due_from s a made out (dealt u.hand u.places)) ≤ 177
   pub ups_few : length (unnamed u.hand u.places) ≤ 194
+  pub plain : kind ≡ 7 → s.values ≡ [] → s.conts ≡ [] → IsPlain s (state_of s a made out (dealt u.hand u.places))
 
 module _ (P Q : Id → Type 0) (are : AreRight P Q) (D : Due → Type 0) (g : Due → Due)
     (message : (m : Message) → g (MessageDue m) ≡ MessageDue (bare_message m)) (print : (bytes : List ℕ) → g (PrintDue bytes) ≡ PrintDue bytes)
@@ -160,10 +180,25 @@ module _ (P Q : Id → Type 0) (are : AreRight P Q) (D : Due → Type 0) (g : Du
   had : AllByRecursion P old.ids
   had = state_right P Q are n kind here s a out laws few made kinds credit own born
 
+  state_fits : IsState (state_of s a made out (dealt u.hand u.places))
+  state_fits = state_filled old (filled old.ids deals) (length-filled old.ids deals) (laws.shapes.state made)
+
+  plain_is : kind ≡ 7 → s.values ≡ [] → s.conts ≡ [] → IsPlain s (state_of s a made out (dealt u.hand u.places))
+  plain_is is values conts =
+      let now = state_of s a made out (dealt u.hand u.places) in
+      let no_values : (state_of s a made out (dealt u.hand u.places)).values ≡ [] = ap (renumbered 0) (laws.plain is values conts).0 in
+      let no_conts : (state_of s a made out (dealt u.hand u.places)).conts ≡ [] =
+      ap (λ ns. conts_from (length (refs_in out.state.values)) (map (hand_slot s a) ns)) (laws.plain is values conts).1 in record {
+        values = no_values;
+        conts = no_conts;
+        same = same_state now s (omega (arith, laws.slots.counted, ap (λ ns. length ns) (laws.slots.session (λ e. absurd (omega (arith, e, is))))))
+            (no_values ∙ sym values) (no_conts ∙ sym conts) (no_ids now state_fits no_values no_conts ∙ sym (no_ids s state values conts));
+      }
+
   replies : length out.replies ≤ 129
   replies = few_replies s a out state laws.conts
 
-  pub planned : IsPlanned P Q D g s a made out u
+  pub planned : IsPlanned P Q D g kind s a made out u
   planned = record {
     names = names;
     state_had = had;
@@ -172,7 +207,7 @@ module _ (P Q : Id → Type 0) (are : AreRight P Q) (D : Due → Type 0) (g : Du
     state_left = ap (λ ids. record { drawn = old.drawn; values = old.values; conts = old.conts; ids = ids })
         (filled_same old.ids deals (managed (map bare (flat_map ids_due due))) names) ∙ sym (state-bare s a made out);
     due_left = due_same g message print due (unused old.ids deals) [] names_due ∙ sym (due-bare s a made g message print out);
-    state_fit = state_filled old (filled old.ids deals) (length-filled old.ids deals) (laws.shapes.state made);
+    state_fit = state_fits;
     state_has = filled_all P old.ids deals had has;
     due_may = due_each P D prints fills due (unused old.ids deals) [] names_due (unused_all P old.ids deals has) fits;
     ups_has = unnamed_has P Q are 0 u.hand u.places right;
@@ -185,4 +220,5 @@ module _ (P Q : Id → Type 0) (are : AreRight P Q) (D : Due → Type 0) (g : Du
       unnamed_few 0 (hand_ids s a made) (places_named s a made out),
       ap (λ (xs : List Id). length xs) same.left,
     );
+    plain = plain_is;
   }

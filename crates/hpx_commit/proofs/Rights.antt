@@ -8,6 +8,7 @@ use Rattle.hpx_value.specs.Hands.{id_at, session}
 use Rattle.hpx_commit.specs.Deals.{is_managed, half, named, share, dealt, unnamed_from}
 use Rattle.hpx_commit.proofs.Ahead.{some_half}
 use Rattle.hpx_commit.proofs.AheadMore.{all_set}
+use Rattle.hpx_commit.proofs.Lists.{all_imp}
 
 -- P says so of an id, and Q that it has a credit, of a managed object
 pub record AreRight (P Q : Id → Type 0) : Type 0 where
@@ -62,5 +63,4 @@ module _ (P Q : Id → Type 0) (are : AreRight P Q) where
   ]
 
   pub had_right : (ids : List Id) → AllByRecursion Q ids → AllByRecursion P ids
-  had_right [] h = tt
-  had_right (id ∷ ids) h = (are.had id h.0, had_right ids h.1)
+  had_right ids h = all_imp Q P are.had ids h

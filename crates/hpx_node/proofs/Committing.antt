@@ -1,5 +1,5 @@
 -- A prepared commit, written step by step, leaves what one step would leave.
-use Rattle.hpx_node.proofs.Common.{Act, Birth, Done, Due, Entry, Event, Id, IsPrepared, Job, List, Makes, Outcome, Prepared, Record, Some, Standing, State, Tables, Waits, [], answered_by, ap, append-nil, append_assoc, arith, at_all, at_all_append, birth_of, births_of, committed_from, committed_to, dealt, due_dealt, due_of, false, get_before, length, length-map, made_of, map, name_of, objects_of, records_of, set, slice_get, slice_get_less, splits_from, state_after, sym, unnamed, unused, ups, with_left, with_settled, written_due, ℕ, ◌++◌, ◌+◌, ◌<◌, ◌∙◌, ◌∷◌, ◌≡◌}
+use Rattle.hpx_node.proofs.Common.{Act, Birth, Done, Due, Entry, Event, IsPrepared, Job, List, Makes, Outcome, Prepared, Record, Some, Standing, Tables, Waits, [], answered_by, ap, append-nil, append_assoc, arith, at_all, at_all_append, birth_of, births_of, committed_from, committed_to, dealt, due_of, false, get_before, length, length-map, made_of, map, name_of, objects_of, records_of, set, slice_get, slice_get_less, splits_from, state_after, sym, unnamed, unused, ups, with_left, with_settled, written_due, ℕ, ◌++◌, ◌+◌, ◌<◌, ◌∙◌, ◌∷◌, ◌≡◌}
 use Rattle.hpx_node.proofs.PlanWeights.{written_same}
 
 -- entries that are written one list after another
@@ -32,32 +32,20 @@ module _ (t : Tables) (job : Job) (out : Outcome) (p : Prepared) (is : IsPrepare
   abbrev then : ℕ → List Record → List Standing → Tables
   then n rs os = record less { births = n; records = rs; objects = os; answered = t.answered + answered_by (Some job.action) }
 
-  abbrev to : ℕ → List Birth → State → Tables
-  to n xs state = then (t.births + n) (t.records ++ records_of t.here t.births t.profile.credit_log xs)
-      (set (t.objects ++ objects_of t.here t.births xs) j (record { object = x.object; state = state }))
-
   pub settled_to : t2 ≡ with_settled job out p.stock j x (record t { running = running; pending = pending })
   settled_to =
-      let xs = map birth_of out.makes in
       rest
       ∙ (ap (λ (y : Tables). record y { running = running; pending = pending; objects = t2.objects; answered = y.answered + answered_by (Some job.action) }) made.rest
       ∙ (ap (λ n. then n t1.records t2.objects) (omega (arith, made.births))
       ∙ (ap (λ rs. then (t.births + length p.births.items) rs t2.objects) (sym (append-nil t1.records) ∙ made.records)
       ∙ (ap (λ os. then (t.births + length p.births.items) (t.records ++ records_of t.here t.births t.profile.credit_log p.births.items) os)
       (objects x (stands_then t t1 p.births.items made j x stands) ∙ ap (λ ys. set ys j (record { object = x.object; state = p.plan.state })) (sym (append-nil t1.objects) ∙ made.objects))
-      ∙ (ap (λ (ys : List Birth). to (length ys) ys p.plan.state) is.births
-      ∙ (ap (λ (n : ℕ). to n xs p.plan.state) (length-map out.makes birth_of)
-      ∙ ap (λ (state : State). to (length out.makes) xs state) is.state_left))))))
+      ∙ rw (is.births, length-map out.makes birth_of, is.state_left)))))
 
   -- what is due is sent, and what nobody names is given up
   pub all_committed : (u : Tables) → u ≡ with_left p.plan.due.items p.plan.ups.items t2
       → u ≡ committed_to job out p.stock j x (record t { running = running; pending = pending })
-  all_committed u alike =
-      let ds = due_dealt t job out p.stock in
-      alike
-      ∙ (ap (λ (xs : List Due). with_left xs p.plan.ups.items t2) is.due_left
-      ∙ (ap (λ (us : List Id). with_left ds us t2) is.ups_left
-      ∙ ap (with_left ds (unnamed p.stock.hand p.stock.places)) settled_to))
+  all_committed u alike = alike ∙ rw (is.due_left, is.ups_left, settled_to)
 
   module _ (e0 e1 e2 e3 : List Entry)
       (first : e1 ≡ e0 ++ at_all t.here (births_of t.here t.births p.births.items ++ splits_from 0 p.stock.hand p.stock.places))
@@ -65,9 +53,6 @@ module _ (t : Tables) (job : Job) (out : Outcome) (p : Prepared) (is : IsPrepare
       (left : e3 ≡ e2 ++ at_all t2.here (written_due t2.here t2.serial p.plan.due.items ++ ups p.plan.ups.items)) where
     abbrev first_of : List Birth → List Event
     first_of xs = births_of t.here t.births xs ++ splits_from 0 p.stock.hand p.stock.places
-
-    abbrev all_of : List Birth → List Event → List Id → List Event
-    all_of xs due us = first_of xs ++ (Done (name_of job.action) false ∷ (due ++ ups us))
 
     abbrev due_said : List Due
     due_said = due_of job.state job.action (made_of t out) out
@@ -78,10 +63,11 @@ module _ (t : Tables) (job : Job) (out : Outcome) (p : Prepared) (is : IsPrepare
         written_on t.here e0 e1 e2 e3 (first_of p.births.items) (Done (name_of job.action) false ∷ []) (written_due t.here t.serial p.plan.due.items ++ ups p.plan.ups.items)
         first (done ∙ ap (λ (y : Tables). e1 ++ at_all y.here (Done (name_of job.action) false ∷ [])) made.rest)
         (left ∙ ap (λ (y : Tables). e2 ++ at_all y.here (written_due y.here y.serial p.plan.due.items ++ ups p.plan.ups.items)) settled_to)
-        ∙ ap (λ es. e0 ++ at_all t.here es)
-        (ap (λ ds. all_of p.births.items (written_due t.here t.serial ds) p.plan.ups.items) is.due_left
-        ∙ (ap (λ es. all_of p.births.items es p.plan.ups.items) (written_same t.here t.serial due_said (unused (state_after job.state job.action (made_of t out) out).ids (dealt p.stock.hand p.stock.places)))
-        ∙ (ap (λ us. all_of p.births.items (written_due t.here t.serial due_said) us) is.ups_left
-        ∙ (ap (λ xs. all_of xs (written_due t.here t.serial due_said) (unnamed p.stock.hand p.stock.places)) is.births
-        ∙ append_assoc (births_of t.here t.births (map birth_of out.makes)) (splits_from 0 p.stock.hand p.stock.places)
-        (Done (name_of job.action) false ∷ (written_due t.here t.serial due_said ++ ups (unnamed p.stock.hand p.stock.places)))))))
+        ∙ ap (λ es. e0 ++ at_all t.here es) (rw (
+          is.due_left,
+          is.ups_left,
+          is.births,
+          written_same t.here t.serial due_said (unused (state_after job.state job.action (made_of t out) out).ids (dealt p.stock.hand p.stock.places)),
+        )
+        (append_assoc (births_of t.here t.births (map birth_of out.makes)) (splits_from 0 p.stock.hand p.stock.places)
+        (Done (name_of job.action) false ∷ (written_due t.here t.serial due_said ++ ups (unnamed p.stock.hand p.stock.places)))))

@@ -1,14 +1,14 @@
 -- Passes on the names that proofs of the node cite.
-pub use Rattle.std.proofs.Common.{Bool, List, None, Option, Some, [], ap, append-nil, append_assoc, arith, codes, cond, drop, false, get_or, inl, inr, length, length-append, lit≤, map, min, not, refl, rules, set, subst, suc, sym, take, take-append-drop, true, zero, zero-add, ℕ, ◌&&◌, ◌++◌, ◌+◌, ◌-◌, ◌<◌, ◌==◌, ◌^◌, ◌∙◌, ◌∷◌, ◌≡◌, ◌≤◌, ◌⊎◌}
+pub use Rattle.std.proofs.Common.{Bool, List, None, Option, Some, [], ap, append-nil, append_assoc, arith, codes, cond, drop, false, get_or, inl, inr, length, length-append, map, min, not, refl, rules, set, subst, suc, sym, take, take-append-drop, true, zero, zero-add, ℕ, ◌&&◌, ◌++◌, ◌+◌, ◌-◌, ◌<◌, ◌==◌, ◌^◌, ◌∙◌, ◌∷◌, ◌≡◌, ◌≤◌, ◌⊎◌}
 pub use Rattle.std.proofs.lemmas.Bool.{cases_Bool, cases_eq, eq-eqb, eqb-true, ne_eqb}
 pub use Rattle.std.proofs.lemmas.List.{drop-set-lt, length-drop, length-map, length-set, length-take, map-append, take_more}
 pub use Rattle.std.proofs.lemmas.List.Sums.{sum_by-append, sum_by-cons}
 pub use Rattle.std.specs.List.{AllByRecursion, count_by, find, list_any, remove, slice_get, sum_by}
-pub use Rattle.std.specs.Prelude.{Err, IfOk, IfSome, IsSomeAnd, MatchOption, Ok, OnOk, Result, flat_map, if◌then◌else◌, is_some, nat_le, nat_lt, option_and_then, option_map, ◌*◌, ◌||◌}
-pub use Rattle.hpx_value.specs.Hands.{answer, conts_from, due_of, hand_ids, hand_slot, id_at, own_slot, renumbered, replied, sent, session, slot_at, state_after}
+pub use Rattle.std.specs.Prelude.{IfSome, IsSomeAnd, MatchOption, flat_map, if◌then◌else◌, is_some, nat_le, nat_lt, option_and_then, option_map, ◌*◌, ◌||◌}
+pub use Rattle.hpx_value.specs.Hands.{answer, due_of, id_at, replied, sent, session, slot_at, state_after}
 pub use Rattle.hpx_value.specs.Ids.{bare, bare_id, credit, credit_of_log, same_object}
 pub use Rattle.hpx_value.specs.Laws.{IsManaged, KeepsLaws, birth_state}
-pub use Rattle.hpx_value.specs.Shapes.{IsState}
+pub use Rattle.hpx_value.specs.Shapes.{IsMessage, IsState}
 pub use Rattle.hpx_value.specs.Values.{bare_act, bare_state, message_of, named, refs_in}
 pub use Rattle.hpx_value.specs.declared.acts.Job.{Job}
 pub use Rattle.hpx_value.specs.declared.profile.Profile.{Profile}
@@ -21,7 +21,7 @@ pub use Rattle.hpx_journal.specs.Data.{Act, Apply, Arrived, Ask, Cached, Cont, D
 pub use Rattle.hpx_journal.specs.Entries.{Rules, line_act, name_of, target_of}
 pub use Rattle.hpx_journal.specs.Frames.{acts_in, travels_in}
 pub use Rattle.hpx_journal.specs.Laws.{FreesTheDead, RefusesForCause, count_events, entry_at, hands_refusal, ins, is_free_of, is_freed, is_refused_count, is_refusing, outs, outs_by, sends_such, takes_such}
-pub use Rattle.hpx_journal.specs.Local.{acts_on, boot, failure, is_act, is_busy, is_standing}
+pub use Rattle.hpx_journal.specs.Local.{acts_on, boot, is_act, is_busy, is_standing}
 pub use Rattle.hpx_journal.specs.Names.{due_ids, names}
 pub use Rattle.hpx_journal.specs.Weights.{Book, HasRoom, bytes_in, state_size, total_weight, weight_of}
 pub use Rattle.hpx_journal.specs.Whole.{arrives, arrives_at, part, run_local}
@@ -30,12 +30,15 @@ pub use Rattle.hpx_agas.specs.Registries.{Registry, asked, granted_of, grown, le
 pub use Rattle.hpx_agas.specs.declared.record.Record.{Record}
 pub use Rattle.hpx_commit.proofs.Came.{HaveLog, come_long, come_short, come_stock, none_short, waits_managed}
 pub use Rattle.hpx_commit.proofs.DueFilled.{message_filled, state_filled}
+pub use Rattle.hpx_commit.proofs.DueWeights.{due_weight, failed_light, light_due}
+pub use Rattle.hpx_commit.proofs.FailedHas.{failed_few, failed_fit, ups_have}
 pub use Rattle.hpx_commit.proofs.HandLeft.{HaveNone, both_right, both_same, halves_have, later_none, long_enough, ups_limit}
+pub use Rattle.hpx_commit.proofs.Lists.{Found, all_found, all_imp, any_at, any_place, capped_sum, find_at, first_same, get_set, get_some, less_long, none_long, ok_map, ok_three, remove_set, sums_two, when_ok}
 pub use Rattle.hpx_commit.proofs.Places.{hand_kinds, is_below, managed_same, managed_there, same_at}
-pub use Rattle.hpx_commit.proofs.Planned.{IsPlanned, action_few, few_due, own_few, own_places, own_within, planned}
-pub use Rattle.hpx_commit.proofs.Rights.{AreRight, managed_has, right_at}
+pub use Rattle.hpx_commit.proofs.Planned.{IsPlanned, action_few, few_due, no_ids, own_few, own_places, own_within, planned}
+pub use Rattle.hpx_commit.proofs.Rights.{AreRight, had_right}
 pub use Rattle.hpx_commit.specs.Deals.{AllLast, AreWithin, dealt, filled_due, half, ids_due, is_managed, log_of, places_named, share, shared_from, shares, unnamed, unused}
-pub use Rattle.hpx_commit.specs.Failures.{action_ids, due_failed, halves_ahead, state_failed, unanswered, ups_failed}
+pub use Rattle.hpx_commit.specs.Failures.{action_ids, due_failed, halves_ahead, state_failed, ups_failed}
 pub use Rattle.hpx_commit.specs.Stocks.{Lasting, Stock, ahead, halvings, short_places, stripped}
 pub use Rattle.hpx_commit.specs.declared.plan.Plan.{Plan}
 pub use Rattle.hpx_part.proofs.Keyed.{Agree-sum, slice_get_is, slice_get_less, split_get}
@@ -63,7 +66,6 @@ pub use Rattle.hpx_steps.proofs.Dealt.{fail_deals, plan_deals}
 pub use Rattle.hpx_steps.proofs.Handled.{Leads, given_waits, kept_here, returns_objects}
 pub use Rattle.hpx_steps.proofs.Made.{bare_alone}
 pub use Rattle.hpx_steps.proofs.Recommit.{hand_long}
-pub use Rattle.hpx_steps.proofs.Refilled.{still_commit, still_split}
 pub use Rattle.hpx_steps.proofs.Resumed.{given_done, given_event, given_fails, in_hand}
 pub use Rattle.hpx_steps.proofs.Right.{give_right, near_right, object_wrong}
 pub use Rattle.hpx_steps.proofs.Sums.{flat_append, ids_append}
@@ -84,7 +86,7 @@ pub use Rattle.hpx_node.specs.Commits.{Commits, Ends, IsPrepared, IsStock, commi
 pub use Rattle.hpx_node.specs.Fails.{Fails, IsFailing, IsFailingFor, IsFailure, MustFail, dooms, due_left, failed_events, failed_remains, fails_first, state_left, ups_left}
 pub use Rattle.hpx_node.specs.Locality.{Locality}
 pub use Rattle.hpx_node.specs.Next.{Continues, HasFollowed, IfFollows, IsNext, MayFollow}
-pub use Rattle.hpx_node.specs.Resumes.{IsInPlace, IsReady, IsReadyFor, MayResume, completes, full_stock, is_last, stock_with}
+pub use Rattle.hpx_node.specs.Resumes.{IsKeptFor, IsReady, IsReadyFor, MayResume, completes, full_stock, is_last, stock_with}
 pub use Rattle.hpx_node.specs.declared.node.fail.Failing.{Failing}
 pub use Rattle.hpx_node.specs.declared.node.finish.Prepared.{Prepared}
 pub use Rattle.hpx_node.specs.declared.node.next.Next.{Next}

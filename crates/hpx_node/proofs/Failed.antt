@@ -1,6 +1,5 @@
 -- An action fails, as the call writes it.
-use Rattle.hpx_node.proofs.Common.{AllByRecursion, Done, Due, Entry, Fails, HasCredit, Id, IsFailure, IsFitDue, IsKept, List, MustFail, OnlySends, Plan, Some, Standing, Tables, Waits, Writes, [], action_ids, action_of, answered_by, ap, append_assoc, arith, at_all, due_left, failed_events, length, length-append, name_of, option_map, remove, set, slice_get, some_same, state_left, subst, sym, true, ups, ups_left, with_left, written_due, ℕ, ◌++◌, ◌+◌, ◌∙◌, ◌∷◌, ◌≡◌, ◌≤◌}
-use Rattle.hpx_commit.proofs.FailedHas.{failed_few}
+use Rattle.hpx_node.proofs.Common.{AllByRecursion, Done, Due, Entry, Fails, HasCredit, Id, IsFailure, IsFitDue, IsKept, List, MustFail, OnlySends, Plan, Some, Standing, Tables, Waits, Writes, [], action_ids, action_of, answered_by, ap, append_assoc, arith, at_all, due_left, failed_events, failed_few, length, length-append, name_of, option_map, remove, set, slice_get, some_same, state_left, subst, sym, true, ups, ups_left, with_left, written_due, ℕ, ◌++◌, ◌+◌, ◌∙◌, ◌∷◌, ◌≡◌, ◌≤◌}
 use Rattle.hpx_node.proofs.FewEntries.{at_all_length}
 use Rattle.hpx_node.proofs.PlanWeights.{ups_few, written_few}
 
@@ -30,12 +29,7 @@ module _ (t : Tables) (i j : ℕ) (must : MustFail i j t) (p : Plan) (plan : (w 
     more = t.answered + answered_by (Some must.commit.job.action)
 
     now_is : t1 ≡ record t { pending = remove t.pending i; objects = set t.objects j (record { object = must.standing.object; state = state_left must.commit }); answered = more }
-    now_is =
-        rest
-        ∙ (ap (λ o. record t { pending = t1.pending; objects = t1.objects; answered = t.answered + answered_by (option_map action_of o) }) must.there
-        ∙ (ap (λ ws. record t { pending = ws; objects = t1.objects; answered = more }) pending
-        ∙ (ap (λ os. record t { pending = remove t.pending i; objects = os; answered = more }) (objects must.standing must.stands)
-        ∙ ap (λ s. record t { pending = remove t.pending i; objects = set t.objects j (record { object = must.standing.object; state = s }); answered = more }) is.state)))
+    now_is = rest ∙ rw (must.there, pending, objects must.standing must.stands, is.state)
 
     pub then_fails : Fails i j t t2
     then_fails = record {
@@ -44,10 +38,7 @@ module _ (t : Tables) (i j : ℕ) (must : MustFail i j t) (p : Plan) (plan : (w 
       standing = must.standing;
       stands = must.stands;
       found = must.found;
-      rest = goes
-          ∙ (ap (λ ds. with_left ds p.ups.items t1) is.due
-          ∙ (ap (λ us. with_left (due_left must.commit) us t1) is.ups
-          ∙ ap (with_left (due_left must.commit) (ups_left must.commit)) now_is));
+      rest = goes ∙ rw (is.due, is.ups) (ap (with_left (due_left must.commit) (ups_left must.commit)) now_is);
     }
 
     module _ (e0 e1 e2 : List Entry) (done : (v : Waits) → slice_get t.pending i ≡ Some v → e1 ≡ e0 ++ at_all t.here (Done (name_of v.job.action) true ∷ []))

@@ -1,8 +1,7 @@
 -- A failure is planned before the last id is in the hand.
-use Rattle.hpx_node.proofs.Common.{Asked, Id, IsFailure, IsPaused, IsTidy, Job, KeepsLaws, List, None, Option, Outcome, Plan, Refills, Some, Tables, Waits, [], action_ids, ap, arith, drop, drop-set-lt, due_failed, find, hand_long, hand_with, ids_named, is_asked_for, length, length-set, put_for, refl, set, slice_get, some_same, state_failed, subst, sym, ups_failed, ups_left, ℕ, ◌+◌, ◌<◌, ◌∙◌, ◌≡◌, ◌≤◌}
+use Rattle.hpx_node.proofs.Common.{Asked, Id, IsFailure, IsPaused, IsTidy, Job, KeepsLaws, List, None, Option, Outcome, Plan, Refills, Some, Tables, Waits, [], action_ids, all_found, ap, arith, drop, drop-set-lt, due_failed, find, hand_long, hand_with, ids_named, is_asked_for, length, length-set, put_for, refl, set, slice_get, some_same, state_failed, subst, sym, ups_failed, ups_left, ℕ, ◌+◌, ◌<◌, ◌∙◌, ◌≡◌, ◌≤◌}
 use Rattle.hpx_node.proofs.HandLeft.{HasLeft, has_left}
 use Rattle.hpx_node.proofs.Paused.{commit_of, paused_at}
-use Rattle.hpx_commit.proofs.Lists.{all_found}
 
 module _ (t : Tables) (i : ℕ) (w : Waits) (id : Id) (entry : ℕ) (tidy : IsTidy t []) (there : slice_get t.pending i ≡ Some w) where
   paused : IsPaused t.here t.localities t.profile.credit_log t.objects w

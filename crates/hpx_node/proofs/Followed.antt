@@ -1,7 +1,6 @@
 -- What follows a message that is dealt with, and what it writes.
-use Rattle.hpx_node.proofs.Common.{Act, AskedFor, Bool, Commits, Continues, Entry, Event, Failing, Fails, Give, Gives, HasCredit, HasFollowed, HasInHand, Id, IfFollows, IsFailing, IsNext, IsParcel, IsReady, IsTidy, KeepsLaws, Leads, List, MayFollow, MayResume, Next, None, Option, Outcome, Parcel, Ready, Rules, Some, Standing, State, Tables, Turn, Waits, Writes, [], answered_by, ap, append-nil, arith, awaits, bare_act, bare_state, brings_right, broken_near, committed_from, completes, dooms, due_left, effects, eq-eqb, failed_events, failed_remains, fails_first, false, find, full_stock, get_or, give_right, given_event, given_fails, given_waits, in_hand, is_asked_for, is_last, is_some, length, log_of, message_of, named, ne_eqb, not, refl, remove, rules_of, set, slice_get, some_same, state_left, subst, sym, true, ups_left, with_left, ℕ, ◌&&◌, ◌++◌, ◌+◌, ◌==◌, ◌||◌, ◌∙◌, ◌∷◌, ◌≡◌, ◌⊎◌}
+use Rattle.hpx_node.proofs.Common.{Act, AskedFor, Bool, Commits, Continues, Entry, Event, Failing, Fails, Give, Gives, HasCredit, HasFollowed, HasInHand, Id, IfFollows, IsFailing, IsNext, IsParcel, IsReady, IsTidy, KeepsLaws, Leads, List, MayFollow, MayResume, Next, None, Option, Outcome, Parcel, Ready, Rules, Some, Standing, State, Tables, Turn, Waits, Writes, [], answered_by, any_at, ap, append-nil, arith, awaits, bare_act, bare_state, brings_right, broken_near, committed_from, completes, dooms, due_left, effects, eq-eqb, failed_events, failed_remains, fails_first, false, find, find_at, full_stock, get_or, give_right, given_event, given_fails, given_waits, in_hand, is_asked_for, is_last, is_some, length, less_long, log_of, message_of, named, ne_eqb, not, refl, remove, remove_set, rules_of, set, slice_get, some_same, state_left, subst, sym, true, ups_left, with_left, ℕ, ◌&&◌, ◌++◌, ◌+◌, ◌==◌, ◌||◌, ◌∙◌, ◌∷◌, ◌≡◌, ◌⊎◌}
 use Rattle.hpx_node.proofs.Continued.{IsGiven, after_is, at, may_after, may_given, none_then, only_give}
-use Rattle.hpx_commit.proofs.Lists.{any_at, find_at, less_long, remove_set}
 use Rattle.hpx_node.proofs.FailsThen.{at as fails_at, found_then, given, left, must_then, only_fails, plan_then, refused}
 use Rattle.hpx_node.proofs.GoesOn.{goes_leads}
 use Rattle.hpx_node.proofs.ReadyStock.{brings_by}
@@ -88,9 +87,6 @@ module _ (act_of : ℕ → ℕ → ℕ → State → Act → Outcome)
 
   module _ (id : Id) (entry : ℕ) (hand : HasInHand (Give id entry) (in_hand (record t { taken = n; desk = d }) came mailed l)) (k : IsRight t (Give id entry))
       (g : Gives id entry (record t { taken = n; desk = d }) mid) where
-    abbrev gave : Gives id entry (record t { taken = n; desk = d }) mid
-    gave = record { i = g.i; before = g.before; after = g.after; there = g.there; first = g.first; refills = g.refills; rest = g.rest }
-
     credit : HasCredit id
     credit = k.fit
 
@@ -140,7 +136,7 @@ module _ (act_of : ℕ → ℕ → ℕ → State → Act → Outcome)
         continues = record {
           rests = λ no none. absurd (let e : true ≡ false = sym completes_is ∙ no in cc);
           goes = λ yes. record {
-            gives = gave;
+            gives = g;
             goes = record {
               j = y.j;
               what = refl;
@@ -179,17 +175,12 @@ module _ (act_of : ℕ → ℕ → ℕ → State → Act → Outcome)
       })
 
       end_is : t' ≡ to u g.i g.after is.place.standing
-      end_is =
-          fails.rest
-          ∙ (ap (λ w. to mid y.i w fails.standing) same_commit
-          ∙ (ap (λ x. to mid y.i g.after x) x_is
-          ∙ (ap (λ i. to mid i g.after is.place.standing) (sym failed_at)
-          ∙ (ap (λ m. to m g.i g.after is.place.standing) g.rest
+      end_is = fails.rest ∙ rw (same_commit, x_is, ← failed_at) (ap (λ m. to m g.i g.after is.place.standing) g.rest
           ∙ ap (λ ws. with_left (due_left g.after) (ups_left g.after) (record u {
             pending = ws;
             objects = set t.objects y.j (record { object = is.place.standing.object; state = state_left g.after });
             answered = t.answered + answered_by (Some g.after.job.action);
-          })) (remove_set t.pending g.i g.after)))))
+          })) (remove_set t.pending g.i g.after))
 
       failed_leads : Leads r s t' (given_event id ∷ failed_events mid g.after)
       failed_leads =
@@ -207,7 +198,7 @@ module _ (act_of : ℕ → ℕ → ℕ → State → Act → Outcome)
           rests = λ no none. absurd (let e : true ≡ false = sym dooms_is ∙ none in cc);
           goes = λ yes. absurd (never_both id (find (awaits id entry) t.pending) yes dooms_is);
           fails = λ yes. record {
-            gives = gave;
+            gives = g;
             j = y.j;
             fails = subst (λ i. Fails i y.j mid t') (sym failed_at) fails;
             what = refl;

@@ -1,6 +1,6 @@
 -- A commit that is given an id: it is the first that waits for it.
-use Rattle.hpx_node.proofs.Common.{Bool, Gives, HasCredit, HasSplit, Id, IsCommit, IsPaused, List, None, Option, Parcel, Refills, Some, Tables, Waits, [], and_true, ap, arith, awaits, eqb-true, false, find, is_asked_for, is_last, is_some, length, length-set, log_of, not, refl, remove, set, slice_get, slice_get_less, some_same, still_commit, still_split, subst, sym, take, true, waits_for_one, ℕ, ◌<◌, ◌==◌, ◌⊎◌, ◌∙◌, ◌≡◌}
-use Rattle.hpx_commit.proofs.Lists.{any_at, first_same, get_set, less_long, none_long}
+use Rattle.hpx_node.proofs.Common.{Bool, Gives, HasCredit, HasSplit, Id, IsCommit, IsPaused, List, None, Option, Parcel, Refills, Some, Tables, Waits, [], and_true, any_at, ap, arith, awaits, eqb-true, false, find, first_same, get_set, is_asked_for, is_last, is_some, length, length-set, less_long, log_of, none_long, not, refl, remove, set, slice_get, slice_get_less, some_same, subst, sym, take, true, waits_for_one, ℕ, ◌<◌, ◌==◌, ◌∙◌, ◌≡◌, ◌⊎◌}
+use Rattle.hpx_steps.proofs.Refilled.{still_commit, still_split}
 use Rattle.hpx_node.proofs.Paused.{commit_of}
 
 -- ---- the commit

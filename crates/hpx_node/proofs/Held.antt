@@ -1,5 +1,5 @@
 -- Credit that is held at a node: by its tables, and by its tokens.
-use Rattle.hpx_node.proofs.Common.{Act, Id, List, Outgoing, Parcel, Standing, Waits, [], ap, arith, credit_in, ids_held, map, min, refl, sum_by, sum_by-append, sum_by-cons, ℕ, ◌++◌, ◌+◌, ◌∙◌, ◌∷◌, ◌≡◌}
+use Rattle.hpx_node.proofs.Common.{Act, Id, List, Outgoing, Parcel, Standing, Waits, [], ap, arith, capped_sum, credit_in, ids_held, map, min, refl, sum_by, sum_by-append, sum_by-cons, ℕ, ◌++◌, ◌+◌, ◌∙◌, ◌∷◌, ◌≡◌}
 
 sum_outgoing : (f : Parcel → ℕ) (xs : List Outgoing) → sum_by f (map (λ (x : Outgoing). x.parcel) xs) ≡ sum_by (λ (x : Outgoing). f x.parcel) xs
 sum_outgoing f [] = refl
@@ -17,19 +17,6 @@ sum_messages f desk outgoing = omega (
   sum_by-append f desk (map (λ (x : Outgoing). x.parcel) outgoing),
   sum_outgoing f outgoing,
 )
-
-capped : (cap a b : ℕ) → min cap (min cap a + min cap b) ≡ min cap (a + b)
-capped cap a b = omega arith
-
-pub capped_sum : (cap a b c d e h s1 s2 s3 s4 s5 : ℕ) → s1 ≡ min cap (min cap a + min cap b) → s2 ≡ min cap (s1 + min cap c) → s3 ≡ min cap (s2 + min cap d)
-    → s4 ≡ min cap (s3 + min cap e) → s5 ≡ min cap (s4 + min cap h) → s5 ≡ min cap (a + b + c + d + (e + h))
-capped_sum cap a b c d e h s1 s2 s3 s4 s5 h1 h2 h3 h4 h5 =
-    let i1 : s1 ≡ min cap (a + b) = h1 ∙ capped cap a b in
-    let i2 : s2 ≡ min cap (a + b + c) = h2 ∙ (ap (λ s. min cap (s + min cap c)) i1 ∙ capped cap (a + b) c) in
-    let i3 : s3 ≡ min cap (a + b + c + d) = h3 ∙ (ap (λ s. min cap (s + min cap d)) i2 ∙ capped cap (a + b + c) d) in
-    let i4 : s4 ≡ min cap (a + b + c + d + e) = h4 ∙ (ap (λ s. min cap (s + min cap e)) i3 ∙ capped cap (a + b + c + d) e) in
-    let i5 : s5 ≡ min cap (a + b + c + d + e + h) = h5 ∙ (ap (λ s. min cap (s + min cap h)) i4 ∙ capped cap (a + b + c + d + e) h) in
-    i5 ∙ ap (min cap) (omega arith)
 
 pub held_sum : (o : Id) (objects : List Standing) (accepted running : List Act) (pending : List Waits) (desk : List Parcel) (outgoing : List Outgoing) (cap s1 s2 s3 s4 s5 : ℕ)
     → s1 ≡ min cap (min cap (sum_by (λ (x : Standing). credit_in o x.state.ids) objects) + min cap (sum_by (λ (a : Act). credit_in o a.ids) accepted))

@@ -1,6 +1,5 @@
 -- What is accepted for good is fired, or waits still.
-use Rattle.hpx_node.proofs.Common.{Actions, AreFired, Born, Count, Done, Entry, Event, Fire, Freed, Given, In, Landed, Left, Line, List, Looked, Mail, None, Option, Out, Parcel, Print, Rules, Sent, Some, Split, Up, [], arith, brings, causes, fires_one, goes, hops, joins, map, owes, refl, sets_out, spends, sum_by, sum_by-cons, weighed, weight, ℕ, ◌++◌, ◌+◌, ◌∷◌, ◌≡◌, ◌≤◌}
-use Rattle.hpx_commit.proofs.Lists.{sums_two}
+use Rattle.hpx_node.proofs.Common.{Actions, AreFired, Entry, Event, In, List, Mail, None, Option, Out, Parcel, Rules, Some, [], arith, brings, causes, fires_one, goes, hops, joins, map, owes, refl, sets_out, spends, sum_by, sum_by-cons, sums_two, weighed, weight, ℕ, ◌++◌, ◌+◌, ◌∷◌, ◌≡◌, ◌≤◌}
 
 -- ---- entry by entry
 

@@ -1,13 +1,12 @@
 -- What a commit leaves that is planned.
-use Rattle.hpx_node.proofs.Common.{Act, HasCredit, HasRightCredit, IsFitDue, IsFitJob, IsKept, IsLeftBy, IsPlanned, IsStock, Job, KeepsLaws, Outcome, Standing, State, Stock, Tables, [], ap, bare, bare_act, bare_alone, bare_due, bare_state, due_of, halved_from, length, made_of, map, message_of, named, plan_deals, remains, rules_of, state_after, state_dealt, sym, ℕ, ◌∙◌, ◌≡◌, ◌≤◌}
+use Rattle.hpx_node.proofs.Common.{Act, HasCredit, HasRightCredit, IsFitDue, IsFitJob, IsKept, IsLeftBy, IsPlanned, IsStock, Job, KeepsLaws, Outcome, Standing, State, Stock, Tables, [], ap, bare, bare_act, bare_alone, bare_due, bare_state, due_of, halved_from, length, made_of, map, message_of, named, no_ids, plan_deals, remains, rules_of, state_after, state_dealt, sym, ℕ, ◌∙◌, ◌≡◌, ◌≤◌}
 use Rattle.hpx_commit.proofs.BareHands.{blind_of}
-use Rattle.hpx_node.proofs.Plain.{no_ids, plain_values, plain_conts, plain_same}
 use Rattle.hpx_node.proofs.Planned.{due_credit, planned_of}
 
 module _ (t : Tables) (job : Job) (out : Outcome) (fit : IsFitJob job) (few : t.localities ≤ 64)
     (laws : KeepsLaws t.localities job.kind job.at job.state job.action out) (s : Stock) (is : IsStock t job out s)
     (x : Standing) (kept : IsKept x) (kind : x.object.kind ≡ job.kind) (state : x.state ≡ bare_state job.state) where
-  plan : IsPlanned HasRightCredit HasCredit IsFitDue bare_due job.state job.action (made_of t out) out s
+  plan : IsPlanned HasRightCredit HasCredit IsFitDue bare_due job.kind job.state job.action (made_of t out) out s
   plan = planned_of t job out fit few laws s is
 
   -- a plain object keeps nothing
@@ -18,10 +17,8 @@ module _ (t : Tables) (job : Job) (out : Outcome) (fit : IsFitJob job) (few : t.
   kept_then = record {
     kind = kept.kind;
     state = plan.state_fit;
-    plain = λ e. let none = plain e in (
-      plain_values t job out fit few laws s is (sym kind ∙ e) none.0 none.1,
-      plain_conts t job out fit few laws s is (sym kind ∙ e) none.0 none.1,
-    );
+    plain = λ e. let none = plain e in
+        let now = plan.plain (sym kind ∙ e) none.0 none.1 in (now.values, now.conts);
   }
 
   pub left_by : (act_of : ℕ → ℕ → ℕ → State → Act → Outcome)
@@ -38,7 +35,7 @@ module _ (t : Tables) (job : Job) (out : Outcome) (fit : IsFitJob job) (few : t.
     leaves = plan.due_left ∙ ap (λ u. due_of u (bare_act job.action) (map bare (made_of t out)) out) (sym state);
     kept = kept_then;
     plain = λ e. let none = plain e in
-        plain_same t job out fit few laws s is (sym kind ∙ e) none.0 none.1 ∙ (sym (bare_alone job.state (no_ids job.state fit.state none.0 none.1)) ∙ sym state);
+        (plan.plain (sym kind ∙ e) none.0 none.1).same ∙ (sym (bare_alone job.state (no_ids job.state fit.state none.0 none.1)) ∙ sym state);
     credit = plan.state_has;
     fits = plan.due_may;
     given_up = plan.ups_has;

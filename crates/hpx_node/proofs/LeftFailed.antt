@@ -1,11 +1,8 @@
 -- What an action leaves that fails: its object keeps its state and has its credits again, and the rest is due or given up.
-use Rattle.hpx_node.proofs.Common.{AllByRecursion, Asked, Bool, HasCredit, HasRightCredit, HasSplit, Id, IsCommit, IsFitDue, IsKept, IsLeftFailed, IsMovable, IsPlace, List, Standing, State, Waits, [], action_ids, ap, arith, bare, bare_alone, bare_due, bare_state, both_right, both_same, cond, count_by, due_failed, due_left, fail_deals, failed_remains, false, halves_ahead, id_at, ids_named, is_asked, is_managed, is_some, length, length-map, map, not, refl, state_filled, state_left, sym, take, true, ℕ, ◌&&◌, ◌<◌, ◌==◌, ◌∙◌, ◌≡◌}
+use Rattle.hpx_node.proofs.Common.{AllByRecursion, Asked, Bool, HasCredit, HasRightCredit, HasSplit, Id, IsCommit, IsFitDue, IsKept, IsLeftFailed, IsMovable, IsPlace, List, Standing, State, Waits, [], action_ids, ap, arith, bare, bare_alone, bare_due, bare_state, both_right, both_same, cond, count_by, due_failed, due_left, fail_deals, failed_fit, failed_remains, false, had_right, halves_ahead, id_at, ids_named, is_asked, is_managed, is_some, length, length-map, map, no_ids, not, refl, state_filled, state_left, sym, take, true, ups_have, ℕ, ◌&&◌, ◌<◌, ◌==◌, ◌∙◌, ◌≡◌}
 use Rattle.hpx_commit.proofs.Failed.{due_bare}
-use Rattle.hpx_commit.proofs.FailedHas.{failed_fit, ups_have}
-use Rattle.hpx_commit.proofs.Rights.{had_right}
 use Rattle.hpx_node.proofs.HandLeft.{HasLeft, has_left}
 use Rattle.hpx_node.proofs.Planned.{due_credit, may_be_due, none_of, rights}
-use Rattle.hpx_node.proofs.Plain.{no_ids}
 
 -- what was asked for was given
 none_left : (p : ℕ) (asked : List Asked) (b : Bool) → asked ≡ [] → count_by (λ (x : Asked). x.place == p) asked ≡ cond b 1 0 → b ≡ false

@@ -22,7 +22,6 @@ pub mod Made
 pub mod Numbers
 pub mod OfPrepared
 pub mod Paused
-pub mod Plain
 pub mod PlanLimits
 pub mod PlanRoom
 pub mod PlanWeights
@@ -35,7 +34,6 @@ pub mod Routed
 pub mod RowLaws
 pub mod Runs
 pub mod Same
-pub mod SameCommit
 pub mod Spared
 pub mod Sums
 pub mod Targets

@@ -1,6 +1,5 @@
 -- A commit that waits, by what its tables say.
-use Rattle.hpx_node.proofs.Common.{Act, AllByRecursion, Apart, Asked, Bool, HasRightCredit, Id, IsCommit, IsFit, IsFitJob, IsKept, IsPaused, IsState, IsTidy, Job, KeepsLaws, List, Outcome, Some, Standing, State, Tables, Waits, [], action_of, acts_on, all_at, any_over, ap, append_assoc, arith, cond, drop, false, find, find_passes, hand_long, is_busy, is_standing, length, map, refl, slice_get, split_get, subst, suc, sym, take, target_of, true, waits_here, ℕ, ◌++◌, ◌<◌, ◌==◌, ◌∙◌, ◌∷◌, ◌≡◌, ◌≤◌}
-use Rattle.hpx_node.specs.Resumes.{IsKeptFor}
+use Rattle.hpx_node.proofs.Common.{AllByRecursion, Apart, Asked, Bool, HasRightCredit, Id, IsCommit, IsFit, IsFitJob, IsKept, IsKeptFor, IsPaused, IsState, IsTidy, Job, List, Some, Standing, State, Tables, Waits, [], action_of, acts_on, all_at, all_imp, any_over, ap, append_assoc, arith, cond, drop, false, find, find_passes, hand_long, is_busy, is_standing, length, map, refl, slice_get, split_get, subst, suc, sym, take, target_of, true, waits_here, ℕ, ◌++◌, ◌<◌, ◌==◌, ◌∙◌, ◌∷◌, ◌≡◌}
 use Rattle.hpx_steps.proofs.Busy.{apart_alone, busy_parts, busy_same}
 
 pub paused_at : (t : Tables) (i : ℕ) (w : Waits) → IsTidy t [] → slice_get t.pending i ≡ Some w
@@ -19,12 +18,9 @@ commit_of k n log objects w h = record {
   once = h.once;
 }
 
-lower_all : (n m : ℕ) → n ≤ m → (xs : List Asked) → AllByRecursion (λ (x : Asked). x.place < n) xs → AllByRecursion (λ (x : Asked). x.place < m) xs
-lower_all n m le [] h = tt
-lower_all n m le (x ∷ xs) h = (let lt = h.0 in omega (arith, lt, le), lower_all n m le xs h.1)
-
 pub asked_within : (k n log : ℕ) (objects : List Standing) (w : Waits) → IsPaused k n log objects w → AllByRecursion (λ (x : Asked). x.place < length w.hand) w.asked
-asked_within k n log objects w h = lower_all _ (length w.hand) (hand_long k n w (commit_of k n log objects w h)) w.asked h.within
+asked_within k n log objects w h =
+    let long = hand_long k n w (commit_of k n log objects w h) in all_imp _ (λ (x : Asked). x.place < length w.hand) (λ x lt. omega (arith, lt, long)) w.asked h.within
 
 -- where its object is found at j
 pub in_place : (k n log : ℕ) (objects : List Standing) (w : Waits) (j : ℕ) (paused : IsPaused k n log objects w) → AllByRecursion IsKept objects
@@ -70,17 +66,3 @@ fit_job t job i j x tidy runs found stands kept state =
           (all_at (λ (y : Standing). is_busy y.object (map action_of t.pending) ≡ false → AllByRecursion HasRightCredit y.state.ids) t.objects j x tidy.paused.whole stands
           (sym (busy_same (target_of job.action) x.object (map action_of t.pending) (find_passes (is_standing (target_of job.action)) t.objects x found)) ∙ idle));
     }
-
--- the same job and outcome keep the laws, and are right
-pub laws_by : (n m : ℕ) (job job' : Job) (out out' : Outcome) → n ≡ m → job ≡ job' → out ≡ out'
-    → KeepsLaws n job.kind job.at job.state job.action out → KeepsLaws m job'.kind job'.at job'.state job'.action out'
-laws_by n m job job' out out' here same done laws =
-    subst (λ k. KeepsLaws k job'.kind job'.at job'.state job'.action out') here
-    (subst (λ (x : Job). KeepsLaws n x.kind x.at x.state x.action out') same (subst (λ o. KeepsLaws n job.kind job.at job.state job.action o) done laws))
-
-pub right_by : (act_of : ℕ → ℕ → ℕ → State → Act → Outcome) (n m : ℕ) (job job' : Job) (out out' : Outcome) → n ≡ m → job ≡ job' → out ≡ out'
-    → out ≡ act_of n job.kind job.at job.state job.action → out' ≡ act_of m job'.kind job'.at job'.state job'.action
-right_by act_of n m job job' out out' here same done right =
-    sym done
-    ∙ (right ∙ (ap (λ (x : Job). act_of n x.kind x.at x.state x.action) same
-    ∙ ap (λ k. act_of k job'.kind job'.at job'.state job'.action) here))

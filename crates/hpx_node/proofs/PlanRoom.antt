@@ -25,7 +25,7 @@ module _ (t : Tables) (job : Job) (out : Outcome) (fit : IsFitJob job) (few : t.
   abbrev done : Event
   done = Done (name_of job.action) false
 
-  plan : IsPlanned HasRightCredit HasCredit IsFitDue bare_due job.state job.action (made_of t out) out s
+  plan : IsPlanned HasRightCredit HasCredit IsFitDue bare_due job.kind job.state job.action (made_of t out) out s
   plan = planned_of t job out fit few laws s is
 
   pub commit_few : length (first ++ (halvings ++ (done ∷ (due ++ last)))) ≤ 596

@@ -1,11 +1,6 @@
 -- What the entries of a commit weigh.
-use Rattle.hpx_node.proofs.Common.{Act, AllByRecursion, Birth, Born, Due, Event, Id, IsBirth, List, Message, MessageDue, None, Option, Outcome, Print, PrintDue, Sent, Some, Split, State, Up, [], ap, arith, at_all, at_all_append, bare, bare_id, births_of, cuts, due_of, filled_due, half, length, length-append, log_of, map, refl, replied, sent, splits_from, state_size, suc, sum_by, sum_by-append, sum_by-cons, total_weight, unused, up_of, ups, weight_of, written_due, zero, ℕ, ◌*◌, ◌++◌, ◌+◌, ◌∙◌, ◌∷◌, ◌≡◌, ◌≤◌}
+use Rattle.hpx_node.proofs.Common.{Act, AllByRecursion, Birth, Born, Due, Event, Id, IsBirth, List, MessageDue, None, Option, Outcome, Print, PrintDue, Sent, Some, Split, State, Up, [], ap, arith, at_all, at_all_append, bare, bare_id, births_of, cuts, due_of, due_weight, filled_due, half, length, length-append, light_due, log_of, refl, splits_from, state_size, suc, sum_by, sum_by-append, sum_by-cons, total_weight, unused, up_of, ups, weight_of, written_due, zero, ℕ, ◌*◌, ◌++◌, ◌+◌, ◌∙◌, ◌∷◌, ◌≡◌, ◌≤◌}
 use Rattle.hpx_commit.specs.Deals.{named}
-
--- what is due, in the weight of its entries
-abbrev pub due_weight : Due → ℕ
-due_weight (MessageDue m) = 64
-due_weight (PrintDue bytes) = 64 + length bytes
 
 -- nothing that was dealt is written
 pub written_same : (here serial : ℕ) (due : List Due) (ds : List Id) → written_due here serial (filled_due due ds) ≡ written_due here serial due
@@ -26,27 +21,6 @@ up_few id (Some log) = omega arith
 pub ups_few : (ids : List Id) → length (ups ids) ≤ length ids
 ups_few [] = omega arith
 ups_few (id ∷ ids) = omega (arith, length-append (up_of id id.log) (ups ids), up_few id id.log, ups_few ids)
-
-messages_light : {X : Type 0} (make : X → Message) (xs : List X) → sum_by due_weight (map (λ x. MessageDue (make x)) xs) ≡ 64 * length xs
-messages_light make [] = refl
-messages_light make (x ∷ xs) =
-    omega (arith, sum_by-cons due_weight (MessageDue (make x)) (map (λ y. MessageDue (make y)) xs), messages_light make xs)
-
-prints_light : (xs : List (List ℕ)) → AllByRecursion (λ bytes. length bytes ≤ 16384) xs → sum_by due_weight (map PrintDue xs) ≤ 16448 * length xs
-prints_light [] h = omega arith
-prints_light (x ∷ xs) h = omega (arith, sum_by-cons due_weight (PrintDue x) (map PrintDue xs), prints_light xs h.1, h.0)
-
-light_due : (s : State) (a : Act) (made : List Id) (out : Outcome) → length out.sends ≤ 32 → length out.replies ≤ 129 → length out.prints ≤ 16
-    → AllByRecursion (λ bytes. length bytes ≤ 16384) out.prints → sum_by due_weight (due_of s a made out) ≤ 273472
-light_due s a made out h i j short =
-    omega (
-      arith,
-      sum_by-append due_weight (map (λ x. MessageDue (sent s a made x)) out.sends) (map (λ x. MessageDue (replied s a made x)) out.replies ++ map PrintDue out.prints),
-      sum_by-append due_weight (map (λ x. MessageDue (replied s a made x)) out.replies) (map PrintDue out.prints),
-      messages_light (sent s a made) out.sends,
-      messages_light (replied s a made) out.replies,
-      prints_light out.prints short,
-    )
 
 module _ (k : ℕ) where
   abbrev pub weighs : List Event → ℕ

@@ -1,11 +1,10 @@
 -- A commit of a locality: what it makes, and what it leaves that deals a stock.
-use Rattle.hpx_node.proofs.Common.{AllByRecursion, AreRight, AreWithin, Due, HasCredit, HasRightCredit, HaveLog, HaveNone, Id, IsBare, IsBirth, IsFitDue, IsFitJob, IsManaged, IsMovable, IsPlace, IsPlanned, IsState, IsStock, Job, KeepsLaws, List, MatchOption, Message, MessageDue, None, Option, Outcome, PrintDue, Some, Stock, Tables, [], all_append, ap, arith, bare, bare_due, birth_of, birth_state, due_of, flat_map, hand_of, ids_due, ids_of, is_below, is_some, length, made_of, map, message_filled, nat_le, own_few, own_within, places_in_hand, planned, refl, refs_in, same_at, suc, sym, true, ℕ, ◌+◌, ◌<◌, ◌∷◌, ◌≡◌, ◌≤◌}
+use Rattle.hpx_node.proofs.Common.{AllByRecursion, AreRight, AreWithin, Due, HasCredit, HasRightCredit, HaveLog, HaveNone, Id, IsBare, IsBirth, IsFitDue, IsFitJob, IsManaged, IsMessage, IsMovable, IsPlace, IsPlanned, IsState, IsStock, Job, KeepsLaws, List, MatchOption, Message, MessageDue, None, Option, Outcome, PrintDue, Some, Stock, Tables, [], all_append, all_imp, ap, arith, bare, bare_due, birth_of, birth_state, due_of, flat_map, hand_of, ids_due, ids_of, is_below, is_some, length, made_of, map, message_filled, nat_le, own_few, own_within, places_in_hand, planned, refl, refs_in, same_at, suc, sym, true, ℕ, ◌+◌, ◌<◌, ◌∷◌, ◌≡◌, ◌≤◌}
 use Rattle.hpx_value.specs.declared.outcome.Make.{Make}
 use Rattle.hpx_commit.proofs.HandFit.{fit_due, hand_right}
 use Rattle.hpx_commit.proofs.Naming.{unmanaged}
 use Rattle.hpx_commit.proofs.Places.{is_least}
 use Rattle.hpx_commit.proofs.Short.{yes}
-use Rattle.hpx_value.specs.Shapes.{IsMessage}
 
 -- ---- credits
 
@@ -29,8 +28,7 @@ rights = record { says = λ id h. says id.kind id.log h; so = λ id h. so id.kin
     had kind (Some l) e = e
 
 pub none_of : (ids : List Id) → AllByRecursion IsBare ids → HaveNone ids
-none_of [] h = tt
-none_of (id ∷ ids) h = (h.0.0, none_of ids h.1)
+none_of ids h = all_imp IsBare (λ (id : Id). id.log ≡ None) (λ id i. i.0) ids h
 
 -- ids of the same objects fill what is due
 due_filled : (m : Message) (ids : List Id) → map bare ids ≡ map bare m.ids → length ids ≡ length m.ids
@@ -96,11 +94,6 @@ module _ (n : ℕ) (t : Tables) (job : Job) (out : Outcome) (laws : KeepsLaws n 
   pub hand_few : length (hand_of t job out) ≤ 194
   hand_few = own_few n job.kind job.at job.state job.action out laws (made_of t out) made_of_job.kinds fit.state fit.action.sent.shape
 
-pub makes_managed : (makes : List Make) → AllByRecursion (λ make. IsManaged make.kind × (refs_in make.values ≡ [])) makes
-    → AllByRecursion (λ make. IsManaged make.kind) makes
-makes_managed [] h = tt
-makes_managed (make ∷ makes) h = (h.0.0, makes_managed makes h.1)
-
 -- ---- what is planned
 
 module _ (t : Tables) (job : Job) (out : Outcome) (fit : IsFitJob job) (few : t.localities ≤ 64)
@@ -121,7 +114,7 @@ module _ (t : Tables) (job : Job) (out : Outcome) (fit : IsFitJob job) (few : t.
       may_be_due (λ bytes. tt)
 
   pub planned_of : (s : Stock) → IsStock t job out s
-      → IsPlanned HasRightCredit HasCredit IsFitDue bare_due job.state job.action (made_of t out) out s
+      → IsPlanned HasRightCredit HasCredit IsFitDue bare_due job.kind job.state job.action (made_of t out) out s
   planned_of s is = planned HasRightCredit HasCredit rights IsFitDue bare_due (λ m. refl) (λ bytes. refl) (λ bytes. tt) due_filled
       t.localities job.kind job.at job.state job.action out laws few fit.state fit.action.sent.shape (made_of t out) are.kinds fit.credit
       fit.action.sent.credit are.credit due_has s is.names is.credit

@@ -1,9 +1,8 @@
 -- With the last credit in its place, what a commit deals may be dealt.
-use Rattle.hpx_node.proofs.Common.{Bool, HasCredit, HasRightCredit, Id, IsPaused, IsShort, IsStock, KeepsLaws, List, None, Option, Refills, Some, Tables, Waits, [], ap, awaits, bare, brings_right, cases_Bool, come_long, come_short, come_stock, cond, eqb-true, false, hand_with, id_at, ids_named, inl, inr, is_asked, is_asked_for, is_last, is_managed, is_some, length, log_of, made_of, ne_eqb, not, put_for, refilled, refl, remove, set, stock_with, subst, sym, true, waits_for_one, waits_managed, ℕ, ◌&&◌, ◌+◌, ◌==◌, ◌∙◌, ◌≡◌, ◌≤◌, ◌⊎◌}
+use Rattle.hpx_node.proofs.Common.{Bool, Found, HasCredit, HasRightCredit, Id, IsPaused, IsShort, IsStock, KeepsLaws, List, None, Option, Refills, Some, Tables, Waits, [], any_place, ap, awaits, bare, brings_right, cases_Bool, come_long, come_short, come_stock, cond, eqb-true, false, hand_with, id_at, ids_named, inl, inr, is_asked, is_asked_for, is_last, is_managed, is_some, length, log_of, made_of, ne_eqb, not, put_for, refilled, refl, remove, set, stock_with, subst, sym, true, waits_for_one, waits_managed, ℕ, ◌&&◌, ◌+◌, ◌==◌, ◌∙◌, ◌≡◌, ◌≤◌, ◌⊎◌}
 use Rattle.hpx_node.proofs.Given.{IsStill, last_parts, none_asked, still}
 use Rattle.hpx_node.proofs.Planned.{AreMade, made_of_job, rights}
 use Rattle.hpx_node.proofs.LeftFailed.{given}
-use Rattle.hpx_commit.proofs.Lists.{Found, any_place}
 
 -- with these ids in its hand, what a commit deals may be dealt
 pub record IsStockReady (t : Tables) (w : Waits) (hand : List Id) : Type 0 where

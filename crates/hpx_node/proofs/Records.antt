@@ -69,23 +69,32 @@ given_home here records p id more live h =
 
 -- ---- what is done
 
-module _ (t t' : Tables) (id : Id) (live : is_live t id ≡ true) (births : ℕ) (records : List Record) (same : births ≡ t.births) where
+-- the count in a record, 0 without one
+abbrev pub count_in_record : Option Record → ℕ
+count_in_record o = option_map_or (λ (r : Record). r.count) o 0
+
+-- the record, and what is told of it
+module _ (t : Tables) (id : Id) (live : is_live t id ≡ true) where
   found : (rec : Record) × (find_record id t.records ≡ Some rec)
   found = live_record t.here t.records id live
 
   was : count_here t id ≡ found.0.count
-  was = ap (λ (o : Option Record). option_map_or (λ (x : Record). x.count) o 0) found.1
+  was = ap (λ (o : Option Record). count_in_record o) found.1
 
-  place_is : place_or_0 t id ≡ found.0.place
-  place_is = ap (λ (o : Option Record). option_map_or (λ (x : Record). x.place) o 0) found.1
+  more_is : nat_lt t.profile.credit_limit (more_here t id) ≡ nat_lt t.profile.credit_limit (grown t.profile found.0)
+  more_is = ap (λ n. nat_lt t.profile.credit_limit (n + 2 ^ t.profile.credit_log - 1)) was
+
+module _ (t t' : Tables) (id : Id) (live : is_live t id ≡ true) (births : ℕ) (records : List Record) (same : births ≡ t.births) where
+  place_is : place_or_0 t id ≡ (found t id live).0.place
+  place_is = ap (λ (o : Option Record). option_map_or (λ (x : Record). x.place) o 0) (found t id live).1
 
   -- there is more out
   pub alive_deals : IfSome (find_record id t.records) (λ x. Alive ≡ left_of x id) → DealsWith (Return id) t (record t { births = births; records = records })
   alive_deals alive =
-      let more = alive_some found.0 id (subst (λ (o : Option Record). IfSome o (λ x. Alive ≡ left_of x id)) found.1 alive) in
+      let more = alive_some (found t id live).0 id (subst (λ (o : Option Record). IfSome o (λ x. Alive ≡ left_of x id)) (found t id live).1 alive) in
       ap (λ n. record t { births = n; records = records }) same
       ∙ (ap (λ (x : Tables). record x { records = records }) (sym (no_mail (place_or_0 t id) (Free (bare id)) t))
-      ∙ ap (λ b. record (with_mail_if b (place_or_0 t id) (Free (bare id)) t) { records = records }) (sym (ap (λ n. n == credit id) was ∙ more)))
+      ∙ ap (λ b. record (with_mail_if b (place_or_0 t id) (Free (bare id)) t) { records = records }) (sym (ap (λ n. n == credit id) (was t id live) ∙ more)))
 
   -- a message goes then
   mailed : (to : ℕ) (p : Parcel) → t' ≡ with_mail to p (record t { births = births; records = records }) → t' ≡ record (with_mail to p t) { records = t'.records }
@@ -98,71 +107,55 @@ module _ (t t' : Tables) (id : Id) (live : is_live t id ≡ true) (births : ℕ)
   pub dead_deals : (place : ℕ) → IfSome (find_record id t.records) (λ x. Dead place ≡ left_of x id)
       → t' ≡ with_mail place (Free (bare id)) (record t { births = births; records = records }) → DealsWith (Return id) t t'
   dead_deals place dead goes =
-      let last = dead_all place found.0 id (subst (λ (o : Option Record). IfSome o (λ x. Dead place ≡ left_of x id)) found.1 dead) in
+      let last = dead_all place (found t id live).0 id (subst (λ (o : Option Record). IfSome o (λ x. Dead place ≡ left_of x id)) (found t id live).1 dead) in
       mailed place (Free (bare id)) goes
       ∙ (ap (λ n. record (with_mail n (Free (bare id)) t) { records = t'.records }) (last.1 ∙ sym place_is)
-      ∙ ap (λ b. record (with_mail_if b (place_or_0 t id) (Free (bare id)) t) { records = t'.records }) (sym (ap (λ n. n == credit id) was ∙ last.0)))
+      ∙ ap (λ b. record (with_mail_if b (place_or_0 t id) (Free (bare id)) t) { records = t'.records }) (sym (ap (λ n. n == credit id) (was t id live) ∙ last.0)))
 
   module _ (p : Profile) (given : Id) (asker entry : ℕ) (tuned : p ≡ t.profile)
       (goes : t' ≡ with_mail asker (Give given entry) (record t { births = births; records = records })) where
-    more_is : nat_lt t.profile.credit_limit (more_here t id) ≡ nat_lt t.profile.credit_limit (grown t.profile found.0)
-    more_is = ap (λ n. nat_lt t.profile.credit_limit (n + 2 ^ t.profile.credit_log - 1)) was
-
-    answer_deals : (b : Bool) → nat_lt t.profile.credit_limit (grown t.profile found.0) ≡ b
+    answer_deals : (b : Bool) → nat_lt t.profile.credit_limit (grown t.profile (found t id live).0) ≡ b
         → given ≡ cond b id (record id { log = Some t.profile.credit_log }) → DealsWith (Ask id asker entry) t t'
     answer_deals b full is =
         mailed asker (Give given entry) goes
         ∙ (ap (λ (i : Id). record (with_mail asker (Give i entry) t) { records = t'.records }) is
-        ∙ ap (λ c. record (with_mail asker (Give (cond c id (record id { log = Some t.profile.credit_log })) entry) t) { records = t'.records }) (sym (more_is ∙ full)))
+        ∙ ap (λ c. record (with_mail asker (Give (cond c id (record id { log = Some t.profile.credit_log })) entry) t) { records = t'.records }) (sym (more_is t id live ∙ full)))
 
     -- no more credit is given, or more
     pub refused_deals : IfSome (find_record id t.records) (λ x. Limit ≡ granted_of p x id) → given ≡ id → DealsWith (Ask id asker entry) t t'
-    refused_deals limit is = answer_deals true (limit_full t found.0 id (subst (λ (o : Option Record). IfSome o (λ x. Limit ≡ granted_of t.profile x id)) found.1
+    refused_deals limit is = answer_deals true (limit_full t (found t id live).0 id (subst (λ (o : Option Record). IfSome o (λ x. Limit ≡ granted_of t.profile x id)) (found t id live).1
         (subst (λ q. IfSome (find_record id t.records) (λ x. Limit ≡ granted_of q x id)) tuned limit))) is
 
     pub granted_deals : (more : Id) → IfSome (find_record id t.records) (λ x. Yes more ≡ granted_of p x id) → given ≡ more → DealsWith (Ask id asker entry) t t'
     granted_deals more given_more is =
-        let free = yes_free t found.0 id more (subst (λ (o : Option Record). IfSome o (λ x. Yes more ≡ granted_of t.profile x id)) found.1
+        let free = yes_free t (found t id live).0 id more (subst (λ (o : Option Record). IfSome o (λ x. Yes more ≡ granted_of t.profile x id)) (found t id live).1
         (subst (λ q. IfSome (find_record id t.records) (λ x. Yes more ≡ granted_of q x id)) tuned given_more)) in
         answer_deals false free.0 (is ∙ free.1)
 
 -- ---- what is written
 
--- the count in a record, 0 without one
-abbrev pub count_in_record : Option Record → ℕ
-count_in_record o = option_map_or (λ (r : Record). r.count) o 0
-
 module _ (t : Tables) (id : Id) (rs : List Record) (count : ℕ) (live : is_live t id ≡ true)
     (now : IfSome (find_record id t.records) (λ x. find_record id rs ≡ Some (asked t.profile x))) (is : count ≡ count_in_record (find_record id rs)) where
-  its : (rec : Record) × (find_record id t.records ≡ Some rec)
-  its = live_record t.here t.records id live
-
-  counts : count ≡ (asked t.profile its.0).count
+  counts : count ≡ (asked t.profile (found t id live).0).count
   counts =
       is
       ∙ ap (λ (o : Option Record). count_in_record o)
-      (subst (λ (o : Option Record). IfSome o (λ x. find_record id rs ≡ Some (asked t.profile x))) its.1 now)
-
-  had : count_here t id ≡ its.0.count
-  had = ap (λ (o : Option Record). count_in_record o) its.1
-
-  much_is : nat_lt t.profile.credit_limit (more_here t id) ≡ nat_lt t.profile.credit_limit (grown t.profile its.0)
-  much_is = ap (λ n. nat_lt t.profile.credit_limit (n + 2 ^ t.profile.credit_log - 1)) had
+      (subst (λ (o : Option Record). IfSome o (λ x. find_record id rs ≡ Some (asked t.profile x))) (found t id live).1 now)
 
   refused_entry : IfSome (find_record id t.records) (λ x. Limit ≡ granted_of t.profile x id) → Count (bare id) count Refused ∷ [] ≡ answered t id
   refused_entry limit =
-      let full = limit_full t its.0 id (subst (λ (o : Option Record). IfSome o (λ x. Limit ≡ granted_of t.profile x id)) its.1 limit) in
-      let e : (asked t.profile its.0).count ≡ its.0.count = rw full refl in
-      ap (λ n. Count (bare id) n Refused ∷ []) (counts ∙ (e ∙ sym had))
-      ∙ sym (ap (λ b. (if b then Count (bare id) (count_here t id) Refused else Count (bare id) (more_here t id) Granted) ∷ []) (much_is ∙ full))
+      let full = limit_full t (found t id live).0 id (subst (λ (o : Option Record). IfSome o (λ x. Limit ≡ granted_of t.profile x id)) (found t id live).1 limit) in
+      let e : (asked t.profile (found t id live).0).count ≡ (found t id live).0.count = rw full refl in
+      ap (λ n. Count (bare id) n Refused ∷ []) (counts ∙ (e ∙ sym (was t id live)))
+      ∙ sym (ap (λ b. (if b then Count (bare id) (count_here t id) Refused else Count (bare id) (more_here t id) Granted) ∷ []) (more_is t id live ∙ full))
 
   granted_entry : (more : Id) → IfSome (find_record id t.records) (λ x. Yes more ≡ granted_of t.profile x id)
       → Count (bare id) count Granted ∷ [] ≡ answered t id
   granted_entry more told =
-      let free = (yes_free t its.0 id more (subst (λ (o : Option Record). IfSome o (λ x. Yes more ≡ granted_of t.profile x id)) its.1 told)).0 in
-      let e : (asked t.profile its.0).count ≡ grown t.profile its.0 = rw free refl in
-      ap (λ n. Count (bare id) n Granted ∷ []) (counts ∙ (e ∙ ap (λ n. n + 2 ^ t.profile.credit_log - 1) (sym had)))
-      ∙ sym (ap (λ b. (if b then Count (bare id) (count_here t id) Refused else Count (bare id) (more_here t id) Granted) ∷ []) (much_is ∙ free))
+      let free = (yes_free t (found t id live).0 id more (subst (λ (o : Option Record). IfSome o (λ x. Yes more ≡ granted_of t.profile x id)) (found t id live).1 told)).0 in
+      let e : (asked t.profile (found t id live).0).count ≡ grown t.profile (found t id live).0 = rw free refl in
+      ap (λ n. Count (bare id) n Granted ∷ []) (counts ∙ (e ∙ ap (λ n. n + 2 ^ t.profile.credit_log - 1) (sym (was t id live))))
+      ∙ sym (ap (λ b. (if b then Count (bare id) (count_here t id) Refused else Count (bare id) (more_here t id) Granted) ∷ []) (more_is t id live ∙ free))
 
 -- by what the records tell
 module _ (t : Tables) (id : Id) (p : Profile) (old rs : List Record) (count : ℕ) (records : t.records ≡ old) (profile : t.profile ≡ p)
@@ -189,14 +182,11 @@ module _ (t : Tables) (id : Id) (p : Profile) (old rs : List Record) (count : �
 
 module _ (t t' : Tables) (id : Id) (rs : List Record) (live : is_live t id ≡ true) (same : t'.records ≡ rs)
     (others : (o : Id) → same_object id o ≡ false → find_record o rs ≡ find_record o t.records) where
-  one : (rec : Record) × (find_record id t.records ≡ Some rec)
-  one = live_record t.here t.records id live
-
   pub leaves_returned : IfSome (find_record id t.records) (λ r. find_record id rs ≡ lowered r id) → Leaves (Return id) t t'
   leaves_returned left = record {
     own = ap (find_record id) same
-        ∙ (subst (λ (o : Option Record). IfSome o (λ r. find_record id rs ≡ lowered r id)) one.1 left
-        ∙ ap (option_and_then (λ (r : Record). lowered r id)) (sym one.1));
+        ∙ (subst (λ (o : Option Record). IfSome o (λ r. find_record id rs ≡ lowered r id)) (found t id live).1 left
+        ∙ ap (option_and_then (λ (r : Record). lowered r id)) (sym (found t id live).1));
     others = λ x away. ap (find_record x) same ∙ others x away;
   }
 
@@ -204,9 +194,9 @@ module _ (t t' : Tables) (id : Id) (rs : List Record) (live : is_live t id ≡ t
       → (asker entry : ℕ) → Leaves (Ask id asker entry) t t'
   leaves_asked p tuned more asker entry = record {
     own = ap (find_record id) same
-        ∙ (subst (λ (o : Option Record). IfSome o (λ r. find_record id rs ≡ Some (asked p r))) one.1 more
-        ∙ (ap (λ (q : Profile). Some (asked q one.0)) tuned
-        ∙ ap (option_map (asked t.profile)) (sym one.1)));
+        ∙ (subst (λ (o : Option Record). IfSome o (λ r. find_record id rs ≡ Some (asked p r))) (found t id live).1 more
+        ∙ (ap (λ (q : Profile). Some (asked q (found t id live).0)) tuned
+        ∙ ap (option_map (asked t.profile)) (sym (found t id live).1)));
     others = λ x away. ap (find_record x) same ∙ others x away;
   }
 

@@ -1,6 +1,6 @@
 -- What the rows count, in the words of the laws of journals.
-use Rattle.hpx_journal.specs.Local.{after}
 use Rattle.hpx_node.proofs.Common.{Bool, Born, Count, Entry, Event, Freed, FreesOf, FreesTheDead, Give, Given, Granted, Id, In, IsPassive, List, Local, None, Option, Out, Parcel, Refusals, Refused, RefusesForCause, Returned, Rules, Some, StandsWith, Tables, [], and_true, arith, boot, causes, cond, count_events, eqb-true, frees_one, goes, hands_refusal, inl, inr, is_credit_least, is_free_of, is_freed, is_least, is_refusal, is_refused_count, is_refusing, list_any, one_if, part, refl, run_local, same_object, sends_such, sum_by, sum_by-cons, takes_such, weighed, ℕ, ◌+◌, ◌==◌, ◌^◌, ◌∷◌, ◌≡◌, ◌≤◌, ◌⊎◌}
+use Rattle.hpx_journal.specs.Local.{after}
 use Rattle.std.proofs.Math.Pow.{pow_pos}
 use Rattle.hpx_journal.specs.Roots.{roots}
 use Rattle.hpx_journal.specs.Rows.{is_dead_record, IsDead}

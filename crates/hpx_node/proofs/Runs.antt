@@ -31,8 +31,7 @@ module _ (t : Tables) (job : Job) (out : Outcome) (p : Prepared) (is : IsPrepare
   rest_is : t2 ≡ record t1 { running = remove t.running i; pending = t.pending; objects = t2.objects; answered = t1.answered + answered_by (Some job.action) }
   rest_is =
       rest
-      ∙ (ap (λ o. record t1 { running = t2.running; objects = t2.objects; answered = t1.answered + answered_by o }) still_runs
-      ∙ (ap (λ rs. record t1 { running = rs; objects = t2.objects; answered = t1.answered + answered_by (Some job.action) }) (running ∙ ap (λ (x : Tables). remove x.running i) made.rest)
+      ∙ (rw still_runs (ap (λ rs. record t1 { running = rs; objects = t2.objects; answered = t1.answered + answered_by (Some job.action) }) (running ∙ ap (λ (x : Tables). remove x.running i) made.rest)
       ∙ ap (λ ws. record t1 { running = remove t.running i; pending = ws; objects = t2.objects; answered = t1.answered + answered_by (Some job.action) }) (ap (λ (x : Tables). x.pending) made.rest)))
 
   pub runs_goes : t3 ≡ committed_to job out (own_stock t job out) j at.standing (record t { running = remove t.running i })

@@ -1,5 +1,5 @@
 -- What a node stands for and what it wrote, where its tables are the same.
-use Rattle.hpx_node.proofs.Common.{Entry, Event, List, Tables, Writes, ap, append_assoc, at_all, entry_at, map-append, subst, sym, ◌++◌, ◌∙◌, ◌≡◌}
+use Rattle.hpx_node.proofs.Common.{Ends, Entry, Event, IsPrepared, Job, List, Outcome, Prepared, Tables, Writes, ap, append_assoc, at_all, entry_at, map-append, subst, sym, ◌++◌, ◌∙◌, ◌≡◌}
 
 -- what is said of tables and entries is said of the same
 pub same_too : (P : Tables → List Entry → Type 0) (t t' : Tables) (es es' : List Entry) → P t es → t' ≡ t → es' ≡ es → P t' es'
@@ -24,3 +24,10 @@ writes_then first then s t u a b c g h = record {
       ∙ (ap (λ xs. xs ++ at_all s.here then) g.grows ∙ (append_assoc a (at_all s.here first) (at_all s.here then)
       ∙ ap (λ xs. a ++ xs) (sym (map-append (entry_at s.here) first then))));
 }
+
+pub prepared_same : (t t' : Tables) (job : Job) (out : Outcome) (p : Prepared) → t' ≡ t → IsPrepared t job out p
+    → IsPrepared t' job out p
+prepared_same t t' job out p same is = subst (λ x. IsPrepared x job out p) (sym same) is
+
+pub ends_from : (t m u : Tables) (job : Job) (out : Outcome) → m ≡ t → Ends m u job out → Ends t u job out
+ends_from t m u job out same h = subst (λ (x : Tables). Ends x u job out) same h

@@ -1,8 +1,8 @@
 -- What the steps of a turn add to a journal.
-use Rattle.hpx_node.proofs.Common.{AddsATurn, AllByRecursion, Ask, Bool, Cont, Count, Done, Entry, Fault, Free, Give, Granted, Id, IsFailure, IsPrepared, IsTidy, Job, List, MessageDue, None, Option, Outcome, Parcel, Plan, Prepared, PrintDue, Refused, Return, Some, Standing, Tables, Waits, Writes, [], action_ids, all_append, answer, ap, arith, asked_events, at_all, bare, bytes_in, codes, committed, committed_from, cond, count_here, cuts, due_failed, due_left, effects, failed_events, false, find, first_cuts, freed, half, halvings, id_at, if◌then◌else◌, is_standing, length, length-append, more_here, name_of, nat_lt, own_stock, refl, returned, slot_at, subst, suc, sum_by, sum_by-append, sum_by-cons, total_weight, true, up_of, ups, ups_left, weight_of, written_due, zero, ℕ, ◌++◌, ◌+◌, ◌==◌, ◌∷◌, ◌≡◌, ◌≤◌}
+use Rattle.hpx_node.proofs.Common.{AddsATurn, AllByRecursion, Ask, Bool, Count, Done, Entry, Free, Give, Granted, Id, IsFailure, IsPrepared, IsTidy, Job, List, None, Option, Outcome, Parcel, Plan, Prepared, Refused, Return, Some, Standing, Tables, Waits, Writes, [], action_ids, all_append, ap, arith, asked_events, at_all, bare, bytes_in, committed, committed_from, count_here, cuts, due_left, effects, failed_events, failed_light, false, find, first_cuts, freed, half, halvings, if◌then◌else◌, is_standing, length, length-append, more_here, name_of, nat_lt, own_stock, refl, returned, subst, suc, sum_by-append, sum_by-cons, total_weight, true, up_of, ups, ups_left, weight_of, written_due, zero, ℕ, ◌++◌, ◌+◌, ◌∷◌, ◌≡◌, ◌≤◌}
 use Rattle.hpx_commit.specs.Deals.{named}
 use Rattle.hpx_node.proofs.FewEntries.{at_all_length, effects_few}
-use Rattle.hpx_node.proofs.PlanWeights.{weighs, weighs_append, weighs_cons, weighs_due, due_weight, ups_light}
+use Rattle.hpx_node.proofs.PlanWeights.{weighs, weighs_append, weighs_cons, weighs_due, ups_light}
 use Rattle.hpx_node.proofs.Turns.{adds_grown, grown_weighs, HasNoBytes, bare_weighs}
 
 -- ---- a commit, or one that begins to wait
@@ -108,18 +108,6 @@ grows_light k e t p before now after tidy short one grows = omega (
 )
 
 -- ---- an action that fails
-
-print_light : (b : Bool) → sum_by due_weight (cond b (PrintDue (codes "error: credit limit\n") ∷ []) []) ≤ 128
-print_light true = omega arith
-print_light false = omega arith
-
-failed_light : (ids : List Id) (cont : Option Cont) → sum_by due_weight (due_failed ids cont) ≤ 192
-failed_light ids None = omega (arith, print_light ((id_at ids 0).kind == 1))
-failed_light ids (Some c) = omega (
-  arith,
-  sum_by-cons due_weight (MessageDue (answer [] (slot_at ids c) (Fault 5))) (cond ((id_at ids 0).kind == 1) (PrintDue (codes "error: credit limit\n") ∷ []) []),
-  print_light ((id_at ids 0).kind == 1),
-)
 
 pub fails_light : (t t' : Tables) (w : Waits) (p : Plan) (old new : List Entry) → IsFailure w p → length p.ups.items ≤ 256
     → Writes (failed_events t w) t t' old new → total_weight new ≤ total_weight old + 16640

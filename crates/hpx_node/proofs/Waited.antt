@@ -1,15 +1,13 @@
 -- A commit begins to wait, as the calls do it.
-use Rattle.hpx_node.proofs.Common.{Act, AllByRecursion, AllLast, AreWithin, Ask, Begins, Entry, HasCredit, HasLeastCredit, HasRightCredit, HasSplit, Id, IsAt, IsBefore, IsFitJob, IsKept, IsState, IsTidy, Job, KeepsLaws, Lasting, List, Outcome, Pauses, Some, Standing, Stands, State, Stock, Tables, Waits, [], action_few, ahead, all_at, ap, append_assoc, arith, asked_at, asked_events, at_all, at_all_append, bare, bare_state, drop, first_cuts, get_or, hand_before, hand_kinds, hand_of, id_at, inl, is_managed, lacking, length, length-append, length-map, made_of, managed_same, managed_there, map, none_short, own_many, places_in_hand, places_named, refl, remove, set, short_before, short_places, slice_get, some_same, split_stock, splits_before, stock_before, subst, sym, take, take_more, true, waits_with, with_asks, with_mail, ℕ, ◌++◌, ◌+◌, ◌<◌, ◌∙◌, ◌∷◌, ◌≡◌, ◌≤◌}
-use Rattle.hpx_commit.proofs.Stripped.{short_few, stripped_behind, stripped_places}
+use Rattle.hpx_node.proofs.Common.{Act, AllByRecursion, AllLast, AreWithin, Ask, Begins, Entry, HasCredit, HasLeastCredit, HasRightCredit, HasSplit, Id, IsAt, IsBefore, IsFitJob, IsKept, IsState, IsTidy, Job, KeepsLaws, List, Outcome, Pauses, Some, Standing, Stands, State, Stock, Tables, Waits, [], action_few, ahead, all_at, ap, append_assoc, arith, asked_at, asked_events, at_all, at_all_append, bare, bare_state, first_cuts, get_or, hand_before, hand_of, id_at, inl, lacking, length, length-append, length-map, made_of, map, none_short, own_many, places_in_hand, refl, remove, set, short_before, short_places, slice_get, some_same, split_stock, splits_before, state_filled, stock_before, subst, sym, take, take_more, waits_with, with_asks, with_mail, ℕ, ◌++◌, ◌+◌, ◌<◌, ◌∙◌, ◌∷◌, ◌≡◌, ◌≤◌}
+use Rattle.hpx_commit.proofs.Stripped.{short_few}
 use Rattle.hpx_node.specs.declared.node.wait.Before.{Before}
 use Rattle.hpx_steps.proofs.Waiting.{asks_rest, wait_stands}
 use Rattle.hpx_tables.proofs.FirstCuts.{first_few}
 use Rattle.hpx_node.proofs.PlanLimits.{own_cuts}
 use Rattle.hpx_node.proofs.Planned.{AreMade, bare_kinds, hand_within, made_of_job, none_of, rights}
-use Rattle.hpx_value.specs.Mentions.{mentions}
 use Rattle.hpx_commit.specs.Deals.{named}
-use Rattle.hpx_commit.proofs.Moved.{wider}
-use Rattle.hpx_commit.proofs.ShortHand.{fits, is_kept, is_short, least_all, short_low, short_within}
+use Rattle.hpx_commit.proofs.ShortHand.{fits, hands_long, later_within, least_all, left_own, left_places, left_rest, left_short, short_within, within}
 
 pub pauses_by : (t t' : Tables) (i j : ℕ) (job : Job) (w : Waits) (at : IsAt t i j job) (x : Standing) → slice_get t.objects j ≡ Some x
     → t' ≡ record t {
@@ -26,21 +24,11 @@ pauses_by t t' i j job w at x stands e = record {
   }) (some_same x at.standing (sym stands ∙ at.stands));
 }
 
-bare_fit : (s : State) → IsState s → IsState (bare_state s)
-bare_fit s h = record {
-  values = h.values;
-  refs = h.refs;
-  conts = h.conts;
-  ids = length-map s.ids bare ∙ h.ids;
-  few = omega (arith, length-map s.ids bare, h.few);
-  short = h.short;
-}
-
 -- an object keeps its state without credits
 pub lent_kept : (x : Standing) (s : State) → IsKept x → x.state ≡ s → IsState s → IsKept (record { object = x.object; state = bare_state s })
 lent_kept x s kept same fit = record {
   kind = kept.kind;
-  state = bare_fit s fit;
+  state = state_filled s (map bare s.ids) (length-map s.ids bare) fit;
   plain = λ e. (ap (λ (y : State). y.values) (sym same) ∙ (kept.plain e).0, ap (λ (y : State). y.conts) (sym same) ∙ (kept.plain e).1);
 }
 
@@ -51,58 +39,32 @@ all_map P f (p ∷ ps) h = (h.0, all_map P f ps h.1)
 -- ---- the hand, before
 
 module _ (n : ℕ) (t : Tables) (job : Job) (out : Outcome) (laws : KeepsLaws n job.kind job.at job.state job.action out) (fit : IsFitJob job) where
-  abbrev later : List Id
-  later = map bare (made_of t out)
-
   are : AreMade t.profile.credit_log out.makes (made_of t out)
   are = made_of_job n t job out laws fit
 
-  pub hands_long : length (hand_before t job out) ≡ length (hand_of t job out)
-  hands_long = omega (
-    arith,
-    length-append job.state.ids (job.action.ids ++ map bare (made_of t out)),
-    length-append job.state.ids (job.action.ids ++ made_of t out),
-    length-append job.action.ids (map bare (made_of t out)),
-    length-append job.action.ids (made_of t out),
-    length-map (made_of t out) bare,
-  )
+  pub before_long : length (hand_before t job out) ≡ length (hand_of t job out)
+  before_long = hands_long HasRightCredit HasCredit rights job.state job.action out fit.credit fit.action.sent.credit (made_of t out) (map bare (made_of t out)) (bare_kinds (made_of t out)) (hand_within n t job out laws fit)
 
   pub within_hand : AreWithin (hand_before t job out) (places_in_hand t job out)
-  within_hand = wider (length (hand_of t job out)) (length (hand_before t job out)) (places_in_hand t job out) (omega (arith, hands_long)) (hand_within n t job out laws fit)
-
-  -- the places are the same without credits
-  later_named : places_in_hand t job out ≡ places_named job.state job.action (map bare (made_of t out)) out
-  later_named = managed_same (hand_of t job out) (hand_before t job out) (mentions job.state job.action out)
-      (hand_kinds job.state job.action (made_of t out) later (sym (bare_kinds (made_of t out))))
-
-  managed_hand : (p : ℕ) → 1 ≤ named (places_in_hand t job out) p → is_managed (id_at (hand_before t job out) p) ≡ true
-  managed_hand p some = managed_there (hand_before t job out) (mentions job.state job.action out) p (subst (λ ps. 1 ≤ named ps p) later_named some)
+  within_hand = within HasRightCredit HasCredit rights job.state job.action out fit.credit fit.action.sent.credit (made_of t out) (map bare (made_of t out)) (bare_kinds (made_of t out)) (hand_within n t job out laws fit)
 
   pub within_split : AreWithin (split_stock t job out).hand (short_before t job out)
-  within_split = short_within HasRightCredit HasCredit rights job.state job.action fit.credit fit.action.sent.credit (map bare (made_of t out)) (places_in_hand t job out) within_hand managed_hand
+  within_split = short_within HasRightCredit HasCredit rights job.state job.action out fit.credit fit.action.sent.credit (made_of t out) (map bare (made_of t out)) (bare_kinds (made_of t out)) (hand_within n t job out laws fit)
 
   pub least_split : AllByRecursion (λ p. HasLeastCredit (id_at (split_stock t job out).hand p)) (short_before t job out)
-  least_split = least_all HasRightCredit HasCredit rights job.state job.action fit.credit fit.action.sent.credit (map bare (made_of t out)) (places_in_hand t job out) within_hand managed_hand
-
-  abbrev whole : List ℕ → Stock
-  whole ps = ahead (own_many job) (record { hand = hand_before t job out; places = ps })
+  least_split = least_all HasRightCredit HasCredit rights job.state job.action out fit.credit fit.action.sent.credit (made_of t out) (map bare (made_of t out)) (bare_kinds (made_of t out)) (hand_within n t job out laws fit)
 
   -- so it may wait
   pub fresh_split : (log k m : ℕ) → HasSplit log (waits_with job out k (asked_at m (short_before t job out)) (stock_before t job out))
   fresh_split log k m = record {
-    made = later;
+    made = map bare (made_of t out);
     kinds = bare_kinds (made_of t out) ∙ are.kinds;
     bare = are.bare;
-    within = subst (AreWithin (hand_before t job out)) later_named within_hand;
-    places = stripped_places (short_before t job out) (split_stock t job out) ∙ ap (λ ps. (whole ps).places) later_named;
-    rest = stripped_behind (own_many job) (short_before t job out) (split_stock t job out)
-        (short_low HasRightCredit HasCredit rights job.state job.action fit.credit fit.action.sent.credit (map bare (made_of t out)) (places_in_hand t job out) within_hand managed_hand) ∙ ap (λ ps. drop (own_many job) (whole ps).hand) later_named;
-    own = λ p lt lasts.
-        is_kept HasRightCredit HasCredit rights job.state job.action fit.credit fit.action.sent.credit (map bare (made_of t out)) (places_in_hand t job out) within_hand managed_hand p
-        (subst (λ ps. Lasting (whole ps) p) (sym later_named) lasts) ∙ ap (λ ps. id_at (whole ps).hand p) later_named;
-    short = λ p lt none. inl (ap (λ (y : Id). y.log)
-        (is_short HasRightCredit HasCredit rights job.state job.action fit.credit fit.action.sent.credit (map bare (made_of t out)) (places_in_hand t job out) within_hand managed_hand p lt
-        (λ lasts. none (subst (λ ps. Lasting (whole ps) p) later_named lasts))));
+    within = later_within HasRightCredit HasCredit rights job.state job.action out fit.credit fit.action.sent.credit (made_of t out) (map bare (made_of t out)) (bare_kinds (made_of t out)) (hand_within n t job out laws fit);
+    places = left_places HasRightCredit HasCredit rights job.state job.action out fit.credit fit.action.sent.credit (made_of t out) (map bare (made_of t out)) (bare_kinds (made_of t out)) (hand_within n t job out laws fit);
+    rest = left_rest HasRightCredit HasCredit rights job.state job.action out fit.credit fit.action.sent.credit (made_of t out) (map bare (made_of t out)) (bare_kinds (made_of t out)) (hand_within n t job out laws fit);
+    own = left_own HasRightCredit HasCredit rights job.state job.action out fit.credit fit.action.sent.credit (made_of t out) (map bare (made_of t out)) (bare_kinds (made_of t out)) (hand_within n t job out laws fit);
+    short = λ p lt none. inl (left_short HasRightCredit HasCredit rights job.state job.action out fit.credit fit.action.sent.credit (made_of t out) (map bare (made_of t out)) (bare_kinds (made_of t out)) (hand_within n t job out laws fit) p lt none);
   }
 
   -- where not all ids last, something is asked for
@@ -111,8 +73,8 @@ module _ (n : ℕ) (t : Tables) (job : Job) (out : Outcome) (laws : KeepsLaws n 
     where
       at : (ps : List ℕ) → short_before t job out ≡ ps → 1 ≤ length (map (id_at (split_stock t job out).hand) ps)
       at [] e = absurd (short (none_short HasRightCredit HasCredit rights n job.kind job.at job.state job.action out laws few fit.state fit.action.sent.shape fit.credit
-          fit.action.sent.credit (made_of t out) are.kinds are.credit t.profile.credit_log enough are.logs later within_hand
-          (fits HasRightCredit HasCredit rights job.state job.action fit.credit fit.action.sent.credit (map bare (made_of t out)) (places_in_hand t job out) within_hand managed_hand) e))
+          fit.action.sent.credit (made_of t out) are.kinds are.credit t.profile.credit_log enough are.logs (map bare (made_of t out)) within_hand
+          (fits HasRightCredit HasCredit rights job.state job.action out fit.credit fit.action.sent.credit (made_of t out) (map bare (made_of t out)) (bare_kinds (made_of t out)) (hand_within n t job out laws fit)) e))
       at (p ∷ ps) e = omega arith
 
   pub short_many : length (short_before t job out) ≤ 162
@@ -156,7 +118,7 @@ module _ (t : Tables) (job : Job) (out : Outcome) (b : Before) (is : IsBefore t 
     pub before_short : length (first_cuts b.own 0 b.hand.items b.places.items) ≤ 192
     before_short = rw (is.places, is.hand) (omega (
       arith,
-      first_few b.own 0 (hand_before t job out) (hand_of t job out) (places_in_hand t job out) (hands_long n t job out laws fit),
+      first_few b.own 0 (hand_before t job out) (hand_of t job out) (places_in_hand t job out) (before_long n t job out laws fit),
       own_cuts n t job out laws fit,
     ))
 

@@ -24,6 +24,8 @@ ghost use Rattle.hpx_tables.specs.Kept.{stands_here, held_here, owed_here, held_
 
 /// Between calls nothing of the part is fresh, and nothing is due, up to a foreign arrival. Nothing accepted is stuck: where nothing
 /// runs and no commit waits, some accepted action is free, if there is one.
+/// Calls say `Stands` of a node. From there a reader comes to what this law, the idle and the numbers laws ask for (`StandsWith`) by
+/// `tables_law` of hpx_steps, its clause `told`.
 pub fn settled_law()
     ensures fresh { (r : Rules) (t : Tables) (entries : List Entry) → StandsWith r t [] [] entries →
         IsClean r (at_boot r t.here) (part t.here entries) → (run_local r (at_boot r t.here) (part t.here entries)).fresh ≡ [] }

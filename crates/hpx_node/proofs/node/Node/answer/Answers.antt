@@ -3,8 +3,8 @@ use Rattle.hpx_node.proofs.Records.{given_home, granted_by_entry, granted_deals,
 use Rattle.hpx_node.proofs.node.Node.answer.Goals.{in-Limit, in-Yes}
 use Rattle.hpx_node.proofs.node.Node.answer.Goals as goal
 
-pub returns-in_default-clause-deals : goal.returns-in_default-clause-deals
-returns-in_default-clause-deals g c =
+pub returns-in_default : goal.returns-in_default
+returns-in_default g c =
     let live = rw (← c.self.view_is) at c.requires.live in
     let enough = rw (← c.self.view_is) at c.requires.enough in
     absurd (c.in_default.ensures.strange.0 refl (live_covers c.self.inside.here c.self.inside.records.records c.args.id live enough))
@@ -47,12 +47,6 @@ returns-clause-grows g c =
     ∙ (ap (λ o. before ++ record { at = c.self.inside.here; event = Count o c.count-count.result c.match-granted.why.0 } ∷ []) c.bare-object.ensures
     ∙ (ap (λ k. before ++ record { at = k; event = Count (bare c.args.id) c.count-count.result c.match-granted.why.0 } ∷ []) (ap (λ (t : Locality). t.tables.here) c.self.view_is)
     ∙ ap (λ es. before ++ at_all c.args.self.now.tables.here es) entry))
-
-pub returns-in_default-clause-leaves : goal.returns-in_default-clause-leaves
-returns-in_default-clause-leaves g c =
-    let live = rw (← c.self.view_is) at c.requires.live in
-    let enough = rw (← c.self.view_is) at c.requires.enough in
-    absurd (c.in_default.ensures.strange.0 refl (live_covers c.self.inside.here c.self.inside.records.records c.args.id live enough))
 
 pub returns-clause-leaves : goal.returns-clause-leaves
 returns-clause-leaves g c =

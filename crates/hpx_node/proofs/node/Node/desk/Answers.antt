@@ -1,8 +1,7 @@
-use Rattle.hpx_node.proofs.Common.{IsTidy, Locality, Parcel, Stands, Tables, [], ap, arith, get_or, subst, sym, ◌∙◌, ◌∷◌, ◌≡◌, ◌≤◌}
+use Rattle.hpx_node.proofs.Common.{IsTidy, Locality, Parcel, Stands, Tables, [], ap, arith, get_or, subst, sym, when_ok, ◌∙◌, ◌∷◌, ◌≡◌, ◌≤◌}
 use Rattle.hpx_node.proofs.FewEntries.{popped_tidy}
 use Rattle.hpx_node.proofs.Followed.{next_gives}
 use Rattle.hpx_node.proofs.Same.{same_too}
-use Rattle.hpx_commit.proofs.Lists.{when_ok}
 use Rattle.hpx_node.proofs.Spared.{mail_by, spare_popped}
 use Rattle.hpx_node.proofs.Turned.{are_few, at_rest_tidy, desk_clears, desk_follows, desk_next}
 use Rattle.hpx_node.proofs.Turns.{adds_none}

@@ -1,6 +1,5 @@
-use Rattle.hpx_node.proofs.Common.{IsFitJob, Job, ap, arith, length, slice_get_is, subst, sym, ◌<◌, ◌∙◌}
+use Rattle.hpx_node.proofs.Common.{IsFitJob, Job, ap, arith, length, ok_map, ok_three, slice_get_is, subst, sym, ◌<◌, ◌∙◌}
 use Rattle.hpx_node.proofs.FailedPlan.{plan_long, plan_limit, failure_is, failure_few}
-use Rattle.hpx_commit.proofs.Lists.{ok_map, ok_three}
 use Rattle.hpx_node.proofs.Paused.{asked_within, paused_at}
 use Rattle.hpx_node.proofs.node.Node.failure.Goals as goal
 

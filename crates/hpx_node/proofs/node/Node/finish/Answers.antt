@@ -1,8 +1,6 @@
-use Rattle.hpx_node.proofs.Common.{Book, Stands, ap, ◌∙◌}
-use Rattle.hpx_commit.proofs.Lists.{ok_map}
-use Rattle.hpx_node.proofs.Same.{same_too}
+use Rattle.hpx_node.proofs.Common.{Book, Stands, ap, ok_map, ◌∙◌}
+use Rattle.hpx_node.proofs.Same.{ends_from, prepared_same, same_too}
 use Rattle.hpx_node.proofs.Turns.{turn_from, adds_none}
-use Rattle.hpx_node.proofs.SameCommit.{prepared_same, ends_from}
 use Rattle.hpx_node.proofs.node.Node.finish.Goals.{then-is_err-via-then-is_err, then-is_err-via-else-is_err+then-is_err-2}
 use Rattle.hpx_node.proofs.Turned.{are_few, at_rest_tidy}
 use Rattle.hpx_node.proofs.node.Node.finish.Goals as goal

@@ -3,14 +3,8 @@ use Rattle.hpx_tables.proofs.Refills.{any_found}
 use Rattle.hpx_node.proofs.Paused.{asked_within}
 use Rattle.hpx_node.proofs.node.Node.give.Goals as goal
 
-pub returns-in_default-clause-gives : goal.returns-in_default-clause-gives
-returns-in_default-clause-gives g c =
-    let waits = rw (← c.self.view_is) at c.requires.waits in
-    let none = rw (c.as_slice.ensures.value) at c.in_default.ensures.none in
-    absurd (any_found (awaits c.args.id c.args.entry) c.self.inside.pending.items waits none)
-
-pub returns-in_default-clause-grows : goal.returns-in_default-clause-grows
-returns-in_default-clause-grows g c =
+pub returns-in_default : goal.returns-in_default
+returns-in_default g c =
     let waits = rw (← c.self.view_is) at c.requires.waits in
     let none = rw (c.as_slice.ensures.value) at c.in_default.ensures.none in
     absurd (any_found (awaits c.args.id c.args.entry) c.self.inside.pending.items waits none)

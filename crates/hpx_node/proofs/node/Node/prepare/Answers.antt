@@ -1,12 +1,12 @@
-use Rattle.hpx_node.proofs.Common.{arith, false, true, ◌≡◌}
+use Rattle.hpx_node.proofs.Common.{all_imp, arith, false, true, ◌≡◌}
 use Rattle.hpx_node.proofs.PlanLimits.{own_is}
-use Rattle.hpx_node.proofs.Planned.{makes_managed, hand_few, hand_within}
+use Rattle.hpx_node.proofs.Planned.{hand_few, hand_within}
 use Rattle.hpx_node.proofs.node.Node.prepare.Goals as goal
 
 pub made-requires-clause-managed : goal.made-requires-clause-managed
 made-requires-clause-managed g c =
     let d = c.args.done.now in
-    rw (c.as_slice.ensures, c.outcome-outcome.ensures) (makes_managed d.outcome.makes c.lawful.ensures.few.managed)
+    rw (c.as_slice.ensures, c.outcome-outcome.ensures) (all_imp _ _ (λ make is. is.0) d.outcome.makes c.lawful.ensures.few.managed)
 
 pub made-requires-clause-few : goal.made-requires-clause-few
 made-requires-clause-few g c =

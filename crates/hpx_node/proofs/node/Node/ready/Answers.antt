@@ -1,6 +1,7 @@
 use Rattle.hpx_node.proofs.Common.{Give, HasCredit, Id, IsFitJob, IsKept, IsParcel, IsPaused, IsReadyFor, IsTidy, Job, KeepsLaws, Locality, None, Some, Waits, [], ap, arith, awaits, broken_near, find, find_passes, get_or, give_right, hand_with, is_last, is_standing, length, slice_get, slice_get_is, stock_with, subst, sym, take, target_of, true, ℕ, ◌<◌, ◌∙◌, ◌≡◌, ◌≤◌}
 use Rattle.hpx_node.proofs.LeftBy.{kept_then}
-use Rattle.hpx_node.proofs.Paused.{asked_within, in_place, laws_by, paused_at, right_by}
+use Rattle.hpx_commit.proofs.Jobs.{laws_by, right_by}
+use Rattle.hpx_node.proofs.Paused.{asked_within, in_place, paused_at}
 use Rattle.hpx_node.proofs.Planned.{made_long}
 use Rattle.hpx_node.proofs.ReadyStock.{IsStockReady, brings_by, is_ready, last_is}
 use Rattle.hpx_node.proofs.node.Node.ready.Goals as goal

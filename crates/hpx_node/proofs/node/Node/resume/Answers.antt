@@ -1,6 +1,5 @@
-use Rattle.hpx_node.proofs.Common.{Tables, ap, arith, length, remove, ◌∙◌}
+use Rattle.hpx_node.proofs.Common.{Tables, ap, arith, get_some, length, remove, ◌∙◌}
 use Rattle.hpx_node.proofs.Committing.{stands_less, stands_then}
-use Rattle.hpx_commit.proofs.Lists.{get_some}
 use Rattle.hpx_node.proofs.Resumed.{resumed, resumed_kept}
 use Rattle.hpx_node.proofs.node.Node.resume.Goals as goal
 
