@@ -1,5 +1,5 @@
 //! Sessions by the credit of their accumulator, as the audit tells it.
-use crate::runs::{AT_OPENING, Ended, adds, sure};
+use crate::runs::{Ended, adds, session};
 use crate::worlds::{ORDERS, drain, feed, printed};
 use app_console::lines::{ACCUMULATOR, marked};
 use hpx_top::acts::AllActs;
@@ -7,9 +7,6 @@ use hpx_value::memory::OutOfMemory;
 use hpx_world::world::World;
 use std::alloc::Global;
 use std::test::Fail;
-
-/// What is out once half of a new object's credit, or of what was given for more, has come home.
-const HALF: &str = "1.1 recorded 1073741824 held 1073741824 flight 0 at 1\n";
 
 /// The audit in words, a line for each object.
 fn audit(alloc: Global, world: &World<AllActs>) -> Result<String, OutOfMemory> {
@@ -26,70 +23,61 @@ fn audit(alloc: Global, world: &World<AllActs>) -> Result<String, OutOfMemory> {
     Ok(text)
 }
 
-/// What a query prints that is fed where the input has ended.
-fn queried(alloc: Global, ended: &mut Ended) -> Result<Vec<u8>, OutOfMemory> {
-    let cut = ended.world.journal().entries();
+/// The audit where the input has ended, and what a query prints that is fed then.
+fn told(alloc: Global, ended: Ended) -> Result<(String, Vec<u8>), OutOfMemory> {
+    let Ended {
+        status: _,
+        text: _,
+        line: _,
+        world,
+        mut fabric,
+    } = ended;
+    let Some(mut world) = world else {
+        return Err(OutOfMemory);
+    };
+    let audit = audit(alloc, &world)?;
+    let cut = world.journal().entries();
     let query = marked(alloc, ACCUMULATOR, b"query")?;
-    feed(alloc, &mut ended.world, query, &mut ended.fabric)?;
-    drain(alloc, &mut ended.world, &mut ended.fabric)?;
-    printed(alloc, ended.world.journal(), cut)
+    feed(alloc, &mut world, query, &mut fabric)?;
+    drain(alloc, &mut world, &mut fabric)?;
+    Ok((audit, printed(alloc, world.journal(), cut)?))
 }
 
-#[test]
-fn an_add_brings_half_of_the_credit_home(rt: HostRuntime) -> Result<(), Fail> {
-    let alloc = rt.alloc();
-    for order in ORDERS {
-        let input = Vec::from_slice(alloc, b"add 5\n")?;
-        let mut ended = sure(alloc, input, order)?;
-        assert_eq!(rt; ended.status, 0);
-        assert_eq!(rt; audit(alloc, &ended.world)?.as_str(), HALF);
-        assert_eq!(rt; queried(alloc, &mut ended)?.as_slice(), b"5\n".as_slice());
-    }
-    Ok(())
-}
-
-// The 32nd line can't halve a credit of 1, and asks for more.
-#[test]
-fn thirty_two_adds_are_thirty_two(rt: HostRuntime) -> Result<(), Fail> {
-    let alloc = rt.alloc();
-    for order in ORDERS {
-        let mut ended = sure(alloc, adds(alloc, 32)?, order)?;
-        assert_eq!(rt; ended.status, 0);
-        assert_eq!(rt; audit(alloc, &ended.world)?.as_str(), HALF);
-        assert_eq!(rt; queried(alloc, &mut ended)?.as_slice(), b"32\n".as_slice());
-
-        // The same as one session.
-        let mut input = adds(alloc, 32)?;
-        input.extend_from_slice(b"query\n")?;
-        let ended = sure(alloc, input, order)?;
-        assert_eq!(rt; ended.status, 0);
-        let mut want = Vec::from_slice(alloc, AT_OPENING)?;
-        for _ in 0..33 {
-            want.extend_from_slice(b"> ")?;
-        }
-        want.extend_from_slice(b"32\n> ")?;
-        assert_eq!(rt; ended.text.as_slice(), want.as_slice());
-    }
-    Ok(())
-}
-
-// Each line halves the credit of the session's id, and half of it goes home again.
+// Each line halves the credit of the session's id, and half of it goes home again. The 32nd can't halve a credit of 1, and
+// asks for more.
 #[test]
 fn the_audit_tells_the_credit_of_the_accumulator(rt: HostRuntime) -> Result<(), Fail> {
     let alloc = rt.alloc();
     for order in ORDERS {
-        for (lines, want) in [
+        for (lines, line, sum) in [
             (
                 0u32,
                 "1.1 recorded 2147483648 held 2147483648 flight 0 at 1\n",
+                b"0\n".as_slice(),
             ),
-            (1, HALF),
-            (2, "1.1 recorded 536870912 held 536870912 flight 0 at 1\n"),
-            (31, "1.1 recorded 1 held 1 flight 0 at 1\n"),
-            (32, HALF),
+            (
+                1,
+                "1.1 recorded 1073741824 held 1073741824 flight 0 at 1\n",
+                b"1\n",
+            ),
+            (
+                2,
+                "1.1 recorded 536870912 held 536870912 flight 0 at 1\n",
+                b"2\n",
+            ),
+            (31, "1.1 recorded 1 held 1 flight 0 at 1\n", b"31\n"),
+            (
+                32,
+                "1.1 recorded 1073741824 held 1073741824 flight 0 at 1\n",
+                b"32\n",
+            ),
         ] {
-            let ended = sure(alloc, adds(alloc, lines)?, order)?;
-            assert_eq!(rt; audit(alloc, &ended.world)?.as_str(), want);
+            let input = adds(alloc, lines)?;
+            let ended = session(alloc, input.as_slice(), order)?;
+            assert_eq!(rt; ended.status, 0);
+            let (audit, query) = told(alloc, ended)?;
+            assert_eq!(rt; audit.as_str(), line);
+            assert_eq!(rt; query.as_slice(), sum);
         }
     }
     Ok(())

@@ -1,10 +1,9 @@
 //! 300 sessions made from the numbers 1 to 300, a third of them over each order of delivery.
-use crate::runs::{Ended, sure};
+use crate::runs::{Ended, session};
 use crate::worlds::{Asks, PROFILE, asks_in, is_legal};
 use hpx_ports::order::Order;
 use hpx_value::memory::OutOfMemory;
 use std::alloc::Global;
-use std::process::Abort;
 use std::test::Fail;
 
 /// The text of one number, as the test itself makes it, and how many lines spoke of the number.
@@ -106,49 +105,55 @@ fn generated(alloc: Global, start: u64) -> Result<(Vec<u8>, Plain), OutOfMemory>
     Ok((input, plain))
 }
 
-/// A session has the text of one number, asks for credit as often as it should and is granted it, and its journal is legal.
-fn is_right(rt: &impl Abort, alloc: Global, ended: &Ended, plain: &Plain) {
-    assert_eq!(rt; ended.status, 0);
-    assert_eq!(rt; ended.text.as_slice(), plain.text.as_slice());
-    let asks = Asks {
-        asked: plain.asks(),
-        granted: plain.asks(),
-        refused: 0,
-        given: plain.asks(),
-        failed: 0,
-    };
-    assert_eq!(rt; asks_in(ended.world.journal()), asks);
-    assert!(rt; is_legal(alloc, &ended.world, PROFILE));
+/// How often a session asks for credit that has the text of one number and a legal journal.
+fn asked(alloc: Global, ended: &Ended, plain: &Plain) -> Option<Asks> {
+    match &ended.world {
+        Some(world)
+            if ended.status == 0
+                && ended.text.as_slice() == plain.text.as_slice()
+                && is_legal(alloc, world, PROFILE) => { Some(asks_in(world.journal())) }
+        _ => None,
+    }
 }
 
-/// The sessions of every third number are right, from this one on; how many of them ask for credit.
-fn a_third(rt: &impl Abort, alloc: Global, first: u64, order: Order) -> Result<u32, Fail> {
-    let mut asking = 0u32;
+/// How many of the sessions of every third number are right, from this one on, and how many of them ask for credit.
+fn a_third(alloc: Global, first: u64, order: Order) -> Result<(u32, u32), Fail> {
+    let (mut right, mut asking) = (0u32, 0u32);
     for i in 0..100u64 {
         let (input, plain) = generated(alloc, first.saturating_add(3 * i))?;
-        is_right(rt, alloc, &sure(alloc, input, order)?, &plain);
+        let ended = session(alloc, input.as_slice(), order)?;
+        let asks = Asks {
+            asked: plain.asks(),
+            granted: plain.asks(),
+            refused: 0,
+            given: plain.asks(),
+            failed: 0,
+        };
+        if asked(alloc, &ended, &plain) == Some(asks) {
+            right = right.saturating_add(1);
+        }
         if plain.asks() > 0 {
             asking = asking.saturating_add(1);
         }
     }
-    Ok(asking)
+    Ok((right, asking))
 }
 
 // Of each hundred 50 ask for credit; a program that makes the same lines counted them.
 #[test]
 fn a_hundred_sessions_are_right_over_first_in(rt: HostRuntime) -> Result<(), Fail> {
-    assert_eq!(rt; a_third(&rt, rt.alloc(), 3, Order::FirstIn)?, 50);
+    assert_eq!(rt; a_third(rt.alloc(), 3, Order::FirstIn)?, (100, 50));
     Ok(())
 }
 
 #[test]
 fn a_hundred_sessions_are_right_over_last_in(rt: HostRuntime) -> Result<(), Fail> {
-    assert_eq!(rt; a_third(&rt, rt.alloc(), 1, Order::LastIn)?, 50);
+    assert_eq!(rt; a_third(rt.alloc(), 1, Order::LastIn)?, (100, 50));
     Ok(())
 }
 
 #[test]
 fn a_hundred_sessions_are_right_over_scrambled(rt: HostRuntime) -> Result<(), Fail> {
-    assert_eq!(rt; a_third(&rt, rt.alloc(), 2, Order::Scrambled(7))?, 50);
+    assert_eq!(rt; a_third(rt.alloc(), 2, Order::Scrambled(7))?, (100, 50));
     Ok(())
 }

@@ -1,7 +1,9 @@
-//! Sessions of `space`, each line fed once the world is at rest, over each order of delivery.
+//! Sessions of both consoles over worlds, over each order of delivery.
 use crate::space_acts::SpaceActs;
 use crate::worlds::{ORDERS, PROFILE, drain, feed, printed};
-use app_console::lines::{SPACE, TOO_LONG, is_long, marked};
+use app_console::lines::{ACCUMULATOR, SPACE, is_long, marked};
+use app_console::table::Console;
+use app_console_tests::rows::rows;
 use hpx_ports::memory_fabric::SureFabric;
 use hpx_ports::order::Order;
 use hpx_value::memory::OutOfMemory;
@@ -9,92 +11,118 @@ use hpx_world::world::World;
 use std::alloc::Global;
 use std::test::Fail;
 
-/// Input lines, and what they print in all, at two localities.
-const ROWS: &[(&[u8], &[u8])] = &[
-    (
-        b"channel c 1\nget c\nput c 5\nput c 6\nclose c\nget c\nget c\nput c 7",
-        b"5\n6\nerror: closed\nerror: closed\n",
-    ),
-    (
-        b"latch l 0 1\nwait l\ndown l\ndown l\nadd l 1",
-        b"released\nerror: spent\nerror: wrong kind\n",
-    ),
-    (
-        b"promise p 0\nput p 4\nput p 5\nget p",
-        b"error: already set\n4\n",
-    ),
-    (
-        b"barrier b 0 2\narrive b\narrive b",
-        b"released\nreleased\n",
-    ),
-    // All that wait are told, in whatever order their answers come.
-    (
-        b"latch l 1 2\nwait l\nwait l\nwait l\ndown l\ndown l\nwait l",
-        b"released\nreleased\nreleased\nreleased\n",
-    ),
-    (b"promise p 1\nget p\nget p\nput p -3", b"-3\n-3\n"),
-    // Refusals, one for each text.
-    (
-        b"new a 1\nnew a 1\nadd b 1\nnew c 2\nmove a 9\nwhere a",
-        b"error: name in use\nerror: unknown name\nerror: no such locality\nerror: no such locality\n1\n",
-    ),
-    (
-        b"new a! 1\nnew a 0\nadd a x\nadd a\nsum\nbarrier b 0 101\nlatch w 0 0\nlatch w 0 1\nmove w 1\n \t\nquery a",
-        b"error: bad name\nerror: bad number\nerror: bad command\nerror: bad command\nerror: bad number\nerror: bad number\nerror: not movable\n0\n",
-    ),
-    (
-        b"new a 1\nadd a 9223372036854775807\nadd a 1\nquery a\nlocalities",
-        b"error: overflow\n9223372036854775807\n2\n",
-    ),
-    // Names: keys in the order of their bytes, and what a name stands for once it is dropped and looked up.
-    (
-        b"new a 1\nregister a n\nregister a n\nnames",
-        b"error: taken\nn\n",
-    ),
-    (
-        b"names\nnew a 1\nregister a b\nregister a B\nregister a ab\nnames\nunregister b\nunregister b\nnames",
-        b"\nB ab b\nerror: no such name\nB ab\n",
-    ),
-    (
-        b"new a 1\nadd a 4\nregister a k\ndrop a\nquery a\nlookup b k\nadd b 3\nquery b\nlookup c j\nquery c",
-        b"error: unknown name\n7\nerror: no such name\nerror: unknown name\n",
-    ),
-    (
-        b"new a 0\nshare a 1\nshare a 1\nshare a 2\nunshare a 1\nunshare a 1\ndrop a\nunshare a 0",
-        b"error: taken\nerror: no such locality\nerror: no such name\nerror: no such name\n",
-    ),
-    // A wrong call of each kind.
-    (
-        b"channel c 0\nadd c 1\ndown c\nnew a 1\nget a\nput a 1\nbarrier b 1 1\nwait b\narrive b\npromise p 0\nclose p",
-        b"error: wrong kind\nerror: wrong kind\nerror: wrong kind\nerror: wrong kind\nerror: wrong kind\nreleased\nerror: wrong kind\n",
-    ),
-];
+/// When lines are fed.
+#[derive(Clone, Copy, Debug, PartialEq, Eq)]
+enum Pace {
+    /// Each once the world is at rest.
+    Calm,
+    /// All before the first turn.
+    Hurried,
+}
 
-/// What a session prints over a fabric of this order.
-fn session(alloc: Global, input: &[u8], order: Order) -> Result<Vec<u8>, OutOfMemory> {
-    let mut fabric = SureFabric::new(alloc, order);
-    let mut world = World::boot(alloc, SpaceActs { localities: 2 }, PROFILE)?;
-    let mut text = Vec::new(alloc);
-    for line in input.split(|b| *b == b'\n') {
-        if is_long(line) {
-            text.extend_from_slice(TOO_LONG)?;
-            continue;
+/// A world, and the fabric below it.
+#[derive(Drop)]
+struct Running {
+    world: World<SpaceActs>,
+    fabric: SureFabric,
+    pace: Pace,
+}
+
+impl Running {
+    fn new(
+        alloc: Global,
+        localities: u32,
+        order: Order,
+        pace: Pace,
+    ) -> Result<Running, OutOfMemory> {
+        if localities == 0 || localities > 64 {
+            return Err(OutOfMemory);
         }
-        let cut = world.journal().entries();
-        feed(alloc, &mut world, marked(alloc, SPACE, line)?, &mut fabric)?;
-        drain(alloc, &mut world, &mut fabric)?;
-        let shown = printed(alloc, world.journal(), cut)?;
-        text.extend_from_slice(shown.as_slice())?;
+        Ok(Running {
+            world: World::boot(alloc, SpaceActs { localities }, PROFILE)?,
+            fabric: SureFabric::new(alloc, order),
+            pace,
+        })
     }
-    Ok(text)
+
+    fn line(&mut self, alloc: Global, mark: u8, line: &[u8]) -> Result<(), OutOfMemory> {
+        if is_long(line) {
+            return Err(OutOfMemory);
+        }
+        let text = marked(alloc, mark, line)?;
+        feed(alloc, &mut self.world, text, &mut self.fabric)?;
+        if self.pace == Pace::Calm {
+            drain(alloc, &mut self.world, &mut self.fabric)?;
+        }
+        Ok(())
+    }
+
+    /// All that was printed once the world is at rest.
+    fn text(&mut self, alloc: Global) -> Result<Vec<u8>, OutOfMemory> {
+        drain(alloc, &mut self.world, &mut self.fabric)?;
+        printed(alloc, self.world.journal(), 0)
+    }
+}
+
+/// The mark of a console's lines.
+fn mark_of(console: Console) -> u8 {
+    match console {
+        Console::Space => SPACE,
+        Console::Accumulator => ACCUMULATOR,
+        Console::Own => b'o',
+    }
+}
+
+/// What these lines print.
+fn session(
+    alloc: Global,
+    console: Console,
+    localities: u32,
+    input: &[u8],
+    order: Order,
+    pace: Pace,
+) -> Result<Vec<u8>, OutOfMemory> {
+    let mut running = Running::new(alloc, localities, order, pace)?;
+    if console == Console::Accumulator {
+        running.line(alloc, b'o', b"open")?;
+    }
+    for line in input.split(|b| *b == b'\n') {
+        running.line(alloc, mark_of(console), line)?;
+    }
+    running.text(alloc)
 }
 
 #[test]
-fn sessions_print_what_one_space_says(rt: HostRuntime) -> Result<(), Fail> {
+fn worlds_print_what_one_plain_space_says(rt: HostRuntime) -> Result<(), Fail> {
     let alloc = rt.alloc();
     for order in ORDERS {
-        for (input, want) in ROWS {
-            assert_eq!(rt; session(alloc, input, order)?.as_slice(), *want);
+        for (console, localities, input, want) in rows() {
+            let text = session(alloc, *console, *localities, input, order, Pace::Calm)?;
+            assert_eq!(rt; text.as_slice(), *want);
+        }
+    }
+    Ok(())
+}
+
+// The actions that were sent have not been answered while the other lines are judged.
+#[test]
+fn a_name_whose_object_has_not_come_is_pending(rt: HostRuntime) -> Result<(), Fail> {
+    let alloc = rt.alloc();
+    for order in ORDERS {
+        for (console, input, want) in [
+            (
+                Console::Space,
+                b"new a 1\nquery a\ndrop a\nadd a x\nmove a 9\nnew a 0\nlookup b k\nadd b 1\nregister b k!".as_slice(),
+                b"error: not ready\nerror: not ready\nerror: not ready\nerror: not ready\nerror: name in use\nerror: not ready\nerror: not ready\nerror: no such name\n".as_slice(),
+            ),
+            (
+                Console::Accumulator,
+                b"query\nadd x\nhelp x",
+                b"error: not ready\nerror: not ready\nerror: bad command\n",
+            ),
+        ] {
+            let text = session(alloc, console, 2, input, order, Pace::Hurried)?;
+            assert_eq!(rt; text.as_slice(), want);
         }
     }
     Ok(())
@@ -114,25 +142,64 @@ fn numbered(
     Ok(())
 }
 
-// The last refusals: of 101 names, of 101 answers that are awaited, and what is judged before.
+/// So many times the same line.
+fn repeated(lines: u32, line: &[u8], text: &mut Vec<u8>) -> Result<(), OutOfMemory> {
+    for _ in 0..lines {
+        text.extend_from_slice(line)?;
+    }
+    Ok(())
+}
+
+// The last refusals: of 101 names, of 101 answers that are awaited, and of the 101st key; and what is judged before them.
 #[test]
-fn names_and_answers_are_few(rt: HostRuntime) -> Result<(), Fail> {
+fn names_answers_and_keys_are_few(rt: HostRuntime) -> Result<(), Fail> {
     let alloc = rt.alloc();
     for order in ORDERS {
-        let mut input = Vec::new(alloc);
-        numbered(alloc, 100, "new a", " 1", &mut input)?;
-        input.extend_from_slice(b"new x! 1\nnew x 1\nadd a0 1\nquery a0")?;
-        let want: &[u8] = b"error: bad name\nerror: too many names\n1\n";
-        assert_eq!(rt; session(alloc, input.as_slice(), order)?.as_slice(), want);
-
-        let mut input = Vec::from_slice(alloc, b"channel c 1\n")?;
-        for _ in 0..100 {
-            input.extend_from_slice(b"get c\n")?;
+        for (names, gets, keys, rest, want) in [
+            (
+                99,
+                0,
+                0,
+                b"new x! 1\nnew a0 9\nnew x 9\nlatch x 0 0\nlookup x k!\nnew x 1\nlookup x k\nlookup a0 k\nadd a0 1\nquery a0\ndrop c\nnew x 1\nquery x".as_slice(),
+                b"error: bad name\nerror: name in use\nerror: no such locality\nerror: bad number\nerror: bad name\nerror: too many names\nerror: too many names\nerror: name in use\n1\n0\n".as_slice(),
+            ),
+            (
+                0,
+                100,
+                0,
+                b"get c\nget x\nget c!\nmove c 9\nmove c 1\nput c 1\nnew y 9\nnew y 0\nnames\ndrop c\nhelp me",
+                b"error: too many pending\nerror: unknown name\nerror: bad name\nerror: no such locality\nerror: not movable\nerror: too many pending\nerror: no such locality\nerror: too many pending\nerror: too many pending\nerror: bad command\n",
+            ),
+            (
+                99,
+                100,
+                0,
+                b"new x! 1\nnew x 1\nlookup x k\nget c\nmove c 1",
+                b"error: bad name\nerror: too many names\nerror: too many names\nerror: too many pending\nerror: not movable\n",
+            ),
+            (
+                1,
+                0,
+                100,
+                b"register a0 x\nregister c k7\nunregister k7\nregister c x",
+                b"error: full\nerror: taken\n",
+            ),
+        ] {
+            let mut input = Vec::from_slice(alloc, b"channel c 1\n")?;
+            numbered(alloc, names, "new a", " 1", &mut input)?;
+            repeated(gets, b"get c\n", &mut input)?;
+            numbered(alloc, keys, "register a0 k", "", &mut input)?;
+            input.extend_from_slice(rest)?;
+            let text = session(
+                alloc,
+                Console::Space,
+                2,
+                input.as_slice(),
+                order,
+                Pace::Calm,
+            )?;
+            assert_eq!(rt; text.as_slice(), want);
         }
-        input.extend_from_slice(b"get c\nget x\nput c 1\nnew y 0")?;
-        let want: &[u8] =
-            b"error: too many pending\nerror: unknown name\nerror: too many pending\nerror: too many pending\n";
-        assert_eq!(rt; session(alloc, input.as_slice(), order)?.as_slice(), want);
     }
     Ok(())
 }
