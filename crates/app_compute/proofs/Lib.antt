@@ -13,3 +13,5 @@ pub mod FibText
 pub mod Rings
 mod StencilSamples
 pub mod Alone
+pub mod RingLists
+pub mod RingBounds

@@ -13,3 +13,4 @@ pub mod ring;
 pub mod ring_law;
 pub mod session;
 pub mod shape;
+pub mod stencil;

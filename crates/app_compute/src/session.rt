@@ -215,7 +215,7 @@ fn fibonacci_text(alloc: Global, number: u32, value: i64) -> Result<Text, OutOfM
 }
 
 /// The line of a fault.
-fn fault_text(alloc: Global, code: u8) -> Result<Text, OutOfMemory>
+pub(crate) fn fault_text(alloc: Global, code: u8) -> Result<Text, OutOfMemory>
     ensures { IfOk result (λ text. text ≡ fault_text code) }
 {
     let word = fault_word(code);
@@ -242,7 +242,13 @@ fn fault_word(code: u8) -> &'static str
 }
 
 /// What the session keeps then, and what it sends and prints.
-fn spoken(alloc: Global, drawn: u32, values: Values, sends: Sends, prints: Texts) -> Outcome
+pub(crate) fn spoken(
+    alloc: Global,
+    drawn: u32,
+    values: Values,
+    sends: Sends,
+    prints: Texts,
+) -> Outcome
     ensures { result ≡ spoken drawn values sends prints }
 {
     Outcome {
