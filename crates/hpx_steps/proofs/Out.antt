@@ -1,10 +1,19 @@
 -- A frame goes out.
-use Rattle.hpx_steps.proofs.Common.{weighed, Act, Entry, FreesNone, GoesOut, Going, IsSound, IsTidy, List, MayGoTo, MayLeave, Out, Outgoing, Parcel, Rules, Some, TidyAt, Turn, View, [], ap, append_assoc, arith, asks_for, bare_due, brings, cond, counts_of, flat_map, follows_out, gives_for, inl, map, parcel_acts, parcel_asks, refl, same_object, tokens, view, weight, worth, wrote, ℕ, ◌++◌, ◌+◌, ◌==◌, ◌∷◌, ◌≡◌}
+use Rattle.hpx_steps.proofs.Common.{Act, Apply, Arrived, Ask, Cached, Entry, Free, FreesNone, Give, Go, GoesOut, Going, IsSound, IsTidy, List, MayGoTo, MayLeave, Move, Out, Outgoing, Parcel, Return, Rules, Shipped, Some, TidyAt, Turn, View, [], ap, append_assoc, arith, asks_for, bare_due, brings, cond, counts_of, flat_map, follows_out, gives_for, inl, map, parcel_acts, parcel_asks, refl, same_object, tokens, view, weighed, weight, worth, wrote, ℕ, ◌++◌, ◌+◌, ◌==◌, ◌∷◌, ◌≡◌}
 use Rattle.hpx_steps.proofs.Tools.{Changes, Keeps, Sees, acts_before, asks_of, counts_near, first_goes, flat_append, frees_of, holding, numbered_so, orders_so, outgoing_change, pays_so, same_dead, seen_sum, sees_by, sees_covers, sees_leads, told_as, view_covered, view_worth}
 
 -- what may go may leave what is seen
 may_leave : (v : View) (to : ℕ) (p : Parcel) → FreesNone p → MayGoTo v.here to p → MayLeave v to p
-may_leave v to b none may = grind arith
+may_leave v to (Apply act) none may = tt
+may_leave v to (Move act) none may = tt
+may_leave v to (Return id) none may = may
+may_leave v to (Ask id asker entry) none may = may
+may_leave v to (Give id entry) none may = may
+may_leave v to (Free o) none may = absurd none
+may_leave v to (Cached o place) none may = absurd may
+may_leave v to (Go act) none may = absurd may
+may_leave v to (Shipped act state) none may = absurd may
+may_leave v to (Arrived id place) none may = absurd may
 
 module _ (r : Rules) (s : Turn) (entries : List Entry) (h : IsSound r s entries) (x : Outgoing) (rest : List Outgoing) (bytes : List ℕ) (due : s.due ≡ []) (fresh : s.fresh ≡ [])
     (first : s.tables.outgoing ≡ x ∷ rest) (spelled : r.parcel_of bytes ≡ Some x.parcel) where
