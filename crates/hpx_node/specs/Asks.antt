@@ -1,5 +1,7 @@
 -- A commit that has to wait: what it writes before, what it has in hand then, and what it asks for.
-use Rattle.hpx_node.specs.Names.{Entry, Event, Id, IsAt, Job, List, Outcome, Stock, Tables, Waits, [], ahead, asked_at, asked_events, bare_state, first_cuts, hand_ids, id_at, length, map, remove, set, short_places, stripped, waits_with, with_asks, ℕ, ◌++◌, ◌+◌, ◌∷◌, ◌≡◌, ◌≤◌}
+use Rattle.std.specs.Prelude.{List, [], length, map, set, ℕ, ◌++◌, ◌+◌, ◌∷◌, ◌≡◌, ◌≤◌}
+use Rattle.std.specs.List.{remove}
+use Rattle.hpx_node.specs.Names.{Entry, Event, Id, IsAt, Job, Outcome, Stock, Tables, Waits, ahead, asked_at, asked_events, bare_state, first_cuts, hand_ids, id_at, short_places, stripped, waits_with, with_asks}
 use Rattle.hpx_value.specs.Ids.{bare}
 use Rattle.hpx_node.specs.Commits.{made_of, places_in_hand}
 use Rattle.hpx_node.specs.Changes.{Writes}

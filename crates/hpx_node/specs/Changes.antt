@@ -1,5 +1,6 @@
 -- What a call of a node changes.
-use Rattle.hpx_node.specs.Names.{Book, Entry, Event, List, Tables, at_all, ◌++◌, ◌≡◌}
+use Rattle.std.specs.Prelude.{List, ◌++◌, ◌≡◌}
+use Rattle.hpx_node.specs.Names.{Book, Entry, Event, Tables, at_all}
 
 -- nothing but for how much more there is memory
 pub record OnlySpare (t t' : Tables) (b b' : Book) : Type 0 where

@@ -1,5 +1,7 @@
 -- What a commit writes.
-use Rattle.hpx_node.specs.Names.{AllByRecursion, Done, Due, Event, Id, IsAt, IsFitDue, Job, List, MayDeal, Outcome, Prepared, Remains, Some, Standing, State, Stock, Tables, answered_by, at_all, dealt, due_of, false, filled, filled_due, find, hand_ids, is_standing, length, map, name_of, places_named, remove, set, slice_get, splits_from, state_after, target_of, total_weight, unnamed, unused, ups, with_left, written_due, ℕ, ◌++◌, ◌+◌, ◌∷◌, ◌≡◌, ◌≤◌}
+use Rattle.std.specs.Prelude.{List, Some, false, length, map, set, ℕ, ◌++◌, ◌+◌, ◌∷◌, ◌≡◌, ◌≤◌}
+use Rattle.std.specs.List.{AllByRecursion, find, remove, slice_get}
+use Rattle.hpx_node.specs.Names.{Done, Due, Event, Id, IsAt, IsFitDue, Job, MayDeal, Outcome, Prepared, Remains, Standing, State, Stock, Tables, answered_by, at_all, dealt, due_of, filled, filled_due, hand_ids, is_standing, name_of, places_named, splits_from, state_after, target_of, total_weight, unnamed, unused, ups, with_left, written_due}
 use Rattle.hpx_parcel.specs.Parcels.{HasCredit, HasRightCredit}
 use Rattle.hpx_tables.specs.declared.births.Birth.{Birth}
 use Rattle.hpx_tables.specs.Births.{IsBirth, birth_of, births_of, objects_of, records_of, ids_of}

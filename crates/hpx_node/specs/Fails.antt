@@ -1,5 +1,7 @@
 -- An action that could get no credit: what it leaves, and what is written.
-use Rattle.hpx_node.specs.Names.{Bool, Done, Due, Event, Give, Gives, Id, List, None, Option, Parcel, Remains, Some, Standing, State, Tables, Waits, answered_by, awaits, fails_with, false, find, hand_with, is_standing, length, name_of, remove, set, slice_get, take, target_of, true, ups, with_left, written_due, ℕ, ◌++◌, ◌+◌, ◌∷◌, ◌≡◌, ◌≤◌}
+use Rattle.std.specs.Prelude.{Bool, List, None, Option, Some, false, length, set, take, true, ℕ, ◌++◌, ◌+◌, ◌∷◌, ◌≡◌, ◌≤◌}
+use Rattle.std.specs.List.{find, remove, slice_get}
+use Rattle.hpx_node.specs.Names.{Done, Due, Event, Give, Gives, Id, Parcel, Remains, Standing, State, Tables, Waits, answered_by, awaits, fails_with, hand_with, is_standing, name_of, target_of, ups, with_left, written_due}
 use Rattle.hpx_commit.specs.Failures.{action_ids, state_failed, due_failed, ups_failed}
 use Rattle.hpx_commit.specs.declared.plan.Plan.{Plan}
 use Rattle.hpx_node.specs.declared.node.fail.Failing.{Failing}

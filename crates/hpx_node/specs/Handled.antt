@@ -1,5 +1,6 @@
 -- What a node does with a message that it takes up.
-use Rattle.hpx_node.specs.Names.{Accepts, DealsWith, Entry, Event, In, Leaves, List, Mail, None, Parcel, Some, Tables, effects, ℕ, ◌++◌, ◌+◌, ◌∷◌, ◌≡◌}
+use Rattle.std.specs.Prelude.{List, None, Some, ℕ, ◌++◌, ◌+◌, ◌∷◌, ◌≡◌}
+use Rattle.hpx_node.specs.Names.{Accepts, DealsWith, Entry, Event, In, Leaves, Mail, Parcel, Tables, effects}
 use Rattle.hpx_parcel.specs.Reading.{parcel_of, IsRefused}
 use Rattle.hpx_tables.specs.Strange.{broken}
 use Rattle.hpx_steps.specs.Rows.{kind_of}

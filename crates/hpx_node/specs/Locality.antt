@@ -1,5 +1,6 @@
 -- A locality as clauses see it.
-use Rattle.hpx_node.specs.Names.{List, Tables, map, ℕ}
+use Rattle.std.specs.Prelude.{List, map, ℕ}
+use Rattle.hpx_node.specs.Names.{Tables}
 
 pub record Locality : Type 0 where
   pub tables : Tables  -- what it keeps

@@ -1,6 +1,4 @@
 -- Passes on the names that definitions of the node cite.
-pub use Rattle.std.specs.List.{AllByRecursion, find, remove, slice_get}
-pub use Rattle.std.specs.Prelude.{Bool, List, None, Option, Some, [], false, length, map, not, set, take, true, ℕ, ◌&&◌, ◌++◌, ◌+◌, ◌<◌, ◌==◌, ◌∷◌, ◌≡◌, ◌≤◌}
 pub use Rattle.hpx_value.specs.Hands.{due_of, hand_ids, id_at, state_after}
 pub use Rattle.hpx_value.specs.Values.{bare_state}
 pub use Rattle.hpx_value.specs.declared.acts.Job.{Job}

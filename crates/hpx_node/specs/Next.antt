@@ -1,5 +1,7 @@
 -- What follows a message: a commit that gets its last answer goes on, or its action fails.
-use Rattle.hpx_node.specs.Names.{Act, Entry, Event, List, Outcome, Parcel, Some, State, Tables, Waits, [], false, length, remove, slice_get, true, ℕ, ◌<◌, ◌≡◌, ◌≤◌}
+use Rattle.std.specs.Prelude.{List, Some, [], false, length, true, ℕ, ◌<◌, ◌≡◌, ◌≤◌}
+use Rattle.std.specs.List.{remove, slice_get}
+use Rattle.hpx_node.specs.Names.{Act, Entry, Event, Outcome, Parcel, State, Tables, Waits}
 use Rattle.hpx_node.specs.declared.node.next.Next.{Next}
 use Rattle.hpx_node.specs.Changes.{Writes}
 use Rattle.hpx_node.specs.Commits.{committed_from, Commits}

@@ -1,5 +1,7 @@
 -- A commit that waited and goes on, once all that it asked for has come.
-use Rattle.hpx_node.specs.Names.{Act, Bool, Event, Give, Gives, Id, IsFitJob, IsKept, Job, List, None, Option, Outcome, Parcel, Prepared, Some, Standing, State, Stock, Tables, Waits, awaits, bare_state, false, find, hand_with, ids_named, is_standing, length, log_of, not, remove, replaced_from, slice_get, take, target_of, true, waits_for_one, ℕ, ◌&&◌, ◌==◌, ◌≡◌, ◌≤◌}
+use Rattle.std.specs.Prelude.{Bool, List, None, Option, Some, false, length, not, take, true, ℕ, ◌&&◌, ◌==◌, ◌≡◌, ◌≤◌}
+use Rattle.std.specs.List.{find, remove, slice_get}
+use Rattle.hpx_node.specs.Names.{Act, Event, Give, Gives, Id, IsFitJob, IsKept, Job, Outcome, Parcel, Prepared, Standing, State, Stock, Tables, Waits, awaits, bare_state, hand_with, ids_named, is_standing, log_of, replaced_from, target_of, waits_for_one}
 use Rattle.hpx_value.specs.Laws.{KeepsLaws}
 use Rattle.hpx_node.specs.declared.node.resume.Ready.{Ready}
 use Rattle.hpx_node.specs.Commits.{made_of, committed_from, IsPrepared, Commits}

@@ -146,9 +146,16 @@ fn credit(text: &mut String, pair: &Pair) -> Result<(), OutOfMemory> {
 fn seen(text: &mut String, seen: Seen, failures: u64) -> Result<(), OutOfMemory> {
     let state = if seen.passive { "passive" } else { "busy" };
     let holds = if seen.holds { "holds" } else { "does not hold" };
-    let live = if seen.live.is_some() { "live" } else { "not live" };
+    let live = if seen.live.is_some() {
+        "live"
+    } else {
+        "not live"
+    };
     let awaited = seen.awaited;
-    write!(text, ": {state}, {holds} it, {live}, awaits {awaited}, failed {failures}")?;
+    write!(
+        text,
+        ": {state}, {holds} it, {live}, awaits {awaited}, failed {failures}"
+    )?;
     if let Some(to) = seen.front {
         write!(text, ", sends to {to}")?;
     }
@@ -166,8 +173,20 @@ fn last(text: &mut String, event: Option<&Event>) -> Result<(), OutOfMemory> {
                 }
             }
         }
-        Some(Event::Count { object: _, count, why: Reason::Refused }) => write!(text, ": count {count} refused")?,
-        Some(Event::Count { object: _, count, why: Reason::Returned(log) }) => write!(text, ": count {count} returned {log}")?,
+        Some(
+            Event::Count {
+                object: _,
+                count,
+                why: Reason::Refused,
+            },
+        ) => write!(text, ": count {count} refused")?,
+        Some(
+            Event::Count {
+                object: _,
+                count,
+                why: Reason::Returned(log),
+            },
+        ) => write!(text, ": count {count} returned {log}")?,
         Some(Event::Up { object: _, log }) => write!(text, ": up {log}")?,
         Some(Event::Mail { kind }) => write!(text, ": mail {kind}")?,
         Some(Event::Freed { object: _ }) => text.push_str(": freed")?,

@@ -120,7 +120,10 @@ impl Site {
     }
 
     /// Runs the next job twice, and finishes it twice.
-    pub fn twice(&mut self, alloc: Global) -> Result<(Option<Finished>, Option<Finished>), OutOfMemory> {
+    pub fn twice(
+        &mut self,
+        alloc: Global,
+    ) -> Result<(Option<Finished>, Option<Finished>), OutOfMemory> {
         let Some(job) = self.fire(alloc)? else {
             return Ok((None, None));
         };

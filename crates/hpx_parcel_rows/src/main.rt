@@ -32,7 +32,10 @@ fn is_refused(alloc: Global, bytes: &[u8], at: usize, why: Why) -> bool {
     match decode(alloc, bytes) {
         Ok(_) => false,
         Err(fault) => match fault {
-            DecodeFault::BadFrame { at: place, why: other } => place as usize == at && other == why,
+            DecodeFault::BadFrame {
+                at: place,
+                why: other,
+            } => place as usize == at && other == why,
             DecodeFault::OutOfMemory => false,
         },
     }

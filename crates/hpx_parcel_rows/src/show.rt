@@ -108,7 +108,10 @@ pub fn parcel(text: &mut String, parcel: &Parcel) -> Result<(), OutOfMemory> {
             text.push_str("go")?;
             action(text, act)
         }
-        Parcel::Object { action: act, state: kept } => {
+        Parcel::Object {
+            action: act,
+            state: kept,
+        } => {
             text.push_str("object")?;
             action(text, act)?;
             state(text, kept)

@@ -44,13 +44,35 @@ fn did(text: &mut String, story: &mut Story, turned: Turned) -> Result<(), OutOf
 }
 
 /// Why it was refused; a job that was handed back unrun is kept.
-fn refused(text: &mut String, story: &mut Story, fault: WorldFault<Trials>) -> Result<(), OutOfMemory> {
+fn refused(
+    text: &mut String,
+    story: &mut Story,
+    fault: WorldFault<Trials>,
+) -> Result<(), OutOfMemory> {
     match fault {
         WorldFault::Fabric => text.push_str("the fabric failed")?,
-        WorldFault::BadFrame { to, frame: _, at, why } => write!(text, "bad frame to {to} at {at}, {why:?}")?,
-        WorldFault::Strange { to, frame: _, rule, object: _, kept } => write!(text, "rule {rule} at {to}, kept {kept}")?,
-        WorldFault::EarlyEnd { sent, taken } => write!(text, "early end, {sent} sent, {taken} taken")?,
-        WorldFault::JournalFull { entries: _, weight, undone } => {
+        WorldFault::BadFrame {
+            to,
+            frame: _,
+            at,
+            why,
+        } => write!(text, "bad frame to {to} at {at}, {why:?}")?,
+        WorldFault::Strange {
+            to,
+            frame: _,
+            rule,
+            object: _,
+            kept,
+        } => write!(text, "rule {rule} at {to}, kept {kept}")?,
+        WorldFault::EarlyEnd { sent, taken } => write!(
+            text,
+            "early end, {sent} sent, {taken} taken"
+        )?,
+        WorldFault::JournalFull {
+            entries: _,
+            weight,
+            undone,
+        } => {
             write!(text, "full, weight {weight}")?;
             back(text, undone.is_some())?;
         }
@@ -125,9 +147,18 @@ fn print(text: &mut String, story: &Story) -> Result<(), OutOfMemory> {
 
 /// Whether the judge accepts the journal, how many frames are in flight, and how often the fabric failed.
 fn journal(alloc: Global, text: &mut String, story: &Story) -> Result<(), OutOfMemory> {
-    let legal = if story.is_legal(alloc) { "legal" } else { "not legal" };
+    let legal = if story.is_legal(alloc) {
+        "legal"
+    } else {
+        "not legal"
+    };
     let fabric = &story.fabric.fabric;
     write!(text, ": {legal}")?;
-    write!(text, ", {} in flight, {} faults", fabric.in_flight(), fabric.faults())?;
+    write!(
+        text,
+        ", {} in flight, {} faults",
+        fabric.in_flight(),
+        fabric.faults()
+    )?;
     Ok(())
 }

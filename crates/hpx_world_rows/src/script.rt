@@ -120,7 +120,11 @@ fn setting(alloc: Global, localities: u32) -> Setting {
 }
 
 /// How a world is made, by the word and its arguments.
-fn world(alloc: Global, word: &str, words: &mut SplitWhitespace) -> Result<Option<Setting>, OutOfMemory> {
+fn world(
+    alloc: Global,
+    word: &str,
+    words: &mut SplitWhitespace,
+) -> Result<Option<Setting>, OutOfMemory> {
     let mut made = setting(alloc, place(words));
     match word {
         "world" => made.order = order(words.next().unwrap_or("first")),
@@ -141,8 +145,14 @@ fn world(alloc: Global, word: &str, words: &mut SplitWhitespace) -> Result<Optio
 fn brought(alloc: Global, word: &str, rest: &str) -> Result<Option<Setting>, OutOfMemory> {
     let mut words = rest.split_whitespace();
     let (to, frame) = match word {
-        "bring" => (place(&mut words), hex(alloc, rest.split_once(' ').unwrap_or(("", "")).1)?),
-        "texts" => (1, action_of_texts(alloc, numbers(alloc, &mut words)?.as_slice())?),
+        "bring" => (
+            place(&mut words),
+            hex(alloc, rest.split_once(' ').unwrap_or(("", "")).1)?,
+        ),
+        "texts" => (
+            1,
+            action_of_texts(alloc, numbers(alloc, &mut words)?.as_slice())?,
+        ),
         "ids" => (1, action_of_ids(alloc, number(&mut words))?),
         _ => return Ok(None),
     };
