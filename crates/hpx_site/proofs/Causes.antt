@@ -1,0 +1,92 @@
+-- Why a site stands still, from why a turn or steps were refused.
+use Rattle.std.proofs.Common.{ℕ, ◌≡◌, ◌≢◌, ◌∙◌, ◌⊎◌, List, [], Option, Some, None, Result, Ok, Err, length, refl, sym, subst, sum_by, inl, inr}
+use Rattle.hpx_value.specs.declared.acts.Acts.{Ghosts}
+use Rattle.hpx_ports.specs.Faults.{Rose}
+use Rattle.hpx_tables.specs.Tables.{Tables}
+use Rattle.hpx_world.specs.declared.turns.WorldFault.{WorldFault}
+use Rattle.hpx_world.specs.declared.turns.WorldFault.TheVariants as faults
+use Rattle.hpx_world.specs.declared.turns.Choice.{Choice}
+use Rattle.hpx_world.specs.declared.turns.Choice.TheVariants as choices
+use Rattle.hpx_world.specs.Quiet.{IsQuiet}
+use Rattle.hpx_world.specs.Refusals.{Stays, StaysAll, IsFull, Refused, RefusedBy, RefusedDesk, RefusedDrain, RefusedTake, CountsFaults}
+use Rattle.hpx_world.specs.Sound.{Meaning}
+use Rattle.hpx_world.specs.Stages.{Stage}
+use Rattle.hpx_world.specs.Steps.{IsEarly, IsHeld, NoneFires, NonePumps}
+use Rattle.hpx_world.specs.Turns.{IsStrangeMail}
+use Rattle.hpx_site.specs.Seen.{Seen, stage_of}
+use Rattle.hpx_site.specs.Held.{IsCause}
+
+-- a world is not quiet where not as many were taken as sent
+not_quiet : (nodes : List Tables) (hand : _) (s t : ℕ) → s ≡ sum_by (λ (n : Tables). n.sent) nodes → t ≡ sum_by (λ (n : Tables). n.taken) nodes → s ≢ t → IsQuiet nodes hand → ⊥
+not_quiet nodes hand s t a b other q = other (a ∙ sym q.taken ∙ sym b)
+
+still_full : (x z : Stage) (e w : ℕ) → StaysAll x z → IsFull x e w → IsFull z e w
+still_full x z e w same full =
+    subst (λ es. IsFull (record { outside = z.outside; nodes = z.nodes; entries = es }) e w) (sym same.0.journal) (record { full = full.full; entries_are = full.entries_are; weight_is = full.weight_is })
+
+-- a Take that ends early
+early : (x z : Seen) (s t : ℕ) → Stays (stage_of x) (stage_of z) → s ≡ sum_by (λ (n : Tables). n.sent) x.world.nodes → t ≡ sum_by (λ (n : Tables). n.taken) x.world.nodes → s ≢ t
+    → (s ≡ sum_by (λ (n : Tables). n.sent) z.world.nodes) × (t ≡ sum_by (λ (n : Tables). n.taken) z.world.nodes) × (IsQuiet z.world.nodes z.world.hand → ⊥)
+early x z s t same sent taken other =
+    let a : s ≡ sum_by (λ (n : Tables). n.sent) z.world.nodes = subst (λ ns. s ≡ sum_by (λ (n : Tables). n.sent) ns) (sym same.tables) sent in
+    let b : t ≡ sum_by (λ (n : Tables). n.taken) z.world.nodes = subst (λ ns. t ≡ sum_by (λ (n : Tables). n.taken) ns) (sym same.tables) taken in
+    (a, b, not_quiet z.world.nodes z.world.hand s t a b other)
+
+module _ {A : Type 0} {g : Ghosts A} (x z : Seen) where
+  -- a turn
+  pub turn_cause : (c : Choice A g) (f : WorldFault A g) → Refused c f (stage_of x) (stage_of z) → CountsFaults {T = ℕ} (Err f) x.faults z.faults → IsCause x z f
+  turn_cause c faults.Fabric h counts = counts
+  turn_cause c (faults.JournalFull e w job_back) h counts = still_full (stage_of x) (stage_of z) e w h.0 h.1
+  turn_cause c (faults.BadFrame to frame place why) h counts = each c h.1
+    where
+      each : (c : Choice A g) → RefusedBy c (faults.BadFrame to frame place why) (stage_of x) (stage_of z) → IsCause {A = A} {g = g} x z (faults.BadFrame to frame place why)
+      each choices.Take r = (r.1, r.2)
+      each (choices.Feed line) r = absurd r
+      each (choices.Fire k) r = absurd r
+      each (choices.Finish done) r = absurd r
+      each (choices.Desk k) r = absurd r
+      each (choices.Pump k) r = absurd r
+  turn_cause c (faults.Strange to frame rule object kept) h counts = each c h.1
+    where
+      each : (c : Choice A g) → RefusedBy c (faults.Strange to frame rule object kept) (stage_of x) (stage_of z) → IsCause {A = A} {g = g} x z (faults.Strange to frame rule object kept)
+      each choices.Take r = inl (r.1, r.2)
+      each (choices.Desk k) r = inr (r.2, subst (λ n. IsStrangeMail z.world.nodes n rule object kept) (sym r.1) r.3)
+      each (choices.Feed line) r = absurd r
+      each (choices.Fire k) r = absurd r
+      each (choices.Finish done) r = absurd r
+      each (choices.Pump k) r = absurd r
+  turn_cause c (faults.EarlyEnd s t) h counts = each c h.1
+    where
+      each : (c : Choice A g) → RefusedBy c (faults.EarlyEnd s t) (stage_of x) (stage_of z) → IsCause {A = A} {g = g} x z (faults.EarlyEnd s t)
+      each choices.Take r = let e = early x z s t r.0 r.2 r.3 r.4 in (r.1, e.0, e.1, e.2)
+      each (choices.Feed line) r = absurd r
+      each (choices.Fire k) r = absurd r
+      each (choices.Finish done) r = absurd r
+      each (choices.Desk k) r = absurd r
+      each (choices.Pump k) r = absurd r
+  turn_cause c (faults.OutOfMemory job_back) h counts = tt
+  turn_cause c (faults.NotRun job) h counts = tt
+
+  -- steps
+  pub steps_cause : (act_of : Meaning) (f : WorldFault A g) → RefusedDrain act_of f (stage_of x) (stage_of z) → CountsFaults {T = ℕ} (Err f) x.faults z.faults → IsCause x z f
+  steps_cause act_of faults.Fabric h counts = counts
+  steps_cause act_of (faults.JournalFull e w None) h counts = still_full h.last (stage_of z) e w h.thus.0 h.thus.1
+  steps_cause act_of (faults.JournalFull e w (Some done)) h counts = h.thus.2
+  steps_cause act_of (faults.BadFrame to frame place why) h counts = (h.thus.2.1, h.thus.2.2)
+  steps_cause act_of (faults.Strange to frame rule object kept) h counts = each h.last h.thus.1
+    where
+      each : (last : Stage) → ((NonePumps last × RefusedTake {A = A} {g = g} (faults.Strange to frame rule object kept) last (stage_of z))
+          ⊎ (NoneFires last × RefusedDesk {A = A} {g = g} to (faults.Strange to frame rule object kept) last (stage_of z)))
+          → IsCause {A = A} {g = g} x z (faults.Strange to frame rule object kept)
+      each last (inl t) = inl (t.1.1, t.1.2)
+      each last (inr d) = inr (d.1.2, d.1.3)
+  steps_cause act_of (faults.EarlyEnd s t) h counts = ends h.1
+    where
+      ends : IsEarly z.world.nodes z.world.hand z.flight s t → IsCause {A = A} {g = g} x z (faults.EarlyEnd s t)
+      ends e = (e.idle.hand, e.sent, e.taken, why e.why)
+        where
+          why : ((s ≢ t) ⊎ ((s ≡ t) × IsHeld z.world.nodes z.world.hand z.flight)) → IsQuiet z.world.nodes z.world.hand → ⊥
+          why (inl other) = not_quiet z.world.nodes z.world.hand s t e.sent e.taken other
+          why (inr held) = held.1.waits
+  steps_cause act_of (faults.OutOfMemory job_back) h counts = tt
+  steps_cause act_of (faults.NotRun job) h counts = tt

@@ -1,0 +1,110 @@
+-- What holds of a site goes on to hold.
+use Rattle.std.proofs.Common.{ℕ, ◌≡◌, ◌∙◌, List, [], Option, Some, None, Err, IfSome, is_some, true, false, length, refl, sym, subst, ap₂}
+use Rattle.hpx_value.specs.declared.acts.Acts.{Ghosts}
+use Rattle.hpx_journal.specs.Entries.{Rules}
+use Rattle.hpx_ports.specs.Faults.{Rose}
+use Rattle.hpx_steps.specs.Rest.{rules_of}
+use Rattle.hpx_world.specs.declared.turns.WorldFault.{WorldFault}
+use Rattle.hpx_world.specs.declared.turns.WorldFault.TheVariants as faults
+use Rattle.hpx_world.specs.Away.{IsCarrying}
+use Rattle.hpx_world.specs.Places.{Places, rules_in}
+use Rattle.hpx_world.specs.declared.turns.Choice.{Choice}
+use Rattle.hpx_world.specs.Refusals.{CountsFaults, CanCome, CanComeOfSteps, Refused, RefusedDrain}
+use Rattle.hpx_world.specs.Sound.{Meaning}
+use Rattle.hpx_world.specs.Steps.{IsUnfed}
+use Rattle.hpx_world.proofs.Unfed.{unfed_none, unfed_then}
+use Rattle.hpx_site.specs.Seen.{Seen, Carries, stage_of}
+use Rattle.hpx_site.specs.Held.{Held, IsCause, IsCalm}
+use Rattle.hpx_site.proofs.Causes.{steps_cause, turn_cause}
+
+-- the same localities and the same profile are the same rules
+same_rules : (act_of : Meaning) (v w : Places) → length v.nodes ≡ length w.nodes → v.profile ≡ w.profile → rules_in act_of v ≡ rules_in act_of w
+same_rules act_of v w n p = ap₂ (λ k q. rules_of act_of k q) n p
+
+pub no_stop : {F : Type 0} (P : F → Type 0) (stop : Option F) → is_some stop ≡ false → IfSome stop P
+no_stop P None e = tt
+no_stop P (Some f) e = absurd (cc e)
+
+calm : {A : Type 0} {g : Ghosts A} (stop : Option (WorldFault A g)) → is_some stop ≡ false → IsCalm stop
+calm None e = tt
+calm (Some f) e = absurd (cc e)
+
+-- a cause since a stage is one since an earlier stage with the same count
+since : {A : Type 0} {g : Ghosts A} (was x z : Seen) → x.faults ≡ was.faults → (f : WorldFault A g) → IsCause x z f → IsCause was z f
+since was x z same faults.Fabric c = subst (λ n. Rose n z.faults) same c
+since was x z same (faults.JournalFull e w job_back) c = c
+since was x z same (faults.BadFrame to frame place why) c = c
+since was x z same (faults.Strange to frame rule object kept) c = c
+since was x z same (faults.EarlyEnd s t) c = c
+since was x z same (faults.OutOfMemory job_back) c = tt
+since was x z same (faults.NotRun job) c = tt
+
+-- the count stands, unless the fabric is the cause
+counts_still : {A : Type 0} {g : Ghosts A} (f : WorldFault A g) (old new : ℕ) → CountsFaults {T = ℕ} (Err f) old new → IsCalm (Some f) → new ≡ old
+counts_still faults.Fabric old new c calm = absurd calm
+counts_still (faults.JournalFull e w job_back) old new c calm = c
+counts_still (faults.BadFrame to frame place why) old new c calm = c
+counts_still (faults.Strange to frame rule object kept) old new c calm = c
+counts_still (faults.EarlyEnd s t) old new c calm = c
+counts_still (faults.OutOfMemory job_back) old new c calm = c
+counts_still (faults.NotRun job) old new c calm = c
+
+-- what can come of a turn can come of steps
+comes_of_steps : {A : Type 0} {g : Ghosts A} (r : Rules) (f : WorldFault A g) → CanCome r f → CanComeOfSteps r f
+comes_of_steps r faults.Fabric c = tt
+comes_of_steps r (faults.JournalFull e w job_back) c = tt
+comes_of_steps r (faults.BadFrame to frame place why) c = absurd c
+comes_of_steps r (faults.Strange to frame rule object kept) c = c
+comes_of_steps r (faults.EarlyEnd s t) c = absurd c
+comes_of_steps r (faults.OutOfMemory job_back) c = tt
+comes_of_steps r (faults.NotRun job) c = tt
+
+-- what a call on the world tells, refused or not
+pub record Went (act_of : Meaning) (x z : Seen) : Type 0 where
+  pub localities : length z.world.nodes ≡ length x.world.nodes
+  pub profile : z.world.profile ≡ x.world.profile
+  pub unfed : IsUnfed x.world.journal.entries z.world.journal.entries
+  pub carrying : Carries act_of x → IsCarrying (rules_in act_of x.world) z.world.hand z.flight z.trace z.world.journal.entries
+
+module _ {A : Type 0} {g : Ghosts A} (act_of : Meaning) (was x z : Seen) (stop : Option (WorldFault A g)) (going : is_some stop ≡ false) (h : Held act_of was x stop) (w : Went act_of x z) where
+  on : (stop' : Option (WorldFault A g)) → (IsCalm stop' → z.faults ≡ x.faults) → IfSome stop' (IsCause was z) → (Carries act_of x → IfSome stop' (CanComeOfSteps (rules_in act_of x.world))) → Held act_of was z stop'
+  on stop' still cause never = record {
+    localities = w.localities ∙ h.localities;
+    profile = w.profile ∙ h.profile;
+    unfed = unfed_then _ _ _ h.unfed w.unfed;
+    carrying = λ c. subst (λ r. IsCarrying r z.world.hand z.flight z.trace z.world.journal.entries) (sym (same_rules act_of z.world x.world w.localities w.profile)) (w.carrying (h.carrying c));
+    still = λ q. still q ∙ h.still (calm stop going);
+    cause = cause;
+    never = λ c. subst (λ r. IfSome stop' (CanComeOfSteps r)) (same_rules act_of x.world was.world h.localities h.profile) (never (h.carrying c));
+  }
+
+  -- it was not refused
+  pub goes_on : z.faults ≡ x.faults → Held act_of was z stop
+  goes_on same = on stop (λ q. same) (no_stop (IsCause was z) stop going) (λ c. no_stop (CanComeOfSteps (rules_in act_of x.world)) stop going)
+
+  -- it was refused
+  stands_still : (f : WorldFault A g) → CountsFaults {T = ℕ} (Err f) x.faults z.faults → IsCause x z f → (Carries act_of x → CanComeOfSteps (rules_in act_of x.world) f) → Held act_of was z (Some f)
+  stands_still f counts cause never = on (Some f) (counts_still f x.faults z.faults counts) (since was x z (h.still (calm stop going)) f cause) never
+
+  -- a turn was refused
+  pub turn_stops : (c : Choice A g) (f : WorldFault A g) → Refused c f (stage_of x) (stage_of z) → CountsFaults {T = ℕ} (Err f) x.faults z.faults → (Carries act_of x → CanCome (rules_in act_of x.world) f)
+      → Held act_of was z (Some f)
+  turn_stops c f refused counts never = stands_still f counts (turn_cause x z c f refused counts) (λ q. comes_of_steps (rules_in act_of x.world) f (never q))
+
+  -- steps were refused
+  pub steps_stop : (f : WorldFault A g) → RefusedDrain act_of f (stage_of x) (stage_of z) → CountsFaults {T = ℕ} (Err f) x.faults z.faults → (Carries act_of x → CanComeOfSteps (rules_in act_of x.world) f)
+      → Held act_of was z (Some f)
+  steps_stop f refused counts never = stands_still f counts (steps_cause x z act_of f refused counts) never
+
+-- a site, as it is seen
+pub held_first : {A : Type 0} {g : Ghosts A} (act_of : Meaning) (x : Seen) (stop : Option (WorldFault A g)) → stop ≡ None → Held act_of x x stop
+held_first act_of x None e = record {
+  localities = refl;
+  profile = refl;
+  unfed = unfed_none _ _ refl;
+  carrying = λ c. c;
+  still = λ q. refl;
+  cause = tt;
+  never = λ c. tt;
+}
+held_first act_of x (Some f) e = absurd (cc e)

@@ -1,0 +1,45 @@
+-- What holds of a site whenever no worker is at it.
+use Rattle.std.specs.Prelude.{ℕ, [], ◌≡◌, ◌⊎◌, Option, Some, None, IfSome, length, sum_by}
+use Rattle.hpx_value.specs.declared.acts.Acts.{Ghosts}
+use Rattle.hpx_ports.specs.Faults.{Rose}
+use Rattle.hpx_world.specs.declared.turns.WorldFault.{WorldFault}
+use Rattle.hpx_world.specs.declared.turns.WorldFault.TheVariants as faults
+use Rattle.hpx_world.specs.Places.{rules_in}
+use Rattle.hpx_world.specs.Quiet.{IsQuiet}
+use Rattle.hpx_world.specs.Refusals.{IsFull, CanComeOfSteps}
+use Rattle.hpx_world.specs.Sound.{Meaning}
+use Rattle.hpx_world.specs.Steps.{IsUnfed}
+use Rattle.hpx_world.specs.Turns.{IsBadFrame, IsStrangeFrame, IsStrangeMail}
+use Rattle.hpx_site.specs.Seen.{Seen, Carries, stage_of}
+
+-- why a site stands still: the fabric's count rose; the journal has no room; the frame in hand spells no parcel or breaks a rule, or
+-- a message to the own locality does; no frame is in hand and the world is not quiet; or there was no memory
+abbrev pub IsCause : {A : Type 0} {g : Ghosts A} → Seen → Seen → WorldFault A g → Type 0
+IsCause was is faults.Fabric = Rose was.faults is.faults
+IsCause was is (faults.JournalFull entries weight job_back) = IsFull (stage_of is) entries weight
+IsCause was is (faults.BadFrame to frame place why) = (is.world.hand ≡ Some (to, frame)) × IsBadFrame frame place why
+IsCause was is (faults.Strange to frame rule object kept) =
+    ((is.world.hand ≡ Some (to, frame)) × IsStrangeFrame is.world.nodes to frame rule object kept)
+    ⊎ ((frame ≡ []) × IsStrangeMail is.world.nodes to rule object kept)
+IsCause was is (faults.EarlyEnd sent taken) =
+    (is.world.hand ≡ None) × (sent ≡ sum_by (λ t. t.sent) is.world.nodes) × (taken ≡ sum_by (λ t. t.taken) is.world.nodes)
+    × (IsQuiet is.world.nodes is.world.hand → ⊥)
+IsCause was is (faults.OutOfMemory job_back) = Unit {0}
+IsCause was is (faults.NotRun job) = Unit {0}
+
+-- the fabric is not why a site stands still
+abbrev pub IsCalm : {A : Type 0} {g : Ghosts A} → Option (WorldFault A g) → Type 0
+IsCalm (Some faults.Fabric) = ⊥
+IsCalm _ = Unit {0}
+
+-- a site since it was seen so: its localities and its profile are the same, and its journal has grown by no line; where the fabric
+-- carried for the journal, it does; the fabric's count of faults is the same, unless the fabric is why the site stands still; and a
+-- fault that is why it stands still has its cause, and on a fabric that carried is none that cannot come
+pub record Held {A : Type 0} {g : Ghosts A} (act_of : Meaning) (was is : Seen) (stop : Option (WorldFault A g)) : Type 0 where
+  pub localities : length is.world.nodes ≡ length was.world.nodes
+  pub profile : is.world.profile ≡ was.world.profile
+  pub unfed : IsUnfed was.world.journal.entries is.world.journal.entries
+  pub carrying : Carries act_of was → Carries act_of is
+  pub still : IsCalm stop → is.faults ≡ was.faults
+  pub cause : IfSome stop (IsCause was is)
+  pub never : Carries act_of was → IfSome stop (CanComeOfSteps (rules_in act_of was.world))
