@@ -115,10 +115,17 @@ fn refused(text: &mut String, fault: TakeFault) -> Result<(), OutOfMemory> {
 /// Whether a message on the desk was dealt with.
 fn desk_answer(text: &mut String, answer: Result<bool, DeskFault>) -> Result<(), OutOfMemory> {
     match answer {
-        Ok(true) => text.push_str(": done")?,
-        Ok(false) => text.push_str(": nothing")?,
-        Err(DeskFault::Strange { rule, object, kept }) => strange(text, rule, object, kept)?,
-        Err(DeskFault::OutOfMemory) => text.push_str(": out of memory")?,
+        Ok(done) => text.push_str(if done { ": done" } else { ": nothing" })?,
+        Err(fault) => desk_refused(text, fault)?,
+    }
+    Ok(())
+}
+
+/// Why a message on the desk was refused.
+fn desk_refused(text: &mut String, fault: DeskFault) -> Result<(), OutOfMemory> {
+    match fault {
+        DeskFault::Strange { rule, object, kept } => strange(text, rule, object, kept)?,
+        DeskFault::OutOfMemory => text.push_str(": out of memory")?,
     }
     Ok(())
 }

@@ -107,7 +107,7 @@ fn order(word: &str) -> Order {
 }
 
 /// A world over a fabric in memory, of so many localities.
-fn setting(alloc: Global, localities: u32) -> Setting {
+fn plain_setting(alloc: Global, localities: u32) -> Setting {
     Setting {
         localities,
         order: Order::FirstIn,
@@ -125,7 +125,7 @@ fn world(
     word: &str,
     words: &mut SplitWhitespace,
 ) -> Result<Option<Setting>, OutOfMemory> {
-    let mut made = setting(alloc, place(words));
+    let mut made = plain_setting(alloc, place(words));
     match word {
         "world" => made.order = order(words.next().unwrap_or("first")),
         "full" => made.is_full = true,
@@ -156,14 +156,14 @@ fn brought(alloc: Global, word: &str, rest: &str) -> Result<Option<Setting>, Out
         "ids" => (1, action_of_ids(alloc, number(&mut words))?),
         _ => return Ok(None),
     };
-    let mut made = setting(alloc, 2);
+    let mut made = plain_setting(alloc, 2);
     made.is_strange = true;
     made.brings = Some((to, frame));
     Ok(Some(made))
 }
 
 /// What the world does, by the word.
-fn ask(word: &str, words: &mut SplitWhitespace) -> Option<Ask> {
+fn ask_of(word: &str, words: &mut SplitWhitespace) -> Option<Ask> {
     Some(match word {
         "feed" => Ask::Feed(byte(words), 1),
         "long" => Ask::Feed(b'x', number(words)),
@@ -180,7 +180,7 @@ fn ask(word: &str, words: &mut SplitWhitespace) -> Option<Ask> {
 }
 
 /// What the world tells, by the word.
-fn tell(word: &str) -> Option<Tell> {
+fn tell_of(word: &str) -> Option<Tell> {
     Some(match word {
         "audit" => Tell::Audit,
         "hand" => Tell::Hand,
@@ -200,10 +200,10 @@ pub fn read(alloc: Global, line: &str) -> Result<Line, OutOfMemory> {
     if let Some(made) = brought(alloc, word, rest)? {
         return Ok(Line::World(made));
     }
-    if let Some(ask) = ask(word, &mut rest.split_whitespace()) {
+    if let Some(ask) = ask_of(word, &mut rest.split_whitespace()) {
         return Ok(Line::Asks(ask));
     }
-    match tell(word) {
+    match tell_of(word) {
         Some(tell) => Ok(Line::Tells(tell)),
         None => Ok(Line::Note),
     }
