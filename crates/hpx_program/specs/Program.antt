@@ -1,5 +1,5 @@
 -- What the program did with its ports, by the status that it ends with.
-use Rattle.std.specs.Prelude.{ℕ, Option, Some, Ok, IfSome, List, ◌≡◌, ◌≢◌, ◌⊎◌, ◌+◌, ◌<◌, ◌≤◌}
+use Rattle.std.specs.Prelude.{ℕ, Option, Some, Ok, IfSome, List, length, ◌≡◌, ◌≢◌, ◌⊎◌, ◌+◌, ◌<◌, ◌≤◌}
 use Rattle.hpx_journal.specs.declared.entry.Entry.{Entry}
 use Rattle.hpx_journal.specs.Weights.{HasRoom}
 use Rattle.hpx_ports.specs.Faults.{Rose}
@@ -7,7 +7,7 @@ use Rattle.hpx_ports.specs.Told.{followed}
 use Rattle.hpx_world.specs.Places.{Places}
 use Rattle.hpx_top.specs.declared.task.Task.{Task}
 use Rattle.hpx_top.specs.declared.task.Task.TheVariants.{Accumulator}
-use Rattle.hpx_top.specs.Usage.{task_in}
+use Rattle.hpx_top.specs.Usage.{places_of, task_in}
 use Rattle.hpx_top.specs.Session.{WritesFront}
 use Rattle.hpx_top.specs.Computed.{HasComputed, task_line, task_texts}
 use Rattle.hpx_top.specs.Ends.{IsWhole, IsBrokenOff, IsBrokenIn, IsBrokenAtOpening, IsBegun, IsShort, IsReadFrom, IsReadUp}
@@ -51,8 +51,7 @@ pub record HasCause (status : ℕ) (world : Option Places) (x z : Ports) : Type 
   pub write_only : status ≢ 3 → z.write_faults ≡ x.write_faults
   pub frame_only : status ≢ 4 → z.frame_faults ≡ x.frame_faults
 
--- What a run of a task read and wrote: of the accumulator's console, the lines of the input and their text; of an application
--- that computes, nothing of the input, and its texts.
+-- what a run of a task read and wrote where the input is told: at the accumulator's console its lines and their text
 pub record HasServed (task : Task) (status : ℕ) (input : List ℕ) (entries : List Entry) (x z : Ports) : Type 0 where
   pub reads : IsReadFrom input z.left x.taken z.taken
   pub read_up : task ≡ Accumulator → status ≡ 0 → IsReadUp input z.left
@@ -60,14 +59,16 @@ pub record HasServed (task : Task) (status : ℕ) (input : List ℕ) (entries : 
   pub begun : task ≡ Accumulator → IsBegun 2 input entries x.text z.text
   pub between_lines : task ≡ Accumulator → (status ≡ 2) ⊎ (status ≡ 9) → IsBrokenOff 2 0 input entries x.text z.text
   pub in_a_line : task ≡ Accumulator → (status ≡ 4) ⊎ (status ≡ 5) → IsBrokenIn 2 input entries x.text z.text ⊎ IsBrokenAtOpening entries x.text z.text
-  pub computed : (line : List ℕ) → task_line task ≡ Some line → HasComputed line (task_texts task) status entries x.text z.text
-  pub unread : (line : List ℕ) → task_line task ≡ Some line → (z.left ≡ x.left) × (z.taken ≡ x.taken)
 
--- a task was done: the one that the words ask for, where they are told
-pub record HasDone (words : Option (List (List ℕ))) (status : ℕ) (entries : List Entry) (x z : Ports) : Type 0 where
+-- a task was done at its localities: the one that the words ask for, where they are told; of an application that computes its texts
+-- were written, and nothing was read
+pub record HasDone (words : Option (List (List ℕ))) (status : ℕ) (w : Places) (x z : Ports) : Type 0 where
   pub task : Task
   pub asked : (told : List (List ℕ)) → words ≡ Some told → task_in told ≡ Ok task
-  pub served : (input : List ℕ) → x.left ≡ Some input → HasServed task status input entries x z
+  pub places : length w.nodes ≡ places_of task
+  pub computed : (line : List ℕ) → task_line task ≡ Some line → HasComputed line (task_texts task) status w.journal.entries x.text z.text
+  pub unread : (line : List ℕ) → task_line task ≡ Some line → (z.left ≡ x.left) × (z.taken ≡ x.taken)
+  pub served : (input : List ℕ) → x.left ≡ Some input → HasServed task status input w.journal.entries x z
 
 -- at the accumulator's console, where memory was wanting, the input was not full behind the lines that were handled
 abbrev pub IsShortIn : Option (List (List ℕ)) → ℕ → Option Places → Option (List ℕ) → Option (List ℕ) → Option (List ℕ) → Option (List ℕ) → Type 0

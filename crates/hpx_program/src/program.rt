@@ -99,7 +99,7 @@ pub fn program<W: Words, S: Source, K: Sink, E: Sink, F: Fabric>(
           write_faults = K.faults sink.new;
           frame_faults = F.faults result.fabric;
         } in
-        IfSome result.world (λ w. HasDone (W.words given.now) result.status w.journal.entries x z) }
+        IfSome result.world (λ w. HasDone (W.words given.now) result.status w x z) }
     ensures short { IsShortIn (W.words given.now) result.status result.world (S.left source.old) (S.left source.new) (K.held sink.old) (K.held sink.new) }
 {
     match all_words(alloc, given) {
