@@ -8,7 +8,7 @@ use Rattle.hpx_value.specs.declared.outcome.SendCont.TheVariants.{Here}
 use Rattle.hpx_value.specs.declared.value.Value.TheVariants.{Flag, Fault, Ints}
 use Rattle.hpx_trial.specs.Data.{Value, Nothing, Int, Text, Ref, State, Act, Outcome}
 use Rattle.hpx_trial.specs.Trial.{said, one_send, byte_in, first_line, line_outcome, session_outcome, free_outcome, some_outcome, is_number, or_stays, trial}
-use Rattle.hpx_world_rows.specs.Trials.{has_none, is_none, makes, making}
+use Rattle.hpx_world_tests.specs.Trials.{has_none, is_none, makes, making}
 
 cond_no : {T : Type 0} (b : Bool) (x z : T) → b ≡ false → cond b x z ≡ z
 cond_no b x z other = subst (λ c. cond c x z ≡ z) (sym other) refl

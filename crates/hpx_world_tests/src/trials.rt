@@ -1,7 +1,7 @@
 //! The acts of hpx_trial at any number of localities, and jobs that find no memory.
 ghost use Rattle.std.specs.Prelude.{◌≡◌, ◌∷◌, [], IfOk};
 ghost use Rattle.hpx_trial.specs.Trial.{byte_in};
-ghost use Rattle.hpx_world_rows.specs.Trials.{makes, making};
+ghost use Rattle.hpx_world_tests.specs.Trials.{makes, making};
 
 use hpx_journal::cargo::one;
 use hpx_trial::trial::Trial;

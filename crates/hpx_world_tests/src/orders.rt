@@ -1,0 +1,107 @@
+//! Drains, in each order of delivery.
+use crate::story::{Ask, Got, Story};
+use hpx_journal::entry::Event;
+use hpx_ports::memory_fabric::SureFabric;
+use hpx_ports::order::Order;
+use std::alloc::Global;
+use std::process::Abort;
+use std::test::Fail;
+
+const ORDERS: [Order; 3] = [Order::FirstIn, Order::LastIn, Order::Scrambled(7)];
+
+/// How many entries a line leaves at so many localities. Where all stand at one, no call and no answer has an Out and an In, and what
+/// comes home of an id that is dropped has a Mail in their place.
+fn entries_of(localities: u32, byte: u8) -> u64 {
+    match (localities, byte) {
+        (1, b'n') => 14 - 4,
+        (1, b'a') => 17 - 4,
+        (1, b'q') => 18 - 4,
+        (1, _) => 9 - 1,
+        (_, b'n') => 14,
+        (_, b'a') => 17,
+        (_, b'q') => 18,
+        (_, _) => 9,
+    }
+}
+
+/// The last text that was printed is this.
+fn has_printed(story: &Story<SureFabric>, text: &[u8]) -> bool {
+    for entry in story.world.journal().as_slice().iter().rev() {
+        if let Event::Print { bytes } = &entry.event {
+            return bytes.as_slice() == text;
+        }
+    }
+    false
+}
+
+/// A line is fed, and all is done that follows; how many entries it left.
+fn line(
+    rt: &impl Abort,
+    alloc: Global,
+    story: &mut Story<SureFabric>,
+    byte: u8,
+) -> Result<u64, Fail> {
+    let before = story.entries();
+    assert_eq!(rt; story.ask(alloc, Ask::Feed(byte))?, Got::Fed);
+    assert!(rt; !story.world.quiet());
+    assert_eq!(rt; story.ask(alloc, Ask::Drain)?, Got::Drained);
+    assert!(rt; story.world.quiet());
+    Ok(story.entries().saturating_sub(before))
+}
+
+#[test]
+fn a_drain_does_all_that_follows(rt: HostRuntime) -> Result<(), Fail> {
+    let alloc = rt.alloc();
+    for order in ORDERS {
+        for localities in [1u32, 2, 3] {
+            let fabric = SureFabric::new(alloc, order);
+            let mut story = Story::boot(alloc, localities, false, fabric)?;
+            assert_eq!(rt; story.ask(alloc, Ask::Drain)?, Got::Drained);
+            assert_eq!(rt; story.entries(), 0);
+            for (byte, text) in [
+                (b'n', b"".as_slice()),
+                (b'q', b"0\n"),
+                (b'a', b"0\n"),
+                (b'a', b"0\n"),
+                (b'a', b"0\n"),
+                (b'q', b"15\n"),
+                (b'd', b"15\n"),
+            ] {
+                assert_eq!(rt;
+                    line(&rt, alloc, &mut story, byte)?,
+                    entries_of(localities, byte),
+                    "{localities} localities, byte {byte}"
+                );
+                assert!(rt; byte == b'n' || has_printed(&story, text));
+            }
+            assert!(rt; story.world.audit(alloc)?.is_empty());
+            assert!(rt; story.is_legal(alloc));
+            assert_eq!(rt; story.fabric.in_flight(), 0);
+        }
+    }
+    Ok(())
+}
+
+// Five calls are on their way at once, and come in each order.
+#[test]
+fn frames_may_come_in_any_order(rt: HostRuntime) -> Result<(), Fail> {
+    let alloc = rt.alloc();
+    for order in ORDERS {
+        let fabric = SureFabric::new(alloc, order);
+        let mut story = Story::boot(alloc, 3, false, fabric)?;
+        assert_eq!(rt; line(&rt, alloc, &mut story, b'n')?, 14);
+        for byte in *b"aaaaa" {
+            for ask in [Ask::Feed(byte), Ask::Fire(0), Ask::Finish, Ask::Pump(0)] {
+                story.ask(alloc, ask)?;
+            }
+        }
+        assert_eq!(rt; story.fabric.in_flight(), 5);
+        assert_eq!(rt; story.entries(), 14 + 5 * 6);
+        assert_eq!(rt; story.ask(alloc, Ask::Drain)?, Got::Drained);
+        assert_eq!(rt; story.entries(), 14 + 5 * 17);
+        assert_eq!(rt; line(&rt, alloc, &mut story, b'q')?, 18);
+        assert!(rt; has_printed(&story, b"25\n"));
+        assert!(rt; story.is_legal(alloc));
+    }
+    Ok(())
+}
