@@ -19,18 +19,13 @@ RUNS = 5
 
 def adds(lines):
     """Lines of `add 1`, what they print, and how many entries each leaves."""
-    return b"add 1\n" * lines, COMMANDS + b"> " * (lines + 1), 17 * lines
+    return b"add 1\n" * lines, COMMANDS + b"> " * (lines + 1), 15 * lines
 
 
 def adds_and_queries(lines):
     """The same of `add 1` and `query` in turn."""
     text = COMMANDS + b"".join(b"> > %d\n" % (i + 1) for i in range(lines // 2)) + b"> "
-    return b"add 1\nquery\n" * (lines // 2), text, 35 * (lines // 2)
-
-
-def asks(lines):
-    """How often the session asks for credit: at the 32nd line, and at each 31st behind it."""
-    return 0 if lines < 32 else (lines - 32) // 31 + 1
+    return b"add 1\nquery\n" * (lines // 2), text, 31 * (lines // 2)
 
 
 def shortest(text, want):
@@ -52,7 +47,7 @@ def main():
         for lines in (1000, 2000, 4000, 8000, 16000):
             text, want, entries = kind(lines)
             took = shortest(text, want) - idle
-            count = 14 + entries + 7 * asks(lines)
+            count = 14 + entries
             print(f"{name}: {lines} lines: {took / lines * 1e6:.2f} microseconds a line, {took / count * 1e6:.3f} an entry")
 
 

@@ -1,6 +1,6 @@
 -- Runs of the pool: the line, the tree, and the end.
-use Rattle.std.specs.Prelude.{ℕ, zero, suc, pos, Bool, true, false, cond, List, [], ◌∷◌, ◌++◌, ◌≡◌, ◌≢◌, ◌+◌, ◌<◌, ◌≤◌, ◌||◌, ◌⊎◌, Option, Some, None, refl}
-use Rattle.std.specs.List.{AllByRecursion, list_any, sum_by}
+use Rattle.std.specs.Prelude.{ℕ, zero, suc, pos, Bool, true, false, cond, List, [], ◌∷◌, ◌++◌, ◌≡◌, ◌≢◌, ◌+◌, ◌<◌, ◌≤◌, ◌⊎◌, Option, Some, None, refl}
+use Rattle.std.specs.List.{AllByRecursion, sum_by}
 use Rattle.std.proofs.Common.{sym, ap, ◌∙◌, subst, arith, inl, inr, append-nil}
 use Rattle.std.proofs.lemmas.Bool.{cases_Bool, le-leb}
 use Rattle.std.proofs.lemmas.List.Sums.{sum_by-cons, sum_by-append}
@@ -8,62 +8,25 @@ use Rattle.hpx_value.specs.Ids.{Id, same_object}
 use Rattle.hpx_value.specs.Values.{empty_state, named}
 use Rattle.hpx_value.specs.declared.value.Message.{Message}
 use Rattle.hpx_value.specs.Hands.{Slot, session, state_after}
-use Rattle.hpx_value.specs.Laws.{birth_state}
 use Rattle.hpx_journal.specs.Entries.{Rules, line_message}
 use Rattle.hpx_journal.specs.Pool.{Pool, IsActed, target_in, moves_to, outcome_in, sent_by, with_made}
 use Rattle.hpx_journal.specs.Sessions.{IsStep as IsPoolStep, Steps}
-use Rattle.hpx_journal.proofs.Same.{same_object-from, same_object-refl}
-use Rattle.hpx_journal.proofs.SameMessage.{same_message, same_message-refl, same_message-true}
-use Rattle.app_compute.specs.Types.{State, Make, Outcome}
+use Rattle.hpx_journal.proofs.Same.{same_object-refl}
+use Rattle.app_compute.specs.Types.{State, Outcome}
 use Rattle.app_compute.specs.Numbers.{fibonacci}
 use Rattle.app_compute.specs.Texts.{fibonacci_text}
 use Rattle.app_compute.specs.Lines.{question_of}
 use Rattle.app_compute.specs.Session.{awaited_out, first_call, session_outcome, spoken}
-use Rattle.app_compute.specs.FibLaw.{Computes}
+use Rattle.app_compute.specs.Computing.{computing_outcome}
+use Rattle.app_compute.specs.Judging.{Computes}
+use Rattle.app_compute.proofs.Acted.{same_target, other_target, places_are, lower, alike_after, printed_are, pending_are}
+use Rattle.app_compute.proofs.Bags.{none_left, sum_split, in_bag, any_holds}
+use Rattle.app_compute.proofs.Computed.{fib_computed}
 use Rattle.app_compute.proofs.Small.{fibonacci_small}
 use Rattle.app_compute.proofs.Does.{plain_at, slot_of, fib_message, sum_message, get_message, set_message}
 use Rattle.app_compute.proofs.Trees
 use Rattle.app_compute.proofs.TreeSteps.{IsStep, IsStepped}
 use Rattle.app_compute.proofs.NodeSteps.{step_at}
-
--- ---- bags
-
-one_there : (m : Message) → ◌≡◌ {A = ℕ} (cond (same_message m m) 1 0) 1
-one_there m = ap (λ (b : Bool). cond b 1 0) (same_message-refl m)
-
-passes_at : (p : Message → Bool) (b : Bool) (x : Message) (xs : List Message) → p x ≡ b
-    → (1 ≤ sum_by (λ y. cond (p y) 1 0) xs → list_any p xs ≡ true) → 1 ≤ cond b 1 0 + sum_by (λ y. cond (p y) 1 0) xs
-    → (b || list_any p xs) ≡ true
-passes_at p true x xs e ih h = refl
-passes_at p false x xs e ih h = ih (omega arith)
-
-passes : (p : Message → Bool) (xs : List Message) → 1 ≤ sum_by (λ y. cond (p y) 1 0) xs → list_any p xs ≡ true
-passes p [] h = absurd (omega arith)
-passes p (x ∷ xs) h = passes_at p (p x) x xs refl (passes p xs) (omega (arith, sum_by-cons (λ y. cond (p y) 1 0) x xs))
-
-pub none_left : (xs : List Message) → sum_by (λ x. 1) xs ≡ 0 → xs ≡ []
-none_left [] h = refl
-none_left (x ∷ xs) h = absurd (omega (arith, sum_by-cons (λ y. 1) x xs))
-
--- one of a bag, and the others
-sum_split : (h : Message → ℕ) (before : List Message) (m : Message) (behind all : List Message) → all ≡ before ++ m ∷ behind
-    → sum_by h all ≡ sum_by h (before ++ behind) + h m
-sum_split h before m behind all e =
-    omega (arith, ap (sum_by h) e, sum_by-append h before (m ∷ behind), sum_by-append h before behind, sum_by-cons h m behind)
-
--- what is in one bag is in another that is the same
-in_bag : (before : List Message) (m : Message) (behind all ys : List Message) → all ≡ before ++ m ∷ behind
-    → ((h : Message → ℕ) → sum_by h all ≡ sum_by h ys) → list_any (same_message m) ys ≡ true
-in_bag before m behind all ys e same =
-    let h : Message → ℕ = λ y. cond (same_message m y) 1 0 in
-    passes (same_message m) ys (omega (arith, same h, sum_split h before m behind all e, one_there m))
-
-any_holds : (P : Message → Type 0) (m : Message) (ys : List Message) → AllByRecursion P ys → list_any (same_message m) ys ≡ true → P m
-any_holds P m [] all h = cc
-any_holds P m (y ∷ ys) all h = elim (Trees.or_cases (same_message m y) (list_any (same_message m) ys) h) [
-  | inl e ↦ subst P (sym (same_message-true m y e)) all.0
-  | inr e ↦ any_holds P m ys all.1 e
-]
 
 -- ---- trees have something pending, at places that there are
 
@@ -112,16 +75,6 @@ all_low t n pl f plain (Trees.Node o kept late l r) x low stands fits =
     first true = tt
     first false = (stands.1, tt)
 
--- ---- what is made looks at objects alone
-
-made_alike : (f : Id → Option State) → ((a b : Id) → same_object a b ≡ true → f a ≡ f b) → (makes : List Make) (made : List Id) (a b : Id)
-    → same_object a b ≡ true → with_made f makes made a ≡ with_made f makes made b
-made_alike f alike [] made a b e = alike a b e
-made_alike f alike (make ∷ makes) [] a b e = alike a b e
-made_alike f alike (make ∷ makes) (o ∷ made) a b e =
-    ap (λ c. cond c (Some (birth_state make)) (with_made f makes made a)) (same_object-from a b o e)
-    ∙ ap (λ y. cond (same_object b o) (Some (birth_state make)) y) (made_alike f alike makes made a b e)
-
 -- ---- phases
 
 -- the session asked for the number m, and awaits the answer in slot 0
@@ -167,13 +120,14 @@ pub data Phase (n t a : ℕ) (line : List ℕ) (p : Pool) : Type 0 where
 -- ---- what the session does
 
 asks_first : (n t a : ℕ) (line : List ℕ) → question_of line ≡ Some (record { number = a; threshold = t })
-    → session_outcome empty_state (named 0 0 (line_message (99 ∷ line))) ≡ spoken 1 (awaited_out (record { number = a; slot = 0 })) (first_call (record { number = a; threshold = t }) 0 ∷ []) []
+    → computing_outcome n empty_state (named 0 0 (line_message (99 ∷ line))) ≡ spoken 1 (awaited_out (record { number = a; slot = 0 })) (first_call (record { number = a; threshold = t }) 0 ∷ []) []
 unfolding session_outcome
-asks_first n t a line e = rw e refl
+asks_first n t a line e =
+    fib_computed n empty_state (named 0 0 (line_message (99 ∷ line))) line (record { number = a; threshold = t }) refl refl e ∙ rw e refl
 
-prints_last : (a v : ℕ) → a ≤ 92 → session_outcome (awaiting a) (named 0 0 (set_message top v)) ≡ spoken 1 [] [] (fibonacci_text a (pos v) ∷ [])
+prints_last : (n a v : ℕ) → a ≤ 92 → computing_outcome n (awaiting a) (named 0 0 (set_message top v)) ≡ spoken 1 [] [] (fibonacci_text a (pos v) ∷ [])
 unfolding session_outcome
-prints_last a v h = rw (le-leb a 92 h) refl
+prints_last n a v h = rw (le-leb a 92 h) refl
 
 -- ---- one step
 
@@ -182,57 +136,17 @@ module _ (law : Rules) (c : Computes law) (t a : ℕ) (line : List ℕ) (large :
   abbrev n : ℕ
   n = law.localities
 
-  module _ (h : IsActed law p q) (low : p.places (target_in h.message) < n) (rooted : IsRooted n p) where
-    abbrev here : ℕ
-    here = p.places (target_in h.message)
-
-    abbrev out : Outcome
-    out = outcome_in law here h.message h.state
-
-    -- the states after it
-    states_are : (u : Id) → q.states u ≡ cond (same_object u (target_in h.message)) (Some (state_after h.state (named 0 0 h.message) h.made out)) (with_made p.states out.makes h.made u)
-    states_are u = ap (λ (y : Pool). y.states u) h.next
-
-    places_are : (u : Id) → q.places u ≡ cond (list_any (same_object u) h.made) here (p.places u)
-    places_are u = ap (λ (y : Pool). y.places u) h.next
-
-    same_target : (u : Id) → same_object u (target_in h.message) ≡ true → q.states u ≡ Some (state_after h.state (named 0 0 h.message) h.made out)
-    same_target u e = states_are u ∙ ap (λ b. cond b (Some (state_after h.state (named 0 0 h.message) h.made out)) (with_made p.states out.makes h.made u)) e
-
-    other_target : (u : Id) → same_object u (target_in h.message) ≡ false → q.states u ≡ with_made p.states out.makes h.made u
-    other_target u e = states_are u ∙ ap (λ b. cond b (Some (state_after h.state (named 0 0 h.message) h.made out)) (with_made p.states out.makes h.made u)) e
-
-    lower : (u : Id) → p.places u < n → q.places u < n
-    lower u l = by_made (list_any (same_object u) h.made) refl
-      where
-        by_made : (b : Bool) → list_any (same_object u) h.made ≡ b → q.places u < n
-        by_made true e = let z = places_are u ∙ ap (λ b. cond b here (p.places u)) e in omega arith
-        by_made false e = let z = places_are u ∙ ap (λ b. cond b here (p.places u)) e in omega arith
-
-    step : IsStep law p.states q.states p.places q.places h.message h.state h.made
-    step = record {
-      stands = h.stands;
-      new = h.new;
-      target = same_target (target_in h.message) (same_object-refl (target_in h.message));
-      others = other_target;
-      low = lower;
-      born = λ u e. let z = places_are u ∙ ap (λ b. cond b here (p.places u)) e in omega arith;
-      alike = rooted.alike;
-      plain = rooted.plain;
-    }
-
-    alike_after : (x y : Id) → same_object x y ≡ true → q.states x ≡ q.states y
-    alike_after x y e =
-        states_are x
-        ∙ ap (λ b. cond b (Some (state_after h.state (named 0 0 h.message) h.made out)) (with_made p.states out.makes h.made x)) (same_object-from x y (target_in h.message) e)
-        ∙ ap (λ o. cond (same_object y (target_in h.message)) (Some (state_after h.state (named 0 0 h.message) h.made out)) o) (made_alike p.states rooted.alike out.makes h.made x y e)
-        ∙ sym (states_are y)
-
-    printed_are : q.printed ≡ p.printed ++ out.prints
-    printed_are = ap (λ (y : Pool). y.printed) h.next
-
-    pending_are : q.pending ≡ sent_by h.message h.state h.made out ++ (h.before ++ h.behind)
-    pending_are = ap (λ (y : Pool). y.pending) h.next
+  step_of : (h : IsActed law p q) → p.places (target_in h.message) < n → IsRooted n p → IsStep law p.states q.states p.places q.places h.message h.state h.made
+  step_of h low rooted = record {
+    stands = h.stands;
+    new = h.new;
+    target = same_target law p q h (target_in h.message) (same_object-refl (target_in h.message));
+    others = other_target law p q h;
+    low = lower law p q h low;
+    born = λ u e. let z = places_are law p q h u ∙ ap (λ b. cond b (p.places (target_in h.message)) (p.places u)) e in omega arith;
+    alike = rooted.alike;
+    plain = rooted.plain;
+  }
 
   -- the tree is rewritten
   works_on : (w : IsWorking n t a p) (h : IsActed law p q) → p.places (target_in h.message) < n
@@ -242,7 +156,7 @@ module _ (law : Rules) (c : Computes law) (t a : ℕ) (line : List ℕ) (large :
     bag = λ k.
         omega (
           arith,
-          ap (sum_by k) (pending_are h low w.rooted),
+          ap (sum_by k) (pending_are law p q h),
           st.bag k,
           w.bag k,
           sum_split k h.before h.message h.behind p.pending h.pending,
@@ -256,13 +170,13 @@ module _ (law : Rules) (c : Computes law) (t a : ℕ) (line : List ℕ) (large :
       | inl i ↦ let z = w.once u in omega arith
       | inr i ↦ let z = i.1 in let y = none_of u i.0 in omega arith
     ];
-    session_at = other_target h low w.rooted session (Trees.kind_apart session (target_in h.message) apart_kind) ∙ (st.apart session (λ e. absurd (omega arith)) ∙ w.session_at);
+    session_at = other_target law p q h session (Trees.kind_apart session (target_in h.message) apart_kind) ∙ (st.apart session (λ e. absurd (omega arith)) ∙ w.session_at);
     rooted = record {
-      plain = λ k l. (plain_after k l, lower h low w.rooted (plain_at k) ((w.rooted).plain k l).1);
-      alike = alike_after h low w.rooted;
-      place = lower h low w.rooted session (w.rooted).place;
+      plain = λ k l. (plain_after k l, lower law p q h low (plain_at k) ((w.rooted).plain k l).1);
+      alike = alike_after law p q h (w.rooted).alike;
+      place = lower law p q h low session (w.rooted).place;
     };
-    printed = printed_are h low w.rooted ∙ (ap (λ texts. p.printed ++ texts) st.silent ∙ (append-nil p.printed ∙ w.printed));
+    printed = printed_are law p q h ∙ (ap (λ texts. p.printed ++ texts) st.silent ∙ (append-nil p.printed ∙ w.printed));
   }
     where
       zero_from : (k : ℕ) → (1 ≤ k → ⊥) → k ≡ 0
@@ -284,8 +198,8 @@ module _ (law : Rules) (c : Computes law) (t a : ℕ) (line : List ℕ) (large :
 
       plain_after : (k : ℕ) → k < n → q.states (plain_at k) ≡ Some empty_state
       plain_after k l = elim (cases_Bool (same_object (plain_at k) (target_in h.message))) [
-        | inl e ↦ same_target h low w.rooted (plain_at k) e ∙ ap Some (st.calm (sym (Trees.kind_same (plain_at k) (target_in h.message) e)))
-        | inr e ↦ other_target h low w.rooted (plain_at k) e ∙ (st.apart (plain_at k) (λ z. absurd (omega arith)) ∙ ((w.rooted).plain k l).0)
+        | inl e ↦ same_target law p q h (plain_at k) e ∙ ap Some (st.calm (sym (Trees.kind_same (plain_at k) (target_in h.message) e)))
+        | inr e ↦ other_target law p q h (plain_at k) e ∙ (st.apart (plain_at k) (λ z. absurd (omega arith)) ∙ ((w.rooted).plain k l).0)
       ]
 
   -- the answer is printed
@@ -295,19 +209,19 @@ module _ (law : Rules) (c : Computes law) (t a : ℕ) (line : List ℕ) (large :
       let es : h.state ≡ awaiting a = Trees.some_same h.state (awaiting a) (sym h.stands ∙ (ap (λ m. p.states (target_in m)) em ∙ w.session_at)) in
       let out : outcome_in law (p.places (target_in h.message)) h.message h.state ≡ spoken 1 [] [] (fibonacci_text a (pos v) ∷ []) =
       ap (λ m. outcome_in law (p.places (target_in m)) m h.state) em ∙ ap (λ s. outcome_in law (p.places session) (set_message top v) s) es
-      ∙ c.session (p.places session) (awaiting a) (named 0 0 (set_message top v)) place refl ∙ prints_last a v small in
+      ∙ c.session (p.places session) (awaiting a) (named 0 0 (set_message top v)) place refl ∙ prints_last n a v small in
       let none : sent_by h.message h.state h.made (outcome_in law (p.places (target_in h.message)) h.message h.state) ≡ [] = ap (sent_by h.message h.state h.made) out in
       record {
         pending = none_left q.pending (omega (
           arith,
-          ap (sum_by (λ y. 1)) (pending_are h low w.rooted),
+          ap (sum_by (λ y. 1)) (pending_are law p q h),
           ap (λ ms. sum_by (λ y. 1) (ms ++ (h.before ++ h.behind))) none,
           sum_split (λ y. 1) h.before h.message h.behind p.pending h.pending,
           w.bag (λ y. 1),
           ap (λ T. sum_by (λ y. 1) (Trees.sent t top T)) et,
           sum_by-cons (λ y. 1) (set_message top v) [],
         ));
-        printed = printed_are h low w.rooted ∙ (ap (λ o. p.printed ++ o.prints) out ∙ (ap (λ texts. texts ++ fibonacci_text a (pos v) ∷ []) w.printed
+        printed = printed_are law p q h ∙ (ap (λ o. p.printed ++ o.prints) out ∙ (ap (λ texts. texts ++ fibonacci_text a (pos v) ∷ []) w.printed
             ∙ ap (λ y. fibonacci_text a (pos y) ∷ []) (sym (ap Trees.value et) ∙ w.total)));
       }
 
@@ -316,7 +230,7 @@ module _ (law : Rules) (c : Computes law) (t a : ℕ) (line : List ℕ) (large :
       let there = in_bag h.before h.message h.behind p.pending (Trees.sent t top w.tree) h.pending w.bag in
       let low = any_holds (λ m. p.places (target_in m) < n) h.message (Trees.sent t top w.tree)
       (all_low t n p.places p.states (λ k l. ((w.rooted).plain k l).1) w.tree top (w.rooted).place w.standing w.fitting) there in
-      elim (step_at law c t large few p.states q.states p.places q.places h.message h.state h.made (step h low w.rooted) w.tree top there w.standing w.fitting w.once
+      elim (step_at law c t large few p.states q.states p.places q.places h.message h.state h.made (step_of h low w.rooted) w.tree top there w.standing w.fitting w.once
       (let z = w.total in let y = fibonacci_small a small in omega arith)) [
         | inl z ↦ Over (works_over w h low z.0 z.1 z.2)
         | inr z ↦ Works (works_on w h low z)
@@ -354,21 +268,21 @@ module _ (law : Rules) (c : Computes law) (t a : ℕ) (line : List ℕ) (large :
           λ k. ap (λ m. same_object (plain_at k) (target_in m)) em ∙ Trees.kind_apart (plain_at k) session (λ e. absurd (omega arith)) in
           record {
             tree = Trees.Calc a 0;
-            bag = λ k. ap (sum_by k) (pending_are h low w.rooted ∙ (ap (λ ms. sent_by h.message h.state h.made (outcome_in law (p.places (target_in h.message)) h.message h.state) ++ ms) one.1
+            bag = λ k. ap (sum_by k) (pending_are law p q h ∙ (ap (λ ms. sent_by h.message h.state h.made (outcome_in law (p.places (target_in h.message)) h.message h.state) ++ ms) one.1
                 ∙ (append-nil (sent_by h.message h.state h.made (outcome_in law (p.places (target_in h.message)) h.message h.state)) ∙ sends)));
             total = refl;
             standing = tt;
             fitting = (small, let z = place in omega arith);
             unset = refl;
             once = λ u. omega arith;
-            session_at = same_target h low w.rooted session (ap (λ m. same_object session (target_in m)) em ∙ same_object-refl session)
+            session_at = same_target law p q h session (ap (λ m. same_object session (target_in m)) em ∙ same_object-refl session)
                 ∙ ap (λ o. Some (state_after h.state (named 0 0 h.message) h.made o)) out;
             rooted = record {
-              plain = λ k l. (other_target h low w.rooted (plain_at k) (far k) ∙ (spared (plain_at k) ∙ ((w.rooted).plain k l).0), lower h low w.rooted (plain_at k) ((w.rooted).plain k l).1);
-              alike = alike_after h low w.rooted;
-              place = lower h low w.rooted session place;
+              plain = λ k l. (other_target law p q h (plain_at k) (far k) ∙ (spared (plain_at k) ∙ ((w.rooted).plain k l).0), lower law p q h low (plain_at k) ((w.rooted).plain k l).1);
+              alike = alike_after law p q h (w.rooted).alike;
+              place = lower law p q h low session place;
             };
-            printed = printed_are h low w.rooted ∙ (ap (λ o. p.printed ++ o.prints) out ∙ (append-nil p.printed ∙ w.printed));
+            printed = printed_are law p q h ∙ (ap (λ o. p.printed ++ o.prints) out ∙ (append-nil p.printed ∙ w.printed));
           }
   waits_step w (inr h) = absurd (Trees.some_none h.1.to (sym h.1.move ∙ still h.1.before h.1.message h.1.behind (sym w.pending ∙ h.1.pending)))
     where

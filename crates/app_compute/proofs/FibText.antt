@@ -16,7 +16,8 @@ use Rattle.hpx_journal.specs.Sessions.{BeginsWith, IsBlock, IsPlainBlock, IsPlai
 use Rattle.hpx_journal.proofs.Reduced.{boot_shows}
 use Rattle.hpx_journal.proofs.Sessions.{session_front, session_plain}
 use Rattle.app_compute.specs.Lines.{fib_line}
-use Rattle.app_compute.specs.FibLaw.{IsFront, IsJudged, IsQuestion, fed_line, fib_text}
+use Rattle.app_compute.specs.FibLaw.{IsFront, IsQuestion, fed_line, fib_text}
+use Rattle.app_compute.specs.Judging.{IsJudged}
 use Rattle.app_compute.proofs.FibLines.{line_asks}
 use Rattle.app_compute.proofs.FibRuns.{IsWaiting, Phase, Waits, phases, ends, so_far}
 

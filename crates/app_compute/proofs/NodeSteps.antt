@@ -15,7 +15,7 @@ use Rattle.hpx_journal.proofs.SameMessage.{same_message}
 use Rattle.hpx_calls.specs.Outcomes.{outcome_of}
 use Rattle.app_compute.specs.Types.{State, Outcome}
 use Rattle.app_compute.specs.Numbers.{is_direct}
-use Rattle.app_compute.specs.FibLaw.{Computes}
+use Rattle.app_compute.specs.Judging.{Computes}
 use Rattle.app_compute.proofs.Does.{slot_of, fib_message, sum_message, get_message, set_message, kept_slots, flow, spent, Does, first_kept, first_last, first_ends, second_kept, second_last, second_ends, get_none, get_first, get_second, get_ends}
 use Rattle.app_compute.proofs.Trees
 use Rattle.app_compute.proofs.TreeSteps.{IsStep, IsStepped, carried, sends, leaves, spared, elsewhere, sum_step, calc_by}

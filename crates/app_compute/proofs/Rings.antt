@@ -71,14 +71,14 @@ ring_whole rows h =
 
 -- ---- samples
 
-four_points : Ring.stencil_text 4 2 ≡ codes "2 1 2 1\n1 2 1 2\n"
+four_points : Ring.stencil_texts 4 2 ≡ codes "2 1 2 1\n" ∷ codes "1 2 1 2\n" ∷ []
 unfolding digits
 four_points = refl
 
-no_steps : Ring.stencil_text 4 0 ≡ []
+no_steps : Ring.stencil_texts 4 0 ≡ []
 no_steps = refl
 
-one_point : Ring.rows_text (pos 7 ∷ []) 2 ≡ codes "7\n7\n"
+one_point : Ring.row_texts (pos 7 ∷ []) 2 ≡ codes "7\n" ∷ codes "7\n" ∷ []
 unfolding digits
 one_point = refl
 

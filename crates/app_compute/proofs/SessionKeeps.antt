@@ -26,7 +26,7 @@ length-digits_onto (suc k) base upper n acc =
     cond_both (n / base == 0) _ _ (λ bytes. length bytes ≤ suc k + length acc) (λ e. omega arith)
     (λ e. let more = length-digits_onto k base upper (n / base) (digit_glyph upper (n % base) ∷ acc) in omega arith)
 
-length-decimal : (n : ℕ) → length (decimal n) ≤ 64
+pub length-decimal : (n : ℕ) → length (decimal n) ≤ 64
 unfolding digits
 length-decimal n = length-digits_onto 64 10 false n []
 
@@ -48,11 +48,11 @@ length-fault_word code =
     (either_word (code == 10) _ _ (lit≤ tt) (either_word (code == 11) _ _ (lit≤ tt) (lit≤ tt)))))))))))
 
 -- at most one text, which is short
-record IsShort (texts : List (List ℕ)) : Type 0 where
-  few : length texts ≤ 16
-  short : AllByRecursion (λ bytes. length bytes ≤ 16384) texts
+pub record IsShort (texts : List (List ℕ)) : Type 0 where
+  pub few : length texts ≤ 16
+  pub short : AllByRecursion (λ bytes. length bytes ≤ 16384) texts
 
-answer_short : (n : ℕ) (v : Value) → IsShort (Texts.answer_texts n v)
+pub answer_short : (n : ℕ) (v : Value) → IsShort (Texts.answer_texts n v)
 answer_short n (Int z) =
     let number = length-decimal n in
     let value = length-signed z in
@@ -81,20 +81,20 @@ no_places : (place : ℕ) → count_by (λ p. p == place) [] ≤ 8
 no_places place = lit≤ tt
 
 module _ (n here : ℕ) (s : State) (a : Act) (some : 1 ≤ n) (h : IsState s) (act : IsAct a) where
-  refused_keeps : KeepsLaws n 1 here s a (refused s a)
+  pub refused_keeps : KeepsLaws n 1 here s a (refused s a)
   refused_keeps =
       stays_keeps n 1 here s a (Fault 11) h act (lit≤ tt, lit≤ tt) refl
       (λ c m args. absurd (let low = m.0 in omega arith)) (λ c m args. absurd (let low = m.0 in omega arith))
 
   module _ (conts : s.conts ≡ []) (cont : a.cont ≡ None) where
-    unused : UsesEachOnce (length (hand_slots s a)) []
+    pub unused : UsesEachOnce (length (hand_slots s a)) []
     unused i =
         let none : length (hand_slots s a) ≡ 0 =
         length-hand_slots s a ∙ ap (λ cs. length (cs ++ listed a.cont)) conts ∙ ap (λ c. length (listed c)) cont in
         let zero : (if nat_lt i (length (hand_slots s a)) then 1 else 0) ≡ 0 = ap (λ (b : Bool). if b then 1 else 0) (le-ltb i (length (hand_slots s a)) (omega arith)) in
         sym zero
 
-    says_keeps : (texts : List (List ℕ)) → IsShort texts → KeepsLaws n 1 here s a (Session.spoken s.drawn [] [] texts)
+    pub says_keeps : (texts : List (List ℕ)) → IsShort texts → KeepsLaws n 1 here s a (Session.spoken s.drawn [] [] texts)
     says_keeps texts short = record {
       names = record { places = tt; conts = tt; each = λ place _. no_places place; all = lit≤ tt };
       conts = unused;

@@ -16,7 +16,7 @@ use Rattle.hpx_journal.proofs.Same.{same_object-refl}
 use Rattle.app_compute.specs.Types.{State, Make, Outcome}
 use Rattle.app_compute.specs.Numbers.{fibonacci, is_direct}
 use Rattle.app_compute.specs.Acts.{sum_of_two}
-use Rattle.app_compute.specs.FibLaw.{Computes}
+use Rattle.app_compute.specs.Judging.{Computes}
 use Rattle.app_compute.proofs.Does.{plain_at, slot_of, fib_message, sum_message, get_message, set_message, flow, Does, Splits, sum_does, direct_does, split_does}
 use Rattle.app_compute.proofs.Trees
 

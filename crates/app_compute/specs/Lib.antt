@@ -8,4 +8,7 @@ pub mod Texts
 pub mod Lines
 pub mod Session
 pub mod StencilSession
+pub mod Computing
+pub mod Judging
 pub mod FibLaw
+pub mod StencilLaw

@@ -34,13 +34,13 @@ abbrev pub row_text : List ℤ → List ℕ
 row_text xs = row_words xs ++ codes "\n"
 
 -- a row for each step
-abbrev pub rows_text : List ℤ → ℕ → List ℕ
-rows_text xs zero = []
-rows_text xs (suc steps) = row_text (ring_step xs) ++ rows_text (ring_step xs) steps
+abbrev pub row_texts : List ℤ → ℕ → List (List ℕ)
+row_texts xs zero = []
+row_texts xs (suc steps) = row_text (ring_step xs) ∷ row_texts (ring_step xs) steps
 
--- the text of `stencil`: point i begins at i
-abbrev pub stencil_text : ℕ → ℕ → List ℕ
-stencil_text points steps = rows_text (points_from 0 points) steps
+-- the texts of `stencil`: point i begins at i
+abbrev pub stencil_texts : ℕ → ℕ → List (List ℕ)
+stencil_texts points steps = row_texts (points_from 0 points) steps
 
 -- ---- parts
 

@@ -8,7 +8,8 @@ ghost use Rattle.hpx_journal.specs.declared.entry.Entry.{Entry};
 ghost use Rattle.hpx_journal.specs.Pool.{NoneFails, prints_of};
 ghost use Rattle.hpx_journal.specs.Sessions.{BeginsWith, IsBlock};
 ghost use Rattle.hpx_journal.specs.Whole.{IsLegal};
-ghost use Rattle.app_compute.specs.FibLaw.{IsFront, IsJudged, IsQuestion, fed_line, fib_text, judging_alone};
+ghost use Rattle.app_compute.specs.FibLaw.{IsFront, IsQuestion, fed_line, fib_text};
+ghost use Rattle.app_compute.specs.Judging.{IsJudged, judging_alone};
 
 /// Whatever the number of localities and the order in which frames come: where the line is fed at boot, and no action fails,
 /// `fib` prints `fibonacci(N) == F(N)` and nothing else (`whole`), and wherever it is broken off, the front of that

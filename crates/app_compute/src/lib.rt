@@ -4,6 +4,7 @@
 
 pub mod act;
 pub mod codes;
+pub mod computing;
 pub mod fib_law;
 pub mod laws;
 pub mod line;
@@ -14,3 +15,4 @@ pub mod ring_law;
 pub mod session;
 pub mod shape;
 pub mod stencil;
+pub mod stencil_law;

@@ -23,14 +23,14 @@ pub struct Awaited {
     pub slot: u32,
 }
 
-/// What stands before a line of the top call that asks for numbers.
+/// What stands before a line of the top call that asks for numbers or a ring.
 pub const MARK: u8 = b'c';
 
 const MOST: u32 = 92;
 
 const MOST_DRAWN: u32 = 4_000_000_000;
 
-/// Whether an action on the session is a line that asks for numbers, or comes while one is awaited.
+/// Whether an action on the session is a line that asks for numbers or a ring, or comes while one is awaited.
 pub fn computes(state: &State, action: &Act) -> bool
     ensures { result ≡ computes state.now action.now }
 {

@@ -1,17 +1,19 @@
 use app_compute::act::compute_act;
+use app_compute::computing::computing_act;
 use app_compute::line::fib_line;
-use app_compute::session::{MARK, session_act};
+use app_compute::session::MARK;
+use app_compute::shape::stencil_line;
+use hpx_calls::codes::{DATAFLOW, PARTITION};
 use hpx_lco::act::lco_act;
-use hpx_value::codes::{LINE, PLAIN, SESSION, SET};
+use hpx_names::act::names_act;
+use hpx_value::codes::{COMPONENTS, LINE, PLAIN, SESSION, SET};
 use hpx_value::exact::Exact;
-use hpx_value::gid::Gid;
-use hpx_value::items::Items;
+use hpx_value::gid::{Gid, Gids};
+use hpx_value::items::{Items, Text};
 use hpx_value::outcome::{Outcome, Reply, SendCont, Sending, Target};
 use hpx_value::value::{Act, Cont, State, Value, Values};
 use std::alloc::Global;
 use std::test::Fail;
-
-const DATAFLOW: u32 = 33;
 
 // Which pending action is done next.
 #[derive(Clone, Copy)]
@@ -21,6 +23,8 @@ enum Order {
     Middle,
 }
 
+const ORDERS: [Order; 3] = [Order::Oldest, Order::Latest, Order::Middle];
+
 // A slot of an object.
 #[derive(Clone, Copy)]
 struct Slot {
@@ -28,12 +32,25 @@ struct Slot {
     number: u32,
 }
 
-// A session, dataflows, and what is pending; plain objects have no state.
+// What an action sees: ids, and who awaits answers.
+#[derive(Drop)]
+struct Hand {
+    ids: Vec<Gid>,
+    slots: Vec<Slot>,
+}
+
+// An object that is not a root, or the session.
+#[derive(Drop)]
+struct Object {
+    id: Gid,
+    state: State,
+}
+
+// Objects, and what is pending; other roots have no state.
 #[derive(Drop)]
 struct Pool {
     localities: u32,
-    session: State,
-    flows: Vec<State>,
+    objects: Vec<Object>,
     pending: Vec<Act>,
     printed: Vec<u8>,
 }
@@ -47,15 +64,36 @@ fn blank(alloc: Global) -> State {
     }
 }
 
+fn session() -> Gid {
+    Gid::new(0, SESSION, 1)
+}
+
 fn id_at(ids: &[Gid], place: usize) -> Gid {
     match ids.get(place) {
         Some(id) => *id,
-        None => Gid::new(0, SESSION, 1),
+        None => session(),
     }
 }
 
-// The continuations of a hand: those of the state, and then the action's.
-fn slots_of(alloc: Global, state: &State, action: &Act) -> Result<Vec<Slot>, Fail> {
+// An object of a kind that is made here, or a root.
+fn id_of(kind: u32, here: u32, number: u64) -> Gid {
+    if here == u32::MAX || number == 0 {
+        return session();
+    }
+    match kind {
+        COMPONENTS => Gid::new(here, COMPONENTS, number),
+        PLAIN => Gid::new(here, PLAIN, number),
+        PARTITION => Gid::new(here, PARTITION, number),
+        _ => Gid::new(here, DATAFLOW, number),
+    }
+}
+
+// The hand of an action on an object in a state.
+fn hand_of(alloc: Global, state: &State, action: &Act, made: &[Gid]) -> Result<Hand, Fail> {
+    let mut ids = Vec::new(alloc);
+    ids.extend_from_slice(state.ids.as_slice())?;
+    ids.extend_from_slice(action.ids.as_slice())?;
+    ids.extend_from_slice(made)?;
     let mut slots = Vec::new(alloc);
     for cont in state.conts.as_slice() {
         slots.push(Slot {
@@ -69,26 +107,53 @@ fn slots_of(alloc: Global, state: &State, action: &Act) -> Result<Vec<Slot>, Fai
             number: cont.slot,
         })?;
     }
-    Ok(slots)
+    Ok(Hand { ids, slots })
 }
 
-// An action without Refs, whose answer goes to a slot, if to any.
+// Values whose Refs are numbered from one on, behind ids that are told.
+fn renumbered(
+    alloc: Global,
+    hand: &Hand,
+    first: u16,
+    values: &Values,
+    ids: &mut Gids,
+) -> Result<Values, Fail> {
+    let mut new = Items::new(alloc);
+    let mut next = first;
+    for value in values.as_slice() {
+        match value {
+            Value::Ref(place) => {
+                ids.push(id_at(hand.ids.as_slice(), usize::from(*place)))?;
+                new.push(Value::Ref(next))?;
+                next = next.wrapping_add(1);
+            }
+            _ => new.push(value.duplicate(alloc)?)?,
+        }
+    }
+    Ok(new)
+}
+
+// An action whose answer goes to a slot, if to any.
 fn message(
     alloc: Global,
+    hand: &Hand,
     target: Gid,
     code: u16,
-    args: Values,
+    args: &Values,
     slot: Option<Slot>,
 ) -> Result<Act, Fail> {
     let mut ids = Items::new(alloc);
     ids.push(target)?;
+    let args = renumbered(alloc, hand, 1, args, &mut ids)?;
     let mut cont = None;
     if let Some(Slot { object, number }) = slot {
+        if let Ok(place) = u16::try_from(ids.len()) {
+            cont = Some(Cont {
+                place,
+                slot: number,
+            });
+        }
         ids.push(object)?;
-        cont = Some(Cont {
-            place: 1,
-            slot: number,
-        });
     }
     Ok(Act {
         origin: 0,
@@ -101,22 +166,37 @@ fn message(
 }
 
 // The state that an outcome leaves.
-fn left(alloc: Global, outcome: &Outcome, slots: &[Slot]) -> Result<State, Fail> {
+fn left(alloc: Global, outcome: &Outcome, hand: &Hand) -> Result<State, Fail> {
     let mut state = blank(alloc);
     state.drawn = outcome.state.drawn;
-    state.values = outcome.state.values.duplicate(alloc)?;
-    let mut place: u16 = 0;
+    state.values = renumbered(alloc, hand, 0, &outcome.state.values, &mut state.ids)?;
     for number in outcome.state.conts.as_slice() {
-        if let Some(slot) = slots.get(*number as usize) {
+        let place = u16::try_from(state.ids.len());
+        if let (Some(slot), Ok(place)) = (hand.slots.get(*number as usize), place) {
             state.conts.push(Cont {
                 place,
                 slot: slot.number,
             })?;
             state.ids.push(slot.object)?;
-            place = place.wrapping_add(1);
         }
     }
     Ok(state)
+}
+
+// Where the answer to a send goes.
+fn slot_for(cont: SendCont, hand: &Hand, made: &[Gid]) -> Option<Slot> {
+    match cont {
+        SendCont::Nothing => None,
+        SendCont::Own(number) => hand.slots.get(usize::from(number)).copied(),
+        SendCont::Made { make, slot } => Some(Slot {
+            object: id_at(made, usize::from(make)),
+            number: slot,
+        }),
+        SendCont::Here { slot } => Some(Slot {
+            object: session(),
+            number: slot,
+        }),
+    }
 }
 
 impl Pool {
@@ -133,68 +213,53 @@ impl Pool {
         Some(self.pending.remove(index))
     }
 
-    fn outcome(&self, alloc: Global, target: Gid, action: &Act) -> Result<Outcome, Fail> {
-        if target.kind() == SESSION {
-            return Ok(session_act(alloc, 0, &self.session, action)?);
-        }
-        let here = target.home();
-        if target.kind() == PLAIN && here < self.localities {
-            let state = blank(alloc);
-            return Ok(compute_act(alloc, PLAIN, here, self.localities, &state, action)?);
-        }
-        match self.flows.get(target.number() as usize) {
-            Some(flow) => Ok(lco_act(alloc, DATAFLOW, here, flow, action)?),
-            None => Ok(lco_act(alloc, DATAFLOW, here, &blank(alloc), action)?),
-        }
-    }
-
-    // The continuations of an action's hand.
-    fn slots(&self, alloc: Global, target: Gid, action: &Act) -> Result<Vec<Slot>, Fail> {
-        if target.kind() == DATAFLOW {
-            if let Some(flow) = self.flows.get(target.number() as usize) {
-                return slots_of(alloc, flow, action);
+    fn state(&self, alloc: Global, target: Gid) -> Result<State, Fail> {
+        for object in self.objects.as_slice() {
+            if object.id == target {
+                return Ok(object.state.duplicate(alloc)?);
             }
         }
-        slots_of(alloc, &blank(alloc), action)
+        Ok(blank(alloc))
     }
 
-    // The new dataflow, where one is made.
-    fn make(&mut self, alloc: Global, here: u32, outcome: &Outcome) -> Result<Gid, Fail> {
-        let number = self.flows.len() as u64;
+    fn outcome(
+        &self,
+        alloc: Global,
+        target: Gid,
+        state: &State,
+        action: &Act,
+    ) -> Result<Outcome, Fail> {
+        let (here, n) = (target.home(), self.localities);
+        Ok(match target.kind() {
+            SESSION if 1 <= n => computing_act(alloc, 0, n, state, action)?,
+            PLAIN if here < n => compute_act(alloc, PLAIN, here, n, state, action)?,
+            PARTITION if here < n => compute_act(alloc, PARTITION, here, n, state, action)?,
+            COMPONENTS => names_act(alloc, COMPONENTS, here, n, state, action)?,
+            _ => lco_act(alloc, DATAFLOW, here, state, action)?,
+        })
+    }
+
+    // The objects that are made.
+    fn make(&mut self, alloc: Global, here: u32, outcome: &Outcome) -> Result<Vec<Gid>, Fail> {
+        let mut made = Vec::new(alloc);
         for make in outcome.makes.as_slice() {
+            let id = id_of(make.kind, here, self.objects.len() as u64);
             let mut state = blank(alloc);
             state.values = make.values.duplicate(alloc)?;
-            self.flows.push(state)?;
+            self.objects.push(Object { id, state })?;
+            made.push(id)?;
         }
-        if here == u32::MAX || number == 0 {
-            return Ok(Gid::new(0, DATAFLOW, 1));
-        }
-        Ok(Gid::new(here, DATAFLOW, number))
+        Ok(made)
     }
 
     fn keep(&mut self, target: Gid, state: State) {
-        if target.kind() == SESSION {
-            self.session = state;
-        } else if target.kind() == DATAFLOW {
-            if let Some(flow) = self.flows.get_mut(target.number() as usize) {
-                *flow = state;
+        for index in 0..self.objects.len() {
+            if let Some(object) = self.objects.get_mut(index) {
+                if object.id == target {
+                    object.state = state;
+                    return;
+                }
             }
-        }
-    }
-
-    // Where the answer to a send goes.
-    fn slot_for(cont: SendCont, slots: &[Slot], made: Gid) -> Option<Slot> {
-        match cont {
-            SendCont::Nothing => None,
-            SendCont::Own(number) => slots.get(usize::from(number)).copied(),
-            SendCont::Made { make: _, slot } => Some(Slot {
-                object: made,
-                number: slot,
-            }),
-            SendCont::Here { slot } => Some(Slot {
-                object: Gid::new(0, SESSION, 1),
-                number: slot,
-            }),
         }
     }
 
@@ -202,76 +267,72 @@ impl Pool {
         &mut self,
         alloc: Global,
         sending: &Sending,
-        slots: &[Slot],
-        made: Gid,
+        hand: &Hand,
+        made: &[Gid],
     ) -> Result<(), Fail> {
         let to = match sending.target {
-            Target::Place(_) => made,
-            Target::Root { kind: _, at } if at < self.localities && at < u32::MAX => {
-                Gid::new(at, PLAIN, 1)
-            }
-            Target::Root { .. } => Gid::new(0, PLAIN, 1),
+            Target::Place(place) => id_at(hand.ids.as_slice(), usize::from(place)),
+            Target::Root { kind, at } => id_of(kind, at, 1),
         };
-        let slot = Pool::slot_for(sending.cont, slots, made);
-        let args = sending.args.duplicate(alloc)?;
-        self.pending
-            .push(message(alloc, to, sending.code, args, slot)?)?;
+        let slot = slot_for(sending.cont, hand, made);
+        let act = message(alloc, hand, to, sending.code, &sending.args, slot)?;
+        self.pending.push(act)?;
         Ok(())
     }
 
-    fn reply(&mut self, alloc: Global, reply: &Reply, slots: &[Slot]) -> Result<(), Fail> {
-        if let Some(slot) = slots.get(usize::from(reply.cont)) {
+    fn reply(&mut self, alloc: Global, reply: &Reply, hand: &Hand) -> Result<(), Fail> {
+        if let Some(slot) = hand.slots.get(usize::from(reply.cont)) {
             let mut args = Items::new(alloc);
             args.push(Value::Int(i64::from(slot.number)))?;
             args.push(reply.value.duplicate(alloc)?)?;
-            self.pending
-                .push(message(alloc, slot.object, SET, args, None)?)?;
+            let act = message(alloc, hand, slot.object, SET, &args, None)?;
+            self.pending.push(act)?;
         }
         Ok(())
     }
 
     fn act(&mut self, alloc: Global, action: Act) -> Result<(), Fail> {
         let target = id_at(action.ids.as_slice(), 0);
-        let outcome = self.outcome(alloc, target, &action)?;
-        let slots = self.slots(alloc, target, &action)?;
+        let state = self.state(alloc, target)?;
+        let outcome = self.outcome(alloc, target, &state, &action)?;
         let made = self.make(alloc, target.home(), &outcome)?;
-        let state = left(alloc, &outcome, slots.as_slice())?;
-        self.keep(target, state);
+        let hand = hand_of(alloc, &state, &action, made.as_slice())?;
+        self.keep(target, left(alloc, &outcome, &hand)?);
         for sending in outcome.sends.as_slice() {
-            self.send(alloc, sending, slots.as_slice(), made)?;
+            self.send(alloc, sending, &hand, made.as_slice())?;
         }
         for reply in outcome.replies.as_slice() {
-            self.reply(alloc, reply, slots.as_slice())?;
+            self.reply(alloc, reply, &hand)?;
         }
         for print in outcome.prints.as_slice() {
-            for byte in print.as_slice() {
-                self.printed.push(*byte)?;
-            }
+            self.printed.extend_from_slice(print.as_slice())?;
         }
         Ok(())
     }
 }
 
-// What a run of `fib` prints.
-fn run(
-    alloc: Global,
-    localities: u32,
-    number: u32,
-    threshold: u32,
-    order: Order,
-) -> Result<Vec<u8>, Fail> {
+// What a run prints on a line.
+fn run(alloc: Global, localities: u32, asked: &Text, order: Order) -> Result<Vec<u8>, Fail> {
     let mut line = Items::new(alloc);
     line.push(MARK)?;
-    for byte in fib_line(alloc, number, threshold)?.as_slice() {
+    for byte in asked.as_slice() {
         line.push(*byte)?;
     }
     let mut args = Items::new(alloc);
     args.push(Value::Text(line))?;
-    let first = message(alloc, Gid::new(0, SESSION, 1), LINE, args, None)?;
+    let nobody = Hand {
+        ids: Vec::new(alloc),
+        slots: Vec::new(alloc),
+    };
+    let first = message(alloc, &nobody, session(), LINE, &args, None)?;
     let mut pool = Pool {
         localities,
-        session: blank(alloc),
-        flows: vec![in alloc; blank(alloc)]?,
+        objects: vec![in alloc;
+            Object {
+                id: session(),
+                state: blank(alloc)
+            },
+        ]?,
         pending: vec![in alloc; first]?,
         printed: Vec::new(alloc),
     };
@@ -297,8 +358,36 @@ fn fib_prints_one_line_in_each_order(rt: HostRuntime) -> Result<(), Fail> {
         (2, 92, 92, b"fibonacci(92) == 7540113804746346429\n"),
     ];
     for (localities, number, threshold, want) in rows {
-        for order in [Order::Oldest, Order::Latest, Order::Middle] {
-            let text = run(alloc, localities, number, threshold, order)?;
+        let line = fib_line(alloc, number, threshold)?;
+        for order in ORDERS {
+            let text = run(alloc, localities, &line, order)?;
+            assert!(rt; text.as_slice() == want);
+        }
+    }
+    Ok(())
+}
+
+// Localities, points, parts, steps, and the rows as they were counted by hand.
+type Ring = (u32, u32, u32, u32, &'static [u8]);
+
+const RINGS: [Ring; 8] = [
+    (2, 4, 2, 2, b"2 1 2 1\n1 2 1 2\n"),
+    (1, 4, 1, 2, b"2 1 2 1\n1 2 1 2\n"),
+    (3, 4, 4, 2, b"2 1 2 1\n1 2 1 2\n"),
+    (2, 4, 2, 0, b""),
+    (2, 1, 1, 3, b"0\n0\n0\n"),
+    (4, 2, 2, 2, b"1 0\n0 1\n"),
+    (2, 3, 3, 3, b"1 1 0\n0 0 1\n0 0 0\n"),
+    (5, 6, 3, 2, b"3 1 2 3 4 2\n1 2 2 3 2 3\n"),
+];
+
+#[test]
+fn a_ring_prints_its_rows_in_each_order(rt: HostRuntime) -> Result<(), Fail> {
+    let alloc = rt.alloc();
+    for (localities, points, parts, steps, want) in RINGS {
+        let line = stencil_line(alloc, points, parts, steps)?;
+        for order in ORDERS {
+            let text = run(alloc, localities, &line, order)?;
             assert!(rt; text.as_slice() == want);
         }
     }

@@ -23,7 +23,7 @@ use crate::table::Consoles;
 /// Whatever the order in which frames come: where each line of a console that is not too long is fed, and each only once
 /// nothing is pending, the console writes what the plain space says, as long as no action fails. Where a line is broken off,
 /// it has written the front of that. So it is from boot on, and where the top call first has its own line fed, for all acts
-/// of which the session reads the console.
+/// of which the session reads the console. The acts of this crate are such acts, for each set of consoles (`alone`).
 pub fn session_law()
     ensures plain { (acts : Acting) (con : Console) (mark n log limit : ℕ) (parcel_of : List ℕ → Option Parcel) (lines : List (List ℕ))
         (blocks : List (List Entry)) → IsUsers acts.consoles con mark → 1 ≤ n → n ≤ 64 → length lines < 4000000000 →
@@ -50,6 +50,7 @@ pub fn session_law()
         IsSession (judging acts n log limit parcel_of) [] (opening ∷ marked mark lines) blocks → BeginsWith (mark ∷ line) es →
         IsLegal (judging acts n log limit parcel_of) (entries_of blocks ++ es) → NoneFails (entries_of blocks ++ es) →
         IsFront (written lines (others_of (shown blocks)) ++ (prompt ++ concat (prints_of es))) (lines_text con n (opened n) (lines ++ line ∷ [])) }
+    ensures alone { (cs : Consoles) → (acts : Acting) × (acts.consoles ≡ cs) × (acts.act_of ≡ act_of cs) }
 {}
 
 /// What any action does keeps the laws of actions, and looks neither at the action's name nor at the credits of ids. Where

@@ -44,8 +44,9 @@ fn run_on(alloc: Global, given: &[&[u8]], order: Order) -> Result<Written, OutOf
 
 type Row = (&'static [&'static [u8]], u8, &'static [u8], &'static [u8]);
 
-// Words, and the status, the text and the line for errors that they come to. The numbers are those of any table.
-const ROWS: [Row; 8] = [
+// Words, and the status, the text and the line for errors that they come to. The numbers are those of any table, and the
+// rows were counted by hand.
+const ROWS: [Row; 14] = [
     (&[b"fib"], 0, b"fibonacci(10) == 55\n", b""),
     (
         &[b"fib", b"--n-value", b"92", b"--threshold", b"92"],
@@ -82,6 +83,51 @@ const ROWS: [Row; 8] = [
     (&[b"--hpx:threads=0", b"fib"], 1, b"", b"hpx: bad word 1\n"),
     (
         &[b"fib", b"--hpx:localities=65"],
+        1,
+        b"",
+        b"hpx: bad word 2\n",
+    ),
+    (
+        &[
+            b"stencil",
+            b"--points",
+            b"4",
+            b"--parts",
+            b"2",
+            b"--steps",
+            b"2",
+            b"--hpx:localities=2",
+        ],
+        0,
+        b"2 1 2 1\n1 2 1 2\n",
+        b"",
+    ),
+    (
+        &[b"stencil", b"--points=6", b"--parts=3", b"--steps=2"],
+        0,
+        b"3 1 2 3 4 2\n1 2 2 3 2 3\n",
+        b"",
+    ),
+    (&[b"stencil", b"--steps", b"0"], 0, b"", b""),
+    (
+        &[
+            b"stencil",
+            b"--points=1",
+            b"--steps=2",
+            b"--hpx:localities=3",
+        ],
+        0,
+        b"0\n0\n",
+        b"",
+    ),
+    (
+        &[b"stencil", b"--points=10", b"--parts=3"],
+        1,
+        b"",
+        b"hpx: bad word 0\n",
+    ),
+    (
+        &[b"stencil", b"--points=1025"],
         1,
         b"",
         b"hpx: bad word 2\n",

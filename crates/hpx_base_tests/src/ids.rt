@@ -1,5 +1,6 @@
 use hpx_ids::held::{Held, Owner};
 use hpx_ids::ids::{Ids, NotAsked};
+use hpx_value::exact::Exact;
 use hpx_value::gid::Gid;
 use hpx_value::items::Keys;
 use std::alloc::Global;
@@ -157,6 +158,37 @@ fn give(
     Ok(())
 }
 
+// Puts the id at a place together with the next, where both are the same.
+fn join(ids: &mut Ids, plain: &mut Plain, place: usize) -> Result<(), Fail> {
+    let next = place.wrapping_add(1);
+    let Some(line) = plain.lines.get(place) else {
+        return Ok(());
+    };
+    let key = line.0;
+    let Some(line) = plain.lines.get(next) else {
+        return Ok(());
+    };
+    let gone = line.0;
+    let Some((gid, _, false)) = ids.look(key) else {
+        return Ok(());
+    };
+    let Some((other, _, false)) = ids.look(gone) else {
+        return Ok(());
+    };
+    let Some(log) = gid.log() else {
+        return Ok(());
+    };
+    if key == gone || !gid.same(&other) || log >= 3 {
+        return Ok(());
+    }
+    ids.merge(key, gone);
+    if let Some(line) = plain.lines.get_mut(place) {
+        line.1.gid = gid.bare().with_log(log + 1);
+    }
+    plain.lines.remove(next);
+    Ok(())
+}
+
 // Whether the table is what the list says.
 fn compare(rt: &impl Abort, alloc: Global, ids: &Ids, plain: &Plain) -> Result<(), Fail> {
     for key in 0..40 {
@@ -171,6 +203,20 @@ fn compare(rt: &impl Abort, alloc: Global, ids: &Ids, plain: &Plain) -> Result<(
         assert!(rt; keys.as_slice() == plain.keys(alloc, owner(draw))?.as_slice());
         assert_eq!(rt; ids.credit_of(object(draw)), plain.credit(object(draw)));
     }
+    Ok(())
+}
+
+#[test]
+fn two_of_one_credit_are_put_together(rt: HostRuntime) -> Result<(), Fail> {
+    let mut ids = Ids::new(rt.alloc());
+    let gid = Gid::new(1, 16, 1);
+    ids.reserve(2)?;
+    let first = ids.adopt(gid.with_log(4), owner(0));
+    let second = ids.adopt(gid.with_log(4), owner(1));
+    ids.merge(first, second);
+    assert!(rt; ids.look(first) == Some((gid.with_log(5), owner(0), false)));
+    assert!(rt; ids.look(second) == None);
+    assert_eq!(rt; ids.credit_of(gid), 32);
     Ok(())
 }
 
@@ -190,6 +236,8 @@ fn drawn_calls_keep_a_plain_list(rt: HostRuntime) -> Result<(), Fail> {
             adopt(&rt, alloc, &mut ids, &mut plain, draw / 8)?;
         } else if draw % 8 == 3 {
             give(&rt, &mut ids, &mut plain, place, draw / 8)?;
+        } else if draw % 16 == 4 {
+            join(&mut ids, &mut plain, place)?;
         } else {
             part(&rt, &mut ids, &mut plain, place, draw % 4)?;
         }

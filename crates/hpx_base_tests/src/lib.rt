@@ -1,4 +1,4 @@
-//! Tests of ids, values and profiles, of the table of held ids, of the cache of places, and of the ports in memory.
+//! Tests of ids, values and profiles, of the table of held ids, of the cache of places, of the ports in memory, and of spawners.
 #![tactic(auto)]
 
 #[cfg(test)]
@@ -7,5 +7,7 @@ mod cache;
 mod ids;
 #[cfg(test)]
 mod ports;
+#[cfg(test)]
+mod spawners;
 #[cfg(test)]
 mod values;

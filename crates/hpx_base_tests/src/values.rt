@@ -253,13 +253,13 @@ fn items_keep_their_order(rt: HostRuntime) -> Result<(), Fail> {
 fn profiles_have_their_ranges(rt: HostRuntime) {
     for (credit_log, credit_limit, cache, want) in [
         (8, 256, 1, true),
-        (30, 0x4000_0000_0000_0000, 4096, true),
+        (30, 0x10_0000_0000_0000_0000_0000_0000, 4096, true),
         (31, 0x8000_0000, 64, true),
         (7, 256, 1, false),
         (32, 0x4000_0000_0000_0000, 64, false),
         (8, 255, 1, false),
         (31, 0x7fff_ffff, 64, false),
-        (30, 0x4000_0000_0000_0001, 64, false),
+        (30, 0x10_0000_0000_0000_0000_0000_0001, 64, false),
         (30, 0x4000_0000, 0, false),
         (30, 0x4000_0000, 4097, false),
     ] {
@@ -270,6 +270,54 @@ fn profiles_have_their_ranges(rt: HostRuntime) {
         };
         assert_eq!(rt; profile.is_valid(), want, "{profile:?}");
     }
+}
+
+/// An answer with a number and the rider at a place of its ids, and with a continuation behind.
+fn answer(alloc: Global, rider: u16) -> Result<Act, OutOfMemory> {
+    let mut args = Items::new(alloc);
+    args.push(Value::Int(4))?;
+    args.push(Value::Int(9))?;
+    args.push(Value::Ref(rider))?;
+    let mut ids = Items::new(alloc);
+    for number in 1..=3 {
+        ids.push(Gid::new(0, 16, number).with_log(5))?;
+    }
+    Ok(Act {
+        origin: 1,
+        serial: 7,
+        code: SET,
+        args,
+        cont: Some(Cont { place: 2, slot: 8 }),
+        ids,
+    })
+}
+
+#[test]
+fn an_answer_is_seen_without_its_rider(rt: HostRuntime) -> Result<(), Fail> {
+    let alloc = rt.alloc();
+    let act = answer(alloc, 1)?;
+    assert!(rt; act.rider() == Some(Gid::new(0, 16, 2).with_log(5)));
+    let plain = act.plain(alloc)?;
+    assert_eq!(rt; (plain.origin, plain.serial, plain.code), (1, 7, SET));
+    assert_eq!(rt; plain.args.len(), 2);
+    assert!(rt; plain.args.as_slice()[1].same(&Value::Int(9)));
+    assert!(rt; plain.cont == Some(Cont { place: 1, slot: 8 }));
+    let ids = [Gid::new(0, 16, 1).with_log(5), Gid::new(0, 16, 3).with_log(5)];
+    assert!(rt; plain.ids.as_slice() == ids.as_slice());
+    assert!(rt; plain.rider() == None);
+    Ok(())
+}
+
+#[test]
+fn other_actions_are_seen_whole(rt: HostRuntime) -> Result<(), Fail> {
+    let alloc = rt.alloc();
+    let target = answer(alloc, 0)?;
+    assert!(rt; target.rider() == None);
+    assert!(rt; target.plain(alloc)?.same(&target));
+    let call = act(alloc, (1, 2), None, Gid::new(0, 16, 1))?;
+    assert!(rt; call.rider() == None);
+    assert!(rt; call.plain(alloc)?.same(&call));
+    Ok(())
 }
 
 #[test]

@@ -1,11 +1,13 @@
 -- Messages and states made of a hand without credits are those made of the hand, without credits, whatever is made.
-use Rattle.std.proofs.Common.{ℕ, zero, suc, List, [], ◌∷◌, ◌++◌, ◌≡◌, ◌+◌, pos, Option, Some, None, length, map, refl, sym, ap, ◌∙◌}
+use Rattle.std.proofs.Common.{Bool, ℕ, zero, suc, List, [], ◌∷◌, ◌++◌, ◌≡◌, ◌+◌, pos, Option, Some, None, length, map, refl, sym, ap, ◌∙◌}
 use Rattle.std.specs.List.{slice_index_or}
 use Rattle.std.proofs.lemmas.List.{map-append, length-map}
 use Rattle.hpx_value.specs.Ids.{Id, bare}
 use Rattle.hpx_value.specs.Values.{bare_act, bare_state, bare_message, message_of, named, refs_in}
 use Rattle.hpx_commit.proofs.Common.{Value, Int, Cont, State, Act, Message, Target, Place, Root, SendCont, NoCont, Own, Made, Here, Sending, Reply, Outcome, Due, MessageDue, PrintDue}
-use Rattle.hpx_value.specs.Hands.{Slot, session, id_at, slot_at, own_slot, hand_ids, hand_slots, hand_slot, addressed, renumbered, answer, target_id, send_slot, sent, replied, due_of, conts_from, state_after}
+use Rattle.hpx_value.specs.Hands.{Slot, session, id_at, slot_at, own_slot, hand_ids, hand_slots, hand_slot, addressed, renumbered, target_id, send_slot, sent, conts_from, state_after}
+use Rattle.hpx_value.specs.Riders.{rides, riders, answer_with, rode_with, rode, due_with}
+use Rattle.hpx_commit.proofs.BareMentions.{rides-bare}
 use Rattle.hpx_commit.proofs.Places.{at_map}
 
 -- what is made of each
@@ -99,12 +101,18 @@ module _ (s : State) (a : Act) where
         ∙ (ap (λ c. addressed (map bare (hand_ids s a made)) (bare (target_id (hand_ids s a made) x.target)) x.code x.args c) (send_slot-bare x.cont)
         ∙ addressed-bare (hand_ids s a made) (target_id (hand_ids s a made) x.target) x.code x.args (send_slot s a made x.cont)))
 
-    replied-bare : (x : Reply) → replied (bare_state s) (bare_act a) (map bare made) x ≡ bare_message (replied s a made x)
-    replied-bare x =
+    -- with the same rider, if there is one
+    answered-bare : (b : Bool) (x : Reply) → rode_with (bare_state s) (bare_act a) (map bare made) b x ≡ bare_message (rode_with s a made b x)
+    answered-bare b x =
         let slot = hand_slot s a x.cont in
-        ap (λ hand. answer hand (hand_slot (bare_state s) (bare_act a) x.cont) x.value) hand-bare
-        ∙ (ap (λ y. answer (map bare (hand_ids s a made)) y x.value) (slot-bare x.cont)
-        ∙ addressed-bare (hand_ids s a made) slot.object 3 (Int (pos slot.number) ∷ x.value ∷ []) None)
+        ap (λ hand. answer_with hand (hand_slot (bare_state s) (bare_act a) x.cont) x.value (riders b (length (map bare s.ids)))) hand-bare
+        ∙ (ap (λ y. answer_with (map bare (hand_ids s a made)) y x.value (riders b (length (map bare s.ids)))) (slot-bare x.cont)
+        ∙ (ap (λ k. answer_with (map bare (hand_ids s a made)) (bare_slot slot) x.value (riders b k)) (length-map s.ids bare)
+        ∙ addressed-bare (hand_ids s a made) slot.object 3 (Int (pos slot.number) ∷ x.value ∷ riders b (length s.ids)) None))
+
+    rode-bare : (out : Outcome) (x : Reply) → rode (bare_state s) (bare_act a) (map bare made) out x ≡ bare_message (rode s a made out x)
+    rode-bare out x =
+        ap (λ b. rode_with (bare_state s) (bare_act a) (map bare made) b x) (rides-bare s a out x) ∙ answered-bare (rides s a out x) x
 
     -- what is due, without credits
     module _ (g : Due → Due) (message : (m : Message) → g (MessageDue m) ≡ MessageDue (bare_message m)) (print : (bytes : List ℕ) → g (PrintDue bytes) ≡ PrintDue bytes) where
@@ -112,14 +120,14 @@ module _ (s : State) (a : Act) where
           → map (λ x. MessageDue (h x)) xs ≡ map g (map (λ x. MessageDue (f x)) xs)
       messages-bare f h xs e = maps (λ x. MessageDue (f x)) (λ x. MessageDue (h x)) g xs (λ x. ap MessageDue (e x) ∙ sym (message (f x)))
 
-      pub due-bare : (out : Outcome) → due_of (bare_state s) (bare_act a) (map bare made) out ≡ map g (due_of s a made out)
+      pub due-bare : (out : Outcome) → due_with (bare_state s) (bare_act a) (map bare made) out ≡ map g (due_with s a made out)
       due-bare out =
           let sends = map (λ x. MessageDue (sent s a made x)) out.sends in
-          let replies = map (λ x. MessageDue (replied s a made x)) out.replies in
+          let replies = map (λ x. MessageDue (rode s a made out x)) out.replies in
           let prints = map PrintDue out.prints in
-          let replies' = map (λ x. MessageDue (replied (bare_state s) (bare_act a) (map bare made) x)) out.replies in
+          let replies' = map (λ x. MessageDue (rode (bare_state s) (bare_act a) (map bare made) out x)) out.replies in
           ap (λ xs. xs ++ (replies' ++ prints)) (messages-bare (sent s a made) (sent (bare_state s) (bare_act a) (map bare made)) out.sends sent-bare)
-          ∙ (ap (λ xs. map g sends ++ (xs ++ prints)) (messages-bare (replied s a made) (replied (bare_state s) (bare_act a) (map bare made)) out.replies replied-bare)
+          ∙ (ap (λ xs. map g sends ++ (xs ++ prints)) (messages-bare (rode s a made out) (rode (bare_state s) (bare_act a) (map bare made) out) out.replies (rode-bare out))
           ∙ (ap (λ xs. map g sends ++ (map g replies ++ xs)) (maps PrintDue PrintDue g out.prints (λ x. sym (print x)))
           ∙ (ap (λ xs. map g sends ++ xs) (sym (map-append g replies prints))
           ∙ sym (map-append g sends (replies ++ prints)))))

@@ -5,7 +5,8 @@ use Rattle.std.proofs.lemmas.Bool.{cases_Bool, cases_lt}
 use Rattle.hpx_value.specs.Ids.{Id, bare}
 use Rattle.hpx_value.specs.Hands.{id_at, hand_ids}
 use Rattle.hpx_value.specs.Laws.{KeepsLaws}
-use Rattle.hpx_value.specs.Mentions.{mentions, kind_at}
+use Rattle.hpx_value.specs.Mentions.{kind_at}
+use Rattle.hpx_value.specs.Riders.{mentions_with}
 use Rattle.hpx_value.specs.Shapes.{IsState, IsAct}
 use Rattle.hpx_commit.specs.Deals.{is_managed, log_of, named, places_named, Lasts, AreWithin, AllLast}
 use Rattle.hpx_commit.specs.Stocks.{MayDeal, Stock, ahead, replaced_from, short_places, Lasting, SameNames}
@@ -17,6 +18,7 @@ use Rattle.hpx_commit.proofs.HandFit.{hand_right, hand_kinds_are}
 use Rattle.hpx_commit.proofs.Moved.{at_longer}
 use Rattle.hpx_commit.proofs.Places.{kind_of, kind_there, is_least, hand_kinds, managed_same, managed_named, managed_there, fewer_named, plain_named, behind_all}
 use Rattle.hpx_commit.proofs.Planned.{made_long, own_within, own_few, own_places}
+use Rattle.hpx_commit.proofs.Ridden.{few_with}
 use Rattle.hpx_commit.proofs.Rights.{AreRight}
 use Rattle.hpx_commit.proofs.Short.{ahead_short}
 use Rattle.hpx_commit.proofs.Stripped.{short_once}
@@ -39,11 +41,11 @@ module _ (P Q : Id → Type 0) (are : AreRight P Q) (n kind here : ℕ) (s : Sta
   few_names p = elim (cases_lt 0 (named ps p)) [
     | inl some ↦
         let high : 16 ≤ (id_at (hand_ids s a new) p).kind =
-        is_least (id_at (hand_ids s a new) p).kind (managed_there (hand_ids s a new) (mentions s a out) p some) in
+        is_least (id_at (hand_ids s a new) p).kind (managed_there (hand_ids s a new) (mentions_with s a out) p some) in
         let at : kind_at s a out p ≡ (id_at (hand_ids s a new) p).kind =
         ap (λ ks. slice_index_or ks p 0) (hand_kinds_are P Q are n kind here s a out laws few new new_kinds credit own_credit born)
         ∙ kind_there (hand_ids s a new) p high in
-        omega (arith, laws.names.each p (omega (arith, high, at)), fewer_named (hand_ids s a new) (mentions s a out) p)
+        omega (arith, few_with s a out laws.conts p 8 (omega arith) (laws.names.each p (omega (arith, high, at))), fewer_named (hand_ids s a new) (mentions_with s a out) p)
     | inr none ↦ omega (arith, none)
   ]
 
@@ -71,7 +73,7 @@ module _ (P Q : Id → Type 0) (are : AreRight P Q) (n kind here : ℕ) (s : Sta
     first_is : first ≡ ahead (length own) (record { hand = own ++ old; places = ps })
     first_is = ap (ahead (length own))
         (ap (λ qs. record { hand = hand_ids s a old; places = qs })
-        (managed_same (hand_ids s a old) (hand_ids s a new) (mentions s a out) (hand_kinds s a old new (kinds ∙ sym new_kinds)))
+        (managed_same (hand_ids s a old) (hand_ids s a new) (mentions_with s a out) (hand_kinds s a old new (kinds ∙ sym new_kinds)))
         ∙ ap (λ xs. record { hand = xs; places = ps }) (hand_is old))
 
     rest_is : drop (length own) hand ≡ drop (length own) (ahead (length own) (record { hand = own ++ old; places = ps })).hand
@@ -97,7 +99,7 @@ module _ (P Q : Id → Type 0) (are : AreRight P Q) (n kind here : ℕ) (s : Sta
     managed_where p un =
         let same = ahead_same (length own) (record { hand = own ++ new; places = ps }) (omega (arith, length-append own new)) within in
         plain_named split.hand (own ++ new) split.places ps same.objects.names
-        (subst (λ xs. AllByRecursion (λ q. is_managed (id_at xs q) ≡ true) ps) (hand_is new) (managed_named (hand_ids s a new) (mentions s a out))) p un
+        (subst (λ xs. AllByRecursion (λ q. is_managed (id_at xs q) ≡ true) ps) (hand_is new) (managed_named (hand_ids s a new) (mentions_with s a out))) p un
 
     -- what did not last is of a managed object
     pub waits_managed : (p : ℕ) → p < length (s.ids ++ a.ids) → (Lasting first p → ⊥) → is_managed (id_at hand p) ≡ true

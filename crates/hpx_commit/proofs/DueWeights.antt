@@ -3,7 +3,8 @@ use Rattle.std.proofs.Common.{ℕ, Bool, true, false, cond, codes, List, [], ◌
 use Rattle.std.specs.List.{AllByRecursion, sum_by}
 use Rattle.std.proofs.lemmas.List.Sums.{sum_by-append, sum_by-cons}
 use Rattle.hpx_value.specs.Ids.{Id}
-use Rattle.hpx_value.specs.Hands.{id_at, slot_at, answer, due_of, replied, sent}
+use Rattle.hpx_value.specs.Hands.{id_at, slot_at, answer, sent}
+use Rattle.hpx_value.specs.Riders.{due_with, rode}
 use Rattle.hpx_value.specs.declared.value.Value.TheVariants.{Fault}
 use Rattle.hpx_commit.specs.Failures.{due_failed}
 use Rattle.hpx_commit.proofs.Common.{Cont, State, Act, Message, Outcome, Due, MessageDue, PrintDue}
@@ -23,14 +24,14 @@ prints_light [] h = omega arith
 prints_light (x ∷ xs) h = omega (arith, sum_by-cons due_weight (PrintDue x) (map PrintDue xs), prints_light xs h.1, h.0)
 
 pub light_due : (s : State) (a : Act) (made : List Id) (out : Outcome) → length out.sends ≤ 32 → length out.replies ≤ 129 → length out.prints ≤ 16
-    → AllByRecursion (λ bytes. length bytes ≤ 16384) out.prints → sum_by due_weight (due_of s a made out) ≤ 273472
+    → AllByRecursion (λ bytes. length bytes ≤ 16384) out.prints → sum_by due_weight (due_with s a made out) ≤ 273472
 light_due s a made out h i j short =
     omega (
       arith,
-      sum_by-append due_weight (map (λ x. MessageDue (sent s a made x)) out.sends) (map (λ x. MessageDue (replied s a made x)) out.replies ++ map PrintDue out.prints),
-      sum_by-append due_weight (map (λ x. MessageDue (replied s a made x)) out.replies) (map PrintDue out.prints),
+      sum_by-append due_weight (map (λ x. MessageDue (sent s a made x)) out.sends) (map (λ x. MessageDue (rode s a made out x)) out.replies ++ map PrintDue out.prints),
+      sum_by-append due_weight (map (λ x. MessageDue (rode s a made out x)) out.replies) (map PrintDue out.prints),
       messages_light (sent s a made) out.sends,
-      messages_light (replied s a made) out.replies,
+      messages_light (rode s a made out) out.replies,
       prints_light out.prints short,
     )
 

@@ -5,7 +5,9 @@ use Rattle.std.proofs.lemmas.List.{map-append}
 use Rattle.hpx_value.specs.Ids.{Id}
 use Rattle.hpx_value.specs.Values.{refs_in}
 use Rattle.hpx_value.specs.Shapes.{IsMessage}
-use Rattle.hpx_value.specs.Hands.{Slot, session, id_at, slot_at, own_slot, hand_ids, hand_slots, hand_slot, addressed, slot_ids, renumbered, target_id, send_slot, sent, replied, due_of, slots_kept, state_after}
+use Rattle.hpx_value.specs.Hands.{Slot, session, id_at, slot_at, own_slot, hand_ids, hand_slots, hand_slot, addressed, slot_ids, renumbered, target_id, send_slot, sent, replied, slots_kept, state_after}
+use Rattle.hpx_value.specs.Riders.{rides, riders, rode, due_with}
+use Rattle.hpx_value.proofs.Riders.{rode_formed}
 use Rattle.hpx_value.specs.Laws.{KeepsLaws, IsRoot, IsTarget, MovesBelow, target_kind}
 use Rattle.hpx_value.specs.Mentions.{hand_kinds, kind_at}
 use Rattle.hpx_commit.proofs.Common.{Value, Int, Cont, State, Act, Message, Target, Place, Root, SendCont, NoCont, Own, Made, Here, Sending, Reply, Outcome, Make, Due, MessageDue, PrintDue}
@@ -131,11 +133,11 @@ module _ (P Q : Id → Type 0) (are : AreRight P Q) where
         fit_sends xs targets.1 shapes.1 codes.1,
       )
 
-      fit_replies : (xs : List Reply) → AllByRecursion (λ x. IsMessage (replied s a made x)) xs → AllByRecursion D (map (λ x. MessageDue (replied s a made x)) xs)
+      fit_replies : (xs : List Reply) → AllByRecursion (λ x. IsMessage (replied s a made x)) xs → AllByRecursion D (map (λ x. MessageDue (rode s a made out x)) xs)
       fit_replies [] shapes = tt
       fit_replies (x ∷ xs) shapes = (
-        message (replied s a made x) shapes.0
-            (paid_addressed (hand_ids s a made) (hand_slot s a x.cont).object 3 (Int (pos (hand_slot s a x.cont).number) ∷ x.value ∷ []) None hand_right (paid_at (hand_slots s a) x.cont slots_paid) tt)
+        message (rode s a made out x) (rode_formed s a made out x shapes.0)
+            (paid_addressed (hand_ids s a made) (hand_slot s a x.cont).object 3 (Int (pos (hand_slot s a x.cont).number) ∷ x.value ∷ riders (rides s a out x) (length s.ids)) None hand_right (paid_at (hand_slots s a) x.cont slots_paid) tt)
             (λ e. absurd (omega (arith, e))),
         fit_replies xs shapes.1,
       )
@@ -144,6 +146,6 @@ module _ (P Q : Id → Type 0) (are : AreRight P Q) where
       fit_prints [] = tt
       fit_prints (x ∷ xs) = (print x, fit_prints xs)
 
-      pub fit_due : AllByRecursion D (due_of s a made out)
+      pub fit_due : AllByRecursion D (due_with s a made out)
       fit_due = all_append D (map (λ x. MessageDue (sent s a made x)) out.sends) _ (fit_sends out.sends laws.roots (laws.shapes.sends made) laws.moves.moves)
-          (all_append D (map (λ x. MessageDue (replied s a made x)) out.replies) (map PrintDue out.prints) (fit_replies out.replies (laws.shapes.replies made)) (fit_prints out.prints))
+          (all_append D (map (λ x. MessageDue (rode s a made out x)) out.replies) (map PrintDue out.prints) (fit_replies out.replies (laws.shapes.replies made)) (fit_prints out.prints))

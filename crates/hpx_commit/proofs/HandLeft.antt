@@ -8,7 +8,7 @@ use Rattle.std.proofs.lemmas.List.Sums.{length-filter, count_by-le-length}
 use Rattle.hpx_value.specs.Ids.{Id, bare}
 use Rattle.hpx_value.specs.Hands.{id_at, session, hand_ids}
 use Rattle.hpx_value.specs.Laws.{KeepsLaws}
-use Rattle.hpx_value.specs.Mentions.{mentions}
+use Rattle.hpx_value.specs.Riders.{mentions_with}
 use Rattle.hpx_value.specs.Shapes.{IsAct}
 use Rattle.hpx_commit.specs.Deals.{is_managed, log_of, named, places_named, AreWithin}
 use Rattle.hpx_commit.specs.Failures.{action_ids, halves_ahead, state_failed, unanswered, ups_failed}
@@ -121,7 +121,7 @@ module _ (P Q : Id → Type 0) (are : AreRight P Q) (s : State) (a : Act) (out :
     ahead_few n whole fits within,
   )
 
-  pub ups_limit : (m kind here : ℕ) → KeepsLaws m kind here s a out → IsAct a → length (ups_failed s a (length out.makes) hand) ≤ 226
+  pub ups_limit : (m kind here : ℕ) → KeepsLaws m kind here s a out → IsAct a → length (ups_failed s a (length out.makes) hand) ≤ 227
   ups_limit m kind here laws action = omega (
     arith,
     action_few a action,
@@ -166,7 +166,7 @@ module _ (P Q : Id → Type 0) (are : AreRight P Q) (s : State) (a : Act) (out :
               ∙ (place_some n whole fits within p (omega (arith, lt, fits)) ∙ (are.says (id_at whole.hand p) (start_right p lt) ∙ plain))
           | inl far ↦
               let some : 1 ≤ named whole.places p = omega (arith, ((ahead_is n whole fits within).first p lt).others, far) in
-              let yes : true ≡ false = sym (managed_there whole.hand (mentions s a out) p some) ∙ plain in absurd (cc)
+              let yes : true ≡ false = sym (managed_there whole.hand (mentions_with s a out) p some) ∙ plain in absurd (cc)
         ]
 
     own_right : AllByRecursion P (take n hand)

@@ -14,7 +14,9 @@ pub mod AheadMore
 pub mod Stripped
 pub mod Places
 pub mod Rights
+pub mod Ridden
 pub mod FullStock
+pub mod BareMentions
 pub mod BareHands
 pub mod DueFilled
 pub mod HandFit

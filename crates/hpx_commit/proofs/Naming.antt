@@ -1,6 +1,6 @@
 -- The managed ids of what an outcome leaves are those at the places that it names.
-use Rattle.std.proofs.Common.{ℕ, zero, suc, Bool, false, nat_le, List, [], ◌∷◌, ◌++◌, ◌≡◌, ◌+◌, ◌-◌, ◌<◌, Option, Some, None, length, map, append_assoc, append-nil, refl, sym, ap, ◌∙◌, arith, inl, inr}
-use Rattle.std.specs.Prelude.{flat_map}
+use Rattle.std.proofs.Common.{ℕ, zero, suc, Bool, true, false, nat_le, List, [], ◌∷◌, ◌++◌, ◌≡◌, ◌+◌, ◌-◌, ◌<◌, ◌≤◌, Option, Some, None, length, map, append_assoc, append-nil, refl, sym, ap, ◌∙◌, arith, inl, inr}
+use Rattle.std.specs.Prelude.{flat_map, ◌&&◌, ◌==◌, not, is_some}
 use Rattle.std.specs.List.{filter, slice_index_or, AllByRecursion}
 use Rattle.std.proofs.lemmas.Bool.{cases_Bool, cases_lt}
 use Rattle.std.proofs.lemmas.Bool.Decides.{nat_tests}
@@ -9,7 +9,7 @@ use Rattle.std.proofs.Common.{length-append}
 use Rattle.hpx_value.specs.Ids.{Id, bare}
 use Rattle.hpx_value.specs.Values.{refs_in}
 use Rattle.hpx_value.specs.Shapes.{IsState, IsAct, IsCount, places_of, listed}
-use Rattle.hpx_value.specs.Hands.{Slot, session, id_at, slot_at, own_slot, hand_ids, hand_slots, hand_slot, slot_ids, send_slot, sent, replied, due_of, slots_kept, target_id}
+use Rattle.hpx_value.specs.Hands.{Slot, session, id_at, slot_at, own_slot, hand_ids, hand_slots, hand_slot, slot_ids, send_slot, sent, slots_kept, target_id}
 use Rattle.hpx_value.specs.Mentions.{cont_place, target_places, handed_places, state_mentions, send_mentions, reply_mentions, mentions, hand_size}
 use Rattle.hpx_value.specs.Laws.{IsTarget, IsRoot, owns, handed_on, answered, uses}
 use Rattle.hpx_value.specs.declared.value.State.{State}
@@ -23,6 +23,9 @@ use Rattle.hpx_value.specs.declared.outcome.SendCont.TheVariants.{Nothing as NoC
 use Rattle.hpx_value.specs.declared.outcome.Target.{Target}
 use Rattle.hpx_value.specs.declared.outcome.Target.TheVariants.{Place, Root}
 use Rattle.hpx_value.specs.declared.outcome.Due.TheVariants.{Message as MessageDue, Print as PrintDue}
+use Rattle.hpx_value.specs.declared.value.Value.{Value}
+use Rattle.hpx_value.specs.declared.value.Value.TheVariants.{Unit as Nothing, Flag, Int, Text, Ref, Fault, Ints}
+use Rattle.hpx_value.specs.Riders.{names_target, may_ride, rides_with, rides, riders, rider_places, rode_with, rode, rode_mentions, mentions_with, due_with}
 use Rattle.hpx_commit.specs.Deals.{is_managed, managed_places, places_named, ids_due, ids_named, AreWithin}
 
 -- ---- places of appended lists
@@ -120,6 +123,22 @@ slot_index : (ids : List Id) (cs : List Cont) (i : ℕ) (d : Slot) → i < lengt
 slot_index ids [] i d h = absurd (omega arith)
 slot_index ids (c ∷ cs) zero d h = refl
 slot_index ids (c ∷ cs) (suc i) d h = slot_index ids cs i d (omega arith)
+
+refs_more : (v : Value) (b : Bool) (place : ℕ) → refs_in (v ∷ riders b place) ≡ refs_in (v ∷ []) ++ rider_places b place
+refs_more Nothing true place = refl
+refs_more (Flag f) true place = refl
+refs_more (Int n) true place = refl
+refs_more (Text t) true place = refl
+refs_more (Ref q) true place = refl
+refs_more (Fault f) true place = refl
+refs_more (Ints ns) true place = refl
+refs_more Nothing false place = refl
+refs_more (Flag f) false place = refl
+refs_more (Int n) false place = refl
+refs_more (Text t) false place = refl
+refs_more (Ref q) false place = refl
+refs_more (Fault f) false place = refl
+refs_more (Ints ns) false place = refl
 
 module _ (s : State) (a : Act) (made : List Id) (state : IsState s) (action : IsAct a) where
   abbrev pub hand : List Id
@@ -224,12 +243,18 @@ module _ (s : State) (a : Act) (made : List Id) (state : IsState s) (action : Is
       (matches_append hand (map (id_at hand) (refs_in x.args)) (slot_ids (send_slot s a made x.cont)) (refs_in x.args) (handed_places s a x.cont)
       (matches_at hand (refs_in x.args)) (cont_matches x.cont cont))
 
-  replied_matches : (x : Reply) → x.cont < length (hand_slots s a) → Matches hand (replied s a made x).ids (reply_mentions s a x)
-  replied_matches x h =
-      matches_append hand ((hand_slot s a x.cont).object ∷ []) (map (id_at hand) (refs_in (x.value ∷ [])) ++ [])
-      (cont_place s a x.cont ∷ []) (refs_in (x.value ∷ []))
+  rider_refs : (v : Value) (b : Bool) (place : ℕ) → refs_in (v ∷ riders b place) ≡ refs_in (v ∷ []) ++ rider_places b place
+  rider_refs v b place = refs_more v b place
+
+  rode_matches_at : (x : Reply) (b : Bool) → x.cont < length (hand_slots s a)
+      → Matches hand (rode_with s a made b x).ids (reply_mentions s a x ++ rider_places b (length s.ids))
+  rode_matches_at x b h =
+      matches_append hand ((hand_slot s a x.cont).object ∷ []) (map (id_at hand) (refs_in (x.value ∷ riders b (length s.ids))) ++ [])
+      (cont_place s a x.cont ∷ []) (refs_in (x.value ∷ []) ++ rider_places b (length s.ids))
       (matches_one hand (hand_slot s a x.cont).object (cont_place s a x.cont) (cont_leads x.cont h))
-      (ap (λ zs. managed (map bare zs)) (append-nil (map (id_at hand) (refs_in (x.value ∷ [])))) ∙ matches_at hand (refs_in (x.value ∷ [])))
+      (ap (λ zs. managed (map bare zs)) (append-nil (map (id_at hand) (refs_in (x.value ∷ riders b (length s.ids)))))
+      ∙ (ap (λ ps. managed (map bare (map (id_at hand) ps))) (rider_refs x.value b (length s.ids))
+      ∙ matches_at hand (refs_in (x.value ∷ []) ++ rider_places b (length s.ids))))
 
   sends_match : (n : ℕ) (xs : List Sending) → AllByRecursion (λ x. IsTarget n x.target) xs
       → AllByRecursion (λ number. number < length (hand_slots s a)) (handed_on xs)
@@ -247,13 +272,13 @@ module _ (s : State) (a : Act) (made : List Id) (state : IsState s) (action : Is
       hands (Made make slot) h = tt
       hands (Here slot) h = tt
 
-  replies_match : (xs : List Reply) → AllByRecursion (λ number. number < length (hand_slots s a)) (answered xs)
-      → Matches hand (flat_map ids_due (map (λ x. MessageDue (replied s a made x)) xs)) (flat_map (reply_mentions s a) xs)
-  replies_match [] conts = refl
-  replies_match (x ∷ xs) conts =
-      matches_append hand (replied s a made x).ids (flat_map ids_due (map (λ y. MessageDue (replied s a made y)) xs))
-      (reply_mentions s a x) (flat_map (reply_mentions s a) xs)
-      (replied_matches x conts.0) (replies_match xs conts.1)
+  replies_match : (out : Outcome) (xs : List Reply) → AllByRecursion (λ number. number < length (hand_slots s a)) (answered xs)
+      → Matches hand (flat_map ids_due (map (λ x. MessageDue (rode s a made out x)) xs)) (flat_map (rode_mentions s a out) xs)
+  replies_match out [] conts = refl
+  replies_match out (x ∷ xs) conts =
+      matches_append hand (rode s a made out x).ids (flat_map ids_due (map (λ y. MessageDue (rode s a made out y)) xs))
+      (rode_mentions s a out x) (flat_map (rode_mentions s a out) xs)
+      (rode_matches_at x (rides s a out x) conts.0) (replies_match out xs conts.1)
 
   prints_match : (xs : List (List ℕ)) → flat_map ids_due (map PrintDue xs) ≡ []
   prints_match [] = refl
@@ -268,21 +293,21 @@ module _ (s : State) (a : Act) (made : List Id) (state : IsState s) (action : Is
       let d = all_parts IsOurs (handed_on out.sends) (answered out.replies) c.1 in
       let state_ids = map (id_at hand) (refs_in out.state.values) ++ map (λ (x : Slot). x.object) (slots_kept s a out.state) in
       let sends = map (λ x. MessageDue (sent s a made x)) out.sends in
-      let replies = map (λ x. MessageDue (replied s a made x)) out.replies in
-      let due_is : flat_map ids_due (due_of s a made out)
-      ≡ flat_map ids_due (map (λ x. MessageDue (sent s a made x)) out.sends) ++ flat_map ids_due (map (λ x. MessageDue (replied s a made x)) out.replies) =
+      let replies = map (λ x. MessageDue (rode s a made out x)) out.replies in
+      let due_is : flat_map ids_due (due_with s a made out)
+      ≡ flat_map ids_due (map (λ x. MessageDue (sent s a made x)) out.sends) ++ flat_map ids_due (map (λ x. MessageDue (rode s a made out x)) out.replies) =
       flat_append ids_due sends (replies ++ map PrintDue out.prints)
       ∙ ap (λ zs. flat_map ids_due sends ++ zs)
       (flat_append ids_due replies (map PrintDue out.prints) ∙ (ap (λ zs. flat_map ids_due replies ++ zs) (prints_match out.prints) ∙ append-nil (flat_map ids_due replies))) in
       ap (λ zs. managed (map bare (state_ids ++ zs))) due_is
       ∙ (matches_append hand state_ids (flat_map ids_due sends ++ flat_map ids_due replies)
-      (state_mentions s a out.state) (flat_map (send_mentions s a) out.sends ++ flat_map (reply_mentions s a) out.replies)
+      (state_mentions s a out.state) (flat_map (send_mentions s a) out.sends ++ flat_map (rode_mentions s a out) out.replies)
       (matches_append hand (map (id_at hand) (refs_in out.state.values)) (map (λ (x : Slot). x.object) (slots_kept s a out.state))
       (refs_in out.state.values) (map (cont_place s a) out.state.conts)
       (matches_at hand (refs_in out.state.values)) (conts_match out.state.conts c.0))
-      (matches_append hand (flat_map ids_due sends) (flat_map ids_due replies) (flat_map (send_mentions s a) out.sends) (flat_map (reply_mentions s a) out.replies)
-      (sends_match n out.sends targets d.0) (replies_match out.replies d.1))
-      ∙ sym (managed_called hand (mentions s a out)))
+      (matches_append hand (flat_map ids_due sends) (flat_map ids_due replies) (flat_map (send_mentions s a) out.sends) (flat_map (rode_mentions s a out) out.replies)
+      (sends_match n out.sends targets d.0) (replies_match out out.replies d.1))
+      ∙ sym (managed_called hand (mentions_with s a out)))
 
 -- ---- the places that are named are those of the hand
 
@@ -298,6 +323,51 @@ within_some n hand (p ∷ ps) e h = elim (cases_Bool (is_managed (id_at hand p))
   | inr t ↦ rw t (within_some n hand ps e h.1)
 ]
 
+-- ---- riders name a place of the hand too
+
+both : (a b : Bool) → (a && b) ≡ true → (a ≡ true) × (b ≡ true)
+both true true h = (refl, refl)
+both true false h = cc
+both false b h = cc
+
+ids_some : (ids : List Id) → nat_le 16 (id_at ids 0).kind ≡ true → 1 ≤ length ids
+ids_some [] h = absurd (cc)
+ids_some (x ∷ xs) h = omega arith
+
+rider_within : (s : State) (a : Act) (out : Outcome) (may named : Bool) (x : Reply) (b : Bool) → may ≡ may_ride a named → rides_with s may x ≡ b
+    → AllByRecursion (λ p. p < hand_size s a out) (rider_places b (length s.ids))
+rider_within s a out may named x false e h = tt
+rider_within s a out may named x true e h =
+    let m : may_ride a named ≡ true = sym e ∙ (both may (x.cont == length s.conts) h).0 in
+    let k = (both (not (a.code == 1) && nat_le 16 (id_at a.ids 0).kind) (not named) (both (is_some a.cont) _ m).1).0 in
+    let some = ids_some a.ids (both (not (a.code == 1)) (nat_le 16 (id_at a.ids 0).kind) k).1 in
+    (omega (arith, some), tt)
+
+all_joined : {X : Type 0} (P : X → Type 0) (xs ys : List X) → AllByRecursion P xs → AllByRecursion P ys → AllByRecursion P (xs ++ ys)
+all_joined P [] ys h i = i
+all_joined P (x ∷ xs) ys h i = (h.0, all_joined P xs ys h.1 i)
+
+replies_within : (s : State) (a : Act) (out : Outcome) (xs : List Reply)
+    → AllByRecursion (λ p. p < hand_size s a out) (flat_map (reply_mentions s a) xs)
+    → AllByRecursion (λ p. p < hand_size s a out) (flat_map (rode_mentions s a out) xs)
+replies_within s a out [] h = tt
+replies_within s a out (x ∷ xs) h =
+    let d = all_parts (λ p. p < hand_size s a out) (reply_mentions s a x) (flat_map (reply_mentions s a) xs) h in
+    all_joined (λ p. p < hand_size s a out) (rode_mentions s a out x) (flat_map (rode_mentions s a out) xs)
+    (all_joined (λ p. p < hand_size s a out) (reply_mentions s a x) (rider_places (rides s a out x) (length s.ids)) d.0
+    (rider_within s a out (may_ride a (names_target s a out)) (names_target s a out) x (rides s a out x) refl refl))
+    (replies_within s a out xs d.1)
+
+with_within : (s : State) (a : Act) (out : Outcome) → AllByRecursion (λ p. p < hand_size s a out) (mentions s a out)
+    → AllByRecursion (λ p. p < hand_size s a out) (mentions_with s a out)
+with_within s a out h =
+    let d = all_parts (λ p. p < hand_size s a out) (state_mentions s a out.state) (flat_map (send_mentions s a) out.sends ++ flat_map (reply_mentions s a) out.replies) h in
+    let e = all_parts (λ p. p < hand_size s a out) (flat_map (send_mentions s a) out.sends) (flat_map (reply_mentions s a) out.replies) d.1 in
+    all_joined (λ p. p < hand_size s a out) (state_mentions s a out.state) (flat_map (send_mentions s a) out.sends ++ flat_map (rode_mentions s a out) out.replies) d.0
+    (all_joined (λ p. p < hand_size s a out) (flat_map (send_mentions s a) out.sends) (flat_map (rode_mentions s a out) out.replies) e.0
+    (replies_within s a out out.replies e.1))
+
 pub places_within : (s : State) (a : Act) (made : List Id) (out : Outcome) → length made ≡ length out.makes
     → AllByRecursion (λ p. p < hand_size s a out) (mentions s a out) → AreWithin (hand_ids s a made) (places_named s a made out)
-places_within s a made out e h = within_some (hand_size s a out) (hand_ids s a made) (mentions s a out) (hand_length s a made out e) h
+places_within s a made out e h =
+    within_some (hand_size s a out) (hand_ids s a made) (mentions_with s a out) (hand_length s a made out e) (with_within s a out h)

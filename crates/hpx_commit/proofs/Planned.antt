@@ -8,9 +8,9 @@ use Rattle.std.proofs.lemmas.List.Sums.{length-filter, count_by-le-length}
 use Rattle.hpx_value.specs.Ids.{Id, bare}
 use Rattle.hpx_value.specs.Values.{refs_in, bare_act, bare_state, bare_message}
 use Rattle.hpx_value.specs.Shapes.{IsState, IsAct, listed}
-use Rattle.hpx_value.specs.Hands.{conts_from, hand_slot, renumbered, id_at, hand_ids, hand_slots, sent, replied, due_of, state_after}
+use Rattle.hpx_value.specs.Hands.{conts_from, hand_slot, renumbered, id_at, hand_ids, hand_slots, sent, state_after}
 use Rattle.hpx_value.specs.Laws.{KeepsLaws, UsesEachOnce, uses, handed_on, answered}
-use Rattle.hpx_value.specs.Mentions.{mentions}
+use Rattle.hpx_value.specs.Riders.{mentions_with, due_with, rode}
 use Rattle.hpx_value.proofs.Uses.{used_below, used_few}
 use Rattle.hpx_value.proofs.Kept.{length-hand_slots}
 use Rattle.hpx_commit.specs.Deals.{is_managed, named, dealt, filled, unused, filled_due, ids_due, places_named, unnamed, unnamed_from, AreWithin}
@@ -24,6 +24,7 @@ use Rattle.hpx_commit.proofs.HandFit.{state_right}
 use Rattle.hpx_commit.proofs.Lists.{none_long}
 use Rattle.hpx_commit.proofs.Naming.{managed, names_match, places_within}
 use Rattle.hpx_commit.proofs.Places.{kind_of}
+use Rattle.hpx_commit.proofs.Ridden.{long_with}
 use Rattle.hpx_commit.proofs.Rights.{AreRight, right_dealt, unnamed_has}
 
 -- ---- how much
@@ -56,14 +57,14 @@ few_replies s a out h once =
     )
 
 pub few_due : (s : State) (a : Act) (made : List Id) (out : Outcome) → length out.sends ≤ 32 → length out.replies ≤ 129 → length out.prints ≤ 16
-    → length (due_of s a made out) ≤ 177
+    → length (due_with s a made out) ≤ 177
 few_due s a made out h i j =
     omega (
       arith,
-      length-append (map (λ x. MessageDue (sent s a made x)) out.sends) (map (λ x. MessageDue (replied s a made x)) out.replies ++ map PrintDue out.prints),
-      length-append (map (λ x. MessageDue (replied s a made x)) out.replies) (map PrintDue out.prints),
+      length-append (map (λ x. MessageDue (sent s a made x)) out.sends) (map (λ x. MessageDue (rode s a made out x)) out.replies ++ map PrintDue out.prints),
+      length-append (map (λ x. MessageDue (rode s a made out x)) out.replies) (map PrintDue out.prints),
       length-map out.sends (λ x. MessageDue (sent s a made x)),
-      length-map out.replies (λ x. MessageDue (replied s a made x)),
+      length-map out.replies (λ x. MessageDue (rode s a made out x)),
       length-map out.prints PrintDue,
     )
 
@@ -95,12 +96,13 @@ module _ (n kind here : ℕ) (s : State) (a : Act) (out : Outcome) (laws : Keeps
     length-append a.ids made,
   )
 
-  pub own_places : length (places_named s a made out) ≤ 192
+  pub own_places : length (places_named s a made out) ≤ 193
   own_places = omega (
     arith,
     laws.names.all,
-    length-filter (λ p. is_managed (id_at (hand_ids s a made) p)) (mentions s a out),
-    count_by-le-length (λ p. is_managed (id_at (hand_ids s a made) p)) (mentions s a out),
+    long_with s a out laws.conts,
+    length-filter (λ p. is_managed (id_at (hand_ids s a made) p)) (mentions_with s a out),
+    count_by-le-length (λ p. is_managed (id_at (hand_ids s a made) p)) (mentions_with s a out),
   )
 
 -- ---- an object of kind Plain, which keeps nothing
@@ -121,7 +123,7 @@ abbrev pub state_of : State → Act → List Id → Outcome → List Id → Stat
 state_of s a made out ds = record (state_after s a made out) { ids = filled (state_after s a made out).ids ds }
 
 abbrev pub due_from : State → Act → List Id → Outcome → List Id → List Due
-due_from s a made out ds = filled_due (due_of s a made out) (unused (state_after s a made out).ids ds)
+due_from s a made out ds = filled_due (due_with s a made out) (unused (state_after s a made out).ids ds)
 
 -- it keeps nothing, and is as another
 pub record IsPlain (s t : State) : Type 0 where
@@ -131,12 +133,12 @@ pub record IsPlain (s t : State) : Type 0 where
 
 -- it is well formed and has its credits, as what the outcome leaves; without credits it is what the outcome leaves; and it is few
 pub record IsPlanned (P Q : Id → Type 0) (D : Due → Type 0) (g : Due → Due) (kind : ℕ) (s : State) (a : Act) (made : List Id) (out : Outcome) (u : Stock) : Type 0 where
-  pub names : Fits (state_after s a made out).ids (dealt u.hand u.places) (managed (map bare (flat_map ids_due (due_of s a made out))))
+  pub names : Fits (state_after s a made out).ids (dealt u.hand u.places) (managed (map bare (flat_map ids_due (due_with s a made out))))
   pub state_had : AllByRecursion P (state_after s a made out).ids
-  pub due_had : AllByRecursion D (due_of s a made out)
+  pub due_had : AllByRecursion D (due_with s a made out)
   pub deals : AllByRecursion P (dealt u.hand u.places)
   pub state_left : bare_state (state_of s a made out (dealt u.hand u.places)) ≡ state_after (bare_state s) (bare_act a) (map bare made) out
-  pub due_left : map g (due_from s a made out (dealt u.hand u.places)) ≡ due_of (bare_state s) (bare_act a) (map bare made) out
+  pub due_left : map g (due_from s a made out (dealt u.hand u.places)) ≡ due_with (bare_state s) (bare_act a) (map bare made) out
   pub state_fit : IsState (state_of s a made out (dealt u.hand u.places))
   pub state_has : AllByRecursion P (state_of s a made out (dealt u.hand u.places)).ids
   pub due_may : AllByRecursion D (due_from s a made out (dealt u.hand u.places))
@@ -153,7 +155,7 @@ module _ (P Q : Id → Type 0) (are : AreRight P Q) (D : Due → Type 0) (g : Du
     → D (MessageDue m) → D (MessageDue (record m { ids = ids })))
     (n kind here : ℕ) (s : State) (a : Act) (out : Outcome) (laws : KeepsLaws n kind here s a out) (few : n ≤ 64) (state : IsState s) (action : IsAct a)
     (made : List Id) (kinds : map kind_of made ≡ map (λ (x : Make). x.kind) out.makes)
-    (credit : AllByRecursion P s.ids) (own : AllByRecursion P a.ids) (born : AllByRecursion P made) (fits : AllByRecursion D (due_of s a made out))
+    (credit : AllByRecursion P s.ids) (own : AllByRecursion P a.ids) (born : AllByRecursion P made) (fits : AllByRecursion D (due_with s a made out))
     (u : Stock) (same : SameNames (record { hand = hand_ids s a made; places = places_named s a made out }) u) (right : AllByRecursion P u.hand) where
   abbrev deals : List Id
   deals = dealt u.hand u.places
@@ -162,7 +164,7 @@ module _ (P Q : Id → Type 0) (are : AreRight P Q) (D : Due → Type 0) (g : Du
   old = state_after s a made out
 
   abbrev due : List Due
-  due = due_of s a made out
+  due = due_with s a made out
 
   -- what is dealt names the managed ids of the new state, and then those of what is due
   names : Fits old.ids deals (managed (map bare (flat_map ids_due due)))

@@ -5,7 +5,7 @@ use Rattle.std.specs.List.{AllByRecursion}
 use Rattle.hpx_value.specs.Ids.{Id, bare}
 use Rattle.std.proofs.lemmas.List.{length-map}
 use Rattle.hpx_value.specs.Hands.{id_at, hand_ids}
-use Rattle.hpx_value.specs.Mentions.{mentions}
+use Rattle.hpx_value.specs.Riders.{mentions_with}
 use Rattle.hpx_commit.specs.Deals.{is_managed, log_of, named, places_named, AreWithin}
 use Rattle.hpx_commit.specs.Stocks.{Stock, ahead, short_places, stripped, Lasting}
 use Rattle.hpx_commit.proofs.Ahead.{ahead_is}
@@ -44,10 +44,10 @@ module _ (P Q : Id → Type 0) (are : AreRight P Q) (s : State) (a : Act) (out :
 
   -- the places are those of what is made later
   pub later_named : places_named s a made out ≡ places_named s a later out
-  later_named = managed_same (hand_ids s a made) (hand_ids s a later) (mentions s a out) (hand_kinds s a made later (sym kinds))
+  later_named = managed_same (hand_ids s a made) (hand_ids s a later) (mentions_with s a out) (hand_kinds s a made later (sym kinds))
 
   managed : (p : ℕ) → 1 ≤ named places p → is_managed (id_at (hand_ids s a later) p) ≡ true
-  managed p some = managed_there (hand_ids s a later) (mentions s a out) p (subst (λ ps. 1 ≤ named ps p) later_named some)
+  managed p some = managed_there (hand_ids s a later) (mentions_with s a out) p (subst (λ ps. 1 ≤ named ps p) later_named some)
 
   abbrev many : ℕ
   many = length (s.ids ++ a.ids)

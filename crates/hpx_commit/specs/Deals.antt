@@ -3,11 +3,11 @@ use Rattle.std.specs.Prelude.{ℕ, zero, suc, Bool, cond, nat_le, List, [], ◌�
 use Rattle.std.specs.List.{filter, count_by, AllByRecursion}
 use Rattle.std.specs.Option.{option_map}
 use Rattle.hpx_value.specs.Ids.{Id}
-use Rattle.hpx_value.specs.Hands.{id_at, hand_ids, due_of, state_after}
+use Rattle.hpx_value.specs.Hands.{id_at, hand_ids, state_after}
+use Rattle.hpx_value.specs.Riders.{mentions_with, due_with}
 use Rattle.hpx_value.specs.declared.outcome.Outcome.{Outcome}
 use Rattle.hpx_value.specs.declared.value.State.{State}
 use Rattle.hpx_value.specs.declared.value.Act.{Act}
-use Rattle.hpx_value.specs.Mentions.{mentions}
 use Rattle.hpx_value.specs.declared.outcome.Due.{Due}
 use Rattle.hpx_value.specs.declared.outcome.Due.TheVariants.{Message as MessageDue, Print as PrintDue}
 
@@ -99,9 +99,9 @@ abbrev pub unused_due : Due → List Id → List Id
 unused_due (PrintDue bytes) ds = ds
 unused_due (MessageDue m) ds = unused m.ids ds
 
--- the places of managed objects that an outcome names
+-- the places of managed objects that an outcome names, with its riders
 abbrev pub places_named : State → Act → List Id → Outcome → List ℕ
-places_named s a made out = managed_places (hand_ids s a made) (mentions s a out)
+places_named s a made out = managed_places (hand_ids s a made) (mentions_with s a out)
 
 -- the ids of what is due
 abbrev pub ids_due : Due → List Id
@@ -110,4 +110,4 @@ ids_due (PrintDue bytes) = []
 
 -- the ids of a new state and of what is due, in order
 abbrev pub ids_named : State → Act → List Id → Outcome → List Id
-ids_named s a made out = (state_after s a made out).ids ++ flat_map ids_due (due_of s a made out)
+ids_named s a made out = (state_after s a made out).ids ++ flat_map ids_due (due_with s a made out)

@@ -2,9 +2,11 @@
 ghost use Rattle.std.specs.Prelude.{◌≡◌, ◌+◌, ◌<◌, ◌≤◌, ◌^◌, ◌++◌, ◌∷◌, [], length, map, IfOk, OnOk, option_to_list};
 ghost use Rattle.std.specs.List.{slice_index_or};
 ghost use Rattle.hpx_value.specs.Values.{refs_in};
-ghost use Rattle.hpx_value.specs.Hands.{id_at, hand_ids, hand_slots, hand_slot, own_slot, slot_at, renumbered, addressed, answer, target_id, send_slot, conts_from, sent, replied, due_of, state_after, slots_kept};
+ghost use Rattle.hpx_value.specs.Hands.{id_at, hand_ids, hand_slots, hand_slot, own_slot, slot_at, renumbered, addressed, answer, target_id, send_slot, conts_from, sent, state_after, slots_kept};
+ghost use Rattle.hpx_value.specs.Riders.{rode_with, rides_with, due_with};
 ghost use Rattle.hpx_value.specs.declared.outcome.Due.TheVariants.{Message as MessageDue, Print as PrintDue};
 
+use crate::mentions::{may_ride, rides};
 use hpx_value::codes::{SESSION, SET};
 use hpx_value::exact::Exact;
 use hpx_value::gid::Gid;
@@ -277,15 +279,28 @@ impl<'a> Hand<'a> {
         )
     }
 
-    /// A reply, as a message.
-    fn replied(&self, alloc: Global, x: &Reply) -> Result<Message, OutOfMemory>
-        ensures { IfOk result (λ m. m ≡ replied self.now.state.now self.now.action.now self.now.made.now x.now) }
+    /// A reply, as a message, with its rider where it rides. A state with more ids than a Ref can count is answered like
+    /// want of memory: no lawful one has them.
+    fn rode(&self, alloc: Global, rides: bool, x: &Reply) -> Result<Message, OutOfMemory>
+        ensures { IfOk result (λ m. m ≡ rode_with self.now.state.now self.now.action.now self.now.made.now rides x.now) }
     {
-        answer(
+        let slot = self.slot(x.cont as usize);
+        let mut args = Vec::new(alloc);
+        args.push(Value::Int(slot.number as i64))?;
+        args.push(x.value.duplicate(alloc)?)?;
+        if rides {
+            if self.state.ids.len() > 65535 {
+                return Err(OutOfMemory);
+            }
+            args.push(Value::Ref(self.state.ids.len() as u16))?;
+        }
+        addressed(
             alloc,
             self.ids.as_slice(),
-            self.slot(x.cont as usize),
-            &x.value,
+            slot.object,
+            SET,
+            args.as_slice(),
+            None,
         )
     }
 
@@ -307,25 +322,31 @@ impl<'a> Hand<'a> {
     fn push_replies(
         &self,
         alloc: Global,
+        may: bool,
         replies: &[Reply],
         due: &mut Vec<Due>,
     ) -> Result<(), OutOfMemory>
         ensures { OnOk result (due.new.items ≡ due.old.items
-            ++ map (λ x. MessageDue (replied self.now.state.now self.now.action.now self.now.made.now x)) replies.now) }
+            ++ map (λ x. MessageDue (rode_with self.now.state.now self.now.action.now self.now.made.now (rides_with self.now.state.now may x) x)) replies.now) }
     {
         for x in replies {
-            due.push(Due::Message(self.replied(alloc, x)?))?;
+            due.push(Due::Message(self.rode(alloc, rides(self.state, may, x), x)?))?;
         }
         Ok(())
     }
 
-    /// What an outcome leaves to be written, in order.
+    /// What an outcome leaves to be written, in order. A hand that is longer than any lawful one is answered like want of
+    /// memory.
     pub fn due(&self, alloc: Global, outcome: &Outcome) -> Result<Vec<Due>, OutOfMemory>
-        ensures { IfOk result (λ due. due.items ≡ due_of self.now.state.now self.now.action.now self.now.made.now outcome.now) }
+        ensures { IfOk result (λ due. due.items ≡ due_with self.now.state.now self.now.action.now self.now.made.now outcome.now) }
     {
         let mut due = Vec::new(alloc);
         self.push_sends(alloc, outcome.sends.as_slice(), &mut due)?;
-        self.push_replies(alloc, outcome.replies.as_slice(), &mut due)?;
+        if self.state.ids.len() > 65536 || self.action.ids.len() > 65536 {
+            return Err(OutOfMemory);
+        }
+        let may = may_ride(alloc, self.state, self.action, outcome)?;
+        self.push_replies(alloc, may, outcome.replies.as_slice(), &mut due)?;
         push_prints(alloc, outcome.prints.as_slice(), &mut due)?;
         Ok(due)
     }

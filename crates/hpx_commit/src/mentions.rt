@@ -1,9 +1,11 @@
 //! What an outcome names of its hand.
-ghost use Rattle.std.specs.Prelude.{◌≡◌, ◌+◌, ◌<◌, ◌≤◌, ◌^◌, ◌++◌, length, map, flat_map, IfOk, OnOk};
-ghost use Rattle.std.specs.List.{slice_index_or};
+ghost use Rattle.std.specs.Prelude.{◌≡◌, ◌+◌, ◌<◌, ◌≤◌, ◌^◌, ◌++◌, ◌==◌, length, map, flat_map, IfOk, OnOk};
+ghost use Rattle.std.specs.List.{slice_index_or, list_any};
 ghost use Rattle.hpx_value.specs.Values.{refs_in};
 ghost use Rattle.hpx_value.specs.Mentions.{cont_places, state_mentions, send_mentions, reply_mentions, mentions};
+ghost use Rattle.hpx_value.specs.Riders.{names_target, may_ride, rides_with, rider_places, rode_mentions, mentions_with};
 
+use hpx_value::codes::{FIRST_MANAGED, MOVE};
 use hpx_value::items::{Items, Numbers};
 use hpx_value::memory::OutOfMemory;
 use hpx_value::outcome::{NewState, Outcome, Reply, SendCont, Sending, Target};
@@ -112,6 +114,86 @@ impl Sites {
         }
         Ok(())
     }
+}
+
+/// Whether one of these places is this one.
+fn has_place(places: &[u32], place: u32) -> bool
+    ensures { result ≡ list_any (λ p. p == place) places.now }
+{
+    places.iter().any(|p| *p == place)
+}
+
+/// Whether an answer to the action's own continuation rides.
+pub(crate) fn may_ride(
+    alloc: Global,
+    state: &State,
+    action: &Act,
+    outcome: &Outcome,
+) -> Result<bool, OutOfMemory>
+    requires state { length state.now.ids ≤ 65536 }
+    requires action { length action.now.ids ≤ 65536 }
+    ensures { IfOk result (λ b. b ≡ may_ride action.now (names_target state.now action.now outcome.now)) }
+{
+    let managed = match action.ids.as_slice().first() {
+        Some(id) => id.kind() >= FIRST_MANAGED,
+        None => false,
+    };
+    if action.cont.is_none() || action.code == MOVE || !managed {
+        return Ok(false);
+    }
+    let places = mentions(alloc, state, action, outcome)?;
+    Ok(!has_place(places.as_slice(), state.ids.len() as u32))
+}
+
+/// Whether a reply rides.
+pub(crate) fn rides(state: &State, may: bool, x: &Reply) -> bool
+    ensures { result ≡ rides_with state.now may x.now }
+{
+    may && x.cont as usize == state.conts.len()
+}
+
+/// What the replies name, with their riders.
+fn push_rode(
+    sites: &Sites,
+    state: &State,
+    may: bool,
+    replies: &[Reply],
+    places: &mut Vec<u32>,
+) -> Result<(), OutOfMemory>
+    requires few { length state.now.ids ≤ 65536 }
+    ensures { OnOk result ((s : _) (a : _) → sites.now.conts.items ≡ cont_places s a → places.new.items ≡ places.old.items
+        ++ flat_map (λ x. reply_mentions s a x ++ rider_places (rides_with state.now may x) (length state.now.ids)) replies.now) }
+{
+    for x in replies {
+        sites.push_reply(x, places)?;
+        if rides(state, may, x) {
+            places.push(state.ids.len() as u32)?;
+        }
+    }
+    Ok(())
+}
+
+/// The places of the hand that an outcome names with its riders, in the order in which a commit takes them.
+pub fn mentions_with(
+    alloc: Global,
+    state: &State,
+    action: &Act,
+    outcome: &Outcome,
+) -> Result<Numbers, OutOfMemory>
+    requires state { length state.now.ids ≤ 65536 }
+    requires action { length action.now.ids ≤ 65536 }
+    ensures { IfOk result (λ places. places ≡ mentions_with state.now action.now outcome.now) }
+{
+    let may = may_ride(alloc, state, action, outcome)?;
+    let sites = Sites {
+        conts: cont_places(alloc, state, action)?,
+        made: (state.ids.len() + action.ids.len()) as u32,
+    };
+    let mut places = Vec::new(alloc);
+    sites.push_state(&outcome.state, &mut places)?;
+    sites.push_sends(outcome.sends.as_slice(), &mut places)?;
+    push_rode(&sites, state, may, outcome.replies.as_slice(), &mut places)?;
+    Ok(Items::from_vec(places))
 }
 
 /// The places of the hand that an outcome names, in the order in which a commit takes them: the new state's, each send's,

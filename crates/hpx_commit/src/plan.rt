@@ -1,13 +1,13 @@
 //! A commit, planned: the state that it leaves, what is due then, and the ids that are given up.
 ghost use Rattle.std.specs.Prelude.{◌≡◌, ◌<◌, ◌≤◌, ◌+◌, ◌^◌, ◌∷◌, ◌++◌, [], ℕ, IfOk, OnOk, length};
-ghost use Rattle.hpx_value.specs.Hands.{due_of, state_after};
-ghost use Rattle.hpx_value.specs.Mentions.{mentions};
+ghost use Rattle.hpx_value.specs.Hands.{state_after};
+ghost use Rattle.hpx_value.specs.Riders.{due_with, mentions_with};
 ghost use Rattle.hpx_value.specs.declared.outcome.Due.TheVariants.{Message as MessageDue, Print as PrintDue};
 ghost use Rattle.hpx_commit.specs.Deals.{managed_places, dealt, AllLast, AreWithin, unnamed, filled, unused, filled_due, unused_due, places_named};
 
 use crate::deal::{deal, fill, managed_places, unnamed};
 use crate::hand::Hand;
-use crate::mentions::mentions;
+use crate::mentions::mentions_with;
 use hpx_value::gid::Gid;
 use hpx_value::memory::OutOfMemory;
 use hpx_value::outcome::{Due, Outcome};
@@ -88,7 +88,7 @@ pub fn places_named(alloc: Global, hand: &Hand, outcome: &Outcome) -> Result<Vec
     requires action { length hand.now.action.now.ids ≤ 65536 }
     ensures { IfOk result (λ places. places.items ≡ places_named hand.now.state.now hand.now.action.now hand.now.made.now outcome.now) }
 {
-    let all = mentions(alloc, hand.state(), hand.action(), outcome)?;
+    let all = mentions_with(alloc, hand.state(), hand.action(), outcome)?;
     managed_places(alloc, hand.ids(), all.as_slice())
 }
 
@@ -106,7 +106,7 @@ pub fn plan_stock(
     ensures state { IfOk result (λ plan. plan.state ≡ record (state_after hand.now.state.now hand.now.action.now hand.now.made.now outcome.now) {
       ids = filled (state_after hand.now.state.now hand.now.action.now hand.now.made.now outcome.now).ids (dealt ids.now places.now);
     }) }
-    ensures due { IfOk result (λ plan. plan.due.items ≡ filled_due (due_of hand.now.state.now hand.now.action.now hand.now.made.now outcome.now)
+    ensures due { IfOk result (λ plan. plan.due.items ≡ filled_due (due_with hand.now.state.now hand.now.action.now hand.now.made.now outcome.now)
         (unused (state_after hand.now.state.now hand.now.action.now hand.now.made.now outcome.now).ids (dealt ids.now places.now))) }
     ensures ups { IfOk result (λ plan. plan.ups.items ≡ unnamed ids.now places.now) }
 {

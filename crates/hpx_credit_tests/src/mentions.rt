@@ -1,6 +1,6 @@
 use hpx_commit::deal::log_of;
 use hpx_commit::hand::Hand;
-use hpx_commit::mentions::mentions;
+use hpx_commit::mentions::{mentions, mentions_with};
 use hpx_commit::plan::places_named;
 use hpx_commit::stock::split_ahead;
 use hpx_value::codes::SESSION;
@@ -8,7 +8,7 @@ use hpx_value::exact::Exact;
 use hpx_value::gid::Gid;
 use hpx_value::items::{Items, Text};
 use hpx_value::memory::OutOfMemory;
-use hpx_value::outcome::{Make, NewState, Outcome, Reply, SendCont, Sending, Target};
+use hpx_value::outcome::{Due, Make, NewState, Outcome, Reply, SendCont, Sending, Target};
 use hpx_value::value::{Act, Cont, State, Value, Values};
 use std::alloc::Global;
 
@@ -103,6 +103,56 @@ fn names_the_state_first_then_sends_then_replies(rt: HostRuntime) -> Result<(), 
     assert!(rt; action.ids.len() == 3);
     let places = mentions(alloc, &state, &action, &outcome(alloc)?)?;
     assert!(rt; places.as_slice() == [0, 3, 1, 2, 5, 5, 4, 4, 3].as_slice());
+    Ok(())
+}
+
+/// The state is kept, and the action's continuation is answered.
+fn answered(alloc: Global) -> Result<Outcome, OutOfMemory> {
+    let mut conts = Items::new(alloc);
+    conts.push(0)?;
+    let mut replies = Items::new(alloc);
+    replies.push(Reply {
+        cont: 1,
+        value: Value::Int(6),
+    })?;
+    Ok(Outcome {
+        state: NewState {
+            drawn: 0,
+            values: refs(alloc, &[0])?,
+            conts,
+        },
+        makes: Items::new(alloc),
+        sends: Items::new(alloc),
+        replies,
+        prints: Items::new(alloc),
+    })
+}
+
+#[test]
+fn an_answer_takes_along_the_target_that_nothing_names(rt: HostRuntime) -> Result<(), OutOfMemory> {
+    let alloc = rt.alloc();
+    let state = state(alloc)?;
+    let action = action(alloc)?;
+    let answered = answered(alloc)?;
+    assert!(rt; state.ids.len() == 2);
+    assert!(rt; action.ids.len() == 3);
+    let places = mentions_with(alloc, &state, &action, &answered)?;
+    assert!(rt; places.as_slice() == [0, 1, 4, 2].as_slice());
+    let hand = Hand::of(alloc, &state, &action, &[])?;
+    let due = hand.due(alloc, &answered)?;
+    match due.as_slice() {
+        [Due::Message(message)] => {
+            let ids = [Gid::new(0, 16, 3), Gid::new(0, 16, 1)];
+            assert!(rt; message.ids.as_slice() == ids.as_slice());
+            assert!(rt; message.args.len() == 3);
+            assert!(rt; message.args.as_slice()[2].same(&Value::Ref(1)));
+        }
+        _ => assert!(rt; false, "one message is due"),
+    }
+    let other = outcome(alloc)?;
+    let all = mentions(alloc, &state, &action, &other)?;
+    let with = mentions_with(alloc, &state, &action, &other)?;
+    assert!(rt; with.as_slice() == all.as_slice());
     Ok(())
 }
 

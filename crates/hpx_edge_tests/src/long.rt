@@ -21,11 +21,11 @@ fn an_input_that_never_ends_is_full(rt: HostRuntime) -> Result<(), Fail> {
     Ok(())
 }
 
-/// So many lines of `add 1` are handled. The opening leaves 14 entries, each line 17, and the 32nd and each 31st behind it, 3,925 of
-/// them, 7 more: 2,096,117 in all. There is room for a turn up to 2,096,128.
-const LINES: usize = 121_684;
+/// So many lines of `add 1` are handled. The opening leaves 14 entries and each line 15: 2,096,114 in all. There is room for a turn
+/// up to 2,096,128.
+const LINES: usize = 139_740;
 
-// Of the next line the Line, Fire, Split, Done, Sent, Out, In, Fire, Done, Sent, Up, Mail and Count are written, and then no turn has room.
+// The next line is done, with its 15 entries, and then no turn has room.
 #[test]
 fn a_session_ends_where_its_journal_is_full(rt: HostRuntime) -> Result<(), Fail> {
     let alloc = rt.alloc();
@@ -34,8 +34,8 @@ fn a_session_ends_where_its_journal_is_full(rt: HostRuntime) -> Result<(), Fail>
     let (text, ended) = printed(alloc, input, Order::FirstIn)?;
     assert_eq!(rt; ended.status, 5);
     assert_eq!(rt; ended.line.as_slice(), b"hpx: journal full\n".as_slice());
-    assert_eq!(rt; ended.entries, 2_096_117 + 13);
-    // A prompt for each line, and one for that which was broken off.
+    assert_eq!(rt; ended.entries, 2_096_114 + 15);
+    // A prompt for each line, and one for that which is not shown.
     assert_eq!(rt; text.len(), COMMANDS.len() + 2 * (LINES + 1));
     Ok(())
 }

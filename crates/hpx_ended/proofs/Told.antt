@@ -8,10 +8,10 @@ use Rattle.hpx_journal.specs.Roots.{roots}
 use Rattle.hpx_journal.specs.Laws.{HasGrammar}
 use Rattle.hpx_journal.specs.Whole.{IsJoin, IsClean, IsQuiet, part, replayed}
 use Rattle.hpx_journal.proofs.Start.{joined_legal, legal_part_clean}
-use Rattle.hpx_ended.specs.Waves.{Answers, IsWaveRun, IsToldRun, IsBetween}
+use Rattle.hpx_ended.specs.Waves.{Answers, IsWaveRun, IsToldRun, IsBetween, IsAtRest, Agree}
 use Rattle.hpx_ended.specs.Tally.{Tally, Tells, verdict_of}
 use Rattle.hpx_ended.specs.declared.round.Verdict.TheVariants.{Ended}
-use Rattle.hpx_ended.proofs.Waves.{between_quiet}
+use Rattle.hpx_ended.proofs.Waves.{between_road, between_rest, between_quiet}
 use Rattle.hpx_ended.proofs.Tallies.{tells_ended}
 
 clean_front : (r : Rules) (s : Local) (es : List Entry) (n : ℕ) → IsClean r s es → IsClean r s (take n es)
@@ -30,8 +30,15 @@ module _ (r : Rules) (es : List Entry) (v : Answers) (grammar : HasGrammar r) (j
     lines = told.lines;
   }
 
-  pub told_quiet : (w t : ℕ) (tally : Tally) → suc w < v.number → v.rounds w ≡ v.rounds (suc w) → Tells r es v w tally
-      → verdict_of tally ≡ Ended → IsBetween r v w t → IsQuiet r (replayed r (take t es))
-  told_quiet w t tally within round tells ended between =
-      between_quiet r es (joined_legal r grammar es join) v told_run w
-      (record { within = within; round = round; same = tells_ended r es v w tally tells ended }) t between
+  module _ (w : ℕ) (tally : Tally) (within : suc w < v.number) (round : v.rounds w ≡ v.rounds (suc w)) (tells : Tells r es v w tally) (ended : verdict_of tally ≡ Ended) where
+    agree : Agree r es v w
+    agree = record { within = within; round = round; same = tells_ended r es v w tally tells ended }
+
+    pub told_road : (t : ℕ) → IsBetween r v w t → (replayed r (take t es)).road ≡ []
+    told_road t between = between_road r es (joined_legal r grammar es join) v told_run w agree t between
+
+    pub told_rest : (t k : ℕ) → IsBetween r v w t → k < r.localities → IsAtRest r k (part k (take t es))
+    told_rest t k between here = between_rest r es (joined_legal r grammar es join) v told_run w agree t between k here
+
+    pub told_quiet : (t : ℕ) → IsBetween r v w t → IsQuiet r (replayed r (take t es))
+    told_quiet t between = between_quiet r es (joined_legal r grammar es join) v told_run w agree t between

@@ -68,6 +68,13 @@ impl Waves {
         })
     }
 
+    /// How many waves were begun.
+    pub fn begun(&self) -> u32
+        ensures { result ≡ self.now.begun }
+    {
+        self.begun
+    }
+
     /// Begins a wave with the numbers of member 0, and answers its number.
     pub fn begin(&mut self, sent: u64, taken: u64) -> u32
         requires done { waits self.old ≡ false }

@@ -48,6 +48,7 @@ fn a_round_ends_where_two_waves_agree(rt: HostRuntime) -> Result<(), Fail> {
 fn counts_out_of_place_are_refused(rt: HostRuntime) -> Result<(), Fail> {
     let mut waves = Waves::new(rt.alloc(), 3)?;
     assert_eq!(rt; waves.begin(3, 1), 0);
+    assert_eq!(rt; waves.begun(), 1);
     assert_eq!(rt; waves.counts(1, 0, 2, 2), Ok(()));
     for (node, wave) in [(1, 0), (0, 0), (3, 0), (2, 1), (2, u32::MAX)] {
         let refused = Err(OutOfPlace {

@@ -1,2 +1,3 @@
-pub mod Sums
+pub mod Merges
 pub mod Rising
+pub mod Sums

@@ -1,5 +1,5 @@
 -- The ids that are held, by key.
-use Rattle.std.specs.Prelude.{ℕ, Bool, true, false, ◌-◌, ◌≤◌, ◌≡◌, List, sum_by, Option, Some, None, IsSomeAnd, slice_index_or, if◌then◌else◌}
+use Rattle.std.specs.Prelude.{ℕ, Bool, true, false, ◌+◌, ◌-◌, ◌<◌, ◌≤◌, ◌≡◌, List, sum_by, Option, Some, None, IsSomeAnd, slice_index_or, if◌then◌else◌}
 use Rattle.std.specs.Option.{option_map, option_map_or}
 use Rattle.hpx_value.specs.Ids.{Id, bare, same_object, credit}
 use Rattle.hpx_ids.specs.declared.held.Held.{Held}
@@ -43,6 +43,14 @@ less_one log = option_map (λ l. l - 1) log
 abbrev pub half : Id → Id
 half id = record id { log = less_one id.log }
 
+-- an id with twice its credit
+abbrev pub double : Id → Id
+double id = record id { log = option_map (λ l. l + 1) id.log }
+
+-- its credit can be doubled
+abbrev pub CanDouble : Id → Type 0
+CanDouble id = IsSomeAnd id.log (λ log. log < 31)
+
 -- its credit can be halved
 abbrev pub CanSplit : Id → Type 0
 CanSplit id = IsSomeAnd id.log (λ log. 1 ≤ log)
@@ -74,3 +82,8 @@ shown h = (h.gid, h.owner, h.asking)
 -- there is an entry of this owner
 abbrev pub IsKeptBy : Option Held → Owner → Type 0
 IsKeptBy slot owner = IsSomeAnd slot (λ h. h.owner ≡ owner)
+
+-- two entries hold one object with one credit, which can be doubled, and neither is asked for
+abbrev pub AreAlike : Option Held → Option Held → Type 0
+AreAlike slot other =
+    IsSomeAnd slot (λ h. IsSomeAnd other (λ g. IsIdle h × IsIdle g × (bare h.gid ≡ bare g.gid) × (h.gid.log ≡ g.gid.log) × CanDouble h.gid))

@@ -3,7 +3,7 @@ ghost use Rattle.std.specs.Option.{option_map};
 ghost use Rattle.std.specs.List.Sorted.{IsStrictlyIncreasing};
 ghost use Rattle.hpx_value.specs.Ids.{Id, bare, same_object};
 ghost use Rattle.hpx_ids.specs.declared.held.Held.{Held};
-ghost use Rattle.hpx_ids.specs.Tables.{entry, adopted, asked, shown, half, CanSplit, IsIdle, IsSplittable, IsSpent, AsksFor, IsKeptBy, credit_for, credit_at, credit_sum, held_sum};
+ghost use Rattle.hpx_ids.specs.Tables.{entry, adopted, asked, shown, half, double, CanSplit, CanDouble, IsIdle, IsSplittable, IsSpent, AreAlike, AsksFor, IsKeptBy, credit_for, credit_at, credit_sum, held_sum};
 
 use crate::held::{Held, Owner};
 use hpx_value::exact::Exact;
@@ -45,6 +45,17 @@ fn halved(gid: Gid) -> Gid
 {
     match gid.log() {
         Some(log) => gid.with_log(log - 1),
+        None => gid,
+    }
+}
+
+/// An id with twice the credit.
+fn doubled(gid: Gid) -> Gid
+    requires { CanDouble gid }
+    ensures { result ≡ double gid }
+{
+    match gid.log() {
+        Some(log) => gid.with_log(log + 1),
         None => gid,
     }
 }
@@ -126,6 +137,36 @@ impl Ids {
         ensures spare { self.old.spare ≤ self.new.spare }
     {
         self.take_whole(e)
+    }
+
+    /// An id gets twice its credit.
+    fn raise(&mut self, e: usize)
+        requires { IsSomeAnd (entry self.old e) (λ h. IsIdle h × CanDouble h.gid) }
+        ensures entry { IfSome (entry self.old e) (λ h. entry self.new e ≡ Some (record h { gid = double h.gid })) }
+        ensures others { (k : ℕ) → k ≢ e → entry self.new k ≡ entry self.old k }
+        ensures sums { IfSome (entry self.old e) (λ h. (w : Held → ℕ) → held_sum w self.new + w h ≡ held_sum w self.old + w (record h { gid = double h.gid })) }
+        ensures credits { IfSome (entry self.old e) (λ h. (o : Id) → credit_sum o self.new ≡ credit_sum o self.old + credit_for o h.gid) }
+        ensures spare { self.old.spare ≤ self.new.spare }
+    {
+        let held = &mut self.table[e];
+        held.gid = doubled(held.gid);
+    }
+
+    /// Puts two ids of one object with one credit together: the first has the credit of both, the second is gone. It takes
+    /// no memory.
+    pub fn merge(&mut self, e: usize, f: usize)
+        requires two { e ≢ f }
+        requires alike { AreAlike (entry self.old e) (entry self.old f) }
+        ensures entry { IfSome (entry self.old e) (λ h. entry self.new e ≡ Some (record h { gid = double h.gid })) }
+        ensures gone { entry self.new f ≡ None }
+        ensures others { (k : ℕ) → k ≢ e → k ≢ f → entry self.new k ≡ entry self.old k }
+        ensures sums { IfSome (entry self.old e) (λ h. IfSome (entry self.old f) (λ g. (w : Held → ℕ) →
+            held_sum w self.new + w h + w g ≡ held_sum w self.old + w (record h { gid = double h.gid }))) }
+        ensures credits { (o : Id) → credit_sum o self.new ≡ credit_sum o self.old }
+        ensures spare { self.old.spare ≤ self.new.spare }
+    {
+        self.take_whole(f);
+        self.raise(e);
     }
 
     /// Sends an id of log 0 off to be replaced. Its entry waits, without credit. It takes no memory.

@@ -6,7 +6,10 @@ use Rattle.std.proofs.lemmas.List.Sums.{sum_by-cons, sum_by-append}
 use Rattle.std.proofs.lemmas.Bool.Decides.{nat_tests}
 use Rattle.std.proofs.lemmas.Bool.{cases_Bool}
 use Rattle.hpx_value.specs.Ids.{Id, same_object}
-use Rattle.hpx_value.specs.Hands.{Slot, session, own_slot, answer, due_of}
+use Rattle.hpx_value.specs.Hands.{Slot, session, own_slot, answer}
+use Rattle.hpx_value.specs.Shapes.{IsAct}
+use Rattle.hpx_value.specs.Riders.{plain, due_with}
+use Rattle.hpx_value.proofs.Riders.{plain_own}
 use Rattle.hpx_value.specs.Laws.{KeepsLaws}
 use Rattle.hpx_journal.specs.Bags.{without}
 use Rattle.hpx_journal.specs.Data.{State, Act, Fault, Message, Due, MessageDue, PrintDue}
@@ -185,7 +188,7 @@ failure_claims x act =
 
 done_due : (r : Rules) (s : Local) (a : Name) (act : Act) (y : Standing) → find (is_act a) s.fired ≡ Some act
     → find (is_standing (target_of act)) s.objects ≡ Some y
-    → due_left r s false (find (is_act a) s.fired) ≡ due_of y.state act s.fresh (outcome r s act y)
+    → due_left r s false (find (is_act a) s.fired) ≡ due_with y.state (plain act) s.fresh (outcome r s act y)
 done_due r s a act y h i = rw (h, i) refl
 
 abbrev moved : Rules → Local → Event → ℕ → Slot → Type 0
@@ -196,7 +199,8 @@ moved r s e k x =
 -- what the laws of actions say of a commit here
 abbrev pub AreLawful : Rules → Local → Type 0
 AreLawful r s = (a : Name) (x : Runs s a)
-    → KeepsLaws r.localities x.target.object.kind s.here x.target.state x.act (outcome r s x.act x.target) × IsConsole s.here x.target
+    → KeepsLaws r.localities x.target.object.kind s.here x.target.state (plain x.act) (outcome r s x.act x.target)
+    × IsConsole s.here x.target × IsAct x.act
 
 done_moves : (r : Rules) (s : Local) → AreLawful r s → (a : Name) → Row r s (Done a false) → s.due ≡ [] → (k : ℕ) (x : Slot)
     → moved r s (Done a false) k x
@@ -208,10 +212,12 @@ done_moves r s lawful a row d k x =
     let new = new_standing r s act y in
     let j = found_again (target_of act) s.objects y run.stands in
     let keeps = lawful a run in
-    let e = outcome_claims r.localities y.object.kind s.here y.state act s.fresh (outcome r s act y) keeps.0 y.object (λ one. (keeps.1 one).0)
+    let e = outcome_claims r.localities y.object.kind s.here y.state (plain act) s.fresh (outcome r s act y) keeps.0 y.object (λ one. (keeps.1 one).0)
     (made_length (outcome r s act y).makes s.fresh s.objects row.1) x in
     let p = objects_done x s.objects y new.state j in
     let q = acts_done x act s.fired s.done a run.fired in
+    let own : count_by (same_slot x) (own_slot (plain act).ids (plain act).cont) ≡ count_by (same_slot x) (own_slot act.ids act.cont) =
+    ap (count_by (same_slot x)) (plain_own act keeps.2) in
     let b = budget_done x (born_at x.object s.here s.number) s.objects y new.state j in
     rw (done_settles r s a act y run.fired run.stands, done_due r s a act y run.fired run.stands, d) (omega arith)
 

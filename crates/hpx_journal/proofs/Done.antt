@@ -8,6 +8,7 @@ use Rattle.hpx_value.specs.Ids.{Id, same_object, bare}
 use Rattle.hpx_value.specs.Hands.{state_after}
 use Rattle.hpx_journal.specs.Bags.{without}
 use Rattle.hpx_journal.specs.Data.{Act}
+use Rattle.hpx_value.specs.Riders.{plain}
 use Rattle.hpx_journal.specs.Entries.{Name, Standing, Rules, target_of}
 use Rattle.hpx_journal.specs.Local.{Local, is_act, is_standing, settled, outcome}
 use Rattle.hpx_journal.proofs.Bags.{find-passes, find-same}
@@ -42,7 +43,7 @@ found_again x objects y h =
 
 -- the target of a committed action, with its new state
 abbrev pub new_standing : Rules → Local → Act → Standing → Standing
-new_standing r s act x = record { object = x.object; state = state_after x.state act s.fresh (outcome r s act x) }
+new_standing r s act x = record { object = x.object; state = state_after x.state (plain act) s.fresh (outcome r s act x) }
 
 pub done_settles : (r : Rules) (s : Local) (a : Name) (act : Act) (y : Standing) → find (is_act a) s.fired ≡ Some act
     → find (is_standing (target_of act)) s.objects ≡ Some y

@@ -8,7 +8,9 @@ use Rattle.std.proofs.lemmas.List.Sums.{sum_by-cons}
 use Rattle.hpx_value.specs.Ids.{Id, same_object, bare}
 use Rattle.hpx_value.specs.Values.{bare_act, bare_state, refs_in}
 use Rattle.hpx_value.specs.Shapes.{IsAct, IsMessage, IsState}
-use Rattle.hpx_value.specs.Hands.{session, sent, replied, due_of, answer, own_slot}
+use Rattle.hpx_value.specs.Hands.{session, sent, replied, answer, own_slot}
+use Rattle.hpx_value.specs.Riders.{plain, rode, due_with}
+use Rattle.hpx_value.proofs.Riders.{plain_formed, rode_formed}
 use Rattle.hpx_value.specs.Laws.{KeepsLaws, birth_state, IsManaged as IsManagedKind}
 use Rattle.hpx_value.proofs.Kept.{answer_message}
 use Rattle.hpx_parcel.specs.Parcels.{IsParcel}
@@ -113,12 +115,14 @@ failure_formed act =
     (failure_print ((target_of act).kind == 1))
 
 due_formed : (n kind here : ℕ) (s : State) (a : Act) (made : List Id) (out : Outcome) → KeepsLaws n kind here s a out
-    → AllByRecursion IsFormedDue (due_of s a made out)
+    → AllByRecursion IsFormedDue (due_with s a made out)
 due_formed n kind here s a made out keeps =
     all-append IsFormedDue (map (λ x. MessageDue (sent s a made x)) out.sends) _
     (all-image IsFormedDue (λ x. MessageDue (sent s a made x)) out.sends (keeps.shapes.sends made))
-    (all-append IsFormedDue (map (λ x. MessageDue (replied s a made x)) out.replies) _
-    (all-image IsFormedDue (λ x. MessageDue (replied s a made x)) out.replies (keeps.shapes.replies made))
+    (all-append IsFormedDue (map (λ x. MessageDue (rode s a made out x)) out.replies) _
+    (all-image IsFormedDue (λ x. MessageDue (rode s a made out x)) out.replies
+    (all-map (λ x. IsMessage (replied s a made x)) (λ x. IsMessage (rode s a made out x)) (λ x h. rode_formed s a made out x h) out.replies
+    (keeps.shapes.replies made)))
     (all-image IsFormedDue PrintDue out.prints (all-any (λ x. Unit {0}) (λ x. tt) out.prints)))
 
 -- ---- elements of a list whose key stands once
@@ -240,10 +244,12 @@ module _ (r : Rules) (grammar : HasGrammar r) (laws : KeepsActLaws r) (s : Local
           | inr h ↦ h
         ]
 
-    pub keeps : KeepsLaws r.localities x.target.object.kind s.here x.target.state x.act (outcome r s x.act x.target)
+    pub act_formed : IsAct x.act
+    act_formed = all-find IsAct (is_act a) s.fired x.act formed.fired x.fired
+
+    pub keeps : KeepsLaws r.localities x.target.object.kind s.here x.target.state (plain x.act) (outcome r s x.act x.target)
     keeps =
-        laws.laws x.target.object.kind s.here x.target.state x.act place.here target_formed
-        (all-find IsAct (is_act a) s.fired x.act formed.fired x.fired)
+        laws.laws x.target.object.kind s.here x.target.state (plain x.act) place.here target_formed (plain_formed x.act act_formed)
 
     pub target_console : IsConsole s.here x.target
     target_console = all-find (IsConsole s.here) (is_standing (target_of x.act)) s.objects x.target settled.console x.stands
@@ -343,7 +349,7 @@ module _ (r : Rules) (grammar : HasGrammar r) (laws : KeepsActLaws r) (s : Local
   due_after (Done a false) row =
       let x = row.0 in
       rw (x.fired, x.stands)
-      (due_formed r.localities x.target.object.kind s.here x.target.state x.act s.fresh (outcome r s x.act x.target) (keeps a x))
+      (due_formed r.localities x.target.object.kind s.here x.target.state (plain x.act) s.fresh (outcome r s x.act x.target) (keeps a x))
   due_after (Done a true) row = rw row.0.fired (failure_formed row.0.act)
   due_after (Sent a) row = all-tail IsFormedDue s.due formed.due
   due_after (Print bytes) row = all-tail IsFormedDue s.due formed.due

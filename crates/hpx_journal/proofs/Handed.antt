@@ -1,10 +1,10 @@
 -- What holds of each id of the hand, and of what an outcome sends to, holds of each id that it leaves.
-use Rattle.std.proofs.Common.{ℕ, zero, suc, cond, true, false, Bool, List, [], ◌∷◌, ◌++◌, Option, Some, None, map}
+use Rattle.std.proofs.Common.{ℕ, zero, suc, cond, true, false, Bool, List, [], ◌∷◌, ◌++◌, Option, Some, None, map, length}
 use Rattle.std.specs.Prelude.{slice_index_or, pos, codes, ◌==◌}
 use Rattle.std.specs.List.{AllByRecursion}
 use Rattle.hpx_value.specs.Ids.{Id, bare_id}
 use Rattle.hpx_value.specs.Values.{refs_in}
-use Rattle.hpx_value.specs.Hands.{Slot, session, id_at, slot_at, own_slot, hand_ids, hand_slot, hand_slots, slot_ids, addressed, answer, target_id, send_slot, sent, replied, due_of, state_after, slots_kept}
+use Rattle.hpx_value.specs.Hands.{Slot, session, id_at, slot_at, own_slot, hand_ids, hand_slot, hand_slots, slot_ids, addressed, answer, target_id, send_slot, sent, state_after, slots_kept}
 use Rattle.hpx_value.specs.declared.outcome.Target.{Target}
 use Rattle.hpx_value.specs.declared.outcome.Target.TheVariants.{Place, Root}
 use Rattle.hpx_value.specs.declared.outcome.SendCont.{SendCont}
@@ -13,6 +13,7 @@ use Rattle.hpx_value.specs.declared.outcome.Sending.{Sending}
 use Rattle.hpx_value.specs.declared.outcome.Reply.{Reply}
 use Rattle.hpx_journal.specs.Data.{Value, Int, Fault, Cont, State, Act, Outcome, Due, MessageDue, PrintDue}
 use Rattle.hpx_journal.specs.Entries.{target_of}
+use Rattle.hpx_value.specs.Riders.{rides, riders, rode, due_with}
 use Rattle.hpx_journal.specs.Local.{failure}
 use Rattle.hpx_journal.proofs.Alls.{all-append, all-any}
 use Rattle.hpx_journal.proofs.Formed.{all-image}
@@ -111,18 +112,19 @@ module _ (P : Id → Type 0) (C : ℕ → Type 0) (one : P session) (set : C 3) 
       sends_are xs h.1,
     )
 
-    replies_are : (xs : List Reply) → AllByRecursion (DueIs P C) (map (λ x. MessageDue (replied s a made x)) xs)
-    replies_are [] = tt
-    replies_are (x ∷ xs) = (
+    replies_are : (out : Outcome) (xs : List Reply) → AllByRecursion (DueIs P C) (map (λ x. MessageDue (rode s a made out x)) xs)
+    replies_are out [] = tt
+    replies_are out (x ∷ xs) = (
       (
-        addressed_is (hand_slot s a x.cont).object 3 (Int (pos (hand_slot s a x.cont).number) ∷ x.value ∷ []) None (slot_is x.cont) tt,
+        addressed_is (hand_slot s a x.cont).object 3
+            (Int (pos (hand_slot s a x.cont).number) ∷ x.value ∷ riders (rides s a out x) (length s.ids)) None (slot_is x.cont) tt,
         set,
       ),
-      replies_are xs,
+      replies_are out xs,
     )
 
-    pub due_is : (out : Outcome) → AllByRecursion (SendIs P C) out.sends → AllByRecursion (DueIs P C) (due_of s a made out)
+    pub due_is : (out : Outcome) → AllByRecursion (SendIs P C) out.sends → AllByRecursion (DueIs P C) (due_with s a made out)
     due_is out h =
         all-append (DueIs P C) (map (λ x. MessageDue (sent s a made x)) out.sends) _ (sends_are out.sends h)
-        (all-append (DueIs P C) (map (λ x. MessageDue (replied s a made x)) out.replies) (map PrintDue out.prints) (replies_are out.replies)
+        (all-append (DueIs P C) (map (λ x. MessageDue (rode s a made out x)) out.replies) (map PrintDue out.prints) (replies_are out out.replies)
         (all-image (DueIs P C) PrintDue out.prints (all-any (λ bytes. DueIs P C (PrintDue bytes)) (λ bytes. tt) out.prints)))

@@ -5,7 +5,7 @@ use Rattle.std.specs.Prelude.{◌&&◌, ◌||◌, ◌==◌}
 use Rattle.std.proofs.lemmas.Bool.{eqb-true, eq-eqb, cases_lt}
 use Rattle.std.proofs.Math.Nat.{pow-suc}
 use Rattle.hpx_value.specs.Ids.{Id, same_object}
-use Rattle.hpx_journal.specs.Entries.{Reason, Returned, Granted, Refused, Event, Split, Born, Up, Count, Out, In, Frame, Rules}
+use Rattle.hpx_journal.specs.Entries.{Reason, Returned, Granted, Refused, Event, Split, Born, Merge, Up, Count, Out, In, Frame, Rules}
 use Rattle.hpx_journal.specs.Tokens.{worth}
 use Rattle.hpx_journal.specs.Frames.{tokens_in}
 use Rattle.hpx_journal.specs.Local.{Local, Recorded, after, takes, gives, recorded, count_in, is_recorded}
@@ -78,6 +78,11 @@ split_ledger : (b : Bool) (log : ℕ) (c : ℕ) → 1 ≤ log
 split_ledger true log c h = omega (arith, half log h)
 split_ledger false log c h = refl
 
+merge_ledger : (b : Bool) (log : ℕ) (c : ℕ)
+    → (0 + cond b (2 ^ log) 0 + cond b (2 ^ log) 0) + 0 + c ≡ (0 + cond b (2 ^ (log + 1)) 0) + 0 + c
+merge_ledger true log c = let e : log + 1 ≡ suc log = omega arith in rw e (omega (arith, pow-suc 2 log))
+merge_ledger false log c = refl
+
 pub ledger_moves : (r : Rules) (s : Local) (e : Event) → IsSane s → Row r s e → (k : ℕ) (o : Id)
     → sum_by (worth o) (takes r e) + sum_by (frame_worth r o) (arrives_at k e) + recorded o (after r s e)
     ≡ sum_by (worth o) (gives r e) + sum_by (frame_worth r o) (sends e) + recorded o s
@@ -96,6 +101,7 @@ ledger_moves r s (Count x count Granted) sane h k o =
 ledger_moves r s (Count x count Refused) sane h k o =
     refused_ledger (same_object o x) count (cond (same_object o x) (2 ^ 0) 0) x (find (is_recorded o) s.counts)
     (λ t. rw (recorded-same s o x t) h.2)
+ledger_moves r s (Merge x log) sane h k o = merge_ledger (same_object o x) log (recorded o s)
 ledger_moves r s (Up x log) sane h k o = refl
 ledger_moves r s (Out to bytes) sane h k o = omega arith
 ledger_moves r s (In bytes) sane h k o = omega arith

@@ -1,9 +1,13 @@
 -- What an entry does to the messages that are not done.
-use Rattle.std.proofs.Common.{ℕ, true, false, List, [], ◌∷◌, ◌++◌, ◌≡◌, ◌+◌, Option, Some, None, refl, ap, ◌∙◌, arith, map, append-nil}
-use Rattle.std.specs.List.{find, sum_by}
+use Rattle.std.proofs.Common.{ℕ, true, false, List, [], ◌∷◌, ◌++◌, ◌≡◌, ◌≢◌, ◌+◌, Option, Some, None, refl, ap, ◌∙◌, arith, map, append-nil}
+use Rattle.std.specs.List.{find, sum_by, AllByRecursion}
+use Rattle.hpx_value.specs.declared.outcome.Sending.{Sending}
+use Rattle.hpx_value.specs.declared.outcome.Reply.{Reply}
 use Rattle.std.proofs.lemmas.List.Sums.{sum_by-cons, sum_by-append}
 use Rattle.hpx_value.specs.Values.{bare_act, message_of, named}
-use Rattle.hpx_value.specs.Hands.{due_of, sent, replied}
+use Rattle.hpx_value.specs.Hands.{sent, replied}
+use Rattle.hpx_value.specs.Riders.{plain_message, rode, due_with}
+use Rattle.hpx_value.proofs.Riders.{plain_sent, plain_rode}
 use Rattle.hpx_journal.specs.Bags.{minus}
 use Rattle.hpx_journal.specs.Data.{Id, State, Act, Message, Outcome, Parcel, Apply, Move, Go, Shipped, Due, MessageDue, PrintDue}
 use Rattle.hpx_journal.specs.Entries.{Event, Line, Fire, Done, Sent, Print, Out, In, Rules, name_of, line_message, line_act}
@@ -17,17 +21,19 @@ abbrev pub DoesNotFail : Event → Type 0
 DoesNotFail (Done a true) = ⊥
 DoesNotFail _ = Unit {0}
 
--- ---- what is due, in two
+-- ---- what is due, in two: messages without their riders, and prints
 
 abbrev pub messages : List Due → List Message
 messages [] = []
-messages (MessageDue m ∷ rest) = m ∷ messages rest
+messages (MessageDue m ∷ rest) = plain_message m ∷ messages rest
 messages (PrintDue bytes ∷ rest) = messages rest
 
 module _ {X : Type 0} (g : X → Message) where
-  messages-sent : (xs : List X) (rest : List Due) → messages (map (λ x. MessageDue (g x)) xs ++ rest) ≡ map g xs ++ messages rest
-  messages-sent [] rest = refl
-  messages-sent (x ∷ xs) rest = ap (λ ms. g x ∷ ms) (messages-sent xs rest)
+  messages-sent : (h : X → Message) (xs : List X) (rest : List Due) → AllByRecursion (λ x. plain_message (g x) ≡ h x) xs
+      → messages (map (λ x. MessageDue (g x)) xs ++ rest) ≡ map h xs ++ messages rest
+  messages-sent h [] rest same = refl
+  messages-sent h (x ∷ xs) rest same =
+      ap (λ m. m ∷ messages (map (λ y. MessageDue (g y)) xs ++ rest)) same.0 ∙ ap (λ ms. h x ∷ ms) (messages-sent h xs rest same.1)
 
   prints-sent : (xs : List X) (rest : List Due) → prints_due (map (λ x. MessageDue (g x)) xs ++ rest) ≡ prints_due rest
   prints-sent [] rest = refl
@@ -42,17 +48,27 @@ prints-prints [] = refl
 prints-prints (p ∷ ps) = ap (λ qs. p ∷ qs) (prints-prints ps)
 
 module _ (s : State) (a : Act) (made : List Id) (out : Outcome) where
-  pub messages-due : messages (due_of s a made out) ≡ sent_by (message_of a) s made out
-  messages-due =
-      messages-sent (sent s a made) out.sends (map (λ x. MessageDue (replied s a made x)) out.replies ++ map PrintDue out.prints)
+  plain_sends : (xs : List Sending) → AllByRecursion (λ x. (x.code ≢ 3) × (x.code ≢ 4)) xs
+      → AllByRecursion (λ x. plain_message (sent s a made x) ≡ sent s a made x) xs
+  plain_sends [] h = tt
+  plain_sends (x ∷ xs) h = (plain_sent s a made x h.0.0, plain_sends xs h.1)
+
+  plain_replies : (xs : List Reply) → AllByRecursion (λ x. plain_message (rode s a made out x) ≡ replied s a made x) xs
+  plain_replies [] = tt
+  plain_replies (x ∷ xs) = (plain_rode s a made out x, plain_replies xs)
+
+  pub messages-due : AllByRecursion (λ x. (x.code ≢ 3) × (x.code ≢ 4)) out.sends → messages (due_with s a made out) ≡ sent_by (message_of a) s made out
+  messages-due codes =
+      messages-sent (sent s a made) (sent s a made) out.sends (map (λ x. MessageDue (rode s a made out x)) out.replies ++ map PrintDue out.prints)
+      (plain_sends out.sends codes)
       ∙ ap (λ ms. map (sent s a made) out.sends ++ ms)
-      (messages-sent (replied s a made) out.replies (map PrintDue out.prints)
+      (messages-sent (rode s a made out) (replied s a made) out.replies (map PrintDue out.prints) (plain_replies out.replies)
       ∙ (ap (λ ms. map (replied s a made) out.replies ++ ms) (messages-prints out.prints) ∙ append-nil (map (replied s a made) out.replies)))
 
-  pub prints-due : prints_due (due_of s a made out) ≡ out.prints
+  pub prints-due : prints_due (due_with s a made out) ≡ out.prints
   prints-due =
-      prints-sent (sent s a made) out.sends (map (λ x. MessageDue (replied s a made x)) out.replies ++ map PrintDue out.prints)
-      ∙ (prints-sent (replied s a made) out.replies (map PrintDue out.prints) ∙ prints-prints out.prints)
+      prints-sent (sent s a made) out.sends (map (λ x. MessageDue (rode s a made out x)) out.replies ++ map PrintDue out.prints)
+      ∙ (prints-sent (rode s a made out) out.replies (map PrintDue out.prints) ∙ prints-prints out.prints)
 
 -- ---- the messages that an entry brings, and that it takes, in the pool
 
@@ -63,7 +79,7 @@ brings r s _ = []
 
 abbrev pub done_message : Option Act → List Message
 done_message None = []
-done_message (Some act) = message_of act ∷ []
+done_message (Some act) = plain_message (message_of act) ∷ []
 
 abbrev pub ends : Local → Event → List Message
 ends s (Done a failed) = done_message (find (is_act a) s.fired)
@@ -81,7 +97,7 @@ lands r _ = []
 pub due_messages : (f : Message → ℕ) (due : List Due) → sum_by (due_mass f) due ≡ sum_by f (messages due)
 due_messages f [] = refl
 due_messages f (MessageDue m ∷ rest) =
-    omega (arith, sum_by-cons (due_mass f) (MessageDue m) rest, sum_by-cons f m (messages rest), due_messages f rest)
+    omega (arith, sum_by-cons (due_mass f) (MessageDue m) rest, sum_by-cons f (plain_message m) (messages rest), due_messages f rest)
 due_messages f (PrintDue b ∷ rest) = omega (arith, sum_by-cons (due_mass f) (PrintDue b) rest, due_messages f rest)
 
 -- one action that waits
@@ -102,8 +118,8 @@ out_mass s (Go act) h f = one_mass s (bare_act act) h f
 out_mass s (Shipped act state) h f = one_mass s (bare_act act) h f
 out_mass s _ h f = none_mass s f
 
-done_mass : (f : Message → ℕ) (fired : Option Act) (act : Act) → fired ≡ Some act → sum_by f (done_message fired) ≡ f (message_of act)
-done_mass f fired act h = rw h (omega (arith, sum_by-cons f (message_of act) []))
+done_mass : (f : Message → ℕ) (fired : Option Act) (act : Act) → fired ≡ Some act → sum_by f (done_message fired) ≡ f (plain_message (message_of act))
+done_mass f fired act h = rw h (omega (arith, sum_by-cons f (plain_message (message_of act)) []))
 
 pub mass_moves : (r : Rules) (s : Local) (e : Event) → Row r s e → TurnAllows s e → DoesNotFail e → (f : Message → ℕ)
     → mass_at f (after r s e) + sum_by f (ends s e) + sum_by (act_mass f) (departs r e)

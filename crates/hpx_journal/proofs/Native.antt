@@ -16,6 +16,8 @@ use Rattle.hpx_journal.specs.Names.{due_ids}
 use Rattle.hpx_journal.specs.Rows.{Row, AreWaiting, MayGo, Runs}
 use Rattle.hpx_journal.specs.Whole.{Space, IsLegal, IsLegalFrom, MayStand, run, step, replayed, sends, arrives, arrives_at}
 use Rattle.hpx_journal.specs.Laws.{HasGrammar, KeepsActLaws}
+use Rattle.hpx_value.specs.Riders.{plain}
+use Rattle.hpx_value.proofs.Riders.{plain_all, plain_formed}
 use Rattle.hpx_journal.specs.Natives.{EachName}
 use Rattle.hpx_journal.proofs.Alls.{all-append, all-without, all-minus, all-map, all-find, all-listed}
 use Rattle.hpx_journal.proofs.Done.{done_settles}
@@ -106,7 +108,7 @@ module _ (r : Rules) (grammar : HasGrammar r) (laws : KeepsActLaws r) (P : Id â†
     objects_so (Done a false) row =
         let x = row.0 in
         rw (done_settles r s a x.act x.target x.fired x.stands) (
-          state_is P C given.session given.set x.target.state x.act s.fresh (stated a x) (acted a x) so.fresh (outcome r s x.act x.target),
+          state_is P C given.session given.set x.target.state (plain x.act) s.fresh (stated a x) (plain_all P x.act (acted a x)) so.fresh (outcome r s x.act x.target),
           all-without (StandingIs P) (is_standing x.target.object) s.objects so.objects,
         )
     objects_so (Freed o) row = all-without (StandingIs P) (is_standing o) s.objects so.objects
@@ -151,15 +153,15 @@ module _ (r : Rules) (grammar : HasGrammar r) (laws : KeepsActLaws r) (P : Id â†
     module _ (place : IsPlace r s) (settled : IsSettled s) where
       sends_so : (a : Name) (x : Runs s a) â†’ AllByRecursion (SendIs P C) (outcome r s x.act x.target).sends
       sends_so a x =
-          given.sends x.target.object.kind s.here x.target.state x.act place.here (target_formed r grammar laws s place settled a x)
-          (all-find IsAct (is_act a) s.fired x.act settled.formed.fired x.fired)
+          given.sends x.target.object.kind s.here x.target.state (plain x.act) place.here (target_formed r grammar laws s place settled a x)
+          (plain_formed x.act (all-find IsAct (is_act a) s.fired x.act settled.formed.fired x.fired))
 
       due_so : (e : Event) â†’ Row r s e â†’ AllByRecursion (DueIs P C) (after r s e).due
       unfolding after
       due_so (Done a false) row =
           let x = row.0 in
           rw (x.fired, x.stands)
-          (due_is P C given.session given.set x.target.state x.act s.fresh (stated a x) (acted a x) so.fresh (outcome r s x.act x.target) (sends_so a x))
+          (due_is P C given.session given.set x.target.state (plain x.act) s.fresh (stated a x) (plain_all P x.act (acted a x)) so.fresh (outcome r s x.act x.target) (sends_so a x))
       due_so (Done a true) row = rw row.0.fired (failure_is P C given.session given.set row.0.act (acted a row.0))
       due_so (Sent a) row = all-tail (DueIs P C) s.due so.due
       due_so (Print bytes) row = all-tail (DueIs P C) s.due so.due

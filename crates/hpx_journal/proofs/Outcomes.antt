@@ -13,10 +13,12 @@ use Rattle.hpx_value.specs.declared.outcome.SendCont.{SendCont}
 use Rattle.hpx_value.specs.declared.outcome.SendCont.TheVariants.{Nothing as NoCont, Own, Made, Here}
 use Rattle.hpx_value.specs.declared.outcome.Sending.{Sending}
 use Rattle.hpx_value.specs.declared.outcome.Reply.{Reply}
-use Rattle.hpx_value.specs.Hands.{Slot, session, id_at, slot_at, own_slot, hand_ids, hand_slots, hand_slot, addressed, target_id, send_slot, sent, replied, due_of, conts_from, slots_kept, state_after}
+use Rattle.hpx_value.specs.Hands.{Slot, session, id_at, slot_at, own_slot, hand_ids, hand_slots, hand_slot, addressed, target_id, send_slot, sent, conts_from, slots_kept, state_after}
 use Rattle.hpx_value.specs.Laws.{KeepsLaws, UsesEachOnce, MadeSlot, owns, handed_on, answered, uses, makes_slot, made_slots, is_made_slot, draws, drawn_slots}
 use Rattle.hpx_journal.specs.Data.{Value, State, Act, Outcome, MessageDue, PrintDue}
 use Rattle.hpx_value.specs.Shapes.{IsCount}
+use Rattle.hpx_value.specs.Riders.{rode, due_with}
+use Rattle.hpx_journal.proofs.Riders.{rode_claims}
 use Rattle.hpx_journal.specs.Slots.{same_slot, state_claims, due_claims, answers_of}
 use Rattle.hpx_journal.proofs.Bags.{total-same, total-le}
 use Rattle.hpx_journal.proofs.Keys.{one_if, by_keys, by_places, count-map}
@@ -124,18 +126,18 @@ module _ (x : Slot) (s : State) (a : Act) (made : List Id) where
 
   -- ---- what a reply claims, and a print
 
-  reply_claims : (y : Reply) → due_claims x (MessageDue (replied s a made y)) ≡ one_if (in_hand y.cont)
-  reply_claims y = omega arith
+  reply_claims : (out : Outcome) (y : Reply) → due_claims x (MessageDue (rode s a made out y)) ≡ one_if (in_hand y.cont)
+  reply_claims out y = omega (arith, rode_claims x s a made out y)
 
-  replies_claims : (replies : List Reply)
-      → sum_by (due_claims x) (map (λ y. MessageDue (replied s a made y)) replies) ≡ count_by in_hand (answered replies)
-  replies_claims [] = refl
-  replies_claims (y ∷ replies) =
+  replies_claims : (out : Outcome) (replies : List Reply)
+      → sum_by (due_claims x) (map (λ y. MessageDue (rode s a made out y)) replies) ≡ count_by in_hand (answered replies)
+  replies_claims out [] = refl
+  replies_claims out (y ∷ replies) =
       omega (
         arith,
-        replies_claims replies,
-        reply_claims y,
-        sum_by-cons (due_claims x) (MessageDue (replied s a made y)) (map (λ z. MessageDue (replied s a made z)) replies),
+        replies_claims out replies,
+        reply_claims out y,
+        sum_by-cons (due_claims x) (MessageDue (rode s a made out y)) (map (λ z. MessageDue (rode s a made out z)) replies),
         sum_by-cons (λ i. one_if (in_hand i)) y.cont (answered replies),
       )
 
@@ -145,16 +147,16 @@ module _ (x : Slot) (s : State) (a : Act) (made : List Id) where
 
   -- all that an outcome claims
   all_claims : (out : Outcome) → AllByRecursion (λ y. (y.code ≢ 3) × (y.code ≢ 4)) out.sends
-      → state_claims x (state_after s a made out) + sum_by (due_claims x) (due_of s a made out)
+      → state_claims x (state_after s a made out) + sum_by (due_claims x) (due_with s a made out)
       ≡ count_by in_hand (uses out) + count_by in_made (made_slots out.sends) + count_by in_session (drawn_slots out.sends)
   all_claims out h =
       let sends = map (λ y. MessageDue (sent s a made y)) out.sends in
-      let replies = map (λ y. MessageDue (replied s a made y)) out.replies in
+      let replies = map (λ y. MessageDue (rode s a made out y)) out.replies in
       omega (
         arith,
         state_kept out,
         sends_claims out.sends h,
-        replies_claims out.replies,
+        replies_claims out out.replies,
         prints_claims out.prints,
         sum_by-append (due_claims x) sends (replies ++ map PrintDue out.prints),
         sum_by-append (due_claims x) replies (map PrintDue out.prints),
@@ -280,7 +282,7 @@ module _ (n kind here : ℕ) (s : State) (a : Act) (made : List Id) (out : Outco
 
   -- a committed action claims what it and its target claimed, the slots of what it makes, and those that the session draws
   pub outcome_claims : length made ≡ length out.makes → (x : Slot)
-      → state_claims x (state_after s a made out) + sum_by (due_claims x) (due_of s a made out) + opened x o s
+      → state_claims x (state_after s a made out) + sum_by (due_claims x) (due_with s a made out) + opened x o s
       ≤ state_claims x s + count_by (same_slot x) (own_slot a.ids a.cont) + opened x o (state_after s a made out)
       + count_by (same_object x.object) made
   outcome_claims same x =

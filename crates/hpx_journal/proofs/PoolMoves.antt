@@ -13,6 +13,9 @@ use Rattle.hpx_journal.specs.Frames.{travels_in}
 use Rattle.hpx_journal.specs.Local.{after, is_standing, is_travel, acts_on, leaving}
 use Rattle.hpx_journal.specs.Rows.{Row, is_to, is_move_of}
 use Rattle.hpx_journal.specs.Whole.{Space, arrives_at, at_place, step, MayStand}
+use Rattle.hpx_value.specs.Riders.{plain}
+use Rattle.hpx_value.proofs.Riders.{plain_target}
+use Rattle.hpx_journal.proofs.Riders.{plain_moves}
 use Rattle.hpx_journal.specs.Pool.{act_mass, mass_at, frame_mass, mass}
 use Rattle.hpx_journal.proofs.Bags.{list_any-find, find-passes, total-term}
 use Rattle.hpx_journal.proofs.Same.{same_frame-true}
@@ -69,8 +72,9 @@ module _ (r : Rules) (w : Space) (e : Entry) (ok : MayStand r w e) (well : DoesN
           | inl same ↦ absurd (let t = same-sym x.object (target_of d.act) same in cc)
           | inr away ↦ away
         ] in
-        let none : moving x (message_of d.act) ≡ 0 = rw turned refl in
-        rw (d.fired) (omega (arith, none, sum_by-cons (moving x) (message_of d.act) []))
+        let plainly : same_object x.object (target_of (plain d.act)) ≡ false = ap (same_object x.object) (plain_target d.act) ∙ turned in
+        let none : moving x (message_of (plain d.act)) ≡ 0 = rw plainly refl in
+        rw (d.fired) (omega (arith, none, sum_by-cons (moving x) (message_of (plain d.act)) []))
     spared_by _ row fine x apart = refl
 
     abbrev StandsHere : Id → Type 0
@@ -110,7 +114,9 @@ module _ (r : Rules) (w : Space) (e : Entry) (ok : MayStand r w e) (well : DoesN
           let b = both_true (acts_on o act) (is_to to (move_to act)) passes in
           let o_x : same_object o x.object ≡ true = find-passes (is_standing o) (w.places e.at).objects x f in
           let t : same_object x.object (target_of act) ≡ true = sym (same-left o x.object o_x (target_of act)) ∙ b.0 in
-          let m : moving (leaving to x) (message_of act) ≡ 1 = rw t (rw (b.1) refl) in
+          let u : same_object x.object (target_of (plain act)) ≡ true = ap (same_object x.object) (plain_target act) ∙ t in
+          let v : is_to to (move_to (plain act)) ≡ true = ap (is_to to) (plain_moves act) ∙ b.1 in
+          let m : moving (leaving to x) (message_of (plain act)) ≡ 1 = rw u (rw v refl) in
           omega (arith, m)) (w.places e.at).waiting move in
           omega (arith, one, total-term r.localities (λ j. mass_at (moving (leaving to x)) (w.places j)) e.at ok.place)
 

@@ -6,9 +6,9 @@ use Rattle.std.proofs.Common.{ℕ, true, false, List, [], ◌∷◌, ◌++◌, �
 use Rattle.std.specs.List.{list_any, find, AllByRecursion}
 use Rattle.std.proofs.lemmas.Bool.{cases_Bool}
 use Rattle.hpx_value.specs.Ids.{Id, same_object}
-use Rattle.hpx_value.specs.Hands.{due_of}
+use Rattle.hpx_value.specs.Riders.{plain, due_with}
 use Rattle.hpx_journal.specs.Data.{Act}
-use Rattle.hpx_journal.specs.Entries.{Name, Event, Line, Fire, Split, Born, Done, Sent, Print, Up, Asked, Given, Count, Freed, Left, Landed, Looked, Mail, Out, In, Standing, Rules, target_of}
+use Rattle.hpx_journal.specs.Entries.{Name, Event, Line, Fire, Split, Born, Done, Sent, Print, Merge, Up, Asked, Given, Count, Freed, Left, Landed, Looked, Mail, Out, In, Standing, Rules, target_of}
 use Rattle.hpx_journal.specs.Frames.{travels_in}
 use Rattle.hpx_journal.specs.Local.{Local, after, is_standing, is_travel, is_act, outcome, leaving}
 use Rattle.hpx_journal.specs.Rows.{Row}
@@ -148,12 +148,12 @@ unprinted_stays r k s e row still sound h =
 
 module _ (r : Rules) (s : Local) (a : Name) (act : Act) (x : Standing) (fires : find (is_act a) s.fired ≡ Some act)
     (stands : find (is_standing (target_of act)) s.objects ≡ Some x) where
-  pub done_due : (after r s (Done a false)).due ≡ due_of x.state act s.fresh (outcome r s act x)
+  pub done_due : (after r s (Done a false)).due ≡ due_with x.state (plain act) s.fresh (outcome r s act x)
   unfolding after
   done_due = rw fires (rw stands refl)
 
   pub done_prints : prints_due (after r s (Done a false)).due ≡ (outcome r s act x).prints
-  done_prints = ap prints_due done_due ∙ prints-due x.state act s.fresh (outcome r s act x)
+  done_prints = ap prints_due done_due ∙ prints-due x.state (plain act) s.fresh (outcome r s act x)
 
   pub done_silent : (k : ℕ) → IsSound k s → IsSilent r s → k ≢ 0 → (outcome r s act x).prints ≡ []
   done_silent k sound law h =
@@ -172,6 +172,7 @@ silent_after r k s (Line a bytes) row well law sound h = (unprinted_stays r k s 
 silent_after r k s (Fire a) row well law sound h = (unprinted_stays r k s (Fire a) row tt sound h).1
 silent_after r k s (Split o log) row well law sound h = (unprinted_stays r k s (Split o log) row tt sound h).1
 silent_after r k s (Born o state) row well law sound h = (unprinted_stays r k s (Born o state) row tt sound h).1
+silent_after r k s (Merge o log) row well law sound h = (unprinted_stays r k s (Merge o log) row tt sound h).1
 silent_after r k s (Up o log) row well law sound h = (unprinted_stays r k s (Up o log) row tt sound h).1
 silent_after r k s (Asked o) row well law sound h = (unprinted_stays r k s (Asked o) row tt sound h).1
 silent_after r k s (Given o log) row well law sound h = (unprinted_stays r k s (Given o log) row tt sound h).1

@@ -7,6 +7,8 @@ use Rattle.hpx_value.specs.Ids.{Id, same_object}
 use Rattle.hpx_value.specs.Values.{message_of}
 use Rattle.hpx_value.specs.Hands.{state_after}
 use Rattle.hpx_journal.specs.Bags.{without}
+use Rattle.hpx_value.specs.Riders.{plain}
+use Rattle.hpx_value.proofs.Riders.{plain_target}
 use Rattle.hpx_journal.specs.Data.{Act, Message, Outcome}
 use Rattle.hpx_journal.specs.Entries.{Name, Done, Landed, Standing, Travel, Rules, target_of}
 use Rattle.hpx_journal.specs.Local.{Local, after, is_standing, is_travel, is_act, outcome, stood}
@@ -54,23 +56,28 @@ module _ (r : Rules) (p : Pool) (alike : IsAlike p) (k : ℕ) (s : Local) (shows
     (out : Outcome) (out_is : outcome r s act x ≡ out) (made : AreMade out.makes s.fresh s.objects) (others : List Message)
     (drawn : AllByRecursion (IsDrawn k s.number) s.fresh) where
   abbrev pub T : Id
-  T = target_of act
+  T = target_of (plain act)
 
   abbrev pub q : Pool
-  q = acted p k (message_of act) x.state s.fresh others out
+  q = acted p k (message_of (plain act)) x.state s.fresh others out
 
   there : (p.states T ≡ Some x.state) × (p.places T ≡ k)
-  there = target_there r p alike k s shows here a act x fires stands
+  there =
+      let old = target_there r p alike k s shows here a act x fires stands in
+      (ap p.states (plain_target act) ∙ old.0, ap p.places (plain_target act) ∙ old.1)
+
+  stands_plain : find (is_standing T) s.objects ≡ Some x
+  stands_plain = ap (λ (o : Id). find (is_standing o) s.objects) (plain_target act) ∙ stands
 
   new : Standing
-  new = record { object = x.object; state = state_after x.state act s.fresh out }
+  new = record { object = x.object; state = state_after x.state (plain act) s.fresh out }
 
   done_objects : (after r s (Done a false)).objects ≡ new ∷ without (is_standing x.object) s.objects
   unfolding after new
   done_objects = rw fires (rw stands (rw out_is refl))
 
   T_x : same_object T x.object ≡ true
-  T_x = find-passes (is_standing T) s.objects x stands
+  T_x = find-passes (is_standing T) s.objects x stands_plain
 
   state_now : (t : Id) → list_any (is_standing t) (new ∷ without (is_standing x.object) s.objects) ≡ true
       → (q.states t ≡ state_in (find (is_standing t) (new ∷ without (is_standing x.object) s.objects))) × (q.places t ≡ k)
@@ -92,7 +99,7 @@ module _ (r : Rules) (p : Pool) (alike : IsAlike p) (k : ℕ) (s : Local) (shows
                   (rw other (made_known p.states out.makes s.fresh s.objects t made young ∙ sym found), rw young refl)
               | inr grown ↦
                   let before = shows.stands t old grown in
-                  let stay = others_stay p alike k act x.state s.fresh others out there.0 t other grown in
+                  let stay = others_stay p alike k (plain act) x.state s.fresh others out there.0 t other grown in
                   (stay.0 ∙ (before.0 ∙ sym found), stay.1 ∙ before.1)
             ]
       ]
@@ -104,15 +111,15 @@ module _ (r : Rules) (p : Pool) (alike : IsAlike p) (k : ℕ) (s : Local) (shows
         let now = state_now t (ap (list_any (is_standing t)) (sym done_objects) ∙ any) in
         (now.0 ∙ ap (λ xs. state_in (find (is_standing t) xs)) (sym done_objects), now.1);
     travels = all-both (HasTravel p) (IsApart T) (HasTravel q)
-        (λ y has other. travel_stays p alike k act x.state s.fresh others out there.0 shows.fresh y has other) s.travels shows.travels apart;
+        (λ y has other. travel_stays p alike k (plain act) x.state s.fresh others out there.0 shows.fresh y has other) s.travels shows.travels apart;
     fired = all-without (λ y. is_some (q.states (target_of y)) ≡ true) (is_act a) s.fired
         (all-map (λ y. is_some (p.states (target_of y)) ≡ true) (λ y. is_some (q.states (target_of y)) ≡ true)
-        (λ y known. known_stays p alike k act x.state s.fresh others out there.0 (target_of y) known) s.fired shows.fired);
+        (λ y known. known_stays p alike k (plain act) x.state s.fresh others out there.0 (target_of y) known) s.fired shows.fired);
     fresh = tt;
     unknown = λ t managed home late.
         let none : p.states t ≡ None = shows.unknown t managed home late in
-        (others_stay p alike k act x.state s.fresh others out there.0 t
-        (unknown_apart p alike k act x.state s.fresh others out there.0 t none) (late_apart k s.number s.fresh drawn t late)).0 ∙ none;
+        (others_stay p alike k (plain act) x.state s.fresh others out there.0 t
+        (unknown_apart p alike k (plain act) x.state s.fresh others out there.0 t none) (late_apart k s.number s.fresh drawn t late)).0 ∙ none;
   }
 
   -- at another locality
@@ -127,20 +134,20 @@ module _ (r : Rules) (p : Pool) (alike : IsAlike p) (k : ℕ) (s : Local) (shows
           | inl same ↦ absurd (apart (sym there.1 ∙ (sym (alike.alike t T same).1 ∙ before.1)))
           | inr d ↦ d
         ] in
-        let stay = others_stay p alike k act x.state s.fresh others out there.0 t other (not_fresh p alike s.fresh shows.fresh t known) in
+        let stay = others_stay p alike k (plain act) x.state s.fresh others out there.0 t other (not_fresh p alike s.fresh shows.fresh t known) in
         (stay.0 ∙ before.0, stay.1 ∙ before.1);
     travels = all-both (HasTravel p) (IsApart T) (HasTravel q)
-        (λ y has other. travel_stays p alike k act x.state s.fresh others out there.0 shows.fresh y has other) z.travels old.travels travels;
+        (λ y has other. travel_stays p alike k (plain act) x.state s.fresh others out there.0 shows.fresh y has other) z.travels old.travels travels;
     fired = all-map (λ y. is_some (p.states (target_of y)) ≡ true) (λ y. is_some (q.states (target_of y)) ≡ true)
-        (λ y known. known_stays p alike k act x.state s.fresh others out there.0 (target_of y) known) z.fired old.fired;
+        (λ y known. known_stays p alike k (plain act) x.state s.fresh others out there.0 (target_of y) known) z.fired old.fired;
     fresh = all-both (λ o. p.states o ≡ None) (IsDrawn j z.number) (λ o. q.states o ≡ None)
-        (λ o none d. (others_stay p alike k act x.state s.fresh others out there.0 o
-        (unknown_apart p alike k act x.state s.fresh others out there.0 o none)
+        (λ o none d. (others_stay p alike k (plain act) x.state s.fresh others out there.0 o
+        (unknown_apart p alike k (plain act) x.state s.fresh others out there.0 o none)
         (home_apart k s.number s.fresh drawn o (λ h. apart (sym h ∙ d.1)))).0 ∙ none) z.fresh old.fresh young;
     unknown = λ t managed home late.
         let none : p.states t ≡ None = old.unknown t managed home late in
-        (others_stay p alike k act x.state s.fresh others out there.0 t
-        (unknown_apart p alike k act x.state s.fresh others out there.0 t none)
+        (others_stay p alike k (plain act) x.state s.fresh others out there.0 t
+        (unknown_apart p alike k (plain act) x.state s.fresh others out there.0 t none)
         (home_apart k s.number s.fresh drawn t (λ h. apart (sym h ∙ home)))).0 ∙ none;
   }
 

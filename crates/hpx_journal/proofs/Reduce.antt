@@ -1,18 +1,22 @@
 -- A legal journal without a failed Done is a run of the plain pool.
-use Rattle.std.specs.List.{list_any}
+use Rattle.std.specs.List.{list_any, find}
 use Rattle.hpx_journal.specs.Entries.{target_of}
 use Rattle.hpx_value.specs.Ids.{same_object}
 use Rattle.hpx_journal.specs.Local.{is_standing}
 use Rattle.hpx_journal.proofs.Bags.{find-passes}
-use Rattle.hpx_journal.specs.Entries.{Standing}
+use Rattle.hpx_journal.specs.Entries.{Name, Standing}
+use Rattle.hpx_value.specs.Laws.{KeepsLaws}
+use Rattle.hpx_journal.specs.Data.{Act}
 use Rattle.hpx_journal.proofs.SlotsWhole.{IsSlotted, slotted_run}
+use Rattle.hpx_value.specs.Riders.{plain}
+use Rattle.hpx_value.proofs.Riders.{plain_formed}
 use Rattle.hpx_journal.proofs.PoolSound.{IsSilent}
 use Rattle.hpx_value.specs.Shapes.{IsState, IsAct}
 use Rattle.hpx_journal.proofs.Formed.{IsOld}
 use Rattle.hpx_journal.specs.Laws.{KeepsActLaws, IsFormedOrFresh}
-use Rattle.hpx_journal.specs.Local.{is_act}
+use Rattle.hpx_journal.specs.Local.{is_act, outcome}
 use Rattle.hpx_journal.proofs.PoolLists.{any-same_id, find-all}
-use Rattle.std.proofs.Common.{ℕ, Bool, true, false, cond, List, [], ◌∷◌, ◌++◌, ◌≡◌, ◌≢◌, ◌+◌, ◌<◌, ◌≤◌, refl, sym, ap, ◌∙◌, subst, arith, inl, inr, append_assoc, append-nil}
+use Rattle.std.proofs.Common.{ℕ, Bool, true, false, cond, List, [], ◌∷◌, ◌++◌, ◌≡◌, ◌≢◌, ◌+◌, ◌<◌, ◌≤◌, Some, refl, sym, ap, ◌∙◌, subst, arith, inl, inr, append_assoc, append-nil}
 use Rattle.std.specs.List.{sum_by, AllByRecursion}
 use Rattle.std.proofs.lemmas.List.Sums.{sum_by-cons, sum_by-append}
 use Rattle.std.proofs.lemmas.Bool.{cases_eq}
@@ -80,20 +84,26 @@ pub record IsReached (r : Rules) (w : Space) : Type 0 where
   pub towards : AreTowards r w
   pub slotted : IsSlotted r w
 
--- by the laws of actions only the session prints
+-- what the laws of actions say of an action that is fired here
+pub lawful_at : (r : Rules) → KeepsActLaws r → (w : Space) → IsReached r w → (k : ℕ) → k < r.localities → (a : Name) (act : Act) (x : Standing)
+    → find (is_act a) (w.places k).fired ≡ Some act → find (is_standing (target_of act)) (w.places k).objects ≡ Some x
+    → KeepsLaws r.localities x.object.kind (w.places k).here x.state (plain act) (outcome r (w.places k) act x)
+lawful_at r laws w reached k h a act x fires stands =
+    let s = w.places k in
+    let known = reached.slotted.settled k in
+    let T = target_of act in
+    let T_x : same_object T x.object ≡ true = find-passes (is_standing T) s.objects x stands in
+    let old : list_any (same_object T) s.fresh ≡ false = find-all (IsOld s.fresh) (is_act a) s.fired act known.old fires in
+    let grown : list_any (same_object x.object) s.fresh ≡ false = sym (any-same_id T x.object s.fresh T_x) ∙ old in
+    let here : s.here < r.localities = subst (λ j. j < r.localities) (sym (reached.whole.here k)) h in
+    laws.laws x.object.kind s.here x.state (plain act) here
+    (grown_formed s.fresh x grown (find-all (IsFormedOrFresh s.fresh) (is_standing T) s.objects x known.formed.objects stands))
+    (plain_formed act (find-all IsAct (is_act a) s.fired act known.formed.fired fires))
+
+-- by them only the session prints
 pub silent_at : (r : Rules) → KeepsActLaws r → (w : Space) → IsReached r w → (k : ℕ) → k < r.localities → IsSilent r (w.places k)
 silent_at r laws w reached k h = record {
-  silent = λ a act x fires stands other.
-      let s = w.places k in
-      let known = reached.slotted.settled k in
-      let T = target_of act in
-      let T_x : same_object T x.object ≡ true = find-passes (is_standing T) s.objects x stands in
-      let old : list_any (same_object T) s.fresh ≡ false = find-all (IsOld s.fresh) (is_act a) s.fired act known.old fires in
-      let grown : list_any (same_object x.object) s.fresh ≡ false = sym (any-same_id T x.object s.fresh T_x) ∙ old in
-      let here : s.here < r.localities = subst (λ j. j < r.localities) (sym (reached.whole.here k)) h in
-      (laws.laws x.object.kind s.here x.state act here
-      (grown_formed s.fresh x grown (find-all (IsFormedOrFresh s.fresh) (is_standing T) s.objects x known.formed.objects stands))
-      (find-all IsAct (is_act a) s.fired act known.formed.fired fires)).few.session other;
+  silent = λ a act x fires stands other. (lawful_at r laws w reached k h a act x fires stands).few.session other;
 }
 
 module _ (r : Rules) (grammar : HasGrammar r) (laws : KeepsActLaws r) (w : Space) (reached : IsReached r w) (e : Entry) (ok : MayStand r w e)

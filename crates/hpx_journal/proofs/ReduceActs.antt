@@ -11,6 +11,9 @@ use Rattle.std.proofs.lemmas.List.Sums.{sum_by-cons, sum_by-append}
 use Rattle.hpx_value.specs.Ids.{Id}
 use Rattle.hpx_value.specs.Values.{message_of, named}
 use Rattle.hpx_journal.specs.Data.{Act, State, Message, Make, Outcome}
+use Rattle.hpx_value.specs.Riders.{plain, due_with}
+use Rattle.hpx_value.proofs.Riders.{plain_target}
+use Rattle.hpx_journal.proofs.Riders.{plain_moves}
 use Rattle.hpx_journal.specs.Entries.{Name, Done, Entry, Standing, Rules, target_of}
 use Rattle.hpx_journal.specs.Frames.{travels_in}
 use Rattle.hpx_journal.specs.Local.{Local, after, is_standing, is_act, outcome, due_left}
@@ -26,7 +29,7 @@ use Rattle.hpx_journal.proofs.PoolActs.{acted_alike, travel_stays, target_there}
 use Rattle.hpx_journal.proofs.PoolSteps.{IsApart, IsDrawn, done_here, done_there}
 use Rattle.hpx_journal.proofs.PoolSound.{AreDistinct, IsAtPlace, done_prints, done_silent}
 use Rattle.hpx_journal.proofs.PoolWhole.{travels_apart, road_apart, road_travels}
-use Rattle.hpx_journal.proofs.Reduce.{silent_at, IsAmong, among, sum_by-middle, IsReached, assemble}
+use Rattle.hpx_journal.proofs.Reduce.{lawful_at, silent_at, IsAmong, among, sum_by-middle, IsReached, assemble}
 
 -- objects that are made are new to the pool
 made_new : (states : Id → Option State) (k number : ℕ) (makes : List Make) (fresh : List Id) (objects : List Standing) → AreMade makes fresh objects
@@ -51,26 +54,38 @@ module _ (r : Rules) (blind : IsBlind r) (laws : KeepsActLaws r) (w : Space) (re
   abbrev e : Entry
   e = record { at = k; event = Done a false }
 
-  there : (p.states (target_of act) ≡ Some x.state) × (p.places (target_of act) ≡ k)
-  there = target_there r p shows.alike k s (shows.places k ok.place) (reached.sound k).here a act x fires stands
+  -- the action without its rider, and its target
+  abbrev P : Act
+  P = plain act
+
+  abbrev T : Id
+  T = target_of (plain act)
+
+  there : (p.states T ≡ Some x.state) × (p.places T ≡ k)
+  there =
+      let old = target_there r p shows.alike k s (shows.places k ok.place) (reached.sound k).here a act x fires stands in
+      (ap p.states (plain_target act) ∙ old.0, ap p.places (plain_target act) ∙ old.1)
+
+  stands_plain : find (is_standing T) s.objects ≡ Some x
+  stands_plain = ap (λ (o : Id). find (is_standing o) s.objects) (plain_target act) ∙ stands
 
   abbrev done : Outcome
-  done = outcome_in r k (message_of act) x.state
+  done = outcome_in r k (message_of P) x.state
 
   -- the outcome is that of the message
   outcome_eq : outcome r s act x ≡ done
   outcome_eq =
-      let kind : x.object.kind ≡ (target_of act).kind =
-      ap (λ v. v.kind) (sym (same_object-true (target_of act) x.object (find-passes (is_standing (target_of act)) s.objects x stands))) in
-      ap (λ n. r.outcome_of n s.here x.state act) kind
-      ∙ (ap (λ j. r.outcome_of (target_of act).kind j x.state act) (reached.sound k).here
-      ∙ (blind.blind (target_of act).kind k x.state act ∙ sym (blind.blind (target_of act).kind k x.state (named 0 0 (message_of act)))))
+      let kind : x.object.kind ≡ T.kind =
+      ap (λ v. v.kind) (sym (same_object-true T x.object (find-passes (is_standing T) s.objects x stands_plain))) in
+      ap (λ n. r.outcome_of n s.here x.state P) kind
+      ∙ (ap (λ j. r.outcome_of T.kind j x.state P) (reached.sound k).here
+      ∙ (blind.blind T.kind k x.state P ∙ sym (blind.blind T.kind k x.state (named 0 0 (message_of P)))))
 
-  is_pending : IsAmong (λ m. m ≡ message_of act) p.pending
+  is_pending : IsAmong (λ m. m ≡ message_of P) p.pending
   is_pending =
-      let f : Message → ℕ = λ m. cond (same_message (message_of act) m) 1 0 in
-      let one : f (message_of act) ≡ 1 = ap {B = ℕ} (λ b. cond b 1 0) (same_message-refl (message_of act)) in
-      among (λ m. m ≡ message_of act) (same_message (message_of act)) (λ m t. sym (same_message-true (message_of act) m t)) p.pending
+      let f : Message → ℕ = λ m. cond (same_message (message_of P) m) 1 0 in
+      let one : f (message_of P) ≡ 1 = ap {B = ℕ} (λ b. cond b 1 0) (same_message-refl (message_of P)) in
+      among (λ m. m ≡ message_of P) (same_message (message_of P)) (λ m t. sym (same_message-true (message_of P) m t)) p.pending
       (omega (
         arith,
         one,
@@ -83,32 +98,38 @@ module _ (r : Rules) (blind : IsBlind r) (laws : KeepsActLaws r) (w : Space) (re
   others = is_pending.before ++ is_pending.behind
 
   abbrev next : Pool
-  next = acted p k (message_of act) x.state s.fresh others done
+  next = acted p k (message_of P) x.state s.fresh others done
 
-  split : p.pending ≡ is_pending.before ++ message_of act ∷ is_pending.behind
+  split : p.pending ≡ is_pending.before ++ message_of P ∷ is_pending.behind
   split = is_pending.split ∙ ap (λ m. is_pending.before ++ m ∷ is_pending.behind) is_pending.fact
 
   made_done : AreMade done.makes s.fresh s.objects
   made_done = subst (λ o. AreMade o.makes s.fresh s.objects) outcome_eq made
 
-  target_any : list_any (is_standing (target_of act)) s.objects ≡ true
-  target_any = list_any-find (is_standing (target_of act)) s.objects x stands
+  target_any : list_any (is_standing T) s.objects ≡ true
+  target_any = list_any-find (is_standing T) s.objects x stands_plain
+
+  due_here : due_left r s false (Some act) ≡ due_with x.state P s.fresh (outcome r s act x)
+  due_here = rw stands refl
 
   bag : (f : Message → ℕ) → sum_by f next.pending + sum_by f (ends s (Done a false)) ≡ sum_by f p.pending + sum_by f (brings r s (Done a false))
   bag f =
-      let n : sum_by f (ends s (Done a false)) ≡ f (message_of act) = rw fires (omega (arith, sum_by-cons f (message_of act) [])) in
+      let n : sum_by f (ends s (Done a false)) ≡ f (message_of P) = rw fires (omega (arith, sum_by-cons f (message_of P) [])) in
       let d : due_left r s false (find (is_act a) s.fired) ≡ due_left r s false (Some act) = ap (due_left r s false) fires in
-      let m : brings r s (Done a false) ≡ sent_by (message_of act) x.state s.fresh done =
-      ap messages d ∙ (rw stands (messages-due x.state act s.fresh (outcome r s act x)) ∙ ap (λ o. sent_by (message_of act) x.state s.fresh o) outcome_eq) in
-      let b : sum_by f (brings r s (Done a false)) ≡ sum_by f (sent_by (message_of act) x.state s.fresh done) = ap (sum_by f) m in
-      let l : sum_by f p.pending ≡ sum_by f (is_pending.before ++ message_of act ∷ is_pending.behind) = ap (sum_by f) split in
+      let m : brings r s (Done a false) ≡ sent_by (message_of P) x.state s.fresh done =
+      ap messages d
+      ∙ (ap messages due_here
+      ∙ (messages-due x.state P s.fresh (outcome r s act x) (lawful_at r laws w reached k ok.place a act x fires stands).moves.codes
+      ∙ ap (λ o. sent_by (message_of P) x.state s.fresh o) outcome_eq)) in
+      let b : sum_by f (brings r s (Done a false)) ≡ sum_by f (sent_by (message_of P) x.state s.fresh done) = ap (sum_by f) m in
+      let l : sum_by f p.pending ≡ sum_by f (is_pending.before ++ message_of P ∷ is_pending.behind) = ap (sum_by f) split in
       omega (
         arith,
         n,
         b,
         l,
-        sum_by-append f (sent_by (message_of act) x.state s.fresh done) others,
-        sum_by-middle f is_pending.before (message_of act) is_pending.behind,
+        sum_by-append f (sent_by (message_of P) x.state s.fresh done) others,
+        sum_by-middle f is_pending.before (message_of P) is_pending.behind,
       )
 
   console_prints : k ≡ 0 → (out ++ []) ++ prints_due (after r s (Done a false)).due ≡ next.printed
@@ -125,27 +146,27 @@ module _ (r : Rules) (blind : IsBlind r) (laws : KeepsActLaws r) (w : Space) (re
 
   road_next : AllByRecursion (λ f. AllByRecursion (HasTravel next) (travels_in (r.parcel_of f.1))) (road_after w.road e)
   road_next =
-      all-both (λ f. AllByRecursion (HasTravel p) (travels_in (r.parcel_of f.1))) (λ f. AllByRecursion (IsApart (target_of act)) (travels_in (r.parcel_of f.1)))
+      all-both (λ f. AllByRecursion (HasTravel p) (travels_in (r.parcel_of f.1))) (λ f. AllByRecursion (IsApart T) (travels_in (r.parcel_of f.1)))
       (λ f. AllByRecursion (HasTravel next) (travels_in (r.parcel_of f.1)))
-      (λ f has apart. all-both (HasTravel p) (IsApart (target_of act)) (HasTravel next)
-      (λ y h d. travel_stays p shows.alike k act x.state s.fresh others done there.0 (shows.places k ok.place).fresh y h d)
+      (λ f has apart. all-both (HasTravel p) (IsApart T) (HasTravel next)
+      (λ y h d. travel_stays p shows.alike k P x.state s.fresh others done there.0 (shows.places k ok.place).fresh y h d)
       (travels_in (r.parcel_of f.1)) has apart)
       (road_after w.road e)
       (road_travels (HasTravel p) r w e ok (shows.places k ok.place).travels shows.road)
-      (road_travels (IsApart (target_of act)) r w e ok
-      (travels_apart r w reached.whole reached.sound (target_of act) k ok.place target_any k ok.place)
-      (road_apart r w reached.whole reached.carried (target_of act) k ok.place target_any))
+      (road_travels (IsApart T) r w e ok
+      (travels_apart r w reached.whole reached.sound T k ok.place target_any k ok.place)
+      (road_apart r w reached.whole reached.carried T k ok.place target_any))
 
   shows_next : Shows r (step r w e) next (out ++ [])
   shows_next =
       assemble r w reached p out shows e ok tt next bag
       (done_here r p shows.alike k s (shows.places k ok.place) (reached.sound k).here a act x fires stands done outcome_eq made_done others
-      (reached.sound k).drawn (travels_apart r w reached.whole reached.sound (target_of act) k ok.place target_any k ok.place))
+      (reached.sound k).drawn (travels_apart r w reached.whole reached.sound T k ok.place target_any k ok.place))
       (λ j h other. done_there r p shows.alike k s (shows.places k ok.place) (reached.sound k).here a act x fires stands done outcome_eq made_done others
       (reached.sound k).drawn j (w.places j) other (shows.places j h) (reached.sound j).drawn
-      (travels_apart r w reached.whole reached.sound (target_of act) k ok.place target_any j h))
+      (travels_apart r w reached.whole reached.sound T k ok.place target_any j h))
       road_next
-      (acted_alike p shows.alike k act x.state s.fresh others done there.0)
+      (acted_alike p shows.alike k P x.state s.fresh others done there.0)
       console_prints
       (λ other. (refl, other_prints other))
 
@@ -154,17 +175,17 @@ module _ (r : Rules) (blind : IsBlind r) (laws : KeepsActLaws r) (w : Space) (re
 
   is_acted : IsActed r p next
   is_acted = record {
-    message = message_of act;
+    message = message_of P;
     before = is_pending.before;
     behind = is_pending.behind;
     state = x.state;
     made = s.fresh;
     pending = split;
     stands = there.0;
-    there = moves_there (moves_to (message_of act)) k (p.places (target_of act)) there.1
-        (find-all (IsAtPlace k) (is_act a) s.fired act (reached.sound k).movers fires);
-    new = subst (λ j. AreNew p.states j (outcome_in r j (message_of act) x.state).makes s.fresh) (sym there.1) new_objects;
-    next = ap (λ j. acted p j (message_of act) x.state s.fresh others (outcome_in r j (message_of act) x.state)) (sym there.1);
+    there = moves_there (moves_to (message_of P)) k (p.places T) there.1
+        (subst (λ (m : Option ℕ). IfSome m (λ t. t ≡ k)) (sym (plain_moves act)) (find-all (IsAtPlace k) (is_act a) s.fired act (reached.sound k).movers fires));
+    new = subst (λ j. AreNew p.states j (outcome_in r j (message_of P) x.state).makes s.fresh) (sym there.1) new_objects;
+    next = ap (λ j. acted p j (message_of P) x.state s.fresh others (outcome_in r j (message_of P) x.state)) (sym there.1);
   }
 
   pub done_step : (q : Pool) × Goes r p (Done a false) q × Shows r (step r w e) q (out ++ [])

@@ -9,7 +9,7 @@ use Rattle.std.proofs.lemmas.List.Sums.{sum_by-cons, sum_by-append}
 use Rattle.std.proofs.lemmas.Bool.{eqb-true}
 use Rattle.hpx_value.specs.Ids.{Id, same_object}
 use Rattle.hpx_journal.specs.Data.{Message}
-use Rattle.hpx_journal.specs.Entries.{Name, Event, Line, Fire, Split, Born, Done, Sent, Print, Up, Asked, Given, Count, Freed, Left, Landed, Looked, Mail, Out, In, Entry, Standing, Travel, Rules, line_message}
+use Rattle.hpx_journal.specs.Entries.{Name, Event, Line, Fire, Split, Born, Done, Sent, Print, Merge, Up, Asked, Given, Count, Freed, Left, Landed, Looked, Mail, Out, In, Entry, Standing, Travel, Rules, line_message}
 use Rattle.hpx_journal.specs.Frames.{travels_in}
 use Rattle.hpx_journal.specs.Local.{is_standing, is_travel, boot}
 use Rattle.hpx_journal.specs.Rows.{is_to}
@@ -143,6 +143,7 @@ module _ (r : Rules) (blind : IsBlind r) (laws : KeepsActLaws r) (w : Space) (re
       done_step r blind laws w reached p out shows k a ok (row.0).act (row.0).target (row.0).fired (row.0).stands row.1
   goes_on k (Sent a) ok fine = still_on k (Sent a) tt tt refl tt (λ f. refl) ok
   goes_on k (Print bytes) ok fine = still_on k (Print bytes) tt tt refl tt (λ f. refl) ok
+  goes_on k (Merge o log) ok fine = still_on k (Merge o log) tt tt refl tt (λ f. refl) ok
   goes_on k (Up o log) ok fine = still_on k (Up o log) tt tt refl tt (λ f. refl) ok
   goes_on k (Asked o) ok fine = still_on k (Asked o) tt tt refl tt (λ f. refl) ok
   goes_on k (Given o log) ok fine = still_on k (Given o log) tt tt refl tt (λ f. refl) ok

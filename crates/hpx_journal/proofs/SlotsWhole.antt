@@ -22,7 +22,7 @@ use Rattle.hpx_journal.proofs.Bools.{false_from}
 use Rattle.hpx_journal.proofs.Objects.{born}
 use Rattle.hpx_journal.proofs.Wholes.{IsWhole, whole_step, total_moves, road_moves, at_same, at_other}
 use Rattle.hpx_journal.proofs.Joined.{born_le, born_away, born_late, born_at_home, one_object}
-use Rattle.hpx_journal.proofs.Formed.{IsConsole, IsSettled, IsPlace, keeps, target_console, settled_after}
+use Rattle.hpx_journal.proofs.Formed.{IsConsole, IsSettled, IsPlace, keeps, act_formed, target_console, settled_after}
 use Rattle.hpx_journal.proofs.Claims.{claimed, budget, opened_here, claims_move}
 use Rattle.hpx_journal.proofs.Start.{first, start_whole, legal_whole, roots_all, zero_all}
 
@@ -58,7 +58,7 @@ module _ (r : Rules) (grammar : HasGrammar r) (laws : KeepsActLaws r) (w : Space
       omega (
         arith,
         slotted.paid x,
-        claims_move r s (λ a run. (keeps r grammar laws s here known a run, target_console r grammar laws s here known a run))
+        claims_move r s (λ a run. (keeps r grammar laws s here known a run, target_console r grammar laws s here known a run, act_formed r grammar laws s here known a run))
             e.event ok.allowed.turn ok.allowed.row e.at x,
         total_moves r.localities (claimed x) w.places e.at (after r s e.event) ok.place,
         total_moves r.localities (budget x) w.places e.at (after r s e.event) ok.place,

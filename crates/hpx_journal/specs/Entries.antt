@@ -8,7 +8,7 @@ pub use Rattle.hpx_journal.specs.declared.entry.Name.{Name}
 pub use Rattle.hpx_journal.specs.declared.entry.Reason.{Reason}
 pub use Rattle.hpx_journal.specs.declared.entry.Reason.TheVariants.{Returned, Granted, Refused}
 pub use Rattle.hpx_journal.specs.declared.entry.Event.{Event}
-pub use Rattle.hpx_journal.specs.declared.entry.Event.TheVariants.{Line, Fire, Split, Born, Done, Sent, Print, Up, Asked, Given, Count, Freed, Left, Landed, Looked, Mail, Out, In}
+pub use Rattle.hpx_journal.specs.declared.entry.Event.TheVariants.{Line, Fire, Split, Born, Done, Sent, Print, Merge, Up, Asked, Given, Count, Freed, Left, Landed, Looked, Mail, Out, In}
 pub use Rattle.hpx_journal.specs.declared.entry.Entry.{Entry}
 pub use Rattle.hpx_journal.specs.declared.entry.Standing.{Standing}
 pub use Rattle.hpx_journal.specs.declared.entry.Travel.{Travel}

@@ -2,7 +2,8 @@
 use Rattle.std.specs.Prelude.{◌⊎◌, ◌<◌, ℕ, Bool, true, false, List, [], ◌∷◌, ◌≡◌, ◌+◌, ◌==◌, ◌&&◌, ◌≤◌, Option, Some}
 use Rattle.std.specs.List.{list_any, count_by, sum_by, flat_map, AllByRecursion}
 use Rattle.hpx_value.specs.Ids.{same_object}
-use Rattle.hpx_value.specs.Hands.{due_of, state_after}
+use Rattle.hpx_value.specs.Hands.{state_after}
+use Rattle.hpx_value.specs.Riders.{plain, due_with}
 use Rattle.hpx_value.specs.Shapes.{IsAct, IsMessage, IsState}
 use Rattle.hpx_value.specs.Laws.{KeepsLaws}
 use Rattle.hpx_parcel.specs.Parcels.{IsParcel}
@@ -224,9 +225,9 @@ pub record Commits (r : Rules) (a : Name) (s t : Local) : Type 0 where
   pub made : AreMade (outcome r s runs.act runs.target).makes s.fresh s.objects
   pub objects : t.objects ≡ record {
     object = runs.target.object;
-    state = state_after runs.target.state runs.act s.fresh (outcome r s runs.act runs.target);
+    state = state_after runs.target.state (plain runs.act) s.fresh (outcome r s runs.act runs.target);
   } ∷ without (is_standing runs.target.object) s.objects
-  pub due : t.due ≡ due_of runs.target.state runs.act s.fresh (outcome r s runs.act runs.target)
+  pub due : t.due ≡ due_with runs.target.state (plain runs.act) s.fresh (outcome r s runs.act runs.target)
   pub fired : t.fired ≡ without (is_act a) s.fired
   pub done : t.done ≡ runs.act ∷ s.done
   pub waiting : t.waiting ≡ s.waiting

@@ -5,11 +5,12 @@ use Rattle.std.specs.List.{list_any, find}
 use Rattle.std.specs.Option.{option_to_list}
 use Rattle.hpx_value.specs.Ids.{same_object}
 use Rattle.hpx_value.specs.Values.{named}
-use Rattle.hpx_value.specs.Hands.{own_slot, answer, due_of, state_after}
+use Rattle.hpx_value.specs.Hands.{own_slot, answer, state_after}
+use Rattle.hpx_value.specs.Riders.{plain, due_with}
 use Rattle.hpx_parcel.specs.Credits.{Credit}
 use Rattle.hpx_journal.specs.Data.{Id, Fault, Act, Outcome, Due, MessageDue, PrintDue}
 use Rattle.hpx_journal.specs.Bags.{without, minus}
-use Rattle.hpx_journal.specs.Entries.{Name, Returned, Granted, Refused, Event, Line, Fire, Split, Born, Done, Sent, Print, Up, Asked, Given, Count, Freed, Left, Landed, Out, In, Standing, Travel, Rules, same_name, name_of, target_of, line_act}
+use Rattle.hpx_journal.specs.Entries.{Name, Returned, Granted, Refused, Event, Line, Fire, Split, Born, Done, Sent, Print, Merge, Up, Asked, Given, Count, Freed, Left, Landed, Out, In, Standing, Travel, Rules, same_name, name_of, target_of, line_act}
 use Rattle.hpx_journal.specs.Tokens.{Token, held_token, owed_token, same_token}
 use Rattle.hpx_journal.specs.Frames.{acts_in, travels_in, tokens_in, asks_in}
 -- a number that was written in the record of an object
@@ -62,6 +63,7 @@ next_name s = record { origin = s.here; serial = s.serial + 1 }
 -- the tokens that an entry takes
 abbrev pub takes : Rules → Event → List Token
 takes r (Split o log) = held_token o log ∷ []
+takes r (Merge o log) = held_token o log ∷ held_token o log ∷ []
 takes r (Up o log) = held_token o log ∷ []
 takes r (Asked o) = held_token o 0 ∷ []
 takes r (Given o log) = owed_token o log ∷ []
@@ -74,6 +76,7 @@ takes r _ = []
 abbrev pub gives : Rules → Event → List Token
 gives r (Split o log) = held_token o (log - 1) ∷ held_token o (log - 1) ∷ []
 gives r (Born o state) = held_token o r.credit_log ∷ []
+gives r (Merge o log) = held_token o (log + 1) ∷ []
 gives r (Up o log) = owed_token o log ∷ []
 gives r (Asked o) = owed_token o 0 ∷ []
 gives r (Given o log) = held_token o log ∷ []
@@ -144,9 +147,9 @@ serial_after s _ = s.serial
 
 -- ---- outcomes
 
--- what an action does where its object is in this state
+-- what an action, without its rider, does where its object is in this state
 abbrev pub outcome : Rules → Local → Act → Standing → Outcome
-outcome r s act x = r.outcome_of x.object.kind s.here x.state act
+outcome r s act x = r.outcome_of x.object.kind s.here x.state (plain act)
 
 -- what a failed action leaves due: its own continuation is answered Fault 5, and the session prints
 abbrev pub failure : Act → List Due
@@ -157,7 +160,7 @@ failure act =
 -- what an action leaves due where its object stands
 abbrev pub due_at : Rules → Local → Act → Option Standing → List Due
 due_at r s act None = []
-due_at r s act (Some x) = due_of x.state act s.fresh (outcome r s act x)
+due_at r s act (Some x) = due_with x.state (plain act) s.fresh (outcome r s act x)
 
 -- what a Done leaves due
 abbrev pub due_left : Rules → Local → Bool → Option Act → List Due
@@ -188,7 +191,7 @@ failures_after s _ = s.failures
 abbrev pub settled_at : Rules → Local → Act → Option Standing → List Standing
 settled_at r s act None = s.objects
 settled_at r s act (Some x) =
-    record { object = x.object; state = state_after x.state act s.fresh (outcome r s act x) } ∷ without (is_standing x.object) s.objects
+    record { object = x.object; state = state_after x.state (plain act) s.fresh (outcome r s act x) } ∷ without (is_standing x.object) s.objects
 
 -- the target of an action has the state that it leaves
 abbrev pub settled : Rules → Local → Option Act → List Standing

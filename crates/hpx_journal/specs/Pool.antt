@@ -6,6 +6,7 @@ use Rattle.std.specs.Option.{option_map}
 use Rattle.hpx_value.specs.Ids.{same_object}
 use Rattle.hpx_value.specs.Values.{bare_state, bare_act, message_of, named}
 use Rattle.hpx_value.specs.Laws.{birth_state}
+use Rattle.hpx_value.specs.Riders.{plain_message}
 use Rattle.hpx_value.specs.Hands.{id_at, sent, replied, state_after}
 use Rattle.hpx_journal.specs.Bags.{total}
 use Rattle.hpx_journal.specs.Data.{Id, State, Act, Message, Make, Outcome, Due, MessageDue, PrintDue}
@@ -106,14 +107,14 @@ Runs r p (e ∷ es) q = (mid : Pool) × Goes r p e.event mid × Runs r mid es q
 
 -- ---- what the pool shows of the whole
 
--- the weight of what is due
+-- the weight of what is due; riders are not seen
 abbrev pub due_mass : (Message → ℕ) → Due → ℕ
-due_mass f (MessageDue m) = f m
+due_mass f (MessageDue m) = f (plain_message m)
 due_mass f (PrintDue bytes) = 0
 
 -- the weight of an action
 abbrev pub act_mass : (Message → ℕ) → Act → ℕ
-act_mass f act = f (message_of act)
+act_mass f act = f (plain_message (message_of act))
 
 -- the weight of the actions in a frame
 abbrev pub frame_mass : Rules → (Message → ℕ) → Frame → ℕ

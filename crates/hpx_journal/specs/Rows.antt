@@ -6,7 +6,7 @@ use Rattle.hpx_value.specs.Values.{bare_act, bare_state}
 use Rattle.hpx_value.specs.Laws.{birth_state}
 use Rattle.hpx_journal.specs.Data.{Id, Act, State, Message, Make, Due, MessageDue, PrintDue, Parcel, Return, Ask, Give, Shipped, Arrived, Free}
 use Rattle.hpx_journal.specs.Bags.{Covers}
-use Rattle.hpx_journal.specs.Entries.{Name, Returned, Granted, Refused, Event, Line, Fire, Split, Born, Done, Sent, Print, Up, Asked, Given, Count, Freed, Left, Landed, Looked, Mail, Out, In, Entry, Standing, Travel, Rules, same_name, name_of, target_of, move_to}
+use Rattle.hpx_journal.specs.Entries.{Name, Returned, Granted, Refused, Event, Line, Fire, Split, Born, Done, Sent, Print, Merge, Up, Asked, Given, Count, Freed, Left, Landed, Looked, Mail, Out, In, Entry, Standing, Travel, Rules, same_name, name_of, target_of, move_to}
 use Rattle.hpx_journal.specs.Tokens.{same_token}
 use Rattle.hpx_journal.specs.Frames.{acts_in}
 use Rattle.hpx_journal.specs.Local.{Local, Recorded, Refusal, is_act, is_standing, is_travel, is_given, is_given_none, acts_on, is_busy, next_name, takes, recorded, outcome}
@@ -25,6 +25,7 @@ TurnAllows s _ = (s.due ≡ []) × (s.fresh ≡ [])
 abbrev pub objects_in : Event → List Id
 objects_in (Split o log) = o ∷ []
 objects_in (Born o state) = o ∷ []
+objects_in (Merge o log) = o ∷ []
 objects_in (Up o log) = o ∷ []
 objects_in (Asked o) = o ∷ []
 objects_in (Given o log) = o ∷ []
@@ -123,6 +124,7 @@ Row r s (Done a true) =
     × (s.failures + 1 ≤ count_by is_given_none s.given)
 Row r s (Sent a) = (m : Message) × (rest : List Due) × (s.due ≡ MessageDue m ∷ rest) × (a ≡ next_name s)
 Row r s (Print bytes) = (rest : List Due) × (s.due ≡ PrintDue bytes ∷ rest)
+Row r s (Merge o log) = log < r.credit_log
 Row r s (Up o log) = Unit {0}
 Row r s (Asked o) = Unit {0}
 Row r s (Given o log) = ((log ≡ 0) ⊎ (log ≡ r.credit_log)) × (count_by (is_given o) s.given < count_by (same_object o) s.asked)

@@ -2,6 +2,8 @@
 ghost use Rattle.std.specs.Prelude.{◌≡◌, ◌++◌, ◌∷◌, [], map, IfOk, Some, false, true};
 ghost use Rattle.hpx_value.specs.Ids.{bare};
 ghost use Rattle.hpx_value.specs.Values.{bare_act, bare_state, named};
+ghost use Rattle.hpx_value.specs.Hands.{slot_at, answer};
+ghost use Rattle.hpx_value.specs.declared.value.Value.TheVariants.{Fault};
 ghost use Rattle.hpx_parcel.specs.Credits.{credits_of};
 ghost use Rattle.hpx_parcel.specs.Reading.{parcel_of};
 ghost use Rattle.hpx_journal.specs.Entries.{line_act};
@@ -9,17 +11,16 @@ ghost use Rattle.hpx_journal.specs.Frames.{acts_in, travel_of, travels_in, token
 ghost use Rattle.hpx_journal.specs.Local.{failure};
 
 use crate::entry::{Event, Name, Token, Travel};
-use crate::hand::{answer, own_slot};
-use crate::local::{move_to, target};
+use crate::local::{id_at, move_to, target};
 use hpx_parcel::parcel::{DecodeFault, Parcel};
 use hpx_parcel::read::decode;
-use hpx_value::codes::{LINE, SESSION};
+use hpx_value::codes::{LINE, SESSION, SET};
 use hpx_value::exact::Exact;
 use hpx_value::gid::{Gid, Gids};
 use hpx_value::items::{Items, Text};
 use hpx_value::memory::OutOfMemory;
 use hpx_value::outcome::Due;
-use hpx_value::value::{Act, Message, State, Value};
+use hpx_value::value::{Act, Cont, Message, State, Value};
 use std::alloc::Global;
 
 /// Actions and objects with bare ids, credits as tokens, and the objects that are asked for.
@@ -251,14 +252,27 @@ pub fn named(action: Name, message: Message) -> Act
 /// The fault of an action that could get no credit.
 const CREDIT_LIMIT: u8 = 5;
 
+/// The answer of a failed action to where its continuation leads.
+fn refusal(alloc: Global, ids: &[Gid], cont: Cont) -> Result<Message, OutOfMemory>
+    ensures { IfOk result (λ m. m ≡ answer [] (slot_at ids.now cont) (Fault 5)) }
+{
+    let mut args = one(alloc, Value::Int(cont.slot as i64))?;
+    args.push(Value::Fault(CREDIT_LIMIT))?;
+    Ok(Message {
+        code: SET,
+        args,
+        cont: None,
+        ids: one(alloc, id_at(ids, cont.place as usize))?,
+    })
+}
+
 /// What a failed action leaves due.
 pub fn failure(alloc: Global, act: &Act) -> Result<Vec<Due>, OutOfMemory>
     ensures { IfOk result (λ due. due.items ≡ failure act.now) }
 {
     let mut due = Vec::new(alloc);
-    if let Some(slot) = own_slot(act) {
-        let fault = Value::Fault(CREDIT_LIMIT);
-        due.push(Due::Message(answer(alloc, &[], slot, &fault)?))?;
+    if let Some(cont) = act.cont {
+        due.push(Due::Message(refusal(alloc, act.ids.as_slice(), cont)?))?;
     }
     if target(act).kind() == SESSION {
         let text = Vec::from_slice(alloc, b"error: credit limit\n")?;

@@ -61,6 +61,11 @@ pub enum Event {
     Print {
         bytes: Text,
     },
+    /// A rider of this log and an id of the same object and log became one id of the log above.
+    Merge {
+        object: Gid,
+        log: u8,
+    },
     /// An id of this log was given up; its credit is owed to the home.
     Up {
         object: Gid,
@@ -145,6 +150,10 @@ impl Event {
             }),
             Event::Sent { action } => Ok(Event::Sent { action: *action }),
             Event::Split { object, log } => Ok(Event::Split {
+                object: *object,
+                log: *log,
+            }),
+            Event::Merge { object, log } => Ok(Event::Merge {
                 object: *object,
                 log: *log,
             }),

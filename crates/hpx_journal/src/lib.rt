@@ -4,7 +4,6 @@
 pub mod bag;
 pub mod cargo;
 pub mod entry;
-pub mod hand;
 pub mod journal;
 pub mod law;
 pub mod local;

@@ -5,9 +5,11 @@ pub use Rattle.std.proofs.lemmas.List.{drop-set-lt, length-drop, length-map, len
 pub use Rattle.std.proofs.lemmas.List.Sums.{sum_by-append, sum_by-cons}
 pub use Rattle.std.specs.List.{AllByRecursion, count_by, find, list_any, remove, slice_get, sum_by}
 pub use Rattle.std.specs.Prelude.{IfSome, IsSomeAnd, MatchOption, flat_map, if◌then◌else◌, is_some, nat_le, nat_lt, option_and_then, option_map, ◌*◌, ◌||◌}
-pub use Rattle.hpx_value.specs.Hands.{answer, due_of, id_at, replied, sent, session, slot_at, state_after}
+pub use Rattle.hpx_value.proofs.Riders.{plain_all, plain_bare, plain_code, plain_formed, plain_other, plain_own, plain_target}
+pub use Rattle.hpx_value.specs.Hands.{answer, id_at, replied, sent, session, slot_at, state_after}
 pub use Rattle.hpx_value.specs.Ids.{bare, bare_id, credit, credit_of_log, same_object}
 pub use Rattle.hpx_value.specs.Laws.{IsManaged, KeepsLaws, birth_state}
+pub use Rattle.hpx_value.specs.Riders.{due_with, plain, rider_of}
 pub use Rattle.hpx_value.specs.Shapes.{IsMessage, IsState}
 pub use Rattle.hpx_value.specs.Values.{bare_act, bare_state, message_of, named, refs_in}
 pub use Rattle.hpx_value.specs.declared.acts.Job.{Job}
@@ -42,7 +44,7 @@ pub use Rattle.hpx_commit.specs.Failures.{action_ids, due_failed, halves_ahead, 
 pub use Rattle.hpx_commit.specs.Stocks.{Lasting, Stock, ahead, halvings, short_places, stripped}
 pub use Rattle.hpx_commit.specs.declared.plan.Plan.{Plan}
 pub use Rattle.hpx_part.proofs.Keyed.{Agree-sum, slice_get_is, slice_get_less, split_get}
-pub use Rattle.hpx_part.specs.Data.{Born, Count, Done, Entry, Event, Fire, Freed, Given, Granted, In, Landed, Left, Line, Local, Looked, Mail, Name, Out, Print, Reason, Refused, Returned, Sent, Split, Standing, Token, Travel, Up}
+pub use Rattle.hpx_part.specs.Data.{Born, Count, Done, Entry, Event, Fire, Freed, Given, Granted, In, Landed, Left, Line, Local, Looked, Mail, Merge, Name, Out, Print, Reason, Refused, Returned, Sent, Split, Standing, Token, Travel, Up}
 pub use Rattle.hpx_part.specs.Parts.{at_all}
 pub use Rattle.hpx_tables.proofs.Alls.{all_append, all_at, find_passes, get_before, some_same}
 pub use Rattle.hpx_tables.proofs.Cutting.{at_all_append}
@@ -53,7 +55,8 @@ pub use Rattle.hpx_tables.specs.Fit.{IsFit, IsFitDue, IsKept, parcel_for}
 pub use Rattle.hpx_tables.specs.Free.{IsFree, NoneIsFree}
 pub use Rattle.hpx_tables.specs.Jobs.{IsAt, IsFitJob}
 pub use Rattle.hpx_tables.specs.Kept.{count_here, credit_in, credit_owed, held_here, held_worth, ids_held, owed_here, owed_worth, stands_here, waits_here}
-pub use Rattle.hpx_tables.specs.Pending.{Refills, Waits, action_of, asked_at, awaits, fired_of, hand_with, ids_named, is_asked, is_asked_for, put_for, refilled, waits_for_one, waits_with}
+pub use Rattle.hpx_tables.specs.Merged.{may_merge, merged_in}
+pub use Rattle.hpx_tables.specs.Pending.{Refills, Waits, action_of, asked_at, awaits, fired_of, hand_with, ids_kept, ids_named, is_asked, is_asked_for, put_for, refilled, waits_for_one, waits_with}
 pub use Rattle.hpx_tables.specs.Splits.{asked_events, cuts, first_cuts, splits_from}
 pub use Rattle.hpx_tables.specs.Strange.{breaks, brings_right, broken, broken_near, is_live}
 pub use Rattle.hpx_tables.specs.Tables.{IsPassive, Tables, fired_acts, messages}
@@ -66,24 +69,25 @@ pub use Rattle.hpx_steps.proofs.Dealt.{fail_deals, plan_deals}
 pub use Rattle.hpx_steps.proofs.Handled.{Leads, given_waits, kept_here, returns_objects}
 pub use Rattle.hpx_steps.proofs.Made.{bare_alone}
 pub use Rattle.hpx_steps.proofs.Recommit.{hand_long}
+pub use Rattle.hpx_steps.proofs.Ridden.{rider_all, rider_few, rider_has}
 pub use Rattle.hpx_steps.proofs.Resumed.{given_done, given_event, given_fails, in_hand}
 pub use Rattle.hpx_steps.proofs.Right.{give_right, near_right, object_wrong}
 pub use Rattle.hpx_steps.proofs.Sums.{flat_append, ids_append}
 pub use Rattle.hpx_steps.proofs.TurnOf.{desk_accepts, desk_leads, desk_stands, fire_stands, frame_leads, frame_stands, line_stands, out_stands}
 pub use Rattle.hpx_steps.proofs.Work.{halved_from}
-pub use Rattle.hpx_steps.specs.Calls.{Accepts, DealsWith, Gives, Leaves, answered, effects, freed, ids_in, more_here, place_or_0, returned, up_of, ups, with_asks, with_due, with_left, with_returns, written_due}
+pub use Rattle.hpx_steps.specs.Calls.{Accepts, DealsWith, Gives, Leaves, answered, effects, freed, ids_in, more_here, place_or_0, returned, rider_event, rider_events, up_of, ups, with_asks, with_done, with_due, with_left, with_returns, with_rider, with_riders, written_due}
 pub use Rattle.hpx_steps.specs.Left.{IsLeftBy, IsLeftFailed}
 pub use Rattle.hpx_steps.specs.Limits.{AddsATurn, IsWithin}
 pub use Rattle.hpx_steps.specs.Mail.{may_stay, with_act, with_mail, with_mail_if, with_return}
 pub use Rattle.hpx_steps.specs.Paused.{Apart, HasSplit, IsCommit, IsShort}
 pub use Rattle.hpx_steps.specs.Rest.{IsPaused, IsTidy, Stands, StandsAtRest, StandsWith, kept_ids, queued, rules_of, tokens, unpaid, view}
 pub use Rattle.hpx_steps.specs.Rows.{Actions, AreFired, FreesOf, Refusals, Row, brings, causes, fires_one, frees_one, goes, hops, is_least, is_refusal, joins, kind_of, one_if, owes, sets_out, spends, weighed, weight}
-pub use Rattle.hpx_steps.specs.Steps.{HasInHand}
+pub use Rattle.hpx_steps.specs.Steps.{HasInHand, with_credit}
 pub use Rattle.hpx_steps.specs.Turn.{Turn, bare_due, bare_standing, parcel_tokens, tokens_of}
 pub use Rattle.hpx_node.specs.Asks.{Begins, IsBefore, Pauses, hand_before, lacking, own_many, short_before, split_stock, splits_before, stock_before}
-pub use Rattle.hpx_node.specs.Changes.{OnlySends, OnlySpare, Writes}
-pub use Rattle.hpx_node.specs.Commits.{Commits, Ends, IsPrepared, IsStock, committed, committed_from, committed_to, due_dealt, hand_of, made_of, own_stock, places_in_hand, remains, state_dealt, with_settled}
-pub use Rattle.hpx_node.specs.Fails.{Fails, IsFailing, IsFailingFor, IsFailure, MustFail, dooms, due_left, failed_events, failed_remains, fails_first, state_left, ups_left}
+pub use Rattle.hpx_node.specs.Changes.{OnlyLeaves, OnlySends, OnlySpare, Writes}
+pub use Rattle.hpx_node.specs.Commits.{Commits, Ends, IsPrepared, IsStock, committed, committed_from, committed_to, due_dealt, hand_of, made_of, new_standing, own_stock, places_in_hand, remains, seen, state_dealt, with_settled}
+pub use Rattle.hpx_node.specs.Fails.{Fails, IsFailing, IsFailingFor, IsFailure, MustFail, dooms, due_left, failed_events, failed_remains, fails_first, loose_left, state_left, ups_left}
 pub use Rattle.hpx_node.specs.Locality.{Locality}
 pub use Rattle.hpx_node.specs.Next.{Continues, HasFollowed, IfFollows, IsNext, MayFollow}
 pub use Rattle.hpx_node.specs.Resumes.{IsKeptFor, IsReady, IsReadyFor, MayResume, completes, full_stock, is_last, stock_with}

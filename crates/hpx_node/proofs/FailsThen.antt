@@ -43,6 +43,7 @@ module _ (t : Tables) (n : ℕ) (d : List Parcel) (mid : Tables) (id : Id) (entr
     must_then = record {
       commit = g.after;
       there = at.now;
+      job = k.its.job;
       standing = fails.place.standing;
       stands = ap (λ (x : Tables). slice_get x.objects y.j) g.rest ∙ fails.place.stands;
       found = ap (λ (x : Tables). find (is_standing (target_of g.after.job.action)) x.objects) g.rest ∙ found_then;

@@ -1,5 +1,5 @@
 -- What follows a message that is dealt with, and what it writes.
-use Rattle.hpx_node.proofs.Common.{Act, AskedFor, Bool, Commits, Continues, Entry, Event, Failing, Fails, Give, Gives, HasCredit, HasFollowed, HasInHand, Id, IfFollows, IsFailing, IsNext, IsParcel, IsReady, IsTidy, KeepsLaws, Leads, List, MayFollow, MayResume, Next, None, Option, Outcome, Parcel, Ready, Rules, Some, Standing, State, Tables, Turn, Waits, Writes, [], answered_by, any_at, ap, append-nil, arith, awaits, bare_act, bare_state, brings_right, broken_near, committed_from, completes, dooms, due_left, effects, eq-eqb, failed_events, failed_remains, fails_first, false, find, find_at, full_stock, get_or, give_right, given_event, given_fails, given_waits, in_hand, is_asked_for, is_last, is_some, length, less_long, log_of, message_of, named, ne_eqb, not, refl, remove, remove_set, rules_of, set, slice_get, some_same, state_left, subst, sym, true, ups_left, with_left, ℕ, ◌&&◌, ◌++◌, ◌+◌, ◌==◌, ◌||◌, ◌∙◌, ◌∷◌, ◌≡◌, ◌⊎◌}
+use Rattle.hpx_node.proofs.Common.{Act, AskedFor, Bool, Commits, Continues, Entry, Event, Failing, Fails, Give, Gives, HasCredit, HasFollowed, HasInHand, Id, IfFollows, IsFailing, IsNext, IsParcel, IsReady, IsTidy, KeepsLaws, Leads, List, MayFollow, MayResume, Next, None, Option, Outcome, Parcel, Ready, Rules, Some, Standing, State, Tables, Turn, Waits, Writes, [], answered_by, any_at, ap, append-nil, arith, awaits, bare_act, bare_state, brings_right, broken_near, committed_from, completes, dooms, due_left, effects, eq-eqb, failed_events, failed_remains, fails_first, false, find, find_at, full_stock, get_or, give_right, given_event, given_fails, given_waits, in_hand, is_asked_for, is_last, is_some, length, less_long, log_of, message_of, named, ne_eqb, not, plain, refl, remove, remove_set, rules_of, set, slice_get, some_same, state_left, subst, sym, true, ups_left, with_left, ℕ, ◌&&◌, ◌++◌, ◌+◌, ◌==◌, ◌||◌, ◌∙◌, ◌∷◌, ◌≡◌, ◌⊎◌}
 use Rattle.hpx_node.proofs.Continued.{IsGiven, after_is, at, may_after, may_given, none_then, only_give}
 use Rattle.hpx_node.proofs.FailsThen.{at as fails_at, found_then, given, left, must_then, only_fails, plan_then, refused}
 use Rattle.hpx_node.proofs.GoesOn.{goes_leads}
@@ -114,11 +114,11 @@ module _ (act_of : ℕ → ℕ → ℕ → State → Act → Outcome)
       may : MayResume mid g.after y.j y.prepared
       may = may_after act_of t n d mid id entry y ready g
 
-      laws : KeepsLaws t.localities g.after.job.kind g.after.job.at g.after.job.state g.after.job.action g.after.outcome
-      laws = subst (λ (w : Waits). KeepsLaws t.localities w.job.kind w.job.at w.job.state w.job.action w.outcome) (sym same) ready.laws
+      laws : KeepsLaws t.localities g.after.job.kind g.after.job.at g.after.job.state (plain g.after.job.action) g.after.outcome
+      laws = subst (λ (w : Waits). KeepsLaws t.localities w.job.kind w.job.at w.job.state (plain w.job.action) w.outcome) (sym same) ready.laws
 
-      its_outcome : g.after.outcome ≡ act_of t.localities g.after.job.kind g.after.job.at g.after.job.state g.after.job.action
-      its_outcome = subst (λ (w : Waits). w.outcome ≡ act_of t.localities w.job.kind w.job.at w.job.state w.job.action) (sym same) ready.right
+      its_outcome : g.after.outcome ≡ act_of t.localities g.after.job.kind g.after.job.at g.after.job.state (plain g.after.job.action)
+      its_outcome = subst (λ (w : Waits). w.outcome ≡ act_of t.localities w.job.kind w.job.at w.job.state (plain w.job.action)) (sym same) ready.right
 
       done_leads : Leads r s t' (given_event id ∷ committed_from mid g.after.job g.after.outcome (full_stock mid g.after))
       done_leads =

@@ -29,11 +29,13 @@ pub mod Planned
 pub mod ReadyStock
 pub mod Records
 pub mod Resumed
+pub mod Riding
 pub mod Right
 pub mod Routed
 pub mod RowLaws
 pub mod Runs
 pub mod Same
+pub mod Seen
 pub mod Spared
 pub mod Sums
 pub mod Targets

@@ -1,5 +1,5 @@
 -- What a node's tables tell, by what stands at its locality.
-use Rattle.hpx_node.proofs.Common.{Act, Agree-sum, AllByRecursion, Apply, Arrived, Ask, Bool, Cached, Free, Give, Go, HasRightCredit, Id, IsBare, IsParcel, IsPassive, IsTidy, List, Local, Move, None, Option, Outgoing, Parcel, Return, Shipped, Some, Standing, Tables, Travel, Waits, [], action_of, acts_in, all_imp, ap, arith, awaited_at, awaited_here, bare_act, bare_standing, cases_Bool, cond, count_by, credit, credit_in, credit_of_log, credit_owed, drawn_by, false, find, flat_map, held-Counts, held_here, held_worth, ids_held, inl, inr, is_act, is_answer, is_busy, is_some, is_standing, map, messages, name_of, names, owed_here, owed_worth, parcel_tokens, refl, same_object, same_object-through, same_token-true, session, stands_here, subst, sum_by, sum_by-append, sum_by-cons, sym, true, view, zero-add, ℕ, ◌++◌, ◌-◌, ◌==◌, ◌^◌, ◌∙◌, ◌∷◌, ◌≡◌, ◌≤◌}
+use Rattle.hpx_node.proofs.Common.{Act, Agree-sum, AllByRecursion, Apply, Arrived, Ask, Bool, Cached, Free, Give, Go, HasRightCredit, Id, IsBare, IsParcel, IsPassive, IsTidy, List, Local, Move, None, Option, Outgoing, Parcel, Return, Shipped, Some, Standing, Tables, Travel, Waits, [], action_of, acts_in, all_imp, ap, arith, awaited_at, awaited_here, bare_act, bare_standing, cases_Bool, cond, count_by, credit, credit_in, credit_of_log, credit_owed, drawn_by, false, find, flat_map, held-Counts, held_here, held_worth, ids_held, ids_kept, inl, inr, is_act, is_answer, is_busy, is_some, is_standing, map, messages, name_of, names, owed_here, owed_worth, parcel_tokens, refl, same_object, same_object-through, same_token-true, session, stands_here, subst, sum_by, sum_by-append, sum_by-cons, sym, true, view, zero-add, ℕ, ◌++◌, ◌-◌, ◌==◌, ◌^◌, ◌∙◌, ◌∷◌, ◌≡◌, ◌≤◌}
 use Rattle.hpx_parcel.specs.Credits.{credit_list, credits_of}
 use Rattle.hpx_journal.specs.Tokens.{held, owing, is_held}
 use Rattle.hpx_part.specs.Shows.{IsWeight, Shows}
@@ -144,7 +144,7 @@ held_shown t s o tidy shown = omega (
   worth_each o (λ (x : Standing). x.state.ids) t.objects,
   worth_each o (λ (a : Act). a.ids) t.accepted,
   worth_each o (λ (a : Act). a.ids) t.running,
-  worth_each o (λ (w : Waits). w.hand) t.pending,
+  worth_each o ids_kept t.pending,
   held_messages o (messages t) tidy.messages,
 )
 
@@ -157,7 +157,7 @@ owed_shown t s o tidy shown = omega (
   none_owed o (flat_map (λ (x : Standing). x.state.ids) t.objects),
   none_owed o (flat_map (λ (a : Act). a.ids) t.accepted),
   none_owed o (flat_map (λ (a : Act). a.ids) t.running),
-  none_owed o (flat_map (λ (w : Waits). w.hand) t.pending),
+  none_owed o (flat_map ids_kept t.pending),
   owed_messages o (messages t),
 )
 
@@ -210,7 +210,7 @@ rest_shown t s o managed passive tidy shown =
       tokens_sum (held_counts o) t,
       ap (λ (xs : List Act). weigh (held_counts o) (flat_map (λ (a : Act). a.ids) xs)) passive.accepted,
       ap (λ (xs : List Act). weigh (held_counts o) (flat_map (λ (a : Act). a.ids) xs)) passive.running,
-      ap (λ (ws : List Waits). weigh (held_counts o) (flat_map (λ (w : Waits). w.hand) ws)) passive.pending,
+      ap (λ (ws : List Waits). weigh (held_counts o) (flat_map ids_kept ws)) passive.pending,
       ap (λ ps. sum_by (held_counts o) (flat_map parcel_tokens ps)) none,
       held_each o managed bare_standing (λ (y : Standing). y.state.ids) (λ (x : Standing). x.state.ids) (λ x. refl) t.objects whole,
       Agree-sum is_standing stood means_object own_object (object_names o) s.objects (map bare_standing t.objects) shown.objects.objects,

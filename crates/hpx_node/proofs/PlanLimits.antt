@@ -37,10 +37,10 @@ cuts_within ids ps within = omega (arith, splits_few 0 ids ps, sums_dealt one id
 -- ---- a commit
 
 module _ (n : ℕ) (t : Tables) (job : Job) (out : Outcome) (laws : KeepsLaws n job.kind job.at job.state job.action out) (fit : IsFitJob job) where
-  few_places : length (places_in_hand t job out) ≤ 192
+  few_places : length (places_in_hand t job out) ≤ 193
   few_places = own_places n job.kind job.at job.state job.action out laws (made_of t out) (made_of_job n t job out laws fit).kinds
 
-  pub own_cuts : length (splits_from 0 (hand_of t job out) (places_in_hand t job out)) ≤ 192
+  pub own_cuts : length (splits_from 0 (hand_of t job out) (places_in_hand t job out)) ≤ 193
   own_cuts = omega (arith, few_places, cuts_within (hand_of t job out) (places_in_hand t job out) (hand_within n t job out laws fit))
 
 module _ (t : Tables) (job : Job) (out : Outcome) (fit : IsFitJob job) (few : t.localities ≤ 64)
@@ -48,7 +48,7 @@ module _ (t : Tables) (job : Job) (out : Outcome) (fit : IsFitJob job) (few : t.
   pub makes_few : length (map birth_of out.makes) ≤ 32
   makes_few = omega (arith, laws.few.makes, length-map out.makes birth_of)
 
-  pub cuts_limit : (s : Stock) → IsStock t job out s → length (splits_from 0 s.hand s.places) ≤ 192
+  pub cuts_limit : (s : Stock) → IsStock t job out s → length (splits_from 0 s.hand s.places) ≤ 193
   cuts_limit s is = omega (arith, few_places t.localities t job out laws fit, is.names.as_many, cuts_within s.hand s.places is.names.within)
 
   -- its own stock may be dealt

@@ -1,5 +1,5 @@
 -- What the entries of a commit weigh.
-use Rattle.hpx_node.proofs.Common.{Act, AllByRecursion, Birth, Born, Due, Event, Id, IsBirth, List, MessageDue, None, Option, Outcome, Print, PrintDue, Sent, Some, Split, State, Up, [], ap, arith, at_all, at_all_append, bare, bare_id, births_of, cuts, due_of, due_weight, filled_due, half, length, length-append, light_due, log_of, refl, splits_from, state_size, suc, sum_by, sum_by-append, sum_by-cons, total_weight, unused, up_of, ups, weight_of, written_due, zero, ℕ, ◌*◌, ◌++◌, ◌+◌, ◌∙◌, ◌∷◌, ◌≡◌, ◌≤◌}
+use Rattle.hpx_node.proofs.Common.{Act, AllByRecursion, Birth, Bool, Born, Due, Event, Id, IsBirth, List, Merge, MessageDue, None, Option, Outcome, Print, PrintDue, Sent, Some, Split, State, Up, [], ap, arith, at_all, at_all_append, bare, bare_id, births_of, cond, cuts, due_with, due_weight, false, filled_due, half, length, length-append, light_due, log_of, may_merge, refl, rider_event, rider_events, splits_from, state_size, suc, sum_by, sum_by-append, sum_by-cons, total_weight, true, unused, up_of, ups, weight_of, written_due, zero, ℕ, ◌*◌, ◌++◌, ◌+◌, ◌∙◌, ◌∷◌, ◌≡◌, ◌≤◌}
 use Rattle.hpx_commit.specs.Deals.{named}
 
 -- nothing that was dealt is written
@@ -21,6 +21,14 @@ up_few id (Some log) = omega arith
 pub ups_few : (ids : List Id) → length (ups ids) ≤ length ids
 ups_few [] = omega arith
 ups_few (id ∷ ids) = omega (arith, length-append (up_of id id.log) (ups ids), up_few id id.log, ups_few ids)
+
+rider_one : (most : ℕ) (ids : List Id) (id : Id) (l : Option ℕ) → length (rider_event most ids id l) ≤ 1
+rider_one most ids id None = omega arith
+rider_one most ids id (Some log) = omega arith
+
+pub riders_few : (most : ℕ) (ids riders : List Id) → length (rider_events most ids riders) ≤ 1
+riders_few most ids [] = omega arith
+riders_few most ids (id ∷ riders) = rider_one most ids id id.log
 
 module _ (k : ℕ) where
   abbrev pub weighs : List Event → ℕ
@@ -68,6 +76,18 @@ module _ (k : ℕ) where
       one id None = omega arith
       one id (Some log) = omega (arith, weighs_cons (Up (bare id) log) [])
 
+  pub riders_light : (most : ℕ) (ids riders : List Id) → weighs (rider_events most ids riders) ≤ 64
+  riders_light most ids [] = omega arith
+  riders_light most ids (id ∷ riders) = one id.log
+    where
+      either : (b : Bool) (log : ℕ) → weighs (cond b (Merge (bare id) log) (Up (bare id) log) ∷ []) ≤ 64
+      either true log = omega (arith, weighs_cons (Merge (bare id) log) [])
+      either false log = omega (arith, weighs_cons (Up (bare id) log) [])
+
+      one : (l : Option ℕ) → weighs (rider_event most ids id l) ≤ 64
+      one None = omega arith
+      one (Some log) = either (may_merge most id log ids) log
+
   pub weighs_due : (here serial : ℕ) (due : List Due) → weighs (written_due here serial due) ≡ sum_by due_weight due
   weighs_due here serial [] = refl
   weighs_due here serial (MessageDue m ∷ rest) = omega (
@@ -86,6 +106,6 @@ module _ (k : ℕ) where
   -- what is due is not heavy
   pub written_light : (here serial : ℕ) (s : State) (a : Act) (made : List Id) (out : Outcome)
       → length out.sends ≤ 32 → length out.replies ≤ 129 → length out.prints ≤ 16
-      → AllByRecursion (λ bytes. length bytes ≤ 16384) out.prints → weighs (written_due here serial (due_of s a made out)) ≤ 273472
+      → AllByRecursion (λ bytes. length bytes ≤ 16384) out.prints → weighs (written_due here serial (due_with s a made out)) ≤ 273472
   written_light here serial s a made out h i j short =
-      omega (arith, weighs_due here serial (due_of s a made out), light_due s a made out h i j short)
+      omega (arith, weighs_due here serial (due_with s a made out), light_due s a made out h i j short)

@@ -1,5 +1,5 @@
 -- A commit of a locality: what it makes, and what it leaves that deals a stock.
-use Rattle.hpx_node.proofs.Common.{AllByRecursion, AreRight, AreWithin, Due, HasCredit, HasRightCredit, HaveLog, HaveNone, Id, IsBare, IsBirth, IsFitDue, IsFitJob, IsManaged, IsMessage, IsMovable, IsPlace, IsPlanned, IsState, IsStock, Job, KeepsLaws, List, MatchOption, Message, MessageDue, None, Option, Outcome, PrintDue, Some, Stock, Tables, [], all_append, all_imp, ap, arith, bare, bare_due, birth_of, birth_state, due_of, flat_map, hand_of, ids_due, ids_of, is_below, is_some, length, made_of, map, message_filled, nat_le, own_few, own_within, places_in_hand, planned, refl, refs_in, same_at, suc, sym, true, ℕ, ◌+◌, ◌<◌, ◌∷◌, ◌≡◌, ◌≤◌}
+use Rattle.hpx_node.proofs.Common.{AllByRecursion, AreRight, AreWithin, Due, HasCredit, HasRightCredit, HaveLog, HaveNone, Id, IsBare, IsBirth, IsFitDue, IsFitJob, IsManaged, IsMessage, IsMovable, IsPlace, IsPlanned, IsState, IsStock, Job, KeepsLaws, List, MatchOption, Message, MessageDue, None, Option, Outcome, PrintDue, Some, Stock, Tables, [], all_append, all_imp, ap, arith, bare, bare_due, birth_of, birth_state, due_with, flat_map, hand_of, ids_due, ids_of, is_below, is_some, length, made_of, map, message_filled, nat_le, own_few, own_within, places_in_hand, planned, refl, refs_in, same_at, suc, sym, true, ℕ, ◌+◌, ◌<◌, ◌∷◌, ◌≡◌, ◌≤◌}
 use Rattle.hpx_value.specs.declared.outcome.Make.{Make}
 use Rattle.hpx_commit.proofs.HandFit.{fit_due, hand_right}
 use Rattle.hpx_commit.proofs.Naming.{unmanaged}
@@ -108,7 +108,7 @@ module _ (t : Tables) (job : Job) (out : Outcome) (fit : IsFitJob job) (few : t.
   hand_has = hand_right HasRightCredit HasCredit rights t.localities job.kind job.at job.state job.action out laws few (made_of t out) are.kinds fit.credit
       fit.action.sent.credit are.credit
 
-  due_has : AllByRecursion IsFitDue (due_of job.state job.action (made_of t out) out)
+  due_has : AllByRecursion IsFitDue (due_with job.state job.action (made_of t out) out)
   due_has = fit_due HasRightCredit HasCredit rights t.localities job.kind job.at job.state job.action out laws few (made_of t out) are.kinds fit.credit
       fit.action.sent.credit are.credit (λ ids args. IsMovable ids × IsPlace args) IsFitDue (λ target ids at low high most. ((low, high), (at, most, refl)))
       may_be_due (λ bytes. tt)

@@ -1,12 +1,13 @@
 -- With the last credit in its place, what a commit deals may be dealt.
-use Rattle.hpx_node.proofs.Common.{Bool, Found, HasCredit, HasRightCredit, Id, IsPaused, IsShort, IsStock, KeepsLaws, List, None, Option, Refills, Some, Tables, Waits, [], any_place, ap, awaits, bare, brings_right, cases_Bool, come_long, come_short, come_stock, cond, eqb-true, false, hand_with, id_at, ids_named, inl, inr, is_asked, is_asked_for, is_last, is_managed, is_some, length, log_of, made_of, ne_eqb, not, put_for, refilled, refl, remove, set, stock_with, subst, sym, true, waits_for_one, waits_managed, ℕ, ◌&&◌, ◌+◌, ◌==◌, ◌∙◌, ◌≡◌, ◌≤◌, ◌⊎◌}
+use Rattle.hpx_node.proofs.Common.{Bool, Found, HasCredit, HasRightCredit, Id, IsFitJob, IsPaused, IsShort, IsStock, KeepsLaws, List, None, Option, Refills, Some, Tables, Waits, [], any_place, ap, awaits, bare, brings_right, cases_Bool, come_long, come_short, come_stock, cond, eqb-true, false, hand_with, id_at, ids_named, inl, inr, is_asked, is_asked_for, is_last, is_managed, is_some, length, log_of, made_of, ne_eqb, not, plain, put_for, refilled, refl, remove, seen, set, stock_with, subst, sym, true, waits_for_one, waits_managed, ℕ, ◌&&◌, ◌+◌, ◌==◌, ◌∙◌, ◌≡◌, ◌≤◌, ◌⊎◌}
 use Rattle.hpx_node.proofs.Given.{IsStill, last_parts, none_asked, still}
 use Rattle.hpx_node.proofs.Planned.{AreMade, made_of_job, rights}
+use Rattle.hpx_node.proofs.Seen.{fit_seen}
 use Rattle.hpx_node.proofs.LeftFailed.{given}
 
 -- with these ids in its hand, what a commit deals may be dealt
 pub record IsStockReady (t : Tables) (w : Waits) (hand : List Id) : Type 0 where
-  pub stock : IsStock t w.job w.outcome (stock_with t w hand)
+  pub stock : IsStock t (seen w.job) w.outcome (stock_with t w hand)
   pub long : length (ids_named w) + length (made_of t w.outcome) ≤ length hand
   pub short : length hand ≤ 1024
 
@@ -19,7 +20,7 @@ has_come log refused id none managed (inr (inl more)) given = more
 has_come log refused id none managed (inr (inr least)) given = absurd (least.1 given)
 
 module _ (t : Tables) (w : Waits) (id : Id) (entry : ℕ) (paused : IsPaused t.here t.localities t.profile.credit_log t.objects w) (few : t.localities ≤ 64)
-    (laws : KeepsLaws t.localities w.job.kind w.job.at w.job.state w.job.action w.outcome) (log : 8 ≤ t.profile.credit_log) (credit : HasCredit id)
+    (laws : KeepsLaws t.localities w.job.kind w.job.at w.job.state (plain w.job.action) w.outcome) (log : 8 ≤ t.profile.credit_log) (credit : HasCredit id)
     (brings : (log_of id.log ≡ 0) ⊎ (log_of id.log ≡ t.profile.credit_log)) (waits : awaits id entry w ≡ true) (last : is_last id (Some w) ≡ true) where
   f : Found (is_asked_for w id entry) w.asked
   f = any_place (is_asked_for w id entry) w.asked waits
@@ -42,33 +43,36 @@ module _ (t : Tables) (w : Waits) (id : Id) (entry : ℕ) (paused : IsPaused t.h
   none_refused : cond (log_of id.log == 0) (Some (bare id)) w.refused ≡ None
   none_refused = ap (λ b. cond b (Some (bare id)) w.refused) parts.0 ∙ parts.2
 
-  are : AreMade t.profile.credit_log w.outcome.makes (made_of t w.outcome)
-  are = made_of_job t.localities t w.job w.outcome laws k.its.job
+  fit : IsFitJob (seen w.job)
+  fit = fit_seen w.job k.its.job
 
-  stock : IsStock t w.job w.outcome (stock_with t w (set w.hand f.x.place id))
+  are : AreMade t.profile.credit_log w.outcome.makes (made_of t w.outcome)
+  are = made_of_job t.localities t (seen w.job) w.outcome laws fit
+
+  stock : IsStock t (seen w.job) w.outcome (stock_with t w (set w.hand f.x.place id))
   stock =
-      come_stock HasRightCredit HasCredit rights t.localities w.job.kind w.job.at w.job.state w.job.action w.outcome laws few k.its.job.state k.its.job.action.sent.shape k.its.job.credit
-      k.its.job.action.sent.credit (made_of t w.outcome) are.kinds are.credit k.split.made now.hand w.places t.profile.credit_log k.split.kinds k.split.places k.split.rest k.its.hand log are.logs
+      come_stock HasRightCredit HasCredit rights t.localities w.job.kind w.job.at w.job.state (plain w.job.action) w.outcome laws few fit.state fit.action.sent.shape fit.credit
+      fit.action.sent.credit (made_of t w.outcome) are.kinds are.credit k.split.made now.hand w.places t.profile.credit_log k.split.kinds k.split.places k.split.rest k.its.hand log are.logs
       k.split.own (λ p lt h. has_come t.profile.credit_log now.refused (id_at now.hand p) (given t.here t.localities t.profile.credit_log now k.its k.split none_left p lt)
-      (waits_managed HasRightCredit HasCredit rights t.localities w.job.kind w.job.at w.job.state w.job.action w.outcome laws few k.its.job.state k.its.job.action.sent.shape k.its.job.credit
-      k.its.job.action.sent.credit (made_of t w.outcome) are.kinds are.credit k.split.made now.hand w.places t.profile.credit_log k.split.kinds k.split.places k.split.rest k.its.hand p lt h)
+      (waits_managed HasRightCredit HasCredit rights t.localities w.job.kind w.job.at w.job.state (plain w.job.action) w.outcome laws few fit.state fit.action.sent.shape fit.credit
+      fit.action.sent.credit (made_of t w.outcome) are.kinds are.credit k.split.made now.hand w.places t.profile.credit_log k.split.kinds k.split.places k.split.rest k.its.hand p lt h)
       (k.split.short p lt h) none_refused)
 
   hand_is : set w.hand f.x.place id ≡ hand_with id entry w
   hand_is = sym (ap (put_for w.hand id) f.found)
 
-  ready_stock : IsStock t w.job w.outcome (stock_with t w (hand_with id entry w))
-  ready_stock = subst (λ xs. IsStock t w.job w.outcome (stock_with t w xs)) hand_is stock
+  ready_stock : IsStock t (seen w.job) w.outcome (stock_with t w (hand_with id entry w))
+  ready_stock = subst (λ xs. IsStock t (seen w.job) w.outcome (stock_with t w xs)) hand_is stock
 
   ready_long : length (ids_named w) + length (made_of t w.outcome) ≤ length (hand_with id entry w)
   ready_long = subst (λ (xs : List Id). length (ids_named w) + length (made_of t w.outcome) ≤ length xs) hand_is
-      (come_long HasRightCredit HasCredit rights t.localities w.job.kind w.job.at w.job.state w.job.action w.outcome laws few k.its.job.state k.its.job.action.sent.shape k.its.job.credit
-      k.its.job.action.sent.credit (made_of t w.outcome) are.kinds are.credit k.split.made now.hand w.places t.profile.credit_log k.split.kinds k.split.places k.split.rest k.its.hand)
+      (come_long HasRightCredit HasCredit rights t.localities w.job.kind w.job.at w.job.state (plain w.job.action) w.outcome laws few fit.state fit.action.sent.shape fit.credit
+      fit.action.sent.credit (made_of t w.outcome) are.kinds are.credit k.split.made now.hand w.places t.profile.credit_log k.split.kinds k.split.places k.split.rest k.its.hand)
 
   ready_short : length (hand_with id entry w) ≤ 1024
   ready_short = subst (λ (xs : List Id). length xs ≤ 1024) hand_is
-      (come_short HasRightCredit HasCredit rights t.localities w.job.kind w.job.at w.job.state w.job.action w.outcome laws few k.its.job.state k.its.job.action.sent.shape k.its.job.credit
-      k.its.job.action.sent.credit (made_of t w.outcome) are.kinds are.credit k.split.made now.hand w.places t.profile.credit_log k.split.kinds k.split.places k.split.rest k.its.hand)
+      (come_short HasRightCredit HasCredit rights t.localities w.job.kind w.job.at w.job.state (plain w.job.action) w.outcome laws few fit.state fit.action.sent.shape fit.credit
+      fit.action.sent.credit (made_of t w.outcome) are.kinds are.credit k.split.made now.hand w.places t.profile.credit_log k.split.kinds k.split.places k.split.rest k.its.hand)
 
   pub is_ready : IsStockReady t w (hand_with id entry w)
   is_ready = record { stock = ready_stock; long = ready_long; short = ready_short }

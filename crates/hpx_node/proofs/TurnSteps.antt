@@ -1,5 +1,5 @@
 -- What the steps of a turn add to a journal.
-use Rattle.hpx_node.proofs.Common.{AddsATurn, AllByRecursion, Ask, Bool, Count, Done, Entry, Free, Give, Granted, Id, IsFailure, IsPrepared, IsTidy, Job, List, None, Option, Outcome, Parcel, Plan, Prepared, Refused, Return, Some, Standing, Tables, Waits, Writes, [], action_ids, all_append, ap, arith, asked_events, at_all, bare, bytes_in, committed, committed_from, count_here, cuts, due_left, effects, failed_events, failed_light, false, find, first_cuts, freed, half, halvings, if◌then◌else◌, is_standing, length, length-append, more_here, name_of, nat_lt, own_stock, refl, returned, subst, suc, sum_by-append, sum_by-cons, total_weight, true, up_of, ups, ups_left, weight_of, written_due, zero, ℕ, ◌++◌, ◌+◌, ◌∷◌, ◌≡◌, ◌≤◌}
+use Rattle.hpx_node.proofs.Common.{AddsATurn, AllByRecursion, Ask, Bool, Count, Done, Entry, Free, Give, Granted, Id, IsFailure, IsPrepared, IsTidy, Job, List, None, Option, Outcome, Parcel, Plan, Prepared, Refused, Return, Some, Standing, Tables, Waits, Writes, [], action_ids, all_append, ap, arith, asked_events, at_all, bare, bytes_in, committed, committed_from, count_here, cuts, due_left, effects, failed_events, failed_light, false, find, first_cuts, freed, half, halvings, if◌then◌else◌, is_standing, length, length-append, more_here, name_of, nat_lt, own_stock, plain, refl, returned, seen, subst, suc, sum_by-append, sum_by-cons, total_weight, true, up_of, ups, ups_left, weight_of, written_due, zero, ℕ, ◌++◌, ◌+◌, ◌∷◌, ◌≡◌, ◌≤◌}
 use Rattle.hpx_commit.specs.Deals.{named}
 use Rattle.hpx_node.proofs.FewEntries.{at_all_length, effects_few}
 use Rattle.hpx_node.proofs.PlanWeights.{weighs, weighs_append, weighs_cons, weighs_due, ups_light}
@@ -7,7 +7,7 @@ use Rattle.hpx_node.proofs.Turns.{adds_grown, grown_weighs, HasNoBytes, bare_wei
 
 -- ---- a commit, or one that begins to wait
 
-pub adds_commit : (t : Tables) (job : Job) (out : Outcome) (p : Prepared) (is : IsPrepared t job out p) (own : p.stock ≡ own_stock t job out)
+pub adds_commit : (t : Tables) (job : Job) (out : Outcome) (p : Prepared) (is : IsPrepared t job out p) (own : p.stock ≡ own_stock t (seen job) out)
     (t' : Tables) (old new : List Entry) → Writes (committed t job out) t t' old new → AddsATurn old new
 adds_commit t job out p is own t' old new wrote =
     adds_grown t.here (committed t job out) old new wrote.grows
@@ -36,7 +36,7 @@ asked_long (id ∷ ids) = ap suc (asked_long ids)
 
 pub adds_asks : (k own : ℕ) (hand : List Id) (places : List ℕ) (ids : List Id) (e0 e1 e2 : List Entry)
     → e1 ≡ e0 ++ at_all k (first_cuts own 0 hand places) → e2 ≡ e1 ++ at_all k (asked_events ids)
-    → length (first_cuts own 0 hand places) ≤ 192 → length ids ≤ 162 → AddsATurn e0 e2
+    → length (first_cuts own 0 hand places) ≤ 193 → length ids ≤ 162 → AddsATurn e0 e2
 adds_asks k own hand places ids e0 e1 e2 cut asked few lacks =
     let splits = first_cuts own 0 hand places in record {
       entries = omega (
@@ -122,14 +122,14 @@ fails_light t t' w p old new is few wrote =
       weighs_cons t.here (Done (name_of w.job.action) true) (due ++ left),
       weighs_append t.here due left,
       weighs_due t.here t.here t.serial (due_left w),
-      failed_light (action_ids w.job.state w.job.action w.hand) w.job.action.cont,
+      failed_light (action_ids w.job.state (plain w.job.action) w.hand) (plain w.job.action).cont,
       ups_light t.here (ups_left w),
     )
 
 -- ---- a message, and what follows it
 
 pub adds_steps : (e0 e1 e2 e3 : List Entry) → e1 ≡ e0 → length e2 ≤ length e1 + 130 → total_weight e2 ≤ total_weight e1 + 73856
-    → length e3 ≤ length e2 + 596 → total_weight e3 ≤ total_weight e2 + 2380288 → AddsATurn e0 e3
+    → length e3 ≤ length e2 + 598 → total_weight e3 ≤ total_weight e2 + 2380416 → AddsATurn e0 e3
 adds_steps e0 e1 e2 e3 same few light few_then light_then = record {
   entries = omega (arith, ap (λ (es : List Entry). length es) same, few, few_then);
   weight = omega (arith, ap total_weight same, light, light_then);

@@ -1,5 +1,5 @@
 -- A commit begins to wait, as the calls do it.
-use Rattle.hpx_node.proofs.Common.{Act, AllByRecursion, AllLast, AreWithin, Ask, Begins, Entry, HasCredit, HasLeastCredit, HasRightCredit, HasSplit, Id, IsAt, IsBefore, IsFitJob, IsKept, IsState, IsTidy, Job, KeepsLaws, List, Outcome, Pauses, Some, Standing, Stands, State, Stock, Tables, Waits, [], action_few, ahead, all_at, ap, append_assoc, arith, asked_at, asked_events, at_all, at_all_append, bare, bare_state, first_cuts, get_or, hand_before, hand_of, id_at, inl, lacking, length, length-append, length-map, made_of, map, none_short, own_many, places_in_hand, refl, remove, set, short_before, short_places, slice_get, some_same, split_stock, splits_before, state_filled, stock_before, subst, sym, take, take_more, waits_with, with_asks, with_mail, ℕ, ◌++◌, ◌+◌, ◌<◌, ◌∙◌, ◌∷◌, ◌≡◌, ◌≤◌}
+use Rattle.hpx_node.proofs.Common.{Act, AllByRecursion, AllLast, AreWithin, Ask, Begins, Entry, HasCredit, HasLeastCredit, HasRightCredit, HasSplit, Id, IsAt, IsBefore, IsFitJob, IsKept, IsState, IsTidy, Job, KeepsLaws, List, Outcome, Pauses, Some, Standing, Stands, State, Stock, Tables, Waits, [], action_few, ahead, all_at, ap, append_assoc, arith, asked_at, asked_events, at_all, at_all_append, bare, bare_state, first_cuts, get_or, hand_before, hand_of, id_at, inl, lacking, length, length-append, length-map, made_of, map, none_short, own_many, places_in_hand, plain, refl, remove, seen, set, short_before, short_places, slice_get, some_same, split_stock, splits_before, state_filled, stock_before, subst, sym, take, take_more, waits_with, with_asks, with_mail, ℕ, ◌++◌, ◌+◌, ◌<◌, ◌∙◌, ◌∷◌, ◌≡◌, ◌≤◌}
 use Rattle.hpx_commit.proofs.Stripped.{short_few}
 use Rattle.hpx_node.specs.declared.node.wait.Before.{Before}
 use Rattle.hpx_steps.proofs.Waiting.{asks_rest, wait_stands}
@@ -7,6 +7,7 @@ use Rattle.hpx_tables.proofs.FirstCuts.{first_few}
 use Rattle.hpx_node.proofs.PlanLimits.{own_cuts}
 use Rattle.hpx_node.proofs.Planned.{AreMade, bare_kinds, hand_within, made_of_job, none_of, rights}
 use Rattle.hpx_commit.specs.Deals.{named}
+use Rattle.hpx_node.proofs.Seen.{fit_seen}
 use Rattle.hpx_commit.proofs.ShortHand.{fits, hands_long, later_within, least_all, left_own, left_places, left_rest, left_short, short_within, within}
 
 pub pauses_by : (t t' : Tables) (i j : ℕ) (job : Job) (w : Waits) (at : IsAt t i j job) (x : Standing) → slice_get t.objects j ≡ Some x
@@ -54,19 +55,6 @@ module _ (n : ℕ) (t : Tables) (job : Job) (out : Outcome) (laws : KeepsLaws n 
   pub least_split : AllByRecursion (λ p. HasLeastCredit (id_at (split_stock t job out).hand p)) (short_before t job out)
   least_split = least_all HasRightCredit HasCredit rights job.state job.action out fit.credit fit.action.sent.credit (made_of t out) (map bare (made_of t out)) (bare_kinds (made_of t out)) (hand_within n t job out laws fit)
 
-  -- so it may wait
-  pub fresh_split : (log k m : ℕ) → HasSplit log (waits_with job out k (asked_at m (short_before t job out)) (stock_before t job out))
-  fresh_split log k m = record {
-    made = map bare (made_of t out);
-    kinds = bare_kinds (made_of t out) ∙ are.kinds;
-    bare = are.bare;
-    within = later_within HasRightCredit HasCredit rights job.state job.action out fit.credit fit.action.sent.credit (made_of t out) (map bare (made_of t out)) (bare_kinds (made_of t out)) (hand_within n t job out laws fit);
-    places = left_places HasRightCredit HasCredit rights job.state job.action out fit.credit fit.action.sent.credit (made_of t out) (map bare (made_of t out)) (bare_kinds (made_of t out)) (hand_within n t job out laws fit);
-    rest = left_rest HasRightCredit HasCredit rights job.state job.action out fit.credit fit.action.sent.credit (made_of t out) (map bare (made_of t out)) (bare_kinds (made_of t out)) (hand_within n t job out laws fit);
-    own = left_own HasRightCredit HasCredit rights job.state job.action out fit.credit fit.action.sent.credit (made_of t out) (map bare (made_of t out)) (bare_kinds (made_of t out)) (hand_within n t job out laws fit);
-    short = λ p lt none. inl (left_short HasRightCredit HasCredit rights job.state job.action out fit.credit fit.action.sent.credit (made_of t out) (map bare (made_of t out)) (bare_kinds (made_of t out)) (hand_within n t job out laws fit) p lt none);
-  }
-
   -- where not all ids last, something is asked for
   pub something : n ≤ 64 → 8 ≤ t.profile.credit_log → (AllLast (hand_of t job out) (places_in_hand t job out) → ⊥) → 1 ≤ length (lacking t job out)
   something few enough short = at (short_before t job out) refl
@@ -85,6 +73,23 @@ module _ (n : ℕ) (t : Tables) (job : Job) (out : Outcome) (laws : KeepsLaws n 
     fit.state.few,
     action_few job.action fit.action.sent.shape,
   )
+
+-- a commit with its whole action may wait
+module _ (n : ℕ) (t : Tables) (job : Job) (out : Outcome) (laws : KeepsLaws n job.kind job.at job.state (plain job.action) out) (fit : IsFitJob job) where
+  its : IsFitJob (seen job)
+  its = fit_seen job fit
+
+  pub fresh_split : (log k m : ℕ) → HasSplit log (waits_with job out k (asked_at m (short_before t (seen job) out)) (stock_before t (seen job) out))
+  fresh_split log k m = record {
+    made = map bare (made_of t out);
+    kinds = bare_kinds (made_of t out) ∙ (made_of_job n t (seen job) out laws its).kinds;
+    bare = (made_of_job n t (seen job) out laws its).bare;
+    within = later_within HasRightCredit HasCredit rights job.state (plain job.action) out its.credit its.action.sent.credit (made_of t out) (map bare (made_of t out)) (bare_kinds (made_of t out)) (hand_within n t (seen job) out laws its);
+    places = left_places HasRightCredit HasCredit rights job.state (plain job.action) out its.credit its.action.sent.credit (made_of t out) (map bare (made_of t out)) (bare_kinds (made_of t out)) (hand_within n t (seen job) out laws its);
+    rest = left_rest HasRightCredit HasCredit rights job.state (plain job.action) out its.credit its.action.sent.credit (made_of t out) (map bare (made_of t out)) (bare_kinds (made_of t out)) (hand_within n t (seen job) out laws its);
+    own = left_own HasRightCredit HasCredit rights job.state (plain job.action) out its.credit its.action.sent.credit (made_of t out) (map bare (made_of t out)) (bare_kinds (made_of t out)) (hand_within n t (seen job) out laws its);
+    short = λ p lt none. inl (left_short HasRightCredit HasCredit rights job.state (plain job.action) out its.credit its.action.sent.credit (made_of t out) (map bare (made_of t out)) (bare_kinds (made_of t out)) (hand_within n t (seen job) out laws its) p lt none);
+  }
 
 -- what is found of it, in steps
 pub split_by : (t : Tables) (job : Job) (out : Outcome) (own : ℕ) (hand : List Id) (places : List ℕ) (s : Stock)
@@ -107,15 +112,15 @@ module _ (t : Tables) (job : Job) (out : Outcome) (b : Before) (is : IsBefore t 
     length-append job.state.ids job.action.ids,
   )
 
-  pub kept_before : (i j : ℕ) → IsAt t i j job → IsFitJob job → IsTidy t [] → (x : Standing) → slice_get t.objects j ≡ Some x
-      → IsKept (record { object = x.object; state = b.state })
-  kept_before i j at fit tidy x stands =
+  pub kept_before : (standing : Standing) → standing.state ≡ job.state → IsState job.state → IsTidy t [] → (j : ℕ) → slice_get t.objects j ≡ Some standing
+      → (x : Standing) → slice_get t.objects j ≡ Some x → IsKept (record { object = x.object; state = b.state })
+  kept_before standing found fit tidy j there x stands =
       let kept = all_at IsKept t.objects j x tidy.objects stands in
-      let same : x.state ≡ job.state = ap (λ (y : Standing). y.state) (some_same x at.standing (sym stands ∙ at.stands)) ∙ at.state in
-      subst (λ s. IsKept (record { object = x.object; state = s })) (sym is.state) (lent_kept x job.state kept same fit.state)
+      let same : x.state ≡ job.state = ap (λ (y : Standing). y.state) (some_same x standing (sym stands ∙ there)) ∙ found in
+      subst (λ s. IsKept (record { object = x.object; state = s })) (sym is.state) (lent_kept x job.state kept same fit)
 
   module _ (n : ℕ) (laws : KeepsLaws n job.kind job.at job.state job.action out) (fit : IsFitJob job) where
-    pub before_short : length (first_cuts b.own 0 b.hand.items b.places.items) ≤ 192
+    pub before_short : length (first_cuts b.own 0 b.hand.items b.places.items) ≤ 193
     before_short = rw (is.places, is.hand) (omega (
       arith,
       first_few b.own 0 (hand_before t job out) (hand_of t job out) (places_in_hand t job out) (before_long n t job out laws fit),
@@ -135,36 +140,38 @@ module _ (t : Tables) (job : Job) (out : Outcome) (b : Before) (is : IsBefore t 
 
 -- so it begins to wait, and all that holds goes on to hold
 pub begins_by : (act_of : ℕ → ℕ → ℕ → State → Act → Outcome) (t m t' : Tables) (job : Job) (out : Outcome) (n : ℕ) (b : Before) (i j : ℕ) (w : Waits)
-    (e0 e1 : List Entry) → IsFitJob job → t.localities ≤ 64 → KeepsLaws n job.kind job.at job.state job.action out → IsBefore t job out b
+    (e0 e1 : List Entry) → IsFitJob job → t.localities ≤ 64 → KeepsLaws n job.kind job.at job.state (plain job.action) out → IsBefore t (seen job) out b
     → n ≡ t.localities → job.at < n → w ≡ waits_with job out n b.asked.items b.stock → Pauses i j job w t m
     → t' ≡ record (with_asks m.here m.asked b.lacking.items m) { asked = m.asked + length b.lacking.items }
     → e1 ≡ (e0 ++ at_all t.here (first_cuts b.own 0 b.hand.items b.places.items)) ++ at_all t.here (asked_events b.lacking.items)
-    → 1 ≤ length (lacking t job out) → Stands act_of t e0 → Stands act_of t' e1 × Begins t t' job out e0 e1
+    → 1 ≤ length (lacking t (seen job) out) → Stands act_of t e0 → Stands act_of t' e1 × Begins t t' job out e0 e1
 begins_by act_of t m t' job out n b i j w e0 e1 fit few laws is near below w_is pauses asked cut some h =
-    let ids : List Id = lacking t job out in
-    let v : Waits = waits_with job out t.localities (asked_at t.asked (short_before t job out)) (stock_before t job out) in
-    let now : Pauses i j job (waits_with job out t.localities (asked_at t.asked (short_before t job out)) (stock_before t job out)) t m =
+    let its : Job = seen job in
+    let its_fit = fit_seen job fit in
+    let ids : List Id = lacking t (seen job) out in
+    let v : Waits = waits_with job out t.localities (asked_at t.asked (short_before t its out)) (stock_before t its out) in
+    let now : Pauses i j job (waits_with job out t.localities (asked_at t.asked (short_before t its out)) (stock_before t its out)) t m =
     subst (λ u. Pauses i j job u t m) (w_is ∙ rw (near, is.asked, is.stock)) pauses in
-    let written : e1 ≡ e0 ++ at_all t.here (splits_before t job out ++ asked_events (lacking t job out)) =
+    let written : e1 ≡ e0 ++ at_all t.here (splits_before t its out ++ asked_events (lacking t its out)) =
     (rw (is.own, is.hand, is.places, is.lacking) at cut)
-    ∙ (append_assoc e0 (at_all t.here (splits_before t job out)) (at_all t.here (asked_events ids))
-    ∙ ap (λ es. e0 ++ es) (sym (at_all_append t.here (splits_before t job out) (asked_events ids)))) in
-    let asks : t' ≡ record (with_asks t.here t.asked (lacking t job out) m) { asked = t.asked + length (lacking t job out) } =
+    ∙ (append_assoc e0 (at_all t.here (splits_before t its out)) (at_all t.here (asked_events ids))
+    ∙ ap (λ es. e0 ++ es) (sym (at_all_append t.here (splits_before t its out) (asked_events ids)))) in
+    let asks : t' ≡ record (with_asks t.here t.asked (lacking t its out) m) { asked = t.asked + length (lacking t its out) } =
     (rw is.lacking at asked) ∙ ap (λ (y : Tables). record (with_asks y.here y.asked ids m) { asked = y.asked + length ids }) now.rest in
     let at = now.at in
-    let waited : State → Tables = λ (s : State). record (with_asks t.here t.asked (lacking t job out) (record t {
+    let waited : State → Tables = λ (s : State). record (with_asks t.here t.asked (lacking t its out) (record t {
       running = remove t.running i;
       objects = set t.objects j (record { object = at.standing.object; state = bare_state s });
       pending = t.pending ++ v ∷ [];
-    })) { asked = t.asked + length (lacking t job out) } in
+    })) { asked = t.asked + length (lacking t its out) } in
     let ends : t' ≡ waited at.standing.state =
     asks
-    ∙ (ap (λ (y : Tables). record (with_asks t.here t.asked (lacking t job out) y) { asked = t.asked + length (lacking t job out) }) now.rest
+    ∙ (ap (λ (y : Tables). record (with_asks t.here t.asked (lacking t its out) y) { asked = t.asked + length (lacking t its out) }) now.rest
     ∙ ap waited (sym at.state)) in
     let stands = wait_stands act_of t e0 h i j job out at.standing at.runs at.stands at.found at.here (sym at.kind) (sym at.state)
-    (few, omega (arith, below, near)) (map bare (made_of t out)) (none_of (map bare (made_of t out)) (made_of_job n t job out laws fit).bare) (places_in_hand t job out)
-    (within_hand n t job out laws fit) (least_split n t job out laws fit)
-    (omega (arith, some, length-map (short_before t job out) (id_at (split_stock t job out).hand))) (fresh_split n t job out laws fit t.profile.credit_log t.localities t.asked) in (
+    (few, omega (arith, below, near)) (map bare (made_of t out)) (none_of (map bare (made_of t out)) (made_of_job n t its out laws its_fit).bare) (places_in_hand t its out)
+    (within_hand n t its out laws its_fit) (least_split n t its out laws its_fit)
+    (omega (arith, some, length-map (short_before t its out) (id_at (split_stock t its out).hand))) (fresh_split n t job out laws fit t.profile.credit_log t.localities t.asked) in (
       subst (λ (y : Tables). Stands act_of y e1) (sym ends) (subst (Stands act_of (waited at.standing.state)) (sym written) stands),
       record {
         i = i;
@@ -174,9 +181,9 @@ begins_by act_of t m t' job out n b i j w e0 e1 fit few laws is near below w_is 
         asks = asks;
         some = some;
         writes = record {
-          here = ap (λ (y : Tables). y.here) ends ∙ ap (λ (y : Tables). y.here) (asks_rest t.here t.asked (lacking t job out) _);
-          localities = ap (λ (y : Tables). y.localities) ends ∙ ap (λ (y : Tables). y.localities) (asks_rest t.here t.asked (lacking t job out) _);
-          profile = ap (λ (y : Tables). y.profile) ends ∙ ap (λ (y : Tables). y.profile) (asks_rest t.here t.asked (lacking t job out) _);
+          here = ap (λ (y : Tables). y.here) ends ∙ ap (λ (y : Tables). y.here) (asks_rest t.here t.asked (lacking t its out) _);
+          localities = ap (λ (y : Tables). y.localities) ends ∙ ap (λ (y : Tables). y.localities) (asks_rest t.here t.asked (lacking t its out) _);
+          profile = ap (λ (y : Tables). y.profile) ends ∙ ap (λ (y : Tables). y.profile) (asks_rest t.here t.asked (lacking t its out) _);
           grows = written;
         };
       },

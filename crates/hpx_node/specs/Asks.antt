@@ -3,7 +3,7 @@ use Rattle.std.specs.Prelude.{List, [], length, map, set, ℕ, ◌++◌, ◌+◌
 use Rattle.std.specs.List.{remove}
 use Rattle.hpx_node.specs.Names.{Entry, Event, Id, IsAt, Job, Outcome, Stock, Tables, Waits, ahead, asked_at, asked_events, bare_state, first_cuts, hand_ids, id_at, short_places, stripped, waits_with, with_asks}
 use Rattle.hpx_value.specs.Ids.{bare}
-use Rattle.hpx_node.specs.Commits.{made_of, places_in_hand}
+use Rattle.hpx_node.specs.Commits.{made_of, places_in_hand, seen}
 use Rattle.hpx_node.specs.Changes.{Writes}
 use Rattle.hpx_node.specs.declared.node.wait.Before.{Before}
 
@@ -65,7 +65,7 @@ pub record Begins (t t' : Tables) (job : Job) (out : Outcome) (entries entries' 
   pub i : ℕ
   pub j : ℕ
   pub paused : Tables
-  pub pauses : Pauses i j job (waits_with job out t.localities (asked_at t.asked (short_before t job out)) (stock_before t job out)) t paused
-  pub asks : t' ≡ record (with_asks t.here t.asked (lacking t job out) paused) { asked = t.asked + length (lacking t job out) }
-  pub some : 1 ≤ length (lacking t job out)
-  pub writes : Writes (splits_before t job out ++ asked_events (lacking t job out)) t t' entries entries'
+  pub pauses : Pauses i j job (waits_with job out t.localities (asked_at t.asked (short_before t (seen job) out)) (stock_before t (seen job) out)) t paused
+  pub asks : t' ≡ record (with_asks t.here t.asked (lacking t (seen job) out) paused) { asked = t.asked + length (lacking t (seen job) out) }
+  pub some : 1 ≤ length (lacking t (seen job) out)
+  pub writes : Writes (splits_before t (seen job) out ++ asked_events (lacking t (seen job) out)) t t' entries entries'

@@ -11,6 +11,10 @@ pub record OnlySpare (t t' : Tables) (b b' : Book) : Type 0 where
 abbrev pub OnlySends : Tables → Tables → Type 0
 OnlySends t t' = t' ≡ record t { serial = t'.serial; accepted = t'.accepted; desk = t'.desk; outgoing = t'.outgoing }
 
+-- nothing but this, and states of objects
+abbrev pub OnlyLeaves : Tables → Tables → Type 0
+OnlyLeaves t t' = t' ≡ record t { serial = t'.serial; accepted = t'.accepted; desk = t'.desk; outgoing = t'.outgoing; objects = t'.objects }
+
 -- the journal is longer by these events of this node, and by nothing else
 pub record Writes (events : List Event) (t t' : Tables) (entries entries' : List Entry) : Type 0 where
   pub here : t'.here ≡ t.here

@@ -1,12 +1,16 @@
 -- What a commit writes.
 use Rattle.std.specs.Prelude.{List, Some, false, length, map, set, ℕ, ◌++◌, ◌+◌, ◌∷◌, ◌≡◌, ◌≤◌}
 use Rattle.std.specs.List.{AllByRecursion, find, remove, slice_get}
-use Rattle.hpx_node.specs.Names.{Done, Due, Event, Id, IsAt, IsFitDue, Job, MayDeal, Outcome, Prepared, Remains, Standing, State, Stock, Tables, answered_by, at_all, dealt, due_of, filled, filled_due, hand_ids, is_standing, name_of, places_named, splits_from, state_after, target_of, total_weight, unnamed, unused, ups, with_left, written_due}
+use Rattle.hpx_node.specs.Names.{Done, Due, Event, Id, IsAt, IsFitDue, Job, MayDeal, Outcome, Prepared, Remains, Standing, State, Stock, Tables, answered_by, at_all, dealt, due_with, filled, filled_due, hand_ids, is_standing, name_of, places_named, plain, rider_events, rider_of, splits_from, state_after, target_of, total_weight, unnamed, unused, ups, with_done, written_due}
 use Rattle.hpx_parcel.specs.Parcels.{HasCredit, HasRightCredit}
 use Rattle.hpx_tables.specs.declared.births.Birth.{Birth}
 use Rattle.hpx_tables.specs.Births.{IsBirth, birth_of, births_of, objects_of, records_of, ids_of}
 
 -- ---- a commit
+
+-- a job as its outcome and its hand are of it: with its plain action
+abbrev pub seen : Job → Job
+seen job = record { at = job.at; kind = job.kind; state = job.state; action = plain job.action }
 
 -- the ids of the objects that are made
 abbrev pub made_of : Tables → Outcome → List Id
@@ -24,19 +28,6 @@ places_in_hand t job out = places_named job.state job.action (made_of t out) out
 abbrev pub own_stock : Tables → Job → Outcome → Stock
 own_stock t job out = record { hand = hand_of t job out; places = places_in_hand t job out }
 
--- where this stock is dealt: births, splits, the Done, what is due, and what nobody names
-abbrev pub committed_from : Tables → Job → Outcome → Stock → List Event
-committed_from t job out s =
-    births_of t.here t.births (map birth_of out.makes)
-    ++ (splits_from 0 s.hand s.places
-    ++ (Done (name_of job.action) false
-    ∷ (written_due t.here t.serial (due_of job.state job.action (made_of t out) out)
-    ++ ups (unnamed s.hand s.places))))
-
--- where that is the stock of the hand
-abbrev pub committed : Tables → Job → Outcome → List Event
-committed t job out = committed_from t job out (own_stock t job out)
-
 -- the new state of the object, where this stock is dealt: each mention has its share
 abbrev pub state_dealt : Tables → Job → Outcome → Stock → State
 state_dealt t job out s = record (state_after job.state job.action (made_of t out) out) {
@@ -45,12 +36,26 @@ state_dealt t job out s = record (state_after job.state job.action (made_of t ou
 
 -- what is due then, each mention with the next share
 abbrev pub due_dealt : Tables → Job → Outcome → Stock → List Due
-due_dealt t job out s = filled_due (due_of job.state job.action (made_of t out) out)
+due_dealt t job out s = filled_due (due_with job.state job.action (made_of t out) out)
     (unused (state_after job.state job.action (made_of t out) out).ids (dealt s.hand s.places))
 
 -- what is left then
 abbrev pub remains : Tables → Job → Outcome → Stock → Remains
 remains t job out s = record { state = state_dealt t job out s; due = due_dealt t job out s; loose = unnamed s.hand s.places }
+
+-- what is written where this stock is dealt: births, splits, the Done, what is due, the rider, and what nobody names
+abbrev pub committed_from : Tables → Job → Outcome → Stock → List Event
+committed_from t job out s =
+    births_of t.here t.births (map birth_of out.makes)
+    ++ (splits_from 0 s.hand s.places
+    ++ (Done (name_of job.action) false
+    ∷ (written_due t.here t.serial (due_with job.state (plain job.action) (made_of t out) out)
+    ++ (rider_events t.profile.credit_log (state_dealt t (seen job) out s).ids (rider_of job.action)
+    ++ ups (unnamed s.hand s.places)))))
+
+-- where that is the stock of the hand
+abbrev pub committed : Tables → Job → Outcome → List Event
+committed t job out = committed_from t job out (own_stock t (seen job) out)
 
 -- a stock that may be dealt in place of that of the hand, with the right credits
 abbrev pub IsStock : Tables → Job → Outcome → Stock → Type 0
@@ -62,11 +67,11 @@ pub record IsLimited (k : ℕ) (wrote : List Event) (p : Prepared) : Type 0 wher
   pub due_fit : AllByRecursion IsFitDue p.plan.due.items
   pub ups_fit : AllByRecursion HasCredit p.plan.ups.items
   pub births : length p.births.items ≤ 32
-  pub cuts : length (splits_from 0 p.stock.hand p.stock.places) ≤ 192
+  pub cuts : length (splits_from 0 p.stock.hand p.stock.places) ≤ 193
   pub due : length p.plan.due.items ≤ 177
   pub ups : length p.plan.ups.items ≤ 194
-  pub entries : length wrote ≤ 596
-  pub light : total_weight (at_all k wrote) ≤ 2380288
+  pub entries : length wrote ≤ 598
+  pub light : total_weight (at_all k wrote) ≤ 2380416
 
 -- before the first change: what is made, a stock in place of one, what is left where it is dealt, and what is written then, at k
 pub record IsReadyToWrite (k : ℕ) (made : List Birth) (own : Stock) (left : Stock → Remains) (wrote : Stock → List Event) (p : Prepared) : Type 0 where
@@ -79,22 +84,27 @@ pub record IsReadyToWrite (k : ℕ) (made : List Birth) (own : Stock) (left : St
 
 -- so is a commit
 abbrev pub IsPrepared : Tables → Job → Outcome → Prepared → Type 0
-IsPrepared t job out p = IsReadyToWrite t.here (map birth_of out.makes) (own_stock t job out) (remains t job out) (committed_from t job out) p
+IsPrepared t job out p = IsReadyToWrite t.here (map birth_of out.makes) (own_stock t (seen job) out) (remains t (seen job) out) (committed_from t job out) p
 
 -- ---- where a commit leads
+
+-- its object, which is x, with the new state
+abbrev pub new_standing : Tables → Job → Outcome → Stock → Standing → Standing
+new_standing t job out s x = record { object = x.object; state = state_dealt t (seen job) out s }
 
 -- what it makes stands here and lives, its object, x at j, has the new state, and an answer of the session counts as had
 abbrev pub with_settled : Job → Outcome → Stock → ℕ → Standing → Tables → Tables
 with_settled job out s j x t = record t {
   births = t.births + length out.makes;
   records = t.records ++ records_of t.here t.births t.profile.credit_log (map birth_of out.makes);
-  objects = set (t.objects ++ objects_of t.here t.births (map birth_of out.makes)) j (record { object = x.object; state = state_dealt t job out s });
+  objects = set (t.objects ++ objects_of t.here t.births (map birth_of out.makes)) j (new_standing t job out s x);
   answered = t.answered + answered_by (Some job.action);
 }
 
--- and what is due is on its way; then what nobody names is given up
+-- and what is due is on its way; then the rider is merged into that state or given up, and what nobody names is given up
 abbrev pub committed_to : Job → Outcome → Stock → ℕ → Standing → Tables → Tables
-committed_to job out s j x t = with_left (due_dealt t job out s) (unnamed s.hand s.places) (with_settled job out s j x t)
+committed_to job out s j x t = with_done j (new_standing t job out s x) (due_dealt t (seen job) out s) (rider_of job.action) (unnamed s.hand s.places)
+    (with_settled job out s j x t)
 
 -- a job commits with this stock, where its action runs and waits no more; its object stands at j. Nothing else changes
 pub record Commits (job : Job) (out : Outcome) (s : Stock) (j : ℕ) (t t' : Tables) : Type 0 where
@@ -109,4 +119,4 @@ pub record Ends (t t' : Tables) (job : Job) (out : Outcome) : Type 0 where
   pub j : ℕ
   pub at : IsAt t i j job
   pub running : t'.running ≡ remove t.running i
-  pub commits : Commits job out (own_stock t job out) j (record t { running = remove t.running i }) t'
+  pub commits : Commits job out (own_stock t (seen job) out) j (record t { running = remove t.running i }) t'

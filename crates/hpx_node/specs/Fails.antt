@@ -1,7 +1,7 @@
 -- An action that could get no credit: what it leaves, and what is written.
 use Rattle.std.specs.Prelude.{Bool, List, None, Option, Some, false, length, set, take, true, ℕ, ◌++◌, ◌+◌, ◌∷◌, ◌≡◌, ◌≤◌}
 use Rattle.std.specs.List.{find, remove, slice_get}
-use Rattle.hpx_node.specs.Names.{Done, Due, Event, Give, Gives, Id, Parcel, Remains, Standing, State, Tables, Waits, answered_by, awaits, fails_with, hand_with, is_standing, name_of, target_of, ups, with_left, written_due}
+use Rattle.hpx_node.specs.Names.{Done, Due, Event, Give, Gives, Id, IsFitJob, Parcel, Remains, Standing, State, Tables, Waits, answered_by, awaits, fails_with, hand_with, is_standing, name_of, plain, rider_of, target_of, ups, with_credit, with_left, written_due}
 use Rattle.hpx_commit.specs.Failures.{action_ids, state_failed, due_failed, ups_failed}
 use Rattle.hpx_commit.specs.declared.plan.Plan.{Plan}
 use Rattle.hpx_node.specs.declared.node.fail.Failing.{Failing}
@@ -14,24 +14,29 @@ state_left w = state_failed w.job.state w.hand
 
 -- what is due: the answer, and the print of the session
 abbrev pub due_left : Waits → List Due
-due_left w = due_failed (action_ids w.job.state w.job.action w.hand) w.job.action.cont
+due_left w = due_failed (action_ids w.job.state (plain w.job.action) w.hand) (plain w.job.action).cont
 
--- what is given up: the other ids of the action, and the halves
+-- what is left of its hand: the other ids of the action, and the halves
+abbrev pub loose_left : Waits → List Id
+loose_left w = ups_failed w.job.state (plain w.job.action) (length w.outcome.makes) w.hand
+
+-- what is given up: the rider, if it has a credit, and these
 abbrev pub ups_left : Waits → List Id
-ups_left w = ups_failed w.job.state w.job.action (length w.outcome.makes) w.hand
+ups_left w = with_credit (rider_of w.job.action) ++ loose_left w
 
 -- the Done that fails, what is due, and what is given up
 abbrev pub failed_events : Tables → Waits → List Event
 failed_events t w = Done (name_of w.job.action) true ∷ (written_due t.here t.serial (due_left w) ++ ups (ups_left w))
 
--- what is left of it
+-- what is left of it, its rider aside
 abbrev pub failed_remains : Waits → Remains
-failed_remains w = record { state = state_left w; due = due_left w; loose = ups_left w }
+failed_remains w = record { state = state_left w; due = due_left w; loose = loose_left w }
 
 -- the commit at i of those that wait has to fail: its object stands at j, and what it leaves is right
 pub record MustFail (i j : ℕ) (t : Tables) : Type 0 where
   pub commit : Waits
   pub there : slice_get t.pending i ≡ Some commit
+  pub job : IsFitJob commit.job
   pub standing : Standing
   pub stands : slice_get t.objects j ≡ Some standing
   pub found : find (is_standing (target_of commit.job.action)) t.objects ≡ Some standing

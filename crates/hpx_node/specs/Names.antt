@@ -1,5 +1,6 @@
 -- Passes on the names that definitions of the node cite.
-pub use Rattle.hpx_value.specs.Hands.{due_of, hand_ids, id_at, state_after}
+pub use Rattle.hpx_value.specs.Hands.{hand_ids, id_at, state_after}
+pub use Rattle.hpx_value.specs.Riders.{due_with, plain, rider_of}
 pub use Rattle.hpx_value.specs.Values.{bare_state}
 pub use Rattle.hpx_value.specs.declared.acts.Job.{Job}
 pub use Rattle.hpx_journal.specs.Data.{Act, Due, Give, Id, Outcome, Parcel, State}
@@ -16,6 +17,6 @@ pub use Rattle.hpx_tables.specs.Jobs.{IsAt, IsFitJob}
 pub use Rattle.hpx_tables.specs.Pending.{Waits, asked_at, awaits, fails_with, hand_with, ids_named, waits_for_one, waits_with}
 pub use Rattle.hpx_tables.specs.Splits.{asked_events, first_cuts, splits_from}
 pub use Rattle.hpx_tables.specs.Tables.{Tables}
-pub use Rattle.hpx_steps.specs.Calls.{Accepts, DealsWith, Gives, Leaves, effects, ups, with_asks, with_left, written_due}
-pub use Rattle.hpx_steps.specs.Steps.{Remains}
+pub use Rattle.hpx_steps.specs.Calls.{Accepts, DealsWith, Gives, Leaves, effects, rider_events, ups, with_asks, with_done, with_left, written_due}
+pub use Rattle.hpx_steps.specs.Steps.{Remains, with_credit}
 pub use Rattle.hpx_node.specs.declared.node.finish.Prepared.{Prepared}

@@ -194,6 +194,7 @@ fn last(text: &mut String, event: Option<&Event>) -> Result<(), OutOfMemory> {
                 why: Reason::Returned(log),
             },
         ) => write!(text, ": count {count} returned {log}")?,
+        Some(Event::Merge { object: _, log }) => write!(text, ": merge {log}")?,
         Some(Event::Up { object: _, log }) => write!(text, ": up {log}")?,
         Some(Event::Mail { kind }) => write!(text, ": mail {kind}")?,
         Some(Event::Freed { object: _ }) => text.push_str(": freed")?,

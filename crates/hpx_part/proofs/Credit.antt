@@ -49,6 +49,26 @@ covers_all xs (k ∷ ks) h =
 pub covers_one : (s v : List Token) (k : Token) → SameTokens s v → 1 ≤ count_by (same_token k) v → Covers same_token s (k ∷ [])
 covers_one s v k same h = (any_counted (same_token k) s (omega (arith, h, same (counts_of (same_token k)) (token_weighs k))), tt)
 
+-- so are two of one kind
+pub covers_two : (s v : List Token) (k : Token) → SameTokens s v → 2 ≤ count_by (same_token k) v → Covers same_token s (k ∷ k ∷ [])
+covers_two s v k same h =
+    let one : counts_of (same_token k) k ≡ 1 = counts_true (same_token k) k (token_own k) in
+    let there : list_any (same_token k) s ≡ true =
+    any_counted (same_token k) s (omega (arith, h, same (counts_of (same_token k)) (token_weighs k))) in (
+      there,
+      (
+        any_counted (same_token k) (without (same_token k) s)
+            (omega (
+              arith,
+              h,
+              one,
+              same (counts_of (same_token k)) (token_weighs k),
+              sum_by-without (counts_of (same_token k)) (same_token k) (counts_of (same_token k) k) (λ x t. token_weighs k k x t) s there,
+            )),
+        tt,
+      ),
+    )
+
 -- tokens that are seen to go are there
 pub covers_out : (s before out after : List Token) → SameTokens s before → Trades before out [] after → Covers same_token s out
 covers_out s before out after same trades =

@@ -16,13 +16,13 @@ use Rattle.hpx_journal.proofs.Alls.{all-append, all-map}
 use Rattle.hpx_journal.proofs.Bools.{or_cases, or_left, or_right}
 use Rattle.hpx_journal.proofs.Keys.{one_if}
 use Rattle.hpx_journal.proofs.Same.{same_object-refl, same_object-true, held-Counts, owed-Counts}
-use Rattle.hpx_part.specs.Data.{Split, Up, Asked, Given, Count, Returned, Granted, Refused, Token, Recorded, Refusal}
+use Rattle.hpx_part.specs.Data.{Split, Merge, Up, Asked, Given, Count, Returned, Granted, Refused, Token, Recorded, Refusal}
 use Rattle.hpx_part.specs.View.{View, IsCovered}
 use Rattle.hpx_part.specs.Shows.{Follows, same_refusal}
 use Rattle.hpx_part.specs.Parts.{Trades, Adds}
 use Rattle.hpx_part.proofs.Keys.{own}
 use Rattle.hpx_part.proofs.Keyed.{counts_of, any_counted, counted_any}
-use Rattle.hpx_part.proofs.Credit.{covers_one, traded, held_one, owed_one, held_none, owed_none}
+use Rattle.hpx_part.proofs.Credit.{covers_one, covers_two, traded, held_one, owed_one, held_none, owed_none}
 use Rattle.hpx_part.proofs.Covered.{held_counts, owed_counts}
 use Rattle.hpx_part.proofs.Stay.{acts_stay, objects_stay, asks_stay, counts_stay}
 
@@ -163,6 +163,35 @@ module _ (r : Rules) (v : View) (o : Id) (bare : o.log ≡ None) where
         sum_by-cons (owed_counts x) (held_token o (log - 1)) (held_token o (log - 1) ∷ []),
       );
     };
+  }
+
+  pub follows_merge : (log : ℕ) (tokens : List Token) → v.due ≡ [] → v.fresh ≡ [] → log < r.credit_log
+      → 2 ≤ count_by (same_token (held_token o log)) v.tokens
+      → Trades v.tokens (held_token o log ∷ held_token o log ∷ []) (held_token o (log + 1) ∷ []) tokens
+      → (IsCovered v → IsCovered (record v { tokens = tokens; last = Some (Merge o log) }))
+      → Follows r v (Merge o log) (record v { tokens = tokens; last = Some (Merge o log) })
+  unfolding after
+  follows_merge log tokens due fresh below two trades covered = record {
+    step = λ s once shown native.
+        let covers = covers_two s.tokens v.tokens (held_token o log) shown.credit.tokens two in (
+          record {
+            here = refl;
+            turn = (shown.acts.due ∙ due, shown.objects.fresh ∙ fresh);
+            tokens = covers;
+            bare = (bare, tt);
+            row = below;
+          },
+          record {
+            acts = acts_stay v _ s _ refl refl shown.acts;
+            objects = objects_stay v _ s _ refl refl refl shown.objects;
+            credit = asks_stay v _ s _ refl refl shown.credit (traded s.tokens v.tokens _ _ tokens shown.credit.tokens covers trades);
+            counts = counts_stay v _ s _ refl refl shown.counts;
+            last = refl;
+          },
+        );
+    form = record { bare = (bare, tt); birth = tt; to = tt };
+    here = refl;
+    covered = covered;
   }
 
   pub follows_up : (log : ℕ) (tokens : List Token) → v.due ≡ [] → v.fresh ≡ [] → 1 ≤ count_by (same_token (held_token o log)) v.tokens

@@ -2,7 +2,8 @@
 use Rattle.std.proofs.Common.{ℕ, true, false, cond, List, [], ◌∷◌, ◌++◌, ◌≡◌, ◌+◌, ◌^◌, Some, None, IfSome, refl, sym, ap, ◌∙◌, subst, arith, inl, inr}
 use Rattle.std.specs.List.{list_any, find, count_by, sum_by, AllByRecursion}
 use Rattle.hpx_value.specs.Ids.{Id, same_object}
-use Rattle.hpx_value.specs.Hands.{due_of, state_after}
+use Rattle.hpx_value.specs.Hands.{state_after}
+use Rattle.hpx_value.specs.Riders.{plain, due_with}
 use Rattle.hpx_value.specs.Shapes.{IsState}
 use Rattle.hpx_journal.specs.Data.{Act, State, Make, Outcome, Free}
 use Rattle.hpx_journal.specs.Bags.{without}
@@ -65,22 +66,22 @@ refused_there act state there (x ∷ xs) all h = elim (or_cases (is_refused act 
 -- ---- a commit
 
 module _ (r : Rules) (s : Local) (act : Act) (x : Standing) (here : ℕ) (fresh : List Id) (out : Outcome) (here_is : s.here ≡ here) (fresh_is : s.fresh ≡ fresh)
-    (right : out ≡ r.outcome_of x.object.kind here x.state act) (found : find (is_act (name_of act)) s.fired ≡ Some act)
+    (right : out ≡ r.outcome_of x.object.kind here x.state (plain act)) (found : find (is_act (name_of act)) s.fired ≡ Some act)
     (there : find (is_standing (target_of act)) s.objects ≡ Some x) where
   outcome_is : outcome r s act x ≡ out
-  outcome_is = ap (λ k. r.outcome_of x.object.kind k x.state act) here_is ∙ sym right
+  outcome_is = ap (λ k. r.outcome_of x.object.kind k x.state (plain act)) here_is ∙ sym right
 
   settled_is : objects_after r s (Done (name_of act) false)
-      ≡ record { object = x.object; state = state_after x.state act fresh out } ∷ without (is_standing x.object) s.objects
+      ≡ record { object = x.object; state = state_after x.state (plain act) fresh out } ∷ without (is_standing x.object) s.objects
   settled_is =
       done_settles r s (name_of act) act x found there
-      ∙ (ap (λ zs. record { object = x.object; state = state_after x.state act zs (outcome r s act x) } ∷ without (is_standing x.object) s.objects) fresh_is
-      ∙ ap (λ o. record { object = x.object; state = state_after x.state act fresh o } ∷ without (is_standing x.object) s.objects) outcome_is)
+      ∙ (ap (λ zs. record { object = x.object; state = state_after x.state (plain act) zs (outcome r s act x) } ∷ without (is_standing x.object) s.objects) fresh_is
+      ∙ ap (λ o. record { object = x.object; state = state_after x.state (plain act) fresh o } ∷ without (is_standing x.object) s.objects) outcome_is)
 
-  due_is : due_left r s false (find (is_act (name_of act)) s.fired) ≡ due_of x.state act fresh out
+  due_is : due_left r s false (find (is_act (name_of act)) s.fired) ≡ due_with x.state (plain act) fresh out
   due_is =
       rw (found, there) refl
-      ∙ (ap (λ zs. due_of x.state act zs (outcome r s act x)) fresh_is ∙ ap (due_of x.state act fresh) outcome_is)
+      ∙ (ap (λ zs. due_with x.state (plain act) zs (outcome r s act x)) fresh_is ∙ ap (due_with x.state (plain act) fresh) outcome_is)
 
 -- an object in a new state
 object_settled : (xs ys l m : List Standing) (x new : Standing) → Agree is_standing xs ys → ys ≡ l ++ x ∷ m → new.object ≡ x.object
@@ -167,20 +168,20 @@ module _ (r : Rules) (v : View) where
 
   pub follows_done : (fl fm : List Act) (l m : List Standing) (act : Act) (x : Standing) (out : Outcome)
       → v.due ≡ [] → v.fired ≡ fl ++ act ∷ fm → v.objects ≡ l ++ x ∷ m → find (is_standing (target_of act)) v.objects ≡ Some x
-      → out ≡ r.outcome_of x.object.kind v.here x.state act → AreMade out.makes v.fresh v.objects
+      → out ≡ r.outcome_of x.object.kind v.here x.state (plain act) → AreMade out.makes v.fresh v.objects
       → (IsCovered v → IsCovered (record v {
         fired = fl ++ fm;
-        objects = l ++ record { object = x.object; state = state_after x.state act v.fresh out } ∷ m;
+        objects = l ++ record { object = x.object; state = state_after x.state (plain act) v.fresh out } ∷ m;
         fresh = [];
-        due = due_of x.state act v.fresh out;
+        due = due_with x.state (plain act) v.fresh out;
         last = Some (Done (name_of act) false);
       }))
       → Follows r v (Done (name_of act) false)
       (record v {
         fired = fl ++ fm;
-        objects = l ++ record { object = x.object; state = state_after x.state act v.fresh out } ∷ m;
+        objects = l ++ record { object = x.object; state = state_after x.state (plain act) v.fresh out } ∷ m;
         fresh = [];
-        due = due_of x.state act v.fresh out;
+        due = due_with x.state (plain act) v.fresh out;
         last = Some (Done (name_of act) false);
       })
   unfolding after
@@ -188,7 +189,7 @@ module _ (r : Rules) (v : View) where
     step = λ s once shown native.
         let found = acts_found s.fired v.fired fl fm act shown.acts.fired fires in
         let there : find (is_standing (target_of act)) s.objects ≡ Some x = shown.objects.objects.finds (target_of act) ∙ stands in
-        let new : Standing = record { object = x.object; state = state_after x.state act v.fresh out } in
+        let new : Standing = record { object = x.object; state = state_after x.state (plain act) v.fresh out } in
         let same : outcome r s act x ≡ out = outcome_is r s act x v.here v.fresh out shown.acts.here shown.objects.fresh right found there in
         let made : AreMade out.makes s.fresh s.objects =
         made_there out.makes s.fresh s.objects v.objects shown.objects.objects

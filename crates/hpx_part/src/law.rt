@@ -4,7 +4,8 @@ ghost use Rattle.std.specs.Prelude.{ℕ, true, false, cond, List, [], ◌∷◌,
 ghost use Rattle.std.specs.List.{find, list_any, count_by};
 ghost use Rattle.hpx_value.specs.Ids.{same_object};
 ghost use Rattle.hpx_value.specs.Values.{named};
-ghost use Rattle.hpx_value.specs.Hands.{due_of, state_after};
+ghost use Rattle.hpx_value.specs.Hands.{state_after};
+ghost use Rattle.hpx_value.specs.Riders.{plain, due_with};
 ghost use Rattle.hpx_value.specs.Shapes.{IsState};
 ghost use Rattle.hpx_parcel.specs.Parcels.{IsParcel};
 ghost use Rattle.hpx_journal.specs.Data.{Id, Act, State, Message, Outcome, Due, MessageDue, PrintDue, Parcel, Free};
@@ -13,7 +14,7 @@ ghost use Rattle.hpx_journal.specs.Tokens.{held_token, owed_token, same_token};
 ghost use Rattle.hpx_journal.specs.Frames.{acts_in, travels_in, tokens_in, asks_in};
 ghost use Rattle.hpx_journal.specs.Local.{is_standing, is_recorded, acts_on, is_busy, count_in, failure};
 ghost use Rattle.hpx_journal.specs.Rows.{AreMade, IsManaged, is_refused};
-ghost use Rattle.hpx_part.specs.Data.{Event, Line, Fire, Split, Born, Done, Sent, Print, Up, Asked, Given, Count, Returned, Granted, Refused, Freed, Mail, Out, In, Entry, Standing, Token, Recorded, Refusal};
+ghost use Rattle.hpx_part.specs.Data.{Event, Line, Fire, Split, Born, Done, Sent, Print, Merge, Up, Asked, Given, Count, Returned, Granted, Refused, Freed, Mail, Out, In, Entry, Standing, Token, Recorded, Refusal};
 ghost use Rattle.hpx_part.specs.View.{View, IsCovered};
 ghost use Rattle.hpx_part.specs.Shows.{Follows, Leads, Shows, SameTokens, same_refusal};
 ghost use Rattle.hpx_part.specs.Parts.{StandsFor, Trades, Adds, MayLeave, at_all, view_at_boot, next_in};
@@ -78,24 +79,25 @@ pub fn born_law()
         }) }
 {}
 
-/// A fired action is committed: its target has the state of the outcome, and what the outcome leaves is due.
+/// A fired action is committed: its target has the state of the outcome of the action without its rider, and what that
+/// outcome leaves is due, an answer that rides with its rider.
 pub fn done_law()
     ensures { (r : Rules) (v : View) (fl fm : List Act) (l m : List Standing) (act : Act) (x : Standing) (out : Outcome) →
         v.due ≡ [] → v.fired ≡ fl ++ act ∷ fm → v.objects ≡ l ++ x ∷ m → find (is_standing (target_of act)) v.objects ≡ Some x →
-        out ≡ r.outcome_of x.object.kind v.here x.state act → AreMade out.makes v.fresh v.objects →
+        out ≡ r.outcome_of x.object.kind v.here x.state (plain act) → AreMade out.makes v.fresh v.objects →
         (IsCovered v → IsCovered (record v {
           fired = fl ++ fm;
-          objects = l ++ record { object = x.object; state = state_after x.state act v.fresh out } ∷ m;
+          objects = l ++ record { object = x.object; state = state_after x.state (plain act) v.fresh out } ∷ m;
           fresh = [];
-          due = due_of x.state act v.fresh out;
+          due = due_with x.state (plain act) v.fresh out;
           last = Some (Done (name_of act) false);
         })) →
         Follows r v (Done (name_of act) false)
         (record v {
           fired = fl ++ fm;
-          objects = l ++ record { object = x.object; state = state_after x.state act v.fresh out } ∷ m;
+          objects = l ++ record { object = x.object; state = state_after x.state (plain act) v.fresh out } ∷ m;
           fresh = [];
-          due = due_of x.state act v.fresh out;
+          due = due_with x.state (plain act) v.fresh out;
           last = Some (Done (name_of act) false);
         }) }
 {}
@@ -122,6 +124,15 @@ pub fn sent_law()
 pub fn print_law()
     ensures { (r : Rules) (v : View) (bytes : List ℕ) (rest : List Due) → v.fresh ≡ [] → v.due ≡ PrintDue bytes ∷ rest →
         Follows r v (Print bytes) (record v { due = rest; last = Some (Print bytes) }) }
+{}
+
+/// A rider and an id of its object, of one log, become one id of the log above.
+pub fn merge_law()
+    ensures { (r : Rules) (v : View) (o : Id) (log : ℕ) (tokens : List Token) → v.due ≡ [] → v.fresh ≡ [] → o.log ≡ None → log < r.credit_log →
+        2 ≤ count_by (same_token (held_token o log)) v.tokens →
+        Trades v.tokens (held_token o log ∷ held_token o log ∷ []) (held_token o (log + 1) ∷ []) tokens →
+        (IsCovered v → IsCovered (record v { tokens = tokens; last = Some (Merge o log) })) →
+        Follows r v (Merge o log) (record v { tokens = tokens; last = Some (Merge o log) }) }
 {}
 
 /// An id is given up: its credit is owed to the home.

@@ -10,3 +10,4 @@ pub mod Carriage
 pub mod Counted
 pub mod Words
 pub mod Links
+pub mod Spawns

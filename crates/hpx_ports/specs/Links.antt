@@ -3,7 +3,7 @@ use Rattle.std.specs.Prelude.{ℕ, List, [], ◌∷◌, Result, Ok, Err}
 use Rattle.hpx_ports.specs.declared.link.Post.{Post}
 use Rattle.hpx_ports.specs.declared.link.Post.TheVariants.{Received}
 use Rattle.hpx_ports.specs.declared.link.Latest.{Latest}
-use Rattle.hpx_ports.specs.declared.link.Latest.TheVariants.{Got, Fault}
+use Rattle.hpx_ports.specs.declared.link.Latest.TheVariants.{Never, Got, Fault}
 use Rattle.hpx_ports.specs.declared.link.LinkFault.{LinkFault}
 use Rattle.hpx_ports.specs.declared.plan.Plan.{Plan}
 
@@ -28,3 +28,22 @@ pub record LinkState : Type 0 where
   pub sends : Plan
   pub receives : Plan
   pub faults : ℕ
+
+-- what an opener in memory has: what is to come on its next link, the sends and the receives that fail there, its own calls that are to fail, and how many did
+pub record OpenerState : Type 0 where
+  pub coming : List Body
+  pub sends : List ℕ
+  pub receives : List ℕ
+  pub connects : Plan
+  pub faults : ℕ
+
+-- the link that it opens next
+abbrev pub link_of : OpenerState → LinkState
+link_of o = record {
+  coming = o.coming;
+  trace = [];
+  latest = Never;
+  sends = record { numbers = o.sends; calls = 0 };
+  receives = record { numbers = o.receives; calls = 0 };
+  faults = 0;
+}

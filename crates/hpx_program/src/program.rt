@@ -1,8 +1,9 @@
 ghost use Rattle.std.specs.Prelude.{◌≡◌, ◌≢◌, ◌⊎◌, [], Some, None, IfSome, ℕ, codes};
 ghost use Rattle.hpx_options.specs.Texts.{bad_word_text};
+ghost use Rattle.hpx_top.specs.Runs.{ports_of, HasCause, NothingFailed, Says};
 ghost use Rattle.hpx_top.specs.Statuses.{IsStatus, status_line};
 ghost use Rattle.hpx_top.specs.Usage.{bad_word};
-ghost use Rattle.hpx_program.specs.Program.{Ports, Errors, Says, NothingFailed, HasCause, HasDone, IsShortIn};
+ghost use Rattle.hpx_program.specs.Program.{HasRun};
 
 use hpx_ports::fabric::Fabric;
 use hpx_ports::sink::{Sink, write_all};
@@ -49,58 +50,15 @@ pub fn program<W: Words, S: Source, K: Sink, E: Sink, F: Fabric>(
     ensures no_other { IsStatus result.status }
     ensures none { result.world ≡ None → (result.status ≡ 1) ⊎ (result.status ≡ 6) }
     ensures untouched { result.world ≡ None → (source.new ≡ source.old) × (sink.new ≡ sink.old) × (result.fabric ≡ fabric) }
-    ensures cause { let x : Ports = record {
-      left = S.left source.old;
-      taken = S.taken source.old;
-      text = K.held sink.old;
-      read_faults = S.faults source.old;
-      write_faults = K.faults sink.old;
-      frame_faults = F.faults fabric;
-    } in
-        let z : Ports = record {
-          left = S.left source.new;
-          taken = S.taken source.new;
-          text = K.held sink.new;
-          read_faults = S.faults source.new;
-          write_faults = K.faults sink.new;
-          frame_faults = F.faults result.fabric;
-        } in
+    ensures cause { let x = ports_of (S.left source.old) (S.taken source.old) (K.held sink.old) (S.faults source.old) (K.faults sink.old) (F.faults fabric) in
+        let z = ports_of (S.left source.new) (S.taken source.new) (K.held sink.new) (S.faults source.new) (K.faults sink.new) (F.faults result.fabric) in
         HasCause result.status result.world x z }
-    ensures ends_well { let x : Ports = record {
-      left = S.left source.old;
-      taken = S.taken source.old;
-      text = K.held sink.old;
-      read_faults = S.faults source.old;
-      write_faults = K.faults sink.old;
-      frame_faults = F.faults fabric;
-    } in
-        let z : Ports = record {
-          left = S.left source.new;
-          taken = S.taken source.new;
-          text = K.held sink.new;
-          read_faults = S.faults source.new;
-          write_faults = K.faults sink.new;
-          frame_faults = F.faults result.fabric;
-        } in
+    ensures ends_well { let x = ports_of (S.left source.old) (S.taken source.old) (K.held sink.old) (S.faults source.old) (K.faults sink.old) (F.faults fabric) in
+        let z = ports_of (S.left source.new) (S.taken source.new) (K.held sink.new) (S.faults source.new) (K.faults sink.new) (F.faults result.fabric) in
         NothingFailed result.world x z → (result.status ≡ 0) ⊎ (result.status ≡ 1) ⊎ (result.status ≡ 6) }
-    ensures served { let x : Ports = record {
-      left = S.left source.old;
-      taken = S.taken source.old;
-      text = K.held sink.old;
-      read_faults = S.faults source.old;
-      write_faults = K.faults sink.old;
-      frame_faults = F.faults fabric;
-    } in
-        let z : Ports = record {
-          left = S.left source.new;
-          taken = S.taken source.new;
-          text = K.held sink.new;
-          read_faults = S.faults source.new;
-          write_faults = K.faults sink.new;
-          frame_faults = F.faults result.fabric;
-        } in
-        IfSome result.world (λ w. HasDone (W.words given.now) result.status w x z) }
-    ensures short { IsShortIn (W.words given.now) result.status result.world (S.left source.old) (S.left source.new) (K.held sink.old) (K.held sink.new) }
+    ensures did { let x = ports_of (S.left source.old) (S.taken source.old) (K.held sink.old) (S.faults source.old) (K.faults sink.old) (F.faults fabric) in
+        let z = ports_of (S.left source.new) (S.taken source.new) (K.held sink.new) (S.faults source.new) (K.faults sink.new) (F.faults result.fabric) in
+        IfSome result.world (λ w. HasRun (W.words given.now) result.status w x z) }
 {
     match all_words(alloc, given) {
         Ok(words) => run(alloc, &words, source, sink, err, fabric),

@@ -4,7 +4,8 @@ use Rattle.std.specs.Prelude.{◌==◌, ◌&&◌}
 use Rattle.std.specs.List.{find}
 use Rattle.std.proofs.lemmas.Bool.{eqb-true}
 use Rattle.hpx_value.specs.Ids.{Id, same_object}
-use Rattle.hpx_value.specs.Hands.{due_of, state_after}
+use Rattle.hpx_value.specs.Hands.{state_after}
+use Rattle.hpx_value.specs.Riders.{plain, due_with}
 use Rattle.hpx_journal.specs.Data.{Act, State, Outcome, Due}
 use Rattle.hpx_journal.specs.Bags.{without, minus}
 use Rattle.hpx_journal.specs.Entries.{Rules, target_of}
@@ -71,16 +72,16 @@ module _ (r : Rules) (s : Local) (a : Name) (out : Outcome) (act : Act) (x : Sta
   pub finished_done : act ∷ s.done ≡ done_after s (Done a false)
   finished_done = rw (← f) refl
 
-  pub finished_due : due_of x.state act s.fresh out ≡ due_after r s (Done a false)
+  pub finished_due : due_with x.state (plain act) s.fresh out ≡ due_after r s (Done a false)
   finished_due =
-      ap (due_of x.state act s.fresh) does ∙ sym (ap (due_left r s false) (sym f) ∙ ap (due_at r s act) (sym g))
+      ap (due_with x.state (plain act) s.fresh) does ∙ sym (ap (due_left r s false) (sym f) ∙ ap (due_at r s act) (sym g))
 
-  pub finished_objects : record { object = x.object; state = state_after x.state act s.fresh out } ∷ without (is_standing (target_of act)) s.objects
+  pub finished_objects : record { object = x.object; state = state_after x.state (plain act) s.fresh out } ∷ without (is_standing (target_of act)) s.objects
       ≡ objects_after r s (Done a false)
   finished_objects =
       let h : without (is_standing x.object) s.objects ≡ without (is_standing (target_of act)) s.objects =
       without_found (target_of act) s.objects x (sym g) in
-      let at : Outcome → List Standing → List Standing = λ o xs. record { object = x.object; state = state_after x.state act s.fresh o } ∷ xs in
+      let at : Outcome → List Standing → List Standing = λ o xs. record { object = x.object; state = state_after x.state (plain act) s.fresh o } ∷ xs in
       ap (λ o. at o (without (is_standing (target_of act)) s.objects)) does
       ∙ (ap (at (outcome r s act x)) (sym h) ∙ sym (ap (settled r s) (sym f) ∙ ap (settled_at r s act) (sym g)))
 
@@ -100,17 +101,17 @@ module _ (r : Rules) (s : Local) (a : Name) (out : Outcome) (act : Act) (x : Sta
 
   pub finish_same : (fired done' : List Act) (objects : List Standing) (left : List Due) (fresh : List Id)
       → fired ≡ without (is_act a) s.fired → done' ≡ act ∷ s.done → others ≡ without (is_standing o) s.objects
-      → due ≡ due_of x.state act made out → state ≡ state_after x.state act made out
+      → due ≡ due_with x.state (plain act) made out → state ≡ state_after x.state (plain act) made out
       → objects ≡ record { object = x.object; state = state } ∷ others → left ≡ due → fresh ≡ []
       → whole s fired done' objects left fresh
       ≡ whole s (without (is_act a) s.fired) (done_after s (Done a false)) (objects_after r s (Done a false)) (due_after r s (Done a false)) []
   finish_same fired done' objects left fresh e1 e2 e3 e4 e5 e6 e7 e8 =
       let at : State → List Standing → List Standing = λ t xs. record { object = x.object; state = t } ∷ xs in
       let d : left ≡ due_after r s (Done a false) =
-      e7 ∙ (e4 ∙ (ap (λ k. due_of x.state act k out) m ∙ finished_due r s a out act x f stands e)) in
+      e7 ∙ (e4 ∙ (ap (λ k. due_with x.state (plain act) k out) m ∙ finished_due r s a out act x f stands e)) in
       let q : objects ≡ objects_after r s (Done a false) =
-      e6 ∙ (ap (λ t. at t others) (e5 ∙ ap (λ k. state_after x.state act k out) m)
-      ∙ (ap (at (state_after x.state act s.fresh out)) (e3 ∙ ap (λ k. without (is_standing k) s.objects) i)
+      e6 ∙ (ap (λ t. at t others) (e5 ∙ ap (λ k. state_after x.state (plain act) k out) m)
+      ∙ (ap (at (state_after x.state (plain act) s.fresh out)) (e3 ∙ ap (λ k. without (is_standing k) s.objects) i)
       ∙ finished_objects r s a out act x f stands e)) in
       whole_same s fired (without (is_act a) s.fired) done' (done_after s (Done a false)) objects (objects_after r s (Done a false)) left
       (due_after r s (Done a false)) fresh [] e1 (e2 ∙ finished_done r s a out act x f stands e) q d e8

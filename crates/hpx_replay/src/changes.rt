@@ -1,7 +1,8 @@
 //! What each entry leaves, tokens aside.
 ghost use Rattle.std.specs.Prelude.{◌≡◌, ◌≤◌, ◌+◌, ◌^◌, ◌∷◌, ◌++◌, [], ℕ, IfOk, OnOk, Some, false, true, map};
 ghost use Rattle.std.specs.List.{find};
-ghost use Rattle.hpx_value.specs.Hands.{due_of, state_after};
+ghost use Rattle.hpx_value.specs.Hands.{state_after};
+ghost use Rattle.hpx_value.specs.Riders.{plain, due_with};
 ghost use Rattle.hpx_value.specs.Profiles.{IsValid};
 ghost use Rattle.hpx_journal.specs.Bags.{without, minus};
 ghost use Rattle.hpx_journal.specs.Entries.{Rules, name_of, line_act};
@@ -13,10 +14,10 @@ ghost use Rattle.hpx_journal.specs.declared.local.Local.{Local as Here};
 ghost use Rattle.hpx_replay.specs.Spaces.{outcome_in, besides};
 ghost use Rattle.hpx_journal.specs.Rows.{Row};
 
+use hpx_commit::hand::Hand;
 use hpx_journal::bag::Bag;
 use hpx_journal::cargo::{Cargo, failure, line_act, named};
 use hpx_journal::entry::{Credit, Event, Name, Recorded, Refusal, Standing, Travel};
-use hpx_journal::hand::Hand;
 use hpx_journal::local::{Local, name_of, target};
 use hpx_value::exact::Exact;
 use hpx_value::gid::{Gid, Gids};
@@ -27,7 +28,7 @@ use hpx_value::profile::Profile;
 use hpx_value::value::{Act, State};
 use std::alloc::Global;
 
-/// What an outcome leaves due, and the state of the action's object.
+/// What the outcome of the plain action leaves due, and the state of the action's object.
 fn settle(
     alloc: Global,
     act: &Act,
@@ -35,11 +36,12 @@ fn settle(
     made: &[Gid],
     outcome: &Outcome,
 ) -> Result<(Vec<Due>, State), OutOfMemory>
-    ensures due { IfOk result (λ out. out.0.items ≡ due_of state.now act.now made.now outcome.now) }
-    ensures state { IfOk result (λ out. out.1 ≡ state_after state.now act.now made.now outcome.now) }
+    ensures due { IfOk result (λ out. out.0.items ≡ due_with state.now (plain act.now) made.now outcome.now) }
+    ensures state { IfOk result (λ out. out.1 ≡ state_after state.now (plain act.now) made.now outcome.now) }
 {
-    let hand = Hand::of(alloc, state, act, made)?;
-    Ok((hand.due(alloc, outcome)?, hand.state(alloc, outcome)?))
+    let seen = act.plain(alloc)?;
+    let hand = Hand::of(alloc, state, &seen, made)?;
+    Ok((hand.due(alloc, outcome)?, hand.state_left(alloc, outcome)?))
 }
 
 /// Each fired action, as one that may fail for want of credit of an object.

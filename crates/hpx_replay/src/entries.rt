@@ -44,6 +44,7 @@ fn is_bare(event: &Event) -> bool
     match event {
         Event::Split { object, .. } => object.log().is_none(),
         Event::Born { object, .. } => object.log().is_none(),
+        Event::Merge { object, .. } => object.log().is_none(),
         Event::Up { object, .. } => object.log().is_none(),
         Event::Asked { object } => object.log().is_none(),
         Event::Given { object, .. } => object.log().is_none(),
@@ -92,7 +93,8 @@ fn outcome_in<A: Acts>(
     let Some(x) = local.objects.find(&target(act)) else {
         return Ok(None);
     };
-    let outcome = acts.act(alloc, x.object.kind(), local.here, &x.state, act)?;
+    let seen = act.plain(alloc)?;
+    let outcome = acts.act(alloc, x.object.kind(), local.here, &x.state, &seen)?;
     Ok(Some(outcome))
 }
 
@@ -139,6 +141,7 @@ fn row(
         }
         Event::Sent { action } => Ok(sent_row(local, *action)),
         Event::Print { bytes } => Ok(print_row(local, bytes)),
+        Event::Merge { log, .. } => Ok(*log < profile.credit_log),
         Event::Up { .. } => Ok(true),
         Event::Asked { .. } => Ok(true),
         Event::Given { object, log } => Ok(given_row(local, profile, *object, *log)),
@@ -194,6 +197,7 @@ fn change(
         Event::Out { .. } => send(local, alloc, reading.cargo),
         Event::In { .. } => accept(local, reading.cargo),
         Event::Split { .. } => Ok(()),
+        Event::Merge { .. } => Ok(()),
         Event::Up { .. } => Ok(()),
         Event::Looked { .. } => Ok(()),
         Event::Mail { .. } => Ok(()),

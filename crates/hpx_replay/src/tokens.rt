@@ -1,5 +1,5 @@
 //! The tokens that an entry takes and gives.
-ghost use Rattle.std.specs.Prelude.{◌≡◌, ◌-◌, ◌∷◌, [], ℕ, IfOk, true, false};
+ghost use Rattle.std.specs.Prelude.{◌≡◌, ◌+◌, ◌-◌, ◌∷◌, [], ℕ, IfOk, true, false};
 ghost use Rattle.hpx_value.specs.declared.profile.Profile.{Profile as Settings};
 ghost use Rattle.hpx_journal.specs.Local.{takes, gives};
 ghost use Rattle.hpx_replay.specs.Spaces.{Meaning, rules_of};
@@ -42,6 +42,23 @@ fn copied(alloc: Global, tokens: &Items<Token>) -> Result<Items<Token>, OutOfMem
     Ok(Items::from_vec(Vec::from_slice(alloc, tokens.as_slice())?))
 }
 
+/// Two credits that ids hold.
+fn both(alloc: Global, object: Gid, log: u8) -> Result<Items<Token>, OutOfMemory>
+    ensures { IfOk result (λ out. out ≡ record { object = object; log = log; owed = false }
+        ∷ record { object = object; log = log; owed = false } ∷ []) }
+{
+    let mut out = one(alloc, held(object, log))?;
+    out.push(held(object, log))?;
+    Ok(out)
+}
+
+/// The log above. One that no id has is answered like want of memory: no entry that is allowed has it.
+fn above(log: u8) -> Result<u8, OutOfMemory>
+    ensures { IfOk result (λ next. next ≡ log + 1) }
+{
+    log.checked_add(1).ok_or(OutOfMemory)
+}
+
 /// The tokens that an entry takes.
 pub(crate) fn takes(
     alloc: Global,
@@ -53,6 +70,7 @@ pub(crate) fn takes(
 {
     match event {
         Event::Split { object, log } => one(alloc, held(*object, *log)),
+        Event::Merge { object, log } => both(alloc, *object, *log),
         Event::Up { object, log } => one(alloc, held(*object, *log)),
         Event::Asked { object } => one(alloc, held(*object, 0)),
         Event::Given { object, log } => one(alloc, owed(*object, *log)),
@@ -66,17 +84,6 @@ pub(crate) fn takes(
     }
 }
 
-/// Two tokens of the log below.
-fn halves(alloc: Global, object: Gid, log: u8) -> Result<Items<Token>, OutOfMemory>
-    ensures { IfOk result (λ out. out ≡ record { object = object; log = log - 1; owed = false }
-        ∷ record { object = object; log = log - 1; owed = false } ∷ []) }
-{
-    let half = log.saturating_sub(1);
-    let mut out = one(alloc, held(object, half))?;
-    out.push(held(object, half))?;
-    Ok(out)
-}
-
 /// The tokens that an entry gives.
 pub(crate) fn gives(
     alloc: Global,
@@ -88,8 +95,9 @@ pub(crate) fn gives(
     ensures { IfOk result (λ out. (n : ℕ) (f : Meaning) → out ≡ gives (rules_of n profile.now f) event.now) }
 {
     match event {
-        Event::Split { object, log } => halves(alloc, *object, *log),
+        Event::Split { object, log } => both(alloc, *object, log.saturating_sub(1)),
         Event::Born { object, .. } => one(alloc, held(*object, profile.credit_log)),
+        Event::Merge { object, log } => one(alloc, held(*object, above(*log)?)),
         Event::Up { object, log } => one(alloc, owed(*object, *log)),
         Event::Asked { object } => one(alloc, owed(*object, 0)),
         Event::Given { object, log } => one(alloc, held(*object, *log)),

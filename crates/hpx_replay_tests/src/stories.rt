@@ -58,7 +58,7 @@ const ADD: &[u8] =
     b"0101 0000 0000000000000004 0000000247000021 0000000000000001 0010 0001 02 0000000000000005 01 0000000100000003 0000000000000001 00000001";
 
 const ADDED: &[u8] =
-    b"0101 0001 0000000000000002 0000000100000003 0000000000000001 0003 0002 02 0000000000000001 00 00";
+    b"0101 0001 0000000000000002 0000000100000003 0000000000000001 0003 0003 02 0000000000000001 00 04 0000000247000021 0000000000000001 00";
 
 const ASK: &[u8] = b"0103 0000000240000021 0000000000000001 0000 0000000000000000";
 
@@ -157,6 +157,16 @@ impl Story {
         )
     }
 
+    fn merge(&mut self, at: u32, log: u8) -> Result<(), OutOfMemory> {
+        self.add(
+            at,
+            Event::Merge {
+                object: object(),
+                log,
+            },
+        )
+    }
+
     fn up(&mut self, at: u32, log: u8) -> Result<(), OutOfMemory> {
         self.add(
             at,
@@ -230,22 +240,21 @@ impl Story {
         self.arrive(1, ADD)
     }
 
-    /// 9 entries: the call runs, and its answer comes to the session.
+    /// 8 entries: the call runs, and its answer comes to the session with the credit of the call, which is merged there.
     fn answer(&mut self) -> Result<(), OutOfMemory> {
         self.fire(1, 0, 4)?;
         self.done(1, 0, 4)?;
         self.sent(1, 1, 2)?;
-        self.up(1, 7)?;
-        self.count(128, Reason::Returned(7))?;
         self.out(1, 0, ADDED)?;
         self.arrive(0, ADDED)?;
         self.fire(0, 1, 2)?;
-        self.done(0, 1, 2)
+        self.done(0, 1, 2)?;
+        self.merge(0, 7)
     }
 
-    /// 10 entries: the session's id is split down to log 0, and more is asked for.
+    /// 11 entries: the session's id is split down to log 0, and more is asked for.
     fn ask(&mut self) -> Result<(), OutOfMemory> {
-        for log in [7, 6, 5, 4, 3, 2, 1] {
+        for log in [8, 7, 6, 5, 4, 3, 2, 1] {
             self.split(0, log)?;
         }
         self.add(0, Event::Asked { object: object() })?;
@@ -255,7 +264,7 @@ impl Story {
 
     /// 4 entries: it is granted.
     fn grant(&mut self) -> Result<(), OutOfMemory> {
-        self.count(383, Reason::Granted)?;
+        self.count(511, Reason::Granted)?;
         self.out(1, 0, GIVE)?;
         self.arrive(0, GIVE)?;
         self.add(
@@ -291,12 +300,12 @@ impl Story {
         self.up(0, 7)
     }
 
-    /// 11 entries: the fourth line drops the object, and all its ids at locality 0 are given up.
+    /// 12 entries: the fourth line drops the object, and all its ids at locality 0 are given up.
     fn drop_all(&mut self) -> Result<(), OutOfMemory> {
         self.line(7, b'd')?;
         self.fire(0, 0, 7)?;
         self.done(0, 0, 7)?;
-        for log in [7, 6, 5, 4, 3, 2, 1, 0] {
+        for log in [7, 7, 6, 5, 4, 3, 2, 1, 0] {
             self.up(0, log)?;
         }
         Ok(())
@@ -310,9 +319,10 @@ impl Story {
         self.add(1, Event::In { bytes })
     }
 
-    /// 26 entries: all credits go home, and the last is not yet written.
+    /// 29 entries: all credits go home, and the last is not yet written.
     fn fade(&mut self) -> Result<(), OutOfMemory> {
         for (log, left) in [
+            (7, 383),
             (7, 255),
             (7, 127),
             (6, 63),
@@ -387,7 +397,7 @@ fn judged(alloc: Global, log: u8, entries: Vec<Entry>) -> Result<Space, ReplayFa
     }
     let profile = Profile {
         credit_log: log,
-        credit_limit: 1 << 62u32,
+        credit_limit: 1 << 100u32,
         cache: 64,
     };
     if !profile.is_valid() {
@@ -396,7 +406,7 @@ fn judged(alloc: Global, log: u8, entries: Vec<Entry>) -> Result<Space, ReplayFa
     replay(alloc, &Trial, 2, profile, &journal)
 }
 
-/// From the birth to the freeing: 100 entries.
+/// From the birth to the freeing: 104 entries.
 fn life(alloc: Global) -> Result<Story, OutOfMemory> {
     let mut story = Story::new(alloc);
     story.birth()?;
@@ -414,7 +424,7 @@ fn life(alloc: Global) -> Result<Story, OutOfMemory> {
 #[test]
 fn a_life_is_legal(rt: HostRuntime) -> Result<(), OutOfMemory> {
     let story = life(rt.alloc())?;
-    assert_eq!(rt; story.entries.len(), 100);
+    assert_eq!(rt; story.entries.len(), 104);
     match judged(rt.alloc(), 8, story.entries) {
         Ok(space) => {
             assert_eq!(rt; space.road.len(), 0);
@@ -446,6 +456,9 @@ enum Wrong {
     Busy,
     UnevenSplit,
     SplitOfLeast,
+    MergedOfGreatest,
+    MergedOfOne,
+    MergedBeforeSent,
     GrantedTooMuch,
     FreedAtOne,
     FreedTwice,
@@ -505,8 +518,8 @@ fn mistaken_credit(story: &mut Story, way: Wrong) -> Result<(), OutOfMemory> {
             story.birth()?;
             story.call()?;
             story.answer()?;
-            story.split(0, 7)?;
-            story.up(0, 7)
+            story.split(0, 8)?;
+            story.up(0, 8)
         }
         Wrong::SplitOfLeast => {
             story.birth()?;
@@ -520,7 +533,7 @@ fn mistaken_credit(story: &mut Story, way: Wrong) -> Result<(), OutOfMemory> {
             story.call()?;
             story.answer()?;
             story.ask()?;
-            story.count(384, Reason::Granted)
+            story.count(512, Reason::Granted)
         }
         Wrong::FreedAtOne => {
             all_but_the_last(story)?;
@@ -530,6 +543,33 @@ fn mistaken_credit(story: &mut Story, way: Wrong) -> Result<(), OutOfMemory> {
             all_but_the_last(story)?;
             story.end()?;
             story.add(0, Event::Freed { object: object() })
+        }
+        other => mistaken_merge(story, other),
+    }
+}
+
+/// A journal whose last entry merges credits wrongly.
+fn mistaken_merge(story: &mut Story, way: Wrong) -> Result<(), OutOfMemory> {
+    match way {
+        Wrong::MergedOfGreatest => {
+            story.birth()?;
+            story.call()?;
+            story.answer()?;
+            story.merge(0, 8)
+        }
+        Wrong::MergedOfOne => {
+            story.birth()?;
+            story.split(0, 8)?;
+            story.split(0, 7)?;
+            story.merge(0, 7)
+        }
+        Wrong::MergedBeforeSent => {
+            story.birth()?;
+            story.line(3, b'a')?;
+            story.fire(0, 0, 3)?;
+            story.split(0, 8)?;
+            story.done(0, 0, 3)?;
+            story.merge(0, 7)
         }
         other => mistaken_birth(story, other),
     }
@@ -587,11 +627,14 @@ fn wrong_journals_are_refused_where_they_are_wrong(rt: HostRuntime) -> Result<()
         (Wrong::SkippedSerial, 14),
         (Wrong::RunAndForwarded, 23),
         (Wrong::Busy, 30),
-        (Wrong::UnevenSplit, 32),
+        (Wrong::MergedOfOne, 16),
+        (Wrong::MergedBeforeSent, 18),
+        (Wrong::MergedOfGreatest, 30),
+        (Wrong::UnevenSplit, 31),
         (Wrong::SplitOfLeast, 41),
         (Wrong::GrantedTooMuch, 41),
-        (Wrong::FreedAtOne, 96),
-        (Wrong::FreedTwice, 100),
+        (Wrong::FreedAtOne, 100),
+        (Wrong::FreedTwice, 104),
     ];
     for (way, at) in table {
         let mut story = Story::new(rt.alloc());

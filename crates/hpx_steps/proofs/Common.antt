@@ -10,9 +10,11 @@ pub use Rattle.std.proofs.lemmas.List.Sums.{sum_by-append, sum_by-cons}
 pub use Rattle.std.specs.List.{AllByRecursion, count_by, filter, find, list_any, remove, slice_get, sum_by}
 pub use Rattle.std.specs.Option.{option_and_then, option_map_or, option_to_list}
 pub use Rattle.std.specs.Prelude.{IfSome, MatchOption, flat_map, if◌then◌else◌, is_some, min, nat_le, nat_lt, not, option_map, ◌&&◌, ◌==◌, ◌^◌, ◌||◌, ◌⊎◌}
+pub use Rattle.hpx_value.proofs.Riders.{plain_all, plain_bare, plain_code, plain_formed, plain_other, plain_own, plain_target}
 pub use Rattle.hpx_value.specs.Hands.{due_of, hand_ids, id_at, session, state_after}
 pub use Rattle.hpx_value.specs.Ids.{bare, bare_id, credit, credit_of_log, same_object}
 pub use Rattle.hpx_value.specs.Laws.{birth_state}
+pub use Rattle.hpx_value.specs.Riders.{due_with, plain, rider_of}
 pub use Rattle.hpx_value.specs.Shapes.{IsAct, IsState}
 pub use Rattle.hpx_value.specs.Values.{bare_act, bare_message, bare_state, named as named_act}
 pub use Rattle.hpx_value.specs.declared.acts.Job.{Job}
@@ -39,7 +41,7 @@ pub use Rattle.hpx_journal.specs.declared.entry.Event.TheVariants.{Looked}
 pub use Rattle.hpx_part.proofs.ActRows.{follows_fire, follows_line, follows_mail, follows_print, follows_sent}
 pub use Rattle.hpx_part.proofs.Covered.{act_names, owed_counts}
 pub use Rattle.hpx_part.proofs.Credit.{token_own}
-pub use Rattle.hpx_part.proofs.CreditRows.{follows_asked, follows_given, follows_granted, follows_refused, follows_returned, follows_split, follows_up}
+pub use Rattle.hpx_part.proofs.CreditRows.{follows_asked, follows_given, follows_granted, follows_merge, follows_refused, follows_returned, follows_split, follows_up}
 pub use Rattle.hpx_part.proofs.FrameRows.{follows_in, follows_out}
 pub use Rattle.hpx_part.proofs.Grown.{clean_front, grow, run_local_append}
 pub use Rattle.hpx_part.proofs.Keyed.{Agree-found, any_counted, count_middle, count_same, counted_any, counts_false, counts_of, counts_true, find_hit, find_miss, split_get, split_set}
@@ -48,7 +50,7 @@ pub use Rattle.hpx_part.proofs.Lists.{sum_middle}
 pub use Rattle.hpx_part.proofs.ObjectRows.{follows_born, follows_done, follows_fail, follows_freed_mailed, follows_freed_taken}
 pub use Rattle.hpx_part.proofs.Parcels.{acts_named, asks_owed}
 pub use Rattle.hpx_part.proofs.Weaken.{weaker_leads}
-pub use Rattle.hpx_part.specs.Data.{Asked, Born, Count, Done, Entry, Event, Fire, Freed, Given, Granted, In, Landed, Left, Line, Local, Mail, Name, Out, Print, Reason, Refusal, Refused, Returned, Sent, Split, Standing, Token, Up}
+pub use Rattle.hpx_part.specs.Data.{Asked, Born, Count, Done, Entry, Event, Fire, Freed, Given, Granted, In, Landed, Left, Line, Local, Mail, Merge, Name, Out, Print, Reason, Refusal, Refused, Returned, Sent, Split, Standing, Token, Up}
 pub use Rattle.hpx_part.specs.Keyed.{Agree}
 pub use Rattle.hpx_part.specs.Parts.{MayLeave, StandsFor, at_all, at_boot}
 pub use Rattle.hpx_part.specs.Shows.{Follows, Leads, SameTokens, Shows, same_refusal}
@@ -72,7 +74,8 @@ pub use Rattle.hpx_tables.specs.Awaited.{answered_by, is_answer}
 pub use Rattle.hpx_tables.specs.Births.{IsBirth, birth_of, births_of, ids_of, objects_of, records_of}
 pub use Rattle.hpx_tables.specs.Fit.{IsFit, IsFitDue, IsKept, parcel_for}
 pub use Rattle.hpx_tables.specs.Kept.{count_here, credit_in, held_here, ids_held, record_here, stands_here, waits_here}
-pub use Rattle.hpx_tables.specs.Pending.{Waits, action_of, asked_at, asking_of, awaits, fired_of, ids_named, is_asked, is_asked_for, own_ids, refilled, refusal_of, refusals_of, waits_with}
+pub use Rattle.hpx_tables.specs.Merged.{has_log, is_like, may_merge, merged, merged_in}
+pub use Rattle.hpx_tables.specs.Pending.{Waits, action_of, asked_at, asking_of, awaits, fired_of, ids_kept, ids_named, is_asked, is_asked_for, own_ids, refilled, refusal_of, refusals_of, waits_with}
 pub use Rattle.hpx_tables.specs.Splits.{asked_events, cuts, first_cuts, splits_from}
 pub use Rattle.hpx_tables.specs.Strange.{are_far, breaks, brings_right, broken, broken_act, broken_free, broken_give, broken_go, broken_move, broken_near, broken_object, broken_return, is_far, is_far_act, is_live, is_to_here, moves_far}
 pub use Rattle.hpx_tables.specs.Tables.{Tables, fired_acts, messages}
@@ -80,7 +83,7 @@ pub use Rattle.hpx_tables.specs.declared.births.Birth.{Birth}
 pub use Rattle.hpx_tables.specs.declared.kept.Outgoing.{Outgoing}
 pub use Rattle.hpx_tables.specs.declared.pending.Asked.{Asked as AskedFor}
 pub use Rattle.hpx_tables.specs.declared.strange.Broken.{Broken}
-pub use Rattle.hpx_steps.specs.Calls.{Accepts, DealsWith, Gives, Leaves, answered, effects, freed, ids_in, more_here, place_or_0, returned, up_of, ups, with_accepted, with_asks, with_due, with_left, with_returns, written_due}
+pub use Rattle.hpx_steps.specs.Calls.{Accepts, DealsWith, Gives, Leaves, answered, effects, freed, ids_in, more_here, place_or_0, returned, rider_event, rider_events, up_of, ups, with_accepted, with_asks, with_done, with_due, with_left, with_returns, with_rider, with_riders, written_due}
 pub use Rattle.hpx_steps.specs.Frames.{IsForHere, IsOnItsWay, MayGoTo}
 pub use Rattle.hpx_steps.specs.Items.{Accepted, Among, Came, Going, Has, Holds, IsDue, Item, Loose, Mailed, OnDesk, Pending, Running, StandsHere, Working, weigh}
 pub use Rattle.hpx_steps.specs.Left.{IsLeftBy, IsLeftFailed}
@@ -90,5 +93,5 @@ pub use Rattle.hpx_steps.specs.Paused.{Apart, AreLent, HasCommits, HasObject, Ha
 pub use Rattle.hpx_steps.specs.Rest.{ArePaused, IsPaused, Stands, StandsAtRest, bound_for, queued, rules_of}
 pub use Rattle.hpx_steps.specs.Rows.{Actions, AreFired, Asks, Counts, Frees, FreesOf, Refusals, Returns, Row, brings, causes, fires_one, freeing, frees_one, goes, hopping, is_least, is_refusal, is_refused, joined, joins, kind_of, of_act, one_if, owes, spends, unpaid, weighed, weight}
 pub use Rattle.hpx_steps.specs.Sound.{AreNumbers, AreRules, FreesNone, HasPlaces, IsOrderly, IsOwn, IsPaid, IsSound, IsTidy, IsTidyIn, SendsOwn, StaysAt, TidyAt, all_count, asked_by, asking, asks_for, come, given_to, gives_for, gone, gone_to, waits_for, worth}
-pub use Rattle.hpx_steps.specs.Steps.{AsksFor, Bears, ComesIn, Commits, Deals, Ends, Fails, Feeds, Fires, GivesUp, GoesOut, Grants, HasInHand, IsCalm, IsGiven, IsTold, Label, Pause, Pauses, Place, Places, Prints, Recounts, Refuses, Remains, Sends, Splits, Step, Steps, Suspend, Suspends, TakesBack, TakesUp, Writes, drops, ends, goes_on, with_credit, with_records, works_on, written, written_by}
+pub use Rattle.hpx_steps.specs.Steps.{AsksFor, Bears, ComesIn, Commits, Deals, Ends, Fails, Feeds, Fires, GivesUp, GoesOut, Grants, HasInHand, IsCalm, IsGiven, IsTold, Label, Merges, Pause, Pauses, Place, Places, Prints, Recounts, Refuses, Remains, Sends, Splits, Step, Steps, Suspend, Suspends, TakesBack, TakesUp, Writes, drops, ends, goes_on, with_credit, with_records, works_on, written, written_by}
 pub use Rattle.hpx_steps.specs.Turn.{Turn, at_rest, bare_due, bare_standing, commits, counted, ids_here, own_parcels, parcel_acts, parcel_asks, parcel_frees, parcel_tokens, parcels, tokens, tokens_of, view, waiting}

@@ -1,9 +1,10 @@
 -- Where all that is kept is well formed, each name has its token.
-use Rattle.hpx_steps.proofs.Common.{Accepted, Act, AllByRecursion, Among, AreLent, Bool, Came, Going, HasRightCredit, Id, IsCovered, IsDue, IsFit, IsFitDue, IsParcel, IsTidy, List, Mailed, MatchOption, MessageDue, None, OnDesk, Option, Outgoing, Parcel, Pending, PrintDue, Running, Some, Standing, Token, Turn, Waits, Working, [], act_names, action_of, acts_named, and-true, ap, arith, asking_of, asks_owed, bare, bare_act, bare_due, bare_names, bare_standing, cases_Bool, commits, cond, count_by, credit_list, drop, due_ids, false, filter, fired_of, flat_map, held, ids_named, inl, inr, is_asked, is_held, is_managed, is_some, length, map, nat_le, nat_tests, not, owed_counts, own_ids, parcel_acts, parcel_asks, parcel_tokens, parcels, refl, same_object, same_object-true, sum_by, sum_by-append, sum_by-cons, sym, take, take-append-drop, true, view, ℕ, ◌&&◌, ◌++◌, ◌+◌, ◌<◌, ◌∙◌, ◌∷◌, ◌≡◌, ◌≤◌}
+use Rattle.hpx_steps.proofs.Common.{Accepted, Act, AllByRecursion, Among, AreLent, Bool, Came, Going, HasRightCredit, Id, IsCovered, IsDue, IsFit, IsFitDue, IsParcel, IsTidy, List, Mailed, MatchOption, MessageDue, None, OnDesk, Option, Outgoing, Parcel, Pending, PrintDue, Running, Some, Standing, Token, Turn, Waits, Working, [], act_names, action_of, acts_named, and-true, ap, arith, asking_of, asks_owed, bare, bare_act, bare_due, bare_names, bare_standing, cases_Bool, commits, cond, count_by, credit_list, drop, due_ids, false, filter, fired_of, flat_map, held, ids_kept, ids_named, inl, inr, is_asked, is_held, is_managed, is_some, length, map, nat_le, nat_tests, not, owed_counts, own_ids, parcel_acts, parcel_asks, parcel_tokens, parcels, plain, refl, rider_of, same_object, same_object-true, sum_by, sum_by-append, sum_by-cons, sym, take, take-append-drop, true, view, worth, ℕ, ◌&&◌, ◌++◌, ◌+◌, ◌<◌, ◌∙◌, ◌∷◌, ◌≡◌, ◌≤◌}
 use Rattle.hpx_value.specs.declared.outcome.Due.{Due}
 use Rattle.hpx_value.specs.declared.outcome.Due.TheVariants.{Message as MessageDue, Print as PrintDue}
 use Rattle.hpx_steps.proofs.Changes.{all_among, among_either}
-use Rattle.hpx_steps.proofs.Sums.{flat_sum, ids_append, ids_flat, most_sum, parcels_sum, view_worth, weighs}
+use Rattle.hpx_steps.proofs.Ridden.{ridden_sum, rider_all}
+use Rattle.hpx_steps.proofs.Sums.{flat_sum, ids_append, ids_flat, most_sum, parcels_sum, same_sum, view_worth, weighs}
 
 -- a held token of o, as a number
 abbrev pub held_counts : Id → Token → ℕ
@@ -130,12 +131,17 @@ bare_asked o managed (id ∷ ids) = elim (cases_Bool (is_asked id)) [
     none false b e g = refl
 
 -- what the object and the action of a commit that waits name is in its hand, or was asked for
-in_hand : (o : Id) → 16 ≤ o.kind → (w : Waits) → map bare (own_ids w) ≡ map bare (ids_named w) → count_by (same_object o) w.job.state.ids + count_by (same_object o) w.job.action.ids
-    ≤ weighs (held_counts o) w.hand + count_by (same_object o) (filter is_asked (own_ids w))
-in_hand o managed w h =
+in_hand : (o : Id) → 16 ≤ o.kind → (w : Waits) → IsFit w.job.action → map bare (own_ids w) ≡ map bare (ids_named w)
+    → count_by (same_object o) w.job.state.ids + count_by (same_object o) w.job.action.ids
+    ≤ weighs (held_counts o) (ids_kept w) + count_by (same_object o) (filter is_asked (own_ids w))
+in_hand o managed w fit h =
     omega (
       arith,
-      sum_by-append (λ x. cond (same_object o x) 1 0) w.job.state.ids w.job.action.ids,
+      ridden_sum (λ x. cond (same_object o x) 1 0) w.job.action fit.sent.shape,
+      held_ids o managed (rider_of w.job.action) (rider_all HasRightCredit w.job.action fit.sent.shape fit.sent.credit),
+      names_bare o (rider_of w.job.action),
+      ids_append (held_counts o) w.hand (rider_of w.job.action),
+      sum_by-append (λ x. cond (same_object o x) 1 0) w.job.state.ids (plain w.job.action).ids,
       names_bare o (ids_named w),
       ap (count_by (same_object o)) h,
       held_or_bare o (own_ids w),
@@ -144,17 +150,17 @@ in_hand o managed w h =
       ap (weighs (held_counts o)) (take-append-drop (length (ids_named w)) w.hand),
     )
 
-in_hands : (o : Id) → 16 ≤ o.kind → (ws : List Waits) → AllByRecursion (λ w. map bare (own_ids w) ≡ map bare (ids_named w)) ws
+in_hands : (o : Id) → 16 ≤ o.kind → (ws : List Waits) → AllByRecursion (λ w. IsFit w.job.action × (map bare (own_ids w) ≡ map bare (ids_named w))) ws
     → sum_by (λ (w : Waits). count_by (same_object o) w.job.state.ids) ws + sum_by (λ (w : Waits). count_by (same_object o) w.job.action.ids) ws
-    ≤ weighs (held_counts o) (flat_map (λ (w : Waits). w.hand) ws) + count_by (same_object o) (asking_of ws)
+    ≤ weighs (held_counts o) (flat_map ids_kept ws) + count_by (same_object o) (asking_of ws)
 in_hands o managed [] h = omega arith
 in_hands o managed (w ∷ ws) h = omega (
   arith,
-  in_hand o managed w h.0,
+  in_hand o managed w h.0.0 h.0.1,
   in_hands o managed ws h.1,
   sum_by-cons (λ (y : Waits). count_by (same_object o) y.job.state.ids) w ws,
   sum_by-cons (λ (y : Waits). count_by (same_object o) y.job.action.ids) w ws,
-  ids_append (held_counts o) w.hand (flat_map (λ (y : Waits). y.hand) ws),
+  ids_append (held_counts o) (ids_kept w) (flat_map ids_kept ws),
   sum_by-append (λ x. cond (same_object o x) 1 0) (filter is_asked (own_ids w)) (asking_of ws),
 )
 
@@ -194,7 +200,7 @@ view_covered s tidy lent o managed =
         parcels_sum held s,
         held_states o managed s.tables.objects,
         lent o managed,
-        in_hands o managed (commits s) (all_among (λ (w : Waits). map bare (own_ids w) ≡ map bare (ids_named w)) (commits s) hands),
+        in_hands o managed (commits s) (all_among (λ (w : Waits). IsFit w.job.action × (map bare (own_ids w) ≡ map bare (ids_named w))) (commits s) hands),
         held_acts o managed s.tables.accepted (all_among IsFit s.tables.accepted (λ a m. (tidy (Accepted a) m).0)),
         held_acts o managed s.tables.running (all_among IsFit s.tables.running (λ a m. tidy (Running a) m)),
         fired_names o s.tables.running (commits s),
@@ -204,15 +210,20 @@ view_covered s tidy lent o managed =
         sum_by-append (act_names o) (map bare_act s.tables.accepted) (flat_map parcel_acts (parcels s)),
         ids_flat (held_counts o) (λ (x : Standing). x.state.ids) s.tables.objects,
         ids_flat (held_counts o) (λ (a : Act). a.ids),
-        ids_flat (held_counts o) (λ (w : Waits). w.hand) (commits s),
-        sum_by-append (λ (w : Waits). weighs (held_counts o) w.hand) s.working s.tables.pending,
+        ids_flat (held_counts o) ids_kept (commits s),
+        sum_by-append (λ (w : Waits). weighs (held_counts o) (ids_kept w)) s.working s.tables.pending,
+        kept_sum s.working,
+        kept_sum s.tables.pending,
         ids_flat (held_counts o) due_ids s.due,
       );
       pending = omega (arith, view_worth (owed_counts o) s, parcels_sum owed s, flat_sum (λ (x : Id). cond (same_object o x) 1 0) parcel_asks (parcels s), less asks owed (λ p h. asks_owed o p h));
     }
   where
-    hands : (w : Waits) → Among w (commits s) → map bare (own_ids w) ≡ map bare (ids_named w)
+    hands : (w : Waits) → Among w (commits s) → IsFit w.job.action × (map bare (own_ids w) ≡ map bare (ids_named w))
     hands w m = elim (among_either w s.working s.tables.pending m) [
-      | inl a ↦ (tidy (Working w) a).hand
-      | inr b ↦ (tidy (Pending w) b).0.hand
+      | inl a ↦ let k = tidy (Working w) a in (k.job.action, k.hand)
+      | inr b ↦ let k = (tidy (Pending w) b).0 in (k.job.action, k.hand)
     ]
+
+    kept_sum : (ws : List Waits) → sum_by (λ (w : Waits). weighs (held_counts o) (ids_kept w)) ws ≡ sum_by (λ w. worth (held_counts o) (Working w)) ws
+    kept_sum ws = same_sum (λ (w : Waits). weighs (held_counts o) (ids_kept w)) (λ w. worth (held_counts o) (Working w)) ws (λ w. ids_append (held_counts o) w.hand (rider_of w.job.action))

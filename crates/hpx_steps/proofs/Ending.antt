@@ -1,10 +1,14 @@
 -- An action ends: what holds of what it leaves, and that it is done, or fails.
-use Rattle.hpx_steps.proofs.Common.{Act, Agree, Agree-found, AllByRecursion, AreMade, AskedFor, Bool, Commits, Done, Due, Ends, Entry, Event, Fails, HasCommits, HasPlaces, Id, IsCommit, IsDue, IsSound, IsTidy, Item, Leads, List, Loose, Name, Option, Refusal, Remains, Row, Rules, Some, Standing, StandsHere, State, TidyAt, Token, Turn, View, Waits, Working, [], action_of, all_append, answered_by, any_counted, ap, arith, asking, asks_under, bare, bare_act, bare_due, bare_standing, bare_state, causes, commits, cond, count_by, count_in, counted_any, counts_of, drop, due_ids, due_of, ends, failure, false, filter, find, find_passes, fired_of, follows_done, follows_fail, freeing, given_to, goes, hopping, id_at, ids_named, inl, is_act, is_answer, is_asked, is_recorded, is_standing, joined, length, length-append, list_any, map, map-append, means, name_of, names_of, option_to_list, own, own_ids, refl, refusal_of, refusals_of, same_name-refl, same_object, same_refusal, session, set, some_same, split_get, split_set, state_after, subst, suc, sum_by, sum_by-append, sum_by-cons, sym, take, target_of, tokens, tokens_of, true, unpaid, view, weigh, worth, wrote, zero, ℕ, ◌&&◌, ◌++◌, ◌+◌, ◌<◌, ◌==◌, ◌||◌, ◌∙◌, ◌∷◌, ◌≡◌, ◌≤◌}
-use Rattle.hpx_steps.proofs.Tools.{Changes, Keeps, Sees, all_come, among_at, as_seen, bare_all, bare_lent, by_rows, due_change, end_commits, fewer, first_goes, found-bare, holding, ids_each, ids_flat, loose_change, more_come, no_tokens, none_sum, objects_change, one_turns, retidy, same_map, sees_covers, sees_leads, single_set, stand_set, target-bare, then, told_as, total, total_append, total_map, view_asking, view_covered, view_worth, working_change}
+use Rattle.hpx_steps.proofs.Common.{Act, Agree, Agree-found, AllByRecursion, AreMade, AskedFor, Bool, Commits, Done, Due, Ends, Entry, Event, Fails, HasCommits, HasPlaces, HasRightCredit, Id, IsAct, IsCommit, IsDue, IsSound, IsTidy, Item, Leads, List, Loose, Name, Option, Refusal, Remains, Row, Rules, Some, Standing, StandsHere, State, TidyAt, Token, Turn, View, Waits, Working, [], action_of, all_append, answered_by, any_counted, ap, arith, asking, asks_under, bare, bare_act, bare_due, bare_standing, bare_state, causes, commits, cond, count_by, count_in, counted_any, counts_of, drop, due_ids, due_with, ends, failure, false, filter, find, find_passes, fired_of, follows_done, follows_fail, freeing, given_to, goes, hopping, id_at, ids_named, inl, is_act, is_answer, is_asked, is_recorded, is_standing, joined, length, length-append, list_any, map, map-append, means, name_of, names_of, option_to_list, own, own_ids, plain, refl, refusal_of, refusals_of, rider_of, same_name-refl, same_object, same_refusal, session, set, some_same, split_get, split_set, state_after, subst, suc, sum_by, sum_by-append, sum_by-cons, sym, take, target_of, tokens, tokens_of, true, unpaid, view, weigh, with_credit, worth, wrote, zero, ℕ, ◌&&◌, ◌++◌, ◌+◌, ◌<◌, ◌==◌, ◌||◌, ◌∙◌, ◌∷◌, ◌≡◌, ◌≤◌}
+use Rattle.hpx_steps.proofs.Tools.{Changes, Keeps, Sees, all_come, all_with, among_at, as_seen, bare_all, bare_lent, by_rows, credit_tokens, due_change, end_commits, fewer, first_goes, found-bare, holding, ids_append, ids_each, ids_flat, loose_change, more_come, no_tokens, none_sum, objects_change, one_turns, retidy, ridden_sum, rider_all, same_map, sees_covers, sees_leads, single_set, stand_set, target-bare, then, told_as, total, total_append, total_map, view_asking, view_covered, view_worth, working_change}
 
 any_bare : (o : Id) (ids : List Id) → list_any (same_object o) (map bare ids) ≡ list_any (same_object o) ids
 any_bare o [] = refl
 any_bare o (id ∷ ids) = ap (λ b. same_object o id || b) (any_bare o ids)
+
+-- one that the plain action names is one that the action names
+ridden_any : (p : Id → Bool) (xs : List Id) (a : Act) → IsAct a → list_any p (xs ++ (plain a).ids) ≡ true → list_any p (xs ++ a.ids) ≡ true
+ridden_any p xs a shape h = any_counted p (xs ++ a.ids) (omega (arith, counted_any p (xs ++ (plain a).ids) h, sum_by-append (counts_of p), ridden_sum (counts_of p) a shape))
 
 any_turned : (p : Id → Bool) (xs ys : List Id) → list_any p (xs ++ ys) ≡ true → list_any p (ys ++ xs) ≡ true
 any_turned p xs ys h = any_counted p (ys ++ xs) (omega (arith, counted_any p (xs ++ ys) h, sum_by-append (counts_of p)))
@@ -23,8 +27,12 @@ module _ (r : Rules) (s : Turn) (entries : List Entry) (h : IsSound r s entries)
   abbrev dues : List Item
   dues = map (λ d. IsDue d) left.due
 
+  -- what is loose then: its rider, and what is named nowhere
+  abbrev rest_ids : List Id
+  rest_ids = with_credit (rider_of w.job.action) ++ left.loose
+
   abbrev looses : List Item
-  looses = map (λ i. Loose i) left.loose
+  looses = map (λ i. Loose i) (with_credit (rider_of w.job.action) ++ left.loose)
 
   abbrev less : Turn
   less = record s { working = rest }
@@ -39,17 +47,17 @@ module _ (r : Rules) (s : Turn) (entries : List Entry) (h : IsSound r s entries)
       (objects_change (StandsHere x ∷ []) (StandsHere new ∷ []) less (set s.tables.objects j new) (one_turns (λ y. StandsHere y) s.tables.objects j x new g.stands))
       (then [] dues [] looses settled (record settled { due = left.due }) now
       (due_change [] dues settled left.due (all_come (λ y. IsDue y) s.due left.due g.due))
-      (loose_change [] looses (record settled { due = left.due }) (s.loose ++ left.loose) (more_come (λ y. Loose y) s.loose left.loose))))
+      (loose_change [] looses (record settled { due = left.due }) (s.loose ++ rest_ids) (more_come (λ y. Loose y) s.loose rest_ids))))
 
   -- a weight before and after
-  pub moves : (f : Item → ℕ) → weigh f now + (f (Working w) + f (StandsHere x)) ≡ weigh f s + (f (StandsHere new) + (sum_by (λ d. f (IsDue d)) left.due + sum_by (λ i. f (Loose i)) left.loose))
+  pub moves : (f : Item → ℕ) → weigh f now + (f (Working w) + f (StandsHere x)) ≡ weigh f s + (f (StandsHere new) + (sum_by (λ d. f (IsDue d)) left.due + sum_by (λ i. f (Loose i)) (with_credit (rider_of w.job.action) ++ left.loose)))
   moves f =
       let k : weigh f now + (f (Working w) + (f (StandsHere x) + 0)) ≡ weigh f s + (f (StandsHere new) + total f (dues ++ looses)) = change.0 f in
-      omega (arith, k, total_append f dues looses, total_map (λ d. IsDue d) f left.due, total_map (λ i. Loose i) f left.loose)
+      omega (arith, k, total_append f dues looses, total_map (λ d. IsDue d) f left.due, total_map (λ i. Loose i) f rest_ids)
 
   -- one that sees none of these
   pub stays : (f : Item → ℕ) → f (Working w) ≡ 0 → f (StandsHere x) ≡ 0 → f (StandsHere new) ≡ 0 → ((d : Due) → f (IsDue d) ≡ 0) → ((i : Id) → f (Loose i) ≡ 0) → weigh f now ≡ weigh f s
-  stays f a b c d e = omega (arith, moves f, a, b, c, none_sum (λ y. f (IsDue y)) left.due d, none_sum (λ y. f (Loose y)) left.loose e)
+  stays f a b c d e = omega (arith, moves f, a, b, c, none_sum (λ y. f (IsDue y)) left.due d, none_sum (λ y. f (Loose y)) rest_ids e)
 
   pub its : IsCommit s.tables.here s.tables.localities w
   its = h.tidy (Working w) (rw g.works (inl refl))
@@ -60,8 +68,11 @@ module _ (r : Rules) (s : Turn) (entries : List Entry) (h : IsSound r s entries)
   pub tidy : IsTidy now
   tidy = holding (TidyAt now) (StandsHere new ∷ (dues ++ looses)) s now change.1
       (λ y m. retidy s.tables.here s.tables.localities s.tables.profile.credit_log s.tables.births s.tables.births s.tables.objects (set s.tables.objects j new) (omega arith)
-      (λ o. stand_set (is_standing o) s.tables.objects j x new g.stands refl) y (h.tidy y m))
-      ((g.kept, kept.1), all_append (TidyAt now) dues looses (all_of (λ d. IsDue d) left.due g.fits) (all_of (λ i. Loose i) left.loose g.given_up))
+      (λ o. stand_set (is_standing o) s.tables.objects j x new g.stands refl) y (h.tidy y m)) (
+        (g.kept, kept.1),
+        all_append (TidyAt now) dues looses (all_of (λ d. IsDue d) left.due g.fits) (all_of (λ i. Loose i) rest_ids (all_append HasRightCredit (with_credit (rider_of w.job.action)) left.loose
+            (all_with (rider_of w.job.action) (rider_all HasRightCredit w.job.action its.job.action.sent.shape its.job.action.sent.credit)) g.given_up)),
+      )
     where
       all_of : {X : Type 0} (c : X → Item) (xs : List X) → AllByRecursion (λ y. TidyAt now (c y)) xs → AllByRecursion (TidyAt now) (map c xs)
       all_of c [] k = tt
@@ -92,7 +103,9 @@ module _ (r : Rules) (s : Turn) (entries : List Entry) (h : IsSound r s entries)
     ap (λ (y : State). sum_by f (tokens_of y.ids)) lends,
     no_tokens f w.job.state.ids,
     g.deals f,
-    ids_each f left.loose,
+    ids_each f rest_ids,
+    ids_append f (with_credit (rider_of w.job.action)) left.loose,
+    credit_tokens f (rider_of w.job.action),
     ids_flat f due_ids left.due,
   )
 
@@ -209,9 +222,9 @@ module _ (r : Rules) (s : Turn) (entries : List Entry) (h : IsSound r s entries)
 
   -- ---- it is done
 
-  module _ (right : w.outcome ≡ r.outcome_of x.object.kind s.tables.here x.state (bare_act w.job.action)) (made : AreMade w.outcome.makes s.fresh (map bare_standing s.tables.objects))
-      (says : bare_state left.state ≡ state_after x.state (bare_act w.job.action) s.fresh w.outcome)
-      (leaves : map bare_due left.due ≡ due_of x.state (bare_act w.job.action) s.fresh w.outcome) where
+  module _ (right : w.outcome ≡ r.outcome_of x.object.kind s.tables.here x.state (plain (bare_act w.job.action))) (made : AreMade w.outcome.makes s.fresh (map bare_standing s.tables.objects))
+      (says : bare_state left.state ≡ state_after x.state (plain (bare_act w.job.action)) s.fresh w.outcome)
+      (leaves : map bare_due left.due ≡ due_with x.state (plain (bare_act w.job.action)) s.fresh w.outcome) where
     abbrev done : Turn
     done = wrote (Done (name_of w.job.action) false) (ends j w rest x left s)
 
@@ -227,27 +240,27 @@ module _ (r : Rules) (s : Turn) (entries : List Entry) (h : IsSound r s entries)
     abbrev seen : View
     seen = record (view s) {
       fired = map bare_act s.tables.running ++ map bare_act (map action_of (rest ++ s.tables.pending));
-      objects = before ++ record { object = bare x.object; state = state_after (bare_state x.state) (bare_act act) s.fresh w.outcome } ∷ behind;
+      objects = before ++ record { object = bare x.object; state = state_after (bare_state x.state) (plain (bare_act act)) s.fresh w.outcome } ∷ behind;
       fresh = [];
-      due = due_of (bare_state x.state) (bare_act act) s.fresh w.outcome;
+      due = due_with (bare_state x.state) (plain (bare_act act)) s.fresh w.outcome;
       last = Some (Done (name_of w.job.action) false);
     }
 
-    objects_then : before ++ record { object = bare x.object; state = state_after (bare_state x.state) (bare_act act) s.fresh w.outcome } ∷ behind ≡ (view done).objects
+    objects_then : before ++ record { object = bare x.object; state = state_after (bare_state x.state) (plain (bare_act act)) s.fresh w.outcome } ∷ behind ≡ (view done).objects
     objects_then =
-        ap (λ y. before ++ record { object = bare x.object; state = y } ∷ behind) (ap (λ y. state_after y (bare_act act) s.fresh w.outcome) bare_x ∙ sym says)
+        ap (λ y. before ++ record { object = bare x.object; state = y } ∷ behind) (ap (λ y. state_after y (plain (bare_act act)) s.fresh w.outcome) bare_x ∙ sym says)
         ∙ (sym (map-append bare_standing (take j s.tables.objects) (new ∷ drop (suc j) s.tables.objects)) ∙ ap (map bare_standing) (sym (split_set s.tables.objects j x new g.stands)))
 
     sees : Sees seen done
     sees = ends_seen seen (Done (name_of w.job.action) false) (ap (λ fs. record (view done) { fired = fs; objects = seen.objects; due = seen.due }) fires_then
         ∙ (ap (λ os. record (view done) { objects = os; due = seen.due }) objects_then
-        ∙ ap (λ ds. record (view done) { due = ds }) (ap (λ y. due_of y (bare_act act) s.fresh w.outcome) bare_x ∙ sym leaves))) refl (omega (arith, failing_less))
+        ∙ ap (λ ds. record (view done) { due = ds }) (ap (λ y. due_with y (plain (bare_act act)) s.fresh w.outcome) bare_x ∙ sym leaves))) refl (omega (arith, failing_less))
 
     pub committed_keeps : Keeps r s done (Done (name_of w.job.action) false)
     committed_keeps = done_keeps false (
       seen,
       follows_done r (view s) (map bare_act s.tables.running) (map bare_act (map action_of (rest ++ s.tables.pending))) before behind (bare_act act) (bare_standing x) w.outcome
-          (ap (map bare_due) g.due) fires objects_are found (right ∙ ap (λ y. r.outcome_of x.object.kind s.tables.here y (bare_act act)) (sym bare_x)) made
+          (ap (map bare_due) g.due) fires objects_are found (right ∙ ap (λ y. r.outcome_of x.object.kind s.tables.here y (plain (bare_act act))) (sym bare_x)) made
           (λ b. sees_covers r seen done sees (view_covered done tidy commits_now.lent)),
       sees_leads r seen done sees,
     )
@@ -280,7 +293,7 @@ module _ (r : Rules) (s : Turn) (entries : List Entry) (h : IsSound r s entries)
     named : list_any (same_object o) ((bare_act act).ids ++ (bare_standing x).state.ids) ≡ true
     named = subst (λ ids. list_any (same_object o) (map bare w.job.action.ids ++ ids) ≡ true) (sym (bare_all w.job.state.ids) ∙ ap (λ (y : State). map bare y.ids) (sym lends))
         (any_turned (same_object o) (map bare w.job.state.ids) (map bare w.job.action.ids)
-        (ap (list_any (same_object o)) (sym (map-append bare w.job.state.ids w.job.action.ids)) ∙ (any_bare o (ids_named w) ∙ its.refused o was_refused)))
+        (ap (list_any (same_object o)) (sym (map-append bare w.job.state.ids w.job.action.ids)) ∙ (any_bare o (w.job.state.ids ++ w.job.action.ids) ∙ ridden_any (same_object o) w.job.state.ids w.job.action its.job.action.sent.shape (its.refused o was_refused))))
 
     pub failed_keeps : Keeps r s failed (Done (name_of w.job.action) true)
     failed_keeps = done_keeps true (

@@ -16,9 +16,11 @@ pub mod Mails
 pub mod Puts
 pub mod Calm
 pub mod Hands
+pub mod Ridden
 pub mod Recommit
 pub mod Tools
 pub mod Up
+pub mod Merge
 pub mod Mail
 pub mod In
 pub mod Out

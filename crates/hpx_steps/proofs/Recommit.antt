@@ -1,7 +1,7 @@
 -- What a commit in work has in its hand changes: its job stays.
 use Rattle.hpx_steps.proofs.Mails.{held_by}
 use Rattle.hpx_steps.proofs.Sums.{ids_each, less_sum, view_worth}
-use Rattle.hpx_steps.proofs.Common.{AllByRecursion, AskedFor, HasCommits, Id, IsCommit, List, Option, Some, Token, Turn, Waits, [], ap, arith, bare, commits, cond, count_by, counts_of, counts_true, false, filter, held_token, id_at, ids_named, is_asked, length, length-map, length-take, list_any, map, refl, same_object, same_token, set, slice_get, some_same, subst, suc, sum_by, sum_by-cons, sym, take, take-append-le, token_own, tokens, tokens_of, true, zero, ℕ, ◌++◌, ◌<◌, ◌==◌, ◌∙◌, ◌∷◌, ◌≡◌, ◌≤◌}
+use Rattle.hpx_steps.proofs.Common.{AllByRecursion, AskedFor, HasCommits, Id, IsCommit, List, Option, Some, Token, Turn, Waits, [], ap, arith, bare, commits, cond, count_by, counts_of, counts_true, false, filter, held_token, id_at, ids_named, is_asked, length, length-map, length-take, list_any, map, refl, same_object, same_token, set, slice_get, some_same, subst, suc, sum_by, sum_by-cons, sym, take, take-append-le, token_own, tokens, tokens_of, true, worth, Working, zero, ℕ, ◌++◌, ◌<◌, ◌==◌, ◌∙◌, ◌∷◌, ◌≡◌, ◌≤◌}
 
 -- its hand has all that its object and its action name
 pub hand_long : (k n : ℕ) (w : Waits) → IsCommit k n w → length (ids_named w) ≤ length w.hand
@@ -43,8 +43,8 @@ token_held s w rest p id log works at has =
     omega (
       arith,
       view_worth f s,
-      ap (sum_by (λ (y : Waits). sum_by f (tokens_of y.hand))) works,
-      sum_by-cons (λ (y : Waits). sum_by f (tokens_of y.hand)) w rest,
+      ap (sum_by (λ y. worth f (Working y))) works,
+      sum_by-cons (λ y. worth f (Working y)) w rest,
       less_sum (λ y. sum_by f (tokens_of (y ∷ []))) w.hand p id at,
       ids_each f w.hand,
       held_by f id log has,

@@ -1,5 +1,5 @@
 -- What was asked for is put into the hand of the commit that waits for it.
-use Rattle.hpx_steps.proofs.Common.{AskedFor, Bool, HasCredit, HasRightCredit, HasSplit, Id, IsCommit, IsShort, List, Option, Some, Waits, all_append, all_at, all_remove, and_true, ap, append_assoc, arith, bare, cases_Bool, cond, count_by, eq-eqb, eqb-true, false, first_stock, id_at, ids_named, inl, inr, is_asked, is_asked_for, is_some, length, length-append, list_any, log_of, nat_le, not, own_ids, place_bare, place_some, refilled, refl, remove, same_object, same_object-true, set, slice_get, some_same, subst, sym, true, whole_stock, ℕ, ◌&&◌, ◌++◌, ◌+◌, ◌<◌, ◌==◌, ◌∙◌, ◌≡◌, ◌≤◌, ◌⊎◌}
+use Rattle.hpx_steps.proofs.Common.{AskedFor, Bool, HasCredit, HasRightCredit, HasSplit, Id, IsCommit, IsShort, List, Option, Some, Waits, all_append, all_at, all_remove, and_true, ap, append_assoc, arith, bare, cases_Bool, cond, count_by, eq-eqb, eqb-true, false, first_stock, id_at, ids_named, inl, inr, is_asked, is_asked_for, is_some, length, length-append, list_any, log_of, nat_le, not, own_ids, place_bare, plain, plain_all, place_some, refilled, refl, remove, same_object, same_object-true, set, slice_get, some_same, subst, sym, true, whole_stock, ℕ, ◌&&◌, ◌++◌, ◌+◌, ◌<◌, ◌==◌, ◌∙◌, ◌≡◌, ◌≤◌, ◌⊎◌}
 use Rattle.hpx_steps.proofs.Tools.{any_place, front_place, hand_long, has_not_asked, if_so, less_sum, names_place, not_asked, place_at, put_behind, put_elsewhere, put_names, put_there, recommit, some_log, take_place}
 
 short_still : (log : ℕ) (b : Bool) (o : Id) (was : Option Id) (id : Id) → IsShort log was id → IsShort log (cond b (Some o) was) id
@@ -54,11 +54,11 @@ module _ (k l log : ℕ) (w : Waits) (n : ℕ) (ask : AskedFor) (id : Id) (entry
   first_unasked p lt =
       let start = whole_stock w held.made in
       let own : List Id = ids_named w in
-      let hand_is : start.hand ≡ own ++ held.made = sym (append_assoc w.job.state.ids w.job.action.ids held.made) in
+      let hand_is : start.hand ≡ own ++ held.made = sym (append_assoc w.job.state.ids (plain w.job.action).ids held.made) in
       let fits : length own ≤ length start.hand = omega (arith, length-append own held.made, ap (λ (xs : List Id). length xs) hand_is) in
       let inside : p < length start.hand = omega (arith, lt, fits) in
       let right : HasRightCredit (id_at start.hand p) = subst (λ (xs : List Id). HasRightCredit (id_at xs p)) (sym hand_is)
-      (front_place HasRightCredit own held.made p (all_append HasRightCredit w.job.state.ids w.job.action.ids its.job.credit its.job.action.sent.credit) lt) in
+      (front_place HasRightCredit own held.made p (all_append HasRightCredit w.job.state.ids (plain w.job.action).ids its.job.credit (plain_all HasRightCredit w.job.action its.job.action.sent.credit)) lt) in
       let kind : (id_at (first_stock w held.made).hand p).kind ≡ (id_at start.hand p).kind = ap (λ (x : Id). x.kind) (place_bare (length own) start fits held.within p inside) in
       ap (λ c. nat_le 16 c && not (is_some (id_at (first_stock w held.made).hand p).log)) kind
       ∙ (ap (λ b. nat_le 16 (id_at start.hand p).kind && not b) (place_some (length own) start fits held.within p inside) ∙ not_asked (id_at start.hand p) right)

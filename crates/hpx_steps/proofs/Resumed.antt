@@ -1,6 +1,6 @@
 -- Credit that was asked for is given to a commit that waits for nothing more then: it goes on, and ends or fails.
-use Rattle.hpx_steps.proofs.Common.{AllByRecursion, AreWithin, AskedFor, Done, Event, Give, Given, Gives, HasCredit, HasInHand, Id, IsBirth, IsLeftBy, IsLeftFailed, Lasts, List, None, Option, Parcel, Remains, Rules, Some, Standing, Tables, Turn, Waits, Writes, [], answered_by, ap, at_rest, bare, birth_of, births_of, brings_right, cond, drops, ends, false, find, goes_on, id_at, ids_named, ids_of, is_standing, length, log_of, map, name_of, named, objects_of, records_of, refl, remove, set, slice_get, splits_from, subst, sym, target_of, true, ups, with_left, works_on, written_due, wrote, ℕ, ◌++◌, ◌+◌, ◌<◌, ◌==◌, ◌∷◌, ◌≡◌, ◌≤◌}
-use Rattle.hpx_steps.proofs.Committed.{done_steps, ends_so, left_steps}
+use Rattle.hpx_steps.proofs.Common.{AllByRecursion, AreWithin, AskedFor, Done, Event, Give, Given, Gives, HasCredit, HasInHand, Id, IsBirth, IsLeftBy, IsLeftFailed, Lasts, List, None, Option, Parcel, Remains, Rules, Some, Standing, Tables, Turn, Waits, Writes, [], answered_by, ap, at_rest, bare, birth_of, births_of, brings_right, cond, drops, ends, false, find, goes_on, id_at, ids_named, ids_of, is_standing, length, log_of, map, name_of, named, objects_of, records_of, refl, remove, rider_events, rider_of, set, slice_get, splits_from, subst, sym, target_of, true, ups, with_credit, with_done, with_left, works_on, written_due, wrote, ℕ, ◌++◌, ◌+◌, ◌<◌, ◌==◌, ◌∷◌, ◌≡◌, ◌≤◌}
+use Rattle.hpx_steps.proofs.Committed.{done_steps, ends_so, failed_steps}
 use Rattle.hpx_steps.proofs.Handled.{Leads, Writing, given_leads, written_events}
 use Rattle.hpx_steps.proofs.Made.{Drawn}
 use Rattle.hpx_steps.proofs.Work.{halved_from}
@@ -10,12 +10,13 @@ use Rattle.hpx_steps.proofs.Work.{halved_from}
 -- its Done, what is due, and what is given up
 pub fail_steps : (r : Rules) (s : Turn) (w : Waits) (rest : List Waits) (refusal : Id) (j : ℕ) (x : Standing) (left : Remains) → s.due ≡ [] → s.fresh ≡ [] → s.loose ≡ []
     → w.asked ≡ [] → w.refused ≡ Some refusal → slice_get s.tables.objects j ≡ Some x → find (is_standing (target_of w.job.action)) s.tables.objects ≡ Some x → IsLeftFailed w x left
-    → (l : Option Event) × Writing r (works_on w rest s) (Done (name_of w.job.action) true ∷ (written_due s.tables.here s.tables.serial left.due ++ ups left.loose))
-    (record (ends j w rest x left s) { due = []; loose = []; tables = with_left left.due left.loose (ends j w rest x left s).tables; last = l })
+    → (l : Option Event) × Writing r (works_on w rest s) (Done (name_of w.job.action) true ∷ (written_due s.tables.here s.tables.serial left.due ++ ups (with_credit (rider_of w.job.action) ++ left.loose)))
+    (record (ends j w rest x left s) { due = []; loose = []; tables = with_left left.due (with_credit (rider_of w.job.action) ++ left.loose) (ends j w rest x left s).tables; last = l })
 fail_steps r s w rest refusal j x left due fresh loose lacks refused stands found by =
     let d : Turn = wrote (Done (name_of w.job.action) true) (ends j w rest x left s) in
-    let more = left_steps r (record d { due = []; loose = [] }) left.due left.loose refl by.given_up in
-    let start : d ≡ record d { due = left.due; loose = left.loose } = ap (λ is. record d { loose = is ++ left.loose }) loose in (
+    let all : List Id = with_credit (rider_of w.job.action) ++ left.loose in
+    let more = failed_steps r (record d { due = []; loose = [] }) left.due (rider_of w.job.action) left.loose refl by.given_up in
+    let start : d ≡ record d { due = left.due; loose = with_credit (rider_of w.job.action) ++ left.loose } = ap (λ is. record d { loose = is ++ all }) loose in (
       more.0,
       (
         d,
@@ -33,8 +34,8 @@ fail_steps r s w rest refusal j x left due fresh loose lacks refused stands foun
           leaves = by.leaves;
           now = refl;
         },
-        subst (λ z. Writing r z (written_due s.tables.here s.tables.serial left.due ++ ups left.loose)
-            (record d { due = []; loose = []; tables = with_left left.due left.loose d.tables; last = more.0 })) (sym start) more.1,
+        subst (λ z. Writing r z (written_due s.tables.here s.tables.serial left.due ++ ups all)
+            (record d { due = []; loose = []; tables = with_left left.due all d.tables; last = more.0 })) (sym start) more.1,
       ),
     )
 
@@ -77,7 +78,7 @@ module _ (r : Rules) (t mid : Tables) (came mailed : List Parcel) (before : Opti
 
   -- where it fails
   abbrev pub failed : ℕ → Standing → Remains → Tables
-  failed j x left = with_left left.due left.loose (record t {
+  failed j x left = with_left left.due (with_credit (rider_of g.after.job.action) ++ left.loose) (record t {
     pending = remove t.pending g.i;
     objects = set t.objects j (record { object = x.object; state = left.state });
     answered = t.answered + answered_by (Some g.after.job.action);
@@ -85,14 +86,14 @@ module _ (r : Rules) (t mid : Tables) (came mailed : List Parcel) (before : Opti
 
   pub given_fails : (refusal : Id) (j : ℕ) (x : Standing) (left : Remains) → g.after.refused ≡ Some refusal → slice_get t.objects j ≡ Some x
       → find (is_standing (target_of g.after.job.action)) t.objects ≡ Some x → IsLeftFailed g.after x left
-      → Leads r (in_hand t came mailed before) (failed j x left) (given_event id ∷ (Done (name_of g.after.job.action) true ∷ (written_due t.here t.serial left.due ++ ups left.loose)))
+      → Leads r (in_hand t came mailed before) (failed j x left) (given_event id ∷ (Done (name_of g.after.job.action) true ∷ (written_due t.here t.serial left.due ++ ups (with_credit (rider_of g.after.job.action) ++ left.loose))))
   given_fails refusal j x left refused stands found by =
-      given_ends (failed j x left) (Done (name_of g.after.job.action) true ∷ (written_due t.here t.serial left.due ++ ups left.loose))
+      given_ends (failed j x left) (Done (name_of g.after.job.action) true ∷ (written_due t.here t.serial left.due ++ ups (with_credit (rider_of g.after.job.action) ++ left.loose)))
       (fail_steps r resumed g.after [] refusal j x left refl refl refl complete refused stands found by)
 
   -- where it is done
   abbrev pub done : ℕ → Standing → Remains → Tables
-  done j x left = with_left left.due left.loose (record t {
+  done j x left = with_done j (record { object = x.object; state = left.state }) left.due (rider_of g.after.job.action) left.loose (record t {
     pending = remove t.pending g.i;
     births = t.births + length g.after.outcome.makes;
     records = t.records ++ records_of t.here t.births t.profile.credit_log (map birth_of g.after.outcome.makes);
@@ -117,11 +118,11 @@ module _ (r : Rules) (t mid : Tables) (came mailed : List Parcel) (before : Opti
         → AllByRecursion (Drawn t.here t.births) t.objects
         → IsLeftBy r t.here g.after.job g.after.outcome x full_cut (map bare made) left
         → Leads r (in_hand t came mailed before) (done j x left) (given_event id ∷ ((births_of t.here t.births (map birth_of g.after.outcome.makes) ++ splits_from 0 full places)
-        ++ (Done (name_of g.after.job.action) false ∷ (written_due t.here t.serial left.due ++ ups left.loose))))
+        ++ (Done (name_of g.after.job.action) false ∷ (written_due t.here t.serial left.due ++ (rider_events t.profile.credit_log left.state.ids (rider_of g.after.job.action) ++ ups left.loose)))))
     given_done j x left within lasts stands found drawn by =
         let s : Turn = record resumed { working = [] } in
         let events : List Event = (births_of t.here t.births (map birth_of g.after.outcome.makes) ++ splits_from 0 full places)
-        ++ (Done (name_of g.after.job.action) false ∷ (written_due t.here t.serial left.due ++ ups left.loose)) in
+        ++ (Done (name_of g.after.job.action) false ∷ (written_due t.here t.serial left.due ++ (rider_events t.profile.credit_log left.state.ids (rider_of g.after.job.action) ++ ups left.loose))) in
         let more = done_steps r s g.after [] front later back places refl refl refl complete none many long fit j x left within lasts stands found drawn by in
         given_ends (done j x left) events
         (more.0, subst (λ ids. Writing r (record s { working = record g.after { hand = ids } ∷ [] }) events (record (at_rest (done j x left)) { last = more.0 })) (sym is) more.1)

@@ -1,5 +1,5 @@
 -- Each step keeps all that holds.
-use Rattle.hpx_steps.proofs.Common.{AreNumbered, Asked, Born, Count, Done, Entry, Event, Fire, Freed, Given, Granted, In, IsSound, Label, Landed, Left, Line, List, Looked, Mail, Out, Pause, Place, Print, Refused, Returned, Rules, Sent, Split, Step, Steps, Suspend, Tables, Turn, Up, Writes, [], ap, append-nil, append_assoc, at_all, entry_at, false, map-append, refl, subst, sym, true, written, written_by, ◌++◌, ◌∙◌, ◌∷◌, ◌≡◌}
+use Rattle.hpx_steps.proofs.Common.{AreNumbered, Asked, Born, Count, Done, Entry, Event, Fire, Freed, Given, Granted, In, IsSound, Label, Landed, Left, Line, List, Looked, Mail, Merge, Out, Pause, Place, Print, Refused, Returned, Rules, Sent, Split, Step, Steps, Suspend, Tables, Turn, Up, Writes, [], ap, append-nil, append_assoc, at_all, entry_at, false, map-append, refl, subst, sym, true, written, written_by, ◌++◌, ◌∙◌, ◌∷◌, ◌≡◌}
 use Rattle.hpx_steps.proofs.Tools.{Keeps, Stills, sound_then, still_sound}
 use Rattle.hpx_part.specs.Data.{Looked}
 
@@ -32,6 +32,7 @@ step_sound r s s' (Writes (Done a false)) entries h g = kept r s s' (Done a fals
 step_sound r s s' (Writes (Done a true)) entries h g = kept r s s' (Done a true) entries h (Rattle.hpx_steps.proofs.Ending.failed_step r s s' entries a h g)
 step_sound r s s' (Writes (Sent a)) entries h g = kept r s s' (Sent a) entries h (Rattle.hpx_steps.proofs.Sent.sent_step r s s' entries a h g)
 step_sound r s s' (Writes (Print bytes)) entries h g = kept r s s' (Print bytes) entries h (Rattle.hpx_steps.proofs.Print.print_step r s s' entries bytes h g)
+step_sound r s s' (Writes (Merge o log)) entries h g = kept r s s' (Merge o log) entries h (Rattle.hpx_steps.proofs.Merge.merge_step r s s' entries o log h g)
 step_sound r s s' (Writes (Up o log)) entries h g = kept r s s' (Up o log) entries h (Rattle.hpx_steps.proofs.Up.up_step r s s' entries o log h g)
 step_sound r s s' (Writes (Asked o)) entries h g = kept r s s' (Asked o) entries h (Rattle.hpx_steps.proofs.Asked.asked_step r s s' entries o h g)
 step_sound r s s' (Writes (Given o log)) entries h g = kept r s s' (Given o log) entries h (Rattle.hpx_steps.proofs.Given.given_step r s s' entries o log h g)

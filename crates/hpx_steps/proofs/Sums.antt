@@ -1,5 +1,5 @@
 -- What lists weigh, and what is seen of a turn by what it weighs.
-use Rattle.hpx_steps.proofs.Common.{Act, AllByRecursion, Came, Going, Id, Item, List, Mailed, OnDesk, Outgoing, Parcel, Pending, Refusal, Some, Standing, Token, Turn, Waits, Working, [], action_of, ap, append_assoc, arith, asking, asking_of, commits, cond, count_by, credit_list, credits_of, drop, due_ids, filter, fired_of, flat_map, ids_here, is_asked, length, map, map-append, own_ids, own_parcels, parcel_tokens, parcels, refl, refusal_of, refusals_of, remove, same_object, set, slice_get, split_get, split_set, suc, sum_by, sum_by-append, sum_by-cons, sum_middle, sym, take, tokens, tokens_of, weigh, worth, ℕ, ◌++◌, ◌+◌, ◌∙◌, ◌∷◌, ◌≡◌, ◌≤◌}
+use Rattle.hpx_steps.proofs.Common.{Act, AllByRecursion, Came, Going, Id, Item, List, Mailed, OnDesk, Outgoing, Parcel, Pending, Refusal, Some, Standing, Token, Turn, Waits, Working, [], action_of, ap, append_assoc, arith, asking, asking_of, commits, cond, count_by, credit_list, credits_of, drop, due_ids, filter, fired_of, flat_map, ids_here, ids_kept, is_asked, length, map, map-append, own_ids, own_parcels, parcel_tokens, parcels, refl, refusal_of, refusals_of, remove, rider_of, same_object, set, slice_get, split_get, split_set, suc, sum_by, sum_by-append, sum_by-cons, sum_middle, sym, take, tokens, tokens_of, weigh, worth, ℕ, ◌++◌, ◌+◌, ◌∙◌, ◌∷◌, ◌≡◌, ◌≤◌}
 
 -- ---- lists
 
@@ -98,11 +98,16 @@ view_worth f s = omega (
   ids_append f,
   ids_flat f (λ (x : Standing). x.state.ids) s.tables.objects,
   ids_flat f (λ (a : Act). a.ids),
-  ids_flat f (λ (w : Waits). w.hand) (commits s),
-  sum_by-append (λ (w : Waits). sum_by f (tokens_of w.hand)) s.working s.tables.pending,
+  ids_flat f ids_kept (commits s),
+  sum_by-append (λ (w : Waits). sum_by f (tokens_of (ids_kept w))) s.working s.tables.pending,
+  kept_sum s.working,
+  kept_sum s.tables.pending,
   ids_flat f due_ids s.due,
   ids_each f s.loose,
 )
+  where
+    kept_sum : (ws : List Waits) → sum_by (λ (w : Waits). sum_by f (tokens_of (ids_kept w))) ws ≡ sum_by (λ w. worth f (Working w)) ws
+    kept_sum ws = same_sum (λ (w : Waits). sum_by f (tokens_of (ids_kept w))) (λ w. worth f (Working w)) ws (λ w. ids_append f w.hand (rider_of w.job.action))
 
 -- a weight of commits
 abbrev pub by_commit : (Waits → ℕ) → Item → ℕ

@@ -1,6 +1,6 @@
 -- A commit begins: its object and its action put their ids into its hand.
-use Rattle.hpx_steps.proofs.Common.{Act, AllByRecursion, Entry, HasRightCredit, Id, IsCommit, IsFit, IsSound, IsState, IsTidy, Job, List, None, Outcome, Rules, Running, Some, Standing, StandsHere, State, Suspends, TidyAt, Turn, View, Waits, Working, [], action_of, all_append, ap, append_assoc, arith, asked_by, asking, asks_under, bare, bare_act, bare_standing, bare_state, commits, cond, drop, filter, find, find_passes, freeing, given_to, hand_ids, hopping, id_at, is_asked, is_standing, joined, length, length-map, map, names_of, own_ids, refl, remove, same_object, session, set, slice_get, split_get, subst, suc, sum_by, sym, take, take_at, target_of, tokens_of, true, unpaid, view, waits_for, waits_with, worth, ℕ, ◌++◌, ◌<◌, ◌∙◌, ◌∷◌, ◌≡◌, ◌≤◌}
-use Rattle.hpx_steps.proofs.Tools.{Changes, Sees, Stills, all_none, among_at, bare_all, begin_commits, fewer, fired_leads, first_comes, front_place, holding, ids_append, leads_on, no_tokens, none_tokens, not_asked, objects_change, one_goes, one_turns, plain_ids, retidy, running_change, runs_whole, same_map, sees_leads, single_set, stand_set, then, view_asking, view_worth, working_change}
+use Rattle.hpx_steps.proofs.Common.{Act, AllByRecursion, Entry, HasRightCredit, Id, IsCommit, IsFit, IsSound, IsState, IsTidy, Job, List, None, Outcome, Rules, Running, Some, Standing, StandsHere, State, Suspends, TidyAt, Turn, View, Waits, Working, [], action_of, all_append, ap, append_assoc, arith, asked_by, asking, asks_under, bare, bare_act, bare_standing, bare_state, commits, cond, drop, filter, find, find_passes, freeing, given_to, hand_ids, hopping, id_at, is_asked, is_standing, joined, length, length-map, map, names_of, own_ids, plain, plain_all, refl, remove, same_object, session, set, slice_get, split_get, subst, suc, sum_by, sym, take, take_at, target_of, tokens_of, true, unpaid, view, waits_for, waits_with, worth, ℕ, ◌++◌, ◌<◌, ◌∙◌, ◌∷◌, ◌≡◌, ◌≤◌}
+use Rattle.hpx_steps.proofs.Tools.{Changes, Sees, Stills, all_none, among_at, bare_all, begin_commits, fewer, fired_leads, first_comes, front_place, holding, ids_append, leads_on, no_tokens, none_tokens, not_asked, objects_change, one_goes, one_turns, plain_ids, retidy, ridden_tokens, running_change, runs_whole, same_map, sees_leads, single_set, stand_set, then, view_asking, view_worth, working_change}
 
 bare_fit : (s : State) → IsState s → IsState (bare_state s)
 bare_fit s h = grind (arith, length-map)
@@ -11,17 +11,17 @@ module _ (r : Rules) (s : Turn) (entries : List Entry) (h : IsSound r s entries)
     (state : job.state ≡ x.state) (few : (s.tables.localities ≤ 64) × (job.at < s.tables.localities)) (later : List Id)
     (none : AllByRecursion (λ (id : Id). id.log ≡ None) later) (places : List ℕ) where
   abbrev w : Waits
-  w = waits_with job outcome s.tables.localities [] (record { hand = hand_ids job.state job.action later; places = places })
+  w = waits_with job outcome s.tables.localities [] (record { hand = hand_ids job.state (plain job.action) later; places = places })
 
   abbrev own : List Id
-  own = job.state.ids ++ job.action.ids
+  own = job.state.ids ++ (plain job.action).ids
 
   abbrev new : Standing
   new = record { object = x.object; state = bare_state x.state }
 
   abbrev now : Turn
   now = record s {
-    working = waits_with job outcome s.tables.localities [] (record { hand = hand_ids job.state job.action later; places = places }) ∷ s.working;
+    working = waits_with job outcome s.tables.localities [] (record { hand = hand_ids job.state (plain job.action) later; places = places }) ∷ s.working;
     tables = record s.tables { running = remove s.tables.running i; objects = set s.tables.objects j (record { object = x.object; state = bare_state x.state }) };
   }
 
@@ -51,10 +51,10 @@ module _ (r : Rules) (s : Turn) (entries : List Entry) (h : IsSound r s entries)
   credit = runs_whole s.tables.objects s.tables.running (commits s) h.commits i job.action runs j x stands same
 
   owned : AllByRecursion HasRightCredit own
-  owned = all_append HasRightCredit job.state.ids job.action.ids (subst (λ (y : State). AllByRecursion HasRightCredit y.ids) (sym state) credit) its.sent.credit
+  owned = all_append HasRightCredit job.state.ids (plain job.action).ids (subst (λ (y : State). AllByRecursion HasRightCredit y.ids) (sym state) credit) (plain_all HasRightCredit job.action its.sent.credit)
 
   hand_is : w.hand ≡ own ++ later
-  hand_is = sym (append_assoc job.state.ids job.action.ids later)
+  hand_is = sym (append_assoc job.state.ids (plain job.action).ids later)
 
   whole : own_ids w ≡ own
   whole = ap (take (length own)) hand_is ∙ take_at own later (length own) refl
@@ -89,7 +89,7 @@ module _ (r : Rules) (s : Turn) (entries : List Entry) (h : IsSound r s entries)
   sees : Sees (record seen { last = s.last }) now
   sees = record {
     rest = ap (λ os. record (view now) { objects = os }) objects_then;
-    tokens = λ f fair. omega (arith, view_worth f, change.0 (worth f), ids_append f, ap (λ (y : State). sum_by f (tokens_of y.ids)) state, no_tokens f x.state.ids, none_tokens f later none);
+    tokens = λ f fair. omega (arith, view_worth f, change.0 (worth f), ridden_tokens f job.action its.sent.shape, ids_append f, ap (λ (y : State). sum_by f (tokens_of y.ids)) state, no_tokens f x.state.ids, none_tokens f later none);
     asking = λ o. omega (arith, view_asking o, change.0 (asking o), ap (λ ids. names_of o (filter is_asked ids)) whole, ap (names_of o) (all_none own owned));
     asks = λ o. refl;
     live = λ o home. refl;

@@ -5,8 +5,8 @@ pub use Rattle.hpx_steps.proofs.Seen.{Sees, as_seen, sees_covers, sees_leads}
 pub use Rattle.hpx_steps.proofs.Cover.{held_acts, view_covered}
 pub use Rattle.hpx_steps.proofs.Bare.{all_none, all_with, bare_all, bare_lent, bare_tokens, credit_tokens, has_not_asked, no_tokens, none_tokens, not_asked}
 pub use Rattle.hpx_steps.proofs.Objects.{find_more, get_set, plain_ids, retidy, single_found, single_less, single_more, single_set, stand_less, stand_more, stand_set}
-pub use Rattle.hpx_steps.proofs.Busy.{apart_more, busy-bare, found-bare, none_of, or_false}
-pub use Rattle.hpx_steps.proofs.Beside.{begin_commits, end_commits, freed_whole, is_fired, less_commits, more_commits, move_commits, runs_whole, same_fired, was_fired}
+pub use Rattle.hpx_steps.proofs.Busy.{apart_more, busy-bare, found-bare, never, none_busy, none_of, or_false}
+pub use Rattle.hpx_steps.proofs.Beside.{begin_commits, each_set, end_commits, freed_whole, is_fired, less_commits, more_commits, move_commits, runs_whole, same_fired, was_fired}
 pub use Rattle.hpx_steps.proofs.Then.{Keeps, fewer, frees_now, sound_then}
 pub use Rattle.hpx_steps.proofs.Still.{Stills, rest_sound, still_sound}
 pub use Rattle.hpx_steps.proofs.Moved.{fired_leads, leads_on, waits_leads}
@@ -16,4 +16,5 @@ pub use Rattle.hpx_steps.proofs.Mails.{hand_fit, held_by, mail_tidy, other_is, o
 pub use Rattle.hpx_steps.proofs.Puts.{both, brings_few, carried, put_less, put_sum, put_tidy, target-bare, weighs_act}
 pub use Rattle.hpx_steps.proofs.Calm.{asks_of, bound_none, counts_near, frees_of, numbered_so, orders_so, own_asks, pays_so, same_asks, same_dead, sees_by, told_as}
 pub use Rattle.hpx_steps.proofs.Hands.{any_place, at_place, front_place, names_place, place_at, put_asked, put_bare, put_behind, put_elsewhere, put_for, put_names, put_there, take_place}
+pub use Rattle.hpx_steps.proofs.Ridden.{ridden_sum, ridden_tokens, rider_all, rider_few, rider_has}
 pub use Rattle.hpx_steps.proofs.Recommit.{first_asked, first_at, first_map, hand_long, recommit, token_held, work_commits}

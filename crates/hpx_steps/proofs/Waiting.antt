@@ -1,5 +1,5 @@
 -- A commit begins to wait: its ids are halved ahead, each that does not last is asked for, and it is put aside.
-use Rattle.hpx_steps.proofs.Common.{Act, AllByRecursion, AreWithin, Ask, Bool, Entry, Event, HasLeastCredit, HasSplit, Id, Job, Label, List, None, Outcome, Pause, Rules, Some, Standing, Stands, State, Step, Steps, Stock, Suspend, Tables, Turn, Waits, Writes, [], ahead, ahead_is, ap, append-nil, arith, asked_at, asked_events, at_all, at_rest, bare, bare_state, cond, false, find, first_cuts, hand_ids, id_at, is_standing, length, length-append, length-set, log_of, map, named, nat_le, refl, remove, rules_of, set, short_from, short_places, slice_get, stripped, subst, suc, sym, target_of, true, waits_with, with_asks, with_mail, written, zero, ℕ, ◌++◌, ◌+◌, ◌<◌, ◌∙◌, ◌∷◌, ◌≡◌, ◌≢◌, ◌≤◌}
+use Rattle.hpx_steps.proofs.Common.{Act, AllByRecursion, AreWithin, Ask, Bool, Entry, Event, HasLeastCredit, HasSplit, Id, Job, Label, List, None, Outcome, Pause, Rules, Some, Standing, Stands, State, Step, Steps, Stock, Suspend, Tables, Turn, Waits, Writes, [], ahead, ahead_is, ap, append-nil, arith, asked_at, asked_events, at_all, at_rest, bare, bare_state, cond, false, find, first_cuts, hand_ids, id_at, is_standing, length, length-append, length-set, log_of, map, named, nat_le, plain, refl, remove, rules_of, set, short_from, short_places, slice_get, stripped, subst, suc, sym, target_of, true, waits_with, with_asks, with_mail, written, zero, ℕ, ◌++◌, ◌+◌, ◌<◌, ◌∙◌, ◌∷◌, ◌≡◌, ◌≢◌, ◌≤◌}
 use Rattle.hpx_steps.proofs.Tools.{place_at, put_elsewhere}
 use Rattle.hpx_steps.proofs.Committed.{begins}
 use Rattle.hpx_steps.proofs.Handled.{steps_append, written_append, written_events}
@@ -49,18 +49,18 @@ module _ (act_of : ℕ → ℕ → ℕ → State → Act → Outcome) (t : Table
   r = rules_of act_of t.localities t.profile
 
   abbrev many : ℕ
-  many = length (job.state.ids ++ job.action.ids)
+  many = length (job.state.ids ++ (plain job.action).ids)
 
   -- what it has
   abbrev first : Stock
-  first = record { hand = hand_ids job.state job.action later; places = places }
+  first = record { hand = hand_ids job.state (plain job.action) later; places = places }
 
   -- its stock, once what it has is split
   abbrev pub split : Stock
-  split = ahead (length (job.state.ids ++ job.action.ids)) (record { hand = hand_ids job.state job.action later; places = places })
+  split = ahead (length (job.state.ids ++ (plain job.action).ids)) (record { hand = hand_ids job.state (plain job.action) later; places = places })
 
   abbrev pub short : List ℕ
-  short = short_places (length (job.state.ids ++ job.action.ids)) (ahead (length (job.state.ids ++ job.action.ids)) (record { hand = hand_ids job.state job.action later; places = places }))
+  short = short_places (length (job.state.ids ++ (plain job.action).ids)) (ahead (length (job.state.ids ++ (plain job.action).ids)) (record { hand = hand_ids job.state (plain job.action) later; places = places }))
 
   abbrev pub lacking : List Id
   lacking = map (id_at split.hand) short
@@ -85,7 +85,7 @@ module _ (act_of : ℕ → ℕ → ℕ → State → Act → Outcome) (t : Table
   pub wait_stands : AreWithin first.hand places → AllByRecursion (λ p. HasLeastCredit (id_at split.hand p)) short → 1 ≤ length short → HasSplit t.profile.credit_log waits
       → Stands act_of waited (entries ++ at_all t.here (first_cuts many 0 first.hand places ++ asked_events lacking))
   wait_stands within least some split_so =
-      let fits : many ≤ length first.hand = omega (arith, length-append job.state.ids (job.action.ids ++ later), length-append job.action.ids later, length-append job.state.ids job.action.ids) in
+      let fits : many ≤ length first.hand = omega (arith, length-append job.state.ids ((plain job.action).ids ++ later), length-append (plain job.action).ids later, length-append job.state.ids (plain job.action).ids) in
       let longer : many ≤ length split.hand = omega (arith, fits, (ahead_is many first fits within).longer) in
       let one = ahead_steps r w [] first.hand places refl (record begun { working = [] }) many 0 first refl (omega (arith, fits)) within (omega arith) (λ q le lt. (refl, refl)) in
       let m : Turn = record (with_hand w [] split.hand (record begun { working = [] })) { last = one.0 } in

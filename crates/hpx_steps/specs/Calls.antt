@@ -7,11 +7,12 @@ use Rattle.hpx_value.specs.Values.{named}
 use Rattle.hpx_journal.specs.Bags.{without}
 use Rattle.hpx_journal.specs.Data.{Id, Act, Due, MessageDue, PrintDue, Parcel, Apply, Return, Ask, Give, Move, Free}
 use Rattle.hpx_journal.specs.Local.{is_standing}
-use Rattle.hpx_part.specs.Data.{Event, Sent, Print, Up, Given, Count, Returned, Granted, Refused, Freed, Standing}
+use Rattle.hpx_part.specs.Data.{Event, Sent, Print, Merge, Up, Given, Count, Returned, Granted, Refused, Freed, Standing}
 use Rattle.hpx_agas.specs.Registries.{lowered, asked}
 use Rattle.hpx_agas.specs.declared.record.Record.{Record}
 use Rattle.hpx_commit.specs.Deals.{log_of}
 use Rattle.hpx_tables.specs.Kept.{record_here, count_here}
+use Rattle.hpx_tables.specs.Merged.{may_merge, merged_in}
 use Rattle.hpx_tables.specs.Pending.{Waits, Refills, awaits}
 use Rattle.hpx_tables.specs.Tables.{Tables}
 use Rattle.hpx_steps.specs.Mail.{with_mail, with_mail_if, with_act, with_return}
@@ -33,6 +34,21 @@ with_due (PrintDue bytes ∷ due) t = with_due due t
 abbrev pub with_left : List Due → List Id → Tables → Tables
 with_left due ids t = with_returns ids (with_due due t)
 
+-- a rider with a credit is merged into the state of the object x at j, where that may be, or given up
+abbrev pub with_rider : ℕ → Standing → Id → Option ℕ → Tables → Tables
+with_rider j x id None t = t
+with_rider j x id (Some log) t = cond (may_merge t.profile.credit_log id log x.state.ids)
+    (record t { objects = set t.objects j (merged_in id log x) }) (with_mail id.home (Return id) t)
+
+-- so is the rider of an action, if it has one
+abbrev pub with_riders : ℕ → Standing → List Id → Tables → Tables
+with_riders j x [] t = t
+with_riders j x (id ∷ ids) t = with_rider j x id id.log t
+
+-- all that is due is on its way; then the rider is merged or given up, and then these ids are given up
+abbrev pub with_done : ℕ → Standing → List Due → List Id → List Id → Tables → Tables
+with_done j x due riders ids t = with_returns ids (with_riders j x riders (with_due due t))
+
 -- an Ask for each of these ids, to its home: from k, under the numbers behind n
 abbrev pub with_asks : ℕ → ℕ → List Id → Tables → Tables
 with_asks k n [] t = t
@@ -46,6 +62,16 @@ up_of id (Some log) = Up (bare id) log ∷ []
 -- an Up for each of these ids that has a credit, in order
 abbrev pub ups : List Id → List Event
 ups ids = flat_map (λ id. up_of id id.log) ids
+
+-- the entry of a rider that is merged into one of these ids, where that may be, or given up, if it has a credit
+abbrev pub rider_event : ℕ → List Id → Id → Option ℕ → List Event
+rider_event most ids id None = []
+rider_event most ids id (Some log) = cond (may_merge most id log ids) (Merge (bare id) log) (Up (bare id) log) ∷ []
+
+-- that of an action's rider, if it has one
+abbrev pub rider_events : ℕ → List Id → List Id → List Event
+rider_events most ids [] = []
+rider_events most ids (id ∷ riders) = rider_event most ids id id.log
 
 -- each message that is due, under the next number, and each print
 abbrev pub written_due : ℕ → ℕ → List Due → List Event

@@ -1,7 +1,8 @@
 -- What an action leaves that ends.
 use Rattle.std.specs.Prelude.{ℕ, List, ◌≡◌, map}
 use Rattle.std.specs.List.{AllByRecursion}
-use Rattle.hpx_value.specs.Hands.{due_of, state_after}
+use Rattle.hpx_value.specs.Hands.{state_after}
+use Rattle.hpx_value.specs.Riders.{due_with, plain}
 use Rattle.hpx_value.specs.Values.{bare_act, bare_state}
 use Rattle.hpx_value.specs.declared.acts.Job.{Job}
 use Rattle.hpx_parcel.specs.Parcels.{HasCredit, HasRightCredit}
@@ -14,11 +15,11 @@ use Rattle.hpx_tables.specs.Pending.{Waits}
 use Rattle.hpx_steps.specs.Steps.{Deals, Remains}
 use Rattle.hpx_steps.specs.Turn.{bare_due}
 
--- what a job leaves that is done at k, once its objects are made and this is in its hand; its object is x
+-- what a job leaves that is done at k, its rider aside, once its objects are made and this is in its hand; its object is x
 pub record IsLeftBy (r : Rules) (k : ℕ) (job : Job) (out : Outcome) (x : Standing) (hand made : List Id) (left : Remains) : Type 0 where
-  pub right : out ≡ r.outcome_of x.object.kind k x.state (bare_act job.action)
-  pub says : bare_state left.state ≡ state_after x.state (bare_act job.action) made out
-  pub leaves : map bare_due left.due ≡ due_of x.state (bare_act job.action) made out
+  pub right : out ≡ r.outcome_of x.object.kind k x.state (plain (bare_act job.action))
+  pub says : bare_state left.state ≡ state_after x.state (plain (bare_act job.action)) made out
+  pub leaves : map bare_due left.due ≡ due_with x.state (plain (bare_act job.action)) made out
   pub kept : IsKept (record { object = x.object; state = left.state })
   pub plain : x.object.kind ≡ 7 → left.state ≡ x.state
   pub credit : AllByRecursion HasRightCredit left.state.ids
@@ -26,7 +27,7 @@ pub record IsLeftBy (r : Rules) (k : ℕ) (job : Job) (out : Outcome) (x : Stand
   pub given_up : AllByRecursion HasCredit left.loose
   pub deals : Deals hand left.state left.due left.loose
 
--- what a commit leaves that fails; its object is x
+-- what a commit leaves that fails, its rider aside; its object is x
 pub record IsLeftFailed (w : Waits) (x : Standing) (left : Remains) : Type 0 where
   pub says : bare_state left.state ≡ bare_state w.job.state
   pub leaves : map bare_due left.due ≡ failure (bare_act w.job.action)

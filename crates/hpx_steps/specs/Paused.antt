@@ -4,6 +4,7 @@ use Rattle.std.specs.List.{find, list_any, sum_by, count_by, AllByRecursion}
 use Rattle.hpx_value.specs.Ids.{bare, same_object}
 use Rattle.hpx_value.specs.Values.{bare_state}
 use Rattle.hpx_value.specs.Hands.{id_at, hand_ids}
+use Rattle.hpx_value.specs.Riders.{plain}
 use Rattle.hpx_parcel.specs.Parcels.{HasRightCredit, IsBare}
 use Rattle.hpx_journal.specs.Data.{Id, Act}
 use Rattle.hpx_journal.specs.Entries.{target_of}
@@ -34,7 +35,7 @@ Single (x ∷ xs) = (find (is_standing x.object) xs ≡ None) × Single xs
 
 -- ---- a commit
 
--- a commit at k, of n localities: its hand names what its object and its action name; of these each managed id without credit is
+-- a commit at k, of n localities: its hand names what its object and its plain action name; of these each managed id without credit is
 -- asked for once, and one that was refused is among them
 pub record IsCommit (k n : ℕ) (w : Waits) : Type 0 where
   pub job : IsFitJob w.job
@@ -51,8 +52,8 @@ pub record IsCommit (k n : ℕ) (w : Waits) : Type 0 where
 -- the stock of its job as it was before, if the objects that it makes had these ids
 abbrev pub whole_stock : Waits → List Id → Stock
 whole_stock w made = record {
-  hand = hand_ids w.job.state w.job.action made;
-  places = places_named w.job.state w.job.action made w.outcome;
+  hand = hand_ids w.job.state (plain w.job.action) made;
+  places = places_named w.job.state (plain w.job.action) made w.outcome;
 }
 
 -- the same as it was split ahead

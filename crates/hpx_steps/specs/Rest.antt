@@ -24,7 +24,7 @@ use Rattle.hpx_tables.specs.Awaited.{is_answer}
 use Rattle.hpx_tables.specs.Fit.{IsFit, IsKept, IsFitDue}
 use Rattle.hpx_tables.specs.Jobs.{IsFitJob}
 use Rattle.hpx_tables.specs.Kept.{stands_here}
-use Rattle.hpx_tables.specs.Pending.{Waits, action_of, fired_of, ids_named, own_ids, is_asked, is_asked_for, asking_of, refusals_of}
+use Rattle.hpx_tables.specs.Pending.{Waits, action_of, fired_of, ids_kept, ids_named, own_ids, is_asked, is_asked_for, asking_of, refusals_of}
 use Rattle.hpx_tables.specs.Tables.{Tables, messages, fired_acts}
 use Rattle.hpx_steps.specs.Frames.{IsOnItsWay, IsForHere}
 use Rattle.hpx_steps.specs.Paused.{Apart, Single, HasSplit, bare_names, names_of}
@@ -34,11 +34,11 @@ use Rattle.hpx_steps.specs.Turn.{at_rest, bare_due, bare_standing, counted, parc
 
 -- ---- what is seen
 
--- the ids that are kept: in states, in actions that were accepted, in those that run, and in the hands of commits that wait
+-- the ids that are kept: in states, in actions that were accepted, in those that run, and in commits that wait
 abbrev pub kept_ids : Tables → List Id
 kept_ids t =
     flat_map (λ x. x.state.ids) t.objects
-    ++ (flat_map (λ act. act.ids) t.accepted ++ (flat_map (λ act. act.ids) t.running ++ flat_map (λ w. w.hand) t.pending))
+    ++ (flat_map (λ act. act.ids) t.accepted ++ (flat_map (λ act. act.ids) t.running ++ flat_map ids_kept t.pending))
 
 -- all tokens: of what is kept, and of messages
 abbrev pub tokens : Tables → List Token
@@ -88,8 +88,8 @@ abbrev pub AreOnTheirWay : Tables → Type 0
 AreOnTheirWay t = AllByRecursion (IsOnItsWay t.localities t.here) t.outgoing × AllByRecursion (IsForHere t.localities t.here) t.desk
 
 -- a commit that waits at k, of n localities, where new objects have credit of this log: its object stands here as the job found it,
--- but without credits, and the hand names what its object and its action name; of these each managed id without credit is asked for
--- once, and one that was refused is among them
+-- but without credits, and the hand names what its object and its plain action name; of these each managed id without credit is asked
+-- for once, and one that was refused is among them
 pub record IsPaused (k n log : ℕ) (objects : List Standing) (w : Waits) : Type 0 where
   pub job : IsFitJob w.job
   pub here : w.job.at ≡ k

@@ -2,6 +2,7 @@
 use Rattle.std.specs.Prelude.{ℕ, true, cond, List, [], ◌∷◌, ◌≡◌, ◌≢◌, ◌≤◌, ◌<◌, ◌+◌, ◌==◌, ◌&&◌, ◌⊎◌, map, length, Some, None, IfSome, is_some}
 use Rattle.std.specs.List.{sum_by, count_by, find, filter, AllByRecursion}
 use Rattle.hpx_value.specs.Ids.{same_object}
+use Rattle.hpx_value.specs.Riders.{rider_of}
 use Rattle.hpx_value.specs.Values.{bare_act}
 use Rattle.hpx_value.specs.Hands.{session}
 use Rattle.hpx_parcel.specs.Parcels.{IsParcel, HasRightCredit}
@@ -90,8 +91,8 @@ worth f (OnDesk p) = sum_by f (parcel_tokens p)
 worth f (Going x) = sum_by f (parcel_tokens x.parcel)
 worth f (Accepted act) = sum_by f (tokens_of act.ids)
 worth f (Running act) = sum_by f (tokens_of act.ids)
-worth f (Pending w) = sum_by f (tokens_of w.hand)
-worth f (Working w) = sum_by f (tokens_of w.hand)
+worth f (Pending w) = sum_by f (tokens_of w.hand) + sum_by f (tokens_of (rider_of w.job.action))
+worth f (Working w) = sum_by f (tokens_of w.hand) + sum_by f (tokens_of (rider_of w.job.action))
 worth f (StandsHere x) = sum_by f (tokens_of x.state.ids)
 worth f (IsDue d) = sum_by f (tokens_of (due_ids d))
 worth f (Loose id) = sum_by f (tokens_of (id ∷ []))

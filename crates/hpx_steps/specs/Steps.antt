@@ -5,7 +5,8 @@ use Rattle.hpx_value.specs.Ids.{bare, bare_id, same_object}
 use Rattle.hpx_value.specs.Values.{bare_act, bare_state, named}
 use Rattle.hpx_value.specs.declared.outcome.Outcome.{Outcome}
 use Rattle.hpx_value.specs.declared.outcome.Make.{Make}
-use Rattle.hpx_value.specs.Hands.{hand_ids, due_of, state_after}
+use Rattle.hpx_value.specs.Hands.{hand_ids, state_after}
+use Rattle.hpx_value.specs.Riders.{due_with, plain, rider_of}
 use Rattle.hpx_value.specs.Laws.{birth_state}
 use Rattle.hpx_value.specs.declared.acts.Job.{Job}
 use Rattle.hpx_parcel.specs.Parcels.{IsParcel, HasRightCredit, HasLeastCredit}
@@ -16,7 +17,7 @@ use Rattle.hpx_journal.specs.Local.{is_standing, is_busy, failure}
 use Rattle.hpx_journal.specs.Names.{due_ids}
 use Rattle.hpx_journal.specs.Rows.{AreMade}
 use Rattle.hpx_journal.specs.Tokens.{held_token}
-use Rattle.hpx_part.specs.Data.{Name, Returned, Granted, Refused, Event, Line, Fire, Split, Born, Done, Sent, Print, Up, Asked, Given, Count, Freed, Mail, Out, In, Standing, Token}
+use Rattle.hpx_part.specs.Data.{Name, Returned, Granted, Refused, Event, Line, Fire, Split, Born, Done, Sent, Print, Merge, Up, Asked, Given, Count, Freed, Mail, Out, In, Standing, Token}
 use Rattle.hpx_agas.specs.Records.{find_record}
 use Rattle.hpx_agas.specs.Registries.{lowered, asked}
 use Rattle.hpx_agas.specs.declared.record.Record.{Record}
@@ -25,6 +26,7 @@ use Rattle.hpx_tables.specs.Births.{IsBirth, birth_of}
 use Rattle.hpx_tables.specs.Fit.{IsKept, IsFitDue}
 use Rattle.hpx_tables.specs.Awaited.{answered_by}
 use Rattle.hpx_tables.specs.Kept.{held_here, waits_here}
+use Rattle.hpx_tables.specs.Merged.{may_merge, merged_in}
 use Rattle.hpx_tables.specs.Pending.{Waits, Refills, awaits, waits_with, ids_named, fired_of}
 use Rattle.hpx_tables.specs.declared.kept.Outgoing.{Outgoing}
 use Rattle.hpx_steps.specs.Paused.{HasSplit}
@@ -74,8 +76,8 @@ pub record Fires (s : Turn) (a : Name) (s' : Turn) : Type 0 where
   pub idle : is_busy (target_of act) (fired_of s.tables.running (commits s)) ≡ false
   pub now : s' ≡ wrote (Fire a) (record s { tables = record s.tables { accepted = remove s.tables.accepted i; running = s.tables.running ++ act ∷ [] } })
 
--- a commit begins, without an entry: the ids of its object and of its action are in its hand, and those that objects will have
--- which it makes, without credit
+-- a commit begins, without an entry: the ids of its object and of its plain action are in its hand, and those that objects will
+-- have which it makes, without credit
 pub record Suspends (s s' : Turn) : Type 0 where
   pub calm : IsCalm s
   pub i : ℕ
@@ -94,7 +96,7 @@ pub record Suspends (s s' : Turn) : Type 0 where
   pub none : AllByRecursion (λ id. id.log ≡ None) later
   pub places : List ℕ
   pub now : s' ≡ record s {
-    working = waits_with job outcome s.tables.localities [] (record { hand = hand_ids job.state job.action later; places = places }) ∷ s.working;
+    working = waits_with job outcome s.tables.localities [] (record { hand = hand_ids job.state (plain job.action) later; places = places }) ∷ s.working;
     tables = record s.tables {
       running = remove s.tables.running i;
       objects = set s.tables.objects j (record { object = x.object; state = bare_state x.state });
@@ -160,19 +162,23 @@ abbrev pub Deals : List Id → State → List Due → List Id → Type 0
 Deals hand state due loose = (f : Token → ℕ)
     → sum_by f (tokens_of state.ids) + sum_by f (tokens_of (flat_map due_ids due)) + sum_by f (tokens_of loose) ≡ sum_by f (tokens_of hand)
 
--- what an action leaves that ends: the state of its object, what is due, and ids that are named nowhere
+-- what an action leaves that ends: the state of its object, what is due, and ids that are named nowhere, a rider aside
 pub record Remains : Type 0 where
   pub state : State
   pub due : List Due
   pub loose : List Id
 
--- it ends: its commit is in work no more, and its object, x at j, is left so
+-- those of these ids that have a credit
+abbrev pub with_credit : List Id → List Id
+with_credit ids = filter (λ id. is_some id.log) ids
+
+-- it ends: its commit is in work no more, and its object, x at j, is left so; its rider is loose
 abbrev pub ends : ℕ → Waits → List Waits → Standing → Remains → Turn → Turn
 ends j w rest x left s = record s {
   working = rest;
   fresh = [];
   due = left.due;
-  loose = s.loose ++ left.loose;
+  loose = s.loose ++ (with_credit (rider_of w.job.action) ++ left.loose);
   tables = record s.tables {
     objects = set s.tables.objects j (record { object = x.object; state = left.state });
     answered = s.tables.answered + answered_by (Some w.job.action);
@@ -195,7 +201,7 @@ pub record Ends (s : Turn) (a : Name) (w : Waits) (rest : List Waits) (j : ℕ) 
   pub given_up : AllByRecursion HasRightCredit left.loose
   pub deals : Deals w.hand left.state left.due left.loose
 
--- it is done: what it leaves is what its outcome says
+-- it is done: what it leaves is what its outcome says, which is that of its plain action
 pub record Commits (r : Rules) (s : Turn) (a : Name) (s' : Turn) : Type 0 where
   pub w : Waits
   pub rest : List Waits
@@ -203,10 +209,10 @@ pub record Commits (r : Rules) (s : Turn) (a : Name) (s' : Turn) : Type 0 where
   pub x : Standing
   pub left : Remains
   pub ending : Ends s a w rest j x left
-  pub right : w.outcome ≡ r.outcome_of x.object.kind s.tables.here x.state (bare_act w.job.action)
+  pub right : w.outcome ≡ r.outcome_of x.object.kind s.tables.here x.state (plain (bare_act w.job.action))
   pub made : AreMade w.outcome.makes s.fresh (map bare_standing s.tables.objects)
-  pub says : bare_state left.state ≡ state_after x.state (bare_act w.job.action) s.fresh w.outcome
-  pub leaves : map bare_due left.due ≡ due_of x.state (bare_act w.job.action) s.fresh w.outcome
+  pub says : bare_state left.state ≡ state_after x.state (plain (bare_act w.job.action)) s.fresh w.outcome
+  pub leaves : map bare_due left.due ≡ due_with x.state (plain (bare_act w.job.action)) s.fresh w.outcome
   pub now : s' ≡ wrote (Done a false) (ends j w rest x left s)
 
 -- it fails: one of its ids was refused; its object stays as it was, and the failure is due
@@ -241,6 +247,20 @@ pub record Prints (s : Turn) (bytes : List ℕ) (s' : Turn) : Type 0 where
   pub rest : List Due
   pub due : s.due ≡ PrintDue bytes ∷ rest
   pub now : s' ≡ wrote (Print bytes) (record s { due = rest })
+
+-- the first loose id is merged into the state of an object, x at j: an id there is like it, and its log is below that of a new object
+pub record Merges (s : Turn) (o : Id) (log : ℕ) (s' : Turn) : Type 0 where
+  pub calm : IsCalm s
+  pub id : Id
+  pub rest : List Id
+  pub first : s.loose ≡ id ∷ rest
+  pub object : o ≡ bare id
+  pub has : id.log ≡ Some log
+  pub j : ℕ
+  pub x : Standing
+  pub stands : slice_get s.tables.objects j ≡ Some x
+  pub may : may_merge s.tables.profile.credit_log id log x.state.ids ≡ true
+  pub now : s' ≡ wrote (Merge o log) (record s { loose = rest; tables = record s.tables { objects = set s.tables.objects j (merged_in id log x) } })
 
 -- the first loose id is given up: it goes home in a message
 pub record GivesUp (s : Turn) (o : Id) (log : ℕ) (s' : Turn) : Type 0 where
@@ -363,10 +383,6 @@ abbrev pub IsTold : Rules → Parcel → Turn → Type 0
 IsTold r p s = ((s.came ≡ []) × (s.mailed ≡ p ∷ []) × (s.last ≡ Some (Mail (kind_of p))))
     ⊎ ((s.came ≡ p ∷ []) × (s.mailed ≡ []) × ((bytes : List ℕ) × (s.last ≡ Some (In bytes)) × (r.parcel_of bytes ≡ Some p)))
 
--- those of these ids that have a credit
-abbrev pub with_credit : List Id → List Id
-with_credit ids = filter (λ id. is_some id.log) ids
-
 -- a dead object goes, of which nothing here holds a credit, and on which no commit waits; the ids of its state are loose, as far as they
 -- have a credit
 pub record Frees (r : Rules) (s : Turn) (o : Id) (s' : Turn) : Type 0 where
@@ -441,6 +457,7 @@ Step r s (Writes (Done a false)) s' = Commits r s a s'
 Step r s (Writes (Done a true)) s' = Fails s a s'
 Step r s (Writes (Sent a)) s' = Sends s a s'
 Step r s (Writes (Print bytes)) s' = Prints s bytes s'
+Step r s (Writes (Merge o log)) s' = Merges s o log s'
 Step r s (Writes (Up o log)) s' = GivesUp s o log s'
 Step r s (Writes (Asked o)) s' = AsksFor s o s'
 Step r s (Writes (Given o log)) s' = IsGiven s o log s'

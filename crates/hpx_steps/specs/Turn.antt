@@ -12,7 +12,7 @@ use Rattle.hpx_journal.specs.Names.{due_ids}
 use Rattle.hpx_part.specs.Data.{Event, Standing, Token, Recorded}
 use Rattle.hpx_part.specs.View.{View}
 use Rattle.hpx_agas.specs.declared.record.Record.{Record}
-use Rattle.hpx_tables.specs.Pending.{Waits, asking_of, fired_of, refusals_of}
+use Rattle.hpx_tables.specs.Pending.{Waits, asking_of, fired_of, ids_kept, refusals_of}
 use Rattle.hpx_tables.specs.Tables.{Tables}
 
 -- what a locality keeps, and what has no place there while a turn goes on
@@ -75,7 +75,7 @@ ids_here s =
     flat_map (λ x. x.state.ids) s.tables.objects
     ++ (flat_map (λ act. act.ids) s.tables.accepted
     ++ (flat_map (λ act. act.ids) s.tables.running
-    ++ (flat_map (λ w. w.hand) (commits s) ++ (flat_map due_ids s.due ++ s.loose))))
+    ++ (flat_map ids_kept (commits s) ++ (flat_map due_ids s.due ++ s.loose))))
 
 -- the tokens of what is kept, due or loose, and of messages
 abbrev pub tokens : Turn → List Token

@@ -4,3 +4,4 @@ pub mod Cutting
 pub mod FirstCuts
 pub mod AllCuts
 pub mod Refills
+pub mod Merges

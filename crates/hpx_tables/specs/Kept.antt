@@ -10,6 +10,7 @@ use Rattle.hpx_journal.specs.Data.{Id, Parcel, Apply, Return, Ask, Give, Move, G
 use Rattle.hpx_journal.specs.Local.{is_standing, acts_on}
 use Rattle.hpx_journal.specs.Tokens.{is_held, is_owed}
 use Rattle.hpx_part.specs.Data.{Token}
+use Rattle.hpx_tables.specs.Pending.{ids_kept}
 use Rattle.hpx_tables.specs.Tables.{Tables, messages}
 
 -- whether an object stands here
@@ -40,13 +41,13 @@ credit_owed o (Give id entry) = credit_in o (id ∷ [])
 credit_owed o (Arrived id place) = credit_in o (id ∷ [])
 credit_owed o _ = 0
 
--- the credit of an object in states, in actions, in the hands of commits that wait, and in messages of these
+-- the credit of an object in states, in actions, in commits that wait, and in messages of these
 abbrev pub held_here : Tables → Id → ℕ
 held_here t o =
     sum_by (λ x. credit_in o x.state.ids) t.objects
     + sum_by (λ act. credit_in o act.ids) t.accepted
     + sum_by (λ act. credit_in o act.ids) t.running
-    + sum_by (λ w. credit_in o w.hand) t.pending
+    + sum_by (λ w. credit_in o (ids_kept w)) t.pending
     + sum_by (λ p. credit_in o (ids_held p)) (messages t)
 
 -- the credit of an object in messages that bring it home, or ask for more

@@ -6,5 +6,6 @@ pub mod Jobs
 pub mod Births
 pub mod Splits
 pub mod Kept
+pub mod Merged
 pub mod Awaited
 pub mod Strange

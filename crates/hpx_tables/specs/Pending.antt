@@ -3,6 +3,7 @@ use Rattle.std.specs.Prelude.{ℕ, Bool, true, List, [], ◌∷◌, ◌++◌, �
 use Rattle.std.specs.List.{filter, find, list_any, slice_get, remove}
 use Rattle.hpx_value.specs.Ids.{bare, same_object}
 use Rattle.hpx_value.specs.Hands.{id_at}
+use Rattle.hpx_value.specs.Riders.{plain, rider_of}
 use Rattle.hpx_value.specs.declared.acts.Job.{Job}
 use Rattle.hpx_journal.specs.Data.{Id, Act, Outcome}
 use Rattle.hpx_journal.specs.Entries.{name_of}
@@ -47,9 +48,13 @@ action_of w = w.job.action
 abbrev pub fired_of : List Act → List Waits → List Act
 fired_of running pending = running ++ map action_of pending
 
--- the ids that its object and its action name
+-- the ids that its object names, and its action without a rider
 abbrev pub ids_named : Waits → List Id
-ids_named w = w.job.state.ids ++ w.job.action.ids
+ids_named w = w.job.state.ids ++ (plain w.job.action).ids
+
+-- all ids that it has: those in its hand, and the rider of its action
+abbrev pub ids_kept : Waits → List Id
+ids_kept w = w.hand ++ rider_of w.job.action
 
 -- those of its hand: behind them come what it makes, and what was split off
 abbrev pub own_ids : Waits → List Id

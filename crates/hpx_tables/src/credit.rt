@@ -1,6 +1,7 @@
 //! The credit of an object in what a locality keeps, and in the messages on their way.
 ghost use Rattle.std.specs.Prelude.{◌≡◌, ◌-◌, ◌^◌, min, sum_by};
 ghost use Rattle.hpx_tables.specs.Kept.{credit_in, ids_held, credit_owed};
+ghost use Rattle.hpx_tables.specs.Pending.{ids_kept};
 
 use crate::kept::{Fit, Kept, Letter, Outgoing};
 use crate::pending::Pending;
@@ -45,13 +46,24 @@ pub fn held_in_running(running: &[Fit], o: Gid) -> u128
     sum
 }
 
-/// The same in the hands of commits that wait.
-pub fn held_in_hands<A: Acts>(pending: &[Pending<A>], o: Gid) -> u128
-    ensures { result ≡ min (2 ^ 128 - 1) (sum_by (λ w. credit_in o w.hand) pending.now) }
+/// The same in a commit that waits: in its hand, and in the rider of its action.
+fn held_in_commit<A: Acts>(waits: &Pending<A>, o: Gid) -> u128
+    ensures { result ≡ min (2 ^ 128 - 1) (credit_in o (ids_kept waits.now)) }
+{
+    let hand = credit_in(waits.hand(), o);
+    match waits.action().rider() {
+        Some(rider) => hand.saturating_add(credit_in(&[rider], o)),
+        None => hand,
+    }
+}
+
+/// The same in commits that wait.
+pub fn held_in_commits<A: Acts>(pending: &[Pending<A>], o: Gid) -> u128
+    ensures { result ≡ min (2 ^ 128 - 1) (sum_by (λ w. credit_in o (ids_kept w)) pending.now) }
 {
     let mut sum = 0u128;
     for i in 0..pending.len() {
-        sum = sum.saturating_add(credit_in(pending[i].hand(), o));
+        sum = sum.saturating_add(held_in_commit(&pending[i], o));
     }
     sum
 }

@@ -1,9 +1,11 @@
 //! Actions, objects and messages, each with the fact that it is well formed.
-ghost use Rattle.std.specs.Prelude.{◌≡◌, IfOk};
+ghost use Rattle.std.specs.Prelude.{◌≡◌, ◌<◌, None, IfOk, IfSome, IfNone, length, take, slice_get};
+ghost use Rattle.std.specs.List.{list_any, find};
 ghost use Rattle.hpx_value.specs.Values.{bare_state, named};
 ghost use Rattle.hpx_journal.specs.Entries.{name_of};
 ghost use Rattle.hpx_parcel.specs.Parcels.{IsParcel};
 ghost use Rattle.hpx_tables.specs.Fit.{IsFit, IsKept, parcel_for};
+ghost use Rattle.hpx_tables.specs.Merged.{is_like, merged_in};
 
 use hpx_journal::entry::{Name, Standing};
 use hpx_parcel::parcel::Parcel;
@@ -164,6 +166,56 @@ impl Kept {
     {
         &self.standing.state
     }
+
+    /// Whether an id of its state is like a rider of this log.
+    pub fn has_like(&self, rider: Gid, log: u8) -> bool
+        ensures { result ≡ list_any (is_like rider log) self.now.state.ids }
+    {
+        self.standing
+            .state
+            .ids
+            .as_slice()
+            .iter()
+            .any(|id| is_like(rider, log, *id))
+    }
+
+    /// Merges a rider of this log into the first id of its state that is like it, if there is one.
+    pub fn merge(&mut self, rider: Gid, log: u8)
+        requires below { log < 31 }
+        ensures { self.new ≡ merged_in rider log self.old }
+    {
+        let ids = self.standing.state.ids.as_slice();
+        if let Some(k) = first_like(ids, rider, log) {
+            let id = ids[k];
+            self.standing.state.ids.set(k, id.with_log(log + 1));
+        }
+    }
+}
+
+/// Whether an id is of the object of a rider, with a credit of its log.
+fn is_like(rider: Gid, log: u8, id: Gid) -> bool
+    ensures { result ≡ is_like rider log id }
+{
+    match id.log() {
+        Some(n) => rider.names_same(id) && n == log,
+        None => false,
+    }
+}
+
+/// Where the first of these ids stands that is like a rider, if there is one.
+#[tactic(auto, using(hpx_part::proofs::Keyed::find_step, hpx_part::proofs::Keyed::find_at_index, crate::proofs::FreeLemmas::find_none_more))]
+fn first_like(ids: &[Gid], rider: Gid, log: u8) -> Option<usize>
+    ensures inside { IfSome result (λ k. k < length ids.now) }
+    ensures found { IfSome result (λ k. find (is_like rider log) ids.now ≡ slice_get ids.now k) }
+    ensures first { IfSome result (λ k. find (is_like rider log) (take k ids.now) ≡ None) }
+    ensures none { IfNone result (find (is_like rider log) ids.now ≡ None) }
+{
+    for (k, x) in ids.iter().enumerate() {
+        if is_like(rider, log, *x) {
+            return Some(k);
+        }
+    }
+    None
 }
 
 /// A state without credits.

@@ -2,6 +2,7 @@
 ghost use Rattle.std.specs.Prelude.{◌≡◌, ◌≤◌, ◌<◌, true, None, IfSome, IfNone, IfOk, length, find};
 ghost use Rattle.std.specs.List.{AllByRecursion, slice_get};
 ghost use Rattle.hpx_value.specs.Laws.{KeepsLaws};
+ghost use Rattle.hpx_value.specs.Riders.{plain};
 ghost use Rattle.hpx_tables.specs.Jobs.{IsFitJob};
 ghost use Rattle.hpx_tables.specs.Pending.{is_asked_for, awaits, waits_for_one, fails_with, hand_with, waits_with, Refills};
 
@@ -22,8 +23,8 @@ pub struct Asked {
     pub place: u32,
 }
 
-/// A job that is done and waits for credit to be committed. Its hand has the ids of its object and of its action, bare ids for
-/// what it makes, and what was split off; what was asked for stands there without credit.
+/// A job that is done and waits for credit to be committed. Its hand has the ids of its object and of its plain action, bare ids
+/// for what it makes, and what was split off; what was asked for stands there without credit. A rider stays in its action.
 #[derive(Drop)]
 pub struct Pending<A: Acts> {
     done: Done<A>,
@@ -34,6 +35,7 @@ pub struct Pending<A: Acts> {
 
 impl<A: Acts> Model for Pending<A> {
     ghost use Rattle.std.specs.Prelude.{◌≡◌};
+    ghost use Rattle.hpx_value.specs.Riders.{plain};
     ghost use Rattle.hpx_tables.specs.Jobs.{IsFitJob};
     ghost use Rattle.hpx_tables.specs.Pending.{Waits};
 
@@ -50,7 +52,7 @@ impl<A: Acts> Model for Pending<A> {
     } };
 
     ghost invariant = { λ w. IsFitJob w.done.job
-        × (w.done.outcome ≡ A.act_of w.done.localities w.done.job.kind w.done.job.at w.done.job.state w.done.job.action) };
+        × (w.done.outcome ≡ A.act_of w.done.localities w.done.job.kind w.done.job.at w.done.job.state (plain w.done.job.action)) };
 }
 
 impl<A: Acts> Pending<A> {
@@ -169,12 +171,12 @@ impl<A: Acts> Pending<A> {
     }
 }
 
-/// The outcome of a job keeps the laws of actions.
+/// The outcome of a job keeps the laws of actions, for its action without a rider.
 pub fn lawful<A: Acts>(done: &Done<A>)
     requires localities { done.now.localities ≤ 64 }
     requires at { done.now.job.at < done.now.localities }
     requires fit { IsFitJob done.now.job }
-    ensures { KeepsLaws done.now.localities done.now.job.kind done.now.job.at done.now.job.state done.now.job.action done.now.outcome }
+    ensures { KeepsLaws done.now.localities done.now.job.kind done.now.job.at done.now.job.state (plain done.now.job.action) done.now.outcome }
 {
     let _at = done.job().at;
 }

@@ -214,6 +214,46 @@ fn an_action_is_free_where_its_object_stands_and_none_runs_on_it(
     Ok(())
 }
 
+/// The logs of three ids in a state.
+fn logs(kept: &Kept) -> (Option<u8>, Option<u8>, Option<u8>) {
+    match kept.state().ids.as_slice() {
+        [one, two, three] => (one.log(), two.log(), three.log()),
+        _ => (None, None, None),
+    }
+}
+
+#[test]
+fn a_rider_is_merged_into_the_first_id_that_is_like_it(rt: HostRuntime) -> Result<(), Fail> {
+    let alloc = rt.alloc();
+    let other = Gid::new(1, 16, 2);
+    let mut values = Items::new(alloc);
+    values.push(Value::Ref(0))?;
+    values.push(Value::Ref(1))?;
+    values.push(Value::Ref(2))?;
+    let mut ids = Items::new(alloc);
+    ids.push(other.with_log(7))?;
+    ids.push(number().with_log(6))?;
+    ids.push(number().with_log(7))?;
+    let conts = Items::new(alloc);
+    let state = State {
+        drawn: 0,
+        values,
+        conts,
+        ids,
+    };
+    let mut kept = Kept::new(Gid::new(0, 1, 1), state);
+    assert!(rt; kept.has_like(number(), 7));
+    assert!(rt; !kept.has_like(number(), 5));
+    assert!(rt; !kept.has_like(Gid::new(1, 16, 3), 7));
+    kept.merge(number(), 7);
+    assert!(rt; logs(&kept) == (Some(7), Some(6), Some(8)));
+    kept.merge(number(), 6);
+    assert!(rt; logs(&kept) == (Some(7), Some(7), Some(8)));
+    kept.merge(other, 5);
+    assert!(rt; logs(&kept) == (Some(7), Some(7), Some(8)));
+    Ok(())
+}
+
 /// What was written, in short: a split of a log, or an ask.
 fn written(book: &Journal) -> (Option<u8>, Option<u8>, bool) {
     match book.as_slice() {

@@ -1,4 +1,4 @@
--- No action sends a MOVE, a console's session is read, and a Fibonacci number is computed.
+-- No action sends a MOVE, a console's session is read, and numbers and rings are computed.
 use Rattle.std.specs.Prelude.{ℕ, pos, Bool, true, false, is_some, nat_lt, nat_le, List, [], ◌∷◌, ◌≡◌, ◌≢◌, ◌<◌, ◌≤◌, ◌==◌, ◌&&◌, Option, Some, None, length, refl, if◌then◌else◌}
 use Rattle.std.specs.List.{AllByRecursion}
 use Rattle.std.proofs.Common.{inl, inr, sym, ap, ◌∙◌, subst, arith}
@@ -23,11 +23,10 @@ use Rattle.app_console.proofs.SessionLaws as console
 use Rattle.app_console.proofs.NothingMoves.{nothing_moves}
 use Rattle.app_compute.specs.Numbers.{is_direct}
 use Rattle.app_compute.specs.Acts as Compute
+use Rattle.app_compute.specs.Computing.{computing_outcome}
 use Rattle.app_compute.specs.Session as Computing
-use Rattle.app_compute.specs.Lines.{question_of}
-use Rattle.app_compute.specs.declared.line.Question.{Question}
-use Rattle.app_compute.specs.declared.session.Awaited.{Awaited}
-use Rattle.app_compute.specs.FibLaw.{IsJudged}
+use Rattle.app_compute.proofs.Still.{computing_still}
+use Rattle.app_compute.specs.Judging.{IsJudged}
 use Rattle.hpx_top.specs.Acts.{all_of, act_of}
 use Rattle.hpx_top.specs.ActLaws.{keeps_laws, is_blind}
 
@@ -55,34 +54,11 @@ plain_still : (n here : ℕ) (s : State) (a : Act) → IsStill (Compute.compute_
 unfolding Compute.compute_outcome Compute.plain_outcome
 plain_still n here s a = cond_both (Compute.is_empty s.values && Compute.is_empty s.conts) _ _ IsStill (λ e. args_still n here s a a.args) (λ e. tt)
 
-asks_still : (s : State) (a : Act) (question : Option Question) → IsStill (Computing.asks s a question)
-asks_still s a None = tt
-asks_still s a (Some q) = ((λ z. absurd (omega (arith, z))), tt)
-
-answers_still : (s : State) (a : Act) (slot : ℕ) (v : Spelled) (awaited : Option Awaited) → IsStill (Computing.answers s a slot v awaited)
-answers_still s a slot v None = tt
-answers_still s a slot v (Some x) = cond_both (slot == x.slot) _ _ IsStill (λ e. tt) (λ e. tt)
-
-session_args_still : (s : State) (a : Act) (args : List Spelled) → IsStill (Computing.session_args s a args)
-session_args_still s a (SpelledText (mark ∷ line) ∷ []) =
-    cond_both ((a.code == 4) && ((mark == 99) && Compute.is_empty s.values)) _ _ IsStill (λ e. asks_still s a (question_of line)) (λ e. tt)
-session_args_still s a (SpelledInt (pos slot) ∷ v ∷ []) =
-    cond_both (a.code == 3) _ _ IsStill (λ e. answers_still s a slot v (Computing.awaited_in s.values)) (λ e. tt)
-session_args_still s a _ = tt
-
-session_cont_still : (s : State) (a : Act) (c : Option Cont) → IsStill (Computing.session_cont s a c)
-session_cont_still s a None = session_args_still s a a.args
-session_cont_still s a (Some c) = tt
-
-session_still : (s : State) (a : Act) → IsStill (Computing.session_outcome s a)
-unfolding Computing.session_outcome
-session_still s a = cond_both (Compute.is_empty s.conts && nat_le s.drawn 4000000000) _ _ IsStill (λ e. session_cont_still s a a.cont) (λ e. tt)
-
 pub all_still : (n kind here : ℕ) (s : State) (a : Act) → here < n → IsState s → IsAct a → AreStill (act_of n kind here s a).sends
 unfolding all_of
 all_still n kind here s a low state act =
     cond_both (Console.is_place n here) _ _ IsStill
-    (λ e. cond_both ((kind == 1) && Computing.computes s a) _ _ IsStill (λ f. session_still s a)
+    (λ e. cond_both ((kind == 1) && Computing.computes s a) _ _ IsStill (λ f. computing_still n s a)
     (λ f. cond_both (kind == 7) _ _ IsStill
     (λ g. subst (λ k. IsStill (Compute.compute_outcome n k here s a)) (sym (eqb-true kind 7 g)) (plain_still n here s a))
     (λ g. nothing_moves n kind here s a low state act)))
@@ -128,7 +104,7 @@ pub reads_console : (c : Consoles) (n here : ℕ) (s : State) (a : Act) (d : Des
     → all_of c n 1 here s a ≡ Console.session_outcome c n s a
 unfolding all_of Console.act_of
 reads_console c n here s a d few low desk own =
-    ap (λ b. if Console.is_place n here then (if b then Computing.session_outcome s a else Console.act_of c n 1 here s a) else Compute.refused s a)
+    ap (λ b. if Console.is_place n here then (if b then computing_outcome n s a else Console.act_of c n 1 here s a) else Compute.refused s a)
     (ap (λ b. if b then true else Computing.is_awaiting s.values) (is_no_question c a.args own)
     ∙ is_no_flag s.values ((length s.conts == 0) && nat_le s.drawn 4000000000) d desk)
     ∙ rw (console.place n here few low) refl
@@ -148,12 +124,12 @@ acting = record {
   blind = is_blind;
 }
 
--- ---- a Fibonacci number is computed
+-- ---- numbers and rings are computed
 
-computing : (n here : ℕ) (s : State) (a : Act) → n ≤ 64 → here < n → Computing.computes s a ≡ true → act_of n 1 here s a ≡ Computing.session_outcome s a
+computing : (n here : ℕ) (s : State) (a : Act) → n ≤ 64 → here < n → Computing.computes s a ≡ true → act_of n 1 here s a ≡ computing_outcome n s a
 unfolding all_of
 computing n here s a few low e =
-    ap (λ b. if Console.is_place n here then (if b then Computing.session_outcome s a else Console.act_of AccumulatorAlone n 1 here s a) else Compute.refused s a) e
+    ap (λ b. if Console.is_place n here then (if b then computing_outcome n s a else Console.act_of AccumulatorAlone n 1 here s a) else Compute.refused s a) e
     ∙ rw (console.place n here few low) refl
 
 plain_acts : (n here : ℕ) (s : State) (a : Act) → n ≤ 64 → here < n → act_of n 7 here s a ≡ Compute.plain_outcome n here s a
@@ -171,6 +147,8 @@ judged n p some few = record {
   computes = record {
     plain = λ here s a low. plain_acts n here s a few low;
     flow = λ here s a low. other_kinds AccumulatorAlone n 33 here s a few low (λ e. absurd (omega (arith, e))) (λ e. absurd (omega (arith, e)));
+    maker = λ here s a low. other_kinds AccumulatorAlone n 3 here s a few low (λ e. absurd (omega (arith, e))) (λ e. absurd (omega (arith, e)));
+    part = λ here s a low. other_kinds AccumulatorAlone n 17 here s a few low (λ e. absurd (omega (arith, e))) (λ e. absurd (omega (arith, e)));
     session = λ here s a low e. computing n here s a few low e;
   };
   some = some;

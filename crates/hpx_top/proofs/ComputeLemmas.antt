@@ -13,11 +13,15 @@ use Rattle.hpx_ports.specs.Told.{followed}
 use Rattle.hpx_steps.specs.Rest.{rules_of}
 use Rattle.hpx_world.specs.Places.{Places}
 use Rattle.app_compute.specs.FibLaw.{IsQuestion, fed_line, fib_text}
+use Rattle.app_compute.specs.Ring.{stencil_texts}
+use Rattle.app_compute.specs.StencilLaw.{IsAsked, ring_fed}
 use Rattle.app_compute.proofs.FibText.{whole_text}
+use Rattle.app_compute.proofs.RingLines as Lines
+use Rattle.app_compute.proofs.StencilText as ring
 use Rattle.hpx_top.specs.declared.session.SessionFault.{SessionFault}
 use Rattle.hpx_top.specs.declared.session.SessionFault.TheVariants.{Read, Write, Fabric, JournalFull, OutOfMemory, BadFrame, Strange, InputFull}
 use Rattle.hpx_top.specs.declared.task.Task.{Task}
-use Rattle.hpx_top.specs.declared.task.Task.TheVariants.{Accumulator, Fib}
+use Rattle.hpx_top.specs.declared.task.Task.TheVariants.{Accumulator, Fib, Stencil}
 use Rattle.hpx_top.specs.Acts.{act_of}
 use Rattle.hpx_top.specs.Usage.{IsTask, places_of}
 use Rattle.hpx_top.specs.Session.{rules, lines_fed, Feeds, FeedsAtMost, WritesFront, entries_in}
@@ -37,6 +41,15 @@ fib_prints n p number threshold es some few question f =
       settled = f.settled;
     })
 
+ring_prints : (n : ℕ) (p : Profile) (points parts steps : ℕ) (es : List Entry) → 1 ≤ n → n ≤ 64 → IsAsked points parts steps
+    → Feeds (rules_of act_of n p) (ring_fed points parts steps) [] es → prints_of es ≡ stencil_texts points steps
+ring_prints n p points parts steps es some few asked f =
+    ring.whole_text (rules_of act_of n p) (judged n p some few) points parts steps asked es f.calm (record {
+      legal = f.legal;
+      begins = subst (BeginsWith (ring_fed points parts steps)) (sym f.is) f.begins;
+      settled = f.settled;
+    })
+
 pub some_same : {X : Type 0} (x y : X) → Some x ≡ Some y → x ≡ y
 some_same x y e = cc
 
@@ -46,6 +59,10 @@ task_prints Accumulator n p line es h is at f = absurd (let no : None ≡ Some l
 task_prints (Fib question k) n p line es h is at f =
     let same : fed_line question.number question.threshold ≡ line = some_same (fed_line question.number question.threshold) line is in
     fib_prints n p question.number question.threshold es (subst (λ i. 1 ≤ i) (sym at) h.1) (subst (λ i. i ≤ 64) (sym at) h.2) h.0
+    (subst (λ l. Feeds (rules_of act_of n p) l [] es) (sym same) f)
+task_prints (Stencil shape k) n p line es h is at f =
+    let same : ring_fed shape.points shape.parts shape.steps ≡ line = some_same (ring_fed shape.points shape.parts shape.steps) line is in
+    ring_prints n p shape.points shape.parts shape.steps es (subst (λ i. 1 ≤ i) (sym at) h.1) (subst (λ i. i ≤ 64) (sym at) h.2) h.0
     (subst (λ l. Feeds (rules_of act_of n p) l [] es) (sym same) f)
 
 -- ---- how long a line is
@@ -65,10 +82,13 @@ pub line_short : (task : Task) (line : List ℕ) → IsTask task → task_line t
 line_short Accumulator line h is = absurd (let no : None ≡ Some line = is in cc)
 line_short (Fib question n) line h is =
     subst (λ l. length l ≤ 1025) (some_same (fed_line question.number question.threshold) line is) (fib_short question.number question.threshold h.0)
+line_short (Stencil shape n) line h is =
+    subst (λ l. length l ≤ 1025) (some_same (ring_fed shape.points shape.parts shape.steps) line is) (Lines.line_short shape.points shape.parts shape.steps h.0)
 
 pub no_line : (task : Task) → task_line task ≡ None → task ≡ Accumulator
 no_line Accumulator is = refl
 no_line (Fib question n) is = cc
+no_line (Stencil shape n) is = cc
 
 pub no_console : (task : Task) (line : List ℕ) → task_line task ≡ Some line → task ≡ Accumulator → ⊥
 no_console task line is e = let no : None ≡ Some line = ap task_line (sym e) ∙ is in cc

@@ -10,4 +10,5 @@ pub mod TaskLemmas
 pub mod ShowLemmas
 pub mod EndLemmas
 pub mod RunLemmas
+pub mod DoneLemmas
 pub mod WorldFaults

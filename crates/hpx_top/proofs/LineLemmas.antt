@@ -5,7 +5,7 @@ use Rattle.std.proofs.Common.{ℕ, suc, Bool, true, false, List, [], ◌∷◌, 
 use Rattle.std.proofs.lemmas.List.Folds.{list_any-append}
 use Rattle.hpx_journal.specs.declared.entry.Entry.{Entry}
 use Rattle.hpx_journal.specs.declared.entry.Event.{Event}
-use Rattle.hpx_journal.specs.declared.entry.Event.TheVariants.{Line, Fire, Split, Born, Done, Sent, Print, Up, Asked, Given, Count, Freed, Left, Landed, Looked, Mail, Out, In}
+use Rattle.hpx_journal.specs.declared.entry.Event.TheVariants.{Line, Fire, Split, Born, Done, Sent, Print, Merge, Up, Asked, Given, Count, Freed, Left, Landed, Looked, Mail, Out, In}
 use Rattle.hpx_journal.specs.Entries.{Rules}
 use Rattle.hpx_journal.specs.Sessions.{FeedsNothing, IsSession, BeginsWith, entries_of, shown}
 use Rattle.hpx_ports.specs.Told.{preceded, followed}
@@ -150,6 +150,7 @@ silent (Born o state) h = refl
 silent (Done a failed) h = refl
 silent (Sent a) h = refl
 silent (Print bytes) h = refl
+silent (Merge o log) h = refl
 silent (Up o log) h = refl
 silent (Asked o) h = refl
 silent (Given o log) h = refl

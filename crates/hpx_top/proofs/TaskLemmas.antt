@@ -1,12 +1,12 @@
 -- A task that words ask for is in the ranges of its numbers.
-use Rattle.std.specs.Prelude.{nat_le, ◌&&◌, ◌==◌, Result, Ok, Err}
+use Rattle.std.specs.Prelude.{nat_le, ◌&&◌, ◌==◌, ◌%◌, Result, Ok, Err}
 use Rattle.std.proofs.Common.{ℕ, ◌≡◌, List, Option, Some, None, sym, ap, ◌∙◌, subst}
-use Rattle.std.proofs.lemmas.Bool.{and_parts, leb-true, cond_both}
+use Rattle.std.proofs.lemmas.Bool.{and_parts, leb-true, eqb-true, cond_both}
 use Rattle.hpx_options.specs.declared.settings.App.{App}
 use Rattle.hpx_options.specs.declared.settings.App.TheVariants as Apps
 use Rattle.hpx_options.specs.Meanings.{Reading, Means, BadWord, reading_of}
 use Rattle.hpx_top.specs.declared.task.Task.{Task}
-use Rattle.hpx_top.specs.Usage.{are_asked, are_places, bad_word, is_plain, place_of, task_by, task_of, or_nowhere, reading_task, task_in, IsTask}
+use Rattle.hpx_top.specs.Usage.{are_asked, are_places, is_ring, bad_word, is_plain, place_of, task_by, task_of, or_nowhere, reading_task, task_in, IsTask}
 
 abbrev IsTaskIn : Option Task → Type 0
 IsTaskIn None = Unit {0}
@@ -24,7 +24,28 @@ by_task (Apps.Fib number threshold) n =
     (record { number = leb-true number 92 two.0; large = leb-true 2 threshold two.1; few = leb-true threshold 92 all.1 }, leb-true 1 n places.0, leb-true n 64 places.1))
     (λ e. tt)
 by_task Apps.Space n = tt
-by_task (Apps.Stencil points parts steps) n = tt
+by_task (Apps.Stencil points parts steps) n =
+    cond_both (is_ring points parts steps && are_places n) _ _ IsTaskIn
+    (λ e.
+    let both = and_parts (is_ring points parts steps) (are_places n) e in
+    let whole = and_parts (nat_le 1 points && nat_le points 1024 && nat_le 1 parts && nat_le parts 32 && nat_le steps 1000) (points % parts == 0) both.0 in
+    let top = and_parts (nat_le 1 points && nat_le points 1024 && nat_le 1 parts && nat_le parts 32) (nat_le steps 1000) whole.0 in
+    let few = and_parts (nat_le 1 points && nat_le points 1024 && nat_le 1 parts) (nat_le parts 32) top.0 in
+    let some = and_parts (nat_le 1 points && nat_le points 1024) (nat_le 1 parts) few.0 in
+    let ends = and_parts (nat_le 1 points) (nat_le points 1024) some.0 in
+    let places = and_parts (nat_le 1 n) (nat_le n 64) both.1 in (
+      record {
+        points = leb-true 1 points ends.0;
+        few_points = leb-true points 1024 ends.1;
+        parts = leb-true 1 parts some.1;
+        few_parts = leb-true parts 32 few.1;
+        whole = eqb-true (points % parts) 0 whole.1;
+        steps = leb-true steps 1000 top.1;
+      },
+      leb-true 1 n places.0,
+      leb-true n 64 places.1,
+    ))
+    (λ e. tt)
 by_task (Apps.Load start lines) n = tt
 by_task Apps.Check n = tt
 by_task (Apps.Collect op start) n = tt

@@ -13,9 +13,11 @@ use Rattle.app_console.specs.declared.table.Consoles.TheVariants.{Accumulator as
 use Rattle.app_console.specs.Session as Console
 use Rattle.app_console.proofs.SessionLaws as console
 use Rattle.app_compute.specs.Acts as Compute
+use Rattle.app_compute.specs.Computing.{computing_outcome}
 use Rattle.app_compute.specs.Session as Computing
+use Rattle.app_compute.proofs.ComputingKeeps.{computing_keeps, computing_blind}
 use Rattle.app_compute.proofs.PlainKeeps as plain
-use Rattle.app_compute.proofs.SessionKeeps.{session_keeps, session_blind, computes_blind}
+use Rattle.app_compute.proofs.SessionKeeps.{computes_blind}
 use Rattle.hpx_top.specs.Acts.{all_of, act_of, outcome_at}
 
 pub keeps_all : (c : Consoles) (n kind here : ℕ) (s : State) (a : Act) → 1 ≤ n → n ≤ 64 → here < n → IsState s → IsAct a → KeepsLaws n kind here s a (all_of c n kind here s a)
@@ -23,7 +25,7 @@ unfolding all_of
 keeps_all c n kind here s a some few low state act =
     subst (λ b. KeepsLaws n kind here s a (if b then outcome_at c n kind here s a else Compute.refused s a)) (sym (console.place n here few low))
     (cond_both ((kind == 1) && Computing.computes s a) _ _ (KeepsLaws n kind here s a)
-    (λ e. subst (λ k. KeepsLaws n k here s a (Computing.session_outcome s a)) (sym (eqb-true kind 1 (and_parts (kind == 1) (Computing.computes s a) e).0)) (session_keeps n here s a some state act))
+    (λ e. subst (λ k. KeepsLaws n k here s a (computing_outcome n s a)) (sym (eqb-true kind 1 (and_parts (kind == 1) (Computing.computes s a) e).0)) (computing_keeps n here s a some state act))
     (λ e. cond_both (kind == 7) _ _ (KeepsLaws n kind here s a)
     (λ f. plain.keeps_laws n kind here s a some low state act)
     (λ f. console.keeps_laws c n kind here s a some few low state act)))
@@ -40,10 +42,10 @@ unfolding all_of
 blind_all c n kind here s a =
     let t : State = bare_state s in
     let e : Act = blind a in
-    ap (λ b. joined c n kind here s a b (Computing.session_outcome s a) (Compute.compute_outcome n kind here s a) (Console.act_of c n kind here s a)) (computes_blind s a)
-    ∙ (ap (λ x. joined c n kind here s a (Computing.computes t e) x (Compute.compute_outcome n kind here s a) (Console.act_of c n kind here s a)) (session_blind s a)
-    ∙ (ap (λ y. joined c n kind here s a (Computing.computes t e) (Computing.session_outcome t e) y (Console.act_of c n kind here s a)) (plain.is_blind n kind here s a)
-    ∙ ap (λ z. joined c n kind here s a (Computing.computes t e) (Computing.session_outcome t e) (Compute.compute_outcome n kind here t e) z) (console.is_blind c n kind here s a)))
+    ap (λ b. joined c n kind here s a b (computing_outcome n s a) (Compute.compute_outcome n kind here s a) (Console.act_of c n kind here s a)) (computes_blind s a)
+    ∙ (ap (λ x. joined c n kind here s a (Computing.computes t e) x (Compute.compute_outcome n kind here s a) (Console.act_of c n kind here s a)) (computing_blind n s a)
+    ∙ (ap (λ y. joined c n kind here s a (Computing.computes t e) (computing_outcome n t e) y (Console.act_of c n kind here s a)) (plain.is_blind n kind here s a)
+    ∙ ap (λ z. joined c n kind here s a (Computing.computes t e) (computing_outcome n t e) (Compute.compute_outcome n kind here t e) z) (console.is_blind c n kind here s a)))
 
 pub keeps_laws : (n kind here : ℕ) (s : State) (a : Act) → 1 ≤ n → n ≤ 64 → here < n → IsState s → IsAct a → KeepsLaws n kind here s a (act_of n kind here s a)
 keeps_laws n kind here s a some few low state act = keeps_all AccumulatorAlone n kind here s a some few low state act

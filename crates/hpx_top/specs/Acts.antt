@@ -1,4 +1,4 @@
--- What all actions do where the accumulator's console is read and numbers are computed.
+-- What all actions do where the accumulator's console is read, and numbers and rings are computed.
 use Rattle.std.specs.Prelude.{ℕ, ◌==◌, ◌&&◌, if◌then◌else◌}
 use Rattle.hpx_value.specs.declared.value.State.{State}
 use Rattle.hpx_value.specs.declared.value.Act.{Act}
@@ -7,12 +7,14 @@ use Rattle.app_console.specs.declared.table.Consoles.{Consoles}
 use Rattle.app_console.specs.declared.table.Consoles.TheVariants.{Accumulator as AccumulatorAlone}
 use Rattle.app_console.specs.Session as Console
 use Rattle.app_compute.specs.Acts as Compute
+use Rattle.app_compute.specs.Computing.{computing_outcome}
 use Rattle.app_compute.specs.Session as Computing
 
--- the session, kind 1, computes where numbers are asked for or awaited, and else reads a console; plain objects, kind 7, compute
+-- the session, kind 1, computes where numbers or a ring are asked for or awaited, and else reads a console; plain objects,
+-- kind 7, compute
 abbrev pub outcome_at : Consoles → ℕ → ℕ → ℕ → State → Act → Outcome
 outcome_at c n kind here s a =
-    if (kind == 1) && Computing.computes s a then Computing.session_outcome s a
+    if (kind == 1) && Computing.computes s a then computing_outcome n s a
     else if kind == 7 then Compute.compute_outcome n kind here s a
     else Console.act_of c n kind here s a
 

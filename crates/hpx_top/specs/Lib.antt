@@ -8,3 +8,4 @@ pub mod Session
 pub mod Ends
 pub mod Statuses
 pub mod Computed
+pub mod Runs

@@ -35,7 +35,7 @@ pub record IsAmple (p : Profile) : Type 0 where
 
 -- the credit of a new object is the most that an id can have, and no count comes near the greatest one
 abbrev pub profile : Profile
-profile = record { credit_log = 31; credit_limit = 2 ^ 62; cache = 64 }
+profile = record { credit_log = 31; credit_limit = 2 ^ 100; cache = 64 }
 
 -- no ask for credit was refused, and no action failed
 pub record AllGranted (entries : List Entry) : Type 0 where

@@ -1,5 +1,5 @@
 -- The words that the program takes, and what they ask for.
-use Rattle.std.specs.Prelude.{ℕ, Bool, true, false, not, nat_le, ◌&&◌, ◌==◌, ◌≤◌, ◌^◌, List, Option, Some, None, Result, Ok, Err, if◌then◌else◌}
+use Rattle.std.specs.Prelude.{ℕ, Bool, true, false, not, nat_le, ◌&&◌, ◌==◌, ◌≤◌, ◌^◌, ◌%◌, List, Option, Some, None, Result, Ok, Err, if◌then◌else◌}
 use Rattle.hpx_value.specs.declared.profile.Profile.{Profile}
 use Rattle.hpx_options.specs.declared.settings.App.{App}
 use Rattle.hpx_options.specs.declared.settings.App.TheVariants as Apps
@@ -8,8 +8,9 @@ use Rattle.hpx_options.specs.declared.settings.Mode.TheVariants.{Hosted}
 use Rattle.hpx_options.specs.declared.settings.Settings.{Settings}
 use Rattle.hpx_options.specs.Meanings.{Reading, Means, BadWord, is_empty, reading_of}
 use Rattle.app_compute.specs.FibLaw.{IsQuestion}
+use Rattle.app_compute.specs.StencilLaw.{IsAsked}
 use Rattle.hpx_top.specs.declared.task.Task.{Task}
-use Rattle.hpx_top.specs.declared.task.Task.TheVariants.{Accumulator, Fib}
+use Rattle.hpx_top.specs.declared.task.Task.TheVariants.{Accumulator, Fib, Stencil}
 
 abbrev pub is_alone : Mode → Bool
 is_alone Hosted = true
@@ -29,14 +30,21 @@ is_plain settings =
 abbrev pub are_asked : ℕ → ℕ → Bool
 are_asked number threshold = nat_le number 92 && nat_le 2 threshold && nat_le threshold 92
 
+-- from 1 to 1,024 points, in from 1 to 32 parts of the same size, and up to 1,000 steps
+abbrev pub is_ring : ℕ → ℕ → ℕ → Bool
+is_ring points parts steps =
+    nat_le 1 points && nat_le points 1024 && nat_le 1 parts && nat_le parts 32 && nat_le steps 1000 && (points % parts == 0)
+
 abbrev pub are_places : ℕ → Bool
 are_places n = nat_le 1 n && nat_le n 64
 
--- what is built: the accumulator over two localities, and Fibonacci numbers over any number of them
+-- what is built: the accumulator over two localities, and Fibonacci numbers and rings over any number of them
 abbrev pub task_by : App → ℕ → Option Task
 task_by Apps.Accumulator n = if n == 2 then Some Accumulator else None
 task_by (Apps.Fib number threshold) n =
     if are_asked number threshold && are_places n then Some (Fib (record { number = number; threshold = threshold }) n) else None
+task_by (Apps.Stencil points parts steps) n =
+    if is_ring points parts steps && are_places n then Some (Stencil (record { points = points; parts = parts; steps = steps }) n) else None
 task_by _ n = None
 
 abbrev pub task_of : Settings → Option Task
@@ -66,8 +74,10 @@ bad_word words = place_of (task_in words)
 abbrev pub places_of : Task → ℕ
 places_of Accumulator = 2
 places_of (Fib question n) = n
+places_of (Stencil shape n) = n
 
 -- a task in the ranges of its numbers
 abbrev pub IsTask : Task → Type 0
 IsTask Accumulator = Unit {0}
 IsTask (Fib question n) = IsQuestion question.number question.threshold × (1 ≤ n) × (n ≤ 64)
+IsTask (Stencil shape n) = IsAsked shape.points shape.parts shape.steps × (1 ≤ n) × (n ≤ 64)

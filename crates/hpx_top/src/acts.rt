@@ -3,7 +3,8 @@ ghost use Rattle.std.specs.Prelude.{◌≡◌, IfOk};
 ghost use Rattle.hpx_top.specs.Acts.{all_of};
 
 use app_compute::act::compute_act;
-use app_compute::session::{computes, session_act as computing_act};
+use app_compute::computing::computing_act;
+use app_compute::session::computes;
 use app_console::act::session_act;
 use app_console::stay::refused;
 use app_console::table::Consoles;
@@ -80,7 +81,9 @@ pub fn all_act(
         return refused(alloc, state, action);
     }
     match kind {
-        SESSION if computes(state, action) => computing_act(alloc, here, state, action),
+        SESSION if computes(state, action) => {
+            computing_act(alloc, here, localities, state, action)
+        }
         SESSION => session_act(alloc, consoles, localities, state, action),
         PLAIN => compute_act(alloc, kind, here, localities, state, action),
         _ if kind < FIRST_MANAGED => names_act(alloc, kind, here, localities, state, action),

@@ -1,21 +1,20 @@
 //! Applications that compute: one line is fed, and what it prints is written once all is done.
 ghost use Rattle.std.specs.Prelude.{◌≡◌, ◌≢◌, ◌≤◌, [], Err, Some, None, OnOk, IfOk, IfErr, IfSome, length};
 ghost use Rattle.hpx_journal.specs.Weights.{HasRoom};
-ghost use Rattle.hpx_journal.specs.Whole.{replayed};
-ghost use Rattle.hpx_steps.specs.Limits.{IsWithin};
 ghost use Rattle.hpx_ports.specs.Faults.{Rose};
-ghost use Rattle.hpx_world.specs.Audit.{audit_lines, IsAudit, StandAtHome};
 ghost use Rattle.hpx_world.specs.Away.{IsCarrying};
-ghost use Rattle.hpx_world.specs.Promises.{KeepsPromises};
 ghost use Rattle.hpx_world.specs.Quiet.{IsQuiet};
 ghost use Rattle.hpx_top.specs.Computed.{IsAnswered, IsUnanswered, task_line};
-ghost use Rattle.hpx_top.specs.Session.{rules, profile, AllGranted, AllDone, IsAmple, IsRested};
+ghost use Rattle.hpx_top.specs.Runs.{ports_of, HasCause, HasEnded, IsLawful};
+ghost use Rattle.hpx_top.specs.Session.{rules, IsAmple, IsRested};
+ghost use Rattle.hpx_top.specs.Statuses.{IsStatus, status_after};
 
 use crate::acts::AllActs;
 use crate::session::{PROFILE, SessionFault, feed, show};
 use crate::task::Task;
 use app_compute::line::fib_line;
 use app_compute::session::MARK;
+use app_compute::shape::stencil_line;
 use app_console::lines::marked;
 use hpx_ports::fabric::Fabric;
 use hpx_ports::sink::Sink;
@@ -35,6 +34,13 @@ pub(crate) fn task_line(alloc: Global, task: Task) -> Result<Option<Text>, OutOf
             localities: _,
         } => {
             let line = fib_line(alloc, question.number, question.threshold)?;
+            Ok(Some(marked(alloc, MARK, line.as_slice())?))
+        }
+        Task::Stencil {
+            shape,
+            localities: _,
+        } => {
+            let line = stencil_line(alloc, shape.points, shape.parts, shape.steps)?;
             Ok(Some(marked(alloc, MARK, line.as_slice())?))
         }
     }
@@ -74,7 +80,8 @@ fn answer<K: Sink, F: Fabric>(
     show(world.journal(), 0, sink)
 }
 
-/// Feeds the line to so many localities, on a fabric in which nothing is in flight yet, and writes what is printed.
+/// Feeds the line to so many localities, on a fabric in which nothing is in flight yet, and writes what is printed. It has no
+/// source.
 #[tactic(auto, using(crate::proofs::Carried::carrying_start))]
 pub(crate) fn compute_all<K: Sink, F: Fabric>(
     alloc: Global,
@@ -92,30 +99,16 @@ pub(crate) fn compute_all<K: Sink, F: Fabric>(
     ensures answered { IfSome result.0 (λ w. OnOk result.1 (IsAnswered (rules w) line w.journal.entries (K.held sink.old) (K.held sink.new))) }
     ensures unanswered { IfSome result.0 (λ w.
         IfErr result.1 (λ fault. IsUnanswered fault (rules w) line w.journal.entries (K.held sink.old) (K.held sink.new))) }
-
+    ensures cause { let x = ports_of None 0 (K.held sink.old) 0 (K.faults sink.old) (F.faults fabric.old) in
+        let z = ports_of None 0 (K.held sink.new) 0 (K.faults sink.new) (F.faults fabric.new) in
+        HasCause (status_after result.1) result.0 x z }
+    ensures status { IsStatus (status_after result.1) }
+    ensures no_read { (result.1 ≢ Err SessionFault.Read) × (result.1 ≢ Err SessionFault.InputFull) }
+    ensures places { IfSome result.0 (λ w. length w.nodes ≡ localities) }
+    ensures lawful { IfSome result.0 (λ w. IsLawful w (F.flight fabric.new) (F.trace fabric.new)) }
+    ensures ended { OnOk result.1 (IfSome result.0 HasEnded) }
     ensures none { result.0 ≡ None → result.1 ≡ Err SessionFault.OutOfMemory }
     ensures untouched { result.0 ≡ None → (sink.new ≡ sink.old) × (fabric.new ≡ fabric.old) }
-    ensures localities { IfSome result.0 (λ w. length w.nodes ≡ localities) }
-    ensures profile { IfSome result.0 (λ w. w.profile ≡ profile) }
-    ensures granted { IfSome result.0 (λ w. AllGranted w.journal.entries) }
-    ensures rest { OnOk result.1 (IfSome result.0 (λ w. IsRested w)) }
-    ensures all_done { OnOk result.1 (IfSome result.0 (λ w. AllDone w.journal.entries)) }
-    ensures promises { IfSome result.0 (λ w. KeepsPromises (rules w) w.journal.entries) }
-    ensures within { IfSome result.0 (λ w. IsWithin w.journal.entries) }
-    ensures audit { IfSome result.0 (λ w. IsAudit (rules w) (replayed (rules w) w.journal.entries) (audit_lines w.nodes)) }
-    ensures at_home { IfSome result.0 (λ w. StandAtHome (rules w) (replayed (rules w) w.journal.entries) (audit_lines w.nodes)) }
-    ensures carrying { IfSome result.0 (λ w. IsCarrying (rules w) w.hand (F.flight fabric.new) (F.trace fabric.new) w.journal.entries) }
-    ensures no_frame { result.1 ≢ Err SessionFault.BadFrame }
-    ensures no_parcel { result.1 ≢ Err SessionFault.Strange }
-    ensures no_read { (result.1 ≢ Err SessionFault.Read) × (result.1 ≢ Err SessionFault.InputFull) }
-
-    ensures write { result.1 ≡ Err SessionFault.Write → Rose (K.faults sink.old) (K.faults sink.new) }
-    ensures fabric { result.1 ≡ Err SessionFault.Fabric → Rose (F.faults fabric.old) (F.faults fabric.new) }
-    ensures full { result.1 ≡ Err SessionFault.JournalFull → IfSome result.0 (λ w. HasRoom w.journal.entries → ⊥) }
-    ensures room { result.1 ≢ Err SessionFault.JournalFull → IfSome result.0 (λ w. HasRoom w.journal.entries) }
-
-    ensures write_only { result.1 ≢ Err SessionFault.Write → K.faults sink.new ≡ K.faults sink.old }
-    ensures fabric_only { result.1 ≢ Err SessionFault.Fabric → F.faults fabric.new ≡ F.faults fabric.old }
 {
     let mut world = match World::boot(alloc, AllActs { localities }, PROFILE) {
         Ok(world) => world,

@@ -16,6 +16,8 @@ ghost use Rattle.app_console.specs.Lines.{is_long, opening};
 ghost use Rattle.hpx_top.specs.Reader.{HasRead, IsOut, input_left, bytes_left, behind_line};
 ghost use Rattle.hpx_top.specs.Session.{rules, IsAmple, IsRested, FeedsAtMost, Feeds, IsLineEndedBy, WritesFront, IsServing, IsServingAt, IsCutAt, IsOver, IsCutBy, IsStopped};
 ghost use Rattle.hpx_top.specs.Ends.{IsWhole, IsEndedBy, IsBegun, IsShort, IsReadFrom, IsReadUp, IsReadOn, IsInputFull};
+ghost use Rattle.hpx_top.specs.Runs.{ports_of, HasCause, HasServed};
+ghost use Rattle.hpx_top.specs.Statuses.{IsStatus, status_after};
 
 use crate::acts::AllActs;
 use crate::reader::{LineReader, Next, ReadFault};
@@ -59,7 +61,7 @@ pub enum SessionFault {
 /// A new object has the most credit that an id can have, and no count comes near the greatest one.
 pub(crate) const PROFILE: Profile = Profile {
     credit_log: 31,
-    credit_limit: 1 << 62,
+    credit_limit: 1 << 100,
     cache: 64,
 };
 
@@ -387,8 +389,8 @@ fn serve_line<S: Source, K: Sink, F: Fabric>(
     }
 }
 
-/// A session, from the first text to the last prompt. Its world is at boot, and no ask for credit is ever refused there.
-pub fn serve<S: Source, K: Sink, F: Fabric>(
+/// Writes the commands, has the accumulator made, and serves each line.
+fn serve_lines<S: Source, K: Sink, F: Fabric>(
     alloc: Global,
     world: &mut World<AllActs>,
     source: &mut S,
@@ -436,4 +438,34 @@ pub fn serve<S: Source, K: Sink, F: Fabric>(
     let mut reader = LineReader::new(alloc);
     while serve_line(alloc, world, &mut reader, source, sink, fabric)? {}
     Ok(())
+}
+
+/// A session, from the first text to the last prompt. Its world is at boot, and no ask for credit is ever refused there.
+pub fn serve<S: Source, K: Sink, F: Fabric>(
+    alloc: Global,
+    world: &mut World<AllActs>,
+    source: &mut S,
+    sink: &mut K,
+    fabric: &mut F,
+) -> Result<(), SessionFault>
+    requires some { 1 ≤ length world.old.nodes }
+    requires few { length world.old.nodes ≤ 64 }
+    requires empty { world.old.journal.entries ≡ [] }
+    requires ample { IsAmple world.old.profile }
+    requires quiet { IsQuiet world.old.nodes world.old.hand }
+    requires carrying { IsCarrying (rules world.old) world.old.hand (F.flight fabric.old) (F.trace fabric.old) world.old.journal.entries }
+
+    ensures served { let x = ports_of (S.left source.old) (S.taken source.old) (K.held sink.old) (S.faults source.old) (K.faults sink.old) (F.faults fabric.old) in
+        let z = ports_of (S.left source.new) (S.taken source.new) (K.held sink.new) (S.faults source.new) (K.faults sink.new) (F.faults fabric.new) in
+        (input : _) → S.left source.old ≡ Some input → HasServed (length world.old.nodes) (status_after result) input (Some world.new) x z }
+    ensures cause { let x = ports_of (S.left source.old) (S.taken source.old) (K.held sink.old) (S.faults source.old) (K.faults sink.old) (F.faults fabric.old) in
+        let z = ports_of (S.left source.new) (S.taken source.new) (K.held sink.new) (S.faults source.new) (K.faults sink.new) (F.faults fabric.new) in
+        HasCause (status_after result) (Some world.new) x z }
+    ensures status { IsStatus (status_after result) }
+    ensures rest { OnOk result (IsRested world.new) }
+    ensures carrying { IsCarrying (rules world.new) world.new.hand (F.flight fabric.new) (F.trace fabric.new) world.new.journal.entries }
+    ensures count { length world.new.nodes ≡ length world.old.nodes }
+    ensures profile { world.new.profile ≡ world.old.profile }
+{
+    serve_lines(alloc, world, source, sink, fabric)
 }

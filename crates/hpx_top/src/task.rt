@@ -1,8 +1,9 @@
 //! What the words ask to be run.
 ghost use Rattle.std.specs.Prelude.{◌≡◌};
-ghost use Rattle.hpx_top.specs.Usage.{are_asked, are_places, is_usual, is_plain, task_by, task_of, task_in, reading_task};
+ghost use Rattle.hpx_top.specs.Usage.{are_asked, are_places, is_ring, is_usual, is_plain, task_by, task_of, task_in, reading_task};
 
 use app_compute::line::Question;
+use app_compute::shape::Shape;
 use hpx_options::options::read;
 use hpx_options::settings::{App, Mode, OptionFault, Settings};
 use hpx_value::items::Texts;
@@ -16,6 +17,8 @@ pub enum Task {
     Accumulator,
     /// A Fibonacci number, computed over so many localities.
     Fib { question: Question, localities: u32 },
+    /// A ring of points, stepped over so many localities.
+    Stencil { shape: Shape, localities: u32 },
 }
 
 const MOST_LOCALITIES: u32 = 64;
@@ -24,11 +27,34 @@ const GREATEST_NUMBER: u32 = 92;
 
 const LEAST_THRESHOLD: u32 = 2;
 
+const MOST_POINTS: u32 = 1024;
+
+const MOST_PARTS: u32 = 32;
+
+const MOST_STEPS: u32 = 1000;
+
 /// A number and a threshold in their ranges.
 fn are_asked(number: u32, threshold: u32) -> bool
     ensures { result ≡ are_asked number threshold }
 {
     number <= GREATEST_NUMBER && LEAST_THRESHOLD <= threshold && threshold <= GREATEST_NUMBER
+}
+
+/// The numbers of a ring in their ranges, in parts of the same size.
+fn is_ring(shape: Shape) -> bool
+    ensures { result ≡ is_ring shape.points shape.parts shape.steps }
+{
+    let Shape {
+        points,
+        parts,
+        steps,
+    } = shape;
+    1 <= points
+        && points <= MOST_POINTS
+        && 1 <= parts
+        && parts <= MOST_PARTS
+        && steps <= MOST_STEPS
+        && points % parts == 0
 }
 
 /// From 1 to 64 localities.
@@ -53,11 +79,26 @@ fn task_by(app: App, localities: u32) -> Option<Task>
                 localities,
             })
         }
+        App::Stencil {
+            points,
+            parts,
+            steps,
+        } => {
+            let shape = Shape {
+                points,
+                parts,
+                steps,
+            };
+            (is_ring(shape) && are_places(localities)).then_some(Task::Stencil {
+                shape,
+                localities,
+            })
+        }
         _ => None,
     }
 }
 
-/// Whether credit and cache are as usual. No count comes near the greatest one, which is that of `PROFILE` in a world.
+/// Whether credit and cache are as usual, as in `PROFILE`.
 fn is_usual(profile: Profile) -> bool
     ensures { result ≡ is_usual profile }
 {

@@ -6,12 +6,11 @@ use hpx_value::memory::OutOfMemory;
 use std::alloc::Global;
 use std::test::Fail;
 
-/// The text of one number, as the test itself makes it, and how many lines spoke of the number.
+/// The text of one number, as the test itself makes it.
 #[derive(Drop)]
 struct Plain {
     number: i64,
     text: Vec<u8>,
-    calls: u64,
 }
 
 impl Plain {
@@ -23,7 +22,6 @@ impl Plain {
                 alloc,
                 b"commands: reset, add [amount], query, help, quit\n> ",
             )?,
-            calls: 0,
         })
     }
 
@@ -35,7 +33,6 @@ impl Plain {
 
     /// A line that speaks of the number, which is kept, or set, or printed.
     fn calls(&mut self, alloc: Global, line: &[u8], amount: i64) -> Result<(), OutOfMemory> {
-        self.calls = self.calls.saturating_add(1);
         match line {
             b"query" => {
                 let number = self.number;
@@ -59,14 +56,6 @@ impl Plain {
             _ => self.calls(alloc, line, amount)?,
         }
         self.says(b"> ")
-    }
-
-    /// How often credit is asked for: by the 32nd line that speaks of the number, and by each 31st behind it.
-    fn asks(&self) -> u64 {
-        match self.calls.checked_sub(32) {
-            Some(more) => more / 31 + 1,
-            None => 0,
-        }
     }
 }
 
@@ -116,44 +105,40 @@ fn asked(alloc: Global, ended: &Ended, plain: &Plain) -> Option<Asks> {
     }
 }
 
-/// How many of the sessions of every third number are right, from this one on, and how many of them ask for credit.
-fn a_third(alloc: Global, first: u64, order: Order) -> Result<(u32, u32), Fail> {
-    let (mut right, mut asking) = (0u32, 0u32);
+/// How many of the sessions of every third number are right, from this one on. None asks for credit, since each answer brings it back.
+fn a_third(alloc: Global, first: u64, order: Order) -> Result<u32, Fail> {
+    let mut right = 0u32;
     for i in 0..100u64 {
         let (input, plain) = generated(alloc, first.saturating_add(3 * i))?;
         let ended = session(alloc, input.as_slice(), order)?;
-        let asks = Asks {
-            asked: plain.asks(),
-            granted: plain.asks(),
+        let none = Asks {
+            asked: 0,
+            granted: 0,
             refused: 0,
-            given: plain.asks(),
+            given: 0,
             failed: 0,
         };
-        if asked(alloc, &ended, &plain) == Some(asks) {
+        if asked(alloc, &ended, &plain) == Some(none) {
             right = right.saturating_add(1);
         }
-        if plain.asks() > 0 {
-            asking = asking.saturating_add(1);
-        }
     }
-    Ok((right, asking))
+    Ok(right)
 }
 
-// Of each hundred 50 ask for credit; a program that makes the same lines counted them.
 #[test]
 fn a_hundred_sessions_are_right_over_first_in(rt: HostRuntime) -> Result<(), Fail> {
-    assert_eq!(rt; a_third(rt.alloc(), 3, Order::FirstIn)?, (100, 50));
+    assert_eq!(rt; a_third(rt.alloc(), 3, Order::FirstIn)?, 100);
     Ok(())
 }
 
 #[test]
 fn a_hundred_sessions_are_right_over_last_in(rt: HostRuntime) -> Result<(), Fail> {
-    assert_eq!(rt; a_third(rt.alloc(), 1, Order::LastIn)?, (100, 50));
+    assert_eq!(rt; a_third(rt.alloc(), 1, Order::LastIn)?, 100);
     Ok(())
 }
 
 #[test]
 fn a_hundred_sessions_are_right_over_scrambled(rt: HostRuntime) -> Result<(), Fail> {
-    assert_eq!(rt; a_third(rt.alloc(), 2, Order::Scrambled(7))?, (100, 50));
+    assert_eq!(rt; a_third(rt.alloc(), 2, Order::Scrambled(7))?, 100);
     Ok(())
 }

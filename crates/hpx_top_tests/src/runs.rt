@@ -119,7 +119,7 @@ pub fn is_text(text: &[u8], want: &[u8]) -> bool {
 const LONG: [u8; 1025] = [b'x'; 1025];
 
 // Counted by hand. `open`: Line, Fire, Done, Sent and Out at 0; In, Fire, Born, Done, Sent and Out at 1; In, Fire and Done at
-// 0. `add 5`: the same without Born, and a Split at 0, and an Up at 1, with the Mail and the Count of the id that is given up.
+// 0. `add 5`: the same without Born, and a Split at 0, and at the end a Merge of the id that comes back with the answer.
 // `query`, and an `add` that overflows, have a Print more. A line that is refused has Line, Fire, Done and Print, an empty one
 // no Print, and one that is too long is not fed. Each frame is in the trace where it was sent, and where it was delivered.
 #[test]
@@ -128,26 +128,26 @@ fn sessions_have_their_text_entries_and_frames(rt: HostRuntime) -> Result<(), Fa
     for order in ORDERS {
         for (input, want, entries, frames) in [
             (b"".as_slice(), b"> ".as_slice(), 0u64, 0usize),
-            (b"add 5\n", b"> > ", 17, 2),
-            (b"query\n", b"> 0\n> ", 18, 2),
+            (b"add 5\n", b"> > ", 15, 2),
+            (b"query\n", b"> 0\n> ", 16, 2),
             (b"add x\n", b"> error: bad number\n> ", 4, 0),
             (&LONG, b"> error: line too long\n> ", 0, 0),
             (
                 b"add 5\nadd 10\nquery\nadd 2\nquery\nquit\n",
                 b"> > > 15\n> > 17\n> ",
-                3 * 17 + 2 * 18,
+                3 * 15 + 2 * 16,
                 10,
             ),
             (
                 b"add 9223372036854775807\nadd 1\nquery\n",
                 b"> > error: overflow\n> 9223372036854775807\n> ",
-                17 + 2 * 18,
+                15 + 2 * 16,
                 6,
             ),
             (
                 b"add\nadd x\n\nadd -3\r\nquery\n\t quit \nquery",
                 b"> error: bad command\n> error: bad number\n> > > -3\n> ",
-                2 * 4 + 3 + 17 + 18,
+                2 * 4 + 3 + 15 + 16,
                 4,
             ),
         ] {
@@ -375,10 +375,9 @@ fn other_words_are_refused_or_mean_the_same(rt: HostRuntime) -> Result<(), Fail>
     Ok(())
 }
 
-// Counted by hand: 14 entries and 2 frames of the opening, and 17 and 2 a line. The 32nd line and each 31st behind it, 64 of
-// them, ask for credit: Asked, Out, In, Count, Out, In and Given, and two frames. They weigh 64 each and the bytes in them: 5 of
-// the opening and 17 of the accumulator's state, 6 of each line, and twice those of the frames: 67 and 59 at the opening, 62 and
-// 43 for each line, 28 and 26 for each ask.
+// Counted by hand: 14 entries and 2 frames of the opening, and 15 and 2 a line, of which none asks for credit. They weigh 64 each
+// and the bytes in them: 5 of the opening and 17 of the accumulator's state, 6 of each line, and twice those of the frames: 67 and
+// 59 at the opening, 62 and 60 for each line.
 #[test]
 fn two_thousand_lines_are_two_thousand_times_one(rt: HostRuntime) -> Result<(), Fail> {
     let alloc = rt.alloc();
@@ -386,10 +385,10 @@ fn two_thousand_lines_are_two_thousand_times_one(rt: HostRuntime) -> Result<(), 
     let ended = session(alloc, input.as_slice(), Order::FirstIn)?;
     assert_eq!(rt; ended.status, 0);
     assert_eq!(rt; ended.fabric.in_flight(), 0);
-    assert_eq!(rt; ended.fabric.trace().len(), 4 + 2000 * 4 + 64 * 4);
+    assert_eq!(rt; ended.fabric.trace().len(), 4 + 2000 * 4);
     // The commands line has 49 bytes, and there are 2,001 prompts.
     assert_eq!(rt; ended.text.len(), 49 + 2001 * 2);
-    let entries = 14 + 2000 * 17 + 64 * 7;
+    let entries = 14 + 2000 * 15;
     assert_eq!(rt; ended.entries(), entries);
     let weight = match &ended.world {
         Some(world) => world.journal().weight(),
@@ -397,10 +396,7 @@ fn two_thousand_lines_are_two_thousand_times_one(rt: HostRuntime) -> Result<(), 
     };
     assert_eq!(rt;
         weight,
-        64 * entries
-            + (5 + 17 + 2 * 67 + 2 * 59)
-            + 2000 * (6 + 2 * 62 + 2 * 43)
-            + 64 * (2 * 28 + 2 * 26)
+        64 * entries + (5 + 17 + 2 * 67 + 2 * 59) + 2000 * (6 + 2 * 62 + 2 * 60)
     );
     Ok(())
 }

@@ -1,12 +1,13 @@
 //! Sessions of both consoles over worlds, over each order of delivery.
 use crate::space_acts::SpaceActs;
-use crate::worlds::{ORDERS, PROFILE, drain, feed, printed};
+use crate::worlds::{ORDERS, PROFILE, audit, drain, feed, printed};
 use app_console::lines::{ACCUMULATOR, SPACE, is_long, marked};
 use app_console::table::Console;
 use app_console_tests::rows::rows;
 use hpx_ports::memory_fabric::SureFabric;
 use hpx_ports::order::Order;
 use hpx_value::memory::OutOfMemory;
+use hpx_value::profile::Profile;
 use hpx_world::world::World;
 use std::alloc::Global;
 use std::test::Fail;
@@ -32,14 +33,15 @@ impl Running {
     fn new(
         alloc: Global,
         localities: u32,
+        profile: Profile,
         order: Order,
         pace: Pace,
     ) -> Result<Running, OutOfMemory> {
-        if localities == 0 || localities > 64 {
+        if localities == 0 || localities > 64 || !profile.is_valid() {
             return Err(OutOfMemory);
         }
         Ok(Running {
-            world: World::boot(alloc, SpaceActs { localities }, PROFILE)?,
+            world: World::boot(alloc, SpaceActs { localities }, profile)?,
             fabric: SureFabric::new(alloc, order),
             pace,
         })
@@ -82,7 +84,7 @@ fn session(
     order: Order,
     pace: Pace,
 ) -> Result<Vec<u8>, OutOfMemory> {
-    let mut running = Running::new(alloc, localities, order, pace)?;
+    let mut running = Running::new(alloc, localities, PROFILE, order, pace)?;
     if console == Console::Accumulator {
         running.line(alloc, b'o', b"open")?;
     }
@@ -199,6 +201,43 @@ fn names_answers_and_keys_are_few(rt: HostRuntime) -> Result<(), Fail> {
                 Pace::Calm,
             )?;
             assert_eq!(rt; text.as_slice(), want);
+        }
+    }
+    Ok(())
+}
+
+/// The least credit that a new object can have for eight keys, and a greatest count that leaves no more.
+const SCANT: Profile = Profile {
+    credit_log: 8,
+    credit_limit: 256,
+    cache: 64,
+};
+
+// An id that a service refuses brings its credit home. Where no credit is left for a call, and the home may give none, it fails.
+#[test]
+fn what_is_registered_is_held(rt: HostRuntime) -> Result<(), Fail> {
+    let alloc = rt.alloc();
+    for order in ORDERS {
+        for (profile, input, text, told) in [
+            (
+                PROFILE,
+                b"new a 1\nregister a n\nregister a n".as_slice(),
+                b"error: taken\n".as_slice(),
+                "1.1 recorded 1610612736 held 1610612736 flight 0 at 1\n",
+            ),
+            (
+                SCANT,
+                b"new a 1\nregister a k1\nregister a k2\nregister a k3\nregister a k4\nregister a k5\nregister a k6\nregister a k7\nregister a k8\nadd a 1\nquery a",
+                b"error: credit limit\nerror: credit limit\n",
+                "1.1 recorded 256 held 256 flight 0 at 1\n",
+            ),
+        ] {
+            let mut running = Running::new(alloc, 2, profile, order, Pace::Calm)?;
+            for line in input.split(|b| *b == b'\n') {
+                running.line(alloc, SPACE, line)?;
+            }
+            assert_eq!(rt; audit(alloc, &running.world)?.as_str(), told);
+            assert_eq!(rt; running.text(alloc)?.as_slice(), text);
         }
     }
     Ok(())

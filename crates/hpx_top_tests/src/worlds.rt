@@ -21,7 +21,7 @@ pub const ORDERS: [Order; 3] = [Order::FirstIn, Order::LastIn, Order::Scrambled(
 /// The profile of a run.
 pub const PROFILE: Profile = Profile {
     credit_log: 31,
-    credit_limit: 1 << 62,
+    credit_limit: 1 << 100,
     cache: 64,
 };
 
@@ -53,6 +53,21 @@ pub fn drain<A: Acts + Copy, F: Fabric>(
         Ok(()) => Ok(()),
         Err(_) => Err(OutOfMemory),
     }
+}
+
+/// The audit in words, a line for each object.
+pub fn audit<A: Acts + Copy>(alloc: Global, world: &World<A>) -> Result<String, OutOfMemory> {
+    let mut text = String::new(alloc);
+    for line in world.audit(alloc)?.as_slice() {
+        let (home, number) = (line.gid.home(), line.gid.number());
+        let (recorded, held, flight) = (line.recorded, line.held, line.flight);
+        let at = line.at;
+        let line = format!(in alloc;
+            "{home}.{number} recorded {recorded} held {held} flight {flight} at {at}\n"
+        )?;
+        text.push_str(line.as_str())?;
+    }
+    Ok(text)
 }
 
 /// All that a journal prints from a place on.

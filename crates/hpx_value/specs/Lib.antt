@@ -4,5 +4,6 @@ pub mod Shapes
 pub mod Hands
 pub mod Kept
 pub mod Mentions
+pub mod Riders
 pub mod Laws
 pub mod Profiles

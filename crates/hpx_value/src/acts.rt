@@ -2,6 +2,7 @@ ghost use Rattle.std.specs.Prelude.{◌≡◌, ◌<◌, ◌≤◌, ℕ, IfOk, If
 ghost use Rattle.hpx_value.specs.Values.{State, Act, bare_act, bare_state, message_of, named};
 ghost use Rattle.hpx_value.specs.Shapes.{IsAct, IsState};
 ghost use Rattle.hpx_value.specs.Hands.{Outcome};
+ghost use Rattle.hpx_value.specs.Riders.{plain};
 ghost use Rattle.hpx_value.specs.Laws.{KeepsLaws};
 
 use crate::items::Items;
@@ -57,14 +58,23 @@ pub struct Job {
 /// Jobs, in order.
 pub type Jobs = Items<Job>;
 
-/// A job with its outcome, which is no other than the acts' own.
+/// A job with its outcome, which is no other than the acts' own of the plain action: no act sees a rider.
 #[derive(Drop)]
 pub struct Done<A: Acts> {
     pub job: Job,
     pub localities: u32,
     pub outcome: Outcome,
     acts: PhantomData<A>,
-    ghost right: { outcome ≡ A.act_of localities job.kind job.at job.state job.action },
+    ghost right: { outcome ≡ A.act_of localities job.kind job.at job.state (plain job.action) },
+}
+
+/// What acts do with a job's plain action.
+fn run<A: Acts>(alloc: Global, acts: &A, job: &Job) -> Result<Outcome, OutOfMemory>
+    ensures { IfOk result (λ outcome. outcome
+        ≡ A.act_of (A.count acts.now) job.now.kind job.now.at job.now.state (plain job.now.action)) }
+{
+    let action = job.action.plain(alloc)?;
+    acts.act(alloc, job.kind, job.at, &job.state, &action)
 }
 
 impl<A: Acts> Done<A> {
@@ -72,11 +82,11 @@ impl<A: Acts> Done<A> {
     pub fn compute(alloc: Global, acts: &A, job: Job) -> Result<Done<A>, Job>
         ensures job { IfOk result (λ done. done.job ≡ job) }
         ensures localities { IfOk result (λ done. done.localities ≡ A.count acts.now) }
-        ensures outcome { IfOk result (λ done. done.outcome ≡ A.act_of (A.count acts.now) job.kind job.at job.state job.action) }
+        ensures outcome { IfOk result (λ done. done.outcome ≡ A.act_of (A.count acts.now) job.kind job.at job.state (plain job.action)) }
         ensures err { IfErr result (λ back. back ≡ job) }
     {
         let localities = acts.localities();
-        match acts.act(alloc, job.kind, job.at, &job.state, &job.action) {
+        match run(alloc, acts, &job) {
             Ok(outcome) => Ok(Done {
                 job,
                 localities,

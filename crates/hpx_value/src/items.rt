@@ -1,4 +1,4 @@
-ghost use Rattle.std.specs.Prelude.{◌≡◌, ◌+◌, ◌∷◌, ◌++◌, [], IsTrue, ◌↔◌, OnOk, OnErr, length};
+ghost use Rattle.std.specs.Prelude.{◌≡◌, ◌+◌, ◌<◌, ◌∷◌, ◌++◌, [], IsTrue, ◌↔◌, IfOk, OnOk, OnErr, length, set};
 
 use crate::exact::Exact;
 use crate::memory::OutOfMemory;
@@ -91,6 +91,14 @@ impl<T> Items<T> {
 }
 
 impl<T: Drop> Items<T> {
+    /// Another element in place of one.
+    pub fn set(&mut self, i: usize, item: T)
+        requires { i < length self.old }
+        ensures { self.new ≡ set self.old i item }
+    {
+        self.items[i] = item;
+    }
+
     /// One more element, at the end. Without memory nothing changes.
     pub fn push(&mut self, item: T) -> Result<(), OutOfMemory>
         ensures ok { OnOk result (self.new ≡ self.old ++ item ∷ []) }
@@ -101,13 +109,22 @@ impl<T: Drop> Items<T> {
     }
 }
 
+/// Copies of some elements, in order.
+pub(crate) fn copied<T: Exact>(alloc: Global, xs: &[T]) -> Result<Vec<T>, OutOfMemory>
+    ensures { IfOk result (λ copy. copy.items ≡ xs.now) }
+{
+    let mut items = Vec::new(alloc);
+    for x in xs {
+        items.push(x.duplicate(alloc)?)?;
+    }
+    Ok(items)
+}
+
 impl<T: Exact> Exact for Items<T> {
     fn duplicate(&self, alloc: Global) -> Result<Items<T>, OutOfMemory> {
-        let mut items = Vec::new(alloc);
-        for x in self.items.as_slice() {
-            items.push(x.duplicate(alloc)?)?;
-        }
-        Ok(Items { items })
+        Ok(Items {
+            items: copied(alloc, self.items.as_slice())?,
+        })
     }
 
     fn same(&self, other: &Items<T>) -> bool {

@@ -6,6 +6,7 @@ pub mod codes;
 pub mod exact;
 pub mod gid;
 pub mod items;
+pub mod law;
 pub mod memory;
 pub mod outcome;
 pub mod profile;

@@ -6,7 +6,7 @@ ghost use Rattle.hpx_value.specs.Profiles.{IsValid};
 pub struct Profile {
     /// The log of a new object's credit, from 8 to 31.
     pub credit_log: u8,
-    /// The greatest count of a record, from `2^credit_log` to `2^62`.
+    /// The greatest count of a record, from `2^credit_log` to `2^100`.
     pub credit_limit: u128,
     /// How many places a locality remembers, from 1 to 4096.
     pub cache: u32,
@@ -20,7 +20,7 @@ impl Profile {
         8 <= self.credit_log
             && self.credit_log <= 31
             && 1u128 << self.credit_log as u32 <= self.credit_limit
-            && self.credit_limit <= 1u128 << 62u32
+            && self.credit_limit <= 1u128 << 100u32
             && 1 <= self.cache
             && self.cache <= 4096
     }

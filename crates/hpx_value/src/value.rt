@@ -1,8 +1,13 @@
 ghost use Rattle.std.specs.Prelude.{◌≡◌, ◌↔◌, IfOk, IsTrue};
+ghost use Rattle.std.specs.List.{remove};
+ghost use Rattle.std.specs.Option.{option_to_list};
+ghost use Rattle.hpx_value.specs.Values.{message_of};
+ghost use Rattle.hpx_value.specs.Riders.{rider_place, less_one, plain, rider_of};
 
+use crate::codes::{SESSION, SET};
 use crate::exact::Exact;
-use crate::gid::Gids;
-use crate::items::{Ints, Items, Text};
+use crate::gid::{Gid, Gids};
+use crate::items::{Ints, Items, Text, copied};
 use crate::memory::OutOfMemory;
 use std::alloc::Global;
 
@@ -61,6 +66,71 @@ pub struct Message {
     pub args: Values,
     pub cont: Option<Cont>,
     pub ids: Gids,
+}
+
+impl Act {
+    /// The place of the rider behind the target's, if this is a SET with one.
+    fn rider_place(&self) -> Option<u16>
+        ensures { result ≡ rider_place (message_of self.now) }
+    {
+        if self.code != SET {
+            return None;
+        }
+        match self.args.as_slice() {
+            [_, _, Value::Ref(place)] if *place > 0 => Some(*place - 1),
+            _ => None,
+        }
+    }
+
+    /// The id of the target that rides with an answer, if this is one with a rider.
+    pub fn rider(&self) -> Option<Gid>
+        ensures { option_to_list result ≡ rider_of self.now }
+    {
+        let place = self.rider_place()?;
+        match self.ids.as_slice().get(place as usize + 1) {
+            Some(id) => Some(*id),
+            None => Some(Gid::new(0, SESSION, 1)),
+        }
+    }
+
+    /// The action as its target sees it: without a rider.
+    pub fn plain(&self, alloc: Global) -> Result<Act, OutOfMemory>
+        ensures { IfOk result (λ a. a ≡ plain self.now) }
+    {
+        match self.rider_place() {
+            None => self.duplicate(alloc),
+            Some(place) => Ok(Act {
+                origin: self.origin,
+                serial: self.serial,
+                code: self.code,
+                args: Items::from_vec(copied(alloc, &self.args.as_slice()[..2])?),
+                cont: earlier(self.cont),
+                ids: without_place(alloc, &self.ids, place as usize + 1)?,
+            }),
+        }
+    }
+}
+
+/// The continuation, with its target one place earlier.
+fn earlier(cont: Option<Cont>) -> Option<Cont>
+    ensures { result ≡ less_one cont }
+{
+    let cont = cont?;
+    Some(Cont {
+        place: cont.place.saturating_sub(1),
+        slot: cont.slot,
+    })
+}
+
+/// The ids without the one at a place.
+fn without_place(alloc: Global, ids: &Gids, place: usize) -> Result<Gids, OutOfMemory>
+    ensures { IfOk result (λ less. less ≡ remove ids.now place) }
+{
+    let mut less = copied(alloc, ids.as_slice())?;
+    if place < less.len() {
+        less.remove(place);
+    }
+    Ok(Items::from_vec(less))
 }
 
 impl Exact for Cont {

@@ -213,7 +213,7 @@ module _ (act_of : Meaning) (profile : Profile) (nodes : List Tables) (es : List
     sums : held_at_all r x.gid w + away_of r x.gid w ≡ x.count
     sums = sym (credit_splits r x.gid w) ∙ (legal_sums r es [] (subst (IsLegal r) (sym (append-nil es)) legal) x.gid ∙ sym count_is)
 
-    most : x.count ≤ 2 ^ 62
+    most : x.count ≤ 2 ^ 100
     most = omega (arith, (records.good x.gid x found).most, ap (λ (p : Profile). p.credit_limit) (sound.stand k t at).tuned, valid.limit_most)
 
     held_is : held_in_all x.gid nodes ≡ held_at_all r x.gid w

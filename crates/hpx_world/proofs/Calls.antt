@@ -13,7 +13,7 @@ use Rattle.hpx_part.proofs.Keyed.{slice_get_is}
 use Rattle.hpx_tables.specs.Splits.{asked_events}
 use Rattle.hpx_node.specs.Asks.{Begins, splits_before, lacking}
 use Rattle.hpx_node.specs.Changes.{Writes, OnlySpare}
-use Rattle.hpx_node.specs.Commits.{committed}
+use Rattle.hpx_node.specs.Commits.{seen, committed}
 use Rattle.hpx_steps.specs.Calls.{effects}
 use Rattle.hpx_steps.specs.Rows.{kind_of}
 use Rattle.hpx_node.specs.Handled.{Clears}
@@ -149,8 +149,8 @@ module _ {E : Type 0} (v v' : Locality) (b b' : Book) where
     writes = done refl;
   }
   finish_inside N M Q job out (Ok Asking) done asks none err = record {
-    events = splits_before v.tables job out ++ asked_events (lacking v.tables job out);
-    inner = plain_inner (splits_before v.tables job out ++ asked_events (lacking v.tables job out)) (begins_plain v.tables job out);
+    events = splits_before v.tables (seen job) out ++ asked_events (lacking v.tables (seen job) out);
+    inner = plain_inner (splits_before v.tables (seen job) out ++ asked_events (lacking v.tables (seen job) out)) (begins_plain v.tables (seen job) out);
     writes = (asks refl).1.writes;
   }
   finish_inside N M Q job out (Ok NotRunning) done asks none err = spare_inside v.tables v'.tables b b' (none refl).1

@@ -8,7 +8,7 @@ use Rattle.hpx_commit.specs.Deals.{AllLast}
 use Rattle.hpx_node.specs.Asks.{Begins}
 use Rattle.hpx_node.specs.Changes.{Writes, OnlySpare}
 use Rattle.hpx_node.specs.Locality.{Locality, tables_of}
-use Rattle.hpx_node.specs.Commits.{committed, hand_of, places_in_hand, Ends}
+use Rattle.hpx_node.specs.Commits.{seen, committed, hand_of, places_in_hand, Ends}
 use Rattle.hpx_tables.specs.Jobs.{IsRunning}
 use Rattle.hpx_tables.specs.Tables.{Tables}
 use Rattle.hpx_node.specs.declared.parts.Finished.{Finished}
@@ -30,8 +30,8 @@ module _ (nodes : List Locality) (k : ℕ) (v v' : Locality) (lt : k < length (t
   done_there Does h = subst (λ j. DoneAt j Does (tables_of nodes) (tables_of (set nodes k v'))) (sym at) (done_at nodes k v v' lt is Does h)
 
   pub finished_did : (f : Finished) → (f ≡ Committed → Writes (committed t job out) t t' b.entries b'.entries)
-      → (f ≡ Committed → AllLast (hand_of t job out) (places_in_hand t job out))
-      → (f ≡ Asking → (AllLast (hand_of t job out) (places_in_hand t job out) → ⊥) × Begins t t' job out b.entries b'.entries)
+      → (f ≡ Committed → AllLast (hand_of t (seen job) out) (places_in_hand t (seen job) out))
+      → (f ≡ Asking → (AllLast (hand_of t (seen job) out) (places_in_hand t (seen job) out) → ⊥) × Begins t t' job out b.entries b'.entries)
       → (f ≡ NotRunning → (n ≡ t.localities → IsRunning t job → ⊥) × OnlySpare t t' b b')
       → ((f ≡ NotRunning → ⊥) → (n ≡ t.localities) × IsRunning t job)
       → (f ≡ Committed → Ends t t' job out)

@@ -2,6 +2,7 @@
 use Rattle.std.specs.Prelude.{Some, None, take, length, ◌-◌}
 use Rattle.std.proofs.Common.{ℕ, ◌≡◌, ◌<◌, refl, sym, ap, ◌∙◌, subst, inl, inr, arith}
 use Rattle.std.specs.List.{AllByRecursion, sum_by}
+use Rattle.hpx_value.specs.Riders.{plain}
 use Rattle.hpx_tables.specs.Tables.{Tables}
 use Rattle.hpx_value.specs.declared.acts.Acts.{Ghosts}
 use Rattle.hpx_journal.specs.Weights.{HasRoom}
@@ -129,7 +130,7 @@ step_longer act_of x z (room, inl (w, out)) =
     let d = w.did in
     let fire = fired_longer x.nodes d.mid x.entries d.between w.k d.job d.fired in
     let rest = unfed_le d.between z.entries (finished_unfed d.mid z.nodes d.between z.entries (length x.nodes) d.job
-    (act_of (length x.nodes) d.job.kind d.job.at d.job.state d.job.action) (turned.Finished d.how) d.finished) in
+    (act_of (length x.nodes) d.job.kind d.job.at d.job.state (plain d.job.action)) (turned.Finished d.how) d.finished) in
     omega (arith, fire, rest)
 step_longer act_of x z (room, inr (inl (none, w, out))) = cleared_longer x.nodes z.nodes x.entries z.entries w.k w.did
 step_longer act_of x z (room, inr (inr (inl (none, w, out)))) =

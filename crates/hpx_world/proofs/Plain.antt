@@ -1,26 +1,27 @@
 -- What nodes write beside frames and lines: events that move no frame and feed nothing.
 use Rattle.std.proofs.Common.{ℕ, zero, suc, Bool, true, false, List, [], ◌∷◌, ◌++◌, ◌+◌, Option, Some, None, map, sym, subst, inl, inr}
-use Rattle.std.specs.Prelude.{if◌then◌else◌, nat_lt}
+use Rattle.std.specs.Prelude.{cond, if◌then◌else◌, nat_lt}
 use Rattle.std.specs.List.{AllByRecursion, find}
 use Rattle.std.proofs.lemmas.Bool.{cases_Bool}
 use Rattle.hpx_value.specs.Ids.{bare}
-use Rattle.hpx_value.specs.Hands.{due_of}
+use Rattle.hpx_value.specs.Riders.{due_with, plain, rider_of}
 use Rattle.hpx_value.specs.declared.acts.Job.{Job}
 use Rattle.hpx_journal.specs.Data.{Id, Outcome, Due, MessageDue, PrintDue, Parcel, Return, Ask, Give, Free}
 use Rattle.hpx_journal.specs.Entries.{name_of}
 use Rattle.hpx_journal.specs.Local.{is_standing}
 use Rattle.hpx_journal.proofs.Alls.{all-append}
-use Rattle.hpx_part.specs.Data.{Event, Line, Out, In, Done, Count, Granted, Refused, Standing}
+use Rattle.hpx_part.specs.Data.{Event, Line, Out, In, Done, Merge, Up, Count, Granted, Refused, Standing}
 use Rattle.hpx_commit.specs.Deals.{half, named, unnamed}
 use Rattle.hpx_commit.specs.Stocks.{Stock, halvings}
 use Rattle.hpx_tables.specs.declared.births.Birth.{Birth}
 use Rattle.hpx_tables.specs.Splits.{first_cuts, asked_events, cuts, splits_from}
 use Rattle.hpx_node.specs.Asks.{own_many, hand_before, splits_before, lacking}
 use Rattle.hpx_tables.specs.Births.{birth_of, births_of}
-use Rattle.hpx_node.specs.Commits.{made_of, own_stock, committed_from, committed, places_in_hand}
+use Rattle.hpx_node.specs.Commits.{seen, made_of, own_stock, state_dealt, committed_from, committed, places_in_hand}
 use Rattle.hpx_node.specs.Fails.{dooms, failed_events, due_left, ups_left, FailsWith}
-use Rattle.hpx_steps.specs.Calls.{up_of, ups, written_due, returned, freed, effects, more_here}
+use Rattle.hpx_steps.specs.Calls.{up_of, ups, rider_event, rider_events, written_due, returned, freed, effects, more_here}
 use Rattle.hpx_tables.specs.Kept.{count_here}
+use Rattle.hpx_tables.specs.Merged.{may_merge}
 use Rattle.hpx_node.specs.Next.{Continues}
 use Rattle.hpx_tables.specs.Pending.{Waits}
 use Rattle.hpx_node.specs.Resumes.{completes, full_stock, GoesWith}
@@ -66,16 +67,32 @@ ups_plain : (ids : List Id) → ArePlain (ups ids)
 ups_plain [] = tt
 ups_plain (id ∷ ids) = up_plain id id.log (ups ids) (ups_plain ids)
 
+merged_plain : (id : Id) (log : ℕ) (b : Bool) → ArePlain (cond b (Merge (bare id) log) (Up (bare id) log) ∷ [])
+merged_plain id log true = (tt, tt)
+merged_plain id log false = (tt, tt)
+
+rider_plain : (most : ℕ) (ids : List Id) (id : Id) (log : Option ℕ) → ArePlain (rider_event most ids id log)
+rider_plain most ids id None = tt
+rider_plain most ids id (Some log) = merged_plain id log (may_merge most id log ids)
+
+riders_plain : (most : ℕ) (ids riders : List Id) → ArePlain (rider_events most ids riders)
+riders_plain most ids [] = tt
+riders_plain most ids (id ∷ riders) = rider_plain most ids id id.log
+
 from_plain : (t : Tables) (job : Job) (out : Outcome) (s : Stock) → ArePlain (committed_from t job out s)
 from_plain t job out s =
-    let due = written_due t.here t.serial (due_of job.state job.action (made_of t out) out) in
-    let gives = ups (unnamed s.hand s.places) in
-    let end = all-append IsPlain due gives (written_plain t.here t.serial (due_of job.state job.action (made_of t out) out)) (ups_plain (unnamed s.hand s.places)) in
+    let due = written_due t.here t.serial (due_with job.state (plain job.action) (made_of t out) out) in
+    let most = t.profile.credit_log in
+    let ids = (state_dealt t (seen job) out s).ids in
+    let gives = rider_events most ids (rider_of job.action) ++ ups (unnamed s.hand s.places) in
+    let gives_plain = all-append IsPlain (rider_events most ids (rider_of job.action)) (ups (unnamed s.hand s.places))
+    (riders_plain most ids (rider_of job.action)) (ups_plain (unnamed s.hand s.places)) in
+    let end = all-append IsPlain due gives (written_plain t.here t.serial (due_with job.state (plain job.action) (made_of t out) out)) gives_plain in
     all-append IsPlain (births_of t.here t.births (map birth_of out.makes)) _ (births_plain t.here t.births (map birth_of out.makes))
     (all-append IsPlain (splits_from 0 s.hand s.places) (Done (name_of job.action) false ∷ (due ++ gives)) (splits_plain 0 s.hand s.places) (tt, end))
 
 pub committed_plain : (t : Tables) (job : Job) (out : Outcome) → ArePlain (committed t job out)
-committed_plain t job out = from_plain t job out (own_stock t job out)
+committed_plain t job out = from_plain t job out (own_stock t (seen job) out)
 
 -- ---- a commit that begins to wait
 

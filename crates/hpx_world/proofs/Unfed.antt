@@ -11,7 +11,7 @@ use Rattle.hpx_part.specs.Parts.{at_all}
 use Rattle.hpx_tables.specs.Splits.{asked_events}
 use Rattle.hpx_node.specs.Asks.{splits_before, lacking}
 use Rattle.hpx_node.specs.Changes.{Writes}
-use Rattle.hpx_node.specs.Commits.{committed}
+use Rattle.hpx_node.specs.Commits.{seen, committed}
 use Rattle.hpx_steps.specs.Calls.{effects}
 use Rattle.hpx_steps.specs.Rows.{kind_of}
 use Rattle.hpx_tables.specs.Tables.{Tables}
@@ -80,8 +80,8 @@ module _ (nodes nodes' : List Tables) (es es' : List Entry) where
       (plain_unfed (committed h.1.before job out) (committed_plain h.1.before job out))
   finished_unfed n job out (turned.Finished Asking) h =
       let t = h.1.before in
-      unfed_writes (splits_before t job out ++ asked_events (lacking t job out)) t h.1.after es es' h.1.does.begins.writes
-      (plain_unfed (splits_before t job out ++ asked_events (lacking t job out)) (begins_plain t job out))
+      unfed_writes (splits_before t (seen job) out ++ asked_events (lacking t (seen job) out)) t h.1.after es es' h.1.does.begins.writes
+      (plain_unfed (splits_before t (seen job) out ++ asked_events (lacking t (seen job) out)) (begins_plain t (seen job) out))
   finished_unfed n job out (turned.Finished NotRunning) h = unfed_none es es' h.0.journal
   finished_unfed n job out _ h = absurd h
 

@@ -1,12 +1,14 @@
 -- A job that is handed out, run and taken back.
 use Rattle.std.proofs.Common.{ℕ, List, [], ◌∷◌, ◌++◌, ◌+◌, ◌≡◌, ◌≢◌, ◌<◌, Some, refl, sym, ap, ◌∙◌, subst, length, set}
 use Rattle.std.specs.List.{slice_get, remove}
+use Rattle.hpx_value.specs.Riders.{plain}
 use Rattle.hpx_value.specs.declared.acts.Job.{Job}
 use Rattle.hpx_value.specs.declared.profile.Profile.{Profile}
 use Rattle.hpx_journal.specs.Data.{Id, Outcome, Ask}
 use Rattle.hpx_part.specs.Data.{Entry}
 use Rattle.hpx_part.proofs.Keyed.{slice_get_less}
 use Rattle.hpx_node.specs.Asks.{lacking}
+use Rattle.hpx_node.specs.Commits.{seen}
 use Rattle.hpx_steps.specs.Calls.{with_asks}
 use Rattle.hpx_steps.specs.Mail.{with_mail}
 use Rattle.hpx_tables.specs.Tables.{Tables}
@@ -70,7 +72,7 @@ module _ (act_of : Meaning) (profile : Profile) (old mid : List Tables) (e0 e1 :
   asked_left out t t' e2 a =
       let b = a.begins in
       ap (λ (u : Tables). u.running) b.asks
-      ∙ (asks_running t.here t.asked (lacking t job out) b.paused ∙ ap (λ (u : Tables). u.running) b.pauses.rest)
+      ∙ (asks_running t.here t.asked (lacking t (seen job) out) b.paused ∙ ap (λ (u : Tables). u.running) b.pauses.rest)
 
   -- it leaves none out
   pub worked : (n : ℕ) (out : Outcome) (x : Turned) (new : List Tables) (e2 : List Entry) → n ≡ length old → length mid ≡ length old
@@ -94,11 +96,11 @@ module _ (act_of : Meaning) (profile : Profile) (old mid : List Tables) (e0 e1 :
     onto new e2 = record { outside = out1; nodes = new; entries = e2 }
 
     did_then : (how : Finished) (new : List Tables) (e2 : List Entry) → how ≢ NotRunning
-        → DidFinish (length old) job (act_of (length old) job.kind job.at job.state job.action) (turned.Finished how) mid new e1 e2 → DidWork act_of k from (onto new e2)
+        → DidFinish (length old) job (act_of (length old) job.kind job.at job.state (plain job.action)) (turned.Finished how) mid new e1 e2 → DidWork act_of k from (onto new e2)
     did_then how new e2 runs h = record { job = job; mid = mid; between = e1; how = how; fired = fired; finished = h; runs = runs }
 
     did_by : (x : Turned) (new : List Tables) (e2 : List Entry) → length mid ≡ length old
-        → DidFinish (length old) job (act_of (length old) job.kind job.at job.state job.action) x mid new e1 e2 → DidWork act_of k from (onto new e2)
+        → DidFinish (length old) job (act_of (length old) job.kind job.at job.state (plain job.action)) x mid new e1 e2 → DidWork act_of k from (onto new e2)
     did_by (turned.Finished Committed) new e2 count h = did_then Committed new e2 (λ e. cc) h
     did_by (turned.Finished Asking) new e2 count h = did_then Asking new e2 (λ e. cc) h
     did_by (turned.Finished NotRunning) new e2 count h =
@@ -106,8 +108,8 @@ module _ (act_of : Meaning) (profile : Profile) (old mid : List Tables) (e0 e1 :
     did_by _ new e2 count h = absurd h
 
     pub did_work : (n : ℕ) (out : Outcome) (x : Turned) (new : List Tables) (e2 : List Entry) → n ≡ length old → length mid ≡ length old
-        → out ≡ act_of n job.kind job.at job.state job.action → DidFinish n job out x mid new e1 e2 → DidWork act_of k from (onto new e2)
+        → out ≡ act_of n job.kind job.at job.state (plain job.action) → DidFinish n job out x mid new e1 e2 → DidWork act_of k from (onto new e2)
     did_work n out x new e2 same count means h =
         did_by x new e2 count
-        (subst (λ o. DidFinish (length old) job o x mid new e1 e2) (means ∙ ap (λ m. act_of m job.kind job.at job.state job.action) same)
+        (subst (λ o. DidFinish (length old) job o x mid new e1 e2) (means ∙ ap (λ m. act_of m job.kind job.at job.state (plain job.action)) same)
         (subst (λ m. DidFinish m job out x mid new e1 e2) same h))

@@ -1,6 +1,7 @@
 -- One step, the first turn that can be made, and steps one after another.
 use Rattle.std.specs.Prelude.{ℕ, List, [], ◌∷◌, ◌++◌, ◌≡◌, ◌≢◌, ◌⊎◌, Option, Some, None, length, take, sum_by}
 use Rattle.std.specs.List.{slice_get, AllByRecursion}
+use Rattle.hpx_value.specs.Riders.{plain}
 use Rattle.hpx_value.specs.declared.acts.Job.{Job}
 use Rattle.hpx_journal.specs.Sessions.{FeedsNothing}
 use Rattle.hpx_journal.specs.Weights.{HasRoom}
@@ -70,7 +71,7 @@ pub record DidWork (act_of : Meaning) (k : ℕ) (x z : Stage) : Type 0 where
   pub between : List Entry
   pub how : Finished
   pub fired : DidFire k (turned.Fired job) x.nodes mid x.entries between
-  pub finished : DidFinish (length x.nodes) job (act_of (length x.nodes) job.kind job.at job.state job.action) (turned.Finished how) mid z.nodes between z.entries
+  pub finished : DidFinish (length x.nodes) job (act_of (length x.nodes) job.kind job.at job.state (plain job.action)) (turned.Finished how) mid z.nodes between z.entries
   pub runs : how ≢ NotRunning
 
 -- a Fire at k, and nothing else: its job is handed back, to be run or to be finished, and runs where it was handed out

@@ -10,7 +10,7 @@ use Rattle.hpx_part.specs.Data.{Name, Entry, Line, Fire, Out}
 use Rattle.hpx_commit.specs.Deals.{AllLast}
 use Rattle.hpx_node.specs.Asks.{Begins}
 use Rattle.hpx_node.specs.Changes.{Writes}
-use Rattle.hpx_node.specs.Commits.{committed, hand_of, places_in_hand, Ends}
+use Rattle.hpx_node.specs.Commits.{seen, committed, hand_of, places_in_hand, Ends}
 use Rattle.hpx_tables.specs.Jobs.{IsRunning, Starts}
 use Rattle.hpx_steps.specs.Mail.{with_act}
 use Rattle.hpx_node.specs.Handled.{Takes, Clears, NotTaken, NotCleared}
@@ -43,14 +43,14 @@ pub record Fires (job : Job) (entries entries' : List Entry) (t t' : Tables) : T
 -- a job that runs is committed: each id of its hand lasts for all who name it
 pub record Commits (job : Job) (out : Outcome) (entries entries' : List Entry) (t t' : Tables) : Type 0 where
   pub runs : IsRunning t job
-  pub lasts : AllLast (hand_of t job out) (places_in_hand t job out)
+  pub lasts : AllLast (hand_of t (seen job) out) (places_in_hand t (seen job) out)
   pub writes : Writes (committed t job out) t t' entries entries'
   pub ends : Ends t t' job out
 
 -- a job that runs begins to wait: some id of its hand does not last, and is asked for
 pub record Asks (job : Job) (out : Outcome) (entries entries' : List Entry) (t t' : Tables) : Type 0 where
   pub runs : IsRunning t job
-  pub short : AllLast (hand_of t job out) (places_in_hand t job out) → ⊥
+  pub short : AllLast (hand_of t (seen job) out) (places_in_hand t (seen job) out) → ⊥
   pub begins : Begins t t' job out entries entries'
 
 -- the message that has waited longest on its way to another locality goes there in this frame, which spells it

@@ -20,25 +20,25 @@ pub const MADE_AT_ONE: [Row; 14] = [
     (Ask::Fire(0), Got::Idle, 10, true),
 ];
 
-/// One locality, where a number is: it is called, and its id is dropped. Line; Fire; Split, Done and Sent; Fire; Done, Sent and Up; Mail
-/// and Count; Fire; Done. Line; Fire; Done and Up; Mail and Count; Mail and Freed.
+/// One locality, where a number is: it is called, and its id is dropped. Line; Fire; Split, Done and Sent; Fire; Done and Sent; Fire;
+/// Done and Merge. Line; Fire; Done and Up; Mail and Count; Mail and Freed.
 pub const DROPPED_AT_ONE: [Row; 16] = [
     (Ask::Feed(b'a'), Got::Fed, 11, false),
     (Ask::Fire(0), Got::Fired(0), 12, false),
     (Ask::Finish, Got::Committed, 15, false),
     (Ask::Fire(0), Got::Fired(0), 16, false),
     (Ask::Desk(0), Got::Empty, 16, false),
-    (Ask::Finish, Got::Committed, 19, false),
-    (Ask::Desk(0), Got::Moved, 21, false),
-    (Ask::Fire(0), Got::Fired(0), 22, false),
-    (Ask::Finish, Got::Committed, 23, true),
-    (Ask::Feed(b'd'), Got::Fed, 24, false),
-    (Ask::Fire(0), Got::Fired(0), 25, false),
-    (Ask::Finish, Got::Committed, 27, false),
-    (Ask::Pump(0), Got::Empty, 27, false),
-    (Ask::Desk(0), Got::Moved, 29, false),
-    (Ask::Desk(0), Got::Moved, 31, true),
-    (Ask::Desk(0), Got::Empty, 31, true),
+    (Ask::Finish, Got::Committed, 18, false),
+    (Ask::Desk(0), Got::Empty, 18, false),
+    (Ask::Fire(0), Got::Fired(0), 19, false),
+    (Ask::Finish, Got::Committed, 21, true),
+    (Ask::Feed(b'd'), Got::Fed, 22, false),
+    (Ask::Fire(0), Got::Fired(0), 23, false),
+    (Ask::Finish, Got::Committed, 25, false),
+    (Ask::Pump(0), Got::Empty, 25, false),
+    (Ask::Desk(0), Got::Moved, 27, false),
+    (Ask::Desk(0), Got::Moved, 29, true),
+    (Ask::Desk(0), Got::Empty, 29, true),
 ];
 
 /// Two localities: the same, with an Out and an In where the call goes there and where its answer comes.
@@ -83,27 +83,26 @@ pub const MADE_AT_THREE: [Row; 17] = [
     (Ask::Finish, Got::Committed, 14, true),
 ];
 
-/// Two localities, where a number is: it is called. Line; Fire; Split, Done and Sent; Out; In; Fire; Done, Sent and Up; Mail and Count;
-/// Out; In; Fire; Done.
-pub const CALLED_AT_TWO: [Row; 14] = [
+/// Two localities, where a number is: it is called. Line; Fire; Split, Done and Sent; Out; In; Fire; Done and Sent; Out; In; Fire; Done
+/// and Merge.
+pub const CALLED_AT_TWO: [Row; 13] = [
     (Ask::Feed(b'a'), Got::Fed, 15, false),
     (Ask::Fire(0), Got::Fired(0), 16, false),
     (Ask::Finish, Got::Committed, 19, false),
     (Ask::Pump(0), Got::Moved, 20, false),
     (Ask::Take, Got::Moved, 21, false),
     (Ask::Fire(1), Got::Fired(1), 22, false),
-    (Ask::Finish, Got::Committed, 25, false),
-    (Ask::Desk(1), Got::Moved, 27, false),
-    (Ask::Desk(1), Got::Empty, 27, false),
-    (Ask::Pump(1), Got::Moved, 28, false),
-    (Ask::Take, Got::Moved, 29, false),
-    (Ask::Fire(0), Got::Fired(0), 30, false),
-    (Ask::Finish, Got::Committed, 31, true),
-    (Ask::Drain, Got::Drained, 31, true),
+    (Ask::Finish, Got::Committed, 24, false),
+    (Ask::Desk(1), Got::Empty, 24, false),
+    (Ask::Pump(1), Got::Moved, 25, false),
+    (Ask::Take, Got::Moved, 26, false),
+    (Ask::Fire(0), Got::Fired(0), 27, false),
+    (Ask::Finish, Got::Committed, 29, true),
+    (Ask::Drain, Got::Drained, 29, true),
 ];
 
 /// The same, step by step, and then the number's id is dropped: Line; Fire, Done and Up; Out; In and Count; Mail and Freed.
-pub const STEPPED_AT_TWO: [Row; 24] = [
+pub const STEPPED_AT_TWO: [Row; 23] = [
     (Ask::Step, Got::Still, 0, true),
     (Ask::Feed(b'n'), Got::Fed, 1, false),
     (Ask::Step, Got::Stepped, 4, false),
@@ -118,27 +117,26 @@ pub const STEPPED_AT_TWO: [Row; 24] = [
     (Ask::Step, Got::Stepped, 19, false),
     (Ask::Step, Got::Stepped, 20, false),
     (Ask::Step, Got::Stepped, 21, false),
+    (Ask::Step, Got::Stepped, 24, false),
     (Ask::Step, Got::Stepped, 25, false),
-    (Ask::Step, Got::Stepped, 27, false),
-    (Ask::Step, Got::Stepped, 28, false),
-    (Ask::Step, Got::Stepped, 29, false),
-    (Ask::Step, Got::Stepped, 31, true),
-    (Ask::Feed(b'd'), Got::Fed, 32, false),
-    (Ask::Step, Got::Stepped, 35, false),
+    (Ask::Step, Got::Stepped, 26, false),
+    (Ask::Step, Got::Stepped, 29, true),
+    (Ask::Feed(b'd'), Got::Fed, 30, false),
+    (Ask::Step, Got::Stepped, 33, false),
+    (Ask::Step, Got::Stepped, 34, false),
     (Ask::Step, Got::Stepped, 36, false),
-    (Ask::Step, Got::Stepped, 38, false),
-    (Ask::Drain, Got::Drained, 40, true),
+    (Ask::Drain, Got::Drained, 38, true),
 ];
 
-/// Two localities, where a number was called eight times: the ninth call asks for credit. Line; Fire; Asked; Out; In and Count; Out;
-/// In, Given, Split, Done and Sent; and what follows of a call.
-pub const ASKED_AT_TWO: [Row; 8] = [
-    (Ask::Feed(b'a'), Got::Fed, 151, false),
-    (Ask::Fire(0), Got::Fired(0), 152, false),
-    (Ask::Finish, Got::Asking, 153, false),
-    (Ask::Pump(0), Got::Moved, 154, false),
-    (Ask::Take, Got::Moved, 156, false),
-    (Ask::Pump(1), Got::Moved, 157, false),
-    (Ask::Take, Got::Moved, 162, false),
-    (Ask::Drain, Got::Drained, 174, true),
+/// Two localities, where a number was called eight times, and no call has gone out: the ninth asks for credit. Line; Fire; Asked; nine
+/// Outs. Each call: In; Fire; Done and Sent; Out. The ask: In and Count; Out. Eight answers: In. In, Given, Split, Done and Sent. The first
+/// answer: Fire; Done and Merge. Seven others: Fire; Done and Up. Eight Outs; the ninth call; seven times In and Count; In; Fire; Done and
+/// Up; Out; In and Count.
+pub const ASKED_AT_TWO: [Row; 6] = [
+    (Ask::Feed(b'a'), Got::Fed, 55, false),
+    (Ask::Fire(0), Got::Fired(0), 56, false),
+    (Ask::Finish, Got::Asking, 57, false),
+    (Ask::Pump(0), Got::Moved, 58, false),
+    (Ask::Take, Got::Moved, 59, false),
+    (Ask::Drain, Got::Drained, 180, true),
 ];

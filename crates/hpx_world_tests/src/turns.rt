@@ -41,17 +41,19 @@ fn each_turn_does_its_own(rt: HostRuntime) -> Result<(), Fail> {
     Ok(())
 }
 
-// A number is made, by 14 entries, and called eight times, by 17 each.
+// A number is made, by 14 entries, and called eight times, by 5 each, before any frame goes.
 #[test]
 fn a_commit_that_asks_goes_on_where_credit_comes(rt: HostRuntime) -> Result<(), Fail> {
     let alloc = rt.alloc();
     let mut story = world(alloc, 2)?;
-    for byte in *b"naaaaaaaa" {
-        let rows = [(Ask::Feed(byte), Got::Fed)];
-        assert_eq!(rt; story.ask(alloc, rows[0].0)?, rows[0].1);
-        assert_eq!(rt; story.ask(alloc, Ask::Drain)?, Got::Drained);
+    assert_eq!(rt; story.ask(alloc, Ask::Feed(b'n'))?, Got::Fed);
+    assert_eq!(rt; story.ask(alloc, Ask::Drain)?, Got::Drained);
+    for byte in *b"aaaaaaaa" {
+        assert_eq!(rt; story.ask(alloc, Ask::Feed(byte))?, Got::Fed);
+        assert_eq!(rt; story.ask(alloc, Ask::Fire(0))?, Got::Fired(0));
+        assert_eq!(rt; story.ask(alloc, Ask::Finish)?, Got::Committed);
     }
-    assert_eq!(rt; story.entries(), 14 + 8 * 17);
+    assert_eq!(rt; story.entries(), 14 + 8 * 5);
     assert_eq!(rt; story.first_wrong(alloc, &ASKED_AT_TWO)?, None);
     assert!(rt; story.is_legal(alloc));
     Ok(())
@@ -68,10 +70,10 @@ const TOLD: [Told; 10] = [
     (Ask::Pump(0), 256, 128, 128),
     (Ask::Take, 256, 256, 0),
     (Ask::Fire(1), 256, 256, 0),
-    (Ask::Finish, 256, 128, 128),
-    (Ask::Desk(1), 128, 128, 0),
-    (Ask::Pump(1), 128, 128, 0),
-    (Ask::Drain, 128, 128, 0),
+    (Ask::Finish, 256, 256, 0),
+    (Ask::Desk(1), 256, 256, 0),
+    (Ask::Pump(1), 256, 128, 128),
+    (Ask::Drain, 256, 256, 0),
 ];
 
 #[test]

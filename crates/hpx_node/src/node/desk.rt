@@ -63,7 +63,7 @@ fn kind_of(parcel: &Parcel) -> u8
 
 impl<A: Acts + Copy> Node<A> {
     /// Gives an id up: its credit goes home.
-    fn let_go(&mut self, book: &mut Journal, id: Gid)
+    pub(crate) fn let_go(&mut self, book: &mut Journal, id: Gid)
         requires right { HasRightCredit id }
         requires spare { 1 ≤ self.old.spare }
         requires page { 1 ≤ book.old.spare }

@@ -1,11 +1,13 @@
 //! Failing an action that could get no credit: its object keeps its state, its continuation is answered, and the rest is given up.
-ghost use Rattle.std.specs.Prelude.{◌≡◌, ◌≤◌, ◌<◌, ◌+◌, ◌^◌, [], false, Some, IfOk, IfSome, IfNone, length};
+ghost use Rattle.std.specs.Prelude.{◌≡◌, ◌≤◌, ◌<◌, ◌+◌, ◌^◌, ◌++◌, [], false, Some, IfOk, IfSome, IfNone, length};
 ghost use Rattle.std.specs.List.{slice_get};
+ghost use Rattle.std.specs.Option.{option_to_list};
 ghost use Rattle.hpx_journal.specs.Weights.{total_weight};
 ghost use Rattle.hpx_node.specs.Fails.{MustFail, IsFailure, Fails, IsFailingFor, dooms, failed_events};
 ghost use Rattle.hpx_node.specs.Changes.{Writes};
 ghost use Rattle.hpx_tables.specs.Pending.{hand_with};
 ghost use Rattle.hpx_steps.specs.Rest.{IsTidy};
+ghost use Rattle.hpx_steps.specs.Steps.{with_credit};
 
 use crate::node::Node;
 use hpx_commit::failure::plan_failure;
@@ -27,6 +29,21 @@ pub struct Failing {
     pub plan: Plan,
 }
 
+/// A rider, if there is one that has a credit, and then these ids.
+fn with_rider(alloc: Global, rider: Option<Gid>, ids: Vec<Gid>) -> Result<Vec<Gid>, OutOfMemory>
+    ensures { IfOk result (λ all. all.items ≡ with_credit (option_to_list rider) ++ ids.items) }
+{
+    let Some(rider) = rider else {
+        return Ok(ids);
+    };
+    if rider.log().is_none() {
+        return Ok(ids);
+    }
+    let mut all = Vec::from_slice(alloc, &[rider])?;
+    all.extend_from_slice(ids.as_slice())?;
+    Ok(all)
+}
+
 impl<A: Acts + Copy> Node<A> {
     /// What the action leaves that fails, whose commit waits at i, with this id in its hand.
     fn failure(&self, alloc: Global, i: usize, id: Gid, entry: u64) -> Result<Plan, OutOfMemory>
@@ -41,7 +58,13 @@ impl<A: Acts + Copy> Node<A> {
         let hand = waits.hand_with(alloc, id, entry)?;
         let job = done.job();
         let makes = done.outcome().makes.len();
-        plan_failure(alloc, &job.state, &job.action, makes, hand.as_slice())
+        let action = job.action.plain(alloc)?;
+        let plan = plan_failure(alloc, &job.state, &action, makes, hand.as_slice())?;
+        Ok(Plan {
+            state: plan.state,
+            due: plan.due,
+            ups: with_rider(alloc, job.action.rider(), plan.ups)?,
+        })
     }
 
     /// What fails once a message is dealt with: the action of the commit to which it brings the last answer, where some id got no
@@ -92,6 +115,6 @@ impl<A: Acts + Copy> Node<A> {
     {
         let Plan { state, due, ups } = plan;
         self.settle_waiting(book, i, j, state, true);
-        self.leave(book, due, ups);
+        self.leave(book, j, due, None, ups);
     }
 }

@@ -6,7 +6,8 @@ ghost use Rattle.hpx_journal.specs.Weights.{HasRoom};
 ghost use Rattle.hpx_commit.specs.Deals.{AllLast};
 ghost use Rattle.hpx_node.specs.Asks.{Begins};
 ghost use Rattle.hpx_tables.specs.Births.{birth_of, ids_of};
-ghost use Rattle.hpx_node.specs.Commits.{committed, made_of, hand_of, places_in_hand, own_stock, IsStock, IsPrepared, Ends};
+ghost use Rattle.hpx_value.specs.Riders.{plain};
+ghost use Rattle.hpx_node.specs.Commits.{committed, made_of, seen, hand_of, places_in_hand, own_stock, IsStock, IsPrepared, Ends};
 ghost use Rattle.hpx_tables.specs.Jobs.{IsAt, IsRunning, IsFitJob};
 ghost use Rattle.hpx_steps.specs.Rest.{IsTidy, Stands};
 ghost use Rattle.hpx_node.specs.Changes.{OnlySpare, Writes};
@@ -92,13 +93,13 @@ impl<A: Acts + Copy> Node<A> {
         stock: Stock,
     ) -> Result<Prepared, OutOfMemory>
         requires state { hand.now.state.now ≡ done.now.job.state }
-        requires action { hand.now.action.now ≡ done.now.job.action }
+        requires action { hand.now.action.now ≡ plain done.now.job.action }
         requires made { hand.now.made.now ≡ made_of self.now.tables done.now.outcome }
         requires localities { done.now.localities ≡ self.now.tables.localities }
         requires few { self.now.tables.localities ≤ 64 }
         requires fit { IsFitJob done.now.job }
-        requires laws { KeepsLaws done.now.localities done.now.job.kind done.now.job.at done.now.job.state done.now.job.action done.now.outcome }
-        requires stock { IsStock self.now.tables done.now.job done.now.outcome stock }
+        requires laws { KeepsLaws done.now.localities done.now.job.kind done.now.job.at done.now.job.state (plain done.now.job.action) done.now.outcome }
+        requires stock { IsStock self.now.tables (seen done.now.job) done.now.outcome stock }
         ensures prepared { IfOk result (IsPrepared self.now.tables done.now.job done.now.outcome) }
         ensures stock { IfOk result (λ p. p.stock ≡ stock) }
     {
@@ -118,16 +119,17 @@ impl<A: Acts + Copy> Node<A> {
         requires at { done.now.job.at < done.now.localities }
         requires fit { IsFitJob done.now.job }
         requires few { self.now.tables.births + 1024 < 2 ^ 32 }
-        ensures laws { KeepsLaws done.now.localities done.now.job.kind done.now.job.at done.now.job.state done.now.job.action done.now.outcome }
+        ensures laws { KeepsLaws done.now.localities done.now.job.kind done.now.job.at done.now.job.state (plain done.now.job.action) done.now.outcome }
         ensures some { IfOk result (λ o. IfSome o (λ p. IsPrepared self.now.tables done.now.job done.now.outcome p)) }
-        ensures own { IfOk result (λ o. IfSome o (λ p. p.stock ≡ own_stock self.now.tables done.now.job done.now.outcome)) }
-        ensures none { IfOk result (λ o. IfNone o (AllLast (hand_of self.now.tables done.now.job done.now.outcome) (places_in_hand self.now.tables done.now.job done.now.outcome) → ⊥)) }
+        ensures own { IfOk result (λ o. IfSome o (λ p. p.stock ≡ own_stock self.now.tables (seen done.now.job) done.now.outcome)) }
+        ensures none { IfOk result (λ o. IfNone o (AllLast (hand_of self.now.tables (seen done.now.job) done.now.outcome) (places_in_hand self.now.tables (seen done.now.job) done.now.outcome) → ⊥)) }
     {
         lawful(done);
         let job = done.job();
         let outcome = done.outcome();
+        let action = job.action.plain(alloc)?;
         let made = self.made(alloc, outcome.makes.as_slice())?;
-        let hand = Hand::of(alloc, &job.state, &job.action, made.as_slice())?;
+        let hand = Hand::of(alloc, &job.state, &action, made.as_slice())?;
         let places = places_named(alloc, &hand, outcome)?;
         if !all_last(hand.ids(), places.as_slice()) {
             return Ok(None);
@@ -143,9 +145,9 @@ impl<A: Acts + Copy> Node<A> {
         requires few { self.old.tables.localities ≤ 64 }
         requires fit { IsFitJob done.now.job }
         requires here { done.now.job.at < done.now.localities }
-        requires laws { KeepsLaws done.now.localities done.now.job.kind done.now.job.at done.now.job.state done.now.job.action done.now.outcome }
+        requires laws { KeepsLaws done.now.localities done.now.job.kind done.now.job.at done.now.job.state (plain done.now.job.action) done.now.outcome }
         requires prepared { IsPrepared self.old.tables done.now.job done.now.outcome prepared }
-        requires own { prepared.stock ≡ own_stock self.old.tables done.now.job done.now.outcome }
+        requires own { prepared.stock ≡ own_stock self.old.tables (seen done.now.job) done.now.outcome }
         requires room { HasRoom book.old.entries }
         requires spare { 1024 ≤ self.old.spare }
         requires page { 1024 ≤ book.old.spare }
@@ -162,7 +164,7 @@ impl<A: Acts + Copy> Node<A> {
         } = prepared;
         self.make(book, births, &stock);
         self.settle(book, i, j, state);
-        self.leave(book, due, ups);
+        self.leave(book, j, due, done.job().action.rider(), ups);
     }
 
     /// Commits a job that is done, or lets it wait where some id of its hand has too little credit for all who name it.
@@ -180,9 +182,9 @@ impl<A: Acts + Copy> Node<A> {
         ensures committed { IfOk result (λ f. f ≡ Finished.Committed →
             Writes (committed self.old.tables done.job done.outcome) self.old.tables self.new.tables book.old.entries book.new.entries) }
         ensures lasts { IfOk result (λ f. f ≡ Finished.Committed →
-            AllLast (hand_of self.old.tables done.job done.outcome) (places_in_hand self.old.tables done.job done.outcome)) }
+            AllLast (hand_of self.old.tables (seen done.job) done.outcome) (places_in_hand self.old.tables (seen done.job) done.outcome)) }
         ensures asks { IfOk result (λ f. f ≡ Finished.Asking →
-            (AllLast (hand_of self.old.tables done.job done.outcome) (places_in_hand self.old.tables done.job done.outcome) → ⊥)
+            (AllLast (hand_of self.old.tables (seen done.job) done.outcome) (places_in_hand self.old.tables (seen done.job) done.outcome) → ⊥)
             × Begins self.old.tables self.new.tables done.job done.outcome book.old.entries book.new.entries) }
         ensures not_running { IfOk result (λ f. f ≡ Finished.NotRunning →
             (done.localities ≡ self.old.tables.localities → IsRunning self.old.tables done.job → ⊥) × OnlySpare self.old.tables self.new.tables book.old book.new) }

@@ -9,7 +9,7 @@ ghost use Rattle.hpx_tables.specs.Kept.{stands_here, held_here, owed_here, count
 
 use crate::node::Node;
 use hpx_tables::credit::{
-    held_in_accepted, held_in_hands, held_in_running, held_in_states, held_on_desk,
+    held_in_accepted, held_in_commits, held_in_running, held_in_states, held_on_desk,
     held_on_the_way, owed_on_desk, owed_on_the_way,
 };
 use hpx_tables::find::place_of;
@@ -64,7 +64,7 @@ impl<A: Acts + Copy> Node<A> {
         held_in_states(self.objects.as_slice(), o)
             .saturating_add(held_in_accepted(&self.accepted, o))
             .saturating_add(held_in_running(self.running.as_slice(), o))
-            .saturating_add(held_in_hands(self.pending.as_slice(), o))
+            .saturating_add(held_in_commits(self.pending.as_slice(), o))
             .saturating_add(held_on_desk(&self.desk, o))
             .saturating_add(held_on_the_way(&self.outgoing, o))
     }

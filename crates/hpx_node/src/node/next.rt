@@ -55,8 +55,8 @@ impl<A: Acts + Copy> Node<A> {
         ensures running { self.new.tables.running ≡ self.old.tables.running }
         ensures taken { self.new.tables.taken ≡ self.old.tables.taken }
         ensures sent { self.new.tables.sent ≡ self.old.tables.sent }
-        ensures few { length book.new.entries ≤ length book.old.entries + 596 }
-        ensures light { total_weight book.new.entries ≤ total_weight book.old.entries + 2380288 }
+        ensures few { length book.new.entries ≤ length book.old.entries + 598 }
+        ensures light { total_weight book.new.entries ≤ total_weight book.old.entries + 2380416 }
         ensures followed { HasFollowed next self.old.tables self.new.tables book.old.entries book.new.entries }
     {
         match next {

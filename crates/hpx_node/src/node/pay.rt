@@ -1,11 +1,13 @@
-//! Paying what a commit leaves: messages are sent, prints are printed, and ids that nobody names are given up.
-ghost use Rattle.std.specs.Prelude.{◌≡◌, ◌≤◌, ◌<◌, ◌+◌, ◌^◌, ◌++◌, length};
+//! Paying what a commit leaves: messages are sent, prints are printed, a rider is merged, and ids that nobody names are given up.
+ghost use Rattle.std.specs.Prelude.{◌≡◌, ◌≤◌, ◌<◌, ◌+◌, ◌^◌, ◌++◌, Some, IfSome, length, slice_get};
 ghost use Rattle.std.specs.List.{AllByRecursion};
-ghost use Rattle.hpx_parcel.specs.Parcels.{HasCredit};
+ghost use Rattle.std.specs.Option.{option_to_list};
+ghost use Rattle.hpx_parcel.specs.Parcels.{HasCredit, HasRightCredit};
 ghost use Rattle.hpx_part.specs.Parts.{at_all};
-ghost use Rattle.hpx_node.specs.Changes.{OnlySends};
+ghost use Rattle.hpx_node.specs.Changes.{OnlySends, OnlyLeaves};
 ghost use Rattle.hpx_tables.specs.Fit.{IsFitDue};
-ghost use Rattle.hpx_steps.specs.Calls.{ups, with_due, with_returns, with_left, written_due};
+ghost use Rattle.hpx_tables.specs.Merged.{may_merge};
+ghost use Rattle.hpx_steps.specs.Calls.{ups, rider_event, rider_events, with_due, with_returns, with_rider, with_riders, with_done, written_due};
 ghost use Rattle.hpx_value.specs.Values.{named};
 
 use crate::node::Node;
@@ -118,18 +120,87 @@ impl<A: Acts + Copy> Node<A> {
         }
     }
 
-    /// Writes all that a commit leaves: what is due, and then the ids that nobody names.
-    pub(crate) fn leave(&mut self, book: &mut Journal, due: VecDeque<Due>, loose: Vec<Gid>)
+    /// Whether a rider of this log may be merged into an id in the state of the object at j.
+    fn may_merge(&self, j: usize, rider: Gid, log: u8) -> bool
+        requires object { j < length self.now.tables.objects }
+        ensures { (x : _) → slice_get self.now.tables.objects j ≡ Some x → result ≡ may_merge self.now.tables.profile.credit_log rider log x.state.ids }
+    {
+        log < self.profile.credit_log && self.objects[j].has_like(rider, log)
+    }
+
+    /// Merges a rider into an id in the state of the object at j, where that may be, or else gives it up.
+    fn merge(&mut self, book: &mut Journal, j: usize, rider: Gid)
+        requires right { HasRightCredit rider }
+        requires object { j < length self.old.tables.objects }
+        requires spare { 1 ≤ self.old.spare }
+        requires page { 1 ≤ book.old.spare }
+        ensures rest { OnlyLeaves self.old.tables self.new.tables }
+        ensures goes { (x : _) → slice_get self.old.tables.objects j ≡ Some x → self.new.tables ≡ with_rider j x rider rider.log self.old.tables }
+        ensures spare { self.old.spare ≤ self.new.spare + 1 }
+        ensures page { book.old.spare ≤ book.new.spare + 1 }
+        ensures writes { (x : _) → slice_get self.old.tables.objects j ≡ Some x
+            → book.new.entries ≡ book.old.entries ++ at_all self.old.tables.here (rider_event self.old.tables.profile.credit_log x.state.ids rider rider.log) }
+    {
+        let at = self.here;
+        let Some(log) = rider.log() else {
+            return;
+        };
+        if !self.may_merge(j, rider, log) {
+            self.let_go(book, rider);
+            return;
+        }
+        self.objects[j].merge(rider, log);
+        book.push(Entry {
+            at,
+            event: Event::Merge {
+                object: rider.bare(),
+                log,
+            },
+        });
+    }
+
+    /// Merges the rider of an action or gives it up, if there is one.
+    pub(crate) fn merge_any(&mut self, book: &mut Journal, j: usize, rider: Option<Gid>)
+        requires right { IfSome rider HasRightCredit }
+        requires object { j < length self.old.tables.objects }
+        requires spare { 1 ≤ self.old.spare }
+        requires page { 1 ≤ book.old.spare }
+        ensures rest { OnlyLeaves self.old.tables self.new.tables }
+        ensures goes { (x : _) → slice_get self.old.tables.objects j ≡ Some x → self.new.tables ≡ with_riders j x (option_to_list rider) self.old.tables }
+        ensures spare { self.old.spare ≤ self.new.spare + 1 }
+        ensures page { book.old.spare ≤ book.new.spare + 1 }
+        ensures writes { (x : _) → slice_get self.old.tables.objects j ≡ Some x
+            → book.new.entries ≡ book.old.entries ++ at_all self.old.tables.here (rider_events self.old.tables.profile.credit_log x.state.ids (option_to_list rider)) }
+    {
+        if let Some(rider) = rider {
+            self.merge(book, j, rider);
+        }
+    }
+
+    /// Writes all that a commit leaves, whose object stands at j: what is due, the rider, and then the ids that nobody names.
+    pub(crate) fn leave(
+        &mut self,
+        book: &mut Journal,
+        j: usize,
+        due: VecDeque<Due>,
+        rider: Option<Gid>,
+        loose: Vec<Gid>,
+    )
         requires fit { AllByRecursion IsFitDue due.items }
+        requires right { IfSome rider HasRightCredit }
         requires credit { AllByRecursion HasCredit loose.items }
-        requires spare { length due.items + length loose.items ≤ self.old.spare }
-        requires page { length due.items + length loose.items ≤ book.old.spare }
+        requires object { j < length self.old.tables.objects }
+        requires spare { length due.items + 1 + length loose.items ≤ self.old.spare }
+        requires page { length due.items + 1 + length loose.items ≤ book.old.spare }
         requires few { self.old.tables.serial + length due.items < 2 ^ 64 }
-        ensures rest { OnlySends self.old.tables self.new.tables }
-        ensures goes { self.new.tables ≡ with_left due.items loose.items self.old.tables }
-        ensures writes { book.new.entries ≡ book.old.entries ++ at_all self.old.tables.here (written_due self.old.tables.here self.old.tables.serial due.items ++ ups loose.items) }
+        ensures rest { OnlyLeaves self.old.tables self.new.tables }
+        ensures goes { (x : _) → slice_get self.old.tables.objects j ≡ Some x → self.new.tables ≡ with_done j x due.items (option_to_list rider) loose.items self.old.tables }
+        ensures writes { (x : _) → slice_get self.old.tables.objects j ≡ Some x → book.new.entries ≡ book.old.entries
+            ++ at_all self.old.tables.here (written_due self.old.tables.here self.old.tables.serial due.items
+            ++ (rider_events self.old.tables.profile.credit_log x.state.ids (option_to_list rider) ++ ups loose.items)) }
     {
         self.pay_all(book, due);
+        self.merge_any(book, j, rider);
         self.give_up_all(book, VecDeque::from_vec(loose));
     }
 }

@@ -7,7 +7,7 @@ ghost use Rattle.hpx_parcel.specs.Parcels.{IsParcel};
 ghost use Rattle.hpx_part.specs.Parts.{at_all};
 ghost use Rattle.hpx_part.specs.Data.{Done};
 ghost use Rattle.hpx_tables.specs.Awaited.{answered_by};
-ghost use Rattle.hpx_node.specs.Commits.{committed_from, IsStock, IsPrepared, Commits};
+ghost use Rattle.hpx_node.specs.Commits.{committed_from, seen, IsStock, IsPrepared, Commits};
 ghost use Rattle.hpx_tables.specs.Fit.{IsKept};
 ghost use Rattle.hpx_tables.specs.Jobs.{IsFitJob};
 ghost use Rattle.hpx_tables.specs.Pending.{ids_named, action_of};
@@ -57,17 +57,18 @@ impl<A: Acts + Copy> Node<A> {
         requires few { self.now.tables.births + 1024 < 2 ^ 32 }
         requires fits { length (ids_named waits.now) + length waits.now.outcome.makes ≤ length hand.now }
         requires short { length hand.now ≤ 1024 }
-        requires stock { IsStock self.now.tables waits.now.job waits.now.outcome (stock_with self.now.tables waits.now hand.now) }
+        requires stock { IsStock self.now.tables (seen waits.now.job) waits.now.outcome (stock_with self.now.tables waits.now hand.now) }
         ensures prepared { IfOk result (IsPrepared self.now.tables waits.now.job waits.now.outcome) }
         ensures stock { IfOk result (λ p. p.stock ≡ stock_with self.now.tables waits.now hand.now) }
     {
         lawful(waits.done());
         let job = waits.done().job();
         let outcome = waits.done().outcome();
+        let action = job.action.plain(alloc)?;
         let made = self.made(alloc, outcome.makes.as_slice())?;
         let mut stock = Stock::of(alloc, hand, waits.places())?;
-        stock.replace_from(job.state.ids.len() + job.action.ids.len(), made.as_slice());
-        let hand = Hand::of(alloc, &job.state, &job.action, made.as_slice())?;
+        stock.replace_from(job.state.ids.len() + action.ids.len(), made.as_slice());
+        let hand = Hand::of(alloc, &job.state, &action, made.as_slice())?;
         self.prepare_from(alloc, waits.done(), &hand, stock)
     }
 
@@ -152,8 +153,8 @@ impl<A: Acts + Copy> Node<A> {
         ensures pending { self.new.tables.pending ≡ remove self.old.tables.pending ready.i }
         ensures taken { self.new.tables.taken ≡ self.old.tables.taken }
         ensures sent { self.new.tables.sent ≡ self.old.tables.sent }
-        ensures few { length book.new.entries ≤ length book.old.entries + 596 }
-        ensures light { total_weight book.new.entries ≤ total_weight book.old.entries + 2380288 }
+        ensures few { length book.new.entries ≤ length book.old.entries + 598 }
+        ensures light { total_weight book.new.entries ≤ total_weight book.old.entries + 2380416 }
         ensures writes { (w : _) → slice_get self.old.tables.pending ready.i ≡ Some w
             → Writes (committed_from self.old.tables w.job w.outcome (full_stock self.old.tables w)) self.old.tables self.new.tables book.old.entries book.new.entries }
         ensures commits { (w : _) → slice_get self.old.tables.pending ready.i ≡ Some w
@@ -165,8 +166,9 @@ impl<A: Acts + Copy> Node<A> {
             stock,
             plan: Plan { state, due, ups },
         } = prepared;
+        let rider = self.pending[i].action().rider();
         self.make(book, births, &stock);
         self.settle_waiting(book, i, j, state, false);
-        self.leave(book, due, ups);
+        self.leave(book, j, due, rider, ups);
     }
 }

@@ -10,7 +10,8 @@ ghost use Rattle.hpx_node.specs.Asks.{IsBefore, Pauses, Begins};
 ghost use Rattle.hpx_tables.specs.Pending.{asked_at};
 ghost use Rattle.hpx_tables.specs.Fit.{IsKept};
 ghost use Rattle.hpx_commit.specs.Deals.{AllLast};
-ghost use Rattle.hpx_node.specs.Commits.{hand_of, places_in_hand};
+ghost use Rattle.hpx_value.specs.Riders.{plain};
+ghost use Rattle.hpx_node.specs.Commits.{hand_of, places_in_hand, seen};
 ghost use Rattle.hpx_tables.specs.Births.{birth_of, ids_of};
 ghost use Rattle.hpx_tables.specs.Jobs.{IsAt, IsFitJob};
 ghost use Rattle.hpx_steps.specs.Calls.{with_asks};
@@ -89,17 +90,18 @@ impl<A: Acts + Copy> Node<A> {
         requires fit { IsFitJob done.now.job }
         requires few { self.now.tables.births + 1024 < 2 ^ 32 }
         requires asked { self.now.tables.asked + 1024 < 2 ^ 64 }
-        ensures { IfOk result (IsBefore self.now.tables done.now.job done.now.outcome) }
+        ensures { IfOk result (IsBefore self.now.tables (seen done.now.job) done.now.outcome) }
     {
         lawful(done);
         let job = done.job();
         let outcome = done.outcome();
+        let action = job.action.plain(alloc)?;
         let made = self.made(alloc, outcome.makes.as_slice())?;
-        let hand = Hand::of(alloc, &job.state, &job.action, made.as_slice())?;
+        let hand = Hand::of(alloc, &job.state, &action, made.as_slice())?;
         let places = places_named(alloc, &hand, outcome)?;
         let later = self.later(alloc, outcome.makes.as_slice())?;
-        let own = job.state.ids.len() + job.action.ids.len();
-        let hand = Hand::of(alloc, &job.state, &job.action, later.as_slice())?;
+        let own = job.state.ids.len() + action.ids.len();
+        let hand = Hand::of(alloc, &job.state, &action, later.as_slice())?;
         let mut stock = split_ahead(alloc, hand.ids(), places.as_slice(), own as u32)?;
         let short = stock.short_places(alloc, own as u32)?;
         let lacking = stock.ids_at(alloc, short.as_slice())?;
@@ -158,9 +160,9 @@ impl<A: Acts + Copy> Node<A> {
         requires few { self.old.tables.localities ≤ 64 }
         requires fit { IsFitJob done.job }
         requires here { done.job.at < done.localities }
-        requires laws { KeepsLaws done.localities done.job.kind done.job.at done.job.state done.job.action done.outcome }
-        requires short { AllLast (hand_of self.old.tables done.job done.outcome) (places_in_hand self.old.tables done.job done.outcome) → ⊥ }
-        requires before { IsBefore self.old.tables done.job done.outcome before }
+        requires laws { KeepsLaws done.localities done.job.kind done.job.at done.job.state (plain done.job.action) done.outcome }
+        requires short { AllLast (hand_of self.old.tables (seen done.job) done.outcome) (places_in_hand self.old.tables (seen done.job) done.outcome) → ⊥ }
+        requires before { IsBefore self.old.tables (seen done.job) done.outcome before }
         requires asked { self.old.tables.asked + 1024 < 2 ^ 64 }
         requires spare { 1024 ≤ self.old.spare }
         requires page { 1024 ≤ book.old.spare }
@@ -198,7 +200,7 @@ impl<A: Acts + Copy> Node<A> {
         requires few { self.old.tables.localities ≤ 64 }
         requires fit { IsFitJob done.job }
         requires here { done.job.at < done.localities }
-        requires short { AllLast (hand_of self.old.tables done.job done.outcome) (places_in_hand self.old.tables done.job done.outcome) → ⊥ }
+        requires short { AllLast (hand_of self.old.tables (seen done.job) done.outcome) (places_in_hand self.old.tables (seen done.job) done.outcome) → ⊥ }
         requires room { HasRoom book.old.entries }
         requires stands { Stands A.act_of self.old.tables book.old.entries }
         ensures stands { Stands A.act_of self.new.tables book.new.entries }

@@ -1,5 +1,6 @@
 use Rattle.std.proofs.Common.{List, [], ◌++◌, ◌≡◌, map, append_assoc, ap, ◌∙◌}
-use Rattle.hpx_value.specs.Hands.{sent, replied}
+use Rattle.hpx_value.specs.Hands.{sent}
+use Rattle.hpx_value.specs.Riders.{rode}
 use Rattle.hpx_value.specs.declared.outcome.Due.{Due}
 use Rattle.hpx_value.specs.declared.outcome.Due.TheVariants.{Message, Print}
 use Rattle.hpx_commit.proofs.hand.Hand.due.Goals as goal
@@ -20,9 +21,9 @@ returns c =
     c.push_replies.new.due.items
     c.push_prints.new.due.items
     (map (λ x. Message (sent s a made x)) out.sends)
-    (map (λ x. Message (replied s a made x)) out.replies)
+    (map (λ x. Message (rode s a made out x)) out.replies)
     (map Print out.prints)
     c.new-due.ensures.items
     (rw c.as_slice.ensures at c.in_ok-push_sends.ensures)
-    (rw c.as_slice-2.ensures at c.in_ok-push_replies.ensures)
+    (rw (c.as_slice-2.ensures, c.in_ok-may.ensures) at c.in_ok-push_replies.ensures)
     (rw c.as_slice-3.ensures at c.in_ok-push_prints.ensures)

@@ -1,5 +1,5 @@
 use Rattle.hpx_node.proofs.Common.{Tables, ap, arith, slice_get_less, ◌∙◌}
-use Rattle.hpx_node.proofs.Failed.{plan_due, plan_ups, plan_few, plan_kept, then_fails, then_writes, then_few}
+use Rattle.hpx_node.proofs.Failed.{failed_there, plan_due, plan_ups, plan_few, plan_kept, then_fails, then_writes, then_few}
 use Rattle.hpx_node.proofs.TurnSteps.{fails_light}
 use Rattle.hpx_node.proofs.node.Node.fail.Goals as goal
 
@@ -14,6 +14,9 @@ settle_waiting-requires g c = let must = c.requires.must in record {
 
 pub leave-requires : goal.leave-requires
 leave-requires g c = let few = plan_few c.args.self.now.tables c.args.i c.args.j c.requires.must c.args.plan c.requires.plan in record {
+  right = tt;
+  object = slice_get_less c.settle_waiting.new.self.tables.objects c.args.j _ (failed_there c.args.self.now.tables c.args.i c.args.j c.requires.must c.args.plan c.requires.plan c.settle_waiting.new.self.tables
+      c.settle_waiting.ensures.pending c.settle_waiting.ensures.objects c.settle_waiting.ensures.rest);
   fit = plan_due c.args.self.now.tables c.args.i c.args.j c.requires.must c.args.plan c.requires.plan;
   credit = plan_ups c.args.self.now.tables c.args.i c.args.j c.requires.must c.args.plan c.requires.plan;
   spare = omega (arith, few, c.settle_waiting.ensures.spare, c.requires.few, c.requires.spare);

@@ -1,4 +1,4 @@
-use Rattle.hpx_node.proofs.Common.{Book, Stands, ap, ok_map, ◌∙◌}
+use Rattle.hpx_node.proofs.Common.{AllLast, Book, Stands, Stock, ap, ok_map, subst, ◌∙◌}
 use Rattle.hpx_node.proofs.Same.{ends_from, prepared_same, same_too}
 use Rattle.hpx_node.proofs.Turns.{turn_from, adds_none}
 use Rattle.hpx_node.proofs.node.Node.finish.Goals.{then-is_err-via-then-is_err, then-is_err-via-else-is_err+then-is_err-2}
@@ -50,3 +50,12 @@ returns-then-is_err-clause-turn g c = elim c.then-is_err.branch [
 
 pub returns-clause-turn : goal.returns-clause-turn
 returns-clause-turn g c = turn_from _ _ _ c.reserve-else-is_err.ensures.entries c.commit.ensures.turn
+
+pub returns-in-None-clause-lasts : goal.returns-in-None-clause-lasts
+returns-in-None-clause-lasts g c = λ done. absurd (cc)
+
+pub returns-clause-lasts : goal.returns-clause-lasts
+returns-clause-lasts g c = λ done.
+    let some = rw c.in-Ok-Some.field-0-is at c.in-Ok-Some.ensures.some in
+    let own = rw c.in-Ok-Some.field-0-is at c.in-Ok-Some.ensures.own in
+    subst (λ (s : Stock). AllLast s.hand s.places) own some.stock.lasts

@@ -1,8 +1,9 @@
-use Rattle.hpx_node.proofs.Common.{Give, HasCredit, Id, IsFitJob, IsKept, IsParcel, IsPaused, IsReadyFor, IsTidy, Job, KeepsLaws, Locality, None, Some, Waits, [], ap, arith, awaits, broken_near, find, find_passes, get_or, give_right, hand_with, is_last, is_standing, length, slice_get, slice_get_is, stock_with, subst, sym, take, target_of, true, ℕ, ◌<◌, ◌∙◌, ◌≡◌, ◌≤◌}
+use Rattle.hpx_node.proofs.Common.{Give, HasCredit, Id, IsFitJob, IsKept, IsParcel, IsPaused, IsReadyFor, IsTidy, Job, KeepsLaws, Locality, None, Some, Waits, [], ap, arith, awaits, broken_near, find, find_passes, get_or, give_right, hand_with, is_last, is_standing, length, plain, seen, slice_get, slice_get_is, stock_with, subst, sym, take, target_of, true, ℕ, ◌<◌, ◌∙◌, ◌≡◌, ◌≤◌}
 use Rattle.hpx_node.proofs.LeftBy.{kept_then}
 use Rattle.hpx_commit.proofs.Jobs.{laws_by, right_by}
 use Rattle.hpx_node.proofs.Paused.{asked_within, in_place, paused_at}
 use Rattle.hpx_node.proofs.Planned.{made_long}
+use Rattle.hpx_node.proofs.Seen.{fit_seen}
 use Rattle.hpx_node.proofs.ReadyStock.{IsStockReady, brings_by, is_ready, last_is}
 use Rattle.hpx_node.proofs.node.Node.ready.Goals as goal
 
@@ -20,7 +21,7 @@ module _ (x y : Locality) (e : x ≡ y) (i : ℕ) (w : Waits) (lt : i < length x
     for_at = find_passes (awaits o n) y.tables.pending w
         (ap (λ (z : Locality). find (awaits o n) z.tables.pending) (sym e) ∙ (found ∙ (ap (λ (z : Locality). slice_get z.tables.pending i) e ∙ is_there)))
 
-    stock_at : KeepsLaws y.tables.localities w.job.kind w.job.at w.job.state w.job.action w.outcome → 8 ≤ x.tables.profile.credit_log → HasCredit o
+    stock_at : KeepsLaws y.tables.localities w.job.kind w.job.at w.job.state (plain w.job.action) w.outcome → 8 ≤ x.tables.profile.credit_log → HasCredit o
         → is_last o (Some w) ≡ true → IsStockReady y.tables w (hand_with o n w)
     stock_at laws log credit last = is_ready y.tables w o n was_at was_at.few.0 laws (subst (λ (z : Locality). 8 ≤ z.tables.profile.credit_log) e log) credit
         (brings_by y.tables o (give_right y.tables (Give o n) o n right).1) for_at last
@@ -54,8 +55,8 @@ prepare_waiting-requires g c =
     let found = rw (c.as_slice.ensures.value) at c.in-Some.ensures.found in
     let yes : c.waits_for_one.result ≡ true = let no = c.if-not-waits_for_one.false in cc in
     let last = last_is o w c.log_of.result c.waits_for_one.result c.log_of.ensures.log c.waits_for_one.ensures c.if-log_of-eq0.false yes in
-    let laws = laws_by c.done.result.now.localities t.localities c.done.result.now.job w.job c.done.result.now.outcome w.outcome (c.done.ensures.localities ∙ was.localities)
-    c.done.ensures.job c.done.ensures.outcome c.lawful.ensures in
+    let laws = laws_by c.done.result.now.localities t.localities (seen c.done.result.now.job) (seen w.job) c.done.result.now.outcome w.outcome (c.done.ensures.localities ∙ was.localities)
+    (ap seen c.done.ensures.job) c.done.ensures.outcome c.lawful.ensures in
     let k = stock_at _ _ c.self.view_is c.in-Some.i w inside c.index-waits.ensures c.requires.tidy o c.in-Give.entry right found laws c.self.invariant.3.log_least credit last in
     record {
       localities = was.localities;
@@ -80,8 +81,8 @@ returns-clause-some g c =
     let found = rw (c.as_slice.ensures.value) at c.in-Some.ensures.found in
     let yes : c.waits_for_one.result ≡ true = let no = c.if-not-waits_for_one.false in cc in
     let last = last_is o w c.log_of.result c.waits_for_one.result c.log_of.ensures.log c.waits_for_one.ensures c.if-log_of-eq0.false yes in
-    let laws = laws_by c.done.result.now.localities t.localities c.done.result.now.job w.job c.done.result.now.outcome w.outcome (c.done.ensures.localities ∙ was.localities)
-    c.done.ensures.job c.done.ensures.outcome c.lawful.ensures in
+    let laws = laws_by c.done.result.now.localities t.localities (seen c.done.result.now.job) (seen w.job) c.done.result.now.outcome w.outcome (c.done.ensures.localities ∙ was.localities)
+    (ap seen c.done.ensures.job) c.done.ensures.outcome c.lawful.ensures in
     let alone = rw (c.as_slice.ensures.value) at c.in-Some.ensures.first in
     let stands = rw (c.as_slice-2.ensures.value, c.target.ensures, c.action.ensures) at c.in-Some-place_of.ensures.found in
     let object = ap (λ (x : Locality). find (is_standing (target_of w.job.action)) x.tables.objects) (sym c.self.view_is)
@@ -98,10 +99,10 @@ returns-clause-some g c =
       last = last;
       place = place;
       laws = laws;
-      right = right_by g.A.Acts.act_of c.done.result.now.localities t.localities c.done.result.now.job w.job c.done.result.now.outcome w.outcome
-          (c.done.ensures.localities ∙ was.localities) c.done.ensures.job c.done.ensures.outcome c.done.result.now.right;
+      right = right_by g.A.Acts.act_of c.done.result.now.localities t.localities (seen c.done.result.now.job) (seen w.job) c.done.result.now.outcome w.outcome
+          (c.done.ensures.localities ∙ was.localities) (ap seen c.done.ensures.job) c.done.ensures.outcome c.done.result.now.right;
       kept = subst (λ s. IsKept (record { object = place.standing.object; state = s })) (sym prepared.state_left)
-          (kept_then t w.job w.outcome was.job was.few.0 laws p.stock prepared.stock place.standing place.kept place.kind place.state);
+          (kept_then t (seen w.job) w.outcome (fit_seen w.job was.job) was.few.0 laws p.stock prepared.stock place.standing place.kept place.kind place.state);
       prepared = prepared;
       stock = c.in_ok-prepared.ensures.stock ∙ ap (stock_with t w) (c.as_slice-3.ensures.value ∙ c.in_ok-hand.ensures);
     })

@@ -1,6 +1,8 @@
-use Rattle.hpx_node.proofs.Common.{Tables, ap, arith, get_some, length, remove, ◌∙◌}
+use Rattle.std.specs.Option.{option_to_list}
+use Rattle.hpx_node.proofs.Common.{Locality, Tables, ap, arith, get_some, length, remove, slice_get_less, ◌∙◌}
 use Rattle.hpx_node.proofs.Committing.{stands_less, stands_then}
-use Rattle.hpx_node.proofs.Resumed.{resumed, resumed_kept}
+use Rattle.hpx_node.proofs.Resumed.{resumed, resumed_kept, rider_same, settled_there}
+use Rattle.hpx_node.proofs.Seen.{rider_right}
 use Rattle.hpx_node.proofs.node.Node.resume.Goals as goal
 
 pub make-requires : goal.make-requires
@@ -33,8 +35,15 @@ settle_waiting-requires g c =
 pub leave-requires : goal.leave-requires
 leave-requires g c =
     let w = get_some c.args.self.now.tables.pending c.args.ready.i c.requires.waits in
-    let l = (c.requires.may w.0 w.1).prepared.limits in record {
+    let may = c.requires.may w.0 w.1 in
+    let l = may.prepared.limits in
+    let same = rider_same c.self.inside.pending.items c.args.self.now.tables.pending c.args.ready.i w.0 c.index.result.now c.action.result.now c.rider-rider.result
+    (ap (λ (x : Locality). x.tables.pending) c.self.view_is) w.1 c.index.ensures c.action.ensures c.rider-rider.ensures in
+    let there = settled_there c.args.self.now.tables w.0 c.args.ready.i c.args.ready.j c.args.ready.prepared w.1 may c.make.new.self.tables c.settle_waiting.new.self.tables c.make.ensures.made
+    c.settle_waiting.ensures.pending c.settle_waiting.ensures.objects c.settle_waiting.ensures.rest in record {
       fit = l.due_fit;
+      right = rider_right c.rider-rider.result w.0.job.action same may.place.job.action.sent.shape may.place.job.action.sent.credit;
+      object = slice_get_less c.settle_waiting.new.self.tables.objects c.args.ready.j _ there;
       credit = l.ups_fit;
       spare = omega (arith, l.births, l.due, l.ups, c.make.ensures.spare, c.settle_waiting.ensures.spare, c.requires.spare);
       page = omega (arith, l.births, l.cuts, l.due, l.ups, c.make.ensures.page, c.settle_waiting.ensures.page, c.requires.page);
@@ -52,8 +61,10 @@ returns g c =
     let t = c.args.self.now.tables in
     let w = get_some t.pending c.args.ready.i c.requires.waits in
     let may = c.requires.may w.0 w.1 in
+    let same = rider_same c.self.inside.pending.items c.args.self.now.tables.pending c.args.ready.i w.0 c.index.result.now c.action.result.now c.rider-rider.result
+    (ap (λ (x : Locality). x.tables.pending) c.self.view_is) w.1 c.index.ensures c.action.ensures c.rider-rider.ensures in
     let done = resumed t w.0 c.args.ready.i c.args.ready.j c.args.ready.prepared w.1 may c.make.new.self.tables c.settle_waiting.new.self.tables c.make.ensures.made
-    c.settle_waiting.ensures.pending c.settle_waiting.ensures.objects c.settle_waiting.ensures.rest c.leave.new.self.tables c.leave.ensures.goes c.leave.ensures.rest
+    c.settle_waiting.ensures.pending c.settle_waiting.ensures.objects c.settle_waiting.ensures.rest c.leave.new.self.tables (option_to_list c.rider-rider.result) same c.leave.ensures.goes c.leave.ensures.rest
     c.args.book.now.entries c.make.new.book.entries c.settle_waiting.new.book.entries c.leave.new.book.entries c.make.ensures.entries c.settle_waiting.ensures.entries
     c.leave.ensures.writes in
     record {

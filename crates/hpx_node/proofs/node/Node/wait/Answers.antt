@@ -1,4 +1,4 @@
-use Rattle.hpx_node.proofs.Common.{Book, Stands, Tables, ap, arith, refl, ◌∙◌}
+use Rattle.hpx_node.proofs.Common.{Book, Stands, Tables, ap, arith, refl, seen, ◌∙◌}
 use Rattle.hpx_node.proofs.Waited.{short_same, before_same, begins_from}
 use Rattle.hpx_node.proofs.Same.{same_too}
 use Rattle.hpx_node.proofs.Turns.{turn_from, adds_none}
@@ -33,7 +33,7 @@ pub begin-requires-clause-before : goal.begin-requires-clause-before
 begin-requires-clause-before g c = before_same c.args.self.now.tables _ _ _ _ c.reserve.ensures.same c.in-Ok.ensures
 
 pub begin-requires-clause-short : goal.begin-requires-clause-short
-begin-requires-clause-short g c = short_same c.args.self.now.tables _ c.args.done.job c.args.done.outcome c.reserve.ensures.same c.requires.short
+begin-requires-clause-short g c = short_same c.args.self.now.tables _ (seen c.args.done.job) c.args.done.outcome c.reserve.ensures.same c.requires.short
 
 pub returns-clause-asks : goal.returns-clause-asks
 returns-clause-asks g c =

@@ -1,9 +1,11 @@
 use Rattle.std.proofs.Common.{sym, ap, ◌∙◌, subst, length}
 use Rattle.hpx_value.specs.declared.acts.Job.{Job}
+use Rattle.hpx_value.specs.Riders.{plain}
 use Rattle.hpx_world.specs.Stages.{stage}
 use Rattle.hpx_world.specs.Steps.{DidHandOut}
 use Rattle.hpx_world.specs.Turns.{DidFire, DidFinish}
 use Rattle.hpx_world.proofs.Refusing.{err_then, finish_refused}
+use Rattle.hpx_world.proofs.Unfed.{unfed_then}
 use Rattle.hpx_world.proofs.Worked.{fired_at, fired_out, worked, did_work}
 use Rattle.hpx_world.proofs.world.World.work.Goals as goal
 
@@ -55,7 +57,7 @@ returns-clause-did g c = λ is.
       c.in_ok-turn.ensures.did.0,
       did_work g.A.Acts.act_of c.args.self.now.profile _ _ _ _ c.standing.ensures c.args.k c.in-Some.job fired _ _
           c.in-Ok.done.localities c.in-Ok.done.outcome c.in_ok-turn-2.field-0 _ _ (c.in-Ok.ensures.localities ∙ c.requires.acts) c.turn.ensures.count
-          (c.in-Ok.ensures.outcome ∙ ap (λ n. g.A.Acts.act_of n c.in-Some.job.kind c.in-Some.job.at c.in-Some.job.state c.in-Some.job.action) (sym c.in-Ok.ensures.localities)) did,
+          (c.in-Ok.ensures.outcome ∙ ap (λ n. g.A.Acts.act_of n c.in-Some.job.kind c.in-Some.job.at c.in-Some.job.state (plain c.in-Some.job.action)) (sym c.in-Ok.ensures.localities)) did,
       c.in_ok-turn-2.ensures.did.1.1 ∙ c.in_ok-turn.ensures.did.1.1,
     )
 
@@ -67,3 +69,6 @@ returns-clause-jobs g c = λ hands none.
     c.turn.new.self.journal.entries c.turn-2.new.self.journal.entries) c.in-Ok.ensures.job c.in_ok-turn-2.ensures.did.1.0 in
     worked g.A.Acts.act_of c.args.self.now.profile _ _ _ _ c.standing.ensures c.args.k c.in-Some.job fired
     c.in-Ok.done.localities c.in-Ok.done.outcome c.in_ok-turn-2.field-0 _ _ (c.in-Ok.ensures.localities ∙ c.requires.acts) c.turn.ensures.count did none
+
+pub returns-clause-unfed : goal.returns-clause-unfed
+returns-clause-unfed g c = unfed_then _ _ _ (c.turn.ensures.unfed tt) (c.turn-2.ensures.unfed tt)
