@@ -302,7 +302,10 @@ fn an_answer_is_seen_without_its_rider(rt: HostRuntime) -> Result<(), Fail> {
     assert_eq!(rt; plain.args.len(), 2);
     assert!(rt; plain.args.as_slice()[1].same(&Value::Int(9)));
     assert!(rt; plain.cont == Some(Cont { place: 1, slot: 8 }));
-    let ids = [Gid::new(0, 16, 1).with_log(5), Gid::new(0, 16, 3).with_log(5)];
+    let ids = [
+        Gid::new(0, 16, 1).with_log(5),
+        Gid::new(0, 16, 3).with_log(5),
+    ];
     assert!(rt; plain.ids.as_slice() == ids.as_slice());
     assert!(rt; plain.rider() == None);
     Ok(())

@@ -52,6 +52,7 @@ computed_done task line s o x z own places computed left taken faults no_read no
   where
     same : (a b : List ℕ) → Some a ≡ Some b → a ≡ b
     same a b e = cc
+
     no_console : task ≡ Accumulator → ⊥
     no_console console = let none : task_line task ≡ None = subst (λ t. task_line t ≡ None) (sym console) refl in one_line (task_line task) line none own
 
