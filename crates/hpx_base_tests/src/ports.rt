@@ -128,7 +128,7 @@ fn frames_come_in_order(rt: HostRuntime) -> Result<(), Fail> {
         for place in want {
             assert_eq!(rt; delivered(&mut fabric)?, place);
         }
-        assert_eq!(rt; fabric.trace().len(), 8);
+        assert_eq!(rt; fabric.in_flight(), 0);
     }
     Ok(())
 }

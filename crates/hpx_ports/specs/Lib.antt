@@ -11,3 +11,4 @@ pub mod Counted
 pub mod Words
 pub mod Links
 pub mod Spawns
+pub mod Staged

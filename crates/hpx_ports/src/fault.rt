@@ -3,6 +3,7 @@ ghost use Rattle.hpx_ports.specs.declared.fault.FabricFault.TheVariants.{OutOfMe
 ghost use Rattle.hpx_ports.specs.Faults.{raised};
 
 use hpx_value::memory::OutOfMemory;
+use std::alloc::AllocError;
 use thiserror::Error;
 
 /// The outside did not do what was asked of it.
@@ -19,6 +20,14 @@ pub enum FabricFault {
     /// There was no memory.
     #[error("out of memory")]
     OutOfMemory,
+}
+
+impl From<AllocError> for FabricFault {
+    ghost from_gives = { λ _ fault. fault ≡ NoMemory };
+
+    fn from(_error: AllocError) -> FabricFault {
+        FabricFault::OutOfMemory
+    }
 }
 
 impl From<OutOfMemory> for FabricFault {

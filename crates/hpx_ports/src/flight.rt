@@ -1,30 +1,42 @@
-ghost use Rattle.std.specs.Prelude.{◌≡◌, ◌∷◌, ◌++◌, [], Some, length, remove, slice_get, IfOk, OnOk, OnErr};
+ghost use Rattle.std.specs.Prelude.{◌≡◌, ◌∷◌, ◌++◌, [], Some, length, remove, slice_get, option_map, OnOk, OnErr};
+ghost use Rattle.hpx_ports.specs.declared.fabric.Wire.TheVariants.{Sent as WireSent};
 ghost use Rattle.hpx_ports.specs.Orders.{next_place, order_after};
 ghost use Rattle.hpx_ports.specs.Frames.{Delivers, events_of};
 
-use crate::fabric::Wire;
 use crate::order::Order;
-use hpx_value::exact::Exact;
 use hpx_value::items::Bytes;
 use hpx_value::memory::OutOfMemory;
+use http_server::Log;
 use std::alloc::Global;
+use std::collections::VecDeque;
 use std::marker::Model;
 
-/// Frames in flight in memory, and what happened to them.
+/// What happened to a frame, its bytes aside.
+#[derive(Clone, Copy, Debug, PartialEq, Eq)]
+pub enum Stage {
+    /// It was taken, to be carried.
+    Sent { from: u32, to: u32 },
+    /// It arrived.
+    Delivered { to: u32 },
+}
+
+/// Frames in flight in memory. What happened to them is for proofs alone, and takes no memory.
 #[derive(Drop)]
 pub struct Flight {
     alloc: Global,
-    frames: Vec<(u32, Bytes)>,
-    trace: Vec<Wire>,
+    frames: VecDeque<(u32, Bytes)>,
+    stages: Log<Stage, Bytes>,
     order: Order,
 }
 
 impl Model for Flight {
+    ghost use Rattle.std.specs.Prelude.{map};
     ghost use Rattle.hpx_ports.specs.Carriage.{Carried};
+    ghost use Rattle.hpx_ports.specs.Staged.{wire_of};
 
     ghost Value = { Carried };
 
-    ghost view = { λ f. record { flight = f.frames.items; trace = f.trace.items; order = f.order } };
+    ghost view = { λ f. record { flight = f.frames.items; trace = map wire_of f.stages.items; order = f.order } };
 }
 
 impl Flight {
@@ -36,8 +48,8 @@ impl Flight {
     {
         Flight {
             alloc,
-            frames: Vec::new(alloc),
-            trace: Vec::new(alloc),
+            frames: VecDeque::new(alloc),
+            stages: Log::new(),
             order,
         }
     }
@@ -49,47 +61,45 @@ impl Flight {
         self.frames.len()
     }
 
-    /// What happened, oldest first.
-    pub fn trace(&self) -> &[Wire]
-        ensures { result.now ≡ self.now.trace }
-    {
-        self.trace.as_slice()
-    }
-
     /// Takes a frame, to be delivered later.
     pub fn send(&mut self, from: u32, to: u32, frame: &[u8]) -> Result<(), OutOfMemory>
         ensures flight { OnOk result (self.new.flight ≡ self.old.flight ++ (to, frame.now) ∷ []) }
-        ensures trace { OnOk result (self.new.trace ≡ self.old.trace ++ Wire.Sent from to frame.now ∷ []) }
+        ensures trace { OnOk result (self.new.trace ≡ self.old.trace ++ WireSent from to frame.now ∷ []) }
         ensures order { self.new.order ≡ self.old.order }
         ensures err { OnErr result (self.new ≡ self.old) }
     {
-        let carried = Bytes::from_vec(Vec::from_slice(self.alloc, frame)?);
         let bytes = Bytes::from_vec(Vec::from_slice(self.alloc, frame)?);
         self.frames.reserve(1)?;
-        self.trace.reserve(1)?;
-        self.frames.push((to, carried)).unwrap();
-        self.trace.push(Wire::Sent { from, to, bytes }).unwrap();
+        self.stages = self.stages.and(&Stage::Sent { from, to }, &bytes);
+        self.frames.push_back_reserved((to, bytes));
         Ok(())
     }
 
-    /// Delivers the frame whose turn it is.
-    pub fn deliver(&mut self) -> Result<Option<(u32, Bytes)>, OutOfMemory>
-        ensures got { IfOk result (λ got. got ≡ slice_get self.old.flight (next_place self.old.order (length self.old.flight))) }
-        ensures flight { OnOk result (self.new.flight ≡ remove self.old.flight (next_place self.old.order (length self.old.flight))) }
-        ensures trace { IfOk result (λ got. self.new.trace ≡ self.old.trace ++ events_of got) }
-        ensures order { IfOk result (λ got. self.new.order ≡ order_after self.old.order got) }
-        ensures delivers { IfOk result (λ got. Delivers (Some self.old.flight) (Some self.new.flight) got) }
-        ensures err { OnErr result (self.new ≡ self.old) }
+    /// The frame whose turn it is: where it goes, and its bytes.
+    pub fn next(&self) -> Option<&(u32, Bytes)>
+        ensures { option_map (λ frame. frame.now) result ≡ slice_get self.now.flight (next_place self.now.order (length self.now.flight)) }
     {
         if self.frames.is_empty() {
-            return Ok(None);
+            return None;
+        }
+        self.frames.get(self.order.place(self.frames.len()))
+    }
+
+    /// Delivers the frame whose turn it is. The first and the last cost nothing of the others.
+    pub fn deliver(&mut self) -> Option<(u32, Bytes)>
+        ensures got { result ≡ slice_get self.old.flight (next_place self.old.order (length self.old.flight)) }
+        ensures flight { self.new.flight ≡ remove self.old.flight (next_place self.old.order (length self.old.flight)) }
+        ensures trace { self.new.trace ≡ self.old.trace ++ events_of result }
+        ensures order { self.new.order ≡ order_after self.old.order result }
+        ensures delivers { Delivers (Some self.old.flight) (Some self.new.flight) result }
+    {
+        if self.frames.is_empty() {
+            return None;
         }
         let place = self.order.place(self.frames.len());
-        let (to, bytes) = &self.frames[place];
-        let (to, bytes) = (*to, bytes.duplicate(self.alloc)?);
-        self.trace.reserve(1)?;
-        self.trace.push(Wire::Delivered { to, bytes }).unwrap();
+        let frame = self.frames.remove(place)?;
+        self.stages = self.stages.and(&Stage::Delivered { to: frame.0 }, &frame.1);
         self.order = self.order.after();
-        Ok(Some(self.frames.remove(place)))
+        Some(frame)
     }
 }

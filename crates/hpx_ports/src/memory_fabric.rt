@@ -1,4 +1,4 @@
-ghost use Rattle.std.specs.Prelude.{◌≡◌, ◌≤◌, ◌↔◌, ◌∷◌, ◌++◌, [], Some, IsTrue, length, remove, slice_get, IfOk, OnOk, OnErr, IsErrOf, IsOkUnless};
+ghost use Rattle.std.specs.Prelude.{◌≡◌, ◌≤◌, ◌↔◌, ◌∷◌, ◌++◌, [], Some, IsTrue, length, remove, slice_get, IfOk, IsOk, OnOk, OnErr, IsErrOf, IsOkUnless};
 ghost use Rattle.hpx_ports.specs.Faults.{Rose, raised};
 ghost use Rattle.hpx_ports.specs.Frames.{Delivers, events_of};
 ghost use Rattle.hpx_ports.specs.Orders.{next_place, order_after};
@@ -9,6 +9,7 @@ use crate::fault::{FabricFault, raise};
 use crate::flight::Flight;
 use crate::order::Order;
 use crate::plan::Plan;
+use hpx_value::exact::Exact;
 use hpx_value::items::{Bytes, Lengths};
 use std::alloc::Global;
 use std::marker::Model;
@@ -43,13 +44,6 @@ impl SureFabric {
     {
         self.flight.in_flight()
     }
-
-    /// What happened, oldest first.
-    pub fn trace(&self) -> &[Wire]
-        ensures { result.now ≡ self.now.trace }
-    {
-        self.flight.trace()
-    }
 }
 
 impl Fabric for SureFabric {
@@ -73,27 +67,28 @@ impl Fabric for SureFabric {
         Ok(())
     }
 
-    /// Delivers the frame whose turn it is.
+    /// Delivers the frame whose turn it is. It wants no memory.
     fn deliver(&mut self) -> Result<Option<(u32, Bytes)>, FabricFault>
-        ensures sure { IsOkUnless result FabricFault.OutOfMemory }
+        ensures sure { IsOk result }
         ensures got { IfOk result (λ got. got ≡ slice_get self.old.flight (next_place self.old.order (length self.old.flight))) }
         ensures ok { IfOk result (λ got. self.new ≡ record {
           flight = remove self.old.flight (next_place self.old.order (length self.old.flight));
           trace = self.old.trace ++ events_of got;
           order = order_after self.old.order got;
         }) }
-        ensures err { OnErr result (self.new ≡ self.old) }
 
         ensures flight { IfOk result (λ got. Delivers (Some self.old.flight) (Some self.new.flight) got) }
     {
-        Ok(self.flight.deliver()?)
+        Ok(self.flight.deliver())
     }
 }
 
-/// A fabric in memory, of which chosen calls fail.
+/// A fabric in memory, of which chosen calls fail, and which keeps what happened.
 #[derive(Drop)]
 pub struct MemFabric {
+    alloc: Global,
     flight: Flight,
+    trace: Vec<Wire>,
     sends: Plan,
     delivers: Plan,
     faults: u64,
@@ -106,7 +101,7 @@ impl Model for MemFabric {
 
     ghost view = { λ f. record {
       flight = f.flight.flight;
-      trace = f.flight.trace;
+      trace = f.trace.items;
       order = f.flight.order;
       sends = f.sends;
       delivers = f.delivers;
@@ -128,7 +123,9 @@ impl MemFabric {
         } }
     {
         MemFabric {
+            alloc,
             flight: Flight::new(alloc, order),
+            trace: Vec::new(alloc),
             sends: Plan {
                 numbers: sends,
                 calls: 0,
@@ -152,7 +149,7 @@ impl MemFabric {
     pub fn trace(&self) -> &[Wire]
         ensures { result.now ≡ self.now.trace }
     {
-        self.flight.trace()
+        self.trace.as_slice()
     }
 
     /// How many calls failed, but for want of memory.
@@ -196,7 +193,10 @@ impl Fabric for MemFabric {
             self.faults = raise(self.faults);
             return Err(FabricFault::Failed);
         }
+        let bytes = Bytes::from_vec(Vec::from_slice(self.alloc, frame)?);
+        self.trace.reserve(1)?;
         self.flight.send(from, to, frame)?;
+        self.trace.push_reserved(Wire::Sent { from, to, bytes });
         Ok(())
     }
 
@@ -228,6 +228,12 @@ impl Fabric for MemFabric {
             self.faults = raise(self.faults);
             return Err(FabricFault::Failed);
         }
-        Ok(self.flight.deliver()?)
+        let Some((to, bytes)) = self.flight.next() else {
+            return Ok(self.flight.deliver());
+        };
+        let (to, bytes) = (*to, bytes.duplicate(self.alloc)?);
+        self.trace.reserve(1)?;
+        self.trace.push_reserved(Wire::Delivered { to, bytes });
+        Ok(self.flight.deliver())
     }
 }
