@@ -1,6 +1,6 @@
 -- A journal in parts, and how it grows by what one node writes.
 use Rattle.std.proofs.Common.{ℕ, Bool, true, false, cond, List, [], ◌∷◌, ◌++◌, ◌≡◌, ◌≢◌, ◌+◌, ◌<◌, ◌≤◌, refl, sym, ap, ◌∙◌, subst, arith, inl, inr, append-nil}
-use Rattle.std.specs.List.{list_any, count_by}
+use Rattle.std.specs.List.{list_any, sum_by, count_by}
 use Rattle.std.proofs.lemmas.List.Sums.{sum_by-cons, sum_by-append}
 use Rattle.std.proofs.lemmas.Bool.{eq-eqb, ne_eqb, cases_eq, cases_Bool}
 use Rattle.hpx_journal.specs.Bags.{Covers}
@@ -168,26 +168,22 @@ unfolding step
 legal_carried r w [] h = tt
 legal_carried r w (e ∷ es) h = (h.0.place, h.0.road, legal_carried r (step r w e) es h.1)
 
-abbrev sent_counts : Frame → ℕ × Frame → ℕ
-sent_counts f x = cond (same_frame f x.1) 1 0
+sent_sum : (g : Frame → ℕ) (k : ℕ) (e : Event) → sum_by (λ (x : ℕ × Frame). g x.1) (outs_by k e) ≡ sum_by g (sends e)
+sent_sum g k (Out to bytes) = refl
+sent_sum g k _ = refl
 
-sent_frames : (f : Frame) (k : ℕ) (e : Event) → count_by (λ x. same_frame f x.1) (outs_by k e) ≡ count_by (same_frame f) (sends e)
-sent_frames f k (Out to bytes) = refl
-sent_frames f k _ = refl
-
--- what is on the road was sent and not yet accepted
-pub road_counts : (r : Rules) (road : List Frame) (es : List Entry) → IsCarried r road es → (f : Frame)
-    → count_by (same_frame f) (road_run road es) + count_by (same_frame f) (ins es)
-    ≡ count_by (same_frame f) road + count_by (λ x. same_frame f x.1) (outs es)
-road_counts r road [] h f = omega arith
-road_counts r road (e ∷ es) h f =
+-- what is on the road was sent and not yet accepted, whatever is counted of frames
+pub road_sum : (r : Rules) (road : List Frame) (es : List Entry) → IsCarried r road es → (g : Frame → ℕ)
+    → sum_by g (road_run road es) + sum_by g (ins es) ≡ sum_by g road + sum_by (λ (x : ℕ × Frame). g x.1) (outs es)
+road_sum r road [] h g = omega arith
+road_sum r road (e ∷ es) h g =
     omega (
       arith,
-      road_counts r (road_after road e) es h.2 f,
-      road_moves (frame_counts f) road e h.1,
-      sum_by-append (frame_counts f) (arrives e) (ins es),
-      sum_by-append (sent_counts f) (outs_by e.at e.event) (outs es),
-      sent_frames f e.at e.event,
+      road_sum r (road_after road e) es h.2 g,
+      road_moves g road e h.1,
+      sum_by-append g (arrives e) (ins es),
+      sum_by-append (λ (x : ℕ × Frame). g x.1) (outs_by e.at e.event) (outs es),
+      sent_sum g e.at e.event,
     )
 
 -- ---- a join by counts: in every prefix each frame is taken in at most as often as it was sent
@@ -214,8 +210,8 @@ carried_by_counts r road (e ∷ es) at h =
       arith,
       h (e ∷ []) es refl f,
       sum_by-append (frame_counts f) (arrives e) [],
-      sum_by-append (sent_counts f) (outs_by e.at e.event) [],
-      sent_frames f e.at e.event,
+      sum_by-append (λ (x : ℕ × Frame). frame_counts f x.1) (outs_by e.at e.event) [],
+      sent_sum (frame_counts f) e.at e.event,
     )) in (
       at [] e es refl,
       c,
@@ -226,7 +222,7 @@ carried_by_counts r road (e ∷ es) at h =
             h (e ∷ p) q (ap (λ zs. e ∷ zs) t) f,
             road_moves (frame_counts f) road e c,
             sum_by-append (frame_counts f) (arrives e) (ins p),
-            sum_by-append (sent_counts f) (outs_by e.at e.event) (outs p),
-            sent_frames f e.at e.event,
+            sum_by-append (λ (x : ℕ × Frame). frame_counts f x.1) (outs_by e.at e.event) (outs p),
+            sent_sum (frame_counts f) e.at e.event,
           )),
     )

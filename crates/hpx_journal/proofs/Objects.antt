@@ -37,11 +37,11 @@ objects_moved r s e k o =
     kept o (after r s e) + freed_count o e + sum_by (frame_objects r o) (sends e) + born o s
     ≤ kept o s + sum_by (frame_objects r o) (arrives_at k e) + born o (after r s e)
 
-same_counts : (o a b : Id) → same_object a b ≡ true → object_counts o a ≡ object_counts o b
+pub same_counts : (o a b : Id) → same_object a b ≡ true → object_counts o a ≡ object_counts o b
 same_counts o a b h = ap {B = ℕ} (λ t. cond t 1 0) (same_object-through o a b h)
 
 -- the element that is taken counts as what it was looked for
-counted : (o x : Id) (objects : List Standing) (y : Standing) → find (is_standing x) objects ≡ Some y
+pub counted : (o x : Id) (objects : List Standing) (y : Standing) → find (is_standing x) objects ≡ Some y
     → count_by (is_standing o) (without (is_standing x) objects) + object_counts o x ≡ count_by (is_standing o) objects
 counted o x objects y h =
     omega (

@@ -12,7 +12,7 @@ use Rattle.hpx_journal.specs.Rows.{Row}
 use Rattle.hpx_journal.specs.Whole.{Space, IsLegal, IsLegalFrom, IsCarried, IsQuiet, IsQuietAt, IsDeadIn, replayed, step, sends, arrives, road_after}
 use Rattle.hpx_journal.specs.Laws.{travelling_in, ins, outs, outs_by, road_run, freeds, is_freed}
 use Rattle.hpx_journal.proofs.Wholes.{road_moves}
-use Rattle.hpx_journal.proofs.Grow.{run_road, legal_carried}
+use Rattle.hpx_journal.proofs.Grow.{run_road, road_sum, legal_carried}
 use Rattle.hpx_journal.proofs.Bags.{total-term, find-nothing}
 use Rattle.hpx_journal.proofs.Start.{first, legal_freed}
 use Rattle.hpx_journal.proofs.Same.{same_object-true}
@@ -21,29 +21,6 @@ use Rattle.hpx_journal.proofs.Objects.{freed_count}
 sum_by-one : {X : Type 0} (xs : List X) → sum_by (λ x. 1) xs ≡ length xs
 sum_by-one [] = refl
 sum_by-one (x ∷ xs) = omega (arith, sum_by-cons (λ y. 1) x xs, sum_by-one xs)
-
-length-sent : (k : ℕ) (e : Event) → length (outs_by k e) ≡ length (sends e)
-length-sent k (Out to bytes) = refl
-length-sent k _ = refl
-
-length-road_after : (road : List Frame) (e : Entry) → (n m : ℕ) → length (road_after road e) ≡ n → length road ≡ m
-    → sum_by (λ f. 1) (road_after road e) + sum_by (λ f. 1) (arrives e) ≡ sum_by (λ f. 1) road + sum_by (λ f. 1) (sends e.event)
-    → n + length (arrives e) ≡ m + length (sends e.event)
-length-road_after road e n m a b moves =
-    omega (arith, moves, sum_by-one (road_after road e), sum_by-one (arrives e), sum_by-one road, sum_by-one (sends e.event))
-
-road_lengths : (r : Rules) (road : List Frame) (es : List Entry) → IsCarried r road es
-    → length (road_run road es) + length (ins es) ≡ length road + length (outs es)
-road_lengths r road [] h = refl
-road_lengths r road (e ∷ es) h =
-    omega (
-      arith,
-      road_lengths r (road_after road e) es h.2,
-      length-road_after road e (length (road_after road e)) (length road) refl refl (road_moves (λ f. 1) road e h.1),
-      length-append (arrives e) (ins es),
-      length-append (outs_by e.at e.event) (outs es),
-      length-sent e.at e.event,
-    )
 
 none_left : {X : Type 0} (xs : List X) → length xs ≡ 0 → xs ≡ []
 none_left [] h = refl
@@ -77,8 +54,12 @@ module _ (r : Rules) (es : List Entry) (legal : IsLegal r es) where
     | inr i ↦ omega (arith, legal_freed r es legal o (freed_managed r es legal o i))
   ]
 
+  -- on the road is what was sent and not accepted, whatever is counted of frames
+  pub legal_road_sum : (g : Frame → ℕ) → sum_by g (replayed r es).road + sum_by g (ins es) ≡ sum_by (λ (x : ℕ × Frame). g x.1) (outs es)
+  legal_road_sum g = omega (arith, ap (sum_by g) (run_road r (first r) es), road_sum r [] es (legal_carried r (first r) es legal) g)
+
   pub legal_lengths : length (replayed r es).road + length (ins es) ≡ length (outs es)
-  legal_lengths = omega (arith, ap length (run_road r (first r) es), road_lengths r [] es (legal_carried r (first r) es legal))
+  legal_lengths = omega (arith, legal_road_sum (λ f. 1), sum_by-one (replayed r es).road, sum_by-one (ins es), sum_by-one (outs es))
 
   pub legal_road_empty : length (ins es) ≡ length (outs es) → (replayed r es).road ≡ []
   legal_road_empty same = none_left (replayed r es).road (omega (arith, legal_lengths))

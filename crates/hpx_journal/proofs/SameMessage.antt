@@ -32,7 +32,7 @@ same_option test None None = true
 same_option test (Some x) (Some y) = test x y
 same_option test _ _ = false
 
-abbrev same_list : {X : Type 0} → (X → X → Bool) → List X → List X → Bool
+abbrev pub same_list : {X : Type 0} → (X → X → Bool) → List X → List X → Bool
 same_list test [] [] = true
 same_list test (x ∷ xs) (y ∷ ys) = test x y && same_list test xs ys
 same_list test _ _ = false
@@ -41,7 +41,7 @@ cons_same : {X : Type 0} (x y : X) (xs ys : List X) → x ≡ y → xs ≡ ys �
 cons_same x y xs ys p q = cc
 
 module _ {X : Type 0} (test : X → X → Bool) (sound : (x y : X) → test x y ≡ true → x ≡ y) where
-  same_list-true : (xs ys : List X) → same_list test xs ys ≡ true → xs ≡ ys
+  pub same_list-true : (xs ys : List X) → same_list test xs ys ≡ true → xs ≡ ys
   same_list-true [] [] h = refl
   same_list-true (x ∷ xs) (y ∷ ys) h =
       cons_same x y xs ys (sound x y (and_true _ _ h).0) (same_list-true xs ys (and_true _ _ h).1)
@@ -53,7 +53,7 @@ module _ {X : Type 0} (test : X → X → Bool) (sound : (x y : X) → test x y 
   same_option-true _ _ h = cc
 
 module _ {X : Type 0} (test : X → X → Bool) (same : (x : X) → test x x ≡ true) where
-  same_list-refl : (xs : List X) → same_list test xs xs ≡ true
+  pub same_list-refl : (xs : List X) → same_list test xs xs ≡ true
   same_list-refl [] = refl
   same_list-refl (x ∷ xs) = rw (same x, same_list-refl xs) refl
 
@@ -69,7 +69,7 @@ int_eq-refl x = (Decides-int_eq x x).1 refl
 
 -- ---- values
 
-abbrev same_value : Value → Value → Bool
+abbrev pub same_value : Value → Value → Bool
 same_value Nothing Nothing = true
 same_value (Flag x) (Flag y) = same_bool x y
 same_value (Int x) (Int y) = int_eq x y
@@ -79,7 +79,7 @@ same_value (Fault x) (Fault y) = x == y
 same_value (Ints x) (Ints y) = same_list int_eq x y
 same_value _ _ = false
 
-same_value-true : (a b : Value) → same_value a b ≡ true → a ≡ b
+pub same_value-true : (a b : Value) → same_value a b ≡ true → a ≡ b
 same_value-true Nothing Nothing h = refl
 same_value-true (Flag x) (Flag y) h = ap (λ v. Flag v) (same_bool-true x y h)
 same_value-true (Int x) (Int y) h = ap (λ v. Int v) (int_eq-true x y h)
@@ -89,7 +89,7 @@ same_value-true (Fault x) (Fault y) h = ap (λ v. Fault v) (eqb-true x y h)
 same_value-true (Ints x) (Ints y) h = ap (λ v. Ints v) (same_list-true int_eq int_eq-true x y h)
 same_value-true _ _ h = cc
 
-same_value-refl : (a : Value) → same_value a a ≡ true
+pub same_value-refl : (a : Value) → same_value a a ≡ true
 same_value-refl Nothing = refl
 same_value-refl (Flag x) = same_bool-refl x
 same_value-refl (Int x) = int_eq-refl x
@@ -106,14 +106,14 @@ made_cont x y = record { place = x; slot = y }
 made_cont-same : (x x' y y' : ℕ) → x ≡ x' → y ≡ y' → made_cont x y ≡ made_cont x' y'
 made_cont-same x x' y y' p q = cc
 
-abbrev same_cont : Cont → Cont → Bool
+abbrev pub same_cont : Cont → Cont → Bool
 same_cont a b = (a.place == b.place) && (a.slot == b.slot)
 
-same_cont-true : (a b : Cont) → same_cont a b ≡ true → a ≡ b
+pub same_cont-true : (a b : Cont) → same_cont a b ≡ true → a ≡ b
 same_cont-true a b h =
     made_cont-same a.place b.place a.slot b.slot (eqb-true _ _ (and_true _ _ h).0) (eqb-true _ _ (and_true _ _ h).1)
 
-same_cont-refl : (a : Cont) → same_cont a a ≡ true
+pub same_cont-refl : (a : Cont) → same_cont a a ≡ true
 same_cont-refl a = rw (eq-eqb a.place a.place refl, eq-eqb a.slot a.slot refl) refl
 
 abbrev made_id : ℕ → ℕ → ℕ → Option ℕ → Id
@@ -122,19 +122,19 @@ made_id x y z l = record { home = x; kind = y; number = z; log = l }
 made_id-same : (x x' y y' z z' : ℕ) (l l' : Option ℕ) → x ≡ x' → y ≡ y' → z ≡ z' → l ≡ l' → made_id x y z l ≡ made_id x' y' z' l'
 made_id-same x x' y y' z z' l l' p q t u = cc
 
-abbrev same_nat : ℕ → ℕ → Bool
+abbrev pub same_nat : ℕ → ℕ → Bool
 same_nat x y = x == y
 
-same_nat-true : (x y : ℕ) → same_nat x y ≡ true → x ≡ y
+pub same_nat-true : (x y : ℕ) → same_nat x y ≡ true → x ≡ y
 same_nat-true x y h = eqb-true x y h
 
-same_nat-refl : (x : ℕ) → same_nat x x ≡ true
+pub same_nat-refl : (x : ℕ) → same_nat x x ≡ true
 same_nat-refl x = eq-eqb x x refl
 
-abbrev same_id : Id → Id → Bool
+abbrev pub same_id : Id → Id → Bool
 same_id a b = (a.home == b.home) && ((a.kind == b.kind) && ((a.number == b.number) && same_option same_nat a.log b.log))
 
-same_id-true : (a b : Id) → same_id a b ≡ true → a ≡ b
+pub same_id-true : (a b : Id) → same_id a b ≡ true → a ≡ b
 same_id-true a b h =
     let h1 = and_true _ _ h in
     let h2 = and_true _ _ h1.1 in
@@ -142,7 +142,7 @@ same_id-true a b h =
     made_id-same a.home b.home a.kind b.kind a.number b.number a.log b.log
     (eqb-true _ _ h1.0) (eqb-true _ _ h2.0) (eqb-true _ _ h3.0) (same_option-true same_nat same_nat-true a.log b.log h3.1)
 
-same_id-refl : (a : Id) → same_id a a ≡ true
+pub same_id-refl : (a : Id) → same_id a a ≡ true
 same_id-refl a =
     rw (
       eq-eqb a.home a.home refl,

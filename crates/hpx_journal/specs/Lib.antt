@@ -12,6 +12,7 @@ pub mod Whole
 pub mod Slots
 pub mod Weights
 pub mod Laws
+pub mod Moving
 pub mod Natives
 pub mod Pool
 pub mod Sessions

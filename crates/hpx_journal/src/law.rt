@@ -1,17 +1,18 @@
 //! What every legal journal keeps: the contracts are the laws. "After every entry" is said as: of each front of it.
 ghost use Rattle.std.specs.Prelude.{ℕ, true, false, List, [], ◌∷◌, ◌++◌, ◌≡◌, ◌≢◌, ◌≤◌, ◌<◌, ◌+◌, ◌^◌, ◌↔◌, length};
-ghost use Rattle.std.specs.List.{count_by};
+ghost use Rattle.std.specs.List.{sum_by, count_by};
 ghost use Rattle.hpx_value.specs.Ids.{Id};
 ghost use Rattle.hpx_value.specs.Hands.{Slot};
 ghost use Rattle.hpx_journal.specs.Slots.{claims_in};
 ghost use Rattle.hpx_journal.specs.Entries.{Name, Done, Freed, In, Entry, Rules, Frame, same_frame};
-ghost use Rattle.hpx_journal.specs.Local.{Local, boot, recorded};
+ghost use Rattle.hpx_journal.specs.Local.{Local, is_standing, boot, recorded};
 ghost use Rattle.hpx_journal.specs.Rows.{IsDead};
 ghost use Rattle.hpx_journal.specs.Names.{IsBacked};
 ghost use Rattle.hpx_journal.specs.Foreign.{present, IsUndrawn, kept, NodeKeeps, IsForeign};
 ghost use Rattle.hpx_journal.specs.Roots.{roots};
 ghost use Rattle.hpx_journal.specs.Whole.{IsLegal, IsJoin, IsClean, IsCarried, IsQuiet, IsQuietAt, Space, part, replayed, run_local, credit_sum, recorded_in, IsDeadIn, names_in};
-ghost use Rattle.hpx_journal.specs.Laws.{fired_here, travelling_in, FreesTheDead, KeepsActLaws, IsFormed, RefusesForCause, count_events, is_failed, hands_refusal, is_refused_count, HasGrammar, IsBornIn, IsOnRoad, IsLegalLocal, AreAt, SameBag, TargetsStand, Commits, Fails, entry_at, held_in, owed_in, asking_in, asked_in, given_in, begun, fires, dones, fires_at, dones_at, freeds, ins, outs, road_run};
+ghost use Rattle.hpx_journal.specs.Laws.{fired_here, travelling_in, FreesTheDead, KeepsActLaws, IsFormed, RefusesForCause, count_events, is_freed, is_failed, hands_refusal, is_refused_count, HasGrammar, IsBornIn, IsOnRoad, IsLegalLocal, AreAt, SameBag, TargetsStand, Commits, Fails, entry_at, held_in, owed_in, asking_in, asked_in, given_in, begun, fires, dones, fires_at, dones_at, freeds, ins, outs, road_run};
+ghost use Rattle.hpx_journal.specs.Moving.{MoveCounts, IsCounted, IsOnTheRoad, IsTracked, is_born_of, is_left_of, is_landed_of};
 ghost use Rattle.hpx_journal.specs.Pool.{Pool, IsBlind, Shows, NoneFails, IsPlainRun, boot_pool, prints_of};
 ghost use Rattle.hpx_journal.specs.Sessions.{IsSettled, BeginsWith, IsSession, IsPlainSession, IsPlainBrokenOff, entries_of, shown};
 
@@ -197,4 +198,20 @@ pub fn session_law()
     ensures legal { (r : Rules) (lines : List (List ℕ)) (blocks : List (List Entry)) → IsSession r [] lines blocks →
         IsLegal r (entries_of blocks) }
     ensures quiet { (r : Rules) (w : Space) → IsQuiet r w → IsSettled r w }
+{}
+
+/// What localities count of one object's moves, put together: its home has it move to a locality exactly where one thing is
+/// under way for that, and it stands where the home says, or where something of its move is still under way.
+pub fn tracks_law()
+    ensures { (n h : ℕ) (m : MoveCounts) → IsCounted n h m → IsOnTheRoad n h m → IsTracked n m }
+{}
+
+/// What a journal has of moves: on the road is what was sent and not accepted, whatever is counted of frames, and an object
+/// stands at a locality as often as it was born and landed there, less how often it left and was freed.
+pub fn moving_law()
+    ensures road { (g : Frame → ℕ) (r : Rules) (es : List Entry) → IsLegal r es →
+        sum_by g (replayed r es).road + sum_by g (ins es) ≡ sum_by (λ x. g x.1) (outs es) }
+    ensures stands { (r : Rules) (s : Local) (es : List Entry) (o : Id) → IsLegalLocal r s es →
+        count_by (is_standing o) (run_local r s es).objects + count_events (is_freed o) es + count_events (is_left_of o) es
+        ≡ count_by (is_standing o) s.objects + count_events (is_born_of o) es + count_events (is_landed_of o) es }
 {}

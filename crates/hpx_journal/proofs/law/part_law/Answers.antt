@@ -1,8 +1,8 @@
-use Rattle.std.proofs.Common.{[], arith, sym, subst, ◌≡◌, true}
+use Rattle.std.proofs.Common.{[], arith, sym, subst, cond, ◌≡◌, true}
 use Rattle.std.specs.List.{list_any}
 use Rattle.hpx_journal.specs.Entries.{same_frame}
 use Rattle.hpx_journal.specs.Laws.{road_run}
-use Rattle.hpx_journal.proofs.Grow.{run_part, run_road, legal_part, legal_carried, road_counts, flight_on_road, carried_by_counts}
+use Rattle.hpx_journal.proofs.Grow.{run_part, run_road, legal_part, legal_carried, road_sum, flight_on_road, carried_by_counts}
 use Rattle.hpx_journal.proofs.Start.{first, road_native}
 use Rattle.hpx_journal.proofs.law.part_law.Goals as goal
 
@@ -16,7 +16,7 @@ pub returns-clause-road : goal.returns-clause-road
 returns-clause-road c = λ r es. run_road r (first r) es
 
 pub returns-clause-frames : goal.returns-clause-frames
-returns-clause-frames c = λ r es f h. omega (arith, road_counts r [] es (legal_carried r (first r) es h) f)
+returns-clause-frames c = λ r es f h. omega (arith, road_sum r [] es (legal_carried r (first r) es h) (λ x. cond (same_frame f x) 1 0))
 
 pub returns-clause-on_road : goal.returns-clause-on_road
 returns-clause-on_road c = λ r es flight f same on.
