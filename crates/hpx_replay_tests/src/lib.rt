@@ -1,4 +1,4 @@
-//! Tests of the journal and of `replay`: journals by hand, legal and wrong ones.
+//! Tests of the journal, of `replay` and of the tables: journals by hand, legal and wrong ones; what is found and counted in tables.
 #![tactic(auto)]
 
 #[cfg(test)]
@@ -7,3 +7,5 @@ mod journal;
 mod lines;
 #[cfg(test)]
 mod stories;
+#[cfg(test)]
+mod tables;

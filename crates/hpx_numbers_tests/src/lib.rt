@@ -1,5 +1,0 @@
-//! Calls on accumulators and partitions, with what each is answered and what is kept then.
-#![tactic(auto)]
-
-#[cfg(test)]
-mod tests;
