@@ -1,10 +1,11 @@
 -- What a node's tables tell, by what stands at its locality.
-use Rattle.hpx_node.proofs.Common.{Act, Agree-sum, AllByRecursion, Apply, Arrived, Ask, Bool, Cached, Free, Give, Go, HasRightCredit, Id, IsBare, IsParcel, IsPassive, IsTidy, List, Local, Move, None, Option, Outgoing, Parcel, Return, Shipped, Some, Standing, Tables, Travel, Waits, [], action_of, acts_in, all_imp, ap, arith, awaited_at, awaited_here, bare_act, bare_standing, cases_Bool, cond, count_by, credit, credit_in, credit_of_log, credit_owed, drawn_by, false, find, flat_map, held-Counts, held_here, held_worth, ids_held, ids_kept, inl, inr, is_act, is_answer, is_busy, is_some, is_standing, map, messages, name_of, names, owed_here, owed_worth, parcel_tokens, refl, same_object, same_object-through, same_token-true, session, stands_here, subst, sum_by, sum_by-append, sum_by-cons, sym, true, view, zero-add, ℕ, ◌++◌, ◌-◌, ◌==◌, ◌^◌, ◌∙◌, ◌∷◌, ◌≡◌, ◌≤◌}
+use Rattle.hpx_node.proofs.Common.{Act, Agree-sum, AllByRecursion, Apply, Arrived, Ask, Bool, Cached, Free, Give, Go, HasRightCredit, Id, IsBare, IsParcel, IsPassive, IsTidy, List, Local, Move, None, Option, Outgoing, Parcel, Return, Shipped, Some, Standing, Tables, Travel, Waits, [], action_of, acts_in, all_imp, ap, arith, awaited_at, awaited_here, bare_act, bare_standing, cases_Bool, cond, count_by, credit, credit_in, credit_of_log, credit_owed, drawn_by, false, find, flat_map, held-Counts, held_here, held_worth, ids_held, ids_kept, inl, inr, is_act, is_answer, is_busy, is_some, is_standing, map, messages, name_of, names, owed_here, owed_worth, parcel_tokens, refl, same_object, same_object-through, same_token-true, session, stands_here, subst, sum_by, sum_by-append, sum_by-cons, sym, true, travels_in, view, zero-add, ℕ, ◌++◌, ◌-◌, ◌==◌, ◌^◌, ◌∙◌, ◌∷◌, ◌≡◌, ◌≤◌}
 use Rattle.hpx_parcel.specs.Credits.{credit_list, credits_of}
+use Rattle.hpx_journal.specs.Local.{is_travel}
 use Rattle.hpx_journal.specs.Tokens.{held, owing, is_held}
 use Rattle.hpx_part.specs.Shows.{IsWeight, Shows}
-use Rattle.hpx_part.proofs.Covered.{act_names, object_names, due_names}
-use Rattle.hpx_part.proofs.Keys.{means, own, stood, means_object, own_object}
+use Rattle.hpx_part.proofs.Covered.{act_names, object_names, travel_names, due_names}
+use Rattle.hpx_part.proofs.Keys.{means, own, stood, means_object, own_object, travels, means_travel, own_travel}
 use Rattle.hpx_steps.proofs.Cover.{held_counts, held_each}
 use Rattle.hpx_node.proofs.Sums.{weigh, weigh_append, tokens_sum, view_sum}
 
@@ -219,5 +220,6 @@ rest_shown t s o managed passive tidy shown =
       Agree-sum is_act name_of means own (act_names o) s.fired (view t [] []).fired shown.acts.fired,
       ap (sum_by (act_names o)) runs,
       ap (sum_by (due_names o)) shown.acts.due,
-      ap (sum_by (λ (x : Travel). count_by (same_object o) x.state.ids)) shown.objects.travels,
+      Agree-sum is_travel travels means_travel own_travel (travel_names o) s.travels (view t [] []).travels shown.objects.travels,
+      ap (λ ps. sum_by (travel_names o) (flat_map (λ p. travels_in (Some p)) ps)) none,
     )

@@ -44,6 +44,12 @@ pub not_session : (o : Id) → 16 ≤ o.kind → one_if (same_object o session) 
 not_session o managed =
     ap one_if (false_from (same_object o session) (λ t. let k : o.kind ≡ 1 = ap (λ y. y.kind) (same_object-true o session t) in absurd (omega arith)))
 
+-- what is seen not to be busy is not busy
+pub idle_of : (b : Bool) (o : Id) (xs ys : List Act) → Agree is_act xs ys → cond b false (list_any (acts_on o) ys) ≡ false
+    → cond b false (list_any (acts_on o) xs) ≡ false
+idle_of true o xs ys agree h = refl
+idle_of false o xs ys agree h = Agree-idle is_act name_of means own (acts_on o) xs ys agree h
+
 module _ (r : Rules) (v : View) where
   pub follows_line : (l m : List Act) (bytes : List ℕ) → v.due ≡ [] → v.fresh ≡ [] → v.here ≡ 0 → length bytes ≤ 1025 → v.waiting ≡ l ++ m
       → Follows r v (Line (next_in v) bytes)
@@ -141,11 +147,6 @@ module _ (r : Rules) (v : View) where
     };
   }
     where
-      idle_of : (b : Bool) (o : Id) (xs ys : List Act) → Agree is_act xs ys → cond b false (list_any (acts_on o) ys) ≡ false
-          → cond b false (list_any (acts_on o) xs) ≡ false
-      idle_of true o xs ys agree h = refl
-      idle_of false o xs ys agree h = Agree-idle is_act name_of means own (acts_on o) xs ys agree h
-
       moves_here : (to : Option ℕ) (here there : ℕ) → there ≡ here → IfSome to (λ t. t ≡ here) → IfSome to (λ t. t ≡ there)
       moves_here to here there e h = subst (λ k. IfSome to (λ t. t ≡ k)) (sym e) h
 

@@ -59,7 +59,7 @@ boot_shown n k = record {
   objects = record {
     number = refl;
     objects = record { single = λ o. roots_once_at n k (k == 0) o; counts = λ o. refl; finds = λ o. refl };
-    travels = refl;
+    travels = record { single = λ o. omega arith; counts = λ o. refl; finds = λ o. refl };
     fresh = refl;
   };
   credit = record { tokens = λ f weight. refl; asking = λ o. refl; asks = λ o. refl };

@@ -5,13 +5,13 @@ use Rattle.hpx_value.specs.Ids.{Id, same_object}
 use Rattle.hpx_journal.specs.Data.{Act, Due}
 use Rattle.hpx_journal.specs.Entries.{name_of}
 use Rattle.hpx_journal.specs.Tokens.{is_held, is_owed}
-use Rattle.hpx_journal.specs.Local.{is_act, is_standing}
+use Rattle.hpx_journal.specs.Local.{is_act, is_standing, is_travel}
 use Rattle.hpx_journal.specs.Names.{IsBacked, due_ids}
 use Rattle.hpx_journal.proofs.Same.{held-Counts, owed-Counts}
 use Rattle.hpx_part.specs.Data.{Standing, Travel, Token, Local}
 use Rattle.hpx_part.specs.View.{View, IsCovered}
 use Rattle.hpx_part.specs.Shows.{Shows}
-use Rattle.hpx_part.proofs.Keys.{means, own, stood, means_object, own_object}
+use Rattle.hpx_part.proofs.Keys.{means, own, stood, means_object, own_object, travels, means_travel, own_travel}
 use Rattle.hpx_part.proofs.Keyed.{Agree-sum}
 
 abbrev pub held_counts : Id → Token → ℕ
@@ -27,6 +27,9 @@ act_names o act = count_by (same_object o) act.ids
 abbrev pub object_names : Id → Standing → ℕ
 object_names o x = count_by (same_object o) x.state.ids
 
+abbrev pub travel_names : Id → Travel → ℕ
+travel_names o x = count_by (same_object o) x.state.ids
+
 abbrev pub due_names : Id → Due → ℕ
 due_names o x = count_by (same_object o) (due_ids x)
 
@@ -39,7 +42,7 @@ backed v s shown covered o managed = record {
     Agree-sum is_act name_of means own (act_names o) s.waiting v.waiting shown.acts.waiting,
     Agree-sum is_act name_of means own (act_names o) s.fired v.fired shown.acts.fired,
     ap (sum_by (due_names o)) shown.acts.due,
-    ap (sum_by (λ (x : Travel). count_by (same_object o) x.state.ids)) shown.objects.travels,
+    Agree-sum is_travel travels means_travel own_travel (travel_names o) s.travels v.travels shown.objects.travels,
     shown.credit.asking o,
     shown.credit.tokens (held_counts o) (held-Counts o),
   );

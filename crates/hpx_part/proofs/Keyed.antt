@@ -155,7 +155,7 @@ counted_any p (x ∷ xs) h = elim (cases_Bool (p x)) [
   | inr t ↦ omega (arith, sum_by-cons (counts_of p) x xs, counted_any p xs (subst (λ b. (b || list_any p xs) ≡ true) t h))
 ]
 
-none_counted : {X : Type 0} (p : X → Bool) (xs : List X) → list_any p xs ≡ false → count_by p xs ≡ 0
+pub none_counted : {X : Type 0} (p : X → Bool) (xs : List X) → list_any p xs ≡ false → count_by p xs ≡ 0
 none_counted p [] h = refl
 none_counted p (x ∷ xs) h = elim (cases_Bool (p x)) [
   | inl t ↦ absurd (let e : true ≡ false = subst (λ b. (b || list_any p xs) ≡ false) t h in cc)

@@ -1,11 +1,11 @@
--- Keys of what a locality has: an action's name, and the object that stands.
+-- Keys of what a locality has: an action's name, and the object that stands or travels.
 use Rattle.std.proofs.Common.{Bool, true, ◌≡◌, ap}
 use Rattle.hpx_value.specs.Ids.{Id, same_object}
 use Rattle.hpx_journal.specs.Data.{Act}
 use Rattle.hpx_journal.specs.Entries.{name_of}
-use Rattle.hpx_journal.specs.Local.{is_act, is_standing}
+use Rattle.hpx_journal.specs.Local.{is_act, is_standing, is_travel}
 use Rattle.hpx_journal.proofs.Same.{same_name-true, same_name-refl, same_object-true, same_object-refl}
-use Rattle.hpx_part.specs.Data.{Name, Standing}
+use Rattle.hpx_part.specs.Data.{Name, Standing, Travel}
 
 -- keys that are equal where they fit are keys
 pub means_equal : {K X : Type 0} (test : K → X → Bool) (key : X → K) → ((k : K) (x : X) → test k x ≡ true → k ≡ key x)
@@ -26,3 +26,12 @@ means_object o x h y = ap (λ k. same_object k y.object) (same_object-true o x.o
 
 pub own_object : (x : Standing) → is_standing (stood x) x ≡ true
 own_object x = same_object-refl x.object
+
+abbrev pub travels : Travel → Id
+travels x = x.object
+
+pub means_travel : (o : Id) (x : Travel) → is_travel o x ≡ true → (y : Travel) → is_travel o y ≡ is_travel (travels x) y
+means_travel o x h y = ap (λ k. same_object k y.object) (same_object-true o x.object h)
+
+pub own_travel : (x : Travel) → is_travel (travels x) x ≡ true
+own_travel x = same_object-refl x.object

@@ -8,7 +8,12 @@ pub mod Grown
 pub mod Keyed
 pub mod Keys
 pub mod Lists
+pub mod Loads
+pub mod LookRows
+pub mod MoveRows
 pub mod ObjectRows
 pub mod Parcels
 pub mod Stay
+pub mod Sums
+pub mod Telling
 pub mod Weaken

@@ -6,12 +6,14 @@ use Rattle.std.proofs.lemmas.List.Sums.{sum_by-cons}
 use Rattle.hpx_value.specs.Ids.{Id, same_object, bare}
 use Rattle.hpx_parcel.specs.Credits.{Credit, credit_list, credits_of}
 use Rattle.hpx_parcel.specs.Parcels.{IsParcel, HasRightCredit}
-use Rattle.hpx_journal.specs.Data.{Parcel, Apply, Ask, Give, Move, Go, Shipped}
+use Rattle.hpx_value.specs.Values.{bare_act, bare_state}
+use Rattle.hpx_journal.specs.Data.{Act, State, Parcel, Apply, Ask, Give, Move, Go, Shipped}
+use Rattle.hpx_journal.specs.Entries.{move_to}
 use Rattle.hpx_journal.specs.Tokens.{held, owing, is_held, is_owed}
-use Rattle.hpx_journal.specs.Frames.{acts_in, tokens_in, asks_in}
+use Rattle.hpx_journal.specs.Frames.{acts_in, travels_in, travel_of, tokens_in, asks_in}
 use Rattle.hpx_journal.proofs.Same.{same_object-true}
 use Rattle.hpx_part.proofs.Keyed.{counts_of}
-use Rattle.hpx_part.proofs.Covered.{held_counts, act_names}
+use Rattle.hpx_part.proofs.Covered.{held_counts, act_names, travel_names}
 
 one_named_at : (o id : Id) (log : Option ℕ) → 16 ≤ o.kind → MatchOption log (id.kind < 16) (λ x. 16 ≤ id.kind)
     → (b : Bool) → same_object o id ≡ b → cond b 1 0 ≤ count_by (is_held o) (map held (credit_list id log))
@@ -47,15 +49,27 @@ credits-append : (xs ys : List Id) → credits_of (xs ++ ys) ≡ credits_of xs +
 credits-append [] ys = refl
 credits-append (x ∷ xs) ys = rw (credits-append xs ys) (rw append_assoc refl)
 
-pub acts_named : (o : Id) → 16 ≤ o.kind → (p : Parcel) → IsParcel p
-    → sum_by (act_names o) (acts_in (Some p)) ≤ count_by (is_held o) (tokens_in (Some p))
-acts_named o managed (Apply act) h = omega (arith, ids_named o managed act.ids h.sent.credit)
-acts_named o managed (Move act) h = omega (arith, ids_named o managed act.ids h.sent.credit)
-acts_named o managed (Go act) h = omega (arith, ids_named o managed act.ids h.sent.credit)
-acts_named o managed (Shipped act state) h =
+-- the names in an object that a parcel ships, if it has a place to go to
+shipped_named : (o : Id) (act : Act) (state : State) (moves : Option ℕ)
+    → sum_by (travel_names o) (travel_of act state moves) ≤ count_by (same_object o) state.ids
+shipped_named o act state None = omega arith
+shipped_named o act state (Some to) = omega arith
+
+pub all_named : (o : Id) → 16 ≤ o.kind → (p : Parcel) → IsParcel p
+    → sum_by (act_names o) (acts_in (Some p)) + sum_by (travel_names o) (travels_in (Some p)) ≤ count_by (is_held o) (tokens_in (Some p))
+all_named o managed (Apply act) h = omega (arith, ids_named o managed act.ids h.sent.credit)
+all_named o managed (Move act) h = omega (arith, ids_named o managed act.ids h.sent.credit)
+all_named o managed (Go act) h = omega (arith, ids_named o managed act.ids h.sent.credit)
+all_named o managed (Shipped act state) h =
     rw (credits-append act.ids state.ids)
-    (omega (arith, ids_named o managed act.ids h.0.sent.credit, held-append o (credits_of act.ids) (credits_of state.ids)))
-acts_named o managed _ h = omega arith
+    (omega (
+      arith,
+      ids_named o managed act.ids h.0.sent.credit,
+      ids_named o managed state.ids h.1.credit,
+      shipped_named o (bare_act act) (bare_state state) (move_to (bare_act act)),
+      held-append o (credits_of act.ids) (credits_of state.ids),
+    ))
+all_named o managed _ h = omega arith
 
 -- ---- asks
 

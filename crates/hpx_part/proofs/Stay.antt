@@ -1,13 +1,13 @@
 -- What an entry leaves alone is shown as before.
-use Rattle.std.proofs.Common.{ℕ, List, ◌≡◌, ◌+◌, ◌≤◌, true, sym, ap, ◌∙◌, subst}
+use Rattle.std.proofs.Common.{ℕ, List, ◌≡◌, ◌+◌, ◌≤◌, true, sym, ap, subst}
 use Rattle.std.specs.List.{find, count_by, list_any, AllByRecursion}
 use Rattle.hpx_value.specs.Ids.{same_object}
 use Rattle.hpx_journal.specs.Data.{Id, Act, Due}
-use Rattle.hpx_journal.specs.Local.{is_act, is_standing, is_recorded, is_given, is_given_none, count_in}
+use Rattle.hpx_journal.specs.Local.{is_act, is_standing, is_travel, is_recorded, is_given, is_given_none, count_in}
 use Rattle.hpx_journal.specs.Rows.{is_dead_record}
 use Rattle.hpx_part.specs.Keyed.{Agree}
 use Rattle.hpx_parcel.specs.Credits.{Credit}
-use Rattle.hpx_part.specs.Data.{Standing, Recorded, Refusal, Local}
+use Rattle.hpx_part.specs.Data.{Standing, Travel, Recorded, Refusal, Local}
 use Rattle.hpx_part.specs.View.{View}
 use Rattle.hpx_part.specs.Shows.{ShowsActs, ShowsObjects, ShowsCredit, ShowsCounts, SameTokens, same_refusal}
 
@@ -39,21 +39,24 @@ module _ (v w : View) (s t : Local) (seen : acts_seen w ≡ acts_seen v) (there 
 -- ---- objects
 
 abbrev pub Objects : Type 0
-Objects = ℕ × List Standing × List Id
+Objects = ℕ × List Standing × List Travel × List Id
 
 abbrev pub objects_seen : View → Objects
-objects_seen v = (v.number, v.objects, v.fresh)
+objects_seen v = (v.number, v.objects, v.travels, v.fresh)
 
-abbrev pub objects_there : Local → Objects
+abbrev pub ObjectsThere : Type 0
+ObjectsThere = ℕ × List Standing × List Id
+
+abbrev pub objects_there : Local → ObjectsThere
 objects_there s = (s.number, s.objects, s.fresh)
 
 module _ (v w : View) (s t : Local) (seen : objects_seen w ≡ objects_seen v) (there : objects_there t ≡ objects_there s) (still : t.travels ≡ s.travels) where
   pub objects_stay : ShowsObjects v s → ShowsObjects w t
   objects_stay h = record {
-    number = known (λ (x y : ℕ). x ≡ y) s.number t.number v.number w.number (ap (λ (x : Objects). x.0) there) (ap (λ (x : Objects). x.0) seen) h.number;
-    objects = known (Agree is_standing) s.objects t.objects v.objects w.objects (ap (λ (x : Objects). x.1) there) (ap (λ (x : Objects). x.1) seen) h.objects;
-    travels = still ∙ h.travels;
-    fresh = known (λ (x y : List Id). x ≡ y) s.fresh t.fresh v.fresh w.fresh (ap (λ (x : Objects). x.2) there) (ap (λ (x : Objects). x.2) seen) h.fresh;
+    number = known (λ (x y : ℕ). x ≡ y) s.number t.number v.number w.number (ap (λ (x : ObjectsThere). x.0) there) (ap (λ (x : Objects). x.0) seen) h.number;
+    objects = known (Agree is_standing) s.objects t.objects v.objects w.objects (ap (λ (x : ObjectsThere). x.1) there) (ap (λ (x : Objects). x.1) seen) h.objects;
+    travels = known (Agree is_travel) s.travels t.travels v.travels w.travels still (ap (λ (x : Objects). x.2) seen) h.travels;
+    fresh = known (λ (x y : List Id). x ≡ y) s.fresh t.fresh v.fresh w.fresh (ap (λ (x : ObjectsThere). x.2) there) (ap (λ (x : Objects). x.3) seen) h.fresh;
   }
 
 -- ---- asks, which stay with what was given

@@ -1,17 +1,19 @@
 -- A view that says less shows the same locality.
-use Rattle.std.proofs.Common.{ℕ, Bool, true, List, [], ◌∷◌, ◌≡◌, ◌≤◌, None, refl, sym, ap, ◌∙◌, arith, inl, inr}
-use Rattle.std.specs.List.{find, list_any, count_by, AllByRecursion}
+use Rattle.std.proofs.Common.{Bool, true, List, [], ◌∷◌, ◌≡◌, Option, Some, None, IfSome, refl, sym, ap, ◌∙◌, subst, arith, inl, inr}
+use Rattle.std.specs.List.{list_any, sum_by, AllByRecursion}
 use Rattle.hpx_value.specs.Ids.{same_object}
 use Rattle.hpx_journal.specs.Data.{Id}
 use Rattle.hpx_journal.specs.Entries.{Rules}
-use Rattle.hpx_journal.specs.Local.{is_recorded, count_in}
+use Rattle.hpx_journal.specs.Local.{is_act, is_standing, is_travel}
 use Rattle.hpx_journal.specs.Rows.{IsDead, is_dead_record}
 use Rattle.hpx_journal.proofs.Bools.{or_cases, or_left, or_right}
 use Rattle.hpx_journal.proofs.Same.{and_true, same_object-refl, same_object-true, same_object-from, same_name-true, same_name-refl, held-Counts, owed-Counts}
-use Rattle.hpx_part.specs.Data.{Token, Recorded, Refusal, Local}
+use Rattle.hpx_part.specs.Data.{Event, Refusal, Local}
 use Rattle.hpx_part.specs.View.{View, IsCovered}
-use Rattle.hpx_part.specs.Shows.{Shows, Leads, SameTokens, same_refusal}
-use Rattle.hpx_part.proofs.Covered.{held_counts, owed_counts}
+use Rattle.hpx_part.specs.Shows.{Shows, Leads, SaysLess, same_refusal}
+use Rattle.hpx_part.proofs.Covered.{held_counts, owed_counts, act_names, object_names, travel_names, due_names}
+use Rattle.hpx_part.proofs.Sums.{Agree-sums}
+use Rattle.hpx_part.proofs.Telling.{tells_act, tells_standing, tells_travel}
 
 -- ---- what holds of all is told of what is the same
 
@@ -59,53 +61,58 @@ all_among same own P (x ∷ xs) h =
 
 -- ----
 
-module _ (r : Rules) (v : View) (tokens : List Token) (asking asks : List Id) (live : List Recorded) (dead : List Id) (refusals : List Refusal) (failing : ℕ)
-    (same : SameTokens v.tokens tokens) (asking_same : (x : Id) → count_by (same_object x) v.asking ≡ count_by (same_object x) asking)
-    (asks_same : (x : Id) → count_by (same_object x) v.asks ≡ count_by (same_object x) asks)
-    (live_same : (x : Id) → x.home ≡ v.here → count_in (find (is_recorded x) v.live) ≡ count_in (find (is_recorded x) live))
-    (fewer_dead : (x : Id) → list_any (same_object x) dead ≡ true → list_any (same_object x) v.dead ≡ true)
-    (fewer_refusals : (x : Refusal) → list_any (same_refusal x) refusals ≡ true → list_any (same_refusal x) v.refusals ≡ true)
-    (fewer : failing ≤ v.failing) where
-  abbrev pub weaker : View
-  weaker = record v { tokens = tokens; asking = asking; asks = asks; live = live; dead = dead; refusals = refusals; failing = failing; last = None }
+-- the last entry, where it is still told
+last_there : (a b c : Option Event) → IfSome b (λ e. a ≡ Some e) → IfSome a (λ e. c ≡ Some e) → IfSome b (λ e. c ≡ Some e)
+last_there a None c less shown = tt
+last_there a (Some e) c less shown = subst (λ x. IfSome x (λ y. c ≡ Some y)) less shown
 
-  weaker_covered : IsCovered v → IsCovered weaker
+module _ (r : Rules) (v w : View) (less : SaysLess v w) where
+  weaker_covered : IsCovered v → IsCovered w
   weaker_covered covered o managed =
       let c = covered o managed in record {
-        named = omega (arith, c.named, same (held_counts o) (held-Counts o), asking_same o);
-        pending = omega (arith, c.pending, same (owed_counts o) (owed-Counts o), asks_same o);
+        named = omega (
+          arith,
+          c.named,
+          less.objects (object_names o),
+          less.travels (travel_names o),
+          less.waiting (act_names o),
+          less.fired (act_names o),
+          ap (sum_by (due_names o)) less.due,
+          less.tokens (held_counts o) (held-Counts o),
+          less.asking o,
+        );
+        pending = omega (arith, c.pending, less.tokens (owed_counts o) (owed-Counts o), less.asks o);
       }
 
-  weaker_shows : (s : Local) → Shows v s → Shows weaker s
+  weaker_shows : (s : Local) → Shows v s → Shows w s
   weaker_shows s shown = record {
     acts = record {
-      here = shown.acts.here;
-      serial = shown.acts.serial;
-      waiting = shown.acts.waiting;
-      fired = shown.acts.fired;
-      due = shown.acts.due;
+      here = shown.acts.here ∙ sym less.here;
+      serial = shown.acts.serial ∙ sym less.serial;
+      waiting = Agree-sums tells_act is_act s.waiting v.waiting w.waiting shown.acts.waiting less.waiting;
+      fired = Agree-sums tells_act is_act s.fired v.fired w.fired shown.acts.fired less.fired;
+      due = shown.acts.due ∙ sym less.due;
     };
     objects = record {
-      number = shown.objects.number;
-      objects = shown.objects.objects;
-      travels = shown.objects.travels;
-      fresh = shown.objects.fresh;
+      number = shown.objects.number ∙ sym less.number;
+      objects = Agree-sums tells_standing is_standing s.objects v.objects w.objects shown.objects.objects less.objects;
+      travels = Agree-sums tells_travel is_travel s.travels v.travels w.travels shown.objects.travels less.travels;
+      fresh = shown.objects.fresh ∙ sym less.fresh;
     };
     credit = record {
-      tokens = λ f weight. shown.credit.tokens f weight ∙ same f weight;
-      asking = λ o. omega (arith, shown.credit.asking o, asking_same o);
-      asks = λ o. omega (arith, shown.credit.asks o, asks_same o);
+      tokens = λ f weight. shown.credit.tokens f weight ∙ less.tokens f weight;
+      asking = λ o. omega (arith, shown.credit.asking o, less.asking o);
+      asks = λ o. omega (arith, shown.credit.asks o, less.asks o);
     };
     counts = record {
-      live = λ o home. shown.counts.live o home ∙ live_same o home;
-      dead = all_among same_object same_object-refl (λ o. IsDead o s) dead
-          (λ o t. dead_among o s v.dead shown.counts.dead (fewer_dead o t));
-      refusals = all_among same_refusal refusal_own (λ x. list_any (same_refusal x) s.refusals ≡ true) refusals
-          (λ x t. refusal_among x v.refusals s.refusals shown.counts.refusals (fewer_refusals x t));
-      failing = omega (arith, shown.counts.failing);
+      live = λ o home. shown.counts.live o (home ∙ less.here) ∙ less.live o (home ∙ less.here);
+      dead = all_among same_object same_object-refl (λ o. IsDead o s) w.dead (λ o t. dead_among o s v.dead shown.counts.dead (less.dead o t));
+      refusals = all_among same_refusal refusal_own (λ x. list_any (same_refusal x) s.refusals ≡ true) w.refusals
+          (λ x t. refusal_among x v.refusals s.refusals shown.counts.refusals (less.refusals x t));
+      failing = omega (arith, shown.counts.failing, less.failing);
     };
-    last = tt;
+    last = last_there v.last w.last s.last less.last shown.last;
   }
 
-  pub weaker_leads : Leads r v [] weaker
-  weaker_leads = (refl, weaker_covered, weaker_shows)
+  pub weaker_leads : Leads r v [] w
+  weaker_leads = (less.here, weaker_covered, weaker_shows)

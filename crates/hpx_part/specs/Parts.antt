@@ -1,9 +1,10 @@
 -- A view stands for a locality's part of a journal.
-use Rattle.std.specs.Prelude.{ℕ, true, List, [], ◌∷◌, ◌≡◌, ◌+◌, map, None}
+use Rattle.std.specs.Prelude.{ℕ, true, List, [], ◌∷◌, ◌≡◌, ◌+◌, map, None, Some}
 use Rattle.std.specs.List.{sum_by, count_by, list_any, AllByRecursion}
 use Rattle.hpx_value.specs.Ids.{same_object}
 use Rattle.hpx_journal.specs.Data.{Id, Parcel, Apply, Return, Ask, Give, Cached, Move, Go, Shipped, Arrived, Free}
-use Rattle.hpx_journal.specs.Entries.{Rules}
+use Rattle.hpx_value.specs.Values.{bare_act}
+use Rattle.hpx_journal.specs.Entries.{Rules, move_to}
 use Rattle.hpx_journal.specs.Local.{boot}
 use Rattle.hpx_journal.specs.Foreign.{NodeKeeps}
 use Rattle.hpx_journal.specs.Roots.{roots}
@@ -37,6 +38,7 @@ view_at_boot n k = record {
   waiting = [];
   fired = [];
   objects = roots n k;
+  travels = [];
   fresh = [];
   due = [];
   tokens = [];
@@ -61,12 +63,12 @@ Adds o before after = (x : Id) → count_by (same_object x) after ≡ count_by (
 abbrev pub next_in : View → Name
 next_in v = record { origin = v.here; serial = v.serial + 1 }
 
--- where a parcel may go from here, its actions aside
+-- where a parcel may go from here, its actions and its object aside
 abbrev pub MayLeave : View → ℕ → Parcel → Type 0
 MayLeave v to (Apply act) = Unit {0}
 MayLeave v to (Move act) = Unit {0}
 MayLeave v to (Go act) = Unit {0}
-MayLeave v to (Shipped act state) = ⊥
+MayLeave v to (Shipped act state) = move_to (bare_act act) ≡ Some to
 MayLeave v to (Return id) = to ≡ id.home
 MayLeave v to (Ask id asker entry) = to ≡ id.home
 MayLeave v to (Arrived id place) = to ≡ id.home

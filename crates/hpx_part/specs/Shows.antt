@@ -6,7 +6,7 @@ use Rattle.hpx_value.specs.Shapes.{IsState}
 use Rattle.hpx_journal.specs.Data.{Id}
 use Rattle.hpx_journal.specs.Entries.{Rules, same_name}
 use Rattle.hpx_journal.specs.Tokens.{same_token}
-use Rattle.hpx_journal.specs.Local.{is_act, is_standing, is_recorded, is_given, is_given_none, recorded, count_in, after}
+use Rattle.hpx_journal.specs.Local.{is_act, is_standing, is_travel, is_recorded, is_given, is_given_none, recorded, count_in, after}
 use Rattle.hpx_journal.specs.Rows.{Allowed, IsDead, objects_in}
 use Rattle.hpx_journal.specs.Foreign.{present, kept, IsUndrawn, IsForeign}
 use Rattle.hpx_journal.specs.Laws.{TargetsStand, entry_at}
@@ -17,6 +17,10 @@ use Rattle.hpx_part.specs.View.{View, IsCovered}
 -- a weight of tokens that looks at no credit of an id
 abbrev pub IsWeight : (Token → ℕ) → Type 0
 IsWeight f = (a b : Token) → same_token a b ≡ true → f b ≡ f a
+
+-- the same elements, each as often, in any order: whatever is counted of them has the same sum
+abbrev pub SameSums : {X : Type 0} → List X → List X → Type 0
+SameSums {X} xs ys = (f : X → ℕ) → sum_by f xs ≡ sum_by f ys
 
 -- the same tokens, each as often
 abbrev pub SameTokens : List Token → List Token → Type 0
@@ -30,11 +34,11 @@ pub record ShowsActs (v : View) (s : Local) : Type 0 where
   pub fired : Agree is_act s.fired v.fired
   pub due : s.due ≡ v.due
 
--- so are its objects, of which none travels
+-- so are its objects, and those that travel here
 pub record ShowsObjects (v : View) (s : Local) : Type 0 where
   pub number : s.number ≡ v.number
   pub objects : Agree is_standing s.objects v.objects
-  pub travels : s.travels ≡ []
+  pub travels : Agree is_travel s.travels v.travels
   pub fresh : s.fresh ≡ v.fresh
 
 -- so are its tokens, and what was asked for: given or not, and gone on or not
@@ -62,6 +66,26 @@ pub record Shows (v : View) (s : Local) : Type 0 where
   pub credit : ShowsCredit v s
   pub counts : ShowsCounts v s
   pub last : IfSome v.last (λ e. s.last ≡ Some e)
+
+-- w says of a locality what v says, or less: lists in any order, fewer that are dead, refusals and failures, and no last entry
+pub record SaysLess (v w : View) : Type 0 where
+  pub here : w.here ≡ v.here
+  pub serial : w.serial ≡ v.serial
+  pub number : w.number ≡ v.number
+  pub fresh : w.fresh ≡ v.fresh
+  pub due : w.due ≡ v.due
+  pub waiting : SameSums v.waiting w.waiting
+  pub fired : SameSums v.fired w.fired
+  pub objects : SameSums v.objects w.objects
+  pub travels : SameSums v.travels w.travels
+  pub tokens : SameTokens v.tokens w.tokens
+  pub asking : (o : Id) → count_by (same_object o) v.asking ≡ count_by (same_object o) w.asking
+  pub asks : (o : Id) → count_by (same_object o) v.asks ≡ count_by (same_object o) w.asks
+  pub live : (o : Id) → o.home ≡ v.here → count_in (find (is_recorded o) v.live) ≡ count_in (find (is_recorded o) w.live)
+  pub dead : (o : Id) → list_any (same_object o) w.dead ≡ true → list_any (same_object o) v.dead ≡ true
+  pub refusals : (x : Refusal) → list_any (same_refusal x) w.refusals ≡ true → list_any (same_refusal x) v.refusals ≡ true
+  pub failing : w.failing ≤ v.failing
+  pub last : IfSome w.last (λ e. v.last ≡ Some e)
 
 -- actions and managed objects are there at most once, and not before their numbers are drawn; targets of fired actions stand
 pub record IsOnce (s : Local) : Type 0 where

@@ -5,7 +5,7 @@ use Rattle.hpx_value.specs.Ids.{same_object}
 use Rattle.hpx_journal.specs.Data.{Id, Act, Due}
 use Rattle.hpx_journal.specs.Tokens.{is_held, is_owed}
 use Rattle.hpx_journal.specs.Names.{due_ids}
-use Rattle.hpx_part.specs.Data.{Event, Standing, Token, Recorded, Refusal}
+use Rattle.hpx_part.specs.Data.{Event, Standing, Travel, Token, Recorded, Refusal}
 
 pub record View : Type 0 where
   pub here : ℕ
@@ -14,6 +14,7 @@ pub record View : Type 0 where
   pub waiting : List Act
   pub fired : List Act
   pub objects : List Standing
+  pub travels : List Travel  -- objects on their way, in the messages that are here
   pub fresh : List Id
   pub due : List Due
   pub tokens : List Token
@@ -29,6 +30,7 @@ pub record View : Type 0 where
 abbrev pub names_in_view : Id → View → ℕ
 names_in_view o v =
     sum_by (λ x. count_by (same_object o) x.state.ids) v.objects
+    + sum_by (λ x. count_by (same_object o) x.state.ids) v.travels
     + sum_by (λ act. count_by (same_object o) act.ids) v.waiting
     + sum_by (λ act. count_by (same_object o) act.ids) v.fired
     + sum_by (λ x. count_by (same_object o) (due_ids x)) v.due

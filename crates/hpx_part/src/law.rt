@@ -1,6 +1,6 @@
 //! Which entries lead from what a locality is seen to have to what it is seen to have then: one law for each entry, whatever
 //! the journal. Where a law asks that a view stays covered, the entry alone does not tell.
-ghost use Rattle.std.specs.Prelude.{ℕ, true, false, cond, List, [], ◌∷◌, ◌++◌, ◌≡◌, ◌≢◌, ◌≤◌, ◌<◌, ◌+◌, ◌-◌, ◌^◌, ◌==◌, ◌⊎◌, Option, Some, None, IfSome, length, map};
+ghost use Rattle.std.specs.Prelude.{ℕ, Bool, true, false, cond, List, [], ◌∷◌, ◌++◌, ◌≡◌, ◌≢◌, ◌≤◌, ◌<◌, ◌+◌, ◌-◌, ◌^◌, ◌==◌, ◌⊎◌, Option, Some, None, IfSome, length, map};
 ghost use Rattle.std.specs.List.{find, list_any, count_by};
 ghost use Rattle.hpx_value.specs.Ids.{same_object};
 ghost use Rattle.hpx_value.specs.Values.{named};
@@ -11,12 +11,12 @@ ghost use Rattle.hpx_parcel.specs.Parcels.{IsParcel};
 ghost use Rattle.hpx_journal.specs.Data.{Id, Act, State, Message, Outcome, Due, MessageDue, PrintDue, Parcel, Free};
 ghost use Rattle.hpx_journal.specs.Entries.{Rules, name_of, target_of, move_to, line_act};
 ghost use Rattle.hpx_journal.specs.Tokens.{held_token, owed_token, same_token};
-ghost use Rattle.hpx_journal.specs.Frames.{acts_in, travels_in, tokens_in, asks_in};
-ghost use Rattle.hpx_journal.specs.Local.{is_standing, is_recorded, acts_on, is_busy, count_in, failure};
-ghost use Rattle.hpx_journal.specs.Rows.{AreMade, IsManaged, is_refused};
-ghost use Rattle.hpx_part.specs.Data.{Event, Line, Fire, Split, Born, Done, Sent, Print, Merge, Up, Asked, Given, Count, Returned, Granted, Refused, Freed, Mail, Out, In, Entry, Standing, Token, Recorded, Refusal};
+ghost use Rattle.hpx_journal.specs.Local.{is_act, is_standing, is_travel, is_recorded, acts_on, is_busy, count_in, failure, leaving, stood};
+ghost use Rattle.hpx_journal.specs.Rows.{AreMade, IsManaged, is_refused, is_move_of};
+ghost use Rattle.hpx_part.specs.Data.{Event, Line, Fire, Split, Born, Done, Sent, Print, Merge, Up, Asked, Given, Count, Returned, Granted, Refused, Freed, Left, Landed, Looked, Mail, Out, In, Entry, Standing, Travel, Token, Recorded, Refusal};
 ghost use Rattle.hpx_part.specs.View.{View, IsCovered};
-ghost use Rattle.hpx_part.specs.Shows.{Follows, Leads, Shows, SameTokens, same_refusal};
+ghost use Rattle.hpx_part.specs.Shows.{Follows, Leads, SaysLess};
+ghost use Rattle.hpx_part.specs.Loads.{Load, Exchanges, load_of, standing_load, travel_load, with_load, nothing};
 ghost use Rattle.hpx_part.specs.Parts.{StandsFor, Trades, Adds, MayLeave, at_all, view_at_boot, next_in};
 
 /// At boot the roots stand, and nothing else is there.
@@ -225,41 +225,51 @@ pub fn freed_law()
         Follows r v (Freed o) (record v { objects = l ++ m; last = Some (Freed o) }) }
 {}
 
-/// A frame goes out, with the action and the credits in it.
+/// An object that is not busy leaves with a MOVE that waits: it is on its way to the place of the MOVE.
+pub fn left_law()
+    ensures { (r : Rules) (v w : View) (o : Id) (to : ℕ) (x : Standing) → v.due ≡ [] → v.fresh ≡ [] → IsManaged o → o.log ≡ None →
+        find (is_standing o) v.objects ≡ Some x → is_busy o v.fired ≡ false → list_any (is_move_of o to) v.waiting ≡ true → to ≢ v.here →
+        w ≡ record v { objects = w.objects; travels = w.travels; last = Some (Left o to) } →
+        Exchanges (standing_load x) (travel_load (leaving to x)) v w → Follows r v (Left o to) w }
+{}
+
+/// An object that came to where it is to go stands there.
+pub fn landed_law()
+    ensures { (r : Rules) (v w : View) (o : Id) (x : Travel) → v.due ≡ [] → v.fresh ≡ [] → IsManaged o → o.log ≡ None →
+        find (is_travel o) v.travels ≡ Some x → x.to ≡ v.here →
+        w ≡ record v { objects = w.objects; travels = w.travels; last = Some (Landed o) } →
+        Exchanges (travel_load x) (standing_load (stood x)) v w → Follows r v (Landed o) w }
+{}
+
+/// After an action was sent, the cache is asked where its object is.
+pub fn looked_law()
+    ensures { (r : Rules) (v : View) (o : Id) (hit : Bool) (act : Act) → v.fresh ≡ [] → o.log ≡ None → o.home ≢ v.here →
+        v.last ≡ Some (Sent (name_of act)) → find (is_act (name_of act)) v.waiting ≡ Some act → same_object o (target_of act) ≡ true →
+        Follows r v (Looked o hit) (record v { last = Some (Looked o hit) }) }
+{}
+
+/// A frame goes out, with what its parcel carries.
 pub fn out_law()
-    ensures { (r : Rules) (v : View) (p : Parcel) (to : ℕ) (bytes : List ℕ) (l m : List Act) (tokens : List Token) (asks : List Id) →
-        v.due ≡ [] → v.fresh ≡ [] → to < r.localities → to ≢ v.here → r.parcel_of bytes ≡ Some p → MayLeave v to p →
-        v.waiting ≡ l ++ (acts_in (Some p) ++ m) → Trades v.tokens (tokens_in (Some p)) [] tokens →
-        ((x : Id) → count_by (same_object x) asks + count_by (same_object x) (asks_in (Some p)) ≡ count_by (same_object x) v.asks) →
-        (IsCovered v → IsCovered (record v { waiting = l ++ m; tokens = tokens; asks = asks; last = Some (Out to bytes) })) →
-        Follows r v (Out to bytes) (record v { waiting = l ++ m; tokens = tokens; asks = asks; last = Some (Out to bytes) }) }
+    ensures { (r : Rules) (v w : View) (p : Parcel) (to : ℕ) (bytes : List ℕ) → v.due ≡ [] → v.fresh ≡ [] →
+        to < r.localities → to ≢ v.here → r.parcel_of bytes ≡ Some p → MayLeave v to p →
+        w ≡ record v { waiting = w.waiting; travels = w.travels; tokens = w.tokens; asks = w.asks; last = Some (Out to bytes) } →
+        Exchanges (load_of p) nothing v w → (IsCovered v → IsCovered w) → Follows r v (Out to bytes) w }
 {}
 
-/// A frame comes in, with the action and the credits in it. No object comes.
+/// A frame comes in, with what its parcel carries.
 pub fn in_law()
-    ensures { (r : Rules) (v : View) (p : Parcel) (bytes : List ℕ) (l m : List Act) (tokens : List Token) (asks : List Id) →
-        v.due ≡ [] → v.fresh ≡ [] → r.parcel_of bytes ≡ Some p → IsParcel p → travels_in (Some p) ≡ [] →
-        v.waiting ≡ l ++ m → Trades v.tokens [] (tokens_in (Some p)) tokens →
-        ((x : Id) → count_by (same_object x) asks ≡ count_by (same_object x) v.asks + count_by (same_object x) (asks_in (Some p))) →
-        Follows r v (In bytes) (record v { waiting = l ++ (acts_in (Some p) ++ m); tokens = tokens; asks = asks; last = Some (In bytes) }) }
+    ensures { (r : Rules) (v w : View) (p : Parcel) (bytes : List ℕ) → v.due ≡ [] → v.fresh ≡ [] → r.parcel_of bytes ≡ Some p → IsParcel p →
+        w ≡ record v { waiting = w.waiting; travels = w.travels; tokens = w.tokens; asks = w.asks; last = Some (In bytes) } →
+        Exchanges nothing (load_of p) v w → Follows r v (In bytes) w }
 {}
 
-/// What a call does not tell: the last entry, refusals that no longer matter, and the order of tokens and ids.
+/// One exchange after another is one; what goes and comes again does neither.
+pub fn exchange_law()
+    ensures after { (a b c d : Load) (v m w : View) → Exchanges a b v m → Exchanges c d m w → Exchanges (with_load a c) (with_load b d) v w }
+    ensures less { (x a b : Load) (v w : View) → Exchanges (with_load x a) (with_load x b) v w → Exchanges a b v w }
+{}
+
+/// What says of a locality no more than is seen may be said.
 pub fn weaken_law()
-    ensures { (r : Rules) (v w : View) → w ≡ record v {
-      tokens = w.tokens;
-      asking = w.asking;
-      asks = w.asks;
-      live = w.live;
-      dead = w.dead;
-      refusals = w.refusals;
-      failing = w.failing;
-      last = None;
-    } →
-        SameTokens v.tokens w.tokens → ((x : Id) → count_by (same_object x) v.asking ≡ count_by (same_object x) w.asking) →
-        ((x : Id) → count_by (same_object x) v.asks ≡ count_by (same_object x) w.asks) →
-        ((x : Id) → x.home ≡ v.here → count_in (find (is_recorded x) v.live) ≡ count_in (find (is_recorded x) w.live)) →
-        ((x : Id) → list_any (same_object x) w.dead ≡ true → list_any (same_object x) v.dead ≡ true) →
-        ((x : Refusal) → list_any (same_refusal x) w.refusals ≡ true → list_any (same_refusal x) v.refusals ≡ true) →
-        w.failing ≤ v.failing → Leads r v [] w }
+    ensures { (r : Rules) (v w : View) → SaysLess v w → Leads r v [] w }
 {}

@@ -1,6 +1,6 @@
 -- Between turns all that holds of a turn is what holds of the tables, and the other way round.
 use Rattle.hpx_steps.proofs.Common.{Accepted, Act, Actions, AllByRecursion, AreFired, ArePaused, AreRules, Came, Entry, FreesNone, Going, HasObject, Id, IfSome, IsDue, IsFit, IsForHere, IsKept, IsOnItsWay, IsOwn, IsParcel, IsPaused, IsSound, List, Loose, Mailed, OnDesk, Outgoing, Parcel, Pending, Row, Rules, Running, Standing, StandsAtRest, StandsFor, StandsHere, Tables, Waits, Working, [], all_append, all_parts, append-nil, arith, asked_by, asks_for, at_rest, bare_act, bound_for, freeing, given_to, gives_for, hopping, joined, length, map, messages, move_to, of_act, part, queued, refl, stands_here, subst, sum_by, sum_by-append, sum_by-cons, sym, target_of, true, weigh, weight, ℕ, ◌+◌, ◌∷◌, ◌≡◌, ◌≢◌, ◌≤◌}
-use Rattle.hpx_steps.proofs.Tools.{all_among, among_all, by_rows, long_sum, map_sum, zeros}
+use Rattle.hpx_steps.proofs.Tools.{all_among, among_all, by_rows, long_sum, map_sum, two_sums, zeros}
 use Rattle.hpx_steps.specs.Rest.{IsTidy, tokens, unpaid, view, waits_for}
 use Rattle.hpx_steps.specs.Rows.{unpaid as turn_unpaid}
 use Rattle.hpx_steps.specs.Sound.{IsTidy as turn_tidy, waits_for as turn_waits_for}
@@ -48,10 +48,6 @@ module _ (t : Tables) where
   asked_is : (k : ℕ) (o : Id) (n : ℕ) → weigh (asked_by k o n) (at_rest t)
       ≡ sum_by (asks_for k o n) t.desk + sum_by (λ (x : Outgoing). asks_for k o n x.parcel) t.outgoing + sum_by (gives_for o n) t.desk
   asked_is k o n = omega (arith, two_sums (asks_for k o n) (gives_for o n) t.desk, zeros t.accepted, zeros t.running, zeros t.pending, zeros t.objects)
-    where
-      two_sums : (f g : Parcel → ℕ) (ps : List Parcel) → sum_by (λ p. f p + g p) ps ≡ sum_by f ps + sum_by g ps
-      two_sums f g [] = refl
-      two_sums f g (p ∷ ps) = omega (arith, two_sums f g ps, sum_by-cons (λ q. f q + g q) p ps, sum_by-cons f p ps, sum_by-cons g p ps)
 
   waits_is : (o : Id) (n : ℕ) → weigh (turn_waits_for o n) (at_rest t) ≡ waits_for o n t.pending
   waits_is o n = omega (arith, zeros t.desk, zeros t.outgoing, zeros t.accepted, zeros t.running, zeros t.objects)

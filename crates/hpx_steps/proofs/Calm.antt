@@ -1,5 +1,5 @@
 -- What many entries have in common.
-use Rattle.hpx_steps.proofs.Common.{Actions, AreNumbered, Bool, Event, Id, IsOwn, Item, List, Local, Parcel, Row, Rules, SameTokens, SendsOwn, Tables, Turn, View, ap, arith, arrives_at, asked_by, asks_for, asks_under, causes, come, cond, count_by, counts_of, done_after, fires_one, freeing, given_to, gives_for, goes, gone, gone_to, hopping, joined, joins, length, outs_by, own, parcel_asks, parcel_frees, same_object, spends, subst, sym, tokens, unpaid, view, waits_for, weigh, wrote, ℕ, ◌+◌, ◌∙◌, ◌≡◌, ◌≢◌, ◌≤◌}
+use Rattle.hpx_steps.proofs.Common.{Actions, AreNumbered, Bool, Event, Id, IsOwn, Item, List, Local, Parcel, Row, Rules, SameTokens, SendsOwn, Tables, Turn, View, ap, arith, arrives_at, asked_by, asks_for, asks_under, causes, come, cond, count_by, counts_of, done_after, fires_one, freeing, given_to, gives_for, goes, gone, gone_to, hopping, joined, joins, length, outs_by, own, parcel_asks, parcel_frees, same_object, spends, subst, sym, tokens, unpaid, view, waits_for, weigh, wrote, ℕ, ◌+◌, ◌∙◌, ◌≡◌, ◌≢◌, ◌≤◌, SameSums, Travel, parcel_travels, sum_by}
 use Rattle.hpx_steps.proofs.Changes.{Sums, total}
 use Rattle.hpx_steps.proofs.Seen.{Sees, as_seen}
 use Rattle.hpx_steps.proofs.Sums.{by_own, by_parcel, own_sum, seen_sum}
@@ -48,14 +48,20 @@ module _ (r : Rules) (s s' : Turn) (e : Event) (out into : List Item) (sums : Su
 
 -- ---- what is seen
 
--- the asks for x, and what frees x, in messages
+-- the asks for x, what frees x, and objects on their way, in messages
 abbrev pub asks_of : Id → Item → ℕ
 asks_of x = by_parcel (λ p. count_by (same_object x) (parcel_asks p))
 
 abbrev pub frees_of : Id → Item → ℕ
 frees_of x = by_own (λ p. count_by (same_object x) (parcel_frees p))
 
+abbrev pub ships_of : (Travel → ℕ) → Item → ℕ
+ships_of f = by_parcel (λ p. sum_by f (parcel_travels p))
+
 -- what is seen of messages, by what they weigh
+pub same_travels : (f : Travel → ℕ) (s s' : Turn) → weigh (ships_of f) s' ≡ weigh (ships_of f) s → sum_by f (view s).travels ≡ sum_by f (view s').travels
+same_travels f s s' same = omega (arith, seen_sum f parcel_travels s, seen_sum f parcel_travels s', same)
+
 pub same_asks : (x : Id) (s s' : Turn) → weigh (asks_of x) s' ≡ weigh (asks_of x) s → count_by (same_object x) (view s).asks ≡ count_by (same_object x) (view s').asks
 same_asks x s s' same = omega (arith, seen_sum (counts_of (same_object x)) parcel_asks s, seen_sum (counts_of (same_object x)) parcel_asks s', same)
 
@@ -63,10 +69,10 @@ pub same_dead : (x : Id) (s s' : Turn) → weigh (frees_of x) s' ≤ weigh (free
 same_dead x s s' less = omega (arith, own_sum (counts_of (same_object x)) parcel_frees s, own_sum (counts_of (same_object x)) parcel_frees s', less)
 
 -- what is not told of the same is as much
-pub sees_by : (v : View) (s' : Turn) → as_seen v s' ≡ view s' → SameTokens v.tokens (tokens s') → ((x : Id) → count_by (same_object x) v.asking ≡ count_by (same_object x) (view s').asking)
+pub sees_by : (v : View) (s' : Turn) → as_seen v s' ≡ view s' → SameSums v.travels (view s').travels → SameTokens v.tokens (tokens s') → ((x : Id) → count_by (same_object x) v.asking ≡ count_by (same_object x) (view s').asking)
     → ((x : Id) → count_by (same_object x) v.asks ≡ count_by (same_object x) (view s').asks) → ((x : Id) → count_by (same_object x) (view s').dead ≤ count_by (same_object x) v.dead)
     → v ≡ record v { live = (view s').live; refusals = (view s').refusals; failing = (view s').failing } → Sees v s'
-sees_by v s' rest tokens asking asks dead same = grind arith
+sees_by v s' rest travels tokens asking asks dead same = grind arith
 
 -- what counts nothing counts nothing to j
 pub bound_none : (b : Bool) (n : ℕ) → n ≡ 0 → ◌≡◌ {A = ℕ} (cond b n 0) 0

@@ -39,7 +39,7 @@ pub use Rattle.hpx_journal.specs.Tokens.{held, held_token, is_held, is_owed, owe
 pub use Rattle.hpx_journal.specs.Whole.{arrives_at, part, run_local}
 pub use Rattle.hpx_journal.specs.declared.entry.Event.TheVariants.{Looked}
 pub use Rattle.hpx_part.proofs.ActRows.{follows_fire, follows_line, follows_mail, follows_print, follows_sent}
-pub use Rattle.hpx_part.proofs.Covered.{act_names, owed_counts}
+pub use Rattle.hpx_part.proofs.Covered.{act_names, owed_counts, travel_names}
 pub use Rattle.hpx_part.proofs.Credit.{token_own}
 pub use Rattle.hpx_part.proofs.CreditRows.{follows_asked, follows_given, follows_granted, follows_merge, follows_refused, follows_returned, follows_split, follows_up}
 pub use Rattle.hpx_part.proofs.FrameRows.{follows_in, follows_out}
@@ -48,12 +48,13 @@ pub use Rattle.hpx_part.proofs.Keyed.{Agree-found, any_counted, count_middle, co
 pub use Rattle.hpx_part.proofs.Keys.{means, own}
 pub use Rattle.hpx_part.proofs.Lists.{sum_middle}
 pub use Rattle.hpx_part.proofs.ObjectRows.{follows_born, follows_done, follows_fail, follows_freed_mailed, follows_freed_taken}
-pub use Rattle.hpx_part.proofs.Parcels.{acts_named, asks_owed}
+pub use Rattle.hpx_part.proofs.Parcels.{all_named, asks_owed}
 pub use Rattle.hpx_part.proofs.Weaken.{weaker_leads}
-pub use Rattle.hpx_part.specs.Data.{Asked, Born, Count, Done, Entry, Event, Fire, Freed, Given, Granted, In, Landed, Left, Line, Local, Mail, Merge, Name, Out, Print, Reason, Refusal, Refused, Returned, Sent, Split, Standing, Token, Up}
+pub use Rattle.hpx_part.specs.Data.{Asked, Born, Count, Done, Entry, Event, Fire, Freed, Given, Granted, In, Landed, Left, Line, Local, Mail, Merge, Name, Out, Print, Reason, Refusal, Refused, Returned, Sent, Split, Standing, Token, Travel, Up}
 pub use Rattle.hpx_part.specs.Keyed.{Agree}
+pub use Rattle.hpx_part.specs.Loads.{Exchanges, load_of, nothing}
 pub use Rattle.hpx_part.specs.Parts.{MayLeave, StandsFor, at_all, at_boot}
-pub use Rattle.hpx_part.specs.Shows.{Follows, Leads, SameTokens, Shows, same_refusal}
+pub use Rattle.hpx_part.specs.Shows.{Follows, Leads, SameSums, SameTokens, SaysLess, Shows, same_refusal}
 pub use Rattle.hpx_part.specs.View.{IsCovered, View, names_in_view}
 pub use Rattle.hpx_agas.specs.Records.{find_record}
 pub use Rattle.hpx_agas.specs.Registries.{asked as raised, lowered}
@@ -94,4 +95,4 @@ pub use Rattle.hpx_steps.specs.Rest.{ArePaused, IsPaused, Stands, StandsAtRest, 
 pub use Rattle.hpx_steps.specs.Rows.{Actions, AreFired, Asks, Counts, Frees, FreesOf, Refusals, Returns, Row, brings, causes, fires_one, freeing, frees_one, goes, hopping, is_least, is_refusal, is_refused, joined, joins, kind_of, of_act, one_if, owes, spends, unpaid, weighed, weight}
 pub use Rattle.hpx_steps.specs.Sound.{AreNumbers, AreRules, FreesNone, HasPlaces, IsOrderly, IsOwn, IsPaid, IsSound, IsTidy, IsTidyIn, SendsOwn, StaysAt, TidyAt, all_count, asked_by, asking, asks_for, come, given_to, gives_for, gone, gone_to, waits_for, worth}
 pub use Rattle.hpx_steps.specs.Steps.{AsksFor, Bears, ComesIn, Commits, Deals, Ends, Fails, Feeds, Fires, GivesUp, GoesOut, Grants, HasInHand, IsCalm, IsGiven, IsTold, Label, Merges, Pause, Pauses, Place, Places, Prints, Recounts, Refuses, Remains, Sends, Splits, Step, Steps, Suspend, Suspends, TakesBack, TakesUp, Writes, drops, ends, goes_on, with_credit, with_records, works_on, written, written_by}
-pub use Rattle.hpx_steps.specs.Turn.{Turn, at_rest, bare_due, bare_standing, commits, counted, ids_here, own_parcels, parcel_acts, parcel_asks, parcel_frees, parcel_tokens, parcels, tokens, tokens_of, view, waiting}
+pub use Rattle.hpx_steps.specs.Turn.{Turn, at_rest, bare_due, bare_standing, commits, counted, ids_here, own_parcels, parcel_acts, parcel_asks, parcel_frees, parcel_tokens, parcel_travels, parcels, tokens, tokens_of, view, waiting}

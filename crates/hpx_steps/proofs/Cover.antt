@@ -1,10 +1,10 @@
 -- Where all that is kept is well formed, each name has its token.
-use Rattle.hpx_steps.proofs.Common.{Accepted, Act, AllByRecursion, Among, AreLent, Bool, Came, Going, HasRightCredit, Id, IsCovered, IsDue, IsFit, IsFitDue, IsParcel, IsTidy, List, Mailed, MatchOption, MessageDue, None, OnDesk, Option, Outgoing, Parcel, Pending, PrintDue, Running, Some, Standing, Token, Turn, Waits, Working, [], act_names, action_of, acts_named, and-true, ap, arith, asking_of, asks_owed, bare, bare_act, bare_due, bare_names, bare_standing, cases_Bool, commits, cond, count_by, credit_list, drop, due_ids, false, filter, fired_of, flat_map, held, ids_kept, ids_named, inl, inr, is_asked, is_held, is_managed, is_some, length, map, nat_le, nat_tests, not, owed_counts, own_ids, parcel_acts, parcel_asks, parcel_tokens, parcels, plain, refl, rider_of, same_object, same_object-true, sum_by, sum_by-append, sum_by-cons, sym, take, take-append-drop, true, view, worth, ℕ, ◌&&◌, ◌++◌, ◌+◌, ◌<◌, ◌∙◌, ◌∷◌, ◌≡◌, ◌≤◌}
+use Rattle.hpx_steps.proofs.Common.{Accepted, Act, AllByRecursion, Among, AreLent, Bool, Came, Going, HasRightCredit, Id, IsCovered, IsDue, IsFit, IsFitDue, IsParcel, IsTidy, List, Mailed, MatchOption, MessageDue, None, OnDesk, Option, Outgoing, Parcel, Pending, PrintDue, Running, Some, Standing, Token, Turn, Waits, Working, [], act_names, action_of, all_named, and-true, ap, arith, asking_of, asks_owed, bare, bare_act, bare_due, bare_names, bare_standing, cases_Bool, commits, cond, count_by, credit_list, drop, due_ids, false, filter, fired_of, flat_map, held, ids_kept, ids_named, inl, inr, is_asked, is_held, is_managed, is_some, length, map, nat_le, nat_tests, not, owed_counts, own_ids, parcel_acts, parcel_asks, parcel_tokens, parcel_travels, parcels, plain, refl, rider_of, same_object, same_object-true, sum_by, sum_by-append, sum_by-cons, sym, take, take-append-drop, travel_names, true, view, worth, ℕ, ◌&&◌, ◌++◌, ◌+◌, ◌<◌, ◌∙◌, ◌∷◌, ◌≡◌, ◌≤◌}
 use Rattle.hpx_value.specs.declared.outcome.Due.{Due}
 use Rattle.hpx_value.specs.declared.outcome.Due.TheVariants.{Message as MessageDue, Print as PrintDue}
 use Rattle.hpx_steps.proofs.Changes.{all_among, among_either}
 use Rattle.hpx_steps.proofs.Ridden.{ridden_sum, rider_all}
-use Rattle.hpx_steps.proofs.Sums.{flat_sum, ids_append, ids_flat, most_sum, parcels_sum, same_sum, view_worth, weighs}
+use Rattle.hpx_steps.proofs.Sums.{flat_sum, ids_append, ids_flat, most_sum, parcels_sum, same_sum, two_sums, view_worth, weighs}
 
 -- a held token of o, as a number
 abbrev pub held_counts : Id → Token → ℕ
@@ -181,6 +181,7 @@ fired_names o (a ∷ running) ws = omega (arith, fired_names o running ws, sum_b
 pub view_covered : (s : Turn) → IsTidy s → AreLent s.tables.objects (commits s) → IsCovered (view s)
 view_covered s tidy lent o managed =
     let named : Parcel → ℕ = λ p. sum_by (act_names o) (parcel_acts p) in
+    let shipped : Parcel → ℕ = λ p. sum_by (travel_names o) (parcel_travels p) in
     let asks : Parcel → ℕ = λ p. count_by (same_object o) (parcel_asks p) in
     let held : Parcel → ℕ = λ p. sum_by (held_counts o) (parcel_tokens p) in
     let owed : Parcel → ℕ = λ p. sum_by (owed_counts o) (parcel_tokens p) in
@@ -206,7 +207,9 @@ view_covered s tidy lent o managed =
         fired_names o s.tables.running (commits s),
         held_each o managed bare_due due_ids due_ids due_bare s.due (all_due s.due (all_among IsFitDue s.due (λ d m. tidy (IsDue d) m))),
         flat_sum (act_names o) parcel_acts (parcels s),
-        less named held (λ p h. acts_named o managed p h),
+        flat_sum (travel_names o) parcel_travels (parcels s),
+        two_sums named shipped (parcels s),
+        less (λ p. named p + shipped p) held (λ p h. all_named o managed p h),
         sum_by-append (act_names o) (map bare_act s.tables.accepted) (flat_map parcel_acts (parcels s)),
         ids_flat (held_counts o) (λ (x : Standing). x.state.ids) s.tables.objects,
         ids_flat (held_counts o) (λ (a : Act). a.ids),

@@ -160,10 +160,11 @@ module _ (r : Rules) (s : Turn) (entries : List Entry) (h : IsSound r s entries)
 
   -- so it is seen with an entry
   ends_seen : (v : View) (e : Event) → as_seen v (wrote e now) ≡ view (wrote e now)
-      → v ≡ record v { tokens = tokens s; asking = (view s).asking; asks = (view s).asks; live = (view s).live; dead = (view s).dead; refusals = (view s).refusals }
+      → v ≡ record v { travels = (view s).travels; tokens = tokens s; asking = (view s).asking; asks = (view s).asks; live = (view s).live; dead = (view s).dead; refusals = (view s).refusals }
       → length (refusals_of (rest ++ s.tables.pending)) ≤ v.failing → Sees v (wrote e now)
   ends_seen v e rest same failing = record {
     rest = rest;
+    travels = λ f. ap (λ (u : View). sum_by f u.travels) same;
     tokens = λ f fair. ap (λ (u : View). sum_by f u.tokens) same ∙ dealt f;
     asking = λ o. ap (λ (u : View). count_by (same_object o) u.asking) same ∙ asking_same o;
     asks = λ o. ap (λ (u : View). count_by (same_object o) u.asks) same;

@@ -37,7 +37,7 @@ module _ (r : Rules) (s : Turn) (entries : List Entry) (h : IsSound r s entries)
   seen = record (view s) { waiting = front ++ back; fired = running; last = Some (Fire (name_of act)) }
 
   sees : Sees seen now
-  sees = sees_by seen now (ap (λ ws. record (view now) { waiting = ws; fired = running }) (simp (map-append, append_assoc)) ∙ ap (λ fs. record (view now) { fired = fs }) (simp (map-append, append_assoc)))
+  sees = sees_by seen now (ap (λ ws. record (view now) { waiting = ws; fired = running }) (simp (map-append, append_assoc)) ∙ ap (λ fs. record (view now) { fired = fs }) (simp (map-append, append_assoc))) (λ f. refl)
       (λ f weight. omega (arith, view_worth f s, view_worth f now, change.0 (worth f))) (λ x. refl) (λ x. refl) (λ x. omega arith) refl
 
   pub fire_keeps : Keeps r s now (Fire (name_of act))

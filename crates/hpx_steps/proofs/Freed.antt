@@ -1,6 +1,6 @@
 -- A dead object goes.
 use Rattle.hpx_steps.proofs.Common.{Accepted, Act, AllByRecursion, Came, Entry, Follows, Free, Freed, Going, Has, HasInHand, HasRightCredit, Id, IsDue, IsForHere, IsManaged, IsSound, IsTidy, IsTold, Item, List, Loose, Mailed, None, OnDesk, Outgoing, Pending, Row, Rules, Running, Some, Standing, StandsHere, TidyAt, Token, Turn, View, Waits, Working, [], acts_on, any_counted, ap, arith, asked_by, asks_under, bare_act, bare_due, bare_standing, causes, commits, cond, count_by, credit_list, drop, drops, false, false_from, find, find_passes, flat_map, follows_freed_mailed, follows_freed_taken, freeing, given_to, goes, held, held_here, hopping, inl, inr, is_some, is_standing, joined, list_any, map, map-append, owes, parcel_frees, refl, remove, same_object, same_object-from, same_object-refl, same_object-sym, same_object-true, session, slice_get, split_get, subst, suc, sum_by, sum_by-cons, sym, take, target_of, true, unpaid, view, waiting, waits_for, waits_here, weigh, with_credit, worth, wrote, ℕ, ◌++◌, ◌+◌, ◌∙◌, ◌∷◌, ◌≡◌, ◌≤◌}
-use Rattle.hpx_steps.proofs.Tools.{Changes, Keeps, Sees, all_with, among_all, among_at, asks_of, by_bool, by_rows, counts_near, credit_tokens, drop_change, drop_waits, fewer, freed_whole, frees_now, frees_of, hand_fit, hand_weighs, holding, ids_each, in_hand, is_frame, less_commits, loose_change, more_come, none_of, none_sum, objects_change, one_goes, same_asks, same_dead, sees_by, sees_leads, single_less, stand_less, target-bare, then, total, total_map, view_worth, zeros}
+use Rattle.hpx_steps.proofs.Tools.{Changes, Keeps, Sees, all_with, among_all, among_at, asks_of, by_bool, by_rows, counts_near, credit_tokens, drop_change, drop_waits, fewer, freed_whole, frees_now, frees_of, hand_fit, hand_weighs, holding, ids_each, in_hand, is_frame, less_commits, loose_change, more_come, none_of, none_sum, objects_change, one_goes, same_asks, same_dead, sees_by, sees_leads, single_less, stand_less, target-bare, then, total, total_map, view_worth, zeros, same_travels, ships_of}
 use Rattle.hpx_steps.specs.Steps.{Frees}
 use Rattle.hpx_steps.proofs.Unheld.{none_accepted, none_fired, none_waits}
 
@@ -109,6 +109,7 @@ module _ (r : Rules) (s : Turn) (entries : List Entry) (h : IsSound r s entries)
   sees : Sees seen now
   sees = sees_by seen now (ap (λ os. record (view now) { objects = os; waiting = waiting s }) (sym (map-append bare_standing (take i s.tables.objects) (drop (suc i) s.tables.objects)))
       ∙ ap (λ ws. record (view now) { waiting = ws }) (sym (drop_waits (Free o) s hand refl)))
+      (λ f. same_travels f s now (omega (arith, stays (ships_of f) refl refl refl (λ id. refl))))
       (λ f fair. omega (arith, view_worth f s, view_worth f now, moves (worth f), freed_tokens f, ids_each f (with_credit x.state.ids), credit_tokens f x.state.ids)) (λ q. refl)
       (λ q. same_asks q s now (omega (arith, stays (asks_of q) refl refl refl (λ id. refl)))) (λ q. same_dead q s now (omega (arith, moves (frees_of q), zeros (with_credit x.state.ids)))) refl
     where

@@ -1,6 +1,6 @@
 -- Credit that was asked for is given to a commit that waits for it.
-use Rattle.hpx_steps.proofs.Common.{Act, AskedFor, Bool, Came, Entry, Give, Given, HasCommits, HasCredit, HasInHand, Id, IsCommit, IsGiven, IsSound, IsTidy, Item, List, Mailed, Pending, Refusal, Row, Rules, Some, TidyAt, Token, Turn, View, Waits, Working, [], action_of, and_true, any_counted, ap, append_assoc, arith, asked_by, asking, asks_under, bare, bare_act, bare_due, causes, commits, cond, count_by, counted_any, counts_false, counts_of, counts_true, drop, drops, eqb-true, false, fired_of, follows_given, freeing, given_to, gives_for, goes, goes_on, held_token, hopping, id_at, ids_named, is_asked, is_asked_for, is_least, joined, length, log_of, map, name_of, one_if, owed_token, owes, parcel_asks, refilled, refl, refusal_of, refusals_of, remove, same_object, same_token, set, slice_get, split_get, split_set, subst, suc, sum_by, sum_by-append, sum_by-cons, sym, take, token_own, tokens, tokens_of, true, unpaid, view, waits_for, weigh, worth, wrote, ℕ, ◌&&◌, ◌++◌, ◌+◌, ◌==◌, ◌∙◌, ◌∷◌, ◌≡◌, ◌≤◌, ◌⊎◌}
-use Rattle.hpx_steps.proofs.Tools.{Changes, Keeps, among_at, asks_of, bare_tokens, by_bool, by_commit, by_rows, counts_near, drop_change, drop_waits, fewer, fired_leads, fired_sum, first_comes, hand_fit, hand_weighs, has_not_asked, held_by, holding, ids_each, in_hand, is_fired, is_frame, leads_on, less_sum, long_sum, map_sum, move_commits, one_goes, one_turns, owed_by, pending_change, put_asked, put_bare, put_for, refuses, same_dead, same_fired, seen_sum, sees_leads, set_sum, then, view_asking, view_refusals, view_worth, was_fired, working_change}
+use Rattle.hpx_steps.proofs.Common.{Act, AskedFor, Bool, Came, Entry, Give, Given, HasCommits, HasCredit, HasInHand, Id, IsCommit, IsGiven, IsSound, IsTidy, Item, List, Mailed, Pending, Refusal, Row, Rules, Some, TidyAt, Token, Turn, View, Waits, Working, [], action_of, and_true, any_counted, ap, append_assoc, arith, asked_by, asking, asks_under, bare, bare_act, bare_due, causes, commits, cond, count_by, counted_any, counts_false, counts_of, counts_true, drop, drops, eqb-true, false, fired_of, follows_given, freeing, given_to, gives_for, goes, goes_on, held_token, hopping, id_at, ids_named, is_asked, is_asked_for, is_least, joined, length, log_of, map, name_of, one_if, owed_token, owes, parcel_asks, refilled, refl, refusal_of, refusals_of, remove, same_object, same_token, set, slice_get, split_get, split_set, subst, suc, sum_by, sum_by-append, sum_by-cons, sym, take, token_own, tokens, tokens_of, true, unpaid, view, waits_for, weigh, worth, wrote, ℕ, ◌&&◌, ◌++◌, ◌+◌, ◌==◌, ◌∙◌, ◌∷◌, ◌≡◌, ◌≤◌, ◌⊎◌, Travel}
+use Rattle.hpx_steps.proofs.Tools.{Changes, Keeps, among_at, asks_of, bare_tokens, by_bool, by_commit, by_rows, counts_near, drop_change, drop_waits, fewer, fired_leads, fired_sum, first_comes, hand_fit, hand_weighs, has_not_asked, held_by, holding, ids_each, in_hand, is_fired, is_frame, leads_on, less_sum, long_sum, map_sum, move_commits, one_goes, one_turns, owed_by, pending_change, put_asked, put_bare, put_for, refuses, same_dead, same_fired, seen_sum, sees_leads, set_sum, then, view_asking, view_refusals, view_worth, was_fired, working_change, same_travels, ships_of}
 use Rattle.hpx_steps.proofs.Refilled.{asked_at_place, asked_low, asked_same, still_commit, still_split, was_asked}
 
 -- a commit that waited stands elsewhere, or where it stood
@@ -136,6 +136,9 @@ module _ (r : Rules) (s : Turn) (entries : List Entry) (h : IsSound r s entries)
   asks_less : (o : Id) → count_by (same_object o) (view s).asks ≡ count_by (same_object o) (view now).asks + count_by (same_object o) (bare id ∷ [])
   asks_less o = omega (arith, seen_sum (counts_of (same_object o)) parcel_asks, moves (asks_of o) (count_by (same_object o) (bare id ∷ [])) refl refl refl)
 
+  ships : (f : Travel → ℕ) → sum_by f (view s).travels ≡ sum_by f (view now).travels
+  ships f = same_travels f s now (omega (arith, moves (ships_of f) 0 refl refl refl))
+
   -- ---- refusals
 
   abbrev k : Goes i w given s.working s.tables.pending now.working now.tables.pending
@@ -215,7 +218,7 @@ module _ (r : Rules) (s : Turn) (entries : List Entry) (h : IsSound r s entries)
           (ap (λ ws. map bare_act (fired_of s.tables.running ws)) k.was
           ∙ ap (map bare_act) (was_fired s.tables.objects s.tables.running k.l k.m k.l' k.m' w given refl k.same))
           (same_fired s.tables.objects s.tables.running k.l k.m k.l' k.m' w given refl k.same))
-          (sees_leads r seen now (grind (arith, is_fired, drop_waits, tokens, asking, same_dead, moves, any_counted, counted_any, commits, refused_more, counts_of, failing_more))),
+          (sees_leads r seen now (grind (arith, is_fired, drop_waits, ships, tokens, asking, same_dead, moves, any_counted, counted_any, commits, refused_more, counts_of, failing_more))),
     );
     tidy = tidy;
     places = h.places;

@@ -1,9 +1,9 @@
 -- A frame comes in.
-use Rattle.hpx_steps.proofs.Common.{weighed, Actions, Came, ComesIn, Entry, Id, In, IsParcel, IsSound, IsTidy, List, Outgoing, Parcel, Rules, Some, TidyAt, Turn, View, [], ap, arith, asks_for, bare_act, bare_due, count_by, counts_of, flat_map, follows_in, gives_for, map, owes, parcel_acts, parcel_asks, refl, same_object, subst, sym, tokens, travels_in, view, worth, wrote, ℕ, ◌++◌, ◌+◌, ◌∷◌, ◌≡◌}
-use Rattle.hpx_steps.proofs.Tools.{Changes, Keeps, asks_of, came_change, counts_near, holding, numbered_so, one_comes, orders_so, pays_so, seen_sum, sees_by, sees_leads, view_worth}
+use Rattle.hpx_steps.proofs.Common.{weighed, Actions, Came, ComesIn, Entry, Exchanges, In, IsParcel, IsSound, IsTidy, List, Parcel, Rules, Some, TidyAt, Turn, [], ap, arith, asks_for, bare_act, bare_due, counts_of, follows_in, gives_for, load_of, map, nothing, owes, parcel_acts, parcel_asks, parcel_travels, refl, same_object, subst, sum_by, sum_by-append, sym, tokens, view, waiting, worth, wrote, ℕ, ◌+◌, ◌∷◌, ◌≡◌}
+use Rattle.hpx_steps.proofs.Tools.{Changes, Keeps, asks_of, by_parcel, came_change, counts_near, holding, numbered_so, one_comes, orders_so, pays_so, seen_sum, ships_of, view_worth}
 
 module _ (r : Rules) (s : Turn) (entries : List Entry) (h : IsSound r s entries) (p : Parcel) (bytes : List ℕ) (due : s.due ≡ []) (fresh : s.fresh ≡ [])
-    (empty : s.came ≡ []) (spelled : r.parcel_of bytes ≡ Some p) (fit : IsParcel p) (none : travels_in (Some p) ≡ []) where
+    (empty : s.came ≡ []) (spelled : r.parcel_of bytes ≡ Some p) (fit : IsParcel p) where
   abbrev now : Turn
   now = wrote (In bytes) (record s { came = p ∷ []; tables = record s.tables { taken = s.tables.taken + 1 } })
 
@@ -17,30 +17,21 @@ module _ (r : Rules) (s : Turn) (entries : List Entry) (h : IsSound r s entries)
   told : (w : Parcel → ℕ) → weighed w (r.parcel_of bytes) ≡ w p
   told w = ap (weighed w) spelled
 
-  abbrev others : List Parcel
-  others = s.mailed ++ (s.tables.desk ++ map (λ (x : Outgoing). x.parcel) s.tables.outgoing)
-
-  waits : (view s).waiting ≡ map bare_act s.tables.accepted ++ flat_map parcel_acts others
-  waits = ap (λ xs. map bare_act s.tables.accepted ++ flat_map parcel_acts (xs ++ others)) empty
-
-  abbrev seen : View
-  seen = record (view s) {
-    waiting = map bare_act s.tables.accepted ++ (parcel_acts p ++ flat_map parcel_acts others);
-    tokens = tokens now;
-    asks = (view now).asks;
-    last = Some (In bytes);
+  loads : Exchanges nothing (load_of p) (view s) (view now)
+  loads = record {
+    acts = λ f. omega (arith, sum_by-append f (map bare_act s.tables.accepted), seen_sum f parcel_acts, change.0 (by_parcel (λ q. sum_by f (parcel_acts q))));
+    objects = λ f. omega arith;
+    travels = λ f. omega (arith, seen_sum f parcel_travels, change.0 (ships_of f));
+    tokens = λ f weight. omega (arith, view_worth f s, view_worth f now, change.0 (worth f));
+    asks = λ x. omega (arith, seen_sum (counts_of (same_object x)) parcel_asks, change.0 (asks_of x));
   }
-
-  asks_more : (x : Id) → count_by (same_object x) (view now).asks ≡ count_by (same_object x) (view s).asks + count_by (same_object x) (parcel_asks p)
-  asks_more x = omega (arith, seen_sum (counts_of (same_object x)) parcel_asks, change.0 (asks_of x))
 
   pub in_keeps : Keeps r s now (In bytes)
   in_keeps = record {
     leads = (
-      seen,
-      follows_in r (view s) p bytes (map bare_act s.tables.accepted) (flat_map parcel_acts others) (tokens now) (view now).asks (ap (map bare_due) due) fresh spelled
-          fit none waits (record { sums = λ f weight. omega (arith, view_worth f s, view_worth f now, change.0 (worth f)) }) asks_more,
-      sees_leads r seen now (sees_by seen now refl (λ f weight. refl) (λ x. refl) (λ x. refl) (λ x. omega arith) refl),
+      view now,
+      follows_in r (view s) p bytes (waiting now) (view now).travels (tokens now) (view now).asks (ap (map bare_due) due) fresh spelled fit loads,
+      (refl, λ c. c, λ l shown. shown),
     );
     tidy = tidy;
     places = h.places;
@@ -53,4 +44,4 @@ module _ (r : Rules) (s : Turn) (entries : List Entry) (h : IsSound r s entries)
   }
 
 pub in_step : (r : Rules) (s s' : Turn) (entries : List Entry) (bytes : List ℕ) → IsSound r s entries → ComesIn r s bytes s' → Keeps r s s' (In bytes)
-in_step r s s' entries bytes h g = subst (λ x. Keeps r s x (In bytes)) (sym g.now) (in_keeps r s entries h g.parcel bytes g.calm.due g.calm.fresh g.free.came g.spelled g.fit g.none)
+in_step r s s' entries bytes h g = subst (λ x. Keeps r s x (In bytes)) (sym g.now) (in_keeps r s entries h g.parcel bytes g.calm.due g.calm.fresh g.free.came g.spelled g.fit)

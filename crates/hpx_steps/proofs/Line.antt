@@ -1,6 +1,6 @@
 -- A line is fed.
 use Rattle.hpx_steps.proofs.Common.{Accepted, Act, Entry, Feeds, IsFit, IsSound, Line, List, Name, Rules, Some, TidyAt, Turn, View, [], ap, arith, bare_due, draws, follows_line, is_other, length, line_act, map, posts, refl, subst, sym, target_of, view, waiting, worth, wrote, ℕ, ◌++◌, ◌+◌, ◌∷◌, ◌≡◌, ◌≤◌}
-use Rattle.hpx_steps.proofs.Tools.{Changes, Keeps, Put, Sees, asks_of, by_rows, counts_near, frees_of, holding, numbered_so, orders_so, pays_so, post_change, post_waits, put_as, same_asks, same_dead, sees_by, sees_leads, told_as, view_worth}
+use Rattle.hpx_steps.proofs.Tools.{Changes, Keeps, Put, Sees, asks_of, by_rows, counts_near, frees_of, holding, numbered_so, orders_so, pays_so, post_change, post_waits, put_as, same_asks, same_dead, sees_by, sees_leads, told_as, view_worth, same_travels, ships_of}
 
 -- a line is well formed
 line_fit : (a : Name) (bytes : List ℕ) → length bytes ≤ 1025 → IsFit (line_act a bytes)
@@ -28,7 +28,8 @@ module _ (r : Rules) (s : Turn) (entries : List Entry) (h : IsSound r s entries)
   seen = record (view s) { serial = s.tables.serial + 1; waiting = put.front ++ act ∷ put.back; last = Some (Line name bytes) }
 
   sees : Sees seen now
-  sees = sees_by seen now (ap (λ ws. record (view now) { waiting = ws }) (sym put.is)) (λ f weight. omega (arith, view_worth f s, view_worth f now, change.0 (worth f))) (λ x. refl)
+  sees = sees_by seen now (ap (λ ws. record (view now) { waiting = ws }) (sym put.is)) (λ f. same_travels f s now (omega (arith, change.0 (ships_of f))))
+      (λ f weight. omega (arith, view_worth f s, view_worth f now, change.0 (worth f))) (λ x. refl)
       (λ x. same_asks x s now (omega (arith, change.0 (asks_of x)))) (λ x. same_dead x s now (omega (arith, change.0 (frees_of x)))) refl
 
   pub line_keeps : Keeps r s now (Line name bytes)

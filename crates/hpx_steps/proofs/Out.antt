@@ -1,6 +1,6 @@
 -- A frame goes out.
-use Rattle.hpx_steps.proofs.Common.{Act, Apply, Arrived, Ask, Cached, Entry, Free, FreesNone, Give, Go, GoesOut, Going, IsSound, IsTidy, List, MayGoTo, MayLeave, Move, Out, Outgoing, Parcel, Return, Rules, Shipped, Some, TidyAt, Turn, View, [], ap, append_assoc, arith, asks_for, bare_due, brings, cond, counts_of, flat_map, follows_out, gives_for, inl, map, parcel_acts, parcel_asks, refl, same_object, tokens, view, weighed, weight, worth, wrote, ℕ, ◌++◌, ◌+◌, ◌==◌, ◌∷◌, ◌≡◌}
-use Rattle.hpx_steps.proofs.Tools.{Changes, Keeps, Sees, acts_before, asks_of, counts_near, first_goes, flat_append, frees_of, holding, numbered_so, orders_so, outgoing_change, pays_so, same_dead, seen_sum, sees_by, sees_covers, sees_leads, told_as, view_covered, view_worth}
+use Rattle.hpx_steps.proofs.Common.{Apply, Arrived, Ask, Cached, Entry, Exchanges, Free, FreesNone, Give, Go, GoesOut, Going, IsSound, IsTidy, List, MayGoTo, MayLeave, Move, Out, Outgoing, Parcel, Return, Rules, Shipped, Some, TidyAt, Turn, View, [], ap, arith, asks_for, bare_act, bare_due, brings, cond, counts_of, follows_out, gives_for, inl, load_of, map, nothing, parcel_acts, parcel_asks, parcel_travels, refl, same_object, sum_by, sum_by-append, tokens, view, waiting, weighed, weight, worth, wrote, ℕ, ◌+◌, ◌==◌, ◌∷◌, ◌≡◌}
+use Rattle.hpx_steps.proofs.Tools.{Changes, Keeps, Sees, asks_of, by_parcel, counts_near, first_goes, frees_of, holding, numbered_so, orders_so, outgoing_change, pays_so, same_dead, seen_sum, sees_by, sees_covers, sees_leads, ships_of, told_as, view_covered, view_worth}
 
 -- what may go may leave what is seen
 may_leave : (v : View) (to : ℕ) (p : Parcel) → FreesNone p → MayGoTo v.here to p → MayLeave v to p
@@ -33,29 +33,27 @@ module _ (r : Rules) (s : Turn) (entries : List Entry) (h : IsSound r s entries)
   told : (w : Parcel → ℕ) → weighed w (r.parcel_of bytes) ≡ w x.parcel
   told w = ap (weighed w) spelled
 
-  abbrev front : List Act
-  front = acts_before s ++ flat_map parcel_acts s.tables.desk
-
-  abbrev back : List Act
-  back = flat_map parcel_acts (map (λ (y : Outgoing). y.parcel) rest)
-
-  waits_then : front ++ back ≡ (view now).waiting
-  waits_then = simp (flat_append, append_assoc)
-
   abbrev seen : View
-  seen = record (view s) { waiting = front ++ back; tokens = tokens now; asks = (view now).asks; last = Some (Out x.to bytes) }
+  seen = record (view s) { waiting = waiting now; travels = (view now).travels; tokens = tokens now; asks = (view now).asks; last = Some (Out x.to bytes) }
 
   sees : Sees seen now
-  sees = sees_by seen now (ap (λ ws. record (view now) { waiting = ws }) waits_then) (λ f weight. refl) (λ x. refl) (λ y. refl) (λ y. same_dead y s now (omega (arith, change.0 (frees_of y)))) refl
+  sees = sees_by seen now refl (λ f. refl) (λ f weight. refl) (λ y. refl) (λ y. refl) (λ y. same_dead y s now (omega (arith, change.0 (frees_of y)))) refl
+
+  loads : Exchanges (load_of x.parcel) nothing (view s) seen
+  loads = record {
+    acts = λ f. omega (arith, sum_by-append f (map bare_act s.tables.accepted), seen_sum f parcel_acts, change.0 (by_parcel (λ q. sum_by f (parcel_acts q))));
+    objects = λ f. omega arith;
+    travels = λ f. omega (arith, seen_sum f parcel_travels, change.0 (ships_of f));
+    tokens = λ f weight. omega (arith, view_worth f s, view_worth f now, change.0 (worth f));
+    asks = λ o. omega (arith, seen_sum (counts_of (same_object o)) parcel_asks, change.0 (asks_of o));
+  }
 
   pub out_keeps : Keeps r s now (Out x.to bytes)
   out_keeps = record {
     leads = (
       seen,
-      follows_out r (view s) x.parcel bytes front back (tokens now) (view now).asks (ap (map bare_due) due) fresh spelled x.to
-          (omega (arith, its.1.somewhere, h.rules.localities)) its.1.away (may_leave (view s) x.to x.parcel its.3 its.1.may) (rw first (simp (flat_append, append_assoc)))
-          (record { sums = λ f weight. omega (arith, view_worth f s, view_worth f now, change.0 (worth f)) })
-          (λ o. omega (arith, seen_sum (counts_of (same_object o)) parcel_asks, change.0 (asks_of o)))
+      follows_out r (view s) x.parcel bytes (waiting now) (view now).travels (tokens now) (view now).asks (ap (map bare_due) due) fresh spelled x.to
+          (omega (arith, its.1.somewhere, h.rules.localities)) its.1.away (may_leave (view s) x.to x.parcel its.3 its.1.may) loads
           (λ before. sees_covers r seen now sees (view_covered now tidy h.commits.lent)),
       sees_leads r seen now sees,
     );

@@ -46,6 +46,7 @@ module _ (r : Rules) (s : Turn) (entries : List Entry) (h : IsSound r s entries)
   sees = record {
     rest = ap (λ fs. record (view now) { fired = fs })
         (ap (map bare_act) (sym (is_fired s.tables.objects s.tables.running [] others others [] w waiter refl same)) ∙ ap (λ ws. map bare_act (fired_of s.tables.running ws)) behind);
+    travels = λ f. refl;
     tokens = λ f fair. omega (arith, view_worth f s, view_worth f now, change.0 (worth f));
     asking = λ o. omega (arith, view_asking o s, view_asking o now, change.0 (asking o));
     asks = λ o. refl;

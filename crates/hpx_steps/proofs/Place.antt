@@ -1,6 +1,6 @@
 -- An action that is in hand waits here, or goes on.
-use Rattle.hpx_steps.proofs.Common.{Accepted, Act, Apply, Came, Entry, Going, HasInHand, IsApplied, IsFit, IsMove, IsParcel, IsSound, Item, List, Mailed, Move, OnDesk, Parcel, Places, Row, Rules, TidyAt, Turn, View, [], ap, arith, asked_by, asks_as, asks_for, asks_under, bare_act, brings, count_by, drops, freeing, frees_one, given_to, gives_for, going, hopping, inl, inr, is_other, joined, may_stay, of_act, owes, parcel_acts, parcel_asks, parcel_frees, parcel_tokens, posts, refl, same_object, subst, sum_by, sym, target_of, tokens_of, true, unpaid, view, waiting, waits_for, weigh, worth, ℕ, ◌++◌, ◌+◌, ◌==◌, ◌∙◌, ◌∷◌, ◌≡◌, ◌≢◌, ◌≤◌, ◌⊎◌}
-use Rattle.hpx_steps.proofs.Tools.{Changes, Put, Sees, Stills, both, bound_none, brings_few, by_own, by_parcel, carried, drop_change, fewer, hand_fit, hand_waits, hand_weighs, holding, in_hand, is_frame, leads_on, post_change, post_waits, put_as, put_less, put_sum, put_tidy, same_asks, same_dead, sees_leads, then, view_worth, waits_leads, weighs_act}
+use Rattle.hpx_steps.proofs.Common.{Accepted, Act, Apply, Came, Entry, Going, HasInHand, IsApplied, IsFit, IsMove, IsParcel, IsSound, Item, List, Mailed, Move, OnDesk, Parcel, Places, Row, Rules, TidyAt, Turn, View, [], ap, arith, asked_by, asks_as, asks_for, asks_under, bare_act, brings, count_by, drops, freeing, frees_one, given_to, gives_for, going, hopping, inl, inr, is_other, joined, may_stay, of_act, owes, parcel_acts, parcel_asks, parcel_frees, parcel_tokens, posts, refl, same_object, subst, sum_by, sym, target_of, tokens_of, true, unpaid, view, waiting, waits_for, weigh, worth, ℕ, ◌++◌, ◌+◌, ◌==◌, ◌∙◌, ◌∷◌, ◌≡◌, ◌≢◌, ◌≤◌, ◌⊎◌, parcel_travels}
+use Rattle.hpx_steps.proofs.Tools.{Changes, Put, Sees, Stills, both, bound_none, brings_few, by_own, by_parcel, carried, drop_change, fewer, hand_fit, hand_waits, hand_weighs, holding, in_hand, is_frame, leads_on, post_change, post_waits, put_as, put_less, put_sum, put_tidy, same_asks, same_dead, sees_leads, then, view_worth, waits_leads, weighs_act, same_travels, ships_of}
 
 module _ (r : Rules) (s : Turn) (entries : List Entry) (h : IsSound r s entries) (act : Act) (p : Parcel) (carries : (p ≡ Apply act) ⊎ (p ≡ Move act))
     (hand : HasInHand p s) (stays : s.mailed ≢ [] → may_stay s.tables act ≡ true) where
@@ -52,6 +52,9 @@ module _ (r : Rules) (s : Turn) (entries : List Entry) (h : IsSound r s entries)
   sees : Sees (record seen { last = s.last }) now
   sees = record {
     rest = ap (λ ws. record (view now) { waiting = ws }) (sym put.is);
+    travels = λ f.
+        let g : Parcel → ℕ = λ q. sum_by f (parcel_travels q) in
+        same_travels f s now (omega (arith, moves (ships_of f) 0 (none g refl refl) (none g refl refl) refl (both act g 0 refl refl)));
     tokens = λ f weight. omega (
       arith,
       view_worth f,

@@ -1,6 +1,6 @@
 -- The first of what is due is sent.
-use Rattle.hpx_steps.proofs.Common.{Accepted, Act, Apply, Due, Entry, Going, IsDue, IsFit, IsSound, IsTidy, Item, List, Message, MessageDue, Move, Name, OnDesk, Parcel, Row, Rules, Sends, Sent, Some, TidyAt, Turn, View, [], ap, arith, asked_by, asks_as, asks_for, asks_under, bare_due, bare_message, causes, count_by, draws, follows_sent, freeing, given_to, gives_for, goes, going, hopping, inl, is_other, joined, map, may_stay, named_act, of_act, parcel_asks, parcel_frees, parcel_tokens, posts, refl, same_object, sum_by, sym, target_of, tokens_of, unpaid, view, waiting, waits_for, weigh, worth, wrote, ℕ, ◌++◌, ◌+◌, ◌==◌, ◌∷◌, ◌≡◌, ◌⊎◌}
-use Rattle.hpx_steps.proofs.Tools.{Changes, Keeps, Put, Sees, asks_of, both, bound_none, brings_few, by_rows, carried, counts_near, due_change, fewer, first_goes, frees_of, holding, post_change, post_waits, put_as, put_less, put_sum, put_tidy, same_asks, same_dead, sees_by, sees_leads, then, told_as, view_worth, weighs_act}
+use Rattle.hpx_steps.proofs.Common.{Accepted, Act, Apply, Due, Entry, Going, IsDue, IsFit, IsSound, IsTidy, Item, List, Message, MessageDue, Move, Name, OnDesk, Parcel, Row, Rules, Sends, Sent, Some, TidyAt, Turn, View, [], ap, arith, asked_by, asks_as, asks_for, asks_under, bare_due, bare_message, causes, count_by, draws, follows_sent, freeing, given_to, gives_for, goes, going, hopping, inl, is_other, joined, map, may_stay, named_act, of_act, parcel_asks, parcel_frees, parcel_tokens, posts, refl, same_object, sum_by, sym, target_of, tokens_of, unpaid, view, waiting, waits_for, weigh, worth, wrote, ℕ, ◌++◌, ◌+◌, ◌==◌, ◌∷◌, ◌≡◌, ◌⊎◌, parcel_travels}
+use Rattle.hpx_steps.proofs.Tools.{Changes, Keeps, Put, Sees, asks_of, both, bound_none, brings_few, by_rows, carried, counts_near, due_change, fewer, first_goes, frees_of, holding, post_change, post_waits, put_as, put_less, put_sum, put_tidy, same_asks, same_dead, sees_by, sees_leads, then, told_as, view_worth, weighs_act, same_travels, ships_of}
 
 module _ (r : Rules) (s : Turn) (entries : List Entry) (h : IsSound r s entries) (m : Message) (rest : List Due) (fresh : s.fresh ≡ []) (due : s.due ≡ MessageDue m ∷ rest) where
   abbrev name : Name
@@ -50,6 +50,7 @@ module _ (r : Rules) (s : Turn) (entries : List Entry) (h : IsSound r s entries)
 
   sees : Sees seen now
   sees = sees_by seen now (ap (λ ws. record (view now) { waiting = ws }) (sym put.is))
+      (λ f. same_travels f s now (omega (arith, moves (ships_of f) 0 refl (both act (λ p. sum_by f (parcel_travels p)) 0 refl refl))))
       (λ f weight. omega (arith, view_worth f s, view_worth f now, moves (worth f) (sum_by f (tokens_of m.ids)) refl (both act (λ p. sum_by f (parcel_tokens p)) (sum_by f (tokens_of m.ids)) refl refl))) (λ x. refl)
       (λ x. same_asks x s now (omega (arith, moves (asks_of x) 0 refl (both act (λ p. count_by (same_object x) (parcel_asks p)) 0 refl refl))))
       (λ x. same_dead x s now (omega (arith, moves (frees_of x) 0 refl (both act (λ p. count_by (same_object x) (parcel_frees p)) 0 refl refl)))) refl

@@ -57,8 +57,25 @@ pub rest_sound : (r : Rules) (s : Turn) (entries : List Entry) → IsSound r s e
 rest_sound r s entries h = record {
   rules = record { localities = h.rules.localities; credit_log = h.rules.credit_log; credit_limit = h.rules.credit_limit };
   keeps = subst (StandsFor r (view (forgets s))) (append-nil entries) (grow r (view s) (view (forgets s)) entries [] h.keeps
-      (weaker_leads r (view s) (view s).tokens (view s).asking (view s).asks (view s).live (view s).dead (view s).refusals (view s).failing
-      (λ f weight. refl) (λ x. refl) (λ x. refl) (λ x home. refl) (λ x d. d) (λ x d. d) (omega arith)));
+      (weaker_leads r (view s) (view (forgets s)) (record {
+        here = refl;
+        serial = refl;
+        number = refl;
+        fresh = refl;
+        due = refl;
+        waiting = λ f. refl;
+        fired = λ f. refl;
+        objects = λ f. refl;
+        travels = λ f. refl;
+        tokens = λ f weight. refl;
+        asking = λ x. refl;
+        asks = λ x. refl;
+        live = λ x home. refl;
+        dead = λ x d. d;
+        refusals = λ x d. d;
+        failing = omega arith;
+        last = tt;
+      })));
   tidy = h.tidy;
   places = h.places;
   commits = h.commits;

@@ -18,6 +18,10 @@ map_sum f g (x ∷ xs) = omega (arith, map_sum f g xs, sum_by-cons f (g x) (map 
 pub same_sum : {X : Type 0} (f g : X → ℕ) (xs : List X) → ((x : X) → f x ≡ g x) → sum_by f xs ≡ sum_by g xs
 same_sum f g b same = grind arith
 
+pub two_sums : {X : Type 0} (f g : X → ℕ) (xs : List X) → sum_by (λ x. f x + g x) xs ≡ sum_by f xs + sum_by g xs
+two_sums f g [] = refl
+two_sums f g (x ∷ xs) = omega (arith, two_sums f g xs, sum_by-cons (λ y. f y + g y) x xs, sum_by-cons f x xs, sum_by-cons g x xs)
+
 pub most_sum : {X : Type 0} (P : X → Type 0) (f g : X → ℕ) (xs : List X) → ((x : X) → P x → f x ≤ g x) → AllByRecursion P xs → sum_by f xs ≤ sum_by g xs
 most_sum P f g [] less h = omega arith
 most_sum P f g (x ∷ xs) less h = omega (arith, sum_by-cons f x xs, sum_by-cons g x xs, less x h.0, most_sum P f g xs less h.1)

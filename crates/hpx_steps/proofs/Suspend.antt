@@ -89,6 +89,7 @@ module _ (r : Rules) (s : Turn) (entries : List Entry) (h : IsSound r s entries)
   sees : Sees (record seen { last = s.last }) now
   sees = record {
     rest = ap (λ os. record (view now) { objects = os }) objects_then;
+    travels = λ f. refl;
     tokens = λ f fair. omega (arith, view_worth f, change.0 (worth f), ridden_tokens f job.action its.sent.shape, ids_append f, ap (λ (y : State). sum_by f (tokens_of y.ids)) state, no_tokens f x.state.ids, none_tokens f later none);
     asking = λ o. omega (arith, view_asking o, change.0 (asking o), ap (λ ids. names_of o (filter is_asked ids)) whole, ap (names_of o) (all_none own owned));
     asks = λ o. refl;

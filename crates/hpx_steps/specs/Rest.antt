@@ -30,7 +30,7 @@ use Rattle.hpx_steps.specs.Frames.{IsOnItsWay, IsForHere}
 use Rattle.hpx_steps.specs.Paused.{Apart, Single, HasSplit, bare_names, names_of}
 use Rattle.hpx_steps.specs.Rows.{Row, Actions, AreFired, goes, causes, spends, weight}
 use Rattle.hpx_steps.specs.Sound.{IsOwn, FreesNone, SendsOwn, StaysAt, all_count, gone, gone_to, come, asks_for, gives_for, IsSound}
-use Rattle.hpx_steps.specs.Turn.{at_rest, bare_due, bare_standing, counted, parcel_tokens, parcel_acts, parcel_asks, parcel_frees, tokens_of}
+use Rattle.hpx_steps.specs.Turn.{at_rest, bare_due, bare_standing, counted, parcel_tokens, parcel_acts, parcel_travels, parcel_asks, parcel_frees, tokens_of}
 
 -- ---- what is seen
 
@@ -65,6 +65,7 @@ view t due loose = record {
   waiting = waiting t;
   fired = map bare_act (fired_acts t);
   objects = map bare_standing t.objects;
+  travels = flat_map parcel_travels (messages t);
   fresh = [];
   due = map bare_due due;
   tokens = tokens t ++ (tokens_of (flat_map due_ids due) ++ tokens_of loose);

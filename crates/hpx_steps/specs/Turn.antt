@@ -7,9 +7,9 @@ use Rattle.hpx_value.specs.declared.outcome.Due.TheVariants.{Message as MessageD
 use Rattle.hpx_parcel.specs.Credits.{credits_of}
 use Rattle.hpx_journal.specs.Data.{Id, Act, Parcel, Free}
 use Rattle.hpx_journal.specs.Tokens.{held}
-use Rattle.hpx_journal.specs.Frames.{acts_in, tokens_in, asks_in}
+use Rattle.hpx_journal.specs.Frames.{acts_in, travels_in, tokens_in, asks_in}
 use Rattle.hpx_journal.specs.Names.{due_ids}
-use Rattle.hpx_part.specs.Data.{Event, Standing, Token, Recorded}
+use Rattle.hpx_part.specs.Data.{Event, Standing, Travel, Token, Recorded}
 use Rattle.hpx_part.specs.View.{View}
 use Rattle.hpx_agas.specs.declared.record.Record.{Record}
 use Rattle.hpx_tables.specs.Pending.{Waits, asking_of, fired_of, ids_kept, refusals_of}
@@ -55,12 +55,15 @@ bare_due (PrintDue bytes) = PrintDue bytes
 abbrev pub tokens_of : List Id → List Token
 tokens_of ids = map held (credits_of ids)
 
--- the tokens, the actions and the objects of asks in a message, and the object that it says is to be freed
+-- the tokens, the actions, the object on its way and the objects of asks in a message, and the object that it says is to be freed
 abbrev pub parcel_tokens : Parcel → List Token
 parcel_tokens p = tokens_in (Some p)
 
 abbrev pub parcel_acts : Parcel → List Act
 parcel_acts p = acts_in (Some p)
+
+abbrev pub parcel_travels : Parcel → List Travel
+parcel_travels p = travels_in (Some p)
 
 abbrev pub parcel_asks : Parcel → List Id
 parcel_asks p = asks_in (Some p)
@@ -98,6 +101,7 @@ view s = record {
   waiting = waiting s;
   fired = map bare_act (fired_of s.tables.running (commits s));
   objects = map bare_standing s.tables.objects;
+  travels = flat_map parcel_travels (parcels s);
   fresh = s.fresh;
   due = map bare_due s.due;
   tokens = tokens s;

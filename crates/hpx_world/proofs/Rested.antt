@@ -8,7 +8,7 @@ use Rattle.hpx_parcel.specs.Credits.{Credit, credits_of}
 use Rattle.hpx_journal.specs.Data.{Act}
 use Rattle.hpx_journal.specs.Entries.{Rules, Frame, name_of}
 use Rattle.hpx_journal.specs.Laws.{HasGrammar, FreesTheDead, outs, ins}
-use Rattle.hpx_journal.specs.Local.{is_act}
+use Rattle.hpx_journal.specs.Local.{is_act, is_travel}
 use Rattle.hpx_journal.specs.Tokens.{held}
 use Rattle.hpx_journal.specs.Whole.{IsLegal, IsCarried, IsQuietAt, IsClean, replayed, part, run_local}
 use Rattle.hpx_journal.proofs.Grow.{run_part}
@@ -21,9 +21,9 @@ use Rattle.hpx_part.specs.Keyed.{Agree}
 use Rattle.hpx_part.specs.Parts.{at_boot}
 use Rattle.hpx_part.specs.Shows.{IsWeight, Shows}
 use Rattle.hpx_part.proofs.Keyed.{counts_of, counts_true}
-use Rattle.hpx_part.proofs.Keys.{own}
+use Rattle.hpx_part.proofs.Keys.{own, travels, own_travel}
 use Rattle.hpx_steps.specs.Rest.{view, tokens, kept_ids, rules_of}
-use Rattle.hpx_steps.specs.Turn.{tokens_of, parcel_tokens}
+use Rattle.hpx_steps.specs.Turn.{tokens_of, parcel_tokens, parcel_travels}
 use Rattle.hpx_tables.specs.Tables.{Tables, IsPassive, messages}
 use Rattle.hpx_tables.specs.declared.kept.Outgoing.{Outgoing}
 use Rattle.hpx_node.proofs.Numbers.{rest_shown}
@@ -58,10 +58,10 @@ none_owed (k ∷ ks) h =
 
 -- ---- a passive node
 
-none_agrees : (xs : List Act) → Agree is_act xs [] → xs ≡ []
-none_agrees [] h = refl
-none_agrees (x ∷ xs) h =
-    absurd (omega (arith, h.counts (name_of x), sum_by-cons (counts_of (is_act (name_of x))) x xs, counts_true (is_act (name_of x)) x (own x)))
+none_agrees : {K X : Type 0} (test : K → X → Bool) (key : X → K) (own : (x : X) → test (key x) x ≡ true) (xs : List X) → Agree test xs [] → xs ≡ []
+none_agrees test key own [] h = refl
+none_agrees test key own (x ∷ xs) h =
+    absurd (omega (arith, h.counts (key x), sum_by-cons (counts_of (test (key x))) x xs, counts_true (test (key x)) x (own x)))
 
 no_messages : (t : Tables) → IsPassive t → messages t ≡ []
 no_messages t h =
@@ -73,9 +73,10 @@ pub passive_quiet : (t : Tables) (s : Local) → IsPassive t → Shows (view t [
 passive_quiet t s h shows =
     let none = no_messages t h in
     record {
-      waiting = none_agrees s.waiting (subst (Agree is_act s.waiting) (waits t h none) shows.acts.waiting);
-      fired = none_agrees s.fired (subst (Agree is_act s.fired) (runs t h) shows.acts.fired);
-      travels = shows.objects.travels;
+      waiting = none_agrees is_act name_of own s.waiting (subst (Agree is_act s.waiting) (waits t h none) shows.acts.waiting);
+      fired = none_agrees is_act name_of own s.fired (subst (Agree is_act s.fired) (runs t h) shows.acts.fired);
+      travels = none_agrees is_travel travels own_travel s.travels
+          (subst (Agree is_travel s.travels) (ap (flat_map parcel_travels) none) shows.objects.travels);
       fresh = shows.objects.fresh;
       due = shows.acts.due;
       owed = none_owed s.tokens (owes t s none shows);
