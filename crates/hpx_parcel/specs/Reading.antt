@@ -9,6 +9,7 @@ use Rattle.hpx_parcel.specs.Types.{Id, Value, Nothing, Flag, Int, Text, Ref, Fau
 use Rattle.hpx_parcel.specs.declared.parcel.DecodeFault.{DecodeFault}
 use Rattle.hpx_parcel.specs.declared.parcel.DecodeFault.TheVariants as faults
 use Rattle.hpx_parcel.specs.Parcels.{Spells}
+pub use Rattle.hpx_parcel.specs.declared.parcel.FaultAt.{FaultAt}
 pub use Rattle.hpx_parcel.specs.declared.fields.Stop.{Stop}
 pub use Rattle.hpx_parcel.specs.declared.fields.ReadError.{ReadError}
 use Rattle.hpx_parcel.specs.declared.fields.ReadError.TheVariants as errors
@@ -40,6 +41,11 @@ Fails (errors.Stop s) read = read ≡ Err s
 abbrev pub Gives : {X Y : Type 0} → (X → Y) → Result X ReadError → Result Y Stop → Type 0
 Gives view (Ok x) read = read ≡ Ok (view x)
 Gives view (Err e) read = Fails e read
+
+-- what a function that keeps nothing returned, seen by view, is what reading gives
+abbrev pub Tells : {X Y : Type 0} → (X → Y) → Result X Stop → Result Y Stop → Type 0
+Tells view (Ok x) read = read ≡ Ok (view x)
+Tells view (Err s) read = read ≡ Err s
 
 -- what there is, or a fault
 abbrev pub found : {A : Type 0} → Option A → Stop → Result A Stop
@@ -322,11 +328,6 @@ unfoldable pub whole_of : List ℕ → Result Parcel Stop
 whole_of bytes = do
   p ← parcel_at bytes
   if length p.1 == 0 then Ok p.0 else Err (stop_at p.1 Trailing)
-
--- the first fault: its place, and what it is
-pub record FaultAt : Type 0 where
-  pub at : ℕ
-  pub why : Why
 
 -- with the place from the left, of so many bytes in all
 abbrev pub placed : ℕ → Result Parcel Stop → Result Parcel FaultAt
