@@ -8,7 +8,7 @@ use Rattle.hpx_value.specs.Values.{named}
 use Rattle.hpx_parcel.specs.Types.{Id, Value, Nothing, Flag, Int, Text, Ref, Fault, Ints, Cont, State, Act, Message, Parcel, Apply, Return, Ask, Give, Cached, Move, Go, Object, Landed, Free, Why, Long, Cut, Kind, BadId, BadValue, Trailing}
 use Rattle.hpx_parcel.specs.declared.parcel.DecodeFault.{DecodeFault}
 use Rattle.hpx_parcel.specs.declared.parcel.DecodeFault.TheVariants as faults
-use Rattle.hpx_parcel.specs.Parcels.{Spells}
+use Rattle.hpx_parcel.specs.Parcels.{Spells, IsFrame}
 pub use Rattle.hpx_parcel.specs.declared.parcel.FaultAt.{FaultAt}
 pub use Rattle.hpx_parcel.specs.declared.fields.Stop.{Stop}
 pub use Rattle.hpx_parcel.specs.declared.fields.ReadError.{ReadError}
@@ -358,12 +358,12 @@ pub record IsRefused (bytes : List ℕ) (f : FaultAt) : Type 0 where
   pub none : (p : Parcel) → Spells bytes p → ⊥
   pub unread : parcel_of bytes ≡ None
 
--- why bytes were not decoded
+-- why bytes were not decoded; memory is an excuse only where they spell a parcel
 abbrev pub Refuses : DecodeFault → List ℕ → Type 0
-Refuses faults.OutOfMemory bytes = Unit {0}
+Refuses faults.OutOfMemory bytes = IsFrame bytes
 Refuses (faults.BadFrame at why) bytes = IsRefused bytes (record { at = at; why = why })
 
 -- what reading the bytes answered
 abbrev pub Stops : DecodeFault → Result Parcel FaultAt → Type 0
-Stops faults.OutOfMemory read = Unit {0}
+Stops faults.OutOfMemory read = (p : Parcel) × (read ≡ Ok p)
 Stops (faults.BadFrame at why) read = read ≡ Err (record { at = at; why = why })

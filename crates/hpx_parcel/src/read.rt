@@ -8,6 +8,7 @@ use crate::acts::{ActRule, act_of, state_of};
 use crate::fields::{
     IdRule, ReadError, Stop, byte_of, id_u16_of, id_u64_of, id_with, stop_at, u64_of,
 };
+use crate::outline::outline_of;
 use crate::parcel::{DecodeFault, Parcel, Why};
 use std::alloc::Global;
 
@@ -140,6 +141,19 @@ fn whole(alloc: Global, bytes: &[u8]) -> Result<Parcel, ReadError>
     Ok(parcel)
 }
 
+/// Why bytes were not decoded for which there was no memory: for that alone, if they spell a parcel.
+fn unread(bytes: &[u8]) -> DecodeFault
+    ensures { Stops result (reading bytes.now) }
+{
+    match outline_of(bytes) {
+        Ok(_outline) => DecodeFault::OutOfMemory,
+        Err(fault) => DecodeFault::BadFrame {
+            at: fault.at,
+            why: fault.why,
+        },
+    }
+}
+
 /// The parcel, or the first fault with its place from the left.
 #[tactic(auto, unfolding(crate::specs::Reading::reading))]
 fn read(alloc: Global, bytes: &[u8]) -> Result<Parcel, DecodeFault>
@@ -158,11 +172,11 @@ fn read(alloc: Global, bytes: &[u8]) -> Result<Parcel, DecodeFault>
             at: bytes.len().saturating_sub(stop.left) as u32,
             why: stop.why,
         }),
-        Err(ReadError::OutOfMemory) => Err(DecodeFault::OutOfMemory),
+        Err(ReadError::OutOfMemory) => Err(unread(bytes)),
     }
 }
 
-/// The parcel that the bytes spell.
+/// The parcel that the bytes spell. Want of memory is answered only for bytes that spell one.
 pub fn decode(alloc: Global, bytes: &[u8]) -> Result<Parcel, DecodeFault>
     ensures ok { IfOk result (λ p. Spells bytes.now p) }
     ensures read { IfOk result (λ p. parcel_of bytes.now ≡ Some p) }
