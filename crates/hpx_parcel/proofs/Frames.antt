@@ -362,10 +362,10 @@ pub decoded_read : (bytes : List ℕ) (r : Result Parcel DecodeFault) → IsByte
 decoded_read bytes (Ok p) fits e = spelled_parcel bytes p (read_spelled bytes p fits e)
 decoded_read bytes (Err f) fits e = tt
 
-refuses : (bytes : List ℕ) (f : DecodeFault) → Stops f (reading bytes) → Refuses f bytes
-refuses bytes (faults.BadFrame at why) e = refused_is bytes (record { at = at; why = why }) e
-refuses bytes faults.OutOfMemory e = tt
+refuses : (bytes : List ℕ) (f : DecodeFault) → IsBytes bytes → Stops f (reading bytes) → Refuses f bytes
+refuses bytes (faults.BadFrame at why) fits e = refused_is bytes (record { at = at; why = why }) e
+refuses bytes faults.OutOfMemory fits e = (e.0, read_spelled bytes e.0 fits e.1)
 
-pub decoded_bad : (bytes : List ℕ) (r : Result Parcel DecodeFault) → IfErr r (λ f. Stops f (reading bytes)) → IfErr r (λ f. Refuses f bytes)
-decoded_bad bytes (Ok p) e = tt
-decoded_bad bytes (Err f) e = refuses bytes f e
+pub decoded_bad : (bytes : List ℕ) (r : Result Parcel DecodeFault) → IsBytes bytes → IfErr r (λ f. Stops f (reading bytes)) → IfErr r (λ f. Refuses f bytes)
+decoded_bad bytes (Ok p) fits e = tt
+decoded_bad bytes (Err f) fits e = refuses bytes f fits e

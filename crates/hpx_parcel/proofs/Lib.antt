@@ -11,3 +11,5 @@ pub mod StateLaws
 pub mod Rules
 pub mod Frames
 pub mod Standing
+pub mod Seen
+pub mod Outlined

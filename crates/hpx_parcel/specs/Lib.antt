@@ -3,3 +3,4 @@ pub mod Spelling
 pub mod Parcels
 pub mod Reading
 pub mod Credits
+pub mod Outlines

@@ -120,3 +120,7 @@ pub record Spells (bytes : List ℕ) (p : Parcel) : Type 0 where
   pub parcel : IsParcel p
   pub fits : FitsParcel p
   pub text : bytes ≡ text_of p
+
+-- the bytes are those of a parcel
+abbrev pub IsFrame : List ℕ → Type 0
+IsFrame bytes = (p : Parcel) × Spells bytes p

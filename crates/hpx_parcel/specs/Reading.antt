@@ -8,7 +8,8 @@ use Rattle.hpx_value.specs.Values.{named}
 use Rattle.hpx_parcel.specs.Types.{Id, Value, Nothing, Flag, Int, Text, Ref, Fault, Ints, Cont, State, Act, Message, Parcel, Apply, Return, Ask, Give, Cached, Move, Go, Object, Landed, Free, Why, Long, Cut, Kind, BadId, BadValue, Trailing}
 use Rattle.hpx_parcel.specs.declared.parcel.DecodeFault.{DecodeFault}
 use Rattle.hpx_parcel.specs.declared.parcel.DecodeFault.TheVariants as faults
-use Rattle.hpx_parcel.specs.Parcels.{Spells}
+use Rattle.hpx_parcel.specs.Parcels.{Spells, IsFrame}
+pub use Rattle.hpx_parcel.specs.declared.parcel.FaultAt.{FaultAt}
 pub use Rattle.hpx_parcel.specs.declared.fields.Stop.{Stop}
 pub use Rattle.hpx_parcel.specs.declared.fields.ReadError.{ReadError}
 use Rattle.hpx_parcel.specs.declared.fields.ReadError.TheVariants as errors
@@ -40,6 +41,11 @@ Fails (errors.Stop s) read = read ≡ Err s
 abbrev pub Gives : {X Y : Type 0} → (X → Y) → Result X ReadError → Result Y Stop → Type 0
 Gives view (Ok x) read = read ≡ Ok (view x)
 Gives view (Err e) read = Fails e read
+
+-- what a function that keeps nothing returned, seen by view, is what reading gives
+abbrev pub Tells : {X Y : Type 0} → (X → Y) → Result X Stop → Result Y Stop → Type 0
+Tells view (Ok x) read = read ≡ Ok (view x)
+Tells view (Err s) read = read ≡ Err s
 
 -- what there is, or a fault
 abbrev pub found : {A : Type 0} → Option A → Stop → Result A Stop
@@ -323,11 +329,6 @@ whole_of bytes = do
   p ← parcel_at bytes
   if length p.1 == 0 then Ok p.0 else Err (stop_at p.1 Trailing)
 
--- the first fault: its place, and what it is
-pub record FaultAt : Type 0 where
-  pub at : ℕ
-  pub why : Why
-
 -- with the place from the left, of so many bytes in all
 abbrev pub placed : ℕ → Result Parcel Stop → Result Parcel FaultAt
 placed total (Ok p) = Ok p
@@ -357,12 +358,12 @@ pub record IsRefused (bytes : List ℕ) (f : FaultAt) : Type 0 where
   pub none : (p : Parcel) → Spells bytes p → ⊥
   pub unread : parcel_of bytes ≡ None
 
--- why bytes were not decoded
+-- why bytes were not decoded; memory is an excuse only where they spell a parcel
 abbrev pub Refuses : DecodeFault → List ℕ → Type 0
-Refuses faults.OutOfMemory bytes = Unit {0}
+Refuses faults.OutOfMemory bytes = IsFrame bytes
 Refuses (faults.BadFrame at why) bytes = IsRefused bytes (record { at = at; why = why })
 
 -- what reading the bytes answered
 abbrev pub Stops : DecodeFault → Result Parcel FaultAt → Type 0
-Stops faults.OutOfMemory read = Unit {0}
+Stops faults.OutOfMemory read = (p : Parcel) × (read ≡ Ok p)
 Stops (faults.BadFrame at why) read = read ≡ Err (record { at = at; why = why })

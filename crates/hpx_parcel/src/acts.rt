@@ -1,10 +1,10 @@
 //! Actions and states, read from the front of bytes.
 
 ghost use Rattle.std.specs.Prelude.{◌≡◌, ◌+◌, ◌<◌, ◌≤◌, ◌^◌, ◌++◌, ◌∷◌, [], length, OnOk};
-ghost use Rattle.hpx_parcel.specs.Reading.{Gives, slot_at, cont_at, target_rule, takes_code, takes_args, are_move_args, ended_at, call_at, message_at, act_at, conts_at, joined_conts, kept_at, state_at};
+ghost use Rattle.hpx_parcel.specs.Reading.{Tells, Gives, slot_at, cont_at, target_rule, takes_code, takes_args, are_move_args, ended_at, call_at, message_at, act_at, conts_at, joined_conts, kept_at, state_at};
 
 use crate::fields::{
-    IdRule, ReadError, byte_of, count_of, id_with, stop_at, u16_of, u32_of, u64_of,
+    IdRule, ReadError, Stop, byte_of, count_of, id_with, stop_at, u16_of, u32_of, u64_of,
 };
 use crate::parcel::Why;
 use crate::values::{push_found, values_of};
@@ -16,13 +16,13 @@ use hpx_value::value::{Act, Cont, Conts, Message, State, Value, Values};
 use std::alloc::Global;
 
 /// The most bytes that an action, or a state, takes in a frame.
-const LONGEST_PART: usize = 65_000;
+pub(crate) const LONGEST_PART: usize = 65_000;
 
 /// The place behind the target and 32 Refs.
-const REFS_END: u16 = 33;
+pub(crate) const REFS_END: u16 = 33;
 
 /// The most ids that a state has.
-const MOST_IDS: u16 = 128;
+pub(crate) const MOST_IDS: u16 = 128;
 
 /// Which actions a field takes.
 #[derive(Clone, Copy)]
@@ -77,36 +77,36 @@ fn are_move_args(args: &[Value]) -> bool
 
 /// Where an answer goes: a slot of an object.
 #[derive(Drop)]
-struct Link {
-    id: Gid,
-    slot: u32,
+pub(crate) struct Link {
+    pub(crate) id: Gid,
+    pub(crate) slot: u32,
 }
 
 /// An id and a slot.
 #[tactic(auto, unfolding(crate::specs::Reading::slot_at))]
-fn link_of(bytes: &[u8]) -> Result<(Link, &[u8]), ReadError>
-    ensures { Gives (λ x. (x.0.id, x.0.slot, x.1.now)) result (slot_at bytes.now) }
+pub(crate) fn link_of(bytes: &[u8]) -> Result<(Link, &[u8]), Stop>
+    ensures { Tells (λ x. (x.0.id, x.0.slot, x.1.now)) result (slot_at bytes.now) }
 {
     match id_with(IdRule::Named, bytes) {
         Ok((id, rest)) => {
             let (slot, rest) = u32_of(rest)?;
             Ok((Link { id, slot }, rest))
         }
-        Err(error) => Err(error),
+        Err(stop) => Err(stop),
     }
 }
 
 /// A continuation, if there is one, whose id comes to stand at this place.
 #[tactic(auto, unfolding(crate::specs::Reading::cont_at))]
-fn cont_of(place: u16, bytes: &[u8]) -> Result<(Option<Cont>, Option<Gid>, &[u8]), ReadError>
-    ensures { Gives (λ x. (x.0, x.1, x.2.now)) result (cont_at place bytes.now) }
+pub(crate) fn cont_of(place: u16, bytes: &[u8]) -> Result<(Option<Cont>, Option<Gid>, &[u8]), Stop>
+    ensures { Tells (λ x. (x.0, x.1, x.2.now)) result (cont_at place bytes.now) }
 {
     let (byte, rest) = byte_of(bytes)?;
     match byte {
         0 => Ok((None, None, rest)),
         1 => match link_of(rest) {
             Ok((Link { id, slot }, rest)) => Ok((Some(Cont { place, slot }), Some(id), rest)),
-            Err(error) => Err(error),
+            Err(stop) => Err(stop),
         },
         _ => Err(stop_at(bytes, Why::BadValue)),
     }
@@ -136,7 +136,7 @@ fn ended_of(
                 rest,
             ))
         }
-        Err(error) => Err(error),
+        Err(stop) => Err(ReadError::Stop(stop)),
     }
 }
 
@@ -152,7 +152,7 @@ fn call_of(
 {
     let (code, rest) = u16_of(bytes)?;
     if !rule.takes_code(code) {
-        return Err(stop_at(bytes, Why::BadValue));
+        return Err(ReadError::Stop(stop_at(bytes, Why::BadValue)));
     }
     let mut ids = Items::new(alloc);
     ids.push(target)?;
@@ -161,7 +161,7 @@ fn call_of(
             if rule.takes_args(args.as_slice()) {
                 ended_of(code, args, ids, after)
             } else {
-                Err(stop_at(rest, Why::BadValue))
+                Err(ReadError::Stop(stop_at(rest, Why::BadValue)))
             }
         }
         Err(error) => Err(error),
@@ -175,7 +175,7 @@ fn message_of(alloc: Global, rule: ActRule, bytes: &[u8]) -> Result<(Message, &[
 {
     match id_with(rule.target(), bytes) {
         Ok((target, rest)) => call_of(alloc, rule, target, rest),
-        Err(error) => Err(error),
+        Err(stop) => Err(ReadError::Stop(stop)),
     }
 }
 
@@ -189,7 +189,7 @@ pub(crate) fn act_of(alloc: Global, rule: ActRule, bytes: &[u8]) -> Result<(Act,
     match message_of(alloc, rule, rest) {
         Ok((message, rest)) => {
             if rest.len() + LONGEST_PART < bytes.len() {
-                return Err(stop_at(bytes, Why::BadValue));
+                return Err(ReadError::Stop(stop_at(bytes, Why::BadValue)));
             }
             let Message {
                 code,
@@ -243,7 +243,7 @@ fn conts_of(
                 push_link(&mut conts, &mut ids, link)?;
                 rest = after;
             }
-            Err(error) => return Err(error),
+            Err(stop) => return Err(ReadError::Stop(stop)),
         }
     }
     Ok((conts, ids, rest))
@@ -286,7 +286,7 @@ pub(crate) fn state_of(alloc: Global, bytes: &[u8]) -> Result<(State, &[u8]), Re
         Ok((values, ids, rest)) => match kept_of(alloc, drawn, values, ids, rest) {
             Ok((state, rest)) => {
                 if rest.len() + LONGEST_PART < bytes.len() {
-                    return Err(stop_at(bytes, Why::BadValue));
+                    return Err(ReadError::Stop(stop_at(bytes, Why::BadValue)));
                 }
                 Ok((state, rest))
             }

@@ -1,7 +1,7 @@
 //! Numbers and ids, read from the front of bytes.
 
 ghost use Rattle.std.specs.Prelude.{◌≡◌, ◌≤◌, IfOk};
-ghost use Rattle.hpx_parcel.specs.Reading.{Gives, stop_at, cut_off, next_byte, number_at, count_at, credit_fits, is_least, allows, id_of, id_at, int_at, pair_at};
+ghost use Rattle.hpx_parcel.specs.Reading.{Tells, stop_at, cut_off, next_byte, number_at, count_at, credit_fits, is_least, allows, id_of, id_at, int_at, pair_at};
 ghost use Rattle.hpx_parcel.specs.declared.fields.ReadError.TheVariants.{OutOfMemory as Memory, Stop as Broken};
 
 use crate::parcel::Why;
@@ -18,11 +18,19 @@ pub(crate) struct Stop {
     pub(crate) why: Why,
 }
 
-/// Why nothing was read.
+/// Why nothing was kept.
 #[derive(Drop)]
 pub(crate) enum ReadError {
     Stop(Stop),
     OutOfMemory,
+}
+
+impl From<Stop> for ReadError {
+    ghost from_gives = { λ s e. e ≡ Broken s };
+
+    fn from(stop: Stop) -> ReadError {
+        ReadError::Stop(stop)
+    }
 }
 
 impl From<AllocError> for ReadError {
@@ -103,28 +111,28 @@ fn credit_fits(id: Gid) -> bool
 }
 
 /// A fault at the first of these bytes.
-pub(crate) fn stop_at(bytes: &[u8], why: Why) -> ReadError
-    ensures { result ≡ Broken (stop_at bytes.now why) }
+pub(crate) fn stop_at(bytes: &[u8], why: Why) -> Stop
+    ensures { result ≡ stop_at bytes.now why }
 {
-    ReadError::Stop(Stop {
+    Stop {
         left: bytes.len(),
         why,
-    })
+    }
 }
 
 /// The bytes end too early.
-pub(crate) fn cut_off() -> ReadError
-    ensures { result ≡ Broken cut_off }
+pub(crate) fn cut_off() -> Stop
+    ensures { result ≡ cut_off }
 {
-    ReadError::Stop(Stop {
+    Stop {
         left: 0,
         why: Why::Cut,
-    })
+    }
 }
 
 /// A byte.
-pub(crate) fn byte_of(bytes: &[u8]) -> Result<(u8, &[u8]), ReadError>
-    ensures { Gives (λ x. (x.0, x.1.now)) result (next_byte bytes.now) }
+pub(crate) fn byte_of(bytes: &[u8]) -> Result<(u8, &[u8]), Stop>
+    ensures { Tells (λ x. (x.0, x.1.now)) result (next_byte bytes.now) }
 {
     match bytes {
         [] => Err(cut_off()),
@@ -134,8 +142,8 @@ pub(crate) fn byte_of(bytes: &[u8]) -> Result<(u8, &[u8]), ReadError>
 
 /// A number of two bytes, the highest first.
 #[tactic(auto, unfolding(crate::specs::Reading::number_at))]
-pub(crate) fn u16_of(bytes: &[u8]) -> Result<(u16, &[u8]), ReadError>
-    ensures { Gives (λ x. (x.0, x.1.now)) result (number_at 2 bytes.now) }
+pub(crate) fn u16_of(bytes: &[u8]) -> Result<(u16, &[u8]), Stop>
+    ensures { Tells (λ x. (x.0, x.1.now)) result (number_at 2 bytes.now) }
 {
     if bytes.len() < 2 {
         return Err(cut_off());
@@ -145,8 +153,8 @@ pub(crate) fn u16_of(bytes: &[u8]) -> Result<(u16, &[u8]), ReadError>
 
 /// A number of four bytes, the highest first.
 #[tactic(auto, unfolding(crate::specs::Reading::number_at))]
-pub(crate) fn u32_of(bytes: &[u8]) -> Result<(u32, &[u8]), ReadError>
-    ensures { Gives (λ x. (x.0, x.1.now)) result (number_at 4 bytes.now) }
+pub(crate) fn u32_of(bytes: &[u8]) -> Result<(u32, &[u8]), Stop>
+    ensures { Tells (λ x. (x.0, x.1.now)) result (number_at 4 bytes.now) }
 {
     if bytes.len() < 4 {
         return Err(cut_off());
@@ -156,8 +164,8 @@ pub(crate) fn u32_of(bytes: &[u8]) -> Result<(u32, &[u8]), ReadError>
 
 /// A number of eight bytes, the highest first.
 #[tactic(auto, unfolding(crate::specs::Reading::number_at))]
-pub(crate) fn u64_of(bytes: &[u8]) -> Result<(u64, &[u8]), ReadError>
-    ensures { Gives (λ x. (x.0, x.1.now)) result (number_at 8 bytes.now) }
+pub(crate) fn u64_of(bytes: &[u8]) -> Result<(u64, &[u8]), Stop>
+    ensures { Tells (λ x. (x.0, x.1.now)) result (number_at 8 bytes.now) }
 {
     if bytes.len() < 8 {
         return Err(cut_off());
@@ -167,8 +175,8 @@ pub(crate) fn u64_of(bytes: &[u8]) -> Result<(u64, &[u8]), ReadError>
 
 /// A number with a sign, in 8 bytes, the highest first.
 #[tactic(auto, unfolding(crate::specs::Reading::number_at, crate::specs::Reading::int_at))]
-pub(crate) fn int_of(bytes: &[u8]) -> Result<(i64, &[u8]), ReadError>
-    ensures { Gives (λ x. (x.0, x.1.now)) result (int_at bytes.now) }
+pub(crate) fn int_of(bytes: &[u8]) -> Result<(i64, &[u8]), Stop>
+    ensures { Tells (λ x. (x.0, x.1.now)) result (int_at bytes.now) }
 {
     if bytes.len() < 8 {
         return Err(cut_off());
@@ -178,8 +186,8 @@ pub(crate) fn int_of(bytes: &[u8]) -> Result<(i64, &[u8]), ReadError>
 
 /// A count of two bytes, at most a limit.
 #[tactic(auto, unfolding(crate::specs::Reading::count_at))]
-pub(crate) fn count_of(limit: u16, bytes: &[u8]) -> Result<(u16, &[u8]), ReadError>
-    ensures given { Gives (λ x. (x.0, x.1.now)) result (count_at limit bytes.now) }
+pub(crate) fn count_of(limit: u16, bytes: &[u8]) -> Result<(u16, &[u8]), Stop>
+    ensures given { Tells (λ x. (x.0, x.1.now)) result (count_at limit bytes.now) }
     ensures few { IfOk result (λ x. x.0 ≤ limit) }
 {
     let (count, rest) = u16_of(bytes)?;
@@ -198,8 +206,8 @@ fn gid_of(msb: u64, lsb: u64) -> Option<Gid>
 
 /// An id that such a field takes.
 #[tactic(auto, unfolding(crate::specs::Reading::id_at))]
-pub(crate) fn id_with(rule: IdRule, bytes: &[u8]) -> Result<(Gid, &[u8]), ReadError>
-    ensures { Gives (λ x. (x.0, x.1.now)) result (id_at rule bytes.now) }
+pub(crate) fn id_with(rule: IdRule, bytes: &[u8]) -> Result<(Gid, &[u8]), Stop>
+    ensures { Tells (λ x. (x.0, x.1.now)) result (id_at rule bytes.now) }
 {
     let (msb, rest) = u64_of(bytes)?;
     let (lsb, rest) = u64_of(rest)?;
@@ -211,28 +219,28 @@ pub(crate) fn id_with(rule: IdRule, bytes: &[u8]) -> Result<(Gid, &[u8]), ReadEr
 
 /// An id and a number of two bytes.
 #[tactic(auto, unfolding(crate::specs::Reading::pair_at))]
-pub(crate) fn id_u16_of(rule: IdRule, bytes: &[u8]) -> Result<(Gid, u16, &[u8]), ReadError>
-    ensures { Gives (λ x. (x.0, x.1, x.2.now)) result (pair_at rule 2 bytes.now) }
+pub(crate) fn id_u16_of(rule: IdRule, bytes: &[u8]) -> Result<(Gid, u16, &[u8]), Stop>
+    ensures { Tells (λ x. (x.0, x.1, x.2.now)) result (pair_at rule 2 bytes.now) }
 {
     match id_with(rule, bytes) {
         Ok((id, rest)) => {
             let (number, rest) = u16_of(rest)?;
             Ok((id, number, rest))
         }
-        Err(error) => Err(error),
+        Err(stop) => Err(stop),
     }
 }
 
 /// An id and a number of eight bytes.
 #[tactic(auto, unfolding(crate::specs::Reading::pair_at))]
-pub(crate) fn id_u64_of(rule: IdRule, bytes: &[u8]) -> Result<(Gid, u64, &[u8]), ReadError>
-    ensures { Gives (λ x. (x.0, x.1, x.2.now)) result (pair_at rule 8 bytes.now) }
+pub(crate) fn id_u64_of(rule: IdRule, bytes: &[u8]) -> Result<(Gid, u64, &[u8]), Stop>
+    ensures { Tells (λ x. (x.0, x.1, x.2.now)) result (pair_at rule 8 bytes.now) }
 {
     match id_with(rule, bytes) {
         Ok((id, rest)) => {
             let (number, rest) = u64_of(rest)?;
             Ok((id, number, rest))
         }
-        Err(error) => Err(error),
+        Err(stop) => Err(stop),
     }
 }

@@ -3,7 +3,9 @@
 
 mod acts;
 mod fields;
+mod glance;
 pub mod laws;
+pub mod outline;
 pub mod parcel;
 pub mod read;
 mod values;

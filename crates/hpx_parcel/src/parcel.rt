@@ -44,6 +44,13 @@ pub enum Why {
     Trailing,
 }
 
+/// The first fault of bytes from the left, and its place.
+#[derive(Clone, Copy, Debug, PartialEq, Eq)]
+pub struct FaultAt {
+    pub at: u32,
+    pub why: Why,
+}
+
 /// Why bytes were not decoded.
 #[derive(Clone, Copy, Debug, PartialEq, Eq, Error)]
 pub enum DecodeFault {

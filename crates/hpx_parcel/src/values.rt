@@ -1,9 +1,11 @@
 //! Values, read from the front of bytes.
 
-ghost use Rattle.std.specs.Prelude.{◌≡◌, ◌+◌, ◌≤◌, ◌++◌, [], ℕ, length, IfOk, OnOk};
-ghost use Rattle.hpx_parcel.specs.Reading.{Gives, flag_at, text_at, fault_at, numbers_at, ints_at, plain_at, value_at, id_list, each_at, joined, values_at};
+ghost use Rattle.std.specs.Prelude.{◌≡◌, ◌≢◌, ◌+◌, ◌≤◌, ◌++◌, [], ℕ, length, IfOk, OnOk};
+ghost use Rattle.hpx_parcel.specs.Reading.{Tells, Gives, flag_at, text_at, fault_at, numbers_at, ints_at, plain_at, value_at, id_list, each_at, joined, values_at};
 
-use crate::fields::{IdRule, ReadError, byte_of, count_of, cut_off, id_with, int_of, stop_at};
+use crate::fields::{
+    IdRule, ReadError, Stop, byte_of, count_of, cut_off, id_with, int_of, stop_at,
+};
 use crate::parcel::Why;
 use hpx_value::gid::{Gid, Gids};
 use hpx_value::items::{Ints, Items, Text};
@@ -12,21 +14,21 @@ use hpx_value::value::{Value, Values};
 use std::alloc::Global;
 
 /// The most values of an action, or of a state.
-const MOST_VALUES: u16 = 1_024;
+pub(crate) const MOST_VALUES: u16 = 1_024;
 
 /// The most bytes of a text.
 const LONGEST_TEXT: u16 = 16_384;
 
 /// The most numbers of one value.
-const MOST_INTS: u16 = 4_096;
+pub(crate) const MOST_INTS: u16 = 4_096;
 
 /// The greatest number of a fault.
 const LAST_FAULT: u8 = 11;
 
 /// A flag, behind its tag.
 #[tactic(auto, unfolding(crate::specs::Reading::flag_at))]
-fn flag_of(bytes: &[u8]) -> Result<(Value, &[u8]), ReadError>
-    ensures { Gives (λ x. (x.0, x.1.now)) result (flag_at bytes.now) }
+fn flag_of(bytes: &[u8]) -> Result<(Value, &[u8]), Stop>
+    ensures { Tells (λ x. (x.0, x.1.now)) result (flag_at bytes.now) }
 {
     let (byte, rest) = byte_of(bytes)?;
     match byte {
@@ -36,24 +38,31 @@ fn flag_of(bytes: &[u8]) -> Result<(Value, &[u8]), ReadError>
     }
 }
 
-/// A text, behind its tag.
+/// The bytes of a text, behind its tag.
 #[tactic(auto, unfolding(crate::specs::Reading::text_at))]
-fn text_of(alloc: Global, bytes: &[u8]) -> Result<(Text, &[u8]), ReadError>
-    ensures { Gives (λ x. (x.0, x.1.now)) result (text_at bytes.now) }
+pub(crate) fn text_in(bytes: &[u8]) -> Result<(&[u8], &[u8]), Stop>
+    ensures { Tells (λ x. (x.0.now, x.1.now)) result (text_at bytes.now) }
 {
     let (len, rest) = count_of(LONGEST_TEXT, bytes)?;
     let len = len as usize;
     if rest.len() < len {
         return Err(cut_off());
     }
-    let (text, rest) = rest.split_at(len);
+    Ok(rest.split_at(len))
+}
+
+/// A text, behind its tag.
+fn text_of(alloc: Global, bytes: &[u8]) -> Result<(Text, &[u8]), ReadError>
+    ensures { Gives (λ x. (x.0, x.1.now)) result (text_at bytes.now) }
+{
+    let (text, rest) = text_in(bytes)?;
     Ok((Items::from_vec(Vec::from_slice(alloc, text)?), rest))
 }
 
 /// A fault, behind its tag.
 #[tactic(auto, unfolding(crate::specs::Reading::fault_at))]
-fn fault_of(bytes: &[u8]) -> Result<(Value, &[u8]), ReadError>
-    ensures { Gives (λ x. (x.0, x.1.now)) result (fault_at bytes.now) }
+fn fault_of(bytes: &[u8]) -> Result<(Value, &[u8]), Stop>
+    ensures { Tells (λ x. (x.0, x.1.now)) result (fault_at bytes.now) }
 {
     let (code, rest) = byte_of(bytes)?;
     if 1 <= code && code <= LAST_FAULT {
@@ -86,6 +95,25 @@ fn ints_of(alloc: Global, bytes: &[u8]) -> Result<(Ints, &[u8]), ReadError>
     numbers_of(alloc, count, rest)
 }
 
+/// A value that takes no memory, behind its tag; another tag is a fault at the first of `bytes`.
+#[tactic(auto, unfolding(crate::specs::Reading::plain_at))]
+pub(crate) fn small_of<'a>(tag: u8, bytes: &[u8], rest: &'a [u8]) -> Result<(Value, &'a [u8]), Stop>
+    requires text { tag ≢ 3 }
+    requires ints { tag ≢ 6 }
+    ensures { Tells (λ x. (x.0, x.1.now)) result (plain_at tag bytes.now rest.now) }
+{
+    match tag {
+        0 => Ok((Value::Unit, rest)),
+        1 => flag_of(rest),
+        2 => {
+            let (number, rest) = int_of(rest)?;
+            Ok((Value::Int(number), rest))
+        }
+        5 => fault_of(rest),
+        _ => Err(stop_at(bytes, Why::BadValue)),
+    }
+}
+
 /// A value other than a Ref, behind its tag; another tag is a fault at the first of `bytes`.
 #[tactic(auto, unfolding(crate::specs::Reading::plain_at))]
 fn plain_of<'a>(
@@ -97,22 +125,18 @@ fn plain_of<'a>(
     ensures { Gives (λ x. (x.0, x.1.now)) result (plain_at tag bytes.now rest.now) }
 {
     match tag {
-        0 => Ok((Value::Unit, rest)),
-        1 => flag_of(rest),
-        2 => {
-            let (number, rest) = int_of(rest)?;
-            Ok((Value::Int(number), rest))
-        }
         3 => {
             let (text, rest) = text_of(alloc, rest)?;
             Ok((Value::Text(text), rest))
         }
-        5 => fault_of(rest),
         6 => {
             let (numbers, rest) = ints_of(alloc, rest)?;
             Ok((Value::Ints(numbers), rest))
         }
-        _ => Err(stop_at(bytes, Why::BadValue)),
+        _ => {
+            let (value, rest) = small_of(tag, bytes, rest)?;
+            Ok((value, rest))
+        }
     }
 }
 
@@ -133,11 +157,11 @@ fn value_of(
         return Ok((value, None, rest));
     }
     if place >= limit as usize {
-        return Err(stop_at(bytes, Why::BadValue));
+        return Err(ReadError::Stop(stop_at(bytes, Why::BadValue)));
     }
     match id_with(IdRule::Named, rest) {
         Ok((id, rest)) => Ok((Value::Ref(place as u16), Some(id), rest)),
-        Err(error) => Err(error),
+        Err(stop) => Err(ReadError::Stop(stop)),
     }
 }
 

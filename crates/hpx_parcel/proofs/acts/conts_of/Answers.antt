@@ -1,10 +1,11 @@
 use Rattle.std.proofs.Common.{◌≡◌, ◌++◌, ◌∷◌, [], length, arith}
 use Rattle.std.proofs.lemmas.List.{length-append}
+use Rattle.hpx_parcel.specs.declared.fields.ReadError.TheVariants as errors
 use Rattle.hpx_parcel.proofs.Loops.{cont_to, conts_go_on, conts_end, conts_done}
 use Rattle.hpx_parcel.proofs.acts.conts_of.Goals as goal
 
 pub returns-in-Err : goal.returns-in-Err
-returns-in-Err c = conts_end c.in-Err.error c.loop.conts c.loop.ids c.args.count c.loop.counter c.loop.rest.now _ c.loop-test.true c.in-Err.ensures c.loop.invariant.given
+returns-in-Err c = conts_end (errors.Stop c.in-Err.stop) c.loop.conts c.loop.ids c.args.count c.loop.counter c.loop.rest.now _ c.loop-test.true c.in-Err.ensures c.loop.invariant.given
 
 pub loop-preserved : goal.loop-preserved
 loop-preserved c =

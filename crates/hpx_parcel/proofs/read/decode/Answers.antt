@@ -9,4 +9,4 @@ pub returns-clause-read : goal.returns-clause-read
 returns-clause-read c = decoded_read c.args.bytes.now c.read.result (λ i. omega (arith, c.type_inv.bytes i)) c.read.ensures.ok
 
 pub returns-clause-bad : goal.returns-clause-bad
-returns-clause-bad c = decoded_bad c.args.bytes.now c.read.result c.read.ensures.err
+returns-clause-bad c = decoded_bad c.args.bytes.now c.read.result (λ i. omega (arith, c.type_inv.bytes i)) c.read.ensures.err
