@@ -1,11 +1,15 @@
 -- Looking lines up by number, and what changes when others stand in the place of one.
 use Rattle.std.proofs.Common.{ℕ, true, false, ◌≡◌, ◌≢◌, ◌⊎◌, ◌<◌, ◌≤◌, ◌+◌, List, [], ◌∷◌, ◌++◌, map, Some, None, length, refl, sym, ap, ◌∙◌, arith, subst, inl, inr, append_assoc, length-append}
 use Rattle.std.specs.Prelude.{◌==◌}
+use Rattle.std.specs.List.{sum_by}
 use Rattle.std.specs.Option.{option_to_list}
 use Rattle.std.proofs.lemmas.Bool.{cases_Bool, eqb-true, eq-eqb}
+use Rattle.std.proofs.lemmas.List.Sums.{sum_by-append}
 use Rattle.hpx_agas.specs.declared.line.Line.{Line}
+use Rattle.hpx_agas.specs.declared.record.Waiting.{Waiting}
 use Rattle.hpx_agas.specs.Queues.{waits}
 use Rattle.hpx_agas.specs.Lines.{Each, AreBelow, AreFrom, line_of, records_of, waiting_of, in_place}
+use Rattle.hpx_agas.proofs.QueuesLemmas.{waits_weigh}
 
 -- two numbers are the same or not
 pub same_or_not : (a b : ℕ) → (a ≡ b) ⊎ (a ≢ b)
@@ -105,6 +109,15 @@ module _ {Q : Type 0} where
   pub waiting-append : (xs ys : List (Line Q)) → waiting_of (xs ++ ys) ≡ waiting_of xs ++ waiting_of ys
   waiting-append [] ys = refl
   waiting-append (x ∷ xs) ys = ap (λ l. map (waits x.number) x.queue ++ l) (waiting-append xs ys) ∙ sym (append_assoc (map (waits x.number) x.queue) (waiting_of xs) (waiting_of ys))
+
+  -- what waits weighs what the queues weigh
+  pub line_weighs : (w : Q → ℕ) (l : Line Q) → sum_by (λ (x : Waiting Q). w x.item) (waiting_of (l ∷ [])) ≡ sum_by w l.queue
+  line_weighs w l =
+      omega (arith, sum_by-append (λ (x : Waiting Q). w x.item) (map (waits l.number) l.queue) [], waits_weigh w l.number l.queue)
+
+  pub lines_weigh : (w : Waiting Q → ℕ) (xs ys : List (Line Q))
+      → sum_by w (waiting_of (xs ++ ys)) ≡ sum_by w (waiting_of xs) + sum_by w (waiting_of ys)
+  lines_weigh w xs ys = ap (sum_by w) (waiting-append xs ys) ∙ sum_by-append w (waiting_of xs) (waiting_of ys)
 
   -- how many records there are then
   pub counted : (n : ℕ) (made : Line Q → List (Line Q)) (l : Line Q) (ls : List (Line Q)) → line_of n ls ≡ Some l

@@ -1,9 +1,11 @@
 -- What waits for a number.
-use Rattle.std.proofs.Common.{ℕ, true, ◌≡◌, ◌≢◌, List, [], ◌∷◌, ◌++◌, refl, sym, ap, ◌∙◌, inl, inr}
+use Rattle.std.proofs.Common.{ℕ, true, ◌≡◌, ◌≢◌, ◌≤◌, ◌+◌, List, [], ◌∷◌, ◌++◌, map, min, refl, sym, ap, ◌∙◌, inl, inr, arith}
 use Rattle.std.specs.Prelude.{◌==◌}
+use Rattle.std.specs.List.{sum_by}
 use Rattle.std.proofs.lemmas.Bool.{cases_Bool, eqb-true, eq-eqb}
+use Rattle.std.proofs.lemmas.List.Sums.{sum_by-cons}
 use Rattle.hpx_agas.specs.declared.record.Waiting.{Waiting}
-use Rattle.hpx_agas.specs.Queues.{items_of}
+use Rattle.hpx_agas.specs.Queues.{items_of, waits}
 
 module _ {Q : Type 0} where
   pub items_hit : (n : ℕ) (w : Waiting Q) (ws : List (Waiting Q)) → w.number ≡ n → items_of n (w ∷ ws) ≡ w.item ∷ items_of n ws
@@ -22,3 +24,19 @@ module _ {Q : Type 0} where
         items_hit n x (xs ++ ys) e ∙ ap (λ is. x.item ∷ is) (items-append n xs ys) ∙ sym (ap (λ is. is ++ items_of n ys) (items_hit n x xs e))
     | inr f ↦ rw (f, items-append n xs ys) refl
   ]
+
+  -- items weigh the same with the number that they wait for
+  pub waits_weigh : (w : Q → ℕ) (n : ℕ) (items : List Q) → sum_by (λ (x : Waiting Q). w x.item) (map (waits n) items) ≡ sum_by w items
+  waits_weigh w n [] = refl
+  waits_weigh w n (item ∷ items) =
+      omega (arith, waits_weigh w n items, sum_by-cons (λ (x : Waiting Q). w x.item) (waits n item) (map (waits n) items), sum_by-cons w item items)
+
+-- what is cut off at m on the way is cut off in the end
+pub capped : (m a b x y : ℕ) → x ≡ min m a → y ≡ min m b → min (x + y) m ≡ min m (a + b)
+capped m a b x y p q = grind arith
+
+pub capped_more : (m a b s x y : ℕ) → x ≡ min (a + y) m → y ≡ min m b → min m (x + s) ≡ min m (a + (b + s))
+capped_more m a b s x y p q = grind arith
+
+pub capped_end : (m a t : ℕ) → a ≤ m → min m (a + 0) ≡ min m t → a ≡ min m t
+capped_end m a t low h = grind arith

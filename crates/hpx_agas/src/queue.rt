@@ -1,4 +1,5 @@
-ghost use Rattle.std.specs.Prelude.{◌≡◌, ◌≤◌, ◌<◌, ◌+◌, ◌-◌, ◌^◌, ◌∷◌, ◌++◌, [], ℕ, OnOk, max, length, drop, MatchOption};
+ghost use Rattle.std.specs.Prelude.{◌≡◌, ◌≤◌, ◌<◌, ◌+◌, ◌-◌, ◌^◌, ◌∷◌, ◌++◌, [], ℕ, OnOk, max, length, drop, min, sum_by, MatchOption};
+ghost use Rattle.hpx_agas.specs.Queues.{Weighs};
 
 use std::alloc::{AllocError, AllocFailed, Global};
 use std::collections::LinkedList;
@@ -56,6 +57,20 @@ impl<Q> Queue<Q> {
         let mut more = other.places;
         self.places.append(&mut more).unwrap();
         more.destroy_empty();
+    }
+
+    /// What the items weigh together, or the greatest number.
+    pub(crate) fn weight<F: Fn(&Q) -> u128>(&self, weigh: &F) -> u128
+        requires { F.IsAlwaysCallable weigh.now }
+        ensures { (w : Q → ℕ) → Weighs F.Fn weigh.now w → result ≡ min (2 ^ 128 - 1) (sum_by w self.now) }
+    {
+        let mut sum = 0u128;
+        for place in self.places.iter() {
+            if let Some(item) = place {
+                sum = sum.saturating_add(weigh(item));
+            }
+        }
+        sum
     }
 
     /// Takes the oldest item.

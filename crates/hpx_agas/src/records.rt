@@ -1,10 +1,10 @@
-ghost use Rattle.std.specs.Prelude.{◌≡◌, ◌≢◌, ◌≤◌, ◌<◌, ◌+◌, ◌-◌, ◌^◌, ◌∷◌, ◌++◌, ◌↔◌, [], ℕ, Some, None, true, false, if◌then◌else◌, is_some, option_map, sum_by, ◌==◌, Ok, slice_get, IsSome, IsSomeAnd, IsErr, IfSome, IfNone, IfOk, OnOk, OnErr, MatchOption, length};
+ghost use Rattle.std.specs.Prelude.{◌≡◌, ◌≢◌, ◌≤◌, ◌<◌, ◌+◌, ◌-◌, ◌^◌, ◌∷◌, ◌++◌, ◌↔◌, [], ℕ, Some, None, true, false, if◌then◌else◌, is_some, option_map, min, sum_by, ◌==◌, Ok, slice_get, IsSome, IsSomeAnd, IsErr, IfSome, IfNone, IfOk, OnOk, OnErr, MatchOption, length};
 ghost use Rattle.std.specs.Option.{option_map_or};
 ghost use Rattle.hpx_value.specs.Ids.{Id, same_object, bare_id};
 ghost use Rattle.hpx_value.specs.Profiles.{IsValid};
 ghost use Rattle.hpx_agas.specs.declared.record.Record.{Record};
 ghost use Rattle.hpx_agas.specs.declared.record.Waiting.{Waiting};
-ghost use Rattle.hpx_agas.specs.Queues.{waits};
+ghost use Rattle.hpx_agas.specs.Queues.{waits, Weighs};
 ghost use Rattle.hpx_agas.specs.Registries.{record_of, queue_of, newborn, left_of, lowered, granted_of, asked, count_of, move_of, Covers, IsFree, IsMovingTo, IsSound};
 
 use crate::record::Record;
@@ -135,6 +135,14 @@ impl<Q> Records<Q> {
         ensures { result ≡ length self.now.waiting }
     {
         self.table.waiting()
+    }
+
+    /// What all items that wait weigh together, or the greatest number, where each call tells what one weighs.
+    pub fn weight<F: Fn(&Q) -> u128>(&self, weigh: F) -> u128
+        requires { F.IsAlwaysCallable weigh }
+        ensures { (w : Q → ℕ) → Weighs F.Fn weigh w → result ≡ min (2 ^ 128 - 1) (sum_by (λ x. w x.item) self.now.waiting) }
+    {
+        self.table.weight(&weigh)
     }
 
     /// How many live records there are.

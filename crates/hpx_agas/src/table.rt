@@ -1,9 +1,9 @@
-ghost use Rattle.std.specs.Prelude.{if◌then◌else◌, option_map, ◌≡◌, ◌≢◌, ◌≤◌, ◌<◌, ◌+◌, ◌-◌, ◌^◌, ◌∷◌, ◌++◌, [], ℕ, Some, None, true, false, IsSome, IfSome, IfNone, OnOk, MatchOption, length, sum_by, slice_get, vec_len};
+ghost use Rattle.std.specs.Prelude.{if◌then◌else◌, option_map, ◌≡◌, ◌≢◌, ◌≤◌, ◌<◌, ◌+◌, ◌-◌, ◌^◌, ◌∷◌, ◌++◌, [], ℕ, Some, None, true, false, IsSome, IfSome, IfNone, OnOk, MatchOption, length, min, sum_by, slice_get, vec_len};
 ghost use Rattle.hpx_value.specs.Ids.{Id, same_object};
 ghost use Rattle.hpx_agas.specs.declared.record.Record.{Record};
 ghost use Rattle.hpx_agas.specs.declared.record.Waiting.{Waiting};
 ghost use Rattle.hpx_agas.specs.Records.{find_record, Rises};
-ghost use Rattle.hpx_agas.specs.Queues.{items_of, waits};
+ghost use Rattle.hpx_agas.specs.Queues.{items_of, waits, Weighs};
 
 use crate::line::Line;
 use crate::queue::{Queue, Room};
@@ -91,6 +91,14 @@ impl<Q> Table<Q> {
         ensures { result ≡ length self.now.waiting }
     {
         self.waiting
+    }
+
+    /// What all items that wait weigh together, or the greatest number.
+    pub(crate) fn weight<F: Fn(&Q) -> u128>(&self, weigh: &F) -> u128
+        requires { F.IsAlwaysCallable weigh.now }
+        ensures { (w : Q → ℕ) → Weighs F.Fn weigh.now w → result ≡ min (2 ^ 128 - 1) (sum_by (λ x. w x.item) self.now.waiting) }
+    {
+        self.lines.weight(weigh)
     }
 
     /// How many records there are.

@@ -1,6 +1,7 @@
-ghost use Rattle.std.specs.Prelude.{◌≡◌, ◌≤◌, ◌<◌, ◌+◌, ◌-◌, ◌^◌, ◌==◌, ◌∷◌, ◌++◌, [], ℕ, length, drop, Some, None, IsTrue, IsSome, IsSomeAnd, IfSome, IfOk, MatchOption, option_map, option_copied, is_some, slice_get};
+ghost use Rattle.std.specs.Prelude.{◌≡◌, ◌≤◌, ◌<◌, ◌+◌, ◌-◌, ◌^◌, ◌==◌, ◌∷◌, ◌++◌, [], ℕ, length, drop, Some, None, IsTrue, IsSome, IsSomeAnd, IfSome, IfOk, MatchOption, option_map, option_copied, is_some, slice_get, min, sum_by};
 ghost use Rattle.hpx_agas.specs.declared.record.Record.{Record};
 ghost use Rattle.hpx_agas.specs.Lines.{AreBelow, AreFrom, line_of, records_of, waiting_of, in_place, left_behind, blank, IsLive, IsLike};
+ghost use Rattle.hpx_agas.specs.Queues.{Weighs};
 ghost use Rattle.hpx_agas.specs.Trees.{lines_of, IsCut};
 
 use crate::line::Line;
@@ -251,6 +252,18 @@ impl<Q> Tree<Q> {
                     high.nth(i - cut.before)
                 }
             }
+        }
+    }
+
+    /// What all items weigh together, or the greatest number.
+    pub(crate) fn weight<F: Fn(&Q) -> u128>(&self, weigh: &F) -> u128
+        requires { F.IsAlwaysCallable weigh.now }
+        ensures { (w : Q → ℕ) → Weighs F.Fn weigh.now w → result ≡ min (2 ^ 128 - 1) (sum_by (λ x. w x.item) (waiting_of self.now)) }
+    {
+        match &self.node {
+            Node::Empty => 0,
+            Node::Leaf(line) => line.queue.weight(weigh),
+            Node::Fork(low, _, high) => low.weight(weigh).saturating_add(high.weight(weigh)),
         }
     }
 
