@@ -1,5 +1,6 @@
 -- A message is taken up and dealt with, as the calls write it.
-use Rattle.hpx_node.proofs.Common.{Ask, DealsWith, Entry, Event, Free, Give, Id, In, Leaves, List, None, Option, Parcel, Profile, Record, Return, Some, Tables, [], ap, append_assoc, arith, arrives, arrives_at, asked, at_all, cases_Bool, effects, find, find_record, ids_in, inl, inr, ins, is_standing, length, length-append, lowered, option_and_then, option_map, part, refl, sym, with_return, with_returns, without, ℕ, ◌++◌, ◌==◌, ◌∙◌, ◌∷◌, ◌≡◌, ◌≤◌}
+use Rattle.hpx_node.proofs.Common.{Ask, DealsWith, Entry, Event, Free, Give, Id, In, Leaves, List, None, Option, Parcel, Profile, Record, Return, Some, Tables, [], ap, append_assoc, arith, arrives, arrives_at, asked, at_all, cases_Bool, effects, find, find_record, ids_in, inl, inr, ins, is_standing, length, length-append, lowered, option_and_then, option_map, part, refl, subst, sym, with_return, with_returns, without, ℕ, ◌++◌, ◌==◌, ◌∙◌, ◌∷◌, ◌≡◌, ◌≤◌}
+use Rattle.std.specs.List.Sorted.{IsPermutation}
 
 -- ---- the number of frames that came is no more than that of entries
 
@@ -77,5 +78,5 @@ leaves_from (Ask id asker entry) t m t' records profile objects h = record {
   own = h.own ∙ (ap (λ rs. option_map (asked m.profile) (find_record id rs)) records ∙ ap (λ (p : Profile). option_map (asked p) (find_record id t.records)) profile);
   others = λ x away. h.others x away ∙ ap (find_record x) records;
 }
-leaves_from (Free o) t m t' records profile objects h = h ∙ ap (without (is_standing o)) objects
+leaves_from (Free o) t m t' records profile objects h = subst (λ xs. IsPermutation (without (is_standing o) xs) t'.objects) objects h
 leaves_from _ t m t' records profile objects h = h

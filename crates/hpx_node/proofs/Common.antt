@@ -50,7 +50,7 @@ pub use Rattle.hpx_tables.proofs.Alls.{all_append, all_at, find_passes, get_befo
 pub use Rattle.hpx_tables.proofs.Cutting.{at_all_append}
 pub use Rattle.hpx_tables.proofs.FreeLemmas.{any_over, started_runs}
 pub use Rattle.hpx_tables.specs.Awaited.{answered_by, awaited_at, awaited_here, drawn_by, is_answer}
-pub use Rattle.hpx_tables.specs.Births.{IsBirth, Makes, birth_of, births_of, ids_of, objects_of, records_of}
+pub use Rattle.hpx_tables.specs.Births.{AreDrawn, IsBirth, Makes, birth_of, births_of, ids_of, objects_of, records_of}
 pub use Rattle.hpx_tables.specs.Fit.{IsFit, IsFitDue, IsKept, parcel_for}
 pub use Rattle.hpx_tables.specs.Free.{IsFree, NoneIsFree}
 pub use Rattle.hpx_tables.specs.Jobs.{IsAt, IsFitJob}

@@ -12,6 +12,7 @@ module _ (act_of : ℕ → ℕ → ℕ → State → Act → Outcome) (t : Table
   may_then : (hand : List Id) (asked : List Asked) (refused : Option Id) → hand ≡ hand_with id entry ready.before
       → MayResume (record t { taken = n; desk = d; pending = set t.pending g.i g.after }) (record ready.before { hand = hand; asked = asked; refused = refused }) y.j y.prepared
   may_then hand asked refused is = record {
+    drawn = ready.drawn;
     place = ready.place;
     kept = ready.kept;
     prepared = ready.prepared;

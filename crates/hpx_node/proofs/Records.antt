@@ -1,5 +1,6 @@
 -- Credit that comes home or is asked for: what the registry tells of its records.
 use Rattle.hpx_node.proofs.Common.{Ask, Bool, Count, DealsWith, Free, Give, Granted, Id, IfSome, IsSomeAnd, Leaves, List, None, Option, Parcel, Profile, Record, Refused, Return, Some, Standing, Tables, [], and_true, answered, ap, append-nil, asked, bare, cases_Bool, cond, count_here, credit, eqb-true, false, find, find_passes, find_record, granted_of, grown, if◌then◌else◌, inl, inr, is_live, is_some, is_standing, left_of, lowered, more_here, nat_lt, option_and_then, option_map, place_or_0, refl, remove, same_object, slice_get, some_same, subst, suc, sym, take, true, with_mail, with_mail_if, without, zero, ℕ, ◌&&◌, ◌++◌, ◌+◌, ◌-◌, ◌==◌, ◌^◌, ◌∙◌, ◌∷◌, ◌≡◌, ◌≤◌}
+use Rattle.std.specs.List.Sorted.{IsPermutation}
 use Rattle.std.specs.Option.{option_map_or}
 use Rattle.hpx_agas.specs.declared.records.Left.TheVariants.{Alive, Dead}
 use Rattle.hpx_agas.specs.declared.records.Granted.TheVariants.{Limit, Yes}
@@ -221,5 +222,6 @@ without_first test (y ∷ ys) (suc i) x before there found = elim (cases_Bool (t
 
 -- one object less
 pub leaves_freed : (xs ys : List Standing) (o : Id) (x : Standing) (i : ℕ) → find (is_standing o) (take i xs) ≡ None → slice_get xs i ≡ Some x
-    → find (is_standing o) xs ≡ Some x → ys ≡ remove xs i → ys ≡ without (is_standing o) xs
-leaves_freed xs ys o x i before there found gone = gone ∙ sym (without_first (is_standing o) xs i x before there found)
+    → find (is_standing o) xs ≡ Some x → IsPermutation (remove xs i) ys → IsPermutation (without (is_standing o) xs) ys
+leaves_freed xs ys o x i before there found gone =
+    subst (λ zs. IsPermutation zs ys) (sym (without_first (is_standing o) xs i x before there found)) gone

@@ -12,6 +12,7 @@ pub use Rattle.hpx_commit.specs.Stocks.{MayDeal, Stock, ahead, replaced_from, sh
 pub use Rattle.hpx_part.specs.Data.{Done, Entry, Event, In, Mail, Standing}
 pub use Rattle.hpx_part.specs.Parts.{at_all}
 pub use Rattle.hpx_tables.specs.Awaited.{answered_by}
+pub use Rattle.hpx_tables.specs.Births.{AreDrawn}
 pub use Rattle.hpx_tables.specs.Fit.{IsFitDue, IsKept}
 pub use Rattle.hpx_tables.specs.Jobs.{IsAt, IsFitJob}
 pub use Rattle.hpx_tables.specs.Pending.{Waits, asked_at, awaits, fails_with, hand_with, ids_named, waits_for_one, waits_with}

@@ -1,7 +1,7 @@
 -- A commit that waited and goes on, once all that it asked for has come.
 use Rattle.std.specs.Prelude.{Bool, List, None, Option, Some, false, length, not, take, true, ℕ, ◌&&◌, ◌==◌, ◌≡◌, ◌≤◌}
 use Rattle.std.specs.List.{find, remove, slice_get}
-use Rattle.hpx_node.specs.Names.{Act, Event, Give, Gives, Id, IsFitJob, IsKept, Job, Outcome, Parcel, Prepared, Standing, State, Stock, Tables, Waits, awaits, bare_state, hand_with, ids_named, is_standing, log_of, plain, replaced_from, target_of, waits_for_one}
+use Rattle.hpx_node.specs.Names.{Act, AreDrawn, Event, Give, Gives, Id, IsFitJob, IsKept, Job, Outcome, Parcel, Prepared, Standing, State, Stock, Tables, Waits, awaits, bare_state, hand_with, ids_named, is_standing, log_of, plain, replaced_from, target_of, waits_for_one}
 use Rattle.hpx_value.specs.Laws.{KeepsLaws}
 use Rattle.hpx_node.specs.declared.node.resume.Ready.{Ready}
 use Rattle.hpx_node.specs.Commits.{made_of, committed_from, IsPrepared, Commits}
@@ -35,6 +35,7 @@ IsInPlace t w j = IsKeptFor t.here t.localities t.objects w.job w.localities j
 
 -- it is prepared to go on
 pub record MayResume (t : Tables) (w : Waits) (j : ℕ) (p : Prepared) : Type 0 where
+  pub drawn : AreDrawn t
   pub place : IsInPlace t w j
   pub kept : IsKept (record { object = place.standing.object; state = p.plan.state })
   pub prepared : IsPrepared t w.job w.outcome p
@@ -67,6 +68,7 @@ pub record IsReady (act_of : ℕ → ℕ → ℕ → State → Act → Outcome) 
   pub first : find (awaits id entry) (take y.i t.pending) ≡ None
   pub for : awaits id entry before ≡ true
   pub last : is_last id (Some before) ≡ true
+  pub drawn : AreDrawn t
   pub place : IsInPlace t before y.j
   pub laws : KeepsLaws t.localities before.job.kind before.job.at before.job.state (plain before.job.action) before.outcome
   pub right : before.outcome ≡ act_of t.localities before.job.kind before.job.at before.job.state (plain before.job.action)

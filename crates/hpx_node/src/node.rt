@@ -15,7 +15,8 @@ use hpx_journal::local::move_to;
 use hpx_parcel::parcel::Parcel;
 use hpx_tables::boot::roots;
 use hpx_tables::find::target;
-use hpx_tables::kept::{Fit, Kept, Letter, Outgoing};
+use hpx_tables::kept::{Fit, Letter, Outgoing};
+use hpx_tables::objects::Objects;
 use hpx_tables::pending::Pending;
 use hpx_value::acts::Acts;
 use hpx_value::codes::MOVE;
@@ -54,7 +55,7 @@ pub struct Node<A: Acts + Copy> {
     asked: u64,
     desk: VecDeque<Letter>,
     outgoing: VecDeque<Outgoing>,
-    objects: Vec<Kept>,
+    objects: Objects,
     records: Records<Parcel>,
     sent: u64,
     taken: u64,
@@ -90,7 +91,7 @@ impl<A: Acts + Copy> Model for Node<A> {
       };
       spare = min (min (deque_capacity n.accepted - deque_len n.accepted) (deque_capacity n.desk - deque_len n.desk))
           (min (deque_capacity n.outgoing - deque_len n.outgoing) (min (vec_capacity n.running - vec_len n.running)
-          (min (vec_capacity n.pending - vec_len n.pending) (min (vec_capacity n.objects - vec_len n.objects) n.records.spare))));
+          (min (vec_capacity n.pending - vec_len n.pending) (min n.objects.spare n.records.spare))));
     } };
 
     ghost invariant = { λ n. (A.count n.acts ≡ n.localities) × (n.here < n.localities) × (n.localities ≤ 64) × IsValid n.profile
@@ -144,7 +145,7 @@ impl<A: Acts + Copy> Node<A> {
         self.outgoing.reserve(more)?;
         self.running.reserve(more)?;
         self.pending.reserve(more)?;
-        self.objects.reserve(more)?;
+        self.objects.reserve(n)?;
         self.records.reserve(n)?;
         Ok(())
     }

@@ -11,6 +11,7 @@ use hpx_tables::boot::roots;
 use hpx_tables::credit::{credit_in, held_in_parcel, owed_in_parcel};
 use hpx_tables::find::{answered_by, first_free, target};
 use hpx_tables::kept::{Fit, Kept, bare_state, named};
+use hpx_tables::objects::Objects;
 use hpx_tables::pending::Pending;
 use hpx_tables::splits::{push_asks, push_first_splits};
 use hpx_tables::strange::{is_far, object_of};
@@ -30,12 +31,13 @@ fn number() -> Gid {
 }
 
 /// What stands somewhere: the kind of each, and its values.
-fn shown(objects: &[Kept], kinds: &[u32]) -> bool {
+fn shown(objects: &Objects, kinds: &[u32]) -> bool {
     if objects.len() != kinds.len() {
         return false;
     }
-    for (i, x) in objects.iter().enumerate() {
-        if x.object().kind() != kinds[i] || x.object().number() != 1 {
+    for i in 0..objects.len() {
+        let object = objects.at(i).object();
+        if object.kind() != kinds[i] || object.number() != 1 {
             return false;
         }
     }
@@ -46,16 +48,16 @@ fn shown(objects: &[Kept], kinds: &[u32]) -> bool {
 fn the_roots_stand_at_boot(rt: HostRuntime) -> Result<(), Fail> {
     let alloc = rt.alloc();
     let first = roots(alloc, 3, 0)?;
-    assert!(rt; shown(first.as_slice(), &[1, 2, 4, 3, 5, 7]));
+    assert!(rt; shown(&first, &[1, 2, 4, 3, 5, 7]));
     assert!(rt;
         matches!(
-            first[2].state().values.as_slice().first(),
+            first.at(2).state().values.as_slice().first(),
             Some(Value::Int(3))
         )
     );
     let last = roots(alloc, 3, 2)?;
-    assert!(rt; shown(last.as_slice(), &[3, 5, 7]));
-    assert!(rt; last[0].object().home() == 2);
+    assert!(rt; shown(&last, &[3, 5, 7]));
+    assert!(rt; last.at(0).object().home() == 2);
     Ok(())
 }
 
@@ -184,7 +186,11 @@ fn a_set_answers_the_session(rt: HostRuntime) -> Result<(), Fail> {
 }
 
 /// Where an add for the number is free, where these stand and none waits; the number stands at 1.
-fn found(alloc: Global, running: &[Fit], objects: &[Kept]) -> Result<Option<(usize, usize)>, Fail> {
+fn found(
+    alloc: Global,
+    running: &[Fit],
+    objects: &Objects,
+) -> Result<Option<(usize, usize)>, Fail> {
     let mut accepted = VecDeque::new(alloc);
     if let Parcel::Apply(add) = parcel(alloc, ADD)? {
         accepted.push_back(Fit::new(add))?;
@@ -199,7 +205,7 @@ fn an_action_is_free_where_its_object_stands_and_none_runs_on_it(
 ) -> Result<(), Fail> {
     let alloc = rt.alloc();
     let mut objects = roots(alloc, 2, 1)?;
-    assert!(rt; found(alloc, &[], objects.as_slice())? == None);
+    assert!(rt; found(alloc, &[], &objects)? == None);
     let state = State {
         drawn: 0,
         values: Items::new(alloc),
@@ -207,9 +213,9 @@ fn an_action_is_free_where_its_object_stands_and_none_runs_on_it(
         ids: Items::new(alloc),
     };
     objects.push(Kept::new(Gid::new(1, 16, 1), state))?;
-    assert!(rt; found(alloc, &[], objects.as_slice())? == Some((0, 3)));
+    assert!(rt; found(alloc, &[], &objects)? == Some((0, 3)));
     if let Parcel::Apply(add) = parcel(alloc, ADD)? {
-        assert!(rt; found(alloc, &[Fit::new(add)], objects.as_slice())? == None);
+        assert!(rt; found(alloc, &[Fit::new(add)], &objects)? == None);
     }
     Ok(())
 }

@@ -94,5 +94,5 @@ pub use Rattle.hpx_steps.specs.Paused.{Apart, AreLent, HasCommits, HasObject, Ha
 pub use Rattle.hpx_steps.specs.Rest.{ArePaused, IsPaused, Stands, StandsAtRest, bound_for, queued, rules_of}
 pub use Rattle.hpx_steps.specs.Rows.{Actions, AreFired, Asks, Counts, Frees, FreesOf, Refusals, Returns, Row, brings, causes, fires_one, freeing, frees_one, goes, hopping, is_least, is_refusal, is_refused, joined, joins, kind_of, of_act, one_if, owes, spends, unpaid, weighed, weight}
 pub use Rattle.hpx_steps.specs.Sound.{AreNumbers, AreRules, FreesNone, HasPlaces, IsOrderly, IsOwn, IsPaid, IsSound, IsTidy, IsTidyIn, SendsOwn, StaysAt, TidyAt, all_count, asked_by, asking, asks_for, come, given_to, gives_for, gone, gone_to, waits_for, worth}
-pub use Rattle.hpx_steps.specs.Steps.{AsksFor, Bears, ComesIn, Commits, Deals, Ends, Fails, Feeds, Fires, GivesUp, GoesOut, Grants, HasInHand, IsCalm, IsGiven, IsTold, Label, Merges, Pause, Pauses, Place, Places, Prints, Recounts, Refuses, Remains, Sends, Splits, Step, Steps, Suspend, Suspends, TakesBack, TakesUp, Writes, drops, ends, goes_on, with_credit, with_records, works_on, written, written_by}
+pub use Rattle.hpx_steps.specs.Steps.{AsksFor, Bears, ComesIn, Commits, Deals, Ends, Fails, Feeds, Fires, GivesUp, GoesOut, Grants, HasInHand, IsCalm, IsGiven, IsTold, Label, Merges, Pause, Pauses, Place, Places, Prints, Recounts, Refuses, Remains, Reorder, Reorders, Sends, Splits, Step, Steps, Suspend, Suspends, TakesBack, TakesUp, Writes, drops, ends, goes_on, with_credit, with_records, works_on, written, written_by}
 pub use Rattle.hpx_steps.specs.Turn.{Turn, at_rest, bare_due, bare_standing, commits, counted, ids_here, own_parcels, parcel_acts, parcel_asks, parcel_frees, parcel_tokens, parcel_travels, parcels, tokens, tokens_of, view, waiting}

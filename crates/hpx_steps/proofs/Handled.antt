@@ -1,6 +1,7 @@
 -- What calls do is one step after another.
-use Rattle.hpx_steps.proofs.Common.{Act, Apply, Ask, Bool, Count, DealsWith, Due, Event, Free, Freed, Give, Given, Gives, Granted, HasCredit, HasInHand, HasLeastCredit, Id, IsCalm, IsTold, Label, Leaves, List, MatchOption, MessageDue, Move, None, Option, Parcel, Place, Print, PrintDue, Record, Refused, Return, Returned, Rules, Sent, Some, Standing, Step, Steps, Tables, Turn, Up, Writes, [], and_true, answered, ap, append-nil, arith, bare, brings_right, broken_free, cond, count_here, credit, credit_of_log, draws, drops, eqb-true, false, find, find_record, freed, goes_on, held_here, ids_in, is_live, is_some, is_standing, length, log_of, lowered, mails, map, map-append, may_stay, more_here, nat_lt, nat_tests, option_and_then, option_map, option_map_or, place_or_0, posts, pow_pos, raised, record_here, refl, remove, returned, set, slice_get, stands_here, subst, suc, sym, true, up_of, ups, waits_here, with_accepted, with_act, with_credit, with_due, with_mail, with_mail_if, with_return, with_returns, without, written, written_by, written_due, wrote, ℕ, ◌++◌, ◌+◌, ◌-◌, ◌<◌, ◌==◌, ◌^◌, ◌∙◌, ◌∷◌, ◌≡◌, ◌≢◌, ◌≤◌, ◌⊎◌}
+use Rattle.hpx_steps.proofs.Common.{Act, Apply, Ask, Bool, Count, DealsWith, Due, Event, Free, Freed, Give, Given, Gives, Granted, HasCredit, HasInHand, HasLeastCredit, Id, IsCalm, IsTold, Label, Leaves, List, MatchOption, MessageDue, Move, None, Option, Parcel, Place, Print, PrintDue, Record, Refused, Reorder, Return, Returned, Rules, Sent, Some, Standing, Step, Steps, Tables, Turn, Up, Writes, [], and_true, answered, ap, append-nil, arith, bare, brings_right, broken_free, cond, count_here, credit, credit_of_log, draws, drops, eqb-true, false, find, find_record, freed, goes_on, held_here, ids_in, is_live, is_some, is_standing, length, log_of, lowered, mails, map, map-append, may_stay, more_here, nat_lt, nat_tests, option_and_then, option_map, option_map_or, place_or_0, posts, pow_pos, raised, record_here, refl, remove, returned, set, slice_get, stands_here, subst, suc, sym, true, up_of, ups, waits_here, with_accepted, with_act, with_credit, with_due, with_mail, with_mail_if, with_return, with_returns, without, written, written_by, written_due, wrote, ℕ, ◌++◌, ◌+◌, ◌-◌, ◌<◌, ◌==◌, ◌^◌, ◌∙◌, ◌∷◌, ◌≡◌, ◌≢◌, ◌≤◌, ◌⊎◌}
 use Rattle.hpx_steps.proofs.Tools.{flat_append, if_so}
+use Rattle.std.specs.List.Sorted.{IsPermutation}
 use Rattle.hpx_value.specs.Values.{named}
 use Rattle.hpx_steps.proofs.Right.{free_right}
 
@@ -220,22 +221,25 @@ freed_leads r s t' o calm alone empty told right deals leaves = each (find (is_s
     each None is some = absurd (cc)
     each (Some x) is some =
         let at : Found (is_standing o) s.tables.objects x = found_place (is_standing o) s.tables.objects x is in
-        let gone : Turn = wrote (Freed o) (record (drops s) { loose = s.loose ++ with_credit x.state.ids; tables = record s.tables { objects = remove s.tables.objects at.i } }) in
+        let less : Turn = wrote (Freed o) (record (drops s) { loose = s.loose ++ with_credit x.state.ids; tables = record s.tables { objects = remove s.tables.objects at.i } }) in
+        let gone : Turn = record less { tables = record s.tables { objects = t'.objects } } in
         let more = ups_steps r gone x.state.ids calm.due calm.fresh in
         let loose : gone ≡ with_loose (with_credit x.state.ids) gone = ap (λ ids. record gone { loose = ids ++ with_credit x.state.ids }) empty in
-        let left : with_returns x.state.ids (record s.tables { objects = remove s.tables.objects at.i }) ≡ t' =
-        returns_objects x.state.ids s.tables (remove s.tables.objects at.i)
-        ∙ (ap (λ os. record (with_returns x.state.ids s.tables) { objects = os }) (at.less ∙ sym leaves)
-        ∙ sym (deals ∙ ap (λ q. record (with_returns (ids_in q) s.tables) { objects = t'.objects }) is)) in
+        let left : with_returns x.state.ids (record s.tables { objects = t'.objects }) ≡ t' =
+        returns_objects x.state.ids s.tables t'.objects ∙ sym (deals ∙ ap (λ q. record (with_returns (ids_in q) s.tables) { objects = t'.objects }) is) in
         let ends : let_go x.state.ids more.0 gone ≡ record (drops s) { tables = t'; last = more.0 } =
         ap (λ t. record (drops s) { loose = []; tables = t; last = more.0 }) left ∙ ap (λ ids. record (drops s) { loose = ids; tables = t'; last = more.0 }) (sym empty) in record {
           last = more.0;
-          labels = Writes (Freed o) ∷ map (λ e. Writes e) (ups x.state.ids);
+          labels = Writes (Freed o) ∷ (Reorder ∷ map (λ e. Writes e) (ups x.state.ids));
           writes = ap (λ es. Freed o ∷ es) (written_events (ups x.state.ids));
           steps = (
-            with_loose (with_credit x.state.ids) gone,
-            record { calm = calm; alone = alone; told = told; i = at.i; x = x; there = at.there; found = is; idle = facts.1; unheld = facts.2; now = sym loose },
-            subst (λ z. Steps r (with_loose (with_credit x.state.ids) gone) (map (λ e. Writes e) (ups x.state.ids)) z) ends more.1,
+            less,
+            record { calm = calm; alone = alone; told = told; i = at.i; x = x; there = at.there; found = is; idle = facts.1; unheld = facts.2; now = refl },
+            (
+              with_loose (with_credit x.state.ids) gone,
+              record { objects = t'.objects; same = subst (λ xs. IsPermutation xs t'.objects) (sym at.less) leaves; now = sym loose },
+              subst (λ z. Steps r (with_loose (with_credit x.state.ids) gone) (map (λ e. Writes e) (ups x.state.ids)) z) ends more.1,
+            ),
           );
         }
 

@@ -32,6 +32,7 @@ pub mod Print
 pub mod Line
 pub mod Answered
 pub mod Place
+pub mod Reorder
 pub mod Suspend
 pub mod Split
 pub mod Asked

@@ -1,5 +1,5 @@
 -- Each step keeps all that holds.
-use Rattle.hpx_steps.proofs.Common.{AreNumbered, Asked, Born, Count, Done, Entry, Event, Fire, Freed, Given, Granted, In, IsSound, Label, Landed, Left, Line, List, Looked, Mail, Merge, Out, Pause, Place, Print, Refused, Returned, Rules, Sent, Split, Step, Steps, Suspend, Tables, Turn, Up, Writes, [], ap, append-nil, append_assoc, at_all, entry_at, false, map-append, refl, subst, sym, true, written, written_by, ◌++◌, ◌∙◌, ◌∷◌, ◌≡◌}
+use Rattle.hpx_steps.proofs.Common.{AreNumbered, Asked, Born, Count, Done, Entry, Event, Fire, Freed, Given, Granted, In, IsSound, Label, Landed, Left, Line, List, Looked, Mail, Merge, Out, Pause, Place, Print, Refused, Reorder, Returned, Rules, Sent, Split, Step, Steps, Suspend, Tables, Turn, Up, Writes, [], ap, append-nil, append_assoc, at_all, entry_at, false, map-append, refl, subst, sym, true, written, written_by, ◌++◌, ◌∙◌, ◌∷◌, ◌≡◌}
 use Rattle.hpx_steps.proofs.Tools.{Keeps, Stills, sound_then, still_sound}
 use Rattle.hpx_part.specs.Data.{Looked}
 
@@ -49,6 +49,7 @@ step_sound r s s' (Writes (Looked o found)) entries h g = absurd g
 step_sound r s s' Suspend entries h g = still r s s' entries h (Rattle.hpx_steps.proofs.Suspend.suspend_step r s s' entries h g)
 step_sound r s s' Pause entries h g = still r s s' entries h (Rattle.hpx_steps.proofs.Pause.pause_step r s s' entries h g)
 step_sound r s s' Place entries h g = still r s s' entries h (Rattle.hpx_steps.proofs.Place.place_step r s s' entries h g)
+step_sound r s s' Reorder entries h g = still r s s' entries h (Rattle.hpx_steps.proofs.Reorder.reorder_step r s s' entries h g)
 
 pub steps_sound : (r : Rules) (s s' : Turn) (labels : List Label) (entries : List Entry) → IsSound r s entries → Steps r s labels s' → Sound r s s' entries (written labels)
 steps_sound r s s' [] entries h g = subst (λ x. Sound r s x entries []) (sym g) (record { here = refl; localities = refl; profile = refl; sound = subst (IsSound r s) (sym (append-nil entries)) h; numbered = λ once. once })

@@ -1,6 +1,7 @@
 -- What a locality does with a message that it takes up, and with what an action leaves, told of its tables and entries.
 use Rattle.std.specs.Prelude.{ℕ, cond, nat_lt, List, [], ◌∷◌, ◌++◌, ◌≡◌, ◌+◌, ◌-◌, ◌^◌, ◌==◌, if◌then◌else◌, flat_map, set, take, slice_get, false, Option, Some, None}
 use Rattle.std.specs.List.{find}
+use Rattle.std.specs.List.Sorted.{IsPermutation}
 use Rattle.std.specs.Option.{option_and_then, option_map, option_map_or}
 use Rattle.hpx_value.specs.Ids.{bare, credit, same_object}
 use Rattle.hpx_value.specs.Values.{named}
@@ -140,11 +141,11 @@ pub record Turns (o : Id) (made : Option Record) (t t' : Tables) : Type 0 where
   pub others : (x : Id) → same_object o x ≡ false → record_here t' x ≡ record_here t x
 
 -- credit that comes home lowers the record of its object, which goes with the last; an ask raises it as far as the limit allows; an
--- object that is freed goes from here, and no other
+-- object that is freed goes from here, and no other, and these may be in another order
 abbrev pub Leaves : Parcel → Tables → Tables → Type 0
 Leaves (Return id) t t' = Turns id (option_and_then (λ (r : Record). lowered r id) (record_here t id)) t t'
 Leaves (Ask id asker entry) t t' = Turns id (option_map (asked t.profile) (record_here t id)) t t'
-Leaves (Free o) t t' = t'.objects ≡ without (is_standing o) t.objects
+Leaves (Free o) t t' = IsPermutation (without (is_standing o) t.objects) t'.objects
 Leaves _ t t' = Unit {0}
 
 -- ---- what is written

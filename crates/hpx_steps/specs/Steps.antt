@@ -1,6 +1,7 @@
 -- What one entry changes, and what a turn does between entries.
 use Rattle.std.specs.Prelude.{ℕ, true, false, cond, List, [], ◌∷◌, ◌++◌, ◌≡◌, ◌≢◌, ◌+◌, ◌^◌, ◌==◌, ◌≤◌, ◌<◌, ◌⊎◌, map, flat_map, is_some, length, set, take, slice_get, Option, Some, None}
 use Rattle.std.specs.List.{filter, find, remove, sum_by, AllByRecursion}
+use Rattle.std.specs.List.Sorted.{IsPermutation}
 use Rattle.hpx_value.specs.Ids.{bare, bare_id, same_object}
 use Rattle.hpx_value.specs.Values.{bare_act, bare_state, named}
 use Rattle.hpx_value.specs.declared.outcome.Outcome.{Outcome}
@@ -438,14 +439,21 @@ pub record Places (s s' : Turn) : Type 0 where
   pub stays : s.mailed ≢ [] → may_stay s.tables act ≡ true
   pub now : s' ≡ posts act (drops s)
 
+-- the objects that stand here are in another order
+pub record Reorders (s s' : Turn) : Type 0 where
+  pub objects : List Standing
+  pub same : IsPermutation s.tables.objects objects
+  pub now : s' ≡ record s { tables = record s.tables { objects = objects } }
+
 -- ---- steps
 
--- an entry is written, or one of three things is done without
+-- an entry is written, or one of four things is done without
 pub data Label : Type 0 where
   Writes : Event → Label
   Suspend : Label
   Pause : Label
   Place : Label
+  Reorder : Label
 
 -- one step
 abbrev pub Step : Rules → Turn → Label → Turn → Type 0
@@ -472,6 +480,7 @@ Step r s (Writes _) s' = ⊥
 Step r s Suspend s' = Suspends s s'
 Step r s Pause s' = Pauses s s'
 Step r s Place s' = Places s s'
+Step r s Reorder s' = Reorders s s'
 
 -- one step after another
 abbrev pub Steps : Rules → Turn → List Label → Turn → Type 0

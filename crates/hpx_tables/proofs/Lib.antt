@@ -5,3 +5,5 @@ pub mod FirstCuts
 pub mod AllCuts
 pub mod Refills
 pub mod Merges
+pub mod Found
+pub mod Roots

@@ -1,4 +1,5 @@
 -- Objects that are about to be made.
+use Rattle.std.specs.List.{AllByRecursion}
 use Rattle.std.specs.Prelude.{ℕ, List, [], ◌∷◌, ◌++◌, ◌≡◌, ◌≤◌, ◌+◌, ◌^◌, None, Some, length}
 use Rattle.hpx_value.specs.Ids.{bare_id}
 use Rattle.hpx_value.specs.Shapes.{IsState}
@@ -33,6 +34,10 @@ births_of here n (x ∷ xs) = Born (bare_id here x.kind (n + 1)) x.entry ∷ bir
 abbrev pub objects_of : ℕ → ℕ → List Birth → List Standing
 objects_of here n [] = []
 objects_of here n (x ∷ xs) = record { object = bare_id here x.kind (n + 1); state = x.state } ∷ objects_of here (n + 1) xs
+
+-- the managed objects of here that stand here have numbers that were drawn
+abbrev pub AreDrawn : Tables → Type 0
+AreDrawn t = AllByRecursion (λ x. 16 ≤ x.object.kind → x.object.home ≡ t.here → x.object.number ≤ t.births) t.objects
 
 -- their records
 abbrev pub records_of : ℕ → ℕ → ℕ → List Birth → List Record

@@ -9,3 +9,4 @@ pub mod Kept
 pub mod Merged
 pub mod Awaited
 pub mod Strange
+pub mod Objects

@@ -1,9 +1,10 @@
 //! What stands at a locality at boot.
-ghost use Rattle.std.specs.Prelude.{◌≡◌, ◌≤◌, ◌<◌, [], ◌∷◌, ◌++◌, ◌==◌, if◌then◌else◌, IfOk, OnOk, pos};
+ghost use Rattle.std.specs.Prelude.{◌≡◌, ◌≤◌, ◌<◌, [], ◌∷◌, ◌++◌, ◌==◌, if◌then◌else◌, IfOk, pos};
 ghost use Rattle.hpx_journal.specs.Roots.{root, roots, roots_of_first};
 ghost use Rattle.hpx_value.specs.declared.value.Value.{Value};
 
 use crate::kept::Kept;
+use crate::objects::Objects;
 use hpx_value::codes::{COMPONENTS, LOCALITIES, PLAIN, SESSION, SHELF, SYMBOLS};
 use hpx_value::gid::Gid;
 use hpx_value::items::Items;
@@ -47,10 +48,10 @@ fn localities_root(alloc: Global, n: u32) -> Result<Kept, OutOfMemory>
 }
 
 /// The roots that locality 0 has alone.
-fn first_roots(alloc: Global, n: u32, here: u32) -> Result<Vec<Kept>, OutOfMemory>
-    ensures { IfOk result (λ v. v.items ≡ (if here == 0 then roots_of_first n else [])) }
+fn first_roots(alloc: Global, n: u32, here: u32) -> Result<Objects, OutOfMemory>
+    ensures { IfOk result (λ objects. objects.items ≡ (if here == 0 then roots_of_first n else [])) }
 {
-    let mut objects = Vec::new(alloc);
+    let mut objects = Objects::new(alloc);
     if here != 0 {
         return Ok(objects);
     }
@@ -60,23 +61,14 @@ fn first_roots(alloc: Global, n: u32, here: u32) -> Result<Vec<Kept>, OutOfMemor
     Ok(objects)
 }
 
-/// The roots that each locality has.
-fn push_each(alloc: Global, here: u32, objects: &mut Vec<Kept>) -> Result<(), OutOfMemory>
-    requires { here < 64 }
-    ensures { OnOk result (objects.new.items ≡ objects.old.items ++ (root here 3 [] ∷ root here 5 [] ∷ root here 7 [] ∷ [])) }
+/// What stands at a locality at boot: behind those, the roots that each has.
+pub fn roots(alloc: Global, n: u32, here: u32) -> Result<Objects, OutOfMemory>
+    requires here { here < 64 }
+    ensures { IfOk result (λ objects. objects.items ≡ roots n here) }
 {
+    let mut objects = first_roots(alloc, n, here)?;
     objects.push(root(alloc, here, COMPONENTS))?;
     objects.push(root(alloc, here, SHELF))?;
     objects.push(root(alloc, here, PLAIN))?;
-    Ok(())
-}
-
-/// What stands at a locality at boot.
-pub fn roots(alloc: Global, n: u32, here: u32) -> Result<Vec<Kept>, OutOfMemory>
-    requires here { here < 64 }
-    ensures { IfOk result (λ v. v.items ≡ roots n here) }
-{
-    let mut objects = first_roots(alloc, n, here)?;
-    push_each(alloc, here, &mut objects)?;
     Ok(objects)
 }

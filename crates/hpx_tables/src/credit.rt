@@ -3,7 +3,8 @@ ghost use Rattle.std.specs.Prelude.{◌≡◌, ◌-◌, ◌^◌, min, sum_by};
 ghost use Rattle.hpx_tables.specs.Kept.{credit_in, ids_held, credit_owed};
 ghost use Rattle.hpx_tables.specs.Pending.{ids_kept};
 
-use crate::kept::{Fit, Kept, Letter, Outgoing};
+use crate::kept::{Fit, Letter, Outgoing};
+use crate::objects::Objects;
 use crate::pending::Pending;
 use hpx_parcel::parcel::Parcel;
 use hpx_value::acts::Acts;
@@ -25,12 +26,12 @@ pub fn credit_in(ids: &[Gid], o: Gid) -> u128
 }
 
 /// The same in states.
-pub fn held_in_states(objects: &[Kept], o: Gid) -> u128
-    ensures { result ≡ min (2 ^ 128 - 1) (sum_by (λ x. credit_in o x.state.ids) objects.now) }
+pub fn held_in_states(objects: &Objects, o: Gid) -> u128
+    ensures { result ≡ min (2 ^ 128 - 1) (sum_by (λ x. credit_in o x.state.ids) objects.now.items) }
 {
     let mut sum = 0u128;
     for i in 0..objects.len() {
-        sum = sum.saturating_add(credit_in(objects[i].state().ids.as_slice(), o));
+        sum = sum.saturating_add(credit_in(objects.at(i).state().ids.as_slice(), o));
     }
     sum
 }

@@ -8,7 +8,8 @@ ghost use Rattle.hpx_tables.specs.Awaited.{answered_by};
 ghost use Rattle.hpx_tables.specs.Free.{NoneIsFree, IsFree};
 ghost use Rattle.hpx_tables.specs.Pending.{fired_of, awaits};
 
-use crate::kept::{Fit, Kept};
+use crate::kept::Fit;
+use crate::objects::Objects;
 use crate::pending::Pending;
 use hpx_value::acts::Acts;
 use hpx_value::codes::{PLAIN, SESSION, SET};
@@ -37,22 +38,6 @@ pub fn answered_by(act: &Act) -> u64
     } else {
         0
     }
-}
-
-/// Where an object stands, if it does.
-#[tactic(auto, using(hpx_part::proofs::Keyed::find_step, hpx_part::proofs::Keyed::find_at_index, crate::proofs::FreeLemmas::find_none_more))]
-pub fn place_of(objects: &[Kept], o: Gid) -> Option<usize>
-    ensures inside { IfSome result (λ j. j < length objects.now) }
-    ensures found { IfSome result (λ j. find (is_standing o) objects.now ≡ slice_get objects.now j) }
-    ensures first { IfSome result (λ j. find (is_standing o) (take j objects.now) ≡ None) }
-    ensures none { IfNone result (find (is_standing o) objects.now ≡ None) }
-{
-    for (j, x) in objects.iter().enumerate() {
-        if o.names_same(x.object()) {
-            return Some(j);
-        }
-    }
-    None
 }
 
 /// Whether an action on the object runs.
@@ -84,16 +69,16 @@ pub fn is_busy<A: Acts>(running: &[Fit], pending: &[Pending<A>], o: Gid) -> bool
 fn free_at<A: Acts>(
     running: &[Fit],
     pending: &[Pending<A>],
-    objects: &[Kept],
+    objects: &Objects,
     act: &Act,
 ) -> Option<usize>
-    ensures inside { IfSome result (λ j. j < length objects.now) }
-    ensures free { IfSome result (λ j. IsFree (fired_of running.now pending.now) objects.now act.now) }
-    ensures found { IfSome result (λ j. find (is_standing (target_of act.now)) objects.now ≡ slice_get objects.now j) }
-    ensures none { IfNone result (IsFree (fired_of running.now pending.now) objects.now act.now → ⊥) }
+    ensures inside { IfSome result (λ j. j < length objects.now.items) }
+    ensures free { IfSome result (λ j. IsFree (fired_of running.now pending.now) objects.now.items act.now) }
+    ensures found { IfSome result (λ j. find (is_standing (target_of act.now)) objects.now.items ≡ slice_get objects.now.items j) }
+    ensures none { IfNone result (IsFree (fired_of running.now pending.now) objects.now.items act.now → ⊥) }
 {
     let o = target(act);
-    match place_of(objects, o) {
+    match objects.place(o) {
         Some(j) if !is_busy(running, pending, o) => Some(j),
         _ => None,
     }
@@ -104,14 +89,14 @@ pub fn first_free<A: Acts>(
     accepted: &VecDeque<Fit>,
     running: &[Fit],
     pending: &[Pending<A>],
-    objects: &[Kept],
+    objects: &Objects,
 ) -> Option<(usize, usize)>
-    ensures inside { IfSome result (λ p. (p.0 < deque_len accepted.now) × (p.1 < length objects.now)) }
-    ensures free { IfSome result (λ p. (act : _) → slice_get accepted.now.items p.0 ≡ Some act → IsFree (fired_of running.now pending.now) objects.now act) }
+    ensures inside { IfSome result (λ p. (p.0 < deque_len accepted.now) × (p.1 < length objects.now.items)) }
+    ensures free { IfSome result (λ p. (act : _) → slice_get accepted.now.items p.0 ≡ Some act → IsFree (fired_of running.now pending.now) objects.now.items act) }
     ensures found { IfSome result (λ p. (act : _) → slice_get accepted.now.items p.0 ≡ Some act
-        → find (is_standing (target_of act)) objects.now ≡ slice_get objects.now p.1) }
-    ensures first { IfSome result (λ p. NoneIsFree (fired_of running.now pending.now) objects.now (take p.0 accepted.now.items)) }
-    ensures none { IfNone result (NoneIsFree (fired_of running.now pending.now) objects.now accepted.now.items) }
+        → find (is_standing (target_of act)) objects.now.items ≡ slice_get objects.now.items p.1) }
+    ensures first { IfSome result (λ p. NoneIsFree (fired_of running.now pending.now) objects.now.items (take p.0 accepted.now.items)) }
+    ensures none { IfNone result (NoneIsFree (fired_of running.now pending.now) objects.now.items accepted.now.items) }
 {
     for i in 0..accepted.len() {
         match free_at(running, pending, objects, accepted[i].act()) {

@@ -7,6 +7,7 @@ pub mod boot;
 pub mod credit;
 pub mod find;
 pub mod kept;
+pub mod objects;
 pub mod pending;
 pub mod splits;
 pub mod strange;

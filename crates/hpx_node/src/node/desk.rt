@@ -27,7 +27,7 @@ use hpx_journal::entry::{Entry, Event, Reason};
 use hpx_journal::journal::Journal;
 use hpx_parcel::parcel::{DecodeFault, Parcel};
 use hpx_parcel::read::decode;
-use hpx_tables::find::{place_of, waiting_at};
+use hpx_tables::find::waiting_at;
 use hpx_tables::kept::Letter;
 use hpx_value::acts::Acts;
 use hpx_value::exact::Exact;
@@ -174,10 +174,10 @@ impl<A: Acts + Copy> Node<A> {
         ensures grows { book.new.entries ≡ book.old.entries ++ at_all self.old.tables.here (effects self.old.tables (Free o)) }
     {
         let at = self.here;
-        let Some(i) = place_of(self.objects.as_slice(), o) else {
+        let Some(i) = self.objects.place(o) else {
             return;
         };
-        let kept = self.objects.remove(i);
+        let kept = self.objects.take(i);
         book.push(Entry {
             at,
             event: Event::Freed { object: o },

@@ -14,7 +14,7 @@ use hpx_commit::failure::plan_failure;
 use hpx_commit::plan::Plan;
 use hpx_journal::journal::Journal;
 use hpx_parcel::parcel::Parcel;
-use hpx_tables::find::{place_of, target, waiting_at};
+use hpx_tables::find::{target, waiting_at};
 use hpx_tables::pending::lawful;
 use hpx_value::acts::Acts;
 use hpx_value::gid::Gid;
@@ -89,7 +89,7 @@ impl<A: Acts + Copy> Node<A> {
         if !waits.fails_with(id) {
             return Ok(None);
         }
-        let Some(j) = place_of(self.objects.as_slice(), target(waits.action())) else {
+        let Some(j) = self.objects.place(target(waits.action())) else {
             return Ok(None);
         };
         let plan = self.failure(alloc, i, id, entry)?;

@@ -21,7 +21,7 @@ use hpx_commit::plan::{Plan, places_named, plan_stock};
 use hpx_commit::stock::Stock;
 use hpx_journal::journal::Journal;
 use hpx_tables::births::{Birth, births};
-use hpx_tables::find::{index_of, place_of, target};
+use hpx_tables::find::{index_of, target};
 use hpx_tables::pending::lawful;
 use hpx_value::acts::{Acts, Done};
 use hpx_value::exact::Exact;
@@ -57,9 +57,9 @@ impl<A: Acts + Copy> Node<A> {
             return None;
         }
         let i = index_of(self.running.as_slice(), &job.action)?;
-        let j = place_of(self.objects.as_slice(), target(&job.action))?;
+        let j = self.objects.place(target(&job.action))?;
         let running = &self.running[i];
-        let kept = &self.objects[j];
+        let kept = self.objects.at(j);
         if kept.object().kind() != job.kind
             || !kept.state().same(&job.state)
             || !running.act().same(&job.action)

@@ -28,7 +28,7 @@ impl<A: Acts + Copy> Node<A> {
         ensures action { IfOk result (λ job. slice_get self.now.tables.accepted i ≡ Some job.action) }
         ensures object { IfOk result (λ job. (x : _) → slice_get self.now.tables.objects j ≡ Some x → (job.kind ≡ x.object.kind) × (job.state ≡ x.state)) }
     {
-        let kept = &self.objects[j];
+        let kept = self.objects.at(j);
         let accepted = &self.accepted[i];
         Ok(Job {
             at: self.here,
@@ -71,7 +71,7 @@ impl<A: Acts + Copy> Node<A> {
             &self.accepted,
             self.running.as_slice(),
             self.pending.as_slice(),
-            self.objects.as_slice(),
+            &self.objects,
         ) {
             Some(spot) => spot,
             None => return Ok(None),

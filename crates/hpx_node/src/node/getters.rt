@@ -12,7 +12,6 @@ use hpx_tables::credit::{
     held_in_accepted, held_in_commits, held_in_running, held_in_states, held_on_desk,
     held_on_the_way, owed_on_desk, owed_on_the_way,
 };
-use hpx_tables::find::place_of;
 use hpx_value::acts::Acts;
 use hpx_value::codes::SESSION;
 use hpx_value::gid::Gid;
@@ -22,7 +21,7 @@ impl<A: Acts + Copy> Node<A> {
     pub fn holds(&self, o: Gid) -> bool
         ensures { result ≡ stands_here self.now.tables o }
     {
-        match place_of(self.objects.as_slice(), o) {
+        match self.objects.place(o) {
             Some(_) => true,
             None => false,
         }
@@ -61,7 +60,7 @@ impl<A: Acts + Copy> Node<A> {
     pub fn held(&self, o: Gid) -> u128
         ensures { result ≡ min (2 ^ 128 - 1) (held_here self.now.tables o) }
     {
-        held_in_states(self.objects.as_slice(), o)
+        held_in_states(&self.objects, o)
             .saturating_add(held_in_accepted(&self.accepted, o))
             .saturating_add(held_in_running(self.running.as_slice(), o))
             .saturating_add(held_in_commits(self.pending.as_slice(), o))
@@ -79,8 +78,8 @@ impl<A: Acts + Copy> Node<A> {
     fn drawn(&self) -> u64
         ensures { result ≡ drawn_by (find (is_standing session) self.now.tables.objects) }
     {
-        match place_of(self.objects.as_slice(), Gid::new(0, SESSION, 1)) {
-            Some(j) => self.objects[j].state().drawn as u64,
+        match self.objects.place(Gid::new(0, SESSION, 1)) {
+            Some(j) => self.objects.at(j).state().drawn as u64,
             None => 0,
         }
     }

@@ -125,7 +125,7 @@ impl<A: Acts + Copy> Node<A> {
         requires object { j < length self.now.tables.objects }
         ensures { (x : _) → slice_get self.now.tables.objects j ≡ Some x → result ≡ may_merge self.now.tables.profile.credit_log rider log x.state.ids }
     {
-        log < self.profile.credit_log && self.objects[j].has_like(rider, log)
+        log < self.profile.credit_log && self.objects.at(j).has_like(rider, log)
     }
 
     /// Merges a rider into an id in the state of the object at j, where that may be, or else gives it up.
@@ -149,7 +149,7 @@ impl<A: Acts + Copy> Node<A> {
             self.let_go(book, rider);
             return;
         }
-        self.objects[j].merge(rider, log);
+        self.objects.merge(j, rider, log);
         book.push(Entry {
             at,
             event: Event::Merge {

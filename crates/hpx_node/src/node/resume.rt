@@ -26,7 +26,7 @@ use hpx_journal::entry::{Entry, Event};
 use hpx_journal::journal::Journal;
 use hpx_journal::local::name_of;
 use hpx_parcel::parcel::Parcel;
-use hpx_tables::find::{answered_by, place_of, target, waiting_at};
+use hpx_tables::find::{answered_by, target, waiting_at};
 use hpx_tables::pending::{Pending, lawful};
 use hpx_value::acts::Acts;
 use hpx_value::gid::Gid;
@@ -93,7 +93,7 @@ impl<A: Acts + Copy> Node<A> {
         if log_of(id) == 0 || !waits.waits_for_one() {
             return Ok(None);
         }
-        let Some(j) = place_of(self.objects.as_slice(), target(waits.action())) else {
+        let Some(j) = self.objects.place(target(waits.action())) else {
             return Ok(None);
         };
         let hand = waits.hand_with(alloc, id, entry)?;

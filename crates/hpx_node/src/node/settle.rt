@@ -5,7 +5,7 @@ ghost use Rattle.hpx_journal.specs.Entries.{name_of};
 ghost use Rattle.hpx_part.specs.Parts.{at_all};
 ghost use Rattle.hpx_part.specs.Data.{Done};
 ghost use Rattle.hpx_commit.specs.Deals.{AllLast};
-ghost use Rattle.hpx_tables.specs.Births.{IsBirth, Makes, births_of};
+ghost use Rattle.hpx_tables.specs.Births.{AreDrawn, IsBirth, Makes, births_of};
 ghost use Rattle.hpx_tables.specs.Splits.{splits_from};
 ghost use Rattle.hpx_tables.specs.Awaited.{answered_by};
 ghost use Rattle.hpx_tables.specs.Fit.{IsKept};
@@ -28,11 +28,13 @@ impl<A: Acts + Copy> Node<A> {
         requires some { 0 < length births.old.items }
         requires fit { AllByRecursion IsBirth births.old.items }
         requires few { self.old.tables.births + length births.old.items < 2 ^ 32 }
+        requires drawn { AreDrawn self.old.tables }
         requires spare { length births.old.items ≤ self.old.spare }
         requires page { length births.old.items ≤ book.old.spare }
         ensures made { Makes births.old.items births.new.items self.old.tables self.new.tables }
         ensures fewer { length births.new.items + 1 ≡ length births.old.items }
         ensures fit { AllByRecursion IsBirth births.new.items }
+        ensures drawn { AreDrawn self.new.tables }
         ensures spare { self.old.spare ≤ self.new.spare + 1 }
         ensures page { book.new.spare + length births.old.items ≡ book.old.spare + length births.new.items }
         ensures entries { book.new.entries ++ at_all self.new.tables.here (births_of self.new.tables.here self.new.tables.births births.new.items)
@@ -41,7 +43,7 @@ impl<A: Acts + Copy> Node<A> {
         let at = self.here;
         if let Some(Birth { kind, state, entry }) = births.pop_front() {
             let object = self.records.born(kind).bare();
-            self.objects.push_reserved(Kept::new(object, state));
+            self.objects.put(Kept::new(object, state));
             book.push(Entry {
                 at,
                 event: Event::Born {
@@ -57,6 +59,7 @@ impl<A: Acts + Copy> Node<A> {
     pub(crate) fn bear_all(&mut self, book: &mut Journal, mut births: VecDeque<Birth>)
         requires fit { AllByRecursion IsBirth births.items }
         requires few { self.old.tables.births + length births.items < 2 ^ 32 }
+        requires drawn { AreDrawn self.old.tables }
         requires spare { length births.items ≤ self.old.spare }
         requires page { length births.items ≤ book.old.spare }
         ensures made { Makes births.items [] self.old.tables self.new.tables }
@@ -73,6 +76,7 @@ impl<A: Acts + Copy> Node<A> {
     pub(crate) fn make(&mut self, book: &mut Journal, births: VecDeque<Birth>, stock: &Stock)
         requires fit { AllByRecursion IsBirth births.items }
         requires few { self.old.tables.births + length births.items < 2 ^ 32 }
+        requires drawn { AreDrawn self.old.tables }
         requires short { length stock.now.hand ≤ 1024 }
         requires lasts { AllLast stock.now.hand stock.now.places }
         requires spare { length births.items ≤ self.old.spare }
@@ -95,8 +99,7 @@ impl<A: Acts + Copy> Node<A> {
         ensures rest { self.new.tables ≡ record self.old.tables { objects = self.new.tables.objects } }
         ensures spare { self.old.spare ≤ self.new.spare }
     {
-        let object = self.objects[j].object();
-        self.objects[j] = Kept::new(object, state);
+        self.objects.put_state(j, state);
     }
 
     /// Commits the job itself: its action runs no more, and its object has the new state.

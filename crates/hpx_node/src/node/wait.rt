@@ -27,7 +27,7 @@ use hpx_commit::plan::places_named;
 use hpx_commit::stock::{Stock, split_ahead};
 use hpx_journal::journal::Journal;
 use hpx_parcel::parcel::Parcel;
-use hpx_tables::kept::{Kept, Letter, bare_state};
+use hpx_tables::kept::{Letter, bare_state};
 use hpx_tables::pending::{Asked, Pending, lawful};
 use hpx_tables::splits::{push_asks, push_first_splits};
 use hpx_value::acts::{Acts, Done};
@@ -129,8 +129,7 @@ impl<A: Acts + Copy> Node<A> {
         ensures spare { self.old.spare ≤ self.new.spare + 1 }
     {
         let _ = self.running.remove(i);
-        let object = self.objects[j].object();
-        self.objects[j] = Kept::new(object, state);
+        self.objects.put_state(j, state);
         self.pending.push_reserved(waits);
     }
 

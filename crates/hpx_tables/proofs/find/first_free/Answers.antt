@@ -10,7 +10,7 @@ pub loop-i-preserved : goal.loop-i-preserved
 loop-i-preserved g c =
     let xs = c.args.accepted.now.items in
     let lt : c.loop-i.i < length c.args.accepted.now.items = omega arith in
-    let P : Act → Type 0 = λ act. IsFree (fired_of c.args.running.now c.args.pending.now) c.args.objects.now act in
+    let P : Act → Type 0 = λ act. IsFree (fired_of c.args.running.now c.args.pending.now) c.args.objects.now.items act in
     rw (take_more xs c.loop-i.i c.index.result.now lt)
-    (NoneIsFree-push (fired_of c.args.running.now c.args.pending.now) c.args.objects.now _ _ c.loop-i.invariant
+    (NoneIsFree-push (fired_of c.args.running.now c.args.pending.now) c.args.objects.now.items _ _ c.loop-i.invariant
     (λ free. c.in-None.ensures.none (subst P (sym c.act.ensures.act) (subst P (sym c.index.ensures) free))))

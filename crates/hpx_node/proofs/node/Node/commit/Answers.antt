@@ -11,6 +11,7 @@ pub make-requires : goal.make-requires
 make-requires g c = let l = c.requires.prepared.limits in record {
   fit = l.fit;
   few = omega (arith, l.births, (are_few g.A.Acts.act_of _ _ c.requires.room c.requires.stands).births);
+  drawn = (at_rest_tidy g.A.Acts.act_of _ _ c.requires.stands).drawn;
   short = c.requires.prepared.stock.few;
   lasts = c.requires.prepared.stock.lasts;
   spare = omega (arith, l.births, c.requires.spare);

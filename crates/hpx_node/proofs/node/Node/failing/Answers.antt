@@ -12,7 +12,7 @@ returns-clause-some g c =
     let first = rw (c.as_slice.ensures.value) at c.in-Some.ensures.first in
     let tidy = rw (← c.self.view_is) at c.requires.tidy in
     let paused = paused_at _ c.in-Some.i c.index-waits.result.now tidy there in
-    let object = rw (c.as_slice-2.ensures.value, c.target.ensures, c.action.ensures) at c.in-Some-place_of.ensures.found in
+    let object = rw (c.target.ensures, c.action.ensures) at c.in-Some-place.ensures.found in
     let plan = rw (← c.self.view_is) at c.in_ok-plan.ensures.plan in
     rw (← c.self.view_is, c.in-Give.is) (record {
       commit = c.index-waits.result.now;
@@ -20,7 +20,7 @@ returns-clause-some g c =
       first = first;
       for = find_passes (awaits c.in-Give.id c.in-Give.entry) c.self.inside.pending.items c.index-waits.result.now (found ∙ there);
       last = sym c.fails_with.ensures ∙ c.if-not-fails_with.false;
-      place = in_place _ _ _ _ c.index-waits.result.now c.in-Some-place_of.j paused tidy.objects (sym object ∙ paused.found);
+      place = in_place _ _ _ _ c.index-waits.result.now c.in-Some-place.j paused tidy.objects (sym object ∙ paused.found);
       plan = plan c.index-waits.result.now there;
       few = c.in_ok-plan.ensures.few;
     })

@@ -12,8 +12,8 @@ pub returns-clause-job : goal.returns-clause-job
 returns-clause-job g c =
     let at = rw (← c.self.view_is) at c.in_ok-job.ensures.action in
     let free : IsFree (fired_of c.self.inside.running.items c.self.inside.pending.items) c.self.inside.objects.items c.in_ok-job.job.action =
-    rw (← c.as_slice.ensures.value, ← c.as_slice-2.ensures.value, ← c.as_slice-3.ensures.value) (c.in-Some.ensures.free c.in_ok-job.job.action at) in
-    let found = rw c.as_slice-3.ensures.value at (c.in-Some.ensures.found c.in_ok-job.job.action at) in
+    rw (← c.as_slice.ensures.value, ← c.as_slice-2.ensures.value) (c.in-Some.ensures.free c.in_ok-job.job.action at) in
+    let found = c.in-Some.ensures.found c.in_ok-job.job.action at in
     let stands : slice_get c.self.inside.objects.items c.in-Some.spot.1 ≡ Some free.standing = sym found ∙ free.found in
     let job = (rw (← c.self.view_is) at c.in_ok-job.ensures.object) free.standing stands in
     let now = c.start.ensures.started c.in_ok-job.job.action (rw (c.in_ok-reserve.ensures.same, ← c.self.view_is) at) ∙ rw (c.in_ok-reserve.ensures.same, ← c.self.view_is) in
@@ -21,7 +21,7 @@ returns-clause-job g c =
       i = c.in-Some.spot.0;
       standing = free.standing;
       action = at;
-      first = rw (← c.as_slice.ensures.value, ← c.as_slice-2.ensures.value, ← c.as_slice-3.ensures.value) c.in-Some.ensures.first;
+      first = rw (← c.as_slice.ensures.value, ← c.as_slice-2.ensures.value) c.in-Some.ensures.first;
       free = free;
       found = free.found;
       here = rw (← c.self.view_is) at c.in_ok-job.ensures.here;
@@ -49,7 +49,7 @@ returns-clause-stands g c =
     let at = rw (← c.self.view_is) at c.in_ok-job.ensures.action in
     let stands = rw (← c.self.view_is) at c.requires.stands in
     let free : IsFree (fired_of c.self.inside.running.items c.self.inside.pending.items) c.self.inside.objects.items act =
-    rw (← c.as_slice.ensures.value, ← c.as_slice-2.ensures.value, ← c.as_slice-3.ensures.value) (c.in-Some.ensures.free act at) in
+    rw (← c.as_slice.ensures.value, ← c.as_slice-2.ensures.value) (c.in-Some.ensures.free act at) in
     let same = c.in_ok-reserve.ensures.same ∙ sym (ap (λ (x : Locality). x.tables) c.self.view_is) in
     let here : slice_get c.reserve.new.self.tables.accepted c.in-Some.spot.0 ≡ Some act = rw (c.in_ok-reserve.ensures.same, ← c.self.view_is) at in
     let fired = writes_from _ _ _ _ _ _ _ same c.in_ok-reserve-2.ensures.entries (c.start.ensures.fired act here) in

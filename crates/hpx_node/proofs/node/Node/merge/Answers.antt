@@ -1,4 +1,4 @@
-use Rattle.hpx_node.proofs.Common.{Locality, Some, ap, arith, get_some, may_merge, merged_in, slice_get, slice_get_is, some_same, sym, true, ◌∙◌, ◌≡◌}
+use Rattle.hpx_node.proofs.Common.{Locality, Some, ap, arith, get_some, may_merge, merged_in, refl, slice_get, sym, true, ◌∙◌, ◌≡◌}
 use Rattle.hpx_node.proofs.Riding.{merged_then, merges_below}
 use Rattle.hpx_node.proofs.node.Node.merge.Goals as goal
 
@@ -9,15 +9,16 @@ merge-requires g c =
     let yes : c.may_merge.result ≡ true = let no = c.if-not-may_merge.false in cc in
     let below = merges_below t.profile.credit_log c.args.rider c.in-Some.log x.0.state.ids (sym (c.may_merge.ensures x.0 x.1) ∙ yes) in
     let valid = c.self.invariant.3 in
-    record { below = omega (arith, below, valid.log_most, ap (λ (y : Locality). y.tables.profile.credit_log) c.self.view_is) }
+    record {
+      inside = rw (← c.self.view_is) at c.requires.object;
+      below = omega (arith, below, valid.log_most, ap (λ (y : Locality). y.tables.profile.credit_log) c.self.view_is);
+    }
 
 pub returns-clause-goes : goal.returns-clause-goes
 returns-clause-goes g c = λ x there.
     let yes : c.may_merge.result ≡ true = let no = c.if-not-may_merge.false in cc in
     let may = sym (c.may_merge.ensures x there) ∙ yes in
     let has = sym c.log.ensures ∙ c.in-Some.is in
-    let inside = rw (← c.self.view_is) at c.requires.object in
-    let at = slice_get_is c.self.inside.objects.items c.args.j c.index_mut.result.now inside c.index_mut.ensures.value in
     let was : slice_get c.self.inside.objects.items c.args.j ≡ Some x = rw (← c.self.view_is) at there in
-    let same = some_same c.index_mut.result.now x (sym at ∙ was) in
-    rw (← c.self.view_is) (merged_then c.args.j x c.merge.new.self c.args.rider c.in-Some.log _ has (rw (← c.self.view_is) at may) (c.merge.ensures ∙ ap (λ y. merged_in c.args.rider c.in-Some.log y) same))
+    rw (← c.self.view_is, c.merge.ensures.items x was)
+    (merged_then c.args.j x (merged_in c.args.rider c.in-Some.log x) c.args.rider c.in-Some.log _ has (rw (← c.self.view_is) at may) refl)

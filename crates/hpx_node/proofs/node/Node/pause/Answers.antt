@@ -1,17 +1,11 @@
-use Rattle.hpx_node.proofs.Common.{refl, slice_get_is}
+use Rattle.hpx_node.proofs.Common.{refl, Some, slice_get, get_some, ◌≡◌}
 use Rattle.hpx_node.proofs.Waited.{pauses_by}
 use Rattle.hpx_node.proofs.node.Node.pause.Goals as goal
-
-pub new-requires : goal.new-requires
-new-requires g c =
-    let inside = rw (← c.self.view_is) at c.requires.object in
-    let is = slice_get_is c.self.inside.objects.items c.args.j c.index.result.now inside c.index.ensures in
-    rw c.object-object.ensures (c.requires.kept c.index.result.now (rw (← c.self.view_is) is))
 
 pub returns-clause-pauses : goal.returns-clause-pauses
 returns-clause-pauses g c =
     let inside = rw (← c.self.view_is) at c.requires.object in
-    let is = slice_get_is c.self.inside.objects.items c.args.j c.index.result.now inside c.index.ensures in
+    let x = get_some c.self.inside.objects.items c.args.j inside in
     let at = rw (← c.self.view_is) at c.requires.at in
-    rw (← c.self.view_is, c.remove.ensures.items, c.push_reserved.ensures.items, c.new.ensures, c.object-object.ensures, c.requires.state)
-    (pauses_by _ _ c.args.i c.args.j c.args.waits.job c.args.waits at c.index.result.now is refl)
+    rw (← c.self.view_is, c.remove.ensures.items, c.push_reserved.ensures.items, c.put_state.ensures.items x.0 x.1, c.requires.state)
+    (pauses_by _ _ c.args.i c.args.j c.args.waits.job c.args.waits at x.0 x.1 refl)

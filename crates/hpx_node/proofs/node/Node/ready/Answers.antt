@@ -64,9 +64,9 @@ prepare_waiting-requires g c =
       at = omega (arith, was.localities, was.few.1);
       fit = was.job;
       few = c.requires.few;
-      fits = rw (c.as_slice-3.ensures.value, c.in_ok-hand.ensures) (omega (arith, k.long, made_long t.here t.births t.profile.credit_log w.outcome.makes));
-      short = rw (c.as_slice-3.ensures.value, c.in_ok-hand.ensures) k.short;
-      stock = rw (c.as_slice-3.ensures.value, c.in_ok-hand.ensures) k.stock;
+      fits = rw (c.as_slice-2.ensures.value, c.in_ok-hand.ensures) (omega (arith, k.long, made_long t.here t.births t.profile.credit_log w.outcome.makes));
+      short = rw (c.as_slice-2.ensures.value, c.in_ok-hand.ensures) k.short;
+      stock = rw (c.as_slice-2.ensures.value, c.in_ok-hand.ensures) k.stock;
     }
 
 pub returns-clause-some : goal.returns-clause-some
@@ -84,19 +84,20 @@ returns-clause-some g c =
     let laws = laws_by c.done.result.now.localities t.localities (seen c.done.result.now.job) (seen w.job) c.done.result.now.outcome w.outcome (c.done.ensures.localities ∙ was.localities)
     (ap seen c.done.ensures.job) c.done.ensures.outcome c.lawful.ensures in
     let alone = rw (c.as_slice.ensures.value) at c.in-Some.ensures.first in
-    let stands = rw (c.as_slice-2.ensures.value, c.target.ensures, c.action.ensures) at c.in-Some-place_of.ensures.found in
+    let stands = rw (c.target.ensures, c.action.ensures) at c.in-Some-place.ensures.found in
     let object = ap (λ (x : Locality). find (is_standing (target_of w.job.action)) x.tables.objects) (sym c.self.view_is)
-    ∙ (stands ∙ ap (λ (x : Locality). slice_get x.tables.objects c.in-Some-place_of.j) c.self.view_is) in
-    let place = in_place _ _ _ _ w c.in-Some-place_of.j was c.requires.tidy.objects (sym object ∙ was.found) in
+    ∙ (stands ∙ ap (λ (x : Locality). slice_get x.tables.objects c.in-Some-place.j) c.self.view_is) in
+    let place = in_place _ _ _ _ w c.in-Some-place.j was c.requires.tidy.objects (sym object ∙ was.found) in
     let p = c.in_ok-prepared.prepared in
     let prepared = c.in_ok-prepared.ensures.prepared in
-    subst (λ q. IsReadyFor g.A.Acts.act_of t q (record { i = c.in-Some.i; j = c.in-Some-place_of.j; prepared = c.in_ok-prepared.prepared })) (sym c.in-Give.is)
+    subst (λ q. IsReadyFor g.A.Acts.act_of t q (record { i = c.in-Some.i; j = c.in-Some-place.j; prepared = c.in_ok-prepared.prepared })) (sym c.in-Give.is)
     (record {
       before = w;
       there = is_there _ _ c.self.view_is c.in-Some.i w inside c.index-waits.ensures c.requires.tidy;
       first = ap (λ (x : Locality). find (awaits o n) (take c.in-Some.i x.tables.pending)) (sym c.self.view_is) ∙ alone;
       for = for_at _ _ c.self.view_is c.in-Some.i w inside c.index-waits.ensures c.requires.tidy o n right found;
       last = last;
+      drawn = c.requires.tidy.drawn;
       place = place;
       laws = laws;
       right = right_by g.A.Acts.act_of c.done.result.now.localities t.localities (seen c.done.result.now.job) (seen w.job) c.done.result.now.outcome w.outcome
@@ -104,5 +105,5 @@ returns-clause-some g c =
       kept = subst (λ s. IsKept (record { object = place.standing.object; state = s })) (sym prepared.state_left)
           (kept_then t (seen w.job) w.outcome (fit_seen w.job was.job) was.few.0 laws p.stock prepared.stock place.standing place.kept place.kind place.state);
       prepared = prepared;
-      stock = c.in_ok-prepared.ensures.stock ∙ ap (stock_with t w) (c.as_slice-3.ensures.value ∙ c.in_ok-hand.ensures);
+      stock = c.in_ok-prepared.ensures.stock ∙ ap (stock_with t w) (c.as_slice-2.ensures.value ∙ c.in_ok-hand.ensures);
     })

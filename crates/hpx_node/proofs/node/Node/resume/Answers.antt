@@ -8,9 +8,11 @@ use Rattle.hpx_node.proofs.node.Node.resume.Goals as goal
 pub make-requires : goal.make-requires
 make-requires g c =
     let w = get_some c.args.self.now.tables.pending c.args.ready.i c.requires.waits in
-    let is = (c.requires.may w.0 w.1).prepared in record {
+    let may = c.requires.may w.0 w.1 in
+    let is = may.prepared in record {
       fit = is.limits.fit;
       few = omega (arith, is.limits.births, c.requires.births);
+      drawn = may.drawn;
       short = is.stock.few;
       lasts = is.stock.lasts;
       spare = omega (arith, is.limits.births, c.requires.spare);

@@ -1,0 +1,190 @@
+-- The objects that stand here are in another order.
+use Rattle.hpx_steps.proofs.Common.{Agree, AllByRecursion, Among, Bool, Entry, HasCommits, HasObject, Id, IsSound, IsTidy, IsWhole, Leads, List, Local, None, Option, Reorders, Rules, Shows, Single, Some, Standing, StandsHere, TidyAt, Turn, View, Waits, Act, [], ap, arith, asked_by, asks_under, bare_names, bare_standing, commits, cond, count_by, counts_false, counts_of, counts_true, false, find, find_passes, freeing, given_to, hopping, inl, inr, is_some, is_standing, joined, map, option_map, refl, same_object, same_object-refl, same_object-true, session, slice_get, some_same, subst, suc, sum_by, sum_by-cons, sym, target_of, true, unpaid, view, waits_for, weigh, worth, zero, ℕ, ◌+◌, ◌∙◌, ◌∷◌, ◌≡◌, ◌≤◌}
+use Rattle.hpx_steps.proofs.Tools.{Changes, Sees, Stills, all_among, among_all, fewer, holding, if_so, leads_on, objects_change, retidy, sees_leads, single_found, view_worth}
+use Rattle.hpx_journal.proofs.Bags.{find-nothing}
+use Rattle.std.proofs.lemmas.List.Elements.{All-from_recursion, recursion_from_All}
+use Rattle.std.proofs.lemmas.List.Sorted.{All-permutation, IsPermutation-map, sum_by-IsPermutation}
+use Rattle.std.specs.List.Sorted.{IsPermutation}
+
+-- ---- what is found, and how often
+
+none_count : (p : Standing → Bool) (xs : List Standing) → find p xs ≡ None → count_by p xs ≡ 0
+none_count p [] h = refl
+none_count p (x ∷ xs) h = if_so (p x) (λ t. absurd (let e : Some x ≡ None = rw t at h in cc))
+    (λ f. omega (arith, sum_by-cons (counts_of p) x xs, counts_false p x f, none_count p xs (rw f at h)))
+
+found_among : (p : Standing → Bool) (xs : List Standing) (x : Standing) → find p xs ≡ Some x → Among x xs
+found_among p [] x h = cc
+found_among p (y ∷ ys) x h = if_so (p y) (λ t. inl (some_same y x (rw t at h))) (λ f. inr (found_among p ys x (rw f at h)))
+
+among_place : (x : Standing) (xs : List Standing) → Among x xs → (j : ℕ) × (slice_get xs j ≡ Some x)
+among_place x [] m = absurd m
+among_place x (y ∷ ys) (inl e) = (zero, ap (λ z. Some z) e)
+among_place x (y ∷ ys) (inr m) = let at = among_place x ys m in (suc at.0, at.1)
+
+single_count : (xs : List Standing) → Single xs → (o : Id) → count_by (is_standing o) xs ≤ 1
+single_count [] h o = omega arith
+single_count (x ∷ xs) h o = if_so (is_standing o x)
+    (λ t. omega (
+      arith,
+      sum_by-cons (counts_of (is_standing o)) x xs,
+      counts_true (is_standing o) x t,
+      none_count (is_standing o) xs (ap (λ (q : Id). find (is_standing q) xs) (same_object-true o x.object t) ∙ h.0),
+    ))
+    (λ f. omega (arith, sum_by-cons (counts_of (is_standing o)) x xs, counts_false (is_standing o) x f, single_count xs h.1 o))
+
+count_single : (xs : List Standing) → ((o : Id) → count_by (is_standing o) xs ≤ 1) → Single xs
+count_single [] h = tt
+count_single (x ∷ xs) h = (
+  find-nothing (is_standing x.object) xs
+      (omega (arith, h x.object, sum_by-cons (counts_of (is_standing x.object)) x xs, counts_true (is_standing x.object) x (same_object-refl x.object))),
+  count_single xs (λ o. omega (arith, h o, sum_by-cons (counts_of (is_standing o)) x xs)),
+)
+
+find_bare : (o : Id) (xs : List Standing) → find (is_standing o) (map bare_standing xs) ≡ option_map bare_standing (find (is_standing o) xs)
+find_bare o [] = refl
+find_bare o (x ∷ xs) = if_so (is_standing o x) (λ t. rw t refl) (λ f. rw f (find_bare o xs))
+
+-- ---- in another order
+
+module _ (xs ys : List Standing) (same : IsPermutation xs ys) where
+  all_then : (P : Standing → Type 0) → AllByRecursion P xs → AllByRecursion P ys
+  all_then P h = recursion_from_All P ys (All-permutation P xs ys same (All-from_recursion P xs h))
+
+  among_before : (x : Standing) → Among x ys → Among x xs
+  among_before x m = among_all (λ y. Among y xs) x ys m (all_then (λ y. Among y xs) (all_among (λ y. Among y xs) xs (λ y n. n)))
+
+  counts_then : (p : Standing → Bool) → count_by p ys ≡ count_by p xs
+  counts_then p = sum_by-IsPermutation (counts_of p) xs ys same
+
+  module _ (single : Single xs) where
+    single_then : Single ys
+    single_then = count_single ys (λ o. omega (arith, single_count xs single o, counts_then (is_standing o)))
+
+    found_then : (o : Id) → find (is_standing o) ys ≡ find (is_standing o) xs
+    found_then o = each (find (is_standing o) ys) refl
+      where
+        each : (k : Option Standing) → find (is_standing o) ys ≡ k → k ≡ find (is_standing o) xs
+        each None is = sym (find-nothing (is_standing o) xs (omega (arith, none_count (is_standing o) ys is, counts_then (is_standing o))))
+        each (Some z) is =
+            let at = among_place z xs (among_before z (found_among (is_standing o) ys z is)) in
+            sym (single_found xs at.0 z o single at.1 (find_passes (is_standing o) ys z is))
+
+    commits_then : (running : List Act) (cs : List Waits) → HasCommits xs running cs → HasCommits ys running cs
+    commits_then running cs h = record {
+      each = each cs h.each;
+      apart = h.apart;
+      whole = all_then (IsWhole cs) h.whole;
+      lent = λ o managed. omega (arith, h.lent o managed, sum_by-IsPermutation (λ (y : Standing). bare_names o y.state.ids) xs ys same);
+    }
+      where
+        each : (ws : List Waits) → AllByRecursion (HasObject xs) ws → AllByRecursion (HasObject ys) ws
+        each [] all = tt
+        each (w ∷ ws) all = (
+          record { standing = all.0.standing; found = found_then (target_of w.job.action) ∙ all.0.found; kind = all.0.kind; state = all.0.state },
+          each ws all.1,
+        )
+
+    bare_same : IsPermutation (map bare_standing xs) (map bare_standing ys)
+    bare_same = IsPermutation-map bare_standing xs ys same
+
+    agree_then : (there : List Standing) → Agree is_standing there (map bare_standing xs) → Agree is_standing there (map bare_standing ys)
+    agree_then there agree = record {
+      single = agree.single;
+      counts = λ o. agree.counts o ∙ sym (sum_by-IsPermutation (counts_of (is_standing o)) (map bare_standing xs) (map bare_standing ys) bare_same);
+      finds = λ o. agree.finds o ∙ (find_bare o xs ∙ (ap (option_map bare_standing) (sym (found_then o)) ∙ sym (find_bare o ys)));
+    }
+
+    module _ (r : Rules) (v : View) (is : v.objects ≡ map bare_standing xs) where
+      abbrev ordered : View
+      ordered = record v { objects = map bare_standing ys }
+
+      ordered_shows : (l : Local) → Shows v l → Shows ordered l
+      ordered_shows l shown = record {
+        acts = record { here = shown.acts.here; serial = shown.acts.serial; waiting = shown.acts.waiting; fired = shown.acts.fired; due = shown.acts.due };
+        objects = record {
+          number = shown.objects.number;
+          objects = agree_then l.objects (subst (Agree is_standing l.objects) is shown.objects.objects);
+          travels = shown.objects.travels;
+          fresh = shown.objects.fresh;
+        };
+        credit = record { tokens = shown.credit.tokens; asking = shown.credit.asking; asks = shown.credit.asks };
+        counts = record { live = shown.counts.live; dead = shown.counts.dead; refusals = shown.counts.refusals; failing = shown.counts.failing };
+        last = shown.last;
+      }
+
+      ordered_leads : Leads r v [] (record v { objects = map bare_standing ys })
+      ordered_leads = (
+        refl,
+        λ covered o managed. record {
+          named = omega (
+            arith,
+            (covered o managed).named,
+            ap (sum_by (λ (x : Standing). count_by (same_object o) x.state.ids)) is,
+            sum_by-IsPermutation (λ (x : Standing). count_by (same_object o) x.state.ids) (map bare_standing xs) (map bare_standing ys) bare_same,
+          );
+          pending = (covered o managed).pending;
+        },
+        ordered_shows,
+      )
+
+module _ (r : Rules) (s : Turn) (entries : List Entry) (h : IsSound r s entries) (ys : List Standing) (same : IsPermutation s.tables.objects ys) where
+  abbrev now : Turn
+  now = record s { tables = record s.tables { objects = ys } }
+
+  abbrev xs : List Standing
+  xs = s.tables.objects
+
+  found : (o : Id) → find (is_standing o) ys ≡ find (is_standing o) s.tables.objects
+  found = found_then xs ys same h.places.single
+
+  change : Changes [] [] s now
+  change = objects_change [] [] s ys (record {
+    sums = λ w. omega (arith, sum_by-IsPermutation (λ x. w (StandsHere x)) xs ys same);
+    there = λ x m. inl (among_before xs ys same x m);
+  })
+
+  tidy : IsTidy now
+  tidy = holding (TidyAt now) [] s now change.1
+      (λ y m. retidy s.tables.here s.tables.localities s.tables.profile.credit_log s.tables.births s.tables.births s.tables.objects ys (omega arith)
+      (λ o t. ap is_some (found o) ∙ t) y (h.tidy y m))
+      tt
+
+  abbrev seen : View
+  seen = record (view s) { objects = map bare_standing ys }
+
+  sees : Sees (record seen { last = s.last }) now
+  sees = record {
+    rest = refl;
+    tokens = λ f fair. omega (arith, view_worth f s, view_worth f now, change.0 (worth f));
+    asking = λ o. refl;
+    asks = λ o. refl;
+    live = λ o home. refl;
+    dead = λ o. omega arith;
+    refusals = λ y k. k;
+    failing = omega arith;
+  }
+
+  reorder_stills : Stills r s now
+  reorder_stills = record {
+    same = refl;
+    leads = leads_on r (view s) seen (view now) (ordered_leads xs ys same h.places.single r (view s) refl) (sees_leads r seen now sees);
+    tidy = tidy;
+    places = record {
+      serves = λ zero. ap is_some (found session) ∙ h.places.serves zero;
+      unborn = h.places.unborn;
+      places = h.places.places;
+      single = single_then xs ys same h.places.single;
+    };
+    commits = commits_then xs ys same h.places.single s.tables.running (commits s) h.commits;
+    numbered = fewer s now (omega arith) (λ n. omega (arith, change.0 (asks_under n)));
+    rows = λ row. omega (arith, change.0 (unpaid row));
+    once = omega (arith, change.0 hopping);
+    fired = omega (arith, change.0 joined);
+    frees = λ o. omega (arith, change.0 (freeing o));
+    asked = λ o n. omega (arith, change.0 (asked_by s.tables.here o n), change.0 (waits_for o n));
+    given = λ k d o n. omega (arith, change.0 (given_to k o n));
+  }
+
+pub reorder_step : (r : Rules) (s s' : Turn) (entries : List Entry) → IsSound r s entries → Reorders s s' → Stills r s s'
+reorder_step r s s' entries h g = subst (Stills r s) (sym g.now) (reorder_stills r s entries h g.objects g.same)
