@@ -43,3 +43,4 @@ pub mod TurnSteps
 pub mod Turned
 pub mod Turns
 pub mod Waited
+pub mod Unread

@@ -42,15 +42,15 @@ pub record Clears (t t' : Tables) (entries entries' : List Entry) : Type 0 where
   pub taken : t'.taken ≡ t.taken
   pub sent : t'.sent ≡ t.sent
 
--- why a frame is not accepted
+-- why a frame is not accepted; memory is an excuse only where it spells a message that breaks no rule
 abbrev pub NotTaken : Tables → List ℕ → TakeFault → Type 0
 NotTaken t bytes (take_faults.BadFrame at why) = IsRefused bytes (record { at = at; why = why })
 NotTaken t bytes (take_faults.Strange rule object kept) =
     (p : Parcel) × (parcel_of bytes ≡ Some p) × (broken t p ≡ Some (record { rule = rule; object = object; kept = kept }))
-NotTaken t bytes take_faults.OutOfMemory = Unit {0}
+NotTaken t bytes take_faults.OutOfMemory = (p : Parcel) × (parcel_of bytes ≡ Some p) × (broken t p ≡ None)
 
--- why the first message on the desk is not dealt with
+-- why the first message on the desk is not dealt with; memory is an excuse only where it breaks no rule
 abbrev pub NotCleared : Tables → DeskFault → Type 0
 NotCleared t (desk_faults.Strange rule object kept) =
     (p : Parcel) × (rest : List Parcel) × (t.desk ≡ p ∷ rest) × (broken t p ≡ Some (record { rule = rule; object = object; kept = kept }))
-NotCleared t desk_faults.OutOfMemory = Unit {0}
+NotCleared t desk_faults.OutOfMemory = (p : Parcel) × (rest : List Parcel) × (t.desk ≡ p ∷ rest) × (broken t p ≡ None)

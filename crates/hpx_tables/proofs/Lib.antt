@@ -7,3 +7,4 @@ pub mod Refills
 pub mod Merges
 pub mod Found
 pub mod Roots
+pub mod Outlined

@@ -25,6 +25,7 @@ use hpx_agas::records::{Granted, Left};
 use hpx_commit::deal::log_of;
 use hpx_journal::entry::{Entry, Event, Reason};
 use hpx_journal::journal::Journal;
+use hpx_parcel::outline::outline_of;
 use hpx_parcel::parcel::{DecodeFault, Parcel};
 use hpx_parcel::read::decode;
 use hpx_tables::find::waiting_at;
@@ -309,7 +310,31 @@ impl<A: Acts + Copy> Node<A> {
         Ok(())
     }
 
-    /// Accepts a frame, or refuses it; nothing changes at a refusal.
+    /// Why a frame is not accepted that was not decoded for want of memory: for that alone, if its parcel breaks no rule.
+    fn unread(&self, frame: &Bytes) -> TakeFault
+        ensures { NotTaken self.now.tables frame.now result }
+    {
+        let message = match outline_of(frame.as_slice()) {
+            Ok(message) => message,
+            Err(fault) => {
+                return TakeFault::BadFrame {
+                    at: fault.at,
+                    why: fault.why,
+                };
+            }
+        };
+        match self.rule_of(&message) {
+            Some(x) => TakeFault::Strange {
+                rule: x.rule,
+                object: x.object,
+                kept: x.kept,
+            },
+            None => TakeFault::OutOfMemory,
+        }
+    }
+
+    /// Accepts a frame, or refuses it; nothing changes at a refusal. Want of memory is answered only where the frame spells a
+    /// parcel that breaks no rule.
     pub fn take(
         &mut self,
         alloc: Global,
@@ -328,7 +353,7 @@ impl<A: Acts + Copy> Node<A> {
         let parcel = match decode(alloc, frame.as_slice()) {
             Ok(parcel) => parcel,
             Err(DecodeFault::BadFrame { at, why }) => return Err(TakeFault::BadFrame { at, why }),
-            Err(DecodeFault::OutOfMemory) => return Err(TakeFault::OutOfMemory),
+            Err(DecodeFault::OutOfMemory) => return Err(self.unread(frame)),
         };
         if let Some(x) = self.broken(&parcel) {
             return Err(TakeFault::Strange {

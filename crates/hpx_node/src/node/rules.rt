@@ -1,17 +1,17 @@
 //! The rules that a message may break.
 ghost use Rattle.std.specs.Prelude.{◌≡◌, ◌-◌, ◌<◌, ◌&&◌, ◌==◌, Option, Some, None};
-ghost use Rattle.hpx_journal.specs.Entries.{move_to};
-ghost use Rattle.hpx_tables.specs.Strange.{is_far, is_live, is_lost, is_to_here, breaks, brings_right, broken_return, broken_act, broken_move, broken_go, broken_object, broken_landed, broken_give, broken_free, broken_near, broken};
+ghost use Rattle.hpx_value.specs.Ids.{bare};
+ghost use Rattle.hpx_journal.specs.Rows.{is_to};
+ghost use Rattle.hpx_tables.specs.Strange.{is_live, is_lost, breaks_at, brings_right, return_rule, act_rule, move_rule, go_rule, object_rule, landed_rule, give_rule, free_rule, near_rule, rule_of, broken};
 
 use crate::node::Node;
 use hpx_commit::deal::log_of;
-use hpx_journal::local::move_to;
+use hpx_parcel::outline::{Outline, ParcelKind};
 use hpx_parcel::parcel::Parcel;
-use hpx_tables::find::{is_awaited, target, waits_on};
-use hpx_tables::strange::{Broken, breaks, is_far};
+use hpx_tables::find::{is_awaited, waits_on};
+use hpx_tables::strange::{Broken, breaks};
 use hpx_value::acts::Acts;
 use hpx_value::gid::Gid;
-use hpx_value::value::Act;
 
 impl<A: Acts + Copy> Node<A> {
     /// Whether an object is of this home, and lives.
@@ -35,68 +35,69 @@ impl<A: Acts + Copy> Node<A> {
     }
 
     /// Whether a MOVE is to this locality.
-    fn is_to_here(&self, act: &Act) -> bool
-        ensures { result ≡ is_to_here self.now.tables act.now }
+    fn is_to_here(&self, to: Option<u32>) -> bool
+        ensures { result ≡ is_to self.now.tables.here to }
     {
-        match move_to(act) {
+        match to {
             Some(to) => to == self.here,
             None => false,
         }
     }
 
     /// What an id that comes home breaks.
-    fn broken_return(&self, parcel: &Parcel, id: Gid, other: Option<Broken>) -> Option<Broken>
-        ensures { result ≡ broken_return self.now.tables parcel.now id other }
+    fn broken_return(&self, message: &Outline, other: Option<Broken>) -> Option<Broken>
+        ensures { result ≡ return_rule self.now.tables (bare message.now.id) message.now.id other }
     {
+        let id = message.id;
         if !self.is_live(id) {
-            return breaks(1, parcel, self.records.number() as u128);
+            return breaks(1, message, self.records.number() as u128);
         }
         let count = self.records.count(id);
         if count < id.credit() {
-            return breaks(2, parcel, count);
+            return breaks(2, message, count);
         }
         other
     }
 
     /// What an action breaks.
-    fn broken_act(&self, parcel: &Parcel, act: &Act) -> Option<Broken>
-        ensures { result ≡ broken_act self.now.tables parcel.now act.now }
+    fn broken_act(&self, message: &Outline) -> Option<Broken>
+        ensures { result ≡ act_rule self.now.tables (bare message.now.id) message.now.id }
     {
-        if self.is_lost(target(act)) {
-            return breaks(8, parcel, self.records.number() as u128);
+        if self.is_lost(message.id) {
+            return breaks(8, message, self.records.number() as u128);
         }
         None
     }
 
     /// What a MOVE breaks.
-    fn broken_move(&self, parcel: &Parcel, act: &Act) -> Option<Broken>
-        ensures { result ≡ broken_move self.now.tables parcel.now act.now }
+    fn broken_move(&self, message: &Outline) -> Option<Broken>
+        ensures { result ≡ move_rule self.now.tables (bare message.now.id) message.now.id message.now.to }
     {
-        let o = target(act);
-        if self.is_lost(o) || (o.home() == self.here && !self.is_to_here(act)) {
-            return breaks(8, parcel, self.records.number() as u128);
+        let o = message.id;
+        if self.is_lost(o) || (o.home() == self.here && !self.is_to_here(message.to)) {
+            return breaks(8, message, self.records.number() as u128);
         }
         None
     }
 
     /// What a MOVE that its home granted breaks.
-    fn broken_go(&self, parcel: &Parcel, act: &Act) -> Option<Broken>
-        ensures { result ≡ broken_go self.now.tables parcel.now act.now }
+    fn broken_go(&self, message: &Outline) -> Option<Broken>
+        ensures { result ≡ go_rule self.now.tables (bare message.now.id) message.now.id message.now.to }
     {
-        if self.holds(target(act)) && !self.is_to_here(act) {
-            return breaks(8, parcel, self.records.number() as u128);
+        if self.holds(message.id) && !self.is_to_here(message.to) {
+            return breaks(8, message, self.records.number() as u128);
         }
-        breaks(6, parcel, self.here as u128)
+        breaks(6, message, self.here as u128)
     }
 
     /// What an object that comes breaks.
-    fn broken_object(&self, parcel: &Parcel, act: &Act) -> Option<Broken>
-        ensures { result ≡ broken_object self.now.tables parcel.now act.now }
+    fn broken_object(&self, message: &Outline) -> Option<Broken>
+        ensures { result ≡ object_rule self.now.tables (bare message.now.id) message.now.id }
     {
-        if self.holds(target(act)) {
-            return breaks(4, parcel, self.here as u128);
+        if self.holds(message.id) {
+            return breaks(4, message, self.here as u128);
         }
-        breaks(8, parcel, self.records.number() as u128)
+        breaks(8, message, self.records.number() as u128)
     }
 
     /// Whether an id brings no more credit, or that of a new object.
@@ -108,70 +109,74 @@ impl<A: Acts + Copy> Node<A> {
     }
 
     /// What credit breaks that is given.
-    fn broken_give(&self, parcel: &Parcel, id: Gid, entry: u64) -> Option<Broken>
-        ensures { result ≡ broken_give self.now.tables parcel.now id entry }
+    fn broken_give(&self, message: &Outline) -> Option<Broken>
+        ensures { result ≡ give_rule self.now.tables (bare message.now.id) message.now.id message.now.entry }
     {
-        if is_awaited(self.pending.as_slice(), id, entry) && self.brings(id) {
+        let id = message.id;
+        if is_awaited(self.pending.as_slice(), id, message.entry) && self.brings(id) {
             return None;
         }
-        breaks(3, parcel, entry as u128)
+        breaks(3, message, message.entry as u128)
     }
 
     /// What an object that is to be freed breaks.
-    fn broken_free(&self, parcel: &Parcel, o: Gid) -> Option<Broken>
-        ensures { result ≡ broken_free self.now.tables parcel.now o }
+    fn broken_free(&self, message: &Outline) -> Option<Broken>
+        ensures { result ≡ free_rule self.now.tables (bare message.now.id) message.now.id }
     {
+        let o = message.id;
         let held = self.held(o);
         let waits = waits_on(self.pending.as_slice(), o);
         if self.holds(o) && !waits && held == 0 {
             return None;
         }
-        breaks(7, parcel, held)
+        breaks(7, message, held)
     }
 
     /// Where a record says that its object is.
-    fn broken_landed(&self, parcel: &Parcel, id: Gid) -> Option<Broken>
-        ensures { result ≡ broken_landed self.now.tables parcel.now id }
+    fn broken_landed(&self, message: &Outline) -> Option<Broken>
+        ensures { result ≡ landed_rule self.now.tables (bare message.now.id) message.now.id }
     {
-        let place = match self.records.place(id) {
+        let place = match self.records.place(message.id) {
             Some(place) => place,
             None => 0,
         };
-        let other = breaks(5, parcel, place as u128);
-        self.broken_return(parcel, id, other)
+        let other = breaks(5, message, place as u128);
+        self.broken_return(message, other)
     }
 
     /// What a message breaks whose localities are all there.
-    fn broken_near(&self, parcel: &Parcel) -> Option<Broken>
-        ensures { result ≡ broken_near self.now.tables parcel.now }
+    fn broken_near(&self, message: &Outline) -> Option<Broken>
+        ensures { result ≡ near_rule self.now.tables message.now.kind message.now }
     {
-        match parcel {
-            Parcel::Apply(act) => self.broken_act(parcel, act),
-            Parcel::Move(act) => self.broken_move(parcel, act),
-            Parcel::Go(act) => self.broken_go(parcel, act),
-            Parcel::Object { action, state: _ } => self.broken_object(parcel, action),
-            Parcel::Return(id) => self.broken_return(parcel, *id, None),
-            Parcel::Ask {
-                id,
-                asker: _,
-                entry: _,
-            } => self.broken_return(parcel, *id, None),
-            Parcel::Give { id, entry } => self.broken_give(parcel, *id, *entry),
-            Parcel::Cached { id: _, place: _ } => {
-                breaks(8, parcel, self.records.number() as u128)
-            }
-            Parcel::Landed { id, place: _ } => self.broken_landed(parcel, *id),
-            Parcel::Free(o) => self.broken_free(parcel, *o),
+        match message.kind {
+            ParcelKind::Apply => self.broken_act(message),
+            ParcelKind::Move => self.broken_move(message),
+            ParcelKind::Go => self.broken_go(message),
+            ParcelKind::Object => self.broken_object(message),
+            ParcelKind::Return => self.broken_return(message, None),
+            ParcelKind::Ask => self.broken_return(message, None),
+            ParcelKind::Give => self.broken_give(message),
+            ParcelKind::Cached => breaks(8, message, self.records.number() as u128),
+            ParcelKind::Landed => self.broken_landed(message),
+            ParcelKind::Free => self.broken_free(message),
         }
     }
 
+    /// The rule that a message with this outline breaks first, if it breaks one.
+    pub(crate) fn rule_of(&self, message: &Outline) -> Option<Broken>
+        ensures { result ≡ rule_of self.now.tables message.now }
+    {
+        if self.localities <= message.most {
+            return breaks(9, message, self.localities as u128);
+        }
+        self.broken_near(message)
+    }
+
     /// The rule that a message breaks first, if it breaks one.
+    #[tactic(auto, using(hpx_tables::proofs::Outlined::told_rule))]
     pub(crate) fn broken(&self, parcel: &Parcel) -> Option<Broken>
         ensures { result ≡ broken self.now.tables parcel.now }
     {
-        if is_far(self.localities, parcel) {
-            return breaks(9, parcel, self.localities as u128);
-        }
-        self.broken_near(parcel)
+        self.rule_of(&Outline::of(parcel))
     }
 }
