@@ -156,6 +156,7 @@ module _ (r : Rules) (s : Turn) (entries : List Entry) (h : IsSound r s entries)
   sees : Sees (record seen { last = s.last }) now
   sees = record {
     rest = refl;
+    travels = λ f. refl;
     tokens = λ f fair. omega (arith, view_worth f s, view_worth f now, change.0 (worth f));
     asking = λ o. refl;
     asks = λ o. refl;
