@@ -37,20 +37,20 @@ module _ {A : Type 0} {g : Ghosts A} (x z : Seen) where
   pub turn_cause : (c : Choice A g) (f : WorldFault A g) → Refused c f (stage_of x) (stage_of z) → CountsFaults {T = ℕ} (Err f) x.faults z.faults → IsCause x z f
   turn_cause c faults.Fabric h counts = counts
   turn_cause c (faults.JournalFull e w job_back) h counts = still_full (stage_of x) (stage_of z) e w h.0 h.1
-  turn_cause c (faults.BadFrame to frame place why) h counts = each c h.1
+  turn_cause c (faults.BadFrame to place why) h counts = each c h.1
     where
-      each : (c : Choice A g) → RefusedBy c (faults.BadFrame to frame place why) (stage_of x) (stage_of z) → IsCause {A = A} {g = g} x z (faults.BadFrame to frame place why)
-      each choices.Take r = (r.1, r.2)
+      each : (c : Choice A g) → RefusedBy c (faults.BadFrame to place why) (stage_of x) (stage_of z) → IsCause {A = A} {g = g} x z (faults.BadFrame to place why)
+      each choices.Take r = r.1
       each (choices.Feed line) r = absurd r
       each (choices.Fire k) r = absurd r
       each (choices.Finish done) r = absurd r
       each (choices.Desk k) r = absurd r
       each (choices.Pump k) r = absurd r
-  turn_cause c (faults.Strange to frame rule object kept) h counts = each c h.1
+  turn_cause c (faults.Strange to rule object kept) h counts = each c h.1
     where
-      each : (c : Choice A g) → RefusedBy c (faults.Strange to frame rule object kept) (stage_of x) (stage_of z) → IsCause {A = A} {g = g} x z (faults.Strange to frame rule object kept)
-      each choices.Take r = inl (r.1, r.2)
-      each (choices.Desk k) r = inr (r.2, subst (λ n. IsStrangeMail z.world.nodes n rule object kept) (sym r.1) r.3)
+      each : (c : Choice A g) → RefusedBy c (faults.Strange to rule object kept) (stage_of x) (stage_of z) → IsCause {A = A} {g = g} x z (faults.Strange to rule object kept)
+      each choices.Take r = inl r.1
+      each (choices.Desk k) r = inr (subst (λ n. IsStrangeMail z.world.nodes n rule object kept) (sym r.1) r.2)
       each (choices.Feed line) r = absurd r
       each (choices.Fire k) r = absurd r
       each (choices.Finish done) r = absurd r
@@ -72,14 +72,14 @@ module _ {A : Type 0} {g : Ghosts A} (x z : Seen) where
   steps_cause act_of faults.Fabric h counts = counts
   steps_cause act_of (faults.JournalFull e w None) h counts = still_full h.last (stage_of z) e w h.thus.0 h.thus.1
   steps_cause act_of (faults.JournalFull e w (Some done)) h counts = h.thus.2
-  steps_cause act_of (faults.BadFrame to frame place why) h counts = (h.thus.2.1, h.thus.2.2)
-  steps_cause act_of (faults.Strange to frame rule object kept) h counts = each h.last h.thus.1
+  steps_cause act_of (faults.BadFrame to place why) h counts = h.thus.2.1
+  steps_cause act_of (faults.Strange to rule object kept) h counts = each h.last h.thus.1
     where
-      each : (last : Stage) → ((NonePumps last × RefusedTake {A = A} {g = g} (faults.Strange to frame rule object kept) last (stage_of z))
-          ⊎ (NoneFires last × RefusedDesk {A = A} {g = g} to (faults.Strange to frame rule object kept) last (stage_of z)))
-          → IsCause {A = A} {g = g} x z (faults.Strange to frame rule object kept)
-      each last (inl t) = inl (t.1.1, t.1.2)
-      each last (inr d) = inr (d.1.2, d.1.3)
+      each : (last : Stage) → ((NonePumps last × RefusedTake {A = A} {g = g} (faults.Strange to rule object kept) last (stage_of z))
+          ⊎ (NoneFires last × RefusedDesk {A = A} {g = g} to (faults.Strange to rule object kept) last (stage_of z)))
+          → IsCause {A = A} {g = g} x z (faults.Strange to rule object kept)
+      each last (inl t) = inl t.1.1
+      each last (inr d) = inr d.1.2
   steps_cause act_of (faults.EarlyEnd s t) h counts = ends h.1
     where
       ends : IsEarly z.world.nodes z.world.hand z.flight s t → IsCause {A = A} {g = g} x z (faults.EarlyEnd s t)

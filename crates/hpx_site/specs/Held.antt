@@ -9,7 +9,7 @@ use Rattle.hpx_world.specs.Quiet.{IsQuiet}
 use Rattle.hpx_world.specs.Refusals.{IsFull, CanComeOfSteps}
 use Rattle.hpx_world.specs.Sound.{Meaning}
 use Rattle.hpx_world.specs.Steps.{IsUnfed}
-use Rattle.hpx_world.specs.Turns.{IsBadFrame, IsStrangeFrame, IsStrangeMail}
+use Rattle.hpx_world.specs.Turns.{HoldsBadFrame, HoldsStrangeFrame, IsStrangeMail}
 use Rattle.hpx_site.specs.Seen.{Seen, Carries, stage_of}
 
 -- why a site stands still: the fabric's count rose; the journal has no room; the frame in hand spells no parcel or breaks a rule, or
@@ -17,10 +17,9 @@ use Rattle.hpx_site.specs.Seen.{Seen, Carries, stage_of}
 abbrev pub IsCause : {A : Type 0} {g : Ghosts A} → Seen → Seen → WorldFault A g → Type 0
 IsCause was is faults.Fabric = Rose was.faults is.faults
 IsCause was is (faults.JournalFull entries weight job_back) = IsFull (stage_of is) entries weight
-IsCause was is (faults.BadFrame to frame place why) = (is.world.hand ≡ Some (to, frame)) × IsBadFrame frame place why
-IsCause was is (faults.Strange to frame rule object kept) =
-    ((is.world.hand ≡ Some (to, frame)) × IsStrangeFrame is.world.nodes to frame rule object kept)
-    ⊎ ((frame ≡ []) × IsStrangeMail is.world.nodes to rule object kept)
+IsCause was is (faults.BadFrame to place why) = HoldsBadFrame is.world.hand to place why
+IsCause was is (faults.Strange to rule object kept) =
+    HoldsStrangeFrame is.world.nodes is.world.hand to rule object kept ⊎ IsStrangeMail is.world.nodes to rule object kept
 IsCause was is (faults.EarlyEnd sent taken) =
     (is.world.hand ≡ None) × (sent ≡ sum_by (λ t. t.sent) is.world.nodes) × (taken ≡ sum_by (λ t. t.taken) is.world.nodes)
     × (IsQuiet is.world.nodes is.world.hand → ⊥)

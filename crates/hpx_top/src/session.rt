@@ -124,9 +124,9 @@ fn fault_of(fault: WorldFault<AllActs>, room: bool) -> SessionFault
     ensures full_too { (e w : ℕ) (u : _) → fault ≡ WorldFault.JournalFull e w u → result ≡ SessionFault.JournalFull }
     ensures memory { result ≡ SessionFault.OutOfMemory →
         ((u : _) × (fault ≡ WorldFault.OutOfMemory u)) ⊎ ((job : _) × (fault ≡ WorldFault.NotRun job) × (room ≡ true)) }
-    ensures bad_frame { result ≡ SessionFault.BadFrame → (to : _) × (frame : _) × (at : _) × (why : _) × (fault ≡ WorldFault.BadFrame to frame at why) }
+    ensures bad_frame { result ≡ SessionFault.BadFrame → (to : _) × (at : _) × (why : _) × (fault ≡ WorldFault.BadFrame to at why) }
     ensures strange { result ≡ SessionFault.Strange →
-        ((to : _) × (frame : _) × (rule : _) × (object : _) × (kept : _) × (fault ≡ WorldFault.Strange to frame rule object kept))
+        ((to : _) × (rule : _) × (object : _) × (kept : _) × (fault ≡ WorldFault.Strange to rule object kept))
         ⊎ ((sent : _) × (taken : _) × (fault ≡ WorldFault.EarlyEnd sent taken)) }
     ensures other { (result ≢ SessionFault.Read) × (result ≢ SessionFault.Write) × (result ≢ SessionFault.InputFull) }
 {
@@ -134,13 +134,11 @@ fn fault_of(fault: WorldFault<AllActs>, room: bool) -> SessionFault
         WorldFault::Fabric => SessionFault::Fabric,
         WorldFault::BadFrame {
             to: _,
-            frame: _,
             at: _,
             why: _,
         } => SessionFault::BadFrame,
         WorldFault::Strange {
             to: _,
-            frame: _,
             rule: _,
             object: _,
             kept: _,

@@ -64,12 +64,12 @@ module _ {A : Type 0} {g : Ghosts A} where
   work_at : (k : ℕ) (x z : Stage) → AllByRecursion IsStuck (take k x.nodes) → (fault : WorldFault A g) → RefusedWork k fault x z → RefusedStep fault x z
   work_at k x z before (faults.JournalFull e w None) h = h
   work_at k x z before (faults.JournalFull e w (Some done)) h = (h.0, record { k = k; before = before; did = h.1 }, h.2)
-  work_at k x z before (faults.OutOfMemory None) h = (h.0, (h.1.0, inl (ap (λ o. o.hand) h.1.1, ap (λ o. o.flight) h.1.1, ap (λ o. o.trace) h.1.1)))
+  work_at k x z before (faults.OutOfMemory None) h = (h.0, (h.1.0, inl (ap (λ o. o.hand) h.1.1, ap (λ o. o.flight) h.1.1, ap (λ o. o.trace) h.1.1)), inr h.1.1)
   work_at k x z before (faults.OutOfMemory (Some done)) h = (h.0, h.1, record { k = k; before = before; did = h.2 })
   work_at k x z before (faults.NotRun job) h = (h.0, record { k = k; before = before; did = h.1 })
   work_at k x z before faults.Fabric h = absurd h
-  work_at k x z before (faults.BadFrame to frame at why) h = absurd h
-  work_at k x z before (faults.Strange to frame rule object kept) h = absurd h
+  work_at k x z before (faults.BadFrame to at why) h = absurd h
+  work_at k x z before (faults.Strange to rule object kept) h = absurd h
   work_at k x z before (faults.EarlyEnd sent taken) h = absurd h
 
   -- a Fire with its Finish is refused, at the first locality that can fire
@@ -82,11 +82,11 @@ module _ {A : Type 0} {g : Ghosts A} where
   desk_at k x z none (faults.OutOfMemory u) h =
       let s = h.1.0 in
       subst (λ v. RefusedStep {A = A} {g = g} (faults.OutOfMemory v) x z) (sym h.1.1)
-      (h.0, (s.0, inl (ap (λ o. o.hand) s.1, ap (λ o. o.flight) s.1, ap (λ o. o.trace) s.1)))
-  desk_at k x z none (faults.Strange to frame rule object kept) h =
-      (h.0, inr (none, (h.1.0, refl, h.1.2, subst (λ j. IsStrangeMail z.nodes j rule object kept) (sym h.1.1) h.1.3)))
+      (h.0, (s.0, inl (ap (λ o. o.hand) s.1, ap (λ o. o.flight) s.1, ap (λ o. o.trace) s.1)), inr s.1)
+  desk_at k x z none (faults.Strange to rule object kept) h =
+      (h.0, inr (none, (h.1.0, refl, subst (λ j. IsStrangeMail z.nodes j rule object kept) (sym h.1.1) h.1.2)))
   desk_at k x z none faults.Fabric h = absurd h.1
-  desk_at k x z none (faults.BadFrame to frame at why) h = absurd h.1
+  desk_at k x z none (faults.BadFrame to at why) h = absurd h.1
   desk_at k x z none (faults.EarlyEnd sent taken) h = absurd h.1
   desk_at k x z none (faults.NotRun job) h = absurd h.1
 
@@ -99,10 +99,10 @@ module _ {A : Type 0} {g : Ghosts A} where
   pump_at k x z none (faults.OutOfMemory u) h =
       let s = h.1.0 in
       subst (λ v. RefusedStep {A = A} {g = g} (faults.OutOfMemory v) x z) (sym h.1.1)
-      (h.0, (s.0, inl (ap (λ o. o.hand) s.1, ap (λ o. o.flight) s.1, ap (λ o. o.trace) s.1)))
+      (h.0, (s.0, inl (ap (λ o. o.hand) s.1, ap (λ o. o.flight) s.1, ap (λ o. o.trace) s.1)), inr s.1)
   pump_at k x z none faults.Fabric h = (h.0, none, h.1)
-  pump_at k x z none (faults.Strange to frame rule object kept) h = absurd h.1
-  pump_at k x z none (faults.BadFrame to frame at why) h = absurd h.1
+  pump_at k x z none (faults.Strange to rule object kept) h = absurd h.1
+  pump_at k x z none (faults.BadFrame to at why) h = absurd h.1
   pump_at k x z none (faults.EarlyEnd sent taken) h = absurd h.1
   pump_at k x z none (faults.NotRun job) h = absurd h.1
 
@@ -112,10 +112,10 @@ module _ {A : Type 0} {g : Ghosts A} where
   -- a frame is not accepted
   take_at : (x z : Stage) → NonePumps x → (fault : WorldFault A g) → Refused {A = A} {g = g} choices.Take fault x z → RefusedStep fault x z
   take_at x z none (faults.JournalFull e w u) h = subst (λ v. RefusedStep {A = A} {g = g} (faults.JournalFull e w v) x z) (sym h.2) (h.0, h.1)
-  take_at x z none (faults.OutOfMemory u) h = subst (λ v. RefusedStep {A = A} {g = g} (faults.OutOfMemory v) x z) (sym h.1.1) (h.0, h.1.0)
+  take_at x z none (faults.OutOfMemory u) h = subst (λ v. RefusedStep {A = A} {g = g} (faults.OutOfMemory v) x z) (sym h.1.1) (h.0, h.1.0, inl (none, h.1.2))
   take_at x z none faults.Fabric h = (h.0, none.0, h.1)
-  take_at x z none (faults.Strange to frame rule object kept) h = (h.0, inl (none, h.1))
-  take_at x z none (faults.BadFrame to frame at why) h = (h.0, none, h.1)
+  take_at x z none (faults.Strange to rule object kept) h = (h.0, inl (none, h.1))
+  take_at x z none (faults.BadFrame to at why) h = (h.0, none, h.1)
   take_at x z none (faults.EarlyEnd sent taken) h = (h.0, none, h.1)
   take_at x z none (faults.NotRun job) h = absurd h.1
 
@@ -168,5 +168,5 @@ module _ {A : Type 0} {g : Ghosts A} where
   drain_refuses act_of x y z goes (faults.OutOfMemory u) h = record { last = y; goes = goes; thus = h }
   drain_refuses act_of x y z goes (faults.NotRun job) h = record { last = y; goes = goes; thus = h }
   drain_refuses act_of x y z goes faults.Fabric h = record { last = y; goes = goes; thus = h }
-  drain_refuses act_of x y z goes (faults.BadFrame to frame at why) h = record { last = y; goes = goes; thus = h }
-  drain_refuses act_of x y z goes (faults.Strange to frame rule object kept) h = record { last = y; goes = goes; thus = h }
+  drain_refuses act_of x y z goes (faults.BadFrame to at why) h = record { last = y; goes = goes; thus = h }
+  drain_refuses act_of x y z goes (faults.Strange to rule object kept) h = record { last = y; goes = goes; thus = h }

@@ -1,12 +1,20 @@
 -- A refusal changes nothing, so its cause is in the tables still.
-use Rattle.std.proofs.Common.{ℕ, List, ◌≡◌, sym, subst}
+use Rattle.std.proofs.Common.{ℕ, List, Option, ◌≡◌, sym, subst}
 use Rattle.hpx_journal.specs.Data.{Id}
+use Rattle.hpx_journal.specs.Entries.{Frame}
 use Rattle.hpx_tables.specs.Tables.{Tables}
-use Rattle.hpx_world.specs.Turns.{IsStrangeFrame, IsStrangeMail}
+use Rattle.hpx_world.specs.Turns.{IsStrangeFrame, HoldsStrangeFrame, HoldsRightFrame, IsStrangeMail}
 
 pub strange_frame_same : (xs ys : List Tables) (to : ℕ) (bytes : List ℕ) (rule : ℕ) (object : Id) (kept : ℕ)
     → ys ≡ xs → IsStrangeFrame xs to bytes rule object kept → IsStrangeFrame ys to bytes rule object kept
 strange_frame_same xs ys to bytes rule object kept e h = subst (λ ns. IsStrangeFrame ns to bytes rule object kept) (sym e) h
+
+pub strange_held_same : (xs ys : List Tables) (hand : Option Frame) (to rule : ℕ) (object : Id) (kept : ℕ)
+    → ys ≡ xs → HoldsStrangeFrame xs hand to rule object kept → HoldsStrangeFrame ys hand to rule object kept
+strange_held_same xs ys hand to rule object kept e h = subst (λ ns. HoldsStrangeFrame ns hand to rule object kept) (sym e) h
+
+pub right_held_same : (xs ys : List Tables) (hand : Option Frame) → ys ≡ xs → HoldsRightFrame xs hand → HoldsRightFrame ys hand
+right_held_same xs ys hand e h = subst (λ ns. HoldsRightFrame ns hand) (sym e) h
 
 pub strange_mail_same : (xs ys : List Tables) (k rule : ℕ) (object : Id) (kept : ℕ)
     → ys ≡ xs → IsStrangeMail xs k rule object kept → IsStrangeMail ys k rule object kept

@@ -1,6 +1,6 @@
 -- Why a turn was refused, and what can come over a fabric that tells.
-use Rattle.std.specs.Prelude.{Result, Ok, Err, IfErr, OnErr, Some, None, sum_by}
-use Rattle.std.proofs.Common.{ℕ, List, ◌≡◌, ◌≢◌, refl, sym, ap, ◌∙◌, subst}
+use Rattle.std.specs.Prelude.{Option, Result, Ok, Err, IfErr, OnErr, Some, None, sum_by}
+use Rattle.std.proofs.Common.{ℕ, ◌≡◌, ◌≢◌, ◌⊎◌, refl, sym, ap, ◌∙◌, subst, inl, inr}
 use Rattle.hpx_value.specs.declared.acts.Acts.{Ghosts}
 use Rattle.hpx_parcel.specs.declared.parcel.Why.{Why}
 use Rattle.hpx_journal.specs.Data.{Id}
@@ -17,8 +17,8 @@ use Rattle.std.specs.Result.{IsErrAnd}
 use Rattle.hpx_value.specs.declared.acts.Done.{Done}
 use Rattle.hpx_world.specs.Steps.{DidHandOut}
 use Rattle.hpx_world.specs.Refusals.{Stays, StaysAll, IsFull, Refused, RefusedWork, CanCome, CanComeOfSteps}
-use Rattle.hpx_world.specs.Turns.{IsBadFrame, IsStrangeFrame}
-use Rattle.hpx_world.proofs.Refused.{strange_frame_same}
+use Rattle.hpx_world.specs.Turns.{HoldsBadFrame, HoldsStrangeFrame, HoldsRightFrame}
+use Rattle.hpx_world.proofs.Refused.{strange_held_same, right_held_same}
 
 pub outside_is : (x z : Outside) → z.hand ≡ x.hand → z.flight ≡ x.flight → z.trace ≡ x.trace → z ≡ x
 outside_is x z hand flight trace =
@@ -31,16 +31,23 @@ module _ {A : Type 0} {g : Ghosts A} (r : Result Turned (WorldFault A g)) (x z :
   pub record TakeSays : Type 0 where
     pub err : OnErr r (Stays x z)
     pub kept : OnErr r (Keeps x.outside.hand x.outside.flight z.outside.flight x.outside.trace z.outside.trace z.outside.hand)
-    pub bad : (to : ℕ) (frame : List ℕ) (at : ℕ) (why : Why) → r ≡ Err (faults.BadFrame to frame at why) → (z.outside.hand ≡ Some (to, frame)) × IsBadFrame frame at why
-    pub strange : (to : ℕ) (frame : List ℕ) (rule : ℕ) (object : Id) (kept : ℕ) → r ≡ Err (faults.Strange to frame rule object kept)
-        → (z.outside.hand ≡ Some (to, frame)) × IsStrangeFrame x.nodes to frame rule object kept
+    pub bad : (to at : ℕ) (why : Why) → r ≡ Err (faults.BadFrame to at why) → HoldsBadFrame z.outside.hand to at why
+    pub strange : (to rule : ℕ) (object : Id) (kept : ℕ) → r ≡ Err (faults.Strange to rule object kept) → HoldsStrangeFrame x.nodes z.outside.hand to rule object kept
     pub early : (sent taken : ℕ) → r ≡ Err (faults.EarlyEnd sent taken)
         → (z.outside.hand ≡ None) × (sent ≡ sum_by (λ t. t.sent) x.nodes) × (taken ≡ sum_by (λ t. t.taken) x.nodes) × (sent ≢ taken)
         × Fetches x.outside.hand x.outside.flight z.outside.flight x.outside.trace z.outside.trace None
-    pub memory : (u : _) → r ≡ Err (faults.OutOfMemory u) → u ≡ None
+    pub memory : (u : _) → r ≡ Err (faults.OutOfMemory u) → (u ≡ None) × HoldsRightFrame x.nodes z.outside.hand
     pub room : (e w : ℕ) (u : _) → r ≢ Err (faults.JournalFull e w u)
     pub runs : (job : _) → r ≢ Err (faults.NotRun job)
     pub fabric : r ≡ Err faults.Fabric → (z.outside.hand ≡ x.outside.hand) × (z.outside.flight ≡ x.outside.flight) × (z.outside.trace ≡ x.outside.trace)
+
+-- where a frame is refused for want of memory, no job is handed back
+pub no_job : {A : Type 0} {g : Ghosts A} (e : WorldFault A g) (u : Option (Done A g)) (to : ℕ) → e ≡ faults.OutOfMemory u
+    → (e ≡ faults.OutOfMemory None) ⊎ (((at : ℕ) × (why : Why) × (e ≡ faults.BadFrame to at why))
+    ⊎ ((rule : ℕ) × (object : Id) × (kept : ℕ) × (e ≡ faults.Strange to rule object kept))) → u ≡ None
+no_job e u to is (inl w) = cc
+no_job e u to is (inr (inl w)) = absurd (let x = w.2 in cc)
+no_job e u to is (inr (inr w)) = absurd (let x = w.3 in cc)
 
 -- so it is refused
 pub take_refused : {A : Type 0} {g : Ghosts A} (r : Result Turned (WorldFault A g)) (x z : Stage) → HasRoom x.entries → TakeSays r x z
@@ -48,26 +55,26 @@ pub take_refused : {A : Type 0} {g : Ghosts A} (r : Result Turned (WorldFault A 
 take_refused (Ok t) x z room says = tt
 take_refused (Err faults.Fabric) x z room says =
     let same = says.fabric refl in (room, (says.err, outside_is x.outside z.outside same.0 same.1 same.2))
-take_refused (Err (faults.BadFrame to frame at why)) x z room says =
-    let b = says.bad to frame at why refl in (room, ((says.err, says.kept), b.0, b.1))
-take_refused (Err (faults.Strange to frame rule object kept)) x z room says =
-    let s = says.strange to frame rule object kept refl in
-    (room, ((says.err, says.kept), s.0, strange_frame_same x.nodes z.nodes to frame rule object kept says.err.tables s.1))
+take_refused (Err (faults.BadFrame to at why)) x z room says =
+    (room, ((says.err, says.kept), says.bad to at why refl))
+take_refused (Err (faults.Strange to rule object kept)) x z room says =
+    (room, ((says.err, says.kept), strange_held_same x.nodes z.nodes z.outside.hand to rule object kept says.err.tables (says.strange to rule object kept refl)))
 take_refused (Err (faults.EarlyEnd sent taken)) x z room says =
     let e = says.early sent taken refl in (room, (says.err, e.0, e.1, e.2, e.3, e.4))
 take_refused (Err (faults.JournalFull e w u)) x z room says = absurd (says.room e w u refl)
-take_refused (Err (faults.OutOfMemory u)) x z room says = (room, ((says.err, says.kept), says.memory u refl))
+take_refused (Err (faults.OutOfMemory u)) x z room says =
+    let m = says.memory u refl in (room, ((says.err, says.kept), m.0, right_held_same x.nodes z.nodes z.outside.hand says.err.tables m.1))
 take_refused (Err (faults.NotRun job)) x z room says = absurd (says.runs job refl)
 
 -- what can come, where three faults are excluded
 pub can_come : {T A : Type 0} {g : Ghosts A} (r : Result T (WorldFault A g)) (rules : Rules)
-    → ((to : ℕ) (frame : List ℕ) (at : ℕ) (why : Why) → r ≢ Err (faults.BadFrame to frame at why))
-    → (NothingMoves rules → (to : ℕ) (frame : List ℕ) (rule : ℕ) (object : Id) (kept : ℕ) → r ≢ Err (faults.Strange to frame rule object kept))
+    → ((to at : ℕ) (why : Why) → r ≢ Err (faults.BadFrame to at why))
+    → (NothingMoves rules → (to rule : ℕ) (object : Id) (kept : ℕ) → r ≢ Err (faults.Strange to rule object kept))
     → ((sent taken : ℕ) → r ≢ Err (faults.EarlyEnd sent taken)) → IfErr r (CanCome rules)
 can_come (Ok t) rules bad strange early = tt
 can_come (Err faults.Fabric) rules bad strange early = tt
-can_come (Err (faults.BadFrame to frame at why)) rules bad strange early = bad to frame at why refl
-can_come (Err (faults.Strange to frame rule object kept)) rules bad strange early = λ still. strange still to frame rule object kept refl
+can_come (Err (faults.BadFrame to at why)) rules bad strange early = bad to at why refl
+can_come (Err (faults.Strange to rule object kept)) rules bad strange early = λ still. strange still to rule object kept refl
 can_come (Err (faults.EarlyEnd sent taken)) rules bad strange early = early sent taken refl
 can_come (Err (faults.JournalFull e w u)) rules bad strange early = tt
 can_come (Err (faults.OutOfMemory u)) rules bad strange early = tt

@@ -110,8 +110,3 @@ module _ (act_of : Meaning) (profile : Profile) (nodes : List Tables) (es : List
     pub no_strange_mail : (k rule : ℕ) (object : Id) (kept : ℕ) → IsStrangeMail nodes k rule object kept → ⊥
     no_strange_mail k rule object kept strange =
         never_strange_mail act_of profile nodes es sound still_now (carrying_now h fl tr c).carried k rule object kept strange
-
-    pub none_strange : (to : ℕ) (bytes : List ℕ) (rule : ℕ) (object : Id) (kept : ℕ)
-        → ((h ≡ Some (to, bytes)) × IsStrangeFrame nodes to bytes rule object kept) ⊎ ((bytes ≡ []) × IsStrangeMail nodes to rule object kept) → ⊥
-    none_strange to bytes rule object kept (inl x) = no_strange_hand to bytes rule object kept x.0 x.1
-    none_strange to bytes rule object kept (inr x) = no_strange_mail to rule object kept x.1

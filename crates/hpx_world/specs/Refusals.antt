@@ -16,7 +16,7 @@ use Rattle.hpx_world.specs.Sound.{Meaning, IsSame}
 use Rattle.hpx_world.specs.Away.{Fetches, Puts, Keeps}
 use Rattle.hpx_world.specs.Stages.{Stage}
 use Rattle.hpx_world.specs.Steps.{IsEarly, DidHandOut, DidHandBack, GoesTo, NoneFires, NoneClears, NonePumps}
-use Rattle.hpx_world.specs.Turns.{DidFeed, DidFire, DidFinish, DidDesk, DidPump, DidTake, IsBadFrame, IsStrangeFrame, IsStrangeMail}
+use Rattle.hpx_world.specs.Turns.{DidFeed, DidFire, DidFinish, DidDesk, DidPump, DidTake, HoldsBadFrame, HoldsStrangeFrame, HoldsRightFrame, IsStrangeMail}
 
 -- ---- what a turn does
 
@@ -90,18 +90,17 @@ pub record IsFull (x : Stage) (entries weight : ℕ) : Type 0 where
 -- a Take: a frame that spells nothing or breaks a rule is in hand; or none is left, and not as many came as were sent
 abbrev pub RefusedTake : {A : Type 0} {g : Ghosts A} → WorldFault A g → Stage → Stage → Type 0
 RefusedTake faults.Fabric x z = StaysAll x z
-RefusedTake (faults.BadFrame to frame place why) x z = StaysButHand x z × (z.outside.hand ≡ Some (to, frame)) × IsBadFrame frame place why
-RefusedTake (faults.Strange to frame rule object kept) x z =
-    StaysButHand x z × (z.outside.hand ≡ Some (to, frame)) × IsStrangeFrame z.nodes to frame rule object kept
+RefusedTake (faults.BadFrame to place why) x z = StaysButHand x z × HoldsBadFrame z.outside.hand to place why
+RefusedTake (faults.Strange to rule object kept) x z = StaysButHand x z × HoldsStrangeFrame z.nodes z.outside.hand to rule object kept
 RefusedTake (faults.EarlyEnd sent taken) x z =
     Stays x z × (z.outside.hand ≡ None) × (sent ≡ sum_by (λ t. t.sent) x.nodes) × (taken ≡ sum_by (λ t. t.taken) x.nodes) × (sent ≢ taken)
     × Fetches x.outside.hand x.outside.flight z.outside.flight x.outside.trace z.outside.trace None
-RefusedTake (faults.OutOfMemory undone) x z = StaysButHand x z × (undone ≡ None)
+RefusedTake (faults.OutOfMemory undone) x z = StaysButHand x z × (undone ≡ None) × HoldsRightFrame z.nodes z.outside.hand
 RefusedTake _ x z = ⊥
 
 -- a Desk at k: its oldest message breaks a rule
 abbrev pub RefusedDesk : {A : Type 0} {g : Ghosts A} → ℕ → WorldFault A g → Stage → Stage → Type 0
-RefusedDesk k (faults.Strange to frame rule object kept) x z = StaysAll x z × (to ≡ k) × (frame ≡ []) × IsStrangeMail z.nodes k rule object kept
+RefusedDesk k (faults.Strange to rule object kept) x z = StaysAll x z × (to ≡ k) × IsStrangeMail z.nodes k rule object kept
 RefusedDesk k (faults.OutOfMemory undone) x z = StaysAll x z × (undone ≡ None)
 RefusedDesk k _ x z = ⊥
 
@@ -142,14 +141,14 @@ RefusedWork k _ x z = ⊥
 abbrev pub RefusedStep : {A : Type 0} {g : Ghosts A} → WorldFault A g → Stage → Stage → Type 0
 RefusedStep {A} {g} (faults.JournalFull entries weight None) x z = StaysAll x z × IsFull x entries weight
 RefusedStep {A} {g} (faults.JournalFull entries weight (Some done)) x z = HasRoom x.entries × DidHandBack done.localities done.job x z × IsFull z entries weight
-RefusedStep {A} {g} (faults.OutOfMemory None) x z = HasRoom x.entries × StaysButHand x z
+RefusedStep {A} {g} (faults.OutOfMemory None) x z = HasRoom x.entries × StaysButHand x z × ((NonePumps x × HoldsRightFrame z.nodes z.outside.hand) ⊎ (z.outside ≡ x.outside))
 RefusedStep {A} {g} (faults.OutOfMemory (Some done)) x z = HasRoom x.entries × HasRoom z.entries × DidHandBack done.localities done.job x z
 RefusedStep {A} {g} (faults.NotRun job) x z = HasRoom x.entries × DidHandBack (length z.nodes) job x z
 RefusedStep {A} {g} faults.Fabric x z = HasRoom x.entries × NoneClears x × StaysAll x z
-RefusedStep {A} {g} (faults.BadFrame to frame place why) x z = HasRoom x.entries × NonePumps x × RefusedTake {A = A} {g = g} (faults.BadFrame to frame place why) x z
-RefusedStep {A} {g} (faults.Strange to frame rule object kept) x z =
-    HasRoom x.entries × ((NonePumps x × RefusedTake {A = A} {g = g} (faults.Strange to frame rule object kept) x z)
-    ⊎ (NoneFires x × RefusedDesk {A = A} {g = g} to (faults.Strange to frame rule object kept) x z))
+RefusedStep {A} {g} (faults.BadFrame to place why) x z = HasRoom x.entries × NonePumps x × RefusedTake {A = A} {g = g} (faults.BadFrame to place why) x z
+RefusedStep {A} {g} (faults.Strange to rule object kept) x z =
+    HasRoom x.entries × ((NonePumps x × RefusedTake {A = A} {g = g} (faults.Strange to rule object kept) x z)
+    ⊎ (NoneFires x × RefusedDesk {A = A} {g = g} to (faults.Strange to rule object kept) x z))
 RefusedStep {A} {g} (faults.EarlyEnd sent taken) x z = HasRoom x.entries × NonePumps x × RefusedTake {A = A} {g = g} (faults.EarlyEnd sent taken) x z
 
 -- steps, and then one that is refused; or nothing applies and no frame was there, no job is out, and the world is not quiet
@@ -174,14 +173,14 @@ CountsFaults _ old new = new ≡ old
 
 -- over a fabric that tells: no frame is bad and no end is early, and where nothing moves no parcel is strange
 abbrev pub CanCome : {A : Type 0} {g : Ghosts A} → Rules → WorldFault A g → Type 0
-CanCome r (faults.BadFrame to frame place why) = ⊥
-CanCome r (faults.Strange to frame rule object kept) = NothingMoves r → ⊥
+CanCome r (faults.BadFrame to place why) = ⊥
+CanCome r (faults.Strange to rule object kept) = NothingMoves r → ⊥
 CanCome r (faults.EarlyEnd sent taken) = ⊥
 CanCome r _ = Unit {0}
 
 -- the same of steps: where something moves, they may end where the world is not quiet though all frames came
 abbrev pub CanComeOfSteps : {A : Type 0} {g : Ghosts A} → Rules → WorldFault A g → Type 0
-CanComeOfSteps r (faults.BadFrame to frame place why) = ⊥
-CanComeOfSteps r (faults.Strange to frame rule object kept) = NothingMoves r → ⊥
+CanComeOfSteps r (faults.BadFrame to place why) = ⊥
+CanComeOfSteps r (faults.Strange to rule object kept) = NothingMoves r → ⊥
 CanComeOfSteps r (faults.EarlyEnd sent taken) = (sent ≡ taken) × (NothingMoves r → ⊥)
 CanComeOfSteps r _ = Unit {0}

@@ -118,6 +118,23 @@ IsStrangeFrame nodes to bytes rule object kept =
     ((t : Tables) × (slice_get nodes to ≡ Some t) × NotTaken t bytes (take_faults.Strange rule object kept))
     ⊎ ((length nodes ≤ to) × ((p : Parcel) × (parcel_of bytes ≡ Some p) × (object ≡ object_of p)) × (rule ≡ 9) × (kept ≡ length nodes))
 
+-- the frame in hand goes to this locality, and spells no parcel
+abbrev pub HoldsBadFrame : Option Frame → ℕ → ℕ → Why → Type 0
+HoldsBadFrame hand to at why = (bytes : List ℕ) × (hand ≡ Some (to, bytes)) × IsBadFrame bytes at why
+
+-- the frame in hand goes to this locality, and breaks a rule
+abbrev pub HoldsStrangeFrame : List Tables → Option Frame → ℕ → ℕ → Id → ℕ → Type 0
+HoldsStrangeFrame nodes hand to rule object kept = (bytes : List ℕ) × (hand ≡ Some (to, bytes)) × IsStrangeFrame nodes to bytes rule object kept
+
+-- a frame spells a parcel that breaks no rule where it goes
+abbrev pub IsRightFrame : List Tables → Frame → Type 0
+IsRightFrame nodes frame = (t : Tables) × (slice_get nodes frame.0 ≡ Some t) × NotTaken t frame.1 take_faults.OutOfMemory
+
+-- the frame in hand does, if there is one
+abbrev pub HoldsRightFrame : List Tables → Option Frame → Type 0
+HoldsRightFrame nodes None = Unit {0}
+HoldsRightFrame nodes (Some frame) = IsRightFrame nodes frame
+
 -- the oldest message to the own locality of k breaks a rule
 abbrev pub IsStrangeMail : List Tables → ℕ → ℕ → Id → ℕ → Type 0
 IsStrangeMail nodes k rule object kept =
@@ -128,4 +145,4 @@ abbrev pub IsFarFault : ℕ → List ℕ → TakeFault → Type 0
 IsFarFault n bytes (take_faults.BadFrame at why) = IsBadFrame bytes at why
 IsFarFault n bytes (take_faults.Strange rule object kept) =
     ((p : Parcel) × (parcel_of bytes ≡ Some p) × (object ≡ object_of p)) × (rule ≡ 9) × (kept ≡ n)
-IsFarFault n bytes take_faults.OutOfMemory = Unit {0}
+IsFarFault n bytes take_faults.OutOfMemory = ⊥

@@ -12,21 +12,19 @@ ghost use Rattle.hpx_node.specs.Locality.{tables_of};
 ghost use Rattle.hpx_world.specs.Sound.{IsSound, IsSame, DoneAt};
 ghost use Rattle.hpx_world.specs.Away.{IsCarrying, IsInside, Fetches, Puts, Keeps};
 ghost use Rattle.hpx_world.specs.Quiet.{IsQuiet, NoneRuns, running_in};
-ghost use Rattle.hpx_world.specs.Turns.{DidFeed, DidFire, DidFinish, DidDesk, DidPump, DidTake, IsBadFrame, IsStrangeFrame, IsStrangeMail, IsFarFault};
+ghost use Rattle.hpx_world.specs.Turns.{DidFeed, DidFire, DidFinish, DidDesk, DidPump, DidTake, IsBadFrame, IsStrangeFrame, IsStrangeMail, IsFarFault, IsRightFrame, HoldsBadFrame, HoldsStrangeFrame, HoldsRightFrame};
 
 use crate::turns::{Turned, WorldFault};
 use hpx_journal::journal::Journal;
 use hpx_node::node::Node;
 use hpx_node::parts::{DeskFault, FinishFault, TakeFault};
-use hpx_parcel::parcel::DecodeFault;
-use hpx_parcel::read::decode;
+use hpx_parcel::outline::outline_of;
 use hpx_parcel::write::encode;
 use hpx_ports::fabric::Fabric;
 use hpx_ports::fault::FabricFault;
-use hpx_tables::strange::object_of;
 use hpx_value::acts::{Acts, Done};
 use hpx_value::exact::Exact;
-use hpx_value::items::{Bytes, Items, Text};
+use hpx_value::items::{Bytes, Text};
 use hpx_value::memory::OutOfMemory;
 use hpx_value::profile::Profile;
 use std::alloc::Global;
@@ -41,43 +39,32 @@ pub struct Locals<A: Acts + Copy> {
 }
 
 /// Why a frame to none of n localities is refused.
-fn far_fault(alloc: Global, n: u32, frame: &Bytes) -> TakeFault
+fn far_fault(n: u32, frame: &Bytes) -> TakeFault
     ensures { IsFarFault n frame.now result }
 {
-    match decode(alloc, frame.as_slice()) {
-        Ok(parcel) => TakeFault::Strange {
+    match outline_of(frame.as_slice()) {
+        Ok(message) => TakeFault::Strange {
             rule: 9,
-            object: object_of(&parcel),
+            object: message.id.bare(),
             kept: n as u128,
         },
-        Err(DecodeFault::BadFrame { at, why }) => TakeFault::BadFrame { at, why },
-        Err(DecodeFault::OutOfMemory) => TakeFault::OutOfMemory,
+        Err(fault) => TakeFault::BadFrame {
+            at: fault.at,
+            why: fault.why,
+        },
     }
 }
 
-/// A node's refusal of a frame, with a copy of the frame.
-fn refusal<A: Acts>(alloc: Global, frame: &(u32, Bytes), fault: TakeFault) -> WorldFault<A>
-    ensures bad { (at : _) (why : _) → fault ≡ TakeFault.BadFrame at why →
-        (result ≡ WorldFault.BadFrame frame.now.0 frame.now.1 at why) ⊎ (result ≡ WorldFault.OutOfMemory None) }
-    ensures strange { (rule : _) (object : _) (kept : _) → fault ≡ TakeFault.Strange rule object kept →
-        (result ≡ WorldFault.Strange frame.now.0 frame.now.1 rule object kept) ⊎ (result ≡ WorldFault.OutOfMemory None) }
+/// A node's refusal of a frame to it.
+fn refusal<A: Acts>(to: u32, fault: TakeFault) -> WorldFault<A>
+    ensures bad { (at : _) (why : _) → fault ≡ TakeFault.BadFrame at why → result ≡ WorldFault.BadFrame to at why }
+    ensures strange { (rule : _) (object : _) (kept : _) → fault ≡ TakeFault.Strange rule object kept → result ≡ WorldFault.Strange to rule object kept }
     ensures memory { fault ≡ TakeFault.OutOfMemory → result ≡ WorldFault.OutOfMemory None }
 {
-    let to = frame.0;
-    let copy = match frame.1.duplicate(alloc) {
-        Ok(copy) => copy,
-        Err(_) => return WorldFault::OutOfMemory { undone: None },
-    };
     match fault {
-        TakeFault::BadFrame { at, why } => WorldFault::BadFrame {
-            to,
-            frame: copy,
-            at,
-            why,
-        },
+        TakeFault::BadFrame { at, why } => WorldFault::BadFrame { to, at, why },
         TakeFault::Strange { rule, object, kept } => WorldFault::Strange {
             to,
-            frame: copy,
             rule,
             object,
             kept,
@@ -87,15 +74,13 @@ fn refusal<A: Acts>(alloc: Global, frame: &(u32, Bytes), fault: TakeFault) -> Wo
 }
 
 /// A node's refusal of a message to itself.
-fn mail_refusal<A: Acts>(alloc: Global, at: u32, fault: DeskFault) -> WorldFault<A>
-    ensures strange { (rule : _) (object : _) (kept : _) → fault ≡ DeskFault.Strange rule object kept →
-        result ≡ WorldFault.Strange at [] rule object kept }
+fn mail_refusal<A: Acts>(at: u32, fault: DeskFault) -> WorldFault<A>
+    ensures strange { (rule : _) (object : _) (kept : _) → fault ≡ DeskFault.Strange rule object kept → result ≡ WorldFault.Strange at rule object kept }
     ensures memory { fault ≡ DeskFault.OutOfMemory → result ≡ WorldFault.OutOfMemory None }
 {
     match fault {
         DeskFault::Strange { rule, object, kept } => WorldFault::Strange {
             to: at,
-            frame: Items::new(alloc),
             rule,
             object,
             kept,
@@ -278,15 +263,15 @@ impl<A: Acts + Copy> Locals<A> {
         ensures did { IfOk result (λ turned. DidDesk k turned (tables_of self.old.nodes.items) (tables_of self.new.nodes.items) self.old.journal.entries self.new.journal.entries) }
         ensures jobs { running_in (tables_of self.new.nodes.items) ≡ running_in (tables_of self.old.nodes.items) }
         ensures err { OnErr result (IsSame (tables_of self.old.nodes.items) (tables_of self.new.nodes.items) self.old.journal.entries self.new.journal.entries) }
-        ensures strange { (to : _) (frame : _) (rule : _) (object : _) (kept : _) → result ≡ Err (WorldFault.Strange to frame rule object kept) →
-            (to ≡ k) × (frame ≡ []) × IsStrangeMail (tables_of self.old.nodes.items) k rule object kept }
+        ensures strange { (to : _) (rule : _) (object : _) (kept : _) → result ≡ Err (WorldFault.Strange to rule object kept) →
+            (to ≡ k) × IsStrangeMail (tables_of self.old.nodes.items) k rule object kept }
         ensures which { IfErr result (λ e. (e ≡ WorldFault.OutOfMemory None)
-            ⊎ ((rule : _) × (object : _) × (kept : _) × (e ≡ WorldFault.Strange k [] rule object kept))) }
+            ⊎ ((rule : _) × (object : _) × (kept : _) × (e ≡ WorldFault.Strange k rule object kept))) }
     {
         match self.nodes[k].desk(alloc, &mut self.journal) {
             Ok(true) => Ok(Turned::Moved),
             Ok(false) => Ok(Turned::Empty),
-            Err(fault) => Err(mail_refusal(alloc, k as u32, fault)),
+            Err(fault) => Err(mail_refusal(k as u32, fault)),
         }
     }
 
@@ -352,21 +337,21 @@ impl<A: Acts + Copy> Locals<A> {
         ensures ok { OnOk result (DoneAt frame.now.0 (λ t t'. Takes frame.now.1 t t' self.old.journal.entries self.new.journal.entries) (tables_of self.old.nodes.items) (tables_of self.new.nodes.items)) }
         ensures jobs { running_in (tables_of self.new.nodes.items) ≡ running_in (tables_of self.old.nodes.items) }
         ensures err { OnErr result (IsSame (tables_of self.old.nodes.items) (tables_of self.new.nodes.items) self.old.journal.entries self.new.journal.entries) }
-        ensures bad_frame { (to : _) (bytes : _) (at : _) (why : _) → result ≡ Err (WorldFault.BadFrame to bytes at why) →
-            ((to, bytes) ≡ frame.now) × IsBadFrame bytes at why }
-        ensures strange { (to : _) (bytes : _) (rule : _) (object : _) (kept : _) → result ≡ Err (WorldFault.Strange to bytes rule object kept) →
-            ((to, bytes) ≡ frame.now) × IsStrangeFrame (tables_of self.old.nodes.items) to bytes rule object kept }
+        ensures bad_frame { (to : _) (at : _) (why : _) → result ≡ Err (WorldFault.BadFrame to at why) → (to ≡ frame.now.0) × IsBadFrame frame.now.1 at why }
+        ensures strange { (to : _) (rule : _) (object : _) (kept : _) → result ≡ Err (WorldFault.Strange to rule object kept) →
+            (to ≡ frame.now.0) × IsStrangeFrame (tables_of self.old.nodes.items) to frame.now.1 rule object kept }
+        ensures memory { (u : _) → result ≡ Err (WorldFault.OutOfMemory u) → IsRightFrame (tables_of self.old.nodes.items) frame.now }
         ensures which { (e : _) → result ≡ Err e → (e ≡ WorldFault.OutOfMemory None)
-            ⊎ (((at : _) × (why : _) × (e ≡ WorldFault.BadFrame frame.now.0 frame.now.1 at why))
-            ⊎ ((rule : _) × (object : _) × (kept : _) × (e ≡ WorldFault.Strange frame.now.0 frame.now.1 rule object kept))) }
+            ⊎ (((at : _) × (why : _) × (e ≡ WorldFault.BadFrame frame.now.0 at why))
+            ⊎ ((rule : _) × (object : _) × (kept : _) × (e ≡ WorldFault.Strange frame.now.0 rule object kept))) }
     {
         let n = self.nodes.len();
         if frame.0 as usize >= n {
-            return Err(refusal(alloc, frame, far_fault(alloc, n as u32, &frame.1)));
+            return Err(refusal(frame.0, far_fault(n as u32, &frame.1)));
         }
         match self.nodes[frame.0 as usize].take(alloc, &mut self.journal, &frame.1) {
             Ok(()) => Ok(()),
-            Err(fault) => Err(refusal(alloc, frame, fault)),
+            Err(fault) => Err(refusal(frame.0, fault)),
         }
     }
 
@@ -375,6 +360,7 @@ impl<A: Acts + Copy> Locals<A> {
         ensures same { self.new ≡ record self.old { hand = self.new.hand } }
         ensures ok { OnOk result (Fetches self.old.hand (F.flight fabric.old) (F.flight fabric.new) (F.trace fabric.old) (F.trace fabric.new) self.new.hand) }
         ensures err { OnErr result ((self.new.hand ≡ self.old.hand) × (F.flight fabric.new ≡ F.flight fabric.old) × (F.trace fabric.new ≡ F.trace fabric.old)) }
+        ensures none { OnErr result (self.new.hand ≡ None) }
         ensures held { (frame : _) → self.old.hand ≡ Some frame → fabric.new ≡ fabric.old }
         ensures cause { result ≡ Err FabricFault.Failed → Rose (F.faults fabric.old) (F.faults fabric.new) }
         ensures stands { result ≢ Err FabricFault.Failed → F.faults fabric.new ≡ F.faults fabric.old }
@@ -425,18 +411,17 @@ impl<A: Acts + Copy> Locals<A> {
         ensures jobs { running_in (tables_of self.new.nodes.items) ≡ running_in (tables_of self.old.nodes.items) }
         ensures err { OnErr result (IsSame (tables_of self.old.nodes.items) (tables_of self.new.nodes.items) self.old.journal.entries self.new.journal.entries) }
         ensures kept { OnErr result (Keeps self.old.hand (F.flight fabric.old) (F.flight fabric.new) (F.trace fabric.old) (F.trace fabric.new) self.new.hand) }
-        ensures bad_frame { (to : _) (frame : _) (at : _) (why : _) → result ≡ Err (WorldFault.BadFrame to frame at why) →
-            (self.new.hand ≡ Some (to, frame)) × IsBadFrame frame at why }
-        ensures strange { (to : _) (frame : _) (rule : _) (object : _) (kept : _) → result ≡ Err (WorldFault.Strange to frame rule object kept) →
-            (self.new.hand ≡ Some (to, frame)) × IsStrangeFrame (tables_of self.old.nodes.items) to frame rule object kept }
+        ensures bad_frame { (to : _) (at : _) (why : _) → result ≡ Err (WorldFault.BadFrame to at why) → HoldsBadFrame self.new.hand to at why }
+        ensures strange { (to : _) (rule : _) (object : _) (kept : _) → result ≡ Err (WorldFault.Strange to rule object kept) →
+            HoldsStrangeFrame (tables_of self.old.nodes.items) self.new.hand to rule object kept }
         ensures early { (sent : _) (taken : _) → result ≡ Err (WorldFault.EarlyEnd sent taken) →
             (self.new.hand ≡ None) × (sent ≡ sum_by (λ t. t.sent) (tables_of self.old.nodes.items)) × (taken ≡ sum_by (λ t. t.taken) (tables_of self.old.nodes.items)) × (sent ≢ taken)
             × Fetches self.old.hand (F.flight fabric.old) (F.flight fabric.new) (F.trace fabric.old) (F.trace fabric.new) None }
-        ensures memory { (u : _) → result ≡ Err (WorldFault.OutOfMemory u) → u ≡ None }
+        ensures memory { (u : _) → result ≡ Err (WorldFault.OutOfMemory u) → (u ≡ None) × HoldsRightFrame (tables_of self.old.nodes.items) self.new.hand }
         ensures room { (e : _) (w : _) (u : _) → result ≢ Err (WorldFault.JournalFull e w u) }
         ensures runs_none { (job : _) → result ≢ Err (WorldFault.NotRun job) }
         ensures never_bad { IsCarrying (rules_of A.act_of (length (tables_of self.old.nodes.items)) self.old.profile) self.old.hand (F.flight fabric.old) (F.trace fabric.old) self.old.journal.entries →
-            (to : _) (frame : _) (at : _) (why : _) → result ≢ Err (WorldFault.BadFrame to frame at why) }
+            (to : _) (at : _) (why : _) → result ≢ Err (WorldFault.BadFrame to at why) }
         ensures never_early { IsCarrying (rules_of A.act_of (length (tables_of self.old.nodes.items)) self.old.profile) self.old.hand (F.flight fabric.old) (F.trace fabric.old) self.old.journal.entries →
             (sent : _) (taken : _) → result ≢ Err (WorldFault.EarlyEnd sent taken) }
         ensures held { (frame : _) → self.old.hand ≡ Some frame → fabric.new ≡ fabric.old }

@@ -5,7 +5,7 @@ use hpx_node::parts::Finished;
 use hpx_parcel::parcel::Why;
 use hpx_value::acts::{Acts, Done, Job};
 use hpx_value::gid::Gid;
-use hpx_value::items::{Bytes, Text};
+use hpx_value::items::Text;
 
 /// What a turn is to do.
 #[derive(Drop)]
@@ -73,18 +73,15 @@ impl Turned {
 pub enum WorldFault<A: Acts> {
     /// The fabric failed.
     Fabric,
-    /// A frame that was delivered spells no parcel. It stays in hand; here it is, whole.
+    /// A frame that was delivered spells no parcel. It stays in hand.
     BadFrame {
         to: u32,
-        frame: Bytes,
         at: u32,
         why: Why,
     },
-    /// A parcel that was delivered breaks a rule; its frame stays in hand, and here it is, whole. Of a message to the own
-    /// locality the frame is empty.
+    /// A parcel that was delivered breaks a rule, and its frame stays in hand; or a message to the own locality does.
     Strange {
         to: u32,
-        frame: Bytes,
         rule: u8,
         object: Gid,
         kept: u128,

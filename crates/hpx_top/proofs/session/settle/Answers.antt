@@ -14,9 +14,9 @@ returns-in-Err-clause-cause g c =
     let w = c.args.world.now in
     let never = c.in-Err.ensures.never c.requires.carrying in
     of_three c.fault_of.result c.fault_of.ensures.other
-    (λ e. no_bad_step (rules w) _ (c.fault_of.ensures.bad_frame e).4 never)
+    (λ e. no_bad_step (rules w) _ (c.fault_of.ensures.bad_frame e).3 never)
     (λ e. neither
-    (λ s. no_strange_step (rules w) _ s.5 (still (length w.nodes) w.profile) never)
+    (λ s. no_strange_step (rules w) _ s.4 (still (length w.nodes) w.profile) never)
     (λ s. no_early_step (rules w) _ s.2 (still (length w.nodes) w.profile) never)
     (c.fault_of.ensures.strange e))
 

@@ -1,7 +1,6 @@
 use Rattle.std.proofs.Common.{ℕ, ◌≡◌, ◌⊎◌, ◌<◌, length, refl, sym, subst, inl, inr, arith}
 use Rattle.hpx_parcel.specs.declared.parcel.Why.{Why}
 use Rattle.hpx_journal.specs.Data.{Id}
-use Rattle.hpx_journal.specs.Entries.{Frame}
 use Rattle.hpx_node.specs.Handled.{Takes, NotTaken}
 use Rattle.hpx_node.specs.declared.parts.TakeFault.{TakeFault}
 use Rattle.hpx_node.specs.declared.parts.TakeFault.TheVariants.{BadFrame, Strange, OutOfMemory}
@@ -10,7 +9,6 @@ use Rattle.hpx_node.specs.Locality.{tables_of}
 use Rattle.hpx_world.specs.Turns.{IsStrangeFrame}
 use Rattle.hpx_world.proofs.Calls.{done_at, same_at, running_at, there_at, spare_inside, stands_at, sound_wrote, sound_inside}
 use Rattle.hpx_world.proofs.Tabled.{tables_long}
-use Rattle.hpx_world.proofs.Taken.{frame_is}
 use Rattle.hpx_world.proofs.locals.Locals.accept.Goals as goal
 
 -- a fault is for want of memory, or of the bytes, or of a rule
@@ -58,26 +56,34 @@ returns-in-Err-clause-err g c =
     same_at _ c.args.frame.now.0 c.index_mut.result.now c.take.new.self lt c.index_mut.ensures.value _ _ c.in-Err.ensures.err
 
 pub returns-in-Err-clause-strange : goal.returns-in-Err-clause-strange
-returns-in-Err-clause-strange g c = λ to bytes rule object kept is. elim (take_cases c.in-Err.fault) [
+returns-in-Err-clause-strange g c = λ to rule object kept is. elim (take_cases c.in-Err.fault) [
   | inl e ↦ absurd (let m = c.refusal-in-Err.ensures.memory e in cc)
   | inr y ↦ elim y [
-    | inl x ↦ elim (c.refusal-in-Err.ensures.bad x.0 x.1 x.2) [
-      | inl s ↦ absurd (cc)
-      | inr m ↦ absurd (cc)
-    ]
-    | inr x ↦ elim (c.refusal-in-Err.ensures.strange x.0 x.1 x.2 x.3) [
-      | inl s ↦
-          let f = x.3 in
-          let same : c.in-Err.fault ≡ Strange rule object kept = cc in
-          let place : to ≡ c.args.frame.now.0 = cc in
-          let text : bytes ≡ c.args.frame.now.1 = cc in
-          let why = subst (NotTaken c.index_mut.result.now.tables c.args.frame.now.1) same c.in-Err.ensures.cause in
-          let lt : c.args.frame.now.0 < length (tables_of c.args.self.now.nodes.items) = omega (arith, c.if-frame-n.false, c.len-n.ensures, tables_long c.args.self.now.nodes.items) in (
-            frame_is c.args.frame.now to bytes place text,
-            subst (λ (f : Frame). IsStrangeFrame (tables_of c.args.self.now.nodes.items) f.0 f.1 rule object kept) (sym (frame_is c.args.frame.now to bytes place text))
-                (inl (c.index_mut.result.now.tables, there_at _ c.args.frame.now.0 c.index_mut.result.now c.index_mut.result.now lt c.index_mut.ensures.value, why)),
-          )
-      | inr m ↦ absurd (cc)
-    ]
+    | inl x ↦ absurd (let b = c.refusal-in-Err.ensures.bad x.0 x.1 x.2 in cc)
+    | inr x ↦
+        let s = c.refusal-in-Err.ensures.strange x.0 x.1 x.2 x.3 in
+        let f = x.3 in
+        let same : c.in-Err.fault ≡ Strange rule object kept = cc in
+        let place : to ≡ c.args.frame.now.0 = cc in
+        let why = subst (NotTaken c.index_mut.result.now.tables c.args.frame.now.1) same c.in-Err.ensures.cause in
+        let lt : c.args.frame.now.0 < length (tables_of c.args.self.now.nodes.items) = omega (arith, c.if-frame-n.false, c.len-n.ensures, tables_long c.args.self.now.nodes.items) in (
+          place,
+          subst (λ j. IsStrangeFrame (tables_of c.args.self.now.nodes.items) j c.args.frame.now.1 rule object kept) (sym place)
+              (inl (c.index_mut.result.now.tables, there_at _ c.args.frame.now.0 c.index_mut.result.now c.index_mut.result.now lt c.index_mut.ensures.value, why)),
+        )
+  ]
+]
+
+pub returns-in-Err-clause-memory : goal.returns-in-Err-clause-memory
+returns-in-Err-clause-memory g c = λ u is. elim (take_cases c.in-Err.fault) [
+  | inl e ↦
+      let lt : c.args.frame.now.0 < length (tables_of c.args.self.now.nodes.items) = omega (arith, c.if-frame-n.false, c.len-n.ensures, tables_long c.args.self.now.nodes.items) in (
+        c.index_mut.result.now.tables,
+        there_at _ c.args.frame.now.0 c.index_mut.result.now c.index_mut.result.now lt c.index_mut.ensures.value,
+        subst (NotTaken c.index_mut.result.now.tables c.args.frame.now.1) e c.in-Err.ensures.cause,
+      )
+  | inr y ↦ elim y [
+    | inl x ↦ absurd (let b = c.refusal-in-Err.ensures.bad x.0 x.1 x.2 in cc)
+    | inr x ↦ absurd (let s = c.refusal-in-Err.ensures.strange x.0 x.1 x.2 x.3 in cc)
   ]
 ]

@@ -71,13 +71,12 @@ mail_cases OutOfMemory = inl refl
 mail_cases (Strange rule object kept) = inr (rule, object, kept, refl)
 
 pub returns-in-Err-clause-strange : goal.returns-in-Err-clause-strange
-returns-in-Err-clause-strange g c = λ to frame rule object kept is. elim (mail_cases c.in-Err.fault) [
+returns-in-Err-clause-strange g c = λ to rule object kept is. elim (mail_cases c.in-Err.fault) [
   | inl e ↦ absurd (let m = c.mail_refusal.ensures.memory e in cc)
   | inr x ↦
       let s = c.mail_refusal.ensures.strange x.0 x.1 x.2 x.3 in
       let f = x.3 in
       let same : c.in-Err.fault ≡ Strange rule object kept = cc in (
-        cc,
         cc,
         (
           c.index_mut.result.now.tables,
