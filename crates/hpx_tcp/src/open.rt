@@ -40,6 +40,7 @@ impl<R> TcpPorts<R> {
     /// No call has failed.
     pub fn new(rt: R, alloc: Global, start: Start) -> TcpPorts<R>
         requires { IsAlwaysCallable start }
+        ensures { result.faults ≡ 0 }
     {
         TcpPorts {
             rt,
