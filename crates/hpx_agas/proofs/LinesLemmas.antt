@@ -18,7 +18,7 @@ same_or_not a b = elim (cases_Bool (a == b)) [
   | inr f ↦ inr (λ e. let no : true ≡ false = sym (eq-eqb a b e) ∙ f in cc)
 ]
 
-not_eq : (a b : ℕ) → a ≢ b → (a == b) ≡ false
+pub not_eq : (a b : ℕ) → a ≢ b → (a == b) ≡ false
 not_eq a b away = elim (cases_Bool (a == b)) [
   | inl t ↦ absurd (away (eqb-true a b t))
   | inr f ↦ f

@@ -71,6 +71,14 @@ module _ (xs ys : List Record) (g : Id) (m : Record) (found : (o : Id) → find_
         most = most;
       }
 
+-- a record that is set is of the object for which it is set
+pub set_same : (xs : List Record) (g : Id) (m : Record) → IsSomeAnd (find_record g xs) (λ r. m.gid ≡ r.gid) → same_object m.gid g ≡ true
+set_same xs g m there = each (find_record g xs) refl there
+  where
+    each : (slot : Option Record) → find_record g xs ≡ slot → IsSomeAnd slot (λ r. m.gid ≡ r.gid) → same_object m.gid g ≡ true
+    each None e h = absurd h
+    each (Some r) e h = same_turn g m.gid (ap (λ x. same_object g x) h ∙ find_same g xs r e)
+
 -- there is a record that is set
 pub set_there : (xs : List Record) (g : Id) (m : Record) → IsSomeAnd (find_record g xs) (λ r. m.gid ≡ r.gid) → IsSome (find_record m.gid xs)
 set_there xs g m there =

@@ -1,5 +1,5 @@
 -- Records by rising number.
-use Rattle.std.specs.Prelude.{ℕ, ◌<◌, List, [], ◌∷◌, Option, find}
+use Rattle.std.specs.Prelude.{ℕ, ◌<◌, List, [], ◌∷◌, Option, find, cond}
 use Rattle.hpx_value.specs.Ids.{Id, same_object}
 use Rattle.hpx_agas.specs.declared.record.Record.{Record}
 
@@ -11,3 +11,8 @@ find_record id records = find (λ r. same_object id r.gid) records
 abbrev pub Rises : ℕ → List Record → Type 0
 Rises low [] = Unit {0}
 Rises low (r ∷ rs) = (low < r.gid.number) × Rises r.gid.number rs
+
+-- these records, with what this makes of the record of an object in its place
+abbrev pub remade : Id → (Record → Record) → List Record → List Record
+remade id made [] = []
+remade id made (r ∷ rs) = cond (same_object id r.gid) (made r ∷ rs) (r ∷ remade id made rs)

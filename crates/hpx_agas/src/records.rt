@@ -1,10 +1,11 @@
-ghost use Rattle.std.specs.Prelude.{◌≡◌, ◌≢◌, ◌≤◌, ◌<◌, ◌+◌, ◌-◌, ◌^◌, ◌∷◌, ◌++◌, ◌↔◌, [], ℕ, Some, None, true, false, if◌then◌else◌, is_some, option_map, min, sum_by, ◌==◌, Ok, slice_get, IsSome, IsSomeAnd, IsErr, IfSome, IfNone, IfOk, OnOk, OnErr, MatchOption, length};
+ghost use Rattle.std.specs.Prelude.{◌≡◌, ◌≢◌, ◌≤◌, ◌<◌, ◌+◌, ◌-◌, ◌^◌, ◌∷◌, ◌++◌, ◌↔◌, [], ℕ, Some, None, true, false, if◌then◌else◌, is_some, option_map, min, sum_by, ◌==◌, Ok, slice_get, IsSome, IsSomeAnd, IsErr, IfSome, IfNone, IfOk, OnOk, OnErr, MatchOption, length, find};
 ghost use Rattle.std.specs.Option.{option_map_or};
 ghost use Rattle.hpx_value.specs.Ids.{Id, same_object, bare_id};
 ghost use Rattle.hpx_value.specs.Profiles.{IsValid};
 ghost use Rattle.hpx_agas.specs.declared.record.Record.{Record};
 ghost use Rattle.hpx_agas.specs.declared.record.Waiting.{Waiting};
-ghost use Rattle.hpx_agas.specs.Queues.{waits, Weighs};
+ghost use Rattle.hpx_agas.specs.Records.{remade};
+ghost use Rattle.hpx_agas.specs.Queues.{waits, is_for, with_last, without_first, Weighs};
 ghost use Rattle.hpx_agas.specs.Registries.{record_of, queue_of, newborn, left_of, lowered, granted_of, asked, count_of, move_of, Covers, IsFree, IsMovingTo, IsSound};
 
 use crate::record::Record;
@@ -189,6 +190,7 @@ impl<Q> Records<Q> {
         requires there { IsSomeAnd (record_of self.old gid) (λ r. made.gid ≡ r.gid) }
         requires least { 1 ≤ made.count }
         requires most { made.count ≤ self.old.profile.credit_limit }
+        ensures records { self.new.records ≡ remade gid (λ r. made) self.old.records }
         ensures record { record_of self.new gid ≡ Some made }
         ensures others { (o : Id) → same_object gid o ≡ false → record_of self.new o ≡ record_of self.old o }
         ensures queues { (o : Id) → queue_of self.new o ≡ queue_of self.old o }
@@ -259,6 +261,7 @@ impl<Q> Records<Q> {
     /// A move of an object to another place begins. It takes no memory.
     pub fn begin_move(&mut self, gid: Gid, to: u32)
         requires { IsFree (record_of self.old gid) to }
+        ensures records { self.new.records ≡ remade gid (λ (r : Record). record r { moving = Some to }) self.old.records }
         ensures record { record_of self.new gid ≡ option_map (λ (r : Record). record r { moving = Some to }) (record_of self.old gid) }
         ensures others { (o : Id) → same_object gid o ≡ false → record_of self.new o ≡ record_of self.old o }
         ensures queues { (o : Id) → queue_of self.new o ≡ queue_of self.old o }
@@ -279,6 +282,7 @@ impl<Q> Records<Q> {
     /// An object has come to the place that it moved to. It takes no memory.
     pub fn landed(&mut self, gid: Gid, place: u32) -> Result<(), Strange>
         ensures strange { IsErr result ↔ ¬ IsMovingTo (record_of self.old gid) place }
+        ensures records { OnOk result (self.new.records ≡ remade gid (λ (r : Record). record r { place = place; moving = None }) self.old.records) }
         ensures record { OnOk result (record_of self.new gid ≡ option_map (λ (r : Record). record r { place = place; moving = None }) (record_of self.old gid)) }
         ensures others { (o : Id) → same_object gid o ≡ false → record_of self.new o ≡ record_of self.old o }
         ensures queues { (o : Id) → queue_of self.new o ≡ queue_of self.old o }
@@ -307,7 +311,7 @@ impl<Q> Records<Q> {
         requires moving { IsSome (move_of self.old gid) }
         ensures queue { queue_of self.new gid ≡ queue_of self.old gid ++ item ∷ [] }
         ensures queues { (o : Id) → same_object gid o ≡ false → queue_of self.new o ≡ queue_of self.old o }
-        ensures sums { (f : Waiting Q → ℕ) → sum_by f self.new.waiting ≡ sum_by f self.old.waiting + f (waits gid.number item) }
+        ensures all { self.new.waiting ≡ with_last (waits gid.number item) self.old.waiting }
         ensures rest { self.new ≡ record self.old { waiting = self.new.waiting; spare = self.new.spare } }
         ensures spare { self.old.spare ≤ self.new.spare + 1 }
     {
@@ -318,7 +322,8 @@ impl<Q> Records<Q> {
     pub fn release(&mut self, gid: Gid) -> Option<Q>
         ensures item { MatchOption result (queue_of self.old gid ≡ []) (λ item. queue_of self.old gid ≡ item ∷ queue_of self.new gid) }
         ensures queues { (o : Id) → same_object gid o ≡ false → queue_of self.new o ≡ queue_of self.old o }
-        ensures sums { IfSome result (λ item. (f : Waiting Q → ℕ) → sum_by f self.new.waiting + f (waits gid.number item) ≡ sum_by f self.old.waiting) }
+        ensures first { IfSome result (λ item. find (is_for gid.number) self.old.waiting ≡ Some (waits gid.number item)) }
+        ensures all { IfSome result (λ item. self.new.waiting ≡ without_first gid.number self.old.waiting) }
         ensures rest { self.new ≡ record self.old { waiting = self.new.waiting; spare = self.new.spare } }
         ensures none { IfNone result (self.new ≡ self.old) }
         ensures spare { self.old.spare ≤ self.new.spare }

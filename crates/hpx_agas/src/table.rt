@@ -1,9 +1,9 @@
-ghost use Rattle.std.specs.Prelude.{if◌then◌else◌, option_map, ◌≡◌, ◌≢◌, ◌≤◌, ◌<◌, ◌+◌, ◌-◌, ◌^◌, ◌∷◌, ◌++◌, [], ℕ, Some, None, true, false, IsSome, IfSome, IfNone, OnOk, MatchOption, length, min, sum_by, slice_get, vec_len};
+ghost use Rattle.std.specs.Prelude.{if◌then◌else◌, option_map, ◌≡◌, ◌≢◌, ◌≤◌, ◌<◌, ◌+◌, ◌-◌, ◌^◌, ◌∷◌, ◌++◌, [], ℕ, Some, None, true, false, IsSome, IfSome, IfNone, OnOk, MatchOption, length, min, sum_by, slice_get, vec_len, find};
 ghost use Rattle.hpx_value.specs.Ids.{Id, same_object};
 ghost use Rattle.hpx_agas.specs.declared.record.Record.{Record};
 ghost use Rattle.hpx_agas.specs.declared.record.Waiting.{Waiting};
-ghost use Rattle.hpx_agas.specs.Records.{find_record, Rises};
-ghost use Rattle.hpx_agas.specs.Queues.{items_of, waits, Weighs};
+ghost use Rattle.hpx_agas.specs.Records.{find_record, Rises, remade};
+ghost use Rattle.hpx_agas.specs.Queues.{items_of, waits, is_for, with_last, without_first, Weighs};
 
 use crate::line::Line;
 use crate::queue::{Queue, Room};
@@ -154,6 +154,7 @@ impl<Q> Table<Q> {
     /// Another record in place of that of the same object.
     pub(crate) fn put(&mut self, made: Record)
         requires { IsSome (find_record made.gid self.old.records) }
+        ensures records { self.new.records ≡ remade made.gid (λ r. made) self.old.records }
         ensures found { (o : Id) → find_record o self.new.records ≡ (if same_object o made.gid then Some made else find_record o self.old.records) }
         ensures rising { Rises 0 self.new.records }
         ensures length { length self.new.records ≡ length self.old.records }
@@ -180,7 +181,7 @@ impl<Q> Table<Q> {
         requires there { IsSome (find_record gid self.old.records) }
         ensures here { items_of gid.number self.new.waiting ≡ items_of gid.number self.old.waiting ++ item ∷ [] }
         ensures others { (n : ℕ) → n ≢ gid.number → items_of n self.new.waiting ≡ items_of n self.old.waiting }
-        ensures sums { (f : Waiting Q → ℕ) → sum_by f self.new.waiting ≡ sum_by f self.old.waiting + f (waits gid.number item) }
+        ensures all { self.new.waiting ≡ with_last (waits gid.number item) self.old.waiting }
         ensures rest { self.new ≡ record self.old { waiting = self.new.waiting; spare = self.new.spare } }
         ensures spare { self.old.spare ≤ self.new.spare + 1 }
     {
@@ -195,7 +196,8 @@ impl<Q> Table<Q> {
         ensures item { MatchOption result (items_of gid.number self.old.waiting ≡ []) (λ item. items_of gid.number self.old.waiting ≡ item ∷ items_of gid.number self.new.waiting) }
         ensures none { IfNone result (self.new ≡ self.old) }
         ensures others { (n : ℕ) → n ≢ gid.number → items_of n self.new.waiting ≡ items_of n self.old.waiting }
-        ensures sums { IfSome result (λ item. (f : Waiting Q → ℕ) → sum_by f self.new.waiting + f (waits gid.number item) ≡ sum_by f self.old.waiting) }
+        ensures first { IfSome result (λ item. find (is_for gid.number) self.old.waiting ≡ Some (waits gid.number item)) }
+        ensures all { IfSome result (λ item. self.new.waiting ≡ without_first gid.number self.old.waiting) }
         ensures rest { self.new ≡ record self.old { waiting = self.new.waiting } }
     {
         let item = self.lines.pop(self.alloc, gid.number())?;

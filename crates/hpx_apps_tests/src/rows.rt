@@ -19,21 +19,22 @@ struct Written {
     line: Vec<u8>,
 }
 
-fn words(alloc: Global, words: &[&[u8]]) -> Result<Texts, OutOfMemory> {
+// The words of a line, apart by blanks.
+fn words(alloc: Global, line: &str) -> Result<Texts, OutOfMemory> {
     let mut texts = Vec::new(alloc);
-    for word in words {
-        texts.push(Text::from_vec(Vec::from_slice(alloc, word)?))?;
+    for word in line.split(' ') {
+        texts.push(Text::from_vec(Vec::from_slice(alloc, word.as_bytes())?))?;
     }
     Ok(Items::from_vec(texts))
 }
 
 // A run on these words, over ports of which none fails.
-fn run_on(alloc: Global, given: &[&[u8]], order: Order) -> Result<Written, OutOfMemory> {
+fn run_on(alloc: Global, line: &str, order: Order) -> Result<Written, OutOfMemory> {
     let mut source = SureSource::new(Bytes::from_vec(Vec::from_slice(alloc, b"query\n")?));
     let mut sink = SureSink::new(alloc);
     let mut err = SureSink::new(alloc);
     let fabric = SureFabric::new(alloc, order);
-    let words = words(alloc, given)?;
+    let words = words(alloc, line)?;
     let end = run(alloc, &words, &mut source, &mut sink, &mut err, fabric);
     Ok(Written {
         status: end.status,
@@ -42,95 +43,127 @@ fn run_on(alloc: Global, given: &[&[u8]], order: Order) -> Result<Written, OutOf
     })
 }
 
-type Row = (&'static [&'static [u8]], u8, &'static [u8], &'static [u8]);
+const ZERO: &str = "commands: reset, add [amount], query, help, quit\n> 0\n> ";
+
+const LIST: &str = "/parcels{locality#0/total}/count/sent
+/parcels{locality#0/total}/count/received
+/threads{locality#0/total}/count/cumulative
+/agas{locality#0/total}/count/cache/hits
+/agas{locality#0/total}/count/cache/misses
+/objects{locality#0/total}/count/born
+/objects{locality#0/total}/count/freed
+/objects{locality#0/total}/count/landed
+/credits{locality#0/total}/count/split
+/credits{locality#0/total}/count/asked
+/parcels{locality#1/total}/count/sent
+/parcels{locality#1/total}/count/received
+/threads{locality#1/total}/count/cumulative
+/agas{locality#1/total}/count/cache/hits
+/agas{locality#1/total}/count/cache/misses
+/objects{locality#1/total}/count/born
+/objects{locality#1/total}/count/freed
+/objects{locality#1/total}/count/landed
+/credits{locality#1/total}/count/split
+/credits{locality#1/total}/count/asked
+";
+
+type Row = (&'static str, u8, &'static str, &'static str);
 
 // Words, and the status, the text and the line for errors that they come to. The numbers are those of any table, and the
 // rows were counted by hand.
-const ROWS: [Row; 14] = [
-    (&[b"fib"], 0, b"fibonacci(10) == 55\n", b""),
+const ROWS: [Row; 25] = [
+    ("fib", 0, "fibonacci(10) == 55\n", ""),
     (
-        &[b"fib", b"--n-value", b"92", b"--threshold", b"92"],
+        "fib --n-value 92 --threshold 92",
         0,
-        b"fibonacci(92) == 7540113804746346429\n",
-        b"",
+        "fibonacci(92) == 7540113804746346429\n",
+        "",
     ),
     (
-        &[b"fib", b"--n-value", b"20", b"--hpx:localities=4"],
+        "fib --n-value 20 --hpx:localities=4",
         0,
-        b"fibonacci(20) == 6765\n",
-        b"",
+        "fibonacci(20) == 6765\n",
+        "",
     ),
     (
-        &[
-            b"fib",
-            b"--n-value",
-            b"2",
-            b"--threshold",
-            b"2",
-            b"--hpx:localities=64",
-        ],
+        "fib --n-value 2 --threshold 2 --hpx:localities=64",
         0,
-        b"fibonacci(2) == 1\n",
-        b"",
+        "fibonacci(2) == 1\n",
+        "",
+    ),
+    ("fib --n-value 0", 0, "fibonacci(0) == 0\n", ""),
+    ("fib --n-value 93", 1, "", "hpx: bad word 3\n"),
+    ("--hpx:threads=0 fib", 1, "", "hpx: bad word 1\n"),
+    ("fib --hpx:localities=65", 1, "", "hpx: bad word 2\n"),
+    (
+        "stencil --points 4 --parts 2 --steps 2 --hpx:localities=2",
+        0,
+        "2 1 2 1\n1 2 1 2\n",
+        "",
     ),
     (
-        &[b"fib", b"--n-value", b"0"],
+        "stencil --points=6 --parts=3 --steps=2",
         0,
-        b"fibonacci(0) == 0\n",
-        b"",
+        "3 1 2 3 4 2\n1 2 2 3 2 3\n",
+        "",
     ),
-    (&[b"fib", b"--n-value", b"93"], 1, b"", b"hpx: bad word 3\n"),
-    (&[b"--hpx:threads=0", b"fib"], 1, b"", b"hpx: bad word 1\n"),
+    ("stencil --steps 0", 0, "", ""),
     (
-        &[b"fib", b"--hpx:localities=65"],
+        "stencil --points=1 --steps=2 --hpx:localities=3",
+        0,
+        "0\n0\n",
+        "",
+    ),
+    ("stencil --points=10 --parts=3", 1, "", "hpx: bad word 0\n"),
+    ("stencil --points=1025", 1, "", "hpx: bad word 2\n"),
+    // what is printed where nothing is run, whatever else is asked for
+    ("--hpx:help", 0, "usage: hpx APPLICATION [OPTIONS]\n", ""),
+    (
+        "space --hpx:threads=8 --hpx:version --hpx:list-counters",
+        0,
+        "hpx profile 1\n",
+        "",
+    ),
+    ("--hpx:list-counters --hpx:localities=2", 0, LIST, ""),
+    ("--hpx:help fob", 1, "", "hpx: bad word 2\n"),
+    // the number of one locality, and of many
+    ("accumulator", 0, ZERO, ""),
+    ("accumulator --hpx:localities=64", 0, ZERO, ""),
+    // what the counters count: the first line is fed for the number itself
+    (
+        "accumulator --hpx:localities=2 --hpx:print-counter=/parcels{locality#0/total}/count/sent --hpx:print-counter=/parcels{locality#1/total}/count/received --hpx:print-counter=/objects{locality#63/total}/count/born",
+        0,
+        "commands: reset, add [amount], query, help, quit\n> 0\n> \
+/parcels{locality#0/total}/count/sent,2\n/parcels{locality#1/total}/count/received,2\n\
+/objects{locality#63/total}/count/born,0\n",
+        "",
+    ),
+    // the line, FIB of 2, of 1 and of 0, their sum, and an answer to each of these, and to the dataflow's GET
+    (
+        "fib --n-value=2 --hpx:print-counter=/threads{locality#0/total}/count/cumulative --hpx:print-counter=/objects{locality#0/total}/count/born",
+        0,
+        "fibonacci(2) == 1\n/threads{locality#0/total}/count/cumulative,9\n\
+/objects{locality#0/total}/count/born,1\n",
+        "",
+    ),
+    (
+        "stencil --points=4 --parts=2 --steps=1 --hpx:print-counter=/objects{locality#0/total}/count/born",
+        0,
+        "2 1 2 1\n/objects{locality#0/total}/count/born,2\n",
+        "",
+    ),
+    // the least credit, and a cache of one place
+    (
+        "fib --hpx:localities=3 --hpx:ini=hpx.agas.credit_log=8 --hpx:ini=hpx.agas.credit_limit=256 --hpx:ini=hpx.agas.cache_size=1 --hpx:print-counter=/credits{locality#0/total}/count/asked",
+        0,
+        "fibonacci(10) == 55\n/credits{locality#0/total}/count/asked,0\n",
+        "",
+    ),
+    (
+        "accumulator --hpx:ini=hpx.agas.credit_limit=255 --hpx:ini=hpx.agas.credit_log=8",
         1,
-        b"",
-        b"hpx: bad word 2\n",
-    ),
-    (
-        &[
-            b"stencil",
-            b"--points",
-            b"4",
-            b"--parts",
-            b"2",
-            b"--steps",
-            b"2",
-            b"--hpx:localities=2",
-        ],
-        0,
-        b"2 1 2 1\n1 2 1 2\n",
-        b"",
-    ),
-    (
-        &[b"stencil", b"--points=6", b"--parts=3", b"--steps=2"],
-        0,
-        b"3 1 2 3 4 2\n1 2 2 3 2 3\n",
-        b"",
-    ),
-    (&[b"stencil", b"--steps", b"0"], 0, b"", b""),
-    (
-        &[
-            b"stencil",
-            b"--points=1",
-            b"--steps=2",
-            b"--hpx:localities=3",
-        ],
-        0,
-        b"0\n0\n",
-        b"",
-    ),
-    (
-        &[b"stencil", b"--points=10", b"--parts=3"],
-        1,
-        b"",
-        b"hpx: bad word 0\n",
-    ),
-    (
-        &[b"stencil", b"--points=1025"],
-        1,
-        b"",
-        b"hpx: bad word 2\n",
+        "",
+        "hpx: bad word 0\n",
     ),
 ];
 
@@ -140,9 +173,9 @@ fn what_is_read_is_the_same_in_every_order(rt: HostRuntime) -> Result<(), Fail> 
     for order in ORDERS {
         for (words, status, text, line) in ROWS {
             let written = run_on(alloc, words, order)?;
-            assert_eq!(rt; written.status, status, "{words:?}");
-            assert_eq!(rt; written.text.as_slice(), text, "{words:?}");
-            assert_eq!(rt; written.line.as_slice(), line, "{words:?}");
+            assert_eq!(rt; written.status, status, "{words}");
+            assert_eq!(rt; written.text.as_slice(), text.as_bytes(), "{words}");
+            assert_eq!(rt; written.line.as_slice(), line.as_bytes(), "{words}");
         }
     }
     Ok(())

@@ -1,5 +1,5 @@
 //! Tests of what stands below the acts and the journal: ids, values and profiles, the table of held ids, the cache of places, records and
-//! the arithmetic of credit, ports in memory and over TCP, spawners, hands of the deques, and the four counters.
+//! the arithmetic of credit, ports in memory and over TCP, spawners, the launcher, hands of the deques, and the four counters.
 #![tactic(auto)]
 
 #[cfg(test)]
@@ -12,6 +12,8 @@ mod ended;
 mod failure;
 #[cfg(test)]
 mod ids;
+#[cfg(test)]
+mod launches;
 #[cfg(test)]
 mod members;
 #[cfg(test)]

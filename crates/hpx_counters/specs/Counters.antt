@@ -104,3 +104,9 @@ counts_entry counter entry = (entry.at == counter.locality) && counts_event coun
 -- how many entries a counter counts
 abbrev pub counter_value : Counter → List Entry → ℕ
 counter_value counter entries = count_by (counts_entry counter) entries
+
+-- ---- texts
+
+-- the line that tells a counter's value: its name, a comma, and the number
+abbrev pub value_text : Counter → ℕ → List ℕ
+value_text counter value = name_of counter ++ (codes "," ++ (decimal value ++ codes "\n"))

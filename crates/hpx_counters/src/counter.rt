@@ -1,10 +1,12 @@
 ghost use Rattle.std.specs.Prelude.{◌≡◌, ◌<◌, ◌≤◌, ◌+◌, ◌/◌, ◌%◌, ◌∷◌, [], length, IfOk};
 ghost use Rattle.std.specs.Fmt.{decimal};
-ghost use Rattle.hpx_counters.specs.Counters.{head_of, tail_of, name_of, counts_event, counts_entry};
+ghost use Rattle.hpx_counters.specs.Counters.{head_of, tail_of, name_of, counts_event, counts_entry, value_text};
 
+use arrayvec::ArrayString;
 use hpx_journal::entry::{Entry, Event};
 use hpx_value::items::{Items, Text};
 use hpx_value::memory::OutOfMemory;
+use itoa::Buffer;
 use std::alloc::Global;
 
 /// What a counter counts at its locality.
@@ -37,9 +39,6 @@ pub struct Counter {
     pub what: Counted,
     pub locality: u16,
 }
-
-/// Counters, in order.
-pub type Counters = Items<Counter>;
 
 impl Counted {
     /// What stands before the locality in a name.
@@ -117,6 +116,20 @@ impl Counter {
         let tail = self.what.tail();
         let name = format!(in alloc; "{head}{locality}{tail}")?;
         Ok(Items::from_vec(name.into_bytes()))
+    }
+
+    /// The line that tells a value of the counter. It takes no memory.
+    pub fn line(&self, value: u64) -> ArrayString<96>
+        ensures { result.bytes ≡ value_text self.now value }
+    {
+        let mut line = ArrayString::new();
+        line.push_str(self.what.head());
+        line.push_str(Buffer::new().format(self.locality));
+        line.push_str(self.what.tail());
+        line.push_str(",");
+        line.push_str(Buffer::new().format(value));
+        line.push_str("\n");
+        line
     }
 }
 

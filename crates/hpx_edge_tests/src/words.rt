@@ -103,8 +103,8 @@ const ROWS: [Row; 12] = [
     ),
     // a word that is cut would fit
     (
-        &[b"accumulator", b"--hpx:localities=22"],
-        b"hpx: bad word 0\n",
+        &[b"accumulator", b"--hpx:localities=644"],
+        b"hpx: bad word 2\n",
     ),
     (
         &[b"accumulators", b"--hpx:localities=2"],

@@ -1,5 +1,6 @@
 -- From a passive moment on, the entries alone pay.
-use Rattle.hpx_node.proofs.Common.{Actions, AreFired, Entry, Event, IsPassive, List, Outgoing, Parcel, Row, Rules, StandsWith, Tables, [], ap, arith, causes, goes, hops, length, map, map-append, messages, part, queued, refl, sets_out, spends, subst, sum_by, sum_by-append, unpaid, weight, ◌++◌, ◌+◌, ◌∙◌, ◌≡◌, ◌≤◌}
+use Rattle.hpx_node.proofs.Common.{Actions, AreFired, Entry, Event, IsPassive, List, Row, Rules, StandsWith, Tables, [], ap, arith, causes, goes, hops, length, map, map-append, part, queued, refl, sets_out, spends, subst, sum_by, sum_by-append, unpaid, weight, ◌++◌, ◌+◌, ◌∙◌, ◌≡◌, ◌≤◌}
+use Rattle.hpx_node.proofs.Messages.{passive_none}
 use Rattle.hpx_journal.proofs.Grow.{part_append}
 use Rattle.hpx_steps.proofs.ByRows.{by_rows}
 use Rattle.hpx_node.proofs.IdleFired.{spends_sum, hops_sum, fired_first, fired_last, sum_events}
@@ -9,10 +10,7 @@ none_queued = by_rows (λ row. queued row [] ≡ 0) refl refl refl refl refl ref
 
 pub passive_unpaid : (t : Tables) → IsPassive t → (row : Row) → unpaid row t ≡ 0
 passive_unpaid t passive row =
-    let none : messages t ≡ [] =
-    ap (λ (d : List Parcel). d ++ map (λ (x : Outgoing). x.parcel) t.outgoing) passive.desk
-    ∙ ap (λ (xs : List Outgoing). map (λ (x : Outgoing). x.parcel) xs) passive.outgoing in
-    omega (arith, ap (sum_by (weight row)) none, ap (queued row) passive.accepted, none_queued row)
+    omega (arith, ap (sum_by (weight row)) (passive_none t passive), ap (queued row) passive.accepted, none_queued row)
 
 pub paid_since : (r : Rules) (t t' : Tables) (entries later : List Entry) → StandsWith r t [] [] entries → IsPassive t
     → StandsWith r t' [] [] (entries ++ later) → t'.here ≡ t.here → (row : Row)

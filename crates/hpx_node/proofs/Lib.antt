@@ -19,6 +19,7 @@ pub mod IdleSince
 pub mod LeftBy
 pub mod LeftFailed
 pub mod Made
+pub mod Messages
 pub mod Numbers
 pub mod OfPrepared
 pub mod Paused

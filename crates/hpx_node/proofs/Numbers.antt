@@ -1,5 +1,6 @@
 -- What a node's tables tell, by what stands at its locality.
-use Rattle.hpx_node.proofs.Common.{Act, Agree-sum, AllByRecursion, Apply, Arrived, Ask, Bool, Cached, Free, Give, Go, HasRightCredit, Id, IsBare, IsParcel, IsPassive, IsTidy, List, Local, Move, None, Option, Outgoing, Parcel, Return, Shipped, Some, Standing, Tables, Travel, Waits, [], action_of, acts_in, all_imp, ap, arith, awaited_at, awaited_here, bare_act, bare_standing, cases_Bool, cond, count_by, credit, credit_in, credit_of_log, credit_owed, drawn_by, false, find, flat_map, held-Counts, held_here, held_worth, ids_held, ids_kept, inl, inr, is_act, is_answer, is_busy, is_some, is_standing, map, messages, name_of, names, owed_here, owed_worth, parcel_tokens, refl, same_object, same_object-through, same_token-true, session, stands_here, subst, sum_by, sum_by-append, sum_by-cons, sym, true, travels_in, view, zero-add, ℕ, ◌++◌, ◌-◌, ◌==◌, ◌^◌, ◌∙◌, ◌∷◌, ◌≡◌, ◌≤◌}
+use Rattle.hpx_node.proofs.Common.{Act, Agree-sum, AllByRecursion, Apply, Arrived, Ask, Bool, Cached, Free, Give, Go, HasRightCredit, Id, IsBare, IsParcel, IsPassive, IsTidy, List, Local, Move, None, Option, Parcel, Return, Shipped, Some, Standing, Tables, Waits, [], action_of, acts_in, all_imp, ap, arith, awaited_at, awaited_here, bare_act, bare_standing, cases_Bool, cond, count_by, credit, credit_in, credit_of_log, credit_owed, drawn_by, false, find, flat_map, held-Counts, held_here, held_worth, ids_held, ids_kept, inl, inr, is_act, is_answer, is_busy, is_some, is_standing, map, messages, name_of, names, owed_here, owed_worth, parcel_tokens, refl, same_object, same_object-through, same_token-true, session, stands_here, subst, sum_by, sum_by-append, sum_by-cons, sym, true, travels_in, view, zero-add, ℕ, ◌++◌, ◌-◌, ◌==◌, ◌^◌, ◌∙◌, ◌∷◌, ◌≡◌, ◌≤◌}
+use Rattle.hpx_node.proofs.Messages.{passive_none}
 use Rattle.hpx_parcel.specs.Credits.{credit_list, credits_of}
 use Rattle.hpx_journal.specs.Local.{is_travel}
 use Rattle.hpx_journal.specs.Tokens.{held, owing, is_held}
@@ -195,9 +196,7 @@ either_way false = refl
 pub rest_shown : (t : Tables) (s : Local) (o : Id) → 16 ≤ o.kind → IsPassive t → IsTidy t [] → Shows (view t [] []) s
     → count_by (is_held o) s.tokens ≡ names o s
 rest_shown t s o managed passive tidy shown =
-    let none : messages t ≡ [] =
-    ap (λ (d : List Parcel). d ++ map (λ (x : Outgoing). x.parcel) t.outgoing) passive.desk
-    ∙ ap (λ (xs : List Outgoing). map (λ (x : Outgoing). x.parcel) xs) passive.outgoing in
+    let none = passive_none t passive in
     let whole = all_imp _ (λ (x : Standing). AllByRecursion HasRightCredit x.state.ids) (λ x h. h (either_way (x.object.kind == 7))) t.objects (subst (λ (ws : List Waits). AllByRecursion (λ (x : Standing). is_busy x.object (map action_of ws) ≡ false → AllByRecursion HasRightCredit x.state.ids) t.objects)
     passive.pending tidy.paused.whole) in
     let waits : (view t [] []).waiting ≡ [] =

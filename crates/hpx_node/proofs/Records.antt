@@ -2,6 +2,7 @@
 use Rattle.hpx_node.proofs.Common.{Ask, Bool, Count, DealsWith, Free, Give, Granted, Id, IfSome, IsSomeAnd, Leaves, List, None, Option, Parcel, Profile, Record, Refused, Return, Some, Standing, Tables, [], and_true, answered, ap, append-nil, asked, bare, cases_Bool, cond, count_here, credit, eqb-true, false, find, find_passes, find_record, granted_of, grown, if◌then◌else◌, inl, inr, is_live, is_some, is_standing, left_of, lowered, more_here, nat_lt, option_and_then, option_map, place_or_0, refl, remove, same_object, slice_get, some_same, subst, suc, sym, take, true, with_mail, with_mail_if, without, zero, ℕ, ◌&&◌, ◌++◌, ◌+◌, ◌-◌, ◌==◌, ◌^◌, ◌∙◌, ◌∷◌, ◌≡◌, ◌≤◌}
 use Rattle.std.specs.List.Sorted.{IsPermutation}
 use Rattle.std.specs.Option.{option_map_or}
+use Rattle.hpx_agas.specs.declared.record.Waiting.{Waiting}
 use Rattle.hpx_agas.specs.declared.records.Left.TheVariants.{Alive, Dead}
 use Rattle.hpx_agas.specs.declared.records.Granted.TheVariants.{Limit, Yes}
 
@@ -85,28 +86,30 @@ module _ (t : Tables) (id : Id) (live : is_live t id ≡ true) where
   more_is : nat_lt t.profile.credit_limit (more_here t id) ≡ nat_lt t.profile.credit_limit (grown t.profile found.0)
   more_is = ap (λ n. nat_lt t.profile.credit_limit (n + 2 ^ t.profile.credit_log - 1)) was
 
-module _ (t t' : Tables) (id : Id) (live : is_live t id ≡ true) (births : ℕ) (records : List Record) (same : births ≡ t.births) where
+module _ (t t' : Tables) (id : Id) (live : is_live t id ≡ true) (births : ℕ) (records : List Record) (queued : List (Waiting Parcel)) (same : births ≡ t.births) (still : queued ≡ t.queued) where
   place_is : place_or_0 t id ≡ (found t id live).0.place
   place_is = ap (λ (o : Option Record). option_map_or (λ (x : Record). x.place) o 0) (found t id live).1
 
   -- there is more out
-  pub alive_deals : IfSome (find_record id t.records) (λ x. Alive ≡ left_of x id) → DealsWith (Return id) t (record t { births = births; records = records })
+  pub alive_deals : IfSome (find_record id t.records) (λ x. Alive ≡ left_of x id) → DealsWith (Return id) t (record t { births = births; records = records; queued = queued })
   alive_deals alive =
       let more = alive_some (found t id live).0 id (subst (λ (o : Option Record). IfSome o (λ x. Alive ≡ left_of x id)) (found t id live).1 alive) in
-      ap (λ n. record t { births = n; records = records }) same
-      ∙ (ap (λ (x : Tables). record x { records = records }) (sym (no_mail (place_or_0 t id) (Free (bare id)) t))
+      ap (λ n. record t { births = n; records = records; queued = queued }) same
+      ∙ (ap (λ ws. record t { records = records; queued = ws }) still
+      ∙ ap (λ (x : Tables). record x { records = records }) (sym (no_mail (place_or_0 t id) (Free (bare id)) t))
       ∙ ap (λ b. record (with_mail_if b (place_or_0 t id) (Free (bare id)) t) { records = records }) (sym (ap (λ n. n == credit id) (was t id live) ∙ more)))
 
   -- a message goes then
-  mailed : (to : ℕ) (p : Parcel) → t' ≡ with_mail to p (record t { births = births; records = records }) → t' ≡ record (with_mail to p t) { records = t'.records }
+  mailed : (to : ℕ) (p : Parcel) → t' ≡ with_mail to p (record t { births = births; records = records; queued = queued }) → t' ≡ record (with_mail to p t) { records = t'.records }
   mailed to p h =
       h
-      ∙ (ap (λ n. with_mail to p (record t { births = n; records = records })) same
-      ∙ ap (λ rs. record (with_mail to p t) { records = rs }) (sym (ap (λ (v : Tables). v.records) h)))
+      ∙ (ap (λ n. with_mail to p (record t { births = n; records = records; queued = queued })) same
+      ∙ (ap (λ ws. with_mail to p (record t { records = records; queued = ws })) still
+      ∙ ap (λ rs. record (with_mail to p t) { records = rs }) (sym (ap (λ (v : Tables). v.records) h))))
 
   -- that was all: the object is to be freed
   pub dead_deals : (place : ℕ) → IfSome (find_record id t.records) (λ x. Dead place ≡ left_of x id)
-      → t' ≡ with_mail place (Free (bare id)) (record t { births = births; records = records }) → DealsWith (Return id) t t'
+      → t' ≡ with_mail place (Free (bare id)) (record t { births = births; records = records; queued = queued }) → DealsWith (Return id) t t'
   dead_deals place dead goes =
       let last = dead_all place (found t id live).0 id (subst (λ (o : Option Record). IfSome o (λ x. Dead place ≡ left_of x id)) (found t id live).1 dead) in
       mailed place (Free (bare id)) goes
@@ -114,7 +117,7 @@ module _ (t t' : Tables) (id : Id) (live : is_live t id ≡ true) (births : ℕ)
       ∙ ap (λ b. record (with_mail_if b (place_or_0 t id) (Free (bare id)) t) { records = t'.records }) (sym (ap (λ n. n == credit id) (was t id live) ∙ last.0)))
 
   module _ (p : Profile) (given : Id) (asker entry : ℕ) (tuned : p ≡ t.profile)
-      (goes : t' ≡ with_mail asker (Give given entry) (record t { births = births; records = records })) where
+      (goes : t' ≡ with_mail asker (Give given entry) (record t { births = births; records = records; queued = queued })) where
     answer_deals : (b : Bool) → nat_lt t.profile.credit_limit (grown t.profile (found t id live).0) ≡ b
         → given ≡ cond b id (record id { log = Some t.profile.credit_log }) → DealsWith (Ask id asker entry) t t'
     answer_deals b full is =

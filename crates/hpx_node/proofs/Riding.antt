@@ -1,7 +1,7 @@
 -- What a commit leaves is sent, its rider is merged or given up, and the rest is given up: call by call.
 use Rattle.std.proofs.lemmas.Bool.Decides.{nat_tests}
 use Rattle.hpx_tables.specs.Merged.{is_like}
-use Rattle.hpx_node.proofs.Common.{and_true, arith, cond, list_any, may_merge, merged_in, nat_lt, Return, set, true, with_mail, with_rider, ◌<◌, Due, Entry, Event, Id, List, OnlyLeaves, OnlySends, Some, Standing, Tables, [], ap, append_assoc, at_all, at_all_append, rider_events, slice_get, sym, ups, with_done, with_due, with_returns, with_riders, written_due, ℕ, ◌++◌, ◌∙◌, ◌≡◌}
+use Rattle.hpx_node.proofs.Common.{and_true, arith, cond, list_any, may_merge, merged_in, nat_lt, Return, set, true, with_mail, with_rider, ◌<◌, Due, Entry, Event, Id, List, OnlyLeaves, OnlySends, Some, Standing, Tables, ap, append_assoc, at_all, at_all_append, rider_events, slice_get, sym, ups, with_done, with_due, with_returns, with_riders, written_due, ℕ, ◌++◌, ◌∙◌, ◌≡◌}
 
 module _ (j : ℕ) (due : List Due) (riders loose : List Id) (t m n u : Tables) (pays : OnlySends t m) (merges : OnlyLeaves m n) (gives : OnlySends n u) where
   pub leaves_then : OnlyLeaves t u

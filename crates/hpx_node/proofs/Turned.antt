@@ -1,5 +1,6 @@
 -- A message is taken up, dealt with, and what follows it is done: all that holds goes on to hold.
-use Rattle.hpx_node.proofs.Common.{Accepts, Act, AllByRecursion, Book, Broken, DealsWith, Entry, HasFollowed, HasRoom, In, IsNext, IsParcel, IsTidy, Leaves, List, Mail, MayFollow, Next, None, OnlySpare, Option, Outcome, Outgoing, Parcel, Some, Stands, StandsAtRest, State, Tables, Writes, [], ap, arith, bare_act, bare_state, broken, desk_accepts, desk_leads, desk_stands, effects, frame_leads, frame_stands, get_or, inl, inr, kind_of, map, message_of, named, near_right, parcel_of, refl, rest_stands, rules_of, subst, sym, ℕ, ◌++◌, ◌+◌, ◌<◌, ◌^◌, ◌∙◌, ◌∷◌, ◌≡◌, ◌≤◌}
+use Rattle.hpx_node.proofs.Common.{Accepts, Act, AllByRecursion, Book, Broken, DealsWith, Entry, HasFollowed, HasRoom, In, IsNext, IsParcel, IsTidy, Leaves, List, Mail, MayFollow, Next, None, OnlySpare, Option, Outcome, Parcel, Some, Stands, StandsAtRest, State, Tables, Writes, [], ap, arith, bare_act, bare_state, broken, desk_accepts, desk_leads, desk_stands, effects, frame_leads, frame_stands, get_or, inl, inr, kind_of, message_of, named, near_right, parcel_of, refl, rest_stands, rules_of, subst, sym, ℕ, ◌++◌, ◌+◌, ◌<◌, ◌^◌, ◌∙◌, ◌∷◌, ◌≡◌, ◌≤◌}
+use Rattle.hpx_node.proofs.Messages.{messages_first}
 use Rattle.hpx_node.specs.Handled.{Clears, Takes}
 use Rattle.hpx_node.proofs.Arrived.{deals_rest, ins_few, leaves_from}
 use Rattle.hpx_node.proofs.Continued.{IsGiven, given_frame, given_mail}
@@ -102,7 +103,7 @@ module _ (act_of : ℕ → ℕ → ℕ → State → Act → Outcome) (t m mid :
   first_is = first_there t m p q rest o same.tables first is told none
 
   fit : IsParcel p
-  fit = (subst (AllByRecursion IsParcel) (ap (λ ds. ds ++ map (λ (y : Outgoing). y.parcel) t.outgoing) first_is) (at_rest_tidy act_of t b.entries h).messages).0
+  fit = (subst (AllByRecursion IsParcel) (messages_first t p rest first_is) (at_rest_tidy act_of t b.entries h).messages).0
 
   pub desk_next : IsNext act_of t p x
   desk_next = next_first act_of t m p again rest x same.tables first looked seen

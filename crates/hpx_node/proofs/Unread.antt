@@ -1,7 +1,7 @@
 -- What is said of a frame that was not decoded.
 use Rattle.hpx_node.proofs.Common.{Broken, List, Option, Parcel, Some, Tables, ap, broken, parcel_of, sym, ℕ, ◌∙◌, ◌≡◌}
 use Rattle.hpx_parcel.specs.declared.outline.Outline.{Outline}
-use Rattle.hpx_parcel.specs.Outlines.{IsOutline, outline}
+use Rattle.hpx_parcel.specs.Outlines.{IsOutline}
 use Rattle.hpx_parcel.proofs.Frames.{spelled_parcel}
 use Rattle.hpx_tables.specs.Strange.{rule_of}
 use Rattle.hpx_tables.proofs.Outlined.{told_rule}

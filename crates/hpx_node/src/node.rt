@@ -11,8 +11,8 @@ ghost use Rattle.hpx_steps.specs.Frames.{MayGoTo};
 ghost use Rattle.hpx_steps.specs.Mail.{is_other, moves_on, may_stay, with_act, with_mail};
 
 use hpx_agas::records::Records;
+use hpx_journal::entry::Name;
 use hpx_journal::local::move_to;
-use hpx_parcel::parcel::Parcel;
 use hpx_tables::boot::roots;
 use hpx_tables::find::target;
 use hpx_tables::kept::{Fit, Letter, Outgoing};
@@ -55,8 +55,11 @@ pub struct Node<A: Acts + Copy> {
     asked: u64,
     desk: VecDeque<Letter>,
     outgoing: VecDeque<Outgoing>,
+    leaving: VecDeque<Letter>,
+    stray: VecDeque<Letter>,
+    came: Vec<Name>,
     objects: Objects,
-    records: Records<Parcel>,
+    records: Records<Letter>,
     sent: u64,
     taken: u64,
     answered: u64,
@@ -82,6 +85,10 @@ impl<A: Acts + Copy> Model for Node<A> {
         asked = n.asked;
         desk = n.desk.items;
         outgoing = n.outgoing.items;
+        queued = n.records.waiting;
+        leaving = n.leaving.items;
+        stray = n.stray.items;
+        came = n.came.items;
         objects = n.objects.items;
         births = n.records.births;
         records = n.records.records;
@@ -126,6 +133,9 @@ impl<A: Acts + Copy> Node<A> {
             asked: 0,
             desk: VecDeque::new(alloc),
             outgoing: VecDeque::new(alloc),
+            leaving: VecDeque::new(alloc),
+            stray: VecDeque::new(alloc),
+            came: Vec::new(alloc),
             objects,
             records: Records::new(alloc, profile, here),
             sent: 0,
@@ -216,6 +226,16 @@ impl<A: Acts + Copy> Node<A> {
             && self.pending.is_empty()
             && self.desk.is_empty()
             && self.outgoing.is_empty()
+            && self.records.waiting() == 0
+            && self.leaving.is_empty()
+            && self.stray.is_empty()
+    }
+
+    /// Nothing waits until its object has moved: no object moves yet.
+    pub fn rests(&self)
+        ensures { self.now.tables.queued ≡ [] }
+    {
+        let _here = self.here;
     }
 
     /// Which locality it is.

@@ -14,7 +14,7 @@ usual app localities mode = record {
   localities = localities;
   threads = 1;
   profile = record { credit_log = 31; credit_limit = 2 ^ 100; cache = 64 };
-  counters = [];
+  counters = record { items = [] };
   mode = mode;
   settle = false;
   journal = false;

@@ -1,5 +1,5 @@
 -- What a command line means.
-use Rattle.std.specs.Prelude.{ℕ, max, Bool, true, false, not, ◌&&◌, ◌||◌, ◌==◌, ◌+◌, ◌-◌, ◌%◌, ◌^◌, ◌≢◌, List, [], ◌∷◌, nat_lt, nat_le, Option, Some, None, is_some, option_map, option_and_then, if◌then◌else◌}
+use Rattle.std.specs.Prelude.{ℕ, max, Bool, true, false, not, ◌&&◌, ◌||◌, ◌==◌, ◌+◌, ◌-◌, ◌%◌, ◌^◌, List, [], ◌∷◌, nat_lt, nat_le, Option, Some, None, is_some, option_map, option_and_then, if◌then◌else◌}
 use Rattle.hpx_value.specs.declared.profile.Profile.{Profile}
 use Rattle.hpx_options.specs.declared.table.Application.{Application}
 use Rattle.hpx_options.specs.declared.table.Application.TheVariants.{Accumulator, Space, Fib, Stencil, Load, Check, Collect, Vector}
@@ -150,7 +150,7 @@ settings_with line app profile mode = record {
   localities = number_at line Name.Localities 1;
   threads = number_at line Name.Threads 1;
   profile = profile;
-  counters = line.counters.items;
+  counters = line.counters;
   mode = mode;
   settle = number_at line Name.Settle 0 == 1;
   journal = number_at line Name.Journal 0 == 1;
@@ -170,11 +170,6 @@ pub data Reading : Type 0 where
 abbrev pub finished : Option Settings → Reading
 finished None = BadWord 0
 finished (Some settings) = Means settings
-
--- settings are meant, with counters
-abbrev pub AsksForCounters : Reading → Type 0
-AsksForCounters (Means settings) = settings.counters ≢ []
-AsksForCounters (BadWord place) = ⊥
 
 abbrev pub on_line : Option Line → Reading → (Line → Reading) → Reading
 on_line None bad next = bad

@@ -3,16 +3,11 @@ ghost use Rattle.std.specs.Prelude.{◌≡◌, ◌==◌, ◌<◌, length, positi
 ghost use Rattle.hpx_options.specs.Words.{name_part, value_part, datum_in, empty_line, value_at, is_open, with_value, with_counter, after_key, after_value, after_head, after_application, after_word};
 
 use crate::number::{number, op_named, port};
-use crate::settings::Op;
+use crate::settings::{Counters, Op};
 use crate::table::{
     Application, Form, OPTIONS, OptionName, application_named, key_named, option_named,
 };
-use arrayvec::ArrayVec;
-use hpx_counters::counter::Counter;
 use hpx_counters::counters;
-
-/// The most counters that one line can ask for.
-pub(crate) const COUNTERS: usize = 64;
 
 /// What an option was given.
 #[derive(Clone, Copy, Debug, PartialEq, Eq)]
@@ -33,7 +28,7 @@ pub(crate) struct Line {
     pub(crate) application: Option<Application>,
     /// What each option was given, by its place in the table.
     pub(crate) values: [Option<Datum>; OPTIONS],
-    pub(crate) counters: ArrayVec<Counter, COUNTERS>,
+    pub(crate) counters: Counters,
     /// The option whose value is the next word.
     pub(crate) awaited: Option<OptionName>,
 }
@@ -91,7 +86,7 @@ impl Line {
         Line {
             application: None,
             values: [None; OPTIONS],
-            counters: ArrayVec::new(),
+            counters: Counters::new(),
             awaited: None,
         }
     }

@@ -1,16 +1,12 @@
 //! What a line that was read to its end means.
-ghost use Rattle.std.specs.Prelude.{◌≡◌, ◌+◌, ◌≢◌, ◌↔◌, ℕ, [], Ok, Err, Some, None, IfOk, OnErr};
+ghost use Rattle.std.specs.Prelude.{◌≡◌, ◌+◌};
 ghost use Rattle.hpx_options.specs.Words.{value_at};
-ghost use Rattle.hpx_options.specs.Meanings.{number_at, log_from, limit_from, op_from, port_from, is_given, usual_threshold, run_of, app_of, divides, suits, covers, profile_of, is_hosted, has_role, has_port, is_member, member_of, is_alone, mode_of, settings_of, finished, AsksForCounters};
+ghost use Rattle.hpx_options.specs.Meanings.{number_at, log_from, limit_from, op_from, port_from, is_given, usual_threshold, run_of, app_of, divides, suits, covers, profile_of, is_hosted, has_role, has_port, is_member, member_of, is_alone, mode_of, settings_of};
 
 use crate::line::{Datum, Line};
-use crate::settings::{App, Mode, Op, OptionFault, Settings};
+use crate::settings::{App, Mode, Op, Settings};
 use crate::table::{Application, MOST_CREDIT, OptionName};
-use hpx_counters::counter::Counters;
-use hpx_value::items::Items;
-use hpx_value::memory::OutOfMemory;
 use hpx_value::profile::Profile;
-use std::alloc::Global;
 
 impl Line {
     /// The number that an option was given, or another one.
@@ -208,47 +204,26 @@ impl Line {
         }
     }
 
-    /// The counters that are asked for. Only where there are some, memory is taken.
-    fn counters(&self, alloc: Global) -> Result<Counters, OutOfMemory>
-        ensures ok { IfOk result (λ counters. counters ≡ self.now.counters.items) }
-        ensures memory { OnErr result (self.now.counters.items ≢ []) }
+    /// The settings; None where a word is missing, or words clash.
+    pub(crate) fn settings(self) -> Option<Settings>
+        ensures { result ≡ settings_of self }
     {
-        if self.counters.is_empty() {
-            return Ok(Items::new(alloc));
-        }
-        match Vec::from_slice(alloc, self.counters.as_slice()) {
-            Ok(counters) => Ok(Items::from_vec(counters)),
-            Err(_) => Err(OutOfMemory),
-        }
-    }
-
-    /// The settings. A word may be missing, or words clash.
-    pub(crate) fn settings(self, alloc: Global) -> Result<Settings, OptionFault>
-        ensures ok { IfOk result (λ settings. settings_of self ≡ Some settings) }
-        ensures usage { (place : ℕ) → (result ≡ Err (OptionFault.Usage place)) ↔ ((place ≡ 0) × (settings_of self ≡ None)) }
-        ensures memory { result ≡ Err OptionFault.OutOfMemory → AsksForCounters (finished (settings_of self)) }
-    {
-        let usage = OptionFault::Usage { place: 0 };
         if self.awaited.is_some() || !self.suits() {
-            return Err(usage);
+            return None;
         }
-        let (app, profile, mode) = match (self.app(), self.profile(), self.mode()) {
-            (Some(app), Some(profile), Some(mode)) => (app, profile, mode),
-            _ => return Err(usage),
-        };
-        match self.counters(alloc) {
-            Ok(counters) => Ok(Settings {
-                app,
-                localities: self.number(OptionName::Localities, 1),
-                threads: self.number(OptionName::Threads, 1),
-                profile,
-                counters,
-                mode,
-                settle: self.number(OptionName::Settle, 0) == 1,
-                journal: self.number(OptionName::Journal, 0) == 1,
-            }),
-            Err(OutOfMemory) => Err(OptionFault::OutOfMemory),
-        }
+        let app = self.app()?;
+        let profile = self.profile()?;
+        let mode = self.mode()?;
+        Some(Settings {
+            app,
+            localities: self.number(OptionName::Localities, 1),
+            threads: self.number(OptionName::Threads, 1),
+            profile,
+            mode,
+            settle: self.number(OptionName::Settle, 0) == 1,
+            journal: self.number(OptionName::Journal, 0) == 1,
+            counters: self.counters,
+        })
     }
 }
 

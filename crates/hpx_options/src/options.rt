@@ -1,17 +1,15 @@
 //! The words of the command line, read.
 ghost use Rattle.std.specs.Prelude.{◌≡◌, ◌↔◌, ℕ, Err, IfOk};
-ghost use Rattle.hpx_options.specs.Meanings.{Means, BadWord, AsksForCounters, reading_of};
+ghost use Rattle.hpx_options.specs.Meanings.{Means, BadWord, reading_of};
 
 use crate::line::Line;
 use crate::settings::{OptionFault, Settings};
 use hpx_value::items::Texts;
-use std::alloc::Global;
 
-/// What words mean. Memory is taken for counters alone.
-pub fn read(alloc: Global, words: &Texts) -> Result<Settings, OptionFault>
+/// What words mean. It takes no memory.
+pub fn read(words: &Texts) -> Result<Settings, OptionFault>
     ensures ok { IfOk result (λ settings. reading_of words.now ≡ Means settings) }
-    ensures memory { result ≡ Err OptionFault.OutOfMemory → AsksForCounters (reading_of words.now) }
-    ensures usage { (place : ℕ) → (result ≡ Err (OptionFault.Usage place)) ↔ (reading_of words.now ≡ BadWord place) }
+    ensures usage { (place : ℕ) → (result ≡ Err (record { place = place })) ↔ (reading_of words.now ≡ BadWord place) }
 {
     let mut line = Line::new();
     let mut place = 0u32;
@@ -19,8 +17,8 @@ pub fn read(alloc: Global, words: &Texts) -> Result<Settings, OptionFault>
         place += 1;
         line = match line.after_word(word.as_slice()) {
             Some(next) => next,
-            None => return Err(OptionFault::Usage { place }),
+            None => return Err(OptionFault { place }),
         };
     }
-    line.settings(alloc)
+    line.settings().ok_or(OptionFault { place: 0 })
 }

@@ -1,8 +1,15 @@
 //! What a command line means.
 
-use hpx_counters::counter::Counters;
+use arrayvec::ArrayVec;
+use hpx_counters::counter::Counter;
 use hpx_value::profile::Profile;
 use thiserror::Error;
+
+/// The most counters that one line can ask for.
+pub const COUNTERS: usize = 64;
+
+/// Counters that a line asks for, in order.
+pub type Counters = ArrayVec<Counter, COUNTERS>;
 
 /// A collective operation.
 #[derive(Clone, Copy, Debug, PartialEq, Eq)]
@@ -55,12 +62,9 @@ pub struct Settings {
     pub journal: bool,
 }
 
-/// Why a command line has no meaning.
+/// A command line has no meaning: the word at this place, from 1, does not fit; 0 where a word is missing, or words clash.
 #[derive(Clone, Copy, Debug, PartialEq, Eq, Error)]
-pub enum OptionFault {
-    /// The word at this place, from 1, does not fit; 0 where a word is missing, or words clash.
-    #[error("bad word {place}")]
-    Usage { place: u32 },
-    #[error("out of memory")]
-    OutOfMemory,
+#[error("bad word {place}")]
+pub struct OptionFault {
+    pub place: u32,
 }

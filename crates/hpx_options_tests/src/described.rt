@@ -23,10 +23,9 @@ pub fn meaning(alloc: Global, line: &str) -> Result<String, AllocError> {
         Ok(words) => words,
         Err(OutOfMemory) => return Err(AllocError),
     };
-    match read(alloc, &words) {
+    match read(&words) {
         Ok(settings) => described(alloc, &settings),
-        Err(OptionFault::Usage { place }) => format!(in alloc; "bad word {place}"),
-        Err(OptionFault::OutOfMemory) => Err(AllocError),
+        Err(OptionFault { place }) => format!(in alloc; "bad word {place}"),
     }
 }
 

@@ -433,15 +433,15 @@ fn a_65th_counter_is_refused(rt: HostRuntime) -> Result<(), Fail> {
             b"/objects{locality#7/total}/count/freed",
         )?))?;
     }
-    match read(alloc, &words) {
+    match read(&words) {
         Ok(settings) => assert_eq!(rt; settings.counters.len(), 64),
         Err(_) => assert!(rt; false, "64 counters are refused"),
     }
     words.push(Text::from_vec(Vec::from_slice(alloc, b"--hpx:print-counter")?))?;
     words.push(Text::from_vec(Vec::from_slice(alloc, b"no counter")?))?;
-    match read(alloc, &words) {
+    match read(&words) {
         Ok(_) => assert!(rt; false, "65 counters are taken"),
-        Err(fault) => assert_eq!(rt; fault, OptionFault::Usage { place: 130 }),
+        Err(fault) => assert_eq!(rt; fault, OptionFault { place: 130 }),
     }
     Ok(())
 }
@@ -459,9 +459,9 @@ fn words_that_no_blank_divides(rt: HostRuntime) -> Result<(), Fail> {
     ] {
         let mut words = Items::new(alloc);
         words.push(Text::from_vec(Vec::from_slice(alloc, word)?))?;
-        match read(alloc, &words) {
+        match read(&words) {
             Ok(_) => assert!(rt; false, "{word:?} is taken"),
-            Err(fault) => assert_eq!(rt; fault, OptionFault::Usage { place: 1 }),
+            Err(fault) => assert_eq!(rt; fault, OptionFault { place: 1 }),
         }
     }
     Ok(())

@@ -1,19 +1,21 @@
 //! Frames are read as a script asks, line by line; what they spell is compared with what is wanted.
 #![tactic(auto)]
 
+mod bundles;
 mod bytes;
 mod show;
 
 use hpx_parcel::parcel::{DecodeFault, Why};
 use hpx_parcel::read::decode;
 use hpx_parcel::write::encode;
+use hpx_value::items::Items;
 use hpx_value::memory::OutOfMemory;
 use std::alloc::Global;
 use std::fmt::Write;
 use std::io;
 
 /// What a frame spells, whether it is spelled the same again, or why it is no frame.
-fn read(alloc: Global, text: &mut String, frame: &[u8]) -> Result<(), OutOfMemory> {
+pub fn parcel(alloc: Global, text: &mut String, frame: &[u8]) -> Result<(), OutOfMemory> {
     match decode(alloc, frame) {
         Ok(parcel) => {
             show::parcel(text, &parcel)?;
@@ -62,7 +64,12 @@ fn answer(alloc: Global, line: &str) -> Result<String, OutOfMemory> {
         "read" => {
             text.push_str(": ")?;
             let frame = bytes::of(alloc, rest)?;
-            read(alloc, &mut text, frame.as_slice())?;
+            parcel(alloc, &mut text, frame.as_slice())?;
+        }
+        "open" => {
+            text.push_str(": ")?;
+            let mut frame = Items::from_vec(bytes::of(alloc, rest)?);
+            bundles::open(alloc, &mut text, &mut frame)?;
         }
         "exact" => {
             let exact = is_exact(alloc, bytes::of(alloc, rest)?)?;

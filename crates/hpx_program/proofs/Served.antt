@@ -1,28 +1,36 @@
--- What a run says of its task, where there is a world.
+-- What a run says of its setup, where there is a world.
 use Rattle.std.specs.Prelude.{ℕ, List, Option, Result, Some, None, Ok, Err, IfSome, ◌≡◌, ◌≢◌}
 use Rattle.std.proofs.Common.{refl, sym, ap, ◌∙◌, subst}
 use Rattle.hpx_world.specs.Places.{Places}
-use Rattle.hpx_top.specs.declared.task.Task.{Task}
-use Rattle.hpx_top.specs.Runs.{Ports, HasDone}
-use Rattle.hpx_top.specs.Usage.{bad_word, place_of, task_in}
-use Rattle.hpx_program.specs.Program.{HasRun}
+use Rattle.hpx_top.specs.declared.task.Notice.{Notice}
+use Rattle.hpx_top.specs.declared.task.Request.{Request}
+use Rattle.hpx_top.specs.declared.task.Request.TheVariants.{Print, Run}
+use Rattle.hpx_top.specs.declared.task.Setup.{Setup}
+use Rattle.hpx_top.specs.Runs.{Ports, HasRun}
+use Rattle.hpx_top.specs.Usage.{bad_word, notice_in, place_of, printed_of, request_in}
+use Rattle.hpx_program.specs.Program.{HasRunAsAsked}
 
--- what holds of a run, holds of its world: a task was asked for
+-- the words that were read are those that are told
+pub told_words : (words told : List (List ℕ)) (o : Option (List (List ℕ))) → IfSome o (λ ws. words ≡ ws) → o ≡ Some told → words ≡ told
+told_words words told o same e = subst (λ p. IfSome p (λ vs. words ≡ vs)) e same
+
+-- what holds of a run, holds of its world: a setup was asked for
 pub run_in : (world : Option Places) (words : List (List ℕ)) (told : Option (List (List ℕ))) (status : ℕ) (x z : Ports) → IfSome told (λ ws. words ≡ ws)
-    → ((place : ℕ) → bad_word words ≡ Some place → world ≡ None) → ((task : Task) → task_in words ≡ Ok task → HasDone task status world x z)
-    → IfSome world (λ w. HasRun told status w x z)
-run_in None words told status x z same refused did = tt
-run_in (Some w) words told status x z same refused did = by_task (task_in words) refl
+    → ((place : ℕ) → bad_word words ≡ Some place → world ≡ None) → ((notice : Notice) → notice_in words ≡ Some notice → world ≡ None)
+    → ((setup : Setup) → request_in words ≡ Ok (Run setup) → HasRun setup status world x z) → IfSome world (λ w. HasRunAsAsked told status w x z)
+run_in None words told status x z same refused printed did = tt
+run_in (Some w) words told status x z same refused printed did = by_request (request_in words) refl
   where
-    by_task : (asked : Result Task ℕ) → task_in words ≡ asked → HasRun told status w x z
-    by_task (Ok task) is = record {
-      task = task;
-      asked = λ ws e. ap task_in (sym (subst (λ o. IfSome o (λ vs. words ≡ vs)) e same)) ∙ is;
-      did = did task is;
+    by_request : (asked : Result Request ℕ) → request_in words ≡ asked → HasRunAsAsked told status w x z
+    by_request (Ok (Run setup)) is = record {
+      setup = setup;
+      asked = λ ws e. ap request_in (sym (told_words words ws told same e)) ∙ is;
+      did = did setup is;
     }
-    by_task (Err place) is = absurd (let none : Some w ≡ None = refused place (ap place_of is) in cc)
+    by_request (Ok (Print notice)) is = absurd (let none : Some w ≡ None = printed notice (ap printed_of is) in cc)
+    by_request (Err place) is = absurd (let none : Some w ≡ None = refused place (ap place_of is) in cc)
 
--- a status other than 1 comes of words that ask for a task
+-- a status other than 1 comes of words that are not refused
 pub said : (S : Type 0) (words : List (List ℕ)) (status : ℕ) → ((place : ℕ) → bad_word words ≡ Some place → status ≡ 1) → (bad_word words ≡ None → S)
     → status ≢ 1 → S
 said S words status refused taken other = by_word (bad_word words) refl

@@ -1,15 +1,17 @@
 ghost use Rattle.std.specs.Prelude.{◌≡◌, ◌≢◌, ◌⊎◌, [], Some, None, IfSome, ℕ, codes};
 ghost use Rattle.hpx_options.specs.Texts.{bad_word_text};
+ghost use Rattle.hpx_top.specs.Printed.{HasTold};
 ghost use Rattle.hpx_top.specs.Runs.{ports_of, HasCause, NothingFailed, Says};
 ghost use Rattle.hpx_top.specs.Statuses.{IsStatus, status_line};
-ghost use Rattle.hpx_top.specs.Usage.{bad_word};
-ghost use Rattle.hpx_program.specs.Program.{HasRun};
+ghost use Rattle.hpx_top.specs.Usage.{bad_word, notice_in};
+ghost use Rattle.hpx_program.specs.Program.{HasRunAsAsked};
 
 use hpx_ports::fabric::Fabric;
 use hpx_ports::sink::{Sink, write_all};
 use hpx_ports::source::Source;
 use hpx_ports::words::{Words, all_words};
 use hpx_top::run::{End, run};
+use hpx_top::task::Notice;
 use hpx_value::memory::OutOfMemory;
 use std::alloc::Global;
 
@@ -48,8 +50,11 @@ pub fn program<W: Words, S: Source, K: Sink, E: Sink, F: Fabric>(
         (record { text = E.held err.new; faults = E.faults err.new }) }
     ensures silent { result.status ≡ 0 → err.new ≡ err.old }
     ensures no_other { IsStatus result.status }
-    ensures none { result.world ≡ None → (result.status ≡ 1) ⊎ (result.status ≡ 6) }
-    ensures untouched { result.world ≡ None → (source.new ≡ source.old) × (sink.new ≡ sink.old) × (result.fabric ≡ fabric) }
+    ensures none { result.world ≡ None → (source.new ≡ source.old) × (result.fabric ≡ fabric) }
+    ensures untouched { (words : _) → W.words given.now ≡ Some words → notice_in words ≡ None → result.world ≡ None →
+        (sink.new ≡ sink.old) × ((result.status ≡ 1) ⊎ (result.status ≡ 6)) }
+    ensures told { (words : _) (notice : Notice) → W.words given.now ≡ Some words → notice_in words ≡ Some notice → (result.world ≡ None)
+        × (((result.status ≡ 6) × (sink.new ≡ sink.old)) ⊎ HasTold notice result.status (K.held sink.old) (K.held sink.new)) }
     ensures cause { let x = ports_of (S.left source.old) (S.taken source.old) (K.held sink.old) (S.faults source.old) (K.faults sink.old) (F.faults fabric) in
         let z = ports_of (S.left source.new) (S.taken source.new) (K.held sink.new) (S.faults source.new) (K.faults sink.new) (F.faults result.fabric) in
         HasCause result.status result.world x z }
@@ -58,7 +63,7 @@ pub fn program<W: Words, S: Source, K: Sink, E: Sink, F: Fabric>(
         NothingFailed result.world x z → (result.status ≡ 0) ⊎ (result.status ≡ 1) ⊎ (result.status ≡ 6) }
     ensures did { let x = ports_of (S.left source.old) (S.taken source.old) (K.held sink.old) (S.faults source.old) (K.faults sink.old) (F.faults fabric) in
         let z = ports_of (S.left source.new) (S.taken source.new) (K.held sink.new) (S.faults source.new) (K.faults sink.new) (F.faults result.fabric) in
-        IfSome result.world (λ w. HasRun (W.words given.now) result.status w x z) }
+        IfSome result.world (λ w. HasRunAsAsked (W.words given.now) result.status w x z) }
 {
     match all_words(alloc, given) {
         Ok(words) => run(alloc, &words, source, sink, err, fabric),

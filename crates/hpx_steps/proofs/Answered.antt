@@ -1,6 +1,6 @@
 -- An ask is answered: more credit is granted, or refused.
-use Rattle.hpx_steps.proofs.Common.{Ask, Bool, Came, Count, Entry, Give, Going, Granted, Grants, HasCredit, HasInHand, HasLeastCredit, HasPlaces, Id, IsSound, IsTidy, Item, Leads, List, Mailed, MatchOption, OnDesk, Option, Parcel, Reason, Record, Recounts, Refused, Refuses, Row, Rules, Some, StaysAt, Tables, TidyAt, Token, Turn, View, [], ap, arith, asked_by, asks_for, asks_under, bare, bare_due, cases_Bool, causes, cond, count_by, count_in, counted, counts_of, counts_true, drops, eq-eqb, false, find, find_record, flat_map, follows_granted, follows_refused, freeing, given_to, gives_for, goes, going, hopping, inl, inr, is_least, is_other, is_recorded, is_refusal, is_refused, joined, log_of, mails, map, nat_lt, nat_tests, ne_eqb, one_if, option_map_or, owed_token, owes, parcel_asks, parcel_tokens, parcels, pow_pos, raised, refl, same_object, same_object-true, same_token, some_same, subst, sum_by, sum_by-cons, sym, token_own, tokens, true, unpaid, view, waiting, waits_for, weigh, weight, with_records, worth, wrote, ℕ, ◌+◌, ◌-◌, ◌<◌, ◌==◌, ◌^◌, ◌∙◌, ◌∷◌, ◌≡◌, ◌≢◌, ◌≤◌, ◌⊎◌, Travel}
-use Rattle.hpx_steps.proofs.Tools.{Changes, Keeps, Sees, asks_of, bound_none, by_bool, by_rows, counts_near, drop_change, drop_moves, drop_waits, fewer, frees_of, hand_fit, holding, if_so, in_hand, is_frame, mail_change, mail_tidy, mail_waits, owed_by, own_is, same_asks, same_dead, sees_leads, sent_if, sent_total, then, told_as, total, view_worth, same_travels, ships_of}
+use Rattle.hpx_steps.proofs.Common.{Ask, Bool, Came, Count, Entry, Give, Going, Granted, Grants, HasCredit, HasInHand, HasLeastCredit, HasPlaces, Id, IsSound, IsTidy, Item, Leads, List, Mailed, MatchOption, OnDesk, Option, Parcel, Reason, Record, Recounts, Refused, Refuses, Row, Rules, Some, StaysAt, Tables, TidyAt, Token, Turn, View, [], ap, arith, asked_by, asks_for, asks_under, bare, bare_due, cases_Bool, causes, cond, count_by, count_in, counted, counts_of, counts_true, drops, eq-eqb, false, find, find_record, flat_map, follows_granted, follows_refused, freeing, given_to, gives_for, goes, going, hopping, inl, inr, is_least, is_other, is_recorded, is_refusal, is_refused, joined, log_of, mails, map, nat_lt, nat_tests, ne_eqb, one_if, option_map_or, owed_token, owes, parcel_asks, parcel_tokens, parcels, pow_pos, raised, refl, same_object, same_object-true, same_token, some_same, subst, sum_by, sum_by-cons, sym, token_own, tokens, true, unpaid, view, waits_for, weigh, weight, with_records, worth, wrote, ℕ, ◌+◌, ◌-◌, ◌<◌, ◌==◌, ◌^◌, ◌∙◌, ◌∷◌, ◌≡◌, ◌≢◌, ◌≤◌, ◌⊎◌, Travel, Act}
+use Rattle.hpx_steps.proofs.Tools.{Changes, Keeps, Sees, asks_of, bound_none, by_bool, by_rows, counts_near, drop_change, drop_moves, fewer, frees_of, hand_fit, holding, if_so, in_hand, is_frame, mail_change, mail_tidy, owed_by, own_is, same_asks, same_dead, sees_leads, sent_if, sent_total, then, told_as, total, view_worth, same_travels, ships_of, same_waits, acting}
 use Rattle.hpx_steps.proofs.Records.{found_counted, one_recounted, places_still}
 
 -- what a message weighs that is sent, on the desk or away
@@ -60,8 +60,8 @@ module _ (r : Rules) (s : Turn) (entries : List Entry) (h : IsSound r s entries)
   asked_was : (o : Id) (n : ℕ) → asked_by s.tables.here o n was ≡ asks_for s.tables.here o n (Ask id asker entry)
   asked_was o n = grind arith
 
-  pub waits : waiting now ≡ waiting s
-  waits = mail_waits true asker give (with_records records (drops s)) refl ∙ drop_waits (Ask id asker entry) s hand refl
+  pub waits : (f : Act → ℕ) → sum_by f (view s).waiting ≡ sum_by f (view now).waiting
+  waits f = same_waits f s now (omega (arith, moves (acting f) 0 0 refl refl refl refl))
 
   pub travels : (f : Travel → ℕ) → sum_by f (view s).travels ≡ sum_by f (view now).travels
   travels f = same_travels f s now (omega (arith, moves (ships_of f) 0 0 refl refl refl refl))
@@ -146,7 +146,10 @@ module _ (r : Rules) (s : Turn) (entries : List Entry) (h : IsSound r s entries)
 
     sees : Sees seen grants
     sees = record {
-      rest = ap (λ ws. record (view grants) { waiting = ws }) (sym (waits r s entries h id asker entry count (Some log) Granted records hand near home least.1 (inr refl) some none));
+      rest = refl;
+      fired = λ f. refl;
+      objects = λ f. refl;
+      waiting = waits r s entries h id asker entry count (Some log) Granted records hand near home least.1 (inr refl) some none;
       travels = λ f. travels r s entries h id asker entry count (Some log) Granted records hand near home least.1 (inr refl) some none f;
       tokens = λ f weight. refl;
       asking = λ x. refl;
@@ -190,7 +193,10 @@ module _ (r : Rules) (s : Turn) (entries : List Entry) (h : IsSound r s entries)
     pub refused_keeps : Keeps r s refuses (Count (bare id) count Refused)
     refused_keeps =
         let sees : Sees (record (view s) { last = Some (Count (bare id) count Refused) }) refuses = record {
-          rest = ap (λ ws. record (view refuses) { waiting = ws }) (sym (waits r s entries h id asker entry count id.log Refused records hand near home credit (inl is_least_log) more refusal));
+          rest = refl;
+          fired = λ f. refl;
+          objects = λ f. refl;
+          waiting = waits r s entries h id asker entry count id.log Refused records hand near home credit (inl is_least_log) more refusal;
           travels = λ f. travels r s entries h id asker entry count id.log Refused records hand near home credit (inl is_least_log) more refusal f;
           tokens = λ f weight. omega (
             arith,

@@ -1,6 +1,6 @@
 -- An id is asked for.
-use Rattle.hpx_steps.proofs.Common.{AreNumbered, Ask, Asked, AskedFor, AsksFor, Bool, Entry, Going, HasLeastCredit, Id, IsCommit, IsSound, IsTidy, Item, List, OnDesk, Parcel, Row, Rules, Some, TidyAt, Token, Turn, View, Waits, Working, [], all_append, ap, arith, asked_by, asking, asks_as, asks_for, asks_under, bare, bare_act, bare_due, cases_Bool, causes, cond, count_by, counts_of, eq-eqb, eqb-true, false, fired_of, follows_asked, freeing, given_to, goes, going, held_token, hopping, id_at, ids_named, inl, inr, is_asked, is_asked_for, is_other, joined, length, mails, map, one_if, owed_token, parcel_asks, refl, refusals_of, same_object, set, slice_get, subst, sum_by, sum_by-append, sum_by-cons, sym, tokens, tokens_of, true, unpaid, view, waiting, waits_for, weigh, weight, worth, wrote, ℕ, ◌&&◌, ◌++◌, ◌+◌, ◌<◌, ◌==◌, ◌∙◌, ◌∷◌, ◌≡◌}
-use Rattle.hpx_steps.proofs.Tools.{Changes, Keeps, Sees, asks_of, at_place, bound_none, by_rows, counts_near, first_turns, frees_of, has_not_asked, held_by, holding, ids_each, mail_change, mail_tidy, mail_waits, no_tokens, owed_by, put_asked, put_bare, put_elsewhere, put_for, put_names, put_there, recommit, same_dead, seen_sum, sees_by, sees_leads, sent_if, sent_total, set_sum, then, token_held, told_as, total, view_asking, view_worth, work_commits, working_change, same_travels, ships_of}
+use Rattle.hpx_steps.proofs.Common.{AreNumbered, Ask, Asked, AskedFor, AsksFor, Bool, Entry, Going, HasLeastCredit, Id, IsCommit, IsSound, IsTidy, Item, List, OnDesk, Parcel, Row, Rules, Some, TidyAt, Token, Turn, View, Waits, Working, [], all_append, ap, arith, asked_by, asking, asks_as, asks_for, asks_under, bare, bare_act, bare_due, cases_Bool, causes, cond, count_by, counts_of, eq-eqb, eqb-true, false, fired_of, follows_asked, freeing, given_to, goes, going, held_token, hopping, id_at, ids_named, inl, inr, is_asked, is_asked_for, is_other, joined, length, mails, map, one_if, owed_token, parcel_asks, refl, refusals_of, same_object, set, slice_get, subst, sum_by, sum_by-append, sum_by-cons, sym, tokens, tokens_of, true, unpaid, view, waits_for, weigh, weight, worth, wrote, ℕ, ◌&&◌, ◌++◌, ◌+◌, ◌<◌, ◌==◌, ◌∙◌, ◌∷◌, ◌≡◌}
+use Rattle.hpx_steps.proofs.Tools.{Changes, Keeps, Sees, asks_of, at_place, bound_none, by_rows, counts_near, first_turns, frees_of, has_not_asked, held_by, holding, ids_each, mail_change, mail_tidy, no_tokens, owed_by, put_asked, put_bare, put_elsewhere, put_for, put_names, put_there, recommit, same_dead, seen_sum, sees_by, sees_leads, sent_if, sent_total, set_sum, then, token_held, told_as, total, view_asking, view_worth, work_commits, working_change, same_travels, ships_of, same_waits, acting}
 
 module _ (r : Rules) (s : Turn) (entries : List Entry) (h : IsSound r s entries) (w : Waits) (rest : List Waits) (p : ℕ) (id : Id) (due : s.due ≡ []) (fresh : s.fresh ≡ [])
     (works : s.working ≡ w ∷ rest) (low : p < length (ids_named w)) (at : slice_get w.hand p ≡ Some id) (least : HasLeastCredit id) where
@@ -92,17 +92,15 @@ module _ (r : Rules) (s : Turn) (entries : List Entry) (h : IsSound r s entries)
   abbrev seen : View
   seen = record (view s) { tokens = tokens now; asking = (view now).asking; asks = (view now).asks; last = Some (Asked (bare id)) }
 
-  fires : (view s).fired ≡ (view now).fired
-  fires = ap (λ ws. map bare_act (fired_of s.tables.running (ws ++ s.tables.pending))) works
-
-  waits : waiting now ≡ waiting s
-  waits = mail_waits true id.home ask before refl
-
   sees : Sees seen now
-  sees = sees_by seen now (ap (λ fs. record (view now) { fired = fs; waiting = waiting s }) fires ∙ ap (λ ws. record (view now) { waiting = ws }) (sym waits))
+  sees = sees_by seen now refl (λ f. same_waits f s now (omega (arith, moves (acting f) 0 refl refl)))
       (λ f. same_travels f s now (omega (arith, moves (ships_of f) 0 refl refl))) (λ f fair. refl) (λ o. refl) (λ o. refl)
       (λ x. same_dead x s now (omega (arith, moves (frees_of x) 0 refl refl)))
-      (ap (λ ws. record seen { refusals = refusals_of (ws ++ s.tables.pending); failing = length (refusals_of (ws ++ s.tables.pending)) }) works)
+      (ap (λ ws. record seen {
+        fired = map bare_act (fired_of s.tables.running (ws ++ s.tables.pending));
+        refusals = refusals_of (ws ++ s.tables.pending);
+        failing = length (refusals_of (ws ++ s.tables.pending));
+      }) works)
 
   -- one more is asked for
   asked_more : (o : Id) → count_by (same_object o) (view now).asking ≡ count_by (same_object o) (view s).asking + count_by (same_object o) (bare id ∷ [])

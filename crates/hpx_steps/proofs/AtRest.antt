@@ -1,18 +1,10 @@
 -- Between turns all that holds of a turn is what holds of the tables, and the other way round.
-use Rattle.hpx_steps.proofs.Common.{Accepted, Act, Actions, AllByRecursion, AreFired, ArePaused, AreRules, Came, Entry, FreesNone, Going, HasObject, Id, IfSome, IsDue, IsFit, IsForHere, IsKept, IsOnItsWay, IsOwn, IsParcel, IsPaused, IsSound, List, Loose, Mailed, OnDesk, Outgoing, Parcel, Pending, Row, Rules, Running, Standing, StandsAtRest, StandsFor, StandsHere, Tables, Waits, Working, [], all_append, all_parts, append-nil, arith, asked_by, asks_for, at_rest, bare_act, bound_for, freeing, given_to, gives_for, hopping, joined, length, map, messages, move_to, of_act, part, queued, refl, stands_here, subst, sum_by, sum_by-append, sum_by-cons, sym, target_of, true, weigh, weight, ℕ, ◌+◌, ◌∷◌, ◌≡◌, ◌≢◌, ◌≤◌}
-use Rattle.hpx_steps.proofs.Tools.{all_among, among_all, by_rows, long_sum, map_sum, two_sums, zeros}
+use Rattle.hpx_steps.proofs.Common.{Brought, IsGranted, IsShipped, IsWaitingFor, Leaving, Queued, Stray, Waiting, brings, queued_parcels, ◌++◌, Accepted, Act, Actions, AllByRecursion, AreFired, ArePaused, AreRules, Came, Entry, FreesNone, Going, HasObject, Id, IfSome, IsDue, IsFit, IsForHere, IsKept, IsOnItsWay, IsOwn, IsParcel, IsPaused, IsSound, List, Loose, Mailed, OnDesk, Outgoing, Parcel, Pending, Row, Rules, Running, Standing, StandsAtRest, StandsFor, StandsHere, Tables, Waits, Working, [], all_parts, append-nil, arith, asked_by, asks_for, at_rest, bare_act, bound_for, freeing, given_to, gives_for, hopping, joined, length, map, messages, move_to, of_act, part, queued, stands_here, subst, sum_by, sym, target_of, true, weigh, weight, ℕ, ◌+◌, ◌≡◌, ◌≢◌, ◌≤◌}
+use Rattle.hpx_steps.proofs.Tools.{all_among, among_all, by_rows, map_all, messages_sum, tidy_messages, long_sum, two_sums, zeros}
 use Rattle.hpx_steps.specs.Rest.{IsTidy, tokens, unpaid, view, waits_for}
 use Rattle.hpx_steps.specs.Rows.{unpaid as turn_unpaid}
 use Rattle.hpx_steps.specs.Sound.{IsTidy as turn_tidy, waits_for as turn_waits_for}
 use Rattle.hpx_steps.specs.Turn.{view as turn_view}
-
-all_carried : (P : Parcel → Type 0) (xs : List Outgoing) → AllByRecursion (λ (x : Outgoing). P x.parcel) xs → AllByRecursion P (map (λ (x : Outgoing). x.parcel) xs)
-all_carried P [] h = tt
-all_carried P (x ∷ xs) h = (h.0, all_carried P xs h.1)
-
-carried_all : (P : Parcel → Type 0) (xs : List Outgoing) → AllByRecursion P (map (λ (x : Outgoing). x.parcel) xs) → AllByRecursion (λ (x : Outgoing). P x.parcel) xs
-carried_all P [] h = tt
-carried_all P (x ∷ xs) h = (h.0, carried_all P xs h.1)
 
 module _ (t : Tables) where
   -- what is seen is the same
@@ -24,9 +16,9 @@ module _ (t : Tables) where
   rows_is : (row : Row) → weigh (turn_unpaid row) (at_rest t) ≡ unpaid row t
   rows_is row = omega (
     arith,
-    sum_by-append (weight row) t.desk (map (λ (x : Outgoing). x.parcel) t.outgoing),
-    map_sum (weight row) (λ (x : Outgoing). x.parcel) t.outgoing,
+    messages_sum (weight row) t,
     acts row,
+    zeros t.came,
     zeros t.running,
     zeros t.pending,
     zeros t.objects,
@@ -37,23 +29,23 @@ module _ (t : Tables) where
           (zeros t.accepted) (zeros t.accepted) (sym (long_sum t.accepted)) (λ o. zeros t.accepted)
 
   hopping_is : weigh hopping (at_rest t) ≡ sum_by (weight Actions) (messages t)
-  hopping_is = search (arith, sum_by-append, map_sum, zeros)
+  hopping_is = omega (arith, messages_sum brings t, zeros t.came, zeros t.accepted, zeros t.running, zeros t.pending, zeros t.objects)
 
   joined_is : weigh joined (at_rest t) ≡ length t.accepted
-  joined_is = omega (arith, zeros t.desk, zeros t.outgoing, sym (long_sum t.accepted), zeros t.running, zeros t.pending, zeros t.objects)
+  joined_is = omega (arith, zeros t.desk, zeros t.outgoing, zeros t.queued, zeros t.leaving, zeros t.stray, zeros t.came, sym (long_sum t.accepted), zeros t.running, zeros t.pending, zeros t.objects)
 
   freeing_is : (o : Id) → weigh (freeing o) (at_rest t) ≡ 0
-  freeing_is o = omega (arith, zeros t.desk, zeros t.outgoing, zeros t.accepted, zeros t.running, zeros t.pending, zeros t.objects)
+  freeing_is o = omega (arith, zeros t.desk, zeros t.outgoing, zeros t.queued, zeros t.leaving, zeros t.stray, zeros t.came, zeros t.accepted, zeros t.running, zeros t.pending, zeros t.objects)
 
   asked_is : (k : ℕ) (o : Id) (n : ℕ) → weigh (asked_by k o n) (at_rest t)
       ≡ sum_by (asks_for k o n) t.desk + sum_by (λ (x : Outgoing). asks_for k o n x.parcel) t.outgoing + sum_by (gives_for o n) t.desk
-  asked_is k o n = omega (arith, two_sums (asks_for k o n) (gives_for o n) t.desk, zeros t.accepted, zeros t.running, zeros t.pending, zeros t.objects)
+  asked_is k o n = omega (arith, two_sums (asks_for k o n) (gives_for o n) t.desk, zeros t.queued, zeros t.leaving, zeros t.stray, zeros t.came, zeros t.accepted, zeros t.running, zeros t.pending, zeros t.objects)
 
   waits_is : (o : Id) (n : ℕ) → weigh (turn_waits_for o n) (at_rest t) ≡ waits_for o n t.pending
-  waits_is o n = omega (arith, zeros t.desk, zeros t.outgoing, zeros t.accepted, zeros t.running, zeros t.objects)
+  waits_is o n = omega (arith, zeros t.desk, zeros t.outgoing, zeros t.queued, zeros t.leaving, zeros t.stray, zeros t.came, zeros t.accepted, zeros t.running, zeros t.objects)
 
   given_is : (j : ℕ) (o : Id) (n : ℕ) → weigh (given_to j o n) (at_rest t) ≡ sum_by (bound_for j (gives_for o n)) t.outgoing
-  given_is j o n = omega (arith, zeros t.desk, zeros t.accepted, zeros t.running, zeros t.pending, zeros t.objects)
+  given_is j o n = omega (arith, zeros t.desk, zeros t.queued, zeros t.leaving, zeros t.stray, zeros t.came, zeros t.accepted, zeros t.running, zeros t.pending, zeros t.objects)
 
   -- ---- from a turn
 
@@ -88,11 +80,13 @@ module _ (t : Tables) where
       accepted = all_among IsFit t.accepted (λ a m. (h.tidy (Accepted a) m).0);
       running = all_among IsFit t.running (λ a m. h.tidy (Running a) m);
       objects = all_among IsKept t.objects (λ x m. (h.tidy (StandsHere x) m).0);
-      messages = all_append IsParcel t.desk (map (λ (x : Outgoing). x.parcel) t.outgoing) (all_among IsParcel t.desk (λ p m. (h.tidy (OnDesk p) m).0))
-          (all_carried IsParcel t.outgoing (all_among (λ (x : Outgoing). IsParcel x.parcel) t.outgoing (λ x m. (h.tidy (Going x) m).0)));
+      messages = tidy_messages (at_rest t) h.tidy;
       fit = tt;
       moves = all_among (λ a. IfSome (move_to (bare_act a)) (λ to. to ≡ t.here)) t.accepted (λ a m. (h.tidy (Accepted a) m).1);
       targets = all_among (λ a. stands_here t (target_of a) ≡ true) t.accepted (λ a m. (h.tidy (Accepted a) m).2);
+      queued = all_among (λ (w : Waiting Parcel). IsWaitingFor t.here w.number w.item) t.queued (λ w m. (h.tidy (Queued w) m).1);
+      leaving = all_among (IsGranted t.here t.objects) t.leaving (λ p m. (h.tidy (Leaving p) m).1);
+      stray = all_among IsShipped t.stray (λ p m. (h.tidy (Stray p) m).1);
       serves = h.places.serves;
       drawn = all_among (λ (x : Standing). 16 ≤ x.object.kind → x.object.home ≡ t.here → x.object.number ≤ t.births) t.objects (λ x m. (h.tidy (StandsHere x) m).1);
       unborn = h.places.unborn;
@@ -133,22 +127,37 @@ module _ (t : Tables) where
   -- ---- and back
 
   module _ (r : Rules) (entries : List Entry) (rules : AreRules r t) (h : StandsAtRest r t entries) where
+    -- the messages of each list are well formed
+    parts : AllByRecursion IsParcel t.desk × AllByRecursion IsParcel (map (λ (x : Outgoing). x.parcel) t.outgoing) × AllByRecursion IsParcel (queued_parcels t.queued)
+        × AllByRecursion IsParcel t.leaving × AllByRecursion IsParcel t.stray
+    parts =
+        let a = all_parts IsParcel t.desk (map (λ (x : Outgoing). x.parcel) t.outgoing ++ (queued_parcels t.queued ++ (t.leaving ++ t.stray))) h.stands.tidy.messages in
+        let b = all_parts IsParcel (map (λ (x : Outgoing). x.parcel) t.outgoing) (queued_parcels t.queued ++ (t.leaving ++ t.stray)) a.1 in
+        let c = all_parts IsParcel (queued_parcels t.queued) (t.leaving ++ t.stray) b.1 in
+        let d = all_parts IsParcel t.leaving t.stray c.1 in (a.0, b.0, c.0, d.0, d.1)
+
     tidies : turn_tidy (at_rest t)
     tidies (Came p) m = absurd m
     tidies (Mailed p) m = absurd m
     tidies (OnDesk p) m = (
-      among_all IsParcel p t.desk m (all_parts IsParcel t.desk (map (λ (x : Outgoing). x.parcel) t.outgoing) h.stands.tidy.messages).0,
+      among_all IsParcel p t.desk m parts.0,
       among_all (IsForHere t.localities t.here) p t.desk m h.stands.tidy.ways.1,
       among_all (IsOwn t.here t.profile.credit_log) p t.desk m h.orderly.own,
     )
     tidies (Going x) m =
         let own = among_all (λ (y : Outgoing). IsOwn t.here t.profile.credit_log y.parcel × FreesNone y.parcel) x t.outgoing m h.orderly.away in (
-          among_all (λ (y : Outgoing). IsParcel y.parcel) x t.outgoing m
-              (carried_all IsParcel t.outgoing (all_parts IsParcel t.desk (map (λ (y : Outgoing). y.parcel) t.outgoing) h.stands.tidy.messages).1),
+          among_all (λ (y : Outgoing). IsParcel y.parcel) x t.outgoing m (map_all (λ (y : Outgoing). y.parcel) IsParcel t.outgoing parts.1),
           among_all (IsOnItsWay t.localities t.here) x t.outgoing m h.stands.tidy.ways.0,
           own.0,
           own.1,
         )
+    tidies (Queued w) m = (
+      among_all (λ (y : Waiting Parcel). IsParcel y.item) w t.queued m (map_all (λ (y : Waiting Parcel). y.item) IsParcel t.queued parts.2),
+      among_all (λ (y : Waiting Parcel). IsWaitingFor t.here y.number y.item) w t.queued m h.stands.tidy.queued,
+    )
+    tidies (Leaving p) m = (among_all IsParcel p t.leaving m parts.3, among_all (IsGranted t.here t.objects) p t.leaving m h.stands.tidy.leaving)
+    tidies (Stray p) m = (among_all IsParcel p t.stray m parts.4, among_all IsShipped p t.stray m h.stands.tidy.stray)
+    tidies (Brought a) m = tt
     tidies (Accepted a) m = (
       among_all IsFit a t.accepted m h.stands.tidy.accepted,
       among_all (λ b. IfSome (move_to (bare_act b)) (λ to. to ≡ t.here)) a t.accepted m h.stands.tidy.moves,

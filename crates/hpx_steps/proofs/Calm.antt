@@ -1,8 +1,8 @@
 -- What many entries have in common.
-use Rattle.hpx_steps.proofs.Common.{Actions, AreNumbered, Bool, Event, Id, IsOwn, Item, List, Local, Parcel, Row, Rules, SameTokens, SendsOwn, Tables, Turn, View, ap, arith, arrives_at, asked_by, asks_for, asks_under, causes, come, cond, count_by, counts_of, done_after, fires_one, freeing, given_to, gives_for, goes, gone, gone_to, hopping, joined, joins, length, outs_by, own, parcel_asks, parcel_frees, same_object, spends, subst, sym, tokens, unpaid, view, waits_for, weigh, wrote, ℕ, ◌+◌, ◌∙◌, ◌≡◌, ◌≢◌, ◌≤◌, SameSums, Travel, parcel_travels, sum_by}
+use Rattle.hpx_steps.proofs.Common.{Act, Standing, Actions, AreNumbered, Bool, Event, Id, IsOwn, Item, List, Local, Parcel, Row, Rules, SameTokens, SendsOwn, Tables, Turn, View, ap, arith, arrives_at, asked_by, asks_for, asks_under, causes, come, cond, count_by, counts_of, done_after, fires_one, freeing, given_to, gives_for, goes, gone, gone_to, hopping, joined, joins, length, outs_by, own, parcel_asks, parcel_frees, same_object, spends, subst, sym, tokens, unpaid, view, waits_for, weigh, wrote, ℕ, ◌+◌, ◌∙◌, ◌≡◌, ◌≢◌, ◌≤◌, SameSums, Travel, parcel_travels, sum_by}
 use Rattle.hpx_steps.proofs.Changes.{Sums, total}
 use Rattle.hpx_steps.proofs.Seen.{Sees, as_seen}
-use Rattle.hpx_steps.proofs.Sums.{by_own, by_parcel, own_sum, seen_sum}
+use Rattle.hpx_steps.proofs.Sums.{acted, acting, by_own, by_parcel, own_sum, seen_sum, stands_of, view_fired, view_objects, wait_sum}
 use Rattle.hpx_steps.proofs.Then.{Counts, Keeps, Orders, Pays, comes_to_free, fewer, frees_now}
 
 -- an entry that tells of the same thing under another name
@@ -13,7 +13,7 @@ told_as r s s' e t x y same now k = subst (λ z. Keeps r s s' (e z)) (sym same) 
 
 -- most numbers stay
 abbrev pub SameNumbers : Tables → Tables → Type 0
-SameNumbers t t' = t' ≡ record t { accepted = t'.accepted; running = t'.running; pending = t'.pending; desk = t'.desk; outgoing = t'.outgoing; objects = t'.objects; records = t'.records }
+SameNumbers t t' = t' ≡ record t { accepted = t'.accepted; running = t'.running; pending = t'.pending; desk = t'.desk; outgoing = t'.outgoing; queued = t'.queued; leaving = t'.leaving; stray = t'.stray; came = t'.came; objects = t'.objects; records = t'.records }
 
 -- those that may grow
 abbrev pub NearNumbers : Tables → Tables → Type 0
@@ -58,6 +58,17 @@ frees_of x = by_own (λ p. count_by (same_object x) (parcel_frees p))
 abbrev pub ships_of : (Travel → ℕ) → Item → ℕ
 ships_of f = by_parcel (λ p. sum_by f (parcel_travels p))
 
+-- the actions that wait
+pub same_waits : (f : Act → ℕ) (s s' : Turn) → weigh (acting f) s' ≡ weigh (acting f) s → sum_by f (view s).waiting ≡ sum_by f (view s').waiting
+same_waits f s s' same = omega (arith, wait_sum f s, wait_sum f s', same)
+
+-- the fired actions, and the objects that stand
+pub same_fires : (f : Act → ℕ) (s s' : Turn) → weigh (acted f) s' ≡ weigh (acted f) s → sum_by f (view s).fired ≡ sum_by f (view s').fired
+same_fires f s s' same = omega (arith, view_fired f s, view_fired f s', same)
+
+pub same_objects : (f : Standing → ℕ) (s s' : Turn) → weigh (stands_of f) s' ≡ weigh (stands_of f) s → sum_by f (view s).objects ≡ sum_by f (view s').objects
+same_objects f s s' same = omega (arith, view_objects f s, view_objects f s', same)
+
 -- what is seen of messages, by what they weigh
 pub same_travels : (f : Travel → ℕ) (s s' : Turn) → weigh (ships_of f) s' ≡ weigh (ships_of f) s → sum_by f (view s).travels ≡ sum_by f (view s').travels
 same_travels f s s' same = omega (arith, seen_sum f parcel_travels s, seen_sum f parcel_travels s', same)
@@ -69,10 +80,11 @@ pub same_dead : (x : Id) (s s' : Turn) → weigh (frees_of x) s' ≤ weigh (free
 same_dead x s s' less = omega (arith, own_sum (counts_of (same_object x)) parcel_frees s, own_sum (counts_of (same_object x)) parcel_frees s', less)
 
 -- what is not told of the same is as much
-pub sees_by : (v : View) (s' : Turn) → as_seen v s' ≡ view s' → SameSums v.travels (view s').travels → SameTokens v.tokens (tokens s') → ((x : Id) → count_by (same_object x) v.asking ≡ count_by (same_object x) (view s').asking)
+pub sees_by : (v : View) (s' : Turn) → as_seen v s' ≡ view s' → SameSums v.waiting (view s').waiting → SameSums v.travels (view s').travels → SameTokens v.tokens (tokens s')
+    → ((x : Id) → count_by (same_object x) v.asking ≡ count_by (same_object x) (view s').asking)
     → ((x : Id) → count_by (same_object x) v.asks ≡ count_by (same_object x) (view s').asks) → ((x : Id) → count_by (same_object x) (view s').dead ≤ count_by (same_object x) v.dead)
-    → v ≡ record v { live = (view s').live; refusals = (view s').refusals; failing = (view s').failing } → Sees v s'
-sees_by v s' rest travels tokens asking asks dead same = grind arith
+    → v ≡ record v { fired = (view s').fired; objects = (view s').objects; live = (view s').live; refusals = (view s').refusals; failing = (view s').failing } → Sees v s'
+sees_by v s' rest waiting travels tokens asking asks dead same = grind arith
 
 -- what counts nothing counts nothing to j
 pub bound_none : (b : Bool) (n : ℕ) → n ≡ 0 → ◌≡◌ {A = ℕ} (cond b n 0) 0

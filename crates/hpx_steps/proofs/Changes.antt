@@ -1,5 +1,5 @@
 -- The primitive changes of a turn: what all weights are then, and what is there that was not there before.
-use Rattle.hpx_steps.proofs.Common.{Accepted, Act, AllByRecursion, Among, Bool, Came, Due, Going, Has, HasInHand, Holds, Id, IsDue, Item, List, Loose, Mailed, OnDesk, Outgoing, Parcel, Pending, Running, Some, Standing, StandsHere, Turn, Waits, Working, [], ap, arith, cond, drops, false, going, inl, inr, is_other, mails_if, map, may_stay, not, parcel_for, posts, refl, remove, sent_as, set, slice_get, some_same, subst, suc, sum_by, sum_by-append, sum_by-cons, target_of, true, weigh, zero, ℕ, ◌++◌, ◌+◌, ◌∷◌, ◌≡◌, ◌⊎◌}
+use Rattle.hpx_steps.proofs.Common.{Accepted, Act, Brought, Leaving, Name, Queued, Stray, Waiting, AllByRecursion, Among, Bool, Came, Due, Going, Has, HasInHand, Holds, Id, IsDue, Item, List, Loose, Mailed, OnDesk, Outgoing, Parcel, Pending, Running, Some, Standing, StandsHere, Turn, Waits, Working, [], ap, arith, cond, drops, false, going, inl, inr, is_other, mails_if, map, may_stay, not, parcel_for, posts, refl, remove, sent_as, set, slice_get, some_same, subst, suc, sum_by, sum_by-append, sum_by-cons, target_of, true, weigh, zero, ℕ, ◌++◌, ◌+◌, ◌∷◌, ◌≡◌, ◌⊎◌}
 use Rattle.hpx_steps.proofs.Sums.{less_sum, set_sum}
 
 -- ---- what is among others
@@ -12,6 +12,14 @@ among_all P x (y ∷ ys) (inr m) h = among_all P x ys m h.1
 pub all_among : {X : Type 0} (P : X → Type 0) (xs : List X) → ((x : X) → Among x xs → P x) → AllByRecursion P xs
 all_among P [] h = tt
 all_among P (x ∷ xs) h = (h x (inl refl), all_among P xs (λ y m. h y (inr m)))
+
+pub all_map : {X Y : Type 0} (g : X → Y) (P : Y → Type 0) (xs : List X) → AllByRecursion (λ x. P (g x)) xs → AllByRecursion P (map g xs)
+all_map g P [] h = tt
+all_map g P (x ∷ xs) h = (h.0, all_map g P xs h.1)
+
+pub map_all : {X Y : Type 0} (g : X → Y) (P : Y → Type 0) (xs : List X) → AllByRecursion P (map g xs) → AllByRecursion (λ x. P (g x)) xs
+map_all g P [] h = tt
+map_all g P (x ∷ xs) h = (h.0, map_all g P xs h.1)
 
 pub among_at : {X : Type 0} (xs : List X) (i : ℕ) (x : X) → slice_get xs i ≡ Some x → Among x xs
 among_at [] i x h = cc
@@ -145,56 +153,74 @@ abbrev pub MayCome : {X : Type 0} → (X → Item) → List Item → List X → 
 MayCome {X} c into xs ys = (x : X) → Among x ys → Among x xs ⊎ Among (c x) into
 
 -- so is what is there of all kinds
-comes_by : (into : List Item) (s s' : Turn) → MayCome Came into s.came s'.came → MayCome Mailed into s.mailed s'.mailed → MayCome OnDesk into s.tables.desk s'.tables.desk
-    → MayCome Going into s.tables.outgoing s'.tables.outgoing → MayCome Accepted into s.tables.accepted s'.tables.accepted → MayCome Running into s.tables.running s'.tables.running
-    → MayCome Pending into s.tables.pending s'.tables.pending → MayCome Working into s.working s'.working → MayCome StandsHere into s.tables.objects s'.tables.objects
-    → MayCome IsDue into s.due s'.due → MayCome Loose into s.loose s'.loose
+comes_by : (into : List Item) (s s' : Turn)
+    → MayCome Came into s.came s'.came → MayCome Mailed into s.mailed s'.mailed → MayCome OnDesk into s.tables.desk s'.tables.desk
+    → MayCome Going into s.tables.outgoing s'.tables.outgoing → MayCome Queued into s.tables.queued s'.tables.queued → MayCome Leaving into s.tables.leaving s'.tables.leaving
+    → MayCome Stray into s.tables.stray s'.tables.stray → MayCome Brought into s.tables.came s'.tables.came → MayCome Accepted into s.tables.accepted s'.tables.accepted
+    → MayCome Running into s.tables.running s'.tables.running → MayCome Pending into s.tables.pending s'.tables.pending → MayCome Working into s.working s'.working
+    → MayCome StandsHere into s.tables.objects s'.tables.objects → MayCome IsDue into s.due s'.due → MayCome Loose into s.loose s'.loose
     → Comes into s s'
-comes_by into s s' a b c d e f g h i j k (Came x) m = a x m
-comes_by into s s' a b c d e f g h i j k (Mailed x) m = b x m
-comes_by into s s' a b c d e f g h i j k (OnDesk x) m = c x m
-comes_by into s s' a b c d e f g h i j k (Going x) m = d x m
-comes_by into s s' a b c d e f g h i j k (Accepted x) m = e x m
-comes_by into s s' a b c d e f g h i j k (Running x) m = f x m
-comes_by into s s' a b c d e f g h i j k (Pending x) m = g x m
-comes_by into s s' a b c d e f g h i j k (Working x) m = h x m
-comes_by into s s' a b c d e f g h i j k (StandsHere x) m = i x m
-comes_by into s s' a b c d e f g h i j k (IsDue x) m = j x m
-comes_by into s s' a b c d e f g h i j k (Loose x) m = k x m
+comes_by into s s' a b c d e f g h i j k l n o p (Came x) m = a x m
+comes_by into s s' a b c d e f g h i j k l n o p (Mailed x) m = b x m
+comes_by into s s' a b c d e f g h i j k l n o p (OnDesk x) m = c x m
+comes_by into s s' a b c d e f g h i j k l n o p (Going x) m = d x m
+comes_by into s s' a b c d e f g h i j k l n o p (Queued x) m = e x m
+comes_by into s s' a b c d e f g h i j k l n o p (Leaving x) m = f x m
+comes_by into s s' a b c d e f g h i j k l n o p (Stray x) m = g x m
+comes_by into s s' a b c d e f g h i j k l n o p (Brought x) m = h x m
+comes_by into s s' a b c d e f g h i j k l n o p (Accepted x) m = i x m
+comes_by into s s' a b c d e f g h i j k l n o p (Running x) m = j x m
+comes_by into s s' a b c d e f g h i j k l n o p (Pending x) m = k x m
+comes_by into s s' a b c d e f g h i j k l n o p (Working x) m = l x m
+comes_by into s s' a b c d e f g h i j k l n o p (StandsHere x) m = n x m
+comes_by into s s' a b c d e f g h i j k l n o p (IsDue x) m = o x m
+comes_by into s s' a b c d e f g h i j k l n o p (Loose x) m = p x m
 
 module _ (out into : List Item) (s : Turn) where
   pub came_change : (ys : List Parcel) → Trade Came out into s.came ys → Changes out into s (record s { came = ys })
-  came_change ys k = (λ w. omega (arith, k.sums w), comes_by into s (record s { came = ys }) k.there (λ x m. inl m) (λ x m. inl m) (λ x m. inl m) (λ x m. inl m) (λ x m. inl m) (λ x m. inl m) (λ x m. inl m) (λ x m. inl m) (λ x m. inl m) (λ x m. inl m))
+  came_change ys k = (λ w. omega (arith, k.sums w), comes_by into s (record s { came = ys }) k.there (λ x m. inl m) (λ x m. inl m) (λ x m. inl m) (λ x m. inl m) (λ x m. inl m) (λ x m. inl m) (λ x m. inl m) (λ x m. inl m) (λ x m. inl m) (λ x m. inl m) (λ x m. inl m) (λ x m. inl m) (λ x m. inl m) (λ x m. inl m))
 
   pub mailed_change : (ys : List Parcel) → Trade Mailed out into s.mailed ys → Changes out into s (record s { mailed = ys })
-  mailed_change ys k = (λ w. omega (arith, k.sums w), comes_by into s (record s { mailed = ys }) (λ x m. inl m) k.there (λ x m. inl m) (λ x m. inl m) (λ x m. inl m) (λ x m. inl m) (λ x m. inl m) (λ x m. inl m) (λ x m. inl m) (λ x m. inl m) (λ x m. inl m))
-
-  pub working_change : (ys : List Waits) → Trade Working out into s.working ys → Changes out into s (record s { working = ys })
-  working_change ys k = (λ w. omega (arith, k.sums w), comes_by into s (record s { working = ys }) (λ x m. inl m) (λ x m. inl m) (λ x m. inl m) (λ x m. inl m) (λ x m. inl m) (λ x m. inl m) (λ x m. inl m) k.there (λ x m. inl m) (λ x m. inl m) (λ x m. inl m))
-
-  pub due_change : (ys : List Due) → Trade IsDue out into s.due ys → Changes out into s (record s { due = ys })
-  due_change ys k = (λ w. omega (arith, k.sums w), comes_by into s (record s { due = ys }) (λ x m. inl m) (λ x m. inl m) (λ x m. inl m) (λ x m. inl m) (λ x m. inl m) (λ x m. inl m) (λ x m. inl m) (λ x m. inl m) (λ x m. inl m) k.there (λ x m. inl m))
-
-  pub loose_change : (ys : List Id) → Trade Loose out into s.loose ys → Changes out into s (record s { loose = ys })
-  loose_change ys k = (λ w. omega (arith, k.sums w), comes_by into s (record s { loose = ys }) (λ x m. inl m) (λ x m. inl m) (λ x m. inl m) (λ x m. inl m) (λ x m. inl m) (λ x m. inl m) (λ x m. inl m) (λ x m. inl m) (λ x m. inl m) (λ x m. inl m) k.there)
+  mailed_change ys k = (λ w. omega (arith, k.sums w), comes_by into s (record s { mailed = ys }) (λ x m. inl m) k.there (λ x m. inl m) (λ x m. inl m) (λ x m. inl m) (λ x m. inl m) (λ x m. inl m) (λ x m. inl m) (λ x m. inl m) (λ x m. inl m) (λ x m. inl m) (λ x m. inl m) (λ x m. inl m) (λ x m. inl m) (λ x m. inl m))
 
   pub desk_change : (ys : List Parcel) → Trade OnDesk out into s.tables.desk ys → Changes out into s (record s { tables = record s.tables { desk = ys } })
-  desk_change ys k = (λ w. omega (arith, k.sums w), comes_by into s (record s { tables = record s.tables { desk = ys } }) (λ x m. inl m) (λ x m. inl m) k.there (λ x m. inl m) (λ x m. inl m) (λ x m. inl m) (λ x m. inl m) (λ x m. inl m) (λ x m. inl m) (λ x m. inl m) (λ x m. inl m))
+  desk_change ys k = (λ w. omega (arith, k.sums w), comes_by into s (record s { tables = record s.tables { desk = ys } }) (λ x m. inl m) (λ x m. inl m) k.there (λ x m. inl m) (λ x m. inl m) (λ x m. inl m) (λ x m. inl m) (λ x m. inl m) (λ x m. inl m) (λ x m. inl m) (λ x m. inl m) (λ x m. inl m) (λ x m. inl m) (λ x m. inl m) (λ x m. inl m))
 
   pub outgoing_change : (ys : List Outgoing) → Trade Going out into s.tables.outgoing ys → Changes out into s (record s { tables = record s.tables { outgoing = ys } })
-  outgoing_change ys k = (λ w. omega (arith, k.sums w), comes_by into s (record s { tables = record s.tables { outgoing = ys } }) (λ x m. inl m) (λ x m. inl m) (λ x m. inl m) k.there (λ x m. inl m) (λ x m. inl m) (λ x m. inl m) (λ x m. inl m) (λ x m. inl m) (λ x m. inl m) (λ x m. inl m))
+  outgoing_change ys k = (λ w. omega (arith, k.sums w), comes_by into s (record s { tables = record s.tables { outgoing = ys } }) (λ x m. inl m) (λ x m. inl m) (λ x m. inl m) k.there (λ x m. inl m) (λ x m. inl m) (λ x m. inl m) (λ x m. inl m) (λ x m. inl m) (λ x m. inl m) (λ x m. inl m) (λ x m. inl m) (λ x m. inl m) (λ x m. inl m) (λ x m. inl m))
+
+  pub queued_change : (ys : List (Waiting Parcel)) → Trade Queued out into s.tables.queued ys → Changes out into s (record s { tables = record s.tables { queued = ys } })
+  queued_change ys k = (λ w. omega (arith, k.sums w), comes_by into s (record s { tables = record s.tables { queued = ys } }) (λ x m. inl m) (λ x m. inl m) (λ x m. inl m) (λ x m. inl m) k.there (λ x m. inl m) (λ x m. inl m) (λ x m. inl m) (λ x m. inl m) (λ x m. inl m) (λ x m. inl m) (λ x m. inl m) (λ x m. inl m) (λ x m. inl m) (λ x m. inl m))
+
+  pub leaving_change : (ys : List Parcel) → Trade Leaving out into s.tables.leaving ys → Changes out into s (record s { tables = record s.tables { leaving = ys } })
+  leaving_change ys k = (λ w. omega (arith, k.sums w), comes_by into s (record s { tables = record s.tables { leaving = ys } }) (λ x m. inl m) (λ x m. inl m) (λ x m. inl m) (λ x m. inl m) (λ x m. inl m) k.there (λ x m. inl m) (λ x m. inl m) (λ x m. inl m) (λ x m. inl m) (λ x m. inl m) (λ x m. inl m) (λ x m. inl m) (λ x m. inl m) (λ x m. inl m))
+
+  pub stray_change : (ys : List Parcel) → Trade Stray out into s.tables.stray ys → Changes out into s (record s { tables = record s.tables { stray = ys } })
+  stray_change ys k = (λ w. omega (arith, k.sums w), comes_by into s (record s { tables = record s.tables { stray = ys } }) (λ x m. inl m) (λ x m. inl m) (λ x m. inl m) (λ x m. inl m) (λ x m. inl m) (λ x m. inl m) k.there (λ x m. inl m) (λ x m. inl m) (λ x m. inl m) (λ x m. inl m) (λ x m. inl m) (λ x m. inl m) (λ x m. inl m) (λ x m. inl m))
+
+  pub brought_change : (ys : List Name) → Trade Brought out into s.tables.came ys → Changes out into s (record s { tables = record s.tables { came = ys } })
+  brought_change ys k = (λ w. omega (arith, k.sums w), comes_by into s (record s { tables = record s.tables { came = ys } }) (λ x m. inl m) (λ x m. inl m) (λ x m. inl m) (λ x m. inl m) (λ x m. inl m) (λ x m. inl m) (λ x m. inl m) k.there (λ x m. inl m) (λ x m. inl m) (λ x m. inl m) (λ x m. inl m) (λ x m. inl m) (λ x m. inl m) (λ x m. inl m))
 
   pub accepted_change : (ys : List Act) → Trade Accepted out into s.tables.accepted ys → Changes out into s (record s { tables = record s.tables { accepted = ys } })
-  accepted_change ys k = (λ w. omega (arith, k.sums w), comes_by into s (record s { tables = record s.tables { accepted = ys } }) (λ x m. inl m) (λ x m. inl m) (λ x m. inl m) (λ x m. inl m) k.there (λ x m. inl m) (λ x m. inl m) (λ x m. inl m) (λ x m. inl m) (λ x m. inl m) (λ x m. inl m))
+  accepted_change ys k = (λ w. omega (arith, k.sums w), comes_by into s (record s { tables = record s.tables { accepted = ys } }) (λ x m. inl m) (λ x m. inl m) (λ x m. inl m) (λ x m. inl m) (λ x m. inl m) (λ x m. inl m) (λ x m. inl m) (λ x m. inl m) k.there (λ x m. inl m) (λ x m. inl m) (λ x m. inl m) (λ x m. inl m) (λ x m. inl m) (λ x m. inl m))
 
   pub running_change : (ys : List Act) → Trade Running out into s.tables.running ys → Changes out into s (record s { tables = record s.tables { running = ys } })
-  running_change ys k = (λ w. omega (arith, k.sums w), comes_by into s (record s { tables = record s.tables { running = ys } }) (λ x m. inl m) (λ x m. inl m) (λ x m. inl m) (λ x m. inl m) (λ x m. inl m) k.there (λ x m. inl m) (λ x m. inl m) (λ x m. inl m) (λ x m. inl m) (λ x m. inl m))
+  running_change ys k = (λ w. omega (arith, k.sums w), comes_by into s (record s { tables = record s.tables { running = ys } }) (λ x m. inl m) (λ x m. inl m) (λ x m. inl m) (λ x m. inl m) (λ x m. inl m) (λ x m. inl m) (λ x m. inl m) (λ x m. inl m) (λ x m. inl m) k.there (λ x m. inl m) (λ x m. inl m) (λ x m. inl m) (λ x m. inl m) (λ x m. inl m))
 
   pub pending_change : (ys : List Waits) → Trade Pending out into s.tables.pending ys → Changes out into s (record s { tables = record s.tables { pending = ys } })
-  pending_change ys k = (λ w. omega (arith, k.sums w), comes_by into s (record s { tables = record s.tables { pending = ys } }) (λ x m. inl m) (λ x m. inl m) (λ x m. inl m) (λ x m. inl m) (λ x m. inl m) (λ x m. inl m) k.there (λ x m. inl m) (λ x m. inl m) (λ x m. inl m) (λ x m. inl m))
+  pending_change ys k = (λ w. omega (arith, k.sums w), comes_by into s (record s { tables = record s.tables { pending = ys } }) (λ x m. inl m) (λ x m. inl m) (λ x m. inl m) (λ x m. inl m) (λ x m. inl m) (λ x m. inl m) (λ x m. inl m) (λ x m. inl m) (λ x m. inl m) (λ x m. inl m) k.there (λ x m. inl m) (λ x m. inl m) (λ x m. inl m) (λ x m. inl m))
+
+  pub working_change : (ys : List Waits) → Trade Working out into s.working ys → Changes out into s (record s { working = ys })
+  working_change ys k = (λ w. omega (arith, k.sums w), comes_by into s (record s { working = ys }) (λ x m. inl m) (λ x m. inl m) (λ x m. inl m) (λ x m. inl m) (λ x m. inl m) (λ x m. inl m) (λ x m. inl m) (λ x m. inl m) (λ x m. inl m) (λ x m. inl m) (λ x m. inl m) k.there (λ x m. inl m) (λ x m. inl m) (λ x m. inl m))
 
   pub objects_change : (ys : List Standing) → Trade StandsHere out into s.tables.objects ys → Changes out into s (record s { tables = record s.tables { objects = ys } })
-  objects_change ys k = (λ w. omega (arith, k.sums w), comes_by into s (record s { tables = record s.tables { objects = ys } }) (λ x m. inl m) (λ x m. inl m) (λ x m. inl m) (λ x m. inl m) (λ x m. inl m) (λ x m. inl m) (λ x m. inl m) (λ x m. inl m) k.there (λ x m. inl m) (λ x m. inl m))
+  objects_change ys k = (λ w. omega (arith, k.sums w), comes_by into s (record s { tables = record s.tables { objects = ys } }) (λ x m. inl m) (λ x m. inl m) (λ x m. inl m) (λ x m. inl m) (λ x m. inl m) (λ x m. inl m) (λ x m. inl m) (λ x m. inl m) (λ x m. inl m) (λ x m. inl m) (λ x m. inl m) (λ x m. inl m) k.there (λ x m. inl m) (λ x m. inl m))
+
+  pub due_change : (ys : List Due) → Trade IsDue out into s.due ys → Changes out into s (record s { due = ys })
+  due_change ys k = (λ w. omega (arith, k.sums w), comes_by into s (record s { due = ys }) (λ x m. inl m) (λ x m. inl m) (λ x m. inl m) (λ x m. inl m) (λ x m. inl m) (λ x m. inl m) (λ x m. inl m) (λ x m. inl m) (λ x m. inl m) (λ x m. inl m) (λ x m. inl m) (λ x m. inl m) (λ x m. inl m) k.there (λ x m. inl m))
+
+  pub loose_change : (ys : List Id) → Trade Loose out into s.loose ys → Changes out into s (record s { loose = ys })
+  loose_change ys k = (λ w. omega (arith, k.sums w), comes_by into s (record s { loose = ys }) (λ x m. inl m) (λ x m. inl m) (λ x m. inl m) (λ x m. inl m) (λ x m. inl m) (λ x m. inl m) (λ x m. inl m) (λ x m. inl m) (λ x m. inl m) (λ x m. inl m) (λ x m. inl m) (λ x m. inl m) (λ x m. inl m) (λ x m. inl m) k.there)
 
 -- ---- one more message
 

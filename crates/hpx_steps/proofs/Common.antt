@@ -39,7 +39,7 @@ pub use Rattle.hpx_journal.specs.Tokens.{held, held_token, is_held, is_owed, owe
 pub use Rattle.hpx_journal.specs.Whole.{arrives_at, part, run_local}
 pub use Rattle.hpx_journal.specs.declared.entry.Event.TheVariants.{Looked}
 pub use Rattle.hpx_part.proofs.ActRows.{follows_fire, follows_line, follows_mail, follows_print, follows_sent}
-pub use Rattle.hpx_part.proofs.Covered.{act_names, owed_counts, travel_names}
+pub use Rattle.hpx_part.proofs.Covered.{act_names, object_names, owed_counts, travel_names}
 pub use Rattle.hpx_part.proofs.Credit.{token_own}
 pub use Rattle.hpx_part.proofs.CreditRows.{follows_asked, follows_given, follows_granted, follows_merge, follows_refused, follows_returned, follows_split, follows_up}
 pub use Rattle.hpx_part.proofs.FrameRows.{follows_in, follows_out}
@@ -59,6 +59,7 @@ pub use Rattle.hpx_part.specs.View.{IsCovered, View, names_in_view}
 pub use Rattle.hpx_agas.specs.Records.{find_record}
 pub use Rattle.hpx_agas.specs.Registries.{asked as raised, lowered}
 pub use Rattle.hpx_agas.specs.declared.record.Record.{Record}
+pub use Rattle.hpx_agas.specs.declared.record.Waiting.{Waiting}
 pub use Rattle.hpx_commit.proofs.Ahead.{ahead_is, deal_stays, deal_then, halves_taken, halvings_have, halvings_need, halvings_same}
 pub use Rattle.hpx_commit.proofs.Deals.{sums_dealt}
 pub use Rattle.hpx_commit.proofs.Failed.{failed_sums}
@@ -79,20 +80,20 @@ pub use Rattle.hpx_tables.specs.Merged.{has_log, is_like, may_merge, merged, mer
 pub use Rattle.hpx_tables.specs.Pending.{Waits, action_of, asked_at, asking_of, awaits, fired_of, ids_kept, ids_named, is_asked, is_asked_for, own_ids, refilled, refusal_of, refusals_of, waits_with}
 pub use Rattle.hpx_tables.specs.Splits.{asked_events, cuts, first_cuts, splits_from}
 pub use Rattle.hpx_tables.specs.Strange.{are_far, breaks, brings_right, broken, broken_act, broken_free, broken_give, broken_go, broken_move, broken_near, broken_object, broken_return, is_far, is_far_act, is_live, is_to_here, moves_far}
-pub use Rattle.hpx_tables.specs.Tables.{Tables, fired_acts, messages}
+pub use Rattle.hpx_tables.specs.Tables.{Tables, fired_acts, messages, queued_parcels}
 pub use Rattle.hpx_tables.specs.declared.births.Birth.{Birth}
 pub use Rattle.hpx_tables.specs.declared.kept.Outgoing.{Outgoing}
 pub use Rattle.hpx_tables.specs.declared.pending.Asked.{Asked as AskedFor}
 pub use Rattle.hpx_tables.specs.declared.strange.Broken.{Broken}
 pub use Rattle.hpx_steps.specs.Calls.{Accepts, DealsWith, Gives, Leaves, answered, effects, freed, ids_in, more_here, place_or_0, returned, rider_event, rider_events, up_of, ups, with_accepted, with_asks, with_done, with_due, with_left, with_returns, with_rider, with_riders, written_due}
 pub use Rattle.hpx_steps.specs.Frames.{IsForHere, IsOnItsWay, MayGoTo}
-pub use Rattle.hpx_steps.specs.Items.{Accepted, Among, Came, Going, Has, Holds, IsDue, Item, Loose, Mailed, OnDesk, Pending, Running, StandsHere, Working, weigh}
+pub use Rattle.hpx_steps.specs.Items.{Accepted, Among, Brought, Came, Going, Leaving, Queued, Stray, Has, Holds, IsDue, Item, Loose, Mailed, OnDesk, Pending, Running, StandsHere, Working, weigh}
 pub use Rattle.hpx_steps.specs.Left.{IsLeftBy, IsLeftFailed}
 pub use Rattle.hpx_steps.specs.Mail.{draws, going, is_other, mails, mails_if, may_stay, moves_on, posts, sent_as, with_act, with_mail, with_mail_if, with_return, wrote}
 pub use Rattle.hpx_steps.specs.Numbered.{AreNumbered, asks_as, asks_under}
 pub use Rattle.hpx_steps.specs.Paused.{Apart, AreLent, HasCommits, HasObject, HasSplit, IsCommit, IsShort, IsWhole, Single, bare_names, first_stock, names_of, whole_stock}
 pub use Rattle.hpx_steps.specs.Rest.{ArePaused, IsPaused, Stands, StandsAtRest, bound_for, queued, rules_of}
 pub use Rattle.hpx_steps.specs.Rows.{Actions, AreFired, Asks, Counts, Frees, FreesOf, Refusals, Returns, Row, brings, causes, fires_one, freeing, frees_one, goes, hopping, is_least, is_refusal, is_refused, joined, joins, kind_of, of_act, one_if, owes, spends, unpaid, weighed, weight}
-pub use Rattle.hpx_steps.specs.Sound.{AreNumbers, AreRules, FreesNone, HasPlaces, IsOrderly, IsOwn, IsPaid, IsSound, IsTidy, IsTidyIn, SendsOwn, StaysAt, TidyAt, all_count, asked_by, asking, asks_for, come, given_to, gives_for, gone, gone_to, waits_for, worth}
+pub use Rattle.hpx_steps.specs.Sound.{AreNumbers, AreRules, FreesNone, HasPlaces, IsOrderly, IsGranted, IsOwn, IsPaid, IsShipped, IsSound, IsTidy, IsTidyIn, SendsOwn, IsWaitingFor, StaysAt, TidyAt, all_count, asked_by, asking, asks_for, come, given_to, gives_for, gone, gone_to, waits_for, worth}
 pub use Rattle.hpx_steps.specs.Steps.{AsksFor, Bears, ComesIn, Commits, Deals, Ends, Fails, Feeds, Fires, GivesUp, GoesOut, Grants, HasInHand, IsCalm, IsGiven, IsTold, Label, Merges, Pause, Pauses, Place, Places, Prints, Recounts, Refuses, Remains, Reorder, Reorders, Sends, Splits, Step, Steps, Suspend, Suspends, TakesBack, TakesUp, Writes, drops, ends, goes_on, with_credit, with_records, works_on, written, written_by}
 pub use Rattle.hpx_steps.specs.Turn.{Turn, at_rest, bare_due, bare_standing, commits, counted, ids_here, own_parcels, parcel_acts, parcel_asks, parcel_frees, parcel_tokens, parcel_travels, parcels, tokens, tokens_of, view, waiting}

@@ -1,8 +1,8 @@
 -- Where all that is kept is well formed, each name has its token.
-use Rattle.hpx_steps.proofs.Common.{Accepted, Act, AllByRecursion, Among, AreLent, Bool, Came, Going, HasRightCredit, Id, IsCovered, IsDue, IsFit, IsFitDue, IsParcel, IsTidy, List, Mailed, MatchOption, MessageDue, None, OnDesk, Option, Outgoing, Parcel, Pending, PrintDue, Running, Some, Standing, Token, Turn, Waits, Working, [], act_names, action_of, all_named, and-true, ap, arith, asking_of, asks_owed, bare, bare_act, bare_due, bare_names, bare_standing, cases_Bool, commits, cond, count_by, credit_list, drop, due_ids, false, filter, fired_of, flat_map, held, ids_kept, ids_named, inl, inr, is_asked, is_held, is_managed, is_some, length, map, nat_le, nat_tests, not, owed_counts, own_ids, parcel_acts, parcel_asks, parcel_tokens, parcel_travels, parcels, plain, refl, rider_of, same_object, same_object-true, sum_by, sum_by-append, sum_by-cons, sym, take, take-append-drop, travel_names, true, view, worth, ℕ, ◌&&◌, ◌++◌, ◌+◌, ◌<◌, ◌∙◌, ◌∷◌, ◌≡◌, ◌≤◌}
+use Rattle.hpx_steps.proofs.Common.{Leaving, Queued, Stray, Waiting, all_append, messages, queued_parcels, Accepted, Act, AllByRecursion, Among, AreLent, Bool, Came, Going, HasRightCredit, Id, IsCovered, IsDue, IsFit, IsFitDue, IsParcel, IsTidy, List, Mailed, MatchOption, MessageDue, None, OnDesk, Option, Outgoing, Parcel, Pending, PrintDue, Running, Some, Standing, Token, Turn, Waits, Working, [], act_names, action_of, all_named, and-true, ap, arith, asking_of, asks_owed, bare, bare_act, bare_due, bare_names, bare_standing, cases_Bool, commits, cond, count_by, credit_list, drop, due_ids, false, filter, fired_of, flat_map, held, ids_kept, ids_named, inl, inr, is_asked, is_held, is_managed, is_some, length, map, nat_le, nat_tests, not, owed_counts, own_ids, parcel_acts, parcel_asks, parcel_tokens, parcel_travels, parcels, plain, refl, rider_of, same_object, same_object-true, sum_by, sum_by-append, sum_by-cons, sym, take, take-append-drop, travel_names, true, view, worth, ℕ, ◌&&◌, ◌++◌, ◌+◌, ◌<◌, ◌∙◌, ◌∷◌, ◌≡◌, ◌≤◌}
 use Rattle.hpx_value.specs.declared.outcome.Due.{Due}
 use Rattle.hpx_value.specs.declared.outcome.Due.TheVariants.{Message as MessageDue, Print as PrintDue}
-use Rattle.hpx_steps.proofs.Changes.{all_among, among_either}
+use Rattle.hpx_steps.proofs.Changes.{all_among, all_map, among_either}
 use Rattle.hpx_steps.proofs.Ridden.{ridden_sum, rider_all}
 use Rattle.hpx_steps.proofs.Sums.{flat_sum, ids_append, ids_flat, most_sum, parcels_sum, same_sum, two_sums, view_worth, weighs}
 
@@ -177,6 +177,22 @@ fired_names o [] (w ∷ ws) = omega (
 )
 fired_names o (a ∷ running) ws = omega (arith, fired_names o running ws, sum_by-cons (act_names o))
 
+-- all messages are well formed
+pub tidy_messages : (s : Turn) → IsTidy s → AllByRecursion IsParcel (messages s.tables)
+tidy_messages s h =
+    let outs = map (λ (x : Outgoing). x.parcel) s.tables.outgoing in
+    let waiting = queued_parcels s.tables.queued in
+    all_append IsParcel s.tables.desk (outs ++ (waiting ++ (s.tables.leaving ++ s.tables.stray))) (all_among IsParcel s.tables.desk (λ p m. (h (OnDesk p) m).0))
+    (all_append IsParcel outs (waiting ++ (s.tables.leaving ++ s.tables.stray))
+    (all_map (λ (x : Outgoing). x.parcel) IsParcel s.tables.outgoing (all_among (λ (x : Outgoing). IsParcel x.parcel) s.tables.outgoing (λ x m. (h (Going x) m).0)))
+    (all_append IsParcel waiting (s.tables.leaving ++ s.tables.stray)
+    (all_map (λ (x : Waiting Parcel). x.item) IsParcel s.tables.queued (all_among (λ (x : Waiting Parcel). IsParcel x.item) s.tables.queued (λ x m. (h (Queued x) m).0)))
+    (all_append IsParcel s.tables.leaving s.tables.stray (all_among IsParcel s.tables.leaving (λ p m. (h (Leaving p) m).0)) (all_among IsParcel s.tables.stray (λ p m. (h (Stray p) m).0)))))
+
+tidy_parcels : (s : Turn) → IsTidy s → AllByRecursion IsParcel (parcels s)
+tidy_parcels s h = all_append IsParcel s.came (s.mailed ++ messages s.tables) (all_among IsParcel s.came (λ p m. h (Came p) m))
+    (all_append IsParcel s.mailed (messages s.tables) (all_among IsParcel s.mailed (λ p m. (h (Mailed p) m).0)) (tidy_messages s h))
+
 -- where all is tidy, and no more ids are without credit than were lent, each name is covered, and each ask
 pub view_covered : (s : Turn) → IsTidy s → AreLent s.tables.objects (commits s) → IsCovered (view s)
 view_covered s tidy lent o managed =
@@ -185,16 +201,8 @@ view_covered s tidy lent o managed =
     let asks : Parcel → ℕ = λ p. count_by (same_object o) (parcel_asks p) in
     let held : Parcel → ℕ = λ p. sum_by (held_counts o) (parcel_tokens p) in
     let owed : Parcel → ℕ = λ p. sum_by (owed_counts o) (parcel_tokens p) in
-    let less : (f g : Parcel → ℕ) → ((p : Parcel) → IsParcel p → f p ≤ g p) → sum_by f (parcels s) ≤ sum_by g (parcels s) = λ f g each. omega (
-      arith,
-      parcels_sum f s,
-      parcels_sum g s,
-      most_sum IsParcel f g s.came each (all_among IsParcel s.came (λ p m. tidy (Came p) m)),
-      most_sum IsParcel f g s.mailed each (all_among IsParcel s.mailed (λ p m. (tidy (Mailed p) m).0)),
-      most_sum IsParcel f g s.tables.desk each (all_among IsParcel s.tables.desk (λ p m. (tidy (OnDesk p) m).0)),
-      most_sum (λ (x : Outgoing). IsParcel x.parcel) (λ (x : Outgoing). f x.parcel) (λ (x : Outgoing). g x.parcel) s.tables.outgoing (λ x. each x.parcel)
-          (all_among (λ (x : Outgoing). IsParcel x.parcel) s.tables.outgoing (λ x m. (tidy (Going x) m).0)),
-    ) in record {
+    let less : (f g : Parcel → ℕ) → ((p : Parcel) → IsParcel p → f p ≤ g p) → sum_by f (parcels s) ≤ sum_by g (parcels s) =
+    λ f g each. most_sum IsParcel f g (parcels s) each (tidy_parcels s tidy) in record {
       named = omega (
         arith,
         view_worth (held_counts o) s,

@@ -160,10 +160,13 @@ module _ (r : Rules) (s : Turn) (entries : List Entry) (h : IsSound r s entries)
 
   -- so it is seen with an entry
   ends_seen : (v : View) (e : Event) → as_seen v (wrote e now) ≡ view (wrote e now)
-      → v ≡ record v { travels = (view s).travels; tokens = tokens s; asking = (view s).asking; asks = (view s).asks; live = (view s).live; dead = (view s).dead; refusals = (view s).refusals }
+      → v ≡ record v { waiting = (view s).waiting; fired = (view (wrote e now)).fired; objects = (view (wrote e now)).objects; travels = (view s).travels; tokens = tokens s; asking = (view s).asking; asks = (view s).asks; live = (view s).live; dead = (view s).dead; refusals = (view s).refusals }
       → length (refusals_of (rest ++ s.tables.pending)) ≤ v.failing → Sees v (wrote e now)
   ends_seen v e rest same failing = record {
     rest = rest;
+    waiting = λ f. ap (λ (u : View). sum_by f u.waiting) same;
+    fired = λ f. ap (λ (u : View). sum_by f u.fired) same;
+    objects = λ f. ap (λ (u : View). sum_by f u.objects) same;
     travels = λ f. ap (λ (u : View). sum_by f u.travels) same;
     tokens = λ f fair. ap (λ (u : View). sum_by f u.tokens) same ∙ dealt f;
     asking = λ o. ap (λ (u : View). count_by (same_object o) u.asking) same ∙ asking_same o;
@@ -253,9 +256,8 @@ module _ (r : Rules) (s : Turn) (entries : List Entry) (h : IsSound r s entries)
         ∙ (sym (map-append bare_standing (take j s.tables.objects) (new ∷ drop (suc j) s.tables.objects)) ∙ ap (map bare_standing) (sym (split_set s.tables.objects j x new g.stands)))
 
     sees : Sees seen done
-    sees = ends_seen seen (Done (name_of w.job.action) false) (ap (λ fs. record (view done) { fired = fs; objects = seen.objects; due = seen.due }) fires_then
-        ∙ (ap (λ os. record (view done) { objects = os; due = seen.due }) objects_then
-        ∙ ap (λ ds. record (view done) { due = ds }) (ap (λ y. due_with y (plain (bare_act act)) s.fresh w.outcome) bare_x ∙ sym leaves))) refl (omega (arith, failing_less))
+    sees = ends_seen seen (Done (name_of w.job.action) false) (ap (λ ds. record (view done) { due = ds }) (ap (λ y. due_with y (plain (bare_act act)) s.fresh w.outcome) bare_x ∙ sym leaves))
+        (ap (λ fs. record seen { fired = fs }) fires_then ∙ ap (λ os. record seen { fired = (view done).fired; objects = os }) objects_then) (omega (arith, failing_less))
 
     pub committed_keeps : Keeps r s done (Done (name_of w.job.action) false)
     committed_keeps = done_keeps false (
@@ -286,9 +288,8 @@ module _ (r : Rules) (s : Turn) (entries : List Entry) (h : IsSound r s entries)
 
     sees_failed : Sees seen_failed failed
     sees_failed = ends_seen seen_failed (Done (name_of w.job.action) true)
-        (ap (λ fs. record (view failed) { fired = fs; objects = seen_failed.objects; due = seen_failed.due; fresh = s.fresh }) fires_then
-        ∙ (ap (λ os. record (view failed) { objects = os; due = seen_failed.due; fresh = s.fresh }) objects_same
-        ∙ (ap (λ ds. record (view failed) { due = ds; fresh = s.fresh }) (sym leaves) ∙ ap (λ fs. record (view failed) { fresh = fs }) fresh))) refl (omega arith)
+        (ap (λ ds. record (view failed) { due = ds; fresh = s.fresh }) (sym leaves) ∙ ap (λ fs. record (view failed) { fresh = fs }) fresh)
+        (ap (λ fs. record seen_failed { fired = fs }) fires_then ∙ ap (λ os. record seen_failed { fired = (view failed).fired; objects = os }) objects_same) (omega arith)
 
     -- an id of the action or of its object was refused
     named : list_any (same_object o) ((bare_act act).ids ++ (bare_standing x).state.ids) ≡ true

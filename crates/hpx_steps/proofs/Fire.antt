@@ -1,5 +1,5 @@
 -- An accepted action runs.
-use Rattle.hpx_steps.proofs.Common.{Accepted, Act, Apart, Entry, Fire, Fires, IsSound, IsTidy, List, Name, Rules, Running, Some, Standing, TidyAt, Turn, View, [], action_of, ap, append_assoc, arith, bare_act, bare_due, bare_standing, commits, drop, false, find, fired_of, flat_map, follows_fire, is_busy, is_standing, map, map-append, name_of, parcel_acts, parcels, refl, remove, slice_get, split_get, subst, suc, sym, take, target_of, view, waiting, worth, wrote, ℕ, ◌++◌, ◌∙◌, ◌∷◌, ◌≡◌}
+use Rattle.hpx_steps.proofs.Common.{sum_by, Accepted, Act, Apart, Entry, Fire, Fires, IsSound, IsTidy, List, Name, Rules, Running, Some, Standing, TidyAt, Turn, View, [], action_of, ap, append_assoc, arith, bare_act, bare_due, bare_standing, commits, drop, false, find, fired_of, flat_map, follows_fire, is_busy, is_standing, map, map-append, name_of, parcel_acts, parcels, refl, remove, slice_get, split_get, subst, suc, sym, take, target_of, view, waiting, worth, wrote, ℕ, ◌++◌, ◌∙◌, ◌∷◌, ◌≡◌}
 use Rattle.hpx_steps.proofs.Tools.{Changes, Keeps, Sees, accepted_change, among_at, apart_more, busy-bare, by_rows, counts_near, found-bare, holding, more_come, numbered_so, one_goes, orders_so, pays_so, running_change, sees_by, sees_leads, target-bare, then, told_as, view_worth}
 
 module _ (r : Rules) (s : Turn) (entries : List Entry) (h : IsSound r s entries) (i : ℕ) (act : Act) (x : Standing) (due : s.due ≡ []) (fresh : s.fresh ≡ [])
@@ -36,9 +36,12 @@ module _ (r : Rules) (s : Turn) (entries : List Entry) (h : IsSound r s entries)
   abbrev seen : View
   seen = record (view s) { waiting = front ++ back; fired = running; last = Some (Fire (name_of act)) }
 
+  waits_then : front ++ back ≡ waiting now
+  waits_then = simp (map-append, append_assoc)
+
   sees : Sees seen now
-  sees = sees_by seen now (ap (λ ws. record (view now) { waiting = ws; fired = running }) (simp (map-append, append_assoc)) ∙ ap (λ fs. record (view now) { fired = fs }) (simp (map-append, append_assoc))) (λ f. refl)
-      (λ f weight. omega (arith, view_worth f s, view_worth f now, change.0 (worth f))) (λ x. refl) (λ x. refl) (λ x. omega arith) refl
+  sees = sees_by seen now refl (λ f. ap (sum_by f) waits_then) (λ f. refl)
+      (λ f weight. omega (arith, view_worth f s, view_worth f now, change.0 (worth f))) (λ x. refl) (λ x. refl) (λ x. omega arith) (ap (λ fs. record seen { fired = fs }) (simp (map-append, append_assoc)))
 
   pub fire_keeps : Keeps r s now (Fire (name_of act))
   fire_keeps = record {

@@ -1,8 +1,8 @@
 -- A dead object goes.
-use Rattle.hpx_steps.proofs.Common.{Accepted, Act, AllByRecursion, Came, Entry, Follows, Free, Freed, Going, Has, HasInHand, HasRightCredit, Id, IsDue, IsForHere, IsManaged, IsSound, IsTidy, IsTold, Item, List, Loose, Mailed, None, OnDesk, Outgoing, Pending, Row, Rules, Running, Some, Standing, StandsHere, TidyAt, Token, Turn, View, Waits, Working, [], acts_on, any_counted, ap, arith, asked_by, asks_under, bare_act, bare_due, bare_standing, causes, commits, cond, count_by, credit_list, drop, drops, false, false_from, find, find_passes, flat_map, follows_freed_mailed, follows_freed_taken, freeing, given_to, goes, held, held_here, hopping, inl, inr, is_some, is_standing, joined, list_any, map, map-append, owes, parcel_frees, refl, remove, same_object, same_object-from, same_object-refl, same_object-sym, same_object-true, session, slice_get, split_get, subst, suc, sum_by, sum_by-cons, sym, take, target_of, true, unpaid, view, waiting, waits_for, waits_here, weigh, with_credit, worth, wrote, ℕ, ◌++◌, ◌+◌, ◌∙◌, ◌∷◌, ◌≡◌, ◌≤◌}
-use Rattle.hpx_steps.proofs.Tools.{Changes, Keeps, Sees, all_with, among_all, among_at, asks_of, by_bool, by_rows, counts_near, credit_tokens, drop_change, drop_waits, fewer, freed_whole, frees_now, frees_of, hand_fit, hand_weighs, holding, ids_each, in_hand, is_frame, less_commits, loose_change, more_come, none_of, none_sum, objects_change, one_goes, same_asks, same_dead, sees_by, sees_leads, single_less, stand_less, target-bare, then, total, total_map, view_worth, zeros, same_travels, ships_of}
+use Rattle.hpx_steps.proofs.Common.{Among, Apply, Arrived, Ask, Brought, Cached, Give, Go, IsGranted, Leaving, Move, Parcel, Queued, Return, Shipped, Stray, messages, Accepted, Act, AllByRecursion, Came, Entry, Follows, Free, Freed, Going, Has, HasInHand, HasRightCredit, Id, IsDue, IsForHere, IsManaged, IsSound, IsTidy, IsTold, Item, List, Loose, Mailed, None, OnDesk, Pending, Row, Rules, Running, Some, Standing, StandsHere, TidyAt, Token, Turn, View, Waits, Working, [], acts_on, any_counted, ap, arith, asked_by, asks_under, bare_act, bare_due, bare_standing, causes, commits, cond, count_by, credit_list, drop, drops, false, false_from, find, find_passes, flat_map, follows_freed_mailed, follows_freed_taken, freeing, given_to, goes, held, held_here, hopping, inl, inr, is_some, is_standing, joined, list_any, map, map-append, owes, parcel_frees, refl, remove, same_object, same_object-from, same_object-refl, same_object-sym, same_object-true, session, slice_get, split_get, subst, suc, sum_by, sum_by-cons, sym, take, target_of, true, unpaid, view, waits_for, waits_here, weigh, with_credit, worth, wrote, ℕ, ◌++◌, ◌+◌, ◌∙◌, ◌∷◌, ◌≡◌, ◌≤◌}
+use Rattle.hpx_steps.proofs.Tools.{Changes, Keeps, Sees, all_with, among_all, among_at, asks_of, by_bool, by_rows, acting, counts_near, credit_tokens, drop_change, fewer, freed_whole, frees_now, frees_of, hand_fit, hand_weighs, holding, ids_each, in_hand, is_frame, less_commits, loose_change, more_come, none_of, none_sum, objects_change, one_goes, same_asks, same_dead, sees_by, sees_leads, single_less, stand_less, target-bare, then, total, total_map, view_worth, zeros, same_travels, same_waits, ships_of}
 use Rattle.hpx_steps.specs.Steps.{Frees}
-use Rattle.hpx_steps.proofs.Unheld.{none_accepted, none_fired, none_waits}
+use Rattle.hpx_steps.proofs.Unheld.{none_accepted, none_fired, none_leaves, none_waits}
 
 module _ (r : Rules) (s : Turn) (entries : List Entry) (h : IsSound r s entries) (o : Id) (i : ℕ) (x : Standing) (due : s.due ≡ []) (fresh : s.fresh ≡ []) (alone : s.working ≡ [])
     (told : IsTold r (Free o) s) (there : slice_get s.tables.objects i ≡ Some x) (found : find (is_standing o) s.tables.objects ≡ Some x)
@@ -69,6 +69,19 @@ module _ (r : Rules) (s : Turn) (entries : List Entry) (h : IsSound r s entries)
         accepted_off rest parts.1,
       )
 
+  -- so does one that is to leave
+  leaves : (p : Parcel) → Among p s.tables.leaving → IsGranted s.tables.here s.tables.objects p → IsGranted s.tables.here (remove s.tables.objects i) p
+  leaves (Go a) m k = (k.0, other (target_of a) ((accepted_off (a ∷ []) (none_leaves o s h.tidy bare_o.1 unheld a m)).0) k.1)
+  leaves (Apply act) m k = absurd k
+  leaves (Move act) m k = absurd k
+  leaves (Shipped act state) m k = absurd k
+  leaves (Return id) m k = absurd k
+  leaves (Ask id asker entry) m k = absurd k
+  leaves (Give id entry) m k = absurd k
+  leaves (Cached id place) m k = absurd k
+  leaves (Arrived id place) m k = absurd k
+  leaves (Free id) m k = absurd k
+
   retidied : (y : Item) → Has s y → TidyAt now y
   retidied (Accepted a) m =
       let k = h.tidy (Accepted a) m in (
@@ -80,6 +93,10 @@ module _ (r : Rules) (s : Turn) (entries : List Entry) (h : IsSound r s entries)
   retidied (Mailed p) m = h.tidy (Mailed p) m
   retidied (OnDesk p) m = h.tidy (OnDesk p) m
   retidied (Going p) m = h.tidy (Going p) m
+  retidied (Queued p) m = h.tidy (Queued p) m
+  retidied (Leaving p) m = let k = h.tidy (Leaving p) m in (k.0, leaves p m k.1)
+  retidied (Stray p) m = h.tidy (Stray p) m
+  retidied (Brought p) m = tt
   retidied (Running p) m = h.tidy (Running p) m
   retidied (Pending p) m = h.tidy (Pending p) m
   retidied (Working p) m = h.tidy (Working p) m
@@ -107,11 +124,12 @@ module _ (r : Rules) (s : Turn) (entries : List Entry) (h : IsSound r s entries)
   seen = record (view s) { objects = l ++ m; last = Some (Freed o) }
 
   sees : Sees seen now
-  sees = sees_by seen now (ap (λ os. record (view now) { objects = os; waiting = waiting s }) (sym (map-append bare_standing (take i s.tables.objects) (drop (suc i) s.tables.objects)))
-      ∙ ap (λ ws. record (view now) { waiting = ws }) (sym (drop_waits (Free o) s hand refl)))
+  sees = sees_by seen now refl
+      (λ f. same_waits f s now (omega (arith, stays (acting f) refl refl refl (λ id. refl))))
       (λ f. same_travels f s now (omega (arith, stays (ships_of f) refl refl refl (λ id. refl))))
       (λ f fair. omega (arith, view_worth f s, view_worth f now, moves (worth f), freed_tokens f, ids_each f (with_credit x.state.ids), credit_tokens f x.state.ids)) (λ q. refl)
-      (λ q. same_asks q s now (omega (arith, stays (asks_of q) refl refl refl (λ id. refl)))) (λ q. same_dead q s now (omega (arith, moves (frees_of q), zeros (with_credit x.state.ids)))) refl
+      (λ q. same_asks q s now (omega (arith, stays (asks_of q) refl refl refl (λ id. refl)))) (λ q. same_dead q s now (omega (arith, moves (frees_of q), zeros (with_credit x.state.ids))))
+      (ap (λ os. record seen { objects = os }) (sym (map-append bare_standing (take i s.tables.objects) (drop (suc i) s.tables.objects))))
     where
       -- a Free has no credit
       freed_tokens : (f : Token → ℕ) → worth f was ≡ 0
@@ -128,9 +146,9 @@ module _ (r : Rules) (s : Turn) (entries : List Entry) (h : IsSound r s entries)
   ]
     where
       dead_one : s.mailed ≡ Free o ∷ [] → 1 ≤ count_by (same_object o) (view s).dead
-      dead_one is = subst (λ ps. 1 ≤ count_by (same_object o) (flat_map parcel_frees (ps ++ (s.tables.desk ++ map (λ (y : Outgoing). y.parcel) s.tables.outgoing)))) (sym is) (omega (
+      dead_one is = subst (λ ps. 1 ≤ count_by (same_object o) (flat_map parcel_frees (ps ++ messages s.tables))) (sym is) (omega (
         arith,
-        sum_by-cons (λ q. cond (same_object o q) 1 0) o (flat_map parcel_frees (s.tables.desk ++ map (λ (y : Outgoing). y.parcel) s.tables.outgoing)),
+        sum_by-cons (λ q. cond (same_object o q) 1 0) o (flat_map parcel_frees (messages s.tables)),
         ap {B = ℕ} (λ b. cond b 1 0) (same_object-refl o),
       ))
 

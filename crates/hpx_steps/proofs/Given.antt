@@ -1,6 +1,6 @@
 -- Credit that was asked for is given to a commit that waits for it.
-use Rattle.hpx_steps.proofs.Common.{Act, AskedFor, Bool, Came, Entry, Give, Given, HasCommits, HasCredit, HasInHand, Id, IsCommit, IsGiven, IsSound, IsTidy, Item, List, Mailed, Pending, Refusal, Row, Rules, Some, TidyAt, Token, Turn, View, Waits, Working, [], action_of, and_true, any_counted, ap, append_assoc, arith, asked_by, asking, asks_under, bare, bare_act, bare_due, causes, commits, cond, count_by, counted_any, counts_false, counts_of, counts_true, drop, drops, eqb-true, false, fired_of, follows_given, freeing, given_to, gives_for, goes, goes_on, held_token, hopping, id_at, ids_named, is_asked, is_asked_for, is_least, joined, length, log_of, map, name_of, one_if, owed_token, owes, parcel_asks, refilled, refl, refusal_of, refusals_of, remove, same_object, same_token, set, slice_get, split_get, split_set, subst, suc, sum_by, sum_by-append, sum_by-cons, sym, take, token_own, tokens, tokens_of, true, unpaid, view, waits_for, weigh, worth, wrote, ℕ, ◌&&◌, ◌++◌, ◌+◌, ◌==◌, ◌∙◌, ◌∷◌, ◌≡◌, ◌≤◌, ◌⊎◌, Travel}
-use Rattle.hpx_steps.proofs.Tools.{Changes, Keeps, among_at, asks_of, bare_tokens, by_bool, by_commit, by_rows, counts_near, drop_change, drop_waits, fewer, fired_leads, fired_sum, first_comes, hand_fit, hand_weighs, has_not_asked, held_by, holding, ids_each, in_hand, is_fired, is_frame, leads_on, less_sum, long_sum, map_sum, move_commits, one_goes, one_turns, owed_by, pending_change, put_asked, put_bare, put_for, refuses, same_dead, same_fired, seen_sum, sees_leads, set_sum, then, view_asking, view_refusals, view_worth, was_fired, working_change, same_travels, ships_of}
+use Rattle.hpx_steps.proofs.Common.{same_refusal, Act, AskedFor, Bool, Came, Entry, Give, Given, HasCommits, HasCredit, HasInHand, Id, IsCommit, IsGiven, IsSound, IsTidy, Item, List, Mailed, Pending, Refusal, Row, Rules, Some, TidyAt, Token, Turn, View, Waits, Working, [], and_true, any_counted, ap, append_assoc, arith, asked_by, asking, asks_under, bare, bare_act, bare_due, causes, commits, cond, count_by, counted_any, counts_false, counts_of, counts_true, drop, drops, eqb-true, false, follows_given, freeing, given_to, gives_for, goes, goes_on, held_token, hopping, id_at, ids_named, is_asked, is_asked_for, is_least, joined, length, log_of, map, name_of, one_if, owed_token, owes, parcel_asks, refilled, refl, refusal_of, refusals_of, remove, same_object, same_token, set, slice_get, split_get, split_set, subst, suc, sum_by, sum_by-append, sum_by-cons, sym, take, token_own, tokens, tokens_of, true, unpaid, view, waits_for, weigh, worth, wrote, ℕ, ◌&&◌, ◌++◌, ◌+◌, ◌==◌, ◌∙◌, ◌∷◌, ◌≡◌, ◌≤◌, ◌⊎◌, Travel}
+use Rattle.hpx_steps.proofs.Tools.{Changes, Keeps, among_at, asks_of, bare_tokens, by_bool, by_commit, by_rows, counts_near, drop_change, fewer, fired_sum, first_comes, hand_fit, hand_weighs, has_not_asked, held_by, holding, ids_each, in_hand, is_frame, less_sum, long_sum, map_sum, move_commits, one_goes, one_turns, owed_by, pending_change, put_asked, put_bare, put_for, refuses, same_dead, seen_sum, sees_leads, set_sum, then, view_asking, view_refusals, view_worth, working_change, same_travels, ships_of, same_waits, frees_of, acting, same_fires, acted}
 use Rattle.hpx_steps.proofs.Refilled.{asked_at_place, asked_low, asked_same, still_commit, still_split, was_asked}
 
 -- a commit that waited stands elsewhere, or where it stood
@@ -191,9 +191,6 @@ module _ (r : Rules) (s : Turn) (entries : List Entry) (h : IsSound r s entries)
     last = Some (Given (bare id) log);
   }
 
-  abbrev seen : View
-  seen = record told { fired = map bare_act ((s.tables.running ++ map action_of k.l') ++ w.job.action ∷ map action_of k.m') }
-
   one_owed : 1 ≤ count_by (same_token (owed_token (bare id) log)) (tokens s)
   one_owed = omega (
     arith,
@@ -214,11 +211,20 @@ module _ (r : Rules) (s : Turn) (entries : List Entry) (h : IsSound r s entries)
       follows_given r (view s) (bare id) refl log (tokens now) (view now).asking (view now).asks (ap (map bare_due) due) fresh
           (subst (λ c. (log ≡ 0) ⊎ (log ≡ c)) (sym h.rules.credit_log) right) one_owed
           (record { sums = λ f fair. omega (arith, traded f, sum_by-cons f (owed_token (bare id) log) [], sum_by-cons f (held_token (bare id) log) []) }) asking_less asks_less,
-      leads_on r told seen (view now) (fired_leads r told (s.tables.running ++ map action_of k.l) (map action_of k.m) (s.tables.running ++ map action_of k.l') (map action_of k.m') w.job.action
-          (ap (λ ws. map bare_act (fired_of s.tables.running ws)) k.was
-          ∙ ap (map bare_act) (was_fired s.tables.objects s.tables.running k.l k.m k.l' k.m' w given refl k.same))
-          (same_fired s.tables.objects s.tables.running k.l k.m k.l' k.m' w given refl k.same))
-          (sees_leads r seen now (grind (arith, is_fired, drop_waits, ships, tokens, asking, same_dead, moves, any_counted, counted_any, commits, refused_more, counts_of, failing_more))),
+      sees_leads r told now (record {
+        rest = refl;
+        waiting = λ f. same_waits f s now (omega (arith, moves (acting f) 0 refl refl refl));
+        fired = λ f. same_fires f s now (omega (arith, moves (acted f) 0 refl refl refl));
+        objects = λ f. refl;
+        travels = ships;
+        tokens = λ f fair. refl;
+        asking = λ o. refl;
+        asks = λ o. refl;
+        live = λ o home. refl;
+        dead = λ o. same_dead o s now (omega (arith, moves (frees_of o) 0 refl refl refl));
+        refusals = λ y x. any_counted (same_refusal y) told.refusals (omega (arith, counted_any (same_refusal y) (refusals_of (commits now)) x, refused_more (counts_of (same_refusal y))));
+        failing = failing_more;
+      }),
     );
     tidy = tidy;
     places = h.places;

@@ -9,8 +9,6 @@ pub mod Busy
 pub mod Beside
 pub mod Then
 pub mod Still
-pub mod Moved
-pub mod Waits
 pub mod ByRows
 pub mod Mails
 pub mod Puts

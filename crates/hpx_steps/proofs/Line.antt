@@ -1,6 +1,6 @@
 -- A line is fed.
-use Rattle.hpx_steps.proofs.Common.{Accepted, Act, Entry, Feeds, IsFit, IsSound, Line, List, Name, Rules, Some, TidyAt, Turn, View, [], ap, arith, bare_due, draws, follows_line, is_other, length, line_act, map, posts, refl, subst, sym, target_of, view, waiting, worth, wrote, ℕ, ◌++◌, ◌+◌, ◌∷◌, ◌≡◌, ◌≤◌}
-use Rattle.hpx_steps.proofs.Tools.{Changes, Keeps, Put, Sees, asks_of, by_rows, counts_near, frees_of, holding, numbered_so, orders_so, pays_so, post_change, post_waits, put_as, same_asks, same_dead, sees_by, sees_leads, told_as, view_worth, same_travels, ships_of}
+use Rattle.hpx_steps.proofs.Common.{Accepted, Act, Entry, Feeds, IsFit, IsSound, Line, List, Name, Rules, Some, TidyAt, Turn, View, [], ap, arith, bare_due, draws, follows_line, is_other, length, line_act, map, posts, refl, subst, target_of, view, waiting, worth, wrote, ℕ, ◌+◌, ◌∷◌, ◌≡◌, ◌≤◌, sum_by-cons}
+use Rattle.hpx_steps.proofs.Tools.{Changes, Keeps, Sees, asks_of, by_rows, counts_near, frees_of, holding, numbered_so, orders_so, pays_so, post_change, put_as, same_asks, same_dead, sees_by, sees_leads, told_as, view_worth, same_travels, ships_of, acting, wait_sum}
 
 -- a line is well formed
 line_fit : (a : Name) (bytes : List ℕ) → length bytes ≤ 1025 → IsFit (line_act a bytes)
@@ -21,20 +21,17 @@ module _ (r : Rules) (s : Turn) (entries : List Entry) (h : IsSound r s entries)
   change : Changes [] (Accepted (line_act (record { origin = s.tables.here; serial = s.tables.serial + 1 }) bytes) ∷ []) s now
   change = subst (λ b. Changes [] (put_as b (is_other s.tables (target_of act).home) act ∷ []) s now) (h.places.serves first) (post_change act (draws s))
 
-  put : Put act (waiting s) (waiting now)
-  put = post_waits act (draws s)
-
   abbrev seen : View
-  seen = record (view s) { serial = s.tables.serial + 1; waiting = put.front ++ act ∷ put.back; last = Some (Line name bytes) }
+  seen = record (view s) { serial = s.tables.serial + 1; waiting = act ∷ waiting s; last = Some (Line name bytes) }
 
   sees : Sees seen now
-  sees = sees_by seen now (ap (λ ws. record (view now) { waiting = ws }) (sym put.is)) (λ f. same_travels f s now (omega (arith, change.0 (ships_of f))))
+  sees = sees_by seen now refl (λ f. omega (arith, sum_by-cons f act (waiting s), wait_sum f s, wait_sum f now, change.0 (acting f))) (λ f. same_travels f s now (omega (arith, change.0 (ships_of f))))
       (λ f weight. omega (arith, view_worth f s, view_worth f now, change.0 (worth f))) (λ x. refl)
       (λ x. same_asks x s now (omega (arith, change.0 (asks_of x)))) (λ x. same_dead x s now (omega (arith, change.0 (frees_of x)))) refl
 
   pub line_keeps : Keeps r s now (Line name bytes)
   line_keeps = record {
-    leads = (seen, follows_line r (view s) put.front put.back bytes (ap (map bare_due) due) fresh first short put.was, sees_leads r seen now sees);
+    leads = (seen, follows_line r (view s) [] (waiting s) bytes (ap (map bare_due) due) fresh first short refl, sees_leads r seen now sees);
     tidy = holding (TidyAt s) (Accepted act ∷ []) s now change.1 h.tidy ((line_fit name bytes short, tt, h.places.serves first), tt);
     places = h.places;
     commits = h.commits;

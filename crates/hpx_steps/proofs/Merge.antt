@@ -173,7 +173,7 @@ module _ (r : Rules) (s : Turn) (entries : List Entry) (h : IsSound r s entries)
   objects_same = sym (same_map bare_standing s.tables.objects j x raised stands (ap (λ ids. record { object = bare x.object; state = record x.state { ids = ids } }) (merged_bare id log x.state.ids)))
 
   sees : Sees seen now
-  sees = sees_by seen now (ap (λ os. record (view now) { objects = os }) objects_same) (λ f. refl) (λ f weight. refl) (λ y. refl) (λ y. refl) (λ y. omega arith) refl
+  sees = sees_by seen now refl (λ f. refl) (λ f. refl) (λ f weight. refl) (λ y. refl) (λ y. refl) (λ y. omega arith) (ap (λ os. record seen { objects = os }) objects_same)
 
   pub merge_keeps : Keeps r s now (Merge (bare id) log)
   merge_keeps = record {

@@ -37,7 +37,7 @@ module _ (r : Rules) (s : Turn) (entries : List Entry) (h : IsSound r s entries)
   seen = record (view s) { waiting = waiting now; travels = (view now).travels; tokens = tokens now; asks = (view now).asks; last = Some (Out x.to bytes) }
 
   sees : Sees seen now
-  sees = sees_by seen now refl (λ f. refl) (λ f weight. refl) (λ y. refl) (λ y. refl) (λ y. same_dead y s now (omega (arith, change.0 (frees_of y)))) refl
+  sees = sees_by seen now refl (λ f. refl) (λ f. refl) (λ f weight. refl) (λ y. refl) (λ y. refl) (λ y. same_dead y s now (omega (arith, change.0 (frees_of y)))) refl
 
   loads : Exchanges (load_of x.parcel) nothing (view s) seen
   loads = record {

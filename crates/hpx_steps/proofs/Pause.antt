@@ -1,6 +1,6 @@
 -- A commit begins to wait.
 use Rattle.hpx_steps.proofs.Common.{Entry, HasCommits, HasSplit, IsCommit, IsSound, List, Pauses, Pending, Refusal, Rules, TidyAt, Turn, View, Waits, Working, [], action_of, any_counted, ap, append-nil, append_assoc, arith, asked_by, asking, asks_under, bare_act, commits, counted_any, counts_of, fired_of, freeing, given_to, hopping, inl, joined, map, refl, refusals_of, same_refusal, subst, sum_by, sym, unpaid, view, waits_for, worth, ℕ, ◌++◌, ◌∙◌, ◌∷◌, ◌≡◌, ◌≢◌}
-use Rattle.hpx_steps.proofs.Tools.{Changes, Sees, Stills, by_commit, fewer, fired_leads, first_goes, holding, is_fired, leads_on, long_sum, more_come, move_commits, pending_change, recommit, refuses, same_fired, sees_leads, then, view_asking, view_refusals, view_worth, was_fired, working_change}
+use Rattle.hpx_steps.proofs.Tools.{Changes, Sees, Stills, by_commit, fewer, first_goes, holding, long_sum, more_come, move_commits, pending_change, recommit, refuses, sees_leads, then, view_asking, view_refusals, view_worth, was_fired, working_change, same_fires, acted}
 
 module _ (r : Rules) (s : Turn) (entries : List Entry) (h : IsSound r s entries) (w : Waits) (rest : List Waits) (places : List ℕ) (works : s.working ≡ w ∷ rest)
     (lacks : w.asked ≢ []) (split : HasSplit s.tables.profile.credit_log (record w { places = places })) where
@@ -42,10 +42,12 @@ module _ (r : Rules) (s : Turn) (entries : List Entry) (h : IsSound r s entries)
   refused : (f : Refusal → ℕ) → sum_by f (refusals_of (commits now)) ≡ sum_by f (refusals_of (commits s))
   refused f = omega (arith, view_refusals f s, view_refusals f now, change.0 (by_commit (refuses f)))
 
-  sees : Sees (record seen { last = s.last }) now
+  sees : Sees (view s) now
   sees = record {
-    rest = ap (λ fs. record (view now) { fired = fs })
-        (ap (map bare_act) (sym (is_fired s.tables.objects s.tables.running [] others others [] w waiter refl same)) ∙ ap (λ ws. map bare_act (fired_of s.tables.running ws)) behind);
+    rest = refl;
+    waiting = λ f. refl;
+    fired = λ f. same_fires f s now (omega (arith, change.0 (acted f)));
+    objects = λ f. refl;
     travels = λ f. refl;
     tokens = λ f fair. omega (arith, view_worth f s, view_worth f now, change.0 (worth f));
     asking = λ o. omega (arith, view_asking o s, view_asking o now, change.0 (asking o));
@@ -59,9 +61,7 @@ module _ (r : Rules) (s : Turn) (entries : List Entry) (h : IsSound r s entries)
   pub pause_stills : Stills r s now
   pause_stills = record {
     same = refl;
-    leads = leads_on r (view s) seen (view now)
-        (fired_leads r (view s) (s.tables.running ++ map action_of []) (map action_of others) (s.tables.running ++ map action_of others) (map action_of []) w.job.action fires
-        (same_fired s.tables.objects s.tables.running [] others others [] w waiter refl same)) (sees_leads r seen now sees);
+    leads = sees_leads r (view s) now sees;
     tidy = holding (TidyAt s) (Pending waiter ∷ []) s now change.1 h.tidy ((fit_commit, split, lacks), tt);
     places = h.places;
     commits = subst (HasCommits s.tables.objects s.tables.running) behind (move_commits s.tables.objects s.tables.running [] others others [] w waiter refl same was);

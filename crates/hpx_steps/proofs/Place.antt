@@ -1,6 +1,6 @@
 -- An action that is in hand waits here, or goes on.
-use Rattle.hpx_steps.proofs.Common.{Accepted, Act, Apply, Came, Entry, Going, HasInHand, IsApplied, IsFit, IsMove, IsParcel, IsSound, Item, List, Mailed, Move, OnDesk, Parcel, Places, Row, Rules, TidyAt, Turn, View, [], ap, arith, asked_by, asks_as, asks_for, asks_under, bare_act, brings, count_by, drops, freeing, frees_one, given_to, gives_for, going, hopping, inl, inr, is_other, joined, may_stay, of_act, owes, parcel_acts, parcel_asks, parcel_frees, parcel_tokens, posts, refl, same_object, subst, sum_by, sym, target_of, tokens_of, true, unpaid, view, waiting, waits_for, weigh, worth, ℕ, ◌++◌, ◌+◌, ◌==◌, ◌∙◌, ◌∷◌, ◌≡◌, ◌≢◌, ◌≤◌, ◌⊎◌, parcel_travels}
-use Rattle.hpx_steps.proofs.Tools.{Changes, Put, Sees, Stills, both, bound_none, brings_few, by_own, by_parcel, carried, drop_change, fewer, hand_fit, hand_waits, hand_weighs, holding, in_hand, is_frame, leads_on, post_change, post_waits, put_as, put_less, put_sum, put_tidy, same_asks, same_dead, sees_leads, then, view_worth, waits_leads, weighs_act, same_travels, ships_of}
+use Rattle.hpx_steps.proofs.Common.{sum_by-cons, Accepted, Act, Apply, Came, Entry, Going, HasInHand, IsApplied, IsFit, IsMove, IsParcel, IsSound, Item, List, Mailed, Move, OnDesk, Parcel, Places, Row, Rules, TidyAt, Turn, [], arith, asked_by, asks_as, asks_for, asks_under, bare_act, brings, count_by, drops, freeing, frees_one, given_to, gives_for, going, hopping, inl, inr, is_other, joined, may_stay, of_act, owes, parcel_acts, parcel_asks, parcel_frees, parcel_tokens, posts, refl, same_object, subst, sum_by, sym, target_of, tokens_of, true, unpaid, view, waits_for, weigh, worth, ℕ, ◌+◌, ◌==◌, ◌∙◌, ◌∷◌, ◌≡◌, ◌≢◌, ◌≤◌, ◌⊎◌, parcel_travels}
+use Rattle.hpx_steps.proofs.Tools.{Changes, Sees, Stills, both, bound_none, brings_few, by_own, by_parcel, carried, drop_change, fewer, hand_fit, hand_weighs, holding, in_hand, is_frame, post_change, put_as, put_less, put_sum, put_tidy, same_asks, same_dead, sees_leads, then, view_worth, weighs_act, same_travels, ships_of, same_waits, acting}
 
 module _ (r : Rules) (s : Turn) (entries : List Entry) (h : IsSound r s entries) (act : Act) (p : Parcel) (carries : (p ≡ Apply act) ⊎ (p ≡ Move act))
     (hand : HasInHand p s) (stays : s.mailed ≢ [] → may_stay s.tables act ≡ true) where
@@ -34,24 +34,19 @@ module _ (r : Rules) (s : Turn) (entries : List Entry) (h : IsSound r s entries)
     | inr e ↦ let k : IsMove act = subst IsParcel e (hand_fit p s h.tidy hand) in record { sent = k.sent; moves = λ c. (k.target, k.args) }
   ]
 
-  from_hand : Put act (waiting (drops s)) (waiting s)
-  from_hand = hand_waits act p s hand (of_both (λ q. parcel_acts q ≡ bare_act act ∷ []) refl refl)
-
-  put : Put act (waiting (drops s)) (waiting now)
-  put = post_waits act (drops s)
-
-  same : from_hand.front ++ from_hand.back ≡ put.front ++ put.back
-  same = sym from_hand.was ∙ put.was
-
-  abbrev seen : View
-  seen = record (view s) { waiting = put.front ++ bare_act act ∷ put.back }
-
   none : (f : Parcel → ℕ) → f (Apply act) ≡ 0 → f (Move act) ≡ 0 → f p ≡ 0
   none f a b = carried act f 0 a b p carries
 
-  sees : Sees (record seen { last = s.last }) now
+  sees : Sees (view s) now
   sees = record {
-    rest = ap (λ ws. record (view now) { waiting = ws }) (sym put.is);
+    rest = refl;
+    waiting = λ f.
+        let g : Parcel → ℕ = λ q. sum_by f (parcel_acts q) in
+        let one : sum_by f (bare_act act ∷ []) ≡ f (bare_act act) = omega (arith, sum_by-cons f (bare_act act) []) in
+        let is : sum_by f (parcel_acts p) ≡ f (bare_act act) = of_both (λ q. sum_by f (parcel_acts q) ≡ f (bare_act act)) one one in
+        same_waits f s now (omega (arith, moves (acting f) (f (bare_act act)) is is refl (both act g (f (bare_act act)) one one)));
+    fired = λ f. refl;
+    objects = λ f. refl;
     travels = λ f.
         let g : Parcel → ℕ = λ q. sum_by f (parcel_travels q) in
         same_travels f s now (omega (arith, moves (ships_of f) 0 (none g refl refl) (none g refl refl) refl (both act g 0 refl refl)));
@@ -92,7 +87,7 @@ module _ (r : Rules) (s : Turn) (entries : List Entry) (h : IsSound r s entries)
   pub place_stills : Stills r s now
   place_stills = record {
     same = refl;
-    leads = leads_on r (view s) seen (view now) (waits_leads r (view s) from_hand.front from_hand.back put.front put.back (bare_act act) same from_hand.is) (sees_leads r seen now sees);
+    leads = sees_leads r (view s) now sees;
     tidy = holding (TidyAt s) (item ∷ []) s now change.1 h.tidy (put_tidy s.tables act fit, tt);
     places = h.places;
     commits = h.commits;

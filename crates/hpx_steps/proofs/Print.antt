@@ -13,7 +13,7 @@ module _ (r : Rules) (s : Turn) (entries : List Entry) (h : IsSound r s entries)
   seen = record (view s) { due = map bare_due rest; last = Some (Print bytes) }
 
   sees : Sees seen now
-  sees = sees_by seen now refl (λ f. refl) (λ f weight. omega (arith, view_worth f s, view_worth f now, change.0 (worth f))) (λ x. refl) (λ x. refl) (λ x. omega arith) refl
+  sees = sees_by seen now refl (λ f. refl) (λ f. refl) (λ f weight. omega (arith, view_worth f s, view_worth f now, change.0 (worth f))) (λ x. refl) (λ x. refl) (λ x. omega arith) refl
 
   pub print_keeps : Keeps r s now (Print bytes)
   print_keeps = record {

@@ -1,9 +1,9 @@
 -- The objects that stand here are in another order.
-use Rattle.hpx_steps.proofs.Common.{Agree, AllByRecursion, Among, Bool, Entry, HasCommits, HasObject, Id, IsSound, IsTidy, IsWhole, Leads, List, Local, None, Option, Reorders, Rules, Shows, Single, Some, Standing, StandsHere, TidyAt, Turn, View, Waits, Act, [], ap, arith, asked_by, asks_under, bare_names, bare_standing, commits, cond, count_by, counts_false, counts_of, counts_true, false, find, find_passes, freeing, given_to, hopping, inl, inr, is_some, is_standing, joined, map, option_map, refl, same_object, same_object-refl, same_object-true, session, slice_get, some_same, subst, suc, sum_by, sum_by-cons, sym, target_of, true, unpaid, view, waits_for, weigh, worth, zero, ℕ, ◌+◌, ◌∙◌, ◌∷◌, ◌≡◌, ◌≤◌}
-use Rattle.hpx_steps.proofs.Tools.{Changes, Sees, Stills, all_among, among_all, fewer, holding, if_so, leads_on, objects_change, retidy, sees_leads, single_found, view_worth}
+use Rattle.hpx_steps.proofs.Common.{AllByRecursion, Among, Bool, Entry, HasCommits, HasObject, Id, IsSound, IsTidy, IsWhole, List, None, Option, Reorders, Rules, Single, Some, Standing, StandsHere, TidyAt, Turn, Waits, Act, [], ap, arith, asked_by, asks_under, bare_names, commits, count_by, counts_false, counts_of, counts_true, find, find_passes, freeing, given_to, hopping, inl, inr, is_some, is_standing, joined, refl, same_object-refl, same_object-true, session, slice_get, some_same, subst, suc, sum_by-cons, sym, target_of, unpaid, view, waits_for, worth, zero, ℕ, ◌∙◌, ◌∷◌, ◌≡◌, ◌≤◌}
+use Rattle.hpx_steps.proofs.Tools.{same_objects, stands_of, Changes, Sees, Stills, all_among, among_all, fewer, holding, if_so, objects_change, retidy, sees_leads, single_found, view_worth}
 use Rattle.hpx_journal.proofs.Bags.{find-nothing}
 use Rattle.std.proofs.lemmas.List.Elements.{All-from_recursion, recursion_from_All}
-use Rattle.std.proofs.lemmas.List.Sorted.{All-permutation, IsPermutation-map, sum_by-IsPermutation}
+use Rattle.std.proofs.lemmas.List.Sorted.{All-permutation, sum_by-IsPermutation}
 use Rattle.std.specs.List.Sorted.{IsPermutation}
 
 -- ---- what is found, and how often
@@ -40,10 +40,6 @@ count_single (x ∷ xs) h = (
       (omega (arith, h x.object, sum_by-cons (counts_of (is_standing x.object)) x xs, counts_true (is_standing x.object) x (same_object-refl x.object))),
   count_single xs (λ o. omega (arith, h o, sum_by-cons (counts_of (is_standing o)) x xs)),
 )
-
-find_bare : (o : Id) (xs : List Standing) → find (is_standing o) (map bare_standing xs) ≡ option_map bare_standing (find (is_standing o) xs)
-find_bare o [] = refl
-find_bare o (x ∷ xs) = if_so (is_standing o x) (λ t. rw t refl) (λ f. rw f (find_bare o xs))
 
 -- ---- in another order
 
@@ -85,49 +81,6 @@ module _ (xs ys : List Standing) (same : IsPermutation xs ys) where
           each ws all.1,
         )
 
-    bare_same : IsPermutation (map bare_standing xs) (map bare_standing ys)
-    bare_same = IsPermutation-map bare_standing xs ys same
-
-    agree_then : (there : List Standing) → Agree is_standing there (map bare_standing xs) → Agree is_standing there (map bare_standing ys)
-    agree_then there agree = record {
-      single = agree.single;
-      counts = λ o. agree.counts o ∙ sym (sum_by-IsPermutation (counts_of (is_standing o)) (map bare_standing xs) (map bare_standing ys) bare_same);
-      finds = λ o. agree.finds o ∙ (find_bare o xs ∙ (ap (option_map bare_standing) (sym (found_then o)) ∙ sym (find_bare o ys)));
-    }
-
-    module _ (r : Rules) (v : View) (is : v.objects ≡ map bare_standing xs) where
-      abbrev ordered : View
-      ordered = record v { objects = map bare_standing ys }
-
-      ordered_shows : (l : Local) → Shows v l → Shows ordered l
-      ordered_shows l shown = record {
-        acts = record { here = shown.acts.here; serial = shown.acts.serial; waiting = shown.acts.waiting; fired = shown.acts.fired; due = shown.acts.due };
-        objects = record {
-          number = shown.objects.number;
-          objects = agree_then l.objects (subst (Agree is_standing l.objects) is shown.objects.objects);
-          travels = shown.objects.travels;
-          fresh = shown.objects.fresh;
-        };
-        credit = record { tokens = shown.credit.tokens; asking = shown.credit.asking; asks = shown.credit.asks };
-        counts = record { live = shown.counts.live; dead = shown.counts.dead; refusals = shown.counts.refusals; failing = shown.counts.failing };
-        last = shown.last;
-      }
-
-      ordered_leads : Leads r v [] (record v { objects = map bare_standing ys })
-      ordered_leads = (
-        refl,
-        λ covered o managed. record {
-          named = omega (
-            arith,
-            (covered o managed).named,
-            ap (sum_by (λ (x : Standing). count_by (same_object o) x.state.ids)) is,
-            sum_by-IsPermutation (λ (x : Standing). count_by (same_object o) x.state.ids) (map bare_standing xs) (map bare_standing ys) bare_same,
-          );
-          pending = (covered o managed).pending;
-        },
-        ordered_shows,
-      )
-
 module _ (r : Rules) (s : Turn) (entries : List Entry) (h : IsSound r s entries) (ys : List Standing) (same : IsPermutation s.tables.objects ys) where
   abbrev now : Turn
   now = record s { tables = record s.tables { objects = ys } }
@@ -150,12 +103,12 @@ module _ (r : Rules) (s : Turn) (entries : List Entry) (h : IsSound r s entries)
       (λ o t. ap is_some (found o) ∙ t) y (h.tidy y m))
       tt
 
-  abbrev seen : View
-  seen = record (view s) { objects = map bare_standing ys }
-
-  sees : Sees (record seen { last = s.last }) now
+  sees : Sees (view s) now
   sees = record {
     rest = refl;
+    waiting = λ f. refl;
+    fired = λ f. refl;
+    objects = λ f. same_objects f s now (omega (arith, change.0 (stands_of f)));
     travels = λ f. refl;
     tokens = λ f fair. omega (arith, view_worth f s, view_worth f now, change.0 (worth f));
     asking = λ o. refl;
@@ -169,7 +122,7 @@ module _ (r : Rules) (s : Turn) (entries : List Entry) (h : IsSound r s entries)
   reorder_stills : Stills r s now
   reorder_stills = record {
     same = refl;
-    leads = leads_on r (view s) seen (view now) (ordered_leads xs ys same h.places.single r (view s) refl) (sees_leads r seen now sees);
+    leads = sees_leads r (view s) now sees;
     tidy = tidy;
     places = record {
       serves = λ zero. ap is_some (found session) ∙ h.places.serves zero;

@@ -1,6 +1,6 @@
 -- Credit comes home.
 use Rattle.hpx_steps.proofs.Common.{Bool, Came, Count, Entry, Event, Free, Going, HasInHand, Id, IsSound, IsTidy, Item, List, Mailed, MatchOption, OnDesk, Option, Record, Recounts, Return, Returned, Row, Rules, Some, StaysAt, Tables, TakesBack, TidyAt, Token, Turn, View, [], ap, arith, asked_by, asks_under, bare, bare_due, causes, cond, count_by, count_in, counted, counts_of, counts_true, credit, credit_of_log, drops, eqb-true, false, find, follows_returned, freeing, given_to, goes, going, hopping, is_other, is_recorded, joined, lowered, mails_if, map, one_if, option_map_or, owed_token, owes, parcel_frees, refl, same_object, same_token, subst, sum_by, sum_by-cons, sym, token_own, tokens, true, unpaid, view, waits_for, weigh, weight, with_records, worth, wrote, ℕ, ◌&&◌, ◌++◌, ◌+◌, ◌==◌, ◌^◌, ◌∙◌, ◌∷◌, ◌≡◌, ◌≤◌}
-use Rattle.hpx_steps.proofs.Tools.{Changes, Keeps, Sees, asks_of, bound_none, by_rows, counts_near, drop_change, drop_waits, fewer, frees_of, hand_fit, hand_weighs, holding, if_so, in_hand, is_frame, mail_change, mail_tidy, mail_waits, other_is, owed_by, own_sum, same_asks, sees_covers, sees_leads, sent_if, sent_total, then, told_as, total, view_covered, view_worth, same_travels, ships_of}
+use Rattle.hpx_steps.proofs.Tools.{Changes, Keeps, Sees, asks_of, bound_none, by_rows, counts_near, drop_change, fewer, frees_of, hand_fit, hand_weighs, holding, if_so, in_hand, is_frame, mail_change, mail_tidy, other_is, owed_by, own_sum, same_asks, sees_covers, sees_leads, sent_if, sent_total, then, told_as, total, view_covered, view_worth, same_travels, ships_of, same_waits, acting}
 use Rattle.hpx_steps.proofs.Records.{found_counted, one_recounted, places_still}
 
 lowered_stays : (k : ℕ) (old x : Record) (id : Id) → lowered old id ≡ Some x → StaysAt k old → StaysAt k x
@@ -71,7 +71,10 @@ module _ (r : Rules) (s : Turn) (entries : List Entry) (h : IsSound r s entries)
 
   sees : Sees seen now
   sees = record {
-    rest = ap (λ ws. record (view now) { waiting = ws }) (sym (mail_waits dead old.place (Free (bare id)) before refl ∙ drop_waits (Return id) s hand refl));
+    rest = refl;
+    fired = λ f. refl;
+    objects = λ f. refl;
+    waiting = λ f. same_waits f s now (omega (arith, leaves (acting f) 0 refl refl refl refl));
     travels = λ f. same_travels f s now (omega (arith, leaves (ships_of f) 0 refl refl refl refl));
     tokens = λ f weight. refl;
     asking = λ x. refl;

@@ -1,6 +1,6 @@
 -- The first of what is due is sent.
-use Rattle.hpx_steps.proofs.Common.{Accepted, Act, Apply, Due, Entry, Going, IsDue, IsFit, IsSound, IsTidy, Item, List, Message, MessageDue, Move, Name, OnDesk, Parcel, Row, Rules, Sends, Sent, Some, TidyAt, Turn, View, [], ap, arith, asked_by, asks_as, asks_for, asks_under, bare_due, bare_message, causes, count_by, draws, follows_sent, freeing, given_to, gives_for, goes, going, hopping, inl, is_other, joined, map, may_stay, named_act, of_act, parcel_asks, parcel_frees, parcel_tokens, posts, refl, same_object, sum_by, sym, target_of, tokens_of, unpaid, view, waiting, waits_for, weigh, worth, wrote, ℕ, ◌++◌, ◌+◌, ◌==◌, ◌∷◌, ◌≡◌, ◌⊎◌, parcel_travels}
-use Rattle.hpx_steps.proofs.Tools.{Changes, Keeps, Put, Sees, asks_of, both, bound_none, brings_few, by_rows, carried, counts_near, due_change, fewer, first_goes, frees_of, holding, post_change, post_waits, put_as, put_less, put_sum, put_tidy, same_asks, same_dead, sees_by, sees_leads, then, told_as, view_worth, weighs_act, same_travels, ships_of}
+use Rattle.hpx_steps.proofs.Common.{Accepted, Act, Apply, Due, Entry, Going, IsDue, IsFit, IsSound, IsTidy, Item, List, Message, MessageDue, Move, Name, OnDesk, Parcel, Row, Rules, Sends, Sent, Some, TidyAt, Turn, View, [], ap, arith, asked_by, asks_as, asks_for, asks_under, bare_due, bare_message, causes, count_by, draws, follows_sent, freeing, given_to, gives_for, goes, going, hopping, inl, is_other, joined, map, may_stay, named_act, of_act, parcel_asks, parcel_frees, parcel_tokens, posts, refl, same_object, sum_by, target_of, tokens_of, unpaid, view, waiting, waits_for, weigh, worth, wrote, ℕ, ◌+◌, ◌==◌, ◌∷◌, ◌≡◌, ◌⊎◌, parcel_travels, sum_by-cons, parcel_acts, bare_act}
+use Rattle.hpx_steps.proofs.Tools.{Changes, Keeps, Sees, asks_of, both, bound_none, brings_few, by_rows, carried, counts_near, due_change, fewer, first_goes, frees_of, holding, post_change, put_as, put_less, put_sum, put_tidy, same_asks, same_dead, sees_by, sees_leads, then, told_as, view_worth, weighs_act, same_travels, ships_of, acting, wait_sum}
 
 module _ (r : Rules) (s : Turn) (entries : List Entry) (h : IsSound r s entries) (m : Message) (rest : List Due) (fresh : s.fresh ≡ []) (due : s.due ≡ MessageDue m ∷ rest) where
   abbrev name : Name
@@ -37,27 +37,29 @@ module _ (r : Rules) (s : Turn) (entries : List Entry) (h : IsSound r s entries)
   tidy : IsTidy now
   tidy = holding (TidyAt s) (item ∷ []) s now change.1 h.tidy (put_tidy s.tables act fit, tt)
 
-  put : Put act (waiting before) (waiting now)
-  put = post_waits act before
-
   abbrev seen : View
   seen = record (view s) {
     serial = s.tables.serial + 1;
-    waiting = put.front ++ named_act s.tables.here (s.tables.serial + 1) (bare_message m) ∷ put.back;
+    waiting = named_act s.tables.here (s.tables.serial + 1) (bare_message m) ∷ waiting s;
     due = map bare_due rest;
     last = Some (Sent (record { origin = s.tables.here; serial = s.tables.serial + 1 }));
   }
 
   sees : Sees seen now
-  sees = sees_by seen now (ap (λ ws. record (view now) { waiting = ws }) (sym put.is))
+  sees = sees_by seen now refl waits
       (λ f. same_travels f s now (omega (arith, moves (ships_of f) 0 refl (both act (λ p. sum_by f (parcel_travels p)) 0 refl refl))))
       (λ f weight. omega (arith, view_worth f s, view_worth f now, moves (worth f) (sum_by f (tokens_of m.ids)) refl (both act (λ p. sum_by f (parcel_tokens p)) (sum_by f (tokens_of m.ids)) refl refl))) (λ x. refl)
       (λ x. same_asks x s now (omega (arith, moves (asks_of x) 0 refl (both act (λ p. count_by (same_object x) (parcel_asks p)) 0 refl refl))))
       (λ x. same_dead x s now (omega (arith, moves (frees_of x) 0 refl (both act (λ p. count_by (same_object x) (parcel_frees p)) 0 refl refl)))) refl
+    where
+      waits : (f : Act → ℕ) → sum_by f (bare_act act ∷ waiting s) ≡ sum_by f (waiting now)
+      waits f =
+          let one : sum_by f (bare_act act ∷ []) ≡ f (bare_act act) = omega (arith, sum_by-cons f (bare_act act) []) in
+          omega (arith, sum_by-cons f (bare_act act) (waiting s), wait_sum f s, wait_sum f now, moves (acting f) (f (bare_act act)) refl (both act (λ p. sum_by f (parcel_acts p)) (f (bare_act act)) one one))
 
   pub sent_keeps : Keeps r s now (Sent name)
   sent_keeps = record {
-    leads = (seen, follows_sent r (view s) (bare_message m) (map bare_due rest) put.front put.back fresh (ap (map bare_due) due) put.was, sees_leads r seen now sees);
+    leads = (seen, follows_sent r (view s) (bare_message m) (map bare_due rest) [] (waiting s) fresh (ap (map bare_due) due) refl, sees_leads r seen now sees);
     tidy = tidy;
     places = h.places;
     commits = h.commits;

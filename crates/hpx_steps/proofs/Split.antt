@@ -41,9 +41,13 @@ module _ (r : Rules) (s : Turn) (entries : List Entry) (h : IsSound r s entries)
   seen = record (view s) { tokens = tokens now; last = Some (Split (bare id) log) }
 
   sees : Sees seen now
-  sees = sees_by seen now (ap (λ ws. record (view now) { fired = map bare_act (fired_of s.tables.running (ws ++ s.tables.pending)) }) works) (λ f. refl) (λ f fair. refl)
+  sees = sees_by seen now refl (λ f. refl) (λ f. refl) (λ f fair. refl)
       (λ o. omega (arith, view_asking o s, view_asking o now, change.0 (asking o), ap (names_of o) (first_asked many p w.hand (half id ∷ []) id (half id) at unasked.0 unasked.1 long)))
-      (λ o. refl) (λ o. omega arith) (ap (λ ws. record seen { refusals = refusals_of (ws ++ s.tables.pending); failing = length (refusals_of (ws ++ s.tables.pending)) }) works)
+      (λ o. refl) (λ o. omega arith) (ap (λ ws. record seen {
+        fired = map bare_act (fired_of s.tables.running (ws ++ s.tables.pending));
+        refusals = refusals_of (ws ++ s.tables.pending);
+        failing = length (refusals_of (ws ++ s.tables.pending));
+      }) works)
 
   pub split_keeps : Keeps r s now (Split (bare id) log)
   split_keeps = record {

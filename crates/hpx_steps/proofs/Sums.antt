@@ -1,5 +1,5 @@
 -- What lists weigh, and what is seen of a turn by what it weighs.
-use Rattle.hpx_steps.proofs.Common.{Act, AllByRecursion, Came, Going, Id, Item, List, Mailed, OnDesk, Outgoing, Parcel, Pending, Refusal, Some, Standing, Token, Turn, Waits, Working, [], action_of, ap, append_assoc, arith, asking, asking_of, commits, cond, count_by, credit_list, credits_of, drop, due_ids, filter, fired_of, flat_map, ids_here, ids_kept, is_asked, length, map, map-append, own_ids, own_parcels, parcel_tokens, parcels, refl, refusal_of, refusals_of, remove, rider_of, same_object, set, slice_get, split_get, split_set, suc, sum_by, sum_by-append, sum_by-cons, sum_middle, sym, take, tokens, tokens_of, weigh, worth, ℕ, ◌++◌, ◌+◌, ◌∙◌, ◌∷◌, ◌≡◌, ◌≤◌}
+use Rattle.hpx_steps.proofs.Common.{Running, StandsHere, bare_standing, Accepted, Act, AllByRecursion, Came, Going, Leaving, Queued, Stray, Tables, Waiting, bare_act, messages, parcel_acts, waiting, Id, Item, List, Mailed, OnDesk, Outgoing, Parcel, Pending, Refusal, Some, Standing, Token, Turn, Waits, Working, [], action_of, ap, append_assoc, arith, asking, asking_of, commits, cond, count_by, credit_list, credits_of, drop, due_ids, filter, fired_of, flat_map, ids_here, ids_kept, is_asked, length, map, map-append, own_ids, own_parcels, parcel_tokens, parcels, refl, refusal_of, refusals_of, remove, rider_of, same_object, set, slice_get, split_get, split_set, suc, sum_by, sum_by-append, sum_by-cons, sum_middle, sym, take, tokens, tokens_of, weigh, worth, ℕ, ◌++◌, ◌+◌, ◌∙◌, ◌∷◌, ◌≡◌, ◌≤◌}
 
 -- ---- lists
 
@@ -56,34 +56,67 @@ by_parcel w (Came p) = w p
 by_parcel w (Mailed p) = w p
 by_parcel w (OnDesk p) = w p
 by_parcel w (Going x) = w x.parcel
+by_parcel w (Queued x) = w x.item
+by_parcel w (Leaving p) = w p
+by_parcel w (Stray p) = w p
 by_parcel w _ = 0
 
 pub zeros : {X : Type 0} (xs : List X) → sum_by (λ x. 0) xs ≡ 0
 zeros [] = refl
 zeros (x ∷ xs) = omega (arith, sum_by-cons (λ y. 0) x xs, zeros xs)
 
-pub parcels_sum : (w : Parcel → ℕ) (s : Turn) → sum_by w (parcels s) ≡ sum_by w s.came + sum_by w s.mailed + sum_by w s.tables.desk + sum_by (λ (x : Outgoing). w x.parcel) s.tables.outgoing
-parcels_sum w s = omega (arith, sum_by-append w, map_sum w (λ (x : Outgoing). x.parcel))
+pub messages_sum : (w : Parcel → ℕ) (t : Tables) → sum_by w (messages t)
+    ≡ sum_by w t.desk + sum_by (λ (x : Outgoing). w x.parcel) t.outgoing + sum_by (λ (x : Waiting Parcel). w x.item) t.queued + sum_by w t.leaving + sum_by w t.stray
+messages_sum w t = omega (arith, sum_by-append w, map_sum w (λ (x : Outgoing). x.parcel), map_sum w (λ (x : Waiting Parcel). x.item))
+
+pub parcels_sum : (w : Parcel → ℕ) (s : Turn) → sum_by w (parcels s) ≡ sum_by w s.came + sum_by w s.mailed + sum_by w s.tables.desk
+    + sum_by (λ (x : Outgoing). w x.parcel) s.tables.outgoing + sum_by (λ (x : Waiting Parcel). w x.item) s.tables.queued + sum_by w s.tables.leaving + sum_by w s.tables.stray
+parcels_sum w s = omega (arith, sum_by-append w s.came (own_parcels s), sum_by-append w s.mailed (messages s.tables), messages_sum w s.tables)
 
 -- what is seen of messages
 pub seen_sum : {Y : Type 0} (f : Y → ℕ) (h : Parcel → List Y) (s : Turn) → sum_by f (flat_map h (parcels s)) ≡ weigh (by_parcel (λ p. sum_by f (h p))) s
-seen_sum f h s = omega (arith, flat_sum f h (parcels s), parcels_sum (λ p. sum_by f (h p)) s, zeros s.tables.accepted, zeros s.tables.running, zeros s.tables.pending, zeros s.working, zeros s.tables.objects, zeros s.due, zeros s.loose)
+seen_sum f h s = omega (arith, flat_sum f h (parcels s), parcels_sum (λ p. sum_by f (h p)) s, zeros s.tables.came, zeros s.tables.accepted, zeros s.tables.running, zeros s.tables.pending, zeros s.working, zeros s.tables.objects, zeros s.due, zeros s.loose)
 
 -- a weight of own messages
 abbrev pub by_own : (Parcel → ℕ) → Item → ℕ
 by_own w (Mailed p) = w p
 by_own w (OnDesk p) = w p
 by_own w (Going x) = w x.parcel
+by_own w (Queued x) = w x.item
+by_own w (Leaving p) = w p
+by_own w (Stray p) = w p
 by_own w _ = 0
 
 pub own_sum : {Y : Type 0} (f : Y → ℕ) (h : Parcel → List Y) (s : Turn) → sum_by f (flat_map h (own_parcels s)) ≡ weigh (by_own (λ p. sum_by f (h p))) s
 own_sum f h s = omega (
   arith,
   flat_sum f h (own_parcels s),
-  sum_by-append (λ p. sum_by f (h p)),
-  map_sum (λ p. sum_by f (h p)) (λ (x : Outgoing). x.parcel),
+  sum_by-append (λ p. sum_by f (h p)) s.mailed (messages s.tables),
+  messages_sum (λ p. sum_by f (h p)) s.tables,
   zeros s.came,
+  zeros s.tables.came,
   zeros s.tables.accepted,
+  zeros s.tables.running,
+  zeros s.tables.pending,
+  zeros s.working,
+  zeros s.tables.objects,
+  zeros s.due,
+  zeros s.loose,
+)
+
+-- a weight of actions that wait
+abbrev pub acting : (Act → ℕ) → Item → ℕ
+acting f (Accepted act) = f (bare_act act)
+acting f i = by_parcel (λ p. sum_by f (parcel_acts p)) i
+
+pub wait_sum : (f : Act → ℕ) (s : Turn) → sum_by f (waiting s) ≡ weigh (acting f) s
+wait_sum f s = omega (
+  arith,
+  sum_by-append f (map bare_act s.tables.accepted) (flat_map parcel_acts (parcels s)),
+  map_sum f bare_act s.tables.accepted,
+  flat_sum f parcel_acts (parcels s),
+  parcels_sum (λ p. sum_by f (parcel_acts p)) s,
+  zeros s.tables.came,
   zeros s.tables.running,
   zeros s.tables.pending,
   zeros s.working,
@@ -108,6 +141,7 @@ view_worth f s = omega (
   kept_sum s.tables.pending,
   ids_flat f due_ids s.due,
   ids_each f s.loose,
+  zeros s.tables.came,
 )
   where
     kept_sum : (ws : List Waits) → sum_by (λ (w : Waits). sum_by f (tokens_of (ids_kept w))) ws ≡ sum_by (λ w. worth f (Working w)) ws
@@ -120,7 +154,7 @@ by_commit f (Working w) = f w
 by_commit f _ = 0
 
 commits_sum : (f : Waits → ℕ) (s : Turn) → sum_by f (commits s) ≡ weigh (by_commit f) s
-commits_sum f s = omega (arith, sum_by-append f s.working s.tables.pending, zeros s.came, zeros s.mailed, zeros s.tables.desk, zeros s.tables.outgoing, zeros s.tables.accepted, zeros s.tables.running, zeros s.tables.objects, zeros s.due, zeros s.loose)
+commits_sum f s = omega (arith, sum_by-append f s.working s.tables.pending, zeros s.came, zeros s.mailed, zeros s.tables.desk, zeros s.tables.outgoing, zeros s.tables.queued, zeros s.tables.leaving, zeros s.tables.stray, zeros s.tables.came, zeros s.tables.accepted, zeros s.tables.running, zeros s.tables.objects, zeros s.due, zeros s.loose)
 
 -- what was asked for
 pub view_asking : (o : Id) (s : Turn) → count_by (same_object o) (asking_of (commits s)) ≡ weigh (asking o) s
@@ -137,6 +171,57 @@ view_refusals f s = omega (arith, flat_sum f (λ (w : Waits). refusal_of w.job.a
 pub fired_sum : (f : Act → ℕ) (s : Turn) → sum_by f (fired_of s.tables.running (commits s))
     ≡ sum_by f s.tables.running + (sum_by (λ (w : Waits). f w.job.action) s.working + sum_by (λ (w : Waits). f w.job.action) s.tables.pending)
 fired_sum f s = omega (arith, sum_by-append f s.tables.running (map action_of (commits s)), map_sum f action_of (commits s), sum_by-append (λ (w : Waits). f w.job.action) s.working s.tables.pending)
+
+-- a weight of fired actions
+abbrev pub acted : (Act → ℕ) → Item → ℕ
+acted f (Running act) = f (bare_act act)
+acted f (Pending w) = f (bare_act w.job.action)
+acted f (Working w) = f (bare_act w.job.action)
+acted f _ = 0
+
+pub view_fired : (f : Act → ℕ) (s : Turn) → sum_by f (map bare_act (fired_of s.tables.running (commits s))) ≡ weigh (acted f) s
+view_fired f s = omega (
+  arith,
+  map_sum f bare_act (fired_of s.tables.running (commits s)),
+  fired_sum (λ act. f (bare_act act)) s,
+  zeros s.came,
+  zeros s.mailed,
+  zeros s.tables.desk,
+  zeros s.tables.outgoing,
+  zeros s.tables.queued,
+  zeros s.tables.leaving,
+  zeros s.tables.stray,
+  zeros s.tables.came,
+  zeros s.tables.accepted,
+  zeros s.tables.objects,
+  zeros s.due,
+  zeros s.loose,
+)
+
+-- a weight of objects that stand
+abbrev pub stands_of : (Standing → ℕ) → Item → ℕ
+stands_of f (StandsHere x) = f (bare_standing x)
+stands_of f _ = 0
+
+pub view_objects : (f : Standing → ℕ) (s : Turn) → sum_by f (map bare_standing s.tables.objects) ≡ weigh (stands_of f) s
+view_objects f s = omega (
+  arith,
+  map_sum f bare_standing s.tables.objects,
+  zeros s.came,
+  zeros s.mailed,
+  zeros s.tables.desk,
+  zeros s.tables.outgoing,
+  zeros s.tables.queued,
+  zeros s.tables.leaving,
+  zeros s.tables.stray,
+  zeros s.tables.came,
+  zeros s.tables.accepted,
+  zeros s.tables.running,
+  zeros s.tables.pending,
+  zeros s.working,
+  zeros s.due,
+  zeros s.loose,
+)
 
 -- ---- sums over lists, where one element goes, and where another stands in its place
 

@@ -1,6 +1,6 @@
 -- A commit begins: its object and its action put their ids into its hand.
-use Rattle.hpx_steps.proofs.Common.{Act, AllByRecursion, Entry, HasRightCredit, Id, IsCommit, IsFit, IsSound, IsState, IsTidy, Job, List, None, Outcome, Rules, Running, Some, Standing, StandsHere, State, Suspends, TidyAt, Turn, View, Waits, Working, [], action_of, all_append, ap, append_assoc, arith, asked_by, asking, asks_under, bare, bare_act, bare_standing, bare_state, commits, cond, drop, filter, find, find_passes, freeing, given_to, hand_ids, hopping, id_at, is_asked, is_standing, joined, length, length-map, map, names_of, own_ids, plain, plain_all, refl, remove, same_object, session, set, slice_get, split_get, subst, suc, sum_by, sym, take, take_at, target_of, tokens_of, true, unpaid, view, waits_for, waits_with, worth, ℕ, ◌++◌, ◌<◌, ◌∙◌, ◌∷◌, ◌≡◌, ◌≤◌}
-use Rattle.hpx_steps.proofs.Tools.{Changes, Sees, Stills, all_none, among_at, bare_all, begin_commits, fewer, fired_leads, first_comes, front_place, holding, ids_append, leads_on, no_tokens, none_tokens, not_asked, objects_change, one_goes, one_turns, plain_ids, retidy, ridden_tokens, running_change, runs_whole, same_map, sees_leads, single_set, stand_set, then, view_asking, view_worth, working_change}
+use Rattle.hpx_steps.proofs.Common.{Act, AllByRecursion, Entry, HasRightCredit, Id, IsCommit, IsFit, IsSound, IsState, IsTidy, Job, List, None, Outcome, Rules, Running, Some, Standing, StandsHere, State, Suspends, TidyAt, Turn, Waits, Working, [], action_of, all_append, ap, append_assoc, arith, asked_by, asking, asks_under, bare, bare_standing, bare_state, commits, cond, filter, find, find_passes, freeing, given_to, hand_ids, hopping, id_at, is_asked, is_standing, joined, length, length-map, map, names_of, own_ids, plain, plain_all, refl, remove, same_object, session, set, slice_get, subst, sum_by, sym, take, take_at, target_of, tokens_of, true, unpaid, view, waits_for, waits_with, worth, ℕ, ◌++◌, ◌<◌, ◌∙◌, ◌∷◌, ◌≡◌, ◌≤◌}
+use Rattle.hpx_steps.proofs.Tools.{Changes, Sees, Stills, all_none, among_at, bare_all, begin_commits, fewer, first_comes, front_place, holding, ids_append, no_tokens, none_tokens, not_asked, objects_change, one_goes, one_turns, plain_ids, retidy, ridden_tokens, running_change, runs_whole, same_map, sees_leads, single_set, stand_set, then, view_asking, view_worth, working_change, same_fires, acted}
 
 bare_fit : (s : State) → IsState s → IsState (bare_state s)
 bare_fit s h = grind (arith, length-map)
@@ -80,15 +80,15 @@ module _ (r : Rules) (s : Turn) (entries : List Entry) (h : IsSound r s entries)
   abbrev acts : List Act
   acts = map action_of (commits s)
 
-  abbrev seen : View
-  seen = record (view s) { fired = map bare_act (remove s.tables.running i ++ job.action ∷ map action_of (commits s)) }
-
   objects_then : map bare_standing s.tables.objects ≡ (view now).objects
   objects_then = sym (same_map bare_standing s.tables.objects j x new stands (ap (λ ids. record { object = bare x.object; state = record x.state { ids = ids } }) (bare_all x.state.ids)))
 
-  sees : Sees (record seen { last = s.last }) now
+  sees : Sees (view s) now
   sees = record {
-    rest = ap (λ os. record (view now) { objects = os }) objects_then;
+    rest = refl;
+    waiting = λ f. refl;
+    fired = λ f. same_fires f s now (omega (arith, change.0 (acted f)));
+    objects = λ f. ap (sum_by f) objects_then;
     travels = λ f. refl;
     tokens = λ f fair. omega (arith, view_worth f, change.0 (worth f), ridden_tokens f job.action its.sent.shape, ids_append f, ap (λ (y : State). sum_by f (tokens_of y.ids)) state, no_tokens f x.state.ids, none_tokens f later none);
     asking = λ o. omega (arith, view_asking o, change.0 (asking o), ap (λ ids. names_of o (filter is_asked ids)) whole, ap (names_of o) (all_none own owned));
@@ -102,10 +102,7 @@ module _ (r : Rules) (s : Turn) (entries : List Entry) (h : IsSound r s entries)
   pub suspend_stills : Stills r s now
   suspend_stills = record {
     same = refl;
-    leads = leads_on r (view s) seen (view now) (fired_leads r (view s) (take i s.tables.running) (drop (suc i) s.tables.running ++ acts) (remove s.tables.running i) acts job.action
-        (ap (map bare_act) (ap (λ xs. xs ++ acts) (split_get s.tables.running i job.action runs) ∙ append_assoc (take i s.tables.running) (job.action ∷ drop (suc i) s.tables.running) acts))
-        (sym (append_assoc (take i s.tables.running) (drop (suc i) s.tables.running) acts)))
-        (sees_leads r seen now sees);
+    leads = sees_leads r (view s) now sees;
     tidy = tidy;
     places = record {
       serves = λ zero. stand_set (is_standing session) s.tables.objects j x new stands refl (h.places.serves zero);

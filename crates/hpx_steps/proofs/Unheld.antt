@@ -1,6 +1,6 @@
 -- Where no credit of an object is held, no action here is on it.
-use Rattle.hpx_steps.proofs.Common.{Accepted, Act, AllByRecursion, Apply, Arrived, Ask, Bool, Cached, Credit, Free, Give, Go, Going, HasInHand, Id, IsFit, IsParcel, IsTidy, List, Move, None, OnDesk, Option, Outgoing, Parcel, Return, Running, Shipped, Some, Token, Turn, Waits, [], act_names, action_of, acts_on, all_append, all_named, and_false, ap, arith, bare_act, cond, credit, credit_in, credit_list, credits_of, false, fired_of, flat_map, held, held_here, ids_held, is_held, list_any, map, messages, owing, parcel_acts, parcel_tokens, pow_pos, refl, same_object, sum_by, sum_by-append, sum_by-cons, true, view, waiting, waits_here, ℕ, ◌++◌, ◌+◌, ◌∙◌, ◌∷◌, ◌≡◌, ◌≤◌}
-use Rattle.hpx_steps.proofs.Tools.{all_among, drop_waits, held_acts, ids_append, ids_flat, if_so, none_of, or_false, target-bare, weighs}
+use Rattle.hpx_steps.proofs.Common.{Among, inl, inr, own_parcels, parcels, Accepted, Act, AllByRecursion, Apply, Arrived, Ask, Bool, Cached, Credit, Free, Give, Go, HasInHand, Id, IsFit, IsParcel, IsTidy, List, Move, None, Option, Parcel, Return, Running, Shipped, Some, Token, Turn, Waits, [], act_names, action_of, acts_on, all_named, and_false, ap, arith, bare_act, cond, credit, credit_in, credit_list, credits_of, false, fired_of, flat_map, held, held_here, ids_held, is_held, list_any, map, messages, owing, parcel_acts, parcel_tokens, pow_pos, refl, same_object, sum_by, sum_by-append, sum_by-cons, true, view, waiting, waits_here, ℕ, ◌++◌, ◌+◌, ◌∙◌, ◌∷◌, ◌≡◌, ◌≤◌}
+use Rattle.hpx_steps.proofs.Tools.{all_among, flat_sum, held_acts, messages_sum, tidy_messages, ids_append, ids_flat, if_so, none_of, or_false, target-bare, weighs}
 
 module _ (o : Id) where
   abbrev holds : Token → ℕ
@@ -82,17 +82,6 @@ module _ (o : Id) where
 
   -- an object with no credit here has no actions here
   module _ (s : Turn) (h : IsTidy s) (managed : 16 ≤ o.kind) (unheld : held_here s.tables o ≡ 0) where
-    outs : List Parcel
-    outs = map (λ (x : Outgoing). x.parcel) s.tables.outgoing
-
-    sent : AllByRecursion IsParcel (messages s.tables)
-    sent = all_append IsParcel s.tables.desk (map (λ (x : Outgoing). x.parcel) s.tables.outgoing) (all_among IsParcel s.tables.desk (λ p m. (h (OnDesk p) m).0))
-        (carried s.tables.outgoing (all_among (λ (x : Outgoing). IsParcel x.parcel) s.tables.outgoing (λ x m. (h (Going x) m).0)))
-      where
-        carried : (xs : List Outgoing) → AllByRecursion (λ (x : Outgoing). IsParcel x.parcel) xs → AllByRecursion IsParcel (map (λ (x : Outgoing). x.parcel) xs)
-        carried [] k = tt
-        carried (x ∷ xs) k = (k.0, carried xs k.1)
-
     names_none : sum_by (act_names o) (map bare_act s.tables.accepted) + sum_by (act_names o) (map bare_act s.tables.running)
         + sum_by (act_names o) (flat_map parcel_acts (messages s.tables)) ≡ 0
     names_none = omega (
@@ -100,14 +89,40 @@ module _ (o : Id) where
       unheld,
       acts_worth managed s.tables.accepted (all_among IsFit s.tables.accepted (λ a m. (h (Accepted a) m).0)),
       acts_worth managed s.tables.running (all_among IsFit s.tables.running (λ a m. h (Running a) m)),
-      parcels_worth managed (messages s.tables) sent,
+      parcels_worth managed (messages s.tables) (tidy_messages s h),
     )
 
     pub none_accepted : list_any (acts_on o) (map bare_act s.tables.accepted) ≡ false
     none_accepted = no_acts managed (map bare_act s.tables.accepted) (omega (arith, names_none))
 
+    -- the names in the actions of a message
+    abbrev names : Parcel → ℕ
+    names p = sum_by (act_names o) (parcel_acts p)
+
     pub none_waits : (p : Parcel) → HasInHand p s → parcel_acts p ≡ [] → list_any (acts_on o) (waiting s) ≡ false
-    none_waits p hand empty = grind (arith, no_acts, managed, names_none, act_names, drop_waits, sum_by-append)
+    none_waits p hand empty = no_acts managed (waiting s) (omega (
+      arith,
+      names_none,
+      sum_by-append (act_names o) (map bare_act s.tables.accepted) (flat_map parcel_acts (parcels s)),
+      flat_sum (act_names o) parcel_acts (parcels s),
+      flat_sum (act_names o) parcel_acts (messages s.tables),
+      sum_by-append names s.came (own_parcels s),
+      sum_by-append names s.mailed (messages s.tables),
+      in_hand hand,
+    ))
+      where
+        in_hand : HasInHand p s → sum_by names s.came + sum_by names s.mailed ≡ 0
+        in_hand (inl k) = omega (arith, ap (sum_by names) k.0, ap (sum_by names) k.1, sum_by-cons names p [], ap (sum_by (act_names o)) empty)
+        in_hand (inr k) = omega (arith, ap (sum_by names) k.0, ap (sum_by names) k.1, sum_by-cons names p [], ap (sum_by (act_names o)) empty)
+
+    pub none_leaves : (act : Act) → Among (Go act) s.tables.leaving → list_any (acts_on o) (map bare_act (act ∷ [])) ≡ false
+    none_leaves act m = no_acts managed (bare_act act ∷ []) (none_there names (Go act) s.tables.leaving m
+        (omega (arith, names_none, flat_sum (act_names o) parcel_acts (messages s.tables), messages_sum names s.tables)))
+      where
+        none_there : (w : Parcel → ℕ) (p : Parcel) (xs : List Parcel) → Among p xs → sum_by w xs ≡ 0 → w p ≡ 0
+        none_there w p [] k none = absurd k
+        none_there w p (x ∷ xs) (inl e) none = omega (arith, none, sum_by-cons w x xs, ap w e)
+        none_there w p (x ∷ xs) (inr k) none = none_there w p xs k (omega (arith, none, sum_by-cons w x xs))
 
     pub none_fired : waits_here s.tables o ≡ false → s.working ≡ [] → list_any (acts_on o) (view s).fired ≡ false
     none_fired idle alone = grind (arith, fired_none, no_acts, managed, names_none)

@@ -1,6 +1,6 @@
 -- An id is given up.
 use Rattle.hpx_steps.proofs.Common.{Entry, Event, GivesUp, Going, HasCredit, Id, IsSound, IsTidy, Item, List, Loose, MatchOption, OnDesk, Return, Row, Rules, Some, TidyAt, Token, Turn, Up, View, [], ap, arith, asked_by, asks_under, bare, bare_due, causes, counts_of, counts_true, follows_up, freeing, given_to, goes, going, held_token, hopping, inl, is_other, joined, mails, map, owed_token, refl, same_token, subst, sum_by, sum_by-cons, sym, token_own, tokens, true, unpaid, view, waits_for, weigh, weight, worth, wrote, ℕ, ◌+◌, ◌<◌, ◌==◌, ◌∷◌, ◌≡◌, ◌≤◌}
-use Rattle.hpx_steps.proofs.Tools.{Changes, Keeps, Sees, asks_of, bound_none, by_rows, counts_near, fewer, first_goes, frees_of, held_by, holding, loose_change, mail_change, mail_tidy, mail_waits, owed_by, same_asks, same_dead, sees_by, sees_covers, sees_leads, sent_if, sent_total, then, told_as, total, view_covered, view_worth, same_travels, ships_of}
+use Rattle.hpx_steps.proofs.Tools.{Changes, Keeps, Sees, asks_of, bound_none, by_rows, counts_near, fewer, first_goes, frees_of, held_by, holding, loose_change, mail_change, mail_tidy, owed_by, same_asks, same_dead, sees_by, sees_covers, sees_leads, sent_if, sent_total, then, told_as, total, view_covered, view_worth, same_travels, ships_of, same_waits, acting}
 
 module _ (r : Rules) (s : Turn) (entries : List Entry) (h : IsSound r s entries) (log : ℕ) (id : Id) (rest : List Id) (due : s.due ≡ []) (fresh : s.fresh ≡ [])
     (first : s.loose ≡ id ∷ rest) (has : id.log ≡ Some log) where
@@ -36,7 +36,7 @@ module _ (r : Rules) (s : Turn) (entries : List Entry) (h : IsSound r s entries)
   seen = record (view s) { tokens = tokens now; last = Some (Up (bare id) log) }
 
   sees : Sees seen now
-  sees = sees_by seen now (ap (λ ws. record (view now) { waiting = ws }) (sym (mail_waits true id.home (Return id) (record s { loose = rest }) refl)))
+  sees = sees_by seen now refl (λ f. same_waits f s now (omega (arith, moves (acting f) 0 refl refl)))
       (λ f. same_travels f s now (omega (arith, moves (ships_of f) 0 refl refl))) (λ f weight. refl) (λ x. refl)
       (λ x. same_asks x s now (omega (arith, moves (asks_of x) 0 refl refl))) (λ x. same_dead x s now (omega (arith, moves (frees_of x) 0 refl refl))) refl
 

@@ -2,7 +2,8 @@
 use Rattle.std.specs.Prelude.{ℕ, ◌+◌, ◌≡◌, ◌⊎◌, List, [], ◌∷◌}
 use Rattle.std.specs.List.{sum_by}
 use Rattle.hpx_journal.specs.Data.{Id, Act, Parcel, Due}
-use Rattle.hpx_part.specs.Data.{Standing}
+use Rattle.hpx_part.specs.Data.{Name, Standing}
+use Rattle.hpx_agas.specs.declared.record.Waiting.{Waiting}
 use Rattle.hpx_tables.specs.declared.kept.Outgoing.{Outgoing}
 use Rattle.hpx_tables.specs.Pending.{Waits}
 use Rattle.hpx_steps.specs.Turn.{Turn}
@@ -13,6 +14,10 @@ pub data Item : Type 0 where
   Mailed : Parcel → Item
   OnDesk : Parcel → Item
   Going : Outgoing → Item
+  Queued : Waiting Parcel → Item
+  Leaving : Parcel → Item
+  Stray : Parcel → Item
+  Brought : Name → Item
   Accepted : Act → Item
   Running : Act → Item
   Pending : Waits → Item
@@ -32,6 +37,10 @@ Has s (Came p) = Among p s.came
 Has s (Mailed p) = Among p s.mailed
 Has s (OnDesk p) = Among p s.tables.desk
 Has s (Going x) = Among x s.tables.outgoing
+Has s (Queued x) = Among x s.tables.queued
+Has s (Leaving p) = Among p s.tables.leaving
+Has s (Stray p) = Among p s.tables.stray
+Has s (Brought a) = Among a s.tables.came
 Has s (Accepted act) = Among act s.tables.accepted
 Has s (Running act) = Among act s.tables.running
 Has s (Pending w) = Among w s.tables.pending
@@ -51,6 +60,10 @@ weigh w s =
     + sum_by (λ x. w (Mailed x)) s.mailed
     + sum_by (λ x. w (OnDesk x)) s.tables.desk
     + sum_by (λ x. w (Going x)) s.tables.outgoing
+    + sum_by (λ x. w (Queued x)) s.tables.queued
+    + sum_by (λ x. w (Leaving x)) s.tables.leaving
+    + sum_by (λ x. w (Stray x)) s.tables.stray
+    + sum_by (λ x. w (Brought x)) s.tables.came
     + sum_by (λ x. w (Accepted x)) s.tables.accepted
     + sum_by (λ x. w (Running x)) s.tables.running
     + sum_by (λ x. w (Pending x)) s.tables.pending

@@ -11,3 +11,4 @@ pub mod Rest
 pub mod Numbered
 pub mod Limits
 pub mod Left
+pub mod Ways

@@ -29,7 +29,7 @@ use Rattle.hpx_tables.specs.Tables.{Tables, messages, fired_acts}
 use Rattle.hpx_steps.specs.Frames.{IsOnItsWay, IsForHere}
 use Rattle.hpx_steps.specs.Paused.{Apart, Single, HasSplit, bare_names, names_of}
 use Rattle.hpx_steps.specs.Rows.{Row, Actions, AreFired, goes, causes, spends, weight}
-use Rattle.hpx_steps.specs.Sound.{IsOwn, FreesNone, SendsOwn, StaysAt, all_count, gone, gone_to, come, asks_for, gives_for, IsSound}
+use Rattle.hpx_steps.specs.Sound.{IsOwn, IsWaitingFor, IsGranted, IsShipped, FreesNone, SendsOwn, StaysAt, all_count, gone, gone_to, come, asks_for, gives_for, IsSound}
 use Rattle.hpx_steps.specs.Turn.{at_rest, bare_due, bare_standing, counted, parcel_tokens, parcel_acts, parcel_travels, parcel_asks, parcel_frees, tokens_of}
 
 -- ---- what is seen
@@ -117,7 +117,8 @@ pub record ArePaused (here n log : ℕ) (objects : List Standing) (running : Lis
       → sum_by (λ x. bare_names o x.state.ids) objects ≤ sum_by (λ w. names_of o w.job.state.ids) pending
 
 -- all that is kept, due or on its way is well formed; a MOVE is accepted only to here, and an action only where its object
--- stands; the session stands at locality 0; what was born here has a number that was drawn; no object of this home is or goes
+-- stands; what waits for an object of here waits for that of its target, an object that is to leave stands here, and what is stray is
+-- an object; the session stands at locality 0; what was born here has a number that was drawn; no object of this home is or goes
 -- elsewhere; messages are where they may be
 pub record IsTidy (t : Tables) (due : List Due) : Type 0 where
   pub accepted : AllByRecursion IsFit t.accepted
@@ -127,6 +128,9 @@ pub record IsTidy (t : Tables) (due : List Due) : Type 0 where
   pub fit : AllByRecursion IsFitDue due
   pub moves : AllByRecursion (λ act. IfSome (move_to (bare_act act)) (λ to. to ≡ t.here)) t.accepted
   pub targets : AllByRecursion (λ act. stands_here t (target_of act) ≡ true) t.accepted
+  pub queued : AllByRecursion (λ w. IsWaitingFor t.here w.number w.item) t.queued
+  pub leaving : AllByRecursion (IsGranted t.here t.objects) t.leaving
+  pub stray : AllByRecursion IsShipped t.stray
   pub serves : t.here ≡ 0 → stands_here t session ≡ true
   pub drawn : AllByRecursion (λ x. 16 ≤ x.object.kind → x.object.home ≡ t.here → x.object.number ≤ t.births) t.objects
   pub unborn : (o : Id) → t.births < o.number → find (λ x. same_object o x.gid) t.records ≡ None

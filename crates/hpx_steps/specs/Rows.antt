@@ -6,7 +6,7 @@ use Rattle.hpx_journal.specs.Data.{Id, Parcel, Apply, Return, Ask, Give, Cached,
 use Rattle.hpx_journal.specs.Entries.{Rules}
 use Rattle.hpx_journal.specs.Laws.{is_free_of}
 use Rattle.hpx_part.specs.Data.{Event, Line, Fire, Sent, Up, Asked, Given, Count, Refused, Reason, Freed, Mail, Out, In}
-use Rattle.hpx_steps.specs.Items.{Item, Came, Mailed, OnDesk, Going, Accepted}
+use Rattle.hpx_steps.specs.Items.{Item, Came, Mailed, OnDesk, Going, Queued, Leaving, Stray, Accepted}
 
 -- what is counted: messages of a kind, counts of objects, refusals of credit, actions, and what frees one object
 pub data Row : Type 0 where
@@ -166,6 +166,9 @@ unpaid row (Came p) = owes row p
 unpaid row (Mailed p) = owes row p
 unpaid row (OnDesk p) = weight row p
 unpaid row (Going x) = weight row x.parcel
+unpaid row (Queued w) = weight row w.item
+unpaid row (Leaving p) = weight row p
+unpaid row (Stray p) = weight row p
 unpaid row (Accepted act) = of_act row
 unpaid row _ = 0
 
@@ -174,6 +177,9 @@ abbrev pub hopping : Item → ℕ
 hopping (Came p) = brings p
 hopping (OnDesk p) = brings p
 hopping (Going x) = brings x.parcel
+hopping (Queued w) = brings w.item
+hopping (Leaving p) = brings p
+hopping (Stray p) = brings p
 hopping _ = 0
 
 -- an action that was accepted for good

@@ -6,7 +6,7 @@ use Rattle.hpx_value.specs.Riders.{rider_of}
 use Rattle.hpx_value.specs.Values.{bare_act}
 use Rattle.hpx_value.specs.Hands.{session}
 use Rattle.hpx_parcel.specs.Parcels.{IsParcel, HasRightCredit}
-use Rattle.hpx_journal.specs.Data.{Id, Parcel, Ask, Give, Free}
+use Rattle.hpx_journal.specs.Data.{Id, Parcel, Apply, Ask, Give, Move, Go, Shipped, Free}
 use Rattle.hpx_journal.specs.Entries.{Rules, move_to, target_of}
 use Rattle.hpx_journal.specs.Local.{is_standing}
 use Rattle.hpx_journal.specs.Names.{due_ids}
@@ -22,7 +22,7 @@ use Rattle.hpx_tables.specs.Fit.{IsFit, IsKept, IsFitDue}
 use Rattle.hpx_tables.specs.Pending.{is_asked_for, own_ids, is_asked}
 use Rattle.hpx_tables.specs.Tables.{Tables}
 use Rattle.hpx_steps.specs.Frames.{IsOnItsWay, IsForHere}
-use Rattle.hpx_steps.specs.Items.{Item, Came, Mailed, OnDesk, Going, Accepted, Running, Pending, Working, StandsHere, IsDue, Loose, weigh, Holds}
+use Rattle.hpx_steps.specs.Items.{Item, Came, Mailed, OnDesk, Going, Queued, Leaving, Stray, Brought, Accepted, Running, Pending, Working, StandsHere, IsDue, Loose, weigh, Holds}
 use Rattle.hpx_steps.specs.Paused.{IsCommit, HasSplit, HasCommits, Single, names_of}
 use Rattle.hpx_steps.specs.Rows.{Row, one_if, weighed, goes, causes, spends, AreFired, Actions, unpaid, hopping, joined, freeing}
 use Rattle.hpx_steps.specs.Turn.{Turn, view, commits, tokens_of, parcel_tokens}
@@ -46,6 +46,22 @@ abbrev pub FreesNone : Parcel → Type 0
 FreesNone (Free o) = ⊥
 FreesNone _ = Unit {0}
 
+-- an action that waits for the object of k that has this number
+abbrev pub IsWaitingFor : ℕ → ℕ → Parcel → Type 0
+IsWaitingFor k number (Apply act) = ((target_of act).home ≡ k) × ((target_of act).number ≡ number)
+IsWaitingFor k number (Move act) = ((target_of act).home ≡ k) × ((target_of act).number ≡ number)
+IsWaitingFor k number _ = ⊥
+
+-- a move that was granted: its object is one of these, at k, and goes elsewhere
+abbrev pub IsGranted : ℕ → List Standing → Parcel → Type 0
+IsGranted k objects (Go act) = IfSome (move_to (bare_act act)) (λ to. to ≢ k) × (is_some (find (is_standing (target_of act)) objects) ≡ true)
+IsGranted k objects _ = ⊥
+
+-- an object with its action
+abbrev pub IsShipped : Parcel → Type 0
+IsShipped (Shipped act state) = Unit {0}
+IsShipped _ = ⊥
+
 -- a record says that its object is at k, and does not move
 abbrev pub StaysAt : ℕ → Record → Type 0
 StaysAt k x = (x.place ≡ k) × (x.moving ≡ None)
@@ -57,6 +73,10 @@ IsTidyIn k n log births objects (Came p) = IsParcel p
 IsTidyIn k n log births objects (Mailed p) = IsParcel p × IsForHere n k p × IsOwn k log p
 IsTidyIn k n log births objects (OnDesk p) = IsParcel p × IsForHere n k p × IsOwn k log p
 IsTidyIn k n log births objects (Going x) = IsParcel x.parcel × IsOnItsWay n k x × IsOwn k log x.parcel × FreesNone x.parcel
+IsTidyIn k n log births objects (Queued w) = IsParcel w.item × IsWaitingFor k w.number w.item
+IsTidyIn k n log births objects (Leaving p) = IsParcel p × IsGranted k objects p
+IsTidyIn k n log births objects (Stray p) = IsParcel p × IsShipped p
+IsTidyIn k n log births objects (Brought a) = Unit {0}
 IsTidyIn k n log births objects (Accepted act) =
     IsFit act × IfSome (move_to (bare_act act)) (λ to. to ≡ k) × (is_some (find (is_standing (target_of act)) objects) ≡ true)
 IsTidyIn k n log births objects (Running act) = IsFit act
@@ -89,6 +109,10 @@ worth f (Came p) = sum_by f (parcel_tokens p)
 worth f (Mailed p) = sum_by f (parcel_tokens p)
 worth f (OnDesk p) = sum_by f (parcel_tokens p)
 worth f (Going x) = sum_by f (parcel_tokens x.parcel)
+worth f (Queued w) = sum_by f (parcel_tokens w.item)
+worth f (Leaving p) = sum_by f (parcel_tokens p)
+worth f (Stray p) = sum_by f (parcel_tokens p)
+worth f (Brought a) = 0
 worth f (Accepted act) = sum_by f (tokens_of act.ids)
 worth f (Running act) = sum_by f (tokens_of act.ids)
 worth f (Pending w) = sum_by f (tokens_of w.hand) + sum_by f (tokens_of (rider_of w.job.action))

@@ -13,7 +13,7 @@ use Rattle.hpx_part.specs.Data.{Event, Standing, Travel, Token, Recorded}
 use Rattle.hpx_part.specs.View.{View}
 use Rattle.hpx_agas.specs.declared.record.Record.{Record}
 use Rattle.hpx_tables.specs.Pending.{Waits, asking_of, fired_of, ids_kept, refusals_of}
-use Rattle.hpx_tables.specs.Tables.{Tables}
+use Rattle.hpx_tables.specs.Tables.{Tables, messages}
 
 -- what a locality keeps, and what has no place there while a turn goes on
 pub record Turn : Type 0 where
@@ -34,9 +34,9 @@ at_rest t = record { tables = t; came = []; mailed = []; working = []; fresh = [
 abbrev pub commits : Turn → List Waits
 commits s = s.working ++ s.tables.pending
 
--- the messages of its own, in hand or on their way; and all that are here
+-- the messages that are kept, in hand or not; and all that are here
 abbrev pub own_parcels : Turn → List Parcel
-own_parcels s = s.mailed ++ (s.tables.desk ++ map (λ x. x.parcel) s.tables.outgoing)
+own_parcels s = s.mailed ++ messages s.tables
 
 abbrev pub parcels : Turn → List Parcel
 parcels s = s.came ++ own_parcels s

@@ -1,8 +1,9 @@
 -- What stands at a node, and the credit that is held and owed there.
-use Rattle.std.specs.Prelude.{ℕ, Bool, List, [], ◌∷◌, ◌++◌, ◌≡◌, ◌+◌, ◌^◌, cond, if◌then◌else◌, is_some, option_map, Option, Some}
-use Rattle.std.specs.Option.{option_map_or}
+use Rattle.std.specs.Prelude.{ℕ, Bool, false, not, ◌&&◌, List, [], ◌∷◌, ◌++◌, ◌≡◌, ◌+◌, ◌^◌, cond, if◌then◌else◌, is_some, option_map, Option, Some}
+use Rattle.std.specs.Option.{option_map_or, option_and_then}
 use Rattle.std.specs.List.{find, sum_by, list_any}
 use Rattle.hpx_value.specs.Ids.{credit, same_object}
+use Rattle.hpx_agas.specs.Queues.{is_for}
 use Rattle.hpx_agas.specs.Records.{find_record, Rises}
 use Rattle.hpx_agas.specs.Registries.{IsGood}
 use Rattle.hpx_agas.specs.declared.record.Record.{Record}
@@ -16,6 +17,27 @@ use Rattle.hpx_tables.specs.Tables.{Tables, messages}
 -- whether an object stands here
 abbrev pub stands_here : Tables → Id → Bool
 stands_here t o = is_some (find (is_standing o) t.objects)
+
+-- a message grants a move of an object
+abbrev pub grants : Id → Parcel → Bool
+grants o (Go act) = acts_on o act
+grants o _ = false
+
+-- whether an object is to leave
+abbrev pub leaves_here : Tables → Id → Bool
+leaves_here t o = list_any (grants o) t.leaving
+
+-- whether an object stands here and is not to leave
+abbrev pub stays_here : Tables → Id → Bool
+stays_here t o = stands_here t o && not (leaves_here t o)
+
+-- whether an action waits here until the object of a number has moved
+abbrev pub is_queued : Tables → ℕ → Bool
+is_queued t number = list_any (is_for number) t.queued
+
+-- where a record says that its object moves to
+abbrev pub moving_here : Tables → Id → Option ℕ
+moving_here t o = option_and_then (λ (r : Record). r.moving) (find_record o t.records)
 
 -- whether a commit of an action on an object waits here
 abbrev pub waits_here : Tables → Id → Bool

@@ -10,3 +10,4 @@ pub mod Merged
 pub mod Awaited
 pub mod Strange
 pub mod Objects
+pub mod Rules

@@ -2,7 +2,8 @@
 use Rattle.std.specs.Prelude.{ℕ, List, [], ◌++◌, ◌≡◌, map}
 use Rattle.hpx_value.specs.declared.profile.Profile.{Profile}
 use Rattle.hpx_journal.specs.Data.{Act, Parcel}
-use Rattle.hpx_part.specs.Data.{Standing}
+use Rattle.hpx_part.specs.Data.{Name, Standing}
+use Rattle.hpx_agas.specs.declared.record.Waiting.{Waiting}
 use Rattle.hpx_agas.specs.declared.record.Record.{Record}
 use Rattle.hpx_tables.specs.declared.kept.Outgoing.{Outgoing}
 use Rattle.hpx_tables.specs.Pending.{Waits, fired_of}
@@ -18,6 +19,10 @@ pub record Tables : Type 0 where
   pub asked : ℕ  -- how often credit was asked for
   pub desk : List Parcel  -- to this locality, the oldest first
   pub outgoing : List Outgoing  -- to others, the oldest first
+  pub queued : List (Waiting Parcel)  -- actions at the home of their objects, while these move
+  pub leaving : List Parcel  -- moves that were granted: their objects leave once nothing is done on them
+  pub stray : List Parcel  -- objects that came where they may not stand
+  pub came : List Name  -- the moves with which objects came, until they are done
   pub objects : List Standing
   pub births : ℕ
   pub records : List Record  -- of the live objects of this home, by rising number
@@ -25,9 +30,13 @@ pub record Tables : Type 0 where
   pub taken : ℕ  -- frames accepted
   pub answered : ℕ  -- answers that the session has had
 
--- the messages that are on their way, to here or to others
+-- what waits for objects that move
+abbrev pub queued_parcels : List (Waiting Parcel) → List Parcel
+queued_parcels queued = map (λ w. w.item) queued
+
+-- the messages that are here: on their way to here or to others, and those that wait for an object to come or to leave
 abbrev pub messages : Tables → List Parcel
-messages t = t.desk ++ map (λ x. x.parcel) t.outgoing
+messages t = t.desk ++ (map (λ x. x.parcel) t.outgoing ++ (queued_parcels t.queued ++ (t.leaving ++ t.stray)))
 
 -- the fired actions
 abbrev pub fired_acts : Tables → List Act
@@ -40,3 +49,6 @@ pub record IsPassive (t : Tables) : Type 0 where
   pub pending : t.pending ≡ []
   pub desk : t.desk ≡ []
   pub outgoing : t.outgoing ≡ []
+  pub queued : t.queued ≡ []
+  pub leaving : t.leaving ≡ []
+  pub stray : t.stray ≡ []

@@ -95,13 +95,13 @@ pub fn held_in_parcel(parcel: &Parcel, o: Gid) -> u128
     }
 }
 
-/// The same in messages to the own locality.
-pub fn held_on_desk(desk: &VecDeque<Letter>, o: Gid) -> u128
-    ensures { result ≡ min (2 ^ 128 - 1) (sum_by (λ p. credit_in o (ids_held p)) desk.now.items) }
+/// The same in messages that are here.
+pub fn held_in_letters(letters: &VecDeque<Letter>, o: Gid) -> u128
+    ensures { result ≡ min (2 ^ 128 - 1) (sum_by (λ p. credit_in o (ids_held p)) letters.now.items) }
 {
     let mut sum = 0u128;
-    for i in 0..desk.len() {
-        sum = sum.saturating_add(held_in_parcel(desk[i].parcel(), o));
+    for i in 0..letters.len() {
+        sum = sum.saturating_add(held_in_parcel(letters[i].parcel(), o));
     }
     sum
 }
@@ -134,13 +134,13 @@ pub fn owed_in_parcel(parcel: &Parcel, o: Gid) -> u128
     }
 }
 
-/// The same in messages to the own locality.
-pub fn owed_on_desk(desk: &VecDeque<Letter>, o: Gid) -> u128
-    ensures { result ≡ min (2 ^ 128 - 1) (sum_by (credit_owed o) desk.now.items) }
+/// The same in messages that are here.
+pub fn owed_in_letters(letters: &VecDeque<Letter>, o: Gid) -> u128
+    ensures { result ≡ min (2 ^ 128 - 1) (sum_by (credit_owed o) letters.now.items) }
 {
     let mut sum = 0u128;
-    for i in 0..desk.len() {
-        sum = sum.saturating_add(owed_in_parcel(desk[i].parcel(), o));
+    for i in 0..letters.len() {
+        sum = sum.saturating_add(owed_in_parcel(letters[i].parcel(), o));
     }
     sum
 }

@@ -1,5 +1,5 @@
 -- No action sends a MOVE, a console's session is read, and numbers and rings are computed.
-use Rattle.std.specs.Prelude.{ℕ, pos, Bool, true, false, is_some, nat_lt, nat_le, List, [], ◌∷◌, ◌≡◌, ◌≢◌, ◌<◌, ◌≤◌, ◌==◌, ◌&&◌, Option, Some, None, length, refl, if◌then◌else◌}
+use Rattle.std.specs.Prelude.{ℕ, Bool, true, false, is_some, nat_lt, nat_le, List, [], ◌∷◌, ◌≡◌, ◌≢◌, ◌<◌, ◌≤◌, ◌==◌, ◌&&◌, Option, Some, None, length, refl, if◌then◌else◌}
 use Rattle.std.specs.List.{AllByRecursion}
 use Rattle.std.proofs.Common.{inl, inr, sym, ap, ◌∙◌, subst, arith}
 use Rattle.std.proofs.lemmas.Bool.{cond_both, eqb-true, ne_eqb, cases_Bool}
@@ -12,7 +12,7 @@ use Rattle.hpx_calls.specs.Outcomes.{outcome_of}
 use Rattle.hpx_calls.specs.Values as Values
 use Rattle.hpx_steps.specs.Rest.{rules_of}
 use Rattle.hpx_world.proofs.Sound.{spells_well}
-use Rattle.app_console.specs.Types.{Spelled, SpelledUnit, SpelledFlag, SpelledInt, SpelledText, SpelledRef, SpelledFault, SpelledInts, Cont, State, Act, Outcome, Sending}
+use Rattle.app_console.specs.Types.{Spelled, SpelledUnit, SpelledFlag, SpelledInt, SpelledText, SpelledRef, SpelledFault, SpelledInts, State, Act, Outcome, Sending}
 use Rattle.app_console.specs.declared.desk.Desk.{Desk}
 use Rattle.app_console.specs.declared.table.Consoles.{Consoles}
 use Rattle.app_console.specs.declared.table.Consoles.TheVariants.{Accumulator as AccumulatorAlone}

@@ -2,12 +2,12 @@
 use Rattle.std.specs.Prelude.{Result, Ok, Err, OnOk, OnErr, IfErr, IfSome, ◌≢◌, codes}
 use Rattle.std.specs.List.{concat}
 use Rattle.std.specs.Fmt.{decimal}
-use Rattle.std.proofs.Common.{ℕ, List, [], ◌∷◌, ◌++◌, ◌≡◌, ◌≤◌, length, Option, Some, None, refl, sym, ap, ◌∙◌, subst, inl, inr, arith, lit≤, length-append}
+use Rattle.std.proofs.Common.{ℕ, List, [], ◌∷◌, ◌++◌, ◌≡◌, ◌≤◌, ◌⊎◌, length, Option, Some, None, refl, sym, ap, ◌∙◌, subst, inl, inr, arith, lit≤, length-append}
 use Rattle.std.proofs.lemmas.Fmt.{length-decimal-le_wide}
 use Rattle.hpx_value.specs.declared.profile.Profile.{Profile}
 use Rattle.hpx_journal.specs.declared.entry.Entry.{Entry}
 use Rattle.hpx_journal.specs.Entries.{Rules}
-use Rattle.hpx_journal.specs.Pool.{prints_of}
+use Rattle.hpx_journal.specs.Pool.{NoneFails, prints_of}
 use Rattle.hpx_journal.specs.Sessions.{BeginsWith}
 use Rattle.hpx_ports.specs.Told.{followed}
 use Rattle.hpx_steps.specs.Rest.{rules_of}
@@ -23,28 +23,29 @@ use Rattle.hpx_top.specs.declared.session.SessionFault.TheVariants.{Read, Write,
 use Rattle.hpx_top.specs.declared.task.Task.{Task}
 use Rattle.hpx_top.specs.declared.task.Task.TheVariants.{Accumulator, Fib, Stencil}
 use Rattle.hpx_top.specs.Acts.{act_of}
-use Rattle.hpx_top.specs.Usage.{IsTask, places_of}
+use Rattle.hpx_top.specs.Usage.{IsTask}
 use Rattle.hpx_top.specs.Session.{rules, lines_fed, Feeds, FeedsAtMost, WritesFront, entries_in}
 use Rattle.hpx_top.specs.Statuses.{status_after}
 use Rattle.hpx_top.specs.Computed.{task_line, task_texts, IsAnswered, IsUnanswered, HasComputed}
 use Rattle.hpx_top.proofs.ActLemmas.{judged}
 use Rattle.hpx_top.proofs.LineLemmas.{followed_nothing, block_line, front_all}
+use Rattle.hpx_top.proofs.SessionLemmas.{fed_once}
 
 -- ---- what is printed
 
 fib_prints : (n : ℕ) (p : Profile) (number threshold : ℕ) (es : List Entry) → 1 ≤ n → n ≤ 64 → IsQuestion number threshold
-    → Feeds (rules_of act_of n p) (fed_line number threshold) [] es → prints_of es ≡ fib_text number ∷ []
-fib_prints n p number threshold es some few question f =
-    whole_text (rules_of act_of n p) (judged n p some few) number threshold question es f.calm (record {
+    → NoneFails es → Feeds (rules_of act_of n p) (fed_line number threshold) [] es → prints_of es ≡ fib_text number ∷ []
+fib_prints n p number threshold es some few question calm f =
+    whole_text (rules_of act_of n p) (judged n p some few) number threshold question es calm (record {
       legal = f.legal;
       begins = subst (BeginsWith (fed_line number threshold)) (sym f.is) f.begins;
       settled = f.settled;
     })
 
 ring_prints : (n : ℕ) (p : Profile) (points parts steps : ℕ) (es : List Entry) → 1 ≤ n → n ≤ 64 → IsAsked points parts steps
-    → Feeds (rules_of act_of n p) (ring_fed points parts steps) [] es → prints_of es ≡ stencil_texts points steps
-ring_prints n p points parts steps es some few asked f =
-    ring.whole_text (rules_of act_of n p) (judged n p some few) points parts steps asked es f.calm (record {
+    → NoneFails es → Feeds (rules_of act_of n p) (ring_fed points parts steps) [] es → prints_of es ≡ stencil_texts points steps
+ring_prints n p points parts steps es some few asked calm f =
+    ring.whole_text (rules_of act_of n p) (judged n p some few) points parts steps asked es calm (record {
       legal = f.legal;
       begins = subst (BeginsWith (ring_fed points parts steps)) (sym f.is) f.begins;
       settled = f.settled;
@@ -53,17 +54,15 @@ ring_prints n p points parts steps es some few asked f =
 pub some_same : {X : Type 0} (x y : X) → Some x ≡ Some y → x ≡ y
 some_same x y e = cc
 
-pub task_prints : (task : Task) (n : ℕ) (p : Profile) (line : List ℕ) (es : List Entry) → IsTask task → task_line task ≡ Some line → n ≡ places_of task
-    → Feeds (rules_of act_of n p) line [] es → prints_of es ≡ task_texts task
-task_prints Accumulator n p line es h is at f = absurd (let no : None ≡ Some line = is in cc)
-task_prints (Fib question k) n p line es h is at f =
+pub task_prints : (task : Task) (n : ℕ) (p : Profile) (line : List ℕ) (es : List Entry) → IsTask task → task_line task ≡ Some line → 1 ≤ n → n ≤ 64
+    → NoneFails es → Feeds (rules_of act_of n p) line [] es → prints_of es ≡ task_texts task
+task_prints Accumulator n p line es h is some few calm f = absurd (let no : None ≡ Some line = is in cc)
+task_prints (Fib question) n p line es h is some few calm f =
     let same : fed_line question.number question.threshold ≡ line = some_same (fed_line question.number question.threshold) line is in
-    fib_prints n p question.number question.threshold es (subst (λ i. 1 ≤ i) (sym at) h.1) (subst (λ i. i ≤ 64) (sym at) h.2) h.0
-    (subst (λ l. Feeds (rules_of act_of n p) l [] es) (sym same) f)
-task_prints (Stencil shape k) n p line es h is at f =
+    fib_prints n p question.number question.threshold es some few h calm (subst (λ l. Feeds (rules_of act_of n p) l [] es) (sym same) f)
+task_prints (Stencil shape) n p line es h is some few calm f =
     let same : ring_fed shape.points shape.parts shape.steps ≡ line = some_same (ring_fed shape.points shape.parts shape.steps) line is in
-    ring_prints n p shape.points shape.parts shape.steps es (subst (λ i. 1 ≤ i) (sym at) h.1) (subst (λ i. i ≤ 64) (sym at) h.2) h.0
-    (subst (λ l. Feeds (rules_of act_of n p) l [] es) (sym same) f)
+    ring_prints n p shape.points shape.parts shape.steps es some few h calm (subst (λ l. Feeds (rules_of act_of n p) l [] es) (sym same) f)
 
 -- ---- how long a line is
 
@@ -80,15 +79,15 @@ fib_short number threshold h =
 
 pub line_short : (task : Task) (line : List ℕ) → IsTask task → task_line task ≡ Some line → length line ≤ 1025
 line_short Accumulator line h is = absurd (let no : None ≡ Some line = is in cc)
-line_short (Fib question n) line h is =
-    subst (λ l. length l ≤ 1025) (some_same (fed_line question.number question.threshold) line is) (fib_short question.number question.threshold h.0)
-line_short (Stencil shape n) line h is =
-    subst (λ l. length l ≤ 1025) (some_same (ring_fed shape.points shape.parts shape.steps) line is) (Lines.line_short shape.points shape.parts shape.steps h.0)
+line_short (Fib question) line h is =
+    subst (λ l. length l ≤ 1025) (some_same (fed_line question.number question.threshold) line is) (fib_short question.number question.threshold h)
+line_short (Stencil shape) line h is =
+    subst (λ l. length l ≤ 1025) (some_same (ring_fed shape.points shape.parts shape.steps) line is) (Lines.line_short shape.points shape.parts shape.steps h)
 
 pub no_line : (task : Task) → task_line task ≡ None → task ≡ Accumulator
 no_line Accumulator is = refl
-no_line (Fib question n) is = cc
-no_line (Stencil shape n) is = cc
+no_line (Fib question) is = cc
+no_line (Stencil shape) is = cc
 
 pub no_console : (task : Task) (line : List ℕ) → task_line task ≡ Some line → task ≡ Accumulator → ⊥
 no_console task line is e = let no : None ≡ Some line = ap task_line (sym e) ∙ is in cc
@@ -107,11 +106,15 @@ fed_line_is r line es f = ap lines_fed f.is ∙ block_line line f.block f.begins
 cut : (line : List ℕ) (texts : List (List ℕ)) (status : ℕ) (es : List Entry) (old new : Option (List ℕ)) → status ≢ 0 → FeedsAtMost line [] es → new ≡ old
     → HasComputed line texts status es old new
 cut line texts status es old new failed fed same = record {
-  fed = fed;
+  fed = at_most fed;
   front = nothing_written (concat texts) old new same;
   whole = λ s. absurd (failed s);
   nothing = λ s t. same;
 }
+  where
+    at_most : FeedsAtMost line [] es → (lines_fed es ≡ []) ⊎ (lines_fed es ≡ line ∷ [])
+    at_most (inl none) = inl (ap lines_fed none)
+    at_most (inr f) = inr (fed_once line [] es f)
 
 pub has_computed : {T : Type 0} (res : Result T SessionFault) (r : Rules) (line : List ℕ) (texts : List (List ℕ)) (es : List Entry) (old new : Option (List ℕ))
     → (Feeds r line [] es → prints_of es ≡ texts) → OnOk res (IsAnswered r line es old new) → IfErr res (λ f. IsUnanswered f r line es old new)
@@ -144,14 +147,14 @@ pub computed_none : {T : Type 0} (line : List ℕ) (texts : List (List ℕ)) (re
 computed_none line texts res old new is same =
     subst (λ r. HasComputed line texts (status_after r) [] old new) (sym is) (cut line texts 6 [] old new (λ s. absurd (omega (arith, s))) (inl refl) same)
 
-pub computed_in : {T : Type 0} (o : Option Places) (res : Result T SessionFault) (task : Task) (line : List ℕ) (old new : Option (List ℕ)) → IsTask task → task_line task ≡ Some line
-    → (o ≡ None → res ≡ Err OutOfMemory) → (o ≡ None → new ≡ old) → IfSome o (λ w. length w.nodes ≡ places_of task)
+-- what a journal printed, or what these texts are where it printed them
+pub computed_in : {T : Type 0} (o : Option Places) (res : Result T SessionFault) (line : List ℕ) (texts : List (List ℕ)) (old new : Option (List ℕ))
+    → (o ≡ None → res ≡ Err OutOfMemory) → (o ≡ None → new ≡ old)
+    → IfSome o (λ w. Feeds (rules w) line [] w.journal.entries → prints_of w.journal.entries ≡ texts)
     → IfSome o (λ w. OnOk res (IsAnswered (rules w) line w.journal.entries old new)) → IfSome o (λ w. IfErr res (λ f. IsUnanswered f (rules w) line w.journal.entries old new))
-    → HasComputed line (task_texts task) (status_after res) (entries_in o) old new
-computed_in None res task line old new h is none same places ok err = computed_none line (task_texts task) res old new (none refl) (same refl)
-computed_in (Some w) res task line old new h is none same places ok err =
-    has_computed res (rules w) line (task_texts task) w.journal.entries old new
-    (λ f. task_prints task (length w.nodes) w.profile line w.journal.entries h is places f) ok err
+    → HasComputed line texts (status_after res) (entries_in o) old new
+computed_in None res line texts old new none same prints ok err = computed_none line texts res old new (none refl) (same refl)
+computed_in (Some w) res line texts old new none same prints ok err = has_computed res (rules w) line texts w.journal.entries old new prints ok err
 
 -- ---- how one line is answered
 

@@ -1,7 +1,7 @@
 -- A text that is fed, and how serving it ends.
 use Rattle.std.specs.Prelude.{◌⊎◌, Result, Ok, Err, OnOk, OnErr, IfErr, ◌≢◌}
 use Rattle.std.specs.List.{concat, slice_get, AllByRecursion}
-use Rattle.std.proofs.Common.{ℕ, zero, suc, List, [], ◌∷◌, ◌++◌, ◌≡◌, ◌≤◌, length, drop, set, Option, Some, refl, sym, ap, ◌∙◌, subst, inl, inr, arith, lit≤, append_assoc}
+use Rattle.std.proofs.Common.{ℕ, zero, suc, List, [], ◌∷◌, ◌++◌, ◌≡◌, ◌≤◌, length, drop, set, Option, Some, refl, sym, ap, ◌∙◌, subst, inl, inr, arith, append_assoc}
 use Rattle.hpx_value.specs.declared.profile.Profile.{Profile}
 use Rattle.hpx_journal.specs.declared.entry.Name.{Name}
 use Rattle.hpx_journal.specs.declared.entry.Entry.{Entry}
@@ -9,7 +9,6 @@ use Rattle.hpx_journal.specs.declared.entry.Event.TheVariants.{Line}
 use Rattle.hpx_journal.specs.Entries.{Rules}
 use Rattle.hpx_journal.specs.Natives.{NothingMoves}
 use Rattle.hpx_journal.specs.Pool.{NoneFails, prints_of}
-use Rattle.hpx_journal.specs.Sessions.{BeginsWith}
 use Rattle.hpx_journal.specs.Whole.{replayed}
 use Rattle.hpx_journal.specs.Weights.{HasRoom}
 use Rattle.hpx_journal.proofs.Ample.{legal_ample}
@@ -30,13 +29,12 @@ use Rattle.app_console.specs.Console.{prompt}
 use Rattle.app_console.specs.Lines.{opening}
 use Rattle.hpx_top.specs.Acts.{act_of}
 use Rattle.hpx_top.proofs.ActLemmas.{all_still}
-use Rattle.hpx_top.specs.Texts.{commands}
+use Rattle.hpx_top.specs.Texts.{Said, commands}
 use Rattle.hpx_top.specs.declared.session.SessionFault.{SessionFault}
 use Rattle.hpx_top.specs.declared.session.SessionFault.TheVariants.{Read, Write, Fabric, JournalFull, OutOfMemory, BadFrame, Strange, InputFull}
 use Rattle.hpx_top.specs.Reader.{Reading, TakesLine, lines_left}
-use Rattle.hpx_top.specs.Session.{rules, profile, IsAmple, AllGranted, AllDone, lines_fed, FeedsAtMost, Feeds, WritesFront, IsServing, IsCutAtOpening, IsUnderWay, IsCutBy, IsLineEndedBy}
-use Rattle.hpx_top.proofs.LineLemmas.{lines_fed_append, block_line}
-use Rattle.hpx_top.proofs.SessionLemmas.{cut_line, cut_in, under_line}
+use Rattle.hpx_top.specs.Session.{rules, IsAmple, NoneRefused, AllGranted, AllDone, lines_fed, IsFed, FeedsAtMost, Feeds, Tells, WritesFront, IsServing, IsCutAtOpening, IsUnderWay, IsCutBy, IsLineEndedBy}
+use Rattle.hpx_top.proofs.SessionLemmas.{cut_line, cut_in, fed_once, under_line}
 
 -- ---- what is judged by the same rules
 
@@ -44,11 +42,6 @@ pub same_rules : (w w' : Places) → length w'.nodes ≡ length w.nodes → w'.p
 same_rules w w' count same = ap (λ n. rules_of act_of n w'.profile) count ∙ ap (λ p. rules_of act_of (length w.nodes) p) same
 
 -- ---- a text and what follows from it are a block
-
-pub record IsFed (text : List ℕ) (old new : List Entry) : Type 0 where
-  pub block : List Entry
-  pub is : new ≡ old ++ block
-  pub begins : BeginsWith text block
 
 -- the entry that a Feed writes
 record IsWritten (text : List ℕ) (old new : List Entry) : Type 0 where
@@ -74,10 +67,6 @@ fed_then text t nodes nodes' old mid new d unfed =
       is = unfed.is ∙ (ap (λ x. x ++ unfed.more) w.is ∙ append_assoc old (e ∷ []) unfed.more);
       begins = ((w.name, refl), unfed.unfed);
     }
-
-pub fed_once : (text : List ℕ) (old new : List Entry) → IsFed text old new → lines_fed new ≡ lines_fed old ++ text ∷ []
-fed_once text old new f =
-    ap lines_fed f.is ∙ (lines_fed_append old f.block ∙ ap (λ t. lines_fed old ++ t) (block_line text f.block f.begins))
 
 -- ---- feeding hands no job out
 
@@ -117,17 +106,16 @@ still n p = record { codes = λ kind here s a low state act. all_still n kind he
 
 -- ---- no action fails
 
-pub ample_profile : IsAmple profile
-ample_profile = record { log = lit≤ tt; limit = lit≤ tt }
-
 -- each ask is granted
 pub all_granted : (n : ℕ) (p : Profile) (es : List Entry) → IsAmple p → length es ≤ 2097152 → KeepsPromises (rules_of act_of n p) es → AllGranted es
 all_granted n p es ample few promises =
     let none = legal_ample (rules_of act_of n p) es promises.ledger.legal ample.log few ample.limit in
     record { asks = none; actions = omega (arith, promises.limit.failures, none) }
 
-pub calm : (n : ℕ) (p : Profile) (es : List Entry) → IsAmple p → HasRoom es → KeepsPromises (rules_of act_of n p) es → NoneFails es
-calm n p es ample room promises = (all_granted n p es ample (omega (arith, room.entries)) promises).actions
+-- none was refused, or none can be
+pub none_fails : (n : ℕ) (p : Profile) (es : List Entry) → NoneRefused p es → length es ≤ 2097152 → KeepsPromises (rules_of act_of n p) es → NoneFails es
+none_fails n p es (inl ample) few promises = (all_granted n p es ample few promises).actions
+none_fails n p es (inr none) few promises = omega (arith, promises.limit.failures, none)
 
 -- where nothing is under way, each action is done
 pub all_done : (n : ℕ) (p : Profile) (es : List Entry) → KeepsPromises (rules_of act_of n p) es
@@ -138,15 +126,14 @@ all_done n p es promises rest = record {
 }
 
 -- what was fed, and all that follows from it
-pub feeds : (n : ℕ) (p : Profile) (text : List ℕ) (old new : List Entry) → IsFed text old new → IsAmple p → HasRoom new → KeepsPromises (rules_of act_of n p) new
+pub feeds : (n : ℕ) (p : Profile) (text : List ℕ) (old new : List Entry) → IsFed text old new → KeepsPromises (rules_of act_of n p) new
     → IsAtRest (rules_of act_of n p) (replayed (rules_of act_of n p) new) → Feeds (rules_of act_of n p) text old new
-feeds n p text old new f ample room promises rest = record {
+feeds n p text old new f promises rest = record {
   block = f.block;
   is = f.is;
   begins = f.begins;
   legal = promises.ledger.legal;
   settled = quiet_settled (rules_of act_of n p) (replayed (rules_of act_of n p) new) rest.quiet;
-  calm = calm n p new ample room promises;
 }
 
 -- ---- why a text is not fed, or the world does not come to rest
@@ -209,31 +196,32 @@ ended_show (Err f) Q r line old new before now cause w fed = subst (λ f. IsLine
 
 -- ---- how a session ends
 
-pub cut_write : (f : SessionFault) (n : ℕ) (all : Option (List (List ℕ))) (before now : Option (List ℕ)) (entries : List Entry) → f ≡ Write
-    → IsUnderWay n all before entries now → IsCutBy f n all before entries now
-cut_write f n all before now entries is u = subst (λ f. IsCutBy f n all before entries now) (sym is) u
+pub cut_write : (f : SessionFault) (said : Said) (all : Option (List (List ℕ))) (before now : Option (List ℕ)) (entries : List Entry) → f ≡ Write
+    → IsUnderWay said all before entries now → IsCutBy f said all before entries now
+cut_write f said all before now entries is u = subst (λ f. IsCutBy f said all before entries now) (sym is) u
 
 -- the accumulator was not made
 pub cut_opening : (before now : Option (List ℕ)) (old new : List Entry) → old ≡ [] → FeedsAtMost opening old new → now ≡ followed before commands
     → IsCutAtOpening before new now
-cut_opening before now old new empty (inl same) held = record { journal = inl (same ∙ ap lines_fed empty); held = held }
-cut_opening before now old new empty (inr one) held = record { journal = inr (one ∙ ap (λ es. lines_fed es ++ opening ∷ []) empty); held = held }
+cut_opening before now old new empty (inl same) held = record { journal = inl (ap lines_fed (same ∙ empty)); held = held }
+cut_opening before now old new empty (inr f) held =
+    record { journal = inr (fed_once opening old new f ∙ ap (λ es. lines_fed es ++ opening ∷ []) empty); held = held }
 
-pub cut_text : (f : SessionFault) (n : ℕ) (p : Profile) (all : Option (List (List ℕ))) (before now mid later : Option (List ℕ)) (reading next : Reading)
+pub cut_text : (f : SessionFault) (n : ℕ) (p : Profile) (said : Said) (all : Option (List (List ℕ))) (before now mid later : Option (List ℕ)) (reading next : Reading)
     (left rest : Option (List ℕ)) (old new : List Entry) (line : List ℕ) → 1 ≤ n → n ≤ 64 → IsServing (rules_of act_of n p) all before reading left old now
     → mid ≡ followed now prompt → TakesLine line (lines_left reading left) (lines_left next rest)
-    → IsLineEndedBy f (rules_of act_of n p) line old new mid later → IsCutBy f n all before new later
-cut_text Write n p all before now mid later reading next left rest old new line some few s prompted takes e =
-    under_line n p all before now mid later reading next left rest old new line some few s prompted takes e.0 e.1
-cut_text Read n p all before now mid later reading next left rest old new line some few s prompted takes e = absurd e
-cut_text InputFull n p all before now mid later reading next left rest old new line some few s prompted takes e = absurd e
-cut_text Fabric n p all before now mid later reading next left rest old new line some few s prompted takes e =
-    cut_in (rules_of act_of n p) all before now later reading next left rest old new line s (e.1 ∙ prompted) takes e.0
-cut_text JournalFull n p all before now mid later reading next left rest old new line some few s prompted takes e =
-    cut_in (rules_of act_of n p) all before now later reading next left rest old new line s (e.1 ∙ prompted) takes e.0
-cut_text BadFrame n p all before now mid later reading next left rest old new line some few s prompted takes e =
-    cut_in (rules_of act_of n p) all before now later reading next left rest old new line s (e.1 ∙ prompted) takes e.0
-cut_text Strange n p all before now mid later reading next left rest old new line some few s prompted takes e =
-    cut_in (rules_of act_of n p) all before now later reading next left rest old new line s (e.1 ∙ prompted) takes e.0
-cut_text OutOfMemory n p all before now mid later reading next left rest old new line some few s prompted takes e =
-    cut_line (rules_of act_of n p) all before now later reading next left rest old new line s (e.1 ∙ prompted) takes e.0
+    → IsLineEndedBy f (rules_of act_of n p) line old new mid later → Tells n new said → IsCutBy f said all before new later
+cut_text Write n p said all before now mid later reading next left rest old new line some few s prompted takes e tells =
+    under_line n p said all before now mid later reading next left rest old new line some few s prompted takes e.0 e.1 tells
+cut_text Read n p said all before now mid later reading next left rest old new line some few s prompted takes e tells = absurd e
+cut_text InputFull n p said all before now mid later reading next left rest old new line some few s prompted takes e tells = absurd e
+cut_text Fabric n p said all before now mid later reading next left rest old new line some few s prompted takes e tells =
+    cut_in n p said all before now later reading next left rest old new line some few s (e.1 ∙ prompted) takes e.0 tells
+cut_text JournalFull n p said all before now mid later reading next left rest old new line some few s prompted takes e tells =
+    cut_in n p said all before now later reading next left rest old new line some few s (e.1 ∙ prompted) takes e.0 tells
+cut_text BadFrame n p said all before now mid later reading next left rest old new line some few s prompted takes e tells =
+    cut_in n p said all before now later reading next left rest old new line some few s (e.1 ∙ prompted) takes e.0 tells
+cut_text Strange n p said all before now mid later reading next left rest old new line some few s prompted takes e tells =
+    cut_in n p said all before now later reading next left rest old new line some few s (e.1 ∙ prompted) takes e.0 tells
+cut_text OutOfMemory n p said all before now mid later reading next left rest old new line some few s prompted takes e tells =
+    cut_line n p said all before now later reading next left rest old new line some few s (e.1 ∙ prompted) takes e.0 tells

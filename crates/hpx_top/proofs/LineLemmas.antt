@@ -1,21 +1,22 @@
 -- Lines of a session, one behind the others: what is fed, what is written, and what is told.
 use Rattle.std.specs.Prelude.{◌||◌, ◌&&◌, not, if◌then◌else◌}
 use Rattle.std.specs.List.{concat, list_any, AllByRecursion}
-use Rattle.std.proofs.Common.{ℕ, suc, Bool, true, false, List, [], ◌∷◌, ◌++◌, ◌≡◌, length, Option, Some, None, refl, sym, ap, ◌∙◌, subst, arith, append-nil, append_assoc}
+use Rattle.std.proofs.Common.{ℕ, suc, Bool, true, false, List, [], ◌∷◌, ◌++◌, ◌≡◌, length, Option, Some, None, refl, sym, ap, ◌∙◌, subst, inl, inr, arith, append-nil, append_assoc}
 use Rattle.std.proofs.lemmas.List.Folds.{list_any-append}
 use Rattle.hpx_journal.specs.declared.entry.Entry.{Entry}
 use Rattle.hpx_journal.specs.declared.entry.Event.{Event}
 use Rattle.hpx_journal.specs.declared.entry.Event.TheVariants.{Line, Fire, Split, Born, Done, Sent, Print, Merge, Up, Asked, Given, Count, Freed, Left, Landed, Looked, Mail, Out, In}
 use Rattle.hpx_journal.specs.Entries.{Rules}
+use Rattle.hpx_journal.specs.Pool.{prints_by, prints_of}
 use Rattle.hpx_journal.specs.Sessions.{FeedsNothing, IsSession, BeginsWith, entries_of, shown}
 use Rattle.hpx_ports.specs.Told.{preceded, followed}
 use Rattle.app_console.specs.declared.table.Console.TheVariants.{Accumulator as AccumulatorConsole}
 use Rattle.app_console.specs.Console.{words_of, prompt}
 use Rattle.app_console.specs.Lines.{IsFront, is_long, is_quit, are_quit, before_quit, opening, first_of, others_of}
-use Rattle.app_console.specs.Plain.{Plain, line_end, opened}
+use Rattle.app_console.specs.Plain.{Plain, opened}
 use Rattle.app_console.specs.Text.{too_long, after_line, text_of_line, marked, written, lines_text as lines_text_in}
-use Rattle.hpx_top.specs.Texts.{commands, fed, lines_text, text_of}
-use Rattle.hpx_top.specs.Session.{lines_by, lines_fed}
+use Rattle.hpx_top.specs.Texts.{Said, commands, fed, lines_text, text_by}
+use Rattle.hpx_top.specs.Session.{is_line, lines_by, lines_fed, prints_first, texts_fed, shown_in, Tells}
 
 -- ---- what is told
 
@@ -43,8 +44,8 @@ told_rest all lines (Some rest) h = (rest, refl, (let some : Some all ≡ Some (
 -- ---- the text
 
 -- one line, and what is left after it
-abbrev said : ℕ → Plain → List ℕ → List ℕ
-said n v line = text_of_line AccumulatorConsole n v line
+abbrev line_text : ℕ → Plain → List ℕ → List ℕ
+line_text n v line = text_of_line AccumulatorConsole n v line
 
 abbrev after : ℕ → Plain → List ℕ → Plain
 after n v line = after_line AccumulatorConsole n v line
@@ -58,18 +59,11 @@ said_append : (n : ℕ) (v : Plain) (xs ys : List (List ℕ))
     → lines_text_in AccumulatorConsole n v (xs ++ ys) ≡ lines_text_in AccumulatorConsole n v xs ++ lines_text_in AccumulatorConsole n (after_all n v xs) ys
 said_append n v [] ys = refl
 said_append n v (x ∷ xs) ys =
-    ap (λ t. prompt ++ (said n v x ++ t)) (said_append n (after n v x) xs ys)
-    ∙ regroup prompt (said n v x) (lines_text_in AccumulatorConsole n (after n v x) xs) (lines_text_in AccumulatorConsole n (after_all n (after n v x) xs) ys)
+    ap (λ t. prompt ++ (line_text n v x ++ t)) (said_append n (after n v x) xs ys)
+    ∙ regroup prompt (line_text n v x) (lines_text_in AccumulatorConsole n (after n v x) xs) (lines_text_in AccumulatorConsole n (after_all n (after n v x) xs) ys)
   where
     regroup : (p a b c : List ℕ) → p ++ (a ++ (b ++ c)) ≡ (p ++ (a ++ b)) ++ c
     regroup p a b c = simp append_assoc
-
--- a line more that is too long
-pub long_more : (n : ℕ) (xs : List (List ℕ)) (line : List ℕ) → is_long line ≡ true → lines_text n xs ++ (prompt ++ too_long) ≡ lines_text n (xs ++ line ∷ [])
-long_more n xs line long =
-    let v = after_all n (opened n) xs in
-    ap (λ t. lines_text n xs ++ (prompt ++ t)) (ap (λ b. if b then too_long else (line_end AccumulatorConsole n v line).text) (sym long) ∙ sym (append-nil (said n v line)))
-    ∙ sym (said_append n (opened n) xs (line ∷ []))
 
 pub front_all : (t : List ℕ) → IsFront t t
 front_all t = record { later = []; is = append-nil t }
@@ -81,13 +75,17 @@ front_within : (c l p t m : List ℕ) → (c ++ (l ++ p)) ++ (t ++ (m ++ p)) ≡
 front_within c l p t m = simp append_assoc
 
 -- the text of the first lines begins that of all
-pub text_front : (n : ℕ) (xs ys : List (List ℕ)) → IsFront (text_of n xs) (text_of n (xs ++ ys))
-text_front n xs [] = subst (λ zs. IsFront (text_of n xs) (text_of n zs)) (sym (append-nil xs)) (front_all (text_of n xs))
+abbrev pub Grows : Said → Type 0
+Grows said = (xs ys : List (List ℕ)) → IsFront (text_by said xs) (text_by said (xs ++ ys))
+
+text_front : (n : ℕ) → Grows (lines_text n)
+text_front n xs [] =
+    subst (λ zs. IsFront (text_by (lines_text n) xs) (text_by (lines_text n) zs)) (sym (append-nil xs)) (front_all (text_by (lines_text n) xs))
 text_front n xs (y ∷ ys) =
     let v = after_all n (opened n) xs in
     record {
-      later = said n v y ++ (lines_text_in AccumulatorConsole n (after n v y) ys ++ prompt);
-      is = front_within commands (lines_text n xs) prompt (said n v y) (lines_text_in AccumulatorConsole n (after n v y) ys)
+      later = line_text n v y ++ (lines_text_in AccumulatorConsole n (after n v y) ys ++ prompt);
+      is = front_within commands (lines_text n xs) prompt (line_text n v y) (lines_text_in AccumulatorConsole n (after n v y) ys)
           ∙ ap (λ t. commands ++ (t ++ prompt)) (sym (said_append n (opened n) xs (y ∷ ys)));
     }
 
@@ -224,10 +222,164 @@ written_more (x ∷ xs) texts line more short h =
     written_cons (is_long x) xs x line (prompt ++ (concat more ++ [])) texts more h
     (λ texts count. written_more xs texts line more short count)
 
--- what a line that was fed shows is its text
-pub line_shown : (n : ℕ) (xs : List (List ℕ)) (texts : List (List (List ℕ))) (line : List ℕ) (more : List (List ℕ)) → is_long line ≡ false
-    → length texts ≡ length (marked 97 xs) → written xs texts ≡ lines_text n xs → written (xs ++ line ∷ []) (texts ++ more ∷ []) ≡ lines_text n (xs ++ line ∷ [])
-    → lines_text n xs ++ (prompt ++ concat more) ≡ lines_text n (xs ++ line ∷ [])
-line_shown n xs texts line more short h old new =
-    ap (λ t. t ++ (prompt ++ concat more)) (sym old)
-    ∙ (ap (λ t. written xs texts ++ (prompt ++ t)) (sym (append-nil (concat more))) ∙ (sym (written_more xs texts line more short h) ∙ new))
+-- ---- what is written line by line
+
+-- the texts that are left behind lines
+abbrev texts_left : List (List ℕ) → List (List (List ℕ)) → List (List (List ℕ))
+texts_left [] texts = texts
+texts_left (x ∷ xs) texts = if is_long x then texts_left xs texts else texts_left xs (others_of texts)
+
+append_by : (b : Bool) (xs ys : List (List ℕ)) (texts left other : List (List (List ℕ))) → written (xs ++ ys) texts ≡ written xs texts ++ written ys left
+    → written (xs ++ ys) (others_of texts) ≡ written xs (others_of texts) ++ written ys other
+    → (if b then prompt ++ (too_long ++ written (xs ++ ys) texts) else prompt ++ (first_of texts ++ written (xs ++ ys) (others_of texts)))
+    ≡ (if b then prompt ++ (too_long ++ written xs texts) else prompt ++ (first_of texts ++ written xs (others_of texts))) ++ written ys (if b then left else other)
+append_by true xs ys texts left other long short =
+    ap (λ t. prompt ++ (too_long ++ t)) long ∙ regroup prompt too_long (written xs texts) (written ys left)
+append_by false xs ys texts left other long short =
+    ap (λ t. prompt ++ (first_of texts ++ t)) short ∙ regroup prompt (first_of texts) (written xs (others_of texts)) (written ys other)
+
+written_append : (xs ys : List (List ℕ)) (texts : List (List (List ℕ))) → written (xs ++ ys) texts ≡ written xs texts ++ written ys (texts_left xs texts)
+written_append [] ys texts = refl
+written_append (x ∷ xs) ys texts =
+    append_by (is_long x) xs ys texts (texts_left xs texts) (texts_left xs (others_of texts)) (written_append xs ys texts) (written_append xs ys (others_of texts))
+
+-- texts behind those of the lines are not written
+unused_cons : (b : Bool) (xs : List (List ℕ)) (x : List ℕ) (texts more : List (List (List ℕ)))
+    → length texts ≡ length (if b then marked 97 xs else (97 ∷ x) ∷ marked 97 xs)
+    → ((ts : List (List (List ℕ))) → length ts ≡ length (marked 97 xs) → written xs (ts ++ more) ≡ written xs ts)
+    → (if b then prompt ++ (too_long ++ written xs (texts ++ more)) else prompt ++ (first_of (texts ++ more) ++ written xs (others_of (texts ++ more))))
+    ≡ (if b then prompt ++ (too_long ++ written xs texts) else prompt ++ (first_of texts ++ written xs (others_of texts)))
+unused_cons true xs x texts more h next = ap (λ t. prompt ++ (too_long ++ t)) (next texts h)
+unused_cons false xs x [] more h next = absurd (let no : 0 ≡ length ((97 ∷ x) ∷ marked 97 xs) = h in omega arith)
+unused_cons false xs x (t ∷ texts) more h next =
+    let count : length texts ≡ length (marked 97 xs) = omega (arith, h) in
+    ap (λ u. prompt ++ (concat t ++ u)) (next texts count)
+
+pub written_unused : (xs : List (List ℕ)) (texts more : List (List (List ℕ))) → length texts ≡ length (marked 97 xs) → written xs (texts ++ more) ≡ written xs texts
+written_unused [] texts more h = refl
+written_unused (x ∷ xs) texts more h = unused_cons (is_long x) xs x texts more h (λ ts count. written_unused xs ts more count)
+
+-- a line more that is too long
+pub long_more : (entries : List Entry) (xs : List (List ℕ)) (line : List ℕ) → is_long line ≡ true
+    → shown_in entries xs ++ (prompt ++ too_long) ≡ shown_in entries (xs ++ line ∷ [])
+long_more entries xs line long =
+    let texts = others_of (texts_fed entries) in
+    let left = texts_left xs texts in
+    ap (λ t. written xs texts ++ (prompt ++ t)) (sym (append-nil too_long))
+    ∙ (ap (λ b. written xs texts ++ (if b then prompt ++ (too_long ++ []) else prompt ++ (first_of left ++ []))) (sym long)
+    ∙ sym (written_append xs (line ∷ []) texts))
+
+-- a prompt stands before each text
+prompted : (b : Bool) (p x y : List ℕ) → (if b then p ++ x else p ++ y) ≡ p ++ (if b then x else y)
+prompted true p x y = refl
+prompted false p x y = refl
+
+front_shown : (c w p t : List ℕ) → (c ++ (w ++ p)) ++ (t ++ p) ≡ c ++ ((w ++ (p ++ t)) ++ p)
+front_shown c w p t = simp append_assoc
+
+shown_front : (entries : List Entry) → Grows (shown_in entries)
+shown_front entries xs [] =
+    let said : Said = shown_in entries in
+    subst (λ zs. IsFront (text_by said xs) (text_by said zs)) (sym (append-nil xs)) (front_all (text_by said xs))
+shown_front entries xs (y ∷ ys) =
+    let texts = others_of (texts_fed entries) in
+    let left = texts_left xs texts in
+    let next : List ℕ = if is_long y then too_long ++ written ys left else first_of left ++ written ys (others_of left) in
+    record {
+      later = next ++ prompt;
+      is = front_shown commands (written xs texts) prompt next
+          ∙ ap (λ t. commands ++ (t ++ prompt))
+          (ap (λ t. written xs texts ++ t) (sym (prompted (is_long y) prompt (too_long ++ written ys left) (first_of left ++ written ys (others_of left))))
+          ∙ sym (written_append xs (y ∷ ys) texts));
+    }
+
+-- ---- what is said
+
+pub grows : (n : ℕ) (entries : List Entry) (said : Said) → Tells n entries said → Grows said
+grows n entries said (inl is) = subst Grows (sym is) (shown_front entries)
+grows n entries said (inr t) = subst Grows (sym t.1) (text_front n)
+
+pub said_none : (n : ℕ) (entries : List Entry) (said : Said) → Tells n entries said → said [] ≡ []
+said_none n entries said (inl is) = ap (λ (f : Said). f []) is
+said_none n entries said (inr t) = ap (λ (f : Said). f []) t.1
+
+-- at as many localities
+pub tells_as : (n m : ℕ) (entries : List Entry) (said : Said) → n ≡ m → Tells m entries said → Tells n entries said
+tells_as n m entries said same tells = subst (λ k. Tells k entries said) (sym same) tells
+
+-- ---- texts of lines in a journal
+
+not_line : (event : Event) → FeedsNothing event → is_line event ≡ false
+not_line (Line a bytes) h = absurd h
+not_line (Fire a) h = refl
+not_line (Split o log) h = refl
+not_line (Born o state) h = refl
+not_line (Done a failed) h = refl
+not_line (Sent a) h = refl
+not_line (Print bytes) h = refl
+not_line (Merge o log) h = refl
+not_line (Up o log) h = refl
+not_line (Asked o) h = refl
+not_line (Given o log) h = refl
+not_line (Count o count why) h = refl
+not_line (Freed o) h = refl
+not_line (Left o to) h = refl
+not_line (Landed o) h = refl
+not_line (Looked o hit) h = refl
+not_line (Mail kind) h = refl
+not_line (Out to bytes) h = refl
+not_line (In bytes) h = refl
+
+block_first : (es : List Entry) → AllByRecursion (λ e. FeedsNothing e.event) es → prints_first es ≡ prints_of es
+block_first [] h = refl
+block_first (e ∷ es) h =
+    ap (λ b. if b then [] else prints_by e.event ++ prints_first es) (not_line e.event h.0) ∙ ap (λ t. prints_by e.event ++ t) (block_first es h.1)
+
+block_none : (es : List Entry) → AllByRecursion (λ e. FeedsNothing e.event) es → texts_fed es ≡ []
+block_none [] h = refl
+block_none (e ∷ es) h = ap (λ b. if b then prints_first es ∷ texts_fed es else texts_fed es) (not_line e.event h.0) ∙ block_none es h.1
+
+pub block_texts : (line : List ℕ) (es : List Entry) → BeginsWith line es → texts_fed es ≡ prints_of es ∷ []
+block_texts line [] h = absurd h
+block_texts line (e ∷ es) h =
+    ap (λ b. if b then prints_first es ∷ texts_fed es else texts_fed es) (ap is_line h.0.1)
+    ∙ (ap (λ t. t ∷ texts_fed es) (block_first es h.1)
+    ∙ (ap (λ t. prints_of es ∷ t) (block_none es h.1) ∙ ap (λ t. (t ++ prints_of es) ∷ []) (sym (ap prints_by h.0.1))))
+
+begins_first : (line : List ℕ) (es more : List Entry) → BeginsWith line es → prints_first (es ++ more) ≡ []
+begins_first line [] more h = absurd h
+begins_first line (e ∷ es) more h = ap (λ b. if b then [] else prints_by e.event ++ prints_first (es ++ more)) (ap is_line h.0.1)
+
+pub block_begins : (line : List ℕ) (es : List Entry) → BeginsWith line es → prints_first es ≡ []
+block_begins line es h = ap prints_first (sym (append-nil es)) ∙ begins_first line es [] h
+
+first_append : (xs ys : List Entry) → prints_first ys ≡ [] → prints_first (xs ++ ys) ≡ prints_first xs
+first_append [] ys h = h
+first_append (e ∷ es) ys h = ap (λ t. if is_line e.event then [] else prints_by e.event ++ t) (first_append es ys h)
+
+texts_cons : (b : Bool) (first : List (List ℕ)) (xs ys : List (List (List ℕ))) → (if b then first ∷ (xs ++ ys) else xs ++ ys) ≡ (if b then first ∷ xs else xs) ++ ys
+texts_cons true first xs ys = refl
+texts_cons false first xs ys = refl
+
+pub texts_append : (xs ys : List Entry) → prints_first ys ≡ [] → texts_fed (xs ++ ys) ≡ texts_fed xs ++ texts_fed ys
+texts_append [] ys h = refl
+texts_append (e ∷ es) ys h =
+    ap (λ t. if is_line e.event then t ∷ texts_fed (es ++ ys) else texts_fed (es ++ ys)) (first_append es ys h)
+    ∙ (ap (λ t. if is_line e.event then prints_first es ∷ t else t) (texts_append es ys h) ∙ texts_cons (is_line e.event) (prints_first es) (texts_fed es) (texts_fed ys))
+
+session_first : (r : Rules) (before : List Entry) (lines : List (List ℕ)) (blocks : List (List Entry)) → IsSession r before lines blocks
+    → prints_first (entries_of blocks) ≡ []
+session_first r before [] [] h = refl
+session_first r before [] (es ∷ blocks) h = absurd h
+session_first r before (line ∷ lines) [] h = absurd h
+session_first r before (line ∷ lines) (es ∷ blocks) h = begins_first line es (entries_of blocks) h.0.begins
+
+pub session_texts : (r : Rules) (before : List Entry) (lines : List (List ℕ)) (blocks : List (List Entry)) → IsSession r before lines blocks
+    → texts_fed (entries_of blocks) ≡ shown blocks
+session_texts r before [] [] h = refl
+session_texts r before [] (es ∷ blocks) h = absurd h
+session_texts r before (line ∷ lines) [] h = absurd h
+session_texts r before (line ∷ lines) (es ∷ blocks) h =
+    texts_append es (entries_of blocks) (session_first r (before ++ es) lines blocks h.1)
+    ∙ (ap (λ t. t ++ texts_fed (entries_of blocks)) (block_texts line es h.0.begins)
+    ∙ ap (λ t. prints_of es ∷ t) (session_texts r (before ++ es) lines blocks h.1))

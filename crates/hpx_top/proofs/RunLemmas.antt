@@ -2,7 +2,9 @@
 use Rattle.std.specs.Prelude.{Result, Ok, Err, OnOk, IfErr, IfSome, ⊤, ◌≢◌, ◌==◌, if◌then◌else◌}
 use Rattle.std.proofs.Common.{ℕ, List, [], length, ◌≡◌, ◌≤◌, ◌+◌, ◌⊎◌, Option, Some, None, refl, sym, ap, subst, ◌∙◌, inl, inr, arith}
 use Rattle.hpx_journal.specs.Entries.{Frame}
+use Rattle.hpx_value.specs.declared.profile.Profile.{Profile}
 use Rattle.hpx_journal.specs.Natives.{NothingMoves}
+use Rattle.hpx_journal.specs.Pool.{NoneFails}
 use Rattle.hpx_journal.specs.Weights.{HasRoom}
 use Rattle.hpx_journal.specs.Whole.{IsCarried, replayed}
 use Rattle.hpx_ports.specs.declared.fabric.Wire.{Wire}
@@ -14,16 +16,17 @@ use Rattle.hpx_ports.specs.Faults.{Rose}
 use Rattle.hpx_world.specs.Places.{Places}
 use Rattle.hpx_top.specs.declared.session.SessionFault.{SessionFault}
 use Rattle.hpx_top.specs.declared.session.SessionFault.TheVariants.{Read, Write, Fabric, JournalFull, OutOfMemory, BadFrame, Strange, InputFull}
-use Rattle.hpx_top.specs.Ends.{IsWhole, IsBrokenOff, IsBrokenIn, IsBrokenAtOpening, IsBegun, IsShort, IsEndedBy, IsReadFrom, IsReadUp, IsReadOn, IsInputFull}
+use Rattle.hpx_top.specs.Ends.{IsWhole, IsBegun, IsShort, IsEndedBy, IsReadFrom, IsReadUp, IsReadOn, IsInputFull}
 use Rattle.hpx_top.specs.Runs.{Ports, HasCause, HasEnded, HasServed, IsLawful, ports_of}
-use Rattle.hpx_top.specs.Session.{rules, profile, entries_in, IsAmple, IsRested}
+use Rattle.hpx_top.specs.Session.{rules, IsRested, NoneRefused}
+use Rattle.hpx_top.specs.Texts.{Said}
 use Rattle.hpx_top.specs.Statuses.{IsStatus, status_after}
 use Rattle.hpx_top.proofs.EndLemmas.{begun_nothing, read_from_none}
-use Rattle.hpx_top.proofs.FeedLemmas.{ample_profile, all_granted, all_done, on_ok, still}
+use Rattle.hpx_top.proofs.FeedLemmas.{all_granted, all_done, none_fails, on_ok, still}
 
 -- ---- the answer that a status comes of
 
-abbrev answer_at : ℕ → Result ⊤ SessionFault
+abbrev pub answer_at : ℕ → Result ⊤ SessionFault
 answer_at n =
     if n == 0 then Ok tt
     else if n == 2 then Err Read
@@ -46,7 +49,7 @@ comes_of (Err BadFrame) = refl
 comes_of (Err Strange) = refl
 comes_of (Err InputFull) = refl
 
-at : (r : Result ⊤ SessionFault) (n : ℕ) → status_after r ≡ n → r ≡ answer_at n
+pub at : (r : Result ⊤ SessionFault) (n : ℕ) → status_after r ≡ n → r ≡ answer_at n
 at r n s = comes_of r ∙ ap answer_at s
 
 -- status 0 comes of no fault
@@ -128,13 +131,13 @@ no_status r n never s = never (at r n s)
 
 -- ---- texts
 
-pub served_of : (n : ℕ) (r : Result ⊤ SessionFault) (w : Places) (input : List ℕ) (x z : Ports)
-    → IsReadFrom input z.left x.taken z.taken → OnOk r (IsWhole n input w.journal.entries x.text z.text) → OnOk r (IsReadUp input z.left)
-    → IsBegun n input w.journal.entries x.text z.text → IfErr r (λ f. IsEndedBy f n input w.journal.entries x.text z.text)
-    → (r ≡ Err OutOfMemory → IsShort n input z.left w.journal.entries x.text z.text) → (r ≡ Err Read → (count : ℕ) × IsReadOn count input z.left)
-    → (r ≡ Err InputFull → IsInputFull input z.left) → HasServed n (status_after r) input (Some w) x z
-served_of n r w input x z reads whole read_up begun ended short read_on full =
-    let P : SessionFault → Type 0 = λ f. IsEndedBy f n input w.journal.entries x.text z.text in
+pub served_of : (said : Said) (r : Result ⊤ SessionFault) (w : Places) (input : List ℕ) (x z : Ports)
+    → IsReadFrom input z.left x.taken z.taken → OnOk r (IsWhole said input w.journal.entries x.text z.text) → OnOk r (IsReadUp input z.left)
+    → IsBegun said input w.journal.entries x.text z.text → IfErr r (λ f. IsEndedBy f said input w.journal.entries x.text z.text)
+    → (r ≡ Err OutOfMemory → IsShort said input z.left w.journal.entries x.text z.text) → (r ≡ Err Read → (count : ℕ) × IsReadOn count input z.left)
+    → (r ≡ Err InputFull → IsInputFull input z.left) → HasServed said (status_after r) input (Some w) x z
+served_of said r w input x z reads whole read_up begun ended short read_on full =
+    let P : SessionFault → Type 0 = λ f. IsEndedBy f said input w.journal.entries x.text z.text in
     record {
       reads = reads;
       whole = λ s. ended_well r _ s whole;
@@ -152,13 +155,13 @@ served_of n r w input x z reads whole read_up begun ended short read_on full =
     between (inr b) f g = g b
 
 -- without a world, for want of memory, nothing was read or written
-pub served_none : (n : ℕ) (r : Result ⊤ SessionFault) (input : List ℕ) (x : Ports) → r ≡ Err OutOfMemory → x.left ≡ Some input
-    → HasServed n (status_after r) input None x x
-served_none n r input x e h = subst (λ q. HasServed n (status_after q) input None x x) (sym e) (record {
+pub served_none : (said : Said) (r : Result ⊤ SessionFault) (input : List ℕ) (x : Ports) → r ≡ Err OutOfMemory → x.left ≡ Some input
+    → HasServed said (status_after r) input None x x
+served_none said r input x e h = subst (λ q. HasServed said (status_after q) input None x x) (sym e) (record {
   reads = read_from_none input x.left x.taken h;
   whole = λ s. absurd (omega arith);
   read_up = λ s. absurd (omega arith);
-  begun = begun_nothing n input [] x.text x.text refl refl;
+  begun = begun_nothing said input [] x.text x.text refl refl;
   between_lines = λ s. absurd (neither 6 2 9 (omega arith) (omega arith) s);
   in_a_line = λ s. absurd (neither 6 4 5 (omega arith) (omega arith) s);
   short = λ s. tt;
@@ -173,20 +176,25 @@ served_none n r input x e h = subst (λ q. HasServed n (status_after q) input No
 -- ---- worlds
 
 -- what the law of a world tells, where its fabric carries
-pub lawful_of : (w : Places) (flight : Option (List Frame)) (trace : Option (List Wire)) → w.profile ≡ profile → IsWithin w.journal.entries
+pub lawful_of : (w : Places) (flight : Option (List Frame)) (trace : Option (List Wire)) → IsWithin w.journal.entries
     → (IsCarried (rules w) [] w.journal.entries → KeepsPromises (rules w) w.journal.entries)
     → (IsCarried (rules w) [] w.journal.entries → IsAudit (rules w) (replayed (rules w) w.journal.entries) (audit_lines w.nodes))
     → (NothingMoves (rules w) → IsCarried (rules w) [] w.journal.entries → StandAtHome (rules w) (replayed (rules w) w.journal.entries) (audit_lines w.nodes))
     → IsCarrying (rules w) w.hand flight trace w.journal.entries → IsLawful w flight trace
-lawful_of w flight trace tuned within promises audit at_home carrying = record {
-  profile_is = tuned;
-  granted = all_granted (length w.nodes) w.profile w.journal.entries (subst IsAmple (sym tuned) ample_profile) within.entries (promises carrying.carried);
+lawful_of w flight trace within promises audit at_home carrying = record {
+  granted = λ ample. all_granted (length w.nodes) w.profile w.journal.entries ample within.entries (promises carrying.carried);
   promises = promises carrying.carried;
   within = within;
   audit = audit carrying.carried;
   at_home = at_home (still (length w.nodes) w.profile) carrying.carried;
   carrying = carrying;
 }
+
+-- where no ask was refused, no action failed
+pub lawful_calm : (w : Places) (flight : Option (List Frame)) (trace : Option (List Wire)) (p : Profile) → w.profile ≡ p → IsLawful w flight trace
+    → NoneRefused p w.journal.entries → NoneFails w.journal.entries
+lawful_calm w flight trace p tuned law none =
+    none_fails (length w.nodes) w.profile w.journal.entries (subst (λ q. NoneRefused q w.journal.entries) (sym tuned) none) law.within.entries law.promises
 
 pub ended_of : (r : Result ⊤ SessionFault) (w : Places) → KeepsPromises (rules w) w.journal.entries → OnOk r (IsRested w) → OnOk r (HasEnded w)
 ended_of r w promises rest =

@@ -2,7 +2,7 @@
 use Rattle.std.specs.Prelude.{Result, Ok, Err, OnOk, OnErr, IfOk, IfErr}
 use Rattle.std.specs.Result.{IsErrAnd}
 use Rattle.std.specs.List.{concat, slice_get}
-use Rattle.std.proofs.Common.{ℕ, zero, suc, List, [], ◌∷◌, ◌++◌, ◌≡◌, ◌+◌, ◌<◌, ◌≤◌, length, take, drop, Option, Some, refl, sym, ap, ◌∙◌, subst, arith, append-nil, append_assoc}
+use Rattle.std.proofs.Common.{ℕ, zero, suc, List, [], ◌∷◌, ◌++◌, ◌≡◌, ◌+◌, ◌<◌, ◌≤◌, length, map, take, drop, Option, Some, refl, sym, ap, ◌∙◌, subst, arith, append-nil, append_assoc}
 use Rattle.std.proofs.lemmas.List.{take-append-drop, drop_all}
 use Rattle.std.proofs.lemmas.List.Folds.{concat-append}
 use Rattle.hpx_journal.specs.declared.entry.Entry.{Entry}
@@ -113,3 +113,56 @@ pub up_to_end : (es : List Entry) (i : ℕ) (all : List ℕ) (old new : Option (
 up_to_end es i all old new h w =
     let none : concat (prints_of (drop i es)) ≡ [] = ap (λ xs. concat (prints_of xs)) (drop_all i es h) in
     w.held ∙ ap (followed old) (sym (append-nil w.front) ∙ (ap (λ t. w.front ++ t) (sym none) ∙ w.whole))
+
+-- ---- piece after piece
+
+-- the text of the pieces from one on begins with its own
+pieces_at : {X : Type 0} (f : X → List ℕ) (xs : List X) (i : ℕ) (x : X) → drop i xs ≡ x ∷ drop (i + 1) xs
+    → concat (map f (drop i xs)) ≡ f x ++ concat (map f (drop (i + 1) xs))
+pieces_at f xs i x h = ap (λ ys. concat (map f ys)) h
+
+pub pieces_more : {X : Type 0} (f : X → List ℕ) (xs : List X) (i : ℕ) (x : X) (all : List ℕ) (old now new : Option (List ℕ)) → drop i xs ≡ x ∷ drop (i + 1) xs
+    → WritesUpTo (concat (map f (drop i xs))) all old now → new ≡ followed now (f x) → WritesUpTo (concat (map f (drop (i + 1) xs))) all old new
+pieces_more f xs i x all old now new at w held = record {
+  front = w.front ++ f x;
+  whole = append_assoc w.front (f x) (concat (map f (drop (i + 1) xs))) ∙ (ap (λ t. w.front ++ t) (sym (pieces_at f xs i x at)) ∙ w.whole);
+  held = held ∙ (ap (λ o. followed o (f x)) w.held ∙ followed_twice old w.front (f x));
+}
+
+pub pieces_front : {X : Type 0} (f : X → List ℕ) (xs : List X) (i : ℕ) (x : X) (all : List ℕ) (old now new : Option (List ℕ)) → drop i xs ≡ x ∷ drop (i + 1) xs
+    → WritesUpTo (concat (map f (drop i xs))) all old now → WritesFront (f x) now new → WritesFront all old new
+pieces_front f xs i x all old now new at w part =
+    let rest = concat (map f (drop (i + 1) xs)) in
+    record {
+      front = w.front ++ part.front;
+      begins = record {
+        later = part.begins.later ++ rest;
+        is = regroup w.front part.front part.begins.later rest
+            ∙ (ap (λ t. w.front ++ (t ++ rest)) part.begins.is ∙ (ap (λ t. w.front ++ t) (sym (pieces_at f xs i x at)) ∙ w.whole));
+      };
+      held = part.held ∙ (ap (λ o. followed o part.front) w.held ∙ followed_twice old w.front part.front);
+    }
+  where
+    regroup : (a b c d : List ℕ) → (a ++ b) ++ (c ++ d) ≡ a ++ ((b ++ c) ++ d)
+    regroup a b c d = simp append_assoc
+
+pub pieces_end : {X : Type 0} (f : X → List ℕ) (xs : List X) (i : ℕ) (all : List ℕ) (old new : Option (List ℕ)) → length xs ≤ i
+    → WritesUpTo (concat (map f (drop i xs))) all old new → new ≡ followed old all
+pieces_end f xs i all old new h w =
+    let none : concat (map f (drop i xs)) ≡ [] = ap (λ ys. concat (map f ys)) (drop_all i xs h) in
+    w.held ∙ ap (followed old) (sym (append-nil w.front) ∙ (ap (λ t. w.front ++ t) (sym none) ∙ w.whole))
+
+-- a text and a newline
+pub line_front : (text end : List ℕ) (old mid new : Option (List ℕ)) → mid ≡ followed old text → WritesFront end mid new → WritesFront (text ++ end) old new
+line_front text end old mid new held w = record {
+  front = text ++ w.front;
+  begins = record { later = w.begins.later; is = append_assoc text w.front w.begins.later ∙ ap (λ t. text ++ t) w.begins.is };
+  held = w.held ∙ (ap (λ o. followed o w.front) held ∙ followed_twice old text w.front);
+}
+
+pub front_more : (text more : List ℕ) (old new : Option (List ℕ)) → WritesFront text old new → WritesFront (text ++ more) old new
+front_more text more old new w = record {
+  front = w.front;
+  begins = record { later = w.begins.later ++ more; is = sym (append_assoc w.front w.begins.later more) ∙ ap (λ t. t ++ more) w.begins.is };
+  held = w.held;
+}

@@ -1,5 +1,5 @@
 -- What cannot come of a world over a fabric that tells, and what a fault of steps leaves.
-use Rattle.std.proofs.Common.{ℕ, List, Option, Some, None, ◌≡◌, sym, subst}
+use Rattle.std.proofs.Common.{ℕ, Option, Some, None, ◌≡◌, sym, subst}
 use Rattle.hpx_value.specs.declared.acts.Acts.{Ghosts}
 use Rattle.hpx_value.specs.declared.acts.Done.{Done}
 use Rattle.hpx_parcel.specs.declared.parcel.Why.{Why}

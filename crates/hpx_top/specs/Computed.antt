@@ -17,14 +17,14 @@ use Rattle.hpx_top.specs.Session.{lines_fed, Feeds, FeedsAtMost, WritesFront}
 -- the one line that is fed for a task, if it has one
 abbrev pub task_line : Task → Option (List ℕ)
 task_line Accumulator = None
-task_line (Fib question n) = Some (fed_line question.number question.threshold)
-task_line (Stencil shape n) = Some (ring_fed shape.points shape.parts shape.steps)
+task_line (Fib question) = Some (fed_line question.number question.threshold)
+task_line (Stencil shape) = Some (ring_fed shape.points shape.parts shape.steps)
 
 -- what it prints
 abbrev pub task_texts : Task → List (List ℕ)
 task_texts Accumulator = []
-task_texts (Fib question n) = fib_text question.number ∷ []
-task_texts (Stencil shape n) = stencil_texts shape.points shape.steps
+task_texts (Fib question) = fib_text question.number ∷ []
+task_texts (Stencil shape) = stencil_texts shape.points shape.steps
 
 -- the line was fed, all that follows from it was done, and what was printed was written
 pub record IsAnswered (r : Rules) (line : List ℕ) (entries : List Entry) (old new : Option (List ℕ)) : Type 0 where

@@ -1,4 +1,4 @@
--- What a run at n localities has done where it ends, over the bytes of its input.
+-- What a run has done where it ends, over the bytes of its input, by what is said for its lines.
 use Rattle.std.specs.Prelude.{ℕ, true, false, Option, Some, List, [], ◌∷◌, ◌++◌, ◌≡◌, ◌+◌, ◌<◌, ◌≤◌, ◌⊎◌, length}
 use Rattle.std.specs.List.{list_any, slice_split}
 use Rattle.hpx_journal.specs.declared.entry.Entry.{Entry}
@@ -6,36 +6,36 @@ use Rattle.hpx_ports.specs.Told.{followed}
 use Rattle.hpx_top.specs.declared.session.SessionFault.{SessionFault}
 use Rattle.hpx_top.specs.declared.session.SessionFault.TheVariants.{Read, Write, OutOfMemory, InputFull}
 use Rattle.app_console.specs.Lines.{IsFront, is_long, is_quit, is_newline, IsPiece, lines_in, lines_of, quits, opening}
-use Rattle.hpx_top.specs.Texts.{commands, fed, text_of}
+use Rattle.hpx_top.specs.Texts.{Said, commands, fed, text_by}
 use Rattle.hpx_top.specs.Reader.{behind}
 use Rattle.hpx_top.specs.Session.{lines_fed, HasFed, AllButOne}
 
 -- the lines of the input were fed, up to its end or to `quit`, and the whole text was written
-pub record IsWhole (n : ℕ) (input : List ℕ) (entries : List Entry) (old new : Option (List ℕ)) : Type 0 where
+pub record IsWhole (said : Said) (input : List ℕ) (entries : List Entry) (old new : Option (List ℕ)) : Type 0 where
   pub lines : lines_fed entries ≡ fed (lines_of input)
-  pub text : new ≡ followed old (text_of n (lines_of input))
+  pub text : new ≡ followed old (text_by said (lines_of input))
 
 -- The first lines of the input were handled, and the text is theirs, with the prompt behind it. Of the next lines at most so
 -- many were fed.
-pub record IsBrokenOff (n most : ℕ) (input : List ℕ) (entries : List Entry) (old new : Option (List ℕ)) : Type 0 where
+pub record IsBrokenOff (said : Said) (most : ℕ) (input : List ℕ) (entries : List Entry) (old new : Option (List ℕ)) : Type 0 where
   pub handled : List (List ℕ)
   pub next : List (List ℕ)
   pub later : List (List ℕ)
   pub first : lines_of input ≡ (handled ++ next) ++ later
   pub few : length next ≤ most
   pub lines : lines_fed entries ≡ fed (handled ++ next)
-  pub text : new ≡ followed old (text_of n handled)
+  pub text : new ≡ followed old (text_by said handled)
 
 -- The first lines of the input were handled, and the text is theirs, with the prompt behind it. The next line, which is not
 -- too long, was to be fed, or was fed and what follows from it was to be done.
-pub record IsBrokenIn (n : ℕ) (input : List ℕ) (entries : List Entry) (old new : Option (List ℕ)) : Type 0 where
+pub record IsBrokenIn (said : Said) (input : List ℕ) (entries : List Entry) (old new : Option (List ℕ)) : Type 0 where
   pub handled : List (List ℕ)
   pub line : List ℕ
   pub later : List (List ℕ)
   pub first : lines_of input ≡ handled ++ line ∷ later
   pub short : is_long line ≡ false
   pub lines : (lines_fed entries ≡ fed handled) ⊎ (lines_fed entries ≡ fed (handled ++ line ∷ []))
-  pub text : new ≡ followed old (text_of n handled)
+  pub text : new ≡ followed old (text_by said handled)
 
 -- Behind the first text the accumulator was to be made: the line for it was to be fed, or was fed and what follows from it was to
 -- be done. No line of the input was handled.
@@ -45,16 +45,16 @@ pub record IsBrokenAtOpening (entries : List Entry) (old new : Option (List ℕ)
 
 -- The first lines of the input were fed. What was written begins the whole text, and comes of no line behind them. It is whole for
 -- all of them but the last, or nothing was fed at all.
-pub record IsBegun (n : ℕ) (input : List ℕ) (entries : List Entry) (old new : Option (List ℕ)) : Type 0 where
+pub record IsBegun (said : Said) (input : List ℕ) (entries : List Entry) (old new : Option (List ℕ)) : Type 0 where
   pub handled : List (List ℕ)
   pub later : List (List ℕ)
   pub first : lines_of input ≡ handled ++ later
   pub lines : HasFed handled entries
   pub text : List ℕ
   pub is : new ≡ followed old text
-  pub theirs : IsFront text (text_of n handled)
-  pub begins : IsFront text (text_of n (lines_of input))
-  pub almost : (lines_fed entries ≡ []) ⊎ AllButOne n handled text
+  pub theirs : IsFront text (text_by said handled)
+  pub begins : IsFront text (text_by said (lines_of input))
+  pub almost : (lines_fed entries ≡ []) ⊎ AllButOne said handled text
 
 -- The first bytes of the input were read, as many as the count of the source rose by, and the others are left.
 pub record IsReadFrom (input : List ℕ) (left : Option (List ℕ)) (before after : ℕ) : Type 0 where
@@ -97,14 +97,14 @@ pub record IsFullBehind (lines : ℕ) (input : List ℕ) (left : Option (List �
   pub no_line : IsPiece piece
 
 -- Memory was wanting at a line, or as the accumulator was made; not where the input is full behind the lines that were handled.
-abbrev pub IsShort : ℕ → List ℕ → Option (List ℕ) → List Entry → Option (List ℕ) → Option (List ℕ) → Type 0
-IsShort n input left entries old new =
-    ((b : IsBrokenOff n 1 input entries old new) × (IsFullBehind (length b.handled) input left → ⊥)) ⊎ IsBrokenAtOpening entries old new
+abbrev pub IsShort : Said → List ℕ → Option (List ℕ) → List Entry → Option (List ℕ) → Option (List ℕ) → Type 0
+IsShort said input left entries old new =
+    ((b : IsBrokenOff said 1 input entries old new) × (IsFullBehind (length b.handled) input left → ⊥)) ⊎ IsBrokenAtOpening entries old new
 
 -- how a session was broken off: at a write anywhere, otherwise behind a prompt, or in the line behind it, or where the accumulator is made
-abbrev pub IsEndedBy : SessionFault → ℕ → List ℕ → List Entry → Option (List ℕ) → Option (List ℕ) → Type 0
-IsEndedBy Write n input entries old new = IsBegun n input entries old new
-IsEndedBy Read n input entries old new = IsBrokenOff n 0 input entries old new
-IsEndedBy InputFull n input entries old new = IsBrokenOff n 0 input entries old new
-IsEndedBy OutOfMemory n input entries old new = IsBrokenOff n 1 input entries old new ⊎ IsBrokenAtOpening entries old new
-IsEndedBy _ n input entries old new = IsBrokenIn n input entries old new ⊎ IsBrokenAtOpening entries old new
+abbrev pub IsEndedBy : SessionFault → Said → List ℕ → List Entry → Option (List ℕ) → Option (List ℕ) → Type 0
+IsEndedBy Write said input entries old new = IsBegun said input entries old new
+IsEndedBy Read said input entries old new = IsBrokenOff said 0 input entries old new
+IsEndedBy InputFull said input entries old new = IsBrokenOff said 0 input entries old new
+IsEndedBy OutOfMemory said input entries old new = IsBrokenOff said 1 input entries old new ⊎ IsBrokenAtOpening entries old new
+IsEndedBy _ said input entries old new = IsBrokenIn said input entries old new ⊎ IsBrokenAtOpening entries old new

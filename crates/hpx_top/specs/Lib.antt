@@ -8,4 +8,5 @@ pub mod Session
 pub mod Ends
 pub mod Statuses
 pub mod Computed
+pub mod Printed
 pub mod Runs

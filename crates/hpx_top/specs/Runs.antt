@@ -1,6 +1,8 @@
 -- What a run leaves: its world, and what it did with its ports, by the status that it ends with.
 use Rattle.std.specs.Prelude.{ℕ, Option, Some, IfSome, List, length, ◌≡◌, ◌≢◌, ◌⊎◌, ◌+◌, ◌<◌, ◌≤◌}
+use Rattle.hpx_value.specs.declared.profile.Profile.{Profile}
 use Rattle.hpx_journal.specs.Entries.{Frame}
+use Rattle.hpx_journal.specs.Pool.{prints_of}
 use Rattle.hpx_journal.specs.Weights.{HasRoom}
 use Rattle.hpx_journal.specs.Whole.{replayed}
 use Rattle.hpx_steps.specs.Limits.{IsWithin}
@@ -15,8 +17,10 @@ use Rattle.hpx_top.specs.declared.task.Task.{Task}
 use Rattle.hpx_top.specs.declared.task.Task.TheVariants.{Accumulator}
 use Rattle.hpx_top.specs.Computed.{HasComputed, task_line, task_texts}
 use Rattle.hpx_top.specs.Ends.{IsWhole, IsBrokenOff, IsBrokenIn, IsBrokenAtOpening, IsBegun, IsShort, IsReadFrom, IsReadUp, IsReadOn, IsInputFull}
-use Rattle.hpx_top.specs.Session.{rules, profile, entries_in, AllGranted, AllDone, IsRested, WritesFront}
-use Rattle.hpx_top.specs.Usage.{places_of}
+use Rattle.hpx_top.specs.Session.{rules, entries_in, IsAmple, NoneRefused, AllGranted, AllDone, IsRested, WritesFront, shown_in}
+use Rattle.hpx_top.specs.declared.task.Setup.{Setup}
+use Rattle.hpx_top.specs.Printed.{HasCounted}
+use Rattle.hpx_top.specs.Texts.{Said, lines_text}
 
 -- ---- ports
 
@@ -69,35 +73,49 @@ pub record HasCause (status : ℕ) (world : Option Places) (x z : Ports) : Type 
 
 -- ---- texts
 
--- what the accumulator's console over n localities read and wrote of this input
-pub record HasServed (n status : ℕ) (input : List ℕ) (world : Option Places) (x z : Ports) : Type 0 where
+-- what the accumulator's console read and wrote of this input, by what is said for its lines
+pub record HasServed (said : Said) (status : ℕ) (input : List ℕ) (world : Option Places) (x z : Ports) : Type 0 where
   pub reads : IsReadFrom input z.left x.taken z.taken
-  pub whole : status ≡ 0 → IsWhole n input (entries_in world) x.text z.text
+  pub whole : status ≡ 0 → IsWhole said input (entries_in world) x.text z.text
   pub read_up : status ≡ 0 → IsReadUp input z.left
-  pub begun : IsBegun n input (entries_in world) x.text z.text
-  pub between_lines : (status ≡ 2) ⊎ (status ≡ 9) → IsBrokenOff n 0 input (entries_in world) x.text z.text
-  pub in_a_line : (status ≡ 4) ⊎ (status ≡ 5) → IsBrokenIn n input (entries_in world) x.text z.text ⊎ IsBrokenAtOpening (entries_in world) x.text z.text
-  pub short : status ≡ 6 → IfSome world (λ w. IsShort n input z.left w.journal.entries x.text z.text)
+  pub begun : IsBegun said input (entries_in world) x.text z.text
+  pub between_lines : (status ≡ 2) ⊎ (status ≡ 9) → IsBrokenOff said 0 input (entries_in world) x.text z.text
+  pub in_a_line : (status ≡ 4) ⊎ (status ≡ 5) → IsBrokenIn said input (entries_in world) x.text z.text ⊎ IsBrokenAtOpening (entries_in world) x.text z.text
+  pub short : status ≡ 6 → IfSome world (λ w. IsShort said input z.left w.journal.entries x.text z.text)
   pub read_on : status ≡ 2 → (count : ℕ) × IsReadOn count input z.left
   pub full : status ≡ 9 → IsInputFull input z.left
 
--- what was done of a task: the console served its input; of an application that computes its texts were written, and nothing was read;
--- of either it is said how far the input was read
-pub record HasDone (task : Task) (status : ℕ) (world : Option Places) (x z : Ports) : Type 0 where
-  pub places : IfSome world (λ w. length w.nodes ≡ places_of task)
-  pub computed : (line : List ℕ) → task_line task ≡ Some line → HasComputed line (task_texts task) status (entries_in world) x.text z.text
+-- What was done of a task at n localities: the console served its input; an application that computes read nothing. What was
+-- written is what the journal printed; and where no ask for credit was refused, that is what one plain space says, or what was to
+-- be computed.
+pub record HasDone (task : Task) (n : ℕ) (p : Profile) (status : ℕ) (world : Option Places) (x z : Ports) : Type 0 where
+  pub shown : (line : List ℕ) → task_line task ≡ Some line
+      → HasComputed line (prints_of (entries_in world)) status (entries_in world) x.text z.text
+  pub computed : NoneRefused p (entries_in world) → (line : List ℕ) → task_line task ≡ Some line
+      → HasComputed line (task_texts task) status (entries_in world) x.text z.text
   pub unread : (line : List ℕ) → task_line task ≡ Some line → (z.left ≡ x.left) × (z.taken ≡ x.taken) × (z.read_faults ≡ x.read_faults)
   pub no_read : (line : List ℕ) → task_line task ≡ Some line → (status ≢ 2) × (status ≢ 9)
   pub reads : (input : List ℕ) → x.left ≡ Some input → IsReadFrom input z.left x.taken z.taken
-  pub served : task ≡ Accumulator → (input : List ℕ) → x.left ≡ Some input → HasServed 2 status input world x z
+  pub served : task ≡ Accumulator → (input : List ℕ) → x.left ≡ Some input → HasServed (shown_in (entries_in world)) status input world x z
+  pub served_plainly : NoneRefused p (entries_in world) → task ≡ Accumulator → (input : List ℕ) → x.left ≡ Some input
+      → HasServed (lines_text n) status input world x z
+
+-- What was done of a setup: first its task, which ended with a status, and left the ports so; then the values of the counters were
+-- written.
+pub record HasRun (setup : Setup) (status : ℕ) (world : Option Places) (x z : Ports) : Type 0 where
+  pub places : IfSome world (λ w. (length w.nodes ≡ setup.localities) × (w.profile ≡ setup.profile))
+  pub ended : ℕ
+  pub mid : Ports
+  pub did : HasDone setup.task setup.localities setup.profile ended world x mid
+  pub still : z ≡ record mid { text = z.text; write_faults = z.write_faults }
+  pub counted : HasCounted setup.counters.items status ended (entries_in world) mid.text z.text
 
 -- ---- worlds
 
--- What holds of a world wherever a run ends: the profile is the program's, no ask for credit was refused and no action failed, the
--- journal keeps all that is promised of it, and the fabric has carried what it says.
+-- What holds of a world wherever a run ends: where the limit of credit is high no ask was refused and no action failed, the journal
+-- keeps all that is promised of it, and the fabric has carried what it says.
 pub record IsLawful (w : Places) (flight : Option (List Frame)) (trace : Option (List Wire)) : Type 0 where
-  pub profile_is : w.profile ≡ profile
-  pub granted : AllGranted w.journal.entries
+  pub granted : IsAmple w.profile → AllGranted w.journal.entries
   pub promises : KeepsPromises (rules w) w.journal.entries
   pub within : IsWithin w.journal.entries
   pub audit : IsAudit (rules w) (replayed (rules w) w.journal.entries) (audit_lines w.nodes)

@@ -1,5 +1,5 @@
 -- How far a session has come: the lines that were handled, what was fed for them, and what was written.
-use Rattle.std.specs.Prelude.{ℕ, Bool, true, false, Option, Some, None, IfSome, List, [], ◌∷◌, ◌++◌, ◌≡◌, ◌+◌, ◌≤◌, ◌^◌, ◌⊎◌, length, drop}
+use Rattle.std.specs.Prelude.{ℕ, Bool, true, false, Option, Some, None, IfSome, List, [], ◌∷◌, ◌++◌, ◌≡◌, ◌+◌, ◌≤◌, ◌^◌, ◌⊎◌, length, drop, if◌then◌else◌}
 use Rattle.std.specs.Option.{option_map}
 use Rattle.std.specs.List.{concat, list_any}
 use Rattle.hpx_value.specs.declared.profile.Profile.{Profile}
@@ -10,14 +10,15 @@ use Rattle.hpx_journal.specs.declared.entry.Event.TheVariants.{Line}
 use Rattle.hpx_journal.specs.Entries.{Rules}
 use Rattle.hpx_journal.specs.Whole.{IsLegal, replayed}
 use Rattle.hpx_journal.specs.Laws.{begun, fires, dones, count_events, is_refused_count}
-use Rattle.hpx_journal.specs.Pool.{NoneFails, prints_of}
+use Rattle.hpx_journal.specs.Pool.{NoneFails, prints_by, prints_of}
 use Rattle.hpx_journal.specs.Sessions.{IsSession, IsSettled, BeginsWith, entries_of}
 use Rattle.hpx_ports.specs.Told.{preceded, followed}
 use Rattle.hpx_world.specs.Places.{Places, rules_in}
 use Rattle.hpx_world.specs.Quiet.{IsQuiet, IsAtRest}
-use Rattle.app_console.specs.Lines.{IsFront, is_long, is_quit, IsPiece, before_quit, opening}
+use Rattle.app_console.specs.Lines.{IsFront, is_long, is_quit, IsPiece, before_quit, opening, others_of}
+use Rattle.app_console.specs.Text.{written}
 use Rattle.hpx_top.specs.Acts.{act_of}
-use Rattle.hpx_top.specs.Texts.{commands, fed, lines_text, text_of}
+use Rattle.hpx_top.specs.Texts.{Said, commands, fed, lines_text, text_by}
 use Rattle.hpx_top.specs.declared.session.SessionFault.{SessionFault}
 use Rattle.hpx_top.specs.declared.session.SessionFault.TheVariants.{Read, Write, OutOfMemory, InputFull}
 use Rattle.hpx_top.specs.Reader.{Reading, input_left, lines_left, bytes_left, behind}
@@ -33,14 +34,14 @@ pub record IsAmple (p : Profile) : Type 0 where
   pub log : p.credit_log ≤ 31
   pub limit : 2 ^ 53 ≤ p.credit_limit
 
--- the credit of a new object is the most that an id can have, and no count comes near the greatest one
-abbrev pub profile : Profile
-profile = record { credit_log = 31; credit_limit = 2 ^ 100; cache = 64 }
-
 -- no ask for credit was refused, and no action failed
 pub record AllGranted (entries : List Entry) : Type 0 where
   pub asks : count_events is_refused_count entries ≡ 0
   pub actions : NoneFails entries
+
+-- none was refused, or none can be by this profile
+abbrev pub NoneRefused : Profile → List Entry → Type 0
+NoneRefused p entries = IsAmple p ⊎ (count_events is_refused_count entries ≡ 0)
 
 -- each action that was fed or sent was fired, and is done
 pub record AllDone (entries : List Entry) : Type 0 where
@@ -69,9 +70,34 @@ abbrev pub lines_fed : List Entry → List (List ℕ)
 lines_fed [] = []
 lines_fed (e ∷ es) = lines_by e.event ++ lines_fed es
 
--- the journal grew by at most one Line entry, of this text
+-- an event feeds a line
+abbrev pub is_line : Event → Bool
+is_line (Line a bytes) = true
+is_line _ = false
+
+-- what is printed before the next line is fed
+abbrev pub prints_first : List Entry → List (List ℕ)
+prints_first [] = []
+prints_first (e ∷ es) = if is_line e.event then [] else prints_by e.event ++ prints_first es
+
+-- for each line that was fed, in order, what was printed before the next
+abbrev pub texts_fed : List Entry → List (List (List ℕ))
+texts_fed [] = []
+texts_fed (e ∷ es) = if is_line e.event then prints_first es ∷ texts_fed es else texts_fed es
+
+-- what is said for lines by a journal: for each a prompt, and what the journal printed once it was fed
+abbrev pub shown_in : List Entry → Said
+shown_in entries lines = written lines (others_of (texts_fed entries))
+
+-- the journal grew by what follows from a text that was fed
+pub record IsFed (text : List ℕ) (old new : List Entry) : Type 0 where
+  pub block : List Entry
+  pub is : new ≡ old ++ block
+  pub begins : BeginsWith text block
+
+-- or it stands
 abbrev pub FeedsAtMost : List ℕ → List Entry → List Entry → Type 0
-FeedsAtMost text old new = (lines_fed new ≡ lines_fed old) ⊎ (lines_fed new ≡ lines_fed old ++ text ∷ [])
+FeedsAtMost text old new = (new ≡ old) ⊎ IsFed text old new
 
 -- what is fed for these lines was fed, or there are none and nothing was fed at all
 abbrev pub HasFed : List (List ℕ) → List Entry → Type 0
@@ -91,21 +117,23 @@ pub record WritesUpTo (rest bytes : List ℕ) (old new : Option (List ℕ)) : Ty
   pub whole : front ++ rest ≡ bytes
   pub held : new ≡ followed old front
 
--- the journal grew by what a text did: it was fed, and then nothing was left to do; no action failed
+-- what is said of the lines of a journal: by the journal, and where no action failed, by one plain space at n localities
+abbrev pub Tells : ℕ → List Entry → Said → Type 0
+Tells n entries said = (said ≡ shown_in entries) ⊎ (NoneFails entries × (said ≡ lines_text n))
+
+-- the journal grew by what a text did: it was fed, and then nothing was left to do
 pub record Feeds (r : Rules) (text : List ℕ) (old new : List Entry) : Type 0 where
   pub block : List Entry
   pub is : new ≡ old ++ block
   pub begins : BeginsWith text block
   pub legal : IsLegal r new
   pub settled : IsSettled r (replayed r new)
-  pub calm : NoneFails new
 
--- the journal is a session of these lines, and no action failed
+-- the journal is a session of these lines
 pub record IsJournalOf (r : Rules) (lines : List (List ℕ)) (entries : List Entry) : Type 0 where
   pub blocks : List (List Entry)
   pub session : IsSession r [] (fed lines) blocks
   pub entries_are : entries ≡ entries_of blocks
-  pub calm : NoneFails entries
 
 -- the first lines of an input were handled, none of them a quit, and the rest is left
 pub record HandsOut (all left : Option (List (List ℕ))) (lines : List (List ℕ)) : Type 0 where
@@ -119,7 +147,7 @@ pub record IsServing (r : Rules) (all : Option (List (List ℕ))) (before : Opti
   pub handled : HandsOut all (lines_left reading left) lines
   pub few : length lines + bytes_left reading ≤ 67108864
   pub journal : IsJournalOf r lines entries
-  pub held : now ≡ followed before (commands ++ lines_text r.localities lines)
+  pub held : now ≡ followed before (commands ++ shown_in entries lines)
 
 -- so many were handled
 abbrev pub IsServingAt : ℕ → Rules → Option (List (List ℕ)) → Option (List ℕ) → Reading → Option (List ℕ) → List Entry → Option (List ℕ) → Type 0
@@ -133,28 +161,28 @@ pub record IsHandling (r : Rules) (bytes : Option (List ℕ)) (all : Option (Lis
   pub behind_is : input_left reading left ≡ option_map (behind count) bytes
 
 -- After a prompt: the text is that of the lines that were handled. Of the lines behind them one may have been fed.
-pub record IsCut (n most : ℕ) (all : Option (List (List ℕ))) (before : Option (List ℕ)) (entries : List Entry) (now : Option (List ℕ)) : Type 0 where
+pub record IsCut (said : Said) (most : ℕ) (all : Option (List (List ℕ))) (before : Option (List ℕ)) (entries : List Entry) (now : Option (List ℕ)) : Type 0 where
   pub lines : List (List ℕ)
   pub next : List (List ℕ)
   pub left : Option (List (List ℕ))
   pub handled : HandsOut all left (lines ++ next)
   pub few : length next ≤ most
   pub journal : lines_fed entries ≡ fed (lines ++ next)
-  pub held : now ≡ followed before (text_of n lines)
+  pub held : now ≡ followed before (text_by said lines)
 
 -- so many were handled
-abbrev pub IsCutAt : ℕ → ℕ → ℕ → Option (List (List ℕ)) → Option (List ℕ) → List Entry → Option (List ℕ) → Type 0
-IsCutAt count n most all before entries now = (c : IsCut n most all before entries now) × (length c.lines ≡ count)
+abbrev pub IsCutAt : ℕ → Said → ℕ → Option (List (List ℕ)) → Option (List ℕ) → List Entry → Option (List ℕ) → Type 0
+IsCutAt count said most all before entries now = (c : IsCut said most all before entries now) × (length c.lines ≡ count)
 
 -- In a line behind a prompt: the text is that of the lines before it. It is not too long, and it may have been fed.
-pub record IsCutIn (n : ℕ) (all : Option (List (List ℕ))) (before : Option (List ℕ)) (entries : List Entry) (now : Option (List ℕ)) : Type 0 where
+pub record IsCutIn (said : Said) (all : Option (List (List ℕ))) (before : Option (List ℕ)) (entries : List Entry) (now : Option (List ℕ)) : Type 0 where
   pub lines : List (List ℕ)
   pub line : List ℕ
   pub left : Option (List (List ℕ))
   pub handled : HandsOut all left (lines ++ line ∷ [])
   pub short : is_long line ≡ false
   pub journal : (lines_fed entries ≡ fed lines) ⊎ (lines_fed entries ≡ fed (lines ++ line ∷ []))
-  pub held : now ≡ followed before (text_of n lines)
+  pub held : now ≡ followed before (text_by said lines)
 
 -- Behind the first text, before the first prompt: the accumulator is to be made, and the line for it may have been fed.
 pub record IsCutAtOpening (before : Option (List ℕ)) (entries : List Entry) (now : Option (List ℕ)) : Type 0 where
@@ -162,31 +190,31 @@ pub record IsCutAtOpening (before : Option (List ℕ)) (entries : List Entry) (n
   pub held : now ≡ followed before commands
 
 -- after the last prompt: all lines were handled, up to the end or to a quit
-pub record IsOver (n : ℕ) (ended : Bool) (all : Option (List (List ℕ))) (before : Option (List ℕ)) (entries : List Entry) (now : Option (List ℕ)) : Type 0 where
+pub record IsOver (said : Said) (ended : Bool) (all : Option (List (List ℕ))) (before : Option (List ℕ)) (entries : List Entry) (now : Option (List ℕ)) : Type 0 where
   pub lines : List (List ℕ)
   pub left : Option (List (List ℕ))
   pub handled : HandsOut all left lines
   pub last : IfSome left (λ others. before_quit others ≡ [])
   pub read_up : (ended ≡ true) ⊎ IfSome all (λ lines. list_any is_quit lines ≡ true)
   pub journal : lines_fed entries ≡ fed lines
-  pub held : now ≡ followed before (text_of n lines)
+  pub held : now ≡ followed before (text_by said lines)
 
 -- the text of these lines, or of all but the last of them, was written whole
-pub record AllButOne (n : ℕ) (lines : List (List ℕ)) (text : List ℕ) : Type 0 where
+pub record AllButOne (said : Said) (lines : List (List ℕ)) (text : List ℕ) : Type 0 where
   pub done : List (List ℕ)
   pub last : List (List ℕ)
   pub parts : lines ≡ done ++ last
   pub few : length last ≤ 1
-  pub written : IsFront (commands ++ lines_text n done) text
+  pub written : IsFront (commands ++ said done) text
 
 -- wherever a session ends: what was written is the front of what the lines that were fed print, and is whole for all but the last
-pub record IsUnderWay (n : ℕ) (all : Option (List (List ℕ))) (before : Option (List ℕ)) (entries : List Entry) (now : Option (List ℕ)) : Type 0 where
+pub record IsUnderWay (said : Said) (all : Option (List (List ℕ))) (before : Option (List ℕ)) (entries : List Entry) (now : Option (List ℕ)) : Type 0 where
   pub lines : List (List ℕ)
   pub left : Option (List (List ℕ))
   pub handled : HandsOut all left lines
   pub journal : HasFed lines entries
-  pub written : WritesFront (text_of n lines) before now
-  pub almost : (lines_fed entries ≡ []) ⊎ AllButOne n lines written.front
+  pub written : WritesFront (text_by said lines) before now
+  pub almost : (lines_fed entries ≡ []) ⊎ AllButOne said lines written.front
 
 -- the bytes that may be read were read, and behind the lines that were handled they hold no whole line
 pub record IsStopped (all : Option (List (List ℕ))) (reading : Reading) (left : Option (List ℕ)) : Type 0 where
@@ -205,9 +233,9 @@ IsLineEndedBy InputFull r line old new before now = ⊥
 IsLineEndedBy _ r line old new before now = FeedsAtMost (97 ∷ line) old new × (now ≡ before)
 
 -- a session was broken off: at a write anywhere, otherwise behind a prompt, or in the line behind it
-abbrev pub IsCutBy : SessionFault → ℕ → Option (List (List ℕ)) → Option (List ℕ) → List Entry → Option (List ℕ) → Type 0
-IsCutBy Write n all before entries now = IsUnderWay n all before entries now
-IsCutBy Read n all before entries now = IsCut n 0 all before entries now
-IsCutBy InputFull n all before entries now = IsCut n 0 all before entries now
-IsCutBy OutOfMemory n all before entries now = IsCut n 1 all before entries now
-IsCutBy _ n all before entries now = IsCutIn n all before entries now
+abbrev pub IsCutBy : SessionFault → Said → Option (List (List ℕ)) → Option (List ℕ) → List Entry → Option (List ℕ) → Type 0
+IsCutBy Write said all before entries now = IsUnderWay said all before entries now
+IsCutBy Read said all before entries now = IsCut said 0 all before entries now
+IsCutBy InputFull said all before entries now = IsCut said 0 all before entries now
+IsCutBy OutOfMemory said all before entries now = IsCut said 1 all before entries now
+IsCutBy _ said all before entries now = IsCutIn said all before entries now

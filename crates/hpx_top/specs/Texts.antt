@@ -11,13 +11,17 @@ use Rattle.app_console.specs.Text.{marked, lines_text as lines_text_in}
 abbrev pub commands : List ℕ
 commands = help_of AccumulatorConsole
 
--- once the accumulator has been made: for each line a prompt, and what it prints
-abbrev pub lines_text : ℕ → List (List ℕ) → List ℕ
+-- what is said behind it for the lines of an input: for each a prompt, and what it prints
+abbrev pub Said : Type 0
+Said = List (List ℕ) → List ℕ
+
+-- by one plain space, once the accumulator has been made
+abbrev pub lines_text : ℕ → Said
 lines_text n lines = lines_text_in AccumulatorConsole n (opened n) lines
 
 -- the whole text, with one prompt more at the end
-abbrev pub text_of : ℕ → List (List ℕ) → List ℕ
-text_of n lines = commands ++ (lines_text n lines ++ prompt)
+abbrev pub text_by : Said → List (List ℕ) → List ℕ
+text_by said lines = commands ++ (said lines ++ prompt)
 
 -- all lines that are fed: the console's own, and those of the user that are not too long, each after the mark `a`
 abbrev pub fed : List (List ℕ) → List (List ℕ)

@@ -1,30 +1,36 @@
 -- The words that the program takes, and what they ask for.
-use Rattle.std.specs.Prelude.{ℕ, Bool, true, false, not, nat_le, ◌&&◌, ◌==◌, ◌≤◌, ◌^◌, ◌%◌, List, Option, Some, None, Result, Ok, Err, if◌then◌else◌}
+use Rattle.std.specs.Prelude.{ℕ, Bool, true, false, not, nat_le, ◌&&◌, ◌==◌, ◌≤◌, ◌^◌, ◌%◌, List, Option, Some, None, option_map, Result, Ok, Err, if◌then◌else◌}
 use Rattle.hpx_value.specs.declared.profile.Profile.{Profile}
+use Rattle.hpx_value.specs.Profiles.{IsValid}
 use Rattle.hpx_options.specs.declared.settings.App.{App}
 use Rattle.hpx_options.specs.declared.settings.App.TheVariants as Apps
 use Rattle.hpx_options.specs.declared.settings.Mode.{Mode}
 use Rattle.hpx_options.specs.declared.settings.Mode.TheVariants.{Hosted}
 use Rattle.hpx_options.specs.declared.settings.Settings.{Settings}
-use Rattle.hpx_options.specs.Meanings.{Reading, Means, BadWord, is_empty, reading_of}
+use Rattle.hpx_options.specs.Meanings.{Reading, Means, BadWord, reading_of}
 use Rattle.app_compute.specs.FibLaw.{IsQuestion}
 use Rattle.app_compute.specs.StencilLaw.{IsAsked}
 use Rattle.hpx_top.specs.declared.task.Task.{Task}
 use Rattle.hpx_top.specs.declared.task.Task.TheVariants.{Accumulator, Fib, Stencil}
+use Rattle.hpx_top.specs.declared.task.Setup.{Setup}
+use Rattle.hpx_top.specs.declared.task.Notice.{Notice}
+use Rattle.hpx_top.specs.declared.task.Notice.TheVariants.{Help, Version, Counters}
+use Rattle.hpx_top.specs.declared.task.Request.{Request}
+use Rattle.hpx_top.specs.declared.task.Request.TheVariants.{Print, Run}
 
 abbrev pub is_alone : Mode → Bool
 is_alone Hosted = true
 is_alone _ = false
 
--- nothing of credit and cache was given, or what stands for nothing
-abbrev pub is_usual : Profile → Bool
-is_usual p = (p.credit_log == 31) && (p.credit_limit == 2 ^ 100) && (p.cache == 64)
+-- credit and cache in their ranges
+abbrev pub is_tuned : Profile → Bool
+is_tuned p =
+    nat_le 8 p.credit_log && nat_le p.credit_log 31 && nat_le (2 ^ p.credit_log) p.credit_limit && nat_le p.credit_limit (2 ^ 100)
+    && nat_le 1 p.cache && nat_le p.cache 4096
 
--- in one process on one thread, without counters or a journal that is written
+-- in one process on one thread, without a journal that is written
 abbrev pub is_plain : Settings → Bool
-is_plain settings =
-    (settings.threads == 1) && is_alone settings.mode && is_usual settings.profile && is_empty settings.counters && not settings.settle
-    && not settings.journal
+is_plain settings = (settings.threads == 1) && is_alone settings.mode && not settings.settle && not settings.journal
 
 -- a number up to 92, and a threshold from 2 to 92
 abbrev pub are_asked : ℕ → ℕ → Bool
@@ -38,46 +44,81 @@ is_ring points parts steps =
 abbrev pub are_places : ℕ → Bool
 are_places n = nat_le 1 n && nat_le n 64
 
--- what is built: the accumulator over two localities, and Fibonacci numbers and rings over any number of them
-abbrev pub task_by : App → ℕ → Option Task
-task_by Apps.Accumulator n = if n == 2 then Some Accumulator else None
-task_by (Apps.Fib number threshold) n =
-    if are_asked number threshold && are_places n then Some (Fib (record { number = number; threshold = threshold }) n) else None
-task_by (Apps.Stencil points parts steps) n =
-    if is_ring points parts steps && are_places n then Some (Stencil (record { points = points; parts = parts; steps = steps }) n) else None
-task_by _ n = None
+-- the application, where it is built: the accumulator, Fibonacci numbers, and rings
+abbrev pub task_of : App → Option Task
+task_of Apps.Accumulator = Some Accumulator
+task_of (Apps.Fib number threshold) = if are_asked number threshold then Some (Fib (record { number = number; threshold = threshold })) else None
+task_of (Apps.Stencil points parts steps) =
+    if is_ring points parts steps then Some (Stencil (record { points = points; parts = parts; steps = steps })) else None
+task_of _ = None
 
-abbrev pub task_of : Settings → Option Task
-task_of settings = if is_plain settings then task_by settings.app settings.localities else None
+abbrev pub setup_with : Settings → Task → Setup
+setup_with settings task =
+    record { task = task; localities = settings.localities; profile = settings.profile; counters = settings.counters }
+
+-- what is run, where it is built
+abbrev pub setup_of : Settings → Option Setup
+setup_of settings =
+    if is_plain settings && are_places settings.localities && is_tuned settings.profile
+    then option_map (setup_with settings) (task_of settings.app) else None
+
+-- what is printed, or run; help, the version and the list of counters look at nothing else
+abbrev pub request_by : Settings → App → Option Request
+request_by settings Apps.Help = Some (Print Help)
+request_by settings Apps.Version = Some (Print Version)
+request_by settings Apps.ListCounters = if are_places settings.localities then Some (Print (Counters settings.localities)) else None
+request_by settings _ = option_map Run (setup_of settings)
+
+abbrev pub request_of : Settings → Option Request
+request_of settings = request_by settings settings.app
 
 -- what words ask for; or the place, from 1, of a word that does not fit; 0 where a word is missing, words clash, or what they mean is not built
-abbrev pub or_nowhere : Option Task → Result Task ℕ
+abbrev pub or_nowhere : Option Request → Result Request ℕ
 or_nowhere None = Err 0
-or_nowhere (Some task) = Ok task
+or_nowhere (Some request) = Ok request
 
-abbrev pub reading_task : Reading → Result Task ℕ
-reading_task (BadWord place) = Err place
-reading_task (Means settings) = or_nowhere (task_of settings)
+abbrev pub reading_request : Reading → Result Request ℕ
+reading_request (BadWord place) = Err place
+reading_request (Means settings) = or_nowhere (request_of settings)
 
-abbrev pub task_in : List (List ℕ) → Result Task ℕ
-task_in words = reading_task (reading_of words)
+abbrev pub request_in : List (List ℕ) → Result Request ℕ
+request_in words = reading_request (reading_of words)
 
 -- the place of a word that is refused
-abbrev pub place_of : Result Task ℕ → Option ℕ
-place_of (Ok task) = None
+abbrev pub place_of : Result Request ℕ → Option ℕ
+place_of (Ok request) = None
 place_of (Err place) = Some place
 
 abbrev pub bad_word : List (List ℕ) → Option ℕ
-bad_word words = place_of (task_in words)
+bad_word words = place_of (request_in words)
 
--- at how many localities a task is done
-abbrev pub places_of : Task → ℕ
-places_of Accumulator = 2
-places_of (Fib question n) = n
-places_of (Stencil shape n) = n
+-- what words ask to be printed, where they ask for no run
+abbrev pub printed_of : Result Request ℕ → Option Notice
+printed_of (Ok (Print notice)) = Some notice
+printed_of _ = None
+
+abbrev pub notice_in : List (List ℕ) → Option Notice
+notice_in words = printed_of (request_in words)
+
+-- ---- what is asked for is in range
 
 -- a task in the ranges of its numbers
 abbrev pub IsTask : Task → Type 0
 IsTask Accumulator = Unit {0}
-IsTask (Fib question n) = IsQuestion question.number question.threshold × (1 ≤ n) × (n ≤ 64)
-IsTask (Stencil shape n) = IsAsked shape.points shape.parts shape.steps × (1 ≤ n) × (n ≤ 64)
+IsTask (Fib question) = IsQuestion question.number question.threshold
+IsTask (Stencil shape) = IsAsked shape.points shape.parts shape.steps
+
+-- from 1 to 64 localities, and a profile in its ranges
+pub record IsSetup (setup : Setup) : Type 0 where
+  pub task : IsTask setup.task
+  pub some : 1 ≤ setup.localities
+  pub few : setup.localities ≤ 64
+  pub profile : IsValid setup.profile
+
+abbrev pub IsNotice : Notice → Type 0
+IsNotice (Counters n) = n ≤ 64
+IsNotice _ = Unit {0}
+
+abbrev pub IsRequest : Request → Type 0
+IsRequest (Print notice) = IsNotice notice
+IsRequest (Run setup) = IsSetup setup

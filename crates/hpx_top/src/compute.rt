@@ -1,16 +1,17 @@
 //! Applications that compute: one line is fed, and what it prints is written once all is done.
 ghost use Rattle.std.specs.Prelude.{◌≡◌, ◌≢◌, ◌≤◌, [], Err, Some, None, OnOk, IfOk, IfErr, IfSome, length};
+ghost use Rattle.hpx_value.specs.Profiles.{IsValid};
 ghost use Rattle.hpx_journal.specs.Weights.{HasRoom};
 ghost use Rattle.hpx_ports.specs.Faults.{Rose};
 ghost use Rattle.hpx_world.specs.Away.{IsCarrying};
 ghost use Rattle.hpx_world.specs.Quiet.{IsQuiet};
 ghost use Rattle.hpx_top.specs.Computed.{IsAnswered, IsUnanswered, task_line};
 ghost use Rattle.hpx_top.specs.Runs.{ports_of, HasCause, HasEnded, IsLawful};
-ghost use Rattle.hpx_top.specs.Session.{rules, IsAmple, IsRested};
+ghost use Rattle.hpx_top.specs.Session.{rules, IsRested};
 ghost use Rattle.hpx_top.specs.Statuses.{IsStatus, status_after};
 
 use crate::acts::AllActs;
-use crate::session::{PROFILE, SessionFault, feed, show};
+use crate::session::{SessionFault, feed, show};
 use crate::task::Task;
 use app_compute::line::fib_line;
 use app_compute::session::MARK;
@@ -20,6 +21,7 @@ use hpx_ports::fabric::Fabric;
 use hpx_ports::sink::Sink;
 use hpx_value::items::Text;
 use hpx_value::memory::OutOfMemory;
+use hpx_value::profile::Profile;
 use hpx_world::world::World;
 use std::alloc::Global;
 
@@ -29,17 +31,11 @@ pub(crate) fn task_line(alloc: Global, task: Task) -> Result<Option<Text>, OutOf
 {
     match task {
         Task::Accumulator => Ok(None),
-        Task::Fib {
-            question,
-            localities: _,
-        } => {
+        Task::Fib(question) => {
             let line = fib_line(alloc, question.number, question.threshold)?;
             Ok(Some(marked(alloc, MARK, line.as_slice())?))
         }
-        Task::Stencil {
-            shape,
-            localities: _,
-        } => {
+        Task::Stencil(shape) => {
             let line = stencil_line(alloc, shape.points, shape.parts, shape.steps)?;
             Ok(Some(marked(alloc, MARK, line.as_slice())?))
         }
@@ -56,7 +52,6 @@ fn answer<K: Sink, F: Fabric>(
 ) -> Result<(), SessionFault>
     requires short { length line ≤ 1025 }
     requires empty { world.old.journal.entries ≡ [] }
-    requires ample { IsAmple world.old.profile }
     requires quiet { IsQuiet world.old.nodes world.old.hand }
     requires carrying { IsCarrying (rules world.old) world.old.hand (F.flight fabric.old) (F.trace fabric.old) world.old.journal.entries }
 
@@ -86,12 +81,14 @@ fn answer<K: Sink, F: Fabric>(
 pub(crate) fn compute_all<K: Sink, F: Fabric>(
     alloc: Global,
     localities: u32,
+    profile: Profile,
     line: Text,
     sink: &mut K,
     fabric: &mut F,
 ) -> (Option<World<AllActs>>, Result<(), SessionFault>)
     requires some { 1 ≤ localities }
     requires few { localities ≤ 64 }
+    requires profile { IsValid profile }
     requires short { length line ≤ 1025 }
     requires flight { F.flight fabric.old ≡ Some [] }
     requires trace { F.trace fabric.old ≡ Some [] }
@@ -104,13 +101,13 @@ pub(crate) fn compute_all<K: Sink, F: Fabric>(
         HasCause (status_after result.1) result.0 x z }
     ensures status { IsStatus (status_after result.1) }
     ensures no_read { (result.1 ≢ Err SessionFault.Read) × (result.1 ≢ Err SessionFault.InputFull) }
-    ensures places { IfSome result.0 (λ w. length w.nodes ≡ localities) }
+    ensures places { IfSome result.0 (λ w. (length w.nodes ≡ localities) × (w.profile ≡ profile)) }
     ensures lawful { IfSome result.0 (λ w. IsLawful w (F.flight fabric.new) (F.trace fabric.new)) }
     ensures ended { OnOk result.1 (IfSome result.0 HasEnded) }
     ensures none { result.0 ≡ None → result.1 ≡ Err SessionFault.OutOfMemory }
     ensures untouched { result.0 ≡ None → (sink.new ≡ sink.old) × (fabric.new ≡ fabric.old) }
 {
-    let mut world = match World::boot(alloc, AllActs { localities }, PROFILE) {
+    let mut world = match World::boot(alloc, AllActs { localities }, profile) {
         Ok(world) => world,
         Err(_) => return (None, Err(SessionFault::OutOfMemory)),
     };

@@ -3,6 +3,7 @@
 
 pub mod acts;
 mod compute;
+mod printed;
 pub mod reader;
 pub mod run;
 pub mod session;

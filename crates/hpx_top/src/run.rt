@@ -1,21 +1,29 @@
 //! The top call: all that the program does, over ports that it is given.
-ghost use Rattle.std.specs.Prelude.{◌≡◌, ◌≢◌, ◌⊎◌, [], Ok, Some, None, Err, IfSome, OnOk, ℕ, length};
+ghost use Rattle.std.specs.Prelude.{◌≡◌, ◌≢◌, ◌≤◌, ◌⊎◌, [], Ok, Some, None, Err, IfSome, OnOk, OnErr, IfErr, ℕ, length};
+ghost use Rattle.hpx_value.specs.Profiles.{IsValid};
 ghost use Rattle.hpx_options.specs.Texts.{bad_word_text};
 ghost use Rattle.hpx_top.specs.Computed.{task_line};
-ghost use Rattle.hpx_top.specs.Runs.{ports_of, HasCause, HasDone, HasEnded, HasServed, IsLawful, NothingFailed, Says};
+ghost use Rattle.hpx_ports.specs.Faults.{Rose};
+ghost use Rattle.hpx_ports.specs.Told.{followed};
+ghost use Rattle.hpx_top.specs.Printed.{HasTold, counters_text};
+ghost use Rattle.hpx_top.specs.Runs.{ports_of, HasCause, HasDone, HasEnded, HasRun, HasServed, IsLawful, NothingFailed, Says};
+ghost use Rattle.hpx_top.specs.Session.{entries_in, Tells, WritesFront};
 ghost use Rattle.hpx_top.specs.Statuses.{IsStatus, status_after, status_of, status_line};
-ghost use Rattle.hpx_top.specs.Usage.{IsTask, bad_word, places_of, task_in};
+ghost use Rattle.hpx_top.specs.Usage.{IsRequest, IsSetup, bad_word, notice_in, request_in};
 
 use crate::acts::AllActs;
 use crate::compute::{compute_all, task_line};
-use crate::session::{PROFILE, SessionFault, serve};
-use crate::task::{Task, task_in};
+use crate::printed::{print, write_values};
+use crate::session::{SessionFault, serve};
+use crate::task::{Notice, Request, Setup, request_in};
+use hpx_counters::counter::Counter;
 use hpx_options::texts;
 use hpx_ports::fabric::Fabric;
 use hpx_ports::sink::{Sink, write_all};
 use hpx_ports::source::Source;
 use hpx_value::items::Texts;
 use hpx_value::memory::OutOfMemory;
+use hpx_value::profile::Profile;
 use hpx_world::world::World;
 use std::alloc::Global;
 
@@ -54,31 +62,37 @@ fn say<E: Sink>(err: &mut E, line: &[u8])
     }
 }
 
-/// A session over two localities, on a fabric in which nothing is in flight yet.
+/// A session over so many localities, on a fabric in which nothing is in flight yet.
 #[tactic(auto, using(crate::proofs::Carried::carrying_start))]
 fn serve_all<S: Source, K: Sink, F: Fabric>(
     alloc: Global,
+    localities: u32,
+    profile: Profile,
     source: &mut S,
     sink: &mut K,
     fabric: &mut F,
 ) -> (Option<World<AllActs>>, Result<(), SessionFault>)
+    requires some { 1 ≤ localities }
+    requires few { localities ≤ 64 }
+    requires profile { IsValid profile }
     requires flight { F.flight fabric.old ≡ Some [] }
     requires trace { F.trace fabric.old ≡ Some [] }
 
     ensures served { let x = ports_of (S.left source.old) (S.taken source.old) (K.held sink.old) (S.faults source.old) (K.faults sink.old) (F.faults fabric.old) in
         let z = ports_of (S.left source.new) (S.taken source.new) (K.held sink.new) (S.faults source.new) (K.faults sink.new) (F.faults fabric.new) in
-        (input : _) → S.left source.old ≡ Some input → HasServed 2 (status_after result.1) input result.0 x z }
+        (input : _) (said : _) → S.left source.old ≡ Some input → Tells localities (entries_in result.0) said →
+        HasServed said (status_after result.1) input result.0 x z }
     ensures cause { let x = ports_of (S.left source.old) (S.taken source.old) (K.held sink.old) (S.faults source.old) (K.faults sink.old) (F.faults fabric.old) in
         let z = ports_of (S.left source.new) (S.taken source.new) (K.held sink.new) (S.faults source.new) (K.faults sink.new) (F.faults fabric.new) in
         HasCause (status_after result.1) result.0 x z }
     ensures status { IsStatus (status_after result.1) }
-    ensures places { IfSome result.0 (λ w. length w.nodes ≡ 2) }
+    ensures places { IfSome result.0 (λ w. (length w.nodes ≡ localities) × (w.profile ≡ profile)) }
     ensures lawful { IfSome result.0 (λ w. IsLawful w (F.flight fabric.new) (F.trace fabric.new)) }
     ensures ended { OnOk result.1 (IfSome result.0 HasEnded) }
     ensures none { result.0 ≡ None → result.1 ≡ Err SessionFault.OutOfMemory }
     ensures untouched { result.0 ≡ None → (source.new ≡ source.old) × (sink.new ≡ sink.old) × (fabric.new ≡ fabric.old) }
 {
-    let mut world = match World::boot(alloc, AllActs { localities: 2 }, PROFILE) {
+    let mut world = match World::boot(alloc, AllActs { localities }, profile) {
         Ok(world) => world,
         Err(_) => return (None, Err(SessionFault::OutOfMemory)),
     };
@@ -87,39 +101,75 @@ fn serve_all<S: Source, K: Sink, F: Fabric>(
     (Some(world), served)
 }
 
-/// At how many localities a task is done.
-fn places_of(task: Task) -> u32
-    ensures { result ≡ places_of task }
-{
-    match task {
-        Task::Accumulator => 2,
-        Task::Fib {
-            question: _,
-            localities,
-        } => localities,
-        Task::Stencil {
-            shape: _,
-            localities,
-        } => localities,
-    }
-}
-
-/// A task, on a fabric in which nothing is in flight yet.
+/// The task of a setup, on a fabric in which nothing is in flight yet.
 fn run_task<S: Source, K: Sink, F: Fabric>(
     alloc: Global,
-    task: Task,
+    setup: &Setup,
     source: &mut S,
     sink: &mut K,
     fabric: &mut F,
 ) -> (Option<World<AllActs>>, Result<(), SessionFault>)
-    requires task { IsTask task }
+    requires setup { IsSetup setup.now }
     requires flight { F.flight fabric.old ≡ Some [] }
     requires trace { F.trace fabric.old ≡ Some [] }
 
     ensures did { let x = ports_of (S.left source.old) (S.taken source.old) (K.held sink.old) (S.faults source.old) (K.faults sink.old) (F.faults fabric.old) in
         let z = ports_of (S.left source.new) (S.taken source.new) (K.held sink.new) (S.faults source.new) (K.faults sink.new) (F.faults fabric.new) in
-        HasDone task (status_after result.1) result.0 x z }
-    ensures unread { (line : _) → task_line task ≡ Some line → source.new ≡ source.old }
+        HasDone setup.now.task setup.now.localities setup.now.profile (status_after result.1) result.0 x z }
+    ensures unread { (line : _) → task_line setup.now.task ≡ Some line → source.new ≡ source.old }
+    ensures cause { let x = ports_of (S.left source.old) (S.taken source.old) (K.held sink.old) (S.faults source.old) (K.faults sink.old) (F.faults fabric.old) in
+        let z = ports_of (S.left source.new) (S.taken source.new) (K.held sink.new) (S.faults source.new) (K.faults sink.new) (F.faults fabric.new) in
+        HasCause (status_after result.1) result.0 x z }
+    ensures status { IsStatus (status_after result.1) }
+    ensures places { IfSome result.0 (λ w. (length w.nodes ≡ setup.now.localities) × (w.profile ≡ setup.now.profile)) }
+    ensures lawful { IfSome result.0 (λ w. IsLawful w (F.flight fabric.new) (F.trace fabric.new)) }
+    ensures ended { OnOk result.1 (IfSome result.0 HasEnded) }
+    ensures none { result.0 ≡ None → result.1 ≡ Err SessionFault.OutOfMemory }
+    ensures untouched { result.0 ≡ None → (source.new ≡ source.old) × (sink.new ≡ sink.old) × (fabric.new ≡ fabric.old) }
+{
+    let (localities, profile) = (setup.localities, setup.profile);
+    match task_line(alloc, setup.task) {
+        Ok(None) => serve_all(alloc, localities, profile, source, sink, fabric),
+        Ok(Some(line)) => compute_all(alloc, localities, profile, line, sink, fabric),
+        Err(OutOfMemory) => (None, Err(SessionFault::OutOfMemory)),
+    }
+}
+
+/// Writes the values of counters in the world that there is.
+fn write_counters<K: Sink>(
+    counters: &[Counter],
+    world: &Option<World<AllActs>>,
+    sink: &mut K,
+) -> Result<(), SessionFault>
+    requires there { world.now ≢ None }
+    ensures held { OnOk result (K.held sink.new ≡ followed (K.held sink.old) (counters_text counters.now (entries_in world.now))) }
+    ensures front { OnErr result (WritesFront (counters_text counters.now (entries_in world.now)) (K.held sink.old) (K.held sink.new)) }
+    ensures cause { IfErr result (λ fault. (fault ≡ SessionFault.Write) × Rose (K.faults sink.old) (K.faults sink.new)) }
+    ensures stands { OnOk result (K.faults sink.new ≡ K.faults sink.old) }
+    ensures some { OnErr result (counters.now ≢ []) }
+{
+    match world {
+        Some(world) => write_values(counters, world.journal(), sink),
+        None => Ok(()),
+    }
+}
+
+/// A setup: its task, and where that ends well, the values of its counters.
+fn run_setup<S: Source, K: Sink, F: Fabric>(
+    alloc: Global,
+    setup: &Setup,
+    source: &mut S,
+    sink: &mut K,
+    fabric: &mut F,
+) -> (Option<World<AllActs>>, Result<(), SessionFault>)
+    requires setup { IsSetup setup.now }
+    requires flight { F.flight fabric.old ≡ Some [] }
+    requires trace { F.trace fabric.old ≡ Some [] }
+
+    ensures did { let x = ports_of (S.left source.old) (S.taken source.old) (K.held sink.old) (S.faults source.old) (K.faults sink.old) (F.faults fabric.old) in
+        let z = ports_of (S.left source.new) (S.taken source.new) (K.held sink.new) (S.faults source.new) (K.faults sink.new) (F.faults fabric.new) in
+        HasRun setup.now (status_after result.1) result.0 x z }
+    ensures unread { (line : _) → task_line setup.now.task ≡ Some line → source.new ≡ source.old }
     ensures cause { let x = ports_of (S.left source.old) (S.taken source.old) (K.held sink.old) (S.faults source.old) (K.faults sink.old) (F.faults fabric.old) in
         let z = ports_of (S.left source.new) (S.taken source.new) (K.held sink.new) (S.faults source.new) (K.faults sink.new) (F.faults fabric.new) in
         HasCause (status_after result.1) result.0 x z }
@@ -129,10 +179,45 @@ fn run_task<S: Source, K: Sink, F: Fabric>(
     ensures none { result.0 ≡ None → result.1 ≡ Err SessionFault.OutOfMemory }
     ensures untouched { result.0 ≡ None → (source.new ≡ source.old) × (sink.new ≡ sink.old) × (fabric.new ≡ fabric.old) }
 {
-    match task_line(alloc, task) {
-        Ok(None) => serve_all(alloc, source, sink, fabric),
-        Ok(Some(line)) => compute_all(alloc, places_of(task), line, sink, fabric),
-        Err(OutOfMemory) => (None, Err(SessionFault::OutOfMemory)),
+    let (world, done) = run_task(alloc, setup, source, sink, fabric);
+    let counted = match done {
+        Ok(()) => write_counters(setup.counters.as_slice(), &world, sink),
+        Err(fault) => Err(fault),
+    };
+    (world, counted)
+}
+
+/// What the words ask for, on a fabric in which nothing is in flight yet.
+fn fulfil<S: Source, K: Sink, F: Fabric>(
+    alloc: Global,
+    request: &Request,
+    source: &mut S,
+    sink: &mut K,
+    fabric: &mut F,
+) -> (Option<World<AllActs>>, Result<(), SessionFault>)
+    requires request { IsRequest request.now }
+    requires flight { F.flight fabric.old ≡ Some [] }
+    requires trace { F.trace fabric.old ≡ Some [] }
+
+    ensures told { (notice : Notice) → request.now ≡ Request.Print notice →
+        (result.0 ≡ None) × HasTold notice (status_after result.1) (K.held sink.old) (K.held sink.new) }
+    ensures did { let x = ports_of (S.left source.old) (S.taken source.old) (K.held sink.old) (S.faults source.old) (K.faults sink.old) (F.faults fabric.old) in
+        let z = ports_of (S.left source.new) (S.taken source.new) (K.held sink.new) (S.faults source.new) (K.faults sink.new) (F.faults fabric.new) in
+        (setup : Setup) → request.now ≡ Request.Run setup → HasRun setup (status_after result.1) result.0 x z }
+    ensures unread { (setup : Setup) (line : _) → request.now ≡ Request.Run setup → task_line setup.task ≡ Some line → source.new ≡ source.old }
+    ensures cause { let x = ports_of (S.left source.old) (S.taken source.old) (K.held sink.old) (S.faults source.old) (K.faults sink.old) (F.faults fabric.old) in
+        let z = ports_of (S.left source.new) (S.taken source.new) (K.held sink.new) (S.faults source.new) (K.faults sink.new) (F.faults fabric.new) in
+        HasCause (status_after result.1) result.0 x z }
+    ensures status { IsStatus (status_after result.1) }
+    ensures lawful { IfSome result.0 (λ w. IsLawful w (F.flight fabric.new) (F.trace fabric.new)) }
+    ensures ended { OnOk result.1 (IfSome result.0 HasEnded) }
+    ensures there { result.1 ≡ Err SessionFault.JournalFull → result.0 ≢ None }
+    ensures none { result.0 ≡ None → (source.new ≡ source.old) × (fabric.new ≡ fabric.old)
+        × (((notice : Notice) → request.now ≢ Request.Print notice) → (sink.new ≡ sink.old) × (result.1 ≡ Err SessionFault.OutOfMemory)) }
+{
+    match request {
+        Request::Print(notice) => (None, print(alloc, *notice, sink)),
+        Request::Run(setup) => run_setup(alloc, setup, source, sink, fabric),
     }
 }
 
@@ -154,12 +239,13 @@ pub fn run<S: Source, K: Sink, E: Sink, F: Fabric>(
         × Says (status_line result.status) (record { text = E.held err.old; faults = E.faults err.old }) (record { text = E.held err.new; faults = E.faults err.new }) }
     ensures silent { result.status ≡ 0 → err.new ≡ err.old }
     ensures no_other { IsStatus result.status }
-    ensures none { result.world ≡ None → (result.status ≡ 1) ⊎ (result.status ≡ 6) }
-    ensures untouched { result.world ≡ None → (source.new ≡ source.old) × (sink.new ≡ sink.old) × (result.fabric ≡ fabric) }
+    ensures none { result.world ≡ None → (source.new ≡ source.old) × (result.fabric ≡ fabric)
+        × (notice_in words.now ≡ None → (sink.new ≡ sink.old) × ((result.status ≡ 1) ⊎ (result.status ≡ 6))) }
+    ensures told { (notice : Notice) → notice_in words.now ≡ Some notice → (result.world ≡ None) × HasTold notice result.status (K.held sink.old) (K.held sink.new) }
     ensures did { let x = ports_of (S.left source.old) (S.taken source.old) (K.held sink.old) (S.faults source.old) (K.faults sink.old) (F.faults fabric) in
         let z = ports_of (S.left source.new) (S.taken source.new) (K.held sink.new) (S.faults source.new) (K.faults sink.new) (F.faults result.fabric) in
-        (task : _) → task_in words.now ≡ Ok task → HasDone task result.status result.world x z }
-    ensures unread { (task : _) (line : _) → task_in words.now ≡ Ok task → task_line task ≡ Some line → source.new ≡ source.old }
+        (setup : Setup) → request_in words.now ≡ Ok (Request.Run setup) → HasRun setup result.status result.world x z }
+    ensures unread { (setup : Setup) (line : _) → request_in words.now ≡ Ok (Request.Run setup) → task_line setup.task ≡ Some line → source.new ≡ source.old }
     ensures cause { let x = ports_of (S.left source.old) (S.taken source.old) (K.held sink.old) (S.faults source.old) (K.faults sink.old) (F.faults fabric) in
         let z = ports_of (S.left source.new) (S.taken source.new) (K.held sink.new) (S.faults source.new) (K.faults sink.new) (F.faults result.fabric) in
         HasCause result.status result.world x z }
@@ -169,8 +255,8 @@ pub fn run<S: Source, K: Sink, E: Sink, F: Fabric>(
     ensures lawful { IfSome result.world (λ w. IsLawful w (F.flight result.fabric) (F.trace result.fabric)) }
     ensures ended { result.status ≡ 0 → IfSome result.world HasEnded }
 {
-    let task = match task_in(alloc, words) {
-        Ok(task) => task,
+    let request = match request_in(words) {
+        Ok(request) => request,
         Err(place) => {
             say(err, texts::bad_word(place).as_str().as_bytes());
             return End {
@@ -180,8 +266,8 @@ pub fn run<S: Source, K: Sink, E: Sink, F: Fabric>(
             };
         }
     };
-    let (world, served) = run_task(alloc, task, source, sink, &mut fabric);
-    let status = match served {
+    let (world, ended) = fulfil(alloc, &request, source, sink, &mut fabric);
+    let status = match ended {
         Ok(()) => 0,
         Err(fault) => {
             let (line, status) = line_of(fault);

@@ -14,7 +14,7 @@ ghost use Rattle.hpx_world.specs.Turns.{DidFeed};
 ghost use Rattle.hpx_world.specs.declared.turns.Turned.{Turned};
 ghost use Rattle.app_console.specs.Lines.{is_long, opening};
 ghost use Rattle.hpx_top.specs.Reader.{HasRead, IsOut, input_left, bytes_left, behind_line};
-ghost use Rattle.hpx_top.specs.Session.{rules, IsAmple, IsRested, FeedsAtMost, Feeds, IsLineEndedBy, WritesFront, IsServing, IsServingAt, IsCutAt, IsOver, IsCutBy, IsStopped};
+ghost use Rattle.hpx_top.specs.Session.{rules, IsRested, FeedsAtMost, Feeds, Tells, IsLineEndedBy, WritesFront, IsServing, IsServingAt, IsCutAt, IsOver, IsCutBy, IsStopped};
 ghost use Rattle.hpx_top.specs.Ends.{IsWhole, IsEndedBy, IsBegun, IsShort, IsReadFrom, IsReadUp, IsReadOn, IsInputFull};
 ghost use Rattle.hpx_top.specs.Runs.{ports_of, HasCause, HasServed};
 ghost use Rattle.hpx_top.specs.Statuses.{IsStatus, status_after};
@@ -31,7 +31,6 @@ use hpx_ports::fault::Failed;
 use hpx_ports::sink::{Sink, write_all};
 use hpx_ports::source::Source;
 use hpx_value::items::Text;
-use hpx_value::profile::Profile;
 use hpx_world::turns::{Choice, WorldFault};
 use hpx_world::world::World;
 use std::alloc::Global;
@@ -58,14 +57,7 @@ pub enum SessionFault {
     InputFull,
 }
 
-/// A new object has the most credit that an id can have, and no count comes near the greatest one.
-pub(crate) const PROFILE: Profile = Profile {
-    credit_log: 31,
-    credit_limit: 1 << 100,
-    cache: 64,
-};
-
-fn write<K: Sink>(sink: &mut K, bytes: &[u8]) -> Result<(), SessionFault>
+pub(crate) fn write<K: Sink>(sink: &mut K, bytes: &[u8]) -> Result<(), SessionFault>
     ensures held { OnOk result (K.held sink.new ≡ followed (K.held sink.old) bytes.now) }
     ensures front { OnErr result (WritesFront bytes.now (K.held sink.old) (K.held sink.new)) }
     ensures cause { IfErr result (λ fault. (fault ≡ SessionFault.Write) × Rose (K.faults sink.old) (K.faults sink.new)) }
@@ -220,7 +212,6 @@ pub(crate) fn feed<F: Fabric>(
     fabric: &mut F,
 ) -> Result<(), SessionFault>
     requires short { length text ≤ 1025 }
-    requires ample { IsAmple world.old.profile }
     requires quiet { IsQuiet world.old.nodes world.old.hand }
     requires carrying { IsCarrying (rules world.old) world.old.hand (F.flight fabric.old) (F.trace fabric.old) world.old.journal.entries }
 
@@ -249,7 +240,6 @@ fn open<F: Fabric>(
     world: &mut World<AllActs>,
     fabric: &mut F,
 ) -> Result<(), SessionFault>
-    requires ample { IsAmple world.old.profile }
     requires quiet { IsQuiet world.old.nodes world.old.hand }
     requires carrying { IsCarrying (rules world.old) world.old.hand (F.flight fabric.old) (F.trace fabric.old) world.old.journal.entries }
 
@@ -283,7 +273,6 @@ fn serve_text<K: Sink, F: Fabric>(
     fabric: &mut F,
 ) -> Result<(), SessionFault>
     requires short { is_long line.now ≡ false }
-    requires ample { IsAmple world.old.profile }
     requires rest { IsRested world.old }
     requires carrying { IsCarrying (rules world.old) world.old.hand (F.flight fabric.old) (F.trace fabric.old) world.old.journal.entries }
 
@@ -323,7 +312,6 @@ fn serve_line<S: Source, K: Sink, F: Fabric>(
 ) -> Result<bool, SessionFault>
     requires some { 1 ≤ length world.old.nodes }
     requires few { length world.old.nodes ≤ 64 }
-    requires ample { IsAmple world.old.profile }
     requires rest { IsRested world.old }
     requires carrying { IsCarrying (rules world.old) world.old.hand (F.flight fabric.old) (F.trace fabric.old) world.old.journal.entries }
 
@@ -333,13 +321,16 @@ fn serve_line<S: Source, K: Sink, F: Fabric>(
     ensures behind { result ≡ Ok true → input_left reader.new (S.left source.new) ≡ option_map behind_line (input_left reader.old (S.left source.old)) }
     ensures short { result ≡ Err SessionFault.OutOfMemory → (all : _) (before : _) (count : ℕ) →
         IsServingAt count (rules world.old) all before reader.old (S.left source.old) world.old.journal.entries (K.held sink.old) →
-        IsCutAt count (length world.old.nodes) 1 all before world.new.journal.entries (K.held sink.new) }
+        (said : _) → Tells (length world.old.nodes) world.new.journal.entries said →
+        IsCutAt count said 1 all before world.new.journal.entries (K.held sink.new) }
     ensures over { result ≡ Ok false → (all : _) (before : _) →
         IsServing (rules world.old) all before reader.old (S.left source.old) world.old.journal.entries (K.held sink.old) →
-        IsOver (length world.old.nodes) reader.new.ended all before world.new.journal.entries (K.held sink.new) }
+        (said : _) → Tells (length world.old.nodes) world.new.journal.entries said →
+        IsOver said reader.new.ended all before world.new.journal.entries (K.held sink.new) }
     ensures err { IfErr result (λ fault. (all : _) (before : _) →
         IsServing (rules world.old) all before reader.old (S.left source.old) world.old.journal.entries (K.held sink.old) →
-        IsCutBy fault (length world.old.nodes) all before world.new.journal.entries (K.held sink.new)) }
+        (said : _) → Tells (length world.old.nodes) world.new.journal.entries said →
+        IsCutBy fault said all before world.new.journal.entries (K.held sink.new)) }
     ensures input { result ≡ Err SessionFault.InputFull → (all : _) (before : _) →
         IsServing (rules world.old) all before reader.old (S.left source.old) world.old.journal.entries (K.held sink.old) →
         IsStopped all reader.new (S.left source.new) }
@@ -398,19 +389,20 @@ fn serve_lines<S: Source, K: Sink, F: Fabric>(
     requires some { 1 ≤ length world.old.nodes }
     requires few { length world.old.nodes ≤ 64 }
     requires empty { world.old.journal.entries ≡ [] }
-    requires ample { IsAmple world.old.profile }
     requires quiet { IsQuiet world.old.nodes world.old.hand }
     requires carrying { IsCarrying (rules world.old) world.old.hand (F.flight fabric.old) (F.trace fabric.old) world.old.journal.entries }
 
-    ensures whole { (input : _) → S.left source.old ≡ Some input → OnOk result (IsWhole (length world.old.nodes) input world.new.journal.entries (K.held sink.old) (K.held sink.new)) }
+    ensures whole { (input : _) (said : _) → S.left source.old ≡ Some input → Tells (length world.old.nodes) world.new.journal.entries said →
+        OnOk result (IsWhole said input world.new.journal.entries (K.held sink.old) (K.held sink.new)) }
     ensures reads { (input : _) → S.left source.old ≡ Some input → IsReadFrom input (S.left source.new) (S.taken source.old) (S.taken source.new) }
     ensures limit { S.taken source.new ≤ S.taken source.old + 67108864 }
     ensures read_up { (input : _) → S.left source.old ≡ Some input → OnOk result (IsReadUp input (S.left source.new)) }
-    ensures ended { (input : _) → S.left source.old ≡ Some input →
-        IfErr result (λ fault. IsEndedBy fault (length world.old.nodes) input world.new.journal.entries (K.held sink.old) (K.held sink.new)) }
-    ensures short { (input : _) → S.left source.old ≡ Some input → result ≡ Err SessionFault.OutOfMemory →
-        IsShort (length world.old.nodes) input (S.left source.new) world.new.journal.entries (K.held sink.old) (K.held sink.new) }
-    ensures begun { (input : _) → S.left source.old ≡ Some input → IsBegun (length world.old.nodes) input world.new.journal.entries (K.held sink.old) (K.held sink.new) }
+    ensures ended { (input : _) (said : _) → S.left source.old ≡ Some input → Tells (length world.old.nodes) world.new.journal.entries said →
+        IfErr result (λ fault. IsEndedBy fault said input world.new.journal.entries (K.held sink.old) (K.held sink.new)) }
+    ensures short { (input : _) (said : _) → S.left source.old ≡ Some input → Tells (length world.old.nodes) world.new.journal.entries said →
+        result ≡ Err SessionFault.OutOfMemory → IsShort said input (S.left source.new) world.new.journal.entries (K.held sink.old) (K.held sink.new) }
+    ensures begun { (input : _) (said : _) → S.left source.old ≡ Some input → Tells (length world.old.nodes) world.new.journal.entries said →
+        IsBegun said input world.new.journal.entries (K.held sink.old) (K.held sink.new) }
     ensures input { (input : _) → S.left source.old ≡ Some input → result ≡ Err SessionFault.InputFull → IsInputFull input (S.left source.new) }
     ensures read_on { (input : _) → S.left source.old ≡ Some input → result ≡ Err SessionFault.Read → (n : ℕ) × IsReadOn n input (S.left source.new) }
     ensures taken { result ≡ Err SessionFault.InputFull → S.taken source.new ≡ S.taken source.old + 67108864 }
@@ -438,7 +430,7 @@ fn serve_lines<S: Source, K: Sink, F: Fabric>(
     Ok(())
 }
 
-/// A session, from the first text to the last prompt. Its world is at boot, and no ask for credit is ever refused there.
+/// A session, from the first text to the last prompt. Its world is at boot.
 pub fn serve<S: Source, K: Sink, F: Fabric>(
     alloc: Global,
     world: &mut World<AllActs>,
@@ -449,13 +441,13 @@ pub fn serve<S: Source, K: Sink, F: Fabric>(
     requires some { 1 ≤ length world.old.nodes }
     requires few { length world.old.nodes ≤ 64 }
     requires empty { world.old.journal.entries ≡ [] }
-    requires ample { IsAmple world.old.profile }
     requires quiet { IsQuiet world.old.nodes world.old.hand }
     requires carrying { IsCarrying (rules world.old) world.old.hand (F.flight fabric.old) (F.trace fabric.old) world.old.journal.entries }
 
     ensures served { let x = ports_of (S.left source.old) (S.taken source.old) (K.held sink.old) (S.faults source.old) (K.faults sink.old) (F.faults fabric.old) in
         let z = ports_of (S.left source.new) (S.taken source.new) (K.held sink.new) (S.faults source.new) (K.faults sink.new) (F.faults fabric.new) in
-        (input : _) → S.left source.old ≡ Some input → HasServed (length world.old.nodes) (status_after result) input (Some world.new) x z }
+        (input : _) (said : _) → S.left source.old ≡ Some input → Tells (length world.old.nodes) world.new.journal.entries said →
+        HasServed said (status_after result) input (Some world.new) x z }
     ensures cause { let x = ports_of (S.left source.old) (S.taken source.old) (K.held sink.old) (S.faults source.old) (K.faults sink.old) (F.faults fabric.old) in
         let z = ports_of (S.left source.new) (S.taken source.new) (K.held sink.new) (S.faults source.new) (K.faults sink.new) (F.faults fabric.new) in
         HasCause (status_after result) (Some world.new) x z }

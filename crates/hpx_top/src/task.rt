@@ -1,24 +1,48 @@
-//! What the words ask to be run.
+//! What the words ask for.
 ghost use Rattle.std.specs.Prelude.{◌≡◌};
-ghost use Rattle.hpx_top.specs.Usage.{are_asked, are_places, is_ring, is_usual, is_plain, task_by, task_of, task_in, reading_task};
+ghost use Rattle.hpx_top.specs.Usage.{are_asked, are_places, is_plain, is_ring, is_tuned, request_in, request_of, setup_of, task_of};
 
 use app_compute::line::Question;
 use app_compute::shape::Shape;
 use hpx_options::options::read;
-use hpx_options::settings::{App, Mode, OptionFault, Settings};
+use hpx_options::settings::{App, Counters, Mode, OptionFault, Settings};
 use hpx_value::items::Texts;
 use hpx_value::profile::Profile;
-use std::alloc::Global;
 
-/// What is run.
+/// An application that is run.
 #[derive(Clone, Copy, Debug, PartialEq, Eq)]
 pub enum Task {
-    /// The accumulator's console, over two localities.
+    /// The accumulator's console.
     Accumulator,
-    /// A Fibonacci number, computed over so many localities.
-    Fib { question: Question, localities: u32 },
-    /// A ring of points, stepped over so many localities.
-    Stencil { shape: Shape, localities: u32 },
+    /// A Fibonacci number is computed.
+    Fib(Question),
+    /// A ring of points is stepped.
+    Stencil(Shape),
+}
+
+/// An application, the localities and the profile that it is run over, and the counters that are printed behind it.
+#[derive(Drop)]
+pub struct Setup {
+    pub task: Task,
+    pub localities: u32,
+    pub profile: Profile,
+    pub counters: Counters,
+}
+
+/// What is printed where nothing is run.
+#[derive(Clone, Copy, Debug, PartialEq, Eq)]
+pub enum Notice {
+    Help,
+    Version,
+    /// The names of all counters of so many localities.
+    Counters(u32),
+}
+
+/// What the words ask for.
+#[derive(Drop)]
+pub enum Request {
+    Print(Notice),
+    Run(Setup),
 }
 
 const MOST_LOCALITIES: u32 = 64;
@@ -64,21 +88,28 @@ fn are_places(localities: u32) -> bool
     1 <= localities && localities <= MOST_LOCALITIES
 }
 
-/// An application at so many localities, where that is built.
-fn task_by(app: App, localities: u32) -> Option<Task>
-    ensures { result ≡ task_by app localities }
+/// The settings of credit and cache in their ranges.
+fn is_tuned(profile: Profile) -> bool
+    ensures { result ≡ is_tuned profile }
+{
+    8 <= profile.credit_log
+        && profile.credit_log <= 31
+        && 1u128 << profile.credit_log as u32 <= profile.credit_limit
+        && profile.credit_limit <= 1u128 << 100u32
+        && 1 <= profile.cache
+        && profile.cache <= 4096
+}
+
+/// An application, where it is built.
+fn task_of(app: App) -> Option<Task>
+    ensures { result ≡ task_of app }
 {
     match app {
-        App::Accumulator => (localities == 2).then_some(Task::Accumulator),
-        App::Fib { n, threshold } => {
-            (are_asked(n, threshold) && are_places(localities)).then_some(Task::Fib {
-                question: Question {
-                    number: n,
-                    threshold,
-                },
-                localities,
-            })
-        }
+        App::Accumulator => Some(Task::Accumulator),
+        App::Fib { n, threshold } => are_asked(n, threshold).then_some(Task::Fib(Question {
+            number: n,
+            threshold,
+        })),
         App::Stencil {
             points,
             parts,
@@ -89,53 +120,59 @@ fn task_by(app: App, localities: u32) -> Option<Task>
                 parts,
                 steps,
             };
-            (is_ring(shape) && are_places(localities)).then_some(Task::Stencil {
-                shape,
-                localities,
-            })
+            is_ring(shape).then_some(Task::Stencil(shape))
         }
         _ => None,
     }
 }
 
-/// Whether credit and cache are as usual, as in `PROFILE`.
-fn is_usual(profile: Profile) -> bool
-    ensures { result ≡ is_usual profile }
-{
-    profile.credit_log == 31 && profile.credit_limit == 1 << 100 && profile.cache == 64
-}
-
-/// Whether all but the application and the number of localities is as usual.
+/// Whether it is run in one process, on one thread, and writes no journal.
 fn is_plain(settings: &Settings) -> bool
     ensures { result ≡ is_plain settings.now }
 {
     settings.threads == 1
         && matches!(settings.mode, Mode::Hosted)
-        && is_usual(settings.profile)
-        && settings.counters.is_empty()
         && !settings.settle
         && !settings.journal
 }
 
-/// What settings ask for, where it is built.
-fn task_of(settings: &Settings) -> Option<Task>
-    ensures { result ≡ task_of settings.now }
+/// What settings ask to be run, where it is built.
+fn setup_of(settings: Settings) -> Option<Setup>
+    ensures { result ≡ setup_of settings }
 {
-    if !is_plain(settings) {
+    if !is_plain(&settings) || !are_places(settings.localities) || !is_tuned(settings.profile) {
         return None;
     }
-    task_by(settings.app, settings.localities)
+    Some(Setup {
+        task: task_of(settings.app)?,
+        localities: settings.localities,
+        profile: settings.profile,
+        counters: settings.counters,
+    })
+}
+
+/// What settings ask for, where it is built.
+fn request_of(settings: Settings) -> Option<Request>
+    ensures { result ≡ request_of settings }
+{
+    match settings.app {
+        App::Help => Some(Request::Print(Notice::Help)),
+        App::Version => Some(Request::Print(Notice::Version)),
+        App::ListCounters => {
+            let notice = Notice::Counters(settings.localities);
+            are_places(settings.localities).then_some(Request::Print(notice))
+        }
+        _ => Some(Request::Run(setup_of(settings)?)),
+    }
 }
 
 /// What words ask for. An `Err` is the place, from 1, of a word that does not fit; 0 where a word is missing, words clash, or
 /// what they mean is not built.
-pub fn task_in(alloc: Global, words: &Texts) -> Result<Task, u32>
-    ensures { result ≡ task_in words.now }
+pub fn request_in(words: &Texts) -> Result<Request, u32>
+    ensures { result ≡ request_in words.now }
 {
-    match read(alloc, words) {
-        Ok(settings) => task_of(&settings).ok_or(0),
-        Err(OptionFault::Usage { place }) => Err(place),
-        // Counters alone take memory, and they are not built.
-        Err(OptionFault::OutOfMemory) => Err(0),
+    match read(words) {
+        Ok(settings) => request_of(settings).ok_or(0),
+        Err(OptionFault { place }) => Err(place),
     }
 }

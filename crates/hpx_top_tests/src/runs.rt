@@ -290,26 +290,16 @@ fn each_delivery_may_fail(rt: HostRuntime) -> Result<(), Fail> {
 
 const WORD_ROWS: &[(&[&[u8]], u8, &[u8])] = &[
     (&[], 1, b"hpx: bad word 0\n"),
-    (&[b"accumulator"], 1, b"hpx: bad word 0\n"),
     (&[b"fob"], 1, b"hpx: bad word 1\n"),
     // What is not built yet.
     (&[b"space"], 1, b"hpx: bad word 0\n"),
     (
-        &[b"accumulator", b"--hpx:localities=3"],
+        &[b"accumulator", b"--hpx:threads=2"],
         1,
         b"hpx: bad word 0\n",
     ),
     (
-        &[b"accumulator", b"--hpx:localities=2", b"--hpx:threads=2"],
-        1,
-        b"hpx: bad word 0\n",
-    ),
-    (
-        &[
-            b"accumulator",
-            b"--hpx:localities=2",
-            b"--hpx:print-counter=/parcels{locality#0/total}/count/sent",
-        ],
+        &[b"accumulator", b"--hpx:ini=hpx.journal=1"],
         1,
         b"hpx: bad word 0\n",
     ),
@@ -339,7 +329,10 @@ const WORD_ROWS: &[(&[&[u8]], u8, &[u8])] = &[
         1,
         b"hpx: bad word 10\n",
     ),
-    // The usual settings in other words.
+    // Other numbers of localities, and the usual settings in other words.
+    (&[b"accumulator"], 0, b""),
+    (&[b"accumulator", b"--hpx:localities=3"], 0, b""),
+    (&[b"accumulator", b"--hpx:localities=64"], 0, b""),
     (&[b"--hpx:localities=2", b"accumulator"], 0, b""),
     (
         &[
@@ -371,6 +364,43 @@ fn other_words_are_refused_or_mean_the_same(rt: HostRuntime) -> Result<(), Fail>
         assert_eq!(rt; (ended.status, ended.line.as_slice()), (*status, *line));
         let bytes = if *status == 0 { 57 } else { 0 };
         assert!(rt; is_front(ended.text.as_slice(), bytes));
+    }
+    Ok(())
+}
+
+const COUNTED: &[&[u8]] = &[
+    b"accumulator",
+    b"--hpx:localities=2",
+    b"--hpx:print-counter=/parcels{locality#0/total}/count/sent",
+    b"--hpx:print-counter",
+    b"/objects{locality#1/total}/count/born",
+];
+
+// Behind the text of two lines come two lines of 40 bytes. A fault before them leaves none.
+#[test]
+fn counters_are_written_behind_what_ended_well(rt: HostRuntime) -> Result<(), Fail> {
+    let alloc = rt.alloc();
+    let text = b"commands: reset, add [amount], query, help, quit\n> > 5\n> \
+/parcels{locality#0/total}/count/sent,3\n/objects{locality#1/total}/count/born,1\n"
+        .as_slice();
+    for order in ORDERS {
+        for (read, write, status, bytes) in [
+            (0, 0, 0, text.len()),
+            (3, 0, 0, text.len()),
+            (2, 0, 2, 57),
+            (0, 5, 3, 55),
+            (0, 6, 3, 57),
+            (0, 7, 3, 97),
+        ] {
+            let faults = Faults {
+                reads: &[read],
+                writes: &[write],
+                ..NONE
+            };
+            let ended = ran(alloc, COUNTED, b"add 5\nquery\n", order, faults)?;
+            assert_eq!(rt; ended.status, status);
+            assert_eq!(rt; Some(ended.text.as_slice()), text.get(..bytes));
+        }
     }
     Ok(())
 }

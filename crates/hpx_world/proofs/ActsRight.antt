@@ -22,8 +22,8 @@ use Rattle.hpx_part.specs.Keyed.{Agree}
 use Rattle.hpx_part.proofs.Keyed.{Agree-found}
 use Rattle.hpx_part.proofs.Keys.{means, own}
 use Rattle.hpx_tables.specs.Tables.{Tables, messages}
-use Rattle.hpx_tables.specs.declared.kept.Outgoing.{Outgoing}
 use Rattle.hpx_tables.proofs.Alls.{all_parts}
+use Rattle.hpx_node.proofs.Messages.{messages_first}
 use Rattle.hpx_world.proofs.Shown.{IsCalm, IsShown}
 use Rattle.hpx_world.proofs.Welcome.{IsActRight}
 
@@ -77,15 +77,14 @@ module _ (r : Rules) (es : List Entry) (calm : IsCalm r es) where
       subst (λ x. AllByRecursion (IsActRight r (replayed r es)) (acts_in x)) spelled
       (arrived (λ x. AllByRecursion (IsActRight r (replayed r es)) (acts_in (r.parcel_of x.1))) (replayed r es).road f each.road on)
 
-  module _ (log k : ℕ) (t : Tables) (s : IsShown r log es k t) (p : Parcel) (rest : List Parcel) (first : t.desk ≡ p ∷ rest) where
-    carried : AllByRecursion (IsActRight r (replayed r es)) (flat_map (λ q. acts_in (Some q)) (messages t))
+  module _ (log k : ℕ) (t : Tables) (s : IsShown r log es k t) where
+    pub carried : AllByRecursion (IsActRight r (replayed r es)) (flat_map (λ q. acts_in (Some q)) (messages t))
     carried =
         (all_parts (IsActRight r (replayed r es)) (map bare_act t.accepted) (flat_map (λ q. acts_in (Some q)) (messages t))
         (agree_from (IsActRight r (replayed r es)) ((replayed r es).places k).waiting _ s.shows.acts.waiting (each.waiting k s.lt) [] _ refl)).1
 
     -- in the first message on a desk
-    pub desk_acts : AllByRecursion (IsActRight r (replayed r es)) (acts_in (Some p))
-    desk_acts =
-        (all_parts (IsActRight r (replayed r es)) (acts_in (Some p)) (flat_map (λ q. acts_in (Some q)) (rest ++ map (λ (x : Outgoing). x.parcel) t.outgoing))
-        (subst (λ d. AllByRecursion (IsActRight r (replayed r es)) (flat_map (λ q. acts_in (Some q)) (d ++ map (λ (x : Outgoing). x.parcel) t.outgoing))) first
-        carried)).0
+    pub desk_acts : (p : Parcel) (rest : List Parcel) → t.desk ≡ p ∷ rest → AllByRecursion (IsActRight r (replayed r es)) (acts_in (Some p))
+    desk_acts p rest first =
+        (all_parts (IsActRight r (replayed r es)) (acts_in (Some p)) (flat_map (λ q. acts_in (Some q)) (messages (record t { desk = rest })))
+        (subst (λ ps. AllByRecursion (IsActRight r (replayed r es)) (flat_map (λ q. acts_in (Some q)) ps)) (messages_first t p rest first) carried)).0

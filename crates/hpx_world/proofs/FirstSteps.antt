@@ -100,7 +100,7 @@ module _ {A : Type 0} {g : Ghosts A} where
       let s = h.1.0 in
       subst (λ v. RefusedStep {A = A} {g = g} (faults.OutOfMemory v) x z) (sym h.1.1)
       (h.0, (s.0, inl (ap (λ o. o.hand) s.1, ap (λ o. o.flight) s.1, ap (λ o. o.trace) s.1)), inr s.1)
-  pump_at k x z none faults.Fabric h = (h.0, none, h.1)
+  pump_at k x z none faults.Fabric h = (h.0, none, h.1.0)
   pump_at k x z none (faults.Strange to rule object kept) h = absurd h.1
   pump_at k x z none (faults.BadFrame to at why) h = absurd h.1
   pump_at k x z none (faults.EarlyEnd sent taken) h = absurd h.1

@@ -36,8 +36,8 @@ use Rattle.hpx_tables.specs.Kept.{stands_here, waits_here, held_here}
 use Rattle.hpx_steps.specs.Sound.{FreesNone}
 use Rattle.hpx_tables.specs.Pending.{Waits, action_of}
 use Rattle.hpx_steps.specs.Turn.{parcel_frees}
-use Rattle.hpx_tables.specs.Tables.{Tables, fired_acts}
-use Rattle.hpx_tables.specs.declared.kept.Outgoing.{Outgoing}
+use Rattle.hpx_tables.specs.Tables.{Tables, messages, fired_acts}
+use Rattle.hpx_node.proofs.Messages.{messages_first}
 use Rattle.hpx_world.proofs.SentRight.{IsSentRight, below, arrivals_right}
 use Rattle.hpx_world.proofs.Shown.{IsCalm, IsShown, AreShown, legal, stands, covered}
 
@@ -92,8 +92,7 @@ module _ (r : Rules) (log : ℕ) (es : List Entry) (calm : IsCalm r es) (each : 
   dead : IsDeadIn o (replayed r es)
   dead =
       subst (λ j. IsDead o ((replayed r es).places j)) home
-      (subst (λ d. AllByRecursion (λ x. IsDead x ((replayed r es).places k)) (flat_map parcel_frees (d ++ map (λ (x : Outgoing). x.parcel) t.outgoing))) first
-      s.shows.counts.dead).0
+      (subst (λ ps. AllByRecursion (λ x. IsDead x ((replayed r es).places k)) (flat_map parcel_frees ps)) (messages_first t (Free o) rest first) s.shows.counts.dead).0
 
   gone : IsBornIn o (replayed r es) × (credit_sum r o (replayed r es) ≡ 0)
   gone = (legal_dies r es [] (subst (IsLegal r) (sym (append-nil es)) (legal r log es calm)) o).0 dead
@@ -116,8 +115,8 @@ module _ (r : Rules) (log : ℕ) (es : List Entry) (calm : IsCalm r es) (each : 
       omega (
         arith,
         one,
-        ap (λ d. sum_by (weight (FreesOf o)) (d ++ map (λ (x : Outgoing). x.parcel) t.outgoing)) first,
-        sum_by-cons (weight (FreesOf o)) (Free o) (rest ++ map (λ (x : Outgoing). x.parcel) t.outgoing),
+        ap (sum_by (weight (FreesOf o))) (messages_first t (Free o) rest first),
+        sum_by-cons (weight (FreesOf o)) (Free o) (messages (record t { desk = rest })),
       )
 
   kept : freeds o es ≡ 0

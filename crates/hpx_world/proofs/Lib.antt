@@ -34,6 +34,7 @@ pub mod ActsRight
 pub mod Rightly
 pub mod Strange
 pub mod Lacking
+pub mod Resting
 pub mod Settled
 pub mod AtHome
 pub mod Tabled

@@ -3,7 +3,7 @@ use Rattle.std.proofs.Common.{ℕ, List, Option, ◌≡◌, sym, subst}
 use Rattle.hpx_journal.specs.Data.{Id}
 use Rattle.hpx_journal.specs.Entries.{Frame}
 use Rattle.hpx_tables.specs.Tables.{Tables}
-use Rattle.hpx_world.specs.Turns.{IsStrangeFrame, HoldsStrangeFrame, HoldsRightFrame, IsStrangeMail}
+use Rattle.hpx_world.specs.Turns.{IsStrangeFrame, HoldsStrangeFrame, HoldsRightFrame, IsStrangeMail, IsRightMail, HasToSend}
 
 pub strange_frame_same : (xs ys : List Tables) (to : ℕ) (bytes : List ℕ) (rule : ℕ) (object : Id) (kept : ℕ)
     → ys ≡ xs → IsStrangeFrame xs to bytes rule object kept → IsStrangeFrame ys to bytes rule object kept
@@ -19,3 +19,9 @@ right_held_same xs ys hand e h = subst (λ ns. HoldsRightFrame ns hand) (sym e) 
 pub strange_mail_same : (xs ys : List Tables) (k rule : ℕ) (object : Id) (kept : ℕ)
     → ys ≡ xs → IsStrangeMail xs k rule object kept → IsStrangeMail ys k rule object kept
 strange_mail_same xs ys k rule object kept e h = subst (λ ns. IsStrangeMail ns k rule object kept) (sym e) h
+
+pub right_mail_same : (xs ys : List Tables) (k : ℕ) → ys ≡ xs → IsRightMail xs k → IsRightMail ys k
+right_mail_same xs ys k e h = subst (λ ns. IsRightMail ns k) (sym e) h
+
+pub to_send_same : (xs ys : List Tables) (k : ℕ) → ys ≡ xs → HasToSend xs k → HasToSend ys k
+to_send_same xs ys k e h = subst (λ ns. HasToSend ns k) (sym e) h

@@ -1,5 +1,5 @@
 -- Why a turn was refused, and what can come over a fabric that tells.
-use Rattle.std.specs.Prelude.{Option, Result, Ok, Err, IfErr, OnErr, Some, None, sum_by}
+use Rattle.std.specs.Prelude.{Option, Result, Ok, Err, IfErr, OnErr, None, sum_by}
 use Rattle.std.proofs.Common.{ℕ, ◌≡◌, ◌≢◌, ◌⊎◌, refl, sym, ap, ◌∙◌, subst, inl, inr}
 use Rattle.hpx_value.specs.declared.acts.Acts.{Ghosts}
 use Rattle.hpx_parcel.specs.declared.parcel.Why.{Why}
@@ -17,8 +17,8 @@ use Rattle.std.specs.Result.{IsErrAnd}
 use Rattle.hpx_value.specs.declared.acts.Done.{Done}
 use Rattle.hpx_world.specs.Steps.{DidHandOut}
 use Rattle.hpx_world.specs.Refusals.{Stays, StaysAll, IsFull, Refused, RefusedWork, CanCome, CanComeOfSteps}
-use Rattle.hpx_world.specs.Turns.{HoldsBadFrame, HoldsStrangeFrame, HoldsRightFrame}
-use Rattle.hpx_world.proofs.Refused.{strange_held_same, right_held_same}
+use Rattle.hpx_world.specs.Turns.{HoldsBadFrame, HoldsStrangeFrame, HoldsRightFrame, IsStrangeMail, IsRightMail, HasToSend}
+use Rattle.hpx_world.proofs.Refused.{strange_held_same, right_held_same, strange_mail_same, right_mail_same, to_send_same}
 
 pub outside_is : (x z : Outside) → z.hand ≡ x.hand → z.flight ≡ x.flight → z.trace ≡ x.trace → z ≡ x
 outside_is x z hand flight trace =
@@ -65,6 +65,34 @@ take_refused (Err (faults.JournalFull e w u)) x z room says = absurd (says.room 
 take_refused (Err (faults.OutOfMemory u)) x z room says =
     let m = says.memory u refl in (room, ((says.err, says.kept), m.0, right_held_same x.nodes z.nodes z.outside.hand says.err.tables m.1))
 take_refused (Err (faults.NotRun job)) x z room says = absurd (says.runs job refl)
+
+-- a message to the own locality k is refused
+pub desk_refused : {A : Type 0} {g : Ghosts A} (r : Result Turned (WorldFault A g)) (k : ℕ) (x z : Stage) → HasRoom x.entries → OnErr r (Stays x z)
+    → z.outside ≡ x.outside
+    → ((to rule : ℕ) (object : Id) (kept : ℕ) → r ≡ Err (faults.Strange to rule object kept) → (to ≡ k) × IsStrangeMail x.nodes k rule object kept)
+    → ((u : _) → r ≡ Err (faults.OutOfMemory u) → IsRightMail x.nodes k)
+    → IfErr r (λ e. (e ≡ faults.OutOfMemory None) ⊎ ((rule : ℕ) × (object : Id) × (kept : ℕ) × (e ≡ faults.Strange k rule object kept)))
+    → IfErr r (λ fault. Refused (choices.Desk k) fault x z)
+desk_refused (Ok t) k x z room same out strange right which = tt
+desk_refused (Err e) k x z room same out strange right (inl w) =
+    subst (λ f. Refused (choices.Desk k) f x z) (sym w)
+    (room, ((same, out), refl, right_mail_same x.nodes z.nodes k same.tables (right None (ap (λ f. Err f) w))))
+desk_refused (Err e) k x z room same out strange right (inr w) =
+    subst (λ f. Refused (choices.Desk k) f x z) (sym w.3)
+    (room, ((same, out), refl, strange_mail_same x.nodes z.nodes k w.0 w.1 w.2 same.tables (strange k w.0 w.1 w.2 (ap (λ f. Err f) w.3)).1))
+
+-- a message of k to another locality does not go
+pub pump_refused : {A : Type 0} {g : Ghosts A} (r : Result Turned (WorldFault A g)) (k : ℕ) (x z : Stage) → HasRoom x.entries → OnErr r (Stays x z)
+    → z.outside.hand ≡ x.outside.hand → OnErr r ((z.outside.flight ≡ x.outside.flight) × (z.outside.trace ≡ x.outside.trace))
+    → OnErr r (HasToSend x.nodes k) → IfErr r (λ e. (e ≡ faults.Fabric) ⊎ (e ≡ faults.OutOfMemory None))
+    → IfErr r (λ fault. Refused (choices.Pump k) fault x z)
+pump_refused (Ok t) k x z room same hand out waits which = tt
+pump_refused (Err e) k x z room same hand out waits (inl w) =
+    subst (λ f. Refused (choices.Pump k) f x z) (sym w)
+    (room, ((same, outside_is x.outside z.outside hand out.0 out.1), to_send_same x.nodes z.nodes k same.tables waits))
+pump_refused (Err e) k x z room same hand out waits (inr w) =
+    subst (λ f. Refused (choices.Pump k) f x z) (sym w)
+    (room, ((same, outside_is x.outside z.outside hand out.0 out.1), refl, to_send_same x.nodes z.nodes k same.tables waits))
 
 -- what can come, where three faults are excluded
 pub can_come : {T A : Type 0} {g : Ghosts A} (r : Result T (WorldFault A g)) (rules : Rules)

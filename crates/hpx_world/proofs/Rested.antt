@@ -1,11 +1,10 @@
 -- Where nothing is to be done, nothing is under way, and as many credits are held as there are names.
-use Rattle.std.proofs.Common.{ℕ, zero, suc, Bool, true, false, cond, List, [], ◌∷◌, ◌++◌, ◌≡◌, ◌<◌, length, map, Some, Option, refl, sym, ap, ◌∙◌, subst, arith}
+use Rattle.std.proofs.Common.{ℕ, zero, suc, Bool, true, false, cond, List, [], ◌∷◌, ◌≡◌, ◌<◌, length, map, Some, Option, refl, sym, ap, ◌∙◌, subst, arith}
 use Rattle.std.specs.Prelude.{flat_map}
 use Rattle.std.specs.List.{slice_get, sum_by, AllByRecursion}
 use Rattle.std.proofs.lemmas.List.Sums.{sum_by-cons, sum_by-append}
 use Rattle.hpx_value.specs.declared.profile.Profile.{Profile}
 use Rattle.hpx_parcel.specs.Credits.{Credit, credits_of}
-use Rattle.hpx_journal.specs.Data.{Act}
 use Rattle.hpx_journal.specs.Entries.{Rules, Frame, name_of}
 use Rattle.hpx_journal.specs.Laws.{HasGrammar, FreesTheDead, outs, ins}
 use Rattle.hpx_journal.specs.Local.{is_act, is_travel}
@@ -25,9 +24,9 @@ use Rattle.hpx_part.proofs.Keys.{own, travels, own_travel}
 use Rattle.hpx_steps.specs.Rest.{view, tokens, kept_ids, rules_of}
 use Rattle.hpx_steps.specs.Turn.{tokens_of, parcel_tokens, parcel_travels}
 use Rattle.hpx_tables.specs.Tables.{Tables, IsPassive, messages}
-use Rattle.hpx_tables.specs.declared.kept.Outgoing.{Outgoing}
 use Rattle.hpx_node.proofs.Numbers.{rest_shown}
 use Rattle.hpx_node.proofs.RowLaws.{frees_the_dead}
+use Rattle.hpx_node.proofs.Messages.{passive_none}
 use Rattle.hpx_world.specs.Sound.{Meaning, IsSound}
 use Rattle.hpx_world.specs.Quiet.{IsQuiet, IsAtRest}
 use Rattle.hpx_world.proofs.Counts.{sent_all, taken_all}
@@ -63,15 +62,10 @@ none_agrees test key own [] h = refl
 none_agrees test key own (x ∷ xs) h =
     absurd (omega (arith, h.counts (key x), sum_by-cons (counts_of (test (key x))) x xs, counts_true (test (key x)) x (own x)))
 
-no_messages : (t : Tables) → IsPassive t → messages t ≡ []
-no_messages t h =
-    ap (λ d. d ++ map (λ (x : Outgoing). x.parcel) t.outgoing) h.desk
-    ∙ ap (λ (xs : List Outgoing). map (λ (x : Outgoing). x.parcel) xs) h.outgoing
-
 -- nothing is under way where its tables stand
 pub passive_quiet : (t : Tables) (s : Local) → IsPassive t → Shows (view t [] []) s → IsQuietAt s
 passive_quiet t s h shows =
-    let none = no_messages t h in
+    let none = passive_none t h in
     record {
       waiting = none_agrees is_act name_of own s.waiting (subst (Agree is_act s.waiting) (waits t h none) shows.acts.waiting);
       fired = none_agrees is_act name_of own s.fired (subst (Agree is_act s.fired) (runs t h) shows.acts.fired);

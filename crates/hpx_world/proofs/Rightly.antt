@@ -20,9 +20,9 @@ use Rattle.hpx_steps.specs.Frames.{MayGoTo, IsForHere}
 use Rattle.hpx_tables.specs.Kept.{credit_in, credit_owed}
 use Rattle.hpx_steps.specs.Sound.{IsOwn, FreesNone, gives_for}
 use Rattle.hpx_tables.specs.Strange.{broken}
-use Rattle.hpx_tables.specs.Tables.{Tables}
-use Rattle.hpx_tables.specs.declared.kept.Outgoing.{Outgoing}
+use Rattle.hpx_tables.specs.Tables.{Tables, messages}
 use Rattle.hpx_steps.proofs.Puts.{target-bare}
+use Rattle.hpx_node.proofs.Messages.{messages_first}
 use Rattle.hpx_world.proofs.ActsRight.{road_acts, desk_acts}
 use Rattle.hpx_world.proofs.Freeable.{up_here, none_waits, none_held}
 use Rattle.hpx_world.proofs.SentRight.{IsSentRight, road_right}
@@ -92,8 +92,8 @@ module _ (r : Rules) (log : ℕ) (es : List Entry) (calm : IsCalm r es) (each : 
       arith,
       is,
       covered r log es calm k t s id,
-      ap (λ d. sum_by (credit_owed id) (d ++ map (λ (x : Outgoing). x.parcel) t.outgoing)) first,
-      sum_by-cons (credit_owed id) p (rest ++ map (λ (x : Outgoing). x.parcel) t.outgoing),
+      ap (sum_by (credit_owed id)) (messages_first t p rest first),
+      sum_by-cons (credit_owed id) p (messages (record t { desk = rest })),
     )
 
     owed_home : (id : Id) (to : ℕ) → (id.log ≡ None → ⊥) → credit id ≤ credit_sum r id (replayed r es) → to ≡ id.home → (to < r.localities → to ≡ k) → id.home ≡ k
@@ -142,7 +142,7 @@ module _ (r : Rules) (log : ℕ) (es : List Entry) (calm : IsCalm r es) (each : 
     pub desk_unbroken : (p : Parcel) → t.desk ≡ p ∷ rest → broken t p ≡ None
     desk_unbroken p first =
         let form : IsParcel p =
-        (subst (λ d. AllByRecursion IsParcel (d ++ map (λ (x : Outgoing). x.parcel) t.outgoing)) first s.tidy.messages).0 in
+        (subst (AllByRecursion IsParcel) (messages_first t p rest first) s.tidy.messages).0 in
         let way : IsForHere t.localities t.here p = (subst (AllByRecursion (IsForHere t.localities t.here)) first s.tidy.ways.1).0 in
         let mine : IsForHere r.localities k p =
         subst (λ n. IsForHere n k p) s.count (subst (λ j. IsForHere t.localities j p) s.here way) in

@@ -1,5 +1,5 @@
 -- Where each frame that was accepted had been sent, and nothing moves, no message is strange.
-use Rattle.std.proofs.Common.{ℕ, List, [], ◌≡◌, ◌⊎◌, Option, Some, length, sym, ap, subst, arith, inl, inr}
+use Rattle.std.proofs.Common.{ℕ, List, [], ◌≡◌, Option, Some, length, sym, ap, subst, arith, inl, inr}
 use Rattle.std.specs.List.{slice_get}
 use Rattle.hpx_value.specs.declared.profile.Profile.{Profile}
 use Rattle.hpx_journal.specs.Data.{Id}

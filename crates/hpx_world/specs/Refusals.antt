@@ -1,5 +1,5 @@
 -- What a turn does, by what it is asked; and why a turn, a step or steps were refused, by the fault.
-use Rattle.std.specs.Prelude.{ℕ, [], ◌≡◌, ◌≢◌, ◌≤◌, ◌<◌, ◌^◌, ◌-◌, ◌⊎◌, Option, Some, None, Result, Ok, Err, length, min, sum_by}
+use Rattle.std.specs.Prelude.{ℕ, ◌≡◌, ◌≢◌, ◌≤◌, ◌<◌, ◌^◌, ◌-◌, ◌⊎◌, Option, Some, None, Result, Ok, Err, length, min, sum_by}
 use Rattle.hpx_value.specs.declared.acts.Acts.{Ghosts}
 use Rattle.hpx_value.specs.declared.acts.Done.{Done}
 use Rattle.hpx_journal.specs.Entries.{Rules}
@@ -16,7 +16,7 @@ use Rattle.hpx_world.specs.Sound.{Meaning, IsSame}
 use Rattle.hpx_world.specs.Away.{Fetches, Puts, Keeps}
 use Rattle.hpx_world.specs.Stages.{Stage}
 use Rattle.hpx_world.specs.Steps.{IsEarly, DidHandOut, DidHandBack, GoesTo, NoneFires, NoneClears, NonePumps}
-use Rattle.hpx_world.specs.Turns.{DidFeed, DidFire, DidFinish, DidDesk, DidPump, DidTake, HoldsBadFrame, HoldsStrangeFrame, HoldsRightFrame, IsStrangeMail}
+use Rattle.hpx_world.specs.Turns.{DidFeed, DidFire, DidFinish, DidDesk, DidPump, DidTake, HoldsBadFrame, HoldsStrangeFrame, HoldsRightFrame, IsStrangeMail, IsRightMail, HasToSend}
 
 -- ---- what a turn does
 
@@ -98,17 +98,17 @@ RefusedTake (faults.EarlyEnd sent taken) x z =
 RefusedTake (faults.OutOfMemory undone) x z = StaysButHand x z × (undone ≡ None) × HoldsRightFrame z.nodes z.outside.hand
 RefusedTake _ x z = ⊥
 
--- a Desk at k: its oldest message breaks a rule
+-- a Desk at k: its oldest message breaks a rule, or for want of memory for one that breaks none
 abbrev pub RefusedDesk : {A : Type 0} {g : Ghosts A} → ℕ → WorldFault A g → Stage → Stage → Type 0
 RefusedDesk k (faults.Strange to rule object kept) x z = StaysAll x z × (to ≡ k) × IsStrangeMail z.nodes k rule object kept
-RefusedDesk k (faults.OutOfMemory undone) x z = StaysAll x z × (undone ≡ None)
+RefusedDesk k (faults.OutOfMemory undone) x z = StaysAll x z × (undone ≡ None) × IsRightMail z.nodes k
 RefusedDesk k _ x z = ⊥
 
--- a Pump: the fabric failed
-abbrev pub RefusedPump : {A : Type 0} {g : Ghosts A} → WorldFault A g → Stage → Stage → Type 0
-RefusedPump faults.Fabric x z = StaysAll x z
-RefusedPump (faults.OutOfMemory undone) x z = StaysAll x z × (undone ≡ None)
-RefusedPump _ x z = ⊥
+-- a Pump of k: the fabric failed, or for want of memory; a message waits there
+abbrev pub RefusedPump : {A : Type 0} {g : Ghosts A} → ℕ → WorldFault A g → Stage → Stage → Type 0
+RefusedPump k faults.Fabric x z = StaysAll x z × HasToSend z.nodes k
+RefusedPump k (faults.OutOfMemory undone) x z = StaysAll x z × (undone ≡ None) × HasToSend z.nodes k
+RefusedPump k _ x z = ⊥
 
 -- a Feed, a Fire or a Finish: for want of memory alone; a Done is handed back
 abbrev pub RefusedHere : {A : Type 0} {g : Ghosts A} → Option (Done A g) → WorldFault A g → Stage → Stage → Type 0
@@ -118,7 +118,7 @@ RefusedHere job _ x z = ⊥
 -- a turn in a journal with room
 abbrev pub RefusedBy : {A : Type 0} {g : Ghosts A} → Choice A g → WorldFault A g → Stage → Stage → Type 0
 RefusedBy (choices.Desk k) fault x z = RefusedDesk k fault x z
-RefusedBy (choices.Pump k) fault x z = RefusedPump fault x z
+RefusedBy (choices.Pump k) fault x z = RefusedPump k fault x z
 RefusedBy choices.Take fault x z = RefusedTake fault x z
 RefusedBy (choices.Finish done) fault x z = RefusedHere (Some done) fault x z
 RefusedBy _ fault x z = RefusedHere None fault x z

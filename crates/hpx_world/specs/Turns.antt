@@ -140,6 +140,14 @@ abbrev pub IsStrangeMail : List Tables → ℕ → ℕ → Id → ℕ → Type 0
 IsStrangeMail nodes k rule object kept =
     (t : Tables) × (slice_get nodes k ≡ Some t) × NotCleared t (desk_faults.Strange rule object kept)
 
+-- the oldest message to the own locality of k breaks none
+abbrev pub IsRightMail : List Tables → ℕ → Type 0
+IsRightMail nodes k = (t : Tables) × (slice_get nodes k ≡ Some t) × NotCleared t desk_faults.OutOfMemory
+
+-- a message to another locality waits at k
+abbrev pub HasToSend : List Tables → ℕ → Type 0
+HasToSend nodes k = (t : Tables) × (slice_get nodes k ≡ Some t) × (SendsNothing t → ⊥)
+
 -- why a frame to none of n localities is refused: it spells no parcel, or rule 9
 abbrev pub IsFarFault : ℕ → List ℕ → TakeFault → Type 0
 IsFarFault n bytes (take_faults.BadFrame at why) = IsBadFrame bytes at why

@@ -11,8 +11,8 @@ ghost use Rattle.hpx_ports.specs.Faults.{Rose};
 ghost use Rattle.hpx_node.specs.Locality.{tables_of};
 ghost use Rattle.hpx_world.specs.Sound.{IsSound, IsSame, DoneAt};
 ghost use Rattle.hpx_world.specs.Away.{IsCarrying, IsInside, Fetches, Puts, Keeps};
-ghost use Rattle.hpx_world.specs.Quiet.{IsQuiet, NoneRuns, running_in};
-ghost use Rattle.hpx_world.specs.Turns.{DidFeed, DidFire, DidFinish, DidDesk, DidPump, DidTake, IsBadFrame, IsStrangeFrame, IsStrangeMail, IsFarFault, IsRightFrame, HoldsBadFrame, HoldsStrangeFrame, HoldsRightFrame};
+ghost use Rattle.hpx_world.specs.Quiet.{IsQuiet, QueuesNothing, NoneRuns, running_in};
+ghost use Rattle.hpx_world.specs.Turns.{DidFeed, DidFire, DidFinish, DidDesk, DidPump, DidTake, IsBadFrame, IsStrangeFrame, IsStrangeMail, IsRightMail, HasToSend, IsFarFault, IsRightFrame, HoldsBadFrame, HoldsStrangeFrame, HoldsRightFrame};
 
 use crate::turns::{Turned, WorldFault};
 use hpx_journal::journal::Journal;
@@ -142,6 +142,15 @@ impl<A: Acts + Copy> Locals<A> {
         (sent, taken)
     }
 
+    /// Nothing waits anywhere until its object has moved.
+    pub fn rests(&self)
+        ensures { AllByRecursion QueuesNothing (tables_of self.now.nodes.items) }
+    {
+        for node in self.nodes.iter() {
+            node.rests();
+        }
+    }
+
     /// Whether each node is passive.
     fn are_passive(&self) -> bool
         ensures { IsTrue result ↔ AllByRecursion IsPassive (tables_of self.now.nodes.items) }
@@ -265,6 +274,7 @@ impl<A: Acts + Copy> Locals<A> {
         ensures err { OnErr result (IsSame (tables_of self.old.nodes.items) (tables_of self.new.nodes.items) self.old.journal.entries self.new.journal.entries) }
         ensures strange { (to : _) (rule : _) (object : _) (kept : _) → result ≡ Err (WorldFault.Strange to rule object kept) →
             (to ≡ k) × IsStrangeMail (tables_of self.old.nodes.items) k rule object kept }
+        ensures right { (u : _) → result ≡ Err (WorldFault.OutOfMemory u) → IsRightMail (tables_of self.old.nodes.items) k }
         ensures which { IfErr result (λ e. (e ≡ WorldFault.OutOfMemory None)
             ⊎ ((rule : _) × (object : _) × (kept : _) × (e ≡ WorldFault.Strange k rule object kept))) }
     {
@@ -298,6 +308,7 @@ impl<A: Acts + Copy> Locals<A> {
         ensures jobs { running_in (tables_of self.new.nodes.items) ≡ running_in (tables_of self.old.nodes.items) }
         ensures err { OnErr result (IsSame (tables_of self.old.nodes.items) (tables_of self.new.nodes.items) self.old.journal.entries self.new.journal.entries) }
         ensures kept_out { OnErr result ((F.flight fabric.new ≡ F.flight fabric.old) × (F.trace fabric.new ≡ F.trace fabric.old)) }
+        ensures waits { OnErr result (HasToSend (tables_of self.old.nodes.items) k) }
         ensures which { IfErr result (λ e. (e ≡ WorldFault.Fabric) ⊎ (e ≡ WorldFault.OutOfMemory None)) }
         ensures apart_empty { result ≡ Ok Turned.Empty → fabric.new ≡ fabric.old }
         ensures cause { result ≡ Err WorldFault.Fabric → Rose (F.faults fabric.old) (F.faults fabric.new) }

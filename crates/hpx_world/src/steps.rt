@@ -220,6 +220,7 @@ impl<A: Acts + Copy> World<A> {
     {
         while self.step(alloc, fabric)? {}
         self.standing();
+        self.rests();
         self.settled()
     }
 }

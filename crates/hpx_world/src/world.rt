@@ -11,7 +11,7 @@ ghost use Rattle.hpx_ports.specs.Faults.{Rose};
 ghost use Rattle.hpx_world.specs.Places.{rules_in};
 ghost use Rattle.hpx_world.specs.Sound.{IsSound, IsSame};
 ghost use Rattle.hpx_world.specs.Away.{IsCarrying, Fetches, Puts, Keeps};
-ghost use Rattle.hpx_world.specs.Quiet.{IsQuiet, IsAtRest, NoneRuns, running_in};
+ghost use Rattle.hpx_world.specs.Quiet.{IsQuiet, IsAtRest, QueuesNothing, NoneRuns, running_in};
 ghost use Rattle.hpx_world.specs.Promises.{KeepsPromises};
 ghost use Rattle.hpx_world.specs.Audit.{audit_lines, HaveRecords, AreOrdered, StandAtHome, IsAudit};
 ghost use Rattle.hpx_world.specs.Stages.{stage};
@@ -143,6 +143,13 @@ impl<A: Acts + Copy> World<A> {
         ensures { IsSound A.act_of self.now.profile self.now.nodes self.now.journal.entries }
     {
         let _acts = &self.acts;
+    }
+
+    /// Nothing waits anywhere until its object has moved.
+    pub(crate) fn rests(&self)
+        ensures { AllByRecursion QueuesNothing self.now.nodes }
+    {
+        self.locals.rests();
     }
 
     /// Whether no job is out anywhere.

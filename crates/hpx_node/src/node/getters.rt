@@ -1,20 +1,44 @@
 //! What stands at a locality, and the credit that is there.
-ghost use Rattle.std.specs.Prelude.{◌≡◌, ◌+◌, ◌-◌, ◌^◌, min, length, find, option_map, slice_get};
+ghost use Rattle.std.specs.Prelude.{◌≡◌, ◌+◌, ◌-◌, ◌^◌, min, length, find, option_map, slice_get, sum_by};
 ghost use Rattle.hpx_value.specs.Hands.{session};
 ghost use Rattle.hpx_journal.specs.Local.{is_standing};
 ghost use Rattle.hpx_agas.specs.declared.record.Record.{Record};
 ghost use Rattle.hpx_tables.specs.Awaited.{drawn_by, awaited_here};
 ghost use Rattle.hpx_tables.specs.Tables.{messages};
-ghost use Rattle.hpx_tables.specs.Kept.{stands_here, held_here, owed_here, count_here, place_here, HasRecords};
+ghost use Rattle.hpx_tables.specs.Kept.{stands_here, credit_in, ids_held, credit_owed, held_here, owed_here, count_here, place_here, HasRecords};
 
 use crate::node::Node;
+use hpx_agas::records::Records;
 use hpx_tables::credit::{
-    held_in_accepted, held_in_commits, held_in_running, held_in_states, held_on_desk,
-    held_on_the_way, owed_on_desk, owed_on_the_way,
+    held_in_accepted, held_in_commits, held_in_letters, held_in_parcel, held_in_running,
+    held_in_states, held_on_the_way, owed_in_letters, owed_in_parcel, owed_on_the_way,
 };
+use hpx_tables::kept::Letter;
 use hpx_value::acts::Acts;
 use hpx_value::codes::SESSION;
 use hpx_value::gid::Gid;
+
+/// The credit of an object in what waits until its object has moved.
+fn held_in_queues(records: &Records<Letter>, o: Gid) -> u128
+    ensures { result ≡ min (2 ^ 128 - 1) (sum_by (λ w. credit_in o (ids_held w.item)) records.now.waiting) }
+{
+    records.weight(
+        |letter|
+            ensures { result ≡ min (2 ^ 128 - 1) (credit_in o (ids_held letter.now)) }
+        { held_in_parcel(letter.parcel(), o) },
+    )
+}
+
+/// What is owed there.
+fn owed_in_queues(records: &Records<Letter>, o: Gid) -> u128
+    ensures { result ≡ min (2 ^ 128 - 1) (sum_by (λ w. credit_owed o w.item) records.now.waiting) }
+{
+    records.weight(
+        |letter|
+            ensures { result ≡ min (2 ^ 128 - 1) (credit_owed o letter.now) }
+        { owed_in_parcel(letter.parcel(), o) },
+    )
+}
 
 impl<A: Acts + Copy> Node<A> {
     /// Whether an object stands here.
@@ -64,16 +88,31 @@ impl<A: Acts + Copy> Node<A> {
             .saturating_add(held_in_accepted(&self.accepted, o))
             .saturating_add(held_in_running(self.running.as_slice(), o))
             .saturating_add(held_in_commits(self.pending.as_slice(), o))
-            .saturating_add(held_on_desk(&self.desk, o))
+            .saturating_add(self.held_in_messages(o))
+    }
+
+    /// The same in messages: on their way, and those that wait for an object to come or to leave.
+    fn held_in_messages(&self, o: Gid) -> u128
+        ensures { result ≡ min (2 ^ 128 - 1) (sum_by (λ p. credit_in o (ids_held p)) (messages self.now.tables)) }
+    {
+        held_in_letters(&self.desk, o)
             .saturating_add(held_on_the_way(&self.outgoing, o))
+            .saturating_add(held_in_queues(&self.records, o))
+            .saturating_add(held_in_letters(&self.leaving, o))
+            .saturating_add(held_in_letters(&self.stray, o))
     }
 
     /// The credit of an object in messages here that bring it home, or ask for more.
     pub fn owed(&self, o: Gid) -> u128
         ensures { result ≡ min (2 ^ 128 - 1) (owed_here self.now.tables o) }
     {
-        owed_on_desk(&self.desk, o).saturating_add(owed_on_the_way(&self.outgoing, o))
+        owed_in_letters(&self.desk, o)
+            .saturating_add(owed_on_the_way(&self.outgoing, o))
+            .saturating_add(owed_in_queues(&self.records, o))
+            .saturating_add(owed_in_letters(&self.leaving, o))
+            .saturating_add(owed_in_letters(&self.stray, o))
     }
+
     /// How many slots the session has drawn, where it stands here.
     fn drawn(&self) -> u64
         ensures { result ≡ drawn_by (find (is_standing session) self.now.tables.objects) }

@@ -26,10 +26,12 @@ returns-clause-cause g c = let a = c.answer-answered.ensures in
 pub returns-clause-status : goal.returns-clause-status
 returns-clause-status g c = status_is c.answer-answered.result c.answer-answered.ensures.no_frame c.answer-answered.ensures.no_parcel
 
--- the profile is the one of the boot
+pub returns-clause-places : goal.returns-clause-places
+returns-clause-places g c = (c.answer-answered.ensures.count ∙ c.in-Ok.ensures.count, c.answer-answered.ensures.profile ∙ c.in-Ok.ensures.profile)
+
 pub returns-clause-lawful : goal.returns-clause-lawful
 returns-clause-lawful g c =
-    lawful_of c.answer-answered.new.world _ _ (c.answer-answered.ensures.profile ∙ c.in-Ok.ensures.profile) c.law.ensures.within c.law.ensures.promises c.law.ensures.audit
+    lawful_of c.answer-answered.new.world _ _ c.law.ensures.within c.law.ensures.promises c.law.ensures.audit
     c.law.ensures.at_home c.answer-answered.ensures.carrying
 
 pub returns-clause-ended : goal.returns-clause-ended

@@ -4,8 +4,9 @@ use Rattle.hpx_top.proofs.session.serve.Goals as goal
 
 pub returns-clause-served : goal.returns-clause-served
 returns-clause-served g c = let s = c.serve_lines.ensures in
-    λ input h. served_of _ c.serve_lines.result c.serve_lines.new.world input _ _ (s.reads input h) (s.whole input h) (s.read_up input h) (s.begun input h) (s.ended input h)
-    (s.short input h) (s.read_on input h) (s.input input h)
+    λ input said h tells. served_of said c.serve_lines.result c.serve_lines.new.world input _ _ (s.reads input h) (s.whole input said h tells) (s.read_up input h)
+    (s.begun input said h tells) (s.ended input said h tells)
+    (s.short input said h tells) (s.read_on input h) (s.input input h)
 
 pub returns-clause-cause : goal.returns-clause-cause
 returns-clause-cause g c = let s = c.serve_lines.ensures in

@@ -1,46 +1,47 @@
-use Rattle.std.proofs.Common.{ℕ, List, Option, ◌≡◌, ◌+◌, length, Ok, Err, refl, sym, ap, ◌∙◌, arith, subst}
+use Rattle.std.proofs.Common.{ℕ, List, Option, ◌≡◌, ◌+◌, length, Ok, Err, refl, sym, ap, ◌∙◌, arith, subst, inl}
 use Rattle.hpx_top.specs.declared.session.SessionFault.TheVariants.{Read, OutOfMemory, InputFull}
 use Rattle.hpx_ports.specs.Told.{followed}
-use Rattle.hpx_top.specs.Session.{IsAmple, IsCutAt, WritesFront}
+use Rattle.hpx_top.specs.Session.{shown_in, WritesFront}
 use Rattle.hpx_top.proofs.ShowLemmas.{if_err_from, err_of, no_err}
+use Rattle.hpx_top.proofs.LineLemmas.{grows, said_none, tells_as}
 use Rattle.hpx_top.proofs.SessionLemmas.{serving_open-at, under_start}
 use Rattle.hpx_journal.specs.Weights.{HasRoom}
 use Rattle.hpx_top.proofs.FeedLemmas.{same_rules, cut_write, cut_opening, room_none}
-use Rattle.hpx_top.proofs.EndLemmas.{all_lines, whole_from, begun_over, read_up_from, read_on_from, read_from, read_from_none, ended_from, begun_from, ended_opening, begun_opening, read_none, cut_same, over_same, behind_start, behind_more, short_from, short_opening}
+use Rattle.hpx_top.proofs.EndLemmas.{all_lines, whole_from, begun_over, read_up_from, read_on_from, read_from, read_from_none, ended_from, begun_from, ended_opening, begun_opening, read_none, behind_start, behind_more, short_from, short_opening}
 use Rattle.hpx_top.proofs.session.serve_lines.Goals as goal
 
 -- the front of a text that is another
-said : {text other : List ℕ} {old new : Option (List ℕ)} → text ≡ other → WritesFront text old new → WritesFront other old new
-said {text} {other} {old} {new} same w = subst (λ t. WritesFront t old new) same w
+of_text : {text other : List ℕ} {old new : Option (List ℕ)} → text ≡ other → WritesFront text old new → WritesFront other old new
+of_text {text} {other} {old} {new} same w = subst (λ t. WritesFront t old new) same w
 
 pub returns-in_err-write-clause-ended : goal.returns-in_err-write-clause-ended
 returns-in_err-write-clause-ended g c =
     let all = all_lines (g.S.Source.left c.args.source.now) in
-    let under = under_start (length c.args.world.now.nodes) all (g.K.Sink.held c.args.sink.now) (g.K.Sink.held c.write.new.sink) c.args.world.now.journal.entries c.requires.empty (said c.help.ensures c.in_err-write.ensures.front) in
-    λ input h. if_err_from c.from_residual.result c.in_err-write.field-0.0 _ c.from_residual.ensures.1
-    (ended_from (length c.args.world.now.nodes) c.in_err-write.field-0.0 input (g.S.Source.left c.args.source.now) c.args.world.now.journal.entries
-    (g.K.Sink.held c.args.sink.now) (g.K.Sink.held c.write.new.sink) h
-    (cut_write c.in_err-write.field-0.0 (length c.args.world.now.nodes) all _ _ _ c.in_err-write.ensures.cause.0 under))
+    λ input said h tells. if_err_from c.from_residual.result c.in_err-write.field-0.0 _ c.from_residual.ensures.1
+    (ended_from said c.in_err-write.field-0.0 input (g.S.Source.left c.args.source.now) c.args.world.now.journal.entries
+    (g.K.Sink.held c.args.sink.now) (g.K.Sink.held c.write.new.sink) (grows (length c.args.world.now.nodes) c.args.world.now.journal.entries said tells) h
+    (cut_write c.in_err-write.field-0.0 said all _ _ _ c.in_err-write.ensures.cause.0
+    (under_start said all (g.K.Sink.held c.args.sink.now) (g.K.Sink.held c.write.new.sink) c.args.world.now.journal.entries c.requires.empty (of_text c.help.ensures c.in_err-write.ensures.front))))
 
 pub returns-in_err-write-clause-begun : goal.returns-in_err-write-clause-begun
 returns-in_err-write-clause-begun g c =
     let all = all_lines (g.S.Source.left c.args.source.now) in
-    let under = under_start (length c.args.world.now.nodes) all (g.K.Sink.held c.args.sink.now) (g.K.Sink.held c.write.new.sink) c.args.world.now.journal.entries c.requires.empty (said c.help.ensures c.in_err-write.ensures.front) in
-    λ input h. begun_from (length c.args.world.now.nodes) c.in_err-write.field-0.0 input (g.S.Source.left c.args.source.now) c.args.world.now.journal.entries
-    (g.K.Sink.held c.args.sink.now) (g.K.Sink.held c.write.new.sink) h
-    (cut_write c.in_err-write.field-0.0 (length c.args.world.now.nodes) all _ _ _ c.in_err-write.ensures.cause.0 under)
+    λ input said h tells. begun_from said c.in_err-write.field-0.0 input (g.S.Source.left c.args.source.now) c.args.world.now.journal.entries
+    (g.K.Sink.held c.args.sink.now) (g.K.Sink.held c.write.new.sink) (grows (length c.args.world.now.nodes) c.args.world.now.journal.entries said tells) h
+    (cut_write c.in_err-write.field-0.0 said all _ _ _ c.in_err-write.ensures.cause.0
+    (under_start said all (g.K.Sink.held c.args.sink.now) (g.K.Sink.held c.write.new.sink) c.args.world.now.journal.entries c.requires.empty (of_text c.help.ensures c.in_err-write.ensures.front)))
 
 -- the accumulator was not made
 pub returns-in_err-open-clause-ended : goal.returns-in_err-open-clause-ended
 returns-in_err-open-clause-ended g c =
     let cut = cut_opening (g.K.Sink.held c.args.sink.now) (g.K.Sink.held c.write.new.sink) _ _ c.requires.empty c.in_err-open.ensures.once (c.in_ok-write.ensures.held ∙ ap (followed (g.K.Sink.held c.args.sink.now)) c.help.ensures) in
-    λ input h. if_err_from c.from_residual-in_err-open.result c.in_err-open.field-0.0 _ c.from_residual-in_err-open.ensures.1
-    (ended_opening (length c.args.world.now.nodes) c.in_err-open.field-0.0 input _ (g.K.Sink.held c.args.sink.now) (g.K.Sink.held c.write.new.sink) c.in_err-open.ensures.other cut)
+    λ input said h tells. if_err_from c.from_residual-in_err-open.result c.in_err-open.field-0.0 _ c.from_residual-in_err-open.ensures.1
+    (ended_opening said c.in_err-open.field-0.0 input _ (g.K.Sink.held c.args.sink.now) (g.K.Sink.held c.write.new.sink) c.in_err-open.ensures.other cut)
 
 pub returns-in_err-open-clause-begun : goal.returns-in_err-open-clause-begun
 returns-in_err-open-clause-begun g c =
     let cut = cut_opening (g.K.Sink.held c.args.sink.now) (g.K.Sink.held c.write.new.sink) _ _ c.requires.empty c.in_err-open.ensures.once (c.in_ok-write.ensures.held ∙ ap (followed (g.K.Sink.held c.args.sink.now)) c.help.ensures) in
-    λ input h. begun_opening (length c.args.world.now.nodes) input _ (g.K.Sink.held c.args.sink.now) (g.K.Sink.held c.write.new.sink) cut
+    λ input said h tells. begun_opening said input _ (g.K.Sink.held c.args.sink.now) (g.K.Sink.held c.write.new.sink) (grows (length c.args.world.now.nodes) c.open.new.world.journal.entries said tells) (said_none (length c.args.world.now.nodes) c.open.new.world.journal.entries said tells) cut
 
 -- nothing was read
 pub returns-in_err-open-clause-reads : goal.returns-in_err-open-clause-reads
@@ -64,7 +65,6 @@ loop-reader-init g c = record {
   counted = rw c.new-reader.ensures (omega arith);
   limit = rw c.new-reader.ensures (omega arith);
   rest = c.in_ok-open.ensures.rest;
-  ample = subst IsAmple (sym c.open.ensures.profile) c.requires.ample;
   profile = c.open.ensures.profile;
   carrying = c.open.ensures.carrying;
   count = c.open.ensures.count;
@@ -90,7 +90,6 @@ loop-reader-preserved g c =
       counted = omega (arith, c.loop-reader.invariant.counted, c.serve_line.ensures.counted);
       limit = c.serve_line.ensures.limit c.loop-reader.invariant.limit;
       rest = c.in_ok-serve_line.ensures.rest;
-      ample = subst IsAmple (sym c.serve_line.ensures.profile) c.loop-reader.invariant.ample;
       profile = c.serve_line.ensures.profile ∙ c.loop-reader.invariant.profile;
       carrying = c.serve_line.ensures.carrying;
       count = c.serve_line.ensures.count ∙ c.loop-reader.invariant.count;
@@ -103,17 +102,17 @@ loop-reader-preserved g c =
 pub returns-in_err-serve_line-clause-ended : goal.returns-in_err-serve_line-clause-ended
 returns-in_err-serve_line-clause-ended g c =
     let serving = rw (← same_rules c.args.world.now c.loop-reader.world c.loop-reader.invariant.count c.loop-reader.invariant.profile) at c.loop-reader.invariant.handling.serving.0 in
-    let cut = cut_same c.in_err-serve_line.field-0.0 (all_lines (g.S.Source.left c.args.source.now)) (g.K.Sink.held c.args.sink.now) (g.K.Sink.held c.serve_line.new.sink)
-    c.serve_line.new.world.journal.entries (length c.loop-reader.world.nodes) (length c.args.world.now.nodes) c.loop-reader.invariant.count (c.in_err-serve_line.ensures.err _ _ serving) in
-    λ input h. if_err_from c.from_residual-in_err-serve_line.result c.in_err-serve_line.field-0.0 _ c.from_residual-in_err-serve_line.ensures.1
-    (ended_from (length c.args.world.now.nodes) c.in_err-serve_line.field-0.0 input (g.S.Source.left c.args.source.now) _ _ _ h cut)
+    λ input said h tells.
+    let cut = c.in_err-serve_line.ensures.err _ _ serving said (tells_as (length c.loop-reader.world.nodes) (length c.args.world.now.nodes) c.serve_line.new.world.journal.entries said c.loop-reader.invariant.count tells) in
+    if_err_from c.from_residual-in_err-serve_line.result c.in_err-serve_line.field-0.0 _ c.from_residual-in_err-serve_line.ensures.1
+    (ended_from said c.in_err-serve_line.field-0.0 input (g.S.Source.left c.args.source.now) _ _ _ (grows (length c.args.world.now.nodes) c.serve_line.new.world.journal.entries said tells) h cut)
 
 pub returns-in_err-serve_line-clause-begun : goal.returns-in_err-serve_line-clause-begun
 returns-in_err-serve_line-clause-begun g c =
     let serving = rw (← same_rules c.args.world.now c.loop-reader.world c.loop-reader.invariant.count c.loop-reader.invariant.profile) at c.loop-reader.invariant.handling.serving.0 in
-    let cut = cut_same c.in_err-serve_line.field-0.0 (all_lines (g.S.Source.left c.args.source.now)) (g.K.Sink.held c.args.sink.now) (g.K.Sink.held c.serve_line.new.sink)
-    c.serve_line.new.world.journal.entries (length c.loop-reader.world.nodes) (length c.args.world.now.nodes) c.loop-reader.invariant.count (c.in_err-serve_line.ensures.err _ _ serving) in
-    λ input h. begun_from (length c.args.world.now.nodes) c.in_err-serve_line.field-0.0 input (g.S.Source.left c.args.source.now) _ _ _ h cut
+    λ input said h tells.
+    let cut = c.in_err-serve_line.ensures.err _ _ serving said (tells_as (length c.loop-reader.world.nodes) (length c.args.world.now.nodes) c.serve_line.new.world.journal.entries said c.loop-reader.invariant.count tells) in
+    begun_from said c.in_err-serve_line.field-0.0 input (g.S.Source.left c.args.source.now) _ _ _ (grows (length c.args.world.now.nodes) c.serve_line.new.world.journal.entries said tells) h cut
 
 pub returns-in_err-serve_line-clause-input : goal.returns-in_err-serve_line-clause-input
 returns-in_err-serve_line-clause-input g c =
@@ -127,19 +126,17 @@ pub returns-in_err-serve_line-clause-short : goal.returns-in_err-serve_line-clau
 returns-in_err-serve_line-clause-short g c =
     let was = c.loop-reader.invariant.handling in
     let serving = rw (← same_rules c.args.world.now c.loop-reader.world c.loop-reader.invariant.count c.loop-reader.invariant.profile) at was.serving in
-    λ input h e.
+    λ input said h tells e.
     let is = ap (λ f. Err f) (err_of c.from_residual-in_err-serve_line.result c.in_err-serve_line.field-0.0 OutOfMemory c.from_residual-in_err-serve_line.ensures.1 e) in
-    let cut = subst (λ n. IsCutAt was.count n 1 (all_lines (g.S.Source.left c.args.source.now)) (g.K.Sink.held c.args.sink.now)
-    c.serve_line.new.world.journal.entries (g.K.Sink.held c.serve_line.new.sink)) c.loop-reader.invariant.count
-    (c.in_err-serve_line.ensures.short is _ _ was.count serving) in
-    short_from was.count (length c.args.world.now.nodes) input (g.S.Source.left c.args.source.now) _ (g.S.Source.left c.serve_line.new.source) c.serve_line.new.reader
+    let cut = c.in_err-serve_line.ensures.short is _ _ was.count serving said (tells_as (length c.loop-reader.world.nodes) (length c.args.world.now.nodes) c.serve_line.new.world.journal.entries said c.loop-reader.invariant.count tells) in
+    short_from was.count said input (g.S.Source.left c.args.source.now) _ (g.S.Source.left c.serve_line.new.source) c.serve_line.new.reader
     c.serve_line.new.world.journal.entries (g.K.Sink.held c.args.sink.now) (g.K.Sink.held c.serve_line.new.sink) h cut was.behind_is
     (c.serve_line.ensures.reads _ c.loop-reader.invariant.reads) (c.in_err-serve_line.ensures.out is)
 
 pub returns-in_err-open-clause-short : goal.returns-in_err-open-clause-short
 returns-in_err-open-clause-short g c =
     let cut = cut_opening (g.K.Sink.held c.args.sink.now) (g.K.Sink.held c.write.new.sink) _ _ c.requires.empty c.in_err-open.ensures.once (c.in_ok-write.ensures.held ∙ ap (followed (g.K.Sink.held c.args.sink.now)) c.help.ensures) in
-    λ input h e. short_opening (length c.args.world.now.nodes) input (g.S.Source.left c.args.source.now) _ (g.K.Sink.held c.args.sink.now) (g.K.Sink.held c.write.new.sink) cut
+    λ input said h tells e. short_opening said input (g.S.Source.left c.args.source.now) _ (g.K.Sink.held c.args.sink.now) (g.K.Sink.held c.write.new.sink) cut
 
 pub returns-in_err-serve_line-clause-read_on : goal.returns-in_err-serve_line-clause-read_on
 returns-in_err-serve_line-clause-read_on g c =
@@ -184,19 +181,22 @@ returns-clause-limit g c =
 pub returns-clause-whole : goal.returns-clause-whole
 returns-clause-whole g c =
     let serving = rw (← same_rules c.args.world.now c.loop-reader.world c.loop-reader.invariant.count c.loop-reader.invariant.profile) at c.loop-reader.invariant.handling.serving.0 in
-    let over = over_same (length c.loop-reader.world.nodes) (length c.args.world.now.nodes) c.loop-reader.invariant.count (c.in_ok-serve_line.ensures.over (ap (λ b. Ok b) c.if-branch.false) _ _ serving) in
-    λ input h. whole_from (length c.args.world.now.nodes) c.serve_line.new.reader.ended input (g.S.Source.left c.args.source.now) _ _ _ h over
+    λ input said h tells.
+    let over = c.in_ok-serve_line.ensures.over (ap (λ b. Ok b) c.if-branch.false) _ _ serving said (tells_as (length c.loop-reader.world.nodes) (length c.args.world.now.nodes) c.serve_line.new.world.journal.entries said c.loop-reader.invariant.count tells) in
+    whole_from said c.serve_line.new.reader.ended input (g.S.Source.left c.args.source.now) _ _ _ h over
 
 pub returns-clause-read_up : goal.returns-clause-read_up
 returns-clause-read_up g c =
     let serving = rw (← same_rules c.args.world.now c.loop-reader.world c.loop-reader.invariant.count c.loop-reader.invariant.profile) at c.loop-reader.invariant.handling.serving.0 in
-    let over = over_same (length c.loop-reader.world.nodes) (length c.args.world.now.nodes) c.loop-reader.invariant.count (c.in_ok-serve_line.ensures.over (ap (λ b. Ok b) c.if-branch.false) _ _ serving) in
-    λ input h. read_up_from (length c.args.world.now.nodes) c.serve_line.new.reader.ended input (g.S.Source.left c.args.source.now) (g.S.Source.left c.serve_line.new.source)
+    let said = shown_in c.serve_line.new.world.journal.entries in
+    let over = c.in_ok-serve_line.ensures.over (ap (λ b. Ok b) c.if-branch.false) _ _ serving said (inl refl) in
+    λ input h. read_up_from said c.serve_line.new.reader.ended input (g.S.Source.left c.args.source.now) (g.S.Source.left c.serve_line.new.source)
     c.serve_line.new.reader c.serve_line.new.world.journal.entries (g.K.Sink.held c.args.sink.now) (g.K.Sink.held c.serve_line.new.sink) h over
     (c.serve_line.ensures.reads _ c.loop-reader.invariant.reads) refl
 
 pub returns-clause-begun : goal.returns-clause-begun
 returns-clause-begun g c =
     let serving = rw (← same_rules c.args.world.now c.loop-reader.world c.loop-reader.invariant.count c.loop-reader.invariant.profile) at c.loop-reader.invariant.handling.serving.0 in
-    let over = over_same (length c.loop-reader.world.nodes) (length c.args.world.now.nodes) c.loop-reader.invariant.count (c.in_ok-serve_line.ensures.over (ap (λ b. Ok b) c.if-branch.false) _ _ serving) in
-    λ input h. begun_over (length c.args.world.now.nodes) c.serve_line.new.reader.ended input (g.S.Source.left c.args.source.now) _ _ _ h over
+    λ input said h tells.
+    let over = c.in_ok-serve_line.ensures.over (ap (λ b. Ok b) c.if-branch.false) _ _ serving said (tells_as (length c.loop-reader.world.nodes) (length c.args.world.now.nodes) c.serve_line.new.world.journal.entries said c.loop-reader.invariant.count tells) in
+    begun_over said c.serve_line.new.reader.ended input (g.S.Source.left c.args.source.now) _ _ _ (grows (length c.args.world.now.nodes) c.serve_line.new.world.journal.entries said tells) h over

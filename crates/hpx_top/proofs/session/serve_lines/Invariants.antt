@@ -2,7 +2,7 @@ use Rattle.std.proofs.Common.{◌≡◌, ◌+◌, ◌≤◌, [], false, length}
 use Rattle.hpx_journal.specs.Weights.{HasRoom}
 use Rattle.hpx_world.specs.Away.{IsCarrying}
 use Rattle.hpx_top.specs.Reader.{HasRead, bytes_left, lines_left}
-use Rattle.hpx_top.specs.Session.{rules, IsAmple, IsRested, IsHandling}
+use Rattle.hpx_top.specs.Session.{rules, IsRested, IsHandling}
 use Rattle.hpx_top.proofs.session.serve_lines.Given as goal
 
 abbrev pub invariant-loop-reader : goal.invariant-loop-reader
@@ -15,7 +15,6 @@ invariant-loop-reader g l =
       counted : l.reader.read + g.S.Source.taken l.fn.source ≡ g.S.Source.taken l.source;
       limit : l.reader.read ≤ 67108864;
       rest : IsRested l.world;
-      ample : IsAmple l.world.profile;
       profile : l.world.profile ≡ l.fn.world.profile;
       carrying : IsCarrying (rules l.world) l.world.hand (g.F.Fabric.flight l.fabric) (g.F.Fabric.trace l.fabric) l.world.journal.entries;
       count : length l.world.nodes ≡ length l.fn.world.nodes;

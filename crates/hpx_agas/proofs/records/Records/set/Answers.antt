@@ -3,7 +3,8 @@ use Rattle.std.specs.Prelude.{if◌then◌else◌}
 use Rattle.hpx_agas.specs.Records.{find_record}
 use Rattle.hpx_agas.specs.Queues.{items_of}
 use Rattle.hpx_agas.specs.Registries.{IsKept}
-use Rattle.hpx_agas.proofs.RegistriesLemmas.{set_found, set_others, set_queues, set_good, set_there}
+use Rattle.hpx_agas.proofs.RegistriesLemmas.{set_found, set_others, set_queues, set_good, set_same, set_there}
+use Rattle.hpx_agas.proofs.SeenLemmas.{remade_like}
 use Rattle.hpx_agas.proofs.records.Records.set.Goals as goal
 
 pub put-requires : goal.put-requires
@@ -28,6 +29,12 @@ invariant_of-self g c =
       good = set_good c.self.inside.table.records c.put.new.self.records c.args.gid c.args.made c.put.ensures.found there c.self.inside.here c.self.inside.table.births c.self.inside.profile kept.good c.requires.least most;
       unborn = kept.unborn;
     }))
+
+pub returns-clause-records : goal.returns-clause-records
+returns-clause-records g c =
+    let there = rw (← c.self.view_is) at c.requires.there in
+    rw (← c.self.view_is)
+    (c.put.ensures.records ∙ remade_like c.args.made.gid c.args.gid (λ _. c.args.made) c.self.inside.table.records (set_same c.self.inside.table.records c.args.gid c.args.made there))
 
 pub returns-clause-record : goal.returns-clause-record
 returns-clause-record g c =

@@ -1,9 +1,7 @@
-use Rattle.std.proofs.Common.{◌≡◌, ◌∙◌, ◌∷◌, [], length, drop, sym, ap, refl, arith, sum_by, length-append}
-use Rattle.std.proofs.lemmas.List.Sums.{sum_by-append, sum_by-cons}
-use Rattle.hpx_agas.specs.Queues.{waits}
-use Rattle.hpx_agas.specs.Lines.{in_place}
+use Rattle.std.proofs.Common.{◌≡◌, ◌∙◌, ◌∷◌, [], length, drop, sym, ap, refl, arith, length-append}
+use Rattle.hpx_agas.specs.Lines.{in_place, waiting_of}
 use Rattle.hpx_agas.proofs.TablesLemmas.{queue_within}
-use Rattle.hpx_agas.proofs.SeenLemmas.{there, requeued, weight_first, untouched}
+use Rattle.hpx_agas.proofs.SeenLemmas.{there, requeued, weight_first, untouched, first_placed, first_found}
 use Rattle.hpx_agas.proofs.table.Table.pop.Goals as goal
 
 pub pop-requires : goal.pop-requires
@@ -88,17 +86,22 @@ returns-clause-others g c =
     let r = requeued c.self.inside.births c.args.gid.number (λ q. drop 1 q) t.line c.self.inside.lines c.pop.new.self c.self.invariant.lines t.found is in
     rw (← c.self.view_is) r.others
 
-pub returns-clause-sums : goal.returns-clause-sums
-returns-clause-sums g c =
+pub returns-clause-first : goal.returns-clause-first
+returns-clause-first g c =
     let t = there c.args.gid 0 c.self.inside.births c.self.inside.lines c.self.invariant.lines (rw (← c.self.view_is) at c.requires) in
     let is : c.pop.new.self ≡ in_place c.args.gid.number (λ l. record l { queue = drop 1 l.queue } ∷ []) c.self.inside.lines = rw c.number.ensures at c.pop.ensures.lines in
     let first : t.line.queue ≡ c.in_ok-item.item ∷ drop 1 t.line.queue = rw (c.in_ok-item.was, c.number.ensures, t.found) at c.pop.ensures.item in
     let r = requeued c.self.inside.births c.args.gid.number (λ q. drop 1 q) t.line c.self.inside.lines c.pop.new.self c.self.invariant.lines t.found is in
     rw (← c.self.view_is)
-    (λ f.
-    let one = r.weights (λ ws. sum_by f ws) (λ xs ys. sum_by-append f xs ys) in
-    let two = weight_first (λ ws. sum_by f ws) (λ xs ys. sum_by-append f xs ys) c.args.gid.number c.in_ok-item.item t.line.queue (drop 1 t.line.queue) first in
-    omega (arith, one, two, sum_by-cons f (waits c.args.gid.number c.in_ok-item.item) []))
+    (first_found c.args.gid.number c.in_ok-item.item (drop 1 t.line.queue) (waiting_of c.self.inside.lines) (r.old ∙ first))
+
+pub returns-clause-all : goal.returns-clause-all
+returns-clause-all g c =
+    let t = there c.args.gid 0 c.self.inside.births c.self.inside.lines c.self.invariant.lines (rw (← c.self.view_is) at c.requires) in
+    let is : c.pop.new.self ≡ in_place c.args.gid.number (λ l. record l { queue = drop 1 l.queue } ∷ []) c.self.inside.lines = rw c.number.ensures at c.pop.ensures.lines in
+    let first : t.line.queue ≡ c.in_ok-item.item ∷ drop 1 t.line.queue = rw (c.in_ok-item.was, c.number.ensures, t.found) at c.pop.ensures.item in
+    rw (← c.self.view_is)
+    (ap waiting_of is ∙ first_placed c.args.gid.number c.in_ok-item.item (drop 1 t.line.queue) t.line c.self.inside.lines t.found first)
 
 pub returns-clause-rest : goal.returns-clause-rest
 returns-clause-rest g c =

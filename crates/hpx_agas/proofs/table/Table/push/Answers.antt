@@ -1,8 +1,6 @@
-use Rattle.std.proofs.Common.{◌≡◌, ◌∙◌, ◌++◌, ◌∷◌, [], length, sym, ap, refl, arith, sum_by, length-append}
-use Rattle.std.proofs.lemmas.List.Sums.{sum_by-append, sum_by-cons}
-use Rattle.hpx_agas.specs.Queues.{waits}
-use Rattle.hpx_agas.specs.Lines.{in_place}
-use Rattle.hpx_agas.proofs.SeenLemmas.{there, requeued, weight_last}
+use Rattle.std.proofs.Common.{◌≡◌, ◌∙◌, ◌++◌, ◌∷◌, [], length, sym, ap, refl, arith, length-append}
+use Rattle.hpx_agas.specs.Lines.{in_place, waiting_of}
+use Rattle.hpx_agas.proofs.SeenLemmas.{there, requeued, weight_last, last_placed}
 use Rattle.hpx_agas.proofs.table.Table.push.Goals as goal
 
 pub push-requires-clause-there : goal.push-requires-clause-there
@@ -39,16 +37,12 @@ returns-clause-others g c =
     let r = requeued c.self.inside.births c.args.gid.number (λ q. q ++ c.args.item ∷ []) t.line c.self.inside.lines c.push.new.self c.self.invariant.lines t.found is in
     rw (← c.self.view_is) r.others
 
-pub returns-clause-sums : goal.returns-clause-sums
-returns-clause-sums g c =
+pub returns-clause-all : goal.returns-clause-all
+returns-clause-all g c =
     let t = there c.args.gid 0 c.self.inside.births c.self.inside.lines c.self.invariant.lines (rw (← c.self.view_is) at c.requires.there) in
     let is : c.push.new.self ≡ in_place c.args.gid.number (λ l. record l { queue = l.queue ++ c.args.item ∷ [] } ∷ []) c.self.inside.lines = rw (c.number.ensures, c.fill-more.ensures.queue) at c.push.ensures in
-    let r = requeued c.self.inside.births c.args.gid.number (λ q. q ++ c.args.item ∷ []) t.line c.self.inside.lines c.push.new.self c.self.invariant.lines t.found is in
     rw (← c.self.view_is)
-    (λ f.
-    let one = r.weights (λ ws. sum_by f ws) (λ xs ys. sum_by-append f xs ys) in
-    let two = weight_last (λ ws. sum_by f ws) (λ xs ys. sum_by-append f xs ys) c.args.gid.number t.line.queue c.args.item in
-    omega (arith, one, two, sum_by-cons f (waits c.args.gid.number c.args.item) []))
+    (ap waiting_of is ∙ last_placed c.args.gid.number 0 c.self.inside.births c.args.item t.line c.self.inside.lines c.self.invariant.lines t.found)
 
 pub returns-clause-rest : goal.returns-clause-rest
 returns-clause-rest g c =

@@ -14,13 +14,14 @@ returns-clause-deals g c =
     let live = rw (← c.self.view_is) at c.requires.live in
     let goes = rw (c.new.ensures) at c.mail.ensures.goes in
     let born = ap (λ (x : Registry Parcel). x.births) c.in-Ok.ensures.rest in
+    let waiting = ap (λ (x : Registry Parcel). x.waiting) c.in-Ok.ensures.rest in
     rw (← c.self.view_is)
     (elim c.match-granted.branch [
       | in-Limit w ↦
-          refused_deals _ _ c.args.id live c.ask.new.self.births c.ask.new.self.records born c.self.inside.records.profile c.match-granted.why.1 c.args.asker c.args.entry c.self.invariant.5 goes
+          refused_deals _ _ c.args.id live c.ask.new.self.births c.ask.new.self.records c.ask.new.self.waiting born waiting c.self.inside.records.profile c.match-granted.why.1 c.args.asker c.args.entry c.self.invariant.5 goes
           (rw w.in-Limit.is at c.in-Ok.ensures.granted) (ap (λ (p : Reason × Id). p.1) w.why-is)
       | in-Yes w ↦
-          granted_deals _ _ c.args.id live c.ask.new.self.births c.ask.new.self.records born c.self.inside.records.profile c.match-granted.why.1 c.args.asker c.args.entry c.self.invariant.5 goes
+          granted_deals _ _ c.args.id live c.ask.new.self.births c.ask.new.self.records c.ask.new.self.waiting born waiting c.self.inside.records.profile c.match-granted.why.1 c.args.asker c.args.entry c.self.invariant.5 goes
           w.in-Yes.more (rw w.in-Yes.is at c.in-Ok.ensures.granted) (ap (λ (p : Reason × Id). p.1) w.why-is)
     ])
 

@@ -41,6 +41,10 @@ enter_mail-requires-clause-spare g c =
     let made = rw (← c.self-2.view_is) at kept in
     spare_popped 1280 _ _ _ _ _ _ made c.in-Some-pop_front.ensures.capacity (omega (arith, c.in-Some-pop_front.ensures.len))
 
+pub enter_mail-requires-clause-page : goal.enter_mail-requires-clause-page
+enter_mail-requires-clause-page g c =
+    when_ok c.reserve_turn.result (1280 ≤ c.reserve_turn.new.book.spare) (sym c.is_err.ensures.value ∙ c.if-is_err.false) c.reserve_turn.ensures.page
+
 pub follow-requires : goal.follow-requires
 follow-requires g c =
     let same = rw (← c.self-2.view_is) at c.reserve_turn.ensures.same in

@@ -1,5 +1,4 @@
 use Rattle.std.specs.Option.{option_to_list}
-use Rattle.hpx_node.proofs.Common.{◌∙◌}
 use Rattle.hpx_node.proofs.Riding.{done_then, done_written, leaves_then}
 use Rattle.hpx_node.proofs.node.Node.leave.Goals as goal
 

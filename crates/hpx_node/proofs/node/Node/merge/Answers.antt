@@ -1,4 +1,4 @@
-use Rattle.hpx_node.proofs.Common.{Locality, Some, ap, arith, get_some, may_merge, merged_in, refl, slice_get, sym, true, ◌∙◌, ◌≡◌}
+use Rattle.hpx_node.proofs.Common.{Locality, Some, ap, arith, get_some, merged_in, refl, slice_get, sym, true, ◌∙◌, ◌≡◌}
 use Rattle.hpx_node.proofs.Riding.{merged_then, merges_below}
 use Rattle.hpx_node.proofs.node.Node.merge.Goals as goal
 

@@ -1,4 +1,4 @@
-use Rattle.hpx_node.proofs.Common.{refl, Some, slice_get, get_some, ◌≡◌}
+use Rattle.hpx_node.proofs.Common.{refl, get_some}
 use Rattle.hpx_node.proofs.Waited.{pauses_by}
 use Rattle.hpx_node.proofs.node.Node.pause.Goals as goal
 

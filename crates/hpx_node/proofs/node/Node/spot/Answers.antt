@@ -1,4 +1,4 @@
-use Rattle.hpx_node.proofs.Common.{Some, Standing, ap, length, refl, rules, slice_get, slice_get_is, some_same, sym, ◌<◌, ◌∙◌, ◌≡◌}
+use Rattle.hpx_node.proofs.Common.{Some, Standing, ap, refl, rules, slice_get, slice_get_is, some_same, sym, ◌∙◌, ◌≡◌}
 use Rattle.hpx_node.proofs.Paused.{fit_job}
 use Rattle.hpx_node.proofs.node.Node.spot.Goals as goal
 use Rattle.hpx_node.proofs.node.Node.spot.Goals.{then-kind-job-via-then-kind-job, then-kind-job-via-else-kind-job+then-not-same, then-kind-job-via-else-kind-job+else-not-same+then-not-same-2}

@@ -13,14 +13,16 @@ returns-in-Dead-clause-deals g c =
     let live = rw (← c.self.view_is) at c.requires.live in
     let goes = rw (c.new.ensures, c.bare-object.ensures) at c.mail.ensures.goes in
     rw (← c.self.view_is)
-    (dead_deals _ _ c.args.id live c.back.new.self.births c.back.new.self.records (ap (λ (x : Registry Parcel). x.births) c.in-Ok.ensures.rest) c.in-Dead.place
+    (dead_deals _ _ c.args.id live c.back.new.self.births c.back.new.self.records c.back.new.self.waiting (ap (λ (x : Registry Parcel). x.births) c.in-Ok.ensures.rest)
+    (ap (λ (x : Registry Parcel). x.waiting) c.in-Ok.ensures.rest) c.in-Dead.place
     (rw c.in-Dead.is at c.in-Ok.ensures.left) goes)
 
 pub returns-in_default-left-clause-deals : goal.returns-in_default-left-clause-deals
 returns-in_default-left-clause-deals g c =
     let live = rw (← c.self.view_is) at c.requires.live in
     rw (← c.self.view_is)
-    (alive_deals _ c.args.self.now.tables c.args.id live c.back.new.self.births c.back.new.self.records (ap (λ (x : Registry Parcel). x.births) c.in-Ok.ensures.rest)
+    (alive_deals _ c.args.self.now.tables c.args.id live c.back.new.self.births c.back.new.self.records c.back.new.self.waiting (ap (λ (x : Registry Parcel). x.births) c.in-Ok.ensures.rest)
+    (ap (λ (x : Registry Parcel). x.waiting) c.in-Ok.ensures.rest)
     (rw c.in_default-left.is at c.in-Ok.ensures.left))
 
 pub returns-in_default-back-clause-leaves : goal.returns-in_default-back-clause-leaves

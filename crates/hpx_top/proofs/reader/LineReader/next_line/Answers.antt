@@ -1,6 +1,6 @@
 use Rattle.std.proofs.Common.{arith, ◌+◌, drop, subst}
 use Rattle.hpx_top.specs.Reader.{IsFound}
-use Rattle.hpx_top.proofs.ReaderLemmas.{newline_within, lines_left-newline, lines_left-last, handed_out, handed_out-fewer, not_full-newline, not_full-last, handed_out-behind, left_behind-newline, left_behind-last, out-newline, out-last, out-err}
+use Rattle.hpx_top.proofs.ReaderLemmas.{newline_within, lines_left-newline, lines_left-last, handed_out, handed_out-fewer, not_full-newline, not_full-last, handed_out-behind, left_behind-newline, left_behind-last, out-newline, out-last}
 use Rattle.hpx_top.proofs.reader.LineReader.next_line.Goals as goal
 
 pub returns-in-Newline-clause-ok : goal.returns-in-Newline-clause-ok

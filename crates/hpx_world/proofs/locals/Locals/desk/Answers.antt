@@ -90,3 +90,13 @@ pub returns-in-Ok-true-clause-did : goal.returns-in-Ok-true-clause-did
 returns-in-Ok-true-clause-did g c =
     done_at _ c.args.k c.index_mut.result.now c.desk.new.self c.requires.range c.index_mut.ensures.value (λ t t'. Clears t t' _ _)
     (c.in-Ok-true.ensures.cleared (ap (λ b. Ok b) c.in-Ok-true.field-0-test))
+
+pub returns-in-Err-clause-right : goal.returns-in-Err-clause-right
+returns-in-Err-clause-right g c = λ u is. elim (mail_cases c.in-Err.fault) [
+  | inl e ↦ (
+    c.index_mut.result.now.tables,
+    there_at _ c.args.k c.index_mut.result.now c.index_mut.result.now c.requires.range c.index_mut.ensures.value,
+    subst (NotCleared c.index_mut.result.now.tables) e c.in-Err.ensures.cause,
+  )
+  | inr x ↦ absurd (let s = c.mail_refusal.ensures.strange x.0 x.1 x.2 x.3 in cc)
+]

@@ -1,5 +1,7 @@
-use Rattle.std.proofs.Common.{subst, length, [], ◌∷◌, Some, refl, ap, ◌∙◌}
+use Rattle.std.proofs.Common.{ℕ, subst, length, [], ◌∷◌, Some, refl, ap, ◌∙◌}
 use Rattle.hpx_part.specs.Data.{Out}
+use Rattle.hpx_journal.specs.Data.{Parcel}
+use Rattle.hpx_steps.specs.Frames.{IsFront}
 use Rattle.hpx_steps.specs.Rest.{rules_of}
 use Rattle.hpx_tables.specs.Tables.{Tables}
 use Rattle.hpx_node.proofs.Turns.{turn_within}
@@ -8,7 +10,7 @@ use Rattle.hpx_world.specs.Quiet.{SendsNothing}
 use Rattle.hpx_world.specs.Turns.{Sends}
 use Rattle.hpx_world.proofs.Growth.{SendsOne, sends_of}
 use Rattle.hpx_world.proofs.Carrying.{carrying_sent}
-use Rattle.hpx_world.proofs.Calls.{done_at, same_at, at_own, running_at, here_at, stands_at, sound_wrote, within}
+use Rattle.hpx_world.proofs.Calls.{done_at, same_at, at_own, there_at, running_at, here_at, stands_at, sound_wrote, within}
 use Rattle.hpx_world.proofs.locals.Locals.pump.Goals as goal
 
 pub returns-in-None-clause-did : goal.returns-in-None-clause-did
@@ -63,3 +65,36 @@ returns-clause-jobs g c =
     let next = c.in-Some.ensures.some in
     running_at _ c.args.k c.index_mut-node.result.now c.gone.new.self c.requires.range c.index_mut-node.ensures.value
     (ap (λ (x : Tables). x.running) (c.gone.ensures.rest next.first next.rest next.is))
+
+-- ---- where it is refused, a message waits
+
+waiting : (t : Tables) (to : ℕ) (parcel : Parcel) → IsFront t to parcel → SendsNothing t → ⊥
+waiting t to parcel front none = let is = front.is in cc
+
+pub returns-in-Err-clause-waits : goal.returns-in-Err-clause-waits
+returns-in-Err-clause-waits g c = (
+  c.index_mut-node.result.now.tables,
+  there_at _ c.args.k c.index_mut-node.result.now c.index_mut-node.result.now c.requires.range c.index_mut-node.ensures.value,
+  waiting c.index_mut-node.result.now.tables _ _ c.in-Some.ensures.some,
+)
+
+pub returns-then-is_err-clause-waits : goal.returns-then-is_err-clause-waits
+returns-then-is_err-clause-waits g c = (
+  c.index_mut-node.result.now.tables,
+  there_at _ c.args.k c.index_mut-node.result.now c.index_mut-node.result.now c.requires.range c.index_mut-node.ensures.value,
+  waiting c.index_mut-node.result.now.tables _ _ c.in-Some.ensures.some,
+)
+
+pub returns-in-Err-Failed-clause-waits : goal.returns-in-Err-Failed-clause-waits
+returns-in-Err-Failed-clause-waits g c = (
+  c.index_mut-node.result.now.tables,
+  there_at _ c.args.k c.index_mut-node.result.now c.index_mut-node.result.now c.requires.range c.index_mut-node.ensures.value,
+  waiting c.index_mut-node.result.now.tables _ _ c.in-Some.ensures.some,
+)
+
+pub returns-in-Err-OutOfMemory-clause-waits : goal.returns-in-Err-OutOfMemory-clause-waits
+returns-in-Err-OutOfMemory-clause-waits g c = (
+  c.index_mut-node.result.now.tables,
+  there_at _ c.args.k c.index_mut-node.result.now c.index_mut-node.result.now c.requires.range c.index_mut-node.ensures.value,
+  waiting c.index_mut-node.result.now.tables _ _ c.in-Some.ensures.some,
+)

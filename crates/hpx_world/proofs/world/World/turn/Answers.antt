@@ -6,7 +6,7 @@ use Rattle.hpx_world.specs.Turns.{DidFinish, DidDesk, DidTake}
 use Rattle.hpx_world.specs.Away.{Fetches}
 use Rattle.hpx_world.proofs.Carrying.{carrying_same}
 use Rattle.hpx_world.proofs.Refused.{strange_frame_same}
-use Rattle.hpx_world.proofs.Refusing.{take_refused, can_come}
+use Rattle.hpx_world.proofs.Refusing.{outside_is, desk_refused, pump_refused, take_refused, can_come}
 use Rattle.hpx_world.proofs.Strange.{no_strange_hand, no_strange_mail}
 use Rattle.hpx_world.proofs.Unfed.{unfed_of, finished_unfed, cleared_unfed, took_unfed}
 use Rattle.hpx_world.proofs.world.World.turn.Goals as goal
@@ -61,6 +61,18 @@ returns-in-Take-clause-stops g c =
       runs = c.take.ensures.runs_none;
       fabric = c.take.ensures.fabric_same;
     })))
+
+pub returns-in-Desk-clause-stops : goal.returns-in-Desk-clause-stops
+returns-in-Desk-clause-stops g c =
+    let room : HasRoom c.args.self.now.journal.entries = subst (λ (b : Book). HasRoom b.entries) c.journal.ensures.journal (c.room.ensures.0 c.if-not-room.false) in
+    rw (c.in-Desk.is) (desk_refused c.desk.result c.in-Desk.k _ _ room (rw (← c.self.view_is) c.desk.ensures.err)
+    (outside_is _ _ (rw (← c.self.view_is) c.desk.ensures.hand) refl refl) (rw (← c.self.view_is) c.desk.ensures.strange) (rw (← c.self.view_is) c.desk.ensures.right) c.desk.ensures.which)
+
+pub returns-in-Pump-clause-stops : goal.returns-in-Pump-clause-stops
+returns-in-Pump-clause-stops g c =
+    let room : HasRoom c.args.self.now.journal.entries = subst (λ (b : Book). HasRoom b.entries) c.journal.ensures.journal (c.room.ensures.0 c.if-not-room.false) in
+    rw (c.in-Pump.is) (pump_refused c.pump.result c.in-Pump.k _ _ room (rw (← c.self.view_is) c.pump.ensures.err)
+    (rw (← c.self.view_is) c.pump.ensures.hand) c.pump.ensures.kept_out (rw (← c.self.view_is) c.pump.ensures.waits) c.pump.ensures.which)
 
 pub returns-in-Desk-clause-never : goal.returns-in-Desk-clause-never
 returns-in-Desk-clause-never g c = rw (← c.self.view_is) (λ carrying.

@@ -1,0 +1,9 @@
+pub mod Prefix
+pub mod Calm
+pub mod Took
+pub mod Parts
+pub mod Bundled
+pub mod Loads
+pub mod Taken
+pub mod Ways
+pub mod Hands

@@ -1,0 +1,4 @@
+pub mod Clap
+pub mod Numbers
+pub mod Children
+pub mod Texts
