@@ -3,7 +3,7 @@ use Rattle.std.proofs.Common.{ℕ, List, Option, ◌≡◌, sym, subst}
 use Rattle.hpx_journal.specs.Data.{Id}
 use Rattle.hpx_journal.specs.Entries.{Frame}
 use Rattle.hpx_tables.specs.Tables.{Tables}
-use Rattle.hpx_world.specs.Turns.{IsStrangeFrame, HoldsStrangeFrame, HoldsRightFrame, IsStrangeMail, IsRightMail, HasToSend}
+use Rattle.hpx_world.specs.Turns.{IsStrangeFrame, HoldsStrangeFrame, HoldsRightFrame, IsStrangeMail, IsRightMail, HasToFire, HasToSend}
 
 pub strange_frame_same : (xs ys : List Tables) (to : ℕ) (bytes : List ℕ) (rule : ℕ) (object : Id) (kept : ℕ)
     → ys ≡ xs → IsStrangeFrame xs to bytes rule object kept → IsStrangeFrame ys to bytes rule object kept
@@ -22,6 +22,9 @@ strange_mail_same xs ys k rule object kept e h = subst (λ ns. IsStrangeMail ns 
 
 pub right_mail_same : (xs ys : List Tables) (k : ℕ) → ys ≡ xs → IsRightMail xs k → IsRightMail ys k
 right_mail_same xs ys k e h = subst (λ ns. IsRightMail ns k) (sym e) h
+
+pub to_fire_same : (xs ys : List Tables) (k : ℕ) → ys ≡ xs → HasToFire xs k → HasToFire ys k
+to_fire_same xs ys k e h = subst (λ ns. HasToFire ns k) (sym e) h
 
 pub to_send_same : (xs ys : List Tables) (k : ℕ) → ys ≡ xs → HasToSend xs k → HasToSend ys k
 to_send_same xs ys k e h = subst (λ ns. HasToSend ns k) (sym e) h

@@ -17,8 +17,8 @@ use Rattle.std.specs.Result.{IsErrAnd}
 use Rattle.hpx_value.specs.declared.acts.Done.{Done}
 use Rattle.hpx_world.specs.Steps.{DidHandOut}
 use Rattle.hpx_world.specs.Refusals.{Stays, StaysAll, IsFull, Refused, RefusedWork, CanCome, CanComeOfSteps}
-use Rattle.hpx_world.specs.Turns.{HoldsBadFrame, HoldsStrangeFrame, HoldsRightFrame, IsStrangeMail, IsRightMail, HasToSend}
-use Rattle.hpx_world.proofs.Refused.{strange_held_same, right_held_same, strange_mail_same, right_mail_same, to_send_same}
+use Rattle.hpx_world.specs.Turns.{HoldsBadFrame, HoldsStrangeFrame, HoldsRightFrame, IsStrangeMail, IsRightMail, HasToFire, HasToSend}
+use Rattle.hpx_world.proofs.Refused.{strange_held_same, right_held_same, strange_mail_same, right_mail_same, to_fire_same, to_send_same}
 
 pub outside_is : (x z : Outside) → z.hand ≡ x.hand → z.flight ≡ x.flight → z.trace ≡ x.trace → z ≡ x
 outside_is x z hand flight trace =
@@ -65,6 +65,15 @@ take_refused (Err (faults.JournalFull e w u)) x z room says = absurd (says.room 
 take_refused (Err (faults.OutOfMemory u)) x z room says =
     let m = says.memory u refl in (room, ((says.err, says.kept), m.0, right_held_same x.nodes z.nodes z.outside.hand says.err.tables m.1))
 take_refused (Err (faults.NotRun job)) x z room says = absurd (says.runs job refl)
+
+-- an action that may be fired at k is not
+pub fire_refused : {A : Type 0} {g : Ghosts A} (r : Result Turned (WorldFault A g)) (k : ℕ) (x z : Stage) → HasRoom x.entries → OnErr r (Stays x z)
+    → z.outside ≡ x.outside → OnErr r (HasToFire x.nodes k) → IfErr r (λ e. e ≡ faults.OutOfMemory None)
+    → IfErr r (λ fault. Refused (choices.Fire k) fault x z)
+fire_refused (Ok t) k x z room same out waits which = tt
+fire_refused (Err e) k x z room same out waits which =
+    subst (λ f. Refused (choices.Fire k) f x z) (sym which)
+    (room, ((same, out), refl, to_fire_same x.nodes z.nodes k same.tables waits))
 
 -- a message to the own locality k is refused
 pub desk_refused : {A : Type 0} {g : Ghosts A} (r : Result Turned (WorldFault A g)) (k : ℕ) (x z : Stage) → HasRoom x.entries → OnErr r (Stays x z)
@@ -125,6 +134,12 @@ err_then (Ok x) e P h p = tt
 err_then (Err y) e P h p = subst P (sym h) p
 
 -- ---- a Fire with its Finish
+
+-- a Fire is refused
+pub fire_refused_work : {A : Type 0} {g : Ghosts A} (k : ℕ) (x z : Stage) (fault : WorldFault A g) → Refused (choices.Fire k) fault x z → RefusedWork k fault x z
+fire_refused_work {A} {g} k x z (faults.JournalFull e w u) h = subst (λ v. RefusedWork {A = A} {g = g} k (faults.JournalFull e w v) x z) (sym h.2) (h.0, h.1)
+fire_refused_work {A} {g} k x z (faults.OutOfMemory u) h = subst (λ v. RefusedWork {A = A} {g = g} k (faults.OutOfMemory v) x z) (sym h.1.1) (h.0, h.1.0, h.1.2)
+fire_refused_work {A} {g} k x z _ h = absurd h.1
 
 -- a Finish is refused behind a Fire
 pub finish_refused : {A : Type 0} {g : Ghosts A} (done : Done A g) (k : ℕ) (x y z : Stage) → HasRoom x.entries → DidHandOut done.localities done.job k x y

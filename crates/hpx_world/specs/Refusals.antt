@@ -16,7 +16,7 @@ use Rattle.hpx_world.specs.Sound.{Meaning, IsSame}
 use Rattle.hpx_world.specs.Away.{Fetches, Puts, Keeps}
 use Rattle.hpx_world.specs.Stages.{Stage}
 use Rattle.hpx_world.specs.Steps.{IsEarly, DidHandOut, DidHandBack, GoesTo, NoneFires, NoneClears, NonePumps}
-use Rattle.hpx_world.specs.Turns.{DidFeed, DidFire, DidFinish, DidDesk, DidPump, DidTake, HoldsBadFrame, HoldsStrangeFrame, HoldsRightFrame, IsStrangeMail, IsRightMail, HasToSend}
+use Rattle.hpx_world.specs.Turns.{DidFeed, DidFire, DidFinish, DidDesk, DidPump, DidTake, HoldsBadFrame, HoldsStrangeFrame, HoldsRightFrame, IsStrangeMail, IsRightMail, HasToFire, HasToSend}
 
 -- ---- what a turn does
 
@@ -110,13 +110,19 @@ RefusedPump k faults.Fabric x z = StaysAll x z × HasToSend z.nodes k
 RefusedPump k (faults.OutOfMemory undone) x z = StaysAll x z × (undone ≡ None) × HasToSend z.nodes k
 RefusedPump k _ x z = ⊥
 
--- a Feed, a Fire or a Finish: for want of memory alone; a Done is handed back
+-- a Fire at k: for want of memory, and an action may be fired there
+abbrev pub RefusedFire : {A : Type 0} {g : Ghosts A} → ℕ → WorldFault A g → Stage → Stage → Type 0
+RefusedFire k (faults.OutOfMemory undone) x z = StaysAll x z × (undone ≡ None) × HasToFire z.nodes k
+RefusedFire k _ x z = ⊥
+
+-- a Feed or a Finish: for want of memory alone; a Done is handed back
 abbrev pub RefusedHere : {A : Type 0} {g : Ghosts A} → Option (Done A g) → WorldFault A g → Stage → Stage → Type 0
 RefusedHere job (faults.OutOfMemory back) x z = StaysAll x z × (back ≡ job)
 RefusedHere job _ x z = ⊥
 
 -- a turn in a journal with room
 abbrev pub RefusedBy : {A : Type 0} {g : Ghosts A} → Choice A g → WorldFault A g → Stage → Stage → Type 0
+RefusedBy (choices.Fire k) fault x z = RefusedFire k fault x z
 RefusedBy (choices.Desk k) fault x z = RefusedDesk k fault x z
 RefusedBy (choices.Pump k) fault x z = RefusedPump k fault x z
 RefusedBy choices.Take fault x z = RefusedTake fault x z
@@ -132,7 +138,7 @@ Refused c fault x z = HasRoom x.entries × RefusedBy c fault x z
 abbrev pub RefusedWork : {A : Type 0} {g : Ghosts A} → ℕ → WorldFault A g → Stage → Stage → Type 0
 RefusedWork k (faults.JournalFull entries weight None) x z = StaysAll x z × IsFull x entries weight
 RefusedWork k (faults.JournalFull entries weight (Some done)) x z = HasRoom x.entries × DidHandOut done.localities done.job k x z × IsFull z entries weight
-RefusedWork k (faults.OutOfMemory None) x z = HasRoom x.entries × StaysAll x z
+RefusedWork k (faults.OutOfMemory None) x z = HasRoom x.entries × StaysAll x z × HasToFire z.nodes k
 RefusedWork k (faults.OutOfMemory (Some done)) x z = HasRoom x.entries × HasRoom z.entries × DidHandOut done.localities done.job k x z
 RefusedWork k (faults.NotRun job) x z = HasRoom x.entries × DidHandOut (length z.nodes) job k x z
 RefusedWork k _ x z = ⊥
@@ -141,7 +147,7 @@ RefusedWork k _ x z = ⊥
 abbrev pub RefusedStep : {A : Type 0} {g : Ghosts A} → WorldFault A g → Stage → Stage → Type 0
 RefusedStep {A} {g} (faults.JournalFull entries weight None) x z = StaysAll x z × IsFull x entries weight
 RefusedStep {A} {g} (faults.JournalFull entries weight (Some done)) x z = HasRoom x.entries × DidHandBack done.localities done.job x z × IsFull z entries weight
-RefusedStep {A} {g} (faults.OutOfMemory None) x z = HasRoom x.entries × StaysButHand x z × ((NonePumps x × HoldsRightFrame z.nodes z.outside.hand) ⊎ (z.outside ≡ x.outside))
+RefusedStep {A} {g} (faults.OutOfMemory None) x z = HasRoom x.entries × StaysButHand x z × ((NonePumps x × HoldsRightFrame z.nodes z.outside.hand) ⊎ ((NonePumps x → ⊥) × (z.outside ≡ x.outside)))
 RefusedStep {A} {g} (faults.OutOfMemory (Some done)) x z = HasRoom x.entries × HasRoom z.entries × DidHandBack done.localities done.job x z
 RefusedStep {A} {g} (faults.NotRun job) x z = HasRoom x.entries × DidHandBack (length z.nodes) job x z
 RefusedStep {A} {g} faults.Fabric x z = HasRoom x.entries × NoneClears x × StaysAll x z

@@ -144,6 +144,10 @@ IsStrangeMail nodes k rule object kept =
 abbrev pub IsRightMail : List Tables → ℕ → Type 0
 IsRightMail nodes k = (t : Tables) × (slice_get nodes k ≡ Some t) × NotCleared t desk_faults.OutOfMemory
 
+-- an action may be fired at k
+abbrev pub HasToFire : List Tables → ℕ → Type 0
+HasToFire nodes k = (t : Tables) × (slice_get nodes k ≡ Some t) × (IsStuck t → ⊥)
+
 -- a message to another locality waits at k
 abbrev pub HasToSend : List Tables → ℕ → Type 0
 HasToSend nodes k = (t : Tables) × (slice_get nodes k ≡ Some t) × (SendsNothing t → ⊥)

@@ -12,7 +12,7 @@ ghost use Rattle.hpx_node.specs.Locality.{tables_of};
 ghost use Rattle.hpx_world.specs.Sound.{IsSound, IsSame, DoneAt};
 ghost use Rattle.hpx_world.specs.Away.{IsCarrying, IsInside, Fetches, Puts, Keeps};
 ghost use Rattle.hpx_world.specs.Quiet.{IsQuiet, QueuesNothing, NoneRuns, running_in};
-ghost use Rattle.hpx_world.specs.Turns.{DidFeed, DidFire, DidFinish, DidDesk, DidPump, DidTake, IsBadFrame, IsStrangeFrame, IsStrangeMail, IsRightMail, HasToSend, IsFarFault, IsRightFrame, HoldsBadFrame, HoldsStrangeFrame, HoldsRightFrame};
+ghost use Rattle.hpx_world.specs.Turns.{DidFeed, DidFire, DidFinish, DidDesk, DidPump, DidTake, IsBadFrame, IsStrangeFrame, IsStrangeMail, IsRightMail, HasToFire, HasToSend, IsFarFault, IsRightFrame, HoldsBadFrame, HoldsStrangeFrame, HoldsRightFrame};
 
 use crate::turns::{Turned, WorldFault};
 use hpx_journal::journal::Journal;
@@ -221,6 +221,7 @@ impl<A: Acts + Copy> Locals<A> {
         ensures did { IfOk result (λ turned. DidFire k turned (tables_of self.old.nodes.items) (tables_of self.new.nodes.items) self.old.journal.entries self.new.journal.entries) }
         ensures err { OnErr result (IsSame (tables_of self.old.nodes.items) (tables_of self.new.nodes.items) self.old.journal.entries self.new.journal.entries) }
         ensures memory { IfErr result (λ e. e ≡ WorldFault.OutOfMemory None) }
+        ensures waits { OnErr result (HasToFire (tables_of self.old.nodes.items) k) }
     {
         match self.nodes[k].fire(alloc, &mut self.journal) {
             Ok(Some(job)) => Ok(Turned::Fired(job)),

@@ -66,6 +66,7 @@ impl<A: Acts + Copy> Node<A> {
         ensures job { IfOk result (λ o. IfSome o (Starts self.old.tables self.new.tables)) }
         ensures none { IfOk result (λ o. IfNone o (NoneIsFree (fired_acts self.old.tables) self.old.tables.objects self.old.tables.accepted × OnlySpare self.old.tables self.new.tables book.old book.new)) }
         ensures err { OnErr result (OnlySpare self.old.tables self.new.tables book.old book.new) }
+        ensures free { OnErr result (NoneIsFree (fired_acts self.old.tables) self.old.tables.objects self.old.tables.accepted → ⊥) }
     {
         let (i, j) = match first_free(
             &self.accepted,

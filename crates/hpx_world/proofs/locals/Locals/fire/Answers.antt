@@ -1,7 +1,7 @@
 use Rattle.hpx_node.proofs.Turns.{turn_within}
 use Rattle.hpx_world.specs.Quiet.{IsStuck}
 use Rattle.hpx_world.specs.Turns.{Fires}
-use Rattle.hpx_world.proofs.Calls.{done_at, same_at, at_own, fire_inside, stands_at, sound_inside, inside_at}
+use Rattle.hpx_world.proofs.Calls.{done_at, same_at, at_own, there_at, fire_inside, stands_at, sound_inside, inside_at}
 use Rattle.hpx_world.proofs.locals.Locals.fire.Goals as goal
 
 pub fire-requires-clause-stands : goal.fire-requires-clause-stands
@@ -55,3 +55,10 @@ returns-in-Ok-None-clause-did g c =
 pub returns-in-Err-clause-err : goal.returns-in-Err-clause-err
 returns-in-Err-clause-err g c =
     same_at _ c.args.k c.index_mut.result.now c.fire.new.self c.requires.range c.index_mut.ensures.value _ _ c.in-Err.ensures.err
+
+pub returns-in-Err-clause-waits : goal.returns-in-Err-clause-waits
+returns-in-Err-clause-waits g c = (
+  c.index_mut.result.now.tables,
+  there_at _ c.args.k c.index_mut.result.now c.index_mut.result.now c.requires.range c.index_mut.ensures.value,
+  c.in-Err.ensures.free,
+)

@@ -6,7 +6,7 @@ use Rattle.hpx_world.specs.Turns.{DidFinish, DidDesk, DidTake}
 use Rattle.hpx_world.specs.Away.{Fetches}
 use Rattle.hpx_world.proofs.Carrying.{carrying_same}
 use Rattle.hpx_world.proofs.Refused.{strange_frame_same}
-use Rattle.hpx_world.proofs.Refusing.{outside_is, desk_refused, pump_refused, take_refused, can_come}
+use Rattle.hpx_world.proofs.Refusing.{outside_is, fire_refused, desk_refused, pump_refused, take_refused, can_come}
 use Rattle.hpx_world.proofs.Strange.{no_strange_hand, no_strange_mail}
 use Rattle.hpx_world.proofs.Unfed.{unfed_of, finished_unfed, cleared_unfed, took_unfed}
 use Rattle.hpx_world.proofs.world.World.turn.Goals as goal
@@ -61,6 +61,12 @@ returns-in-Take-clause-stops g c =
       runs = c.take.ensures.runs_none;
       fabric = c.take.ensures.fabric_same;
     })))
+
+pub returns-in-Fire-clause-stops : goal.returns-in-Fire-clause-stops
+returns-in-Fire-clause-stops g c =
+    let room : HasRoom c.args.self.now.journal.entries = subst (λ (b : Book). HasRoom b.entries) c.journal.ensures.journal (c.room.ensures.0 c.if-not-room.false) in
+    rw (c.in-Fire.is) (fire_refused c.fire.result c.in-Fire.k _ _ room (rw (← c.self.view_is) c.fire.ensures.err)
+    (outside_is _ _ (rw (← c.self.view_is) c.fire.ensures.hand) refl refl) (rw (← c.self.view_is) c.fire.ensures.waits) c.fire.ensures.memory)
 
 pub returns-in-Desk-clause-stops : goal.returns-in-Desk-clause-stops
 returns-in-Desk-clause-stops g c =

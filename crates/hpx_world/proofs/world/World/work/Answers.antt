@@ -4,10 +4,16 @@ use Rattle.hpx_value.specs.Riders.{plain}
 use Rattle.hpx_world.specs.Stages.{stage}
 use Rattle.hpx_world.specs.Steps.{DidHandOut}
 use Rattle.hpx_world.specs.Turns.{DidFire, DidFinish}
-use Rattle.hpx_world.proofs.Refusing.{err_then, finish_refused}
+use Rattle.hpx_world.proofs.Refusing.{err_then, fire_refused_work, finish_refused}
 use Rattle.hpx_world.proofs.Unfed.{unfed_then}
 use Rattle.hpx_world.proofs.Worked.{fired_at, fired_out, worked, did_work}
 use Rattle.hpx_world.proofs.world.World.work.Goals as goal
+
+-- none could be fired for want of memory
+pub returns-in_err-turn-clause-stops : goal.returns-in_err-turn-clause-stops
+returns-in_err-turn-clause-stops g c =
+    err_then c.from_residual.result c.in_err-turn.field-0.0 _ c.from_residual.ensures.1
+    (fire_refused_work c.args.k _ _ c.in_err-turn.field-0.0 c.in_err-turn.ensures.stops)
 
 -- the job could not be run
 pub returns-in-Err-clause-stops : goal.returns-in-Err-clause-stops
