@@ -180,3 +180,30 @@ fn what_is_read_is_the_same_in_every_order(rt: HostRuntime) -> Result<(), Fail> 
     }
     Ok(())
 }
+
+// The ring of 1,024 points after a step: each point is half the sum of those beside it, and the first and the last are beside one another.
+fn ring(alloc: Global) -> Result<String, OutOfMemory> {
+    let mut text = String::new(alloc);
+    text.push_str("512")?;
+    for i in 1..1023u32 {
+        text.push_str(format!(in alloc; " {i}")?.as_str())?;
+    }
+    text.push_str(" 511\n")?;
+    Ok(text)
+}
+
+// Of two parts each goes in a frame of over 4,096 bytes, of 32 none does.
+#[test]
+fn large_parts_cross_in_frames_of_their_own(rt: HostRuntime) -> Result<(), Fail> {
+    let alloc = rt.alloc();
+    let want = ring(alloc)?;
+    for words in [
+        "stencil --points=1024 --parts=2 --steps=1 --hpx:localities=2",
+        "stencil --points=1024 --parts=32 --steps=1 --hpx:localities=2",
+    ] {
+        let written = run_on(alloc, words, Order::FirstIn)?;
+        assert_eq!(rt; written.status, 0);
+        assert_eq!(rt; written.text.as_slice(), want.as_str().as_bytes());
+    }
+    Ok(())
+}

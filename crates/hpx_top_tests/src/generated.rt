@@ -25,49 +25,75 @@ impl Plain {
         })
     }
 
-    /// A line that speaks of no number.
-    fn says(&mut self, line: &[u8]) -> Result<(), OutOfMemory> {
-        self.text.extend_from_slice(line)?;
+    /// A piece of text.
+    fn says(&mut self, text: &[u8]) -> Result<(), OutOfMemory> {
+        self.text.extend_from_slice(text)?;
         Ok(())
     }
 
-    /// A line that speaks of the number, which is kept, or set, or printed.
-    fn calls(&mut self, alloc: Global, line: &[u8], amount: i64) -> Result<(), OutOfMemory> {
-        match line {
-            b"query" => {
-                let number = self.number;
-                self.text
-                    .extend_from_slice(format!(in alloc; "{number}\n")?.as_bytes())?;
-            }
-            b"reset" => self.number = 0,
-            _ => match self.number.checked_add(amount) {
-                Some(sum) => self.number = sum,
-                None => self.text.extend_from_slice(b"error: overflow\n")?,
-            },
+    /// The number is printed.
+    fn shows(&mut self, alloc: Global) -> Result<(), OutOfMemory> {
+        let number = self.number;
+        self.says(format!(in alloc; "{number}\n")?.as_bytes())
+    }
+
+    /// An amount is added, where the sum fits.
+    fn adds(&mut self, amount: i64) -> Result<(), OutOfMemory> {
+        match self.number.checked_add(amount) {
+            Some(sum) => self.number = sum,
+            None => self.says(b"error: overflow\n")?,
         }
         Ok(())
     }
 
     /// One line, and the prompt for the next.
-    fn line(&mut self, alloc: Global, line: &[u8], amount: i64) -> Result<(), OutOfMemory> {
-        match line {
-            b"help" => self.says(b"commands: reset, add [amount], query, help, quit\n")?,
-            b"sum" => self.says(b"error: bad command\n")?,
-            _ => self.calls(alloc, line, amount)?,
+    fn line(&mut self, alloc: Global, command: Command) -> Result<(), OutOfMemory> {
+        match command {
+            Command::Query => self.shows(alloc)?,
+            Command::Reset => self.number = 0,
+            Command::Help => self.says(b"commands: reset, add [amount], query, help, quit\n")?,
+            Command::Sum => self.says(b"error: bad command\n")?,
+            Command::Add(amount) => self.adds(amount)?,
         }
         self.says(b"> ")
     }
 }
 
-/// The word of a line, by a number below 8.
-fn word_of(kind: u64) -> &'static [u8] {
+/// A command of a line.
+#[derive(Clone, Copy)]
+enum Command {
+    Query,
+    Reset,
+    Help,
+    /// There is no such command.
+    Sum,
+    Add(i64),
+}
+
+/// The command of a line, by a number below 8.
+fn command_of(kind: u64, x: u64) -> Command {
     match kind {
-        0 => b"query",
-        1 => b"reset",
-        2 => b"help",
-        3 => b"sum",
-        _ => b"add",
+        0 => Command::Query,
+        1 => Command::Reset,
+        2 => Command::Help,
+        3 => Command::Sum,
+        7 => Command::Add(i64::MAX),
+        _ => Command::Add((x % 1000) as i64),
     }
+}
+
+/// Adds a line with a command.
+fn put_line(alloc: Global, input: &mut Vec<u8>, command: Command) -> Result<(), OutOfMemory> {
+    match command {
+        Command::Query => input.extend_from_slice(b"query\n")?,
+        Command::Reset => input.extend_from_slice(b"reset\n")?,
+        Command::Help => input.extend_from_slice(b"help\n")?,
+        Command::Sum => input.extend_from_slice(b"sum\n")?,
+        Command::Add(amount) => {
+            input.extend_from_slice(format!(in alloc; "add {amount}\n")?.as_bytes())?
+        }
+    }
+    Ok(())
 }
 
 /// The session that is made from a number, of 3 to 91 lines: its input, and what it is by hand.
@@ -77,19 +103,9 @@ fn generated(alloc: Global, start: u64) -> Result<(Vec<u8>, Plain), OutOfMemory>
     let mut plain = Plain::new(alloc)?;
     for _ in 0..3 + start % 89 {
         x = x.wrapping_mul(1_103_515_245).wrapping_add(12_345) % 2_147_483_648;
-        let kind = (x / 65_536) % 8;
-        let amount = if kind == 7 {
-            i64::MAX
-        } else {
-            (x % 1000) as i64
-        };
-        let word = word_of(kind);
-        input.extend_from_slice(word)?;
-        if kind > 3 {
-            input.extend_from_slice(format!(in alloc; " {amount}")?.as_bytes())?;
-        }
-        input.push(b'\n')?;
-        plain.line(alloc, word, amount)?;
+        let command = command_of((x / 65_536) % 8, x);
+        put_line(alloc, &mut input, command)?;
+        plain.line(alloc, command)?;
     }
     Ok((input, plain))
 }

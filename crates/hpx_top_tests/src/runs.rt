@@ -68,6 +68,20 @@ fn words(alloc: Global, words: &[&[u8]]) -> Result<Texts, AllocError> {
     Ok(Items::from_vec(texts))
 }
 
+/// The run over a fabric of which these calls fail. What `run` says of it is not needed behind it.
+fn run_over(
+    alloc: Global,
+    words: &Texts,
+    ports: (&mut MemSource, &mut MemSink, &mut MemSink),
+    order: Order,
+    fails: (Lengths, Lengths),
+) -> End<MemFabric> {
+    let (source, sink, err) = ports;
+    let (sends, delivers) = fails;
+    let fabric = MemFabric::new(alloc, order, sends, delivers);
+    run(alloc, words, source, sink, err, fabric)
+}
+
 /// The run on these words over this input.
 fn ran(
     alloc: Global,
@@ -80,20 +94,21 @@ fn ran(
     let mut source = MemSource::new(input, calls(alloc, faults.reads)?);
     let mut sink = MemSink::new(alloc, calls(alloc, faults.writes)?);
     let mut err = MemSink::new(alloc, calls(alloc, faults.errors)?);
-    let (sends, delivers) = (calls(alloc, faults.sends)?, calls(alloc, faults.delivers)?);
-    let fabric = MemFabric::new(alloc, order, sends, delivers);
+    let fails = (calls(alloc, faults.sends)?, calls(alloc, faults.delivers)?);
     let words = words(alloc, given)?;
-    let End {
-        status,
-        world,
-        fabric,
-    } = run(alloc, &words, &mut source, &mut sink, &mut err, fabric);
+    let end = run_over(
+        alloc,
+        &words,
+        (&mut source, &mut sink, &mut err),
+        order,
+        fails,
+    );
     Ok(Ended {
-        status,
+        status: end.status,
         text: Vec::from_slice(alloc, sink.bytes())?,
         line: Vec::from_slice(alloc, err.bytes())?,
-        world,
-        fabric,
+        world: end.world,
+        fabric: end.fabric,
     })
 }
 
@@ -395,7 +410,9 @@ fn counters_are_written_behind_what_ended_well(rt: HostRuntime) -> Result<(), Fa
             let faults = Faults {
                 reads: &[read],
                 writes: &[write],
-                ..NONE
+                errors: &[],
+                sends: &[],
+                delivers: &[],
             };
             let ended = ran(alloc, COUNTED, b"add 5\nquery\n", order, faults)?;
             assert_eq!(rt; ended.status, status);

@@ -1,5 +1,5 @@
 -- One step, by the turn that was made first; and one that is refused.
-use Rattle.std.specs.Prelude.{Some, None, [], take, length, ◌-◌}
+use Rattle.std.specs.Prelude.{Some, None, take, length, ◌-◌}
 use Rattle.std.proofs.Common.{ℕ, ◌≡◌, ◌<◌, refl, sym, ap, ◌∙◌, subst, inl, inr, arith}
 use Rattle.std.specs.List.{AllByRecursion, sum_by}
 use Rattle.hpx_value.specs.Riders.{plain}
@@ -16,8 +16,7 @@ use Rattle.hpx_world.specs.Sound.{Meaning}
 use Rattle.hpx_world.specs.Stages.{Stage}
 use Rattle.hpx_world.specs.Steps.{DidWork, DidStep, Goes, NoneFires, NoneClears, NonePumps}
 use Rattle.hpx_world.specs.Refusals.{Refused, RefusedWork, RefusedStep, RefusedDrain}
-use Rattle.hpx_world.specs.Turns.{DidDesk, DidPump, DidTake, IsStrangeMail, IsRightMail, HasToFire, HasToSend}
-use Rattle.hpx_tables.proofs.Alls.{all_at}
+use Rattle.hpx_world.specs.Turns.{DidDesk, DidPump, DidTake, IsStrangeMail}
 use Rattle.hpx_world.proofs.Refused.{right_mail_same, to_fire_same, to_send_same}
 use Rattle.hpx_world.proofs.Counts.{none_fetched}
 use Rattle.hpx_world.proofs.Unfed.{unfed_le, fired_longer, finished_unfed, cleared_longer, pumped_longer, took_longer}
@@ -62,26 +61,13 @@ pub first_takes : (act_of : Meaning) (x y z : Stage) → y ≡ x → NonePumps y
     → z.outside.hand ≡ None → DidStep act_of x z
 first_takes act_of x y z e none room d hand = subst (λ s. DidStep act_of s z) e (room, inr (inr (inr (none, d, hand))))
 
--- where something may be fired, dealt with or sent, not all that goes before a Take is done
-fires_first : (k : ℕ) (x : Stage) → HasToFire x.nodes k → NonePumps x → ⊥
-fires_first k x h none = h.2 (all_at IsStuck x.nodes k h.0 none.0.0 h.1)
-
-clears_first : (k : ℕ) (x : Stage) → IsRightMail x.nodes k → NonePumps x → ⊥
-clears_first k x h none =
-    let empty : h.0.desk ≡ [] = all_at HasNoMail x.nodes k h.0 none.0.1 h.1 in
-    let mail = h.2.2 in
-    cc
-
-pumps_first : (k : ℕ) (x : Stage) → HasToSend x.nodes k → NonePumps x → ⊥
-pumps_first k x h none = h.2 (all_at SendsNothing x.nodes k h.0 none.1 h.1)
-
 module _ {A : Type 0} {g : Ghosts A} where
   work_at : (k : ℕ) (x z : Stage) → AllByRecursion IsStuck (take k x.nodes) → (fault : WorldFault A g) → RefusedWork k fault x z → RefusedStep fault x z
   work_at k x z before (faults.JournalFull e w None) h = h
   work_at k x z before (faults.JournalFull e w (Some done)) h = (h.0, record { k = k; before = before; did = h.1 }, h.2)
   work_at k x z before (faults.OutOfMemory None) h =
       let s = h.1 in
-      (h.0, (s.0, inl (ap (λ o. o.hand) s.1, ap (λ o. o.flight) s.1, ap (λ o. o.trace) s.1)), inr (fires_first k x (to_fire_same z.nodes x.nodes k (sym s.0.tables) h.2), s.1))
+      (h.0, (s.0, inl (ap (λ o. o.hand) s.1, ap (λ o. o.flight) s.1, ap (λ o. o.trace) s.1)), inl ((k, to_fire_same z.nodes x.nodes k (sym s.0.tables) h.2), s.1))
   work_at k x z before (faults.OutOfMemory (Some done)) h = (h.0, h.1, record { k = k; before = before; did = h.2 })
   work_at k x z before (faults.NotRun job) h = (h.0, record { k = k; before = before; did = h.1 })
   work_at k x z before faults.Fabric h = absurd h
@@ -101,7 +87,7 @@ module _ {A : Type 0} {g : Ghosts A} where
       subst (λ v. RefusedStep {A = A} {g = g} (faults.OutOfMemory v) x z) (sym h.1.1) (
         h.0,
         (s.0, inl (ap (λ o. o.hand) s.1, ap (λ o. o.flight) s.1, ap (λ o. o.trace) s.1)),
-        inr (clears_first k x (right_mail_same z.nodes x.nodes k (sym s.0.tables) h.1.2), s.1),
+        inr (inl (none, (k, right_mail_same z.nodes x.nodes k (sym s.0.tables) h.1.2), s.1)),
       )
   desk_at k x z none (faults.Strange to rule object kept) h =
       (h.0, inr (none, (h.1.0, refl, subst (λ j. IsStrangeMail z.nodes j rule object kept) (sym h.1.1) h.1.2)))
@@ -121,7 +107,7 @@ module _ {A : Type 0} {g : Ghosts A} where
       subst (λ v. RefusedStep {A = A} {g = g} (faults.OutOfMemory v) x z) (sym h.1.1) (
         h.0,
         (s.0, inl (ap (λ o. o.hand) s.1, ap (λ o. o.flight) s.1, ap (λ o. o.trace) s.1)),
-        inr (pumps_first k x (to_send_same z.nodes x.nodes k (sym s.0.tables) h.1.2), s.1),
+        inr (inr (inl (none, (k, to_send_same z.nodes x.nodes k (sym s.0.tables) h.1.2), s.1))),
       )
   pump_at k x z none faults.Fabric h = (h.0, none, h.1.0)
   pump_at k x z none (faults.Strange to rule object kept) h = absurd h.1
@@ -135,7 +121,7 @@ module _ {A : Type 0} {g : Ghosts A} where
   -- a frame is not accepted
   take_at : (x z : Stage) → NonePumps x → (fault : WorldFault A g) → Refused {A = A} {g = g} choices.Take fault x z → RefusedStep fault x z
   take_at x z none (faults.JournalFull e w u) h = subst (λ v. RefusedStep {A = A} {g = g} (faults.JournalFull e w v) x z) (sym h.2) (h.0, h.1)
-  take_at x z none (faults.OutOfMemory u) h = subst (λ v. RefusedStep {A = A} {g = g} (faults.OutOfMemory v) x z) (sym h.1.1) (h.0, h.1.0, inl (none, h.1.2))
+  take_at x z none (faults.OutOfMemory u) h = subst (λ v. RefusedStep {A = A} {g = g} (faults.OutOfMemory v) x z) (sym h.1.1) (h.0, h.1.0, inr (inr (inr (none, h.1.2))))
   take_at x z none faults.Fabric h = (h.0, none.0, h.1)
   take_at x z none (faults.Strange to rule object kept) h = (h.0, inl (none, h.1))
   take_at x z none (faults.BadFrame to at why) h = (h.0, none, h.1)

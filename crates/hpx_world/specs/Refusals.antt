@@ -143,11 +143,20 @@ RefusedWork k (faults.OutOfMemory (Some done)) x z = HasRoom x.entries × HasRoo
 RefusedWork k (faults.NotRun job) x z = HasRoom x.entries × DidHandOut (length z.nodes) job k x z
 RefusedWork k _ x z = ⊥
 
+-- for want of memory, the first turn of these that could be made was not: an action may be fired; the oldest message to an own
+-- locality breaks no rule; a message to another waits; the frame in hand, if there is one, breaks none
+abbrev pub LacksMemory : Stage → Stage → Type 0
+LacksMemory x z =
+    (((k : ℕ) × HasToFire x.nodes k) × (z.outside ≡ x.outside))
+    ⊎ (NoneFires x × ((k : ℕ) × IsRightMail x.nodes k) × (z.outside ≡ x.outside))
+    ⊎ (NoneClears x × ((k : ℕ) × HasToSend x.nodes k) × (z.outside ≡ x.outside))
+    ⊎ (NonePumps x × HoldsRightFrame z.nodes z.outside.hand)
+
 -- a step: what goes before could not be done, or its first action was fired and the job is handed back
 abbrev pub RefusedStep : {A : Type 0} {g : Ghosts A} → WorldFault A g → Stage → Stage → Type 0
 RefusedStep {A} {g} (faults.JournalFull entries weight None) x z = StaysAll x z × IsFull x entries weight
 RefusedStep {A} {g} (faults.JournalFull entries weight (Some done)) x z = HasRoom x.entries × DidHandBack done.localities done.job x z × IsFull z entries weight
-RefusedStep {A} {g} (faults.OutOfMemory None) x z = HasRoom x.entries × StaysButHand x z × ((NonePumps x × HoldsRightFrame z.nodes z.outside.hand) ⊎ ((NonePumps x → ⊥) × (z.outside ≡ x.outside)))
+RefusedStep {A} {g} (faults.OutOfMemory None) x z = HasRoom x.entries × StaysButHand x z × LacksMemory x z
 RefusedStep {A} {g} (faults.OutOfMemory (Some done)) x z = HasRoom x.entries × HasRoom z.entries × DidHandBack done.localities done.job x z
 RefusedStep {A} {g} (faults.NotRun job) x z = HasRoom x.entries × DidHandBack (length z.nodes) job x z
 RefusedStep {A} {g} faults.Fabric x z = HasRoom x.entries × NoneClears x × StaysAll x z
