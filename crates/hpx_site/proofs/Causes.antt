@@ -1,20 +1,21 @@
 -- Why a site stands still, from why a turn or steps were refused.
-use Rattle.std.proofs.Common.{ℕ, ◌≡◌, ◌≢◌, ◌∙◌, ◌⊎◌, List, [], Option, Some, None, Result, Ok, Err, length, refl, sym, subst, sum_by, inl, inr}
+use Rattle.std.proofs.Common.{ℕ, ◌≡◌, ◌≢◌, ◌∙◌, ◌⊎◌, List, Option, Some, None, Err, sym, subst, sum_by, inl, inr}
 use Rattle.hpx_value.specs.declared.acts.Acts.{Ghosts}
-use Rattle.hpx_ports.specs.Faults.{Rose}
+use Rattle.hpx_value.specs.declared.acts.Done.{Done}
+use Rattle.hpx_journal.specs.Weights.{HasRoom}
 use Rattle.hpx_tables.specs.Tables.{Tables}
 use Rattle.hpx_world.specs.declared.turns.WorldFault.{WorldFault}
 use Rattle.hpx_world.specs.declared.turns.WorldFault.TheVariants as faults
 use Rattle.hpx_world.specs.declared.turns.Choice.{Choice}
 use Rattle.hpx_world.specs.declared.turns.Choice.TheVariants as choices
 use Rattle.hpx_world.specs.Quiet.{IsQuiet}
-use Rattle.hpx_world.specs.Refusals.{Stays, StaysAll, IsFull, Refused, RefusedBy, RefusedDesk, RefusedDrain, RefusedTake, CountsFaults}
+use Rattle.hpx_world.specs.Refusals.{Stays, StaysAll, IsFull, Refused, RefusedBy, RefusedDesk, RefusedDrain, RefusedFire, RefusedHere, RefusedPump, RefusedTake, CountsFaults}
 use Rattle.hpx_world.specs.Sound.{Meaning}
 use Rattle.hpx_world.specs.Stages.{Stage}
 use Rattle.hpx_world.specs.Steps.{IsEarly, IsHeld, NoneFires, NonePumps}
 use Rattle.hpx_world.specs.Turns.{IsStrangeMail}
 use Rattle.hpx_site.specs.Seen.{Seen, stage_of}
-use Rattle.hpx_site.specs.Held.{IsCause}
+use Rattle.hpx_site.specs.Held.{IsCause, LeavesRoom}
 
 -- a world is not quiet where not as many were taken as sent
 not_quiet : (nodes : List Tables) (hand : _) (s t : ℕ) → s ≡ sum_by (λ (n : Tables). n.sent) nodes → t ≡ sum_by (λ (n : Tables). n.taken) nodes → s ≢ t → IsQuiet nodes hand → ⊥
@@ -90,3 +91,72 @@ module _ {A : Type 0} {g : Ghosts A} (x z : Seen) where
           why (inr held) = held.1.waits
   steps_cause act_of (faults.OutOfMemory job_back) h counts = tt
   steps_cause act_of (faults.NotRun job) h counts = tt
+
+-- a turn that is refused for another cause than a full journal leaves the nodes and the journal
+take_stays : {A : Type 0} {g : Ghosts A} (f : WorldFault A g) (x z : Stage) → RefusedTake f x z → Stays x z
+take_stays faults.Fabric x z r = r.0
+take_stays (faults.BadFrame to place why) x z r = r.0.0
+take_stays (faults.Strange to rule object kept) x z r = r.0.0
+take_stays (faults.EarlyEnd s t) x z r = r.0
+take_stays (faults.OutOfMemory job_back) x z r = r.0.0
+take_stays _ x z r = absurd r
+
+desk_stays : {A : Type 0} {g : Ghosts A} (k : ℕ) (f : WorldFault A g) (x z : Stage) → RefusedDesk k f x z → Stays x z
+desk_stays k (faults.Strange to rule object kept) x z r = r.0.0
+desk_stays k (faults.OutOfMemory job_back) x z r = r.0.0
+desk_stays k _ x z r = absurd r
+
+pump_stays : {A : Type 0} {g : Ghosts A} (k : ℕ) (f : WorldFault A g) (x z : Stage) → RefusedPump k f x z → Stays x z
+pump_stays k faults.Fabric x z r = r.0.0
+pump_stays k (faults.OutOfMemory job_back) x z r = r.0.0
+pump_stays k _ x z r = absurd r
+
+fire_stays : {A : Type 0} {g : Ghosts A} (k : ℕ) (f : WorldFault A g) (x z : Stage) → RefusedFire k f x z → Stays x z
+fire_stays k (faults.OutOfMemory job_back) x z r = r.0.0
+fire_stays k _ x z r = absurd r
+
+here_stays : {A : Type 0} {g : Ghosts A} (u : Option (Done A g)) (f : WorldFault A g) (x z : Stage) → RefusedHere u f x z → Stays x z
+here_stays u (faults.OutOfMemory job_back) x z r = r.0.0
+here_stays u _ x z r = absurd r
+
+stays_by : {A : Type 0} {g : Ghosts A} (c : Choice A g) (f : WorldFault A g) (x z : Stage) → RefusedBy c f x z → Stays x z
+stays_by (choices.Feed line) f x z r = here_stays None f x z r
+stays_by (choices.Fire k) f x z r = fire_stays k f x z r
+stays_by (choices.Finish done) f x z r = here_stays (Some done) f x z r
+stays_by (choices.Desk k) f x z r = desk_stays k f x z r
+stays_by (choices.Pump k) f x z r = pump_stays k f x z r
+stays_by choices.Take f x z r = take_stays f x z r
+
+has_still : (x z : Stage) → Stays x z → HasRoom x.entries → HasRoom z.entries
+has_still x z same room = subst (λ es. HasRoom es) (sym same.journal) room
+
+module _ {A : Type 0} {g : Ghosts A} (z : Seen) where
+  -- a turn
+  pub turn_room : (x : Seen) (c : Choice A g) (f : WorldFault A g) → Refused c f (stage_of x) (stage_of z) → LeavesRoom z f
+  turn_room x c faults.Fabric h = has_still (stage_of x) (stage_of z) (stays_by c faults.Fabric (stage_of x) (stage_of z) h.1) h.0
+  turn_room x c (faults.JournalFull e w job_back) h = tt
+  turn_room x c (faults.BadFrame to place why) h =
+      has_still (stage_of x) (stage_of z) (stays_by c (faults.BadFrame to place why) (stage_of x) (stage_of z) h.1) h.0
+  turn_room x c (faults.Strange to rule object kept) h =
+      has_still (stage_of x) (stage_of z) (stays_by c (faults.Strange to rule object kept) (stage_of x) (stage_of z) h.1) h.0
+  turn_room x c (faults.EarlyEnd s t) h = has_still (stage_of x) (stage_of z) (stays_by c (faults.EarlyEnd s t) (stage_of x) (stage_of z) h.1) h.0
+  turn_room x c (faults.OutOfMemory job_back) h =
+      has_still (stage_of x) (stage_of z) (stays_by c (faults.OutOfMemory job_back) (stage_of x) (stage_of z) h.1) h.0
+  turn_room x c (faults.NotRun job) h = tt
+
+  -- steps
+  pub steps_room : (act_of : Meaning) (x : Stage) (f : WorldFault A g) → RefusedDrain act_of f x (stage_of z) → LeavesRoom z f
+  steps_room act_of x faults.Fabric h = has_still h.last (stage_of z) h.thus.2.0 h.thus.0
+  steps_room act_of x (faults.JournalFull e w job_back) h = tt
+  steps_room act_of x (faults.BadFrame to place why) h = has_still h.last (stage_of z) h.thus.2.0.0 h.thus.0
+  steps_room act_of x (faults.Strange to rule object kept) h = has_still h.last (stage_of z) (each h.last h.thus.1) h.thus.0
+    where
+      each : (last : Stage) → ((NonePumps last × RefusedTake {A = A} {g = g} (faults.Strange to rule object kept) last (stage_of z))
+          ⊎ (NoneFires last × RefusedDesk {A = A} {g = g} to (faults.Strange to rule object kept) last (stage_of z)))
+          → Stays last (stage_of z)
+      each last (inl t) = t.1.0.0
+      each last (inr d) = d.1.0.0
+  steps_room act_of x (faults.EarlyEnd s t) h = h.0
+  steps_room act_of x (faults.OutOfMemory None) h = has_still h.last (stage_of z) h.thus.1.0 h.thus.0
+  steps_room act_of x (faults.OutOfMemory (Some done)) h = h.thus.1
+  steps_room act_of x (faults.NotRun job) h = tt

@@ -1,7 +1,9 @@
 -- What holds of a site goes on to hold.
-use Rattle.std.proofs.Common.{ℕ, ◌≡◌, ◌∙◌, List, [], Option, Some, None, Err, IfSome, is_some, true, false, length, refl, sym, subst, ap₂}
+use Rattle.std.proofs.Common.{ℕ, ◌≡◌, ◌∙◌, Option, Some, None, Result, Ok, Err, IfSome, IfErr, is_some, false, length, refl, sym, subst, ap₂}
 use Rattle.hpx_value.specs.declared.acts.Acts.{Ghosts}
+use Rattle.std.specs.Result.{result_err}
 use Rattle.hpx_journal.specs.Entries.{Rules}
+use Rattle.hpx_journal.specs.Weights.{HasRoom}
 use Rattle.hpx_ports.specs.Faults.{Rose}
 use Rattle.hpx_steps.specs.Rest.{rules_of}
 use Rattle.hpx_world.specs.declared.turns.WorldFault.{WorldFault}
@@ -11,11 +13,12 @@ use Rattle.hpx_world.specs.Places.{Places, rules_in}
 use Rattle.hpx_world.specs.declared.turns.Choice.{Choice}
 use Rattle.hpx_world.specs.Refusals.{CountsFaults, CanCome, CanComeOfSteps, Refused, RefusedDrain}
 use Rattle.hpx_world.specs.Sound.{Meaning}
-use Rattle.hpx_world.specs.Steps.{IsUnfed}
+use Rattle.hpx_world.specs.Stages.{Stage}
+use Rattle.hpx_world.specs.Steps.{IsIdle, IsUnfed}
 use Rattle.hpx_world.proofs.Unfed.{unfed_none, unfed_then}
 use Rattle.hpx_site.specs.Seen.{Seen, Carries, stage_of}
-use Rattle.hpx_site.specs.Held.{Held, IsCause, IsCalm}
-use Rattle.hpx_site.proofs.Causes.{steps_cause, turn_cause}
+use Rattle.hpx_site.specs.Held.{Held, IsCause, IsCalm, LeavesRoom}
+use Rattle.hpx_site.proofs.Causes.{steps_cause, steps_room, turn_cause, turn_room}
 
 -- the same localities and the same profile are the same rules
 same_rules : (act_of : Meaning) (v w : Places) → length v.nodes ≡ length w.nodes → v.profile ≡ w.profile → rules_in act_of v ≡ rules_in act_of w
@@ -67,44 +70,57 @@ pub record Went (act_of : Meaning) (x z : Seen) : Type 0 where
   pub carrying : Carries act_of x → IsCarrying (rules_in act_of x.world) z.world.hand z.flight z.trace z.world.journal.entries
 
 module _ {A : Type 0} {g : Ghosts A} (act_of : Meaning) (was x z : Seen) (stop : Option (WorldFault A g)) (going : is_some stop ≡ false) (h : Held act_of was x stop) (w : Went act_of x z) where
-  on : (stop' : Option (WorldFault A g)) → (IsCalm stop' → z.faults ≡ x.faults) → IfSome stop' (IsCause was z) → (Carries act_of x → IfSome stop' (CanComeOfSteps (rules_in act_of x.world))) → Held act_of was z stop'
-  on stop' still cause never = record {
+  on : (stop' : Option (WorldFault A g)) → (IsCalm stop' → z.faults ≡ x.faults) → IfSome stop' (IsCause was z) → IfSome stop' (LeavesRoom z) → (Carries act_of x → IfSome stop' (CanComeOfSteps (rules_in act_of x.world))) → Held act_of was z stop'
+  on stop' still cause room never = record {
     localities = w.localities ∙ h.localities;
     profile = w.profile ∙ h.profile;
     unfed = unfed_then _ _ _ h.unfed w.unfed;
     carrying = λ c. subst (λ r. IsCarrying r z.world.hand z.flight z.trace z.world.journal.entries) (sym (same_rules act_of z.world x.world w.localities w.profile)) (w.carrying (h.carrying c));
     still = λ q. still q ∙ h.still (calm stop going);
     cause = cause;
+    room = room;
     never = λ c. subst (λ r. IfSome stop' (CanComeOfSteps r)) (same_rules act_of x.world was.world h.localities h.profile) (never (h.carrying c));
   }
 
   -- it was not refused
   pub goes_on : z.faults ≡ x.faults → Held act_of was z stop
-  goes_on same = on stop (λ q. same) (no_stop (IsCause was z) stop going) (λ c. no_stop (CanComeOfSteps (rules_in act_of x.world)) stop going)
+  goes_on same = on stop (λ q. same) (no_stop (IsCause was z) stop going) (no_stop (LeavesRoom z) stop going) (λ c. no_stop (CanComeOfSteps (rules_in act_of x.world)) stop going)
 
   -- it was refused
-  stands_still : (f : WorldFault A g) → CountsFaults {T = ℕ} (Err f) x.faults z.faults → IsCause x z f → (Carries act_of x → CanComeOfSteps (rules_in act_of x.world) f) → Held act_of was z (Some f)
-  stands_still f counts cause never = on (Some f) (counts_still f x.faults z.faults counts) (since was x z (h.still (calm stop going)) f cause) never
+  stands_still : (f : WorldFault A g) → CountsFaults {T = ℕ} (Err f) x.faults z.faults → IsCause x z f → LeavesRoom z f → (Carries act_of x → CanComeOfSteps (rules_in act_of x.world) f)
+      → Held act_of was z (Some f)
+  stands_still f counts cause room never = on (Some f) (counts_still f x.faults z.faults counts) (since was x z (h.still (calm stop going)) f cause) room never
 
   -- a turn was refused
   pub turn_stops : (c : Choice A g) (f : WorldFault A g) → Refused c f (stage_of x) (stage_of z) → CountsFaults {T = ℕ} (Err f) x.faults z.faults → (Carries act_of x → CanCome (rules_in act_of x.world) f)
       → Held act_of was z (Some f)
-  turn_stops c f refused counts never = stands_still f counts (turn_cause x z c f refused counts) (λ q. comes_of_steps (rules_in act_of x.world) f (never q))
+  turn_stops c f refused counts never = stands_still f counts (turn_cause x z c f refused counts) (turn_room z x c f refused) (λ q. comes_of_steps (rules_in act_of x.world) f (never q))
 
   -- steps were refused
   pub steps_stop : (f : WorldFault A g) → RefusedDrain act_of f (stage_of x) (stage_of z) → CountsFaults {T = ℕ} (Err f) x.faults z.faults → (Carries act_of x → CanComeOfSteps (rules_in act_of x.world) f)
       → Held act_of was z (Some f)
-  steps_stop f refused counts never = stands_still f counts (steps_cause x z act_of f refused counts) never
+  steps_stop f refused counts never = stands_still f counts (steps_cause x z act_of f refused counts) (steps_room z act_of (stage_of x) f refused) never
 
 -- a site, as it is seen
-pub held_first : {A : Type 0} {g : Ghosts A} (act_of : Meaning) (x : Seen) (stop : Option (WorldFault A g)) → stop ≡ None → Held act_of x x stop
-held_first act_of x None e = record {
+pub held_first : {A : Type 0} {g : Ghosts A} (act_of : Meaning) (was x : Seen) → was ≡ x → Held {A = A} {g = g} act_of was x None
+held_first {A} {g} act_of was x e = subst (λ (y : Seen). Held {A = A} {g = g} act_of y x None) (sym e) (record {
   localities = refl;
   profile = refl;
   unfed = unfed_none _ _ refl;
   carrying = λ c. c;
   still = λ q. refl;
   cause = tt;
+  room = tt;
   never = λ c. tt;
-}
-held_first act_of x (Some f) e = absurd (cc e)
+})
+
+-- steps, refused or not, of a site that goes on
+pub drained : {A : Type 0} {g : Ghosts A} (act_of : Meaning) (was x z : Seen) → Held {A = A} {g = g} act_of was x None → Went act_of x z
+    → (r : Result (Unit {0}) (WorldFault A g)) → CountsFaults r x.faults z.faults → IfErr r (λ f. RefusedDrain act_of f (stage_of x) (stage_of z))
+    → (Carries act_of x → IfErr r (CanComeOfSteps (rules_in act_of x.world))) → Held act_of was z (result_err r)
+drained act_of was x z h w (Ok u) counts stops never = goes_on act_of was x z None refl h w counts
+drained act_of was x z h w (Err f) counts stops never = steps_stop act_of was x z None refl h w f stops counts never
+
+-- where steps end there is room
+pub idle_room : (x z : Stage) → IsIdle x z → HasRoom z.entries
+idle_room x z idle = subst (λ es. HasRoom es) (sym idle.same.journal) idle.room

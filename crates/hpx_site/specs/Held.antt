@@ -1,6 +1,7 @@
 -- What holds of a site whenever no worker is at it.
-use Rattle.std.specs.Prelude.{ℕ, [], ◌≡◌, ◌⊎◌, Option, Some, None, IfSome, length, sum_by}
+use Rattle.std.specs.Prelude.{◌≡◌, ◌⊎◌, Option, Some, None, IfSome, length, sum_by}
 use Rattle.hpx_value.specs.declared.acts.Acts.{Ghosts}
+use Rattle.hpx_journal.specs.Weights.{HasRoom}
 use Rattle.hpx_ports.specs.Faults.{Rose}
 use Rattle.hpx_world.specs.declared.turns.WorldFault.{WorldFault}
 use Rattle.hpx_world.specs.declared.turns.WorldFault.TheVariants as faults
@@ -26,6 +27,18 @@ IsCause was is (faults.EarlyEnd sent taken) =
 IsCause was is (faults.OutOfMemory job_back) = Unit {0}
 IsCause was is (faults.NotRun job) = Unit {0}
 
+-- the journal has room where a site stands still, unless it is full or a job was not run
+abbrev pub LeavesRoom : {A : Type 0} {g : Ghosts A} → Seen → WorldFault A g → Type 0
+LeavesRoom is (faults.JournalFull entries weight job_back) = Unit {0}
+LeavesRoom is (faults.NotRun job) = Unit {0}
+LeavesRoom is _ = HasRoom is.world.journal.entries
+
+-- it stands still for want of memory: a job that was to be run or committed is in the fault
+abbrev pub IsShort : {A : Type 0} {g : Ghosts A} → WorldFault A g → Type 0
+IsShort (faults.OutOfMemory job_back) = Unit {0}
+IsShort (faults.NotRun job) = Unit {0}
+IsShort _ = ⊥
+
 -- the fabric is not why a site stands still
 abbrev pub IsCalm : {A : Type 0} {g : Ghosts A} → Option (WorldFault A g) → Type 0
 IsCalm (Some faults.Fabric) = ⊥
@@ -33,7 +46,7 @@ IsCalm _ = Unit {0}
 
 -- a site since it was seen so: its localities and its profile are the same, and its journal has grown by no line; where the fabric
 -- carried for the journal, it does; the fabric's count of faults is the same, unless the fabric is why the site stands still; and a
--- fault that is why it stands still has its cause, and on a fabric that carried is none that cannot come
+-- fault that is why it stands still has its cause and leaves room, and on a fabric that carried is none that cannot come
 pub record Held {A : Type 0} {g : Ghosts A} (act_of : Meaning) (was is : Seen) (stop : Option (WorldFault A g)) : Type 0 where
   pub localities : length is.world.nodes ≡ length was.world.nodes
   pub profile : is.world.profile ≡ was.world.profile
@@ -41,4 +54,5 @@ pub record Held {A : Type 0} {g : Ghosts A} (act_of : Meaning) (was is : Seen) (
   pub carrying : Carries act_of was → Carries act_of is
   pub still : IsCalm stop → is.faults ≡ was.faults
   pub cause : IfSome stop (IsCause was is)
+  pub room : IfSome stop (LeavesRoom is)
   pub never : Carries act_of was → IfSome stop (CanComeOfSteps (rules_in act_of was.world))

@@ -1,12 +1,12 @@
 //! What lies under the lock.
 ghost use Rattle.hpx_site.specs.Held.{Held};
 ghost use Rattle.hpx_site.specs.Seen.{Seen, seen, nowhere};
-ghost use Rattle.std.specs.Prelude.{◌≡◌, IsTrue};
-ghost use Rattle.hpx_pool.specs.Hands.{frame_of};
+ghost use Rattle.std.specs.Prelude.{◌≡◌, ◌≤◌, ◌+◌, ℕ, IsTrue, length};
+ghost use Rattle.hpx_pool.specs.Hands.{frame_of, put_of};
 ghost use Rattle.hpx_world.specs.Refusals.{FeedsNoLine, IsAsked};
 
 use crate::found::Found;
-use crate::site::Site;
+use crate::site::Lent;
 use hpx_pool::hand::Hand;
 use hpx_ports::fabric::Fabric;
 use hpx_value::acts::{Acts, Done, Job};
@@ -17,24 +17,36 @@ use std::marker::{Brand, Model, PhantomData};
 /// How many jobs a worker takes out at most while it has the lock.
 const MOST: u32 = 32;
 
-/// What was seen of a site when the workers began. Each call of them picks it.
+/// What was seen of a site when the workers began, and which world and which fabric were lent. Each call of them picks it.
 pub trait Past {
     ghost was: { Seen };
+
+    ghost lent: { ℕ };
+
+    ghost world: { ℕ };
+
+    ghost fabric: { ℕ };
 }
 
 impl Past for Brand {
     ghost was = { nowhere };
+
+    ghost lent = { 0 };
+
+    ghost world = { 0 };
+
+    ghost fabric = { 0 };
 }
 
-/// A site. Contracts see nothing of it, since other threads change it: what is known is what its type says.
-#[derive(Drop)]
-pub struct Kept<A: Acts + Copy, F: Fabric, E: Past> {
-    site: Site<A, F>,
+/// A site under its lock. Contracts see nothing of it, since other threads change it: what is known is what its type says.
+pub struct Kept<'b, 'w, 'f, A: Acts + Copy, F: Fabric, E: Past> {
+    lent: &'b mut Lent<'w, 'f, A, F>,
+    stop: Option<WorldFault<A>>,
     of: PhantomData<E>,
 }
 
-impl<A: Acts + Copy, F: Fabric, E: Past> Model for Kept<A, F, E> {
-    ghost use Rattle.std.specs.Prelude.{⊤};
+impl<'b, 'w, 'f, A: Acts + Copy, F: Fabric, E: Past> Model for Kept<'b, 'w, 'f, A, F, E> {
+    ghost use Rattle.std.specs.Prelude.{⊤, ◌≡◌};
     ghost use Rattle.hpx_site.specs.Held.{Held};
     ghost use Rattle.hpx_site.specs.Seen.{seen};
 
@@ -42,7 +54,8 @@ impl<A: Acts + Copy, F: Fabric, E: Past> Model for Kept<A, F, E> {
 
     ghost view = { λ k. tt };
 
-    ghost invariant = { λ k. Held A.act_of E.was (seen k.site.world (F.flight k.site.fabric) (F.trace k.site.fabric) (F.faults k.site.fabric)) k.site.stop };
+    ghost invariant = { λ k. (k.lent.ghost_name ≡ E.lent) × (k.lent.now.world.ghost_name ≡ E.world) × (k.lent.now.fabric.ghost_name ≡ E.fabric)
+        × Held A.act_of E.was (seen k.lent.now.world.now (F.flight k.lent.now.fabric.now) (F.trace k.lent.now.fabric.now) (F.faults k.lent.now.fabric.now)) k.stop };
 }
 
 /// Whether this may be asked of so many localities, where workers ask it.
@@ -59,41 +72,55 @@ fn may_be<A: Acts>(n: u32, choice: &Choice<A>) -> bool
     }
 }
 
-impl<A: Acts + Copy, F: Fabric, E: Past> Kept<A, F, E> {
-    /// A site, to be shared.
-    pub fn new(site: Site<A, F>) -> Kept<A, F, E>
-        requires { Held A.act_of E.was (seen site.world (F.flight site.fabric) (F.trace site.fabric) (F.faults site.fabric)) site.stop }
+impl<'b, 'w, 'f, A: Acts + Copy, F: Fabric, E: Past> Kept<'b, 'w, 'f, A, F, E> {
+    /// What is lent, to be shared.
+    #[tactic(auto, using(crate::proofs::Helds::held_first))]
+    pub fn new(lent: &'b mut Lent<'w, 'f, A, F>) -> Kept<'b, 'w, 'f, A, F, E>
+        requires lent { lent.ghost_name ≡ E.lent }
+        requires world { lent.old.world.ghost_name ≡ E.world }
+        requires fabric { lent.old.fabric.ghost_name ≡ E.fabric }
+        requires was { E.was ≡ seen lent.old.world.now (F.flight lent.old.fabric.now) (F.trace lent.old.fabric.now) (F.faults lent.old.fabric.now) }
     {
         Kept {
-            site,
+            lent,
+            stop: None,
             of: PhantomData,
         }
     }
 
-    /// The site, which is shared no more.
-    pub fn into_site(self) -> Site<A, F>
-        ensures { Held A.act_of E.was (seen result.world (F.flight result.fabric) (F.trace result.fabric) (F.faults result.fabric)) result.stop }
+    /// What was lent, which is shared no more; and why the world stands still, if it does.
+    pub fn into_lent(self, stop: &mut Option<WorldFault<A>>) -> &'b mut Lent<'w, 'f, A, F>
+        ensures lent { result.ghost_name ≡ E.lent }
+        ensures world { result.now.world.ghost_name ≡ E.world }
+        ensures fabric { result.now.fabric.ghost_name ≡ E.fabric }
+        ensures held { Held A.act_of E.was (seen result.now.world.now (F.flight result.now.fabric.now) (F.trace result.now.fabric.now) (F.faults result.now.fabric.now)) stop.new }
     {
-        let Kept { site, of: _ } = self;
-        site
+        let Kept {
+            lent,
+            stop: why,
+            of: _,
+        } = self;
+        *stop = why;
+        lent
     }
 
     /// How many localities there are.
     fn localities(&self) -> u32 {
-        self.site.world.acts().localities()
+        self.lent.localities()
     }
 
     /// One turn of the world, unless it stands still. A turn that is refused is why it does from then on.
     fn turn(&mut self, alloc: Global, choice: Choice<A>) -> Option<Turned>
         requires { FeedsNoLine choice }
     {
-        if self.site.stop.is_some() || !may_be(self.site.world.acts().localities(), &choice) {
+        if self.stop.is_some() || !may_be(self.lent.localities(), &choice) {
             return None;
         }
-        match self.site.world.turn(alloc, choice, &mut self.site.fabric) {
+        let lent = &mut *self.lent;
+        match lent.world.turn(alloc, choice, lent.fabric) {
             Ok(turned) => Some(turned),
             Err(fault) => {
-                self.site.stop = Some(fault);
+                self.stop = Some(fault);
                 None
             }
         }
@@ -104,9 +131,9 @@ impl<A: Acts + Copy, F: Fabric, E: Past> Kept<A, F, E> {
         self.turn(alloc, Choice::Fire(k))?.job()
     }
 
-    /// A job of the least locality that has one, from this one on; and where it is.
-    fn fire_from(&mut self, alloc: Global, first: u32) -> Option<Job> {
-        for k in first..self.localities() {
+    /// A job of the least locality that has one.
+    fn fire_first(&mut self, alloc: Global) -> Option<Job> {
+        for k in 0..self.localities() {
             if let Some(job) = self.fire(alloc, k) {
                 return Some(job);
             }
@@ -121,8 +148,8 @@ impl<A: Acts + Copy, F: Fabric, E: Past> Kept<A, F, E> {
 
     /// The world stands still, as there was no memory to run a job.
     pub fn stand_still(&mut self, job: Job) {
-        if self.site.stop.is_none() {
-            self.site.stop = Some(WorldFault::NotRun { job });
+        if self.stop.is_none() {
+            self.stop = Some(WorldFault::NotRun { job });
         }
     }
 
@@ -136,57 +163,66 @@ impl<A: Acts + Copy, F: Fabric, E: Past> Kept<A, F, E> {
         }
     }
 
-    /// One message goes on: at the first locality that has one to itself, at the first that has one to another, or off the fabric.
-    /// False where none can.
-    fn move_one(&mut self, alloc: Global) -> bool {
-        let n = self.localities();
-        for k in 0..n {
+    /// The first locality with a message to itself deals with it. False where none has one.
+    fn clear_one(&mut self, alloc: Global) -> bool {
+        for k in 0..self.localities() {
             if self.moves(alloc, Choice::Desk(k)) {
                 return true;
             }
         }
-        for k in 0..n {
+        false
+    }
+
+    /// The first locality with a message to another sends it. False where none has one.
+    fn send_one(&mut self, alloc: Global) -> bool {
+        for k in 0..self.localities() {
             if self.moves(alloc, Choice::Pump(k)) {
                 return true;
             }
         }
-        self.moves(alloc, Choice::Take)
+        false
+    }
+
+    /// A message goes to another locality, or a frame is accepted.
+    fn carry_one(&mut self, alloc: Global) -> Found {
+        if self.send_one(alloc) || self.moves(alloc, Choice::Take) {
+            Found::Moved
+        } else if self.waits_for_none() {
+            Found::Over
+        } else {
+            Found::Nothing
+        }
     }
 
     /// Whether no job is out, or the world stands still: where nothing moves either, there is nothing to wait for.
     fn waits_for_none(&self) -> bool {
-        self.site.stop.is_some() || self.site.world.none_runs()
+        self.stop.is_some() || self.lent.none_runs()
     }
 
     /// Runs a job here, and takes it back.
-    fn run(&mut self, alloc: Global, acts: &A, job: Job) {
+    pub(crate) fn run(&mut self, alloc: Global, acts: &A, job: Job) {
         match Done::compute(alloc, acts, job) {
             Ok(done) => self.take_back(alloc, done),
             Err(job) => self.stand_still(job),
         }
     }
 
-    /// Runs jobs that are left, and drains the world, unless it stands still.
-    pub fn settle(&mut self, alloc: Global, acts: &A, jobs: Vec<Job>) {
+    /// Runs jobs that are left.
+    pub fn run_all(&mut self, alloc: Global, acts: &A, jobs: Vec<Job>) {
         for job in jobs {
             self.run(alloc, acts, job);
         }
-        if self.site.stop.is_some() {
-            return;
-        }
-        if let Err(fault) = self.site.world.drain(alloc, &mut self.site.fabric) {
-            self.site.stop = Some(fault);
-        }
     }
 
-    /// Takes jobs out, the least locality first, and puts them on a hand. Answers one that the hand has no memory for, and whether
-    /// it has any.
+    /// Takes jobs out, the least locality first, and puts them on a hand. Answers one that the hand has no memory for, or
+    /// whether it took any.
     fn fill(&mut self, alloc: Global, hand: &mut Hand) -> Found
-        ensures { frame_of hand.new ≡ frame_of hand.old }
+        ensures frame { frame_of hand.new ≡ frame_of hand.old }
+        ensures few { length (put_of hand.new) ≤ length (put_of hand.old) + 32 }
     {
         let mut found = Found::Nothing;
-        for _ in 0..MOST {
-            let Some(job) = self.fire_from(alloc, 0) else {
+        for _taken in 0..MOST {
+            let Some(job) = self.fire_first(alloc) else {
                 return found;
             };
             if let Err(job) = hand.put(job) {
@@ -197,20 +233,17 @@ impl<A: Acts + Copy, F: Fabric, E: Past> Kept<A, F, E> {
         found
     }
 
-    /// What there is to do: jobs are put on a hand, or else a message goes on.
+    /// What there is to do. A message to an own locality goes first; where none waits, jobs are put on the hand, all that are ready, up to
+    /// 32; where none is ready, a message goes to another locality.
     pub fn look(&mut self, alloc: Global, hand: &mut Hand) -> Found
-        ensures { frame_of hand.new ≡ frame_of hand.old }
+        ensures frame { frame_of hand.new ≡ frame_of hand.old }
+        ensures few { length (put_of hand.new) ≤ length (put_of hand.old) + 32 }
     {
+        if self.clear_one(alloc) {
+            return Found::Moved;
+        }
         match self.fill(alloc, hand) {
-            Found::Nothing => {
-                if self.move_one(alloc) {
-                    Found::Moved
-                } else if self.waits_for_none() {
-                    Found::Over
-                } else {
-                    Found::Nothing
-                }
-            }
+            Found::Nothing => self.carry_one(alloc),
             found => found,
         }
     }

@@ -4,3 +4,4 @@
 pub mod found;
 pub mod kept;
 pub mod site;
+pub mod workers;
