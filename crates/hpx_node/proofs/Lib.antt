@@ -1,5 +1,6 @@
 pub mod Common
 pub mod Arrived
+pub mod Booted
 pub mod Committing
 pub mod Continued
 pub mod Credits
@@ -14,6 +15,8 @@ pub mod Given
 pub mod GoesOn
 pub mod HandLeft
 pub mod Held
+pub mod Landed
+pub mod Lands
 pub mod IdleFired
 pub mod IdleSince
 pub mod LeftBy
@@ -27,6 +30,7 @@ pub mod PlanLimits
 pub mod PlanRoom
 pub mod PlanWeights
 pub mod Planned
+pub mod Queued
 pub mod ReadyStock
 pub mod Records
 pub mod Resumed
@@ -41,6 +45,7 @@ pub mod Spared
 pub mod Sums
 pub mod Targets
 pub mod TurnSteps
+pub mod Told
 pub mod Turned
 pub mod Turns
 pub mod Waited

@@ -2,7 +2,7 @@
 use Rattle.std.specs.Prelude.{List, None, Some, ℕ, ◌++◌, ◌+◌, ◌∷◌, ◌≡◌}
 use Rattle.hpx_node.specs.Names.{Accepts, DealsWith, Entry, Event, In, Leaves, Mail, Parcel, Tables, effects}
 use Rattle.hpx_parcel.specs.Reading.{parcel_of, IsRefused}
-use Rattle.hpx_tables.specs.Strange.{broken}
+use Rattle.hpx_tables.specs.Rules.{broken}
 use Rattle.hpx_steps.specs.Rows.{kind_of}
 use Rattle.hpx_node.specs.Changes.{Writes}
 use Rattle.hpx_node.specs.Next.{Continues}

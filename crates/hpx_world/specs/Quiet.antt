@@ -33,10 +33,6 @@ HasNoMail t = t.desk ≡ []
 abbrev pub SendsNothing : Tables → Type 0
 SendsNothing t = t.outgoing ≡ []
 
--- nothing waits until its object has moved
-abbrev pub QueuesNothing : Tables → Type 0
-QueuesNothing t = t.queued ≡ []
-
 -- no turn but a Feed or a Finish can do anything, on a fabric that tells: nothing may be fired, dealt with, sent or accepted
 pub record NothingApplies (nodes : List Tables) (held : Option Frame) (frames : Option (List Frame)) : Type 0 where
   pub fire : AllByRecursion IsStuck nodes

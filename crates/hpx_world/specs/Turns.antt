@@ -12,7 +12,7 @@ use Rattle.hpx_node.specs.Asks.{Begins}
 use Rattle.hpx_node.specs.Changes.{Writes}
 use Rattle.hpx_node.specs.Commits.{seen, committed, hand_of, places_in_hand, Ends}
 use Rattle.hpx_tables.specs.Jobs.{IsRunning, Starts}
-use Rattle.hpx_steps.specs.Mail.{with_act}
+use Rattle.hpx_steps.specs.Ways.{with_act}
 use Rattle.hpx_node.specs.Handled.{Takes, Clears, NotTaken, NotCleared}
 use Rattle.hpx_tables.specs.Strange.{object_of}
 use Rattle.hpx_tables.specs.Tables.{Tables}

@@ -11,7 +11,7 @@ ghost use Rattle.hpx_ports.specs.Faults.{Rose};
 ghost use Rattle.hpx_node.specs.Locality.{tables_of};
 ghost use Rattle.hpx_world.specs.Sound.{IsSound, IsSame, DoneAt};
 ghost use Rattle.hpx_world.specs.Away.{IsCarrying, IsInside, Fetches, Puts, Keeps};
-ghost use Rattle.hpx_world.specs.Quiet.{IsQuiet, QueuesNothing, NoneRuns, running_in};
+ghost use Rattle.hpx_world.specs.Quiet.{IsQuiet, NoneRuns, running_in};
 ghost use Rattle.hpx_world.specs.Turns.{DidFeed, DidFire, DidFinish, DidDesk, DidPump, DidTake, IsBadFrame, IsStrangeFrame, IsStrangeMail, IsRightMail, HasToFire, HasToSend, IsFarFault, IsRightFrame, HoldsBadFrame, HoldsStrangeFrame, HoldsRightFrame};
 
 use crate::turns::{Turned, WorldFault};
@@ -140,15 +140,6 @@ impl<A: Acts + Copy> Locals<A> {
             taken += node.taken() as u128;
         }
         (sent, taken)
-    }
-
-    /// Nothing waits anywhere until its object has moved.
-    pub fn rests(&self)
-        ensures { AllByRecursion QueuesNothing (tables_of self.now.nodes.items) }
-    {
-        for node in self.nodes.iter() {
-            node.rests();
-        }
     }
 
     /// Whether each node is passive.

@@ -220,7 +220,6 @@ impl<A: Acts + Copy> World<A> {
     {
         while self.step(alloc, fabric)? {}
         self.standing();
-        self.rests();
         self.settled()
     }
 }

@@ -13,8 +13,9 @@ ghost use Rattle.hpx_steps.specs.Limits.{AddsATurn};
 ghost use Rattle.hpx_part.specs.Parts.{at_all};
 ghost use Rattle.hpx_tables.specs.Kept.{stands_here, waits_here, held_here, count_here};
 ghost use Rattle.hpx_tables.specs.Pending.{awaits};
-ghost use Rattle.hpx_tables.specs.Strange.{is_live, brings_right, broken_near};
-ghost use Rattle.hpx_steps.specs.Calls.{with_returns, ups, effects, Gives, DealsWith, Leaves};
+ghost use Rattle.hpx_tables.specs.Rules.{broken_near};
+ghost use Rattle.hpx_tables.specs.Strange.{is_live, brings_right};
+ghost use Rattle.hpx_steps.specs.Calls.{with_returns, ups, effects, Accepts, Gives, DealsWith, Leaves};
 ghost use Rattle.hpx_steps.specs.Mail.{with_return};
 ghost use Rattle.hpx_steps.specs.Rows.{kind_of};
 ghost use Rattle.hpx_node.specs.Handled.{Takes, Clears, NotTaken, NotCleared};
@@ -101,7 +102,7 @@ impl<A: Acts + Copy> Node<A> {
     }
 
     /// Takes the credit of an id back. An object that has none left is to be freed.
-    fn take_back(&mut self, book: &mut Journal, id: Gid)
+    pub(crate) fn take_back(&mut self, book: &mut Journal, id: Gid)
         requires credit { HasCredit id }
         requires live { is_live self.old.tables id ≡ true }
         requires enough { credit id ≤ count_here self.old.tables id }
@@ -233,12 +234,29 @@ impl<A: Acts + Copy> Node<A> {
             Parcel::Free(o) => self.free(book, o),
             Parcel::Give { id, entry } => self.give(book, id, entry),
             Parcel::Cached { id: _, place: _ } => (),
-            Parcel::Go(_) => (),
-            Parcel::Object {
-                action: _,
-                state: _,
-            } => (),
-            Parcel::Landed { id: _, place: _ } => (),
+            Parcel::Go(act) => self.mark(act),
+            Parcel::Object { action, state } => self.land(book, action, state),
+            Parcel::Landed { id, place } => self.arrive(book, id, place as u32),
+        }
+    }
+
+    /// The same with a message of the own desk.
+    fn handle_own(&mut self, book: &mut Journal, parcel: Parcel)
+        requires fit { IsParcel parcel }
+        requires right { broken_near self.old.tables parcel ≡ None }
+        requires tidy { IsTidy self.old.tables [] }
+        requires spare { 128 ≤ self.old.spare }
+        requires page { 129 ≤ book.old.spare }
+        ensures accepts { Accepts parcel self.old.tables self.new.tables }
+        ensures leaves { Leaves parcel self.old.tables self.new.tables }
+        ensures grows { book.new.entries ≡ book.old.entries ++ at_all self.old.tables.here (effects self.old.tables parcel) }
+        ensures spare { (id : _) (entry : _) → parcel ≡ Give id entry → self.old.spare ≤ self.new.spare }
+        ensures page { (id : _) (entry : _) → parcel ≡ Give id entry → book.old.spare ≤ book.new.spare + 1 }
+    {
+        match parcel {
+            Parcel::Apply(act) => self.accept_own(act),
+            Parcel::Move(act) => self.accept_own(act),
+            parcel => self.handle(book, parcel),
         }
     }
 
@@ -280,7 +298,7 @@ impl<A: Acts + Copy> Node<A> {
         requires page { 1280 ≤ book.old.spare }
         requires tidy { IsTidy self.old.tables [] }
         ensures writes { Writes (Mail (kind_of parcel) ∷ effects self.old.tables parcel) self.old.tables self.new.tables book.old.entries book.new.entries }
-        ensures deals { DealsWith parcel self.old.tables self.new.tables }
+        ensures accepts { Accepts parcel self.old.tables self.new.tables }
         ensures leaves { Leaves parcel self.old.tables self.new.tables }
         ensures running { self.new.tables.running ≡ self.old.tables.running }
         ensures taken { self.new.tables.taken ≡ self.old.tables.taken }
@@ -296,7 +314,7 @@ impl<A: Acts + Copy> Node<A> {
             at,
             event: Event::Mail { kind },
         });
-        self.handle(book, parcel);
+        self.handle_own(book, parcel);
     }
 
     /// Makes memory for a message that is dealt with, and for what follows it.

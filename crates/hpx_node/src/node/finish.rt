@@ -164,7 +164,8 @@ impl<A: Acts + Copy> Node<A> {
         } = prepared;
         self.make(book, births, &stock);
         self.settle(book, i, j, state);
-        self.leave(book, j, due, done.job().action.rider(), ups);
+        let told = self.note(&done.job().action, ups.as_slice());
+        self.leave(book, j, due, done.job().action.rider(), ups, told);
     }
 
     /// Commits a job that is done, or lets it wait where some id of its hand has too little credit for all who name it.

@@ -4,7 +4,7 @@ ghost use Rattle.hpx_parcel.specs.Parcels.{IsParcel};
 ghost use Rattle.hpx_journal.specs.Weights.{total_weight};
 ghost use Rattle.hpx_node.specs.Next.{IsNext, MayFollow, IfFollows, HasFollowed};
 ghost use Rattle.hpx_steps.specs.Rest.{IsTidy};
-ghost use Rattle.hpx_tables.specs.Strange.{broken_near};
+ghost use Rattle.hpx_tables.specs.Rules.{broken_near};
 
 use crate::node::Node;
 use crate::node::fail::Failing;

@@ -52,9 +52,9 @@ follow-requires g c =
     let is = (rw (← c.parcel.ensures.parcel) at c.index.ensures) ∙ ap (λ (x : Locality). get_or x.tables.desk 0 c.parcel.result.now) c.self.view_is in
     let looked = (rw (← c.parcel-2.ensures.parcel) at c.index-2.ensures) ∙ ap (λ (x : Locality). get_or x.tables.desk 0 c.parcel-2.result.now) c.self.view_is in
     let next = desk_next g.A.Acts.act_of c.args.self.now.tables _ c.enter_mail.new.self.tables _ _ c.into_parcel.result c.parcel.result.now c.parcel-2.result.now c.pop_front.new.self.items
-    c.broken.result c.in-Ok.next same first is c.broken.ensures c.in_default.is looked c.in-Ok.ensures c.enter_mail.ensures.deals c.requires.stands in
+    c.broken.result c.in-Ok.next same first is c.broken.ensures c.in_default.is looked c.in-Ok.ensures c.enter_mail.ensures.accepts c.requires.stands in
     let k = desk_follows g.A.Acts.act_of c.args.self.now.tables _ c.enter_mail.new.self.tables _ _ c.into_parcel.result c.parcel.result.now c.parcel-2.result.now c.pop_front.new.self.items
-    c.broken.result c.in-Ok.next same first is c.broken.ensures c.in_default.is looked c.in-Ok.ensures c.enter_mail.ensures.deals c.requires.stands c.requires.room in record {
+    c.broken.result c.in-Ok.next same first is c.broken.ensures c.in_default.is looked c.in-Ok.ensures c.enter_mail.ensures.accepts c.requires.stands c.requires.room in record {
       may = k.may;
       births = k.births;
       serial = k.serial;
@@ -71,7 +71,7 @@ returns g c =
     let looked = (rw (← c.parcel-2.ensures.parcel) at c.index-2.ensures) ∙ ap (λ (x : Locality). get_or x.tables.desk 0 c.parcel-2.result.now) c.self.view_is in
     let log = subst (λ (x : Locality). 8 ≤ x.tables.profile.credit_log) c.self.view_is c.self.invariant.3.log_least in
     let k = desk_clears g.A.Acts.act_of c.args.self.now.tables _ c.enter_mail.new.self.tables _ _ c.into_parcel.result c.parcel.result.now c.parcel-2.result.now c.pop_front.new.self.items
-    c.broken.result c.in-Ok.next same first is c.broken.ensures c.in_default.is looked c.in-Ok.ensures c.enter_mail.ensures.deals c.requires.stands g.met.A.Acts.is_blind (omega (arith, log))
+    c.broken.result c.in-Ok.next same first is c.broken.ensures c.in_default.is looked c.in-Ok.ensures c.enter_mail.ensures.accepts c.requires.stands g.met.A.Acts.is_blind (omega (arith, log))
     c.enter_mail.new.book.entries c.follow.new.book.entries c.enter_mail.ensures.writes c.enter_mail.ensures.leaves c.enter_mail.ensures.taken c.enter_mail.ensures.sent
     c.follow.new.self.tables c.follow.ensures.running c.follow.ensures.followed c.follow.ensures.taken c.follow.ensures.sent in
     record {

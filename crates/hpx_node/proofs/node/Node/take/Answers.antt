@@ -1,4 +1,4 @@
-use Rattle.hpx_node.proofs.Common.{IsTidy, Some, Stands, Tables, [], ap, arith, near_right, parcel_of, parcel_spelled, subst, sym, ◌∙◌, ◌≡◌, ◌≤◌}
+use Rattle.hpx_node.proofs.Common.{IsTidy, None, Some, Stands, Tables, [], ap, arith, broken_near, near_right, parcel_of, parcel_spelled, subst, sym, ◌∙◌, ◌≡◌, ◌≤◌}
 use Rattle.hpx_node.proofs.Followed.{next_gives}
 use Rattle.hpx_node.proofs.Same.{same_too}
 use Rattle.hpx_node.proofs.Turned.{are_few, at_rest_tidy, frame_follows, frame_takes}
@@ -14,6 +14,11 @@ next-requires-clause-few g c = (are_few g.A.Acts.act_of _ _ c.requires.room c.re
 
 pub next-requires-clause-right : goal.next-requires-clause-right
 next-requires-clause-right g c = (near_right c.args.self.now.tables c.in-Ok.parcel (sym c.broken.ensures ∙ c.in_default.is)).1
+
+pub enter_frame-requires-clause-right : goal.enter_frame-requires-clause-right
+enter_frame-requires-clause-right g c =
+    subst (λ (t : Tables). broken_near t c.in-Ok.parcel ≡ None) (sym c.reserve_turn.ensures.same.tables)
+    (near_right c.args.self.now.tables c.in-Ok.parcel (sym c.broken.ensures ∙ c.in_default.is)).1
 
 pub enter_frame-requires-clause-few : goal.enter_frame-requires-clause-few
 enter_frame-requires-clause-few g c =

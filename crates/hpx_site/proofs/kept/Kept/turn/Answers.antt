@@ -1,9 +1,0 @@
-use Rattle.std.proofs.Common.{rules}
-use Rattle.hpx_site.proofs.Helds.{turn_stops}
-use Rattle.hpx_site.proofs.kept.Kept.turn.Goals as goal
-
-pub invariant_of-self-in-Err : goal.invariant_of-self-in-Err
-invariant_of-self-in-Err g c =
-    turn_stops _ _ _ _ _ (search rules) c.self.invariant
-    (record { localities = c.turn.ensures.count; profile = c.turn.ensures.profile; unfed = c.turn.ensures.unfed c.requires; carrying = c.turn.ensures.carrying })
-    c.args.choice c.in-Err.fault c.in-Err.ensures.stops c.in-Err.ensures.faults c.in-Err.ensures.never
