@@ -27,7 +27,7 @@ fn comes_in_order(alloc: Global, frame: &Bytes, parts: &[Bytes]) -> Result<bool,
 }
 
 /// How many parts a frame has and what the first four spell, whether they come so from the hand and are bundled the same again, or why it is no bundle.
-pub fn open(alloc: Global, text: &mut String, frame: &mut Bytes) -> Result<(), OutOfMemory> {
+pub(crate) fn open(alloc: Global, text: &mut String, frame: &mut Bytes) -> Result<(), OutOfMemory> {
     let places = match unbundle(frame) {
         Ok(places) => places,
         Err(fault) => {

@@ -15,7 +15,7 @@ use std::fmt::Write;
 use std::io;
 
 /// What a frame spells, whether it is spelled the same again, or why it is no frame.
-pub fn parcel(alloc: Global, text: &mut String, frame: &[u8]) -> Result<(), OutOfMemory> {
+pub(crate) fn parcel(alloc: Global, text: &mut String, frame: &[u8]) -> Result<(), OutOfMemory> {
     match decode(alloc, frame) {
         Ok(parcel) => {
             show::parcel(text, &parcel)?;
