@@ -1,5 +1,5 @@
 -- Where no outcome sends a MOVE, no action is one, nothing sets off and nothing travels.
-use Rattle.std.proofs.Common.{ℕ, Bool, false, List, [], ◌∷◌, ◌≡◌, ◌≢◌, ◌<◌, Option, Some, None, refl, ap, arith}
+use Rattle.std.proofs.Common.{ℕ, Bool, true, false, List, [], ◌∷◌, ◌++◌, ◌==◌, ◌≡◌, ◌≢◌, ◌<◌, Option, Some, None, refl, ap, arith}
 use Rattle.std.specs.List.{list_any, AllByRecursion}
 use Rattle.std.proofs.lemmas.Bool.{ne_eqb}
 use Rattle.std.proofs.lemmas.List.Sums.{sum_by-cons}
@@ -9,11 +9,11 @@ use Rattle.hpx_value.specs.declared.outcome.Target.{Target}
 use Rattle.hpx_value.specs.declared.outcome.Target.TheVariants.{Place, Root}
 use Rattle.hpx_journal.specs.Bags.{minus}
 use Rattle.hpx_journal.specs.Data.{Act, Parcel, Shipped}
-use Rattle.hpx_journal.specs.Entries.{Event, Left, In, Entry, Rules, move_to}
+use Rattle.hpx_journal.specs.Entries.{Event, Left, Landed, Out, In, Entry, Rules, Frame, move_to}
 use Rattle.hpx_journal.specs.Frames.{acts_in, travels_in}
 use Rattle.hpx_journal.specs.Local.{Local, after, acts_on, is_travel, stops}
 use Rattle.hpx_journal.specs.Rows.{Row, is_move_of}
-use Rattle.hpx_journal.specs.Whole.{Space, IsLegal, IsLegalFrom, MayStand, run, step, replayed, arrives_at}
+use Rattle.hpx_journal.specs.Whole.{Space, sends, IsLegal, IsLegalFrom, MayStand, run, step, replayed, arrives_at}
 use Rattle.hpx_journal.specs.Laws.{HasGrammar, KeepsActLaws, count_events}
 use Rattle.hpx_journal.specs.Natives.{EachAct, NothingMoves, IsStill, is_left}
 use Rattle.hpx_journal.proofs.Alls.{all-map}
@@ -45,6 +45,32 @@ none_moves o to (act ∷ acts) h =
 still_event : (r : Rules) (s : Local) (e : Event) → Row r s e → AllByRecursion (ActIs AnyId NoMove) s.waiting → is_left e ≡ false
 still_event r s (Left o to) row h = let none = none_moves o to s.waiting h in let some = row.3 in absurd (cc)
 still_event r s _ row h = refl
+
+-- an object lands
+abbrev pub is_landed : Event → Bool
+is_landed (Landed o) = true
+is_landed _ = false
+
+none_lands : (r : Rules) (s : Local) (e : Event) → Row r s e → s.travels ≡ [] → is_landed e ≡ false
+none_lands r s (Landed o) row none = absurd (let k : None ≡ Some row.1.0 = rw none at row.1.1 in cc)
+none_lands r s _ row none = refl
+
+-- a MOVE goes out in a frame
+abbrev pub sends_move : Rules → Event → Bool
+sends_move r (Out to bytes) = list_any (λ (a : Act). a.code == 1) (acts_in (r.parcel_of bytes))
+sends_move r _ = false
+
+none_coded : (acts : List Act) → AllByRecursion (ActIs AnyId NoMove) acts → list_any (λ (a : Act). a.code == 1) acts ≡ false
+none_coded [] h = refl
+none_coded (act ∷ acts) h = let e : (act.code == 1) ≡ false = ne_eqb act.code 1 h.0.1 in rw e (none_coded acts h.1)
+
+none_sent : (r : Rules) (e : Event) (rest : List Frame) → AllByRecursion (FrameIs r AnyId NoMove) (sends e ++ rest) → sends_move r e ≡ false
+none_sent r (Out to bytes) rest h = none_coded (acts_in (r.parcel_of bytes)) h.0.0
+none_sent r _ rest h = refl
+
+road_sent : (r : Rules) (w : Space) (e : Entry) → IsSo r AnyId NoMove (step r w e) → sends_move r e.event ≡ false
+unfolding step
+road_sent r w e so = none_sent r e.event _ so.road
 
 ships_none : (p : Option Parcel) → AllByRecursion (ActIs AnyId NoMove) (acts_in p) → travels_in p ≡ []
 ships_none (Some (Shipped act state)) h = rw (no_move (bare_act act) h.0.1) refl
@@ -94,22 +120,36 @@ module _ (r : Rules) (grammar : HasGrammar r) (laws : KeepsActLaws r) (still : N
         (arrive r grammar laws AnyId NoMove given_still w.road e.at e.event so.road ok.road)) (calm k h)
 
   still_run : (w : Space) (es : List Entry) → IsWhole r w → IsSlotted r w → IsLegalFrom r w es → IsSo r AnyId NoMove w → Calm w
-      → (count_events is_left es ≡ 0) × Calm (run r w es)
-  still_run w [] whole slotted legal so calm = (refl, calm)
+      → (count_events is_left es ≡ 0) × Calm (run r w es) × (count_events is_landed es ≡ 0) × (count_events (sends_move r) es ≡ 0)
+  still_run w [] whole slotted legal so calm = (refl, calm, refl, refl)
   still_run w (e ∷ es) whole slotted legal so calm =
       let rest = still_run (step r w e) es (whole_step r w e whole legal.0)
       (slotted_next r grammar laws AnyId NoMove given_still w e whole slotted legal.0 so) legal.1
       (so_step r grammar laws AnyId NoMove given_still w e whole slotted legal.0 so) (calm_step w e legal.0 so calm) in
       let none : one_if (is_left e.event) ≡ 0 = ap one_if (here_still w e legal.0 so) in
-      (omega (arith, rest.0, sum_by-cons (λ x. one_if (is_left x.event)) e es), rest.1)
+      let goes : one_if (sends_move r e.event) ≡ 0 = ap one_if (road_sent r w e (so_step r grammar laws AnyId NoMove given_still w e whole slotted legal.0 so)) in
+      let lands : one_if (is_landed e.event) ≡ 0 = ap one_if (none_lands r (w.places e.at) e.event legal.0.allowed.row (calm e.at legal.0.place)) in (
+        omega (arith, none, rest.0, sum_by-cons (λ x. one_if (is_left x.event)) e es),
+        rest.1,
+        omega (arith, lands, rest.2, sum_by-cons (λ x. one_if (is_landed x.event)) e es),
+        omega (arith, goes, rest.3, sum_by-cons (λ x. one_if (sends_move r x.event)) e es),
+      )
 
   module _ (es : List Entry) (legal : IsLegal r es) where
-    all_still : (count_events is_left es ≡ 0) × Calm (replayed r es)
+    all_still : (count_events is_left es ≡ 0) × Calm (replayed r es) × (count_events is_landed es ≡ 0) × (count_events (sends_move r) es ≡ 0)
     all_still =
         still_run (first r) es (start_whole r) (start_slotted r) legal (start_so r grammar laws AnyId NoMove given_still) (λ k h. refl)
 
     pub legal_no_left : count_events is_left es ≡ 0
     legal_no_left = all_still.0
+
+    -- nor does anything land
+    pub legal_no_landed : count_events is_landed es ≡ 0
+    legal_no_landed = all_still.2
+
+    -- nor does a MOVE go out
+    pub legal_no_sent : count_events (sends_move r) es ≡ 0
+    legal_no_sent = all_still.3
 
     so : IsSo r AnyId NoMove (replayed r es)
     so = legal_so r grammar laws AnyId NoMove given_still es legal

@@ -1,5 +1,5 @@
 -- A message is taken up and dealt with, as the calls write it.
-use Rattle.hpx_node.proofs.Common.{Ask, DealsWith, Entry, Event, Free, Give, Id, In, Leaves, List, None, Option, Parcel, Profile, Record, Return, Some, Tables, [], ap, append_assoc, arith, arrives, arrives_at, asked, at_all, cases_Bool, effects, find, find_record, ids_in, inl, inr, ins, is_standing, length, length-append, lowered, option_and_then, option_map, part, refl, subst, sym, with_return, with_returns, without, ℕ, ◌++◌, ◌==◌, ◌∙◌, ◌∷◌, ◌≡◌, ◌≤◌}
+use Rattle.hpx_node.proofs.Common.{Accepts, Apply, Arrived, Ask, DealsWith, Entry, Event, Free, Give, Id, In, Leaves, List, Move, None, Option, Parcel, Profile, Record, Return, Some, Tables, [], ap, append_assoc, arith, arrives, arrives_at, asked, at_all, cases_Bool, effects, find, find_record, ids_in, inl, inr, ins, is_standing, length, length-append, lowered, option_and_then, option_map, part, refl, subst, sym, with_return, with_returns, without, ℕ, ◌++◌, ◌==◌, ◌∙◌, ◌∷◌, ◌≡◌, ◌≤◌}
 use Rattle.std.specs.List.Sorted.{IsPermutation}
 
 -- ---- the number of frames that came is no more than that of entries
@@ -33,9 +33,20 @@ returns_rest (id ∷ ids) t = each id.log (returns_rest ids (with_return id id.l
     each None h = h
     each (Some log) h = h
 
--- what is dealt with changes what waits or is on its way, commits, objects and records, and nothing else
+-- what is dealt with changes what waits or is on its way, commits, objects and their moves, and records, and nothing else
 abbrev pub only : Tables → Tables → Tables
-only t u = record t { accepted = u.accepted; pending = u.pending; desk = u.desk; outgoing = u.outgoing; objects = u.objects; records = u.records }
+only t u = record t {
+  accepted = u.accepted;
+  pending = u.pending;
+  desk = u.desk;
+  outgoing = u.outgoing;
+  queued = u.queued;
+  leaving = u.leaving;
+  stray = u.stray;
+  came = u.came;
+  objects = u.objects;
+  records = u.records;
+}
 
 pub deals_rest : (p : Parcel) (t t' : Tables) → DealsWith p t t' → t' ≡ only t t'
 deals_rest (Give id entry) t t' h = h.rest ∙ ap (only t) (sym h.rest)
@@ -44,9 +55,26 @@ deals_rest (Free o) t t' h =
     let rest = returns_rest (ids_in (find (is_standing o) t.objects)) t in
     h
     ∙ (ap (λ (y : Tables). record y { objects = t'.objects }) rest
-    ∙ (ap (λ (y : Tables). record t { accepted = y.accepted; pending = y.pending; desk = went.desk; outgoing = went.outgoing; objects = t'.objects; records = y.records }) (sym rest)
+    ∙ (ap (λ (y : Tables). record t {
+      accepted = y.accepted;
+      pending = y.pending;
+      desk = went.desk;
+      outgoing = went.outgoing;
+      queued = y.queued;
+      leaving = y.leaving;
+      stray = y.stray;
+      came = y.came;
+      objects = t'.objects;
+      records = y.records;
+    }) (sym rest)
     ∙ ap (only t) (sym h)))
 deals_rest _ t t' h = h ∙ ap (only t) (sym h)
+
+-- so it is with a message from the desk
+pub accepts_rest : (p : Parcel) (t t' : Tables) → Accepts p t t' → t' ≡ only t t'
+accepts_rest (Apply act) t t' h = h ∙ ap (only t) (sym h)
+accepts_rest (Move act) t t' h = h ∙ ap (only t) (sym h)
+accepts_rest p t t' h = deals_rest p t t' h
 
 -- ---- what is written
 
@@ -76,6 +104,10 @@ leaves_from (Return id) t m t' records profile objects h = record {
 }
 leaves_from (Ask id asker entry) t m t' records profile objects h = record {
   own = h.own ∙ (ap (λ rs. option_map (asked m.profile) (find_record id rs)) records ∙ ap (λ (p : Profile). option_map (asked p) (find_record id t.records)) profile);
+  others = λ x away. h.others x away ∙ ap (find_record x) records;
+}
+leaves_from (Arrived id place) t m t' records profile objects h = record {
+  own = h.own ∙ ap (λ rs. option_and_then (λ (r : Record). lowered (record r { place = place; moving = None }) id) (find_record id rs)) records;
   others = λ x away. h.others x away ∙ ap (find_record x) records;
 }
 leaves_from (Free o) t m t' records profile objects h = subst (λ xs. IsPermutation (without (is_standing o) xs) t'.objects) objects h

@@ -1,6 +1,7 @@
 -- A prepared commit, written step by step, leaves what one step would leave.
-use Rattle.hpx_node.proofs.Common.{Act, Birth, Done, Due, Entry, Event, Id, IsPrepared, Job, List, Makes, Outcome, Prepared, Record, Some, Standing, Tables, Waits, [], answered_by, ap, append-nil, append_assoc, arith, at_all, at_all_append, birth_of, births_of, committed_from, committed_to, dealt, due_with, false, get_before, get_set, length, length-map, made_of, map, name_of, new_standing, objects_of, plain, records_of, rider_events, rider_of, seen, set, slice_get, slice_get_less, splits_from, state_after, state_dealt, sym, unnamed, unused, ups, with_done, with_settled, written_due, ℕ, ◌++◌, ◌+◌, ◌<◌, ◌∙◌, ◌∷◌, ◌≡◌}
+use Rattle.hpx_node.proofs.Common.{Act, Birth, Done, Due, Entry, Event, Id, IsPrepared, Job, List, Makes, Outcome, Prepared, Record, Some, Standing, Tables, Waits, [], answered_by, ap, append-nil, append_assoc, arith, at_all, at_all_append, birth_of, births_of, committed_from, committed_to, committed_told, dealt, due_with, false, get_before, get_set, length, length-map, made_of, map, name_of, new_standing, objects_of, plain, records_of, rider_events, rider_of, seen, set, slice_get, slice_get_less, splits_from, state_after, state_dealt, sym, unnamed, unused, ups, with_done, with_done_told, with_settled, written_due, ℕ, ◌++◌, ◌+◌, ◌<◌, ◌∙◌, ◌∷◌, ◌≡◌}
 use Rattle.hpx_node.proofs.PlanWeights.{written_same}
+use Rattle.hpx_tables.specs.declared.kept.Arrival.{Arrival}
 
 -- entries that are written one list after another
 written_on : (k : ℕ) (a b c d : List Entry) (xs ys zs : List Event) → b ≡ a ++ at_all k xs → c ≡ b ++ at_all k ys → d ≡ c ++ at_all k zs
@@ -54,6 +55,12 @@ module _ (t : Tables) (job : Job) (out : Outcome) (p : Prepared) (is : IsPrepare
       → ((y : Standing) → slice_get t2.objects j ≡ Some y → u ≡ with_done j y p.plan.due.items riders p.plan.ups.items t2)
       → u ≡ committed_to job out p.stock j x (record t { running = running; pending = pending })
   all_committed u riders same alike = alike (new_standing t job out p.stock x) new_there ∙ rw (same, is.due_left, is.ups_left, settled_to)
+
+  -- the same where the first of what nobody names tells the homes of these objects, and these moves with which objects came are left
+  pub all_told : (u : Tables) (riders told : List Id) (came : List Arrival) → riders ≡ rider_of job.action
+      → ((y : Standing) → slice_get t2.objects j ≡ Some y → u ≡ with_done_told told j y p.plan.due.items riders p.plan.ups.items (record t2 { came = came }))
+      → u ≡ committed_told told job out p.stock j x (record t { running = running; pending = pending; came = came })
+  all_told u riders told came same alike = alike (new_standing t job out p.stock x) new_there ∙ rw (same, is.due_left, is.ups_left, settled_to)
 
   module _ (riders : List Id) (same : riders ≡ rider_of job.action) (e0 e1 e2 e3 : List Entry)
       (first : e1 ≡ e0 ++ at_all t.here (births_of t.here t.births p.births.items ++ splits_from 0 p.stock.hand p.stock.places))

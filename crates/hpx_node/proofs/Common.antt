@@ -20,14 +20,15 @@ pub use Rattle.hpx_parcel.specs.Reading.{is_least as is_credit_least, parcel_of}
 pub use Rattle.hpx_journal.proofs.Same.{and_true, held-Counts, same_object-through, same_token-true}
 pub use Rattle.hpx_journal.specs.Bags.{without}
 pub use Rattle.hpx_journal.specs.Data.{Act, Apply, Arrived, Ask, Cached, Cont, Due, Fault, Free, Give, Go, Id, Message, MessageDue, Move, Outcome, Parcel, PrintDue, Return, Shipped, State}
-pub use Rattle.hpx_journal.specs.Entries.{Rules, line_act, name_of, target_of}
+pub use Rattle.hpx_journal.specs.Entries.{Rules, line_act, move_to, name_of, target_of}
 pub use Rattle.hpx_journal.specs.Frames.{acts_in, travels_in}
 pub use Rattle.hpx_journal.specs.Laws.{FreesTheDead, RefusesForCause, count_events, entry_at, hands_refusal, ins, is_free_of, is_freed, is_refused_count, is_refusing, outs, outs_by, sends_such, takes_such}
 pub use Rattle.hpx_journal.specs.Local.{acts_on, boot, is_act, is_busy, is_standing}
 pub use Rattle.hpx_journal.specs.Names.{due_ids, names}
 pub use Rattle.hpx_journal.specs.Weights.{Book, HasRoom, bytes_in, state_size, total_weight, weight_of}
 pub use Rattle.hpx_journal.specs.Whole.{arrives, arrives_at, part, run_local}
-pub use Rattle.hpx_agas.specs.Records.{find_record}
+pub use Rattle.hpx_agas.specs.Queues.{waits, with_last}
+pub use Rattle.hpx_agas.specs.Records.{find_record, remade}
 pub use Rattle.hpx_agas.specs.Registries.{Registry, asked, granted_of, grown, left_of, lowered}
 pub use Rattle.hpx_agas.specs.declared.record.Record.{Record}
 pub use Rattle.hpx_commit.proofs.Came.{HaveLog, come_long, come_short, come_stock, none_short, waits_managed}
@@ -54,11 +55,12 @@ pub use Rattle.hpx_tables.specs.Births.{AreDrawn, IsBirth, Makes, birth_of, birt
 pub use Rattle.hpx_tables.specs.Fit.{IsFit, IsFitDue, IsKept, parcel_for}
 pub use Rattle.hpx_tables.specs.Free.{IsFree, NoneIsFree}
 pub use Rattle.hpx_tables.specs.Jobs.{IsAt, IsFitJob}
-pub use Rattle.hpx_tables.specs.Kept.{count_here, credit_in, credit_owed, held_here, held_worth, ids_held, owed_here, owed_worth, stands_here, waits_here}
+pub use Rattle.hpx_tables.specs.Kept.{record_here, count_here, credit_in, credit_owed, held_here, held_worth, ids_held, moving_here, owed_here, owed_worth, stands_here, stays_here, waits_here}
 pub use Rattle.hpx_tables.specs.Merged.{may_merge, merged_in}
 pub use Rattle.hpx_tables.specs.Pending.{Refills, Waits, action_of, asked_at, awaits, fired_of, hand_with, ids_kept, ids_named, is_asked, is_asked_for, put_for, refilled, waits_for_one, waits_with}
 pub use Rattle.hpx_tables.specs.Splits.{asked_events, cuts, first_cuts, splits_from}
-pub use Rattle.hpx_tables.specs.Strange.{breaks, brings_right, broken, broken_near, is_live}
+pub use Rattle.hpx_tables.specs.Rules.{broken, broken_near}
+pub use Rattle.hpx_tables.specs.Strange.{breaks, brings_right, is_live}
 pub use Rattle.hpx_tables.specs.Tables.{IsPassive, Tables, fired_acts, messages}
 pub use Rattle.hpx_tables.specs.declared.births.Birth.{Birth}
 pub use Rattle.hpx_tables.specs.declared.kept.Outgoing.{Outgoing}
@@ -66,27 +68,29 @@ pub use Rattle.hpx_tables.specs.declared.pending.Asked.{Asked, Asked as AskedFor
 pub use Rattle.hpx_tables.specs.declared.strange.Broken.{Broken}
 pub use Rattle.hpx_steps.proofs.AtRest.{rest_stands, sound_at_rest}
 pub use Rattle.hpx_steps.proofs.Dealt.{fail_deals, plan_deals}
-pub use Rattle.hpx_steps.proofs.Handled.{Leads, given_waits, kept_here, returns_objects}
+pub use Rattle.hpx_steps.proofs.Handled.{Leads, given_waits, returns_objects}
 pub use Rattle.hpx_steps.proofs.Made.{bare_alone}
 pub use Rattle.hpx_steps.proofs.Recommit.{hand_long}
 pub use Rattle.hpx_steps.proofs.Ridden.{rider_all, rider_few, rider_has}
 pub use Rattle.hpx_steps.proofs.Resumed.{given_done, given_event, given_fails, in_hand}
-pub use Rattle.hpx_steps.proofs.Right.{give_right, near_right, object_wrong}
+pub use Rattle.hpx_steps.proofs.Right.{give_right, near_right}
 pub use Rattle.hpx_steps.proofs.Sums.{flat_append, ids_append}
-pub use Rattle.hpx_steps.proofs.TurnOf.{desk_accepts, desk_leads, desk_stands, fire_stands, frame_leads, frame_stands, line_stands, out_stands}
+pub use Rattle.hpx_steps.proofs.Puts.{Goes, move_fit, way_goes}
+pub use Rattle.hpx_steps.proofs.TurnOf.{desk_leads, desk_stands, fire_stands, frame_leads, frame_stands, left_stands, line_stands, out_stands, released_stands}
 pub use Rattle.hpx_steps.proofs.Work.{halved_from}
-pub use Rattle.hpx_steps.specs.Calls.{Accepts, DealsWith, Gives, Leaves, answered, effects, freed, ids_in, more_here, place_or_0, returned, rider_event, rider_events, up_of, ups, with_asks, with_done, with_due, with_left, with_returns, with_rider, with_riders, written_due}
+pub use Rattle.hpx_steps.specs.Calls.{Accepts, DealsWith, Gives, Leaves, Turns, answered, effects, freed, ids_in, may_land, more_here, place_or_0, returned, rider_event, rider_events, up_of, ups, AreOf, with_asks, with_done, with_done_told, with_due, with_left, with_returns, with_rider, with_riders, with_told, written_due}
 pub use Rattle.hpx_steps.specs.Left.{IsLeftBy, IsLeftFailed}
 pub use Rattle.hpx_steps.specs.Limits.{AddsATurn, IsWithin}
-pub use Rattle.hpx_steps.specs.Mail.{may_stay, with_act, with_mail, with_mail_if, with_return}
+pub use Rattle.hpx_steps.specs.Mail.{with_mail, with_mail_if, with_return}
 pub use Rattle.hpx_steps.specs.Paused.{Apart, HasSplit, IsCommit, IsShort}
-pub use Rattle.hpx_steps.specs.Rest.{IsPaused, IsTidy, Stands, StandsAtRest, StandsWith, kept_ids, queued, rules_of, tokens, unpaid, view}
-pub use Rattle.hpx_steps.specs.Rows.{Actions, AreFired, FreesOf, Refusals, Row, brings, causes, fires_one, frees_one, goes, hops, is_least, is_refusal, joins, kind_of, one_if, owes, sets_out, spends, weighed, weight}
+pub use Rattle.hpx_steps.specs.Rest.{IsPaused, IsTidy, Stands, StandsAtRest, StandsWith, hops_left, kept_ids, of_accepted, of_came, rules_of, tokens, unpaid, view}
+pub use Rattle.hpx_steps.specs.Rows.{Actions, AreFired, FreesOf, Landings, Leavings, Objects, Refusals, Row, brings, causes, fires_one, follows, frees_one, goes, hops, is_kind, is_least, is_refusal, joins, kind_of, one_if, owes, sets_out, spends, starts, weighed, weight}
 pub use Rattle.hpx_steps.specs.Steps.{HasInHand, with_credit}
 pub use Rattle.hpx_steps.specs.Turn.{Turn, bare_due, bare_standing, parcel_tokens, tokens_of}
+pub use Rattle.hpx_steps.specs.Ways.{Accept, Begin, Queue, To, Way, accepts, begins, move_by, way, way_by, way_of, way_to, with_act, with_way}
 pub use Rattle.hpx_node.specs.Asks.{Begins, IsBefore, Pauses, hand_before, lacking, own_many, short_before, split_stock, splits_before, stock_before}
 pub use Rattle.hpx_node.specs.Changes.{OnlyLeaves, OnlySends, OnlySpare, Writes}
-pub use Rattle.hpx_node.specs.Commits.{Commits, Ends, IsPrepared, IsStock, committed, committed_from, committed_to, due_dealt, hand_of, made_of, new_standing, own_stock, places_in_hand, remains, seen, state_dealt, with_settled}
+pub use Rattle.hpx_node.specs.Commits.{Commits, Ends, IsPrepared, IsStock, committed, committed_from, committed_to, committed_told, due_dealt, hand_of, made_of, new_standing, own_stock, places_in_hand, remains, seen, state_dealt, with_settled}
 pub use Rattle.hpx_node.specs.Fails.{Fails, IsFailing, IsFailingFor, IsFailure, MustFail, dooms, due_left, failed_events, failed_remains, fails_first, loose_left, state_left, ups_left}
 pub use Rattle.hpx_node.specs.Locality.{Locality}
 pub use Rattle.hpx_node.specs.Next.{Continues, HasFollowed, IfFollows, IsNext, MayFollow}

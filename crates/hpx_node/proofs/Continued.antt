@@ -1,5 +1,5 @@
 -- A commit that was prepared before its last credit came goes on with it.
-use Rattle.hpx_node.proofs.Common.{Act, Asked, DealsWith, Give, Gives, Id, IsReady, IsReadyFor, List, MayResume, Option, Outcome, Parcel, Ready, Refills, Some, State, Tables, Waits, [], ap, hand_with, put_for, refl, set, slice_get, some_same, stock_with, subst, sym, ℕ, ◌+◌, ◌∙◌, ◌≡◌}
+use Rattle.hpx_node.proofs.Common.{Accepts, Act, Asked, DealsWith, Give, Gives, Id, IsReady, IsReadyFor, List, MayResume, Option, Outcome, Parcel, Ready, Refills, Some, State, Tables, Waits, [], ap, hand_with, put_for, refl, set, slice_get, some_same, stock_with, subst, sym, ℕ, ◌+◌, ◌∙◌, ◌≡◌}
 use Rattle.hpx_node.proofs.Given.{IsGivenTo, given_to, last_parts, none_asked}
 
 -- ---- once it is given
@@ -57,8 +57,8 @@ given_frame t s mid p same deals id entry e =
     subst (λ (u : Tables). Gives id entry (record u { taken = u.taken + 1 }) mid) same
     (subst (λ q. DealsWith q (record s { taken = s.taken + 1 }) mid) e deals)
 
-pub given_mail : (t s mid : Tables) (p : Parcel) (rest : List Parcel) → s ≡ t → DealsWith p (record s { desk = rest }) mid
+pub given_mail : (t s mid : Tables) (p : Parcel) (rest : List Parcel) → s ≡ t → Accepts p (record s { desk = rest }) mid
     → IsGiven p (record t { taken = t.taken; desk = rest }) mid
-given_mail t s mid p rest same deals id entry e =
+given_mail t s mid p rest same accepts id entry e =
     subst (λ (u : Tables). Gives id entry (record u { desk = rest }) mid) same
-    (subst (λ q. DealsWith q (record s { desk = rest }) mid) e deals)
+    (subst (λ q. Accepts q (record s { desk = rest }) mid) e accepts)

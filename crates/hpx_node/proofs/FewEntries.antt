@@ -1,10 +1,14 @@
 -- A message that is dealt with writes few entries.
-use Rattle.hpx_node.proofs.Common.{AllByRecursion, Ask, Entry, Event, Free, Id, IsKept, IsTidy, List, None, Option, Parcel, Return, Some, Standing, Tables, [], ap, arith, at_all, cases_Bool, effects, find, freed, inl, inr, is_standing, length, length-append, refl, returned, subst, suc, ℕ, ◌++◌, ◌+◌, ◌∷◌, ◌≡◌, ◌≤◌}
+use Rattle.hpx_node.proofs.Common.{AllByRecursion, Arrived, Ask, Bool, Entry, Event, Free, Id, IsKept, IsTidy, Landed, List, None, Option, Parcel, Return, Shipped, Some, Standing, Tables, [], ap, arith, at_all, bare, cases_Bool, cond, effects, false, find, freed, inl, inr, is_standing, length, length-append, may_land, refl, returned, subst, suc, target_of, true, ℕ, ◌++◌, ◌+◌, ◌∷◌, ◌≡◌, ◌≤◌}
 use Rattle.hpx_node.proofs.PlanWeights.{ups_few}
 
 returned_few : (t : Tables) (id : Id) (log : Option ℕ) → length (returned t id log) ≤ 1
 returned_few t id None = omega arith
 returned_few t id (Some log) = omega arith
+
+one_at_most : (b : Bool) (e : Event) → length (cond b (e ∷ []) []) ≤ 129
+one_at_most true e = omega arith
+one_at_most false e = omega arith
 
 kept_found : (o : Id) (xs : List Standing) (x : Standing) → AllByRecursion IsKept xs → find (is_standing o) xs ≡ Some x → IsKept x
 kept_found o [] x all h = cc
@@ -23,6 +27,8 @@ freed_few t o tidy (Some x) e =
 
 pub effects_few : (t : Tables) (p : Parcel) → IsTidy t [] → length (effects t p) ≤ 129
 effects_few t (Return id) tidy = omega (arith, returned_few t id id.log)
+effects_few t (Arrived id place) tidy = omega (arith, returned_few t id id.log)
+effects_few t (Shipped act state) tidy = one_at_most (may_land t act) (Landed (bare (target_of act)))
 effects_few t (Ask id asker entry) tidy = omega arith
 effects_few t (Free o) tidy = freed_few t o tidy (find (is_standing o) t.objects) refl
 effects_few t _ tidy = omega arith
@@ -57,6 +63,7 @@ popped_tidy p t rest first whole =
       targets = tidy.targets;
       queued = tidy.queued;
       leaving = tidy.leaving;
+      leaves = tidy.leaves;
       stray = tidy.stray;
       ways = (tidy.ways.0, tidy.ways.1.1);
       serves = tidy.serves;
@@ -77,6 +84,7 @@ taken_tidy t n tidy = record {
   targets = tidy.targets;
   queued = tidy.queued;
   leaving = tidy.leaving;
+  leaves = tidy.leaves;
   stray = tidy.stray;
   ways = tidy.ways;
   serves = tidy.serves;

@@ -1,5 +1,5 @@
 -- What follows a message that is dealt with, and what it writes.
-use Rattle.hpx_node.proofs.Common.{Act, AskedFor, Bool, Commits, Continues, Entry, Event, Failing, Fails, Give, Gives, HasCredit, HasFollowed, HasInHand, Id, IfFollows, IsFailing, IsNext, IsParcel, IsReady, IsTidy, KeepsLaws, Leads, List, MayFollow, MayResume, Next, None, Option, Outcome, Parcel, Ready, Rules, Some, Standing, State, Tables, Turn, Waits, Writes, [], answered_by, any_at, ap, append-nil, arith, awaits, bare_act, bare_state, brings_right, broken_near, committed_from, completes, dooms, due_left, effects, eq-eqb, failed_events, failed_remains, fails_first, false, find, find_at, full_stock, get_or, give_right, given_event, given_fails, given_waits, in_hand, is_asked_for, is_last, is_some, length, less_long, log_of, message_of, named, ne_eqb, not, plain, refl, remove, remove_set, rules_of, set, slice_get, some_same, state_left, subst, sym, true, ups_left, with_left, ℕ, ◌&&◌, ◌++◌, ◌+◌, ◌==◌, ◌||◌, ◌∙◌, ◌∷◌, ◌≡◌, ◌⊎◌}
+use Rattle.hpx_node.proofs.Common.{Act, AskedFor, Bool, Commits, Continues, Entry, Event, Failing, Fails, Give, Gives, HasCredit, HasFollowed, HasInHand, Id, IfFollows, IsFailing, IsNext, IsParcel, IsReady, IsTidy, KeepsLaws, Leads, List, MayFollow, MayResume, Next, None, Option, Outcome, Parcel, Ready, Rules, Some, Standing, State, Tables, Turn, Waits, Writes, [], answered_by, any_at, ap, append-nil, arith, awaits, bare, bare_act, bare_state, brings_right, broken_near, committed_from, completes, dooms, due_left, effects, eq-eqb, failed_events, failed_remains, fails_first, false, find, find_at, full_stock, get_or, give_right, given_event, given_fails, given_waits, in_hand, is_asked_for, is_last, is_some, length, less_long, log_of, message_of, named, ne_eqb, not, plain, refl, remove, remove_set, rules_of, set, slice_get, some_same, state_left, subst, sym, true, ups_left, with_left, ℕ, ◌&&◌, ◌++◌, ◌+◌, ◌==◌, ◌||◌, ◌∙◌, ◌∷◌, ◌≡◌, ◌⊎◌}
 use Rattle.hpx_node.proofs.Continued.{IsGiven, after_is, at, may_after, may_given, none_then, only_give}
 use Rattle.hpx_node.proofs.FailsThen.{at as fails_at, found_then, given, left, must_then, only_fails, plan_then, refused}
 use Rattle.hpx_node.proofs.GoesOn.{goes_leads}
@@ -38,7 +38,7 @@ Brings t id = HasCredit id × ((log_of id.log ≡ 0) ⊎ (log_of id.log ≡ t.pr
 brings_so : (t : Tables) (p : Parcel) (id : Id) (entry : ℕ) → IsRight t p → p ≡ Give id entry → Brings t id
 brings_so t p id entry k e = (
   subst IsParcel e k.fit,
-  brings_by t id (give_right t (Give id entry) id entry (subst (λ q. broken_near t q ≡ None) e k.right)).1,
+  brings_by t id (give_right t (bare id) id entry (subst (λ q. broken_near t q ≡ None) e k.right)).1,
 )
 
 pub may_follow : (act_of : ℕ → ℕ → ℕ → State → Act → Outcome) (t : Tables) (n : ℕ) (d : List Parcel) (mid : Tables) (p : Parcel) (x : Next) → IsRight t p → IsNext act_of t p x
@@ -91,7 +91,7 @@ module _ (act_of : ℕ → ℕ → ℕ → State → Act → Outcome)
     credit = k.fit
 
     right : brings_right t id ≡ true
-    right = (give_right t (Give id entry) id entry k.right).1
+    right = (give_right t (bare id) id entry k.right).1
 
     -- a commit went on
     module _ (y : Ready) (ready : IsReady act_of t id entry y) (running : t'.running ≡ mid.running) (pending : t'.pending ≡ remove mid.pending y.i)

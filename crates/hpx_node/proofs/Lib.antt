@@ -1,6 +1,8 @@
 pub mod Common
 pub mod Arrived
+pub mod Booted
 pub mod Committing
+pub mod Departs
 pub mod Continued
 pub mod Credits
 pub mod Failed
@@ -14,6 +16,8 @@ pub mod Given
 pub mod GoesOn
 pub mod HandLeft
 pub mod Held
+pub mod Landed
+pub mod Lands
 pub mod IdleFired
 pub mod IdleSince
 pub mod LeftBy
@@ -27,8 +31,10 @@ pub mod PlanLimits
 pub mod PlanRoom
 pub mod PlanWeights
 pub mod Planned
+pub mod Queued
 pub mod ReadyStock
 pub mod Records
+pub mod Released
 pub mod Resumed
 pub mod Riding
 pub mod Right
@@ -41,6 +47,7 @@ pub mod Spared
 pub mod Sums
 pub mod Targets
 pub mod TurnSteps
+pub mod Told
 pub mod Turned
 pub mod Turns
 pub mod Waited

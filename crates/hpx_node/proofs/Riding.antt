@@ -1,22 +1,23 @@
 -- What a commit leaves is sent, its rider is merged or given up, and the rest is given up: call by call.
 use Rattle.std.proofs.lemmas.Bool.Decides.{nat_tests}
 use Rattle.hpx_tables.specs.Merged.{is_like}
-use Rattle.hpx_node.proofs.Common.{and_true, arith, cond, list_any, may_merge, merged_in, nat_lt, Return, set, true, with_mail, with_rider, ◌<◌, Due, Entry, Event, Id, List, OnlyLeaves, OnlySends, Some, Standing, Tables, ap, append_assoc, at_all, at_all_append, rider_events, slice_get, sym, ups, with_done, with_due, with_returns, with_riders, written_due, ℕ, ◌++◌, ◌∙◌, ◌≡◌}
+use Rattle.hpx_node.proofs.Common.{and_true, arith, cond, list_any, may_merge, merged_in, nat_lt, Return, set, true, with_mail, with_rider, ◌<◌, Due, Entry, Event, Id, List, OnlyLeaves, OnlySends, Some, Standing, Tables, ap, append_assoc, at_all, at_all_append, rider_events, slice_get, sym, ups, with_done_told, with_due, with_riders, with_told, written_due, ℕ, ◌++◌, ◌∙◌, ◌≡◌}
 
-module _ (j : ℕ) (due : List Due) (riders loose : List Id) (t m n u : Tables) (pays : OnlySends t m) (merges : OnlyLeaves m n) (gives : OnlySends n u) where
+module _ (j : ℕ) (due : List Due) (riders loose told : List Id) (t m n u : Tables) (pays : OnlySends t m) (merges : OnlyLeaves m n) (gives : OnlySends n u) where
   pub leaves_then : OnlyLeaves t u
   leaves_then =
       gives
-      ∙ (ap (λ (y : Tables). record y { serial = u.serial; accepted = u.accepted; desk = u.desk; outgoing = u.outgoing }) merges
-      ∙ (ap (λ (y : Tables). record y { serial = u.serial; accepted = u.accepted; desk = u.desk; outgoing = u.outgoing; objects = n.objects }) pays
-      ∙ ap (λ os. record t { serial = u.serial; accepted = u.accepted; desk = u.desk; outgoing = u.outgoing; objects = os }) (sym (ap (λ (y : Tables). y.objects) gives))))
+      ∙ (ap (λ (y : Tables). record y { serial = u.serial; accepted = u.accepted; desk = u.desk; outgoing = u.outgoing; queued = u.queued; records = u.records }) merges
+      ∙ (ap (λ (y : Tables). record y { serial = u.serial; accepted = u.accepted; desk = u.desk; outgoing = u.outgoing; queued = u.queued; records = u.records; objects = n.objects }) pays
+      ∙ ap (λ os. record t { serial = u.serial; accepted = u.accepted; desk = u.desk; outgoing = u.outgoing; queued = u.queued; records = u.records; objects = os })
+      (sym (ap (λ (y : Tables). y.objects) gives))))
 
   module _ (x : Standing) (there : slice_get t.objects j ≡ Some x) where
     still : slice_get m.objects j ≡ Some x
     still = ap (λ (y : Tables). slice_get y.objects j) pays ∙ there
 
-    pub done_then : m ≡ with_due due t → ((y : Standing) → slice_get m.objects j ≡ Some y → n ≡ with_riders j y riders m) → u ≡ with_returns loose n → u ≡ with_done j x due riders loose t
-    done_then a b c = c ∙ (ap (with_returns loose) (b x still) ∙ ap (λ y. with_returns loose (with_riders j x riders y)) a)
+    pub done_then : m ≡ with_due due t → ((y : Standing) → slice_get m.objects j ≡ Some y → n ≡ with_riders j y riders m) → u ≡ with_told told loose n → u ≡ with_done_told told j x due riders loose t
+    done_then a b c = c ∙ (ap (with_told told loose) (b x still) ∙ ap (λ y. with_told told loose (with_riders j x riders y)) a)
 
     pub done_written : (e0 e1 e2 e3 : List Entry) → e1 ≡ e0 ++ at_all t.here (written_due t.here t.serial due)
         → ((y : Standing) → slice_get m.objects j ≡ Some y → e2 ≡ e1 ++ at_all m.here (rider_events m.profile.credit_log y.state.ids riders))

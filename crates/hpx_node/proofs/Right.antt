@@ -1,10 +1,5 @@
 -- What a message is that breaks no rule.
-use Rattle.hpx_node.proofs.Common.{Free, None, Parcel, Shipped, Some, Tables, [], arith, breaks, broken_near, credit_in, held_here, ids_held, if◌then◌else◌, messages, min, not, object_wrong, refl, stands_here, subst, sum_by-cons, travels_in, waits_here, ◌&&◌, ◌-◌, ◌==◌, ◌^◌, ◌∷◌, ◌≡◌}
-
--- no object is in it
-pub no_travel : (t : Tables) (p : Parcel) → broken_near t p ≡ None → travels_in (Some p) ≡ []
-no_travel t (Shipped act state) h = absurd (object_wrong t (Shipped act state) act h)
-no_travel t _ h = refl
+use Rattle.hpx_node.proofs.Common.{Free, None, Parcel, Tables, arith, breaks, broken_near, credit_in, held_here, ids_held, if◌then◌else◌, messages, min, not, stands_here, subst, sum_by-cons, waits_here, ◌&&◌, ◌-◌, ◌==◌, ◌^◌, ◌∷◌, ◌≡◌}
 
 -- what is the first on the desk breaks a rule there, or once it is taken from it
 pub near_popped : (t : Tables) (p : Parcel) → broken_near (record t { desk = p ∷ t.desk }) p ≡ None → broken_near t p ≡ None

@@ -47,7 +47,7 @@ pub refuses_for_cause : (r : Rules) (t : Tables) (entries : List Entry) → Stan
 refuses_for_cause r t entries h = record {
   few = omega (
     arith,
-    h.paid.rows Refusals,
+    h.paid.rows Refusals tt,
     count_two (goes r Refusals) (sends_such is_refusing r) hands_refusal (refusal_goes r) (part t.here entries),
     count_two (causes r Refusals) (takes_such is_refusing r) is_refused_count (refusal_comes r) (part t.here entries),
   );
@@ -103,7 +103,7 @@ frees_the_dead r t entries h passive = record {
     | inr some ↦ omega (
       arith,
       some,
-      h.paid.rows (FreesOf o),
+      h.paid.rows (FreesOf o) tt,
       passive_unpaid t passive (FreesOf o),
       count_two (goes r (FreesOf o)) (sends_such (is_free_of o) r) (is_freed o) (free_goes r o) (part t.here entries),
     )

@@ -1,5 +1,5 @@
 -- Where nothing runs and no commit waits, no accepted action is stuck.
-use Rattle.std.specs.Prelude.{Result, Ok, Err, OnErr}
+use Rattle.std.specs.Prelude.{Err, Ok, OnErr, Result}
 use Rattle.hpx_node.proofs.Common.{Act, AllByRecursion, IsFree, List, None, NoneIsFree, Option, Some, Standing, Tables, Waits, [], ap, arith, cases_Bool, cond, false, find, fired_acts, fired_of, inl, inr, is_busy, is_some, is_standing, length, refl, slice_get, suc, target_of, true, zero, ℕ, ◌<◌, ◌==◌, ◌∙◌, ◌∷◌, ◌≡◌}
 
 -- the targets of these actions stand among these objects
@@ -31,14 +31,14 @@ none_stuck t [] running pending h none = refl
 none_stuck t (act ∷ acts) running pending h none =
     absurd (none.0 (free_when (fired_acts t) t.objects act (find (is_standing (target_of act)) t.objects) (none_fired t running pending) refl h.0))
 
--- where one may be fired, it is not so that none may
-pub one_is_free : (fired : List Act) (objects : List Standing) (acts : List Act) (i : ℕ) → i < length acts
+-- where one is free, it is not so that none is
+pub one_free : (fired : List Act) (objects : List Standing) (acts : List Act) (i : ℕ) → i < length acts
     → ((act : Act) → slice_get acts i ≡ Some act → IsFree fired objects act) → NoneIsFree fired objects acts → ⊥
-one_is_free fired objects [] i lt free none = absurd (omega (arith, lt))
-one_is_free fired objects (x ∷ xs) zero lt free none = none.0 (free x refl)
-one_is_free fired objects (x ∷ xs) (suc i) lt free none = one_is_free fired objects xs i (omega (arith, lt)) free none.1
+one_free fired objects [] i lt free none = absurd (omega arith)
+one_free fired objects (act ∷ acts) zero lt free none = none.0 (free act refl)
+one_free fired objects (act ∷ acts) (suc i) lt free none = one_free fired objects acts i (omega arith) free none.1
 
--- what holds anyway holds of an error
-pub on_err : {T E : Type 0} (r : Result T E) (P : Type 0) → P → OnErr r P
-on_err (Ok x) P p = tt
-on_err (Err e) P p = p
+-- what holds anyway holds at an error
+pub at_error : {X E : Type 0} (P : Type 0) (r : Result X E) → P → OnErr r P
+at_error P (Ok x) h = tt
+at_error P (Err e) h = h

@@ -1,5 +1,5 @@
 -- What the steps of a turn add to a journal.
-use Rattle.hpx_node.proofs.Common.{AddsATurn, AllByRecursion, Ask, Bool, Count, Done, Entry, Free, Give, Granted, Id, IsFailure, IsPrepared, IsTidy, Job, List, None, Option, Outcome, Parcel, Plan, Prepared, Refused, Return, Some, Standing, Tables, Waits, Writes, [], action_ids, all_append, ap, arith, asked_events, at_all, bare, bytes_in, committed, committed_from, count_here, cuts, due_left, effects, failed_events, failed_light, false, find, first_cuts, freed, half, halvings, if◌then◌else◌, is_standing, length, length-append, more_here, name_of, nat_lt, own_stock, plain, refl, returned, seen, subst, suc, sum_by-append, sum_by-cons, total_weight, true, up_of, ups, ups_left, weight_of, written_due, zero, ℕ, ◌++◌, ◌+◌, ◌∷◌, ◌≡◌, ◌≤◌}
+use Rattle.hpx_node.proofs.Common.{AddsATurn, AllByRecursion, Arrived, Ask, Bool, Count, Done, Entry, Free, Give, Granted, Id, IsFailure, IsPrepared, IsTidy, Job, Landed, List, None, Option, Outcome, Parcel, Plan, Prepared, Refused, Return, Shipped, Some, Standing, Tables, Waits, Writes, [], action_ids, all_append, ap, arith, asked_events, at_all, bare, bytes_in, cond, committed, committed_from, count_here, cuts, due_left, effects, failed_events, failed_light, false, find, first_cuts, freed, half, halvings, if◌then◌else◌, is_standing, length, length-append, may_land, more_here, name_of, nat_lt, own_stock, plain, refl, returned, seen, subst, suc, sum_by-append, sum_by-cons, target_of, total_weight, true, up_of, ups, ups_left, weight_of, written_due, zero, ℕ, ◌++◌, ◌+◌, ◌∷◌, ◌≡◌, ◌≤◌}
 use Rattle.hpx_commit.specs.Deals.{named}
 use Rattle.hpx_node.proofs.FewEntries.{at_all_length, effects_few}
 use Rattle.hpx_node.proofs.PlanWeights.{weighs, weighs_append, weighs_cons, weighs_due, ups_light}
@@ -86,8 +86,14 @@ freed_bare : (o : Id) (x : Option Standing) → AllByRecursion HasNoBytes (freed
 freed_bare o None = tt
 freed_bare o (Some x) = (refl, ups_bare x.state.ids)
 
+landed_bare : (b : Bool) (o : Id) → AllByRecursion HasNoBytes (cond b (Landed o ∷ []) [])
+landed_bare true o = (refl, tt)
+landed_bare false o = tt
+
 effects_bare : (t : Tables) (p : Parcel) → AllByRecursion HasNoBytes (effects t p)
 effects_bare t (Return id) = returned_bare t id id.log
+effects_bare t (Arrived id place) = returned_bare t id id.log
+effects_bare t (Shipped act state) = landed_bare (may_land t act) (bare (target_of act))
 effects_bare t (Ask id asker entry) = answered_bare t id (nat_lt t.profile.credit_limit (more_here t id))
 effects_bare t (Give id entry) = (refl, tt)
 effects_bare t (Free o) = freed_bare o (find (is_standing o) t.objects)

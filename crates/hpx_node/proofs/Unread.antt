@@ -3,7 +3,7 @@ use Rattle.hpx_node.proofs.Common.{Broken, List, Option, Parcel, Some, Tables, a
 use Rattle.hpx_parcel.specs.declared.outline.Outline.{Outline}
 use Rattle.hpx_parcel.specs.Outlines.{IsOutline}
 use Rattle.hpx_parcel.proofs.Frames.{spelled_parcel}
-use Rattle.hpx_tables.specs.Strange.{rule_of}
+use Rattle.hpx_tables.specs.Rules.{rule_of}
 use Rattle.hpx_tables.proofs.Outlined.{told_rule}
 
 -- the rule that its outline breaks is the one that its parcel breaks

@@ -9,11 +9,11 @@ pub record OnlySpare (t t' : Tables) (b b' : Book) : Type 0 where
 
 -- nothing but the last number drawn for an action, and what waits or is on its way
 abbrev pub OnlySends : Tables → Tables → Type 0
-OnlySends t t' = t' ≡ record t { serial = t'.serial; accepted = t'.accepted; desk = t'.desk; outgoing = t'.outgoing }
+OnlySends t t' = t' ≡ record t { serial = t'.serial; accepted = t'.accepted; desk = t'.desk; outgoing = t'.outgoing; queued = t'.queued; records = t'.records }
 
 -- nothing but this, and states of objects
 abbrev pub OnlyLeaves : Tables → Tables → Type 0
-OnlyLeaves t t' = t' ≡ record t { serial = t'.serial; accepted = t'.accepted; desk = t'.desk; outgoing = t'.outgoing; objects = t'.objects }
+OnlyLeaves t t' = t' ≡ record t { serial = t'.serial; accepted = t'.accepted; desk = t'.desk; outgoing = t'.outgoing; queued = t'.queued; records = t'.records; objects = t'.objects }
 
 -- the journal is longer by these events of this node, and by nothing else
 pub record Writes (events : List Event) (t t' : Tables) (entries entries' : List Entry) : Type 0 where

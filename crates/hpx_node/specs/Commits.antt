@@ -1,9 +1,13 @@
 -- What a commit writes.
-use Rattle.std.specs.Prelude.{List, Some, false, length, map, set, ℕ, ◌++◌, ◌+◌, ◌∷◌, ◌≡◌, ◌≤◌}
+use Rattle.std.specs.Prelude.{Bool, List, None, Option, Some, [], false, is_some, not, true, ◌==◌, ◌&&◌, length, map, set, ℕ, ◌++◌, ◌+◌, ◌∷◌, ◌≡◌, ◌≤◌}
+use Rattle.std.specs.Option.{option_to_list}
 use Rattle.std.specs.List.{AllByRecursion, find, remove, slice_get}
-use Rattle.hpx_node.specs.Names.{Done, Due, Event, Id, IsAt, IsFitDue, Job, MayDeal, Outcome, Prepared, Remains, Standing, State, Stock, Tables, answered_by, at_all, dealt, due_with, filled, filled_due, hand_ids, is_standing, name_of, places_named, plain, rider_events, rider_of, splits_from, state_after, target_of, total_weight, unnamed, unused, ups, with_done, written_due}
+use Rattle.hpx_node.specs.Names.{Done, Act, Due, Event, Id, IsAt, IsFitDue, Job, MayDeal, Outcome, Prepared, Remains, Standing, State, Stock, Tables, answered_by, at_all, dealt, due_with, filled, filled_due, hand_ids, is_standing, name_of, places_named, plain, rider_events, rider_of, splits_from, state_after, target_of, total_weight, unnamed, unused, ups, with_done, with_done_told, written_due}
+use Rattle.hpx_value.specs.Ids.{bare, same_object}
+use Rattle.hpx_part.specs.Data.{Name}
 use Rattle.hpx_parcel.specs.Parcels.{HasCredit, HasRightCredit}
 use Rattle.hpx_tables.specs.declared.births.Birth.{Birth}
+use Rattle.hpx_tables.specs.declared.kept.Arrival.{Arrival}
 use Rattle.hpx_tables.specs.Births.{IsBirth, birth_of, births_of, objects_of, records_of, ids_of}
 
 -- ---- a commit
@@ -106,6 +110,11 @@ abbrev pub committed_to : Job → Outcome → Stock → ℕ → Standing → Tab
 committed_to job out s j x t = with_done j (new_standing t job out s x) (due_dealt t (seen job) out s) (rider_of job.action) (unnamed s.hand s.places)
     (with_settled job out s j x t)
 
+-- the same, where the first of what nobody names tells the homes of these objects
+abbrev pub committed_told : List Id → Job → Outcome → Stock → ℕ → Standing → Tables → Tables
+committed_told told job out s j x t = with_done_told told j (new_standing t job out s x) (due_dealt t (seen job) out s) (rider_of job.action) (unnamed s.hand s.places)
+    (with_settled job out s j x t)
+
 -- a job commits with this stock, where its action runs and waits no more; its object stands at j. Nothing else changes
 pub record Commits (job : Job) (out : Outcome) (s : Stock) (j : ℕ) (t t' : Tables) : Type 0 where
   pub standing : Standing
@@ -113,10 +122,32 @@ pub record Commits (job : Job) (out : Outcome) (s : Stock) (j : ℕ) (t t' : Tab
   pub found : find (is_standing (target_of job.action)) t.objects ≡ Some standing
   pub goes : t' ≡ committed_to job out s j standing t
 
--- the job, whose action runs at i, is no longer among those that run: it commits with the stock of its hand
+-- a MOVE with which its object came
+abbrev pub arrival_of : Act → Arrival
+arrival_of act = record { name = name_of act; object = bare (target_of act) }
+
+-- it is that of this name with which this object came
+abbrev pub is_arrival : Name → Id → Arrival → Bool
+is_arrival name o a = ((a.name.origin == name.origin) && (a.name.serial == name.serial)) && (not (is_some a.object.log) && same_object a.object o)
+
+-- an action is a MOVE, and the first of these ids is of its object
+abbrev pub tells : Act → List Id → Bool
+tells act [] = false
+tells act (id ∷ ids) = (act.code == 1) && same_object (target_of act) id
+
+-- a MOVE with which its object came, and whose first id that nobody names is of that, is known no more: the home of its object is told
+abbrev pub Notes : Act → List Id → List Arrival → List Arrival → Option Id → Type 0
+Notes act loose came came' None = (came' ≡ came) × (tells act loose ≡ true → (i : ℕ) → slice_get came i ≡ Some (arrival_of act) → ⊥)
+Notes act loose came came' (Some o) =
+    (o ≡ bare (target_of act)) × (tells act loose ≡ true) × ((i : ℕ) × (slice_get came i ≡ Some (arrival_of act)) × (came' ≡ remove came i))
+
+-- the job, whose action runs at i, is no longer among those that run: it commits with the stock of its hand; where its action is the MOVE
+-- with which its object came, the home of that is told
 pub record Ends (t t' : Tables) (job : Job) (out : Outcome) : Type 0 where
   pub i : ℕ
   pub j : ℕ
   pub at : IsAt t i j job
   pub running : t'.running ≡ remove t.running i
-  pub commits : Commits job out (own_stock t (seen job) out) j (record t { running = remove t.running i }) t'
+  pub told : Option Id
+  pub notes : Notes job.action (unnamed (hand_of t (seen job) out) (places_in_hand t (seen job) out)) t.came t'.came told
+  pub goes : t' ≡ committed_told (option_to_list told) job out (own_stock t (seen job) out) j at.standing (record t { running = remove t.running i; came = t'.came })

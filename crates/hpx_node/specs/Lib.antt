@@ -7,3 +7,6 @@ pub mod Next
 pub mod Resumes
 pub mod Handled
 pub mod Names
+pub mod Moving
+pub mod Routes
+pub mod Behind

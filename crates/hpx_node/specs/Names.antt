@@ -18,6 +18,6 @@ pub use Rattle.hpx_tables.specs.Jobs.{IsAt, IsFitJob}
 pub use Rattle.hpx_tables.specs.Pending.{Waits, asked_at, awaits, fails_with, hand_with, ids_named, waits_for_one, waits_with}
 pub use Rattle.hpx_tables.specs.Splits.{asked_events, first_cuts, splits_from}
 pub use Rattle.hpx_tables.specs.Tables.{Tables}
-pub use Rattle.hpx_steps.specs.Calls.{Accepts, DealsWith, Gives, Leaves, effects, rider_events, ups, with_asks, with_done, with_left, written_due}
+pub use Rattle.hpx_steps.specs.Calls.{Accepts, DealsWith, Gives, Leaves, effects, rider_events, ups, with_asks, with_done, with_done_told, with_left, written_due}
 pub use Rattle.hpx_steps.specs.Steps.{Remains, with_credit}
 pub use Rattle.hpx_node.specs.declared.node.finish.Prepared.{Prepared}

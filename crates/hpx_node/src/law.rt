@@ -16,7 +16,7 @@ ghost use Rattle.hpx_commit.specs.Stocks.{Stock, ahead};
 ghost use Rattle.hpx_tables.specs.Splits.{first_cuts, splits_from};
 ghost use Rattle.hpx_tables.specs.Awaited.{awaited_here, awaited_at};
 ghost use Rattle.hpx_tables.specs.Tables.{Tables, IsPassive, fired_acts};
-ghost use Rattle.hpx_steps.specs.Rows.{Row, goes, causes, hops, sets_out};
+ghost use Rattle.hpx_steps.specs.Rows.{Row, IsRowAt, goes, causes, hops, sets_out};
 ghost use Rattle.hpx_steps.specs.Rest.{unpaid, StandsWith};
 ghost use Rattle.hpx_tables.specs.Free.{NoneIsFree};
 ghost use Rattle.hpx_steps.specs.Limits.{IsWithin, AddsATurn};
@@ -36,15 +36,17 @@ pub fn settled_law()
 {}
 
 /// Nothing idle: in each row what has gone and what is still here is what was caused, from boot on, and from any moment on
-/// at which the node was passive; and so actions go through messages no more often than they came or were sent. An id goes or is
+/// at which the node was passive; moves of one object are counted where they are under way. And so actions go through messages after
+/// their objects no more often than they came or were sent. An id goes or is
 /// handed over with no more credit no more often than one came so or was refused here. Where the node is passive each dead object of
 /// its home was freed here or a Free of it was sent, and each Free that came has freed its object.
 pub fn idle_law()
-    ensures boot { (r : Rules) (t : Tables) (entries : List Entry) → StandsWith r t [] [] entries → (row : Row) →
+    ensures boot { (r : Rules) (t : Tables) (entries : List Entry) → StandsWith r t [] [] entries → (row : Row) → IsRowAt t.localities t.here row →
         sum_by (λ (e : Entry). goes r row e.event) (part t.here entries) + unpaid row t
         ≡ sum_by (λ (e : Entry). causes r row e.event) (part t.here entries) }
     ensures since { (r : Rules) (t t' : Tables) (entries later : List Entry) → StandsWith r t [] [] entries → IsPassive t →
         StandsWith r t' [] [] (entries ++ later) → t'.here ≡ t.here → (row : Row) →
+        IsRowAt t.localities t.here row → IsRowAt t'.localities t'.here row →
         sum_by (λ (e : Entry). goes r row e.event) (part t.here later) + unpaid row t'
         ≡ sum_by (λ (e : Entry). causes r row e.event) (part t.here later) }
     ensures once { (r : Rules) (t : Tables) (entries : List Entry) → StandsWith r t [] [] entries →

@@ -3,5 +3,6 @@
 #![tactic(auto)]
 
 pub mod law;
+mod moves;
 pub mod node;
 pub mod parts;

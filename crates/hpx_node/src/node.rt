@@ -1,28 +1,22 @@
 //! One locality: its tables, and what each call on them begins with.
 ghost use Rattle.std.specs.Prelude.{◌≡◌, ◌≢◌, ◌≤◌, ◌<◌, ◌+◌, ◌-◌, ◌↔◌, [], Some, None, IsTrue, OnOk, IfOk};
 ghost use Rattle.hpx_value.specs.Profiles.{IsValid};
-ghost use Rattle.hpx_journal.specs.Entries.{move_to};
 ghost use Rattle.hpx_journal.specs.Roots.{roots};
 ghost use Rattle.hpx_parcel.specs.Parcels.{IsParcel};
-ghost use Rattle.hpx_tables.specs.Fit.{IsFit};
 ghost use Rattle.hpx_tables.specs.Tables.{IsPassive};
 ghost use Rattle.hpx_steps.specs.Rest.{Stands};
 ghost use Rattle.hpx_steps.specs.Frames.{MayGoTo};
-ghost use Rattle.hpx_steps.specs.Mail.{is_other, moves_on, may_stay, with_act, with_mail};
+ghost use Rattle.hpx_steps.specs.Mail.{is_other, with_mail};
 
+use crate::moves::Moves;
 use hpx_agas::records::Records;
-use hpx_journal::entry::Name;
-use hpx_journal::local::move_to;
 use hpx_tables::boot::roots;
-use hpx_tables::find::target;
 use hpx_tables::kept::{Fit, Letter, Outgoing};
 use hpx_tables::objects::Objects;
 use hpx_tables::pending::Pending;
 use hpx_value::acts::Acts;
-use hpx_value::codes::MOVE;
 use hpx_value::memory::OutOfMemory;
 use hpx_value::profile::Profile;
-use hpx_value::value::Act;
 use std::alloc::Global;
 use std::collections::VecDeque;
 use std::marker::Model;
@@ -34,12 +28,15 @@ mod finish;
 mod fire;
 mod frames;
 mod getters;
+mod moves;
 mod next;
 mod pay;
 mod resume;
 mod rules;
 mod settle;
+mod tend;
 mod wait;
+mod ways;
 
 /// One locality.
 #[derive(Drop)]
@@ -55,9 +52,7 @@ pub struct Node<A: Acts + Copy> {
     asked: u64,
     desk: VecDeque<Letter>,
     outgoing: VecDeque<Outgoing>,
-    leaving: VecDeque<Letter>,
-    stray: VecDeque<Letter>,
-    came: Vec<Name>,
+    moves: Moves,
     objects: Objects,
     records: Records<Letter>,
     sent: u64,
@@ -86,9 +81,9 @@ impl<A: Acts + Copy> Model for Node<A> {
         desk = n.desk.items;
         outgoing = n.outgoing.items;
         queued = n.records.waiting;
-        leaving = n.leaving.items;
-        stray = n.stray.items;
-        came = n.came.items;
+        leaving = n.moves.leaving;
+        stray = n.moves.stray;
+        came = n.moves.came;
         objects = n.objects.items;
         births = n.records.births;
         records = n.records.records;
@@ -98,11 +93,11 @@ impl<A: Acts + Copy> Model for Node<A> {
       };
       spare = min (min (deque_capacity n.accepted - deque_len n.accepted) (deque_capacity n.desk - deque_len n.desk))
           (min (deque_capacity n.outgoing - deque_len n.outgoing) (min (vec_capacity n.running - vec_len n.running)
-          (min (vec_capacity n.pending - vec_len n.pending) (min n.objects.spare n.records.spare))));
+          (min (vec_capacity n.pending - vec_len n.pending) (min n.objects.spare (min n.records.spare n.moves.spare)))));
     } };
 
     ghost invariant = { λ n. (A.count n.acts ≡ n.localities) × (n.here < n.localities) × (n.localities ≤ 64) × IsValid n.profile
-        × (n.records.here ≡ n.here) × (n.records.profile ≡ n.profile) × (n.records.waiting ≡ []) };
+        × (n.records.here ≡ n.here) × (n.records.profile ≡ n.profile) };
 }
 
 impl<A: Acts + Copy> Node<A> {
@@ -133,9 +128,7 @@ impl<A: Acts + Copy> Node<A> {
             asked: 0,
             desk: VecDeque::new(alloc),
             outgoing: VecDeque::new(alloc),
-            leaving: VecDeque::new(alloc),
-            stray: VecDeque::new(alloc),
-            came: Vec::new(alloc),
+            moves: Moves::new(alloc),
             objects,
             records: Records::new(alloc, profile, here),
             sent: 0,
@@ -155,6 +148,7 @@ impl<A: Acts + Copy> Node<A> {
         self.outgoing.reserve(more)?;
         self.running.reserve(more)?;
         self.pending.reserve(more)?;
+        self.moves.reserve(n)?;
         self.objects.reserve(n)?;
         self.records.reserve(n)?;
         Ok(())
@@ -183,40 +177,6 @@ impl<A: Acts + Copy> Node<A> {
         }
     }
 
-    /// Whether an action is a MOVE to elsewhere.
-    fn moves_on(&self, act: &Act) -> bool
-        ensures { result ≡ moves_on self.now.tables.here (move_to act.now) }
-    {
-        match move_to(act) {
-            Some(to) => to != self.here,
-            None => false,
-        }
-    }
-
-    /// Whether an action may be accepted: its object stands here, and a MOVE is to here.
-    fn may_stay(&self, act: &Act) -> bool
-        ensures { result ≡ may_stay self.now.tables act.now }
-    {
-        !self.moves_on(act) && self.holds(target(act))
-    }
-
-    /// Puts an action where it waits: for its object here, or on the way to its home.
-    fn post(&mut self, act: Act)
-        requires fit { IsFit act }
-        requires spare { 1 ≤ self.old.spare }
-        ensures goes { self.new.tables ≡ with_act act self.old.tables }
-        ensures spare { self.old.spare ≤ self.new.spare + 1 }
-    {
-        let home = target(&act).home();
-        let stays = self.may_stay(&act);
-        let act = Fit::new(act);
-        if stays {
-            self.accepted.push_back_reserved(act);
-            return;
-        }
-        self.mail(home, act.into_letter());
-    }
-
     /// Whether nothing is to be done here: no action waits or runs, no commit waits, and no message is on its way.
     pub fn is_passive(&self) -> bool
         ensures { IsTrue result ↔ IsPassive self.now.tables }
@@ -227,15 +187,7 @@ impl<A: Acts + Copy> Node<A> {
             && self.desk.is_empty()
             && self.outgoing.is_empty()
             && self.records.waiting() == 0
-            && self.leaving.is_empty()
-            && self.stray.is_empty()
-    }
-
-    /// Nothing waits until its object has moved: no object moves yet.
-    pub fn rests(&self)
-        ensures { self.now.tables.queued ≡ [] }
-    {
-        let _here = self.here;
+            && self.moves.is_empty()
     }
 
     /// Which locality it is.

@@ -66,7 +66,7 @@ outline (Cached id place) = record { kind = kinds.Cached; id = id; to = None; en
 outline (Move a) = moving kinds.Move (act_outline a)
 outline (Go a) = moving kinds.Go (act_outline a)
 outline (Object a s) = record (moving kinds.Object (act_outline a)) { most = most_home (most_place (most_home a.origin a.ids) (move_to a)) s.ids }
-outline (Landed id place) = record { kind = kinds.Landed; id = id; to = None; entry = 0; most = max id.home place }
+outline (Landed id place) = record { kind = kinds.Landed; id = id; to = Some place; entry = 0; most = max id.home place }
 outline (Free id) = record { kind = kinds.Free; id = id; to = None; entry = 0; most = id.home }
 
 -- the outline is that of the parcel that the bytes spell

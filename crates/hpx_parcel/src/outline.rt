@@ -34,7 +34,7 @@ pub struct Outline {
     pub kind: ParcelKind,
     /// The first id: that of the target, or of the object.
     pub id: Gid,
-    /// Where a MOVE moves its target.
+    /// Where a MOVE moves its target, or its target has landed.
     pub to: Option<u32>,
     /// The entry of an Ask or a Give, and else 0.
     pub entry: u64,
@@ -160,7 +160,13 @@ impl Outline {
             }
             Parcel::Landed { id, place } => {
                 let most = id.home().max(*place as u32);
-                Outline::new(ParcelKind::Landed, *id, 0, most)
+                Outline {
+                    kind: ParcelKind::Landed,
+                    id: *id,
+                    to: Some(*place as u32),
+                    entry: 0,
+                    most,
+                }
             }
             Parcel::Free(id) => Outline::new(ParcelKind::Free, *id, 0, id.home()),
         }

@@ -16,7 +16,7 @@ pub enum Wire {
 
 /// What carries frames from one locality to another.
 pub trait Fabric: Send {
-    ghost use Rattle.std.specs.Prelude.{◌≡◌, ◌≤◌, ◌∷◌, [], IfOk, OnOk, OnErr, IsErrOf};
+    ghost use Rattle.std.specs.Prelude.{◌≡◌, ◌≢◌, ◌≤◌, ◌∷◌, [], Some, IfOk, OnOk, OnErr, IsErrOf};
     ghost use Rattle.hpx_ports.specs.Faults.{Rose};
     ghost use Rattle.hpx_ports.specs.Told.{followed};
     ghost use Rattle.hpx_ports.specs.Frames.{Delivers, events_of};
@@ -42,11 +42,12 @@ pub trait Fabric: Send {
         ensures never_falls { faults self.old ≤ faults self.new };
 
     /// Delivers any one of the frames in flight: where it goes, and its bytes. `None` if there
-    /// is none.
+    /// is none. Memory may be wanting only where there may be one.
     fn deliver(&mut self) -> Result<Option<(u32, Bytes)>, FabricFault>
         ensures flight { IfOk result (λ got. Delivers (flight self.old) (flight self.new) got) }
         ensures trace { IfOk result (λ got. trace self.new ≡ followed (trace self.old) (events_of got)) }
 
+        ensures memory { IsErrOf result FabricFault.OutOfMemory → flight self.old ≢ Some [] }
         ensures flight_err { OnErr result (flight self.new ≡ flight self.old) }
         ensures trace_err { OnErr result (trace self.new ≡ trace self.old) }
         ensures cause { IsErrOf result FabricFault.Failed → Rose (faults self.old) (faults self.new) }

@@ -1,4 +1,4 @@
-ghost use Rattle.std.specs.Prelude.{◌≡◌, ◌≤◌, ◌↔◌, ◌∷◌, ◌++◌, [], Some, IsTrue, length, remove, slice_get, IfOk, IsOk, OnOk, OnErr, IsErrOf, IsOkUnless};
+ghost use Rattle.std.specs.Prelude.{◌≡◌, ◌≢◌, ◌≤◌, ◌↔◌, ◌∷◌, ◌++◌, [], Some, IsTrue, length, remove, slice_get, IfOk, IsOk, OnOk, OnErr, IsErrOf, IsOkUnless};
 ghost use Rattle.hpx_ports.specs.Faults.{Rose, raised};
 ghost use Rattle.hpx_ports.specs.Frames.{Delivers, events_of};
 ghost use Rattle.hpx_ports.specs.Orders.{next_place, order_after};
@@ -219,6 +219,7 @@ impl Fabric for MemFabric {
         } }
 
         ensures flight { IfOk result (λ got. Delivers (Some self.old.flight) (Some self.new.flight) got) }
+        ensures memory { IsErrOf result FabricFault.OutOfMemory → Some self.old.flight ≢ Some [] }
         ensures flight_err { OnErr result (self.new.flight ≡ self.old.flight) }
         ensures trace_err { OnErr result (self.new.trace ≡ self.old.trace) }
         ensures cause { IsErrOf result FabricFault.Failed → Rose self.old.faults self.new.faults }

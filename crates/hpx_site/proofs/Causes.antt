@@ -9,7 +9,7 @@ use Rattle.hpx_world.specs.declared.turns.WorldFault.TheVariants as faults
 use Rattle.hpx_world.specs.declared.turns.Choice.{Choice}
 use Rattle.hpx_world.specs.declared.turns.Choice.TheVariants as choices
 use Rattle.hpx_world.specs.Quiet.{IsQuiet}
-use Rattle.hpx_world.specs.Refusals.{Stays, StaysAll, IsFull, Refused, RefusedBy, RefusedDesk, RefusedDrain, RefusedFire, RefusedHere, RefusedPump, RefusedTake, CountsFaults}
+use Rattle.hpx_world.specs.Refusals.{Stays, StaysAll, IsFull, Refused, RefusedBy, RefusedDesk, RefusedDrain, RefusedFire, RefusedFeed, RefusedFinish, RefusedPump, RefusedTake, CountsFaults}
 use Rattle.hpx_world.specs.Sound.{Meaning}
 use Rattle.hpx_world.specs.Stages.{Stage}
 use Rattle.hpx_world.specs.Steps.{IsEarly, IsHeld, NoneFires, NonePumps}
@@ -115,14 +115,18 @@ fire_stays : {A : Type 0} {g : Ghosts A} (k : ℕ) (f : WorldFault A g) (x z : S
 fire_stays k (faults.OutOfMemory job_back) x z r = r.0.0
 fire_stays k _ x z r = absurd r
 
-here_stays : {A : Type 0} {g : Ghosts A} (u : Option (Done A g)) (f : WorldFault A g) (x z : Stage) → RefusedHere u f x z → Stays x z
-here_stays u (faults.OutOfMemory job_back) x z r = r.0.0
-here_stays u _ x z r = absurd r
+feed_stays : {A : Type 0} {g : Ghosts A} (f : WorldFault A g) (x z : Stage) → RefusedFeed f x z → Stays x z
+feed_stays (faults.OutOfMemory job_back) x z r = r.0.0
+feed_stays _ x z r = absurd r
+
+job_stays : {A : Type 0} {g : Ghosts A} (done : Done A g) (f : WorldFault A g) (x z : Stage) → RefusedFinish done f x z → Stays x z
+job_stays done (faults.OutOfMemory job_back) x z r = r.0.0
+job_stays done _ x z r = absurd r
 
 stays_by : {A : Type 0} {g : Ghosts A} (c : Choice A g) (f : WorldFault A g) (x z : Stage) → RefusedBy c f x z → Stays x z
-stays_by (choices.Feed line) f x z r = here_stays None f x z r
+stays_by (choices.Feed line) f x z r = feed_stays f x z r
 stays_by (choices.Fire k) f x z r = fire_stays k f x z r
-stays_by (choices.Finish done) f x z r = here_stays (Some done) f x z r
+stays_by (choices.Finish done) f x z r = job_stays done f x z r
 stays_by (choices.Desk k) f x z r = desk_stays k f x z r
 stays_by (choices.Pump k) f x z r = pump_stays k f x z r
 stays_by choices.Take f x z r = take_stays f x z r

@@ -22,6 +22,7 @@ use Rattle.hpx_value.specs.contracts.acts.Done as Done
 use Rattle.hpx_value.specs.contracts.acts.Job as Job
 use Rattle.hpx_agas.specs.contracts.records.Records as Records
 use Rattle.hpx_journal.specs.contracts.journal.Journal as Journal
+use Rattle.hpx_node.specs.contracts.moves.Moves as Moves
 use Rattle.hpx_node.specs.contracts.node.Node as Node
 use Rattle.hpx_node.specs.contracts.node.Node.TheInside as NodeInside
 use Rattle.hpx_tables.specs.contracts.kept.Letter as Letter
@@ -42,11 +43,15 @@ letter_send = search (sendable, crosses) depth 400 fits 5000 parts 0
 pending_send : (A : RattleType) (g : Ghosts A.Denot) → IsSend A → IsSend (Pending.the_row A g)
 pending_send A g s = search (sendable, crosses) depth 400 fits 5000 parts 0
 
+-- the moves of a locality
+moves_send : IsSend Moves.the_row
+moves_send = search (letter_send, sendable, crosses) depth 400 fits 5000 parts 0
+
 -- a locality, where its records may
 node_send : (A : RattleType) (g : Ghosts A.Denot) → IsSend A → IsSend (Records.the_row Letter.the_row) → IsSend (Node.the_row A g)
 node_send A g s records =
     let acts : IsSend (as_row (row_field A)) = search (sendable, crosses) in
-    view_send _ _ _ _ _ (declared_send (NodeInside.the_type A g) (acts, (search (sendable, crosses) depth 400 fits 5000 parts 0, (search (sendable, crosses) depth 400 fits 5000 parts 0, (search (sendable, crosses) depth 400 fits 5000 parts 0, (search (sendable, crosses) depth 400 fits 5000 parts 0, (search (sendable, crosses) depth 400 fits 5000 parts 0, (search (sendable, crosses) depth 400 fits 5000 parts 0, (search (pending_send, sendable, crosses) depth 400 fits 5000 parts 0, (search (sendable, crosses) depth 400 fits 5000 parts 0, (search (letter_send, sendable, crosses) depth 400 fits 5000 parts 0, (search (letter_send, sendable, crosses) depth 400 fits 5000 parts 0, (search (letter_send, sendable, crosses) depth 400 fits 5000 parts 0, (search (letter_send, sendable, crosses) depth 400 fits 5000 parts 0, (search (sendable, crosses) depth 400 fits 5000 parts 0, (search (sendable, crosses) depth 400 fits 5000 parts 0, (records, (search (sendable, crosses) depth 400 fits 5000 parts 0, (search (sendable, crosses) depth 400 fits 5000 parts 0, (search (sendable, crosses) depth 400 fits 5000 parts 0, tt))))))))))))))))))))
+    view_send _ _ _ _ _ (declared_send (NodeInside.the_type A g) (acts, (search (sendable, crosses) depth 400 fits 5000 parts 0, (search (sendable, crosses) depth 400 fits 5000 parts 0, (search (sendable, crosses) depth 400 fits 5000 parts 0, (search (sendable, crosses) depth 400 fits 5000 parts 0, (search (sendable, crosses) depth 400 fits 5000 parts 0, (search (sendable, crosses) depth 400 fits 5000 parts 0, (search (pending_send, sendable, crosses) depth 400 fits 5000 parts 0, (search (sendable, crosses) depth 400 fits 5000 parts 0, (search (letter_send, sendable, crosses) depth 400 fits 5000 parts 0, (search (letter_send, sendable, crosses) depth 400 fits 5000 parts 0, (search (moves_send, sendable, crosses) depth 400 fits 5000 parts 0, (search (sendable, crosses) depth 400 fits 5000 parts 0, (records, (search (sendable, crosses) depth 400 fits 5000 parts 0, (search (sendable, crosses) depth 400 fits 5000 parts 0, (search (sendable, crosses) depth 400 fits 5000 parts 0, tt))))))))))))))))))
 
 -- the journal
 journal_send : IsSend Journal.the_row

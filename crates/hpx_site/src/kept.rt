@@ -163,7 +163,7 @@ impl<'b, 'w, 'f, A: Acts + Copy, F: Fabric, E: Past> Kept<'b, 'w, 'f, A, F, E> {
         }
     }
 
-    /// The first locality with a message to itself deals with it. False where none has one.
+    /// The first locality that has something of its own to tend to does. False where none has.
     fn clear_one(&mut self, alloc: Global) -> bool {
         for k in 0..self.localities() {
             if self.moves(alloc, Choice::Desk(k)) {
@@ -233,7 +233,7 @@ impl<'b, 'w, 'f, A: Acts + Copy, F: Fabric, E: Past> Kept<'b, 'w, 'f, A, F, E> {
         found
     }
 
-    /// What there is to do. A message to an own locality goes first; where none waits, jobs are put on the hand, all that are ready, up to
+    /// What there is to do. What a locality has of its own to tend to goes first; where none has anything, jobs are put on the hand, all that are ready, up to
     /// 32; where none is ready, a message goes to another locality.
     pub fn look(&mut self, alloc: Global, hand: &mut Hand) -> Found
         ensures frame { frame_of hand.new ≡ frame_of hand.old }

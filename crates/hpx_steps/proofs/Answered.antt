@@ -1,7 +1,7 @@
 -- An ask is answered: more credit is granted, or refused.
-use Rattle.hpx_steps.proofs.Common.{Ask, Bool, Came, Count, Entry, Give, Going, Granted, Grants, HasCredit, HasInHand, HasLeastCredit, HasPlaces, Id, IsSound, IsTidy, Item, Leads, List, Mailed, MatchOption, OnDesk, Option, Parcel, Reason, Record, Recounts, Refused, Refuses, Row, Rules, Some, StaysAt, Tables, TidyAt, Token, Turn, View, [], ap, arith, asked_by, asks_for, asks_under, bare, bare_due, cases_Bool, causes, cond, count_by, count_in, counted, counts_of, counts_true, drops, eq-eqb, false, find, find_record, flat_map, follows_granted, follows_refused, freeing, given_to, gives_for, goes, going, hopping, inl, inr, is_least, is_other, is_recorded, is_refusal, is_refused, joined, log_of, mails, map, nat_lt, nat_tests, ne_eqb, one_if, option_map_or, owed_token, owes, parcel_asks, parcel_tokens, parcels, pow_pos, raised, refl, same_object, same_object-true, same_token, some_same, subst, sum_by, sum_by-cons, sym, token_own, tokens, true, unpaid, view, waits_for, weigh, weight, with_records, worth, wrote, ℕ, ◌+◌, ◌-◌, ◌<◌, ◌==◌, ◌^◌, ◌∙◌, ◌∷◌, ◌≡◌, ◌≢◌, ◌≤◌, ◌⊎◌, Travel, Act}
-use Rattle.hpx_steps.proofs.Tools.{Changes, Keeps, Sees, asks_of, bound_none, by_bool, by_rows, counts_near, drop_change, drop_moves, fewer, frees_of, hand_fit, holding, if_so, in_hand, is_frame, mail_change, mail_tidy, owed_by, own_is, same_asks, same_dead, sees_leads, sent_if, sent_total, then, told_as, total, view_worth, same_travels, ships_of, same_waits, acting}
-use Rattle.hpx_steps.proofs.Records.{found_counted, one_recounted, places_still}
+use Rattle.hpx_steps.proofs.Common.{Ask, Bool, Came, Count, Entry, Give, Going, Granted, Grants, HasCredit, HasInHand, HasLeastCredit, HasPlaces, Id, IsSound, IsTidy, Item, Leads, List, Mailed, MatchOption, OnDesk, Option, Parcel, Reason, Record, Recounts, Refused, Refuses, Row, Rules, Some, MovesOn, Tables, TidyAt, Token, Turn, View, [], ap, arith, asked_by, asks_for, asks_under, bare, bare_due, cases_Bool, causes, cond, count_by, count_in, counted, counts_of, counts_true, drops, eq-eqb, false, find, find_record, flat_map, follows_granted, follows_refused, freeing, given_to, gives_for, goes, going, hopping, inl, inr, is_least, is_other, is_recorded, is_refusal, is_refused, joined, log_of, mails, map, nat_lt, nat_tests, ne_eqb, one_if, option_map_or, owed_token, owes, parcel_asks, parcel_tokens, parcels, pow_pos, raised, refl, same_object, same_object-true, same_token, some_same, subst, sum_by, sum_by-cons, sym, token_own, tokens, true, unpaid, view, waits_for, weigh, weight, with_records, worth, wrote, ℕ, ◌+◌, ◌-◌, ◌<◌, ◌==◌, ◌^◌, ◌∙◌, ◌∷◌, ◌≡◌, ◌≢◌, ◌≤◌, ◌⊎◌, Travel, Act, grants_here, is_away, leads_away, tells_come, flow, flow_of, Flow, record_moves, record_rests, tells_own}
+use Rattle.hpx_steps.proofs.Tools.{Changes, Keeps, Sees, asks_of, bound_none, by_bool, by_rows, counts_near, drop_change, drop_moves, fewer, frees_of, hand_fit, holding, if_so, in_hand, is_frame, mail_change, mail_tidy, owed_by, own_is, same_asks, same_dead, sees_leads, sent_if, sent_total, then, told_as, total, view_worth, same_travels, ships_of, same_waits, acting, tracks_by, flowless, by_flows}
+use Rattle.hpx_steps.proofs.Records.{found_counted, one_recounted, places_still, away_in, away_still, placed_still, reads_still}
 
 -- what a message weighs that is sent, on the desk or away
 sent_either : (w : Item → ℕ) (b : Bool) (to : ℕ) (p : Parcel) → total w (sent_if true b to p) ≡ cond b (w (Going (going to p))) (w (OnDesk p))
@@ -12,6 +12,18 @@ not_less a b h = grind (arith, nat_tests)
 
 asker_here : (t : Tables) (asker : ℕ) → asker < t.localities → is_other t asker ≡ false → asker ≡ t.here
 asker_here t asker near same = own_is t asker same near
+
+-- and of its moves
+reads_so : (id : Id) (old made : Record) (rs rs' : List Record) → Recounts id old (Some made) rs rs' → (k : ℕ) (f : Flow)
+    → record_moves k f (Some made) ≡ record_moves k f (Some old) → record_rests f (Some made) ≡ record_rests f (Some old)
+    → (record_moves k f (find_record (flow_of f) rs') ≡ record_moves k f (find_record (flow_of f) rs)) × (record_rests f (find_record (flow_of f) rs') ≡ record_rests f (find_record (flow_of f) rs))
+reads_so id old made rs rs' c k f a b = (reads_still id old (Some made) rs rs' c (record_moves k f) a (flow_of f), reads_still id old (Some made) rs rs' c (record_rests f) b (flow_of f))
+
+-- the record that changes says the same of where its object is
+placed_so : (id : Id) (old : Record) (made : Option Record) (rs rs' : List Record) → Recounts id old made rs rs' → ((x : Record) → made ≡ Some x → old.place ≡ x.place)
+    → (o : Id) (x : Record) → find_record o rs' ≡ Some x → (y : Record) × (find_record o rs ≡ Some y) × (y.place ≡ x.place)
+placed_so id old made rs rs' k same = placed_still id old made rs rs' k (λ o x. (y : Record) × (find_record o rs ≡ Some y) × (y.place ≡ x.place))
+    (λ o x at is. (old, ap (λ (z : Id). find_record z rs) (sym (same_object-true id o at)) ∙ k.was, same x is)) (λ o x is. (x, is, refl))
 
 module _ (r : Rules) (s : Turn) (entries : List Entry) (h : IsSound r s entries) (id : Id) (asker entry count : ℕ) (l : Option ℕ) (why : Reason) (records : List Record)
     (hand : HasInHand (Ask id asker entry) s) (near : asker < s.tables.localities) (home : id.home ≡ s.tables.here) (credit : HasCredit (record id { log = l }))
@@ -29,7 +41,7 @@ module _ (r : Rules) (s : Turn) (entries : List Entry) (h : IsSound r s entries)
   abbrev other : Bool
   other = is_other s.tables asker
 
-  change : Changes (in_hand (is_frame (Ask id asker entry) s hand) (Ask id asker entry) ∷ []) (sent_if true (is_other s.tables asker) asker (Give (record id { log = l }) entry)) s now
+  pub change : Changes (in_hand (is_frame (Ask id asker entry) s hand) (Ask id asker entry) ∷ []) (sent_if true (is_other s.tables asker) asker (Give (record id { log = l }) entry)) s now
   change = then (was ∷ []) [] [] (sent_if true other asker give) s (with_records records (drops s)) now
       (drop_change (Ask id asker entry) s hand) (mail_change true asker give (with_records records (drops s)))
 
@@ -45,7 +57,7 @@ module _ (r : Rules) (s : Turn) (entries : List Entry) (h : IsSound r s entries)
   moves w m n a b c d = omega (arith, drop_moves (Ask id asker entry) s hand w m a b, (mail_change true asker give (with_records records (drops s))).0 w, sent_total w true other asker give n c d)
 
   pub tidy : IsTidy now
-  tidy = holding (TidyAt s) (sent_if true other asker give) s now change.1 h.tidy (mail_tidy s.tables true asker give (λ b. credit) (λ b. sym home) (λ b. brings) (λ b c. tt))
+  tidy = holding (TidyAt s) (sent_if true other asker give) s now change.1 h.tidy (mail_tidy s.tables true asker give (λ b. credit) (λ b. sym home) (λ b. brings) (λ b other. tt))
 
   asked_less : (o : Id) (n : ℕ) → cond other 0 (0 + gives_for o n give) ≤ asks_for s.tables.here o n (Ask id asker entry)
   asked_less o n = if_so other (λ t. rw t (omega arith)) (λ f. rw (f, eq-eqb asker s.tables.here (asker_here s.tables asker near f)) (omega arith))
@@ -72,15 +84,19 @@ module _ (r : Rules) (s : Turn) (entries : List Entry) (h : IsSound r s entries)
   pub dead : (x : Id) → count_by (same_object x) (view now).dead ≤ count_by (same_object x) (view s).dead
   dead x = same_dead x s now (omega (arith, moves (frees_of x) 0 0 refl refl refl refl))
 
-  pub answered_keeps : Leads r (view s) (Count (bare id) count why ∷ []) (view now) → HasPlaces s.tables.here s.tables.births s.tables.objects records → Keeps r s now (Count (bare id) count why)
-  answered_keeps leads places = record {
+  pub answered_keeps : Leads r (view s) (Count (bare id) count why ∷ []) (view now) → HasPlaces s.tables.here s.tables.births s.tables.objects records s.tables.leaving
+      → ((o : Id) → away_in s.tables.here o records ≡ true → away_in s.tables.here o s.tables.records ≡ true)
+      → ((o : Id) (x : Record) → find_record o records ≡ Some x → (y : Record) × (find_record o s.tables.records ≡ Some y) × (y.place ≡ x.place))
+      → ((f : Flow) → (record_moves s.tables.here f (find_record (flow_of f) records) ≡ record_moves s.tables.here f (find_record (flow_of f) s.tables.records))
+      × (record_rests f (find_record (flow_of f) records) ≡ record_rests f (find_record (flow_of f) s.tables.records))) → Keeps r s now (Count (bare id) count why)
+  answered_keeps leads places away placed reads = record {
     leads = leads;
     tidy = tidy;
     places = places;
     commits = h.commits;
     numbered = fewer s now (omega arith) (λ n. omega (arith, turns (asks_under n), bound_none other 0 refl));
     pays = record {
-      rows = λ row. omega (arith, moves (unpaid row) (owes row (Ask id asker entry)) (weight row give) refl refl refl refl, costs row);
+      rows = λ row own. omega (arith, moves (unpaid row) (owes row (Ask id asker entry)) (weight row give) refl refl refl refl, costs row);
       once = omega (arith, moves hopping 0 0 refl refl refl refl);
       fired = omega (arith, moves joined 0 0 refl refl refl refl);
       frees = λ o. omega (arith, moves (freeing o) 0 0 refl refl refl refl);
@@ -95,6 +111,16 @@ module _ (r : Rules) (s : Turn) (entries : List Entry) (h : IsSound r s entries)
           let t : weigh (given_to j o n) now + given_to j o n was ≡ weigh (given_to j o n) s + cond other (cond (asker == j) (gives_for o n give) 0) 0 = turns (given_to j o n) in
           omega (arith, t, given_was j d o n, given_less j o n);
     };
+    says = record { placed = λ o x m. inr (inl (placed o x m)); told = λ q j. omega (arith, moves (tells_come q j) 0 0 refl refl refl refl); own = λ q. omega (arith, moves (tells_own q) 0 0 refl refl refl refl) };
+    flows = record {
+      flows = λ f own.
+          let a = flowless s.tables.here f (Ask id asker entry) tt in
+          let b = flowless s.tables.here f give tt in
+          let c = reads f in inr (omega (arith, moves (flow s.tables.here f) 0 0 a.0 a.0 b.0 (b.1 asker), c.0, c.1));
+      near = λ o x m. inl (placed o x m);
+    };
+    tracks = tracks_by (λ q. 0) (λ q. 0) s now away refl refl (λ q. omega (arith, moves (grants_here q) 0 0 refl refl refl refl))
+        (λ q. inl (omega (arith, moves (leads_away s.tables.here q) 0 0 refl refl refl refl)));
     counts = counts_near s now (Count (bare id) count why) refl (omega arith) (omega arith) (omega arith) (omega arith) (omega arith) (λ x. refl);
   }
     where
@@ -103,7 +129,7 @@ module _ (r : Rules) (s : Turn) (entries : List Entry) (h : IsSound r s entries)
 
       costs : (row : Row) → goes r row (Count (bare id) count why) + weight row give ≡ owes row (Ask id asker entry) + causes r row (Count (bare id) count why)
       costs = by_rows (λ row. goes r row (Count (bare id) count why) + weight row give ≡ owes row (Ask id asker entry) + causes r row (Count (bare id) count why))
-          refl refl refl (rw alive refl) refl (omega (arith, answers)) refl (λ o. rw alive refl)
+          refl refl refl (rw alive refl) refl (omega (arith, answers)) refl refl refl refl refl (λ o. rw alive refl) (λ o to. refl) (λ o to. refl) (λ o to. refl) (λ o. refl)
 
 module _ (r : Rules) (s : Turn) (entries : List Entry) (h : IsSound r s entries) (id : Id) (asker entry count : ℕ) (old : Record) (due : s.due ≡ []) (fresh : s.fresh ≡ [])
     (hand : HasInHand (Ask id asker entry) s) (near : asker < s.tables.localities) (home : id.home ≡ s.tables.here) (live : 1 ≤ old.count) where
@@ -174,7 +200,15 @@ module _ (r : Rules) (s : Turn) (entries : List Entry) (h : IsSound r s entries)
           ∙ ap (λ n. cond (same_object x (bare id)) n (count_in (find (is_recorded x) (map counted s.tables.records)))) (ap (λ (x : Record). x.count) raised_is ∙ omega (arith, sum))),
       sees_leads r seen grants sees,
     ) (places_still s.tables id old (Some (raised s.tables.profile old)) records recounts
-        (λ x is at. subst (StaysAt s.tables.here) (sym raised_is ∙ some_same (raised s.tables.profile old) x is) (at.0, at.1)) h.places)
+        (λ x is at. subst MovesOn (sym raised_is ∙ some_same (raised s.tables.profile old) x is) at) h.places)
+        (away_still s.tables.here id old (Some (raised s.tables.profile old)) s.tables.records records recounts
+        (λ x is. subst (λ (y : Record). is_away s.tables.here y ≡ true → is_away s.tables.here old ≡ true) (sym raised_is ∙ some_same (raised s.tables.profile old) x is) (λ m. m)))
+        (placed_so id old (Some (raised s.tables.profile old)) s.tables.records records recounts (λ x is. subst (λ (y : Record). old.place ≡ y.place) (sym raised_is ∙ some_same (raised s.tables.profile old) x is) refl))
+        (λ f. reads_so id old (raised s.tables.profile old) s.tables.records records recounts s.tables.here f
+        (subst (λ (y : Record). record_moves s.tables.here f (Some y) ≡ record_moves s.tables.here f (Some old)) (sym raised_is)
+        (by_flows (λ f. record_moves s.tables.here f (Some (record old { count = old.count + 2 ^ log - 1 })) ≡ record_moves s.tables.here f (Some old)) (λ o t. refl) (λ o j. refl) f))
+        (subst (λ (y : Record). record_rests f (Some y) ≡ record_rests f (Some old)) (sym raised_is)
+        (by_flows (λ f. record_rests f (Some (record old { count = old.count + 2 ^ log - 1 })) ≡ record_rests f (Some old)) (λ o t. refl) (λ o j. refl) f)))
 
   module _ (records : List Record) (same : count ≡ old.count) (limit : s.tables.profile.credit_limit + 1 < count + 2 ^ s.tables.profile.credit_log)
       (recounts : Recounts id old (Some old) s.tables.records records) where
@@ -217,7 +251,10 @@ module _ (r : Rules) (s : Turn) (entries : List Entry) (h : IsSound r s entries)
               (omega (arith, limit, h.rules.credit_limit, ap (λ n. 2 ^ n) h.rules.credit_log)) one_owed,
           sees_leads r (record (view s) { last = Some (Count (bare id) count Refused) }) refuses sees,
         )
-        (places_still s.tables id old (Some old) records recounts (λ x is at. subst (StaysAt s.tables.here) (some_same old x is) at) h.places)
+        (places_still s.tables id old (Some old) records recounts (λ x is at. subst MovesOn (some_same old x is) at) h.places)
+        (away_still s.tables.here id old (Some old) s.tables.records records recounts (λ x is. subst (λ (y : Record). is_away s.tables.here y ≡ true → is_away s.tables.here old ≡ true) (some_same old x is) (λ m. m)))
+        (placed_so id old (Some old) s.tables.records records recounts (λ x is. ap (λ (y : Record). y.place) (some_same old x is)))
+        (λ f. reads_so id old old s.tables.records records recounts s.tables.here f refl refl)
       where
         own_count : (x : Id) → cond (same_object x (bare id)) old.count (count_in (find (is_recorded x) (map counted s.tables.records)))
             ≡ count_in (find (is_recorded x) (map counted s.tables.records))

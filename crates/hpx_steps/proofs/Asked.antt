@@ -1,6 +1,6 @@
 -- An id is asked for.
-use Rattle.hpx_steps.proofs.Common.{AreNumbered, Ask, Asked, AskedFor, AsksFor, Bool, Entry, Going, HasLeastCredit, Id, IsCommit, IsSound, IsTidy, Item, List, OnDesk, Parcel, Row, Rules, Some, TidyAt, Token, Turn, View, Waits, Working, [], all_append, ap, arith, asked_by, asking, asks_as, asks_for, asks_under, bare, bare_act, bare_due, cases_Bool, causes, cond, count_by, counts_of, eq-eqb, eqb-true, false, fired_of, follows_asked, freeing, given_to, goes, going, held_token, hopping, id_at, ids_named, inl, inr, is_asked, is_asked_for, is_other, joined, length, mails, map, one_if, owed_token, parcel_asks, refl, refusals_of, same_object, set, slice_get, subst, sum_by, sum_by-append, sum_by-cons, sym, tokens, tokens_of, true, unpaid, view, waits_for, weigh, weight, worth, wrote, ℕ, ◌&&◌, ◌++◌, ◌+◌, ◌<◌, ◌==◌, ◌∙◌, ◌∷◌, ◌≡◌}
-use Rattle.hpx_steps.proofs.Tools.{Changes, Keeps, Sees, asks_of, at_place, bound_none, by_rows, counts_near, first_turns, frees_of, has_not_asked, held_by, holding, ids_each, mail_change, mail_tidy, no_tokens, owed_by, put_asked, put_bare, put_elsewhere, put_for, put_names, put_there, recommit, same_dead, seen_sum, sees_by, sees_leads, sent_if, sent_total, set_sum, then, token_held, told_as, total, view_asking, view_worth, work_commits, working_change, same_travels, ships_of, same_waits, acting}
+use Rattle.hpx_steps.proofs.Common.{AreNumbered, Ask, Asked, AskedFor, AsksFor, Bool, Entry, Going, HasLeastCredit, Id, IsCommit, IsSound, IsTidy, Item, List, OnDesk, Parcel, Row, Rules, Some, TidyAt, Token, Turn, View, Waits, Working, [], all_append, ap, arith, asked_by, asking, asks_as, asks_for, asks_under, bare, bare_act, bare_due, cases_Bool, causes, cond, count_by, counts_of, eq-eqb, eqb-true, false, fired_of, follows_asked, freeing, given_to, goes, going, held_token, hopping, id_at, ids_named, inl, inr, is_asked, is_asked_for, is_other, joined, length, mails, map, one_if, owed_token, parcel_asks, refl, refusals_of, same_object, set, slice_get, subst, sum_by, sum_by-append, sum_by-cons, sym, tokens, tokens_of, true, unpaid, view, waits_for, weigh, weight, worth, wrote, ℕ, ◌&&◌, ◌++◌, ◌+◌, ◌<◌, ◌==◌, ◌∙◌, ◌∷◌, ◌≡◌, grants_here, leads_away, tells_come, flow, tells_own}
+use Rattle.hpx_steps.proofs.Tools.{Changes, Keeps, Sees, asks_of, at_place, bound_none, by_rows, counts_near, first_turns, frees_of, has_not_asked, held_by, holding, ids_each, mail_change, mail_tidy, no_tokens, owed_by, put_asked, put_bare, put_elsewhere, put_for, put_names, put_there, recommit, same_dead, seen_sum, sees_by, sees_leads, sent_if, sent_total, set_sum, then, token_held, told_as, total, view_asking, view_worth, work_commits, working_change, same_travels, ships_of, same_waits, acting, same_tracks, same_says, same_flows, flowless}
 
 module _ (r : Rules) (s : Turn) (entries : List Entry) (h : IsSound r s entries) (w : Waits) (rest : List Waits) (p : ℕ) (id : Id) (due : s.due ≡ []) (fresh : s.fresh ≡ [])
     (works : s.working ≡ w ∷ rest) (low : p < length (ids_named w)) (at : slice_get w.hand p ≡ Some id) (least : HasLeastCredit id) where
@@ -28,7 +28,7 @@ module _ (r : Rules) (s : Turn) (entries : List Entry) (h : IsSound r s entries)
   abbrev other : Bool
   other = is_other s.tables id.home
 
-  change : Changes (Working w ∷ []) (Working asker ∷ sent_if true (is_other s.tables id.home) id.home (Ask id s.tables.here (s.tables.asked + 1))) s now
+  pub change : Changes (Working w ∷ []) (Working asker ∷ sent_if true (is_other s.tables id.home) id.home (Ask id s.tables.here (s.tables.asked + 1))) s now
   change = then (Working w ∷ []) (Working asker ∷ []) [] (sent_if true other id.home ask) s before now
       (working_change (Working w ∷ []) (Working asker ∷ []) s (asker ∷ rest) (first_turns (λ x. Working x) s.working w asker rest works))
       (mail_change true id.home ask before)
@@ -80,7 +80,7 @@ module _ (r : Rules) (s : Turn) (entries : List Entry) (h : IsSound r s entries)
       )
 
   tidy : IsTidy now
-  tidy = holding (TidyAt s) (Working asker ∷ sent_if true other id.home ask) s now change.1 h.tidy (fit_commit, mail_tidy s.tables true id.home ask (λ b. least) (λ b. refl) (λ b. refl) (λ b c. tt))
+  tidy = holding (TidyAt s) (Working asker ∷ sent_if true other id.home ask) s now change.1 h.tidy (fit_commit, mail_tidy s.tables true id.home ask (λ b. least) (λ b. refl) (λ b. refl) (λ b other. tt))
 
   -- the id gives its credit up
   tokens_hand : (f : Token → ℕ) → sum_by f (tokens_of asker.hand) + f (held_token (bare id) 0) ≡ sum_by f (tokens_of w.hand)
@@ -130,7 +130,7 @@ module _ (r : Rules) (s : Turn) (entries : List Entry) (h : IsSound r s entries)
     commits = work_commits s w asker rest works refl h.commits;
     numbered = λ once n. numbered_one once n;
     pays = record {
-      rows = λ row. omega (arith, moves (unpaid row) (weight row ask) refl refl, costs row);
+      rows = λ row own. omega (arith, moves (unpaid row) (weight row ask) refl refl, costs row);
       once = omega (arith, moves hopping 0 refl refl);
       fired = omega (arith, moves joined 0 refl refl);
       frees = λ o. omega (arith, moves (freeing o) 0 refl refl);
@@ -140,11 +140,14 @@ module _ (r : Rules) (s : Turn) (entries : List Entry) (h : IsSound r s entries)
       asked = λ o n. omega (arith, own_ask o n, moves (waits_for o n) 0 refl refl, waits_more o n);
       given = λ j d o n. omega (arith, moves (given_to j o n) 0 refl (bound_none (id.home == j) 0 refl));
     };
+    says = same_says (λ q j. 0) (λ q. 0) s now refl (λ q j. omega (arith, moves (tells_come q j) 0 refl refl)) (λ q. omega (arith, moves (tells_own q) 0 refl refl));
+    flows = same_flows r (Some (Asked (bare id))) s now refl (λ f own. let k = flowless s.tables.here f ask tt in omega (arith, moves (flow s.tables.here f) 0 k.0 (k.1 id.home)));
+    tracks = same_tracks (λ q. 0) (λ q. 0) s now (λ q. refl) refl refl (λ q. omega (arith, moves (grants_here q) 0 refl refl)) (λ q. omega (arith, moves (leads_away s.tables.here q) 0 refl refl));
     counts = counts_near s now (Asked (bare id)) refl (omega arith) (omega arith) (omega arith) (omega arith) (omega arith) (λ l. refl);
   }
     where
       costs : (row : Row) → goes r row (Asked (bare id)) + weight row ask ≡ causes r row (Asked (bare id))
-      costs = by_rows (λ row. goes r row (Asked (bare id)) + weight row ask ≡ causes r row (Asked (bare id))) refl refl refl refl refl refl refl (λ o. refl)
+      costs = by_rows (λ row. goes r row (Asked (bare id)) + weight row ask ≡ causes r row (Asked (bare id))) refl refl refl refl refl refl refl refl refl refl refl (λ o. refl) (λ o to. refl) (λ o to. refl) (λ o to. refl) (λ o. refl)
 
       -- the Ask has the next number
       numbered_one : AreNumbered s → AreNumbered now

@@ -1,8 +1,8 @@
 -- Between turns all that holds of a turn is what holds of the tables, and the other way round.
-use Rattle.hpx_steps.proofs.Common.{Brought, IsGranted, IsShipped, IsWaitingFor, Leaving, Queued, Stray, Waiting, brings, queued_parcels, ◌++◌, Accepted, Act, Actions, AllByRecursion, AreFired, ArePaused, AreRules, Came, Entry, FreesNone, Going, HasObject, Id, IfSome, IsDue, IsFit, IsForHere, IsKept, IsOnItsWay, IsOwn, IsParcel, IsPaused, IsSound, List, Loose, Mailed, OnDesk, Outgoing, Parcel, Pending, Row, Rules, Running, Standing, StandsAtRest, StandsFor, StandsHere, Tables, Waits, Working, [], all_parts, append-nil, arith, asked_by, asks_for, at_rest, bare_act, bound_for, freeing, given_to, gives_for, hopping, joined, length, map, messages, move_to, of_act, part, queued, stands_here, subst, sum_by, sym, target_of, true, weigh, weight, ℕ, ◌+◌, ◌≡◌, ◌≢◌, ◌≤◌}
-use Rattle.hpx_steps.proofs.Tools.{all_among, among_all, by_rows, map_all, messages_sum, tidy_messages, long_sum, two_sums, zeros}
+use Rattle.hpx_steps.proofs.Common.{cond, same_object, Arrival, Untold, hops_left, of_accepted, of_came, Brought, IsGranted, IsStray, IsWaitingFor, Leaving, Queued, Stray, Waiting, brings, queued_parcels, ◌++◌, Accepted, Act, AllByRecursion, AreFired, ArePaused, AreRules, Came, Entry, Going, HasObject, Id, IfSome, IsDue, IsFit, IsForHere, IsKept, IsOnItsWay, IsOwn, IsParcel, IsPaused, IsSound, List, Loose, Mailed, OnDesk, Outgoing, Parcel, Pending, Row, Rules, Running, Standing, StandsAtRest, StandsFor, StandsHere, Tables, Waits, Working, [], all_parts, append-nil, arith, asked_by, asks_for, at_rest, bare_act, bound_for, freeing, given_to, gives_for, hopping, joined, length, map, move_to, of_act, part, stands_here, subst, sum_by, sym, target_of, true, weigh, ℕ, ◌+◌, ◌≡◌, ◌≢◌, ◌≤◌, act_in, grants_here, grants_in, leads_away, grants_of_all, leads_on, tells_come, tells_own, tell_of, count_by}
+use Rattle.hpx_steps.proofs.Tools.{same_sum, all_among, among_all, by_rows, map_all, tidy_messages, long_sum, two_sums, zeros}
 use Rattle.hpx_steps.specs.Rest.{IsTidy, tokens, unpaid, view, waits_for}
-use Rattle.hpx_steps.specs.Rows.{unpaid as turn_unpaid}
+use Rattle.hpx_steps.specs.Rows.{TellsOf, unpaid as turn_unpaid}
 use Rattle.hpx_steps.specs.Sound.{IsTidy as turn_tidy, waits_for as turn_waits_for}
 use Rattle.hpx_steps.specs.Turn.{view as turn_view}
 
@@ -16,23 +16,51 @@ module _ (t : Tables) where
   rows_is : (row : Row) → weigh (turn_unpaid row) (at_rest t) ≡ unpaid row t
   rows_is row = omega (
     arith,
-    messages_sum (weight row) t,
     acts row,
-    zeros t.came,
+    names row,
     zeros t.running,
     zeros t.pending,
     zeros t.objects,
   )
     where
-      acts : (row : Row) → sum_by (λ (a : Act). of_act row) t.accepted ≡ queued row t.accepted
-      acts = by_rows (λ row. sum_by (λ (a : Act). of_act row) t.accepted ≡ queued row t.accepted) (zeros t.accepted) (zeros t.accepted) (zeros t.accepted) (zeros t.accepted)
-          (zeros t.accepted) (zeros t.accepted) (sym (long_sum t.accepted)) (λ o. zeros t.accepted)
+      acts : (row : Row) → sum_by (λ (a : Act). of_act row) t.accepted ≡ of_accepted row t.accepted
+      acts = by_rows (λ row. sum_by (λ (a : Act). of_act row) t.accepted ≡ of_accepted row t.accepted) (zeros t.accepted) (zeros t.accepted) (zeros t.accepted) (zeros t.accepted)
+          (zeros t.accepted) (zeros t.accepted) (sym (long_sum t.accepted)) (zeros t.accepted) (zeros t.accepted) (zeros t.accepted) (zeros t.accepted) (λ o. zeros t.accepted)
+          (λ o to. zeros t.accepted) (λ o to. zeros t.accepted) (λ o to. zeros t.accepted) (λ o. zeros t.accepted)
 
-  hopping_is : weigh hopping (at_rest t) ≡ sum_by (weight Actions) (messages t)
-  hopping_is = omega (arith, messages_sum brings t, zeros t.came, zeros t.accepted, zeros t.running, zeros t.pending, zeros t.objects)
+      names : (row : Row) → sum_by (λ (a : Arrival). turn_unpaid row (Brought a)) t.came ≡ of_came row t.came
+      names = by_rows (λ row. sum_by (λ (a : Arrival). turn_unpaid row (Brought a)) t.came ≡ of_came row t.came) (zeros t.came) (zeros t.came) (zeros t.came) (zeros t.came)
+          (zeros t.came) (zeros t.came) (zeros t.came) (zeros t.came) (sym (long_sum t.came)) (zeros t.came) (zeros t.came) (λ o. zeros t.came)
+          (λ o to. zeros t.came) (λ o to. zeros t.came) (λ o to. zeros t.came) (λ o. same_sum (λ (a : Arrival). turn_unpaid (TellsOf o) (Brought a)) (λ (a : Arrival). cond (same_object o a.object) 1 0) t.came (λ a. omega arith))
 
-  joined_is : weigh joined (at_rest t) ≡ length t.accepted
-  joined_is = omega (arith, zeros t.desk, zeros t.outgoing, zeros t.queued, zeros t.leaving, zeros t.stray, zeros t.came, sym (long_sum t.accepted), zeros t.running, zeros t.pending, zeros t.objects)
+  hopping_is : weigh hopping (at_rest t) ≡ hops_left t
+  hopping_is = omega (arith, zeros t.leaving, zeros t.stray, zeros t.came, zeros t.accepted, zeros t.running, zeros t.pending, zeros t.objects)
+
+  joined_is : weigh joined (at_rest t) ≡ length t.accepted + sum_by brings t.stray
+  joined_is = omega (arith, zeros t.desk, zeros t.outgoing, zeros t.queued, zeros t.leaving, zeros t.came, sym (long_sum t.accepted), zeros t.running, zeros t.pending, zeros t.objects)
+
+  grants_is : (o : Id) → weigh (grants_here o) (at_rest t) ≡ grants_in o t
+  grants_is o = omega (arith, zeros t.queued, zeros t.came, zeros t.accepted, zeros t.running, zeros t.pending, zeros t.objects)
+
+  onward_is : (o : Id) → weigh (leads_away t.here o) (at_rest t) ≡ sum_by (λ (x : Outgoing). leads_on t.here o x.parcel) t.outgoing
+  onward_is o = omega (arith, zeros t.desk, zeros t.queued, zeros t.leaving, zeros t.stray, zeros t.came, zeros t.accepted, zeros t.running, zeros t.pending, zeros t.objects)
+
+  own_is : (o : Id) → weigh (tells_own o) (at_rest t) ≡ sum_by (tell_of o) t.desk + count_by (λ (a : Arrival). same_object o a.object) t.came
+  own_is o = omega (
+    arith,
+    zeros t.outgoing,
+    zeros t.queued,
+    zeros t.leaving,
+    zeros t.stray,
+    zeros t.accepted,
+    zeros t.running,
+    zeros t.pending,
+    zeros t.objects,
+    same_sum (λ (a : Arrival). tells_own o (Brought a)) (λ (a : Arrival). cond (same_object o a.object) 1 0) t.came (λ a. omega arith),
+  )
+
+  none_told : (o : Id) (j : ℕ) → weigh (tells_come o j) (at_rest t) ≡ 0
+  none_told o j = omega (arith, zeros t.desk, zeros t.outgoing, zeros t.queued, zeros t.leaving, zeros t.stray, zeros t.came, zeros t.accepted, zeros t.running, zeros t.pending, zeros t.objects)
 
   freeing_is : (o : Id) → weigh (freeing o) (at_rest t) ≡ 0
   freeing_is o = omega (arith, zeros t.desk, zeros t.outgoing, zeros t.queued, zeros t.leaving, zeros t.stray, zeros t.came, zeros t.accepted, zeros t.running, zeros t.pending, zeros t.objects)
@@ -86,7 +114,8 @@ module _ (t : Tables) where
       targets = all_among (λ a. stands_here t (target_of a) ≡ true) t.accepted (λ a m. (h.tidy (Accepted a) m).2);
       queued = all_among (λ (w : Waiting Parcel). IsWaitingFor t.here w.number w.item) t.queued (λ w m. (h.tidy (Queued w) m).1);
       leaving = all_among (IsGranted t.here t.objects) t.leaving (λ p m. (h.tidy (Leaving p) m).1);
-      stray = all_among IsShipped t.stray (λ p m. (h.tidy (Stray p) m).1);
+      leaves = h.places.once;
+      stray = all_among IsStray t.stray (λ p m. (h.tidy (Stray p) m).1);
       serves = h.places.serves;
       drawn = all_among (λ (x : Standing). 16 ≤ x.object.kind → x.object.home ≡ t.here → x.object.number ≤ t.births) t.objects (λ x m. (h.tidy (StandsHere x) m).1);
       unborn = h.places.unborn;
@@ -106,7 +135,7 @@ module _ (t : Tables) where
         sent = h.numbers.sent;
         taken = h.numbers.taken;
         paid = record {
-          rows = λ row. omega (arith, h.paid.rows row, rows_is row);
+          rows = λ row own. omega (arith, h.paid.rows row own, rows_is row);
           once = omega (arith, h.paid.once, hopping_is);
           fired = subst (λ n. AreFired n (map (λ (e : Entry). e.event) (part t.here entries))) joined_is h.paid.fired;
           frees = λ o. omega (arith, h.paid.frees o, freeing_is o);
@@ -117,10 +146,20 @@ module _ (t : Tables) where
       orderly = record {
         sent = h.orderly.sent;
         own = all_among (IsOwn t.here t.profile.credit_log) t.desk (λ p m. (h.tidy (OnDesk p) m).2);
-        away = all_among (λ (x : Outgoing). IsOwn t.here t.profile.credit_log x.parcel × FreesNone x.parcel) t.outgoing (λ x m. let k = h.tidy (Going x) m in (k.2, k.3));
+        away = all_among (λ (x : Outgoing). IsOwn t.here t.profile.credit_log x.parcel) t.outgoing (λ x m. (h.tidy (Going x) m).2);
         asked = λ o n. omega (arith, h.orderly.asked o n, asked_is t.here o n, waits_is o n);
         given = λ j d o n. omega (arith, h.orderly.given j d o n, given_is j o n);
       };
+      begun = record {
+        away = λ o m. omega (arith, h.begun.away o m, grants_is o);
+        queued = all_among (λ (w : Waiting Parcel). 1 ≤ grants_of_all r t (part t.here entries) (target_of (act_in w.item))) t.queued
+            (λ w m. omega (arith, h.begun.queued w m, grants_is (target_of (act_in w.item))));
+        stray = λ act m. omega (arith, h.begun.stray act m, grants_is (target_of act));
+        onward = λ o m. omega (arith, h.begun.onward o (omega (arith, m, onward_is o)), grants_is o);
+        lands = h.begun.lands;
+      };
+      placed = record { placed = h.placed.placed; own = λ o. omega (arith, h.placed.own o, own_is o) };
+      flowing = h.flowing;
       lacks = all_among (λ (w : Waits). w.asked ≢ []) t.pending (λ w m. (h.tidy (Pending w) m).2);
     }
 
@@ -144,20 +183,19 @@ module _ (t : Tables) where
       among_all (IsForHere t.localities t.here) p t.desk m h.stands.tidy.ways.1,
       among_all (IsOwn t.here t.profile.credit_log) p t.desk m h.orderly.own,
     )
-    tidies (Going x) m =
-        let own = among_all (λ (y : Outgoing). IsOwn t.here t.profile.credit_log y.parcel × FreesNone y.parcel) x t.outgoing m h.orderly.away in (
-          among_all (λ (y : Outgoing). IsParcel y.parcel) x t.outgoing m (map_all (λ (y : Outgoing). y.parcel) IsParcel t.outgoing parts.1),
-          among_all (IsOnItsWay t.localities t.here) x t.outgoing m h.stands.tidy.ways.0,
-          own.0,
-          own.1,
-        )
+    tidies (Going x) m = (
+      among_all (λ (y : Outgoing). IsParcel y.parcel) x t.outgoing m (map_all (λ (y : Outgoing). y.parcel) IsParcel t.outgoing parts.1),
+      among_all (IsOnItsWay t.localities t.here) x t.outgoing m h.stands.tidy.ways.0,
+      among_all (λ (y : Outgoing). IsOwn t.here t.profile.credit_log y.parcel) x t.outgoing m h.orderly.away,
+    )
     tidies (Queued w) m = (
       among_all (λ (y : Waiting Parcel). IsParcel y.item) w t.queued m (map_all (λ (y : Waiting Parcel). y.item) IsParcel t.queued parts.2),
       among_all (λ (y : Waiting Parcel). IsWaitingFor t.here y.number y.item) w t.queued m h.stands.tidy.queued,
     )
     tidies (Leaving p) m = (among_all IsParcel p t.leaving m parts.3, among_all (IsGranted t.here t.objects) p t.leaving m h.stands.tidy.leaving)
-    tidies (Stray p) m = (among_all IsParcel p t.stray m parts.4, among_all IsShipped p t.stray m h.stands.tidy.stray)
+    tidies (Stray p) m = (among_all IsParcel p t.stray m parts.4, among_all IsStray p t.stray m h.stands.tidy.stray)
     tidies (Brought a) m = tt
+    tidies (Untold o) m = absurd m
     tidies (Accepted a) m = (
       among_all IsFit a t.accepted m h.stands.tidy.accepted,
       among_all (λ b. IfSome (move_to (bare_act b)) (λ to. to ≡ t.here)) a t.accepted m h.stands.tidy.moves,
@@ -183,7 +221,7 @@ module _ (t : Tables) where
       rules = rules;
       keeps = subst (λ v. StandsFor r v entries) (sym view_is) h.stands.keeps;
       tidy = tidies;
-      places = record { serves = h.stands.tidy.serves; unborn = h.stands.tidy.unborn; places = h.stands.tidy.places; single = h.stands.tidy.paused.single };
+      places = record { serves = h.stands.tidy.serves; unborn = h.stands.tidy.unborn; places = h.stands.tidy.places; single = h.stands.tidy.paused.single; once = h.stands.tidy.leaves };
       commits = record {
         each = all_among (HasObject t.objects) t.pending (λ w m.
             let p = among_all (IsPaused t.here t.localities t.profile.credit_log t.objects) w t.pending m h.stands.tidy.paused.each in
@@ -193,7 +231,7 @@ module _ (t : Tables) where
         lent = h.stands.tidy.paused.lent;
       };
       paid = record {
-        rows = λ row. omega (arith, h.stands.paid.rows row, rows_is row);
+        rows = λ row own. omega (arith, h.stands.paid.rows row own, rows_is row);
         once = omega (arith, h.stands.paid.once, hopping_is);
         fired = subst (λ n. AreFired n (map (λ (e : Entry). e.event) (part t.here entries))) (sym joined_is) h.stands.paid.fired;
         frees = λ o. omega (arith, h.stands.paid.frees o);
@@ -203,5 +241,18 @@ module _ (t : Tables) where
         asked = λ o n. omega (arith, h.orderly.asked o n, asked_is t.here o n, waits_is o n);
         given = λ j d o n. omega (arith, h.orderly.given j d o n, given_is j o n);
       };
+      begun = record {
+        away = λ o m. omega (arith, h.begun.away o m, grants_is o);
+        queued = λ w m. omega (
+          arith,
+          among_all (λ (y : Waiting Parcel). 1 ≤ grants_of_all r t (part t.here entries) (target_of (act_in y.item))) w t.queued m h.begun.queued,
+          grants_is (target_of (act_in w.item)),
+        );
+        stray = λ act m. omega (arith, h.begun.stray act m, grants_is (target_of act));
+        onward = λ o m. omega (arith, h.begun.onward o (omega (arith, m, onward_is o)), grants_is o);
+        lands = h.begun.lands;
+      };
+      placed = record { placed = h.placed.placed; told = λ o j. omega (arith, none_told o j); own = λ o. omega (arith, h.placed.own o, own_is o) };
+      flowing = h.flowing;
       numbers = grind arith;
     }

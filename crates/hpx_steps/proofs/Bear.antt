@@ -1,6 +1,6 @@
 -- A commit makes an object.
-use Rattle.hpx_steps.proofs.Common.{Bears, Bool, Born, Entry, Event, HasPlaces, Id, IsBirth, IsCommit, IsSound, IsTidy, List, Make, None, Option, Record, Rules, Some, Standing, StandsHere, State, StaysAt, TidyAt, Token, Turn, View, Waits, Working, [], ap, append-nil, arith, asking, bare, bare_due, bare_id, bare_standing, birth_of, birth_state, cond, count_by, count_in, counted, false, false_from, find, find_record, follows_born, held_token, id_at, ids_named, inl, is_asked, is_asked_for, is_recorded, is_standing, length, map, map-append, refl, same_object, same_object-true, session, some_same, subst, sum_by, sum_by-cons, sym, take, tokens, tokens_of, true, view, works_on, worth, wrote, ℕ, ◌++◌, ◌+◌, ◌^◌, ◌∙◌, ◌∷◌, ◌≡◌, ◌≤◌}
-use Rattle.hpx_steps.proofs.Tools.{Changes, Keeps, all_among, by_rows, counts_near, first_turns, holding, if_so, more_come, more_commits, numbered_so, objects_change, orders_so, pays_so, recommit, retidy, sees_by, sees_leads, single_more, stand_more, take_place, then, view_asking, view_worth, work_commits, working_change}
+use Rattle.hpx_steps.proofs.Common.{Bears, Bool, Born, Entry, Event, HasPlaces, Id, IsBirth, IsCommit, IsSound, IsTidy, List, Make, None, Option, Record, Rules, Some, Standing, StandsHere, State, MovesOn, TidyAt, Token, Turn, View, Waits, Working, [], ap, append-nil, arith, asking, bare, bare_due, bare_id, bare_standing, birth_of, birth_state, cond, count_by, count_in, counted, false, false_from, find, find_record, follows_born, held_token, id_at, ids_named, inl, is_asked, is_asked_for, is_recorded, is_standing, length, map, map-append, refl, same_object, same_object-true, session, some_same, subst, sum_by, sum_by-cons, sym, take, tokens, tokens_of, true, view, works_on, worth, wrote, ℕ, ◌++◌, ◌+◌, ◌^◌, ◌∙◌, ◌∷◌, ◌≡◌, ◌≤◌, grants_here, is_away, away_here, leads_away, option_map_or, eq-eqb, not, ◌||◌, ◌==◌, tells_come, weigh, inr, ◌⊎◌, flow, flow_of, Flow, dies, record_here, record_moves, record_rests, one_if, ◌<◌, tells_own}
+use Rattle.hpx_steps.proofs.Tools.{Changes, Keeps, all_among, by_rows, counts_near, first_turns, holding, if_so, more_come, more_commits, numbered_so, objects_change, orders_so, pays_so, recommit, retidy, sees_by, sees_leads, single_more, stand_more, take_place, then, view_asking, view_worth, work_commits, working_change, tracks_by, by_flows, eq_turned}
 use Rattle.hpx_steps.proofs.Records.{found_counted}
 
 module _ (r : Rules) (s : Turn) (entries : List Entry) (h : IsSound r s entries) (w : Waits) (rest : List Waits) (make : Make) (hand : List Id) (due : s.due ≡ [])
@@ -33,7 +33,7 @@ module _ (r : Rules) (s : Turn) (entries : List Entry) (h : IsSound r s entries)
     };
   })
 
-  change : Changes (Working w ∷ []) (Working bearer ∷ StandsHere new ∷ []) s now
+  pub change : Changes (Working w ∷ []) (Working bearer ∷ StandsHere new ∷ []) s now
   change = then (Working w ∷ []) (Working bearer ∷ []) [] (StandsHere new ∷ []) s (works_on bearer rest s) now
       (working_change (Working w ∷ []) (Working bearer ∷ []) s (bearer ∷ rest) (first_turns (λ x. Working x) s.working w bearer rest works))
       (objects_change [] (StandsHere new ∷ []) (works_on bearer rest s) (s.tables.objects ++ new ∷ []) (more_come (λ x. StandsHere x) s.tables.objects (new ∷ [])))
@@ -74,7 +74,7 @@ module _ (r : Rules) (s : Turn) (entries : List Entry) (h : IsSound r s entries)
       ≡ cond (same_object x o) (2 ^ r.credit_log) (count_in (find (is_recorded x) (map counted s.tables.records)))
   counts_more x at = grind (arith, found_counted, Option, found_more, Bool)
 
-  places_now : HasPlaces s.tables.here (s.tables.births + 1) (s.tables.objects ++ new ∷ []) (s.tables.records ++ made ∷ [])
+  places_now : HasPlaces s.tables.here (s.tables.births + 1) (s.tables.objects ++ new ∷ []) (s.tables.records ++ made ∷ []) s.tables.leaving
   places_now = record {
     serves = λ zero. stand_more (is_standing session) s.tables.objects (new ∷ []) (h.places.serves zero);
     unborn = λ x late.
@@ -82,11 +82,56 @@ module _ (r : Rules) (s : Turn) (entries : List Entry) (h : IsSound r s entries)
         found_more x ∙ (ap (λ b. cond b (Some made) (find_record x s.tables.records)) off ∙ h.places.unborn x (omega (arith, late)));
     places = λ x y is. at x y (same_object x o) refl (sym (found_more x) ∙ is);
     single = single_more s.tables.objects new h.places.single (all_among (λ (x : Standing). same_object x.object o ≡ false) s.tables.objects (λ x m. other x (h.tidy (StandsHere x) m)));
+    once = h.places.once;
   }
     where
-      at : (x : Id) (y : Record) (b : Bool) → same_object x o ≡ b → cond (same_object x o) (Some made) (find_record x s.tables.records) ≡ Some y → StaysAt s.tables.here y
-      at x y true t is = let k : Some made ≡ Some y = rw t at is in subst (StaysAt s.tables.here) (some_same made y k) (refl, refl)
+      at : (x : Id) (y : Record) (b : Bool) → same_object x o ≡ b → cond (same_object x o) (Some made) (find_record x s.tables.records) ≡ Some y → MovesOn y
+      at x y true t is = let k : Some made ≡ Some y = rw t at is in subst MovesOn (some_same made y k) (λ same. cc)
       at x y false f is = h.places.places x y (rw f at is)
+
+  not_away : (x : Id) → away_here now.tables x ≡ true → away_here s.tables x ≡ true
+  not_away x m = each (same_object x o) (subst (λ (y : Option Record). option_map_or (is_away s.tables.here) y false ≡ true) (found_more x) m)
+    where
+      each : (b : Bool) → option_map_or (is_away s.tables.here) (cond b (Some made) (find_record x s.tables.records)) false ≡ true → away_here s.tables x ≡ true
+      each true k = absurd (let e : (false || not (s.tables.here == s.tables.here)) ≡ true = k in let f : false ≡ true = rw (eq-eqb s.tables.here s.tables.here refl) at e in cc)
+      each false k = k
+
+  placed_now : (x : Id) (y : Record) → find_record x now.tables.records ≡ Some y
+      → (y.place ≡ s.tables.here) ⊎ (((z : Record) × (find_record x s.tables.records ≡ Some z) × (z.place ≡ y.place)) ⊎ (1 ≤ weigh (tells_come x y.place) s))
+  placed_now x y is = each (same_object x o) (sym (found_more x) ∙ is)
+    where
+      each : (b : Bool) → cond b (Some made) (find_record x s.tables.records) ≡ Some y
+          → (y.place ≡ s.tables.here) ⊎ (((z : Record) × (find_record x s.tables.records ≡ Some z) × (z.place ≡ y.place)) ⊎ (1 ≤ weigh (tells_come x y.place) s))
+      each true k = inl (ap (λ (z : Record). z.place) (sym (some_same made y k)))
+      each false k = inr (inl (y, k, refl))
+
+  near_now : (x : Id) (y : Record) → find_record x now.tables.records ≡ Some y
+      → ((z : Record) × (find_record x s.tables.records ≡ Some z) × (z.place ≡ y.place)) ⊎ ((y.place ≡ s.tables.here) ⊎ (y.place < s.tables.localities))
+  near_now x y is = each (same_object x o) (sym (found_more x) ∙ is)
+    where
+      each : (b : Bool) → cond b (Some made) (find_record x s.tables.records) ≡ Some y
+          → ((z : Record) × (find_record x s.tables.records ≡ Some z) × (z.place ≡ y.place)) ⊎ ((y.place ≡ s.tables.here) ⊎ (y.place < s.tables.localities))
+      each true k = inr (inl (ap (λ (z : Record). z.place) (sym (some_same made y k))))
+      each false k = inl (y, k, refl)
+
+  flows_now : (f : Flow) → (flow_of f).home ≡ s.tables.here → (1 ≤ dies (flow_of f) e)
+      ⊎ (record_moves s.tables.here f (record_here now.tables (flow_of f)) + 0 + weigh (flow s.tables.here f) s + record_rests f (record_here s.tables (flow_of f))
+      ≡ record_moves s.tables.here f (record_here s.tables (flow_of f)) + weigh (flow s.tables.here f) now + 0 + record_rests f (record_here now.tables (flow_of f)))
+  flows_now f own =
+      let is = found_more (flow_of f) in
+      inr (omega (arith, ap (record_moves s.tables.here f) is, ap (record_rests f) is, each (same_object (flow_of f) o) refl, change.0 (flow s.tables.here f)))
+    where
+      new_one : (f : Flow) → record_moves s.tables.here f (Some made) + record_rests f None ≡ record_moves s.tables.here f None + record_rests f (Some made)
+      new_one f = by_flows (λ f. record_moves s.tables.here f (Some made) + record_rests f None ≡ record_moves s.tables.here f None + record_rests f (Some made)) (λ x t. refl)
+          (λ x j. let k : one_if (j == s.tables.here) ≡ one_if (s.tables.here == j) = ap one_if (eq_turned j s.tables.here) in omega (arith, k)) f
+
+      each : (b : Bool) → same_object (flow_of f) o ≡ b
+          → record_moves s.tables.here f (cond b (Some made) (find_record (flow_of f) s.tables.records)) + record_rests f (find_record (flow_of f) s.tables.records)
+          ≡ record_moves s.tables.here f (find_record (flow_of f) s.tables.records) + record_rests f (cond b (Some made) (find_record (flow_of f) s.tables.records))
+      each true t =
+          let none : find_record (flow_of f) s.tables.records ≡ None = ap (λ (y : Id). find_record y s.tables.records) (same_object-true (flow_of f) o t) ∙ h.places.unborn o (omega arith) in
+          omega (arith, ap (record_moves s.tables.here f) none, ap (record_rests f) none, new_one f)
+      each false t = omega arith
 
   -- ---- what is seen
 
@@ -112,10 +157,13 @@ module _ (r : Rules) (s : Turn) (entries : List Entry) (h : IsSound r s entries)
     );
     tidy = tidy;
     places = places_now;
-    commits = more_commits s.tables.objects s.tables.running (bearer ∷ rest ++ s.tables.pending) new refl (work_commits s w bearer rest works refl h.commits);
+    commits = more_commits s.tables.objects s.tables.running (bearer ∷ rest ++ s.tables.pending) new tt (work_commits s w bearer rest works refl h.commits);
     numbered = numbered_so r s now e (Working w ∷ []) (Working bearer ∷ StandsHere new ∷ []) change.0 (omega arith) (λ n. omega arith);
-    pays = pays_so r s now e (Working w ∷ []) (Working bearer ∷ StandsHere new ∷ []) change.0 (by_rows _ refl refl refl refl refl refl refl (λ o. refl)) (omega arith) (omega arith) (λ o. omega arith);
+    pays = pays_so r s now e (Working w ∷ []) (Working bearer ∷ StandsHere new ∷ []) change.0 (by_rows _ (λ at. refl) (λ at. refl) (λ at. refl) (λ at. refl) (λ at. refl) (λ at. refl) (λ at. refl) (λ at. refl) (λ at. refl) (λ at. refl) (λ at. refl) (λ o at. refl) (λ o to at. refl) (λ o to at. refl) (λ o to at. refl) (λ o at. refl)) (omega arith) (omega arith) (λ o. omega arith);
     orders = orders_so r s now e (Working w ∷ []) (Working bearer ∷ StandsHere new ∷ []) change.0 tt (λ o n. omega (arith, ap (λ ys. count_by (is_asked_for w o n) ys) lacks, ap (λ ys. count_by (is_asked_for bearer o n) ys) lacks)) (λ j d o n. omega arith);
+    says = record { placed = placed_now; told = λ x j. omega (arith, change.0 (tells_come x j)); own = λ q. omega (arith, change.0 (tells_own q)) };
+    flows = record { flows = flows_now; near = near_now };
+    tracks = tracks_by (λ x. 0) (λ x. 0) s now not_away refl refl (λ x. omega (arith, change.0 (grants_here x))) (λ x. inl (omega (arith, change.0 (leads_away s.tables.here x))));
     counts = counts_near s now e refl (omega arith) (omega arith) (omega arith) (omega arith) (omega arith) (λ l. refl);
   }
 

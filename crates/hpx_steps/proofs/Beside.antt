@@ -182,17 +182,17 @@ module _ (objects : List Standing) (running : List Act) (l m l' m' : List Waits)
 
 -- ---- an object comes, and one goes
 
-pub more_commits : (objects : List Standing) (running : List Act) (cs : List Waits) (x : Standing) → x.state.ids ≡ [] → HasCommits objects running cs → HasCommits (objects ++ x ∷ []) running cs
-more_commits objects running cs x none h = record {
+pub more_commits : (objects : List Standing) (running : List Act) (cs : List Waits) (x : Standing) → AllByRecursion HasRightCredit x.state.ids → HasCommits objects running cs → HasCommits (objects ++ x ∷ []) running cs
+more_commits objects running cs x right h = record {
   each = each cs h.each;
   apart = h.apart;
-  whole = all_append (IsWhole cs) objects (x ∷ []) h.whole ((λ b. subst (AllByRecursion HasRightCredit) (sym none) tt), tt);
+  whole = all_append (IsWhole cs) objects (x ∷ []) h.whole ((λ b. right), tt);
   lent = λ o managed. omega (
     arith,
     h.lent o managed,
     sum_by-append (λ (y : Standing). bare_names o y.state.ids) objects (x ∷ []),
     sum_by-cons (λ (y : Standing). bare_names o y.state.ids) x [],
-    ap (bare_names o) none,
+    no_bare o managed x.state.ids right,
   );
 }
   where

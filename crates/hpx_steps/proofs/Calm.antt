@@ -1,9 +1,9 @@
 -- What many entries have in common.
-use Rattle.hpx_steps.proofs.Common.{Act, Standing, Actions, AreNumbered, Bool, Event, Id, IsOwn, Item, List, Local, Parcel, Row, Rules, SameTokens, SendsOwn, Tables, Turn, View, ap, arith, arrives_at, asked_by, asks_for, asks_under, causes, come, cond, count_by, counts_of, done_after, fires_one, freeing, given_to, gives_for, goes, gone, gone_to, hopping, joined, joins, length, outs_by, own, parcel_asks, parcel_frees, same_object, spends, subst, sym, tokens, unpaid, view, waits_for, weigh, wrote, ℕ, ◌+◌, ◌∙◌, ◌≡◌, ◌≢◌, ◌≤◌, SameSums, Travel, parcel_travels, sum_by}
+use Rattle.hpx_steps.proofs.Common.{IsRowAt, Act, Standing, starts, AreNumbered, Bool, Event, Id, IsOwn, Item, List, Local, Parcel, Row, Rules, SameTokens, SendsOwn, Tables, Turn, View, ap, arith, arrives_at, asked_by, asks_for, asks_under, causes, come, cond, count_by, counts_of, done_after, fires_one, freeing, given_to, gives_for, goes, gone, gone_to, hopping, joined, joins, length, outs_by, own, parcel_asks, parcel_frees, same_object, spends, subst, sym, tokens, unpaid, view, waits_for, weigh, wrote, ℕ, ◌+◌, ◌∙◌, ◌≡◌, ◌≢◌, ◌≤◌, SameSums, Travel, parcel_travels, sum_by, grants_gone, grants_here, away_here, leads_away, leads_on, tells_at, tells_come, Flow, Some, flow, flow_comes, flow_goes, tells_own, is_landed_of, one_if}
 use Rattle.hpx_steps.proofs.Changes.{Sums, total}
 use Rattle.hpx_steps.proofs.Seen.{Sees, as_seen}
 use Rattle.hpx_steps.proofs.Sums.{acted, acting, by_own, by_parcel, own_sum, seen_sum, stands_of, view_fired, view_objects, wait_sum}
-use Rattle.hpx_steps.proofs.Then.{Counts, Keeps, Orders, Pays, comes_to_free, fewer, frees_now}
+use Rattle.hpx_steps.proofs.Then.{Counts, Keeps, Orders, Pays, comes_to_free, fewer, frees_now, Tracks, same_tracks, Says, same_says, Flows, same_flows}
 
 -- an entry that tells of the same thing under another name
 pub told_as : {X : Type 0} (r : Rules) (s s' : Turn) (e : X → Event) (t : X → Turn) (x y : X) → x ≡ y → s' ≡ wrote (e x) (t x) → Keeps r s (wrote (e y) (t y)) (e y) → Keeps r s s' (e x)
@@ -27,8 +27,8 @@ counts_near s s' e near born few asked sent taken done = grind arith
 -- ---- what goes and what comes pays, and keeps the order
 
 module _ (r : Rules) (s s' : Turn) (e : Event) (out into : List Item) (sums : Sums out into s s') where
-  pub pays_so : ((row : Row) → goes r row e + total (unpaid row) into ≡ total (unpaid row) out + causes r row e)
-      → spends r e + total hopping into ≤ total hopping out + causes r Actions e → joins e + total joined out ≤ fires_one e + total joined into
+  pub pays_so : ((row : Row) → IsRowAt s.tables.localities s.tables.here row → goes r row e + total (unpaid row) into ≡ total (unpaid row) out + causes r row e)
+      → spends r e + total hopping into ≤ total hopping out + starts r e → joins e + total joined out ≤ fires_one e + total joined into
       → ((o : Id) → comes_to_free r o e + total (freeing o) out ≤ frees_now o e + total (freeing o) into) → Pays r s s' e
   pays_so rows once fired frees = grind arith
 
@@ -42,6 +42,21 @@ module _ (r : Rules) (s s' : Turn) (e : Event) (out into : List Item) (sums : Su
     asked = λ o n. omega (arith, sums (asked_by s.tables.here o n), sums (waits_for o n), asked o n);
     given = λ j d o n. omega (arith, sums (given_to j o n), given j d o n);
   }
+
+  pub tracks_so : ((o : Id) → away_here s'.tables o ≡ away_here s.tables o) → s'.tables.queued ≡ s.tables.queued → s'.tables.stray ≡ s.tables.stray
+      → ((o : Id) → total (grants_here o) out ≤ grants_gone r o e + total (grants_here o) into)
+      → ((o : Id) → gone r (leads_on s.tables.here o) e + total (leads_away s.tables.here o) into ≤ total (leads_away s.tables.here o) out) → Tracks (λ o. grants_gone r o e) (λ o. gone r (leads_on s.tables.here o) e) s s'
+  tracks_so same queued stray kept frees = same_tracks (λ o. grants_gone r o e) (λ o. gone r (leads_on s.tables.here o) e) s s' same queued stray (λ o. omega (arith, sums (grants_here o), kept o))
+      (λ o. omega (arith, sums (leads_away s.tables.here o), frees o))
+
+  pub says_so : s'.tables.records ≡ s.tables.records → ((o : Id) (j : ℕ) → total (tells_come o j) into ≤ total (tells_come o j) out + come r (tells_at o j) e)
+      → ((o : Id) → total (tells_own o) into ≤ total (tells_own o) out + one_if (is_landed_of o e)) → Says (λ o j. come r (tells_at o j) e) (λ o. one_if (is_landed_of o e)) s s'
+  says_so records told own = same_says (λ o j. come r (tells_at o j) e) (λ o. one_if (is_landed_of o e)) s s' records (λ o j. omega (arith, sums (tells_come o j), told o j))
+      (λ o. omega (arith, sums (tells_own o), own o))
+
+  pub flows_so : s'.tables.records ≡ s.tables.records
+      → ((f : Flow) → flow_comes r s.tables.here f e + total (flow s.tables.here f) out ≡ total (flow s.tables.here f) into + flow_goes r s.tables.here f e) → Flows r (Some e) s s'
+  flows_so records same = same_flows r (Some e) s s' records (λ f own. omega (arith, sums (flow s.tables.here f), same f))
 
   pub numbered_so : s.tables.asked ≤ s'.tables.asked → ((n : ℕ) → total (asks_under n) into ≤ total (asks_under n) out) → AreNumbered s → AreNumbered s'
   numbered_so asked less = fewer s s' asked (λ n. omega (arith, sums (asks_under n), less n))

@@ -1,6 +1,7 @@
 -- The primitive changes of a turn: what all weights are then, and what is there that was not there before.
-use Rattle.hpx_steps.proofs.Common.{Accepted, Act, Brought, Leaving, Name, Queued, Stray, Waiting, AllByRecursion, Among, Bool, Came, Due, Going, Has, HasInHand, Holds, Id, IsDue, Item, List, Loose, Mailed, OnDesk, Outgoing, Parcel, Pending, Running, Some, Standing, StandsHere, Turn, Waits, Working, [], ap, arith, cond, drops, false, going, inl, inr, is_other, mails_if, map, may_stay, not, parcel_for, posts, refl, remove, sent_as, set, slice_get, some_same, subst, suc, sum_by, sum_by-append, sum_by-cons, target_of, true, weigh, zero, ℕ, ◌++◌, ◌+◌, ◌∷◌, ◌≡◌, ◌⊎◌}
+use Rattle.hpx_steps.proofs.Common.{Arrival, Untold, ◌∙◌, Accept, Begin, Go, Queue, Tables, To, Way, accepts, append-nil, begins, comes_home, find, goes_away, is_for, nat_le, queues, sends, waits, way, with_last, with_way, without_first, Accepted, Act, Brought, Leaving, Queued, Stray, Waiting, AllByRecursion, Among, Bool, Came, Due, Going, Has, HasInHand, Holds, Id, IsDue, Item, List, Loose, Mailed, OnDesk, Outgoing, Parcel, Pending, Running, Some, Standing, StandsHere, Turn, Waits, Working, [], ap, arith, cond, drops, false, going, inl, inr, is_other, mails_if, map, parcel_for, posts, refl, remove, sent_as, set, slice_get, some_same, subst, suc, sum_by, sum_by-append, sum_by-cons, target_of, true, weigh, zero, ℕ, ◌++◌, ◌+◌, ◌∷◌, ◌≡◌, ◌⊎◌}
 use Rattle.hpx_steps.proofs.Sums.{less_sum, set_sum}
+use Rattle.hpx_steps.proofs.ByRows.{if_so}
 
 -- ---- what is among others
 
@@ -25,6 +26,10 @@ pub among_at : {X : Type 0} (xs : List X) (i : ℕ) (x : X) → slice_get xs i �
 among_at [] i x h = cc
 among_at (y ∷ ys) zero x h = inl (some_same y x h)
 among_at (y ∷ ys) (suc i) x h = inr (among_at ys i x h)
+
+pub found_among : {X : Type 0} (p : X → Bool) (xs : List X) (x : X) → find p xs ≡ Some x → Among x xs
+found_among p [] x h = cc
+found_among p (y ∷ ys) x h = if_so (p y) (λ t. inl (some_same y x (rw t at h))) (λ t. inr (found_among p ys x (rw t at h)))
 
 pub among_left : {X : Type 0} (x : X) (xs ys : List X) → Among x xs → Among x (xs ++ ys)
 among_left x [] ys m = absurd m
@@ -105,6 +110,9 @@ module _ {X : Type 0} (c : X → Item) where
   pub first_goes : (xs : List X) (x : X) (rest : List X) → xs ≡ x ∷ rest → Trade c (c x ∷ []) [] xs rest
   first_goes xs x rest is = record { sums = λ w. omega (arith, ap (sum_by (λ y. w (c y))) is, sum_by-cons (λ y. w (c y)) x rest); there = λ y m. inl (rw is (inr m)) }
 
+  pub none_trade : (xs : List X) → Trade c [] [] xs xs
+  none_trade xs = record { sums = λ w. refl; there = λ x m. inl m }
+
   pub first_comes : (xs : List X) (x : X) → Trade c [] (c x ∷ []) xs (x ∷ xs)
   first_comes xs x = record { sums = λ w. omega (arith, sum_by-cons (λ y. w (c y)) x xs); there = comes }
     where
@@ -159,68 +167,73 @@ comes_by : (into : List Item) (s s' : Turn)
     → MayCome Stray into s.tables.stray s'.tables.stray → MayCome Brought into s.tables.came s'.tables.came → MayCome Accepted into s.tables.accepted s'.tables.accepted
     → MayCome Running into s.tables.running s'.tables.running → MayCome Pending into s.tables.pending s'.tables.pending → MayCome Working into s.working s'.working
     → MayCome StandsHere into s.tables.objects s'.tables.objects → MayCome IsDue into s.due s'.due → MayCome Loose into s.loose s'.loose
+    → MayCome Untold into s.untold s'.untold
     → Comes into s s'
-comes_by into s s' a b c d e f g h i j k l n o p (Came x) m = a x m
-comes_by into s s' a b c d e f g h i j k l n o p (Mailed x) m = b x m
-comes_by into s s' a b c d e f g h i j k l n o p (OnDesk x) m = c x m
-comes_by into s s' a b c d e f g h i j k l n o p (Going x) m = d x m
-comes_by into s s' a b c d e f g h i j k l n o p (Queued x) m = e x m
-comes_by into s s' a b c d e f g h i j k l n o p (Leaving x) m = f x m
-comes_by into s s' a b c d e f g h i j k l n o p (Stray x) m = g x m
-comes_by into s s' a b c d e f g h i j k l n o p (Brought x) m = h x m
-comes_by into s s' a b c d e f g h i j k l n o p (Accepted x) m = i x m
-comes_by into s s' a b c d e f g h i j k l n o p (Running x) m = j x m
-comes_by into s s' a b c d e f g h i j k l n o p (Pending x) m = k x m
-comes_by into s s' a b c d e f g h i j k l n o p (Working x) m = l x m
-comes_by into s s' a b c d e f g h i j k l n o p (StandsHere x) m = n x m
-comes_by into s s' a b c d e f g h i j k l n o p (IsDue x) m = o x m
-comes_by into s s' a b c d e f g h i j k l n o p (Loose x) m = p x m
+comes_by into s s' a b c d e f g h i j k l n o p q (Came x) m = a x m
+comes_by into s s' a b c d e f g h i j k l n o p q (Mailed x) m = b x m
+comes_by into s s' a b c d e f g h i j k l n o p q (OnDesk x) m = c x m
+comes_by into s s' a b c d e f g h i j k l n o p q (Going x) m = d x m
+comes_by into s s' a b c d e f g h i j k l n o p q (Queued x) m = e x m
+comes_by into s s' a b c d e f g h i j k l n o p q (Leaving x) m = f x m
+comes_by into s s' a b c d e f g h i j k l n o p q (Stray x) m = g x m
+comes_by into s s' a b c d e f g h i j k l n o p q (Brought x) m = h x m
+comes_by into s s' a b c d e f g h i j k l n o p q (Accepted x) m = i x m
+comes_by into s s' a b c d e f g h i j k l n o p q (Running x) m = j x m
+comes_by into s s' a b c d e f g h i j k l n o p q (Pending x) m = k x m
+comes_by into s s' a b c d e f g h i j k l n o p q (Working x) m = l x m
+comes_by into s s' a b c d e f g h i j k l n o p q (StandsHere x) m = n x m
+comes_by into s s' a b c d e f g h i j k l n o p q (IsDue x) m = o x m
+comes_by into s s' a b c d e f g h i j k l n o p q (Loose x) m = p x m
+comes_by into s s' a b c d e f g h i j k l n o p q (Untold x) m = q x m
 
 module _ (out into : List Item) (s : Turn) where
   pub came_change : (ys : List Parcel) → Trade Came out into s.came ys → Changes out into s (record s { came = ys })
-  came_change ys k = (λ w. omega (arith, k.sums w), comes_by into s (record s { came = ys }) k.there (λ x m. inl m) (λ x m. inl m) (λ x m. inl m) (λ x m. inl m) (λ x m. inl m) (λ x m. inl m) (λ x m. inl m) (λ x m. inl m) (λ x m. inl m) (λ x m. inl m) (λ x m. inl m) (λ x m. inl m) (λ x m. inl m) (λ x m. inl m))
+  came_change ys k = (λ w. omega (arith, k.sums w), comes_by into s (record s { came = ys }) k.there (λ x m. inl m) (λ x m. inl m) (λ x m. inl m) (λ x m. inl m) (λ x m. inl m) (λ x m. inl m) (λ x m. inl m) (λ x m. inl m) (λ x m. inl m) (λ x m. inl m) (λ x m. inl m) (λ x m. inl m) (λ x m. inl m) (λ x m. inl m) (λ x m. inl m))
 
   pub mailed_change : (ys : List Parcel) → Trade Mailed out into s.mailed ys → Changes out into s (record s { mailed = ys })
-  mailed_change ys k = (λ w. omega (arith, k.sums w), comes_by into s (record s { mailed = ys }) (λ x m. inl m) k.there (λ x m. inl m) (λ x m. inl m) (λ x m. inl m) (λ x m. inl m) (λ x m. inl m) (λ x m. inl m) (λ x m. inl m) (λ x m. inl m) (λ x m. inl m) (λ x m. inl m) (λ x m. inl m) (λ x m. inl m) (λ x m. inl m))
+  mailed_change ys k = (λ w. omega (arith, k.sums w), comes_by into s (record s { mailed = ys }) (λ x m. inl m) k.there (λ x m. inl m) (λ x m. inl m) (λ x m. inl m) (λ x m. inl m) (λ x m. inl m) (λ x m. inl m) (λ x m. inl m) (λ x m. inl m) (λ x m. inl m) (λ x m. inl m) (λ x m. inl m) (λ x m. inl m) (λ x m. inl m) (λ x m. inl m))
 
   pub desk_change : (ys : List Parcel) → Trade OnDesk out into s.tables.desk ys → Changes out into s (record s { tables = record s.tables { desk = ys } })
-  desk_change ys k = (λ w. omega (arith, k.sums w), comes_by into s (record s { tables = record s.tables { desk = ys } }) (λ x m. inl m) (λ x m. inl m) k.there (λ x m. inl m) (λ x m. inl m) (λ x m. inl m) (λ x m. inl m) (λ x m. inl m) (λ x m. inl m) (λ x m. inl m) (λ x m. inl m) (λ x m. inl m) (λ x m. inl m) (λ x m. inl m) (λ x m. inl m))
+  desk_change ys k = (λ w. omega (arith, k.sums w), comes_by into s (record s { tables = record s.tables { desk = ys } }) (λ x m. inl m) (λ x m. inl m) k.there (λ x m. inl m) (λ x m. inl m) (λ x m. inl m) (λ x m. inl m) (λ x m. inl m) (λ x m. inl m) (λ x m. inl m) (λ x m. inl m) (λ x m. inl m) (λ x m. inl m) (λ x m. inl m) (λ x m. inl m) (λ x m. inl m))
 
   pub outgoing_change : (ys : List Outgoing) → Trade Going out into s.tables.outgoing ys → Changes out into s (record s { tables = record s.tables { outgoing = ys } })
-  outgoing_change ys k = (λ w. omega (arith, k.sums w), comes_by into s (record s { tables = record s.tables { outgoing = ys } }) (λ x m. inl m) (λ x m. inl m) (λ x m. inl m) k.there (λ x m. inl m) (λ x m. inl m) (λ x m. inl m) (λ x m. inl m) (λ x m. inl m) (λ x m. inl m) (λ x m. inl m) (λ x m. inl m) (λ x m. inl m) (λ x m. inl m) (λ x m. inl m))
+  outgoing_change ys k = (λ w. omega (arith, k.sums w), comes_by into s (record s { tables = record s.tables { outgoing = ys } }) (λ x m. inl m) (λ x m. inl m) (λ x m. inl m) k.there (λ x m. inl m) (λ x m. inl m) (λ x m. inl m) (λ x m. inl m) (λ x m. inl m) (λ x m. inl m) (λ x m. inl m) (λ x m. inl m) (λ x m. inl m) (λ x m. inl m) (λ x m. inl m) (λ x m. inl m))
 
   pub queued_change : (ys : List (Waiting Parcel)) → Trade Queued out into s.tables.queued ys → Changes out into s (record s { tables = record s.tables { queued = ys } })
-  queued_change ys k = (λ w. omega (arith, k.sums w), comes_by into s (record s { tables = record s.tables { queued = ys } }) (λ x m. inl m) (λ x m. inl m) (λ x m. inl m) (λ x m. inl m) k.there (λ x m. inl m) (λ x m. inl m) (λ x m. inl m) (λ x m. inl m) (λ x m. inl m) (λ x m. inl m) (λ x m. inl m) (λ x m. inl m) (λ x m. inl m) (λ x m. inl m))
+  queued_change ys k = (λ w. omega (arith, k.sums w), comes_by into s (record s { tables = record s.tables { queued = ys } }) (λ x m. inl m) (λ x m. inl m) (λ x m. inl m) (λ x m. inl m) k.there (λ x m. inl m) (λ x m. inl m) (λ x m. inl m) (λ x m. inl m) (λ x m. inl m) (λ x m. inl m) (λ x m. inl m) (λ x m. inl m) (λ x m. inl m) (λ x m. inl m) (λ x m. inl m))
 
   pub leaving_change : (ys : List Parcel) → Trade Leaving out into s.tables.leaving ys → Changes out into s (record s { tables = record s.tables { leaving = ys } })
-  leaving_change ys k = (λ w. omega (arith, k.sums w), comes_by into s (record s { tables = record s.tables { leaving = ys } }) (λ x m. inl m) (λ x m. inl m) (λ x m. inl m) (λ x m. inl m) (λ x m. inl m) k.there (λ x m. inl m) (λ x m. inl m) (λ x m. inl m) (λ x m. inl m) (λ x m. inl m) (λ x m. inl m) (λ x m. inl m) (λ x m. inl m) (λ x m. inl m))
+  leaving_change ys k = (λ w. omega (arith, k.sums w), comes_by into s (record s { tables = record s.tables { leaving = ys } }) (λ x m. inl m) (λ x m. inl m) (λ x m. inl m) (λ x m. inl m) (λ x m. inl m) k.there (λ x m. inl m) (λ x m. inl m) (λ x m. inl m) (λ x m. inl m) (λ x m. inl m) (λ x m. inl m) (λ x m. inl m) (λ x m. inl m) (λ x m. inl m) (λ x m. inl m))
 
   pub stray_change : (ys : List Parcel) → Trade Stray out into s.tables.stray ys → Changes out into s (record s { tables = record s.tables { stray = ys } })
-  stray_change ys k = (λ w. omega (arith, k.sums w), comes_by into s (record s { tables = record s.tables { stray = ys } }) (λ x m. inl m) (λ x m. inl m) (λ x m. inl m) (λ x m. inl m) (λ x m. inl m) (λ x m. inl m) k.there (λ x m. inl m) (λ x m. inl m) (λ x m. inl m) (λ x m. inl m) (λ x m. inl m) (λ x m. inl m) (λ x m. inl m) (λ x m. inl m))
+  stray_change ys k = (λ w. omega (arith, k.sums w), comes_by into s (record s { tables = record s.tables { stray = ys } }) (λ x m. inl m) (λ x m. inl m) (λ x m. inl m) (λ x m. inl m) (λ x m. inl m) (λ x m. inl m) k.there (λ x m. inl m) (λ x m. inl m) (λ x m. inl m) (λ x m. inl m) (λ x m. inl m) (λ x m. inl m) (λ x m. inl m) (λ x m. inl m) (λ x m. inl m))
 
-  pub brought_change : (ys : List Name) → Trade Brought out into s.tables.came ys → Changes out into s (record s { tables = record s.tables { came = ys } })
-  brought_change ys k = (λ w. omega (arith, k.sums w), comes_by into s (record s { tables = record s.tables { came = ys } }) (λ x m. inl m) (λ x m. inl m) (λ x m. inl m) (λ x m. inl m) (λ x m. inl m) (λ x m. inl m) (λ x m. inl m) k.there (λ x m. inl m) (λ x m. inl m) (λ x m. inl m) (λ x m. inl m) (λ x m. inl m) (λ x m. inl m) (λ x m. inl m))
+  pub brought_change : (ys : List Arrival) → Trade Brought out into s.tables.came ys → Changes out into s (record s { tables = record s.tables { came = ys } })
+  brought_change ys k = (λ w. omega (arith, k.sums w), comes_by into s (record s { tables = record s.tables { came = ys } }) (λ x m. inl m) (λ x m. inl m) (λ x m. inl m) (λ x m. inl m) (λ x m. inl m) (λ x m. inl m) (λ x m. inl m) k.there (λ x m. inl m) (λ x m. inl m) (λ x m. inl m) (λ x m. inl m) (λ x m. inl m) (λ x m. inl m) (λ x m. inl m) (λ x m. inl m))
 
   pub accepted_change : (ys : List Act) → Trade Accepted out into s.tables.accepted ys → Changes out into s (record s { tables = record s.tables { accepted = ys } })
-  accepted_change ys k = (λ w. omega (arith, k.sums w), comes_by into s (record s { tables = record s.tables { accepted = ys } }) (λ x m. inl m) (λ x m. inl m) (λ x m. inl m) (λ x m. inl m) (λ x m. inl m) (λ x m. inl m) (λ x m. inl m) (λ x m. inl m) k.there (λ x m. inl m) (λ x m. inl m) (λ x m. inl m) (λ x m. inl m) (λ x m. inl m) (λ x m. inl m))
+  accepted_change ys k = (λ w. omega (arith, k.sums w), comes_by into s (record s { tables = record s.tables { accepted = ys } }) (λ x m. inl m) (λ x m. inl m) (λ x m. inl m) (λ x m. inl m) (λ x m. inl m) (λ x m. inl m) (λ x m. inl m) (λ x m. inl m) k.there (λ x m. inl m) (λ x m. inl m) (λ x m. inl m) (λ x m. inl m) (λ x m. inl m) (λ x m. inl m) (λ x m. inl m))
 
   pub running_change : (ys : List Act) → Trade Running out into s.tables.running ys → Changes out into s (record s { tables = record s.tables { running = ys } })
-  running_change ys k = (λ w. omega (arith, k.sums w), comes_by into s (record s { tables = record s.tables { running = ys } }) (λ x m. inl m) (λ x m. inl m) (λ x m. inl m) (λ x m. inl m) (λ x m. inl m) (λ x m. inl m) (λ x m. inl m) (λ x m. inl m) (λ x m. inl m) k.there (λ x m. inl m) (λ x m. inl m) (λ x m. inl m) (λ x m. inl m) (λ x m. inl m))
+  running_change ys k = (λ w. omega (arith, k.sums w), comes_by into s (record s { tables = record s.tables { running = ys } }) (λ x m. inl m) (λ x m. inl m) (λ x m. inl m) (λ x m. inl m) (λ x m. inl m) (λ x m. inl m) (λ x m. inl m) (λ x m. inl m) (λ x m. inl m) k.there (λ x m. inl m) (λ x m. inl m) (λ x m. inl m) (λ x m. inl m) (λ x m. inl m) (λ x m. inl m))
 
   pub pending_change : (ys : List Waits) → Trade Pending out into s.tables.pending ys → Changes out into s (record s { tables = record s.tables { pending = ys } })
-  pending_change ys k = (λ w. omega (arith, k.sums w), comes_by into s (record s { tables = record s.tables { pending = ys } }) (λ x m. inl m) (λ x m. inl m) (λ x m. inl m) (λ x m. inl m) (λ x m. inl m) (λ x m. inl m) (λ x m. inl m) (λ x m. inl m) (λ x m. inl m) (λ x m. inl m) k.there (λ x m. inl m) (λ x m. inl m) (λ x m. inl m) (λ x m. inl m))
+  pending_change ys k = (λ w. omega (arith, k.sums w), comes_by into s (record s { tables = record s.tables { pending = ys } }) (λ x m. inl m) (λ x m. inl m) (λ x m. inl m) (λ x m. inl m) (λ x m. inl m) (λ x m. inl m) (λ x m. inl m) (λ x m. inl m) (λ x m. inl m) (λ x m. inl m) k.there (λ x m. inl m) (λ x m. inl m) (λ x m. inl m) (λ x m. inl m) (λ x m. inl m))
 
   pub working_change : (ys : List Waits) → Trade Working out into s.working ys → Changes out into s (record s { working = ys })
-  working_change ys k = (λ w. omega (arith, k.sums w), comes_by into s (record s { working = ys }) (λ x m. inl m) (λ x m. inl m) (λ x m. inl m) (λ x m. inl m) (λ x m. inl m) (λ x m. inl m) (λ x m. inl m) (λ x m. inl m) (λ x m. inl m) (λ x m. inl m) (λ x m. inl m) k.there (λ x m. inl m) (λ x m. inl m) (λ x m. inl m))
+  working_change ys k = (λ w. omega (arith, k.sums w), comes_by into s (record s { working = ys }) (λ x m. inl m) (λ x m. inl m) (λ x m. inl m) (λ x m. inl m) (λ x m. inl m) (λ x m. inl m) (λ x m. inl m) (λ x m. inl m) (λ x m. inl m) (λ x m. inl m) (λ x m. inl m) k.there (λ x m. inl m) (λ x m. inl m) (λ x m. inl m) (λ x m. inl m))
 
   pub objects_change : (ys : List Standing) → Trade StandsHere out into s.tables.objects ys → Changes out into s (record s { tables = record s.tables { objects = ys } })
-  objects_change ys k = (λ w. omega (arith, k.sums w), comes_by into s (record s { tables = record s.tables { objects = ys } }) (λ x m. inl m) (λ x m. inl m) (λ x m. inl m) (λ x m. inl m) (λ x m. inl m) (λ x m. inl m) (λ x m. inl m) (λ x m. inl m) (λ x m. inl m) (λ x m. inl m) (λ x m. inl m) (λ x m. inl m) k.there (λ x m. inl m) (λ x m. inl m))
+  objects_change ys k = (λ w. omega (arith, k.sums w), comes_by into s (record s { tables = record s.tables { objects = ys } }) (λ x m. inl m) (λ x m. inl m) (λ x m. inl m) (λ x m. inl m) (λ x m. inl m) (λ x m. inl m) (λ x m. inl m) (λ x m. inl m) (λ x m. inl m) (λ x m. inl m) (λ x m. inl m) (λ x m. inl m) k.there (λ x m. inl m) (λ x m. inl m) (λ x m. inl m))
 
   pub due_change : (ys : List Due) → Trade IsDue out into s.due ys → Changes out into s (record s { due = ys })
-  due_change ys k = (λ w. omega (arith, k.sums w), comes_by into s (record s { due = ys }) (λ x m. inl m) (λ x m. inl m) (λ x m. inl m) (λ x m. inl m) (λ x m. inl m) (λ x m. inl m) (λ x m. inl m) (λ x m. inl m) (λ x m. inl m) (λ x m. inl m) (λ x m. inl m) (λ x m. inl m) (λ x m. inl m) k.there (λ x m. inl m))
+  due_change ys k = (λ w. omega (arith, k.sums w), comes_by into s (record s { due = ys }) (λ x m. inl m) (λ x m. inl m) (λ x m. inl m) (λ x m. inl m) (λ x m. inl m) (λ x m. inl m) (λ x m. inl m) (λ x m. inl m) (λ x m. inl m) (λ x m. inl m) (λ x m. inl m) (λ x m. inl m) (λ x m. inl m) k.there (λ x m. inl m) (λ x m. inl m))
 
   pub loose_change : (ys : List Id) → Trade Loose out into s.loose ys → Changes out into s (record s { loose = ys })
-  loose_change ys k = (λ w. omega (arith, k.sums w), comes_by into s (record s { loose = ys }) (λ x m. inl m) (λ x m. inl m) (λ x m. inl m) (λ x m. inl m) (λ x m. inl m) (λ x m. inl m) (λ x m. inl m) (λ x m. inl m) (λ x m. inl m) (λ x m. inl m) (λ x m. inl m) (λ x m. inl m) (λ x m. inl m) (λ x m. inl m) k.there)
+  loose_change ys k = (λ w. omega (arith, k.sums w), comes_by into s (record s { loose = ys }) (λ x m. inl m) (λ x m. inl m) (λ x m. inl m) (λ x m. inl m) (λ x m. inl m) (λ x m. inl m) (λ x m. inl m) (λ x m. inl m) (λ x m. inl m) (λ x m. inl m) (λ x m. inl m) (λ x m. inl m) (λ x m. inl m) (λ x m. inl m) k.there (λ x m. inl m))
+
+  pub untold_change : (ys : List Id) → Trade Untold out into s.untold ys → Changes out into s (record s { untold = ys })
+  untold_change ys k = (λ w. omega (arith, k.sums w), comes_by into s (record s { untold = ys }) (λ x m. inl m) (λ x m. inl m) (λ x m. inl m) (λ x m. inl m) (λ x m. inl m) (λ x m. inl m) (λ x m. inl m) (λ x m. inl m) (λ x m. inl m) (λ x m. inl m) (λ x m. inl m) (λ x m. inl m) (λ x m. inl m) (λ x m. inl m) (λ x m. inl m) k.there)
 
 -- ---- one more message
 
@@ -244,25 +257,99 @@ mail_change b to p s =
     all true false = refl
     all false o = refl
 
+-- ---- what waits for objects that move
+
+pub last_comes : (w : Waiting Parcel) (xs : List (Waiting Parcel)) → Trade Queued [] (Queued w ∷ []) xs (with_last w xs)
+last_comes w [] = first_comes Queued [] w
+last_comes w (x ∷ xs) = if_so (nat_le x.number w.number)
+    (λ t. let k = last_comes w xs in rw t (record {
+      sums = λ f. omega (arith, k.sums f, sum_by-cons (λ y. f (Queued y)) x (with_last w xs), sum_by-cons (λ y. f (Queued y)) x xs);
+      there = λ y m. later k.there y m;
+    }))
+    (λ t. rw t (first_comes Queued (x ∷ xs) w))
+  where
+    later : MayCome Queued (Queued w ∷ []) xs (with_last w xs) → MayCome Queued (Queued w ∷ []) (x ∷ xs) (x ∷ with_last w xs)
+    later k y (inl e) = inl (inl e)
+    later k y (inr m) = elim (k y m) [
+      | inl c ↦ inl (inr c)
+      | inr c ↦ inr c
+    ]
+
+pub first_leaves : (n : ℕ) (w : Waiting Parcel) (xs : List (Waiting Parcel)) → find (is_for n) xs ≡ Some w → Trade Queued (Queued w ∷ []) [] xs (without_first n xs)
+first_leaves n w [] h = cc
+first_leaves n w (x ∷ xs) h = if_so (is_for n x)
+    (λ t. let e : x ≡ w = some_same x w (rw t at h) in rw (t, e) (first_goes Queued (w ∷ xs) w xs refl))
+    (λ t. let k = first_leaves n w xs (rw t at h) in rw t (record {
+      sums = λ f. omega (arith, k.sums f, sum_by-cons (λ y. f (Queued y)) x (without_first n xs), sum_by-cons (λ y. f (Queued y)) x xs);
+      there = λ y m. later k.there y m;
+    }))
+  where
+    later : MayCome Queued [] xs (without_first n xs) → MayCome Queued [] (x ∷ xs) (x ∷ without_first n xs)
+    later k y (inl e) = inl (inl e)
+    later k y (inr m) = elim (k y m) [
+      | inl c ↦ inl (inr c)
+      | inr c ↦ absurd c
+    ]
+
 -- ---- one more action
 
--- what is new then: an accepted action, or a message
-abbrev pub put_as : Bool → Bool → Act → Item
-put_as stay other act = cond stay (Accepted act) (sent_as other (target_of act).home (parcel_for act))
+-- what is new then: an accepted action, one that waits, or a message
+abbrev pub put_as : Tables → Way → Act → Item
+put_as t Accept act = Accepted act
+put_as t Queue act = Queued (waits (target_of act).number (parcel_for act))
+put_as t (To to) act = sent_as (is_other t to) to (parcel_for act)
+put_as t (Begin place) act = sent_as (is_other t place) place (Go act)
 
-pub post_change : (act : Act) (s : Turn) → Changes [] (put_as (may_stay s.tables act) (is_other s.tables (target_of act).home) act ∷ []) s (posts act s)
-post_change act s =
-    let stay : Bool = may_stay s.tables act in
-    let mailed : Turn = mails_if (not stay) (target_of act).home (parcel_for act) s in
-    let kept : List Act = cond stay (act ∷ []) [] in
-    subst (λ is. Changes [] is s (posts act s)) (all stay (is_other s.tables (target_of act).home))
-    (then [] (sent_if (not stay) (is_other s.tables (target_of act).home) (target_of act).home (parcel_for act)) [] (map (λ x. Accepted x) kept) s mailed (posts act s)
-    (mail_change (not stay) (target_of act).home (parcel_for act) s)
-    (accepted_change [] (map (λ x. Accepted x) kept) mailed (s.tables.accepted ++ kept) (more_come (λ x. Accepted x) s.tables.accepted kept)))
+-- with it
+abbrev pub goes_by : Way → Act → Turn → Turn
+goes_by v act s = record s { tables = with_way v act s.tables }
+
+pub way_change : (v : Way) (act : Act) (s : Turn) → Changes [] (put_as s.tables v act ∷ []) s (goes_by v act s)
+way_change v act s =
+    let desk : List Parcel = comes_home s.tables (sends v act) in
+    let out : List Outgoing = goes_away s.tables (sends v act) in
+    let kept : List Act = accepts v act in
+    let a : Turn = record s { tables = record s.tables { desk = s.tables.desk ++ desk; records = begins v act s.tables.records } } in
+    let b : Turn = record a { tables = record a.tables { outgoing = s.tables.outgoing ++ out } } in
+    let c : Turn = record b { tables = record b.tables { accepted = s.tables.accepted ++ kept } } in
+    subst (λ is. Changes [] is s (goes_by v act s)) (all v)
+    (then [] (map (λ x. OnDesk x) desk) [] (map (λ x. Going x) out ++ (map (λ x. Accepted x) kept ++ new v)) s a (goes_by v act s)
+    (counted (map (λ x. OnDesk x) desk) (record s.tables { desk = s.tables.desk ++ desk }) (desk_change [] (map (λ x. OnDesk x) desk) s (s.tables.desk ++ desk) (more_come (λ x. OnDesk x) s.tables.desk desk)))
+    (then [] (map (λ x. Going x) out) [] (map (λ x. Accepted x) kept ++ new v) a b (goes_by v act s)
+    (outgoing_change [] (map (λ x. Going x) out) a (s.tables.outgoing ++ out) (more_come (λ x. Going x) s.tables.outgoing out))
+    (then [] (map (λ x. Accepted x) kept) [] (new v) b c (goes_by v act s)
+    (accepted_change [] (map (λ x. Accepted x) kept) b (s.tables.accepted ++ kept) (more_come (λ x. Accepted x) s.tables.accepted kept))
+    (queued_change [] (new v) c (queues v act s.tables.queued) (waits_more v)))))
   where
-    all : (stay other : Bool) → sent_if (not stay) other (target_of act).home (parcel_for act) ++ map (λ x. Accepted x) (cond stay (act ∷ []) []) ≡ put_as stay other act ∷ []
-    all true other = refl
-    all false other = refl
+    new : Way → List Item
+    new Queue = Queued (waits (target_of act).number (parcel_for act)) ∷ []
+    new Accept = []
+    new (To to) = []
+    new (Begin place) = []
+
+    waits_more : (u : Way) → Trade Queued [] (new u) s.tables.queued (queues u act s.tables.queued)
+    waits_more Queue = last_comes (waits (target_of act).number (parcel_for act)) s.tables.queued
+    waits_more Accept = none_trade Queued s.tables.queued
+    waits_more (To to) = none_trade Queued s.tables.queued
+    waits_more (Begin place) = none_trade Queued s.tables.queued
+
+    -- records weigh nothing
+    counted : (into : List Item) (t : Tables) → Changes [] into s (record s { tables = t }) → Changes [] into s (record s { tables = record t { records = begins v act s.tables.records } })
+    counted into t k = (λ w. k.0 w, λ i m. k.1 i m)
+
+    sent : (other : Bool) (to : ℕ) (p : Parcel) → map (λ x. OnDesk x) (cond other [] (p ∷ [])) ++ map (λ x. Going x) (cond other (going to p ∷ []) []) ≡ sent_as other to p ∷ []
+    sent true to p = refl
+    sent false to p = refl
+
+    all : (u : Way) → map (λ x. OnDesk x) (comes_home s.tables (sends u act)) ++ (map (λ x. Going x) (goes_away s.tables (sends u act)) ++ (map (λ x. Accepted x) (accepts u act) ++ new u))
+        ≡ put_as s.tables u act ∷ []
+    all Accept = refl
+    all Queue = refl
+    all (To to) = ap (λ is. map (λ x. OnDesk x) (cond (is_other s.tables to) [] (parcel_for act ∷ [])) ++ is) (append-nil _) ∙ sent (is_other s.tables to) to (parcel_for act)
+    all (Begin place) = ap (λ is. map (λ x. OnDesk x) (cond (is_other s.tables place) [] (Go act ∷ [])) ++ is) (append-nil _) ∙ sent (is_other s.tables place) place (Go act)
+
+pub post_change : (act : Act) (s : Turn) → Changes [] (put_as s.tables (way s.tables act) act ∷ []) s (posts act s)
+post_change act s = way_change (way s.tables act) act s
 
 -- ---- the message in hand
 

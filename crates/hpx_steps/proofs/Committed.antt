@@ -1,11 +1,11 @@
 -- A commit in work is done, or fails: its objects are made, its ids are halved, it ends, what is due is sent, and what nobody names is given up.
-use Rattle.hpx_steps.proofs.Common.{Act, AllByRecursion, AreMade, AreWithin, Birth, Bool, Commits, Deals, Done, Due, Ends, Entry, Event, HasCredit, HasRightCredit, Id, IsBirth, IsFitDue, IsKept, IsLeftBy, Job, Lasts, List, Merge, MessageDue, None, Option, PrintDue, Remains, Return, Rules, Some, Standing, Stands, StandsHere, State, Step, Stock, Suspend, Tables, Turn, Up, Waits, Writes, [], all_at, all_set, answered_by, ap, append-nil, append_assoc, arith, at_all, at_rest, bare, bare_act, bare_standing, bare_state, birth_of, births_of, cond, due_with, ends, false, find, find_passes, get_before, hand_ids, id_at, ids_named, ids_of, is_some, is_standing, length, length-map, mails, map, may_merge, merged_in, name_of, named, named_act, objects_of, plain, records_of, refl, remove, rider_event, rider_events, rider_of, rules_of, set, slice_get, splits_from, state_after, subst, suc, sym, target_of, true, ups, waits_with, with_act, with_credit, with_done, with_due, with_left, with_mail, with_rider, with_riders, written_due, wrote, zero, ℕ, ◌++◌, ◌+◌, ◌<◌, ◌∙◌, ◌∷◌, ◌≡◌, ◌≤◌}
+use Rattle.hpx_steps.proofs.Common.{Arrival, with_returns, Arrived, AreOf, Label, MatchOption, Note, Steps, Suspend, Writes, inl, inr, mails, slice_get, up_of, ups, with_done_told, with_told, written, wrote, ◌⊎◌, Act, AllByRecursion, AreMade, AreWithin, Birth, Bool, Commits, Deals, Done, Due, Ends, Entry, Event, HasCredit, HasRightCredit, Id, IsBirth, IsFitDue, IsKept, IsLeftBy, Job, Lasts, List, Merge, MessageDue, None, Option, PrintDue, Remains, Return, Rules, Some, Standing, Stands, StandsHere, State, Step, Stock, Tables, Turn, Up, Waits, [], all_at, all_set, answered_by, ap, append-nil, append_assoc, arith, at_all, at_rest, bare, bare_act, bare_standing, bare_state, birth_of, births_of, cond, due_with, ends, false, find, find_passes, get_before, hand_ids, id_at, ids_named, ids_of, is_some, is_standing, length, length-map, map, may_merge, merged_in, name_of, named, named_act, objects_of, plain, records_of, refl, remove, rider_event, rider_events, rider_of, rules_of, set, splits_from, state_after, subst, suc, sym, target_of, true, waits_with, with_act, with_credit, with_due, with_left, with_mail, with_rider, with_riders, written_due, zero, ℕ, ◌++◌, ◌+◌, ◌<◌, ◌∙◌, ◌∷◌, ◌≡◌, ◌≤◌}
 use Rattle.hpx_steps.proofs.Tools.{all_among, find_more, get_set, right_log, single_found, single_set, some_log}
 use Rattle.hpx_value.specs.Riders.{rider_at, rider_place}
 use Rattle.hpx_value.specs.Values.{message_of}
 use Rattle.hpx_value.specs.declared.outcome.Outcome.{Outcome}
 use Rattle.hpx_steps.proofs.Made.{Drawn, made_so}
-use Rattle.hpx_steps.proofs.Handled.{Writing, due_steps, let_go, ups_steps, with_loose, writes_append, written_events}
+use Rattle.hpx_steps.proofs.Handled.{Writing, steps_append, written_append, due_steps, let_go, ups_steps, with_loose, writes_append, written_events}
 use Rattle.hpx_steps.proofs.TurnOf.{turn_stands}
 use Rattle.hpx_steps.proofs.Work.{births_steps, halved_from, splits_steps, with_births, with_hand}
 
@@ -55,7 +55,7 @@ rider_steps r s j x id rest (Some log) due fresh stands has = each (may_merge s.
     each false may =
         let now : Turn = wrote (Up (bare id) log) (mails id.home (Return id) (record s { loose = rest })) in (
           Some (Up (bare id) log),
-          (now, record { calm = record { due = due; fresh = fresh }; id = id; rest = rest; first = refl; object = refl; has = has; now = refl }, refl),
+          (now, inl (record { calm = record { due = due; fresh = fresh }; id = id; rest = rest; first = refl; object = refl; has = has; now = refl }), refl),
         )
 
 -- that of an action, if it has one
@@ -66,32 +66,59 @@ riders_steps r s j x ids rest None due fresh stands = (s.last, refl)
 riders_steps r s j x ids rest (Some p) due fresh stands = rider_steps r s j x (id_at ids (suc p)) rest (id_at ids (suc p)).log due fresh stands refl
 
 -- what is due changes no object
-pub due_rest : (due : List Due) (t : Tables) → with_due due t ≡ record t { serial = (with_due due t).serial; accepted = (with_due due t).accepted; desk = (with_due due t).desk; outgoing = (with_due due t).outgoing }
+pub due_rest : (due : List Due) (t : Tables) → with_due due t ≡ record t { serial = (with_due due t).serial; accepted = (with_due due t).accepted; desk = (with_due due t).desk; outgoing = (with_due due t).outgoing; queued = (with_due due t).queued; records = (with_due due t).records }
 due_rest [] t = refl
 due_rest (MessageDue m ∷ due) t = due_rest due (with_act (named_act t.here (t.serial + 1) m) (record t { serial = t.serial + 1 }))
 due_rest (PrintDue bytes ∷ due) t = due_rest due t
 
+-- ids are given up, the first of which tell the homes of objects
+told_steps : (r : Rules) (s : Turn) (told ids : List Id) → s.due ≡ [] → s.fresh ≡ [] → AllByRecursion HasCredit ids → AreOf told ids
+    → (l : Option Event) × Writing r (record s { loose = ids; untold = told }) (ups ids) (record s { loose = []; untold = []; tables = with_told told ids s.tables; last = l })
+told_steps r s [] ids due fresh credit of =
+    let k = ups_steps r (record s { untold = [] }) ids due fresh in
+    (k.0, subst (λ is. Writing r (record s { loose = is; untold = [] }) (ups ids) (record s { loose = []; untold = []; tables = with_returns ids s.tables; last = k.0 })) (with_all ids credit) k.1)
+told_steps r s (o ∷ told) [] due fresh credit of = absurd of
+told_steps r s (o ∷ told) (id ∷ ids) due fresh credit of =
+    each id.log refl credit.0 (λ t e. told_steps r (record s { tables = t; last = e }) told ids due fresh credit.1 of.1)
+  where
+    each : (lg : Option ℕ) → id.log ≡ lg → MatchOption lg ⊥ (λ x. 16 ≤ id.kind)
+        → ((t : Tables) (e : Option Event) → (l : Option Event) × Writing r (record s { loose = ids; untold = told; tables = t; last = e }) (ups ids) (record s { loose = []; untold = []; tables = with_told told ids t; last = l }))
+        → (l : Option Event) × Writing r (record s { loose = id ∷ ids; untold = o ∷ told }) (up_of id lg ++ ups ids)
+        (record s { loose = []; untold = []; tables = with_told told ids (with_mail id.home (Arrived id s.tables.here) s.tables); last = l })
+    each None is k rest = absurd k
+    each (Some log) is k rest =
+        let now : Turn = wrote (Up (bare id) log) (mails id.home (Arrived id s.tables.here) (record s { loose = ids; untold = told })) in
+        let more = rest (with_mail id.home (Arrived id s.tables.here) s.tables) (Some (Up (bare id) log)) in (
+          more.0,
+          (
+            now,
+            inr (record { calm = record { due = due; fresh = fresh }; id = id; rest = ids; more = told; first = refl; object = refl; has = is; untold = ap (λ y. y ∷ told) of.0; now = refl }),
+            more.1,
+          ),
+        )
+
 -- what an action left is sent, its rider is merged or given up, and the rest is given up
-pub left_steps : (r : Rules) (s : Turn) (act : Act) (j : ℕ) (x : Standing) (due : List Due) (loose : List Id) → s.fresh ≡ [] → AllByRecursion HasCredit loose → slice_get s.tables.objects j ≡ Some x
+pub left_steps : (r : Rules) (s : Turn) (act : Act) (j : ℕ) (x : Standing) (due : List Due) (loose : List Id) → s.fresh ≡ [] → AllByRecursion HasCredit loose → AreOf s.untold loose
+    → slice_get s.tables.objects j ≡ Some x
     → (l : Option Event) × Writing r (record s { due = due; loose = with_credit (rider_of act) ++ loose })
     (written_due s.tables.here s.tables.serial due ++ (rider_events s.tables.profile.credit_log x.state.ids (rider_of act) ++ ups loose))
-    (record s { due = []; loose = []; tables = with_done j x due (rider_of act) loose s.tables; last = l })
-left_steps r s act j x due loose fresh credit stands =
+    (record s { due = []; loose = []; untold = []; tables = with_done_told s.untold j x due (rider_of act) loose s.tables; last = l })
+left_steps r s act j x due loose fresh credit of stands =
     let all : List Id = with_credit (rider_of act) ++ loose in
     let one = due_steps r (record s { loose = all }) due fresh in
     let m : Turn = record s { due = []; tables = with_due due s.tables; last = one.0 } in
     let there : slice_get m.tables.objects j ≡ Some x = ap (λ (t : Tables). slice_get t.objects j) (due_rest due s.tables) ∙ stands in
     let two = riders_steps r m j x act.ids loose (rider_place (message_of act)) refl fresh there in
     let n : Turn = record m { tables = with_riders j x (rider_of act) m.tables; last = two.0 } in
-    let three = ups_steps r n loose refl fresh in
-    let end : Turn = record s { due = []; loose = []; tables = with_done j x due (rider_of act) loose s.tables; last = three.0 } in
+    let three = told_steps r n s.untold loose refl fresh credit of in
+    let end : Turn = record s { due = []; loose = []; untold = []; tables = with_done_told s.untold j x due (rider_of act) loose s.tables; last = three.0 } in
     let most : (with_due due s.tables).profile.credit_log ≡ s.tables.profile.credit_log = ap (λ (t : Tables). t.profile.credit_log) (due_rest due s.tables) in (
       three.0,
       writes_append r (record s { due = due; loose = all }) (record m { loose = all }) end (written_due s.tables.here s.tables.serial due)
           (rider_events s.tables.profile.credit_log x.state.ids (rider_of act) ++ ups loose) one.1
           (writes_append r (record m { loose = all }) (record n { loose = loose }) end (rider_events s.tables.profile.credit_log x.state.ids (rider_of act)) (ups loose)
           (subst (λ k. Writing r (record m { loose = all }) (rider_events k x.state.ids (rider_of act)) (record n { loose = loose })) most two.1)
-          (subst (λ ids. Writing r (with_loose ids n) (ups loose) (let_go loose three.0 n)) (with_all loose credit) three.1)),
+          three.1),
     )
 
 -- ---- what a commit leaves
@@ -145,17 +172,18 @@ module _ (r : Rules) (s : Turn) (w : Waits) (rest : List Waits) (front later bac
       (two.0, writes_append r (with_hand w rest (front ++ (later ++ back)) s) m (ready two.0) (births_of s.tables.here s.tables.births (map birth_of w.outcome.makes)) (splits_from 0 full_hand places) one.1 two.1)
 
   -- the whole commit, where its object is x, at j
-  pub done_steps : (j : ℕ) (x : Standing) (left : Remains) → AreWithin full_hand places → ((q : ℕ) → q < length full_hand → Lasts (id_at full_hand q) (named places q))
+  pub done_steps : (j : ℕ) (x : Standing) (left : Remains) → AreOf s.untold left.loose → AreWithin full_hand places → ((q : ℕ) → q < length full_hand → Lasts (id_at full_hand q) (named places q))
       → slice_get s.tables.objects j ≡ Some x → find (is_standing (target_of w.job.action)) s.tables.objects ≡ Some x → AllByRecursion (Drawn s.tables.here s.tables.births) s.tables.objects
       → IsLeftBy r s.tables.here w.job w.outcome x halved_hand (map bare (ids_of s.tables.here s.tables.births s.tables.profile.credit_log (map birth_of w.outcome.makes))) left
       → (l : Option Event) × Writing r (with_hand w rest (front ++ (later ++ back)) s) (events ++ (Done (name_of w.job.action) false ∷ (written_due s.tables.here s.tables.serial left.due ++ (rider_events s.tables.profile.credit_log left.state.ids (rider_of w.job.action) ++ ups left.loose))))
       (record (ends j (record w { hand = halved_hand }) rest x left (ready l)) {
         due = [];
         loose = [];
-        tables = with_done j (record { object = x.object; state = left.state }) left.due (rider_of w.job.action) left.loose (ends j (record w { hand = halved_hand }) rest x left (ready l)).tables;
+        untold = [];
+        tables = with_done_told s.untold j (record { object = x.object; state = left.state }) left.due (rider_of w.job.action) left.loose (ends j (record w { hand = halved_hand }) rest x left (ready l)).tables;
         last = l;
       })
-  done_steps j x left within lasts stands found drawn by =
+  done_steps j x left of within lasts stands found drawn by =
       let born : List Id = map bare (ids_of s.tables.here s.tables.births s.tables.profile.credit_log (map birth_of w.outcome.makes)) in
       let is_fresh : born ≡ s.fresh ++ born = ap (λ os. os ++ born) (sym fresh) in
       let new : List Standing = objects_of s.tables.here s.tables.births (map birth_of w.outcome.makes) in
@@ -163,9 +191,9 @@ module _ (r : Rules) (s : Turn) (w : Waits) (rest : List Waits) (front later bac
       let then_is : Standing = record { object = x.object; state = left.state } in
       let one = ready_steps within lasts in
       let d : Turn = wrote (Done (name_of w.job.action) false) (ends j (record w { hand = halved_hand }) rest x left (ready one.0)) in
-      let two = left_steps r (record d { due = []; loose = [] }) w.job.action j then_is left.due left.loose refl by.given_up
+      let two = left_steps r (record d { due = []; loose = [] }) w.job.action j then_is left.due left.loose refl by.given_up of
       (get_set (s.tables.objects ++ new) j x then_is (get_before s.tables.objects new j x stands)) in
-      let end : Turn = record d { due = []; loose = []; tables = with_done j then_is left.due (rider_of w.job.action) left.loose d.tables; last = two.0 } in
+      let end : Turn = record d { due = []; loose = []; untold = []; tables = with_done_told s.untold j then_is left.due (rider_of w.job.action) left.loose d.tables; last = two.0 } in
       let start : d ≡ record d { due = left.due; loose = with_credit (rider_of w.job.action) ++ left.loose } = ap (λ is. record d { loose = is ++ (with_credit (rider_of w.job.action) ++ left.loose) }) loose in
       let done : Commits r (ready one.0) (name_of w.job.action) d = record {
         w = record w { hand = halved_hand };
@@ -238,48 +266,90 @@ module _ (act_of : ℕ → ℕ → ℕ → State → Act → Outcome) (t : Table
   hand_is : hand_ids job.state (plain job.action) later ≡ own ++ (later ++ [])
   hand_is = sym (append_assoc job.state.ids (plain job.action).ids later) ∙ ap (λ ids. own ++ ids) (sym (append-nil later))
 
-  -- where it leads
-  abbrev pub committed : Remains → Tables
-  committed left = with_done j (record { object = x.object; state = left.state }) left.due (rider_of job.action) left.loose (record t {
+  -- where it leads, with these names of moves with which objects came, where the homes of these objects are told
+  abbrev pub committed_so : List Arrival → List Id → Remains → Tables
+  committed_so came told left = with_done_told told j (record { object = x.object; state = left.state }) left.due (rider_of job.action) left.loose (record t {
     running = remove t.running i;
+    came = came;
     births = t.births + length out.makes;
     records = t.records ++ records_of t.here t.births t.profile.credit_log (map birth_of out.makes);
     objects = set (t.objects ++ objects_of t.here t.births (map birth_of out.makes)) j (record { object = x.object; state = left.state });
     answered = t.answered + answered_by (Some job.action);
   })
 
-  pub commit_stands : (left : Remains) → AreWithin hand places → ((q : ℕ) → q < length hand → Lasts (id_at hand q) (named places q))
+  -- the same where nothing is told
+  abbrev pub committed : Remains → Tables
+  committed left = committed_so t.came [] left
+
+  -- a MOVE with which its object came is noted, or nothing is
+  abbrev pub Noted : List Arrival → List Id → Type 0
+  Noted came told = ((came ≡ t.came) × (told ≡ []))
+      ⊎ ((n : ℕ) × (job.action.code ≡ 1) × (slice_get t.came n ≡ Some (record { name = name_of job.action; object = bare (target_of job.action) })) × (came ≡ remove t.came n) × (told ≡ bare (target_of job.action) ∷ []))
+
+  -- without an entry
+  record Noting (came : List Arrival) (told : List Id) : Type 1 where
+    labels : List Label
+    none : written labels ≡ []
+    steps : Steps r begun labels (record begun { untold = told; tables = record begun.tables { came = came } })
+
+  notes : (came : List Arrival) (told : List Id) → Noted came told → Noting came told
+  notes came told (inl k) = record { labels = []; none = refl; steps = ap (λ c. record begun { untold = told; tables = record begun.tables { came = c } }) k.0 ∙ ap (λ o. record begun { untold = o }) k.1 }
+  notes came told (inr k) = record {
+    labels = Note ∷ [];
+    none = refl;
+    steps = (
+      record begun { untold = told; tables = record begun.tables { came = came } },
+      record {
+        w = w;
+        rest = [];
+        i = k.0;
+        works = refl;
+        moves = k.1;
+        there = k.2;
+        now = ap (λ c. record begun { untold = told; tables = record begun.tables { came = c } }) k.3 ∙ ap (λ o. record begun { untold = o; tables = record begun.tables { came = remove t.came k.0 } }) k.4;
+      },
+      refl,
+    );
+  }
+
+  pub told_stands : (came : List Arrival) (told : List Id) → Noted came told → (left : Remains) → AreOf told left.loose → AreWithin hand places
+      → ((q : ℕ) → q < length hand → Lasts (id_at hand q) (named places q))
       → IsLeftBy r t.here job out (record { object = x.object; state = bare_state x.state }) cut (map bare made) left
-      → Stands act_of (committed left) (entries ++ at_all t.here (births_of t.here t.births (map birth_of out.makes)
+      → Stands act_of (committed_so came told left) (entries ++ at_all t.here (births_of t.here t.births (map birth_of out.makes)
       ++ (splits_from 0 hand places ++ (Done (name_of job.action) false ∷ (written_due t.here t.serial left.due
       ++ (rider_events t.profile.credit_log left.state.ids (rider_of job.action) ++ ups left.loose))))))
-  commit_stands left within lasts by =
-      let s : Turn = record begun { working = [] } in
+  told_stands came told noted left of within lasts by =
+      let s : Turn = record begun { working = []; untold = told; tables = record begun.tables { came = came } } in
       let drawn : AllByRecursion (Drawn t.here t.births) t.objects = all_among (Drawn t.here t.births) t.objects (λ y m. (h.tidy (StandsHere y) m).1) in
       let more = done_steps r s w [] own later [] places refl refl refl refl (all_none_log made) (omega (arith, length-map made bare, made_long t.here t.births t.profile.credit_log (map birth_of out.makes), length-map out.makes birth_of))
-      (omega arith) fit j lent left within lasts (get_set t.objects j x lent stands)
+      (omega arith) fit j lent left of within lasts (get_set t.objects j x lent stands)
       (single_found (set t.objects j lent) j lent (target_of job.action) (single_set t.objects j x lent stands refl h.places.single) (get_set t.objects j x lent stands)
       (find_passes (is_standing (target_of job.action)) t.objects x found))
       (all_set (Drawn t.here t.births) t.objects j lent drawn (all_at (Drawn t.here t.births) t.objects j x drawn stands)) by in
       let last : List Event = written_due t.here t.serial left.due ++ (rider_events t.profile.credit_log left.state.ids (rider_of job.action) ++ ups left.loose) in
       let events : List Event = (births_of t.here t.births (map birth_of out.makes) ++ splits_from 0 hand places) ++ (Done (name_of job.action) false ∷ last) in
-      let ends : Turn = record (at_rest (committed left)) { last = more.0 } in
+      let ends : Turn = record (at_rest (committed_so came told left)) { last = more.0 } in
       let objects : set (set t.objects j lent ++ objects_of t.here t.births (map birth_of out.makes)) j (record { object = x.object; state = left.state })
       ≡ set (t.objects ++ objects_of t.here t.births (map birth_of out.makes)) j (record { object = x.object; state = left.state }) =
       set_twice t.objects (objects_of t.here t.births (map birth_of out.makes)) j x lent (record { object = x.object; state = left.state }) stands in
-      subst (λ es. Stands act_of (committed left) (entries ++ at_all t.here es))
-      (written_events events ∙ append_assoc (births_of t.here t.births (map birth_of out.makes)) (splits_from 0 hand places) (Done (name_of job.action) false ∷ last))
-      (turn_stands act_of t (committed left) entries (Suspend ∷ map (λ e. Writes e) events) more.0 h (
+      let note = notes came told noted in
+      let work : Writing r (record begun { untold = told; tables = record begun.tables { came = came } }) events ends =
+      subst (λ z. Writing r z events ends) (ap (λ ids. record s { working = record w { hand = ids } ∷ [] }) (sym hand_is)) (subst (λ os. Writing r (with_hand w [] (own ++ (later ++ [])) s) events
+      (record (at_rest (with_done_told told j (record { object = x.object; state = left.state }) left.due (rider_of job.action) left.loose (record t {
+        running = remove t.running i;
+        came = came;
+        births = t.births + length out.makes;
+        records = t.records ++ records_of t.here t.births t.profile.credit_log (map birth_of out.makes);
+        objects = os;
+        answered = t.answered + answered_by (Some job.action);
+      }))) { last = more.0 })) objects more.1) in
+      subst (λ es. Stands act_of (committed_so came told left) (entries ++ at_all t.here es))
+      (written_append note.labels (map (λ e. Writes e) events) ∙ (ap (λ es. es ++ written (map (λ e. Writes e) events)) note.none
+      ∙ (written_events events ∙ append_assoc (births_of t.here t.births (map birth_of out.makes)) (splits_from 0 hand places) (Done (name_of job.action) false ∷ last))))
+      (turn_stands act_of t (committed_so came told left) entries (Suspend ∷ (note.labels ++ map (λ e. Writes e) events)) more.0 h (
         begun,
         begins r t i j job out x runs stands found at kind state few later (all_none_log made) places,
-        subst (λ z. Writing r z events ends) (ap (λ ids. record s { working = record w { hand = ids } ∷ [] }) (sym hand_is)) (subst (λ os. Writing r (with_hand w [] (own ++ (later ++ [])) s) events
-            (record (at_rest (with_done j (record { object = x.object; state = left.state }) left.due (rider_of job.action) left.loose (record t {
-              running = remove t.running i;
-              births = t.births + length out.makes;
-              records = t.records ++ records_of t.here t.births t.profile.credit_log (map birth_of out.makes);
-              objects = os;
-              answered = t.answered + answered_by (Some job.action);
-            }))) { last = more.0 })) objects more.1),
+        steps_append r begun (record begun { untold = told; tables = record begun.tables { came = came } }) ends note.labels (map (λ e. Writes e) events) note.steps work,
       ))
     where
       all_none_log : (ids : List Id) → AllByRecursion (λ (id : Id). id.log ≡ None) (map bare ids)
@@ -289,3 +359,11 @@ module _ (act_of : ℕ → ℕ → ℕ → State → Act → Outcome) (t : Table
       made_long : (here n log : ℕ) (xs : List Birth) → length (ids_of here n log xs) ≡ length xs
       made_long here n log [] = refl
       made_long here n log (y ∷ ys) = ap (λ k. suc k) (made_long here (n + 1) log ys)
+
+  -- where nothing is told
+  pub commit_stands : (left : Remains) → AreWithin hand places → ((q : ℕ) → q < length hand → Lasts (id_at hand q) (named places q))
+      → IsLeftBy r t.here job out (record { object = x.object; state = bare_state x.state }) cut (map bare made) left
+      → Stands act_of (committed left) (entries ++ at_all t.here (births_of t.here t.births (map birth_of out.makes)
+      ++ (splits_from 0 hand places ++ (Done (name_of job.action) false ∷ (written_due t.here t.serial left.due
+      ++ (rider_events t.profile.credit_log left.state.ids (rider_of job.action) ++ ups left.loose))))))
+  commit_stands left = told_stands t.came [] (inl (refl, refl)) left tt

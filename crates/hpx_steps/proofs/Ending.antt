@@ -1,6 +1,6 @@
 -- An action ends: what holds of what it leaves, and that it is done, or fails.
-use Rattle.hpx_steps.proofs.Common.{Act, Agree, Agree-found, AllByRecursion, AreMade, AskedFor, Bool, Commits, Done, Due, Ends, Entry, Event, Fails, HasCommits, HasPlaces, HasRightCredit, Id, IsAct, IsCommit, IsDue, IsSound, IsTidy, Item, Leads, List, Loose, Name, Option, Refusal, Remains, Row, Rules, Some, Standing, StandsHere, State, TidyAt, Token, Turn, View, Waits, Working, [], action_of, all_append, answered_by, any_counted, ap, arith, asking, asks_under, bare, bare_act, bare_due, bare_standing, bare_state, causes, commits, cond, count_by, count_in, counted_any, counts_of, drop, due_ids, due_with, ends, failure, false, filter, find, find_passes, fired_of, follows_done, follows_fail, freeing, given_to, goes, hopping, id_at, ids_named, inl, is_act, is_answer, is_asked, is_recorded, is_standing, joined, length, length-append, list_any, map, map-append, means, name_of, names_of, option_to_list, own, own_ids, plain, refl, refusal_of, refusals_of, rider_of, same_name-refl, same_object, same_refusal, session, set, some_same, split_get, split_set, state_after, subst, suc, sum_by, sum_by-append, sum_by-cons, sym, take, target_of, tokens, tokens_of, true, unpaid, view, weigh, with_credit, worth, wrote, zero, ℕ, ◌&&◌, ◌++◌, ◌+◌, ◌<◌, ◌==◌, ◌||◌, ◌∙◌, ◌∷◌, ◌≡◌, ◌≤◌}
-use Rattle.hpx_steps.proofs.Tools.{Changes, Keeps, Sees, all_come, all_with, among_at, as_seen, bare_all, bare_lent, by_rows, credit_tokens, due_change, end_commits, fewer, first_goes, found-bare, holding, ids_append, ids_each, ids_flat, loose_change, more_come, no_tokens, none_sum, objects_change, one_turns, retidy, ridden_sum, rider_all, same_map, sees_covers, sees_leads, single_set, stand_set, target-bare, then, told_as, total, total_append, total_map, view_asking, view_covered, view_worth, working_change}
+use Rattle.hpx_steps.proofs.Common.{Act, Agree, Agree-found, AllByRecursion, AreMade, AskedFor, Bool, Commits, Done, Due, Ends, Entry, Event, Fails, HasCommits, HasPlaces, HasRightCredit, Id, IsAct, IsCommit, IsDue, IsSound, IsTidy, Item, Leads, List, Loose, Name, Option, Refusal, Remains, Row, Rules, Some, Standing, StandsHere, State, TidyAt, Token, Turn, View, Waits, Working, [], action_of, all_append, answered_by, any_counted, ap, arith, asking, asks_under, bare, bare_act, bare_due, bare_standing, bare_state, causes, commits, cond, count_by, count_in, counted_any, counts_of, drop, due_ids, due_with, ends, failure, false, filter, find, find_passes, fired_of, follows_done, follows_fail, freeing, given_to, goes, hopping, id_at, ids_named, inl, is_act, is_answer, is_asked, is_recorded, is_standing, joined, length, length-append, list_any, map, map-append, means, name_of, names_of, option_to_list, own, own_ids, plain, refl, refusal_of, refusals_of, rider_of, same_name-refl, same_object, same_refusal, session, set, some_same, split_get, split_set, state_after, subst, suc, sum_by, sum_by-append, sum_by-cons, sym, take, target_of, tokens, tokens_of, true, unpaid, view, weigh, with_credit, worth, wrote, zero, ℕ, ◌&&◌, ◌++◌, ◌+◌, ◌<◌, ◌==◌, ◌||◌, ◌∙◌, ◌∷◌, ◌≡◌, ◌≤◌, grants_here, leads_away, tells_come, flow, tells_own}
+use Rattle.hpx_steps.proofs.Tools.{Changes, Keeps, Sees, all_come, all_with, among_at, as_seen, bare_all, bare_lent, by_rows, credit_tokens, due_change, end_commits, fewer, first_goes, found-bare, holding, ids_append, ids_each, ids_flat, loose_change, more_come, no_tokens, none_sum, objects_change, one_turns, retidy, ridden_sum, rider_all, same_map, sees_covers, sees_leads, single_set, stand_set, target-bare, then, told_as, total, total_append, total_map, view_asking, view_covered, view_worth, working_change, same_tracks, same_says, same_flows}
 
 any_bare : (o : Id) (ids : List Id) → list_any (same_object o) (map bare ids) ≡ list_any (same_object o) ids
 any_bare o [] = refl
@@ -40,7 +40,7 @@ module _ (r : Rules) (s : Turn) (entries : List Entry) (h : IsSound r s entries)
   abbrev settled : Turn
   settled = record less { tables = record s.tables { objects = set s.tables.objects j new } }
 
-  change : Changes (Working w ∷ StandsHere x ∷ []) (StandsHere new ∷ (dues ++ looses)) s now
+  pub change : Changes (Working w ∷ StandsHere x ∷ []) (StandsHere new ∷ (dues ++ looses)) s now
   change = then (Working w ∷ []) [] (StandsHere x ∷ []) (StandsHere new ∷ (dues ++ looses)) s less now
       (working_change (Working w ∷ []) [] s rest (first_goes (λ y. Working y) s.working w rest g.works))
       (then (StandsHere x ∷ []) (StandsHere new ∷ []) [] (dues ++ looses) less settled now
@@ -92,7 +92,7 @@ module _ (r : Rules) (s : Turn) (entries : List Entry) (h : IsSound r s entries)
   commits_now = end_commits s.tables.objects s.tables.running w (rest ++ s.tables.pending) was h.places.single j x new g.stands same refl
       (λ k. ap (λ y. record { object = x.object; state = y }) (g.plain k)) g.credit lends
 
-  pub places_now : HasPlaces s.tables.here s.tables.births (set s.tables.objects j new) s.tables.records
+  pub places_now : HasPlaces s.tables.here s.tables.births (set s.tables.objects j new) s.tables.records s.tables.leaving
   places_now = grind (arith, stand_set, single_set)
 
   pub dealt : (f : Token → ℕ) → sum_by f (tokens s) ≡ sum_by f (tokens now)
@@ -187,12 +187,16 @@ module _ (r : Rules) (s : Turn) (entries : List Entry) (h : IsSound r s entries)
     commits = commits_now;
     numbered = fewer s (wrote (Done (name_of w.job.action) failed) now) (omega arith) (λ n. omega (arith, stays (asks_under n) refl refl refl (λ d. refl) (λ i. refl)));
     pays = record {
-      rows = λ row. omega (arith, stays (unpaid row) refl refl refl (λ d. refl) (λ i. refl), costs row);
+      rows = λ row own. omega (arith, stays (unpaid row) refl refl refl (λ d. refl) (λ i. refl), costs row);
       once = omega (arith, stays hopping refl refl refl (λ d. refl) (λ i. refl));
       fired = omega (arith, stays joined refl refl refl (λ d. refl) (λ i. refl));
       frees = λ o. omega (arith, stays (freeing o) refl refl refl (λ d. refl) (λ i. refl));
     };
     orders = record { sent = tt; asked = grind arith; given = λ k d o n. omega (arith, stays (given_to k o n) refl refl refl (λ y. refl) (λ i. refl)) };
+    says = same_says (λ q k. 0) (λ q. 0) s (wrote (Done (name_of w.job.action) failed) now) refl (λ q k. omega (arith, stays (tells_come q k) refl refl refl (λ d. refl) (λ i. refl))) (λ q. omega (arith, stays (tells_own q) refl refl refl (λ d. refl) (λ i. refl)));
+    flows = same_flows r (Some (Done (name_of w.job.action) failed)) s (wrote (Done (name_of w.job.action) failed) now) refl (λ f own. omega (arith, stays (flow s.tables.here f) refl refl refl (λ d. refl) (λ i. refl)));
+    tracks = same_tracks (λ q. 0) (λ q. 0) s (wrote (Done (name_of w.job.action) failed) now) (λ q. refl) refl refl (λ q. omega (arith, stays (grants_here q) refl refl refl (λ d. refl) (λ i. refl)))
+        (λ q. omega (arith, stays (leads_away s.tables.here q) refl refl refl (λ d. refl) (λ i. refl)));
     counts = record {
       here = refl;
       localities = refl;
@@ -222,7 +226,7 @@ module _ (r : Rules) (s : Turn) (entries : List Entry) (h : IsSound r s entries)
       one_at_most false = omega arith
 
       costs : (row : Row) → goes r row (Done (name_of w.job.action) failed) ≡ causes r row (Done (name_of w.job.action) failed)
-      costs = by_rows (λ row. goes r row (Done (name_of w.job.action) failed) ≡ causes r row (Done (name_of w.job.action) failed)) refl refl refl refl refl refl refl (λ o. refl)
+      costs = by_rows (λ row. goes r row (Done (name_of w.job.action) failed) ≡ causes r row (Done (name_of w.job.action) failed)) refl refl refl refl refl refl refl refl refl refl refl (λ o. refl) (λ o to. refl) (λ o to. refl) (λ o to. refl) (λ o. refl)
 
   -- ---- it is done
 

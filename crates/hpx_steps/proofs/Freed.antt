@@ -1,13 +1,13 @@
 -- A dead object goes.
-use Rattle.hpx_steps.proofs.Common.{Among, Apply, Arrived, Ask, Brought, Cached, Give, Go, IsGranted, Leaving, Move, Parcel, Queued, Return, Shipped, Stray, messages, Accepted, Act, AllByRecursion, Came, Entry, Follows, Free, Freed, Going, Has, HasInHand, HasRightCredit, Id, IsDue, IsForHere, IsManaged, IsSound, IsTidy, IsTold, Item, List, Loose, Mailed, None, OnDesk, Pending, Row, Rules, Running, Some, Standing, StandsHere, TidyAt, Token, Turn, View, Waits, Working, [], acts_on, any_counted, ap, arith, asked_by, asks_under, bare_act, bare_due, bare_standing, causes, commits, cond, count_by, credit_list, drop, drops, false, false_from, find, find_passes, flat_map, follows_freed_mailed, follows_freed_taken, freeing, given_to, goes, held, held_here, hopping, inl, inr, is_some, is_standing, joined, list_any, map, map-append, owes, parcel_frees, refl, remove, same_object, same_object-from, same_object-refl, same_object-sym, same_object-true, session, slice_get, split_get, subst, suc, sum_by, sum_by-cons, sym, take, target_of, true, unpaid, view, waits_for, waits_here, weigh, with_credit, worth, wrote, ℕ, ◌++◌, ◌+◌, ◌∙◌, ◌∷◌, ◌≡◌, ◌≤◌}
-use Rattle.hpx_steps.proofs.Tools.{Changes, Keeps, Sees, all_with, among_all, among_at, asks_of, by_bool, by_rows, acting, counts_near, credit_tokens, drop_change, fewer, freed_whole, frees_now, frees_of, hand_fit, hand_weighs, holding, ids_each, in_hand, is_frame, less_commits, loose_change, more_come, none_of, none_sum, objects_change, one_goes, same_asks, same_dead, sees_by, sees_leads, single_less, stand_less, target-bare, then, total, total_map, view_worth, zeros, same_travels, same_waits, ships_of}
+use Rattle.hpx_steps.proofs.Common.{Untold, Among, Apply, Arrived, Ask, Brought, Cached, Give, Go, IsGranted, Leaving, Move, Parcel, Queued, Return, Shipped, Stray, messages, Accepted, Act, AllByRecursion, Came, Entry, Follows, Free, Freed, Going, Has, HasInHand, HasRightCredit, Id, IsDue, IsForHere, IsManaged, IsSound, IsTidy, IsTold, Item, List, Loose, Mailed, None, OnDesk, Pending, Row, Rules, Running, Some, Standing, StandsHere, TidyAt, Token, Turn, View, Waits, Working, [], acts_on, any_counted, ap, arith, asked_by, asks_under, bare_act, bare_due, bare_standing, causes, commits, cond, count_by, credit_list, drop, drops, false, false_from, find, find_passes, flat_map, follows_freed_mailed, follows_freed_taken, freeing, given_to, goes, held, held_here, hopping, inl, inr, is_some, is_standing, joined, list_any, map, map-append, owes, parcel_frees, refl, remove, same_object, same_object-from, same_object-refl, same_object-sym, same_object-true, session, slice_get, split_get, subst, suc, sum_by, sum_by-cons, sym, take, target_of, true, unpaid, view, waits_for, waits_here, weigh, with_credit, worth, wrote, ℕ, ◌++◌, ◌+◌, ◌∙◌, ◌∷◌, ◌≡◌, ◌≤◌, grants_here, leads_away, tells_come, flow, tells_own}
+use Rattle.hpx_steps.proofs.Tools.{Changes, Keeps, Sees, all_with, among_all, among_at, asks_of, by_bool, by_rows, acting, counts_near, credit_tokens, drop_change, fewer, freed_whole, frees_now, frees_of, hand_fit, hand_weighs, holding, ids_each, in_hand, is_frame, less_commits, loose_change, more_come, none_of, none_sum, objects_change, one_goes, same_asks, same_dead, sees_by, sees_leads, single_less, stand_less, target-bare, then, total, total_map, view_worth, zeros, same_travels, same_waits, ships_of, same_tracks, same_says, same_flows, flowless}
 use Rattle.hpx_steps.specs.Steps.{Frees}
 use Rattle.hpx_steps.proofs.Unheld.{none_accepted, none_fired, none_leaves, none_waits}
 
 module _ (r : Rules) (s : Turn) (entries : List Entry) (h : IsSound r s entries) (o : Id) (i : ℕ) (x : Standing) (due : s.due ≡ []) (fresh : s.fresh ≡ []) (alone : s.working ≡ [])
     (told : IsTold r (Free o) s) (there : slice_get s.tables.objects i ≡ Some x) (found : find (is_standing o) s.tables.objects ≡ Some x)
     (idle : waits_here s.tables o ≡ false) (unheld : held_here s.tables o ≡ 0) where
-  hand : HasInHand (Free o) s
+  pub hand : HasInHand (Free o) s
   hand = grind arith
 
   abbrev now : Turn
@@ -22,7 +22,7 @@ module _ (r : Rules) (s : Turn) (entries : List Entry) (h : IsSound r s entries)
   abbrev less : Turn
   less = record (drops s) { tables = record s.tables { objects = remove s.tables.objects i } }
 
-  change : Changes (in_hand (is_frame (Free o) s hand) (Free o) ∷ StandsHere x ∷ []) (map (λ id. Loose id) (with_credit x.state.ids)) s now
+  pub change : Changes (in_hand (is_frame (Free o) s hand) (Free o) ∷ StandsHere x ∷ []) (map (λ id. Loose id) (with_credit x.state.ids)) s now
   change = then (was ∷ []) [] (StandsHere x ∷ []) looses s (drops s) now (drop_change (Free o) s hand) (then (StandsHere x ∷ []) [] [] looses (drops s) less now
       (objects_change (StandsHere x ∷ []) [] (drops s) (remove s.tables.objects i) (one_goes (λ y. StandsHere y) s.tables.objects i x there))
       (loose_change [] looses less (s.loose ++ with_credit x.state.ids) (more_come (λ y. Loose y) s.loose (with_credit x.state.ids))))
@@ -97,6 +97,7 @@ module _ (r : Rules) (s : Turn) (entries : List Entry) (h : IsSound r s entries)
   retidied (Leaving p) m = let k = h.tidy (Leaving p) m in (k.0, leaves p m k.1)
   retidied (Stray p) m = h.tidy (Stray p) m
   retidied (Brought p) m = tt
+  retidied (Untold p) m = tt
   retidied (Running p) m = h.tidy (Running p) m
   retidied (Pending p) m = h.tidy (Pending p) m
   retidied (Working p) m = h.tidy (Working p) m
@@ -164,11 +165,12 @@ module _ (r : Rules) (s : Turn) (entries : List Entry) (h : IsSound r s entries)
       unborn = h.places.unborn;
       places = h.places.places;
       single = single_less s.tables.objects i h.places.single;
+      once = h.places.once;
     };
     commits = less_commits s.tables.objects s.tables.running (commits s) i x there o same all_idle h.commits;
     numbered = fewer s now (omega arith) (λ n. omega (arith, stays (asks_under n) refl refl refl (λ id. refl)));
     pays = record {
-      rows = λ row. omega (arith, moves (unpaid row), zeros (with_credit x.state.ids), hand_weighs (Free o) s hand (unpaid row) (owes row (Free o)) refl refl, costs row);
+      rows = λ row own. omega (arith, moves (unpaid row), zeros (with_credit x.state.ids), hand_weighs (Free o) s hand (unpaid row) (owes row (Free o)) refl refl, costs row);
       once = omega (arith, stays hopping refl refl refl (λ id. refl));
       fired = omega (arith, stays joined refl refl refl (λ id. refl));
       frees = λ q. omega (arith, moves (freeing q), zeros (with_credit x.state.ids), by_bool (λ b. freeing q (in_hand b (Free o)) ≤ frees_now q (Freed o)) (omega arith) (omega arith) (is_frame (Free o) s hand));
@@ -178,11 +180,14 @@ module _ (r : Rules) (s : Turn) (entries : List Entry) (h : IsSound r s entries)
       asked = λ q n. omega (arith, stays (asked_by s.tables.here q n) refl refl refl (λ id. refl), stays (waits_for q n) refl refl refl (λ id. refl));
       given = λ k d q n. omega (arith, stays (given_to k q n) refl refl refl (λ id. refl));
     };
+    says = same_says (λ q j. 0) (λ q. 0) s now refl (λ q j. omega (arith, stays (tells_come q j) refl refl refl (λ id. refl))) (λ q. omega (arith, stays (tells_own q) refl refl refl (λ id. refl)));
+    flows = same_flows r (Some (Freed o)) s now refl (λ f own. let k = flowless s.tables.here f (Free o) tt in omega (arith, stays (flow s.tables.here f) k.0 k.0 refl (λ id. refl)));
+    tracks = same_tracks (λ q. 0) (λ q. 0) s now (λ q. refl) refl refl (λ q. omega (arith, stays (grants_here q) refl refl refl (λ id. refl))) (λ q. omega (arith, stays (leads_away s.tables.here q) refl refl refl (λ id. refl)));
     counts = counts_near s now (Freed o) refl (omega arith) (omega arith) (omega arith) (omega arith) (omega arith) (λ lc. refl);
   }
     where
       costs : (row : Row) → goes r row (Freed o) ≡ owes row (Free o) + causes r row (Freed o)
-      costs = by_rows (λ row. goes r row (Freed o) ≡ owes row (Free o) + causes r row (Freed o)) (omega arith) (omega arith) (omega arith) (omega arith) (omega arith) (omega arith) (omega arith) (λ q. omega arith)
+      costs = by_rows (λ row. goes r row (Freed o) ≡ owes row (Free o) + causes r row (Freed o)) (omega arith) (omega arith) (omega arith) (omega arith) (omega arith) (omega arith) (omega arith) (omega arith) (omega arith) (omega arith) (omega arith) (λ q. omega arith) (λ q to. omega arith) (λ q to. omega arith) (λ q to. omega arith) (λ q. omega arith)
 
 pub freed_step : (r : Rules) (s s' : Turn) (entries : List Entry) (o : Id) → IsSound r s entries → Frees r s o s' → Keeps r s s' (Freed o)
 freed_step r s s' entries o h g = subst (λ x. Keeps r s x (Freed o)) (sym g.now) (freed_keeps r s entries h o g.i g.x g.calm.due g.calm.fresh g.alone g.told g.there g.found g.idle g.unheld)

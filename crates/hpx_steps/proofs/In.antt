@@ -1,13 +1,13 @@
 -- A frame comes in.
-use Rattle.hpx_steps.proofs.Common.{weighed, Actions, Came, ComesIn, Entry, Exchanges, In, IsParcel, IsSound, IsTidy, List, Parcel, Rules, Some, TidyAt, Turn, [], ap, arith, asks_for, bare_act, bare_due, counts_of, follows_in, gives_for, load_of, map, nothing, owes, parcel_acts, parcel_asks, parcel_travels, refl, same_object, subst, sum_by, sum_by-append, sym, tokens, view, waiting, worth, wrote, ℕ, ◌+◌, ◌∷◌, ◌≡◌}
-use Rattle.hpx_steps.proofs.Tools.{Changes, Keeps, asks_of, by_parcel, came_change, counts_near, holding, numbered_so, one_comes, orders_so, pays_so, seen_sum, ships_of, view_worth}
+use Rattle.hpx_steps.proofs.Common.{weighed, brings, Came, ComesIn, Entry, Exchanges, In, IsParcel, IsSound, IsTidy, List, Parcel, Rules, Some, TidyAt, Turn, [], ap, arith, asks_for, bare_act, bare_due, counts_of, follows_in, gives_for, load_of, map, nothing, owes, parcel_acts, parcel_asks, parcel_travels, refl, same_object, subst, sum_by, sum_by-append, sym, tokens, view, waiting, worth, wrote, ℕ, ◌+◌, ◌∷◌, ◌≡◌, tells_at, flow_in}
+use Rattle.hpx_steps.proofs.Tools.{Changes, Keeps, asks_of, by_parcel, came_change, counts_near, holding, numbered_so, one_comes, orders_so, pays_so, seen_sum, ships_of, view_worth, tracks_so, says_so, flows_so}
 
 module _ (r : Rules) (s : Turn) (entries : List Entry) (h : IsSound r s entries) (p : Parcel) (bytes : List ℕ) (due : s.due ≡ []) (fresh : s.fresh ≡ [])
     (empty : s.came ≡ []) (spelled : r.parcel_of bytes ≡ Some p) (fit : IsParcel p) where
   abbrev now : Turn
   now = wrote (In bytes) (record s { came = p ∷ []; tables = record s.tables { taken = s.tables.taken + 1 } })
 
-  change : Changes [] (Came p ∷ []) s now
+  pub change : Changes [] (Came p ∷ []) s now
   change = came_change [] (Came p ∷ []) s (p ∷ []) (one_comes (λ x. Came x) s.came p empty)
 
   tidy : IsTidy now
@@ -37,9 +37,12 @@ module _ (r : Rules) (s : Turn) (entries : List Entry) (h : IsSound r s entries)
     places = h.places;
     commits = h.commits;
     numbered = numbered_so r s now (In bytes) [] (Came p ∷ []) change.0 (omega arith) (λ n. omega arith);
-    pays = pays_so r s now (In bytes) [] (Came p ∷ []) change.0 (λ row. omega (arith, told (owes row))) (omega (arith, told (owes Actions))) (omega arith) (λ o. rw spelled (omega arith));
+    pays = pays_so r s now (In bytes) [] (Came p ∷ []) change.0 (λ row own. omega (arith, told (owes row))) (omega (arith, told brings)) (omega arith) (λ o. rw spelled (omega arith));
     orders = orders_so r s now (In bytes) [] (Came p ∷ []) change.0 tt
         (λ o n. omega (arith, told (gives_for o n), told (asks_for s.tables.here o n))) (λ j d o n. omega (arith, told (asks_for j o n)));
+    says = says_so r s now (In bytes) [] (Came p ∷ []) change.0 refl (λ o j. omega (arith, told (tells_at o j))) (λ o. omega arith);
+    flows = flows_so r s now (In bytes) [] (Came p ∷ []) change.0 refl (λ f. omega (arith, told (flow_in s.tables.here f)));
+    tracks = tracks_so r s now (In bytes) [] (Came p ∷ []) change.0 (λ o. refl) refl refl (λ o. omega arith) (λ o. omega arith);
     counts = counts_near s now (In bytes) refl (omega arith) (omega arith) (omega arith) (omega arith) refl (λ l. refl);
   }
 

@@ -30,6 +30,11 @@ pub mod Print
 pub mod Line
 pub mod Answered
 pub mod Place
+pub mod Aside
+pub mod Noted
+pub mod Departed
+pub mod Landing
+pub mod Release
 pub mod Reorder
 pub mod Suspend
 pub mod Split
@@ -43,6 +48,7 @@ pub mod Unheld
 pub mod Freed
 pub mod Step
 pub mod AtRest
+pub mod Booted
 pub mod Right
 pub mod Handled
 pub mod TurnOf

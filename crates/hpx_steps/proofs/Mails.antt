@@ -1,6 +1,8 @@
 -- One more message: what it weighs and that it is tidy, wherever it is put.
-use Rattle.hpx_steps.proofs.Common.{AllByRecursion, Bool, Came, FreesNone, Going, HasInHand, Id, IsOwn, IsParcel, IsTidy, IsTidyIn, Item, Mailed, MatchOption, MayGoTo, OnDesk, Option, Parcel, Some, Tables, Token, Turn, [], arith, bare, cond, credit_list, false, going, held_token, inl, inr, is_other, log_of, map, nat_tests, owed_token, owing, own, refl, sum_by, tokens_of, true, ℕ, ◌++◌, ◌<◌, ◌∷◌, ◌≡◌, ◌≢◌, ◌≤◌}
+use Rattle.hpx_steps.proofs.Common.{AllByRecursion, Bool, Came, Going, HasInHand, Id, IsOwn, IsParcel, IsTidy, IsTidyIn, Item, Mailed, MatchOption, MayGoTo, OnDesk, Option, Parcel, Some, Tables, Token, Turn, [], arith, bare, cond, credit_list, false, going, held_token, inl, inr, is_other, log_of, map, nat_tests, owed_token, owing, own, refl, sum_by, tokens_of, true, ℕ, ◌++◌, ◌<◌, ◌∷◌, ◌≡◌, ◌≢◌, ◌≤◌, Apply, Move, Return, Ask, Give, Cached, Go, Shipped, Arrived, Free, Flow, flow_in, flow_go}
+use Rattle.hpx_steps.specs.Frames.{IsGrantFor}
 use Rattle.hpx_steps.proofs.Changes.{sent_if, total}
+use Rattle.hpx_steps.proofs.ByRows.{by_flows}
 
 -- a message that weighs the same on the desk and away
 pub sent_total : (w : Item → ℕ) (b other : Bool) (to : ℕ) (p : Parcel) (n : ℕ) → w (OnDesk p) ≡ n → w (Going (going to p)) ≡ n → total w (sent_if b other to p) ≡ cond b n 0
@@ -17,9 +19,9 @@ pub own_is : (t : Tables) (to : ℕ) → is_other t to ≡ false → to < t.loca
 own_is t to h lt = grind (arith, nat_tests)
 
 pub mail_tidy : (t : Tables) (b : Bool) (to : ℕ) (p : Parcel) → (b ≡ true → IsParcel p) → (b ≡ true → MayGoTo t.here to p)
-    → (b ≡ true → IsOwn t.here t.profile.credit_log p) → (b ≡ true → is_other t to ≡ true → FreesNone p)
+    → (b ≡ true → IsOwn t.here t.profile.credit_log p) → (b ≡ true → is_other t to ≡ false → IsGrantFor t.here to p)
     → AllByRecursion (IsTidyIn t.here t.localities t.profile.credit_log t.births t.objects) (sent_if b (is_other t to) to p)
-mail_tidy t b to p fit may own stays = grind arith
+mail_tidy t b to p fit may own granted = grind arith
 
 -- ---- the token of an id
 
@@ -42,3 +44,21 @@ some_log kind b h = grind arith
 
 pub right_log : (kind : ℕ) (l : Option ℕ) → MatchOption l ⊥ (λ x. 16 ≤ kind) → MatchOption l (kind < 16) (λ x. 16 ≤ kind)
 right_log kind b h = grind arith
+
+-- it grants no move, and tells of none
+abbrev pub IsFlowless : Parcel → Type 0
+IsFlowless (Go act) = ⊥
+IsFlowless (Arrived id place) = ⊥
+IsFlowless _ = Unit {0}
+
+pub flowless : (k : ℕ) (f : Flow) (p : Parcel) → IsFlowless p → (flow_in k f p ≡ 0) × ((j : ℕ) → flow_go j f p ≡ 0)
+flowless k f (Go act) u = absurd u
+flowless k f (Arrived id place) u = absurd u
+flowless k f (Apply act) u = by_flows (λ f. (flow_in k f (Apply act) ≡ 0) × ((j : ℕ) → flow_go j f (Apply act) ≡ 0)) (λ o t. (refl, λ j. refl)) (λ o i. (refl, λ j. refl)) f
+flowless k f (Move act) u = by_flows (λ f. (flow_in k f (Move act) ≡ 0) × ((j : ℕ) → flow_go j f (Move act) ≡ 0)) (λ o t. (refl, λ j. refl)) (λ o i. (refl, λ j. refl)) f
+flowless k f (Return id) u = by_flows (λ f. (flow_in k f (Return id) ≡ 0) × ((j : ℕ) → flow_go j f (Return id) ≡ 0)) (λ o t. (refl, λ j. refl)) (λ o i. (refl, λ j. refl)) f
+flowless k f (Ask id asker entry) u = by_flows (λ f. (flow_in k f (Ask id asker entry) ≡ 0) × ((j : ℕ) → flow_go j f (Ask id asker entry) ≡ 0)) (λ o t. (refl, λ j. refl)) (λ o i. (refl, λ j. refl)) f
+flowless k f (Give id entry) u = by_flows (λ f. (flow_in k f (Give id entry) ≡ 0) × ((j : ℕ) → flow_go j f (Give id entry) ≡ 0)) (λ o t. (refl, λ j. refl)) (λ o i. (refl, λ j. refl)) f
+flowless k f (Cached id place) u = by_flows (λ f. (flow_in k f (Cached id place) ≡ 0) × ((j : ℕ) → flow_go j f (Cached id place) ≡ 0)) (λ o t. (refl, λ j. refl)) (λ o i. (refl, λ j. refl)) f
+flowless k f (Shipped act state) u = by_flows (λ f. (flow_in k f (Shipped act state) ≡ 0) × ((j : ℕ) → flow_go j f (Shipped act state) ≡ 0)) (λ o t. (refl, λ j. refl)) (λ o i. (refl, λ j. refl)) f
+flowless k f (Free id) u = by_flows (λ f. (flow_in k f (Free id) ≡ 0) × ((j : ℕ) → flow_go j f (Free id) ≡ 0)) (λ o t. (refl, λ j. refl)) (λ o i. (refl, λ j. refl)) f

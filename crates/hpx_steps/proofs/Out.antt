@@ -1,26 +1,26 @@
 -- A frame goes out.
-use Rattle.hpx_steps.proofs.Common.{Apply, Arrived, Ask, Cached, Entry, Exchanges, Free, FreesNone, Give, Go, GoesOut, Going, IsSound, IsTidy, List, MayGoTo, MayLeave, Move, Out, Outgoing, Parcel, Return, Rules, Shipped, Some, TidyAt, Turn, View, [], ap, arith, asks_for, bare_act, bare_due, brings, cond, counts_of, follows_out, gives_for, inl, load_of, map, nothing, parcel_acts, parcel_asks, parcel_travels, refl, same_object, sum_by, sum_by-append, tokens, view, waiting, weighed, weight, worth, wrote, ℕ, ◌+◌, ◌==◌, ◌∷◌, ◌≡◌}
-use Rattle.hpx_steps.proofs.Tools.{Changes, Keeps, Sees, asks_of, by_parcel, counts_near, first_goes, frees_of, holding, numbered_so, orders_so, outgoing_change, pays_so, same_dead, seen_sum, sees_by, sees_covers, sees_leads, ships_of, told_as, view_covered, view_worth}
+use Rattle.hpx_steps.proofs.Common.{Id, any_counted, count_by, counts_true, list_any, parcel_frees, same_object-refl, sum_by-cons, true, Apply, Arrived, Ask, Cached, Entry, Exchanges, Free, Give, Go, GoesOut, Going, IsSound, IsTidy, List, MayGoTo, MayLeave, Move, Out, Outgoing, Parcel, Return, Rules, Shipped, Some, TidyAt, Turn, View, [], ap, arith, asks_for, bare_act, bare_due, follows, cond, counts_of, follows_out, gives_for, inl, load_of, map, nothing, parcel_acts, parcel_asks, parcel_travels, refl, same_object, sum_by, sum_by-append, tokens, view, waiting, weighed, weight, worth, wrote, ℕ, ◌+◌, ◌==◌, ◌∷◌, ◌≡◌, grants_of, leads_on, flow_go}
+use Rattle.hpx_steps.proofs.Tools.{own_sum, Changes, Keeps, Sees, asks_of, by_parcel, counts_near, first_goes, frees_of, holding, numbered_so, orders_so, outgoing_change, pays_so, same_dead, seen_sum, sees_by, sees_covers, sees_leads, ships_of, told_as, view_covered, view_worth, tracks_so, says_so, flows_so}
 
 -- what may go may leave what is seen
-may_leave : (v : View) (to : ℕ) (p : Parcel) → FreesNone p → MayGoTo v.here to p → MayLeave v to p
-may_leave v to (Apply act) none may = tt
-may_leave v to (Move act) none may = tt
-may_leave v to (Return id) none may = may
-may_leave v to (Ask id asker entry) none may = may
-may_leave v to (Give id entry) none may = may
-may_leave v to (Free o) none may = absurd none
-may_leave v to (Cached o place) none may = absurd may
-may_leave v to (Go act) none may = absurd may
-may_leave v to (Shipped act state) none may = absurd may
-may_leave v to (Arrived id place) none may = absurd may
+may_leave : (v : View) (to : ℕ) (p : Parcel) → ((o : Id) → p ≡ Free o → list_any (same_object o) v.dead ≡ true) → MayGoTo v.here to p → MayLeave v to p
+may_leave v to (Apply act) dead may = tt
+may_leave v to (Move act) dead may = tt
+may_leave v to (Return id) dead may = may
+may_leave v to (Ask id asker entry) dead may = may
+may_leave v to (Give id entry) dead may = may
+may_leave v to (Free o) dead may = (may, dead o refl)
+may_leave v to (Cached o place) dead may = absurd may
+may_leave v to (Go act) dead may = tt
+may_leave v to (Shipped act state) dead may = may.0
+may_leave v to (Arrived id place) dead may = may.0
 
 module _ (r : Rules) (s : Turn) (entries : List Entry) (h : IsSound r s entries) (x : Outgoing) (rest : List Outgoing) (bytes : List ℕ) (due : s.due ≡ []) (fresh : s.fresh ≡ [])
     (first : s.tables.outgoing ≡ x ∷ rest) (spelled : r.parcel_of bytes ≡ Some x.parcel) where
   abbrev now : Turn
   now = wrote (Out x.to bytes) (record s { tables = record s.tables { outgoing = rest; sent = s.tables.sent + 1 } })
 
-  change : Changes (Going x ∷ []) [] s now
+  pub change : Changes (Going x ∷ []) [] s now
   change = outgoing_change (Going x ∷ []) [] s rest (first_goes (λ y. Going y) s.tables.outgoing x rest first)
 
   its : TidyAt s (Going x)
@@ -48,12 +48,23 @@ module _ (r : Rules) (s : Turn) (entries : List Entry) (h : IsSound r s entries)
     asks = λ o. omega (arith, seen_sum (counts_of (same_object o)) parcel_asks, change.0 (asks_of o));
   }
 
+  -- what a Free says is dead
+  dead_there : (o : Id) → x.parcel ≡ Free o → list_any (same_object o) (view s).dead ≡ true
+  dead_there o is = any_counted (same_object o) (view s).dead (omega (
+    arith,
+    own_sum (counts_of (same_object o)) parcel_frees s,
+    change.0 (frees_of o),
+    ap (λ p. count_by (same_object o) (parcel_frees p)) is,
+    sum_by-cons (counts_of (same_object o)) o [],
+    counts_true (same_object o) o (same_object-refl o),
+  ))
+
   pub out_keeps : Keeps r s now (Out x.to bytes)
   out_keeps = record {
     leads = (
       seen,
       follows_out r (view s) x.parcel bytes (waiting now) (view now).travels (tokens now) (view now).asks (ap (map bare_due) due) fresh spelled x.to
-          (omega (arith, its.1.somewhere, h.rules.localities)) its.1.away (may_leave (view s) x.to x.parcel its.3 its.1.may) loads
+          (omega (arith, its.1.somewhere, h.rules.localities)) its.1.away (may_leave (view s) x.to x.parcel dead_there its.1.may) loads
           (λ before. sees_covers r seen now sees (view_covered now tidy h.commits.lent)),
       sees_leads r seen now sees,
     );
@@ -61,9 +72,12 @@ module _ (r : Rules) (s : Turn) (entries : List Entry) (h : IsSound r s entries)
     places = h.places;
     commits = h.commits;
     numbered = numbered_so r s now (Out x.to bytes) (Going x ∷ []) [] change.0 (omega arith) (λ n. omega arith);
-    pays = pays_so r s now (Out x.to bytes) (Going x ∷ []) [] change.0 (λ row. omega (arith, told (weight row))) (omega (arith, told brings)) (omega arith) (λ o. omega arith);
-    orders = orders_so r s now (Out x.to bytes) (Going x ∷ []) [] change.0 (record { parcel = x.parcel; spelled = spelled; way = its.1; own = its.2; stays = its.3 })
+    pays = pays_so r s now (Out x.to bytes) (Going x ∷ []) [] change.0 (λ row own. omega (arith, told (weight row))) (omega (arith, told follows)) (omega arith) (λ o. omega arith);
+    orders = orders_so r s now (Out x.to bytes) (Going x ∷ []) [] change.0 (record { parcel = x.parcel; spelled = spelled; way = its.1; own = its.2 })
         (λ o n. omega (arith, told (asks_for s.tables.here o n))) (λ j d o n. omega (arith, ap (λ k. cond (x.to == j) k 0) (told (gives_for o n))));
+    says = says_so r s now (Out x.to bytes) (Going x ∷ []) [] change.0 refl (λ o j. omega arith) (λ o. omega arith);
+    flows = flows_so r s now (Out x.to bytes) (Going x ∷ []) [] change.0 refl (λ f. omega (arith, told (flow_go x.to f)));
+    tracks = tracks_so r s now (Out x.to bytes) (Going x ∷ []) [] change.0 (λ o. refl) refl refl (λ o. omega (arith, told (grants_of o))) (λ o. omega (arith, told (leads_on s.tables.here o)));
     counts = counts_near s now (Out x.to bytes) refl (omega arith) (omega arith) (omega arith) refl (omega arith) (λ l. refl);
   }
 

@@ -1,6 +1,6 @@
 -- A commit begins to wait.
-use Rattle.hpx_steps.proofs.Common.{Entry, HasCommits, HasSplit, IsCommit, IsSound, List, Pauses, Pending, Refusal, Rules, TidyAt, Turn, View, Waits, Working, [], action_of, any_counted, ap, append-nil, append_assoc, arith, asked_by, asking, asks_under, bare_act, commits, counted_any, counts_of, fired_of, freeing, given_to, hopping, inl, joined, map, refl, refusals_of, same_refusal, subst, sum_by, sym, unpaid, view, waits_for, worth, ℕ, ◌++◌, ◌∙◌, ◌∷◌, ◌≡◌, ◌≢◌}
-use Rattle.hpx_steps.proofs.Tools.{Changes, Sees, Stills, by_commit, fewer, first_goes, holding, long_sum, more_come, move_commits, pending_change, recommit, refuses, sees_leads, then, view_asking, view_refusals, view_worth, was_fired, working_change, same_fires, acted}
+use Rattle.hpx_steps.proofs.Common.{Entry, HasCommits, HasSplit, IsCommit, IsSound, List, Pauses, Pending, Refusal, Rules, TidyAt, Turn, View, Waits, Working, [], action_of, any_counted, ap, append-nil, append_assoc, arith, asked_by, asking, asks_under, bare_act, commits, counted_any, counts_of, fired_of, freeing, given_to, hopping, inl, joined, map, refl, refusals_of, same_refusal, subst, sum_by, sym, unpaid, view, waits_for, worth, ℕ, ◌++◌, ◌∙◌, ◌∷◌, ◌≡◌, ◌≢◌, grants_here, leads_away, tells_come, flow, None, tells_own}
+use Rattle.hpx_steps.proofs.Tools.{Changes, Sees, Stills, by_commit, fewer, first_goes, holding, long_sum, more_come, move_commits, pending_change, recommit, refuses, sees_leads, then, view_asking, view_refusals, view_worth, was_fired, working_change, same_fires, acted, same_tracks, same_says, same_flows}
 
 module _ (r : Rules) (s : Turn) (entries : List Entry) (h : IsSound r s entries) (w : Waits) (rest : List Waits) (places : List ℕ) (works : s.working ≡ w ∷ rest)
     (lacks : w.asked ≢ []) (split : HasSplit s.tables.profile.credit_log (record w { places = places })) where
@@ -10,7 +10,7 @@ module _ (r : Rules) (s : Turn) (entries : List Entry) (h : IsSound r s entries)
   abbrev now : Turn
   now = record s { working = rest; tables = record s.tables { pending = s.tables.pending ++ record w { places = places } ∷ [] } }
 
-  change : Changes (Working w ∷ []) (Pending waiter ∷ []) s now
+  pub change : Changes (Working w ∷ []) (Pending waiter ∷ []) s now
   change = then (Working w ∷ []) [] [] (Pending waiter ∷ []) s (record s { working = rest }) now (working_change (Working w ∷ []) [] s rest (first_goes (λ x. Working x) s.working w rest works))
       (pending_change [] (Pending waiter ∷ []) (record s { working = rest }) (s.tables.pending ++ waiter ∷ []) (more_come (λ x. Pending x) s.tables.pending (waiter ∷ [])))
 
@@ -66,10 +66,13 @@ module _ (r : Rules) (s : Turn) (entries : List Entry) (h : IsSound r s entries)
     places = h.places;
     commits = subst (HasCommits s.tables.objects s.tables.running) behind (move_commits s.tables.objects s.tables.running [] others others [] w waiter refl same was);
     numbered = fewer s now (omega arith) (λ n. omega (arith, change.0 (asks_under n)));
-    rows = λ row. omega (arith, change.0 (unpaid row));
+    rows = λ row own. omega (arith, change.0 (unpaid row));
     once = omega (arith, change.0 hopping);
     fired = omega (arith, change.0 joined);
     frees = λ o. omega (arith, change.0 (freeing o));
+    says = same_says (λ q j. 0) (λ q. 0) s now refl (λ q k. omega (arith, change.0 (tells_come q k))) (λ q. omega (arith, change.0 (tells_own q)));
+    flows = same_flows r None s now refl (λ f own. omega (arith, change.0 (flow s.tables.here f)));
+    tracks = same_tracks (λ q. 0) (λ q. 0) s now (λ q. refl) refl refl (λ q. omega (arith, change.0 (grants_here q))) (λ q. omega (arith, change.0 (leads_away s.tables.here q)));
     asked = λ o n. omega (arith, change.0 (asked_by s.tables.here o n), change.0 (waits_for o n));
     given = λ k d o n. omega (arith, change.0 (given_to k o n));
   }

@@ -1,6 +1,6 @@
 -- The objects that stand here are in another order.
-use Rattle.hpx_steps.proofs.Common.{AllByRecursion, Among, Bool, Entry, HasCommits, HasObject, Id, IsSound, IsTidy, IsWhole, List, None, Option, Reorders, Rules, Single, Some, Standing, StandsHere, TidyAt, Turn, Waits, Act, [], ap, arith, asked_by, asks_under, bare_names, commits, count_by, counts_false, counts_of, counts_true, find, find_passes, freeing, given_to, hopping, inl, inr, is_some, is_standing, joined, refl, same_object-refl, same_object-true, session, slice_get, some_same, subst, suc, sum_by-cons, sym, target_of, unpaid, view, waits_for, worth, zero, ℕ, ◌∙◌, ◌∷◌, ◌≡◌, ◌≤◌}
-use Rattle.hpx_steps.proofs.Tools.{same_objects, stands_of, Changes, Sees, Stills, all_among, among_all, fewer, holding, if_so, objects_change, retidy, sees_leads, single_found, view_worth}
+use Rattle.hpx_steps.proofs.Common.{AllByRecursion, Among, Bool, Entry, HasCommits, HasObject, Id, IsSound, IsTidy, IsWhole, List, None, Option, Reorders, Rules, Single, Some, Standing, StandsHere, TidyAt, Turn, Waits, Act, [], ap, arith, asked_by, asks_under, bare_names, commits, count_by, counts_false, counts_of, counts_true, find, find_passes, freeing, given_to, hopping, inl, inr, is_some, is_standing, joined, refl, same_object-refl, same_object-true, session, slice_get, subst, suc, sum_by-cons, sym, target_of, unpaid, view, waits_for, worth, zero, ℕ, ◌∙◌, ◌∷◌, ◌≡◌, ◌≤◌, grants_here, leads_away, tells_come, flow, tells_own}
+use Rattle.hpx_steps.proofs.Tools.{found_among, same_objects, stands_of, Changes, Sees, Stills, all_among, among_all, fewer, holding, if_so, objects_change, retidy, sees_leads, single_found, view_worth, same_tracks, same_says, same_flows}
 use Rattle.hpx_journal.proofs.Bags.{find-nothing}
 use Rattle.std.proofs.lemmas.List.Elements.{All-from_recursion, recursion_from_All}
 use Rattle.std.proofs.lemmas.List.Sorted.{All-permutation, sum_by-IsPermutation}
@@ -12,10 +12,6 @@ none_count : (p : Standing → Bool) (xs : List Standing) → find p xs ≡ None
 none_count p [] h = refl
 none_count p (x ∷ xs) h = if_so (p x) (λ t. absurd (let e : Some x ≡ None = rw t at h in cc))
     (λ f. omega (arith, sum_by-cons (counts_of p) x xs, counts_false p x f, none_count p xs (rw f at h)))
-
-found_among : (p : Standing → Bool) (xs : List Standing) (x : Standing) → find p xs ≡ Some x → Among x xs
-found_among p [] x h = cc
-found_among p (y ∷ ys) x h = if_so (p y) (λ t. inl (some_same y x (rw t at h))) (λ f. inr (found_among p ys x (rw f at h)))
 
 among_place : (x : Standing) (xs : List Standing) → Among x xs → (j : ℕ) × (slice_get xs j ≡ Some x)
 among_place x [] m = absurd m
@@ -91,7 +87,7 @@ module _ (r : Rules) (s : Turn) (entries : List Entry) (h : IsSound r s entries)
   found : (o : Id) → find (is_standing o) ys ≡ find (is_standing o) s.tables.objects
   found = found_then xs ys same h.places.single
 
-  change : Changes [] [] s now
+  pub change : Changes [] [] s now
   change = objects_change [] [] s ys (record {
     sums = λ w. omega (arith, sum_by-IsPermutation (λ x. w (StandsHere x)) xs ys same);
     there = λ x m. inl (among_before xs ys same x m);
@@ -129,13 +125,17 @@ module _ (r : Rules) (s : Turn) (entries : List Entry) (h : IsSound r s entries)
       unborn = h.places.unborn;
       places = h.places.places;
       single = single_then xs ys same h.places.single;
+      once = h.places.once;
     };
     commits = commits_then xs ys same h.places.single s.tables.running (commits s) h.commits;
     numbered = fewer s now (omega arith) (λ n. omega (arith, change.0 (asks_under n)));
-    rows = λ row. omega (arith, change.0 (unpaid row));
+    rows = λ row own. omega (arith, change.0 (unpaid row));
     once = omega (arith, change.0 hopping);
     fired = omega (arith, change.0 joined);
     frees = λ o. omega (arith, change.0 (freeing o));
+    says = same_says (λ q j. 0) (λ q. 0) s now refl (λ q k. omega (arith, change.0 (tells_come q k))) (λ q. omega (arith, change.0 (tells_own q)));
+    flows = same_flows r None s now refl (λ f own. omega (arith, change.0 (flow s.tables.here f)));
+    tracks = same_tracks (λ q. 0) (λ q. 0) s now (λ q. refl) refl refl (λ q. omega (arith, change.0 (grants_here q))) (λ q. omega (arith, change.0 (leads_away s.tables.here q)));
     asked = λ o n. omega (arith, change.0 (asked_by s.tables.here o n), change.0 (waits_for o n));
     given = λ k d o n. omega (arith, change.0 (given_to k o n));
   }

@@ -123,6 +123,6 @@ module _ (r : Rules) (t mid : Tables) (came mailed : List Parcel) (before : Opti
         let s : Turn = record resumed { working = [] } in
         let events : List Event = (births_of t.here t.births (map birth_of g.after.outcome.makes) ++ splits_from 0 full places)
         ++ (Done (name_of g.after.job.action) false ∷ (written_due t.here t.serial left.due ++ (rider_events t.profile.credit_log left.state.ids (rider_of g.after.job.action) ++ ups left.loose))) in
-        let more = done_steps r s g.after [] front later back places refl refl refl complete none many long fit j x left within lasts stands found drawn by in
+        let more = done_steps r s g.after [] front later back places refl refl refl complete none many long fit j x left tt within lasts stands found drawn by in
         given_ends (done j x left) events
         (more.0, subst (λ ids. Writing r (record s { working = record g.after { hand = ids } ∷ [] }) events (record (at_rest (done j x left)) { last = more.0 })) (sym is) more.1)

@@ -1,6 +1,6 @@
 -- An id in the hand of a commit is halved.
 use Rattle.hpx_steps.proofs.Common.{Entry, Id, IsCommit, IsSound, List, Rules, Some, Split, Splits, TidyAt, Token, Turn, View, Waits, Working, [], ap, arith, asking, bare, bare_act, bare_due, cond, count_by, false, fired_of, follows_split, half, held_token, ids_named, inl, is_asked, is_asked_for, length, map, names_of, option_map, refl, refusals_of, set, slice_get, sum_by, sum_by-cons, sym, tokens, tokens_of, view, works_on, worth, wrote, ℕ, ◌++◌, ◌+◌, ◌-◌, ◌∙◌, ◌∷◌, ◌≡◌, ◌≤◌}
-use Rattle.hpx_steps.proofs.Tools.{Changes, Keeps, Sees, by_rows, counts_near, first_asked, first_at, first_map, first_turns, hand_long, has_not_asked, held_by, holding, ids_append, ids_each, numbered_so, orders_so, pays_so, recommit, sees_by, sees_leads, set_sum, token_held, told_as, view_asking, view_worth, work_commits, working_change}
+use Rattle.hpx_steps.proofs.Tools.{Changes, Keeps, Sees, by_rows, counts_near, first_asked, first_at, first_map, first_turns, hand_long, has_not_asked, held_by, holding, ids_append, ids_each, numbered_so, orders_so, pays_so, recommit, sees_by, sees_leads, set_sum, token_held, told_as, view_asking, view_worth, work_commits, working_change, tracks_so, says_so, flows_so}
 
 module _ (r : Rules) (s : Turn) (entries : List Entry) (h : IsSound r s entries) (w : Waits) (rest : List Waits) (p : ℕ) (id : Id) (log : ℕ) (due : s.due ≡ [])
     (works : s.working ≡ w ∷ rest) (at : slice_get w.hand p ≡ Some id) (has : id.log ≡ Some log) (enough : 1 ≤ log) (lacks : w.asked ≡ []) where
@@ -10,7 +10,7 @@ module _ (r : Rules) (s : Turn) (entries : List Entry) (h : IsSound r s entries)
   abbrev now : Turn
   now = wrote (Split (bare id) log) (works_on (record w { hand = set w.hand p (half id) ++ half id ∷ [] }) rest s)
 
-  change : Changes (Working w ∷ []) (Working split ∷ []) s now
+  pub change : Changes (Working w ∷ []) (Working split ∷ []) s now
   change = working_change (Working w ∷ []) (Working split ∷ []) s (split ∷ rest) (first_turns (λ x. Working x) s.working w split rest works)
 
   its : IsCommit s.tables.here s.tables.localities w
@@ -61,8 +61,11 @@ module _ (r : Rules) (s : Turn) (entries : List Entry) (h : IsSound r s entries)
     places = h.places;
     commits = work_commits s w split rest works refl h.commits;
     numbered = numbered_so r s now (Split (bare id) log) (Working w ∷ []) (Working split ∷ []) change.0 (omega arith) (λ n. omega arith);
-    pays = pays_so r s now (Split (bare id) log) (Working w ∷ []) (Working split ∷ []) change.0 (by_rows _ refl refl refl refl refl refl refl (λ o. refl)) (omega arith) (omega arith) (λ o. omega arith);
+    pays = pays_so r s now (Split (bare id) log) (Working w ∷ []) (Working split ∷ []) change.0 (by_rows _ (λ at. refl) (λ at. refl) (λ at. refl) (λ at. refl) (λ at. refl) (λ at. refl) (λ at. refl) (λ at. refl) (λ at. refl) (λ at. refl) (λ at. refl) (λ o at. refl) (λ o to at. refl) (λ o to at. refl) (λ o to at. refl) (λ o at. refl)) (omega arith) (omega arith) (λ o. omega arith);
     orders = orders_so r s now (Split (bare id) log) (Working w ∷ []) (Working split ∷ []) change.0 tt (λ o n. omega (arith, ap (λ ys. count_by (is_asked_for w o n) ys) lacks, ap (λ ys. count_by (is_asked_for split o n) ys) lacks)) (λ j d o n. omega arith);
+    says = says_so r s now (Split (bare id) log) (Working w ∷ []) (Working split ∷ []) change.0 refl (λ o j. omega arith) (λ o. omega arith);
+    flows = flows_so r s now (Split (bare id) log) (Working w ∷ []) (Working split ∷ []) change.0 refl (λ f. omega arith);
+    tracks = tracks_so r s now (Split (bare id) log) (Working w ∷ []) (Working split ∷ []) change.0 (λ o. refl) refl refl (λ o. omega arith) (λ o. omega arith);
     counts = counts_near s now (Split (bare id) log) refl (omega arith) (omega arith) (omega arith) (omega arith) (omega arith) (λ l. refl);
   }
 

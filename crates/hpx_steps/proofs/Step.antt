@@ -1,5 +1,5 @@
 -- Each step keeps all that holds.
-use Rattle.hpx_steps.proofs.Common.{AreNumbered, Asked, Born, Count, Done, Entry, Event, Fire, Freed, Given, Granted, In, IsSound, Label, Landed, Left, Line, List, Looked, Mail, Merge, Out, Pause, Place, Print, Refused, Reorder, Returned, Rules, Sent, Split, Step, Steps, Suspend, Tables, Turn, Up, Writes, [], ap, append-nil, append_assoc, at_all, entry_at, false, map-append, refl, subst, sym, true, written, written_by, ◌++◌, ◌∙◌, ◌∷◌, ◌≡◌}
+use Rattle.hpx_steps.proofs.Common.{inl, inr, Note, Mark, Park, Release, AreNumbered, Asked, Born, Count, Done, Entry, Event, Fire, Freed, Given, Granted, In, IsSound, Label, Landed, Left, Line, List, Looked, Mail, Merge, Out, Pause, Place, Print, Refused, Reorder, Returned, Rules, Sent, Split, Step, Steps, Suspend, Tables, Turn, Up, Writes, [], ap, append-nil, append_assoc, at_all, entry_at, false, map-append, refl, subst, sym, true, written, written_by, ◌++◌, ◌∙◌, ◌∷◌, ◌≡◌}
 use Rattle.hpx_steps.proofs.Tools.{Keeps, Stills, sound_then, still_sound}
 use Rattle.hpx_part.specs.Data.{Looked}
 
@@ -33,22 +33,32 @@ step_sound r s s' (Writes (Done a true)) entries h g = kept r s s' (Done a true)
 step_sound r s s' (Writes (Sent a)) entries h g = kept r s s' (Sent a) entries h (Rattle.hpx_steps.proofs.Sent.sent_step r s s' entries a h g)
 step_sound r s s' (Writes (Print bytes)) entries h g = kept r s s' (Print bytes) entries h (Rattle.hpx_steps.proofs.Print.print_step r s s' entries bytes h g)
 step_sound r s s' (Writes (Merge o log)) entries h g = kept r s s' (Merge o log) entries h (Rattle.hpx_steps.proofs.Merge.merge_step r s s' entries o log h g)
-step_sound r s s' (Writes (Up o log)) entries h g = kept r s s' (Up o log) entries h (Rattle.hpx_steps.proofs.Up.up_step r s s' entries o log h g)
+step_sound r s s' (Writes (Up o log)) entries h g = kept r s s' (Up o log) entries h (elim g [
+  | inl k ↦ Rattle.hpx_steps.proofs.Up.up_step r s s' entries o log h k
+  | inr k ↦ Rattle.hpx_steps.proofs.Up.told_step r s s' entries o log h k
+])
 step_sound r s s' (Writes (Asked o)) entries h g = kept r s s' (Asked o) entries h (Rattle.hpx_steps.proofs.Asked.asked_step r s s' entries o h g)
 step_sound r s s' (Writes (Given o log)) entries h g = kept r s s' (Given o log) entries h (Rattle.hpx_steps.proofs.Given.given_step r s s' entries o log h g)
-step_sound r s s' (Writes (Count o count (Returned log))) entries h g = kept r s s' (Count o count (Returned log)) entries h (Rattle.hpx_steps.proofs.Returned.returned_step r s s' entries o count log h g)
+step_sound r s s' (Writes (Count o count (Returned log))) entries h g = kept r s s' (Count o count (Returned log)) entries h (elim g [
+  | inl k ↦ Rattle.hpx_steps.proofs.Returned.returned_step r s s' entries o count log h k
+  | inr k ↦ Rattle.hpx_steps.proofs.Returned.arrived_step r s s' entries o count log h k
+])
 step_sound r s s' (Writes (Count o count Granted)) entries h g = kept r s s' (Count o count Granted) entries h (Rattle.hpx_steps.proofs.Answered.granted_step r s s' entries o count h g)
 step_sound r s s' (Writes (Count o count Refused)) entries h g = kept r s s' (Count o count Refused) entries h (Rattle.hpx_steps.proofs.Answered.refused_step r s s' entries o count h g)
 step_sound r s s' (Writes (Freed o)) entries h g = kept r s s' (Freed o) entries h (Rattle.hpx_steps.proofs.Freed.freed_step r s s' entries o h g)
 step_sound r s s' (Writes (Mail kind)) entries h g = kept r s s' (Mail kind) entries h (Rattle.hpx_steps.proofs.Mail.mail_step r s s' entries kind h g)
 step_sound r s s' (Writes (Out to bytes)) entries h g = kept r s s' (Out to bytes) entries h (Rattle.hpx_steps.proofs.Out.out_step r s s' entries to bytes h g)
 step_sound r s s' (Writes (In bytes)) entries h g = kept r s s' (In bytes) entries h (Rattle.hpx_steps.proofs.In.in_step r s s' entries bytes h g)
-step_sound r s s' (Writes (Left o to)) entries h g = absurd g
-step_sound r s s' (Writes (Landed o)) entries h g = absurd g
+step_sound r s s' (Writes (Left o to)) entries h g = kept r s s' (Left o to) entries h (Rattle.hpx_steps.proofs.Departed.left_step r s s' entries o to h g)
+step_sound r s s' (Writes (Landed o)) entries h g = kept r s s' (Landed o) entries h (Rattle.hpx_steps.proofs.Landing.landed_step r s s' entries o h g)
 step_sound r s s' (Writes (Looked o found)) entries h g = absurd g
 step_sound r s s' Suspend entries h g = still r s s' entries h (Rattle.hpx_steps.proofs.Suspend.suspend_step r s s' entries h g)
 step_sound r s s' Pause entries h g = still r s s' entries h (Rattle.hpx_steps.proofs.Pause.pause_step r s s' entries h g)
 step_sound r s s' Place entries h g = still r s s' entries h (Rattle.hpx_steps.proofs.Place.place_step r s s' entries h g)
+step_sound r s s' Mark entries h g = still r s s' entries h (Rattle.hpx_steps.proofs.Aside.mark_step r s s' entries h g)
+step_sound r s s' Park entries h g = still r s s' entries h (Rattle.hpx_steps.proofs.Aside.park_step r s s' entries h g)
+step_sound r s s' Release entries h g = still r s s' entries h (Rattle.hpx_steps.proofs.Release.release_step r s s' entries h g)
+step_sound r s s' Note entries h g = still r s s' entries h (Rattle.hpx_steps.proofs.Noted.note_step r s s' entries h g)
 step_sound r s s' Reorder entries h g = still r s s' entries h (Rattle.hpx_steps.proofs.Reorder.reorder_step r s s' entries h g)
 
 pub steps_sound : (r : Rules) (s s' : Turn) (labels : List Label) (entries : List Entry) → IsSound r s entries → Steps r s labels s' → Sound r s s' entries (written labels)

@@ -75,7 +75,7 @@ parcels_sum w s = omega (arith, sum_by-append w s.came (own_parcels s), sum_by-a
 
 -- what is seen of messages
 pub seen_sum : {Y : Type 0} (f : Y → ℕ) (h : Parcel → List Y) (s : Turn) → sum_by f (flat_map h (parcels s)) ≡ weigh (by_parcel (λ p. sum_by f (h p))) s
-seen_sum f h s = omega (arith, flat_sum f h (parcels s), parcels_sum (λ p. sum_by f (h p)) s, zeros s.tables.came, zeros s.tables.accepted, zeros s.tables.running, zeros s.tables.pending, zeros s.working, zeros s.tables.objects, zeros s.due, zeros s.loose)
+seen_sum f h s = omega (arith, flat_sum f h (parcels s), parcels_sum (λ p. sum_by f (h p)) s, zeros s.tables.came, zeros s.untold, zeros s.tables.accepted, zeros s.tables.running, zeros s.tables.pending, zeros s.working, zeros s.tables.objects, zeros s.due, zeros s.loose)
 
 -- a weight of own messages
 abbrev pub by_own : (Parcel → ℕ) → Item → ℕ
@@ -95,6 +95,7 @@ own_sum f h s = omega (
   messages_sum (λ p. sum_by f (h p)) s.tables,
   zeros s.came,
   zeros s.tables.came,
+  zeros s.untold,
   zeros s.tables.accepted,
   zeros s.tables.running,
   zeros s.tables.pending,
@@ -117,6 +118,7 @@ wait_sum f s = omega (
   flat_sum f parcel_acts (parcels s),
   parcels_sum (λ p. sum_by f (parcel_acts p)) s,
   zeros s.tables.came,
+  zeros s.untold,
   zeros s.tables.running,
   zeros s.tables.pending,
   zeros s.working,
@@ -142,6 +144,7 @@ view_worth f s = omega (
   ids_flat f due_ids s.due,
   ids_each f s.loose,
   zeros s.tables.came,
+  zeros s.untold,
 )
   where
     kept_sum : (ws : List Waits) → sum_by (λ (w : Waits). sum_by f (tokens_of (ids_kept w))) ws ≡ sum_by (λ w. worth f (Working w)) ws
@@ -154,7 +157,7 @@ by_commit f (Working w) = f w
 by_commit f _ = 0
 
 commits_sum : (f : Waits → ℕ) (s : Turn) → sum_by f (commits s) ≡ weigh (by_commit f) s
-commits_sum f s = omega (arith, sum_by-append f s.working s.tables.pending, zeros s.came, zeros s.mailed, zeros s.tables.desk, zeros s.tables.outgoing, zeros s.tables.queued, zeros s.tables.leaving, zeros s.tables.stray, zeros s.tables.came, zeros s.tables.accepted, zeros s.tables.running, zeros s.tables.objects, zeros s.due, zeros s.loose)
+commits_sum f s = omega (arith, sum_by-append f s.working s.tables.pending, zeros s.came, zeros s.mailed, zeros s.tables.desk, zeros s.tables.outgoing, zeros s.tables.queued, zeros s.tables.leaving, zeros s.tables.stray, zeros s.tables.came, zeros s.untold, zeros s.tables.accepted, zeros s.tables.running, zeros s.tables.objects, zeros s.due, zeros s.loose)
 
 -- what was asked for
 pub view_asking : (o : Id) (s : Turn) → count_by (same_object o) (asking_of (commits s)) ≡ weigh (asking o) s
@@ -192,6 +195,7 @@ view_fired f s = omega (
   zeros s.tables.leaving,
   zeros s.tables.stray,
   zeros s.tables.came,
+  zeros s.untold,
   zeros s.tables.accepted,
   zeros s.tables.objects,
   zeros s.due,
@@ -215,6 +219,7 @@ view_objects f s = omega (
   zeros s.tables.leaving,
   zeros s.tables.stray,
   zeros s.tables.came,
+  zeros s.untold,
   zeros s.tables.accepted,
   zeros s.tables.running,
   zeros s.tables.pending,

@@ -1,6 +1,9 @@
 -- One more entry: what has to be shown of it once, for all that holds of a locality and its part.
-use Rattle.hpx_steps.proofs.Common.{Actions, Agree, AllByRecursion, AreFired, AreNumbered, AreNumbers, Entry, Event, HasCommits, HasPlaces, Id, IsOrderly, IsPaid, IsSound, IsTidy, Leads, List, Local, Row, Rules, SendsOwn, Turn, [], all_append, all_count, ap, arith, arrives_at, asked_by, asks_for, asks_under, at_all, at_boot, bare_act, causes, clean_front, come, commits, cond, count_by, done_after, entry_at, fired_of, fires_one, freeing, given_to, gives_for, goes, gone, gone_to, grow, hopping, ins, is_act, is_answer, is_free_of, is_freed, joined, joins, length, length-append, map, map-append, outs, outs_by, part, part_append, part_at, refl, run_local, run_local_append, spends, subst, sum_by-append, sum_by-cons, sym, takes_such, unpaid, view, waits_for, weigh, ℕ, ◌++◌, ◌+◌, ◌∙◌, ◌∷◌, ◌≡◌, ◌≢◌, ◌≤◌}
+use Rattle.hpx_steps.proofs.Common.{IsRowAt, starts, Agree, AllByRecursion, AreFired, AreNumbered, AreNumbers, Entry, Event, HasCommits, HasPlaces, Id, IsOrderly, IsPaid, IsSound, IsTidy, Leads, List, Local, Row, Rules, SendsOwn, Turn, [], all_append, all_count, ap, arith, arrives_at, asked_by, asks_for, asks_under, at_all, at_boot, bare_act, causes, clean_front, come, commits, cond, count_by, done_after, entry_at, fired_of, fires_one, freeing, given_to, gives_for, goes, gone, gone_to, grow, hopping, ins, is_act, is_answer, is_free_of, is_freed, joined, joins, length, length-append, map, map-append, outs, outs_by, part, part_append, part_at, refl, run_local, run_local_append, spends, subst, sum_by-append, sum_by-cons, sym, takes_such, unpaid, view, waits_for, weigh, ℕ, ◌++◌, ◌+◌, ◌∙◌, ◌∷◌, ◌≡◌, ◌≢◌, ◌≤◌, Among, HasBegun, Parcel, Waiting, act_in, grants_gone, grants_here, inl, inr, target_of, true, ◌⊎◌, Act, Apply, away_here, leads_away, grants_made, leads_on, IsPlaced, Record, Some, find_record, tells_at, tells_come, Flow, IsFlowing, None, Option, dies, flow, flow_comes, flow_goes, flow_of, record_here, record_moves, record_rests, ◌<◌, tells_own, is_landed_of, one_if, false, State, Shipped, Shows, is_to, move_to}
+use Rattle.hpx_journal.specs.Foreign.{IsUndrawn, kept}
 use Rattle.hpx_journal.specs.Local.{after}
+use Rattle.hpx_journal.specs.Whole.{IsClean}
+use Rattle.hpx_journal.proofs.Single.{keeps_legal, object_drawn}
 
 -- ---- one entry pays
 
@@ -12,8 +15,8 @@ abbrev pub frees_now : Id → Event → ℕ
 frees_now o e = cond (is_freed o e) 1 0
 
 pub record Pays (r : Rules) (s s' : Turn) (e : Event) : Type 0 where
-  pub rows : (row : Row) → goes r row e + weigh (unpaid row) s' ≡ weigh (unpaid row) s + causes r row e
-  pub once : spends r e + weigh hopping s' ≤ weigh hopping s + causes r Actions e
+  pub rows : (row : Row) → IsRowAt s.tables.localities s.tables.here row → goes r row e + weigh (unpaid row) s' ≡ weigh (unpaid row) s + causes r row e
+  pub once : spends r e + weigh hopping s' ≤ weigh hopping s + starts r e
   pub fired : joins e + weigh joined s ≤ fires_one e + weigh joined s'
   pub frees : (o : Id) → comes_to_free r o e + weigh (freeing o) s ≤ frees_now o e + weigh (freeing o) s'
 
@@ -24,6 +27,159 @@ pub record Orders (r : Rules) (s s' : Turn) (e : Event) : Type 0 where
   pub asked : (o : Id) (n : ℕ) → gone r (asks_for s.tables.here o n) e + weigh (asked_by s.tables.here o n) s' + weigh (waits_for o n) s
       ≤ weigh (asked_by s.tables.here o n) s + weigh (waits_for o n) s' + (come r (gives_for o n) e + come r (asks_for s.tables.here o n) e)
   pub given : (j : ℕ) → j ≢ s.tables.here → (o : Id) (n : ℕ) → gone_to r j (gives_for o n) e + weigh (given_to j o n) s' ≤ weigh (given_to j o n) s + come r (asks_for j o n) e
+
+-- ---- and tells of no move that was not granted
+
+-- each object of here that is there has a number that was drawn
+abbrev pub AreDrawn : ℕ → Local → Type 0
+AreDrawn here l = (o : Id) → 16 ≤ o.kind → o.home ≡ here → IsUndrawn l.number o.number → kept o l ≡ 0
+
+-- where so many grants, and so many Frees, go of each object
+pub record Tracks (g f : Id → ℕ) (s s' : Turn) : Type 0 where
+  pub kept : (o : Id) → weigh (grants_here o) s ≤ g o + weigh (grants_here o) s'
+  pub away : (o : Id) → away_here s'.tables o ≡ true → (away_here s.tables o ≡ true) ⊎ (1 ≤ weigh (grants_here o) s')
+  pub waits : (w : Waiting Parcel) → Among w s'.tables.queued → Among w s.tables.queued ⊎ (away_here s.tables (target_of (act_in w.item)) ≡ true)
+  pub stays : (act : Act) → Among (Apply act) s'.tables.stray → Among (Apply act) s.tables.stray ⊎ (away_here s.tables (target_of act) ≡ true)
+  pub onward : (o : Id) → (f o + weigh (leads_away s.tables.here o) s' ≤ weigh (leads_away s.tables.here o) s) ⊎ (away_here s.tables o ≡ true)
+  pub lands : (act : Act) (state : State) → Among (Shipped act state) s'.tables.stray → Among (Shipped act state) s.tables.stray
+      ⊎ ((is_to s.tables.here (move_to act) ≡ false) ⊎ ((l : Local) → Shows (view s) l → AreDrawn s.tables.here l → ⊥))
+
+-- where what waits for objects, and what is stray, stays
+pub tracks_by : (g f : Id → ℕ) (s s' : Turn) → ((o : Id) → away_here s'.tables o ≡ true → away_here s.tables o ≡ true) → s'.tables.queued ≡ s.tables.queued → s'.tables.stray ≡ s.tables.stray
+    → ((o : Id) → weigh (grants_here o) s ≤ g o + weigh (grants_here o) s') → ((o : Id) → (f o + weigh (leads_away s.tables.here o) s' ≤ weigh (leads_away s.tables.here o) s) ⊎ (away_here s.tables o ≡ true)) → Tracks g f s s'
+tracks_by g f s s' away queued stray kept onward = record {
+  kept = kept;
+  away = λ o m. inl (away o m);
+  waits = λ w m. inl (subst (Among w) queued m);
+  stays = λ act m. inl (subst (Among (Apply act)) stray m);
+  onward = onward;
+  lands = λ act state m. inl (subst (Among (Shipped act state)) stray m);
+}
+
+-- and records stay
+pub same_tracks : (g f : Id → ℕ) (s s' : Turn) → ((o : Id) → away_here s'.tables o ≡ away_here s.tables o) → s'.tables.queued ≡ s.tables.queued → s'.tables.stray ≡ s.tables.stray
+    → ((o : Id) → weigh (grants_here o) s ≤ g o + weigh (grants_here o) s') → ((o : Id) → f o + weigh (leads_away s.tables.here o) s' ≤ weigh (leads_away s.tables.here o) s) → Tracks g f s s'
+same_tracks g f s s' same queued stray kept onward = tracks_by g f s s' (λ o m. sym (same o) ∙ m) queued stray kept (λ o. inl (onward o))
+
+pub begun_then : (r : Rules) (s s' : Turn) (g f : Id → ℕ) (es es' : List Entry) → s'.tables.here ≡ s.tables.here → ((o : Id) → all_count (grants_gone r o) es' ≡ all_count (grants_gone r o) es + g o)
+    → ((o : Id) → all_count (gone r (leads_on s.tables.here o)) es' ≡ all_count (gone r (leads_on s.tables.here o)) es + f o) → HasBegun r s es → Tracks g f s s'
+    → (IsClean r (at_boot r s.tables.here) es' → IsClean r (at_boot r s.tables.here) es × ((l : Local) × Shows (view s) l × AreDrawn s.tables.here l)) → HasBegun r s' es'
+begun_then r s s' g f es es' here more most h k shown = record {
+  away = λ o m. elim (k.away o m) [
+    | inl was ↦ still o (h.away o was)
+    | inr there ↦ omega (arith, there)
+  ];
+  queued = λ w m. elim (k.waits w m) [
+    | inl was ↦ still (target_of (act_in w.item)) (h.queued w was)
+    | inr away ↦ still (target_of (act_in w.item)) (h.away (target_of (act_in w.item)) away)
+  ];
+  stray = λ act m. elim (k.stays act m) [
+    | inl was ↦ still (target_of act) (h.stray act was)
+    | inr away ↦ still (target_of act) (h.away (target_of act) away)
+  ];
+  onward = λ o m. elim (k.onward o) [
+    | inl less ↦ still o (h.onward o (omega (arith, less, subst (λ (n : ℕ). 1 ≤ all_count (gone r (leads_on n o)) es' + weigh (leads_away n o) s') here m, most o)))
+    | inr away ↦ still o (h.away o away)
+  ];
+  lands = λ clean act state m. subst (λ (n : ℕ). is_to n (move_to act) ≡ false) (sym here) (
+      let seen = shown (subst (λ (n : ℕ). IsClean r (at_boot r n) es') here clean) in
+      elim (k.lands act state m) [
+        | inl was ↦ h.lands seen.0 act state was
+        | inr e ↦ elim e [
+          | inl away ↦ away
+          | inr none ↦ absurd (none seen.1.0 seen.1.1 seen.1.2)
+        ]
+      ]);
+}
+  where
+    still : (o : Id) → 1 ≤ grants_made r s es o → 1 ≤ grants_made r s' es' o
+    still o some = omega (arith, some, k.kept o, more o)
+
+-- ---- and says where objects are only as it was told
+
+-- where so many are told of each object and place
+pub record Says (h : Id → ℕ → ℕ) (l : Id → ℕ) (s s' : Turn) : Type 0 where
+  pub placed : (o : Id) (x : Record) → find_record o s'.tables.records ≡ Some x
+      → (x.place ≡ s'.tables.here) ⊎ (((y : Record) × (find_record o s.tables.records ≡ Some y) × (y.place ≡ x.place)) ⊎ (1 ≤ weigh (tells_come o x.place) s))
+  pub told : (o : Id) (j : ℕ) → weigh (tells_come o j) s' ≤ weigh (tells_come o j) s + h o j
+  pub own : (o : Id) → weigh (tells_own o) s' ≤ weigh (tells_own o) s + l o
+
+-- where records stay
+pub same_says : (h : Id → ℕ → ℕ) (l : Id → ℕ) (s s' : Turn) → s'.tables.records ≡ s.tables.records → ((o : Id) (j : ℕ) → weigh (tells_come o j) s' ≤ weigh (tells_come o j) s + h o j)
+    → ((o : Id) → weigh (tells_own o) s' ≤ weigh (tells_own o) s + l o) → Says h l s s'
+same_says h l s s' records told own = record { placed = λ o x m. inr (inl (x, subst (λ (rs : List Record). find_record o rs ≡ Some x) records m, refl)); told = told; own = own }
+
+pub placed_then : (r : Rules) (s s' : Turn) (h : Id → ℕ → ℕ) (l : Id → ℕ) (es es' : List Entry) → s'.tables.here ≡ s.tables.here
+    → ((o : Id) (j : ℕ) → all_count (come r (tells_at o j)) es' ≡ all_count (come r (tells_at o j)) es + h o j)
+    → ((o : Id) → all_count (λ e. one_if (is_landed_of o e)) es' ≡ all_count (λ e. one_if (is_landed_of o e)) es + l o) → IsPlaced r s es → Says h l s s' → IsPlaced r s' es'
+placed_then r s s' h l es es' here more most old k = record {
+  placed = λ o x m. elim (k.placed o x m) [
+    | inl at ↦ inl at
+    | inr e ↦ elim e [
+      | inl was ↦ elim (old.placed o was.0 was.1) [
+        | inl at ↦ inl (sym was.2 ∙ (at ∙ sym here))
+        | inr some ↦ inr (still o x.place (subst (λ (j : ℕ). 1 ≤ all_count (come r (tells_at o j)) es) was.2 some))
+      ]
+      | inr some ↦ inr (still o x.place (omega (arith, some, old.told o x.place)))
+    ]
+  ];
+  told = λ o j. omega (arith, k.told o j, old.told o j, more o j);
+  own = λ o. omega (arith, k.own o, old.own o, most o);
+}
+  where
+    still : (o : Id) (j : ℕ) → 1 ≤ all_count (come r (tells_at o j)) es → 1 ≤ all_count (come r (tells_at o j)) es'
+    still o j some = omega (arith, some, more o j)
+
+-- ---- and loses no move of an object of here
+
+-- with an entry, if there is one
+abbrev pub of_event : (Event → ℕ) → Option Event → ℕ
+of_event f None = 0
+of_event f (Some e) = f e
+
+pub record Flows (r : Rules) (e : Option Event) (s s' : Turn) : Type 0 where
+  pub flows : (f : Flow) → (flow_of f).home ≡ s.tables.here → (1 ≤ of_event (dies (flow_of f)) e)
+      ⊎ (record_moves s.tables.here f (record_here s'.tables (flow_of f)) + of_event (flow_comes r s.tables.here f) e + weigh (flow s.tables.here f) s + record_rests f (record_here s.tables (flow_of f))
+      ≡ record_moves s.tables.here f (record_here s.tables (flow_of f)) + weigh (flow s.tables.here f) s' + of_event (flow_goes r s.tables.here f) e + record_rests f (record_here s'.tables (flow_of f)))
+  pub near : (o : Id) (x : Record) → find_record o s'.tables.records ≡ Some x
+      → ((y : Record) × (find_record o s.tables.records ≡ Some y) × (y.place ≡ x.place)) ⊎ ((x.place ≡ s.tables.here) ⊎ (x.place < s.tables.localities))
+
+-- where records stay
+pub same_flows : (r : Rules) (e : Option Event) (s s' : Turn) → s'.tables.records ≡ s.tables.records
+    → ((f : Flow) → (flow_of f).home ≡ s.tables.here → of_event (flow_comes r s.tables.here f) e + weigh (flow s.tables.here f) s ≡ weigh (flow s.tables.here f) s' + of_event (flow_goes r s.tables.here f) e)
+    → Flows r e s s'
+same_flows r e s s' records same = record {
+  flows = λ f own.
+      let a : record_moves s.tables.here f (record_here s'.tables (flow_of f)) ≡ record_moves s.tables.here f (record_here s.tables (flow_of f)) =
+      ap (λ (rs : List Record). record_moves s.tables.here f (find_record (flow_of f) rs)) records in
+      let b : record_rests f (record_here s'.tables (flow_of f)) ≡ record_rests f (record_here s.tables (flow_of f)) = ap (λ (rs : List Record). record_rests f (find_record (flow_of f) rs)) records in
+      inr (omega (arith, a, b, same f own));
+  near = λ o x m. inl (x, subst (λ (rs : List Record). find_record o rs ≡ Some x) records m, refl);
+}
+
+pub flowing_then : (r : Rules) (e : Option Event) (s s' : Turn) (es es' : List Entry) → s'.tables.here ≡ s.tables.here → s'.tables.localities ≡ s.tables.localities
+    → ((f : Event → ℕ) → all_count f es' ≡ all_count f es + of_event f e) → IsFlowing r s es → Flows r e s s' → IsFlowing r s' es'
+flowing_then r e s s' es es' here count more old k = record {
+  flows = λ f own. subst (λ (n : ℕ). (1 ≤ all_count (dies (flow_of f)) es')
+      ⊎ (record_moves n f (record_here s'.tables (flow_of f)) + all_count (flow_comes r n f) es' ≡ weigh (flow n f) s' + all_count (flow_goes r n f) es' + record_rests f (record_here s'.tables (flow_of f))))
+      (sym here) (each f (own ∙ here));
+  near = λ o x m. elim (k.near o x m) [
+    | inl was ↦ subst (λ (n : ℕ). (x.place ≡ n) ⊎ (x.place < s'.tables.localities)) (sym here) (subst (λ (n : ℕ). (x.place ≡ s.tables.here) ⊎ (x.place < n)) (sym count)
+        (subst (λ (n : ℕ). (n ≡ s.tables.here) ⊎ (n < s.tables.localities)) was.2 (old.near o was.0 was.1)))
+    | inr at ↦ subst (λ (n : ℕ). (x.place ≡ n) ⊎ (x.place < s'.tables.localities)) (sym here) (subst (λ (n : ℕ). (x.place ≡ s.tables.here) ⊎ (x.place < n)) (sym count) at)
+  ];
+}
+  where
+    each : (f : Flow) → (flow_of f).home ≡ s.tables.here → (1 ≤ all_count (dies (flow_of f)) es')
+        ⊎ (record_moves s.tables.here f (record_here s'.tables (flow_of f)) + all_count (flow_comes r s.tables.here f) es'
+        ≡ weigh (flow s.tables.here f) s' + all_count (flow_goes r s.tables.here f) es' + record_rests f (record_here s'.tables (flow_of f)))
+    each f own = elim (k.flows f own) [
+      | inl dead ↦ inl (omega (arith, dead, more (dies (flow_of f))))
+      | inr turn ↦ elim (old.flows f own) [
+        | inl dead ↦ inl (omega (arith, dead, more (dies (flow_of f))))
+        | inr was ↦ inr (omega (arith, turn, was, more (flow_comes r s.tables.here f), more (flow_goes r s.tables.here f)))
+      ]
+    ]
 
 -- ---- and counts
 
@@ -48,14 +204,27 @@ fewer s s' asked less once n = (omega (arith, less n, (once n).0), λ late. let 
 pub record Keeps (r : Rules) (s s' : Turn) (e : Event) : Type 0 where
   pub leads : Leads r (view s) (e ∷ []) (view s')
   pub tidy : IsTidy s'
-  pub places : HasPlaces s'.tables.here s'.tables.births s'.tables.objects s'.tables.records
+  pub places : HasPlaces s'.tables.here s'.tables.births s'.tables.objects s'.tables.records s'.tables.leaving
   pub commits : HasCommits s'.tables.objects s'.tables.running (commits s')
   pub numbered : AreNumbered s → AreNumbered s'
   pub pays : Pays r s s' e
   pub orders : Orders r s s' e
+  pub tracks : Tracks (λ o. grants_gone r o e) (λ o. gone r (leads_on s.tables.here o) e) s s'
+  pub says : Says (λ o j. come r (tells_at o j) e) (λ o. one_if (is_landed_of o e)) s s'
+  pub flows : Flows r (Some e) s s'
   pub counts : Counts s s' e
 
 -- ---- a part with one more entry
+
+-- up to a foreign arrival the part leads to what is seen
+pub shown_then : (r : Rules) (s : Turn) (entries : List Entry) → IsSound r s entries → IsClean r (at_boot r s.tables.here) (part s.tables.here entries)
+    → (l : Local) × Shows (view s) l × AreDrawn s.tables.here l
+shown_then r s entries h clean =
+    let es = part s.tables.here entries in (
+      run_local r (at_boot r s.tables.here) es,
+      h.keeps.shows clean,
+      λ o managed home late. object_drawn r s.tables.here es (keeps_legal r (at_boot r s.tables.here) es h.keeps.keeps clean) clean o managed home late,
+    )
 
 fired_append : (n m : ℕ) (es : List Event) (e : Event) → AreFired n es → joins e + n ≤ fires_one e + m → AreFired m (es ++ e ∷ [])
 fired_append n m [] e h less = (omega (arith, less, sum_by-cons joins e [], sum_by-cons fires_one e []), tt)
@@ -86,8 +255,9 @@ module _ (r : Rules) (s s' : Turn) (e : Event) (entries : List Entry) (h : IsSou
 
   paid_then : IsPaid r s' (old ++ one)
   paid_then = record {
-    rows = λ row. omega (arith, h.paid.rows row, k.pays.rows row, more (goes r row), more (causes r row));
-    once = omega (arith, h.paid.once, k.pays.once, more (spends r), more (causes r Actions));
+    rows = λ row at. let own : IsRowAt s.tables.localities s.tables.here row = subst (λ n. IsRowAt n s.tables.here row) k.counts.localities (subst (λ j. IsRowAt s'.tables.localities j row) k.counts.here at) in
+        omega (arith, h.paid.rows row own, k.pays.rows row own, more (goes r row), more (causes r row));
+    once = omega (arith, h.paid.once, k.pays.once, more (spends r), more (starts r));
     fired = subst (AreFired (weigh joined s')) (sym (map-append (λ (x : Entry). x.event) old one))
         (fired_append (weigh joined s) (weigh joined s') (map (λ (x : Entry). x.event) old) e h.paid.fired k.pays.fired);
     frees = λ o. omega (arith, h.paid.frees o, k.pays.frees o, more (comes_to_free r o), more (frees_now o));
@@ -144,5 +314,9 @@ module _ (r : Rules) (s s' : Turn) (e : Event) (entries : List Entry) (h : IsSou
     commits = k.commits;
     paid = subst (IsPaid r s') (sym grown) paid_then;
     orderly = subst (IsOrderly r s') (sym grown) orderly_then;
+    begun = subst (HasBegun r s') (sym grown) (begun_then r s s' (λ o. grants_gone r o e) (λ o. gone r (leads_on s.tables.here o) e) old (old ++ one) k.counts.here (λ o. more (grants_gone r o)) (λ o. more (gone r (leads_on s.tables.here o))) h.begun k.tracks
+        (λ clean. let first = (clean_front r (at_boot r here) old one clean).0 in (first, shown_then r s entries h first)));
+    placed = subst (IsPlaced r s') (sym grown) (placed_then r s s' (λ o j. come r (tells_at o j) e) (λ o. one_if (is_landed_of o e)) old (old ++ one) k.counts.here (λ o j. more (come r (tells_at o j))) (λ o. more (λ x. one_if (is_landed_of o x))) h.placed k.says);
+    flowing = subst (IsFlowing r s') (sym grown) (flowing_then r (Some e) s s' old (old ++ one) k.counts.here k.counts.localities more h.flowing k.flows);
     numbers = numbers_then;
   }

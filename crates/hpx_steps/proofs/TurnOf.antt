@@ -1,8 +1,9 @@
 -- A turn: a message is taken up and dealt with, a frame goes, a line is fed, an action is fired.
-use Rattle.hpx_steps.proofs.Common.{Accepts, Act, Apply, Arrived, Ask, Cached, DealsWith, Entry, Event, Fire, Free, Give, Go, HasInHand, Id, In, IsAct, IsParcel, IsSound, IsTold, Label, Leaves, Line, List, Mail, MayGoTo, Move, None, OnDesk, Option, Out, Outcome, Outgoing, Parcel, Return, Rules, Shipped, Some, Standing, Stands, State, Step, Steps, Tables, TidyAt, Turn, Writes, [], ap, are_far, arith, at_all, at_rest, breaks, broken, broken_act, broken_move, broken_near, effects, false, find, fired_acts, held_here, id_at, if◌then◌else◌, inl, inr, is_busy, is_far, is_far_act, is_standing, kind_of, leaves, length, line_act, may_stay, min, move_to, moves_far, name_of, nat_le, nat_tests, not, parcel_of, refl, remove, rules_of, slice_get, stands_here, subst, suc, sym, target_of, travels_in, true, waits_here, with_act, written, zero, ℕ, ◌&&◌, ◌++◌, ◌+◌, ◌-◌, ◌<◌, ◌==◌, ◌^◌, ◌∙◌, ◌∷◌, ◌≡◌, ◌≢◌, ◌≤◌, ◌⊎◌}
-use Rattle.hpx_steps.proofs.Tools.{none_of, rest_sound}
-use Rattle.hpx_steps.proofs.Handled.{Leads, act_leads, asked_leads, freed_leads, kept_here, returned_leads}
-use Rattle.hpx_steps.proofs.Right.{go_wrong, near_right, object_wrong, return_right}
+use Rattle.hpx_steps.proofs.Common.{suc, zero, IsWaitingFor, Queued, Release, Waiting, act_in, append-nil, is_for, is_some, moving_here, released_by, with_act, with_released, without_first, inl, inr, ◌⊎◌, Left, Reorder, acts_on, list_any, move_to, target_of, with_mail, bare, Accepts, Act, Apply, Arrived, Ask, Cached, DealsWith, Entry, Event, Fire, Free, Give, Go, HasInHand, Id, In, IsParcel, IsSound, IsTold, Label, Leaves, Line, List, Mail, Move, None, OnDesk, Option, Out, Outcome, Outgoing, Parcel, Return, Rules, Shipped, Some, Standing, Stands, State, Step, Steps, Tables, TidyAt, Turn, Writes, [], ap, arith, at_all, at_rest, breaks, broken, broken_near, effects, false, find, fired_acts, held_here, if◌then◌else◌, is_busy, is_far, is_standing, kind_of, leaves, length, line_act, min, name_of, nat_le, nat_tests, not, parcel_of, refl, remove, rules_of, slice_get, stands_here, subst, sym, waits_here, written, ℕ, ◌&&◌, ◌++◌, ◌+◌, ◌-◌, ◌==◌, ◌^◌, ◌∙◌, ◌∷◌, ◌≡◌, ◌≤◌, away_here, true, IsForHere}
+use Rattle.std.specs.List.Sorted.{IsPermutation}
+use Rattle.hpx_steps.proofs.Tools.{found_among, if_so, none_of, rest_sound, root_stays}
+use Rattle.hpx_steps.proofs.Handled.{Leads, act_leads, arrived_leads, asked_leads, freed_leads, go_leads, object_leads, own_leads, returned_leads}
+use Rattle.hpx_steps.proofs.Right.{go_right, landed_right, near_right, object_right, return_right, parked_away}
 use Rattle.hpx_steps.proofs.Step.{steps_sound}
 
 -- where one step after another leads from rest to rest
@@ -21,34 +22,11 @@ one_stands : (act_of : ℕ → ℕ → ℕ → State → Act → Outcome) (t t' 
     → Step (rules_of act_of t.localities t.profile) (at_rest t) (Writes e) (record (at_rest t') { last = Some e }) → Stands act_of t' (entries ++ at_all t.here (e ∷ []))
 one_stands act_of t t' entries e h step = turn_stands act_of t t' entries (Writes e ∷ []) (Some e) h (record (at_rest t') { last = Some e }, step, refl)
 
--- ---- what breaks no rule
-
-module _ (n : ℕ) where
-  near_home : (ids : List Id) → are_far n ids ≡ false → (p : ℕ) → p < length ids → (id_at ids p).home < n
-  near_home [] h p lt = absurd (omega (arith, lt))
-  near_home (id ∷ ids) h zero lt = search (arith, nat_tests, (none_of (nat_le n id.home) (are_far n ids) h).0)
-  near_home (id ∷ ids) h (suc p) lt = near_home ids (none_of (nat_le n id.home) (are_far n ids) h).1 p (omega (arith, lt))
-
--- an action that is taken from the desk may wait here
-module _ (t : Tables) (act : Act) where
-  stays_apply : act.code ≢ 1 → broken_act t (Apply act) act ≡ None → (target_of act).home ≡ t.here → may_stay t act ≡ true
-  stays_apply code right home = grind arith
-
-  stays_move : act.code ≡ 1 → broken_move t (Move act) act ≡ None → (target_of act).home ≡ t.here → may_stay t act ≡ true
-  stays_move code right home = grind arith
-
--- a message may be accepted in whose hand is no action, or one that may stay
-same_deals : (p : Parcel) (t t' : Tables) → ((act : Act) → (p ≡ Apply act) ⊎ (p ≡ Move act) → may_stay t act ≡ true) → (DealsWith p t t' → Accepts p t t') × (Accepts p t t' → DealsWith p t t')
-same_deals (Apply act) t t' stays = let k = kept_here t act (stays act (inl refl)) in (λ d. d ∙ k, λ a. a ∙ sym k)
-same_deals (Move act) t t' stays = let k = kept_here t act (stays act (inr refl)) in (λ d. d ∙ k, λ a. a ∙ sym k)
-same_deals (Return id) t t' stays = (λ d. d, λ a. a)
-same_deals (Ask id asker entry) t t' stays = (λ d. d, λ a. a)
-same_deals (Give id entry) t t' stays = (λ d. d, λ a. a)
-same_deals (Free o) t t' stays = (λ d. d, λ a. a)
-same_deals (Cached id place) t t' stays = (λ d. d, λ a. a)
-same_deals (Go act) t t' stays = (λ d. d, λ a. a)
-same_deals (Shipped act state) t t' stays = (λ d. d, λ a. a)
-same_deals (Arrived id place) t t' stays = (λ d. d, λ a. a)
+-- a message that does not just bring an action
+abbrev pub IsUsual : Parcel → Type 0
+IsUsual (Apply act) = ⊥
+IsUsual (Move act) = ⊥
+IsUsual _ = Unit {0}
 
 -- a message that breaks no rule is dealt with; credit that is given is a case of its own
 module _ (r : Rules) (t t' : Tables) (desk : List Parcel) (taken : ℕ) (came mailed : List Parcel) (l : Option Event) (lasts : 1 ≤ t.profile.credit_log) where
@@ -57,27 +35,33 @@ module _ (r : Rules) (t t' : Tables) (desk : List Parcel) (taken : ℕ) (came ma
 
   message_leads : (p : Parcel) → HasInHand p with_message → IsTold r p with_message → IsParcel p → is_far t.localities p ≡ false → broken_near t p ≡ None
       → ((o : Id) → p ≡ Free o → held_here (record t { desk = desk; taken = taken }) o ≡ held_here t o) → ((id : Id) (entry : ℕ) → p ≡ Give id entry → ⊥)
-      → (mailed ≢ [] → (act : Act) → (p ≡ Apply act) ⊎ (p ≡ Move act) → may_stay (record t { desk = desk; taken = taken }) act ≡ true)
+      → IsUsual p
       → DealsWith p (record t { desk = desk; taken = taken }) t' → Leaves p t t' → Leads r with_message t' (effects t p)
-  message_leads (Apply act) hand told fit far right held other stays deals leaves =
-      act_leads r with_message (record { due = refl; fresh = refl }) t' act (Apply act) (inl refl) hand (λ m. stays m act (inl refl)) deals
-  message_leads (Move act) hand told fit far right held other stays deals leaves =
-      act_leads r with_message (record { due = refl; fresh = refl }) t' act (Move act) (inr refl) hand (λ m. stays m act (inr refl)) deals
-  message_leads (Return id) hand told fit far right held other stays deals leaves =
-      let k = return_right t (Return id) id None right in
+  message_leads (Apply act) hand told fit far right held other usual deals leaves = absurd usual
+  message_leads (Move act) hand told fit far right held other usual deals leaves = absurd usual
+  message_leads (Return id) hand told fit far right held other usual deals leaves =
+      let k = return_right t (bare id) id None right in
       returned_leads r with_message (record { due = refl; fresh = refl }) t' id hand fit k.0 k.1 deals (record { own = leaves.own; others = leaves.others })
-  message_leads (Ask id asker entry) hand told fit far right held other stays deals leaves =
-      let k = return_right t (Ask id asker entry) id None right in
+  message_leads (Ask id asker entry) hand told fit far right held other usual deals leaves =
+      let k = return_right t (bare id) id None right in
       asked_leads r with_message (record { due = refl; fresh = refl }) t' id asker entry hand fit
       (search (arith, nat_tests, (none_of (nat_le t.localities id.home) (nat_le t.localities asker) far).1)) lasts k.0 k.1 deals (record { own = leaves.own; others = leaves.others })
-  message_leads (Give id entry) hand told fit far right held other stays deals leaves = absurd (other id entry refl)
-  message_leads (Free o) hand told fit far right held other stays deals leaves = freed_leads r with_message t' o (record { due = refl; fresh = refl }) refl refl told
+  message_leads (Give id entry) hand told fit far right held other usual deals leaves = absurd (other id entry refl)
+  message_leads (Free o) hand told fit far right held other usual deals leaves = freed_leads r with_message t' o (record { due = refl; fresh = refl }) refl refl told
       (ap (λ n. if stands_here t o && (not (waits_here t o) && (n == 0)) then None else breaks 7 (Free o) (min (2 ^ 128 - 1) n)) (held o refl) ∙ right) deals leaves
-  message_leads (Cached id place) hand told fit far right held other stays deals leaves = absurd (let e : breaks 8 (Cached id place) (length t.records) ≡ None = right in cc)
-  message_leads (Go act) hand told fit far right held other stays deals leaves = absurd (go_wrong t (Go act) act right)
-  message_leads (Shipped act state) hand told fit far right held other stays deals leaves = absurd (object_wrong t (Shipped act state) act right)
-  message_leads (Arrived id place) hand told fit far right held other stays deals leaves =
-      absurd (let k : breaks 5 (Arrived id place) _ ≡ None = (return_right t (Arrived id place) id _ right).2 in cc)
+  message_leads (Cached id place) hand told fit far right held other usual deals leaves = absurd (let e : breaks 8 (Cached id place) (length t.records) ≡ None = right in cc)
+  message_leads (Go act) hand told fit far right held other usual deals leaves =
+      let k = go_right t (bare (target_of act)) (target_of act) (move_to act) right in go_leads r with_message (record { due = refl; fresh = refl }) t' act hand k.0 k.1 deals
+  message_leads (Shipped act state) hand told fit far right held other usual deals leaves =
+      object_leads r with_message (record { due = refl; fresh = refl }) t' act state hand (not_found (find (is_standing (target_of act)) t.objects) (object_right t (bare (target_of act)) (target_of act) right)) deals
+    where
+      not_found : (x : Option Standing) → is_some x ≡ false → x ≡ None
+      not_found None e = refl
+      not_found (Some x) e = cc
+  message_leads (Arrived id place) hand told fit far right held other usual deals leaves =
+      let k = landed_right t (bare id) id place right in
+      arrived_leads r with_message (record { due = refl; fresh = refl }) t' id place hand fit k.0 k.1 k.2
+      (search (arith, nat_tests, (none_of (nat_le t.localities id.home) (nat_le t.localities place) far).1)) deals (record { own = leaves.own; others = leaves.others })
 
 -- ---- a frame comes
 
@@ -90,20 +74,38 @@ module _ (act_of : ℕ → ℕ → ℕ → State → Act → Outcome) (t t' : Ta
   came p bytes = record (at_rest (record t { taken = t.taken + 1 })) { came = p ∷ []; last = Some (In bytes) }
 
   -- what is dealt with leads back to rest
-  pub frame_stands : (p : Parcel) (bytes : List ℕ) (events : List Event) → parcel_of bytes ≡ Some p → IsParcel p → travels_in (Some p) ≡ []
+  pub frame_stands : (p : Parcel) (bytes : List ℕ) (events : List Event) → parcel_of bytes ≡ Some p → IsParcel p
       → Leads r (came p bytes) t' events → Stands act_of t' (entries ++ at_all t.here (In bytes ∷ events))
-  frame_stands p bytes events spelled fit none leads =
+  frame_stands p bytes events spelled fit leads =
       subst (λ es. Stands act_of t' (entries ++ at_all t.here (In bytes ∷ es))) leads.writes
       (turn_stands act_of t t' entries (Writes (In bytes) ∷ leads.labels) leads.last h (
         came p bytes,
-        record { calm = record { due = refl; fresh = refl }; free = record { came = refl; mailed = refl }; parcel = p; spelled = spelled; fit = fit; none = none; now = refl },
+        record { calm = record { due = refl; fresh = refl }; free = record { came = refl; mailed = refl }; parcel = p; spelled = spelled; fit = fit; now = refl },
         leads.steps,
       ))
 
+  usual_leads : (p : Parcel) (bytes : List ℕ) → parcel_of bytes ≡ Some p → IsParcel p → broken t p ≡ None → ((id : Id) (entry : ℕ) → p ≡ Give id entry → ⊥) → IsUsual p
+      → DealsWith p (record t { taken = t.taken + 1 }) t' → Leaves p t t' → Leads r (came p bytes) t' (effects t p)
+  usual_leads p bytes spelled fit right other =
+      message_leads r t t' t.desk (t.taken + 1) (p ∷ []) [] (Some (In bytes)) lasts p (inl (refl, refl)) (inr (refl, refl, (bytes, refl, spelled))) fit (near_right t p right).0 (near_right t p right).1
+      (λ o is. refl) other
+
+  -- a message is dealt with
   pub frame_leads : (p : Parcel) (bytes : List ℕ) → parcel_of bytes ≡ Some p → IsParcel p → broken t p ≡ None
       → ((id : Id) (entry : ℕ) → p ≡ Give id entry → ⊥) → DealsWith p (record t { taken = t.taken + 1 }) t' → Leaves p t t'
       → Leads r (came p bytes) t' (effects t p)
-  frame_leads p bytes spelled fit right other = grind (arith, message_leads, near_right)
+  frame_leads (Apply act) bytes spelled fit right other deals leaves =
+      act_leads r (came (Apply act) bytes) (record { due = refl; fresh = refl }) t' act (Apply act) (inl refl) (inl (refl, refl)) refl deals
+  frame_leads (Move act) bytes spelled fit right other deals leaves =
+      act_leads r (came (Move act) bytes) (record { due = refl; fresh = refl }) t' act (Move act) (inr refl) (inl (refl, refl)) refl deals
+  frame_leads (Return id) bytes spelled fit right other deals leaves = usual_leads (Return id) bytes spelled fit right other tt deals leaves
+  frame_leads (Ask id asker entry) bytes spelled fit right other deals leaves = usual_leads (Ask id asker entry) bytes spelled fit right other tt deals leaves
+  frame_leads (Give id entry) bytes spelled fit right other deals leaves = usual_leads (Give id entry) bytes spelled fit right other tt deals leaves
+  frame_leads (Cached id place) bytes spelled fit right other deals leaves = usual_leads (Cached id place) bytes spelled fit right other tt deals leaves
+  frame_leads (Free id) bytes spelled fit right other deals leaves = usual_leads (Free id) bytes spelled fit right other tt deals leaves
+  frame_leads (Go act) bytes spelled fit right other deals leaves = usual_leads (Go act) bytes spelled fit right other tt deals leaves
+  frame_leads (Shipped act state) bytes spelled fit right other deals leaves = usual_leads (Shipped act state) bytes spelled fit right other tt deals leaves
+  frame_leads (Arrived id place) bytes spelled fit right other deals leaves = usual_leads (Arrived id place) bytes spelled fit right other tt deals leaves
 
   -- ---- a message is taken from the desk
 
@@ -126,36 +128,31 @@ module _ (act_of : ℕ → ℕ → ℕ → State → Act → Outcome) (t t' : Ta
     its : TidyAt (at_rest t) (OnDesk p)
     its = h.tidy (OnDesk p) (rw first (inl refl))
 
-    -- its object is of this home
-    home_here : (act : Act) → ((to : ℕ) → MayGoTo t.here to p → to ≡ (target_of act).home) → IsAct act → is_far_act t.localities act ≡ false → (target_of act).home ≡ t.here
-    home_here act goes shape far =
-        let low : (target_of act).home < t.localities =
-        near_home t.localities act.ids (none_of (nat_le t.localities act.origin) (are_far t.localities act.ids) far).1 0 (let many = shape.ids in omega (arith, many)) in
-        let to : its.1.to ≡ (target_of act).home = goes its.1.to its.1.may in sym to ∙ its.1.here (omega (arith, to, low))
-
     -- where the first is taken from it, the rest of the tables is as it was
     popped : (o : Id) → p ≡ Free o → held_here (record t { desk = rest }) o ≡ held_here t o
     popped o is = grind arith
 
-    -- its action may stay
-    stays : (act : Act) → (p ≡ Apply act) ⊎ (p ≡ Move act) → may_stay (record t { desk = rest }) act ≡ true
-    stays act is = each p is ((near_right t p right).0) its (near_right t p right).1 (λ to m. m)
-      where
-        each : (q : Parcel) → (q ≡ Apply act) ⊎ (q ≡ Move act) → is_far t.localities q ≡ false → TidyAt (at_rest t) (OnDesk q) → broken_near t q ≡ None
-            → ((to : ℕ) → MayGoTo t.here to p → MayGoTo t.here to q) → may_stay (record t { desk = rest }) act ≡ true
-        each q (inl e) = subst (λ x. is_far t.localities x ≡ false → TidyAt (at_rest t) (OnDesk x) → broken_near t x ≡ None → ((to : ℕ) → MayGoTo t.here to p → MayGoTo t.here to x)
-            → may_stay (record t { desk = rest }) act ≡ true) (sym e) (λ far fit no_break goes. stays_apply t act fit.0.code no_break (home_here act goes fit.0.sent.shape far))
-        each q (inr e) = subst (λ x. is_far t.localities x ≡ false → TidyAt (at_rest t) (OnDesk x) → broken_near t x ≡ None → ((to : ℕ) → MayGoTo t.here to p → MayGoTo t.here to x)
-            → may_stay (record t { desk = rest }) act ≡ true) (sym e) (λ far fit no_break goes.
-            stays_move t act fit.0.code no_break (home_here act goes fit.0.sent.shape (none_of (is_far_act t.localities act) (moves_far t.localities (move_to act)) far).0))
-
     pub desk_leads : ((id : Id) (entry : ℕ) → p ≡ Give id entry → ⊥) → Accepts p (record t { desk = rest }) t' → Leaves p t t' → Leads r (mailed p rest) t' (effects t p)
-    desk_leads other accepts = message_leads r t t' rest t.taken [] (p ∷ []) (Some (Mail (kind_of p))) lasts p (inr (refl, refl)) (inl (refl, refl, refl)) its.0
-        ((near_right t p right).0) (near_right t p right).1 popped other (λ m. stays) ((same_deals p (record t { desk = rest }) t' stays).1 accepts)
+    desk_leads = each p its.0 its.1 (near_right t p right).0 (near_right t p right).1 popped
+      where
+        usual : (q : Parcel) → IsParcel q → is_far t.localities q ≡ false → broken_near t q ≡ None → ((o : Id) → q ≡ Free o → held_here (record t { desk = rest }) o ≡ held_here t o)
+            → ((id : Id) (entry : ℕ) → q ≡ Give id entry → ⊥) → IsUsual q → DealsWith q (record t { desk = rest }) t' → Leaves q t t' → Leads r (mailed q rest) t' (effects t q)
+        usual q fit far near held other =
+            message_leads r t t' rest t.taken [] (q ∷ []) (Some (Mail (kind_of q))) lasts q (inr (refl, refl)) (inl (refl, refl, refl)) fit far near held other
 
-    -- what is done with it is what is done with a message from the desk: its action is accepted
-    pub desk_accepts : DealsWith p (record t { desk = rest }) t' → Accepts p (record t { desk = rest }) t'
-    desk_accepts = (same_deals p (record t { desk = rest }) t' stays).0
+        each : (q : Parcel) → IsParcel q → IsForHere t.localities t.here q → is_far t.localities q ≡ false → broken_near t q ≡ None → ((o : Id) → q ≡ Free o → held_here (record t { desk = rest }) o ≡ held_here t o)
+            → ((id : Id) (entry : ℕ) → q ≡ Give id entry → ⊥) → Accepts q (record t { desk = rest }) t' → Leaves q t t' → Leads r (mailed q rest) t' (effects t q)
+        each (Apply act) fit for far near held other deals leaves = own_leads r (mailed (Apply act) rest) (record { due = refl; fresh = refl }) t' act (Apply act) (inl refl) (inr (refl, refl))
+            (λ a e lost. let same : act ≡ a = cc in subst (λ (b : Act). away_here t (target_of b) ≡ true) same (parked_away t act fit.code far for near (root_stays (at_rest t) h.tidy (target_of act)) lost)) deals
+        each (Move act) fit for far near held other deals leaves = own_leads r (mailed (Move act) rest) (record { due = refl; fresh = refl }) t' act (Move act) (inr refl) (inr (refl, refl)) (λ a e lost. cc) deals
+        each (Return id) fit for far near held other deals leaves = usual (Return id) fit far near held other tt deals leaves
+        each (Ask id asker entry) fit for far near held other deals leaves = usual (Ask id asker entry) fit far near held other tt deals leaves
+        each (Give id entry) fit for far near held other deals leaves = usual (Give id entry) fit far near held other tt deals leaves
+        each (Cached id place) fit for far near held other deals leaves = usual (Cached id place) fit far near held other tt deals leaves
+        each (Free id) fit for far near held other deals leaves = usual (Free id) fit far near held other tt deals leaves
+        each (Go act) fit for far near held other deals leaves = usual (Go act) fit far near held other tt deals leaves
+        each (Shipped act state) fit for far near held other deals leaves = usual (Shipped act state) fit far near held other tt deals leaves
+        each (Arrived id place) fit for far near held other deals leaves = usual (Arrived id place) fit far near held other tt deals leaves
 
   -- ---- a frame goes, a line is fed, an action is fired
 
@@ -191,3 +188,50 @@ module _ (act_of : ℕ → ℕ → ℕ → State → Act → Outcome) (t t' : Ta
     idle = idle;
     now = ap (λ u. record (at_rest u) { last = Some (Fire (name_of act)) }) now;
   })
+
+  -- ---- behind a message, or an action that ended
+
+  -- an object leaves on which nothing more is done
+  pub left_stands : (i : ℕ) (act : Act) (to j : ℕ) (x : Standing) → slice_get t.leaving i ≡ Some (Go act) → move_to act ≡ Some to → slice_get t.objects j ≡ Some x
+      → find (is_standing (target_of act)) t.objects ≡ Some x → is_busy (target_of act) (fired_acts t) ≡ false → list_any (acts_on (target_of act)) t.accepted ≡ false
+      → IsPermutation (remove t.objects j) t'.objects → t' ≡ record (with_mail to (Shipped act x.state) t) { leaving = remove t.leaving i; objects = t'.objects }
+      → Stands act_of t' (entries ++ at_all t.here (Left (bare (target_of act)) to ∷ []))
+  left_stands i act to j x there moves stands found idle none same now =
+      let e : Event = Left (bare (target_of act)) to in
+      let m : Tables = record (with_mail to (Shipped act x.state) t) { leaving = remove t.leaving i; objects = remove t.objects j } in
+      turn_stands act_of t t' entries (Writes e ∷ Reorder ∷ []) (Some e) h (
+        record (at_rest m) { last = Some e },
+        record { calm = record { due = refl; fresh = refl }; i = i; act = act; there = there; object = refl; moves = moves; j = j; x = x; stands = stands; found = found; idle = idle; none = none; now = refl },
+        (record (at_rest t') { last = Some e }, record { objects = t'.objects; same = same; now = ap (λ u. record (at_rest u) { last = Some e }) now }, refl),
+      )
+
+-- what waits for an object goes its way
+pub released_stands : (act_of : ℕ → ℕ → ℕ → State → Act → Outcome) (n : ℕ) (o : Id) (t : Tables) (entries : List Entry) → Stands act_of t entries → Stands act_of (with_released n o t) entries
+released_stands act_of zero o t entries h = h
+released_stands act_of (suc n) o t entries h = if_so (is_some (moving_here t o)) (λ m. rw m h) (λ m. rw m (each (λ u k. released_stands act_of n o u entries k) (find (is_for o.number) t.queued) refl))
+  where
+    one : (w : Waiting Parcel) → find (is_for o.number) t.queued ≡ Some w → Stands act_of (with_act (act_in w.item) (record t { queued = without_first o.number t.queued })) entries
+    one w e =
+        let u : Tables = with_act (act_in w.item) (record t { queued = without_first o.number t.queued }) in
+        subst (Stands act_of u) (append-nil entries) (turn_stands act_of t u entries (Release ∷ []) None h (
+          at_rest u,
+          record { number = o.number; first = w; act = act_in w.item; there = e; brings = its w.item (h.tidy (Queued w) (found_among (is_for o.number) t.queued w e)).1; now = refl },
+          refl,
+        ))
+      where
+        its : (p : Parcel) → IsWaitingFor t.here w.number p → (p ≡ Apply (act_in p)) ⊎ (p ≡ Move (act_in p))
+        its (Apply act) k = inl refl
+        its (Move act) k = inr refl
+        its (Go act) k = absurd k
+        its (Shipped act state) k = absurd k
+        its (Return id) k = absurd k
+        its (Ask id asker entry) k = absurd k
+        its (Give id entry) k = absurd k
+        its (Cached id place) k = absurd k
+        its (Arrived id place) k = absurd k
+        its (Free id) k = absurd k
+
+    each : ((u : Tables) → Stands act_of u entries → Stands act_of (with_released n o u) entries) → (w : Option (Waiting Parcel)) → find (is_for o.number) t.queued ≡ w
+        → Stands act_of (released_by t o (with_released n o) w) entries
+    each more None e = h
+    each more (Some w) e = more (with_act (act_in w.item) (record t { queued = without_first o.number t.queued })) (one w e)

@@ -1,22 +1,27 @@
 -- What a locality does with a message that it takes up, and with what an action leaves, told of its tables and entries.
-use Rattle.std.specs.Prelude.{ℕ, cond, nat_lt, List, [], ◌∷◌, ◌++◌, ◌≡◌, ◌+◌, ◌-◌, ◌^◌, ◌==◌, if◌then◌else◌, flat_map, set, take, slice_get, false, Option, Some, None}
+use Rattle.std.specs.Prelude.{ℕ, cond, nat_lt, List, [], ◌∷◌, ◌++◌, ◌≡◌, ◌+◌, ◌-◌, ◌^◌, ◌==◌, if◌then◌else◌, flat_map, set, take, slice_get, false, Option, Some, None, Bool, not, nat_le, ◌&&◌, ◌||◌, zero, suc, is_some}
 use Rattle.std.specs.List.{find}
 use Rattle.std.specs.List.Sorted.{IsPermutation}
 use Rattle.std.specs.Option.{option_and_then, option_map, option_map_or}
 use Rattle.hpx_value.specs.Ids.{bare, credit, same_object}
 use Rattle.hpx_value.specs.Values.{named}
 use Rattle.hpx_journal.specs.Bags.{without}
-use Rattle.hpx_journal.specs.Data.{Id, Act, Due, MessageDue, PrintDue, Parcel, Apply, Return, Ask, Give, Move, Free}
+use Rattle.hpx_journal.specs.Data.{Id, Act, State, Due, MessageDue, PrintDue, Parcel, Apply, Return, Ask, Give, Move, Go, Shipped, Arrived, Free}
+use Rattle.hpx_journal.specs.Entries.{name_of, target_of, move_to}
+use Rattle.hpx_journal.specs.Rows.{is_to}
 use Rattle.hpx_journal.specs.Local.{is_standing}
-use Rattle.hpx_part.specs.Data.{Event, Sent, Print, Merge, Up, Given, Count, Returned, Granted, Refused, Freed, Standing}
+use Rattle.hpx_part.specs.Data.{Event, Sent, Print, Merge, Up, Given, Count, Returned, Granted, Refused, Freed, Landed, Standing}
+use Rattle.hpx_agas.specs.Queues.{is_for, without_first}
 use Rattle.hpx_agas.specs.Registries.{lowered, asked}
 use Rattle.hpx_agas.specs.declared.record.Record.{Record}
+use Rattle.hpx_agas.specs.declared.record.Waiting.{Waiting}
 use Rattle.hpx_commit.specs.Deals.{log_of}
-use Rattle.hpx_tables.specs.Kept.{record_here, count_here}
+use Rattle.hpx_tables.specs.Kept.{record_here, count_here, moving_here}
 use Rattle.hpx_tables.specs.Merged.{may_merge, merged_in}
 use Rattle.hpx_tables.specs.Pending.{Waits, Refills, awaits}
 use Rattle.hpx_tables.specs.Tables.{Tables}
-use Rattle.hpx_steps.specs.Mail.{with_mail, with_mail_if, with_act, with_return}
+use Rattle.hpx_steps.specs.Mail.{with_mail, with_mail_if, with_return}
+use Rattle.hpx_steps.specs.Ways.{Way, Accept, accepts, way, with_act}
 
 -- ---- what is due, and what is given up
 
@@ -49,6 +54,22 @@ with_riders j x (id ∷ ids) t = with_rider j x id id.log t
 -- all that is due is on its way; then the rider is merged or given up, and then these ids are given up
 abbrev pub with_done : ℕ → Standing → List Due → List Id → List Id → Tables → Tables
 with_done j x due riders ids t = with_returns ids (with_riders j x riders (with_due due t))
+
+-- ids are given up, one after the other: the first of them tell the homes of these objects that these stand here
+abbrev pub with_told : List Id → List Id → Tables → Tables
+with_told [] ids t = with_returns ids t
+with_told (o ∷ told) [] t = t
+with_told (o ∷ told) (id ∷ ids) t = with_told told ids (with_mail id.home (Arrived id t.here) t)
+
+-- the first of these ids are of these objects
+abbrev pub AreOf : List Id → List Id → Type 0
+AreOf [] ids = Unit {0}
+AreOf (o ∷ told) [] = ⊥
+AreOf (o ∷ told) (id ∷ ids) = (o ≡ bare id) × AreOf told ids
+
+-- the same as with_done, where the homes of these objects are told
+abbrev pub with_done_told : List Id → ℕ → Standing → List Due → List Id → List Id → Tables → Tables
+with_done_told told j x due riders ids t = with_told told ids (with_riders j x riders (with_due due t))
 
 -- an Ask for each of these ids, to its home: from k, under the numbers behind n
 abbrev pub with_asks : ℕ → ℕ → List Id → Tables → Tables
@@ -87,8 +108,11 @@ abbrev pub place_or_0 : Tables → Id → ℕ
 place_or_0 t o = option_map_or (λ (r : Record). r.place) (record_here t o) 0
 
 -- an id came home: if this was the last credit that was out, the place of its object is told to free it
+abbrev pub with_free_at : ℕ → Id → Tables → Tables
+with_free_at place id t = with_mail_if (count_here t id == credit id) place (Free (bare id)) t
+
 abbrev pub with_free : Id → Tables → Tables
-with_free id t = with_mail_if (count_here t id == credit id) (place_or_0 t id) (Free (bare id)) t
+with_free id t = with_free_at (place_or_0 t id) id t
 
 -- the count with the credit of a new object in place of the least
 abbrev pub more_here : Tables → Id → ℕ
@@ -113,9 +137,23 @@ pub record Gives (id : Id) (entry : ℕ) (t t' : Tables) : Type 0 where
   pub refills : Refills id entry before after
   pub rest : t' ≡ record t { pending = set t.pending i after }
 
+-- an object may stand here with which this MOVE came: it is to be here, and if it was made here, its number was drawn
+abbrev pub may_land : Tables → Act → Bool
+may_land t act = is_to t.here (move_to act) && (not ((target_of act).home == t.here) || nat_le (target_of act).number t.births)
+
+-- with it: it stands here and its MOVE is accepted, or both stay for good
+abbrev pub with_object : Act → State → Tables → Tables
+with_object act state t = record t {
+  objects = t.objects ++ cond (may_land t act) (record { object = bare (target_of act); state = state } ∷ []) [];
+  accepted = t.accepted ++ cond (may_land t act) (act ∷ []) [];
+  came = t.came ++ cond (may_land t act) (record { name = name_of act; object = bare (target_of act) } ∷ []) [];
+  stray = t.stray ++ cond (may_land t act) [] (Shipped act state ∷ []);
+}
+
 -- what waits then, or is on its way: an action that it brought; the answer to an ask; that a dead object is to be freed; ids
 -- that a freed object gives up. Credit that was asked for is in the hand of the commit that waits for it. Nothing else changes
--- but records at an ask or a return, and objects at a Free
+-- but records at an ask or a return, and objects at a Free. An object is put where it may stand, with its MOVE;
+-- and that one has landed is a return
 abbrev pub DealsWith : Parcel → Tables → Tables → Type 0
 DealsWith (Apply act) t t' = t' ≡ with_act act t
 DealsWith (Move act) t t' = t' ≡ with_act act t
@@ -123,16 +161,24 @@ DealsWith (Return id) t t' = t' ≡ record (with_free id t) { records = t'.recor
 DealsWith (Ask id asker entry) t t' = t' ≡ record (with_mail asker (Give (given_here t id) entry) t) { records = t'.records }
 DealsWith (Give id entry) t t' = Gives id entry t t'
 DealsWith (Free o) t t' = t' ≡ record (with_returns (ids_in (find (is_standing o) t.objects)) t) { objects = t'.objects }
+DealsWith (Go act) t t' = t' ≡ record t { leaving = t.leaving ++ Go act ∷ [] }
+DealsWith (Shipped act state) t t' = t' ≡ with_object act state t
+DealsWith (Arrived id place) t t' = t' ≡ record (with_free_at place id t) { records = t'.records }
 DealsWith _ t t' = t' ≡ t
 
--- with one more accepted action, the last
-abbrev pub with_accepted : Act → Tables → Tables
-with_accepted act t = record t { accepted = t.accepted ++ act ∷ [] }
+-- what stays for good of a message on the own desk with an action that would go this way
+abbrev pub parked : Way → Parcel → List Parcel
+parked Accept p = []
+parked _ p = p ∷ []
 
--- the same on the own desk, where an action is accepted: it goes on to nowhere
+-- with an action of the own desk: it is accepted, or stays for good, and goes on to nowhere
+abbrev pub with_own : Parcel → Act → Tables → Tables
+with_own p act t = record t { accepted = t.accepted ++ accepts (way t act) act; stray = t.stray ++ parked (way t act) p }
+
+-- the same on the own desk
 abbrev pub Accepts : Parcel → Tables → Tables → Type 0
-Accepts (Apply act) t t' = t' ≡ with_accepted act t
-Accepts (Move act) t t' = t' ≡ with_accepted act t
+Accepts (Apply act) t t' = t' ≡ with_own (Apply act) act t
+Accepts (Move act) t t' = t' ≡ with_own (Move act) act t
 Accepts p t t' = DealsWith p t t'
 
 -- the record of o is this one, or there is none; those of all other objects stay
@@ -144,9 +190,28 @@ pub record Turns (o : Id) (made : Option Record) (t t' : Tables) : Type 0 where
 -- object that is freed goes from here, and no other, and these may be in another order
 abbrev pub Leaves : Parcel → Tables → Tables → Type 0
 Leaves (Return id) t t' = Turns id (option_and_then (λ (r : Record). lowered r id) (record_here t id)) t t'
+Leaves (Arrived id place) t t' = Turns id (option_and_then (λ (r : Record). lowered (record r { place = place; moving = None }) id) (record_here t id)) t t'
 Leaves (Ask id asker entry) t t' = Turns id (option_map (asked t.profile) (record_here t id)) t t'
 Leaves (Free o) t t' = IsPermutation (without (is_standing o) t.objects) t'.objects
 Leaves _ t t' = Unit {0}
+
+-- ---- what is done behind it
+
+-- the action of a message that waits
+abbrev pub act_in : Parcel → Act
+act_in (Apply act) = act
+act_in (Move act) = act
+act_in _ = record { origin = 0; serial = 0; code = 0; args = []; cont = None; ids = [] }
+
+-- the first that waits for an object goes its way, if there is one, and then this is done
+abbrev pub released_by : Tables → Id → (Tables → Tables) → Option (Waiting Parcel) → Tables
+released_by t o next None = t
+released_by t o next (Some w) = next (with_act (act_in w.item) (record t { queued = without_first o.number t.queued }))
+
+-- up to n actions that wait for an object go their way, the oldest first, until it moves
+abbrev pub with_released : ℕ → Id → Tables → Tables
+with_released zero o t = t
+with_released (suc n) o t = cond (is_some (moving_here t o)) t (released_by t o (with_released n o) (find (is_for o.number) t.queued))
 
 -- ---- what is written
 
@@ -170,6 +235,8 @@ freed o (Some x) = Freed o ∷ ups x.state.ids
 -- what is written behind the entry that takes up the message
 abbrev pub effects : Tables → Parcel → List Event
 effects t (Return id) = returned t id id.log
+effects t (Arrived id place) = returned t id id.log
+effects t (Shipped act state) = cond (may_land t act) (Landed (bare (target_of act)) ∷ []) []
 effects t (Ask id asker entry) = answered t id
 effects t (Give id entry) = Given (bare id) (log_of id.log) ∷ []
 effects t (Free o) = freed o (find (is_standing o) t.objects)

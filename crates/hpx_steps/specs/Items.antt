@@ -2,8 +2,9 @@
 use Rattle.std.specs.Prelude.{ℕ, ◌+◌, ◌≡◌, ◌⊎◌, List, [], ◌∷◌}
 use Rattle.std.specs.List.{sum_by}
 use Rattle.hpx_journal.specs.Data.{Id, Act, Parcel, Due}
-use Rattle.hpx_part.specs.Data.{Name, Standing}
+use Rattle.hpx_part.specs.Data.{Standing}
 use Rattle.hpx_agas.specs.declared.record.Waiting.{Waiting}
+use Rattle.hpx_tables.specs.declared.kept.Arrival.{Arrival}
 use Rattle.hpx_tables.specs.declared.kept.Outgoing.{Outgoing}
 use Rattle.hpx_tables.specs.Pending.{Waits}
 use Rattle.hpx_steps.specs.Turn.{Turn}
@@ -17,7 +18,7 @@ pub data Item : Type 0 where
   Queued : Waiting Parcel → Item
   Leaving : Parcel → Item
   Stray : Parcel → Item
-  Brought : Name → Item
+  Brought : Arrival → Item
   Accepted : Act → Item
   Running : Act → Item
   Pending : Waits → Item
@@ -25,6 +26,7 @@ pub data Item : Type 0 where
   StandsHere : Standing → Item
   IsDue : Due → Item
   Loose : Id → Item
+  Untold : Id → Item
 
 -- x is one of these
 abbrev pub Among : {X : Type 0} → X → List X → Type 0
@@ -48,6 +50,7 @@ Has s (Working w) = Among w s.working
 Has s (StandsHere x) = Among x s.tables.objects
 Has s (IsDue d) = Among d s.due
 Has s (Loose id) = Among id s.loose
+Has s (Untold o) = Among o s.untold
 
 -- this holds of all that is there
 abbrev pub Holds : (Item → Type 0) → Turn → Type 0
@@ -71,3 +74,4 @@ weigh w s =
     + sum_by (λ x. w (StandsHere x)) s.tables.objects
     + sum_by (λ x. w (IsDue x)) s.due
     + sum_by (λ x. w (Loose x)) s.loose
+    + sum_by (λ x. w (Untold x)) s.untold

@@ -12,3 +12,4 @@ pub mod Numbered
 pub mod Limits
 pub mod Left
 pub mod Ways
+pub mod Flows

@@ -1,10 +1,7 @@
--- Where messages and actions go. Each field is given for itself, so that those that stay are seen to stay.
-use Rattle.std.specs.Prelude.{ℕ, Bool, false, not, nat_lt, cond, [], ◌∷◌, ◌++◌, ◌+◌, ◌==◌, ◌&&◌, Option, Some, None}
-use Rattle.hpx_journal.specs.Data.{Id, Act, Parcel, Return}
-use Rattle.hpx_journal.specs.Entries.{target_of, move_to}
+-- Where messages go. Each field is given for itself, so that those that stay are seen to stay.
+use Rattle.std.specs.Prelude.{ℕ, Bool, not, nat_lt, cond, [], ◌∷◌, ◌++◌, ◌+◌, ◌==◌, ◌&&◌, Option, Some, None}
+use Rattle.hpx_journal.specs.Data.{Id, Parcel, Return}
 use Rattle.hpx_tables.specs.declared.kept.Outgoing.{Outgoing}
-use Rattle.hpx_tables.specs.Fit.{parcel_for}
-use Rattle.hpx_tables.specs.Kept.{stands_here}
 use Rattle.hpx_tables.specs.Tables.{Tables}
 use Rattle.hpx_part.specs.Data.{Event}
 use Rattle.hpx_steps.specs.Turn.{Turn}
@@ -35,23 +32,6 @@ abbrev pub with_return : Id → Option ℕ → Tables → Tables
 with_return id None t = t
 with_return id (Some log) t = with_mail id.home (Return id) t
 
--- it moves its object away from k
-abbrev pub moves_on : ℕ → Option ℕ → Bool
-moves_on k None = false
-moves_on k (Some to) = not (to == k)
-
--- an action may be accepted: its object stands here, and a MOVE is to here
-abbrev pub may_stay : Tables → Act → Bool
-may_stay t act = not (moves_on t.here (move_to act)) && stands_here t (target_of act)
-
--- one more action: accepted exactly where it may be, else in a message to the home of its object
-abbrev pub with_act : Act → Tables → Tables
-with_act act t = record t {
-  accepted = t.accepted ++ cond (may_stay t act) (act ∷ []) [];
-  desk = t.desk ++ cond (not (may_stay t act)) (cond (is_other t (target_of act).home) [] (parcel_for act ∷ [])) [];
-  outgoing = t.outgoing ++ cond (not (may_stay t act)) (cond (is_other t (target_of act).home) (going (target_of act).home (parcel_for act) ∷ []) []) [];
-}
-
 -- ---- the same in a turn
 
 -- what is new then
@@ -63,9 +43,6 @@ mails to p s = record s { tables = with_mail to p s.tables }
 
 abbrev pub mails_if : Bool → ℕ → Parcel → Turn → Turn
 mails_if b to p s = record s { tables = with_mail_if b to p s.tables }
-
-abbrev pub posts : Act → Turn → Turn
-posts act s = record s { tables = with_act act s.tables }
 
 -- the next number for an action is drawn
 abbrev pub draws : Turn → Turn

@@ -1,6 +1,6 @@
 -- What one entry changes, and what a turn does between entries.
 use Rattle.std.specs.Prelude.{ℕ, true, false, cond, List, [], ◌∷◌, ◌++◌, ◌≡◌, ◌≢◌, ◌+◌, ◌^◌, ◌==◌, ◌≤◌, ◌<◌, ◌⊎◌, map, flat_map, is_some, length, set, take, slice_get, Option, Some, None}
-use Rattle.std.specs.List.{filter, find, remove, sum_by, AllByRecursion}
+use Rattle.std.specs.List.{filter, find, list_any, remove, sum_by, AllByRecursion}
 use Rattle.std.specs.List.Sorted.{IsPermutation}
 use Rattle.hpx_value.specs.Ids.{bare, bare_id, same_object}
 use Rattle.hpx_value.specs.Values.{bare_act, bare_state, named}
@@ -11,29 +11,32 @@ use Rattle.hpx_value.specs.Riders.{due_with, plain, rider_of}
 use Rattle.hpx_value.specs.Laws.{birth_state}
 use Rattle.hpx_value.specs.declared.acts.Job.{Job}
 use Rattle.hpx_parcel.specs.Parcels.{IsParcel, HasRightCredit, HasLeastCredit}
-use Rattle.hpx_journal.specs.Data.{Id, Act, State, Message, Due, MessageDue, PrintDue, Parcel, Apply, Return, Ask, Give, Move, Free}
-use Rattle.hpx_journal.specs.Entries.{Rules, name_of, target_of, line_act}
-use Rattle.hpx_journal.specs.Frames.{travels_in}
-use Rattle.hpx_journal.specs.Local.{is_standing, is_busy, failure}
+use Rattle.hpx_journal.specs.Data.{Id, Act, State, Message, Due, MessageDue, PrintDue, Parcel, Apply, Return, Ask, Give, Move, Go, Shipped, Arrived, Free}
+use Rattle.hpx_journal.specs.Entries.{Rules, name_of, target_of, move_to, line_act}
+use Rattle.hpx_journal.specs.Local.{is_standing, acts_on, is_busy, failure}
 use Rattle.hpx_journal.specs.Names.{due_ids}
-use Rattle.hpx_journal.specs.Rows.{AreMade}
+use Rattle.hpx_journal.specs.Rows.{AreMade, is_to}
 use Rattle.hpx_journal.specs.Tokens.{held_token}
-use Rattle.hpx_part.specs.Data.{Name, Returned, Granted, Refused, Event, Line, Fire, Split, Born, Done, Sent, Print, Merge, Up, Asked, Given, Count, Freed, Mail, Out, In, Standing, Token}
+use Rattle.hpx_part.specs.Data.{Name, Returned, Granted, Refused, Event, Line, Fire, Split, Born, Done, Sent, Print, Merge, Up, Asked, Given, Count, Freed, Left, Landed, Mail, Out, In, Standing, Token}
 use Rattle.hpx_agas.specs.Records.{find_record}
 use Rattle.hpx_agas.specs.Registries.{lowered, asked}
+use Rattle.hpx_agas.specs.Queues.{is_for, without_first}
 use Rattle.hpx_agas.specs.declared.record.Record.{Record}
+use Rattle.hpx_agas.specs.declared.record.Waiting.{Waiting}
 use Rattle.hpx_commit.specs.Deals.{half}
 use Rattle.hpx_tables.specs.Births.{IsBirth, birth_of}
 use Rattle.hpx_tables.specs.Fit.{IsKept, IsFitDue}
 use Rattle.hpx_tables.specs.Awaited.{answered_by}
-use Rattle.hpx_tables.specs.Kept.{held_here, waits_here}
+use Rattle.hpx_tables.specs.Kept.{held_here, waits_here, stays_here}
 use Rattle.hpx_tables.specs.Merged.{may_merge, merged_in}
 use Rattle.hpx_tables.specs.Pending.{Waits, Refills, awaits, waits_with, ids_named, fired_of}
 use Rattle.hpx_tables.specs.declared.kept.Outgoing.{Outgoing}
 use Rattle.hpx_steps.specs.Paused.{HasSplit}
 use Rattle.hpx_steps.specs.Turn.{Turn, commits, tokens_of, bare_due, bare_standing}
 use Rattle.hpx_steps.specs.Rows.{kind_of}
-use Rattle.hpx_steps.specs.Mail.{may_stay, mails, mails_if, posts, draws, wrote}
+use Rattle.hpx_steps.specs.Mail.{mails, mails_if, draws, wrote}
+use Rattle.hpx_steps.specs.Sound.{IsStray, away_here}
+use Rattle.hpx_steps.specs.Ways.{Accept, way, posts}
 
 -- ---- when
 
@@ -263,6 +266,18 @@ pub record Merges (s : Turn) (o : Id) (log : ℕ) (s' : Turn) : Type 0 where
   pub may : may_merge s.tables.profile.credit_log id log x.state.ids ≡ true
   pub now : s' ≡ wrote (Merge o log) (record s { loose = rest; tables = record s.tables { objects = set s.tables.objects j (merged_in id log x) } })
 
+-- the first loose id is of an object that came with a MOVE that is done: its home is told where it is, and the credit goes home so
+pub record Tells (s : Turn) (o : Id) (log : ℕ) (s' : Turn) : Type 0 where
+  pub calm : IsCalm s
+  pub id : Id
+  pub rest : List Id
+  pub more : List Id
+  pub first : s.loose ≡ id ∷ rest
+  pub object : o ≡ bare id
+  pub has : id.log ≡ Some log
+  pub untold : s.untold ≡ bare id ∷ more
+  pub now : s' ≡ wrote (Up o log) (mails id.home (Arrived id s.tables.here) (record s { loose = rest; untold = more }))
+
 -- the first loose id is given up: it goes home in a message
 pub record GivesUp (s : Turn) (o : Id) (log : ℕ) (s' : Turn) : Type 0 where
   pub calm : IsCalm s
@@ -341,6 +356,23 @@ pub record TakesBack (s : Turn) (o : Id) (count log : ℕ) (s' : Turn) : Type 0 
   pub recounts : Recounts id old (lowered old id) s.tables.records records
   pub now : s' ≡ wrote (Count o count (Returned log)) (mails_if (count == 0) old.place (Free (bare id)) (with_records records (drops s)))
 
+-- an object has landed: its record says so, and then that the credit came home that told it
+pub record Arrives (s : Turn) (o : Id) (count log : ℕ) (s' : Turn) : Type 0 where
+  pub calm : IsCalm s
+  pub id : Id
+  pub place : ℕ
+  pub old : Record
+  pub records : List Record
+  pub hand : HasInHand (Arrived id place) s
+  pub object : o ≡ bare id
+  pub home : id.home ≡ s.tables.here
+  pub has : id.log ≡ Some log
+  pub moving : old.moving ≡ Some place
+  pub near : place < s.tables.localities
+  pub sum : count + 2 ^ log ≡ old.count
+  pub recounts : Recounts id old (lowered (record old { place = place; moving = None }) id) s.tables.records records
+  pub now : s' ≡ wrote (Count o count (Returned log)) (mails_if (count == 0) place (Free (bare id)) (with_records records (drops s)))
+
 -- more credit is asked for: it is granted, and the record raised
 pub record Grants (s : Turn) (o : Id) (count : ℕ) (s' : Turn) : Type 0 where
   pub calm : IsCalm s
@@ -398,6 +430,54 @@ pub record Frees (r : Rules) (s : Turn) (o : Id) (s' : Turn) : Type 0 where
   pub unheld : held_here s.tables o ≡ 0
   pub now : s' ≡ wrote (Freed o) (record (drops s) { loose = s.loose ++ with_credit x.state.ids; tables = record s.tables { objects = remove s.tables.objects i } })
 
+-- ---- objects that move
+
+-- an object leaves that is to: no action on it is accepted or fired; it goes, with its MOVE
+pub record Departs (s : Turn) (o : Id) (to : ℕ) (s' : Turn) : Type 0 where
+  pub calm : IsCalm s
+  pub i : ℕ
+  pub act : Act
+  pub there : slice_get s.tables.leaving i ≡ Some (Go act)
+  pub object : o ≡ bare (target_of act)
+  pub moves : move_to act ≡ Some to
+  pub j : ℕ
+  pub x : Standing
+  pub stands : slice_get s.tables.objects j ≡ Some x
+  pub found : find (is_standing (target_of act)) s.tables.objects ≡ Some x
+  pub idle : is_busy (target_of act) (fired_of s.tables.running (commits s)) ≡ false
+  pub none : list_any (acts_on (target_of act)) s.tables.accepted ≡ false
+  pub now : s' ≡ wrote (Left o to) (mails to (Shipped act x.state) (record s {
+    tables = record s.tables { leaving = remove s.tables.leaving i; objects = remove s.tables.objects j };
+  }))
+
+-- an object in hand stands here, and its MOVE is accepted: it came where it is to go, does not stand here, and was born
+pub record Lands (s : Turn) (o : Id) (s' : Turn) : Type 0 where
+  pub calm : IsCalm s
+  pub act : Act
+  pub state : State
+  pub hand : HasInHand (Shipped act state) s
+  pub object : o ≡ bare (target_of act)
+  pub moves : move_to act ≡ Some s.tables.here
+  pub absent : find (is_standing (target_of act)) s.tables.objects ≡ None
+  pub drawn : (target_of act).home ≡ s.tables.here → (target_of act).number ≤ s.tables.births
+  pub now : s' ≡ wrote (Landed o) (record (drops s) {
+    tables = record s.tables {
+      objects = s.tables.objects ++ record { object = bare (target_of act); state = state } ∷ [];
+      accepted = s.tables.accepted ++ act ∷ [];
+      came = s.tables.came ++ record { name = name_of act; object = bare (target_of act) } ∷ [];
+    };
+  })
+
+-- a MOVE with which its object came is about to be done, without an entry: the home of the object is to be told
+pub record Notes (s s' : Turn) : Type 0 where
+  pub w : Waits
+  pub rest : List Waits
+  pub i : ℕ
+  pub works : s.working ≡ w ∷ rest
+  pub moves : w.job.action.code ≡ 1
+  pub there : slice_get s.tables.came i ≡ Some (record { name = name_of w.job.action; object = bare (target_of w.job.action) })
+  pub now : s' ≡ record s { untold = s.untold ++ bare (target_of w.job.action) ∷ []; tables = record s.tables { came = remove s.tables.came i } }
+
 -- ---- messages
 
 -- the first message on the desk is taken up
@@ -427,17 +507,44 @@ pub record ComesIn (r : Rules) (s : Turn) (bytes : List ℕ) (s' : Turn) : Type 
   pub parcel : Parcel
   pub spelled : r.parcel_of bytes ≡ Some parcel
   pub fit : IsParcel parcel
-  pub none : travels_in (Some parcel) ≡ []
   pub now : s' ≡ wrote (In bytes) (record s { came = parcel ∷ []; tables = record s.tables { taken = s.tables.taken + 1 } })
 
--- an action that is in hand waits here, or goes on, without an entry; one from the desk waits here
+-- an action that is in hand goes its way, without an entry; one from the desk is accepted
 pub record Places (s s' : Turn) : Type 0 where
   pub act : Act
   pub parcel : Parcel
   pub brings : (parcel ≡ Apply act) ⊎ (parcel ≡ Move act)
   pub hand : HasInHand parcel s
-  pub stays : s.mailed ≢ [] → may_stay s.tables act ≡ true
+  pub stays : s.mailed ≢ [] → way s.tables act ≡ Accept
   pub now : s' ≡ posts act (drops s)
+
+-- a move that was granted is in hand: its object stands here, goes elsewhere, and is to leave now
+pub record Marks (s s' : Turn) : Type 0 where
+  pub act : Act
+  pub hand : HasInHand (Go act) s
+  pub stays : stays_here s.tables (target_of act) ≡ true
+  pub away : is_to s.tables.here (move_to act) ≡ false
+  pub now : s' ≡ record (drops s) { tables = record s.tables { leaving = s.tables.leaving ++ Go act ∷ [] } }
+
+-- a message in hand stays here for good: an object that is to elsewhere, or has a number of here that was not drawn; or an action on the own
+-- desk whose object moves or is elsewhere
+pub record Parks (s s' : Turn) : Type 0 where
+  pub parcel : Parcel
+  pub sort : IsStray parcel
+  pub away : (act : Act) → parcel ≡ Apply act → away_here s.tables (target_of act) ≡ true
+  pub strange : (act : Act) (state : State) → parcel ≡ Shipped act state
+      → (is_to s.tables.here (move_to act) ≡ false) ⊎ (((target_of act).home ≡ s.tables.here) × (s.tables.births < (target_of act).number))
+  pub hand : HasInHand parcel s
+  pub now : s' ≡ record (drops s) { tables = record s.tables { stray = s.tables.stray ++ parcel ∷ [] } }
+
+-- the first action that waits for an object of a number goes its way
+pub record Releases (s s' : Turn) : Type 0 where
+  pub number : ℕ
+  pub first : Waiting Parcel
+  pub act : Act
+  pub there : find (is_for number) s.tables.queued ≡ Some first
+  pub brings : (first.item ≡ Apply act) ⊎ (first.item ≡ Move act)
+  pub now : s' ≡ posts act (record s { tables = record s.tables { queued = without_first number s.tables.queued } })
 
 -- the objects that stand here are in another order
 pub record Reorders (s s' : Turn) : Type 0 where
@@ -447,12 +554,16 @@ pub record Reorders (s s' : Turn) : Type 0 where
 
 -- ---- steps
 
--- an entry is written, or one of four things is done without
+-- an entry is written, or something is done without
 pub data Label : Type 0 where
   Writes : Event → Label
   Suspend : Label
   Pause : Label
   Place : Label
+  Mark : Label
+  Park : Label
+  Release : Label
+  Note : Label
   Reorder : Label
 
 -- one step
@@ -466,13 +577,15 @@ Step r s (Writes (Done a true)) s' = Fails s a s'
 Step r s (Writes (Sent a)) s' = Sends s a s'
 Step r s (Writes (Print bytes)) s' = Prints s bytes s'
 Step r s (Writes (Merge o log)) s' = Merges s o log s'
-Step r s (Writes (Up o log)) s' = GivesUp s o log s'
+Step r s (Writes (Up o log)) s' = GivesUp s o log s' ⊎ Tells s o log s'
 Step r s (Writes (Asked o)) s' = AsksFor s o s'
 Step r s (Writes (Given o log)) s' = IsGiven s o log s'
-Step r s (Writes (Count o count (Returned log))) s' = TakesBack s o count log s'
+Step r s (Writes (Count o count (Returned log))) s' = TakesBack s o count log s' ⊎ Arrives s o count log s'
 Step r s (Writes (Count o count Granted)) s' = Grants s o count s'
 Step r s (Writes (Count o count Refused)) s' = Refuses s o count s'
 Step r s (Writes (Freed o)) s' = Frees r s o s'
+Step r s (Writes (Left o to)) s' = Departs s o to s'
+Step r s (Writes (Landed o)) s' = Lands s o s'
 Step r s (Writes (Mail kind)) s' = TakesUp s kind s'
 Step r s (Writes (Out to bytes)) s' = GoesOut r s to bytes s'
 Step r s (Writes (In bytes)) s' = ComesIn r s bytes s'
@@ -480,6 +593,10 @@ Step r s (Writes _) s' = ⊥
 Step r s Suspend s' = Suspends s s'
 Step r s Pause s' = Pauses s s'
 Step r s Place s' = Places s s'
+Step r s Mark s' = Marks s s'
+Step r s Park s' = Parks s s'
+Step r s Release s' = Releases s s'
+Step r s Note s' = Notes s s'
 Step r s Reorder s' = Reorders s s'
 
 -- one step after another

@@ -24,11 +24,12 @@ pub record Turn : Type 0 where
   pub fresh : List Id  -- objects that were made since the last Done
   pub due : List Due  -- what the last Done leaves due
   pub loose : List Id  -- ids that are named nowhere
+  pub untold : List Id  -- objects that came with a MOVE that is done, of which their homes are not told yet
   pub last : Option Event  -- the last entry, where it is known
 
 -- between turns
 abbrev pub at_rest : Tables → Turn
-at_rest t = record { tables = t; came = []; mailed = []; working = []; fresh = []; due = []; loose = []; last = None }
+at_rest t = record { tables = t; came = []; mailed = []; working = []; fresh = []; due = []; loose = []; untold = []; last = None }
 
 -- the commits, in work or waiting
 abbrev pub commits : Turn → List Waits

@@ -1,5 +1,5 @@
 -- The way of an action: it is accepted, waits for an object that moves, goes on, or begins a move.
-use Rattle.std.specs.Prelude.{ℕ, Bool, not, nat_lt, cond, List, [], ◌∷◌, ◌++◌, ◌==◌, ◌&&◌, ◌||◌, if◌then◌else◌, is_some, Option, Some, None}
+use Rattle.std.specs.Prelude.{ℕ, not, nat_lt, cond, List, [], ◌∷◌, ◌++◌, ◌==◌, ◌&&◌, ◌||◌, if◌then◌else◌, is_some, Option, Some, None}
 use Rattle.hpx_journal.specs.Data.{Id, Act, Parcel, Go}
 use Rattle.hpx_journal.specs.Entries.{target_of, move_to}
 use Rattle.hpx_agas.specs.Queues.{waits, with_last}
@@ -11,6 +11,7 @@ use Rattle.hpx_tables.specs.Fit.{parcel_for}
 use Rattle.hpx_tables.specs.Kept.{stays_here, record_here}
 use Rattle.hpx_tables.specs.Tables.{Tables}
 use Rattle.hpx_steps.specs.Mail.{is_other, going}
+use Rattle.hpx_steps.specs.Turn.{Turn}
 
 -- what is done with an action: it is accepted; it waits until a move is over; it goes to a locality; or its object, which is at this place,
 -- begins to move
@@ -94,5 +95,9 @@ with_way w act t = record t {
 }
 
 -- with one more action, which goes its own way
-abbrev pub with_act_its_way : Act → Tables → Tables
-with_act_its_way act t = with_way (way t act) act t
+abbrev pub with_act : Act → Tables → Tables
+with_act act t = with_way (way t act) act t
+
+-- the same in a turn
+abbrev pub posts : Act → Turn → Turn
+posts act s = record s { tables = with_act act s.tables }

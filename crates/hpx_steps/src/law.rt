@@ -28,8 +28,8 @@ pub fn rest_law()
     ensures { (r : Rules) (s : Turn) (entries : List Entry) → IsSound r s entries → IsSound r (record s { last = None }) entries }
 {}
 
-/// Between turns all that holds of a turn is what holds of the tables: that they stand for the part, own messages are in order, and
-/// what waits lacks something.
+/// Between turns all that holds of a turn is what holds of the tables: that they stand for the part, own messages are in order, each
+/// move was granted, and what waits lacks something.
 pub fn tables_law()
     ensures told { (r : Rules) (t : Tables) (entries : List Entry) → IsSound r (at_rest t) entries → StandsAtRest r t entries }
     ensures back { (r : Rules) (t : Tables) (entries : List Entry) → AreRules r t → StandsAtRest r t entries → IsSound r (at_rest t) entries }

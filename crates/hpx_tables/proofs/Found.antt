@@ -1,7 +1,7 @@
 -- What is found under a key is what stands under an id.
 use Rattle.std.proofs.Common.{ℕ, zero, suc, Bool, true, false, cond, not, nat_lt, ◌≡◌, ◌<◌, ◌+◌, List, [], ◌∷◌, ◌++◌, take, set, length, get_or, slice_get, position, find, Option, None, Some, IfSome, IfNone, refl, sym, ap, subst, ◌∙◌, arith}
 use Rattle.std.specs.Prelude.{◌==◌, ◌&&◌, is_some}
-use Rattle.std.specs.List.{AllByRecursion, position_or_len, prefix_len}
+use Rattle.std.specs.List.{AllByRecursion, position_or_len}
 use Rattle.std.specs.Map.{lookup, keys_of, values_of}
 use Rattle.std.proofs.lemmas.List.Elements.{All-from_recursion, recursion_from_All}
 use Rattle.std.proofs.lemmas.List.Sorted.{All-permutation, IsPermutation-cons, IsPermutation-map, IsPermutation-refl, IsPermutation-to_front}

@@ -1,6 +1,6 @@
 -- What an outline says of its message.
-use Rattle.std.proofs.Common.{◌≡◌, ℕ, ◌<◌, ◌≤◌, ◌&&◌, Bool, true, false, cond, leb, ltb, List, [], ◌∷◌, Option, Some, None, refl, sym, ap, ◌∙◌, arith, inl, inr}
-use Rattle.std.specs.Prelude.{pos, negsuc, max, ◌||◌, ◌==◌, nat_le, nat_lt}
+use Rattle.std.proofs.Common.{◌≡◌, ℕ, ◌≤◌, ◌&&◌, Bool, true, false, cond, List, [], ◌∷◌, Option, Some, None, refl, ap, ◌∙◌, arith, inl, inr}
+use Rattle.std.specs.Prelude.{pos, negsuc, max, ◌||◌, ◌==◌, nat_le}
 use Rattle.std.proofs.lemmas.Bool.{cases_lt, leb-true, le-leb}
 use Rattle.hpx_value.specs.Ids.{bare}
 use Rattle.hpx_journal.specs.Data.{Id, Value, Int, Text, Act, Parcel, Apply, Return, Ask, Give, Cached, Move, Go, Shipped, Arrived, Free}
@@ -9,7 +9,8 @@ use Rattle.hpx_journal.specs.Entries.{target_of, is_movable, place_in, move_to}
 use Rattle.hpx_parcel.specs.Outlines.{most_home, most_place, outline}
 use Rattle.hpx_parcel.specs.Outlines as outlines
 use Rattle.hpx_tables.specs.Tables.{Tables}
-use Rattle.hpx_tables.specs.Strange.{object_of, are_far, moves_far, is_far_act, is_far, breaks_at, move_rule, go_rule, near_rule, rule_of, broken_near, broken}
+use Rattle.hpx_tables.specs.Rules.{go_rule, near_rule, rule_of, broken_near, broken}
+use Rattle.hpx_tables.specs.Strange.{object_of, are_far, moves_far, is_far_act, is_far, breaks_at}
 
 -- ---- its object
 
@@ -121,7 +122,7 @@ told_near t (Return id) = refl
 told_near t (Ask id asker entry) = refl
 told_near t (Give id entry) = refl
 told_near t (Cached id place) = refl
-told_near t (Move act) = ap (λ (to : Option ℕ). move_rule t (bare (target_of act)) (target_of act) to) (move_same act)
+told_near t (Move act) = refl
 told_near t (Go act) = ap (λ (to : Option ℕ). go_rule t (bare (target_of act)) (target_of act) to) (move_same act)
 told_near t (Shipped act state) = refl
 told_near t (Arrived id place) = refl

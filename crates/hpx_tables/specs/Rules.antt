@@ -9,7 +9,7 @@ use Rattle.hpx_agas.specs.declared.record.Record.{Record}
 use Rattle.hpx_parcel.specs.declared.outline.Outline.{Outline}
 use Rattle.hpx_parcel.specs.declared.outline.ParcelKind.{ParcelKind}
 use Rattle.hpx_parcel.specs.declared.outline.ParcelKind.TheVariants as kinds
-use Rattle.hpx_tables.specs.Strange.{Broken, object_of, is_far, is_live, breaks_at, breaks, give_rule, free_rule}
+use Rattle.hpx_tables.specs.Strange.{Broken, is_far, is_live, breaks_at, breaks, give_rule, free_rule}
 use Rattle.hpx_tables.specs.Tables.{Tables}
 use Rattle.hpx_tables.specs.Kept.{stands_here, stays_here, record_here, count_here, moving_here, is_queued}
 

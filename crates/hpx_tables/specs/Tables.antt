@@ -2,9 +2,10 @@
 use Rattle.std.specs.Prelude.{ℕ, List, [], ◌++◌, ◌≡◌, map}
 use Rattle.hpx_value.specs.declared.profile.Profile.{Profile}
 use Rattle.hpx_journal.specs.Data.{Act, Parcel}
-use Rattle.hpx_part.specs.Data.{Name, Standing}
+use Rattle.hpx_part.specs.Data.{Standing}
 use Rattle.hpx_agas.specs.declared.record.Waiting.{Waiting}
 use Rattle.hpx_agas.specs.declared.record.Record.{Record}
+use Rattle.hpx_tables.specs.declared.kept.Arrival.{Arrival}
 use Rattle.hpx_tables.specs.declared.kept.Outgoing.{Outgoing}
 use Rattle.hpx_tables.specs.Pending.{Waits, fired_of}
 
@@ -22,7 +23,7 @@ pub record Tables : Type 0 where
   pub queued : List (Waiting Parcel)  -- actions at the home of their objects, while these move
   pub leaving : List Parcel  -- moves that were granted: their objects leave once nothing is done on them
   pub stray : List Parcel  -- objects that came where they may not stand
-  pub came : List Name  -- the moves with which objects came, until they are done
+  pub came : List Arrival  -- the moves with which objects came, until they are done
   pub objects : List Standing
   pub births : ℕ
   pub records : List Record  -- of the live objects of this home, by rising number
@@ -52,3 +53,4 @@ pub record IsPassive (t : Tables) : Type 0 where
   pub queued : t.queued ≡ []
   pub leaving : t.leaving ≡ []
   pub stray : t.stray ≡ []
+  pub came : t.came ≡ []

@@ -124,6 +124,14 @@ pub struct Outgoing {
     pub parcel: Letter,
 }
 
+/// A MOVE with which its object came, until it is done.
+#[derive(Clone, Copy, Debug, PartialEq, Eq)]
+pub struct Arrival {
+    pub name: Name,
+    /// The bare id of the object.
+    pub object: Gid,
+}
+
 /// An object whose state is well formed.
 #[derive(Drop)]
 pub struct Kept {
@@ -165,6 +173,14 @@ impl Kept {
         ensures kept { IsKept self.now }
     {
         &self.standing.state
+    }
+
+    /// What it keeps, for itself.
+    pub fn into_state(self) -> State
+        ensures state { result ≡ self.state }
+        ensures kept { IsKept self }
+    {
+        self.standing.state
     }
 
     /// Whether an id of its state is like a rider of this log.

@@ -6,7 +6,7 @@ use Rattle.hpx_value.specs.declared.profile.Profile.{Profile}
 use Rattle.hpx_journal.specs.Natives.{NothingMoves}
 use Rattle.hpx_journal.specs.Pool.{NoneFails}
 use Rattle.hpx_journal.specs.Weights.{HasRoom}
-use Rattle.hpx_journal.specs.Whole.{IsCarried, replayed}
+use Rattle.hpx_journal.specs.Whole.{IsCarried}
 use Rattle.hpx_ports.specs.declared.fabric.Wire.{Wire}
 use Rattle.hpx_steps.specs.Limits.{IsWithin}
 use Rattle.hpx_world.specs.Audit.{audit_lines, IsAudit, StandAtHome}
@@ -178,8 +178,8 @@ served_none said r input x e h = subst (λ q. HasServed said (status_after q) in
 -- what the law of a world tells, where its fabric carries
 pub lawful_of : (w : Places) (flight : Option (List Frame)) (trace : Option (List Wire)) → IsWithin w.journal.entries
     → (IsCarried (rules w) [] w.journal.entries → KeepsPromises (rules w) w.journal.entries)
-    → (IsCarried (rules w) [] w.journal.entries → IsAudit (rules w) (replayed (rules w) w.journal.entries) (audit_lines w.nodes))
-    → (NothingMoves (rules w) → IsCarried (rules w) [] w.journal.entries → StandAtHome (rules w) (replayed (rules w) w.journal.entries) (audit_lines w.nodes))
+    → (IsCarried (rules w) [] w.journal.entries → IsAudit (rules w) w.journal.entries (audit_lines w.nodes))
+    → (NothingMoves (rules w) → IsCarried (rules w) [] w.journal.entries → StandAtHome (rules w) w.journal.entries (audit_lines w.nodes))
     → IsCarrying (rules w) w.hand flight trace w.journal.entries → IsLawful w flight trace
 lawful_of w flight trace within promises audit at_home carrying = record {
   granted = λ ample. all_granted (length w.nodes) w.profile w.journal.entries ample within.entries (promises carrying.carried);

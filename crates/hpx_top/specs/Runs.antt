@@ -4,7 +4,6 @@ use Rattle.hpx_value.specs.declared.profile.Profile.{Profile}
 use Rattle.hpx_journal.specs.Entries.{Frame}
 use Rattle.hpx_journal.specs.Pool.{prints_of}
 use Rattle.hpx_journal.specs.Weights.{HasRoom}
-use Rattle.hpx_journal.specs.Whole.{replayed}
 use Rattle.hpx_steps.specs.Limits.{IsWithin}
 use Rattle.hpx_ports.specs.declared.fabric.Wire.{Wire}
 use Rattle.hpx_ports.specs.Faults.{Rose}
@@ -118,8 +117,8 @@ pub record IsLawful (w : Places) (flight : Option (List Frame)) (trace : Option 
   pub granted : IsAmple w.profile → AllGranted w.journal.entries
   pub promises : KeepsPromises (rules w) w.journal.entries
   pub within : IsWithin w.journal.entries
-  pub audit : IsAudit (rules w) (replayed (rules w) w.journal.entries) (audit_lines w.nodes)
-  pub at_home : StandAtHome (rules w) (replayed (rules w) w.journal.entries) (audit_lines w.nodes)
+  pub audit : IsAudit (rules w) w.journal.entries (audit_lines w.nodes)
+  pub at_home : StandAtHome (rules w) w.journal.entries (audit_lines w.nodes)
   pub carrying : IsCarrying (rules w) w.hand flight trace w.journal.entries
 
 -- all that was begun is done, and nothing is under way

@@ -40,6 +40,7 @@ use Rattle.hpx_world.proofs.Counts.{sum_total}
 use Rattle.hpx_world.proofs.Found.{rises_found}
 use Rattle.hpx_world.proofs.Rested.{shown_at}
 use Rattle.hpx_world.proofs.Sound.{sound_legal, told_all}
+use Rattle.hpx_world.proofs.Landings.{placed_so}
 
 -- ---- a token is held or owed
 
@@ -219,18 +220,21 @@ module _ (act_of : Meaning) (profile : Profile) (nodes : List Tables) (es : List
     held_is : held_in_all x.gid nodes ≡ held_at_all r x.gid w
     held_is = min-eq_right (omega (arith, held_all x.gid, sums, most)) ∙ held_all x.gid
 
-    tells_one : Tells r w (audit_line nodes x)
+    tells_one : Tells r es (audit_line nodes x)
     tells_one = record {
       some = (records.good x.gid x found).least;
       recorded_is = count_is;
       held_is = held_is;
       flight_is = omega (arith, held_is, sums);
-      at_is = ((told_all act_of profile nodes es sound k t at).stands.tidy.places x.gid x found).0 ∙ sym home;
+      at_is = elim (placed_so act_of profile nodes es sound carried k t at x.gid x found) [
+        | inl here ↦ inl (here ∙ sym home)
+        | inr landed ↦ inr landed
+      ];
     }
 
-  tells_all : AllByRecursion (Tells r w) (audit_lines nodes)
-  tells_all = all_flat (Tells r w) (lines_at nodes) nodes (all_each (λ t. AllByRecursion (Tells r w) (lines_at nodes t)) nodes (λ k t at.
-      all_map (Tells r w) (audit_line nodes) t.records (all_each (λ x. Tells r w (audit_line nodes x)) t.records (λ i x there. tells_one k t at i x there))))
+  tells_all : AllByRecursion (Tells r es) (audit_lines nodes)
+  tells_all = all_flat (Tells r es) (lines_at nodes) nodes (all_each (λ t. AllByRecursion (Tells r es) (lines_at nodes t)) nodes (λ k t at.
+      all_map (Tells r es) (audit_line nodes) t.records (all_each (λ x. Tells r es (audit_line nodes x)) t.records (λ i x there. tells_one k t at i x there))))
 
   -- ---- each object once
 
@@ -277,7 +281,7 @@ module _ (act_of : Meaning) (profile : Profile) (nodes : List Tables) (es : List
         ∙ total_one (length nodes) o.home (λ k. cond (o.home == k) 1 0) near (ap (λ b. cond b 1 0) (eq-eqb o.home o.home refl))
         (λ j away. ap (λ b. cond b 1 0) (ne_eqb o.home j away)))
 
-  pub audited : IsAudit r w (audit_lines nodes)
+  pub audited : IsAudit r es (audit_lines nodes)
   audited = record { tell = tells_all; each = λ o some. one_line o some }
 
 -- of an answer

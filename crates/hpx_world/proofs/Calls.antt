@@ -1,14 +1,15 @@
 -- What a call of one node says, said of all localities.
-use Rattle.std.proofs.Common.{true, false, Bool, ℕ, zero, suc, List, [], ◌∷◌, ◌++◌, ◌≡◌, ◌<◌, Some, None, Ok, Err, Option, Result, refl, sym, ap, ◌∙◌, subst, arith, length, get_or, set, append-nil}
+use Rattle.std.proofs.Common.{true, false, Bool, inl, inr, ℕ, zero, suc, List, [], ◌∷◌, ◌++◌, ◌≡◌, ◌<◌, Some, None, Ok, Err, Option, Result, refl, sym, ap, ◌∙◌, subst, arith, length, get_or, set, append-nil}
 use Rattle.std.specs.Option.{IfSome, IfNone}
 use Rattle.std.specs.Result.{IfOk, IfErr, OnOk, OnErr}
 use Rattle.std.specs.List.{slice_get}
+use Rattle.hpx_value.specs.Ids.{bare}
 use Rattle.hpx_value.specs.declared.acts.Job.{Job}
 use Rattle.hpx_value.specs.declared.profile.Profile.{Profile}
 use Rattle.hpx_journal.specs.Data.{Act, Outcome}
-use Rattle.hpx_journal.specs.Entries.{name_of}
+use Rattle.hpx_journal.specs.Entries.{name_of, target_of}
 use Rattle.hpx_journal.specs.Weights.{Book}
-use Rattle.hpx_part.specs.Data.{Name, Event, Entry, Line, Fire, Mail}
+use Rattle.hpx_part.specs.Data.{Name, Event, Entry, Line, Fire, Left, Mail}
 use Rattle.hpx_part.proofs.Keyed.{slice_get_is}
 use Rattle.hpx_tables.specs.Splits.{asked_events}
 use Rattle.hpx_node.specs.Asks.{Begins, splits_before, lacking}
@@ -16,7 +17,7 @@ use Rattle.hpx_node.specs.Changes.{Writes, OnlySpare}
 use Rattle.hpx_node.specs.Commits.{seen, committed}
 use Rattle.hpx_steps.specs.Calls.{effects}
 use Rattle.hpx_steps.specs.Rows.{kind_of}
-use Rattle.hpx_node.specs.Handled.{Clears}
+use Rattle.hpx_node.specs.Handled.{Clears, Tends}
 use Rattle.hpx_steps.specs.Rest.{Stands, rules_of}
 use Rattle.hpx_steps.specs.Limits.{IsWithin}
 use Rattle.hpx_node.specs.Locality.{Locality, tables_of}
@@ -121,9 +122,13 @@ spare_inside t t' b b' h = record { events = []; inner = tt; writes = writes_spa
 clears_inside : (t t' : Tables) (es es' : List Entry) → Clears t t' es es' → WritesInside t t' es es'
 clears_inside t t' es es' c = record {
   events = Mail (kind_of c.parcel) ∷ (effects t c.parcel ++ c.more);
-  inner = (tt, plain_inner (effects t c.parcel ++ c.more) (dealt_plain t c.parcel (record t { desk = c.rest }) c.mid t' c.more c.continues));
+  inner = (tt, plain_inner (effects t c.parcel ++ c.more) (dealt_plain t c.parcel (record t { desk = c.rest }) c.mid c.done c.more c.continues));
   writes = c.writes;
 }
+
+tends_inside : (t t' : Tables) (es es' : List Entry) → Tends t t' es es' → WritesInside t t' es es'
+tends_inside t t' es es' (inl d) = record { events = Left (bare (target_of d.act)) d.to ∷ []; inner = (tt, tt); writes = d.writes }
+tends_inside t t' es es' (inr c) = clears_inside t t' es es' c.1
 
 module _ {E : Type 0} (v v' : Locality) (b b' : Book) where
   pub feed_inside : (action : Name) (line : List ℕ) (r : Result (Unit {0}) E) → OnOk r (Writes (Line action line ∷ []) v.tables v'.tables b.entries b'.entries)
@@ -156,11 +161,11 @@ module _ {E : Type 0} (v v' : Locality) (b b' : Book) where
   finish_inside N M Q job out (Ok NotRunning) done asks none err = spare_inside v.tables v'.tables b b' (none refl).1
   finish_inside N M Q job out (Err e) done asks none err = spare_inside v.tables v'.tables b b' err.1
 
-  pub desk_inside : (N : Type 0) (r : Result Bool E) → (r ≡ Ok true → Clears v.tables v'.tables b.entries b'.entries) → (r ≡ Ok false → N × OnlySpare v.tables v'.tables b b')
+  pub desk_inside : (N : Type 0) (r : Result Bool E) → (r ≡ Ok true → Tends v.tables v'.tables b.entries b'.entries) → (r ≡ Ok false → N × OnlySpare v.tables v'.tables b b')
       → OnErr r (OnlySpare v.tables v'.tables b b') → WritesInside v.tables v'.tables b.entries b'.entries
-  desk_inside N (Ok true) cleared empty err = clears_inside v.tables v'.tables b.entries b'.entries (cleared refl)
-  desk_inside N (Ok false) cleared empty err = spare_inside v.tables v'.tables b b' (empty refl).1
-  desk_inside N (Err e) cleared empty err = spare_inside v.tables v'.tables b b' err
+  desk_inside N (Ok true) tends none err = tends_inside v.tables v'.tables b.entries b'.entries (tends refl)
+  desk_inside N (Ok false) tends none err = spare_inside v.tables v'.tables b b' (none refl).1
+  desk_inside N (Err e) tends none err = spare_inside v.tables v'.tables b b' err
 
 -- ---- all localities after it
 

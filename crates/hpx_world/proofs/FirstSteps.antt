@@ -11,13 +11,14 @@ use Rattle.hpx_world.specs.declared.turns.WorldFault.TheVariants as faults
 use Rattle.hpx_world.specs.declared.turns.Choice.TheVariants as choices
 use Rattle.hpx_world.specs.declared.turns.Turned.TheVariants as turned
 use Rattle.hpx_world.specs.Away.{Fetches, Puts}
-use Rattle.hpx_world.specs.Quiet.{IsStuck, HasNoMail, SendsNothing}
+use Rattle.hpx_world.specs.Quiet.{IsStuck, SendsNothing}
+use Rattle.hpx_node.specs.Handled.{HasNothingToTend}
 use Rattle.hpx_world.specs.Sound.{Meaning}
 use Rattle.hpx_world.specs.Stages.{Stage}
 use Rattle.hpx_world.specs.Steps.{DidWork, DidStep, Goes, NoneFires, NoneClears, NonePumps}
 use Rattle.hpx_world.specs.Refusals.{Refused, RefusedWork, RefusedStep, RefusedDrain}
 use Rattle.hpx_world.specs.Turns.{DidDesk, DidPump, DidTake, IsStrangeMail}
-use Rattle.hpx_world.proofs.Refused.{right_mail_same, to_fire_same, to_send_same}
+use Rattle.hpx_world.proofs.Refused.{to_tend_same, to_fire_same, to_send_same}
 use Rattle.hpx_world.proofs.Counts.{none_fetched}
 use Rattle.hpx_world.proofs.Unfed.{unfed_le, fired_longer, finished_unfed, cleared_longer, pumped_longer, took_longer}
 
@@ -28,7 +29,7 @@ module _ (act_of : Meaning) (k : ℕ) (x z : Stage) where
       let d' = subst (λ (s : Stage). HasRoom s.entries × DidWork act_of k s z × (z.outside ≡ s.outside)) e d in
       (d'.0, inl (record { k = k; before = before; did = d'.1 }, d'.2))
 
-  pub first_clears : (y : Stage) → y ≡ x → NoneFires x → AllByRecursion HasNoMail (take k x.nodes) → HasRoom y.entries
+  pub first_clears : (y : Stage) → y ≡ x → NoneFires x → AllByRecursion HasNothingToTend (take k x.nodes) → HasRoom y.entries
       → DidDesk k turned.Moved y.nodes z.nodes y.entries z.entries → z.outside ≡ y.outside → DidStep act_of x z
   first_clears y e none before room d out = (
     subst (λ (s : Stage). HasRoom s.entries) e room,
@@ -87,7 +88,7 @@ module _ {A : Type 0} {g : Ghosts A} where
       subst (λ v. RefusedStep {A = A} {g = g} (faults.OutOfMemory v) x z) (sym h.1.1) (
         h.0,
         (s.0, inl (ap (λ o. o.hand) s.1, ap (λ o. o.flight) s.1, ap (λ o. o.trace) s.1)),
-        inr (inl (none, (k, right_mail_same z.nodes x.nodes k (sym s.0.tables) h.1.2), s.1)),
+        inr (inl (none, (k, to_tend_same z.nodes x.nodes k (sym s.0.tables) h.1.2), s.1)),
       )
   desk_at k x z none (faults.Strange to rule object kept) h =
       (h.0, inr (none, (h.1.0, refl, subst (λ j. IsStrangeMail z.nodes j rule object kept) (sym h.1.1) h.1.2)))
@@ -162,7 +163,7 @@ module _ {A : Type 0} {g : Ghosts A} where
         record {
           idle = record {
             fire = subst (AllByRecursion IsStuck) (sym nodes) none.0.0;
-            desk = subst (AllByRecursion HasNoMail) (sym nodes) none.0.1;
+            desk = subst (AllByRecursion HasNothingToTend) (sym nodes) none.0.1;
             pump = subst (AllByRecursion SendsNothing) (sym nodes) none.1;
             hand = t.1;
             flight = none_fetched y.outside.hand y.outside.flight z.outside.flight y.outside.trace z.outside.trace t.5;

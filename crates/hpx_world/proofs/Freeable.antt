@@ -33,7 +33,7 @@ use Rattle.hpx_part.proofs.Keys.{means, own}
 use Rattle.hpx_steps.specs.Rows.{FreesOf, weighed, weight, frees_one, goes, causes}
 use Rattle.hpx_steps.specs.Rest.{IsPaid, unpaid}
 use Rattle.hpx_tables.specs.Kept.{stands_here, waits_here, held_here}
-use Rattle.hpx_steps.specs.Sound.{FreesNone}
+use Rattle.hpx_steps.specs.Sound.{leads_on}
 use Rattle.hpx_tables.specs.Pending.{Waits, action_of}
 use Rattle.hpx_steps.specs.Turn.{parcel_frees}
 use Rattle.hpx_tables.specs.Tables.{Tables, messages, fired_acts}
@@ -43,16 +43,16 @@ use Rattle.hpx_world.proofs.Shown.{IsCalm, IsShown, AreShown, legal, stands, cov
 
 -- ---- one entry
 
-frees_no : (o : Id) (p : Parcel) → FreesNone p → frees_one o p ≡ 0
-frees_no o (Free x) h = absurd h
-frees_no o _ h = refl
+frees_no : (k : ℕ) (o : Id) (p : Parcel) → leads_on k o p ≡ 0 → frees_one o p ≡ 0
+frees_no k o (Free x) h = h
+frees_no k o _ h = refl
 
 -- only a death causes it, where no Free comes
 caused : (r : Rules) (log : ℕ) (o : Id) (at : ℕ) (e : Event) → AllByRecursion (IsSentRight r log) (arrives_at at e)
     → causes r (FreesOf o) e ≤ cond (is_death o e) 1 0
 caused r log o at (In bytes) h =
     let x = h.0.own in
-    let none : weighed (frees_one o) (r.parcel_of bytes) ≡ 0 = ap (weighed (frees_one o)) x.spelled ∙ frees_no o x.parcel x.stays in
+    let none : weighed (frees_one o) (r.parcel_of bytes) ≡ 0 = ap (weighed (frees_one o)) x.spelled ∙ frees_no h.0.from o x.parcel (h.0.stays o) in
     omega (arith, none)
 caused r log o at (Count x count why) h = omega arith
 caused r log o at _ h = omega arith
@@ -101,7 +101,7 @@ module _ (r : Rules) (log : ℕ) (es : List Entry) (calm : IsCalm r es) (each : 
   paid_at : (j : ℕ) (u : Tables) → IsPaid r u (part j es) → count_events (is_freed o) (part j es) + unpaid (FreesOf o) u ≤ count_events (is_death o) (part j es)
   paid_at j u paid = omega (
     arith,
-    paid.rows (FreesOf o),
+    paid.rows (FreesOf o) tt,
     sum_le (λ (e : Entry). cond (is_freed o e.event) 1 0) (λ (e : Entry). goes r (FreesOf o) e.event) (part j es)
         (all-any (λ (e : Entry). cond (is_freed o e.event) 1 0 ≤ goes r (FreesOf o) e.event) (λ e. freed_goes r o e.event) (part j es)),
     sum_le (λ (e : Entry). causes r (FreesOf o) e.event) (λ (e : Entry). cond (is_death o e.event) 1 0) (part j es)
@@ -115,8 +115,8 @@ module _ (r : Rules) (log : ℕ) (es : List Entry) (calm : IsCalm r es) (each : 
       omega (
         arith,
         one,
-        ap (sum_by (weight (FreesOf o))) (messages_first t (Free o) rest first),
-        sum_by-cons (weight (FreesOf o)) (Free o) (messages (record t { desk = rest })),
+        ap (sum_by (weight (FreesOf o))) first,
+        sum_by-cons (weight (FreesOf o)) (Free o) rest,
       )
 
   kept : freeds o es ≡ 0

@@ -2,6 +2,7 @@ pub mod Plain
 pub mod Growth
 pub mod Sound
 pub mod Roads
+pub mod Landings
 pub mod Carrying
 pub mod Counts
 pub mod Booted

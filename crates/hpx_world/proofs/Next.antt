@@ -12,7 +12,8 @@ use Rattle.hpx_tables.specs.Tables.{Tables}
 use Rattle.hpx_world.specs.declared.turns.Turned.{Turned}
 use Rattle.hpx_world.specs.declared.turns.Turned.TheVariants as turned
 use Rattle.hpx_world.specs.Away.{IsCarrying, IsInside, Fetches}
-use Rattle.hpx_world.specs.Quiet.{IsStuck, HasNoMail, SendsNothing, NothingApplies}
+use Rattle.hpx_world.specs.Quiet.{IsStuck, SendsNothing, NothingApplies}
+use Rattle.hpx_node.specs.Handled.{HasNothingToTend}
 use Rattle.hpx_world.specs.Sound.{Meaning, IsSame}
 use Rattle.hpx_world.specs.Turns.{DidFire, DidDesk, DidPump, DidTake}
 use Rattle.hpx_world.proofs.Counts.{none_fetched}
@@ -62,7 +63,7 @@ module _ (nodes nodes' : List Tables) (es es' : List Entry) where
   fired_none k _ not h = absurd h
 
   pub cleared_none : (k : ℕ) (x : Turned) → x ≢ turned.Moved → DidDesk k x nodes nodes' es es'
-      → IsSame nodes nodes' es es' × ((t : Tables) → slice_get nodes k ≡ Some t → HasNoMail t)
+      → IsSame nodes nodes' es es' × ((t : Tables) → slice_get nodes k ≡ Some t → HasNothingToTend t)
   cleared_none k turned.Moved not h = absurd (not refl)
   cleared_none k turned.Empty not h = h
   cleared_none k _ not h = absurd h
@@ -86,11 +87,11 @@ sum_same f xs ys e = ap (sum_by f) e
 
 module _ (n1 n2 n3 n4 : List Tables) (h3 h4 : Option Frame) (fl fl' : Option (List Frame)) (tr tr' : Option (List Wire)) where
   pub nothing_left : n2 ≡ n1 → n3 ≡ n2 → n4 ≡ n3
-      → AllByRecursion IsStuck n1 → AllByRecursion HasNoMail n2 → AllByRecursion SendsNothing n3 → h4 ≡ None → Fetches h3 fl fl' tr tr' None
+      → AllByRecursion IsStuck n1 → AllByRecursion HasNothingToTend n2 → AllByRecursion SendsNothing n3 → h4 ≡ None → Fetches h3 fl fl' tr tr' None
       → NothingApplies n4 h4 fl'
   nothing_left e2 e3 e4 stuck desk pump hand f = record {
     fire = subst (AllByRecursion IsStuck) (sym (e4 ∙ (e3 ∙ e2))) stuck;
-    desk = subst (AllByRecursion HasNoMail) (sym (e4 ∙ e3)) desk;
+    desk = subst (AllByRecursion HasNothingToTend) (sym (e4 ∙ e3)) desk;
     pump = subst (AllByRecursion SendsNothing) (sym e4) pump;
     hand = hand;
     flight = none_fetched h3 fl fl' tr tr' f;

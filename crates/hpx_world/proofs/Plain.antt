@@ -6,11 +6,11 @@ use Rattle.std.proofs.lemmas.Bool.{cases_Bool}
 use Rattle.hpx_value.specs.Ids.{bare}
 use Rattle.hpx_value.specs.Riders.{due_with, plain, rider_of}
 use Rattle.hpx_value.specs.declared.acts.Job.{Job}
-use Rattle.hpx_journal.specs.Data.{Id, Outcome, Due, MessageDue, PrintDue, Parcel, Return, Ask, Give, Free}
-use Rattle.hpx_journal.specs.Entries.{name_of}
+use Rattle.hpx_journal.specs.Data.{Id, Outcome, Due, MessageDue, PrintDue, Parcel, Return, Ask, Give, Shipped, Arrived, Free}
+use Rattle.hpx_journal.specs.Entries.{name_of, target_of}
 use Rattle.hpx_journal.specs.Local.{is_standing}
 use Rattle.hpx_journal.proofs.Alls.{all-append}
-use Rattle.hpx_part.specs.Data.{Event, Line, Out, In, Done, Merge, Up, Count, Granted, Refused, Standing}
+use Rattle.hpx_part.specs.Data.{Event, Line, Out, In, Done, Merge, Up, Count, Granted, Refused, Landed, Standing}
 use Rattle.hpx_commit.specs.Deals.{half, named, unnamed}
 use Rattle.hpx_commit.specs.Stocks.{Stock, halvings}
 use Rattle.hpx_tables.specs.declared.births.Birth.{Birth}
@@ -19,7 +19,7 @@ use Rattle.hpx_node.specs.Asks.{own_many, hand_before, splits_before, lacking}
 use Rattle.hpx_tables.specs.Births.{birth_of, births_of}
 use Rattle.hpx_node.specs.Commits.{seen, made_of, own_stock, state_dealt, committed_from, committed, places_in_hand}
 use Rattle.hpx_node.specs.Fails.{dooms, failed_events, due_left, ups_left, FailsWith}
-use Rattle.hpx_steps.specs.Calls.{up_of, ups, rider_event, rider_events, written_due, returned, freed, effects, more_here}
+use Rattle.hpx_steps.specs.Calls.{up_of, ups, rider_event, rider_events, written_due, returned, freed, effects, may_land, more_here}
 use Rattle.hpx_tables.specs.Kept.{count_here}
 use Rattle.hpx_tables.specs.Merged.{may_merge}
 use Rattle.hpx_node.specs.Next.{Continues}
@@ -127,11 +127,17 @@ freed_plain : (o : Id) (x : Option Standing) → ArePlain (freed o x)
 freed_plain o None = tt
 freed_plain o (Some x) = (tt, ups_plain x.state.ids)
 
+landed_plain : (o : Id) (b : Bool) → ArePlain (cond b (Landed (bare o) ∷ []) [])
+landed_plain o true = (tt, tt)
+landed_plain o false = tt
+
 pub effects_plain : (t : Tables) (p : Parcel) → ArePlain (effects t p)
 effects_plain t (Return id) = returned_plain t id id.log
 effects_plain t (Ask id asker entry) = answered_plain t id (nat_lt t.profile.credit_limit (more_here t id))
 effects_plain t (Give id entry) = (tt, tt)
 effects_plain t (Free o) = freed_plain o (find (is_standing o) t.objects)
+effects_plain t (Arrived id place) = returned_plain t id id.log
+effects_plain t (Shipped act state) = landed_plain (target_of act) (may_land t act)
 effects_plain t _ = tt
 
 -- ---- what follows it

@@ -1,5 +1,5 @@
 -- Why a turn was refused, and what can come over a fabric that tells.
-use Rattle.std.specs.Prelude.{Option, Result, Ok, Err, IfErr, OnErr, None, sum_by}
+use Rattle.std.specs.Prelude.{Option, Result, Ok, Err, IfErr, OnErr, Some, None, sum_by}
 use Rattle.std.proofs.Common.{ℕ, ◌≡◌, ◌≢◌, ◌⊎◌, refl, sym, ap, ◌∙◌, subst, inl, inr}
 use Rattle.hpx_value.specs.declared.acts.Acts.{Ghosts}
 use Rattle.hpx_parcel.specs.declared.parcel.Why.{Why}
@@ -17,8 +17,8 @@ use Rattle.std.specs.Result.{IsErrAnd}
 use Rattle.hpx_value.specs.declared.acts.Done.{Done}
 use Rattle.hpx_world.specs.Steps.{DidHandOut}
 use Rattle.hpx_world.specs.Refusals.{Stays, StaysAll, IsFull, Refused, RefusedWork, CanCome, CanComeOfSteps}
-use Rattle.hpx_world.specs.Turns.{HoldsBadFrame, HoldsStrangeFrame, HoldsRightFrame, IsStrangeMail, IsRightMail, HasToFire, HasToSend}
-use Rattle.hpx_world.proofs.Refused.{strange_held_same, right_held_same, strange_mail_same, right_mail_same, to_fire_same, to_send_same}
+use Rattle.hpx_world.specs.Turns.{HoldsBadFrame, HoldsStrangeFrame, HoldsRightFrame, IsStrangeMail, HasToTend, HasToFire, HasToSend, HasJob}
+use Rattle.hpx_world.proofs.Refused.{strange_held_same, right_held_same, strange_mail_same, to_tend_same, to_fire_same, job_same, to_send_same}
 
 pub outside_is : (x z : Outside) → z.hand ≡ x.hand → z.flight ≡ x.flight → z.trace ≡ x.trace → z ≡ x
 outside_is x z hand flight trace =
@@ -36,7 +36,7 @@ module _ {A : Type 0} {g : Ghosts A} (r : Result Turned (WorldFault A g)) (x z :
     pub early : (sent taken : ℕ) → r ≡ Err (faults.EarlyEnd sent taken)
         → (z.outside.hand ≡ None) × (sent ≡ sum_by (λ t. t.sent) x.nodes) × (taken ≡ sum_by (λ t. t.taken) x.nodes) × (sent ≢ taken)
         × Fetches x.outside.hand x.outside.flight z.outside.flight x.outside.trace z.outside.trace None
-    pub memory : (u : _) → r ≡ Err (faults.OutOfMemory u) → (u ≡ None) × HoldsRightFrame x.nodes z.outside.hand
+    pub memory : (u : _) → r ≡ Err (faults.OutOfMemory u) → (u ≡ None) × HoldsRightFrame x.nodes z.outside.hand z.outside.flight
     pub room : (e w : ℕ) (u : _) → r ≢ Err (faults.JournalFull e w u)
     pub runs : (job : _) → r ≢ Err (faults.NotRun job)
     pub fabric : r ≡ Err faults.Fabric → (z.outside.hand ≡ x.outside.hand) × (z.outside.flight ≡ x.outside.flight) × (z.outside.trace ≡ x.outside.trace)
@@ -63,7 +63,7 @@ take_refused (Err (faults.EarlyEnd sent taken)) x z room says =
     let e = says.early sent taken refl in (room, (says.err, e.0, e.1, e.2, e.3, e.4))
 take_refused (Err (faults.JournalFull e w u)) x z room says = absurd (says.room e w u refl)
 take_refused (Err (faults.OutOfMemory u)) x z room says =
-    let m = says.memory u refl in (room, ((says.err, says.kept), m.0, right_held_same x.nodes z.nodes z.outside.hand says.err.tables m.1))
+    let m = says.memory u refl in (room, ((says.err, says.kept), m.0, right_held_same x.nodes z.nodes z.outside.hand z.outside.flight says.err.tables m.1))
 take_refused (Err (faults.NotRun job)) x z room says = absurd (says.runs job refl)
 
 -- an action that may be fired at k is not
@@ -75,17 +75,26 @@ fire_refused (Err e) k x z room same out waits which =
     subst (λ f. Refused (choices.Fire k) f x z) (sym which)
     (room, ((same, out), refl, to_fire_same x.nodes z.nodes k same.tables waits))
 
+-- a job that is out is not committed
+pub job_refused : {A : Type 0} {g : Ghosts A} (r : Result Turned (WorldFault A g)) (done : Done A g) (x z : Stage) → HasRoom x.entries → OnErr r (Stays x z)
+    → z.outside ≡ x.outside → OnErr r (HasJob x.nodes done.localities done.job) → IfErr r (λ e. e ≡ faults.OutOfMemory (Some done))
+    → IfErr r (λ fault. Refused (choices.Finish done) fault x z)
+job_refused (Ok t) done x z room same out runs which = tt
+job_refused (Err e) done x z room same out runs which =
+    subst (λ f. Refused (choices.Finish done) f x z) (sym which)
+    (room, ((same, out), refl, job_same x.nodes z.nodes done.localities done.job same.tables runs))
+
 -- a message to the own locality k is refused
 pub desk_refused : {A : Type 0} {g : Ghosts A} (r : Result Turned (WorldFault A g)) (k : ℕ) (x z : Stage) → HasRoom x.entries → OnErr r (Stays x z)
     → z.outside ≡ x.outside
     → ((to rule : ℕ) (object : Id) (kept : ℕ) → r ≡ Err (faults.Strange to rule object kept) → (to ≡ k) × IsStrangeMail x.nodes k rule object kept)
-    → ((u : _) → r ≡ Err (faults.OutOfMemory u) → IsRightMail x.nodes k)
+    → ((u : _) → r ≡ Err (faults.OutOfMemory u) → HasToTend x.nodes k)
     → IfErr r (λ e. (e ≡ faults.OutOfMemory None) ⊎ ((rule : ℕ) × (object : Id) × (kept : ℕ) × (e ≡ faults.Strange k rule object kept)))
     → IfErr r (λ fault. Refused (choices.Desk k) fault x z)
 desk_refused (Ok t) k x z room same out strange right which = tt
 desk_refused (Err e) k x z room same out strange right (inl w) =
     subst (λ f. Refused (choices.Desk k) f x z) (sym w)
-    (room, ((same, out), refl, right_mail_same x.nodes z.nodes k same.tables (right None (ap (λ f. Err f) w))))
+    (room, ((same, out), refl, to_tend_same x.nodes z.nodes k same.tables (right None (ap (λ f. Err f) w))))
 desk_refused (Err e) k x z room same out strange right (inr w) =
     subst (λ f. Refused (choices.Desk k) f x z) (sym w.3)
     (room, ((same, out), refl, strange_mail_same x.nodes z.nodes k w.0 w.1 w.2 same.tables (strange k w.0 w.1 w.2 (ap (λ f. Err f) w.3)).1))

@@ -16,19 +16,20 @@ use Rattle.hpx_tables.proofs.Alls.{all_at}
 use Rattle.hpx_node.proofs.Messages.{none_here}
 use Rattle.hpx_node.proofs.Targets.{none_stuck}
 use Rattle.hpx_world.specs.Away.{IsCarrying}
-use Rattle.hpx_world.specs.Quiet.{IsQuiet, IsStuck, HasNoMail, SendsNothing, QueuesNothing, NothingApplies, NoneRuns}
+use Rattle.hpx_world.specs.Quiet.{IsQuiet, IsStuck, SendsNothing, NothingApplies, NoneRuns}
+use Rattle.hpx_node.specs.Handled.{HasNothingToTend}
 use Rattle.hpx_world.specs.Sound.{Meaning, IsSound}
 use Rattle.hpx_world.specs.Steps.{IsHeld}
 use Rattle.hpx_world.proofs.Audited.{all_each}
 use Rattle.hpx_world.proofs.Counts.{all_taken, road_empty}
 use Rattle.hpx_world.proofs.Idle.{none_runs_at}
 use Rattle.hpx_world.proofs.Lacking.{none_owed, none_pending}
-use Rattle.hpx_world.proofs.Resting.{none_leaving, none_stray}
+use Rattle.hpx_world.proofs.Resting.{none_came, none_leaving, none_queued, none_stray}
 use Rattle.hpx_world.proofs.Sound.{get_some, told_all}
 use Rattle.hpx_world.proofs.Strange.{AreStill, calm, is_shown, are_shown}
 
 module _ (act_of : Meaning) (profile : Profile) (nodes : List Tables) (es : List Entry) (sound : IsSound act_of profile nodes es)
-    (rests : AllByRecursion QueuesNothing nodes) (still : AreStill act_of (length nodes) profile) (fl : Option (List Frame)) (tr : Option (List Wire))
+    (still : AreStill act_of (length nodes) profile) (fl : Option (List Frame)) (tr : Option (List Wire))
     (c : IsCarrying (rules_of act_of (length nodes) profile) None fl tr es) (idle : NothingApplies nodes None fl) (none : NoneRuns nodes) where
   abbrev r : Rules
   r = rules_of act_of (length nodes) profile
@@ -40,7 +41,7 @@ module _ (act_of : Meaning) (profile : Profile) (nodes : List Tables) (es : List
   no_mail k t at =
       let s = is_shown act_of profile nodes es sound still c.carried k t at in
       let quiet = calm act_of profile nodes es sound still c.carried in
-      none_here t (all_at HasNoMail nodes k t idle.desk at) (all_at SendsNothing nodes k t idle.pump at) (all_at QueuesNothing nodes k t rests at)
+      none_here t (all_at HasNothingToTend nodes k t idle.desk at).1 (all_at SendsNothing nodes k t idle.pump at) (none_queued r profile.credit_log es quiet k t s)
       (none_leaving r profile.credit_log es quiet k t s) (none_stray r profile.credit_log es quiet k t s)
 
   silent : (o : Id) (k : ℕ) → k < length nodes → count_by (is_owed o) ((replayed r es).places k).tokens ≡ 0
@@ -61,11 +62,12 @@ module _ (act_of : Meaning) (profile : Profile) (nodes : List Tables) (es : List
         accepted = none_stuck t t.accepted running pending (told_all act_of profile nodes es sound k t at).stands.tidy.targets (all_at IsStuck nodes k t idle.fire at);
         running = running;
         pending = pending;
-        desk = all_at HasNoMail nodes k t idle.desk at;
+        desk = (all_at HasNothingToTend nodes k t idle.desk at).1;
         outgoing = all_at SendsNothing nodes k t idle.pump at;
-        queued = all_at QueuesNothing nodes k t rests at;
+        queued = none_queued r profile.credit_log es quiet k t s;
         leaving = none_leaving r profile.credit_log es quiet k t s;
         stray = none_stray r profile.credit_log es quiet k t s;
+        came = none_came r profile.credit_log es quiet k t s;
       }
 
   pub held_quiet : IsQuiet nodes None
@@ -77,12 +79,12 @@ module _ (act_of : Meaning) (profile : Profile) (nodes : List Tables) (es : List
 
 -- so it is not held, after turns under the same rules
 pub never_held : (act_of : Meaning) (profile : Profile) (nodes : List Tables) (es : List Entry) → IsSound act_of profile nodes es
-    → AllByRecursion QueuesNothing nodes → (n : ℕ) (p : Profile) (h : Option Frame) (fl : Option (List Frame)) (tr : Option (List Wire)) → length nodes ≡ n → profile ≡ p
+    → (n : ℕ) (p : Profile) (h : Option Frame) (fl : Option (List Frame)) (tr : Option (List Wire)) → length nodes ≡ n → profile ≡ p
     → AreStill act_of n p → IsCarrying (rules_of act_of n p) h fl tr es → IsHeld nodes h fl → ⊥
-never_held act_of profile nodes es sound rests n p h fl tr count same still c held =
+never_held act_of profile nodes es sound n p h fl tr count same still c held =
     let none = held.idle.hand in
     let still' = subst (λ m. AreStill act_of m profile) (sym count) (subst (λ q. AreStill act_of n q) (sym same) still) in
     let c' = subst (λ x. IsCarrying (rules_of act_of (length nodes) profile) x fl tr es) none
     (subst (λ m. IsCarrying (rules_of act_of m profile) h fl tr es) (sym count) (subst (λ q. IsCarrying (rules_of act_of n q) h fl tr es) (sym same) c)) in
     let idle = subst (λ x. NothingApplies nodes x fl) none held.idle in
-    held.waits (subst (IsQuiet nodes) (sym none) (held_quiet act_of profile nodes es sound rests still' fl tr c' idle held.jobs))
+    held.waits (subst (IsQuiet nodes) (sym none) (held_quiet act_of profile nodes es sound still' fl tr c' idle held.jobs))

@@ -15,7 +15,7 @@ use Rattle.hpx_journal.proofs.Credited.{place_covered}
 use Rattle.hpx_journal.proofs.Start.{joined_legal, legal_whole}
 use Rattle.hpx_part.specs.Data.{Entry}
 use Rattle.hpx_part.specs.Shows.{Shows}
-use Rattle.hpx_steps.specs.Rest.{IsPaid, AreInOrder, view, IsTidy}
+use Rattle.hpx_steps.specs.Rest.{IsPaid, AreInOrder, view, IsTidy, MovesBegan}
 use Rattle.hpx_tables.specs.Kept.{stands_here, record_here, count_here, held_here, owed_here}
 use Rattle.hpx_tables.specs.Strange.{is_live}
 use Rattle.hpx_tables.specs.Tables.{Tables}
@@ -40,6 +40,7 @@ pub record IsShown (r : Rules) (log : ℕ) (es : List Entry) (k : ℕ) (t : Tabl
   pub tidy : IsTidy t []
   pub paid : IsPaid r t (part k es)
   pub order : AreInOrder r r.localities k log t.desk t.outgoing t.pending (part k es)
+  pub begun : MovesBegan r t (part k es)
 
 -- so it is with each locality
 abbrev pub AreShown : Rules → ℕ → List Entry → Type 0

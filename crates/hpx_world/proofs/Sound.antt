@@ -19,12 +19,13 @@ use Rattle.hpx_part.proofs.Keyed.{slice_get_is}
 use Rattle.hpx_tables.specs.Awaited.{is_answer}
 use Rattle.hpx_node.specs.Changes.{Writes}
 use Rattle.hpx_steps.specs.Rest.{Stands, StandsAtRest, rules_of}
-use Rattle.hpx_steps.specs.Sound.{IsOrderly, IsPaid, IsSound as HoldsAt}
+use Rattle.hpx_steps.specs.Sound.{IsOrderly, IsPaid, IsSound as HoldsAt, HasBegun, IsPlaced}
 use Rattle.hpx_steps.specs.Turn.{Turn, at_rest, view}
 use Rattle.hpx_steps.proofs.AtRest.{rest_stands}
 use Rattle.hpx_steps.specs.Limits.{IsWithin}
 use Rattle.hpx_tables.specs.Tables.{Tables}
 use Rattle.hpx_world.specs.Sound.{Meaning, StandsAt, IsSound}
+use Rattle.hpx_steps.specs.Flows.{IsFlowing}
 
 -- ---- the other nodes
 
@@ -62,6 +63,9 @@ other_stands r s k events es es' grows away h =
       commits = h.commits;
       paid = subst (IsPaid r s) (sym same) h.paid;
       orderly = subst (IsOrderly r s) (sym same) h.orderly;
+      begun = subst (HasBegun r s) (sym same) h.begun;
+      placed = subst (IsPlaced r s) (sym same) h.placed;
+      flowing = subst (IsFlowing r s) (sym same) h.flowing;
       numbers = record {
         born = omega (arith, h.numbers.born, more);
         few = omega (arith, h.numbers.few, more);

@@ -12,7 +12,7 @@ use Rattle.hpx_journal.proofs.Start.{first}
 use Rattle.hpx_part.specs.Data.{Entry}
 use Rattle.hpx_part.proofs.Keyed.{slice_get_less}
 use Rattle.hpx_ports.specs.declared.fabric.Wire.{Wire}
-use Rattle.hpx_steps.specs.Rest.{IsPaid, AreInOrder, rules_of}
+use Rattle.hpx_steps.specs.Rest.{IsPaid, AreInOrder, rules_of, MovesBegan}
 use Rattle.hpx_tables.specs.Tables.{Tables}
 use Rattle.hpx_world.specs.Away.{IsCarrying}
 use Rattle.hpx_world.specs.Sound.{Meaning, IsSound}
@@ -61,6 +61,7 @@ module _ (act_of : Meaning) (profile : Profile) (nodes : List Tables) (es : List
             subst (λ (p : Profile). AreInOrder r (length nodes) k p.credit_log t.desk t.outgoing t.pending (part k es)) x.tuned
             (subst (λ n. AreInOrder r n k t.profile.credit_log t.desk t.outgoing t.pending (part k es)) x.localities
             (subst (λ j. AreInOrder r t.localities j t.profile.credit_log t.desk t.outgoing t.pending (part j es)) x.here told.orderly));
+        begun = subst (λ j. MovesBegan r t (part j es)) x.here told.begun;
       }
 
   pub are_shown : AreShown r profile.credit_log es
@@ -78,8 +79,9 @@ module _ (act_of : Meaning) (profile : Profile) (nodes : List Tables) (es : List
 
   pub never_strange_mail : (k rule : ℕ) (object : Id) (kept : ℕ) → IsStrangeMail nodes k rule object kept → ⊥
   never_strange_mail k rule object kept h =
-      let none = desk_unbroken r profile.credit_log es calm are_shown k h.0 (is_shown k h.0 h.1) h.2.1 h.2.0 h.2.2 in
-      let some = h.2.3 in
+      let mail = h.2.1 in
+      let none = desk_unbroken r profile.credit_log es calm are_shown k h.0 (is_shown k h.0 h.1) mail.1 mail.0 mail.2 in
+      let some = mail.3 in
       cc
 
 -- ---- after turns under the same rules

@@ -26,7 +26,7 @@ took_one act_of profile nodes nodes' es es' to bytes h d =
     subst (λ j. AcceptsOne (rules_of act_of (length nodes) profile) (j, bytes) es es') here
     (accepts_of (rules_of act_of (length nodes) profile) d.before d.after es es' bytes (effects d.before c.parcel ++ c.more) lt
     (plain_inner (effects d.before c.parcel ++ c.more)
-    (dealt_plain d.before c.parcel (record d.before { taken = d.before.taken + 1 }) c.mid d.after c.more c.continues)) c.writes)
+    (dealt_plain d.before c.parcel (record d.before { taken = d.before.taken + 1 }) c.mid c.done c.more c.continues)) c.writes)
 
 -- a pair by its parts
 pub frame_is : (f : Frame) (to : ℕ) (bytes : List ℕ) → to ≡ f.0 → bytes ≡ f.1 → ◌≡◌ {A = Frame} (to, bytes) f

@@ -1,17 +1,19 @@
 -- What turns write, one after another: nothing is fed, and what is done is written.
-use Rattle.std.proofs.Common.{ℕ, List, [], ◌∷◌, ◌++◌, ◌≡◌, ◌+◌, ◌<◌, ◌≤◌, Ok, Err, Option, Result, sym, ap, ◌∙◌, arith, length, append-nil, append_assoc, length-append}
+use Rattle.std.proofs.Common.{ℕ, List, [], ◌∷◌, ◌++◌, ◌≡◌, ◌+◌, ◌<◌, ◌≤◌, Ok, Err, Option, Result, inl, inr, sym, ap, ◌∙◌, arith, length, append-nil, append_assoc, length-append}
 use Rattle.std.specs.List.{AllByRecursion}
 use Rattle.std.specs.Result.{IfOk, OnErr}
+use Rattle.hpx_value.specs.Ids.{bare}
 use Rattle.hpx_value.specs.declared.acts.Job.{Job}
 use Rattle.hpx_journal.specs.Data.{Outcome}
-use Rattle.hpx_journal.specs.Entries.{Frame, Rules, name_of}
+use Rattle.hpx_journal.specs.Entries.{Frame, Rules, name_of, target_of}
 use Rattle.hpx_journal.proofs.Alls.{all-append, all-map}
-use Rattle.hpx_part.specs.Data.{Event, Entry, Line, Fire, Out, In, Mail}
+use Rattle.hpx_part.specs.Data.{Event, Entry, Line, Fire, Left, Out, In, Mail}
 use Rattle.hpx_part.specs.Parts.{at_all}
 use Rattle.hpx_tables.specs.Splits.{asked_events}
 use Rattle.hpx_node.specs.Asks.{splits_before, lacking}
 use Rattle.hpx_node.specs.Changes.{Writes}
 use Rattle.hpx_node.specs.Commits.{seen, committed}
+use Rattle.hpx_node.specs.Handled.{Tends}
 use Rattle.hpx_steps.specs.Calls.{effects}
 use Rattle.hpx_steps.specs.Rows.{kind_of}
 use Rattle.hpx_tables.specs.Tables.{Tables}
@@ -85,12 +87,16 @@ module _ (nodes nodes' : List Tables) (es es' : List Entry) where
   finished_unfed n job out (turned.Finished NotRunning) h = unfed_none es es' h.0.journal
   finished_unfed n job out _ h = absurd h
 
+  tends_unfed : (t t' : Tables) → Tends t t' es es' → IsUnfed es es'
+  tends_unfed t t' (inl d) = unfed_writes (Left (bare (target_of d.act)) d.to ∷ []) t t' es es' d.writes (tt, tt)
+  tends_unfed t t' (inr k) =
+      let c = k.1 in
+      let more = effects t c.parcel ++ c.more in
+      unfed_writes (Mail (kind_of c.parcel) ∷ more) t t' es es' c.writes
+      (tt, plain_unfed more (dealt_plain t c.parcel (record t { desk = c.rest }) c.mid c.done c.more c.continues))
+
   pub cleared_unfed : (k : ℕ) (x : Turned) → DidDesk k x nodes nodes' es es' → IsUnfed es es'
-  cleared_unfed k turned.Moved h =
-      let c = h.does in
-      let more = effects h.before c.parcel ++ c.more in
-      unfed_writes (Mail (kind_of c.parcel) ∷ more) h.before h.after es es' c.writes
-      (tt, plain_unfed more (dealt_plain h.before c.parcel (record h.before { desk = c.rest }) c.mid h.after c.more c.continues))
+  cleared_unfed k turned.Moved h = tends_unfed h.before h.after h.does
   cleared_unfed k turned.Empty h = unfed_none es es' h.0.journal
   cleared_unfed k _ h = absurd h
 
@@ -102,8 +108,12 @@ module _ (nodes nodes' : List Tables) (es es' : List Entry) where
   pumped_unfed Put k _ h = absurd h
 
   -- where one is dealt with, sent or accepted
+  tends_longer : (t t' : Tables) → Tends t t' es es' → length es < length es'
+  tends_longer t t' (inl d) = writes_longer (Left (bare (target_of d.act)) d.to) [] t t' es es' d.writes
+  tends_longer t t' (inr k) = let c = k.1 in writes_longer (Mail (kind_of c.parcel)) (effects t c.parcel ++ c.more) t t' es es' c.writes
+
   pub cleared_longer : (k : ℕ) → DidDesk k turned.Moved nodes nodes' es es' → length es < length es'
-  cleared_longer k h = let c = h.does in writes_longer (Mail (kind_of c.parcel)) (effects h.before c.parcel ++ c.more) h.before h.after es es' c.writes
+  cleared_longer k h = tends_longer h.before h.after h.does
 
   pub pumped_longer : (Put : Option Frame → Type 0) (k : ℕ) → DidPump Put k turned.Moved nodes nodes' es es' → length es < length es'
   pumped_longer Put k h = let d = h.2 in writes_longer (Out h.0.0 h.0.1) [] d.before d.after es es' d.does.writes
@@ -118,7 +128,7 @@ module _ (nodes nodes' : List Tables) (es es' : List Entry) where
         let c = d.does in
         let more = effects d.before c.parcel ++ c.more in
         unfed_writes (In h.0.1 ∷ more) d.before d.after es es' c.writes
-        (tt, plain_unfed more (dealt_plain d.before c.parcel (record d.before { taken = d.before.taken + 1 }) c.mid d.after c.more c.continues))
+        (tt, plain_unfed more (dealt_plain d.before c.parcel (record d.before { taken = d.before.taken + 1 }) c.mid c.done c.more c.continues))
     took_unfed turned.Empty h = unfed_none es es' h.2.journal
     took_unfed _ h = absurd h
 

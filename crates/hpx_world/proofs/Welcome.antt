@@ -17,10 +17,12 @@ use Rattle.hpx_journal.proofs.Bools.{or_false, or_left, or_right}
 use Rattle.hpx_part.specs.Data.{Entry}
 use Rattle.hpx_part.proofs.Keyed.{any_counted}
 use Rattle.hpx_commit.specs.Deals.{log_of}
-use Rattle.hpx_tables.specs.Kept.{stands_here, waits_here, count_here, held_here}
+use Rattle.hpx_tables.specs.Kept.{stands_here, stays_here, record_here, is_queued, waits_here, count_here, held_here}
 use Rattle.hpx_steps.specs.Rest.{waits_for}
 use Rattle.hpx_tables.specs.Pending.{Waits, awaits, is_asked_for}
-use Rattle.hpx_tables.specs.Strange.{broken, broken_near, is_far, are_far, is_lost, is_live, brings_right}
+use Rattle.hpx_agas.specs.Queues.{is_for}
+use Rattle.hpx_tables.specs.Rules.{broken, broken_near, is_lost, rests_at}
+use Rattle.hpx_tables.specs.Strange.{is_far, are_far, is_live, brings_right}
 use Rattle.hpx_tables.specs.Tables.{Tables}
 use Rattle.hpx_steps.proofs.Puts.{target-bare}
 use Rattle.hpx_world.proofs.Shown.{IsCalm, IsShown, counted, live, stands}
@@ -101,7 +103,11 @@ first_credited r w (id ∷ ids) act is h managed =
     let e : target_of act ≡ id = ap (λ (xs : List Id). target_of (record act { ids = xs })) is in
     subst (λ o. 1 ≤ credit_sum r o w) (sym e) (h.0 (subst (λ (o : Id). 16 ≤ o.kind) e managed))
 
-module _ (r : Rules) (log : ℕ) (es : List Entry) (calm : IsCalm r es) (k : ℕ) (t : Tables) (s : IsShown r log es k t) where
+module _ (r : Rules) (log : ℕ) (es : List Entry) (calm : IsCalm r es) (k : ℕ) (t : Tables) (s : IsShown r log es k t) (leaving : t.leaving ≡ []) (queued : t.queued ≡ []) where
+  and_no : (b : Bool) → (b && false) ≡ false
+  and_no true = refl
+  and_no false = refl
+
   not_lost : (act : Act) → IsActRight r (replayed r es) (bare_act act) → (target_of act).home ≡ k → is_lost t (target_of act) ≡ false
   not_lost act h home =
       let o = target_of act in
@@ -112,21 +118,19 @@ module _ (r : Rules) (log : ℕ) (es : List Entry) (calm : IsCalm r es) (k : ℕ
         | inr large ↦
             let alive : is_live t (target_of act) ≡ true =
             live r log es calm k t s (target_of act) home (first_credited r (replayed r es) act.ids act refl h.credited large) in
-            rw (le-ltb (target_of act).kind 16 large, alive, up) (and_no ((target_of act).home == t.here))
+            let stays : stays_here t (target_of act) ≡ true = rw (up, leaving) refl in
+            rw (le-ltb (target_of act).kind 16 large, alive, stays, and_no (rests_at t.here (record_here t (target_of act)))) (and_no ((target_of act).home == t.here))
       ]
     where
       lt-yes : (a : ℕ) → a < 16 → nat_lt a 16 ≡ true
       lt-yes a h = elim (cases_Bool (nat_lt a 16)) [ inl u ↦ u | inr u ↦ absurd (omega (arith, h, ltb-false a 16 u)) ]
 
-      and_no : (b : Bool) → (b && false) ≡ false
-      and_no true = refl
-      and_no false = refl
-
   covers : (id : Id) → (id.log ≡ None → ⊥) → id.home ≡ k → credit id ≤ credit_sum r id (replayed r es)
-      → (is_live t id ≡ true) × (nat_lt (count_here t id) (credit id) ≡ false)
+      → (is_live t id ≡ true) × (nat_lt (count_here t id) (credit id) ≡ false) × (is_queued t id.number ≡ false)
   covers id some home few = (
     live r log es calm k t s id home (omega (arith, few, some_credit id.log some)),
     le-ltb (count_here t id) (credit id) (omega (arith, few, counted r log es calm k t s id home)),
+    ap (list_any (is_for id.number)) queued,
   )
 
   brings : (id : Id) → (log_of id.log ≡ 0) ⊎ (log_of id.log ≡ log) → brings_right t id ≡ true
@@ -135,8 +139,8 @@ module _ (r : Rules) (log : ℕ) (es : List Entry) (calm : IsCalm r es) (k : ℕ
 
   unbroken : (p : Parcel) → IsParcel p → IsWelcome r log (replayed r es) k t p → broken_near t p ≡ None
   unbroken (Apply act) form h = rw (not_lost act h.0 h.1) refl
-  unbroken (Return id) form h = let c = covers id (has_credit id form) h.0 h.1 in rw (c.0, c.1) refl
-  unbroken (Ask id asker entry) form h = let c = covers id (least_credit id form.0) h.0 h.1 in rw (c.0, c.1) refl
+  unbroken (Return id) form h = let c = covers id (has_credit id form) h.0 h.1 in rw (c.0, c.1, c.2, and_no (count_here t id == credit id)) refl
+  unbroken (Ask id asker entry) form h = let c = covers id (least_credit id form.0) h.0 h.1 in rw (c.0, c.1, c.2, and_no (count_here t id == credit id)) refl
   unbroken (Give id entry) form h = rw (waited id entry t.pending h.2, brings id h.1) refl
   unbroken (Move act) form h = absurd (h.still form.code)
   unbroken (Free o) form h = rw (h.1, h.2, eq-eqb (held_here t o) 0 h.3) refl

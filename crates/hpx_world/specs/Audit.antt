@@ -9,10 +9,13 @@ use Rattle.hpx_journal.specs.Entries.{Rules}
 use Rattle.hpx_journal.specs.Frames.{tokens_in}
 use Rattle.hpx_journal.specs.Natives.{StandsAtHome}
 use Rattle.hpx_journal.specs.Tokens.{worth}
-use Rattle.hpx_journal.specs.Whole.{Space, recorded_in}
+use Rattle.hpx_journal.specs.Whole.{Space, recorded_in, part, replayed}
 use Rattle.hpx_tables.specs.Kept.{HasRecords, held_here, held_worth, owed_worth}
 use Rattle.hpx_tables.specs.Tables.{Tables}
 use Rattle.hpx_world.specs.declared.audit.AuditLine.{AuditLine}
+use Rattle.hpx_journal.specs.Laws.{count_events}
+use Rattle.hpx_journal.specs.Moving.{is_landed_of}
+use Rattle.hpx_part.specs.Data.{Entry}
 
 -- the credit of o that is held, at all nodes; no more than 2^128 - 1 is told
 abbrev pub held_in_all : Id → List Tables → ℕ
@@ -60,19 +63,23 @@ abbrev pub away_of : Rules → Id → Space → ℕ
 away_of r o w = total r.localities (λ k. sum_by (owed_worth o) (w.places k).tokens)
     + sum_by (λ f. sum_by (worth o) (tokens_in (r.parcel_of f.1))) w.road
 
--- a line tells what is recorded of its object, what is held, and what is away; while nothing moves it is at its home
-pub record Tells (r : Rules) (w : Space) (x : AuditLine) : Type 0 where
+-- an object has landed at k
+abbrev pub HasLanded : Id → ℕ → List Entry → Type 0
+HasLanded o k es = 1 ≤ count_events (is_landed_of o) (part k es)
+
+-- a line tells what is recorded of its object, what is held, and what is away; and where it is: at its home, or where it has landed
+pub record Tells (r : Rules) (es : List Entry) (x : AuditLine) : Type 0 where
   pub some : 1 ≤ x.recorded
-  pub recorded_is : x.recorded ≡ recorded_in x.gid w
-  pub held_is : x.held ≡ held_at_all r x.gid w
-  pub flight_is : x.flight ≡ away_of r x.gid w
-  pub at_is : x.at ≡ x.gid.home
+  pub recorded_is : x.recorded ≡ recorded_in x.gid (replayed r es)
+  pub held_is : x.held ≡ held_at_all r x.gid (replayed r es)
+  pub flight_is : x.flight ≡ away_of r x.gid (replayed r es)
+  pub at_is : (x.at ≡ x.gid.home) ⊎ HasLanded x.gid x.at es
 
 -- each line tells so, and each object of which credit is out has exactly one
-pub record IsAudit (r : Rules) (w : Space) (lines : List AuditLine) : Type 0 where
-  pub tell : AllByRecursion (Tells r w) lines
-  pub each : (o : Id) → 1 ≤ recorded_in o w → count_by (λ x. same_object o x.gid) lines ≡ 1
+pub record IsAudit (r : Rules) (es : List Entry) (lines : List AuditLine) : Type 0 where
+  pub tell : AllByRecursion (Tells r es) lines
+  pub each : (o : Id) → 1 ≤ recorded_in o (replayed r es) → count_by (λ x. same_object o x.gid) lines ≡ 1
 
--- each object that they tell of stands at its home
-abbrev pub StandAtHome : Rules → Space → List AuditLine → Type 0
-StandAtHome r w lines = AllByRecursion (λ (x : AuditLine). StandsAtHome r.localities w x.gid) lines
+-- each object that they tell of stands at its home, and so they tell
+abbrev pub StandAtHome : Rules → List Entry → List AuditLine → Type 0
+StandAtHome r es lines = AllByRecursion (λ (x : AuditLine). StandsAtHome r.localities (replayed r es) x.gid × (x.at ≡ x.gid.home)) lines

@@ -6,6 +6,7 @@ use Rattle.hpx_journal.specs.Entries.{Frame, Rules}
 use Rattle.hpx_journal.specs.Names.{names}
 use Rattle.hpx_journal.specs.Tokens.{is_held}
 use Rattle.hpx_journal.specs.Whole.{Space, IsQuiet as IsQuietIn}
+use Rattle.hpx_node.specs.Handled.{HasNothingToTend}
 use Rattle.hpx_tables.specs.Free.{NoneIsFree}
 use Rattle.hpx_tables.specs.Tables.{Tables, IsPassive, fired_acts}
 
@@ -25,22 +26,14 @@ pub record IsAtRest (r : Rules) (w : Space) : Type 0 where
 abbrev pub IsStuck : Tables → Type 0
 IsStuck t = NoneIsFree (fired_acts t) t.objects t.accepted
 
--- no message to the own locality waits
-abbrev pub HasNoMail : Tables → Type 0
-HasNoMail t = t.desk ≡ []
-
 -- no message waits to be sent
 abbrev pub SendsNothing : Tables → Type 0
 SendsNothing t = t.outgoing ≡ []
 
--- nothing waits until its object has moved
-abbrev pub QueuesNothing : Tables → Type 0
-QueuesNothing t = t.queued ≡ []
-
 -- no turn but a Feed or a Finish can do anything, on a fabric that tells: nothing may be fired, dealt with, sent or accepted
 pub record NothingApplies (nodes : List Tables) (held : Option Frame) (frames : Option (List Frame)) : Type 0 where
   pub fire : AllByRecursion IsStuck nodes
-  pub desk : AllByRecursion HasNoMail nodes
+  pub desk : AllByRecursion HasNothingToTend nodes
   pub pump : AllByRecursion SendsNothing nodes
   pub hand : held ≡ None
   pub flight : (xs : List Frame) → frames ≡ Some xs → xs ≡ []

@@ -16,7 +16,7 @@ use Rattle.hpx_world.specs.Sound.{Meaning, IsSame}
 use Rattle.hpx_world.specs.Away.{Fetches, Puts, Keeps}
 use Rattle.hpx_world.specs.Stages.{Stage}
 use Rattle.hpx_world.specs.Steps.{IsEarly, DidHandOut, DidHandBack, GoesTo, NoneFires, NoneClears, NonePumps}
-use Rattle.hpx_world.specs.Turns.{DidFeed, DidFire, DidFinish, DidDesk, DidPump, DidTake, HoldsBadFrame, HoldsStrangeFrame, HoldsRightFrame, IsStrangeMail, IsRightMail, HasToFire, HasToSend}
+use Rattle.hpx_world.specs.Turns.{DidFeed, DidFire, DidFinish, DidDesk, DidPump, DidTake, HoldsBadFrame, HoldsStrangeFrame, HoldsRightFrame, IsStrangeMail, HasToTend, HasToFire, HasToSend, HasJob}
 
 -- ---- what a turn does
 
@@ -95,13 +95,13 @@ RefusedTake (faults.Strange to rule object kept) x z = StaysButHand x z × Holds
 RefusedTake (faults.EarlyEnd sent taken) x z =
     Stays x z × (z.outside.hand ≡ None) × (sent ≡ sum_by (λ t. t.sent) x.nodes) × (taken ≡ sum_by (λ t. t.taken) x.nodes) × (sent ≢ taken)
     × Fetches x.outside.hand x.outside.flight z.outside.flight x.outside.trace z.outside.trace None
-RefusedTake (faults.OutOfMemory undone) x z = StaysButHand x z × (undone ≡ None) × HoldsRightFrame z.nodes z.outside.hand
+RefusedTake (faults.OutOfMemory undone) x z = StaysButHand x z × (undone ≡ None) × HoldsRightFrame z.nodes z.outside.hand z.outside.flight
 RefusedTake _ x z = ⊥
 
 -- a Desk at k: its oldest message breaks a rule, or for want of memory for one that breaks none
 abbrev pub RefusedDesk : {A : Type 0} {g : Ghosts A} → ℕ → WorldFault A g → Stage → Stage → Type 0
 RefusedDesk k (faults.Strange to rule object kept) x z = StaysAll x z × (to ≡ k) × IsStrangeMail z.nodes k rule object kept
-RefusedDesk k (faults.OutOfMemory undone) x z = StaysAll x z × (undone ≡ None) × IsRightMail z.nodes k
+RefusedDesk k (faults.OutOfMemory undone) x z = StaysAll x z × (undone ≡ None) × HasToTend z.nodes k
 RefusedDesk k _ x z = ⊥
 
 -- a Pump of k: the fabric failed, or for want of memory; a message waits there
@@ -115,10 +115,15 @@ abbrev pub RefusedFire : {A : Type 0} {g : Ghosts A} → ℕ → WorldFault A g 
 RefusedFire k (faults.OutOfMemory undone) x z = StaysAll x z × (undone ≡ None) × HasToFire z.nodes k
 RefusedFire k _ x z = ⊥
 
--- a Feed or a Finish: for want of memory alone; a Done is handed back
-abbrev pub RefusedHere : {A : Type 0} {g : Ghosts A} → Option (Done A g) → WorldFault A g → Stage → Stage → Type 0
-RefusedHere job (faults.OutOfMemory back) x z = StaysAll x z × (back ≡ job)
-RefusedHere job _ x z = ⊥
+-- a Finish: for want of memory, and the job is out at its locality; it is handed back
+abbrev pub RefusedFinish : {A : Type 0} {g : Ghosts A} → Done A g → WorldFault A g → Stage → Stage → Type 0
+RefusedFinish done (faults.OutOfMemory undone) x z = StaysAll x z × (undone ≡ Some done) × HasJob z.nodes done.localities done.job
+RefusedFinish done _ x z = ⊥
+
+-- a Feed: for want of memory alone
+abbrev pub RefusedFeed : {A : Type 0} {g : Ghosts A} → WorldFault A g → Stage → Stage → Type 0
+RefusedFeed (faults.OutOfMemory undone) x z = StaysAll x z × (undone ≡ None)
+RefusedFeed _ x z = ⊥
 
 -- a turn in a journal with room
 abbrev pub RefusedBy : {A : Type 0} {g : Ghosts A} → Choice A g → WorldFault A g → Stage → Stage → Type 0
@@ -126,8 +131,8 @@ RefusedBy (choices.Fire k) fault x z = RefusedFire k fault x z
 RefusedBy (choices.Desk k) fault x z = RefusedDesk k fault x z
 RefusedBy (choices.Pump k) fault x z = RefusedPump k fault x z
 RefusedBy choices.Take fault x z = RefusedTake fault x z
-RefusedBy (choices.Finish done) fault x z = RefusedHere (Some done) fault x z
-RefusedBy _ fault x z = RefusedHere None fault x z
+RefusedBy (choices.Finish done) fault x z = RefusedFinish done fault x z
+RefusedBy (choices.Feed line) fault x z = RefusedFeed fault x z
 
 -- a turn: room is looked at first
 abbrev pub Refused : {A : Type 0} {g : Ghosts A} → Choice A g → WorldFault A g → Stage → Stage → Type 0
@@ -144,13 +149,13 @@ RefusedWork k (faults.NotRun job) x z = HasRoom x.entries × DidHandOut (length 
 RefusedWork k _ x z = ⊥
 
 -- for want of memory, the first turn of these that could be made was not: an action may be fired; the oldest message to an own
--- locality breaks no rule; a message to another waits; the frame in hand, if there is one, breaks none
+-- locality breaks no rule; a message to another waits; the frame in hand breaks none, or none is in hand and one may be in flight
 abbrev pub LacksMemory : Stage → Stage → Type 0
 LacksMemory x z =
     (((k : ℕ) × HasToFire x.nodes k) × (z.outside ≡ x.outside))
-    ⊎ (NoneFires x × ((k : ℕ) × IsRightMail x.nodes k) × (z.outside ≡ x.outside))
+    ⊎ (NoneFires x × ((k : ℕ) × HasToTend x.nodes k) × (z.outside ≡ x.outside))
     ⊎ (NoneClears x × ((k : ℕ) × HasToSend x.nodes k) × (z.outside ≡ x.outside))
-    ⊎ (NonePumps x × HoldsRightFrame z.nodes z.outside.hand)
+    ⊎ (NonePumps x × HoldsRightFrame z.nodes z.outside.hand z.outside.flight)
 
 -- a step: what goes before could not be done, or its first action was fired and the job is handed back
 abbrev pub RefusedStep : {A : Type 0} {g : Ghosts A} → WorldFault A g → Stage → Stage → Type 0

@@ -13,7 +13,8 @@ use Rattle.hpx_node.specs.declared.parts.Finished.{Finished}
 use Rattle.hpx_node.specs.declared.parts.Finished.TheVariants.{NotRunning}
 use Rattle.hpx_world.specs.declared.turns.Turned.TheVariants as turned
 use Rattle.hpx_world.specs.Away.{Fetches, Puts}
-use Rattle.hpx_world.specs.Quiet.{IsQuiet, IsStuck, HasNoMail, SendsNothing, NothingApplies, NoneRuns}
+use Rattle.hpx_world.specs.Quiet.{IsQuiet, IsStuck, SendsNothing, NothingApplies, NoneRuns}
+use Rattle.hpx_node.specs.Handled.{HasNothingToTend}
 use Rattle.hpx_world.specs.Sound.{Meaning, IsSame}
 use Rattle.hpx_world.specs.Stages.{Stage}
 use Rattle.hpx_world.specs.Turns.{DidFire, DidFinish, DidDesk, DidPump, DidTake}
@@ -50,9 +51,9 @@ pub record IsEarly (nodes : List Tables) (held : Option Frame) (frames : Option 
 abbrev pub NoneFires : Stage → Type 0
 NoneFires x = AllByRecursion IsStuck x.nodes
 
--- nor has one a message to itself
+-- nor has one an object that may leave, or a message to itself
 abbrev pub NoneClears : Stage → Type 0
-NoneClears x = NoneFires x × AllByRecursion HasNoMail x.nodes
+NoneClears x = NoneFires x × AllByRecursion HasNothingToTend x.nodes
 
 -- nor one to another
 abbrev pub NonePumps : Stage → Type 0
@@ -89,7 +90,7 @@ DidHandBack n job x z = AtFirst IsStuck (λ k. DidHandOut n job k x z) x.nodes
 abbrev pub DidFirst : Meaning → Stage → Stage → Type 0
 DidFirst act_of x z =
     (AtFirst IsStuck (λ k. DidWork act_of k x z) x.nodes × (z.outside ≡ x.outside))
-    ⊎ (NoneFires x × AtFirst HasNoMail (λ k. DidDesk k turned.Moved x.nodes z.nodes x.entries z.entries) x.nodes × (z.outside ≡ x.outside))
+    ⊎ (NoneFires x × AtFirst HasNothingToTend (λ k. DidDesk k turned.Moved x.nodes z.nodes x.entries z.entries) x.nodes × (z.outside ≡ x.outside))
     ⊎ (NoneClears x
     × AtFirst SendsNothing (λ k. DidPump (Puts k x.outside.flight z.outside.flight x.outside.trace z.outside.trace) k turned.Moved x.nodes z.nodes x.entries z.entries) x.nodes
     × (z.outside.hand ≡ x.outside.hand))

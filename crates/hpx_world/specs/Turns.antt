@@ -1,5 +1,5 @@
 -- What a turn does at its locality, and what it writes.
-use Rattle.std.specs.Prelude.{ℕ, List, [], ◌∷◌, ◌≡◌, ◌≤◌, ◌+◌, ◌⊎◌, Some, None, Option, length, sum_by}
+use Rattle.std.specs.Prelude.{ℕ, List, [], ◌∷◌, ◌≡◌, ◌≢◌, ◌≤◌, ◌+◌, ◌⊎◌, Some, None, Option, length, sum_by}
 use Rattle.std.specs.List.{slice_get}
 use Rattle.hpx_value.specs.declared.acts.Job.{Job}
 use Rattle.hpx_parcel.specs.Reading.{parcel_of, IsRefused}
@@ -12,8 +12,8 @@ use Rattle.hpx_node.specs.Asks.{Begins}
 use Rattle.hpx_node.specs.Changes.{Writes}
 use Rattle.hpx_node.specs.Commits.{seen, committed, hand_of, places_in_hand, Ends}
 use Rattle.hpx_tables.specs.Jobs.{IsRunning, Starts}
-use Rattle.hpx_steps.specs.Mail.{with_act}
-use Rattle.hpx_node.specs.Handled.{Takes, Clears, NotTaken, NotCleared}
+use Rattle.hpx_steps.specs.Ways.{with_act}
+use Rattle.hpx_node.specs.Handled.{Takes, Tends, HasNothingToTend, NotTaken, NotTended}
 use Rattle.hpx_tables.specs.Strange.{object_of}
 use Rattle.hpx_tables.specs.Tables.{Tables}
 use Rattle.hpx_tables.specs.declared.kept.Outgoing.{Outgoing}
@@ -24,7 +24,7 @@ use Rattle.hpx_node.specs.declared.parts.TakeFault.TheVariants as take_faults
 use Rattle.hpx_world.specs.declared.turns.Turned.{Turned}
 use Rattle.hpx_world.specs.declared.turns.Turned.TheVariants as turned
 use Rattle.hpx_world.specs.Sound.{DoneAt, IsSame}
-use Rattle.hpx_world.specs.Quiet.{IsStuck, HasNoMail, SendsNothing}
+use Rattle.hpx_world.specs.Quiet.{IsStuck, SendsNothing}
 
 -- the name that is drawn next
 abbrev pub next_name : Tables → Name
@@ -84,10 +84,14 @@ DidFinish n job out (turned.Finished NotRunning) nodes nodes' es es' =
     IsSame nodes nodes' es es' × ((t : Tables) → n ≡ length nodes → slice_get nodes job.at ≡ Some t → IsRunning t job → ⊥)
 DidFinish n job out _ nodes nodes' es es' = ⊥
 
--- a Desk at k: the oldest message to its own locality is dealt with, or there is none
+-- a job is out at its locality
+abbrev pub HasJob : List Tables → ℕ → Job → Type 0
+HasJob nodes n job = (n ≡ length nodes) × ((t : Tables) × (slice_get nodes job.at ≡ Some t) × IsRunning t job)
+
+-- a Desk at k: an object leaves from there that is to leave, or else the oldest message to its own locality is dealt with; or there is none
 abbrev pub DidDesk : ℕ → Turned → List Tables → List Tables → List Entry → List Entry → Type 0
-DidDesk k turned.Moved nodes nodes' es es' = DoneAt k (λ t t'. Clears t t' es es') nodes nodes'
-DidDesk k turned.Empty nodes nodes' es es' = IsSame nodes nodes' es es' × ((t : Tables) → slice_get nodes k ≡ Some t → HasNoMail t)
+DidDesk k turned.Moved nodes nodes' es es' = DoneAt k (λ t t'. Tends t t' es es') nodes nodes'
+DidDesk k turned.Empty nodes nodes' es es' = IsSame nodes nodes' es es' × ((t : Tables) → slice_get nodes k ≡ Some t → HasNothingToTend t)
 DidDesk k _ nodes nodes' es es' = ⊥
 
 -- a Pump of k: its oldest message to another locality is sent in a frame that the fabric takes, or there is none
@@ -130,19 +134,19 @@ HoldsStrangeFrame nodes hand to rule object kept = (bytes : List ℕ) × (hand �
 abbrev pub IsRightFrame : List Tables → Frame → Type 0
 IsRightFrame nodes frame = (t : Tables) × (slice_get nodes frame.0 ≡ Some t) × NotTaken t frame.1 take_faults.OutOfMemory
 
--- the frame in hand does, if there is one
-abbrev pub HoldsRightFrame : List Tables → Option Frame → Type 0
-HoldsRightFrame nodes None = Unit {0}
-HoldsRightFrame nodes (Some frame) = IsRightFrame nodes frame
+-- the frame in hand does; where there is none, one may be in flight
+abbrev pub HoldsRightFrame : List Tables → Option Frame → Option (List Frame) → Type 0
+HoldsRightFrame nodes None flight = flight ≢ Some []
+HoldsRightFrame nodes (Some frame) flight = IsRightFrame nodes frame
 
 -- the oldest message to the own locality of k breaks a rule
 abbrev pub IsStrangeMail : List Tables → ℕ → ℕ → Id → ℕ → Type 0
 IsStrangeMail nodes k rule object kept =
-    (t : Tables) × (slice_get nodes k ≡ Some t) × NotCleared t (desk_faults.Strange rule object kept)
+    (t : Tables) × (slice_get nodes k ≡ Some t) × NotTended t (desk_faults.Strange rule object kept)
 
--- the oldest message to the own locality of k breaks none
-abbrev pub IsRightMail : List Tables → ℕ → Type 0
-IsRightMail nodes k = (t : Tables) × (slice_get nodes k ≡ Some t) × NotCleared t desk_faults.OutOfMemory
+-- an object may leave from k, or the oldest message to its own locality breaks none
+abbrev pub HasToTend : List Tables → ℕ → Type 0
+HasToTend nodes k = (t : Tables) × (slice_get nodes k ≡ Some t) × NotTended t desk_faults.OutOfMemory
 
 -- an action may be fired at k
 abbrev pub HasToFire : List Tables → ℕ → Type 0

@@ -11,8 +11,8 @@ ghost use Rattle.hpx_ports.specs.Faults.{Rose};
 ghost use Rattle.hpx_node.specs.Locality.{tables_of};
 ghost use Rattle.hpx_world.specs.Sound.{IsSound, IsSame, DoneAt};
 ghost use Rattle.hpx_world.specs.Away.{IsCarrying, IsInside, Fetches, Puts, Keeps};
-ghost use Rattle.hpx_world.specs.Quiet.{IsQuiet, QueuesNothing, NoneRuns, running_in};
-ghost use Rattle.hpx_world.specs.Turns.{DidFeed, DidFire, DidFinish, DidDesk, DidPump, DidTake, IsBadFrame, IsStrangeFrame, IsStrangeMail, IsRightMail, HasToFire, HasToSend, IsFarFault, IsRightFrame, HoldsBadFrame, HoldsStrangeFrame, HoldsRightFrame};
+ghost use Rattle.hpx_world.specs.Quiet.{IsQuiet, NoneRuns, running_in};
+ghost use Rattle.hpx_world.specs.Turns.{DidFeed, DidFire, DidFinish, DidDesk, DidPump, DidTake, IsBadFrame, IsStrangeFrame, IsStrangeMail, HasToTend, HasToFire, HasToSend, HasJob, IsFarFault, IsRightFrame, HoldsBadFrame, HoldsStrangeFrame, HoldsRightFrame};
 
 use crate::turns::{Turned, WorldFault};
 use hpx_journal::journal::Journal;
@@ -142,15 +142,6 @@ impl<A: Acts + Copy> Locals<A> {
         (sent, taken)
     }
 
-    /// Nothing waits anywhere until its object has moved.
-    pub fn rests(&self)
-        ensures { AllByRecursion QueuesNothing (tables_of self.now.nodes.items) }
-    {
-        for node in self.nodes.iter() {
-            node.rests();
-        }
-    }
-
     /// Whether each node is passive.
     fn are_passive(&self) -> bool
         ensures { IsTrue result ↔ AllByRecursion IsPassive (tables_of self.now.nodes.items) }
@@ -250,6 +241,7 @@ impl<A: Acts + Copy> Locals<A> {
         ensures did { IfOk result (λ turned. DidFinish done.localities done.job done.outcome turned (tables_of self.old.nodes.items) (tables_of self.new.nodes.items) self.old.journal.entries self.new.journal.entries) }
         ensures err { OnErr result (IsSame (tables_of self.old.nodes.items) (tables_of self.new.nodes.items) self.old.journal.entries self.new.journal.entries) }
         ensures memory { IfErr result (λ e. e ≡ WorldFault.OutOfMemory (Some done)) }
+        ensures runs { OnErr result (HasJob (tables_of self.old.nodes.items) done.localities done.job) }
     {
         match self.nodes[k].finish(alloc, &mut self.journal, done) {
             Ok(finished) => Ok(Turned::Finished(finished)),
@@ -259,7 +251,7 @@ impl<A: Acts + Copy> Locals<A> {
         }
     }
 
-    /// The locality k deals with the oldest message to itself.
+    /// The locality k tends to its own: an object leaves, or the oldest message to itself is dealt with.
     pub fn desk(&mut self, alloc: Global, k: usize) -> Result<Turned, WorldFault<A>>
         requires range { k < length (tables_of self.old.nodes.items) }
         requires room { HasRoom self.old.journal.entries }
@@ -275,7 +267,7 @@ impl<A: Acts + Copy> Locals<A> {
         ensures err { OnErr result (IsSame (tables_of self.old.nodes.items) (tables_of self.new.nodes.items) self.old.journal.entries self.new.journal.entries) }
         ensures strange { (to : _) (rule : _) (object : _) (kept : _) → result ≡ Err (WorldFault.Strange to rule object kept) →
             (to ≡ k) × IsStrangeMail (tables_of self.old.nodes.items) k rule object kept }
-        ensures right { (u : _) → result ≡ Err (WorldFault.OutOfMemory u) → IsRightMail (tables_of self.old.nodes.items) k }
+        ensures right { (u : _) → result ≡ Err (WorldFault.OutOfMemory u) → HasToTend (tables_of self.old.nodes.items) k }
         ensures which { IfErr result (λ e. (e ≡ WorldFault.OutOfMemory None)
             ⊎ ((rule : _) × (object : _) × (kept : _) × (e ≡ WorldFault.Strange k rule object kept))) }
     {
@@ -373,6 +365,7 @@ impl<A: Acts + Copy> Locals<A> {
         ensures ok { OnOk result (Fetches self.old.hand (F.flight fabric.old) (F.flight fabric.new) (F.trace fabric.old) (F.trace fabric.new) self.new.hand) }
         ensures err { OnErr result ((self.new.hand ≡ self.old.hand) × (F.flight fabric.new ≡ F.flight fabric.old) × (F.trace fabric.new ≡ F.trace fabric.old)) }
         ensures none { OnErr result (self.new.hand ≡ None) }
+        ensures memory { result ≡ Err FabricFault.OutOfMemory → F.flight fabric.new ≢ Some [] }
         ensures held { (frame : _) → self.old.hand ≡ Some frame → fabric.new ≡ fabric.old }
         ensures cause { result ≡ Err FabricFault.Failed → Rose (F.faults fabric.old) (F.faults fabric.new) }
         ensures stands { result ≢ Err FabricFault.Failed → F.faults fabric.new ≡ F.faults fabric.old }
@@ -429,7 +422,7 @@ impl<A: Acts + Copy> Locals<A> {
         ensures early { (sent : _) (taken : _) → result ≡ Err (WorldFault.EarlyEnd sent taken) →
             (self.new.hand ≡ None) × (sent ≡ sum_by (λ t. t.sent) (tables_of self.old.nodes.items)) × (taken ≡ sum_by (λ t. t.taken) (tables_of self.old.nodes.items)) × (sent ≢ taken)
             × Fetches self.old.hand (F.flight fabric.old) (F.flight fabric.new) (F.trace fabric.old) (F.trace fabric.new) None }
-        ensures memory { (u : _) → result ≡ Err (WorldFault.OutOfMemory u) → (u ≡ None) × HoldsRightFrame (tables_of self.old.nodes.items) self.new.hand }
+        ensures memory { (u : _) → result ≡ Err (WorldFault.OutOfMemory u) → (u ≡ None) × HoldsRightFrame (tables_of self.old.nodes.items) self.new.hand (F.flight fabric.new) }
         ensures room { (e : _) (w : _) (u : _) → result ≢ Err (WorldFault.JournalFull e w u) }
         ensures runs_none { (job : _) → result ≢ Err (WorldFault.NotRun job) }
         ensures never_bad { IsCarrying (rules_of A.act_of (length (tables_of self.old.nodes.items)) self.old.profile) self.old.hand (F.flight fabric.old) (F.trace fabric.old) self.old.journal.entries →

@@ -11,7 +11,7 @@ ghost use Rattle.hpx_ports.specs.Faults.{Rose};
 ghost use Rattle.hpx_world.specs.Places.{rules_in};
 ghost use Rattle.hpx_world.specs.Sound.{IsSound, IsSame};
 ghost use Rattle.hpx_world.specs.Away.{IsCarrying, Fetches, Puts, Keeps};
-ghost use Rattle.hpx_world.specs.Quiet.{IsQuiet, IsAtRest, QueuesNothing, NoneRuns, running_in};
+ghost use Rattle.hpx_world.specs.Quiet.{IsQuiet, IsAtRest, NoneRuns, running_in};
 ghost use Rattle.hpx_world.specs.Promises.{KeepsPromises};
 ghost use Rattle.hpx_world.specs.Audit.{audit_lines, HaveRecords, AreOrdered, StandAtHome, IsAudit};
 ghost use Rattle.hpx_world.specs.Stages.{stage};
@@ -110,9 +110,9 @@ impl<A: Acts + Copy> World<A> {
         ensures records { OnOk result (HaveRecords self.now.nodes) }
         ensures ordered { IfOk result (λ lines. AreOrdered lines) }
         ensures tells { let r = rules_in A.act_of self.now in
-            IsCarried r [] self.now.journal.entries → IfOk result (λ lines. IsAudit r (replayed r self.now.journal.entries) lines) }
+            IsCarried r [] self.now.journal.entries → IfOk result (λ lines. IsAudit r self.now.journal.entries lines) }
         ensures at_home { let r = rules_in A.act_of self.now in NothingMoves r →
-            IsCarried r [] self.now.journal.entries → IfOk result (λ lines. StandAtHome r (replayed r self.now.journal.entries) lines) }
+            IsCarried r [] self.now.journal.entries → IfOk result (λ lines. StandAtHome r self.now.journal.entries lines) }
     {
         self.locals.audit(alloc)
     }
@@ -130,9 +130,9 @@ impl<A: Acts + Copy> World<A> {
         ensures records { HaveRecords self.now.nodes }
         ensures ordered { AreOrdered (audit_lines self.now.nodes) }
         ensures audit { let r = rules_in A.act_of self.now in
-            IsCarried r [] self.now.journal.entries → IsAudit r (replayed r self.now.journal.entries) (audit_lines self.now.nodes) }
+            IsCarried r [] self.now.journal.entries → IsAudit r self.now.journal.entries (audit_lines self.now.nodes) }
         ensures at_home { let r = rules_in A.act_of self.now in NothingMoves r →
-            IsCarried r [] self.now.journal.entries → StandAtHome r (replayed r self.now.journal.entries) (audit_lines self.now.nodes) }
+            IsCarried r [] self.now.journal.entries → StandAtHome r self.now.journal.entries (audit_lines self.now.nodes) }
         ensures sound { IsSound A.act_of self.now.profile self.now.nodes self.now.journal.entries }
     {
         self.locals.records_law();
@@ -143,13 +143,6 @@ impl<A: Acts + Copy> World<A> {
         ensures { IsSound A.act_of self.now.profile self.now.nodes self.now.journal.entries }
     {
         let _acts = &self.acts;
-    }
-
-    /// Nothing waits anywhere until its object has moved.
-    pub(crate) fn rests(&self)
-        ensures { AllByRecursion QueuesNothing self.now.nodes }
-    {
-        self.locals.rests();
     }
 
     /// Whether no job is out anywhere.

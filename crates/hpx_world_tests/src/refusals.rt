@@ -189,9 +189,9 @@ fn a_job_without_memory_is_handed_back(rt: HostRuntime) -> Result<(), Fail> {
     Ok(())
 }
 
-// A move is sent to the number's home, which does not take it: Line; Fire; Split, Done and Sent; Out.
+// A move is sent to the number's home, and the number leaves there: Line; Fire; Split, Done and Sent; Out; and twelve entries more.
 #[test]
-fn a_move_is_refused_where_the_number_stands(rt: HostRuntime) -> Result<(), Fail> {
+fn a_number_moves_to_where_it_is_called_from(rt: HostRuntime) -> Result<(), Fail> {
     let alloc = rt.alloc();
     let fabric = SureFabric::new(alloc, Order::FirstIn);
     let mut story = Story::boot(alloc, 2, false, fabric)?;
@@ -199,8 +199,8 @@ fn a_move_is_refused_where_the_number_stands(rt: HostRuntime) -> Result<(), Fail
         (Ask::Feed(b'n'), Got::Fed, 1, false),
         (Ask::Drain, Got::Drained, 14, true),
         (Ask::Feed(b'm'), Got::Fed, 15, false),
-        (Ask::Drain, Got::Strange(1, 8, 1), 20, false),
-        (Ask::Take, Got::Strange(1, 8, 1), 20, false),
+        (Ask::Drain, Got::Drained, 32, true),
+        (Ask::Take, Got::Empty, 32, true),
     ];
     assert_eq!(rt; story.first_wrong(alloc, &rows)?, None);
     assert!(rt; story.is_legal(alloc));

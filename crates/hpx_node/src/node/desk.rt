@@ -1,5 +1,5 @@
 //! Messages that are taken up: frames that come, and messages to the own locality.
-ghost use Rattle.std.specs.Prelude.{◌≡◌, ◌≤◌, ◌<◌, ◌+◌, ◌-◌, ◌^◌, ◌∷◌, ◌++◌, [], true, false, Some, None, OnOk, OnErr, IfErr, Ok, length};
+ghost use Rattle.std.specs.Prelude.{◌≡◌, ◌≤◌, ◌<◌, ◌+◌, ◌-◌, ◌^◌, ◌∷◌, ◌++◌, [], true, false, Some, None, OnOk, OnErr, IfErr, IfSome, Ok, length};
 ghost use Rattle.std.specs.List.{AllByRecursion, list_any};
 ghost use Rattle.hpx_value.specs.Ids.{bare, credit};
 ghost use Rattle.hpx_parcel.specs.Parcels.{IsParcel, HasRightCredit, HasCredit, HasLeastCredit, IsBare};
@@ -13,13 +13,16 @@ ghost use Rattle.hpx_steps.specs.Limits.{AddsATurn};
 ghost use Rattle.hpx_part.specs.Parts.{at_all};
 ghost use Rattle.hpx_tables.specs.Kept.{stands_here, waits_here, held_here, count_here};
 ghost use Rattle.hpx_tables.specs.Pending.{awaits};
-ghost use Rattle.hpx_tables.specs.Strange.{is_live, brings_right, broken_near};
-ghost use Rattle.hpx_steps.specs.Calls.{with_returns, ups, effects, Gives, DealsWith, Leaves};
+ghost use Rattle.hpx_tables.specs.Rules.{broken_near};
+ghost use Rattle.hpx_tables.specs.Strange.{is_live, brings_right};
+ghost use Rattle.hpx_steps.specs.Calls.{with_returns, ups, effects, Accepts, Gives, DealsWith, Leaves};
 ghost use Rattle.hpx_steps.specs.Mail.{with_return};
 ghost use Rattle.hpx_steps.specs.Rows.{kind_of};
-ghost use Rattle.hpx_node.specs.Handled.{Takes, Clears, NotTaken, NotCleared};
+ghost use Rattle.hpx_node.specs.Behind.{landed_in};
+ghost use Rattle.hpx_node.specs.Handled.{Takes, Clears, Tends, HasNothingToTend, NotTaken, NotCleared, NotTended};
 
 use crate::node::Node;
+use crate::node::tend::landed_in;
 use crate::parts::{DeskFault, TakeFault};
 use hpx_agas::records::{Granted, Left};
 use hpx_commit::deal::log_of;
@@ -101,12 +104,13 @@ impl<A: Acts + Copy> Node<A> {
     }
 
     /// Takes the credit of an id back. An object that has none left is to be freed.
-    fn take_back(&mut self, book: &mut Journal, id: Gid)
+    pub(crate) fn take_back(&mut self, book: &mut Journal, id: Gid)
         requires credit { HasCredit id }
         requires live { is_live self.old.tables id ≡ true }
         requires enough { credit id ≤ count_here self.old.tables id }
         requires spare { 1 ≤ self.old.spare }
         requires page { 1 ≤ book.old.spare }
+        ensures spare { self.old.spare ≤ self.new.spare + 1 }
         ensures deals { DealsWith (Return id) self.old.tables self.new.tables }
         ensures leaves { Leaves (Return id) self.old.tables self.new.tables }
         ensures grows { book.new.entries ≡ book.old.entries ++ at_all self.old.tables.here (effects self.old.tables (Return id)) }
@@ -223,6 +227,7 @@ impl<A: Acts + Copy> Node<A> {
         ensures leaves { Leaves parcel self.old.tables self.new.tables }
         ensures grows { book.new.entries ≡ book.old.entries ++ at_all self.old.tables.here (effects self.old.tables parcel) }
         ensures spare { (id : _) (entry : _) → parcel ≡ Give id entry → self.old.spare ≤ self.new.spare }
+        ensures more { IfSome (landed_in parcel) (λ o. self.old.spare ≤ self.new.spare + 1) }
         ensures page { (id : _) (entry : _) → parcel ≡ Give id entry → book.old.spare ≤ book.new.spare + 1 }
     {
         match parcel {
@@ -233,12 +238,30 @@ impl<A: Acts + Copy> Node<A> {
             Parcel::Free(o) => self.free(book, o),
             Parcel::Give { id, entry } => self.give(book, id, entry),
             Parcel::Cached { id: _, place: _ } => (),
-            Parcel::Go(_) => (),
-            Parcel::Object {
-                action: _,
-                state: _,
-            } => (),
-            Parcel::Landed { id: _, place: _ } => (),
+            Parcel::Go(act) => self.mark(act),
+            Parcel::Object { action, state } => self.land(book, action, state),
+            Parcel::Landed { id, place } => self.arrive(book, id, place as u32),
+        }
+    }
+
+    /// The same with a message of the own desk.
+    fn handle_own(&mut self, book: &mut Journal, parcel: Parcel)
+        requires fit { IsParcel parcel }
+        requires right { broken_near self.old.tables parcel ≡ None }
+        requires tidy { IsTidy self.old.tables [] }
+        requires spare { 128 ≤ self.old.spare }
+        requires page { 129 ≤ book.old.spare }
+        ensures accepts { Accepts parcel self.old.tables self.new.tables }
+        ensures leaves { Leaves parcel self.old.tables self.new.tables }
+        ensures grows { book.new.entries ≡ book.old.entries ++ at_all self.old.tables.here (effects self.old.tables parcel) }
+        ensures spare { (id : _) (entry : _) → parcel ≡ Give id entry → self.old.spare ≤ self.new.spare }
+        ensures more { IfSome (landed_in parcel) (λ o. self.old.spare ≤ self.new.spare + 1) }
+        ensures page { (id : _) (entry : _) → parcel ≡ Give id entry → book.old.spare ≤ book.new.spare + 1 }
+    {
+        match parcel {
+            Parcel::Apply(act) => self.accept_own(act),
+            Parcel::Move(act) => self.accept_own(act),
+            parcel => self.handle(book, parcel),
         }
     }
 
@@ -259,6 +282,7 @@ impl<A: Acts + Copy> Node<A> {
         ensures taken { self.new.tables.taken ≡ self.old.tables.taken + 1 }
         ensures sent { self.new.tables.sent ≡ self.old.tables.sent }
         ensures spare { (id : _) (entry : _) → parcel ≡ Give id entry → 1024 ≤ self.new.spare }
+        ensures more { IfSome (landed_in parcel) (λ o. self.old.spare ≤ self.new.spare + 1) }
         ensures page { (id : _) (entry : _) → parcel ≡ Give id entry → 1024 ≤ book.new.spare }
         ensures few { length book.new.entries ≤ length book.old.entries + 130 }
         ensures light { total_weight book.new.entries ≤ total_weight book.old.entries + 73856 }
@@ -280,12 +304,13 @@ impl<A: Acts + Copy> Node<A> {
         requires page { 1280 ≤ book.old.spare }
         requires tidy { IsTidy self.old.tables [] }
         ensures writes { Writes (Mail (kind_of parcel) ∷ effects self.old.tables parcel) self.old.tables self.new.tables book.old.entries book.new.entries }
-        ensures deals { DealsWith parcel self.old.tables self.new.tables }
+        ensures accepts { Accepts parcel self.old.tables self.new.tables }
         ensures leaves { Leaves parcel self.old.tables self.new.tables }
         ensures running { self.new.tables.running ≡ self.old.tables.running }
         ensures taken { self.new.tables.taken ≡ self.old.tables.taken }
         ensures sent { self.new.tables.sent ≡ self.old.tables.sent }
         ensures spare { (id : _) (entry : _) → parcel ≡ Give id entry → 1024 ≤ self.new.spare }
+        ensures more { IfSome (landed_in parcel) (λ o. self.old.spare ≤ self.new.spare + 1) }
         ensures page { (id : _) (entry : _) → parcel ≡ Give id entry → 1024 ≤ book.new.spare }
         ensures few { length book.new.entries ≤ length book.old.entries + 130 }
         ensures light { total_weight book.new.entries ≤ total_weight book.old.entries + 73856 }
@@ -296,18 +321,33 @@ impl<A: Acts + Copy> Node<A> {
             at,
             event: Event::Mail { kind },
         });
-        self.handle(book, parcel);
+        self.handle_own(book, parcel);
     }
 
-    /// Makes memory for a message that is dealt with, and for what follows it.
-    fn reserve_turn(&mut self, book: &mut Journal) -> Result<(), OutOfMemory>
+    /// Makes memory for a message that is dealt with, and for what follows it; where an object landed, for all that waits too.
+    fn reserve_turn(&mut self, book: &mut Journal, landed: &Option<Gid>) -> Result<(), OutOfMemory>
         ensures same { OnlySpare self.old.tables self.new.tables book.old book.new }
         ensures spare { OnOk result (1280 ≤ self.new.spare) }
+        ensures more { OnOk result (IfSome landed.now (λ o. length self.old.tables.queued + 1280 ≤ self.new.spare)) }
         ensures page { OnOk result (1280 ≤ book.new.spare) }
     {
-        self.reserve(1280)?;
+        let waiting = match landed {
+            Some(_) => u32::try_from(self.records.waiting()).or(Err(OutOfMemory))?,
+            None => 0,
+        };
+        self.reserve(waiting.checked_add(1280).ok_or(OutOfMemory)?)?;
         book.reserve(1280)?;
         Ok(())
+    }
+
+    /// Of which object the oldest message to the own locality tells that it has landed.
+    fn landed_first(&self) -> Option<Gid>
+        ensures { (parcel : _) (rest : _) → self.now.tables.desk ≡ parcel ∷ rest → result ≡ landed_in parcel }
+    {
+        if self.desk.len() == 0 {
+            return None;
+        }
+        landed_in(self.desk[0].parcel())
     }
 
     /// Why a frame is not accepted that was not decoded for want of memory: for that alone, if its parcel breaks no rule.
@@ -370,16 +410,18 @@ impl<A: Acts + Copy> Node<A> {
             Ok(next) => next,
             Err(_) => return Err(TakeFault::OutOfMemory),
         };
-        if self.reserve_turn(book).is_err() {
+        let landed = landed_in(&parcel);
+        if self.reserve_turn(book, &landed).is_err() {
             return Err(TakeFault::OutOfMemory);
         }
         self.enter_frame(book, bytes, parcel);
         self.follow(book, next);
+        self.go_on(&landed);
         Ok(())
     }
 
     /// Deals with the oldest message to the own locality, if there is one; nothing changes at a refusal.
-    pub fn desk(&mut self, alloc: Global, book: &mut Journal) -> Result<bool, DeskFault>
+    fn clear(&mut self, alloc: Global, book: &mut Journal) -> Result<bool, DeskFault>
         requires room { HasRoom book.old.entries }
         requires stands { Stands A.act_of self.old.tables book.old.entries }
         ensures stands { Stands A.act_of self.new.tables book.new.entries }
@@ -404,7 +446,8 @@ impl<A: Acts + Copy> Node<A> {
             Ok(next) => next,
             Err(_) => return Err(DeskFault::OutOfMemory),
         };
-        if self.reserve_turn(book).is_err() {
+        let landed = self.landed_first();
+        if self.reserve_turn(book, &landed).is_err() {
             return Err(DeskFault::OutOfMemory);
         }
         let Some(letter) = self.desk.pop_front() else {
@@ -412,6 +455,28 @@ impl<A: Acts + Copy> Node<A> {
         };
         self.enter_mail(book, letter.into_parcel());
         self.follow(book, next);
+        self.go_on(&landed);
         Ok(true)
+    }
+
+    /// Tends to its own: an object leaves that is to leave and on which nothing is done any more; where there is none, the oldest
+    /// message to the own locality is dealt with. False where there is none either. Nothing changes at a refusal.
+    pub fn desk(&mut self, alloc: Global, book: &mut Journal) -> Result<bool, DeskFault>
+        requires room { HasRoom book.old.entries }
+        requires stands { Stands A.act_of self.old.tables book.old.entries }
+        ensures stands { Stands A.act_of self.new.tables book.new.entries }
+        ensures running { self.new.tables.running ≡ self.old.tables.running }
+        ensures turn { AddsATurn book.old.entries book.new.entries }
+        ensures tends { result ≡ Ok true → Tends self.old.tables self.new.tables book.old.entries book.new.entries }
+        ensures none { result ≡ Ok false → HasNothingToTend self.old.tables × OnlySpare self.old.tables self.new.tables book.old book.new }
+        ensures err { OnErr result (OnlySpare self.old.tables self.new.tables book.old book.new) }
+        ensures cause { IfErr result (NotTended self.old.tables) }
+    {
+        match self.depart(book) {
+            Ok(true) => return Ok(true),
+            Ok(false) => (),
+            Err(OutOfMemory) => return Err(DeskFault::OutOfMemory),
+        }
+        self.clear(alloc, book)
     }
 }

@@ -115,6 +115,6 @@ impl<A: Acts + Copy> Node<A> {
     {
         let Plan { state, due, ups } = plan;
         self.settle_waiting(book, i, j, state, true);
-        self.leave(book, j, due, None, ups);
+        self.leave(book, j, due, None, ups, None);
     }
 }

@@ -7,7 +7,7 @@ ghost use Rattle.hpx_tables.specs.Fit.{IsFit};
 ghost use Rattle.hpx_steps.specs.Rest.{Stands};
 ghost use Rattle.hpx_node.specs.Changes.{OnlySpare, Writes};
 ghost use Rattle.hpx_steps.specs.Limits.{AddsATurn};
-ghost use Rattle.hpx_steps.specs.Mail.{with_act};
+ghost use Rattle.hpx_steps.specs.Ways.{with_act};
 
 use crate::node::Node;
 use hpx_journal::entry::{Entry, Event, Name};

@@ -1,5 +1,5 @@
 //! Committing a job that is done: what its outcome makes, what it leaves due, and what nobody names.
-ghost use Rattle.std.specs.Prelude.{◌≡◌, ◌≤◌, ◌<◌, ◌+◌, ◌^◌, [], IfOk, IfErr, IfSome, IfNone, length, map};
+ghost use Rattle.std.specs.Prelude.{◌≡◌, ◌≤◌, ◌<◌, ◌+◌, ◌^◌, [], IfOk, IfErr, OnErr, IfSome, IfNone, length, map};
 ghost use Rattle.std.specs.List.{AllByRecursion};
 ghost use Rattle.hpx_value.specs.Laws.{IsManaged, KeepsLaws};
 ghost use Rattle.hpx_journal.specs.Weights.{HasRoom};
@@ -164,7 +164,8 @@ impl<A: Acts + Copy> Node<A> {
         } = prepared;
         self.make(book, births, &stock);
         self.settle(book, i, j, state);
-        self.leave(book, j, due, done.job().action.rider(), ups);
+        let told = self.note(&done.job().action, ups.as_slice());
+        self.leave(book, j, due, done.job().action.rider(), ups, told);
     }
 
     /// Commits a job that is done, or lets it wait where some id of its hand has too little credit for all who name it.
@@ -191,6 +192,7 @@ impl<A: Acts + Copy> Node<A> {
         ensures running { IfOk result (λ f. (f ≡ Finished.NotRunning → ⊥) → (done.localities ≡ self.old.tables.localities) × IsRunning self.old.tables done.job) }
         ensures ends { IfOk result (λ f. f ≡ Finished.Committed → Ends self.old.tables self.new.tables done.job done.outcome) }
         ensures err { IfErr result (λ e. (e.undone ≡ done) × OnlySpare self.old.tables self.new.tables book.old book.new) }
+        ensures runs { OnErr result ((done.localities ≡ self.old.tables.localities) × IsRunning self.old.tables done.job) }
     {
         let (i, j) = match self.spot(&done) {
             Some(spot) => spot,

@@ -56,7 +56,8 @@ impl<A: Acts + Copy> Node<A> {
         }
     }
 
-    /// Takes the first accepted action whose object is free, to be run. Nothing changes without memory.
+    /// Takes the first accepted action whose object is free, to be run. Nothing changes without memory, and there is
+    /// want of it only where there is a job.
     pub fn fire(&mut self, alloc: Global, book: &mut Journal) -> Result<Option<Job>, OutOfMemory>
         requires room { HasRoom book.old.entries }
         requires stands { Stands A.act_of self.old.tables book.old.entries }
@@ -66,7 +67,7 @@ impl<A: Acts + Copy> Node<A> {
         ensures job { IfOk result (λ o. IfSome o (Starts self.old.tables self.new.tables)) }
         ensures none { IfOk result (λ o. IfNone o (NoneIsFree (fired_acts self.old.tables) self.old.tables.objects self.old.tables.accepted × OnlySpare self.old.tables self.new.tables book.old book.new)) }
         ensures err { OnErr result (OnlySpare self.old.tables self.new.tables book.old book.new) }
-        ensures free { OnErr result (NoneIsFree (fired_acts self.old.tables) self.old.tables.objects self.old.tables.accepted → ⊥) }
+        ensures waits { OnErr result (NoneIsFree (fired_acts self.old.tables) self.old.tables.objects self.old.tables.accepted → ⊥) }
     {
         let (i, j) = match first_free(
             &self.accepted,

@@ -98,8 +98,8 @@ impl<A: Acts + Copy> Node<A> {
         held_in_letters(&self.desk, o)
             .saturating_add(held_on_the_way(&self.outgoing, o))
             .saturating_add(held_in_queues(&self.records, o))
-            .saturating_add(held_in_letters(&self.leaving, o))
-            .saturating_add(held_in_letters(&self.stray, o))
+            .saturating_add(held_in_letters(self.moves.leaving(), o))
+            .saturating_add(held_in_letters(self.moves.stray(), o))
     }
 
     /// The credit of an object in messages here that bring it home, or ask for more.
@@ -109,8 +109,8 @@ impl<A: Acts + Copy> Node<A> {
         owed_in_letters(&self.desk, o)
             .saturating_add(owed_on_the_way(&self.outgoing, o))
             .saturating_add(owed_in_queues(&self.records, o))
-            .saturating_add(owed_in_letters(&self.leaving, o))
-            .saturating_add(owed_in_letters(&self.stray, o))
+            .saturating_add(owed_in_letters(self.moves.leaving(), o))
+            .saturating_add(owed_in_letters(self.moves.stray(), o))
     }
 
     /// How many slots the session has drawn, where it stands here.

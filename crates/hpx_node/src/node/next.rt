@@ -4,7 +4,7 @@ ghost use Rattle.hpx_parcel.specs.Parcels.{IsParcel};
 ghost use Rattle.hpx_journal.specs.Weights.{total_weight};
 ghost use Rattle.hpx_node.specs.Next.{IsNext, MayFollow, IfFollows, HasFollowed};
 ghost use Rattle.hpx_steps.specs.Rest.{IsTidy};
-ghost use Rattle.hpx_tables.specs.Strange.{broken_near};
+ghost use Rattle.hpx_tables.specs.Rules.{broken_near};
 
 use crate::node::Node;
 use crate::node::fail::Failing;
@@ -57,6 +57,7 @@ impl<A: Acts + Copy> Node<A> {
         ensures sent { self.new.tables.sent ≡ self.old.tables.sent }
         ensures few { length book.new.entries ≤ length book.old.entries + 598 }
         ensures light { total_weight book.new.entries ≤ total_weight book.old.entries + 2380416 }
+        ensures rests { IfFollows next ⊥ → self.new ≡ self.old }
         ensures followed { HasFollowed next self.old.tables self.new.tables book.old.entries book.new.entries }
     {
         match next {

@@ -1,5 +1,5 @@
 //! Paying what a commit leaves: messages are sent, prints are printed, a rider is merged, and ids that nobody names are given up.
-ghost use Rattle.std.specs.Prelude.{◌≡◌, ◌≤◌, ◌<◌, ◌+◌, ◌^◌, ◌++◌, Some, IfSome, length, slice_get};
+ghost use Rattle.std.specs.Prelude.{◌≡◌, ◌≤◌, ◌<◌, ◌+◌, ◌^◌, ◌++◌, ◌∷◌, [], Some, IfSome, length, slice_get};
 ghost use Rattle.std.specs.List.{AllByRecursion};
 ghost use Rattle.std.specs.Option.{option_to_list};
 ghost use Rattle.hpx_parcel.specs.Parcels.{HasCredit, HasRightCredit};
@@ -7,7 +7,7 @@ ghost use Rattle.hpx_part.specs.Parts.{at_all};
 ghost use Rattle.hpx_node.specs.Changes.{OnlySends, OnlyLeaves};
 ghost use Rattle.hpx_tables.specs.Fit.{IsFitDue};
 ghost use Rattle.hpx_tables.specs.Merged.{may_merge};
-ghost use Rattle.hpx_steps.specs.Calls.{ups, rider_event, rider_events, with_due, with_returns, with_rider, with_riders, with_done, written_due};
+ghost use Rattle.hpx_steps.specs.Calls.{ups, rider_event, rider_events, with_due, with_returns, with_rider, with_riders, with_done_told, with_told, written_due, AreOf};
 ghost use Rattle.hpx_value.specs.Values.{named};
 
 use crate::node::Node;
@@ -177,7 +177,58 @@ impl<A: Acts + Copy> Node<A> {
         }
     }
 
-    /// Writes all that a commit leaves, whose object stands at j: what is due, the rider, and then the ids that nobody names.
+    /// Tells the home of an object, by the first of these ids, that it stands here.
+    fn tell(&mut self, book: &mut Journal, loose: &mut VecDeque<Gid>)
+        requires some { 0 < length loose.old.items }
+        requires credit { AllByRecursion HasCredit loose.old.items }
+        requires spare { length loose.old.items ≤ self.old.spare }
+        requires page { length loose.old.items ≤ book.old.spare }
+        ensures credit { AllByRecursion HasCredit loose.new.items }
+        ensures spare { length loose.new.items ≤ self.new.spare }
+        ensures page { length loose.new.items ≤ book.new.spare }
+        ensures rest { OnlySends self.old.tables self.new.tables }
+        ensures goes { (o : _) → with_returns loose.new.items self.new.tables ≡ with_told (o ∷ []) loose.old.items self.old.tables }
+        ensures writes { book.new.entries ++ at_all self.new.tables.here (ups loose.new.items) ≡ book.old.entries ++ at_all self.old.tables.here (ups loose.old.items) }
+    {
+        let at = self.here;
+        if let Some(id) = loose.pop_front() {
+            let log = log_of(id);
+            let landed = Parcel::Landed {
+                id,
+                place: at as u16,
+            };
+            self.mail(id.home(), Letter::new(landed));
+            book.push(Entry {
+                at,
+                event: Event::Up {
+                    object: id.bare(),
+                    log,
+                },
+            });
+        }
+    }
+
+    /// Gives up all of these ids; the first tells the home of its object that this stands here, if one is told.
+    fn give_up_told(&mut self, book: &mut Journal, mut loose: VecDeque<Gid>, told: Option<Gid>)
+        requires credit { AllByRecursion HasCredit loose.items }
+        requires of { AreOf (option_to_list told) loose.items }
+        requires spare { length loose.items ≤ self.old.spare }
+        requires page { length loose.items ≤ book.old.spare }
+        ensures rest { OnlySends self.old.tables self.new.tables }
+        ensures goes { self.new.tables ≡ with_told (option_to_list told) loose.items self.old.tables }
+        ensures writes { book.new.entries ≡ book.old.entries ++ at_all self.old.tables.here (ups loose.items) }
+    {
+        match told {
+            Some(_object) => {
+                self.tell(book, &mut loose);
+                self.give_up_all(book, loose);
+            }
+            None => self.give_up_all(book, loose),
+        }
+    }
+
+    /// Writes all that a commit leaves, whose object stands at j: what is due, the rider, and then the ids that nobody names, the
+    /// first of which tells a home, if one is told.
     pub(crate) fn leave(
         &mut self,
         book: &mut Journal,
@@ -185,22 +236,24 @@ impl<A: Acts + Copy> Node<A> {
         due: VecDeque<Due>,
         rider: Option<Gid>,
         loose: Vec<Gid>,
+        told: Option<Gid>,
     )
         requires fit { AllByRecursion IsFitDue due.items }
         requires right { IfSome rider HasRightCredit }
         requires credit { AllByRecursion HasCredit loose.items }
+        requires of { AreOf (option_to_list told) loose.items }
         requires object { j < length self.old.tables.objects }
         requires spare { length due.items + 1 + length loose.items ≤ self.old.spare }
         requires page { length due.items + 1 + length loose.items ≤ book.old.spare }
         requires few { self.old.tables.serial + length due.items < 2 ^ 64 }
         ensures rest { OnlyLeaves self.old.tables self.new.tables }
-        ensures goes { (x : _) → slice_get self.old.tables.objects j ≡ Some x → self.new.tables ≡ with_done j x due.items (option_to_list rider) loose.items self.old.tables }
+        ensures goes { (x : _) → slice_get self.old.tables.objects j ≡ Some x → self.new.tables ≡ with_done_told (option_to_list told) j x due.items (option_to_list rider) loose.items self.old.tables }
         ensures writes { (x : _) → slice_get self.old.tables.objects j ≡ Some x → book.new.entries ≡ book.old.entries
             ++ at_all self.old.tables.here (written_due self.old.tables.here self.old.tables.serial due.items
             ++ (rider_events self.old.tables.profile.credit_log x.state.ids (option_to_list rider) ++ ups loose.items)) }
     {
         self.pay_all(book, due);
         self.merge_any(book, j, rider);
-        self.give_up_all(book, VecDeque::from_vec(loose));
+        self.give_up_told(book, VecDeque::from_vec(loose), told);
     }
 }

@@ -13,7 +13,7 @@ ghost use Rattle.hpx_tables.specs.Jobs.{IsFitJob};
 ghost use Rattle.hpx_tables.specs.Pending.{ids_named, action_of};
 ghost use Rattle.hpx_node.specs.Resumes.{full_stock, stock_with, MayResume, IsReadyFor, completes};
 ghost use Rattle.hpx_steps.specs.Rest.{IsTidy};
-ghost use Rattle.hpx_tables.specs.Strange.{broken_near};
+ghost use Rattle.hpx_tables.specs.Rules.{broken_near};
 ghost use Rattle.hpx_node.specs.Changes.{Writes};
 
 use crate::node::Node;
@@ -169,6 +169,6 @@ impl<A: Acts + Copy> Node<A> {
         let rider = self.pending[i].action().rider();
         self.make(book, births, &stock);
         self.settle_waiting(book, i, j, state, false);
-        self.leave(book, j, due, rider, ups);
+        self.leave(book, j, due, rider, ups, None);
     }
 }

@@ -1,8 +1,10 @@
 //! The rules that a message may break.
-ghost use Rattle.std.specs.Prelude.{◌≡◌, ◌-◌, ◌<◌, ◌&&◌, ◌==◌, Option, Some, None};
+ghost use Rattle.std.specs.Prelude.{◌≡◌, ◌-◌, ◌<◌, ◌&&◌, ◌==◌, true, Option, Some, None};
 ghost use Rattle.hpx_value.specs.Ids.{bare};
 ghost use Rattle.hpx_journal.specs.Rows.{is_to};
-ghost use Rattle.hpx_tables.specs.Strange.{is_live, is_lost, breaks_at, brings_right, return_rule, act_rule, move_rule, go_rule, object_rule, landed_rule, give_rule, free_rule, near_rule, rule_of, broken};
+ghost use Rattle.hpx_tables.specs.Kept.{is_queued, record_here};
+ghost use Rattle.hpx_tables.specs.Rules.{rests_at, is_lost, return_rule, act_rule, go_rule, object_rule, landed_rule, near_rule, rule_of, broken};
+ghost use Rattle.hpx_tables.specs.Strange.{is_live, breaks_at, brings_right, give_rule, free_rule};
 
 use crate::node::Node;
 use hpx_commit::deal::log_of;
@@ -24,6 +26,16 @@ impl<A: Acts + Copy> Node<A> {
         }
     }
 
+    /// Whether its record says that an object is here, and does not move.
+    fn rests_here(&self, o: Gid) -> bool
+        ensures { result ≡ rests_at self.now.tables.here (record_here self.now.tables o) }
+    {
+        match self.records.place(o) {
+            Some(place) => place == self.here && self.records.moving(o).is_none(),
+            None => false,
+        }
+    }
+
     /// Whether an action on it has no place to go to.
     fn is_lost(&self, o: Gid) -> bool
         ensures { result ≡ is_lost self.now.tables o }
@@ -31,7 +43,15 @@ impl<A: Acts + Copy> Node<A> {
         if o.kind() < 16 {
             return !self.holds(o);
         }
-        o.home() == self.here && !(self.is_live(o) && self.holds(o))
+        o.home() == self.here && (!self.is_live(o) || (self.rests_here(o) && !self.stays(o)))
+    }
+
+    /// Whether an action waits here until an object of this home has moved.
+    fn is_queued(&self, o: Gid) -> bool
+        requires live { is_live self.now.tables o ≡ true }
+        ensures { result ≡ is_queued self.now.tables o.number }
+    {
+        self.records.queued(o) != 0
     }
 
     /// Whether a MOVE is to this locality.
@@ -53,13 +73,13 @@ impl<A: Acts + Copy> Node<A> {
             return breaks(1, message, self.records.number() as u128);
         }
         let count = self.records.count(id);
-        if count < id.credit() {
+        if count < id.credit() || (count == id.credit() && self.is_queued(id)) {
             return breaks(2, message, count);
         }
         other
     }
 
-    /// What an action breaks.
+    /// What an action breaks, a MOVE too.
     fn broken_act(&self, message: &Outline) -> Option<Broken>
         ensures { result ≡ act_rule self.now.tables (bare message.now.id) message.now.id }
     {
@@ -69,23 +89,12 @@ impl<A: Acts + Copy> Node<A> {
         None
     }
 
-    /// What a MOVE breaks.
-    fn broken_move(&self, message: &Outline) -> Option<Broken>
-        ensures { result ≡ move_rule self.now.tables (bare message.now.id) message.now.id message.now.to }
-    {
-        let o = message.id;
-        if self.is_lost(o) || (o.home() == self.here && !self.is_to_here(message.to)) {
-            return breaks(8, message, self.records.number() as u128);
-        }
-        None
-    }
-
-    /// What a MOVE that its home granted breaks.
+    /// What a MOVE breaks that its home granted.
     fn broken_go(&self, message: &Outline) -> Option<Broken>
         ensures { result ≡ go_rule self.now.tables (bare message.now.id) message.now.id message.now.to }
     {
-        if self.holds(message.id) && !self.is_to_here(message.to) {
-            return breaks(8, message, self.records.number() as u128);
+        if self.stays(message.id) && !self.is_to_here(message.to) {
+            return None;
         }
         breaks(6, message, self.here as u128)
     }
@@ -97,7 +106,7 @@ impl<A: Acts + Copy> Node<A> {
         if self.holds(message.id) {
             return breaks(4, message, self.here as u128);
         }
-        breaks(8, message, self.records.number() as u128)
+        None
     }
 
     /// Whether an id brings no more credit, or that of a new object.
@@ -132,15 +141,20 @@ impl<A: Acts + Copy> Node<A> {
         breaks(7, message, held)
     }
 
-    /// Where a record says that its object is.
+    /// What an object breaks that has landed where it did not move to.
     fn broken_landed(&self, message: &Outline) -> Option<Broken>
-        ensures { result ≡ landed_rule self.now.tables (bare message.now.id) message.now.id }
+        ensures { result ≡ landed_rule self.now.tables (bare message.now.id) message.now.id message.now.to }
     {
         let place = match self.records.place(message.id) {
             Some(place) => place,
             None => 0,
         };
-        let other = breaks(5, message, place as u128);
+        let moving = self.records.moving(message.id);
+        let other = if moving.is_some() && moving == message.to {
+            None
+        } else {
+            breaks(5, message, place as u128)
+        };
         self.broken_return(message, other)
     }
 
@@ -150,7 +164,7 @@ impl<A: Acts + Copy> Node<A> {
     {
         match message.kind {
             ParcelKind::Apply => self.broken_act(message),
-            ParcelKind::Move => self.broken_move(message),
+            ParcelKind::Move => self.broken_act(message),
             ParcelKind::Go => self.broken_go(message),
             ParcelKind::Object => self.broken_object(message),
             ParcelKind::Return => self.broken_return(message, None),

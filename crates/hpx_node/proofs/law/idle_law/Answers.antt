@@ -3,10 +3,10 @@ use Rattle.hpx_node.proofs.RowLaws.{refuses_for_cause, frees_the_dead}
 use Rattle.hpx_node.proofs.law.idle_law.Goals as goal
 
 pub returns-clause-boot : goal.returns-clause-boot
-returns-clause-boot c = λ r t entries stands row. stands.paid.rows row
+returns-clause-boot c = λ r t entries stands row kept. stands.paid.rows row kept
 
 pub returns-clause-since : goal.returns-clause-since
-returns-clause-since c = λ r t t' entries later stands passive then here row. paid_since r t t' entries later stands passive then here row
+returns-clause-since c = λ r t t' entries later stands passive then here row kept kept'. paid_since r t t' entries later stands passive then here row kept kept'
 
 pub returns-clause-once : goal.returns-clause-once
 returns-clause-once c = λ r t entries stands. hops_once r t entries stands

@@ -15,6 +15,7 @@ settle_waiting-requires g c = let must = c.requires.must in record {
 pub leave-requires : goal.leave-requires
 leave-requires g c = let few = plan_few c.args.self.now.tables c.args.i c.args.j c.requires.must c.args.plan c.requires.plan in record {
   right = tt;
+  of = tt;
   object = slice_get_less c.settle_waiting.new.self.tables.objects c.args.j _ (failed_there c.args.self.now.tables c.args.i c.args.j c.requires.must c.args.plan c.requires.plan c.settle_waiting.new.self.tables
       c.settle_waiting.ensures.pending c.settle_waiting.ensures.objects c.settle_waiting.ensures.rest);
   fit = plan_due c.args.self.now.tables c.args.i c.args.j c.requires.must c.args.plan c.requires.plan;

@@ -1,8 +1,10 @@
-use Rattle.hpx_node.proofs.Common.{AllLast, Book, Stands, Stock, ap, ok_map, subst, ◌∙◌}
+use Rattle.hpx_node.proofs.Common.{AllLast, Book, Stands, Stock, ap, ok_map, subst, ◌∙◌, ◌≡◌}
 use Rattle.hpx_node.proofs.Same.{ends_from, prepared_same, same_too}
 use Rattle.hpx_node.proofs.Turns.{turn_from, adds_none}
 use Rattle.hpx_node.proofs.node.Node.finish.Goals.{then-is_err-via-then-is_err, then-is_err-via-else-is_err+then-is_err-2}
+use Rattle.hpx_node.proofs.Targets.{at_error}
 use Rattle.hpx_node.proofs.Turned.{are_few, at_rest_tidy}
+use Rattle.hpx_tables.specs.Jobs.{IsRunning}
 use Rattle.hpx_node.proofs.node.Node.finish.Goals as goal
 
 pub returns-then-is_err-clause-stands : goal.returns-then-is_err-clause-stands
@@ -59,3 +61,9 @@ returns-clause-lasts g c = λ done.
     let some = rw c.in-Ok-Some.field-0-is at c.in-Ok-Some.ensures.some in
     let own = rw c.in-Ok-Some.field-0-is at c.in-Ok-Some.ensures.own in
     subst (λ (s : Stock). AllLast s.hand s.places) own some.stock.lasts
+
+pub returns-in-Ok-None-clause-runs : goal.returns-in-Ok-None-clause-runs
+returns-in-Ok-None-clause-runs g c =
+    let runs : (c.args.done.localities ≡ c.args.self.now.tables.localities) × IsRunning c.args.self.now.tables c.args.done.job =
+    (c.in-Some.ensures.found.0, record { i = c.in-Some.spot.0; j = c.in-Some.spot.1; is = c.in-Some.ensures.found.1 }) in
+    at_error _ _ runs

@@ -1,6 +1,6 @@
-use Rattle.hpx_node.proofs.Common.{IsFree, Locality, Some, Stands, Tables, ap, arith, fire_stands, fired_of, length, refl, slice_get, started_runs, subst, sym, ◌<◌, ◌∙◌, ◌≡◌}
-use Rattle.hpx_node.proofs.Targets.{on_err, one_is_free}
+use Rattle.hpx_node.proofs.Common.{IsFree, Locality, Some, Stands, Tables, ap, arith, fire_stands, fired_of, refl, slice_get, started_runs, subst, sym, ◌∙◌, ◌≡◌}
 use Rattle.hpx_node.proofs.Same.{writes_from, same_too}
+use Rattle.hpx_node.proofs.Targets.{at_error, one_free}
 use Rattle.hpx_node.proofs.Turns.{turn_from, adds_one}
 use Rattle.hpx_node.proofs.node.Node.fire.Goals as goal
 
@@ -62,20 +62,20 @@ pub returns-clause-turn : goal.returns-clause-turn
 returns-clause-turn g c = turn_from _ _ _ c.in_ok-reserve-2.ensures.entries
     (adds_one _ _ _ _ (c.start.ensures.fired c.in_ok-job.job.action (rw c.in_ok-reserve.ensures.same c.in_ok-job.ensures.action)).grows (omega arith))
 
-pub returns-in_err-job-clause-free : goal.returns-in_err-job-clause-free
-returns-in_err-job-clause-free g c =
-    let lt : c.in-Some.spot.0 < length c.self.inside.accepted.items = subst (λ n. c.in-Some.spot.0 < n) c.self.inside.accepted.ok.0 c.in-Some.ensures.inside.0 in
-    rw (← c.self.view_is, ← c.as_slice.ensures.value, ← c.as_slice-2.ensures.value)
-    (on_err c.from_residual.result _ (one_is_free _ _ _ c.in-Some.spot.0 lt c.in-Some.ensures.free))
+pub returns-in_err-job-clause-waits : goal.returns-in_err-job-clause-waits
+returns-in_err-job-clause-waits g c =
+    let n = c.self.inside in
+    rw (← c.self.view_is) (at_error _ _ (one_free (fired_of n.running.items n.pending.items) n.objects.items n.accepted.items c.in-Some.spot.0 (omega (arith, c.in-Some.ensures.inside.0))
+    (rw (← c.as_slice.ensures.value, ← c.as_slice-2.ensures.value) c.in-Some.ensures.free)))
 
-pub returns-in_err-reserve-clause-free : goal.returns-in_err-reserve-clause-free
-returns-in_err-reserve-clause-free g c =
-    let lt : c.in-Some.spot.0 < length c.self.inside.accepted.items = subst (λ n. c.in-Some.spot.0 < n) c.self.inside.accepted.ok.0 c.in-Some.ensures.inside.0 in
-    rw (← c.self.view_is, ← c.as_slice.ensures.value, ← c.as_slice-2.ensures.value)
-    (on_err c.from_residual-in_err-reserve.result _ (one_is_free _ _ _ c.in-Some.spot.0 lt c.in-Some.ensures.free))
+pub returns-in_err-reserve-clause-waits : goal.returns-in_err-reserve-clause-waits
+returns-in_err-reserve-clause-waits g c =
+    let n = c.self.inside in
+    rw (← c.self.view_is) (at_error _ _ (one_free (fired_of n.running.items n.pending.items) n.objects.items n.accepted.items c.in-Some.spot.0 (omega (arith, c.in-Some.ensures.inside.0))
+    (rw (← c.as_slice.ensures.value, ← c.as_slice-2.ensures.value) c.in-Some.ensures.free)))
 
-pub returns-in_err-reserve-2-clause-free : goal.returns-in_err-reserve-2-clause-free
-returns-in_err-reserve-2-clause-free g c =
-    let lt : c.in-Some.spot.0 < length c.self.inside.accepted.items = subst (λ n. c.in-Some.spot.0 < n) c.self.inside.accepted.ok.0 c.in-Some.ensures.inside.0 in
-    rw (← c.self.view_is, ← c.as_slice.ensures.value, ← c.as_slice-2.ensures.value)
-    (on_err c.from_residual-in_err-reserve-2.result _ (one_is_free _ _ _ c.in-Some.spot.0 lt c.in-Some.ensures.free))
+pub returns-in_err-reserve-2-clause-waits : goal.returns-in_err-reserve-2-clause-waits
+returns-in_err-reserve-2-clause-waits g c =
+    let n = c.self.inside in
+    rw (← c.self.view_is) (at_error _ _ (one_free (fired_of n.running.items n.pending.items) n.objects.items n.accepted.items c.in-Some.spot.0 (omega (arith, c.in-Some.ensures.inside.0))
+    (rw (← c.as_slice.ensures.value, ← c.as_slice-2.ensures.value) c.in-Some.ensures.free)))

@@ -1,4 +1,4 @@
-use Rattle.hpx_node.proofs.Common.{Give, HasCredit, Id, IsFitJob, IsKept, IsParcel, IsPaused, IsReadyFor, IsTidy, Job, KeepsLaws, Locality, None, Some, Waits, [], ap, arith, awaits, broken_near, find, find_passes, get_or, give_right, hand_with, is_last, is_standing, length, plain, seen, slice_get, slice_get_is, stock_with, subst, sym, take, target_of, true, ℕ, ◌<◌, ◌∙◌, ◌≡◌, ◌≤◌}
+use Rattle.hpx_node.proofs.Common.{Give, HasCredit, Id, IsFitJob, IsKept, IsParcel, IsPaused, IsReadyFor, IsTidy, Job, KeepsLaws, Locality, None, Some, Waits, [], ap, arith, awaits, bare, broken_near, find, find_passes, get_or, give_right, hand_with, is_last, is_standing, length, plain, seen, slice_get, slice_get_is, stock_with, subst, sym, take, target_of, true, ℕ, ◌<◌, ◌∙◌, ◌≡◌, ◌≤◌}
 use Rattle.hpx_node.proofs.LeftBy.{kept_then}
 use Rattle.hpx_commit.proofs.Jobs.{laws_by, right_by}
 use Rattle.hpx_node.proofs.Paused.{asked_within, in_place, paused_at}
@@ -24,7 +24,7 @@ module _ (x y : Locality) (e : x ≡ y) (i : ℕ) (w : Waits) (lt : i < length x
     stock_at : KeepsLaws y.tables.localities w.job.kind w.job.at w.job.state (plain w.job.action) w.outcome → 8 ≤ x.tables.profile.credit_log → HasCredit o
         → is_last o (Some w) ≡ true → IsStockReady y.tables w (hand_with o n w)
     stock_at laws log credit last = is_ready y.tables w o n was_at was_at.few.0 laws (subst (λ (z : Locality). 8 ≤ z.tables.profile.credit_log) e log) credit
-        (brings_by y.tables o (give_right y.tables (Give o n) o n right).1) for_at last
+        (brings_by y.tables o (give_right y.tables (bare o) o n right).1) for_at last
 
 pub lawful-requires : goal.lawful-requires
 lawful-requires g c =

@@ -44,6 +44,7 @@ leave-requires g c =
     let there = settled_there c.args.self.now.tables w.0 c.args.ready.i c.args.ready.j c.args.ready.prepared w.1 may c.make.new.self.tables c.settle_waiting.new.self.tables c.make.ensures.made
     c.settle_waiting.ensures.pending c.settle_waiting.ensures.objects c.settle_waiting.ensures.rest in record {
       fit = l.due_fit;
+      of = tt;
       right = rider_right c.rider-rider.result w.0.job.action same may.place.job.action.sent.shape may.place.job.action.sent.credit;
       object = slice_get_less c.settle_waiting.new.self.tables.objects c.args.ready.j _ there;
       credit = l.ups_fit;

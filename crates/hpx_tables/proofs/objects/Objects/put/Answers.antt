@@ -1,4 +1,4 @@
-use Rattle.std.proofs.Common.{◌∙◌, sym, refl, ap, find}
+use Rattle.std.proofs.Common.{◌∙◌, refl, ap, find}
 use Rattle.std.specs.Map.{values_of}
 use Rattle.hpx_journal.specs.Local.{is_standing}
 use Rattle.indexmap.proofs.CallerLemmas.{insert_entry-new}

@@ -1,6 +1,6 @@
-use Rattle.std.proofs.Common.{◌∙◌, sym, refl, ap, subst}
+use Rattle.std.proofs.Common.{◌∙◌, sym, refl, ap}
 use Rattle.std.proofs.lemmas.Option.{same_Some}
-use Rattle.std.specs.Prelude.{slice_get, Some}
+use Rattle.std.specs.Prelude.{slice_get}
 use Rattle.hpx_tables.proofs.Found.{under_set, values_set}
 use Rattle.hpx_tables.proofs.objects.Objects.put_state.Goals as goal
 

@@ -1,10 +1,10 @@
 use Rattle.std.proofs.Common.{ℕ, ◌≡◌, Ok, ap, refl, subst, inl, inr, ◌⊎◌}
 use Rattle.hpx_journal.specs.Data.{Id}
-use Rattle.hpx_node.specs.Handled.{Clears, NotCleared}
+use Rattle.hpx_node.specs.Handled.{Tends, NotTended}
 use Rattle.hpx_node.specs.declared.parts.DeskFault.{DeskFault}
 use Rattle.hpx_node.specs.declared.parts.DeskFault.TheVariants.{Strange, OutOfMemory}
 use Rattle.hpx_node.proofs.Turns.{turn_within}
-use Rattle.hpx_world.specs.Quiet.{HasNoMail}
+use Rattle.hpx_node.specs.Handled.{HasNothingToTend}
 use Rattle.hpx_world.proofs.Calls.{done_at, same_at, at_own, there_at, running_at, desk_inside, stands_at, sound_inside, inside_at}
 use Rattle.hpx_world.proofs.locals.Locals.desk.Goals as goal
 
@@ -15,13 +15,13 @@ desk-requires-clause-stands g c =
 pub returns-in-Ok-true-clause-sound : goal.returns-in-Ok-true-clause-sound
 returns-in-Ok-true-clause-sound g c =
     sound_inside _ _ _ _ c.requires.sound c.args.k c.index_mut.result.now c.desk.new.self c.requires.range c.index_mut.ensures.value _
-    (desk_inside c.index_mut.result.now c.desk.new.self c.args.self.now.journal c.desk.new.book _ c.desk.result c.desk.ensures.cleared c.desk.ensures.empty c.desk.ensures.err)
+    (desk_inside c.index_mut.result.now c.desk.new.self c.args.self.now.journal c.desk.new.book _ c.desk.result c.desk.ensures.tends c.desk.ensures.none c.desk.ensures.err)
     c.desk.ensures.stands (turn_within _ _ c.requires.room c.desk.ensures.turn)
 
 pub returns-in-Ok-true-clause-inside : goal.returns-in-Ok-true-clause-inside
 returns-in-Ok-true-clause-inside g c =
     inside_at _ _ _ _ c.requires.sound c.args.k c.index_mut.result.now c.desk.new.self c.requires.range c.index_mut.ensures.value _
-    (desk_inside c.index_mut.result.now c.desk.new.self c.args.self.now.journal c.desk.new.book _ c.desk.result c.desk.ensures.cleared c.desk.ensures.empty c.desk.ensures.err)
+    (desk_inside c.index_mut.result.now c.desk.new.self c.args.self.now.journal c.desk.new.book _ c.desk.result c.desk.ensures.tends c.desk.ensures.none c.desk.ensures.err)
 
 pub returns-in-Ok-true-clause-jobs : goal.returns-in-Ok-true-clause-jobs
 returns-in-Ok-true-clause-jobs g c =
@@ -30,13 +30,13 @@ returns-in-Ok-true-clause-jobs g c =
 pub returns-in-Ok-false-clause-sound : goal.returns-in-Ok-false-clause-sound
 returns-in-Ok-false-clause-sound g c =
     sound_inside _ _ _ _ c.requires.sound c.args.k c.index_mut.result.now c.desk.new.self c.requires.range c.index_mut.ensures.value _
-    (desk_inside c.index_mut.result.now c.desk.new.self c.args.self.now.journal c.desk.new.book _ c.desk.result c.desk.ensures.cleared c.desk.ensures.empty c.desk.ensures.err)
+    (desk_inside c.index_mut.result.now c.desk.new.self c.args.self.now.journal c.desk.new.book _ c.desk.result c.desk.ensures.tends c.desk.ensures.none c.desk.ensures.err)
     c.desk.ensures.stands (turn_within _ _ c.requires.room c.desk.ensures.turn)
 
 pub returns-in-Ok-false-clause-inside : goal.returns-in-Ok-false-clause-inside
 returns-in-Ok-false-clause-inside g c =
     inside_at _ _ _ _ c.requires.sound c.args.k c.index_mut.result.now c.desk.new.self c.requires.range c.index_mut.ensures.value _
-    (desk_inside c.index_mut.result.now c.desk.new.self c.args.self.now.journal c.desk.new.book _ c.desk.result c.desk.ensures.cleared c.desk.ensures.empty c.desk.ensures.err)
+    (desk_inside c.index_mut.result.now c.desk.new.self c.args.self.now.journal c.desk.new.book _ c.desk.result c.desk.ensures.tends c.desk.ensures.none c.desk.ensures.err)
 
 pub returns-in-Ok-false-clause-jobs : goal.returns-in-Ok-false-clause-jobs
 returns-in-Ok-false-clause-jobs g c =
@@ -45,13 +45,13 @@ returns-in-Ok-false-clause-jobs g c =
 pub returns-in-Err-clause-sound : goal.returns-in-Err-clause-sound
 returns-in-Err-clause-sound g c =
     sound_inside _ _ _ _ c.requires.sound c.args.k c.index_mut.result.now c.desk.new.self c.requires.range c.index_mut.ensures.value _
-    (desk_inside c.index_mut.result.now c.desk.new.self c.args.self.now.journal c.desk.new.book _ c.desk.result c.desk.ensures.cleared c.desk.ensures.empty c.desk.ensures.err)
+    (desk_inside c.index_mut.result.now c.desk.new.self c.args.self.now.journal c.desk.new.book _ c.desk.result c.desk.ensures.tends c.desk.ensures.none c.desk.ensures.err)
     c.desk.ensures.stands (turn_within _ _ c.requires.room c.desk.ensures.turn)
 
 pub returns-in-Err-clause-inside : goal.returns-in-Err-clause-inside
 returns-in-Err-clause-inside g c =
     inside_at _ _ _ _ c.requires.sound c.args.k c.index_mut.result.now c.desk.new.self c.requires.range c.index_mut.ensures.value _
-    (desk_inside c.index_mut.result.now c.desk.new.self c.args.self.now.journal c.desk.new.book _ c.desk.result c.desk.ensures.cleared c.desk.ensures.empty c.desk.ensures.err)
+    (desk_inside c.index_mut.result.now c.desk.new.self c.args.self.now.journal c.desk.new.book _ c.desk.result c.desk.ensures.tends c.desk.ensures.none c.desk.ensures.err)
 
 pub returns-in-Err-clause-jobs : goal.returns-in-Err-clause-jobs
 returns-in-Err-clause-jobs g c =
@@ -59,8 +59,8 @@ returns-in-Err-clause-jobs g c =
 
 pub returns-in-Ok-false-clause-did : goal.returns-in-Ok-false-clause-did
 returns-in-Ok-false-clause-did g c =
-    let none = c.in-Ok-false.ensures.empty (ap (λ b. Ok b) c.in-Ok-false.field-0-test) in
-    (same_at _ c.args.k c.index_mut.result.now c.desk.new.self c.requires.range c.index_mut.ensures.value _ _ none.1, at_own _ c.args.k c.index_mut.result.now c.desk.new.self c.requires.range c.index_mut.ensures.value HasNoMail none.0)
+    let none = c.in-Ok-false.ensures.none (ap (λ b. Ok b) c.in-Ok-false.field-0-test) in
+    (same_at _ c.args.k c.index_mut.result.now c.desk.new.self c.requires.range c.index_mut.ensures.value _ _ none.1, at_own _ c.args.k c.index_mut.result.now c.desk.new.self c.requires.range c.index_mut.ensures.value HasNothingToTend none.0)
 
 pub returns-in-Err-clause-err : goal.returns-in-Err-clause-err
 returns-in-Err-clause-err g c = same_at _ c.args.k c.index_mut.result.now c.desk.new.self c.requires.range c.index_mut.ensures.value _ _ c.in-Err.ensures.err
@@ -81,22 +81,22 @@ returns-in-Err-clause-strange g c = λ to rule object kept is. elim (mail_cases 
         (
           c.index_mut.result.now.tables,
           there_at _ c.args.k c.index_mut.result.now c.index_mut.result.now c.requires.range c.index_mut.ensures.value,
-          subst (NotCleared c.index_mut.result.now.tables) same c.in-Err.ensures.cause,
+          subst (NotTended c.index_mut.result.now.tables) same c.in-Err.ensures.cause,
         ),
       )
 ]
 
 pub returns-in-Ok-true-clause-did : goal.returns-in-Ok-true-clause-did
 returns-in-Ok-true-clause-did g c =
-    done_at _ c.args.k c.index_mut.result.now c.desk.new.self c.requires.range c.index_mut.ensures.value (λ t t'. Clears t t' _ _)
-    (c.in-Ok-true.ensures.cleared (ap (λ b. Ok b) c.in-Ok-true.field-0-test))
+    done_at _ c.args.k c.index_mut.result.now c.desk.new.self c.requires.range c.index_mut.ensures.value (λ t t'. Tends t t' _ _)
+    (c.in-Ok-true.ensures.tends (ap (λ b. Ok b) c.in-Ok-true.field-0-test))
 
 pub returns-in-Err-clause-right : goal.returns-in-Err-clause-right
 returns-in-Err-clause-right g c = λ u is. elim (mail_cases c.in-Err.fault) [
   | inl e ↦ (
     c.index_mut.result.now.tables,
     there_at _ c.args.k c.index_mut.result.now c.index_mut.result.now c.requires.range c.index_mut.ensures.value,
-    subst (NotCleared c.index_mut.result.now.tables) e c.in-Err.ensures.cause,
+    subst (NotTended c.index_mut.result.now.tables) e c.in-Err.ensures.cause,
   )
   | inr x ↦ absurd (let s = c.mail_refusal.ensures.strange x.0 x.1 x.2 x.3 in cc)
 ]

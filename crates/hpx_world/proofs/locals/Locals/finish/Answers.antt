@@ -1,5 +1,7 @@
+use Rattle.std.proofs.Common.{◌≡◌, ◌∙◌, Some, slice_get, subst, sym}
+use Rattle.hpx_node.specs.Locality.{tables_of}
 use Rattle.hpx_node.proofs.Turns.{turn_within}
-use Rattle.hpx_world.proofs.Calls.{same_at, finish_inside, localities_at, stands_at, sound_inside, inside_at}
+use Rattle.hpx_world.proofs.Calls.{same_at, there_at, finish_inside, localities_at, stands_at, sound_inside, inside_at}
 use Rattle.hpx_world.proofs.Finished.{finished_did}
 use Rattle.hpx_world.proofs.locals.Locals.finish.Goals as goal
 
@@ -39,3 +41,14 @@ returns-in-Ok-clause-did g c =
 pub returns-in-Err-clause-err : goal.returns-in-Err-clause-err
 returns-in-Err-clause-err g c =
     same_at _ c.args.k c.index_mut.result.now c.finish.new.self c.requires.range c.index_mut.ensures.value _ _ c.in-Err.ensures.err.1
+
+pub returns-in-Err-clause-runs : goal.returns-in-Err-clause-runs
+returns-in-Err-clause-runs g c = (
+  c.in-Err.ensures.runs.0 ∙ localities_at _ _ _ _ c.requires.sound c.args.k c.index_mut.result.now c.finish.new.self c.requires.range c.index_mut.ensures.value,
+  (
+    c.index_mut.result.now.tables,
+    subst (λ k. slice_get (tables_of c.args.self.now.nodes.items) k ≡ Some c.index_mut.result.now.tables) (sym c.requires.own)
+        (there_at _ c.args.k c.index_mut.result.now c.index_mut.result.now c.requires.range c.index_mut.ensures.value),
+    c.in-Err.ensures.runs.1,
+  ),
+)

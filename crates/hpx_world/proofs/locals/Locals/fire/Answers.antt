@@ -60,5 +60,5 @@ pub returns-in-Err-clause-waits : goal.returns-in-Err-clause-waits
 returns-in-Err-clause-waits g c = (
   c.index_mut.result.now.tables,
   there_at _ c.args.k c.index_mut.result.now c.index_mut.result.now c.requires.range c.index_mut.ensures.value,
-  c.in-Err.ensures.free,
+  c.in-Err.ensures.waits,
 )

@@ -1,6 +1,5 @@
 use Rattle.hpx_journal.specs.Laws.{KeepsActLaws}
 use Rattle.std.proofs.Common.{length}
-use Rattle.hpx_journal.specs.Whole.{replayed}
 use Rattle.hpx_steps.specs.Rest.{rules_of}
 use Rattle.hpx_node.specs.Locality.{tables_of}
 use Rattle.hpx_world.specs.Audit.{audit_lines, HaveRecords, AreOrdered, StandAtHome, IsAudit}
@@ -17,7 +16,7 @@ returns-clause-tells g c = rw (← c.self.view_is) (λ carried.
     let profile = c.self.inside.locals.profile in
     let entries = c.self.inside.locals.journal.entries in
     let r = rules_of g.A.Acts.act_of (length nodes) profile in
-    audited_ok c.audit.result (HaveRecords nodes) (IsAudit r (replayed r entries)) (audit_lines nodes) c.audit.ensures.lines c.audit.ensures.records
+    audited_ok c.audit.result (HaveRecords nodes) (IsAudit r entries) (audit_lines nodes) c.audit.ensures.lines c.audit.ensures.records
     (λ own. audited g.A.Acts.act_of profile nodes entries c.self.invariant.1
     (spells_well g.A.Acts.act_of (length nodes) profile) carried c.self.invariant.2 own))
 
@@ -37,6 +36,6 @@ returns-clause-at_home g c = rw (← c.self.view_is) (λ still carried.
     let grammar = spells_well g.A.Acts.act_of (length nodes) profile in
     let laws : KeepsActLaws (rules_of g.A.Acts.act_of (length (tables_of c.self.inside.locals.nodes.items)) c.self.inside.locals.profile) =
     record { laws = λ kind here s a h state act. g.met.A.Acts.keeps_laws _ kind here s a sound.some sound.few h state act } in
-    audited_ok c.audit.result (HaveRecords nodes) (StandAtHome r (replayed r entries)) (audit_lines nodes) c.audit.ensures.lines c.audit.ensures.records
+    audited_ok c.audit.result (HaveRecords nodes) (StandAtHome r entries) (audit_lines nodes) c.audit.ensures.lines c.audit.ensures.records
     (λ own. at_home r entries grammar laws still (promised g.A.Acts.act_of profile nodes entries c.self.invariant.1 grammar laws carried).ledger (audit_lines nodes)
     (audited g.A.Acts.act_of profile nodes entries c.self.invariant.1 grammar carried c.self.invariant.2 own)))

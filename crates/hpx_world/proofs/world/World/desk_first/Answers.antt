@@ -1,6 +1,6 @@
 use Rattle.std.proofs.Common.{refl, ap, ◌∙◌}
 use Rattle.std.specs.List.{slice_get}
-use Rattle.hpx_world.specs.Quiet.{HasNoMail}
+use Rattle.hpx_node.specs.Handled.{HasNothingToTend}
 use Rattle.hpx_world.proofs.FirstSteps.{desk_refuses}
 use Rattle.hpx_world.proofs.Idle.{passed}
 use Rattle.hpx_world.proofs.Next.{not_both, cleared_none}
@@ -18,7 +18,7 @@ loop-k-preserved g c =
       profile = c.turn.ensures.profile ∙ i.profile;
       same = stage_is _ _ none.0.tables none.0.journal d.1 ∙ i.same;
       faults = c.in_ok-turn.ensures.faults ∙ i.faults;
-      none = passed HasNoMail c.loop-k.k _ _ refl (λ t at. none.1 t (ap (λ s. slice_get s.nodes c.loop-k.k) i.same ∙ at)) i.none;
+      none = passed HasNothingToTend c.loop-k.k _ _ refl (λ t at. none.1 t (ap (λ s. slice_get s.nodes c.loop-k.k) i.same ∙ at)) i.none;
     }
 
 pub returns-in_err-turn-clause-stops : goal.returns-in_err-turn-clause-stops

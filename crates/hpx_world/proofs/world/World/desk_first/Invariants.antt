@@ -1,6 +1,6 @@
 use Rattle.std.proofs.Common.{◌≡◌, length, take}
 use Rattle.std.specs.List.{AllByRecursion}
-use Rattle.hpx_world.specs.Quiet.{HasNoMail}
+use Rattle.hpx_node.specs.Handled.{HasNothingToTend}
 use Rattle.hpx_world.specs.Stages.{stage}
 use Rattle.hpx_world.proofs.world.World.desk_first.Given as goal
 
@@ -11,5 +11,5 @@ invariant-loop-k g l = record {
   profile : l.self.profile ≡ l.fn.self.profile;
   same : stage l.self (g.F.Fabric.flight l.fabric) (g.F.Fabric.trace l.fabric) ≡ stage l.fn.self (g.F.Fabric.flight l.fn.fabric) (g.F.Fabric.trace l.fn.fabric);
   faults : g.F.Fabric.faults l.fabric ≡ g.F.Fabric.faults l.fn.fabric;
-  none : AllByRecursion HasNoMail (take l.k l.fn.self.nodes);
+  none : AllByRecursion HasNothingToTend (take l.k l.fn.self.nodes);
 }

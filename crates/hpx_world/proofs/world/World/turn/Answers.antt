@@ -6,7 +6,7 @@ use Rattle.hpx_world.specs.Turns.{DidFinish, DidDesk, DidTake}
 use Rattle.hpx_world.specs.Away.{Fetches}
 use Rattle.hpx_world.proofs.Carrying.{carrying_same}
 use Rattle.hpx_world.proofs.Refused.{strange_frame_same}
-use Rattle.hpx_world.proofs.Refusing.{outside_is, fire_refused, desk_refused, pump_refused, take_refused, can_come}
+use Rattle.hpx_world.proofs.Refusing.{outside_is, fire_refused, job_refused, desk_refused, pump_refused, take_refused, can_come}
 use Rattle.hpx_world.proofs.Strange.{no_strange_hand, no_strange_mail}
 use Rattle.hpx_world.proofs.Unfed.{unfed_of, finished_unfed, cleared_unfed, took_unfed}
 use Rattle.hpx_world.proofs.world.World.turn.Goals as goal
@@ -67,6 +67,12 @@ returns-in-Fire-clause-stops g c =
     let room : HasRoom c.args.self.now.journal.entries = subst (λ (b : Book). HasRoom b.entries) c.journal.ensures.journal (c.room.ensures.0 c.if-not-room.false) in
     rw (c.in-Fire.is) (fire_refused c.fire.result c.in-Fire.k _ _ room (rw (← c.self.view_is) c.fire.ensures.err)
     (outside_is _ _ (rw (← c.self.view_is) c.fire.ensures.hand) refl refl) (rw (← c.self.view_is) c.fire.ensures.waits) c.fire.ensures.memory)
+
+pub returns-in-Finish-clause-stops : goal.returns-in-Finish-clause-stops
+returns-in-Finish-clause-stops g c =
+    let room : HasRoom c.args.self.now.journal.entries = subst (λ (b : Book). HasRoom b.entries) c.journal.ensures.journal (c.room.ensures.0 c.if-not-room.false) in
+    rw (c.in-Finish.is) (job_refused c.finish.result c.in-Finish.done _ _ room (rw (← c.self.view_is) c.finish.ensures.err)
+    (outside_is _ _ (rw (← c.self.view_is) c.finish.ensures.hand) refl refl) (rw (← c.self.view_is) c.finish.ensures.runs) c.finish.ensures.memory)
 
 pub returns-in-Desk-clause-stops : goal.returns-in-Desk-clause-stops
 returns-in-Desk-clause-stops g c =

@@ -1,0 +1,34 @@
+-- A locality at boot.
+use Rattle.std.proofs.Common.{rules}
+use Rattle.hpx_node.proofs.Common.{Act, Outcome, Profile, State, Tables, [], rules_of, view, ℕ}
+use Rattle.hpx_journal.specs.Roots.{roots}
+use Rattle.hpx_part.specs.Parts.{StandsFor}
+
+-- its tables
+abbrev pub at_boot : ℕ → ℕ → Profile → Tables
+at_boot n here profile = record {
+  here = here;
+  localities = n;
+  profile = profile;
+  serial = 0;
+  accepted = [];
+  running = [];
+  pending = [];
+  asked = 0;
+  desk = [];
+  outgoing = [];
+  queued = [];
+  leaving = [];
+  stray = [];
+  came = [];
+  objects = roots n here;
+  births = 0;
+  records = [];
+  sent = 0;
+  taken = 0;
+  answered = 0;
+}
+
+-- they stand for an empty part
+pub boot_stands : (act_of : ℕ → ℕ → ℕ → State → Act → Outcome) (n here : ℕ) (profile : Profile) → StandsFor (rules_of act_of n profile) (view (at_boot n here profile) [] []) []
+boot_stands act_of n here profile = search rules
