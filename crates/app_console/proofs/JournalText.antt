@@ -1,6 +1,6 @@
 -- A session of a console in a journal prints what the plain space says.
-use Rattle.std.specs.List.{concat}
-use Rattle.std.proofs.Common.{ℕ, false, List, [], ◌∷◌, ◌++◌, ◌≡◌, ◌≤◌, ◌<◌, Option, length, refl, arith}
+use Rattle.std.specs.List.{concat, AllByRecursion}
+use Rattle.std.proofs.Common.{ℕ, false, List, [], ◌∷◌, ◌++◌, ◌≡◌, ◌≤◌, ◌<◌, Option, length, map, refl, arith}
 use Rattle.hpx_parcel.specs.declared.parcel.Parcel.{Parcel}
 use Rattle.hpx_journal.specs.Entries.{Rules}
 use Rattle.hpx_journal.specs.declared.entry.Entry.{Entry}
@@ -13,10 +13,10 @@ use Rattle.hpx_journal.proofs.Sessions.{session_plain, session_front}
 use Rattle.app_console.specs.Types.{Console, AccumulatorConsole}
 use Rattle.app_console.specs.Console.{prompt}
 use Rattle.app_console.specs.Judging.{Acting, judging}
-use Rattle.app_console.specs.Plain.{at_boot, opened}
+use Rattle.app_console.specs.Plain.{at_boot, opened, texts_of}
 use Rattle.app_console.specs.Lines.{IsFront, is_long, opening, first_of, others_of}
 use Rattle.app_console.specs.Text.{IsUsers, marked, written, lines_text}
-use Rattle.app_console.proofs.SessionText.{whole_from_boot, broken_from_boot, opening_front, whole_text, broken_text_off}
+use Rattle.app_console.proofs.SessionText.{whole_from_boot, each_from_boot, broken_from_boot, opening_front, whole_text, broken_text_off}
 
 module _ (acts : Acting) (n log limit : ℕ) (parcel_of : List ℕ → Option Parcel) (some : 1 ≤ n) (few : n ≤ 64) where
   abbrev r : Rules
@@ -33,6 +33,12 @@ module _ (acts : Acting) (n log limit : ℕ) (parcel_of : List ℕ → Option Pa
         → IsSession r [] (marked mark lines) blocks → written lines (shown blocks) ≡ lines_text con n (at_boot n) lines
     law_plain lines blocks short grammar calm session =
         whole_from_boot acts n log limit parcel_of some few con mark users lines (shown blocks) (omega arith)
+        (session_plain r grammar acts_lawful acts_blind [] (boot_pool r) (marked mark lines) blocks refl (boot_shows r) calm session)
+
+    pub law_each_line : (lines : List (List ℕ)) (blocks : List (List Entry)) → length lines < 4000000000 → AllByRecursion (λ line. is_long line ≡ false) lines
+        → HasGrammar r → NoneFails (entries_of blocks) → IsSession r [] (marked mark lines) blocks → map concat (shown blocks) ≡ texts_of con n (at_boot n) lines
+    law_each_line lines blocks short fit grammar calm session =
+        each_from_boot acts n log limit parcel_of some few con mark users lines (shown blocks) (omega arith) fit
         (session_plain r grammar acts_lawful acts_blind [] (boot_pool r) (marked mark lines) blocks refl (boot_shows r) calm session)
 
     pub law_broken_off : (lines : List (List ℕ)) (blocks : List (List Entry)) (line : List ℕ) (es : List Entry) → length lines < 3999999999

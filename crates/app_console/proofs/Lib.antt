@@ -1,8 +1,8 @@
 pub mod Numbers
 pub mod Numbering
 pub mod Layouts
+pub mod Reading
 pub mod Rests
-mod Samples
 pub mod Alikes
 pub mod Comings
 pub mod Fit

@@ -12,10 +12,10 @@ use Rattle.hpx_calls.specs.Outcomes.{comes_to, outcome_of, called_in}
 use Rattle.hpx_calls.specs.Values.{spelled}
 use Rattle.hpx_calls.specs.Contents.{layout}
 use Rattle.hpx_calls.proofs.Lawful.{every_keeps}
-use Rattle.app_console.specs.Types.{Spelled, SpelledInt, SpelledText, Cont, State, Act, Root, Sending, Outcome, What, Desk, AccumulatorAlone, Console, Space, AccumulatorConsole, Own, Does, Helps, Drops, Sends, Row, Refusal, Plan, DoesNothing, ShowsHelp, Refuses, GivesUp, Calls}
+use Rattle.app_console.specs.Types.{Spelled, SpelledInt, SpelledText, Cont, State, Act, Root, Sending, Outcome, What, Desk, AccumulatorAlone, Console, Space, AccumulatorConsole, Own, Refusal, Plan, DoesNothing, ShowsHelp, Refuses, GivesUp, Calls}
 use Rattle.app_console.specs.Console.{words_of}
 use Rattle.app_console.specs.Commands
-use Rattle.app_console.specs.Commands.{Command, Sight}
+use Rattle.app_console.specs.Commands.{Does, Helps, Drops, Sends, Row, Command, Sight}
 use Rattle.app_console.specs.Desks.{held_at}
 use Rattle.app_console.specs.Session
 

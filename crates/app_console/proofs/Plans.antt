@@ -7,10 +7,10 @@ use Rattle.std.proofs.Math.Nat.{mod-lt}
 use Rattle.std.proofs.lemmas.Bool.{cond_both, and_parts, cases_Bool, eqb-true, eqb-false, leb-true, ltb-true, lt-ltb}
 use Rattle.std.proofs.lemmas.List.{length-map}
 use Rattle.hpx_value.specs.Laws.{IsRoot}
-use Rattle.app_console.specs.Types.{Console, Space, AccumulatorConsole, Own, Need, NewName, BoundName, It, Locality, Receiver, First, RootHome, RootThere, RootBeside, Kind, Accumulator, Promise, Channel, Latch, Barrier, Arg, Word, Object, NumberOf, KindName, Answer, Silent, Tells, Releases, Binds, Does, Helps, Drops, Sends, Row, Refusal, BadName, NoSuchLocality, NotMovable, TooManyNames, TooManyPending, Status, Unknown, Pending, Stands, Argument, GivenWord, GivenNumber, Goal, Named, RootAt, Plan, Calls, What, Bound}
+use Rattle.app_console.specs.Types.{Console, Space, AccumulatorConsole, Own, Need, NewName, BoundName, It, Locality, Receiver, First, RootHome, RootThere, RootBeside, Kind, Accumulator, Promise, Channel, Latch, Barrier, Arg, Word, Object, NumberOf, KindName, Answer, Silent, Tells, Releases, Binds, Refusal, BadName, NoSuchLocality, NotMovable, TooManyNames, TooManyPending, Status, Unknown, Pending, Stands, Argument, GivenWord, GivenNumber, Goal, Named, RootAt, Plan, Calls, What, Bound}
 use Rattle.app_console.specs.Console.{words_of, number_of}
 use Rattle.app_console.specs.Commands
-use Rattle.app_console.specs.Commands.{Command, Sight}
+use Rattle.app_console.specs.Commands.{Does, Helps, Drops, Sends, Row, Command, Sight}
 use Rattle.app_console.proofs.Lengths.{words_fit}
 use Rattle.app_console.proofs.Alikes.{says_well}
 use Rattle.app_console.proofs.Namings.{IsWhat}

@@ -1,7 +1,7 @@
 -- What a session prints, line after line, is what the plain space says.
 use Rattle.std.specs.Prelude.{codes, if◌then◌else◌}
-use Rattle.std.specs.List.{concat}
-use Rattle.std.proofs.Common.{ℕ, Bool, true, false, List, [], ◌∷◌, ◌++◌, ◌≡◌, ◌+◌, ◌≤◌, Option, Some, refl, sym, ap, ◌∙◌, subst, arith, lit≤, append-nil, append_assoc, length}
+use Rattle.std.specs.List.{concat, AllByRecursion}
+use Rattle.std.proofs.Common.{ℕ, Bool, true, false, List, [], ◌∷◌, ◌++◌, ◌≡◌, ◌+◌, ◌≤◌, Option, Some, refl, sym, ap, ◌∙◌, subst, arith, lit≤, append-nil, append_assoc, length, map}
 use Rattle.std.proofs.lemmas.Bool.{ltb-false}
 use Rattle.hpx_parcel.specs.declared.parcel.Parcel.{Parcel}
 use Rattle.hpx_journal.specs.Entries.{Rules}
@@ -11,7 +11,7 @@ use Rattle.app_console.specs.Types.{Consoles, AllConsoles, Console, Space, Accum
 use Rattle.app_console.specs.Console.{prompt}
 use Rattle.app_console.specs.Session
 use Rattle.app_console.specs.Judging.{Acting, judging}
-use Rattle.app_console.specs.Plain.{Plain, End, at_boot, line_end, opened}
+use Rattle.app_console.specs.Plain.{Plain, End, at_boot, line_end, opened, texts_of}
 use Rattle.app_console.specs.Lines.{IsFront, is_long, opening, first_of, others_of}
 use Rattle.app_console.specs.Text.{too_long, lines_text, marked, written, IsUsers}
 use Rattle.app_console.proofs.LineSteps.{IsFirst}
@@ -73,6 +73,31 @@ module _ (acts : Acting) (n log limit : ℕ) (parcel_of : List ℕ → Option Pa
       (λ p' texts behind more. session_text (k + 1) (line_end con n v line).plain lines texts p' (omega arith) behind more)
       session
 
+  -- ---- each line by itself, where none is too long
+
+  each_behind : (b : Bool) (k : ℕ) (v : Plain) (line : List ℕ) (lines : List (List ℕ)) (texts : List (List (List ℕ))) (p : Pool)
+      → is_long line ≡ b → b ≡ false → k + 1 ≤ 4000000000 → Settled n k v p
+      → ((p' : Pool) (texts : List (List (List ℕ))) → Settled n (k + 1) (line_end con n v line).plain p'
+      → IsPlainSession r p' (marked mark lines) texts → map concat texts ≡ texts_of con n (line_end con n v line).plain lines)
+      → IsPlainSession r p (if b then marked mark lines else (mark ∷ line) ∷ marked mark lines) texts
+      → map concat texts ≡ (line_end con n v line).text ∷ texts_of con n (line_end con n v line).plain lines
+  each_behind true k v line lines texts p e f h settled next session = cc
+  each_behind false k v line lines [] p e f h settled next session = absurd session
+  each_behind false k v line lines (text ∷ texts) p e f h settled next session =
+      let read = block acts n log limit parcel_of some few k h (omega arith) v con mark line known (fits_line line e) (always_first acts.consoles con mark users v) text p session.0 settled session.1 in
+      ap (λ t. t ∷ map concat texts) read.1
+      ∙ ap (λ ts. (line_end con n v line).text ∷ ts) (next session.0 texts read.0 session.2)
+
+  each_text : (k : ℕ) (v : Plain) (lines : List (List ℕ)) (texts : List (List (List ℕ))) (p : Pool)
+      → k + length lines ≤ 4000000000 → AllByRecursion (λ line. is_long line ≡ false) lines → Settled n k v p
+      → IsPlainSession r p (marked mark lines) texts → map concat texts ≡ texts_of con n v lines
+  each_text k v [] [] p h fit settled session = refl
+  each_text k v [] (text ∷ texts) p h fit settled session = absurd session
+  each_text k v (line ∷ lines) texts p h fit settled session =
+      each_behind (is_long line) k v line lines texts p refl fit.0 (omega arith) settled
+      (λ p' texts behind more. each_text (k + 1) (line_end con n v line).plain lines texts p' (omega arith) fit.1 behind more)
+      session
+
   broken_line : (b : Bool) (k : ℕ) (v : Plain) (line : List ℕ) (text : List (List ℕ)) (p : Pool) → is_long line ≡ b → b ≡ false → k + 1 ≤ 4000000000
       → Settled n k v p → IsPlainFront r p (mark ∷ line) text
       → IsFront (prompt ++ concat text) (prompt ++ ((if b then too_long else (line_end con n v line).text) ++ []))
@@ -121,6 +146,10 @@ module _ (acts : Acting) (n log limit : ℕ) (parcel_of : List ℕ → Option Pa
   pub whole_from_boot : (lines : List (List ℕ)) (texts : List (List (List ℕ))) → length lines ≤ 4000000000
       → IsPlainSession r (boot acts n log limit parcel_of some) (marked mark lines) texts → written lines texts ≡ lines_text con n (at_boot n) lines
   whole_from_boot lines texts h session = session_text 0 (at_boot n) lines texts (boot acts n log limit parcel_of some) (omega arith) (boot_settled acts n log limit parcel_of some) session
+
+  pub each_from_boot : (lines : List (List ℕ)) (texts : List (List (List ℕ))) → length lines ≤ 4000000000 → AllByRecursion (λ line. is_long line ≡ false) lines
+      → IsPlainSession r (boot acts n log limit parcel_of some) (marked mark lines) texts → map concat texts ≡ texts_of con n (at_boot n) lines
+  each_from_boot lines texts h fit session = each_text 0 (at_boot n) lines texts (boot acts n log limit parcel_of some) (omega arith) fit (boot_settled acts n log limit parcel_of some) session
 
   pub broken_from_boot : (lines : List (List ℕ)) (texts : List (List (List ℕ))) (line : List ℕ) (text : List (List ℕ)) → length lines + 1 ≤ 4000000000 → is_long line ≡ false
       → IsPlainBrokenOff r (boot acts n log limit parcel_of some) (marked mark lines) texts (mark ∷ line) text

@@ -4,9 +4,20 @@ use Rattle.std.specs.List.{list_all}
 use Rattle.std.specs.Str.{bytes_eq}
 use Rattle.hpx_calls.specs.Values.{Value, Int, Text, Fault}
 use Rattle.app_console.specs.Console.{words_of, number_of, number_text, fault_text}
-use Rattle.app_console.specs.Types.{Console, Space, AccumulatorConsole, Own, Need, NewName, BoundName, AnyName, It, NewIt, Locality, Number, Count, Receiver, First, RootHome, RootThere, RootBeside, Kind, Accumulator, Promise, Channel, Latch, Barrier, Arg, Word, Object, NumberOf, KindName, Answer, Silent, Tells, Releases, Binds, Does, Helps, Drops, Sends, Row, Refusal, BadCommand, BadName, NameInUse, UnknownName, NotReady, NoSuchLocality, BadNumber, NotMovable, TooManyNames, TooManyPending, Status, Unknown, Pending, Stands, Argument, GivenWord, GivenObject, GivenNumber, Goal, Named, RootAt, Plan, DoesNothing, ShowsHelp, Refuses, GivesUp, Calls, What, NotSaid, Told, Released, Bound}
+use Rattle.app_console.specs.Types.{Console, Space, AccumulatorConsole, Own, Need, NewName, BoundName, AnyName, It, NewIt, Locality, Number, Count, Receiver, First, RootHome, RootThere, RootBeside, Kind, Accumulator, Promise, Channel, Latch, Barrier, Arg, Word, Object, NumberOf, KindName, Answer, Silent, Tells, Releases, Binds, Written, WrittenDoes, WrittenHelps, WrittenDrops, WrittenSends, Refusal, BadCommand, BadName, NameInUse, UnknownName, NotReady, NoSuchLocality, BadNumber, NotMovable, TooManyNames, TooManyPending, Status, Unknown, Pending, Stands, Argument, GivenWord, GivenObject, GivenNumber, Goal, Named, RootAt, Plan, DoesNothing, ShowsHelp, Refuses, GivesUp, Calls, What, NotSaid, Told, Released, Bound}
 
 -- ---- the tables
+
+-- what a command does: the commands are printed, the first argument is a name no more, or an action is sent and answered
+pub data Does : Type 0 where
+  Helps : Does
+  Drops : Does
+  Sends : (to : Receiver) → (code : ℕ) → (args : List Arg) → (answer : Answer) → Does
+
+-- what a command needs of its arguments, in the order in which they are judged, and what it does
+pub record Row : Type 0 where
+  pub needs : List Need
+  pub does : Does
 
 -- a command: its word, how the commands line shows it, and its row
 pub record Command : Type 0 where
@@ -101,6 +112,22 @@ first_of Own = [] ∷ []
 abbrev pub row_in : List Command → List ℕ → Option Row
 row_in [] word = None
 row_in (x ∷ xs) word = if bytes_eq word x.word then Some x.row else row_in xs word
+
+-- ---- the tables of the code
+
+abbrev pub as_does : WrittenDoes → Does
+as_does WrittenHelps = Helps
+as_does WrittenDrops = Drops
+as_does (WrittenSends to code args answer) = Sends to code args.now answer
+
+-- the row of a command, as the code has it
+abbrev pub as_row : Written → Row
+as_row x = record { needs = x.needs.now; does = as_does x.does }
+
+-- the row under a word
+abbrev pub row_under : List Written → List ℕ → Option Row
+row_under [] word = None
+row_under (x ∷ xs) word = if bytes_eq word x.word.now then Some (as_row x) else row_under xs word
 
 -- ---- the commands line
 

@@ -132,6 +132,18 @@ within (Some d) = if nat_le (length d.names) 100 && nat_le (length d.awaits) 100
 abbrev pub desk_shown : {V : Type 0} → Sort V → List V → Option (Desk V)
 desk_shown k vs = within (desk_in k vs)
 
+-- ---- what is read, piece by piece
+
+-- answers that were read before others
+abbrev pub awaits_before : List Await → Option (List Await) → Option (List Await)
+awaits_before xs None = None
+awaits_before xs (Some ys) = Some (xs ++ ys)
+
+-- names that were read before others
+abbrev pub names_before : {V : Type 0} → List (Naming V) → Option (Desk V) → Option (Desk V)
+names_before xs None = None
+names_before xs (Some d) = Some (record { names = xs ++ d.names; awaits = d.awaits })
+
 -- ---- places in lists
 
 -- one more than a number, if there is one

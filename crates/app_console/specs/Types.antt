@@ -24,9 +24,9 @@ pub use Rattle.app_console.specs.declared.table.Arg.{Arg}
 pub use Rattle.app_console.specs.declared.table.Arg.TheVariants.{Word, Object, Number as NumberOf, Made as KindName}
 pub use Rattle.app_console.specs.declared.table.Answer.{Answer}
 pub use Rattle.app_console.specs.declared.table.Answer.TheVariants.{Silent, Tells, Releases, Binds}
-pub use Rattle.app_console.specs.declared.table.Does.{Does}
-pub use Rattle.app_console.specs.declared.table.Does.TheVariants.{Helps, Drops, Sends}
-pub use Rattle.app_console.specs.declared.table.Row.{Row}
+pub use Rattle.app_console.specs.declared.table.Command.{Command as Written}
+pub use Rattle.app_console.specs.declared.table.Does.{Does as WrittenDoes}
+pub use Rattle.app_console.specs.declared.table.Does.TheVariants.{Helps as WrittenHelps, Drops as WrittenDrops, Sends as WrittenSends}
 pub use Rattle.app_console.specs.declared.plan.Refusal.{Refusal}
 pub use Rattle.app_console.specs.declared.plan.Refusal.TheVariants.{BadCommand, BadName, NameInUse, UnknownName, NotReady, NoSuchLocality, BadNumber, NotMovable, TooManyNames, TooManyPending}
 pub use Rattle.app_console.specs.declared.plan.Status.{Status}

@@ -1,8 +1,8 @@
-//! The acts of the session: lines, and the answers to what they asked.
-ghost use Rattle.std.specs.Prelude.{◌≡◌, ◌≤◌, ◌+◌, ◌∷◌, [], Some, IfOk, map, length};
+//! The acts of the consoles: lines, the answers to what they asked, and what an accumulator does.
+ghost use Rattle.std.specs.Prelude.{◌≡◌, ◌≤◌, ◌<◌, ◌⊎◌, ◌+◌, ◌∷◌, [], Some, IfOk, map, length};
 ghost use Rattle.hpx_calls.specs.Values.{spelled};
 ghost use Rattle.app_console.specs.Desks.{desk_out, held_at};
-ghost use Rattle.app_console.specs.Session.{session_outcome, session_by, line_of, taken, planned, call_to, target_of, given, spoken, space_in, console_of};
+ghost use Rattle.app_console.specs.Session.{session_outcome, session_by, line_of, taken, planned, call_to, target_of, given, spoken, space_in, console_of, act_of};
 
 use crate::desk::{Desk, Naming};
 use crate::keep::{answered, awaiting, take_awaited, values_of, without};
@@ -14,7 +14,8 @@ use crate::say::{answer_text, help, printed, refusal_text};
 use crate::stay::refused;
 use crate::table::{Console, Consoles};
 use hpx_calls::content::one;
-use hpx_value::codes::{LINE, SET};
+use hpx_numbers::act::number_act;
+use hpx_value::codes::{LINE, SESSION, SET};
 use hpx_value::exact::Exact;
 use hpx_value::items::{Items, Texts};
 use hpx_value::memory::OutOfMemory;
@@ -22,10 +23,37 @@ use hpx_value::outcome::{NewState, Outcome, SendCont, Sending, Sends, Target};
 use hpx_value::value::{Act, State, Value, Values};
 use std::alloc::Global;
 
-/// The outcome of an action on the session, at so many localities. An `Err` is for want of memory, or where a hand has
-/// more than 65,535 places or continuations, as none has that is well formed.
+/// The kind of accumulators.
+pub const ACCUMULATOR_KIND: u32 = 16;
+
+/// The outcome of an action on a session, of kind 1, or on an accumulator, of kind 16, where a session reads the lines of these
+/// consoles. An `Err` is for want of memory, or where a hand has more than 65,535 places or continuations, as none has that is
+/// well formed.
+#[tactic(auto, unfolding(crate::specs::Session::act_of))]
+pub fn console_act(
+    alloc: Global,
+    consoles: Consoles,
+    kind: u32,
+    here: u32,
+    localities: u32,
+    state: &State,
+    action: &Act,
+) -> Result<Outcome, OutOfMemory>
+    requires kind { (kind ≡ 1) ⊎ (kind ≡ 16) }
+    requires here { here < localities }
+    requires few { localities ≤ 64 }
+    ensures { IfOk result (λ outcome. outcome ≡ act_of consoles localities kind here state.now action.now) }
+{
+    if kind == SESSION {
+        session_act(alloc, consoles, localities, state, action)
+    } else {
+        number_act(alloc, kind, here, state, action)
+    }
+}
+
+/// The outcome of an action on the session, at so many localities.
 #[tactic(auto, unfolding(crate::specs::Session::session_outcome))]
-pub fn session_act(
+fn session_act(
     alloc: Global,
     consoles: Consoles,
     localities: u32,

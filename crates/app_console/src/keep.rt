@@ -5,7 +5,7 @@ ghost use Rattle.app_console.specs.Desks.{without, erased, held_at, opened, answ
 ghost use Rattle.app_console.specs.Session.{awaiting};
 
 use crate::desk::{Await, Desk, Naming, What};
-use crate::read::{before, to_out, what_out};
+use crate::read::{to_out, what_out};
 use hpx_value::exact::Exact;
 use hpx_value::items::Items;
 use hpx_value::memory::OutOfMemory;
@@ -95,8 +95,12 @@ pub fn awaiting(
 {
     let Desk { names, awaits } = desk;
     let names = opened(alloc, names, &what)?;
-    let awaits = before(Await { slot, what }, awaits)?;
-    Ok(Desk { names, awaits })
+    let mut awaits = awaits.into_vec();
+    awaits.insert(0, Await { slot, what })?;
+    Ok(Desk {
+        names,
+        awaits: Items::from_vec(awaits),
+    })
 }
 
 fn opened(alloc: Global, names: Namings, what: &What) -> Result<Namings, OutOfMemory>

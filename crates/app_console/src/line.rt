@@ -1,7 +1,8 @@
 //! What a line asks for, by the table of commands.
-ghost use Rattle.std.specs.Prelude.{◌≡◌, ◌++◌, IfOk, map, option_copied};
+ghost use Rattle.std.specs.Prelude.{◌≡◌, ◌++◌, Some, IfOk, map};
 ghost use Rattle.std.specs.List.{list_all};
-ghost use Rattle.app_console.specs.Commands.{is_letter, is_name, refusal, refusals, last_refusal, named_refusal, new_refusal, bound_refusal, it_refusal, moved_refusal, word_at, argument_of, goal_of, what_of, kind_name, locality_or_0, done_by, judged, plan_by, plan_of, commands_of, row_in, first_of, count_of};
+ghost use Rattle.std.specs.Option.{option_copied};
+ghost use Rattle.app_console.specs.Commands.{as_does, as_row, is_letter, is_name, refusal, refusals, last_refusal, named_refusal, new_refusal, bound_refusal, it_refusal, moved_refusal, word_at, argument_of, goal_of, what_of, kind_name, locality_or_0, done_by, judged, plan_by, plan_of, commands_of, row_in, first_of, count_of};
 ghost use Rattle.app_console.specs.Desks.{seek, status_by, status_in};
 ghost use Rattle.app_console.specs.Session.{kind_of, place_of, sight};
 ghost use Rattle.app_console.specs.Console.{number_of};
@@ -9,7 +10,7 @@ ghost use Rattle.app_console.specs.Console.{number_of};
 use crate::console::{number, words};
 use crate::desk::{Desk, Naming, What};
 use crate::plan::{Argument, Goal, Plan, Refusal, Status};
-use crate::table::{Answer, Arg, Console, Does, Kind, Need, Receiver, Row, row_of};
+use crate::table::{Answer, Arg, Command, Console, Does, Kind, Need, Receiver, command_of};
 use hpx_value::codes::{FIRST_MANAGED, LAST_MOVABLE, MOVE, SESSION};
 use hpx_value::items::{Items, Text};
 use hpx_value::memory::OutOfMemory;
@@ -225,7 +226,7 @@ fn last_refusal(
     words: &[&[u8]],
     does: &Does,
 ) -> Option<Refusal>
-    ensures { result ≡ last_refusal (sight localities (kind_of state.now) desk.now) (map (λ w. w.now) words.now) does.now }
+    ensures { result ≡ last_refusal (sight localities (kind_of state.now) desk.now) (map (λ w. w.now) words.now) (as_does does.now) }
 {
     let Does::Sends {
         to: _,
@@ -356,8 +357,13 @@ fn what_of(alloc: Global, answer: Answer, name: &[u8]) -> Result<What, OutOfMemo
 }
 
 /// What a command does that is not refused.
-fn done_by(alloc: Global, localities: u32, words: &[&[u8]], does: Does) -> Result<Plan, OutOfMemory>
-    ensures { IfOk result (λ plan. plan ≡ done_by localities (map (λ w. w.now) words.now) does) }
+fn done_by(
+    alloc: Global,
+    localities: u32,
+    words: &[&[u8]],
+    does: &Does,
+) -> Result<Plan, OutOfMemory>
+    ensures { IfOk result (λ plan. plan ≡ done_by localities (map (λ w. w.now) words.now) (as_does does.now)) }
 {
     match does {
         Does::Helps => Ok(Plan::Helps),
@@ -368,10 +374,10 @@ fn done_by(alloc: Global, localities: u32, words: &[&[u8]], does: Does) -> Resul
             args,
             answer,
         } => Ok(Plan::Calls {
-            goal: goal_of(alloc, localities, words, to)?,
-            code,
-            args: arguments_of(alloc, words, args.as_slice())?,
-            what: what_of(alloc, answer, word_at(words, 0))?,
+            goal: goal_of(alloc, localities, words, *to)?,
+            code: *code,
+            args: arguments_of(alloc, words, args)?,
+            what: what_of(alloc, *answer, word_at(words, 0))?,
         }),
     }
 }
@@ -383,23 +389,21 @@ fn judged(
     state: &State,
     desk: &Desk<Value>,
     words: &[&[u8]],
-    row: Option<Row>,
+    command: &Command,
 ) -> Result<Plan, OutOfMemory>
-    ensures { IfOk result (λ plan. plan ≡ judged (sight localities (kind_of state.now) desk.now) (map (λ w. w.now) words.now) row) }
+    ensures { IfOk result (λ plan. plan
+        ≡ judged (sight localities (kind_of state.now) desk.now) (map (λ w. w.now) words.now) (Some (as_row command.now))) }
 {
-    let Some(Row { needs, does }) = row else {
-        return Ok(Plan::Refuses(Refusal::BadCommand));
-    };
-    if needs.len() != words.len() {
+    if command.needs.len() != words.len() {
         return Ok(Plan::Refuses(Refusal::BadCommand));
     }
-    if let Some(refusal) = refusals(localities, state, desk, needs.as_slice(), words) {
+    if let Some(refusal) = refusals(localities, state, desk, command.needs, words) {
         return Ok(Plan::Refuses(refusal));
     }
-    if let Some(refusal) = last_refusal(localities, state, desk, words, &does) {
+    if let Some(refusal) = last_refusal(localities, state, desk, words, &command.does) {
         return Ok(Plan::Refuses(refusal));
     }
-    done_by(alloc, localities, words, does)
+    done_by(alloc, localities, words, &command.does)
 }
 
 /// What a command is given: in a console without names the empty name, and then the words behind its own.
@@ -431,9 +435,11 @@ fn command(
     ensures { IfOk result (λ plan. plan
         ≡ judged (sight localities (kind_of state.now) desk.now) (first_of console ++ map (λ w. w.now) rest.now) (row_in (commands_of console) word.now)) }
 {
-    let row = row_of(alloc, console, word)?;
+    let Some(command) = command_of(console, word) else {
+        return Ok(Plan::Refuses(Refusal::BadCommand));
+    };
     let given = given(alloc, console, rest)?;
-    judged(alloc, localities, state, desk, given.as_slice(), row)
+    judged(alloc, localities, state, desk, given.as_slice(), command)
 }
 
 /// What a line does, by its words.

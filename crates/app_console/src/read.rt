@@ -1,7 +1,7 @@
 //! What the values of a session's state show, and how they are laid out.
 ghost use Rattle.std.specs.Prelude.{◌≡◌, ◌∷◌, ◌++◌, [], ◌≤◌, IfOk, IfSome};
 ghost use Rattle.hpx_calls.specs.Values.{spelled};
-ghost use Rattle.app_console.specs.Desks.{awaits_in, awaits_out, desk_in, desk_out, desk_shown, names_out, slot_in, what_in, what_out, to_in, to_out, fits_name, erased, held_at, without};
+ghost use Rattle.app_console.specs.Desks.{awaits_in, awaits_before, awaits_out, desk_in, names_before, desk_out, desk_shown, names_out, slot_in, what_in, what_out, to_in, to_out, fits_name, erased, held_at, without};
 ghost use Rattle.app_console.specs.Session.{desk_at};
 
 use crate::desk::{Await, Desk, Naming, What};
@@ -58,70 +58,81 @@ fn to_in(value: &Value) -> Option<Option<Value>>
     }
 }
 
-/// An item before others.
-pub fn before<T: Drop>(item: T, items: Items<T>) -> Result<Items<T>, OutOfMemory>
-    ensures { IfOk result (λ all. all ≡ item ∷ items) }
+/// Items, and one more behind them.
+fn with<T: Drop>(items: Items<T>, item: T) -> Result<Items<T>, OutOfMemory>
+    ensures { IfOk result (λ all. all ≡ items ++ item ∷ []) }
 {
-    let mut items = items.into_vec();
-    items.insert(0, item)?;
-    Ok(Items::from_vec(items))
+    let mut items = items;
+    items.push(item)?;
+    Ok(items)
 }
 
-/// The answers that values show.
-fn awaits_in(alloc: Global, values: &[Value]) -> Result<Option<Items<Await>>, OutOfMemory>
-    ensures { IfOk result (λ read. read ≡ awaits_in spelled values.now) }
+/// The answers that values show, behind those that were read.
+#[tactic(auto, using(crate::proofs::Reading::no_more_awaits, crate::proofs::Reading::more_awaits))]
+fn awaits_in(
+    alloc: Global,
+    read: Items<Await>,
+    values: &[Value],
+) -> Result<Option<Items<Await>>, OutOfMemory>
+    ensures { IfOk result (λ all. all ≡ awaits_before read (awaits_in spelled values.now)) }
 {
     match values {
-        [] => Ok(Some(Items::new(alloc))),
+        [] => Ok(Some(read)),
         [_] => Ok(None),
         [Value::Int(number), value, rest @ ..] => {
-            let slot = slot_in(*number);
-            let what = what_in(alloc, value)?;
-            let behind = awaits_in(alloc, rest)?;
-            match (slot, what, behind) {
-                (Some(slot), Some(what), Some(behind)) => {
-                    Ok(Some(before(Await { slot, what }, behind)?))
-                }
-                _ => Ok(None),
-            }
+            let Some(slot) = slot_in(*number) else {
+                return Ok(None);
+            };
+            let Some(what) = what_in(alloc, value)? else {
+                return Ok(None);
+            };
+            awaits_in(alloc, with(read, Await { slot, what })?, rest)
         }
         [_, _, ..] => Ok(None),
     }
 }
 
-/// The names that values show, and then the answers.
-fn desk_in(alloc: Global, values: &[Value]) -> Result<Option<Desk<Value>>, OutOfMemory>
-    ensures { IfOk result (λ read. read ≡ desk_in spelled values.now) }
+/// The names that values show, behind those that were read, and then the answers.
+#[tactic(auto, using(crate::proofs::Reading::no_more_names, crate::proofs::Reading::more_names, crate::proofs::Reading::none_alone))]
+fn names_in(
+    alloc: Global,
+    read: Items<Naming<Value>>,
+    values: &[Value],
+) -> Result<Option<Desk<Value>>, OutOfMemory>
+    ensures { IfOk result (λ all. all ≡ names_before read (desk_in spelled values.now)) }
 {
     match values {
         [] => Ok(Some(Desk {
-            names: Items::new(alloc),
+            names: read,
             awaits: Items::new(alloc),
         })),
         [_] => Ok(None),
         [Value::Text(name), value, rest @ ..] => {
-            let to = to_in(value);
-            let behind = desk_in(alloc, rest)?;
-            match (to, behind) {
-                (Some(to), Some(behind)) if fits_name(name) => {
-                    let name = name.duplicate(alloc)?;
-                    let names = before(Naming { name, to }, behind.names)?;
-                    Ok(Some(Desk {
-                        names,
-                        awaits: behind.awaits,
-                    }))
-                }
-                _ => Ok(None),
+            let Some(to) = to_in(value) else {
+                return Ok(None);
+            };
+            if !fits_name(name) {
+                return Ok(None);
             }
+            let name = name.duplicate(alloc)?;
+            names_in(alloc, with(read, Naming { name, to })?, rest)
         }
-        [_, _, ..] => match awaits_in(alloc, values)? {
+        [_, _, ..] => match awaits_in(alloc, Items::new(alloc), values)? {
             Some(awaits) => Ok(Some(Desk {
-                names: Items::new(alloc),
+                names: read,
                 awaits,
             })),
             None => Ok(None),
         },
     }
+}
+
+/// The names that values show, and then the answers.
+#[tactic(auto, using(crate::proofs::Reading::names_alone))]
+fn desk_in(alloc: Global, values: &[Value]) -> Result<Option<Desk<Value>>, OutOfMemory>
+    ensures { IfOk result (λ read. read ≡ desk_in spelled values.now) }
+{
+    names_in(alloc, Items::new(alloc), values)
 }
 
 /// What a session keeps, where a state is one of a session that can draw another slot.

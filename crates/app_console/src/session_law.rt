@@ -1,5 +1,5 @@
 //! What the consoles' sessions print, and that all actions keep the laws: the contracts are the laws.
-ghost use Rattle.std.specs.Prelude.{ℕ, List, [], ◌∷◌, ◌++◌, Option, false, ◌≡◌, ◌≢◌, ◌≤◌, ◌<◌, length};
+ghost use Rattle.std.specs.Prelude.{ℕ, List, [], ◌∷◌, ◌++◌, Option, false, ◌≡◌, ◌≢◌, ◌≤◌, ◌<◌, length, map};
 ghost use Rattle.std.specs.List.{concat, AllByRecursion};
 ghost use Rattle.hpx_value.specs.Shapes.{IsAct, IsState};
 ghost use Rattle.hpx_value.specs.Values.{bare_state, bare_act, named, message_of};
@@ -15,21 +15,27 @@ ghost use Rattle.app_console.specs.Types.{Console, State, Act};
 ghost use Rattle.app_console.specs.Lines.{is_long, opening, first_of, others_of, IsFront};
 ghost use Rattle.app_console.specs.Session.{act_of};
 ghost use Rattle.app_console.specs.Judging.{Acting, judging};
-ghost use Rattle.app_console.specs.Plain.{at_boot, opened};
+ghost use Rattle.app_console.specs.Plain.{at_boot, opened, texts_of};
 ghost use Rattle.app_console.specs.Text.{IsUsers, marked, written, lines_text};
 
 use crate::table::Consoles;
 
 /// Whatever the order in which frames come: where each line of a console that is not too long is fed, and each only once
-/// nothing is pending, the console writes what the plain space says, as long as no action fails. Where a line is broken off,
-/// it has written the front of that. So it is from boot on, and where the top call first has its own line fed, for all acts
-/// of which the session reads the console. The acts of this crate are such acts, for each set of consoles (`alone`).
+/// nothing is pending, the console writes what the plain space says, as long as no action fails. Where no line is too long,
+/// each prints what it says of that line alone (`each_line`). Where a line is broken off, the console has written the front of
+/// its text. So it is from boot on, and where the top call first has its own line fed, for all acts of which the session reads
+/// the console. The acts of this crate are such acts, for each set of consoles (`alone`).
 pub fn session_law()
     ensures plain { (acts : Acting) (con : Console) (mark n log limit : ℕ) (parcel_of : List ℕ → Option Parcel) (lines : List (List ℕ))
         (blocks : List (List Entry)) → IsUsers acts.consoles con mark → 1 ≤ n → n ≤ 64 → length lines < 4000000000 →
         HasGrammar (judging acts n log limit parcel_of) → NoneFails (entries_of blocks) →
         IsSession (judging acts n log limit parcel_of) [] (marked mark lines) blocks →
         written lines (shown blocks) ≡ lines_text con n (at_boot n) lines }
+    ensures each_line { (acts : Acting) (con : Console) (mark n log limit : ℕ) (parcel_of : List ℕ → Option Parcel) (lines : List (List ℕ))
+        (blocks : List (List Entry)) → IsUsers acts.consoles con mark → 1 ≤ n → n ≤ 64 → length lines < 4000000000 →
+        AllByRecursion (λ line. is_long line ≡ false) lines → HasGrammar (judging acts n log limit parcel_of) → NoneFails (entries_of blocks) →
+        IsSession (judging acts n log limit parcel_of) [] (marked mark lines) blocks →
+        map concat (shown blocks) ≡ texts_of con n (at_boot n) lines }
     ensures broken_off { (acts : Acting) (con : Console) (mark n log limit : ℕ) (parcel_of : List ℕ → Option Parcel) (lines : List (List ℕ))
         (blocks : List (List Entry)) (line : List ℕ) (es : List Entry) → IsUsers acts.consoles con mark → 1 ≤ n → n ≤ 64 → length lines < 3999999999 →
         is_long line ≡ false → HasGrammar (judging acts n log limit parcel_of) →

@@ -1,6 +1,7 @@
-//! The commands of the consoles: the rows of a table, which the session reads.
-ghost use Rattle.std.specs.Prelude.{◌≡◌, ◌∷◌, [], Some, IfOk};
-ghost use Rattle.app_console.specs.Commands.{sends, asks, gives, made_row, row_in, object_commands, name_commands, control_commands, number_commands, help_command, commands_of};
+//! The commands of the consoles: one table for each, which the session reads.
+ghost use Rattle.std.specs.Prelude.{◌≡◌};
+ghost use Rattle.std.specs.Option.{option_map, option_copied};
+ghost use Rattle.app_console.specs.Commands.{as_row, row_under, row_in, commands_of};
 
 use hpx_calls::codes::{
     ARRIVE, CLOSE, COUNT, DOWN, GET, LIST, NEW, PUT, REGISTER, RESET, RESOLVE, UNREGISTER, WAIT,
@@ -8,9 +9,6 @@ use hpx_calls::codes::{
 };
 use hpx_calls::read::{MOST_LEFT, MOST_TO_ARRIVE};
 use hpx_value::codes::{ADD, COMPONENTS, LOCALITIES, MOVE, QUERY, SHELF, SYMBOLS};
-use hpx_value::items::Items;
-use hpx_value::memory::OutOfMemory;
-use std::alloc::Global;
 
 /// A console, by its mark: a line of the user of `space` or of `accumulator`, or a line of the top call's own.
 #[derive(Clone, Copy, Debug, PartialEq, Eq)]
@@ -96,7 +94,7 @@ pub enum Answer {
 }
 
 /// What a command does.
-#[derive(Drop)]
+#[derive(Clone, Copy, Debug)]
 pub enum Does {
     /// The commands are printed.
     Helps,
@@ -106,324 +104,217 @@ pub enum Does {
     Sends {
         to: Receiver,
         code: u16,
-        args: Items<Arg>,
+        args: &'static [Arg],
         answer: Answer,
     },
 }
 
-/// A command: what it needs of its arguments, in order, and what it does.
-#[derive(Drop)]
-pub struct Row {
-    pub needs: Items<Need>,
+/// A command: its word, what it needs of its arguments, in order, and what it does.
+#[derive(Clone, Copy, Debug)]
+pub struct Command {
+    pub word: &'static [u8],
+    pub needs: &'static [Need],
     pub does: Does,
 }
 
-/// The row under a word of a console, if there is one.
-pub fn row_of(alloc: Global, console: Console, word: &[u8]) -> Result<Option<Row>, OutOfMemory>
-    ensures { IfOk result (λ row. row ≡ row_in (commands_of console) word.now) }
-{
-    match console {
-        Console::Space => space_row(alloc, word),
-        Console::Accumulator => number_row(alloc, word),
-        Console::Own => own_row(alloc, word),
-    }
-}
-
-fn space_row(alloc: Global, word: &[u8]) -> Result<Option<Row>, OutOfMemory>
-    ensures { IfOk result (λ row. row ≡ row_in (commands_of Console.Space) word.now) }
-{
-    if let Some(row) = object_row(alloc, word)? {
-        return Ok(Some(row));
-    }
-    if let Some(row) = name_row(alloc, word)? {
-        return Ok(Some(row));
-    }
-    if let Some(row) = control_row(alloc, word)? {
-        return Ok(Some(row));
-    }
-    Ok(help_row(alloc, word))
-}
-
-fn object_row(alloc: Global, word: &[u8]) -> Result<Option<Row>, OutOfMemory>
-    ensures { IfOk result (λ row. row ≡ row_in object_commands word.now) }
-{
-    if word == b"new".as_slice() {
-        return makes(alloc, None, Kind::Accumulator);
-    }
-    if word == b"add".as_slice() {
-        return gives(alloc, ADD);
-    }
-    if word == b"query".as_slice() {
-        return asks(alloc, QUERY, Answer::Tells);
-    }
-    if word == b"move".as_slice() {
-        return sends(
-            alloc,
-            &[Need::BoundName, Need::Locality],
-            Receiver::First,
-            MOVE,
-            &[Arg::Number(1)],
-            Answer::Silent,
-        );
-    }
-    if word == b"where".as_slice() {
-        return asks(alloc, WHERE, Answer::Tells);
-    }
-    if word == b"drop".as_slice() {
-        return drops(alloc);
-    }
-    Ok(None)
-}
-
-fn name_row(alloc: Global, word: &[u8]) -> Result<Option<Row>, OutOfMemory>
-    ensures { IfOk result (λ row. row ≡ row_in name_commands word.now) }
-{
-    if word == b"share".as_slice() {
-        return sends(
-            alloc,
-            &[Need::BoundName, Need::Locality],
-            Receiver::RootThere(SHELF),
-            REGISTER,
-            &[Arg::Word(0), Arg::Object(0)],
-            Answer::Silent,
-        );
-    }
-    if word == b"unshare".as_slice() {
-        return sends(
-            alloc,
-            &[Need::AnyName, Need::Locality],
-            Receiver::RootThere(SHELF),
-            UNREGISTER,
-            &[Arg::Word(0)],
-            Answer::Silent,
-        );
-    }
-    if word == b"register".as_slice() {
-        return sends(
-            alloc,
-            &[Need::BoundName, Need::AnyName],
-            Receiver::Root(SYMBOLS),
-            REGISTER,
-            &[Arg::Word(1), Arg::Object(0)],
-            Answer::Silent,
-        );
-    }
-    if word == b"lookup".as_slice() {
-        return sends(
-            alloc,
-            &[Need::NewName, Need::AnyName],
-            Receiver::Root(SYMBOLS),
-            RESOLVE,
-            &[Arg::Word(1)],
-            Answer::Binds,
-        );
-    }
-    if word == b"unregister".as_slice() {
-        return sends(
-            alloc,
-            &[Need::AnyName],
-            Receiver::Root(SYMBOLS),
-            UNREGISTER,
-            &[Arg::Word(0)],
-            Answer::Silent,
-        );
-    }
-    if word == b"names".as_slice() {
-        return sends(
-            alloc,
-            &[],
-            Receiver::Root(SYMBOLS),
-            LIST,
-            &[],
-            Answer::Tells,
-        );
-    }
-    if word == b"localities".as_slice() {
-        return sends(
-            alloc,
-            &[],
-            Receiver::Root(LOCALITIES),
-            COUNT,
-            &[],
-            Answer::Tells,
-        );
-    }
-    Ok(None)
-}
-
-fn control_row(alloc: Global, word: &[u8]) -> Result<Option<Row>, OutOfMemory>
-    ensures { IfOk result (λ row. row ≡ row_in control_commands word.now) }
-{
-    if word == b"promise".as_slice() {
-        return makes(alloc, None, Kind::Promise);
-    }
-    if word == b"channel".as_slice() {
-        return makes(alloc, None, Kind::Channel);
-    }
-    if word == b"latch".as_slice() {
-        return makes(alloc, Some(MOST_LEFT), Kind::Latch);
-    }
-    if word == b"barrier".as_slice() {
-        return makes(alloc, Some(MOST_TO_ARRIVE), Kind::Barrier);
-    }
-    if word == b"put".as_slice() {
-        return gives(alloc, PUT);
-    }
-    if word == b"get".as_slice() {
-        return asks(alloc, GET, Answer::Tells);
-    }
-    if word == b"close".as_slice() {
-        return asks(alloc, CLOSE, Answer::Silent);
-    }
-    if word == b"down".as_slice() {
-        return asks(alloc, DOWN, Answer::Silent);
-    }
-    if word == b"wait".as_slice() {
-        return asks(alloc, WAIT, Answer::Releases);
-    }
-    if word == b"arrive".as_slice() {
-        return asks(alloc, ARRIVE, Answer::Releases);
-    }
-    Ok(None)
-}
-
-fn help_row(alloc: Global, word: &[u8]) -> Option<Row>
-    ensures { result ≡ row_in (help_command [] ∷ []) word.now }
-{
-    match word {
-        b"help" => Some(Row {
-            needs: Items::new(alloc),
-            does: Does::Helps,
-        }),
-        _ => None,
-    }
-}
-
-fn number_row(alloc: Global, word: &[u8]) -> Result<Option<Row>, OutOfMemory>
-    ensures { IfOk result (λ row. row ≡ row_in (commands_of Console.Accumulator) word.now) }
-{
-    match word {
-        b"reset" => asks_it(alloc, RESET, Answer::Silent),
-        b"add" => sends(
-            alloc,
-            &[Need::It, Need::Number],
-            Receiver::First,
-            ADD,
-            &[Arg::Number(1)],
-            Answer::Silent,
-        ),
-        b"query" => asks_it(alloc, QUERY, Answer::Tells),
-        b"help" => Ok(Some(Row {
-            needs: Items::from_vec([Need::NewIt].to_vec(alloc)?),
-            does: Does::Helps,
-        })),
-        _ => Ok(None),
-    }
-}
-
-fn own_row(alloc: Global, word: &[u8]) -> Result<Option<Row>, OutOfMemory>
-    ensures { IfOk result (λ row. row ≡ row_in (commands_of Console.Own) word.now) }
-{
-    match word {
-        b"open" => sends(
-            alloc,
-            &[Need::NewIt],
-            Receiver::RootBeside(COMPONENTS),
-            NEW,
-            &[Arg::Made(Kind::Accumulator)],
-            Answer::Binds,
-        ),
-        _ => Ok(None),
-    }
-}
-
-/// A row whose action is sent.
-fn sends(
-    alloc: Global,
-    needs: &[Need],
-    to: Receiver,
-    code: u16,
-    args: &[Arg],
-    answer: Answer,
-) -> Result<Option<Row>, OutOfMemory>
-    ensures { IfOk result (λ row. row ≡ Some (sends needs.now to code args.now answer)) }
-{
-    Ok(Some(Row {
-        needs: Items::from_vec(needs.to_vec(alloc)?),
-        does: Does::Sends {
-            to,
-            code,
-            args: Items::from_vec(args.to_vec(alloc)?),
-            answer,
-        },
-    }))
+/// A command whose action is sent.
+macro_rules! sends {
+    ($word:expr, $needs:expr, $to:expr, $code:expr, $args:expr, $answer:expr) => {
+        Command {
+            word: $word,
+            needs: $needs,
+            does: Does::Sends {
+                to: $to,
+                code: $code,
+                args: $args,
+                answer: $answer,
+            },
+        }
+    };
 }
 
 /// Something of a kind is made, which may take a count of at most so many.
-fn makes(alloc: Global, most: Option<u32>, kind: Kind) -> Result<Option<Row>, OutOfMemory>
-    ensures { IfOk result (λ row. row ≡ Some (made_row most kind)) }
-{
-    match most {
-        None => sends(
-            alloc,
+macro_rules! makes {
+    ($word:expr, $kind:expr) => {
+        sends!(
+            $word,
             &[Need::NewName, Need::Locality],
             Receiver::RootThere(COMPONENTS),
             NEW,
-            &[Arg::Made(kind)],
-            Answer::Binds,
-        ),
-        Some(most) => sends(
-            alloc,
-            &[Need::NewName, Need::Locality, Need::Count(most)],
+            &[Arg::Made($kind)],
+            Answer::Binds
+        )
+    };
+    ($word:expr, $kind:expr, $most:expr) => {
+        sends!(
+            $word,
+            &[Need::NewName, Need::Locality, Need::Count($most)],
             Receiver::RootThere(COMPONENTS),
             NEW,
-            &[Arg::Made(kind), Arg::Number(2)],
-            Answer::Binds,
-        ),
+            &[Arg::Made($kind), Arg::Number(2)],
+            Answer::Binds
+        )
+    };
+}
+
+/// Something is asked of the first argument, which is needed so.
+macro_rules! asks {
+    ($word:expr, $need:expr, $code:expr, $answer:expr) => {
+        sends!($word, &[$need], Receiver::First, $code, &[], $answer)
+    };
+}
+
+/// The first argument, which is needed so, is given a number.
+macro_rules! gives {
+    ($word:expr, $need:expr, $code:expr) => {
+        sends!(
+            $word,
+            &[$need, Need::Number],
+            Receiver::First,
+            $code,
+            &[Arg::Number(1)],
+            Answer::Silent
+        )
+    };
+}
+
+/// The commands of `space`.
+const SPACE: &[Command] = &[
+    makes!(b"new", Kind::Accumulator),
+    gives!(b"add", Need::BoundName, ADD),
+    asks!(b"query", Need::BoundName, QUERY, Answer::Tells),
+    sends!(
+        b"move",
+        &[Need::BoundName, Need::Locality],
+        Receiver::First,
+        MOVE,
+        &[Arg::Number(1)],
+        Answer::Silent
+    ),
+    asks!(b"where", Need::BoundName, WHERE, Answer::Tells),
+    Command {
+        word: b"drop",
+        needs: &[Need::BoundName],
+        does: Does::Drops,
+    },
+    sends!(
+        b"share",
+        &[Need::BoundName, Need::Locality],
+        Receiver::RootThere(SHELF),
+        REGISTER,
+        &[Arg::Word(0), Arg::Object(0)],
+        Answer::Silent
+    ),
+    sends!(
+        b"unshare",
+        &[Need::AnyName, Need::Locality],
+        Receiver::RootThere(SHELF),
+        UNREGISTER,
+        &[Arg::Word(0)],
+        Answer::Silent
+    ),
+    sends!(
+        b"register",
+        &[Need::BoundName, Need::AnyName],
+        Receiver::Root(SYMBOLS),
+        REGISTER,
+        &[Arg::Word(1), Arg::Object(0)],
+        Answer::Silent
+    ),
+    sends!(
+        b"lookup",
+        &[Need::NewName, Need::AnyName],
+        Receiver::Root(SYMBOLS),
+        RESOLVE,
+        &[Arg::Word(1)],
+        Answer::Binds
+    ),
+    sends!(
+        b"unregister",
+        &[Need::AnyName],
+        Receiver::Root(SYMBOLS),
+        UNREGISTER,
+        &[Arg::Word(0)],
+        Answer::Silent
+    ),
+    sends!(
+        b"names",
+        &[],
+        Receiver::Root(SYMBOLS),
+        LIST,
+        &[],
+        Answer::Tells
+    ),
+    sends!(
+        b"localities",
+        &[],
+        Receiver::Root(LOCALITIES),
+        COUNT,
+        &[],
+        Answer::Tells
+    ),
+    makes!(b"promise", Kind::Promise),
+    makes!(b"channel", Kind::Channel),
+    makes!(b"latch", Kind::Latch, MOST_LEFT),
+    makes!(b"barrier", Kind::Barrier, MOST_TO_ARRIVE),
+    gives!(b"put", Need::BoundName, PUT),
+    asks!(b"get", Need::BoundName, GET, Answer::Tells),
+    asks!(b"close", Need::BoundName, CLOSE, Answer::Silent),
+    asks!(b"down", Need::BoundName, DOWN, Answer::Silent),
+    asks!(b"wait", Need::BoundName, WAIT, Answer::Releases),
+    asks!(b"arrive", Need::BoundName, ARRIVE, Answer::Releases),
+    Command {
+        word: b"help",
+        needs: &[],
+        does: Does::Helps,
+    },
+];
+
+/// The commands of `accumulator`, whose one object has no name: each is given it as its first argument.
+const ACCUMULATOR: &[Command] = &[
+    asks!(b"reset", Need::It, RESET, Answer::Silent),
+    gives!(b"add", Need::It, ADD),
+    asks!(b"query", Need::It, QUERY, Answer::Tells),
+    Command {
+        word: b"help",
+        needs: &[Need::NewIt],
+        does: Does::Helps,
+    },
+];
+
+/// The one line of the top call's own.
+const OWN: &[Command] = &[sends!(
+    b"open",
+    &[Need::NewIt],
+    Receiver::RootBeside(COMPONENTS),
+    NEW,
+    &[Arg::Made(Kind::Accumulator)],
+    Answer::Binds
+)];
+
+/// The command under a word of a console, if there is one.
+pub fn command_of(console: Console, word: &[u8]) -> Option<&'static Command>
+    ensures { option_map as_row (option_copied result) ≡ row_in (commands_of console) word.now }
+{
+    match console {
+        Console::Space => find(SPACE, word),
+        Console::Accumulator => find(ACCUMULATOR, word),
+        Console::Own => find(OWN, word),
     }
 }
 
-/// Something is asked of a named object.
-fn asks(alloc: Global, code: u16, answer: Answer) -> Result<Option<Row>, OutOfMemory>
-    ensures { IfOk result (λ row. row ≡ Some (asks code answer)) }
+/// The first command under a word.
+fn find(commands: &'static [Command], word: &[u8]) -> Option<&'static Command>
+    ensures { option_map as_row (option_copied result) ≡ row_under commands.now word.now }
 {
-    sends(
-        alloc,
-        &[Need::BoundName],
-        Receiver::First,
-        code,
-        &[],
-        answer,
-    )
-}
-
-/// Something is asked of the one object without a name.
-fn asks_it(alloc: Global, code: u16, answer: Answer) -> Result<Option<Row>, OutOfMemory>
-    ensures { IfOk result (λ row. row ≡ Some (sends (Need.It ∷ []) Receiver.First code [] answer)) }
-{
-    sends(alloc, &[Need::It], Receiver::First, code, &[], answer)
-}
-
-/// A named object is given a number.
-fn gives(alloc: Global, code: u16) -> Result<Option<Row>, OutOfMemory>
-    ensures { IfOk result (λ row. row ≡ Some (gives code)) }
-{
-    sends(
-        alloc,
-        &[Need::BoundName, Need::Number],
-        Receiver::First,
-        code,
-        &[Arg::Number(1)],
-        Answer::Silent,
-    )
-}
-
-/// A name is given up.
-fn drops(alloc: Global) -> Result<Option<Row>, OutOfMemory>
-    ensures { IfOk result (λ row. row ≡ Some (record { needs = Need.BoundName ∷ []; does = Does.Drops })) }
-{
-    Ok(Some(Row {
-        needs: Items::from_vec([Need::BoundName].to_vec(alloc)?),
-        does: Does::Drops,
-    }))
+    match commands {
+        [] => None,
+        [first, rest @ ..] => {
+            if word == first.word {
+                Some(first)
+            } else {
+                find(rest, word)
+            }
+        }
+    }
 }

@@ -1,12 +1,14 @@
-//! States of a session, and the actions on it.
-use app_console::act::session_act;
+//! States of a session and of an accumulator, and the actions on them.
+ghost use Rattle.std.specs.Prelude.{◌≡◌, ◌⊎◌};
+
+use app_console::act::{ACCUMULATOR_KIND, console_act};
 use app_console::table::Consoles;
-use hpx_value::codes::{LINE, SET};
+use hpx_value::codes::{ADD, LINE, SESSION, SET};
 use hpx_value::gid::Gid;
 use hpx_value::items::{Items, Text};
 use hpx_value::memory::OutOfMemory;
 use hpx_value::outcome::Outcome;
-use hpx_value::value::{Act, State, Value, Values};
+use hpx_value::value::{Act, Cont, State, Value, Values};
 use std::alloc::Global;
 
 /// What is done with an awaited answer.
@@ -85,6 +87,13 @@ fn action(alloc: Global, code: u16, args: Values) -> Act {
     }
 }
 
+/// What a session or an accumulator does, at the second of two localities.
+fn acted(alloc: Global, kind: u32, state: &State, action: &Act) -> Result<Outcome, OutOfMemory>
+    requires { (kind ≡ 1) ⊎ (kind ≡ 16) }
+{
+    console_act(alloc, Consoles::All, kind, 1, 2, state, action)
+}
+
 /// What a line behind a mark does.
 pub fn fed(alloc: Global, state: &State, mark: u8, line: &[u8]) -> Result<Outcome, OutOfMemory> {
     let mut bytes = Vec::new(alloc);
@@ -92,7 +101,7 @@ pub fn fed(alloc: Global, state: &State, mark: u8, line: &[u8]) -> Result<Outcom
     bytes.extend_from_slice(line)?;
     let mut args = Items::new(alloc);
     args.push(Value::Text(Items::from_vec(bytes)))?;
-    session_act(alloc, Consoles::All, 2, state, &action(alloc, LINE, args))
+    acted(alloc, SESSION, state, &action(alloc, LINE, args))
 }
 
 /// What an answer to a slot does.
@@ -105,7 +114,25 @@ pub fn answered(
     let mut args = Items::new(alloc);
     args.push(Value::Int(slot))?;
     args.push(value)?;
-    session_act(alloc, Consoles::All, 2, state, &action(alloc, SET, args))
+    acted(alloc, SESSION, state, &action(alloc, SET, args))
+}
+
+/// What an accumulator with a number does where another is added.
+pub fn added(alloc: Global, number: i64, other: i64) -> Result<Outcome, OutOfMemory> {
+    let mut values = Items::new(alloc);
+    values.push(Value::Int(number))?;
+    let state = State {
+        drawn: 0,
+        values,
+        conts: Items::new(alloc),
+        ids: Items::new(alloc),
+    };
+    let mut args = Items::new(alloc);
+    args.push(Value::Int(other))?;
+    let mut add = action(alloc, ADD, args);
+    add.ids.push(Gid::new(0, SESSION, 1))?;
+    add.cont = Some(Cont { place: 0, slot: 3 });
+    acted(alloc, ACCUMULATOR_KIND, &state, &add)
 }
 
 /// All that an outcome prints.

@@ -166,9 +166,53 @@ const ROWS: &[Row] = &[
     (Console::Accumulator, 64, b"add 1\nquery", b"1\n"),
 ];
 
-/// The rows. What each prints is the text of the plain space.
+/// Sessions in which objects move: they keep what they hold, and all their names, and stand where the last move left them.
+const MOVING_ROWS: &[Row] = &[
+    (Console::Space, 2, b"new a 1\nmove a 1\nwhere a", b"1\n"),
+    (
+        Console::Space,
+        3,
+        b"new a 1\nadd a 5\nmove a 2\nquery a\nwhere a\nadd a 1\nmove a 0\nquery a\nwhere a",
+        b"5\n2\n6\n0\n",
+    ),
+    (
+        Console::Space,
+        3,
+        b"new a 0\nadd a 4\nmove a 2\nmove a 0\nwhere a\nquery a\nlocalities",
+        b"0\n4\n3\n",
+    ),
+    (
+        Console::Space,
+        2,
+        b"new a 1\nnew a 1\nadd b 1\nnew c 2\nmove a 9\nwhere a",
+        b"error: name in use\nerror: unknown name\nerror: no such locality\nerror: no such locality\n1\n",
+    ),
+    // Kept by a shelf and by a key while it moves, and called by a name that is looked up.
+    (
+        Console::Space,
+        3,
+        b"new a 1\nadd a 3\nshare a 2\nregister a k\nmove a 0\ndrop a\nquery a\nlookup b k\nadd b 3\nmove b 2\nquery b\nwhere b\nunshare a 2\nunregister k\nwhere b\nmove b\nmove b x\nmove c 0\nmove! b 0",
+        b"error: unknown name\n6\n2\n2\nerror: bad command\nerror: no such locality\nerror: unknown name\nerror: bad command\n",
+    ),
+    // Control objects and what is no object's name do not move.
+    (
+        Console::Space,
+        4,
+        b"promise p 3\nget p\nmove p 0\nwhere p\nput p 7\nbarrier b 1 1\nmove b 2\nmove b 4\nwhere b",
+        b"error: not movable\n3\n7\nerror: not movable\nerror: no such locality\n1\n",
+    ),
+];
+
+/// The rows in which nothing moves. What each prints is the text of the plain space.
 pub fn rows() -> &'static [Row]
     ensures { AllByRecursion (λ row. plain_text row.0 row.1 row.2.now ≡ row.3.now) result.now }
 {
     ROWS
+}
+
+/// The rows in which objects move. What each prints is the text of the plain space.
+pub fn moving_rows() -> &'static [Row]
+    ensures { AllByRecursion (λ row. plain_text row.0 row.1 row.2.now ≡ row.3.now) result.now }
+{
+    MOVING_ROWS
 }

@@ -1,5 +1,5 @@
 //! Tables of lines and answers at one session, with what it prints, sends and keeps then.
-use crate::desk::{Name, Said, Stands, answered, fed, printed, session, text};
+use crate::desk::{Name, Said, Stands, added, answered, fed, printed, session, text};
 use app_console::lines::{ACCUMULATOR, SPACE};
 use hpx_value::codes::{COMPONENTS, LOCALITIES, SHELF, SYMBOLS};
 use hpx_value::items::Items;
@@ -166,5 +166,26 @@ fn a_drop_gives_the_id_up(rt: HostRuntime) -> Result<(), OutOfMemory> {
     let values = outcome.state.values.as_slice();
     assert_eq!(rt; values.len(), 6);
     assert!(rt; matches!(&values[1], Value::Ref(1)));
+    Ok(())
+}
+
+#[test]
+fn an_accumulator_adds(rt: HostRuntime) -> Result<(), OutOfMemory> {
+    let alloc = rt.alloc();
+    for (number, other, sum, answer) in [
+        (2, 3, 5, Value::Unit),
+        (i64::MIN, -1, i64::MIN, Value::Fault(1)),
+    ] {
+        let outcome = added(alloc, number, other)?;
+        assert!(rt; matches!(outcome.state.values.as_slice(), [Value::Int(kept)] if *kept == sum));
+        let replies = outcome.replies.as_slice();
+        assert_eq!(rt; replies.len(), 1);
+        assert!(rt;
+            matches!(
+                (&replies[0].value, &answer),
+                (Value::Unit, Value::Unit) | (Value::Fault(1), Value::Fault(1))
+            )
+        );
+    }
     Ok(())
 }

@@ -5,7 +5,7 @@ ghost use Rattle.hpx_top.specs.Acts.{all_of};
 use app_compute::act::compute_act;
 use app_compute::computing::computing_act;
 use app_compute::session::computes;
-use app_console::act::session_act;
+use app_console::act::{ACCUMULATOR_KIND, console_act};
 use app_console::stay::refused;
 use app_console::table::Consoles;
 use hpx_lco::act::lco_act;
@@ -84,7 +84,9 @@ pub fn all_act(
         SESSION if computes(state, action) => {
             computing_act(alloc, here, localities, state, action)
         }
-        SESSION => session_act(alloc, consoles, localities, state, action),
+        SESSION | ACCUMULATOR_KIND => {
+            console_act(alloc, consoles, kind, here, localities, state, action)
+        }
         PLAIN => compute_act(alloc, kind, here, localities, state, action),
         _ if kind < FIRST_MANAGED => names_act(alloc, kind, here, localities, state, action),
         _ if kind <= LAST_MOVABLE => number_act(alloc, kind, here, state, action),

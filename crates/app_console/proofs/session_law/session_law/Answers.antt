@@ -1,16 +1,20 @@
-use Rattle.std.specs.Prelude.{ℕ, true, false, ◌≡◌, ◌≢◌, ◌≤◌, ◌<◌, Some, refl, if◌then◌else◌}
+use Rattle.std.specs.Prelude.{ℕ, true, ◌≡◌, ◌≢◌, ◌≤◌, ◌<◌, Some, refl}
 use Rattle.std.proofs.lemmas.Bool.{ne_eqb}
 use Rattle.hpx_calls.specs.Outcomes.{outcome_of}
 use Rattle.app_console.specs.Types.{Spelled, Consoles, Desk, State, Act}
 use Rattle.app_console.specs.Session.{act_of, desk_at, session_outcome}
 use Rattle.app_console.specs.Judging.{Acting, is_own}
-use Rattle.app_console.proofs.JournalText.{law_plain, law_broken_off, law_opens, law_opened_whole, law_opened_broken_off}
+use Rattle.app_console.proofs.JournalText.{law_plain, law_each_line, law_broken_off, law_opens, law_opened_whole, law_opened_broken_off}
 use Rattle.app_console.proofs.SessionLaws.{place, keeps_laws, is_blind}
 use Rattle.app_console.proofs.session_law.session_law.Goals as goal
 
 pub returns-clause-plain : goal.returns-clause-plain
 returns-clause-plain c = λ acts con mark n log limit parcel_of lines blocks users some few short grammar calm session.
     law_plain acts n log limit parcel_of some few con mark users lines blocks short grammar calm session
+
+pub returns-clause-each_line : goal.returns-clause-each_line
+returns-clause-each_line c = λ acts con mark n log limit parcel_of lines blocks users some few short fit grammar calm session.
+    law_each_line acts n log limit parcel_of some few con mark users lines blocks short fit grammar calm session
 
 pub returns-clause-broken_off : goal.returns-clause-broken_off
 returns-clause-broken_off c = λ acts con mark n log limit parcel_of lines blocks line es users some few short fits grammar session begins legal calm.
