@@ -36,7 +36,7 @@ use Rattle.hpx_tables.specs.Kept.{stands_here, waits_here, held_here}
 use Rattle.hpx_steps.specs.Sound.{leads_on}
 use Rattle.hpx_tables.specs.Pending.{Waits, action_of}
 use Rattle.hpx_steps.specs.Turn.{parcel_frees}
-use Rattle.hpx_tables.specs.Tables.{Tables, messages, fired_acts}
+use Rattle.hpx_tables.specs.Tables.{Tables, fired_acts}
 use Rattle.hpx_node.proofs.Messages.{messages_first}
 use Rattle.hpx_world.proofs.SentRight.{IsSentRight, below, arrivals_right}
 use Rattle.hpx_world.proofs.Shown.{IsCalm, IsShown, AreShown, legal, stands, covered}

@@ -1,5 +1,5 @@
 -- A locality's tables, and what the journal leaves there.
-use Rattle.std.proofs.Common.{ℕ, Bool, true, List, [], ◌∷◌, ◌≡◌, ◌<◌, ◌≤◌, ◌+◌, Option, Some, None, refl, sym, ap, ◌∙◌, subst, arith, inl, inr}
+use Rattle.std.proofs.Common.{ℕ, Bool, true, List, [], ◌∷◌, ◌≡◌, ◌≤◌, ◌+◌, Option, Some, None, refl, sym, ap, ◌∙◌, subst, arith, inl, inr}
 use Rattle.std.specs.Prelude.{◌||◌, is_some}
 use Rattle.std.specs.Option.{option_map_or}
 use Rattle.std.specs.List.{find, list_any}
@@ -10,17 +10,16 @@ use Rattle.hpx_journal.specs.Entries.{Rules}
 use Rattle.hpx_journal.specs.Laws.{HasGrammar, KeepsActLaws}
 use Rattle.hpx_journal.specs.Local.{is_standing, recorded}
 use Rattle.hpx_journal.specs.Natives.{NothingMoves, StandsAtHome}
-use Rattle.hpx_journal.specs.Whole.{IsJoin, IsLegal, replayed, part, credit_sum}
+use Rattle.hpx_journal.specs.Whole.{IsJoin, IsLegal, replayed, credit_sum}
 use Rattle.hpx_journal.proofs.Credited.{place_covered}
 use Rattle.hpx_journal.proofs.Start.{joined_legal, legal_whole}
 use Rattle.hpx_part.specs.Data.{Entry}
-use Rattle.hpx_part.specs.Shows.{Shows}
-use Rattle.hpx_steps.specs.Rest.{IsPaid, AreInOrder, view, IsTidy, MovesBegan}
 use Rattle.hpx_tables.specs.Kept.{stands_here, record_here, count_here, held_here, owed_here}
 use Rattle.hpx_tables.specs.Strange.{is_live}
 use Rattle.hpx_tables.specs.Tables.{Tables}
 use Rattle.hpx_node.proofs.Numbers.{held_shown, owed_shown, holds_shown}
 use Rattle.hpx_world.proofs.Audited.{count_in_records, worth_splits}
+pub use Rattle.hpx_world.proofs.Known.{IsShown, AreShown}
 
 -- what is known of a journal: bytes spell parcels, actions keep their laws, none is a MOVE, and it joins its parts
 pub record IsCalm (r : Rules) (es : List Entry) : Type 0 where
@@ -29,22 +28,6 @@ pub record IsCalm (r : Rules) (es : List Entry) : Type 0 where
   pub laws : KeepsActLaws r
   pub still : NothingMoves r
   pub join : IsJoin r es
-
--- the tables of k, whose new objects have credit of this log
-pub record IsShown (r : Rules) (log : ℕ) (es : List Entry) (k : ℕ) (t : Tables) : Type 0 where
-  pub lt : k < r.localities
-  pub here : t.here ≡ k
-  pub count : t.localities ≡ r.localities
-  pub credit : t.profile.credit_log ≡ log
-  pub shows : Shows (view t [] []) ((replayed r es).places k)
-  pub tidy : IsTidy t []
-  pub paid : IsPaid r t (part k es)
-  pub order : AreInOrder r r.localities k log t.desk t.outgoing t.pending (part k es)
-  pub begun : MovesBegan r t (part k es)
-
--- so it is with each locality
-abbrev pub AreShown : Rules → ℕ → List Entry → Type 0
-AreShown r log es = (k : ℕ) → k < r.localities → (t : Tables) × IsShown r log es k t
 
 pub any_found : {X : Type 0} (p : X → Bool) (xs : List X) → list_any p xs ≡ true → is_some (find p xs) ≡ true
 any_found p [] h = absurd (cc)

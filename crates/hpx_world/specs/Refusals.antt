@@ -191,16 +191,16 @@ abbrev pub CountsFaults : {T A : Type 0} {g : Ghosts A} → Result T (WorldFault
 CountsFaults (Err faults.Fabric) old new = Rose old new
 CountsFaults _ old new = new ≡ old
 
--- over a fabric that tells: no frame is bad and no end is early, and where nothing moves no parcel is strange
+-- over a fabric that tells: no frame is bad and no end is early, and no parcel is strange, but one that frees an object where something moves
 abbrev pub CanCome : {A : Type 0} {g : Ghosts A} → Rules → WorldFault A g → Type 0
 CanCome r (faults.BadFrame to place why) = ⊥
-CanCome r (faults.Strange to rule object kept) = NothingMoves r → ⊥
+CanCome r (faults.Strange to rule object kept) = (rule ≡ 7) × (NothingMoves r → ⊥)
 CanCome r (faults.EarlyEnd sent taken) = ⊥
 CanCome r _ = Unit {0}
 
 -- the same of steps: where something moves, they may end where the world is not quiet though all frames came
 abbrev pub CanComeOfSteps : {A : Type 0} {g : Ghosts A} → Rules → WorldFault A g → Type 0
 CanComeOfSteps r (faults.BadFrame to place why) = ⊥
-CanComeOfSteps r (faults.Strange to rule object kept) = NothingMoves r → ⊥
+CanComeOfSteps r (faults.Strange to rule object kept) = (rule ≡ 7) × (NothingMoves r → ⊥)
 CanComeOfSteps r (faults.EarlyEnd sent taken) = (sent ≡ taken) × (NothingMoves r → ⊥)
 CanComeOfSteps r _ = Unit {0}

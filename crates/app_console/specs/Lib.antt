@@ -1,9 +1,0 @@
-pub mod Console
-pub mod Lines
-pub mod Types
-pub mod Commands
-pub mod Desks
-pub mod Session
-pub mod Plain
-pub mod Text
-pub mod Judging

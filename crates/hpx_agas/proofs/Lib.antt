@@ -1,9 +1,0 @@
-pub mod RecordsLemmas
-pub mod PlacesLemmas
-pub mod LinesLemmas
-pub mod TreesLemmas
-pub mod ChangesLemmas
-pub mod QueuesLemmas
-pub mod TablesLemmas
-pub mod SeenLemmas
-pub mod RegistriesLemmas

@@ -1,9 +1,0 @@
-pub mod Prefix
-pub mod Calm
-pub mod Took
-pub mod Parts
-pub mod Bundled
-pub mod Loads
-pub mod Taken
-pub mod Ways
-pub mod Hands

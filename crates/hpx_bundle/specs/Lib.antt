@@ -1,3 +1,0 @@
-pub mod Bundles
-pub mod Unbundling
-pub mod Roads

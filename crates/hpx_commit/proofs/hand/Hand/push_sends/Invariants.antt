@@ -1,9 +1,0 @@
-use Rattle.std.proofs.Common.{◌≡◌, ◌++◌, drop, map}
-use Rattle.hpx_value.specs.Hands.{sent}
-use Rattle.hpx_value.specs.declared.outcome.Due.TheVariants.{Message}
-use Rattle.hpx_commit.proofs.hand.Hand.push_sends.Given as goal
-
-abbrev pub invariant-loop-x : goal.invariant-loop-x
-invariant-loop-x l =
-    l.due.items ++ map (λ x. Message (sent l.self.state.now l.self.action.now l.self.made.now x)) (drop l.x-index l.sends)
-    ≡ l.fn.due.items ++ map (λ x. Message (sent l.self.state.now l.self.action.now l.self.made.now x)) l.sends

@@ -1,3 +1,0 @@
-mod CounterLemmas
-mod Digits
-mod Samples

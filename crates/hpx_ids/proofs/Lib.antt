@@ -1,3 +1,0 @@
-pub mod Merges
-pub mod Rising
-pub mod Sums

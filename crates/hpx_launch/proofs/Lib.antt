@@ -1,4 +1,0 @@
-pub mod Clap
-pub mod Numbers
-pub mod Children
-pub mod Texts

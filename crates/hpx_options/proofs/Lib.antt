@@ -1,5 +1,0 @@
-mod Finds
-mod Growth
-mod Numbers
-mod WordsLeft
-mod Samples

@@ -1,5 +1,0 @@
-use Rattle.std.proofs.Common.{length}
-use Rattle.hpx_pool.proofs.rows.+take_row.Given as goal
-
-abbrev pub decreases-take_row : goal.decreases-take_row
-decreases-take_row l = length l.hands.now

@@ -1,8 +1,0 @@
-use Rattle.std.proofs.Common.{◌≡◌, ◌-◌, ◌^◌, min, take}
-use Rattle.std.specs.List.{sum_by}
-use Rattle.hpx_tables.specs.declared.kept.Outgoing.{Outgoing}
-use Rattle.hpx_tables.specs.Kept.{credit_in, ids_held}
-use Rattle.hpx_tables.proofs.credit.held_on_the_way.Given as goal
-
-abbrev pub invariant-loop-i : goal.invariant-loop-i
-invariant-loop-i l = l.sum ≡ min (2 ^ 128 - 1) (sum_by (λ (x : Outgoing). credit_in l.o (ids_held x.parcel)) (take l.i l.outgoing.items))

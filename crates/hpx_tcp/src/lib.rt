@@ -1,8 +1,0 @@
-//! Members connected over loopback TCP.
-#![tactic(auto)]
-
-pub mod body;
-pub mod hello;
-pub mod link;
-pub mod open;
-pub mod reader;

@@ -1,4 +1,0 @@
-pub mod Data
-pub mod Still
-pub mod Trial
-pub mod TrialLaws
