@@ -1,0 +1,10 @@
+pub mod Values
+pub mod Requests
+pub mod Contents
+pub mod Effects
+pub mod Tables
+pub mod Outcomes
+pub mod Sorts
+pub mod Histories
+pub mod Ids
+pub mod Mapped

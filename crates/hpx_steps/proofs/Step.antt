@@ -1,0 +1,76 @@
+-- Each step keeps all that holds.
+use Rattle.hpx_steps.proofs.Common.{inl, inr, Note, Mark, Park, Release, AreNumbered, Asked, Born, Count, Done, Entry, Event, Fire, Freed, Given, Granted, In, IsSound, Label, Landed, Left, Line, List, Looked, Mail, Merge, Out, Pause, Place, Print, Refused, Reorder, Returned, Rules, Sent, Split, Step, Steps, Suspend, Tables, Turn, Up, Writes, [], ap, append-nil, append_assoc, at_all, entry_at, false, map-append, refl, subst, sym, true, written, written_by, ◌++◌, ◌∙◌, ◌∷◌, ◌≡◌}
+use Rattle.hpx_steps.proofs.Tools.{Keeps, Stills, sound_then, still_sound}
+use Rattle.hpx_part.specs.Data.{Looked}
+
+-- all holds then, and the locality is the same
+pub record Sound (r : Rules) (s s' : Turn) (entries : List Entry) (events : List Event) : Type 0 where
+  pub here : s'.tables.here ≡ s.tables.here
+  pub localities : s'.tables.localities ≡ s.tables.localities
+  pub profile : s'.tables.profile ≡ s.tables.profile
+  pub sound : IsSound r s' (entries ++ at_all s.tables.here events)
+  pub numbered : AreNumbered s → AreNumbered s'
+
+kept : (r : Rules) (s s' : Turn) (e : Event) (entries : List Entry) → IsSound r s entries → Keeps r s s' e → Sound r s s' entries (e ∷ [])
+kept r s s' e entries h k = record { here = k.counts.here; localities = k.counts.localities; profile = k.counts.profile; sound = sound_then r s s' e entries h k; numbered = k.numbered }
+
+still : (r : Rules) (s s' : Turn) (entries : List Entry) → IsSound r s entries → Stills r s s' → Sound r s s' entries []
+still r s s' entries h k = record {
+  here = ap (λ (t : Tables). t.here) k.same;
+  localities = ap (λ (t : Tables). t.localities) k.same;
+  profile = ap (λ (t : Tables). t.profile) k.same;
+  sound = subst (IsSound r s') (sym (append-nil entries)) (still_sound r s s' entries h k);
+  numbered = k.numbered;
+}
+
+pub step_sound : (r : Rules) (s s' : Turn) (label : Label) (entries : List Entry) → IsSound r s entries → Step r s label s' → Sound r s s' entries (written_by label)
+step_sound r s s' (Writes (Line a bytes)) entries h g = kept r s s' (Line a bytes) entries h (Rattle.hpx_steps.proofs.Line.line_step r s s' entries a bytes h g)
+step_sound r s s' (Writes (Fire a)) entries h g = kept r s s' (Fire a) entries h (Rattle.hpx_steps.proofs.Fire.fire_step r s s' entries a h g)
+step_sound r s s' (Writes (Split o log)) entries h g = kept r s s' (Split o log) entries h (Rattle.hpx_steps.proofs.Split.split_step r s s' entries o log h g)
+step_sound r s s' (Writes (Born o state)) entries h g = kept r s s' (Born o state) entries h (Rattle.hpx_steps.proofs.Bear.bear_step r s s' entries o state h g)
+step_sound r s s' (Writes (Done a false)) entries h g = kept r s s' (Done a false) entries h (Rattle.hpx_steps.proofs.Ending.done_step r s s' entries a h g)
+step_sound r s s' (Writes (Done a true)) entries h g = kept r s s' (Done a true) entries h (Rattle.hpx_steps.proofs.Ending.failed_step r s s' entries a h g)
+step_sound r s s' (Writes (Sent a)) entries h g = kept r s s' (Sent a) entries h (Rattle.hpx_steps.proofs.Sent.sent_step r s s' entries a h g)
+step_sound r s s' (Writes (Print bytes)) entries h g = kept r s s' (Print bytes) entries h (Rattle.hpx_steps.proofs.Print.print_step r s s' entries bytes h g)
+step_sound r s s' (Writes (Merge o log)) entries h g = kept r s s' (Merge o log) entries h (Rattle.hpx_steps.proofs.Merge.merge_step r s s' entries o log h g)
+step_sound r s s' (Writes (Up o log)) entries h g = kept r s s' (Up o log) entries h (elim g [
+  | inl k ↦ Rattle.hpx_steps.proofs.Up.up_step r s s' entries o log h k
+  | inr k ↦ Rattle.hpx_steps.proofs.Up.told_step r s s' entries o log h k
+])
+step_sound r s s' (Writes (Asked o)) entries h g = kept r s s' (Asked o) entries h (Rattle.hpx_steps.proofs.Asked.asked_step r s s' entries o h g)
+step_sound r s s' (Writes (Given o log)) entries h g = kept r s s' (Given o log) entries h (Rattle.hpx_steps.proofs.Given.given_step r s s' entries o log h g)
+step_sound r s s' (Writes (Count o count (Returned log))) entries h g = kept r s s' (Count o count (Returned log)) entries h (elim g [
+  | inl k ↦ Rattle.hpx_steps.proofs.Returned.returned_step r s s' entries o count log h k
+  | inr k ↦ Rattle.hpx_steps.proofs.Returned.arrived_step r s s' entries o count log h k
+])
+step_sound r s s' (Writes (Count o count Granted)) entries h g = kept r s s' (Count o count Granted) entries h (Rattle.hpx_steps.proofs.Answered.granted_step r s s' entries o count h g)
+step_sound r s s' (Writes (Count o count Refused)) entries h g = kept r s s' (Count o count Refused) entries h (Rattle.hpx_steps.proofs.Answered.refused_step r s s' entries o count h g)
+step_sound r s s' (Writes (Freed o)) entries h g = kept r s s' (Freed o) entries h (Rattle.hpx_steps.proofs.Freed.freed_step r s s' entries o h g)
+step_sound r s s' (Writes (Mail kind)) entries h g = kept r s s' (Mail kind) entries h (Rattle.hpx_steps.proofs.Mail.mail_step r s s' entries kind h g)
+step_sound r s s' (Writes (Out to bytes)) entries h g = kept r s s' (Out to bytes) entries h (Rattle.hpx_steps.proofs.Out.out_step r s s' entries to bytes h g)
+step_sound r s s' (Writes (In bytes)) entries h g = kept r s s' (In bytes) entries h (Rattle.hpx_steps.proofs.In.in_step r s s' entries bytes h g)
+step_sound r s s' (Writes (Left o to)) entries h g = kept r s s' (Left o to) entries h (Rattle.hpx_steps.proofs.Departed.left_step r s s' entries o to h g)
+step_sound r s s' (Writes (Landed o)) entries h g = kept r s s' (Landed o) entries h (Rattle.hpx_steps.proofs.Landing.landed_step r s s' entries o h g)
+step_sound r s s' (Writes (Looked o found)) entries h g = absurd g
+step_sound r s s' Suspend entries h g = still r s s' entries h (Rattle.hpx_steps.proofs.Suspend.suspend_step r s s' entries h g)
+step_sound r s s' Pause entries h g = still r s s' entries h (Rattle.hpx_steps.proofs.Pause.pause_step r s s' entries h g)
+step_sound r s s' Place entries h g = still r s s' entries h (Rattle.hpx_steps.proofs.Place.place_step r s s' entries h g)
+step_sound r s s' Mark entries h g = still r s s' entries h (Rattle.hpx_steps.proofs.Aside.mark_step r s s' entries h g)
+step_sound r s s' Park entries h g = still r s s' entries h (Rattle.hpx_steps.proofs.Aside.park_step r s s' entries h g)
+step_sound r s s' Release entries h g = still r s s' entries h (Rattle.hpx_steps.proofs.Release.release_step r s s' entries h g)
+step_sound r s s' Note entries h g = still r s s' entries h (Rattle.hpx_steps.proofs.Noted.note_step r s s' entries h g)
+step_sound r s s' Reorder entries h g = still r s s' entries h (Rattle.hpx_steps.proofs.Reorder.reorder_step r s s' entries h g)
+
+pub steps_sound : (r : Rules) (s s' : Turn) (labels : List Label) (entries : List Entry) → IsSound r s entries → Steps r s labels s' → Sound r s s' entries (written labels)
+steps_sound r s s' [] entries h g = subst (λ x. Sound r s x entries []) (sym g) (record { here = refl; localities = refl; profile = refl; sound = subst (IsSound r s) (sym (append-nil entries)) h; numbered = λ once. once })
+steps_sound r s s' (label ∷ labels) entries h g =
+    let one = step_sound r s g.0 label entries h g.1 in
+    let rest = steps_sound r g.0 s' labels (entries ++ at_all s.tables.here (written_by label)) one.sound g.2 in record {
+      here = rest.here ∙ one.here;
+      localities = rest.localities ∙ one.localities;
+      profile = rest.profile ∙ one.profile;
+      numbered = λ once. rest.numbered (one.numbered once);
+      sound = subst (IsSound r s') (append_assoc entries (at_all s.tables.here (written_by label)) (at_all s.tables.here (written labels))
+          ∙ ap (λ xs. entries ++ xs) (sym (map-append (entry_at s.tables.here) (written_by label) (written labels))))
+          (subst (λ k. IsSound r s' ((entries ++ at_all s.tables.here (written_by label)) ++ at_all k (written labels))) one.here rest.sound);
+    }

@@ -1,0 +1,15 @@
+pub mod Turn
+pub mod Items
+pub mod Frames
+pub mod Rows
+pub mod Paused
+pub mod Mail
+pub mod Steps
+pub mod Sound
+pub mod Calls
+pub mod Rest
+pub mod Numbered
+pub mod Limits
+pub mod Left
+pub mod Ways
+pub mod Flows
