@@ -1,0 +1,13 @@
+-- What the program did, by the words that its environment tells.
+use Rattle.std.specs.Prelude.{ℕ, Option, Some, Ok, List, ◌≡◌}
+use Rattle.hpx_world.specs.Places.{Places}
+use Rattle.hpx_top.specs.declared.task.Request.TheVariants.{Run}
+use Rattle.hpx_top.specs.declared.task.Setup.{Setup}
+use Rattle.hpx_top.specs.Runs.{Ports, HasRun}
+use Rattle.hpx_top.specs.Usage.{request_in}
+
+-- a setup was run: the one that the words ask for, where they are told
+pub record HasRunAsAsked (words : Option (List (List ℕ))) (status : ℕ) (world : Places) (x z : Ports) : Type 0 where
+  pub setup : Setup
+  pub asked : (told : List (List ℕ)) → words ≡ Some told → request_in told ≡ Ok (Run setup)
+  pub did : HasRun setup status (Some world) x z

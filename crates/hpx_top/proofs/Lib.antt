@@ -1,0 +1,15 @@
+pub mod ActLemmas
+pub mod Carried
+pub mod PlainLemmas
+pub mod ReaderLemmas
+pub mod LineLemmas
+pub mod SessionLemmas
+pub mod FeedLemmas
+pub mod ComputeLemmas
+pub mod TaskLemmas
+pub mod ShowLemmas
+pub mod EndLemmas
+pub mod RunLemmas
+pub mod DoneLemmas
+pub mod WorldFaults
+pub mod WorkerLemmas

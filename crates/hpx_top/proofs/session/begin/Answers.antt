@@ -1,0 +1,16 @@
+use Rattle.std.proofs.Common.{length}
+use Rattle.hpx_top.specs.Session.{rules}
+use Rattle.hpx_top.proofs.FeedLemmas.{of_three, neither, still}
+use Rattle.hpx_top.proofs.WorldFaults.{no_bad, no_strange, no_early}
+use Rattle.hpx_top.proofs.session.begin.Goals as goal
+
+pub returns-clause-cause : goal.returns-clause-cause
+returns-clause-cause g c =
+    let w = c.args.world.now in
+    let never = c.in-Err.ensures.never c.requires.carrying in
+    of_three c.fault_of.result c.fault_of.ensures.other
+    (λ e. no_bad (rules w) _ (c.fault_of.ensures.bad_frame e).3 never)
+    (λ e. neither
+    (λ s. no_strange (rules w) _ s.4 (still (length w.nodes) w.profile) never)
+    (λ s. no_early (rules w) _ s.2 never)
+    (c.fault_of.ensures.strange e))

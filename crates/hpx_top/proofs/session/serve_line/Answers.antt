@@ -1,0 +1,140 @@
+use Rattle.std.proofs.Common.{length, Err, ap, ◌∙◌, subst}
+use Rattle.hpx_top.specs.Reader.{lines_left}
+use Rattle.hpx_top.specs.declared.session.SessionFault.TheVariants.{Fabric, JournalFull, OutOfMemory, Write}
+use Rattle.hpx_top.specs.Session.{rules, IsLineEndedBy}
+use Rattle.hpx_top.proofs.ShowLemmas.{if_err_from, err_of, handed_on}
+use Rattle.hpx_top.proofs.SessionLemmas.{serving_line-at, serving_long-at, cut_here, cut_here-at, cut_line-at, over_end, over_quit, under_prompt, under_long, stopped_full, stopped_read}
+use Rattle.hpx_top.proofs.FeedLemmas.{cut_write, cut_text}
+use Rattle.hpx_top.proofs.session.serve_line.Goals as goal
+
+pub returns-in_err-write-clause-err : goal.returns-in_err-write-clause-err
+returns-in_err-write-clause-err g c =
+    if_err_from c.from_residual.result c.in_err-write.field-0.0 _ c.from_residual.ensures.1
+    (λ all before s said tells. cut_write _ said all before _ _ c.in_err-write.ensures.cause.0
+    (under_prompt (length c.args.world.now.nodes) c.args.world.now.profile said all before _ _ _ _ _ c.requires.some c.requires.few s c.in_err-write.ensures.front tells))
+
+pub returns-in_err-serve_text-in-Ok-Line-clause-err : goal.returns-in_err-serve_text-in-Ok-Line-clause-err
+returns-in_err-serve_text-in-Ok-Line-clause-err g c =
+    let takes = rw c.in-Ok-Line.field-0-is at c.in-Ok-Line.ensures.ok in
+    if_err_from c.from_residual-in_err-serve_text-in-Ok-Line.result c.in_err-serve_text-in-Ok-Line.field-0.0 _
+    c.from_residual-in_err-serve_text-in-Ok-Line.ensures.1
+    (λ all before s said tells. cut_text c.in_err-serve_text-in-Ok-Line.field-0.0 (length c.args.world.now.nodes) c.args.world.now.profile said all before
+    (g.K.Sink.held c.args.sink.now) (g.K.Sink.held c.write.new.sink) (g.K.Sink.held c.serve_text.new.sink) c.args.reader.now c.next_line.new.self
+    (g.S.Source.left c.args.source.now) (g.S.Source.left c.next_line.new.source) c.args.world.now.journal.entries c.serve_text.new.world.journal.entries
+    _ c.requires.some c.requires.few s c.in_ok-write.ensures.held takes c.in_err-serve_text-in-Ok-Line.ensures.err tells)
+
+pub returns-in_err-write-in-Ok-Long-clause-err : goal.returns-in_err-write-in-Ok-Long-clause-err
+returns-in_err-write-in-Ok-Long-clause-err g c =
+    let takes = rw c.in-Ok-Long.field-0-is at c.in-Ok-Long.ensures.ok in
+    if_err_from c.from_residual-in_err-write-in-Ok-Long.result c.in_err-write-in-Ok-Long.field-0.0 _
+    c.from_residual-in_err-write-in-Ok-Long.ensures.1
+    (λ all before s said tells. cut_write c.in_err-write-in-Ok-Long.field-0.0 said all before _ _ c.in_err-write-in-Ok-Long.ensures.cause.0
+    (under_long (length c.args.world.now.nodes) c.args.world.now.profile said all before
+    (g.K.Sink.held c.args.sink.now) (g.K.Sink.held c.write.new.sink) _ c.args.reader.now c.next_line.new.self
+    (g.S.Source.left c.args.source.now) (g.S.Source.left c.next_line.new.source) c.args.world.now.journal.entries
+    c.requires.some c.requires.few s c.in_ok-write.ensures.held takes c.in_err-write-in-Ok-Long.ensures.front tells))
+
+pub returns-in_ok-serve_text-in-Ok-Line-clause-line : goal.returns-in_ok-serve_text-in-Ok-Line-clause-line
+returns-in_ok-serve_text-in-Ok-Line-clause-line g c =
+    let takes = rw c.in-Ok-Line.field-0-is at c.in-Ok-Line.ensures.ok in
+    let fewer = rw c.in-Ok-Line.field-0-is at c.in-Ok-Line.ensures.fewer in
+    (λ h all before count s. serving_line-at count (rules c.args.world.now) all before
+    (g.K.Sink.held c.args.sink.now) (g.K.Sink.held c.write.new.sink) (g.K.Sink.held c.serve_text.new.sink) c.args.reader.now c.next_line.new.self
+    (g.S.Source.left c.args.source.now) (g.S.Source.left c.next_line.new.source) c.args.world.now.journal.entries c.serve_text.new.world.journal.entries
+    _ s c.in_ok-write.ensures.held takes fewer c.in_ok-serve_text-in-Ok-Line.ensures.fed
+    c.in_ok-serve_text-in-Ok-Line.ensures.held)
+
+pub returns-in_ok-write-in-Ok-Long-clause-line : goal.returns-in_ok-write-in-Ok-Long-clause-line
+returns-in_ok-write-in-Ok-Long-clause-line g c =
+    let takes = rw c.in-Ok-Long.field-0-is at c.in-Ok-Long.ensures.ok in
+    let fewer = rw c.in-Ok-Long.field-0-is at c.in-Ok-Long.ensures.fewer in
+    (λ h all before count s. serving_long-at count (rules c.args.world.now) all before
+    (g.K.Sink.held c.args.sink.now) (g.K.Sink.held c.write.new.sink) _ c.args.reader.now c.next_line.new.self
+    (g.S.Source.left c.args.source.now) (g.S.Source.left c.next_line.new.source) c.args.world.now.journal.entries
+    s c.in_ok-write.ensures.held takes fewer c.in_ok-write-in-Ok-Long.ensures.held)
+
+pub returns-in-Ok-Quit-clause-over : goal.returns-in-Ok-Quit-clause-over
+returns-in-Ok-Quit-clause-over g c =
+    let takes = rw c.in-Ok-Quit.field-0-is at c.in-Ok-Quit.ensures.ok in
+    (λ h all before s said tells. over_quit (length c.args.world.now.nodes) c.args.world.now.profile said c.next_line.new.self.ended all (lines_left c.next_line.new.self (g.S.Source.left c.next_line.new.source)) before
+    (g.K.Sink.held c.args.sink.now) (g.K.Sink.held c.write.new.sink) c.args.reader.now (g.S.Source.left c.args.source.now)
+    c.args.world.now.journal.entries c.requires.some c.requires.few s c.in_ok-write.ensures.held takes tells)
+
+pub returns-in-Ok-End-clause-over : goal.returns-in-Ok-End-clause-over
+returns-in-Ok-End-clause-over g c =
+    let ends = rw c.in-Ok-End.field-0-is at c.in-Ok-End.ensures.ok in
+    (λ h all before s said tells. over_end (length c.args.world.now.nodes) c.args.world.now.profile said all before
+    (g.K.Sink.held c.args.sink.now) (g.K.Sink.held c.write.new.sink) c.args.reader.now c.next_line.new.self (g.S.Source.left c.args.source.now)
+    c.args.world.now.journal.entries c.requires.some c.requires.few s c.in_ok-write.ensures.held ends.0 tells)
+
+pub returns-in-Ok-Full-clause-err : goal.returns-in-Ok-Full-clause-err
+returns-in-Ok-Full-clause-err g c = λ all before s said tells.
+    cut_here 0 (length c.args.world.now.nodes) c.args.world.now.profile said all before (g.K.Sink.held c.args.sink.now) (g.K.Sink.held c.write.new.sink) c.args.reader.now
+    (g.S.Source.left c.args.source.now) c.args.world.now.journal.entries c.requires.some c.requires.few s c.in_ok-write.ensures.held tells
+
+pub returns-in-Ok-Full-clause-input : goal.returns-in-Ok-Full-clause-input
+returns-in-Ok-Full-clause-input g c =
+    let full = rw c.in-Ok-Full.field-0-is at c.in-Ok-Full.ensures.ok in
+    (λ h all before s. stopped_full (rules c.args.world.now) all before (g.K.Sink.held c.args.sink.now) c.args.reader.now c.next_line.new.self
+    (g.S.Source.left c.args.source.now) (g.S.Source.left c.next_line.new.source) c.args.world.now.journal.entries s full.0 full.1)
+
+pub returns-in-Err-Failed-clause-err : goal.returns-in-Err-Failed-clause-err
+returns-in-Err-Failed-clause-err g c = λ all before s said tells.
+    cut_here 0 (length c.args.world.now.nodes) c.args.world.now.profile said all before (g.K.Sink.held c.args.sink.now) (g.K.Sink.held c.write.new.sink) c.args.reader.now
+    (g.S.Source.left c.args.source.now) c.args.world.now.journal.entries c.requires.some c.requires.few s c.in_ok-write.ensures.held tells
+
+pub returns-in-Err-Failed-clause-read_on : goal.returns-in-Err-Failed-clause-read_on
+returns-in-Err-Failed-clause-read_on g c =
+    let failed = c.in-Err-Failed.is ∙ ap (λ f. Err f) c.in-Err-Failed.field-0-is in
+    λ h all before s.
+    stopped_read (rules c.args.world.now) all before (g.K.Sink.held c.args.sink.now) c.args.reader.now c.next_line.new.self
+    (g.S.Source.left c.args.source.now) (g.S.Source.left c.next_line.new.source) c.args.world.now.journal.entries s
+    (c.next_line.ensures.no_line failed) (c.next_line.ensures.goes_on failed) c.in-Err-Failed.ensures.err
+
+pub returns-in-Err-OutOfMemory-clause-err : goal.returns-in-Err-OutOfMemory-clause-err
+returns-in-Err-OutOfMemory-clause-err g c = λ all before s said tells.
+    cut_here 1 (length c.args.world.now.nodes) c.args.world.now.profile said all before (g.K.Sink.held c.args.sink.now) (g.K.Sink.held c.write.new.sink) c.args.reader.now
+    (g.S.Source.left c.args.source.now) c.args.world.now.journal.entries c.requires.some c.requires.few s c.in_ok-write.ensures.held tells
+
+pub returns-in_ok-serve_text-in-Ok-Line-clause-behind : goal.returns-in_ok-serve_text-in-Ok-Line-clause-behind
+returns-in_ok-serve_text-in-Ok-Line-clause-behind g c =
+    let behind = rw c.in-Ok-Line.field-0-is at c.in-Ok-Line.ensures.behind in
+    (λ h. behind)
+
+pub returns-in_ok-write-in-Ok-Long-clause-behind : goal.returns-in_ok-write-in-Ok-Long-clause-behind
+returns-in_ok-write-in-Ok-Long-clause-behind g c =
+    let behind = rw c.in-Ok-Long.field-0-is at c.in-Ok-Long.ensures.behind in
+    (λ h. behind)
+
+pub returns-in-Err-OutOfMemory-clause-short : goal.returns-in-Err-OutOfMemory-clause-short
+returns-in-Err-OutOfMemory-clause-short g c = λ h all before count s said tells.
+    cut_here-at count 1 (length c.args.world.now.nodes) c.args.world.now.profile said all before (g.K.Sink.held c.args.sink.now) (g.K.Sink.held c.write.new.sink) c.args.reader.now
+    (g.S.Source.left c.args.source.now) c.args.world.now.journal.entries c.requires.some c.requires.few s c.in_ok-write.ensures.held tells
+
+-- where memory was wanting in the line, it was fed once at most
+pub returns-in_err-serve_text-in-Ok-Line-clause-short : goal.returns-in_err-serve_text-in-Ok-Line-clause-short
+returns-in_err-serve_text-in-Ok-Line-clause-short g c = λ h all before count s said tells.
+    let takes = rw c.in-Ok-Line.field-0-is at c.in-Ok-Line.ensures.ok in
+    let is = err_of c.from_residual-in_err-serve_text-in-Ok-Line.result c.in_err-serve_text-in-Ok-Line.field-0.0 OutOfMemory c.from_residual-in_err-serve_text-in-Ok-Line.ensures.1 h in
+    let ended = subst (λ f. IsLineEndedBy f (rules c.args.world.now) c.in-Ok-Line.line c.args.world.now.journal.entries c.serve_text.new.world.journal.entries
+    (g.K.Sink.held c.write.new.sink) (g.K.Sink.held c.serve_text.new.sink)) is c.in_err-serve_text-in-Ok-Line.ensures.err in
+    cut_line-at count (length c.args.world.now.nodes) c.args.world.now.profile said all before (g.K.Sink.held c.args.sink.now) (g.K.Sink.held c.serve_text.new.sink) c.args.reader.now c.next_line.new.self
+    (g.S.Source.left c.args.source.now) (g.S.Source.left c.next_line.new.source) c.args.world.now.journal.entries c.serve_text.new.world.journal.entries
+    _ c.requires.some c.requires.few s (ended.1 ∙ c.in_ok-write.ensures.held) takes ended.0 tells
+
+pub returns-in_err-serve_text-in-Ok-Line-clause-out : goal.returns-in_err-serve_text-in-Ok-Line-clause-out
+returns-in_err-serve_text-in-Ok-Line-clause-out g c = λ h out.
+    let no = rw (c.in-Ok-Line.is, c.in-Ok-Line.field-0-is) at c.next_line.ensures.out out in no
+
+-- a fault of the line is handed on
+pub returns-in_err-serve_text-in-Ok-Line-clause-room : goal.returns-in_err-serve_text-in-Ok-Line-clause-room
+returns-in_err-serve_text-in-Ok-Line-clause-room g c = λ before other.
+    c.in_err-serve_text-in-Ok-Line.ensures.room before (λ e. other (handed_on c.from_residual-in_err-serve_text-in-Ok-Line.result c.in_err-serve_text-in-Ok-Line.field-0.0 JournalFull c.from_residual-in_err-serve_text-in-Ok-Line.ensures.1 e))
+
+pub returns-in_err-serve_text-in-Ok-Line-clause-write_only : goal.returns-in_err-serve_text-in-Ok-Line-clause-write_only
+returns-in_err-serve_text-in-Ok-Line-clause-write_only g c = λ other.
+    c.in_err-serve_text-in-Ok-Line.ensures.write_only (λ e. other (handed_on c.from_residual-in_err-serve_text-in-Ok-Line.result c.in_err-serve_text-in-Ok-Line.field-0.0 Write c.from_residual-in_err-serve_text-in-Ok-Line.ensures.1 e)) ∙ c.in_ok-write.ensures.stands
+
+pub returns-in_err-serve_text-in-Ok-Line-clause-fabric_only : goal.returns-in_err-serve_text-in-Ok-Line-clause-fabric_only
+returns-in_err-serve_text-in-Ok-Line-clause-fabric_only g c = λ other.
+    c.in_err-serve_text-in-Ok-Line.ensures.fabric_only (λ e. other (handed_on c.from_residual-in_err-serve_text-in-Ok-Line.result c.in_err-serve_text-in-Ok-Line.field-0.0 Fabric c.from_residual-in_err-serve_text-in-Ok-Line.ensures.1 e))

@@ -1,0 +1,28 @@
+use Rattle.std.proofs.Common.{◌≡◌, ◌+◌, ◌≤◌, [], false, length}
+use Rattle.hpx_journal.specs.Weights.{HasRoom}
+use Rattle.hpx_world.specs.Away.{IsCarrying}
+use Rattle.hpx_top.specs.Reader.{HasRead, bytes_left, lines_left}
+use Rattle.hpx_top.specs.Session.{rules, IsRested, IsHandling}
+use Rattle.hpx_top.proofs.session.serve_lines.Given as goal
+
+abbrev pub invariant-loop-reader : goal.invariant-loop-reader
+invariant-loop-reader g l =
+    record {
+      handling : IsHandling (rules l.fn.world) (g.S.Source.left l.fn.source)
+          (lines_left (record { pending = []; read = 0; ended = false }) (g.S.Source.left l.fn.source))
+          (g.K.Sink.held l.fn.sink) l.reader (g.S.Source.left l.source) l.world.journal.entries (g.K.Sink.held l.sink);
+      reads : HasRead (g.S.Source.left l.fn.source) l.reader (g.S.Source.left l.source);
+      counted : l.reader.read + g.S.Source.taken l.fn.source ≡ g.S.Source.taken l.source;
+      limit : l.reader.read ≤ 67108864;
+      rest : IsRested l.world;
+      profile : l.world.profile ≡ l.fn.world.profile;
+      carrying : IsCarrying (rules l.world) l.world.hand (g.F.Fabric.flight l.fabric) (g.F.Fabric.trace l.fabric) l.world.journal.entries;
+      count : length l.world.nodes ≡ length l.fn.world.nodes;
+      source_stands : g.S.Source.faults l.source ≡ g.S.Source.faults l.fn.source;
+      sink_stands : g.K.Sink.faults l.sink ≡ g.K.Sink.faults l.fn.sink;
+      fabric_stands : g.F.Fabric.faults l.fabric ≡ g.F.Fabric.faults l.fn.fabric;
+      room : HasRoom l.world.journal.entries;
+    }
+
+abbrev pub decreases-loop-reader : goal.decreases-loop-reader
+decreases-loop-reader g l = bytes_left l.reader

@@ -1,0 +1,53 @@
+-- What a run of an application that computes has done where it ends, of which one line is fed.
+use Rattle.std.specs.Prelude.{ℕ, Option, Some, None, List, [], ◌∷◌, ◌≡◌, ◌≢◌, ◌⊎◌}
+use Rattle.std.specs.List.{concat}
+use Rattle.hpx_journal.specs.declared.entry.Entry.{Entry}
+use Rattle.hpx_journal.specs.Entries.{Rules}
+use Rattle.hpx_journal.specs.Pool.{prints_of}
+use Rattle.hpx_ports.specs.Told.{followed}
+use Rattle.hpx_top.specs.declared.session.SessionFault.{SessionFault}
+use Rattle.hpx_top.specs.declared.session.SessionFault.TheVariants.{Read, Write, InputFull}
+use Rattle.app_compute.specs.FibLaw.{fed_line, fib_text}
+use Rattle.app_compute.specs.Ring.{stencil_texts}
+use Rattle.app_compute.specs.StencilLaw.{ring_fed}
+use Rattle.hpx_top.specs.declared.task.Task.{Task}
+use Rattle.hpx_top.specs.declared.task.Task.TheVariants.{Accumulator, Fib, Stencil}
+use Rattle.hpx_top.specs.Session.{lines_fed, Feeds, FeedsAtMost, WritesFront}
+
+-- the one line that is fed for a task, if it has one
+abbrev pub task_line : Task → Option (List ℕ)
+task_line Accumulator = None
+task_line (Fib question) = Some (fed_line question.number question.threshold)
+task_line (Stencil shape) = Some (ring_fed shape.points shape.parts shape.steps)
+
+-- what it prints
+abbrev pub task_texts : Task → List (List ℕ)
+task_texts Accumulator = []
+task_texts (Fib question) = fib_text question.number ∷ []
+task_texts (Stencil shape) = stencil_texts shape.points shape.steps
+
+-- the line was fed, all that follows from it was done, and what was printed was written
+pub record IsAnswered (r : Rules) (line : List ℕ) (entries : List Entry) (old new : Option (List ℕ)) : Type 0 where
+  pub feeds : Feeds r line [] entries
+  pub text : new ≡ followed old (concat (prints_of entries))
+
+-- how it was broken off: all was done and a write failed, or nothing was written
+abbrev pub IsUnanswered : SessionFault → Rules → List ℕ → List Entry → Option (List ℕ) → Option (List ℕ) → Type 0
+IsUnanswered Write r line entries old new = Feeds r line [] entries × WritesFront (concat (prints_of entries)) old new
+IsUnanswered Read r line entries old new = ⊥
+IsUnanswered InputFull r line entries old new = ⊥
+IsUnanswered _ r line entries old new = FeedsAtMost line [] entries × (new ≡ old)
+
+-- the line was fed, these texts were printed, and they were written
+pub record IsComputed (line : List ℕ) (texts : List (List ℕ)) (entries : List Entry) (old new : Option (List ℕ)) : Type 0 where
+  pub lines : lines_fed entries ≡ line ∷ []
+  pub prints : prints_of entries ≡ texts
+  pub text : new ≡ followed old (concat texts)
+
+-- Wherever a run ends: the line is all that was fed, and the texts or a front of them all that was written. At status 0 they were
+-- written whole, and where no write failed otherwise, nothing was.
+pub record HasComputed (line : List ℕ) (texts : List (List ℕ)) (status : ℕ) (entries : List Entry) (old new : Option (List ℕ)) : Type 0 where
+  pub fed : (lines_fed entries ≡ []) ⊎ (lines_fed entries ≡ line ∷ [])
+  pub front : WritesFront (concat texts) old new
+  pub whole : status ≡ 0 → IsComputed line texts entries old new
+  pub nothing : status ≢ 0 → status ≢ 3 → new ≡ old

@@ -1,0 +1,110 @@
+-- What a run has done where it ends, over the bytes of its input, by what is said for its lines.
+use Rattle.std.specs.Prelude.{ℕ, true, false, Option, Some, List, [], ◌∷◌, ◌++◌, ◌≡◌, ◌+◌, ◌<◌, ◌≤◌, ◌⊎◌, length}
+use Rattle.std.specs.List.{list_any, slice_split}
+use Rattle.hpx_journal.specs.declared.entry.Entry.{Entry}
+use Rattle.hpx_ports.specs.Told.{followed}
+use Rattle.hpx_top.specs.declared.session.SessionFault.{SessionFault}
+use Rattle.hpx_top.specs.declared.session.SessionFault.TheVariants.{Read, Write, OutOfMemory, InputFull}
+use Rattle.app_console.specs.Lines.{IsFront, is_long, is_quit, is_newline, IsPiece, lines_in, lines_of, quits, opening}
+use Rattle.hpx_top.specs.Texts.{Said, commands, fed, text_by}
+use Rattle.hpx_top.specs.Reader.{behind}
+use Rattle.hpx_top.specs.Session.{lines_fed, HasFed, AllButOne}
+
+-- the lines of the input were fed, up to its end or to `quit`, and the whole text was written
+pub record IsWhole (said : Said) (input : List ℕ) (entries : List Entry) (old new : Option (List ℕ)) : Type 0 where
+  pub lines : lines_fed entries ≡ fed (lines_of input)
+  pub text : new ≡ followed old (text_by said (lines_of input))
+
+-- The first lines of the input were handled, and the text is theirs, with the prompt behind it. Of the next lines at most so
+-- many were fed.
+pub record IsBrokenOff (said : Said) (most : ℕ) (input : List ℕ) (entries : List Entry) (old new : Option (List ℕ)) : Type 0 where
+  pub handled : List (List ℕ)
+  pub next : List (List ℕ)
+  pub later : List (List ℕ)
+  pub first : lines_of input ≡ (handled ++ next) ++ later
+  pub few : length next ≤ most
+  pub lines : lines_fed entries ≡ fed (handled ++ next)
+  pub text : new ≡ followed old (text_by said handled)
+
+-- The first lines of the input were handled, and the text is theirs, with the prompt behind it. The next line, which is not
+-- too long, was to be fed, or was fed and what follows from it was to be done.
+pub record IsBrokenIn (said : Said) (input : List ℕ) (entries : List Entry) (old new : Option (List ℕ)) : Type 0 where
+  pub handled : List (List ℕ)
+  pub line : List ℕ
+  pub later : List (List ℕ)
+  pub first : lines_of input ≡ handled ++ line ∷ later
+  pub short : is_long line ≡ false
+  pub lines : (lines_fed entries ≡ fed handled) ⊎ (lines_fed entries ≡ fed (handled ++ line ∷ []))
+  pub text : new ≡ followed old (text_by said handled)
+
+-- Behind the first text the accumulator was to be made: the line for it was to be fed, or was fed and what follows from it was to
+-- be done. No line of the input was handled.
+pub record IsBrokenAtOpening (entries : List Entry) (old new : Option (List ℕ)) : Type 0 where
+  pub lines : (lines_fed entries ≡ []) ⊎ (lines_fed entries ≡ opening ∷ [])
+  pub text : new ≡ followed old commands
+
+-- The first lines of the input were fed. What was written begins the whole text, and comes of no line behind them. It is whole for
+-- all of them but the last, or nothing was fed at all.
+pub record IsBegun (said : Said) (input : List ℕ) (entries : List Entry) (old new : Option (List ℕ)) : Type 0 where
+  pub handled : List (List ℕ)
+  pub later : List (List ℕ)
+  pub first : lines_of input ≡ handled ++ later
+  pub lines : HasFed handled entries
+  pub text : List ℕ
+  pub is : new ≡ followed old text
+  pub theirs : IsFront text (text_by said handled)
+  pub begins : IsFront text (text_by said (lines_of input))
+  pub almost : (lines_fed entries ≡ []) ⊎ AllButOne said handled text
+
+-- The first bytes of the input were read, as many as the count of the source rose by, and the others are left.
+pub record IsReadFrom (input : List ℕ) (left : Option (List ℕ)) (before after : ℕ) : Type 0 where
+  pub front : List ℕ
+  pub rest : List ℕ
+  pub input_is : input ≡ front ++ rest
+  pub left_is : left ≡ Some rest
+  pub count : after ≡ before + length front
+
+-- the input was read to its end, or to `quit`
+abbrev pub IsReadUp : List ℕ → Option (List ℕ) → Type 0
+IsReadUp input left = (quits input ≡ true) ⊎ ((left ≡ Some []) × (length input < 67108864))
+
+-- So many bytes of the input were read. Behind lines of which none is a `quit`, they end in a piece without a newline.
+pub record IsReadOn (n : ℕ) (input : List ℕ) (left : Option (List ℕ)) : Type 0 where
+  pub front : List ℕ
+  pub rest : List ℕ
+  pub input_is : input ≡ front ++ rest
+  pub left_is : left ≡ Some rest
+  pub count : length front ≡ n
+  pub lines : List (List ℕ)
+  pub piece : List ℕ
+  pub goes_on : list_any is_quit lines ≡ false
+  pub no_line : IsPiece piece
+  pub lines_are : lines_in (slice_split is_newline input) ≡ lines ++ lines_in (slice_split is_newline (piece ++ rest))
+
+-- 67,108,864 bytes of the input were read, and no `quit` among them
+abbrev pub IsInputFull : List ℕ → Option (List ℕ) → Type 0
+IsInputFull input left = IsReadOn 67108864 input left
+
+-- 67,108,864 bytes of the input were read, and behind so many lines no newline is among them
+pub record IsFullBehind (lines : ℕ) (input : List ℕ) (left : Option (List ℕ)) : Type 0 where
+  pub front : List ℕ
+  pub rest : List ℕ
+  pub piece : List ℕ
+  pub input_is : input ≡ front ++ rest
+  pub left_is : left ≡ Some rest
+  pub count : length front ≡ 67108864
+  pub behind_is : behind lines input ≡ piece ++ rest
+  pub no_line : IsPiece piece
+
+-- Memory was wanting at a line, or as the accumulator was made; not where the input is full behind the lines that were handled.
+abbrev pub IsShort : Said → List ℕ → Option (List ℕ) → List Entry → Option (List ℕ) → Option (List ℕ) → Type 0
+IsShort said input left entries old new =
+    ((b : IsBrokenOff said 1 input entries old new) × (IsFullBehind (length b.handled) input left → ⊥)) ⊎ IsBrokenAtOpening entries old new
+
+-- how a session was broken off: at a write anywhere, otherwise behind a prompt, or in the line behind it, or where the accumulator is made
+abbrev pub IsEndedBy : SessionFault → Said → List ℕ → List Entry → Option (List ℕ) → Option (List ℕ) → Type 0
+IsEndedBy Write said input entries old new = IsBegun said input entries old new
+IsEndedBy Read said input entries old new = IsBrokenOff said 0 input entries old new
+IsEndedBy InputFull said input entries old new = IsBrokenOff said 0 input entries old new
+IsEndedBy OutOfMemory said input entries old new = IsBrokenOff said 1 input entries old new ⊎ IsBrokenAtOpening entries old new
+IsEndedBy _ said input entries old new = IsBrokenIn said input entries old new ⊎ IsBrokenAtOpening entries old new

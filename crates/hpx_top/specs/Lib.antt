@@ -1,0 +1,12 @@
+pub mod Pending
+pub mod Reader
+pub mod Usage
+pub mod Acts
+pub mod ActLaws
+pub mod Texts
+pub mod Session
+pub mod Ends
+pub mod Statuses
+pub mod Computed
+pub mod Printed
+pub mod Runs

@@ -1,0 +1,127 @@
+-- What a run leaves: its world, and what it did with its ports, by the status that it ends with.
+use Rattle.std.specs.Prelude.{ℕ, Option, Some, IfSome, List, length, ◌≡◌, ◌≢◌, ◌⊎◌, ◌+◌, ◌<◌, ◌≤◌}
+use Rattle.hpx_value.specs.declared.profile.Profile.{Profile}
+use Rattle.hpx_journal.specs.Entries.{Frame}
+use Rattle.hpx_journal.specs.Pool.{prints_of}
+use Rattle.hpx_journal.specs.Weights.{HasRoom}
+use Rattle.hpx_steps.specs.Limits.{IsWithin}
+use Rattle.hpx_ports.specs.declared.fabric.Wire.{Wire}
+use Rattle.hpx_ports.specs.Faults.{Rose}
+use Rattle.hpx_ports.specs.Told.{followed}
+use Rattle.hpx_world.specs.Audit.{audit_lines, IsAudit, StandAtHome}
+use Rattle.hpx_world.specs.Away.{IsCarrying}
+use Rattle.hpx_world.specs.Places.{Places}
+use Rattle.hpx_world.specs.Promises.{KeepsPromises}
+use Rattle.hpx_top.specs.declared.task.Task.{Task}
+use Rattle.hpx_top.specs.declared.task.Task.TheVariants.{Accumulator}
+use Rattle.hpx_top.specs.Computed.{HasComputed, task_line, task_texts}
+use Rattle.hpx_top.specs.Ends.{IsWhole, IsBrokenOff, IsBrokenIn, IsBrokenAtOpening, IsBegun, IsShort, IsReadFrom, IsReadUp, IsReadOn, IsInputFull}
+use Rattle.hpx_top.specs.Session.{rules, entries_in, IsAmple, NoneRefused, AllGranted, AllDone, IsRested, WritesFront, shown_in}
+use Rattle.hpx_top.specs.declared.task.Setup.{Setup}
+use Rattle.hpx_top.specs.Printed.{HasCounted}
+use Rattle.hpx_top.specs.Texts.{Said, lines_text}
+
+-- ---- ports
+
+-- what is left to read and how many bytes were read, what was written, and how often reading, writing and the fabric failed
+pub record Ports : Type 0 where
+  pub left : Option (List ℕ)
+  pub taken : ℕ
+  pub text : Option (List ℕ)
+  pub read_faults : ℕ
+  pub write_faults : ℕ
+  pub frame_faults : ℕ
+
+-- the ports, by what is told of each
+abbrev pub ports_of : Option (List ℕ) → ℕ → Option (List ℕ) → ℕ → ℕ → ℕ → Ports
+ports_of left taken text reads writes frames =
+    record { left = left; taken = taken; text = text; read_faults = reads; write_faults = writes; frame_faults = frames }
+
+-- what was written for errors, and how often that failed
+pub record Errors : Type 0 where
+  pub text : Option (List ℕ)
+  pub faults : ℕ
+
+-- a line was written for errors, or a front of it where that failed
+pub record Says (line : List ℕ) (x z : Errors) : Type 0 where
+  pub front : WritesFront line x.text z.text
+  pub whole : (Rose x.faults z.faults → ⊥) → z.text ≡ followed x.text line
+
+-- ---- causes
+
+-- no port failed, not all of the bytes that may be read were read, and the journal has room
+pub record NothingFailed (world : Option Places) (x z : Ports) : Type 0 where
+  pub read : Rose x.read_faults z.read_faults → ⊥
+  pub write : Rose x.write_faults z.write_faults → ⊥
+  pub frame : Rose x.frame_faults z.frame_faults → ⊥
+  pub few : z.taken < x.taken + 67108864
+  pub room : IfSome world (λ w. HasRoom w.journal.entries)
+
+-- each status has its cause, no port failed but that which the status names, and at most 67,108,864 bytes were read
+pub record HasCause (status : ℕ) (world : Option Places) (x z : Ports) : Type 0 where
+  pub read : status ≡ 2 → Rose x.read_faults z.read_faults
+  pub write : status ≡ 3 → Rose x.write_faults z.write_faults
+  pub frame : status ≡ 4 → Rose x.frame_faults z.frame_faults
+  pub full : status ≡ 5 → IfSome world (λ w. HasRoom w.journal.entries → ⊥)
+  pub room : status ≢ 5 → IfSome world (λ w. HasRoom w.journal.entries)
+  pub input : status ≡ 9 → z.taken ≡ x.taken + 67108864
+  pub read_only : status ≢ 2 → z.read_faults ≡ x.read_faults
+  pub write_only : status ≢ 3 → z.write_faults ≡ x.write_faults
+  pub frame_only : status ≢ 4 → z.frame_faults ≡ x.frame_faults
+  pub limit : z.taken ≤ x.taken + 67108864
+
+-- ---- texts
+
+-- what the accumulator's console read and wrote of this input, by what is said for its lines
+pub record HasServed (said : Said) (status : ℕ) (input : List ℕ) (world : Option Places) (x z : Ports) : Type 0 where
+  pub reads : IsReadFrom input z.left x.taken z.taken
+  pub whole : status ≡ 0 → IsWhole said input (entries_in world) x.text z.text
+  pub read_up : status ≡ 0 → IsReadUp input z.left
+  pub begun : IsBegun said input (entries_in world) x.text z.text
+  pub between_lines : (status ≡ 2) ⊎ (status ≡ 9) → IsBrokenOff said 0 input (entries_in world) x.text z.text
+  pub in_a_line : (status ≡ 4) ⊎ (status ≡ 5) → IsBrokenIn said input (entries_in world) x.text z.text ⊎ IsBrokenAtOpening (entries_in world) x.text z.text
+  pub short : status ≡ 6 → IfSome world (λ w. IsShort said input z.left w.journal.entries x.text z.text)
+  pub read_on : status ≡ 2 → (count : ℕ) × IsReadOn count input z.left
+  pub full : status ≡ 9 → IsInputFull input z.left
+
+-- What was done of a task at n localities: the console served its input; an application that computes read nothing. What was
+-- written is what the journal printed; and where no ask for credit was refused, that is what one plain space says, or what was to
+-- be computed.
+pub record HasDone (task : Task) (n : ℕ) (p : Profile) (status : ℕ) (world : Option Places) (x z : Ports) : Type 0 where
+  pub shown : (line : List ℕ) → task_line task ≡ Some line
+      → HasComputed line (prints_of (entries_in world)) status (entries_in world) x.text z.text
+  pub computed : NoneRefused p (entries_in world) → (line : List ℕ) → task_line task ≡ Some line
+      → HasComputed line (task_texts task) status (entries_in world) x.text z.text
+  pub unread : (line : List ℕ) → task_line task ≡ Some line → (z.left ≡ x.left) × (z.taken ≡ x.taken) × (z.read_faults ≡ x.read_faults)
+  pub no_read : (line : List ℕ) → task_line task ≡ Some line → (status ≢ 2) × (status ≢ 9)
+  pub reads : (input : List ℕ) → x.left ≡ Some input → IsReadFrom input z.left x.taken z.taken
+  pub served : task ≡ Accumulator → (input : List ℕ) → x.left ≡ Some input → HasServed (shown_in (entries_in world)) status input world x z
+  pub served_plainly : NoneRefused p (entries_in world) → task ≡ Accumulator → (input : List ℕ) → x.left ≡ Some input
+      → HasServed (lines_text n) status input world x z
+
+-- What was done of a setup: first its task, which ended with a status, and left the ports so; then the values of the counters were
+-- written.
+pub record HasRun (setup : Setup) (status : ℕ) (world : Option Places) (x z : Ports) : Type 0 where
+  pub places : IfSome world (λ w. (length w.nodes ≡ setup.localities) × (w.profile ≡ setup.profile))
+  pub ended : ℕ
+  pub mid : Ports
+  pub did : HasDone setup.task setup.localities setup.profile ended world x mid
+  pub still : z ≡ record mid { text = z.text; write_faults = z.write_faults }
+  pub counted : HasCounted setup.counters.items status ended (entries_in world) mid.text z.text
+
+-- ---- worlds
+
+-- What holds of a world wherever a run ends: where the limit of credit is high no ask was refused and no action failed, the journal
+-- keeps all that is promised of it, and the fabric has carried what it says.
+pub record IsLawful (w : Places) (flight : Option (List Frame)) (trace : Option (List Wire)) : Type 0 where
+  pub granted : IsAmple w.profile → AllGranted w.journal.entries
+  pub promises : KeepsPromises (rules w) w.journal.entries
+  pub within : IsWithin w.journal.entries
+  pub audit : IsAudit (rules w) w.journal.entries (audit_lines w.nodes)
+  pub at_home : StandAtHome (rules w) w.journal.entries (audit_lines w.nodes)
+  pub carrying : IsCarrying (rules w) w.hand flight trace w.journal.entries
+
+-- all that was begun is done, and nothing is under way
+pub record HasEnded (w : Places) : Type 0 where
+  pub rest : IsRested w
+  pub done : AllDone w.journal.entries

@@ -1,0 +1,301 @@
+//! The top call: all that the program does, over ports that it is given.
+ghost use Rattle.std.specs.Prelude.{◌≡◌, ◌≢◌, ◌≤◌, ◌⊎◌, [], Ok, Some, None, Err, IfSome, OnOk, OnErr, IfErr, ℕ, length};
+ghost use Rattle.hpx_value.specs.Profiles.{IsValid};
+ghost use Rattle.hpx_options.specs.Texts.{bad_word_text};
+ghost use Rattle.hpx_top.specs.Computed.{task_line};
+ghost use Rattle.hpx_ports.specs.Faults.{Rose};
+ghost use Rattle.hpx_ports.specs.Told.{followed};
+ghost use Rattle.hpx_top.specs.Printed.{HasTold, counters_text};
+ghost use Rattle.hpx_top.specs.Runs.{ports_of, HasCause, HasDone, HasEnded, HasRun, HasServed, IsLawful, NothingFailed, Says};
+ghost use Rattle.hpx_top.specs.Session.{entries_in, Tells, WritesFront};
+ghost use Rattle.hpx_top.specs.Statuses.{IsStatus, status_after, status_of, status_line};
+ghost use Rattle.hpx_top.specs.Usage.{IsRequest, IsSetup, bad_word, notice_in, request_in};
+
+use crate::acts::AllActs;
+use crate::compute::{compute_all, task_line};
+use crate::crew::Crew;
+use crate::printed::{print, write_values};
+use crate::session::{SessionFault, serve};
+use crate::task::{Notice, Request, Setup, request_in};
+use hpx_counters::counter::Counter;
+use hpx_options::texts;
+use hpx_ports::fabric::Fabric;
+use hpx_ports::gate::Gate;
+use hpx_ports::sink::{Sink, write_all};
+use hpx_ports::source::Source;
+use hpx_value::items::Texts;
+use hpx_value::memory::OutOfMemory;
+use hpx_value::profile::Profile;
+use hpx_world::world::World;
+use std::alloc::Global;
+use std::sync::Wait;
+use std::thread::Threads;
+
+/// How a run ended: its status, the world where one was booted, and the fabric.
+#[derive(Drop)]
+pub struct End<F: Fabric> {
+    pub status: u8,
+    pub world: Option<World<AllActs>>,
+    pub fabric: F,
+}
+
+/// The line and the status of a session that ended early.
+fn line_of(fault: SessionFault) -> (&'static [u8], u8)
+    ensures status { result.1 ≡ status_of fault }
+    ensures line { result.0.now ≡ status_line (status_of fault) }
+{
+    match fault {
+        SessionFault::Read => (b"hpx: read failed\n", 2),
+        SessionFault::Write => (b"hpx: write failed\n", 3),
+        SessionFault::Fabric => (b"hpx: fabric failed\n", 4),
+        SessionFault::JournalFull => (b"hpx: journal full\n", 5),
+        SessionFault::OutOfMemory => (b"hpx: out of memory\n", 6),
+        SessionFault::BadFrame => (b"hpx: bad frame\n", 7),
+        SessionFault::Strange => (b"hpx: strange parcel\n", 8),
+        SessionFault::InputFull => (b"hpx: input full\n", 9),
+    }
+}
+
+/// Says something on `err`. Where that fails, nothing comes of it but the front of the line.
+fn say<E: Sink>(err: &mut E, line: &[u8])
+    ensures { Says line.now (record { text = E.held err.old; faults = E.faults err.old }) (record { text = E.held err.new; faults = E.faults err.new }) }
+{
+    match write_all(err, line) {
+        Ok(()) => (),
+        Err(_) => (),
+    }
+}
+
+/// A session over so many localities, on a fabric in which nothing is in flight yet.
+#[tactic(auto, using(crate::proofs::Carried::carrying_start))]
+fn serve_all<S: Source, K: Sink, F: Fabric, R: Threads + Wait + Sync, G: Gate>(
+    crew: &Crew<R, G>,
+    alloc: Global,
+    localities: u32,
+    profile: Profile,
+    source: &mut S,
+    sink: &mut K,
+    fabric: &mut F,
+) -> (Option<World<AllActs>>, Result<(), SessionFault>)
+    requires some { 1 ≤ localities }
+    requires few { localities ≤ 64 }
+    requires profile { IsValid profile }
+    requires flight { F.flight fabric.old ≡ Some [] }
+    requires trace { F.trace fabric.old ≡ Some [] }
+
+    ensures served { let x = ports_of (S.left source.old) (S.taken source.old) (K.held sink.old) (S.faults source.old) (K.faults sink.old) (F.faults fabric.old) in
+        let z = ports_of (S.left source.new) (S.taken source.new) (K.held sink.new) (S.faults source.new) (K.faults sink.new) (F.faults fabric.new) in
+        (input : _) (said : _) → S.left source.old ≡ Some input → Tells localities (entries_in result.0) said →
+        HasServed said (status_after result.1) input result.0 x z }
+    ensures cause { let x = ports_of (S.left source.old) (S.taken source.old) (K.held sink.old) (S.faults source.old) (K.faults sink.old) (F.faults fabric.old) in
+        let z = ports_of (S.left source.new) (S.taken source.new) (K.held sink.new) (S.faults source.new) (K.faults sink.new) (F.faults fabric.new) in
+        HasCause (status_after result.1) result.0 x z }
+    ensures status { IsStatus (status_after result.1) }
+    ensures places { IfSome result.0 (λ w. (length w.nodes ≡ localities) × (w.profile ≡ profile)) }
+    ensures lawful { IfSome result.0 (λ w. IsLawful w (F.flight fabric.new) (F.trace fabric.new)) }
+    ensures ended { OnOk result.1 (IfSome result.0 HasEnded) }
+    ensures none { result.0 ≡ None → result.1 ≡ Err SessionFault.OutOfMemory }
+    ensures untouched { result.0 ≡ None → (source.new ≡ source.old) × (sink.new ≡ sink.old) × (fabric.new ≡ fabric.old) }
+{
+    let mut world = match World::boot(alloc, AllActs { localities }, profile) {
+        Ok(world) => world,
+        Err(_) => return (None, Err(SessionFault::OutOfMemory)),
+    };
+    let served = serve(crew, alloc, &mut world, source, sink, fabric);
+    world.law();
+    (Some(world), served)
+}
+
+/// The task of a setup, on a fabric in which nothing is in flight yet.
+fn run_task<S: Source, K: Sink, F: Fabric, R: Threads + Wait + Sync, G: Gate>(
+    crew: &Crew<R, G>,
+    alloc: Global,
+    setup: &Setup,
+    source: &mut S,
+    sink: &mut K,
+    fabric: &mut F,
+) -> (Option<World<AllActs>>, Result<(), SessionFault>)
+    requires setup { IsSetup setup.now }
+    requires flight { F.flight fabric.old ≡ Some [] }
+    requires trace { F.trace fabric.old ≡ Some [] }
+
+    ensures did { let x = ports_of (S.left source.old) (S.taken source.old) (K.held sink.old) (S.faults source.old) (K.faults sink.old) (F.faults fabric.old) in
+        let z = ports_of (S.left source.new) (S.taken source.new) (K.held sink.new) (S.faults source.new) (K.faults sink.new) (F.faults fabric.new) in
+        HasDone setup.now.task setup.now.localities setup.now.profile (status_after result.1) result.0 x z }
+    ensures unread { (line : _) → task_line setup.now.task ≡ Some line → source.new ≡ source.old }
+    ensures cause { let x = ports_of (S.left source.old) (S.taken source.old) (K.held sink.old) (S.faults source.old) (K.faults sink.old) (F.faults fabric.old) in
+        let z = ports_of (S.left source.new) (S.taken source.new) (K.held sink.new) (S.faults source.new) (K.faults sink.new) (F.faults fabric.new) in
+        HasCause (status_after result.1) result.0 x z }
+    ensures status { IsStatus (status_after result.1) }
+    ensures places { IfSome result.0 (λ w. (length w.nodes ≡ setup.now.localities) × (w.profile ≡ setup.now.profile)) }
+    ensures lawful { IfSome result.0 (λ w. IsLawful w (F.flight fabric.new) (F.trace fabric.new)) }
+    ensures ended { OnOk result.1 (IfSome result.0 HasEnded) }
+    ensures none { result.0 ≡ None → result.1 ≡ Err SessionFault.OutOfMemory }
+    ensures untouched { result.0 ≡ None → (source.new ≡ source.old) × (sink.new ≡ sink.old) × (fabric.new ≡ fabric.old) }
+{
+    let (localities, profile) = (setup.localities, setup.profile);
+    match task_line(alloc, setup.task) {
+        Ok(None) => serve_all(crew, alloc, localities, profile, source, sink, fabric),
+        Ok(Some(line)) => compute_all(crew, alloc, localities, profile, line, sink, fabric),
+        Err(OutOfMemory) => (None, Err(SessionFault::OutOfMemory)),
+    }
+}
+
+/// Writes the values of counters in the world that there is.
+fn write_counters<K: Sink>(
+    counters: &[Counter],
+    world: &Option<World<AllActs>>,
+    sink: &mut K,
+) -> Result<(), SessionFault>
+    requires there { world.now ≢ None }
+    ensures held { OnOk result (K.held sink.new ≡ followed (K.held sink.old) (counters_text counters.now (entries_in world.now))) }
+    ensures front { OnErr result (WritesFront (counters_text counters.now (entries_in world.now)) (K.held sink.old) (K.held sink.new)) }
+    ensures cause { IfErr result (λ fault. (fault ≡ SessionFault.Write) × Rose (K.faults sink.old) (K.faults sink.new)) }
+    ensures stands { OnOk result (K.faults sink.new ≡ K.faults sink.old) }
+    ensures some { OnErr result (counters.now ≢ []) }
+{
+    match world {
+        Some(world) => write_values(counters, world.journal(), sink),
+        None => Ok(()),
+    }
+}
+
+/// A setup: its task, and where that ends well, the values of its counters.
+fn run_setup<S: Source, K: Sink, F: Fabric, R: Threads + Wait + Sync, G: Gate>(
+    rt: &R,
+    gate: &G,
+    alloc: Global,
+    setup: &Setup,
+    source: &mut S,
+    sink: &mut K,
+    fabric: &mut F,
+) -> (Option<World<AllActs>>, Result<(), SessionFault>)
+    requires setup { IsSetup setup.now }
+    requires flight { F.flight fabric.old ≡ Some [] }
+    requires trace { F.trace fabric.old ≡ Some [] }
+
+    ensures did { let x = ports_of (S.left source.old) (S.taken source.old) (K.held sink.old) (S.faults source.old) (K.faults sink.old) (F.faults fabric.old) in
+        let z = ports_of (S.left source.new) (S.taken source.new) (K.held sink.new) (S.faults source.new) (K.faults sink.new) (F.faults fabric.new) in
+        HasRun setup.now (status_after result.1) result.0 x z }
+    ensures unread { (line : _) → task_line setup.now.task ≡ Some line → source.new ≡ source.old }
+    ensures cause { let x = ports_of (S.left source.old) (S.taken source.old) (K.held sink.old) (S.faults source.old) (K.faults sink.old) (F.faults fabric.old) in
+        let z = ports_of (S.left source.new) (S.taken source.new) (K.held sink.new) (S.faults source.new) (K.faults sink.new) (F.faults fabric.new) in
+        HasCause (status_after result.1) result.0 x z }
+    ensures status { IsStatus (status_after result.1) }
+    ensures lawful { IfSome result.0 (λ w. IsLawful w (F.flight fabric.new) (F.trace fabric.new)) }
+    ensures ended { OnOk result.1 (IfSome result.0 HasEnded) }
+    ensures none { result.0 ≡ None → result.1 ≡ Err SessionFault.OutOfMemory }
+    ensures untouched { result.0 ≡ None → (source.new ≡ source.old) × (sink.new ≡ sink.old) × (fabric.new ≡ fabric.old) }
+{
+    let crew = Crew {
+        rt,
+        gate,
+        threads: setup.threads,
+    };
+    let (world, done) = run_task(&crew, alloc, setup, source, sink, fabric);
+    let counted = match done {
+        Ok(()) => write_counters(setup.counters.as_slice(), &world, sink),
+        Err(fault) => Err(fault),
+    };
+    (world, counted)
+}
+
+/// What the words ask for, on a fabric in which nothing is in flight yet.
+fn fulfil<S: Source, K: Sink, F: Fabric, R: Threads + Wait + Sync, G: Gate>(
+    rt: &R,
+    gate: &G,
+    alloc: Global,
+    request: &Request,
+    source: &mut S,
+    sink: &mut K,
+    fabric: &mut F,
+) -> (Option<World<AllActs>>, Result<(), SessionFault>)
+    requires request { IsRequest request.now }
+    requires flight { F.flight fabric.old ≡ Some [] }
+    requires trace { F.trace fabric.old ≡ Some [] }
+
+    ensures told { (notice : Notice) → request.now ≡ Request.Print notice →
+        (result.0 ≡ None) × HasTold notice (status_after result.1) (K.held sink.old) (K.held sink.new) }
+    ensures did { let x = ports_of (S.left source.old) (S.taken source.old) (K.held sink.old) (S.faults source.old) (K.faults sink.old) (F.faults fabric.old) in
+        let z = ports_of (S.left source.new) (S.taken source.new) (K.held sink.new) (S.faults source.new) (K.faults sink.new) (F.faults fabric.new) in
+        (setup : Setup) → request.now ≡ Request.Run setup → HasRun setup (status_after result.1) result.0 x z }
+    ensures unread { (setup : Setup) (line : _) → request.now ≡ Request.Run setup → task_line setup.task ≡ Some line → source.new ≡ source.old }
+    ensures cause { let x = ports_of (S.left source.old) (S.taken source.old) (K.held sink.old) (S.faults source.old) (K.faults sink.old) (F.faults fabric.old) in
+        let z = ports_of (S.left source.new) (S.taken source.new) (K.held sink.new) (S.faults source.new) (K.faults sink.new) (F.faults fabric.new) in
+        HasCause (status_after result.1) result.0 x z }
+    ensures status { IsStatus (status_after result.1) }
+    ensures lawful { IfSome result.0 (λ w. IsLawful w (F.flight fabric.new) (F.trace fabric.new)) }
+    ensures ended { OnOk result.1 (IfSome result.0 HasEnded) }
+    ensures there { result.1 ≡ Err SessionFault.JournalFull → result.0 ≢ None }
+    ensures none { result.0 ≡ None → (source.new ≡ source.old) × (fabric.new ≡ fabric.old)
+        × (((notice : Notice) → request.now ≢ Request.Print notice) → (sink.new ≡ sink.old) × (result.1 ≡ Err SessionFault.OutOfMemory)) }
+{
+    match request {
+        Request::Print(notice) => (None, print(alloc, *notice, sink)),
+        Request::Run(setup) => run_setup(rt, gate, alloc, setup, source, sink, fabric),
+    }
+}
+
+/// Runs the program on its words, by as many threads as they ask for, which pass the gate before each body. A status other than 0
+/// writes one line on `err`; where that fails, the status stays.
+pub fn run<S: Source, K: Sink, E: Sink, F: Fabric, R: Threads + Wait + Sync, G: Gate>(
+    rt: &R,
+    alloc: Global,
+    words: &Texts,
+    source: &mut S,
+    sink: &mut K,
+    err: &mut E,
+    mut fabric: F,
+    gate: &G,
+) -> End<F>
+    requires flight { F.flight fabric ≡ Some [] }
+    requires trace { F.trace fabric ≡ Some [] }
+
+    ensures refused { (place : ℕ) → bad_word words.now ≡ Some place → (result.status ≡ 1) × (result.world ≡ None)
+        × Says (bad_word_text place) (record { text = E.held err.old; faults = E.faults err.old }) (record { text = E.held err.new; faults = E.faults err.new }) }
+    ensures taken { bad_word words.now ≡ None → (result.status ≢ 1)
+        × Says (status_line result.status) (record { text = E.held err.old; faults = E.faults err.old }) (record { text = E.held err.new; faults = E.faults err.new }) }
+    ensures silent { result.status ≡ 0 → err.new ≡ err.old }
+    ensures no_other { IsStatus result.status }
+    ensures none { result.world ≡ None → (source.new ≡ source.old) × (result.fabric ≡ fabric)
+        × (notice_in words.now ≡ None → (sink.new ≡ sink.old) × ((result.status ≡ 1) ⊎ (result.status ≡ 6))) }
+    ensures told { (notice : Notice) → notice_in words.now ≡ Some notice → (result.world ≡ None) × HasTold notice result.status (K.held sink.old) (K.held sink.new) }
+    ensures did { let x = ports_of (S.left source.old) (S.taken source.old) (K.held sink.old) (S.faults source.old) (K.faults sink.old) (F.faults fabric) in
+        let z = ports_of (S.left source.new) (S.taken source.new) (K.held sink.new) (S.faults source.new) (K.faults sink.new) (F.faults result.fabric) in
+        (setup : Setup) → request_in words.now ≡ Ok (Request.Run setup) → HasRun setup result.status result.world x z }
+    ensures unread { (setup : Setup) (line : _) → request_in words.now ≡ Ok (Request.Run setup) → task_line setup.task ≡ Some line → source.new ≡ source.old }
+    ensures cause { let x = ports_of (S.left source.old) (S.taken source.old) (K.held sink.old) (S.faults source.old) (K.faults sink.old) (F.faults fabric) in
+        let z = ports_of (S.left source.new) (S.taken source.new) (K.held sink.new) (S.faults source.new) (K.faults sink.new) (F.faults result.fabric) in
+        HasCause result.status result.world x z }
+    ensures ends_well { let x = ports_of (S.left source.old) (S.taken source.old) (K.held sink.old) (S.faults source.old) (K.faults sink.old) (F.faults fabric) in
+        let z = ports_of (S.left source.new) (S.taken source.new) (K.held sink.new) (S.faults source.new) (K.faults sink.new) (F.faults result.fabric) in
+        bad_word words.now ≡ None → NothingFailed result.world x z → (result.status ≡ 0) ⊎ (result.status ≡ 6) }
+    ensures lawful { IfSome result.world (λ w. IsLawful w (F.flight result.fabric) (F.trace result.fabric)) }
+    ensures ended { result.status ≡ 0 → IfSome result.world HasEnded }
+{
+    let request = match request_in(words) {
+        Ok(request) => request,
+        Err(place) => {
+            say(err, texts::bad_word(place).as_str().as_bytes());
+            return End {
+                status: 1,
+                world: None,
+                fabric,
+            };
+        }
+    };
+    let (world, ended) = fulfil(rt, gate, alloc, &request, source, sink, &mut fabric);
+    let status = match ended {
+        Ok(()) => 0,
+        Err(fault) => {
+            let (line, status) = line_of(fault);
+            say(err, line);
+            status
+        }
+    };
+    End {
+        status,
+        world,
+        fabric,
+    }
+}
