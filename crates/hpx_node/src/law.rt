@@ -36,10 +36,10 @@ pub fn settled_law()
 {}
 
 /// Nothing idle: in each row what has gone and what is still here is what was caused, from boot on, and from any moment on
-/// at which the node was passive; moves of one object are counted where they are under way. And so actions go through messages after
-/// their objects no more often than they came or were sent. An id goes or is
-/// handed over with no more credit no more often than one came so or was refused here. Where the node is passive each dead object of
-/// its home was freed here or a Free of it was sent, and each Free that came has freed its object.
+/// at which the node was passive; the rows of one object's moves are kept away from where these begin. And so actions go through
+/// messages after their objects no more often than they came or were sent. An id goes or is handed over with no more credit no more
+/// often than one came so or was refused here. Where the node is passive each dead object of its home was freed here or a Free of it
+/// was sent, and each Free that came has freed its object.
 pub fn idle_law()
     ensures boot { (r : Rules) (t : Tables) (entries : List Entry) → StandsWith r t [] [] entries → (row : Row) → IsRowAt t.localities t.here row →
         sum_by (λ (e : Entry). goes r row e.event) (part t.here entries) + unpaid row t

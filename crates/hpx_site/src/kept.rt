@@ -233,8 +233,8 @@ impl<'b, 'w, 'f, A: Acts + Copy, F: Fabric, E: Past> Kept<'b, 'w, 'f, A, F, E> {
         found
     }
 
-    /// What there is to do. What a locality has of its own to tend to goes first; where none has anything, jobs are put on the hand, all that are ready, up to
-    /// 32; where none is ready, a message goes to another locality.
+    /// What there is to do. What a locality has of its own to tend to goes first; where none has anything, jobs are put on the hand,
+    /// all that are ready, up to 32; where none is ready, a message goes to another locality.
     pub fn look(&mut self, alloc: Global, hand: &mut Hand) -> Found
         ensures frame { frame_of hand.new ≡ frame_of hand.old }
         ensures few { length (put_of hand.new) ≤ length (put_of hand.old) + 32 }
