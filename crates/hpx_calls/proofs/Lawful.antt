@@ -81,7 +81,7 @@ unmanaged kind s a high e low = record {
 place_good : (n kind here : ℕ) (s : State) (a : Act) (x : Content Spelled) → IsState s → IsAct a → layout spelled x ≡ s.values → IsGood n kind here s a (leaves x (Answers (SpelledInt (pos here))))
 place_good n kind here s a x h act e =
     subst (KeepsLaws n kind here s a) (sym (same_stay s a (layout spelled x) (SpelledInt (pos here)) e))
-    (HandLemmas.stays_keeps n kind here s a (SpelledInt (pos here)) h act tt refl (λ code movable args. HandLemmas.stays_tells here s a h) (λ code managed args. HandLemmas.stays_tells here s a h))
+    (HandLemmas.stays_keeps n kind here s a (SpelledInt (pos here)) h act tt refl (λ code movable args. HandLemmas.stays_tells here s a) (λ code managed args. HandLemmas.stays_tells here s a))
 
 -- what a content that is shown does with what is asked; who asks for an answer to come waits for it
 abbrev pub IsServed : ℕ → ℕ → ℕ → State → Act → Content Spelled → Type 0

@@ -15,7 +15,7 @@ still n kind here s a = stays s a (Int (pos here))
 pub still_keeps : (n kind here : ℕ) (s : State) (a : Act) → 1 ≤ n → n ≤ 64 → here < n → IsState s → IsAct a
     → KeepsLaws n kind here s a (still n kind here s a)
 still_keeps n kind here s a some few place state act =
-    stays_keeps n kind here s a (Int (pos here)) state act tt refl (λ _ _ _. stays_tells here s a state) (λ _ _ _. stays_tells here s a state)
+    stays_keeps n kind here s a (Int (pos here)) state act tt refl (λ _ _ _. stays_tells here s a) (λ _ _ _. stays_tells here s a)
 
 -- neither names nor credits matter
 pub still_blind : (n kind here : ℕ) (s : State) (a : Act)

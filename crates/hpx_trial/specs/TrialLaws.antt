@@ -472,7 +472,7 @@ module _ (n kind here : ℕ) (s : State) (a : Act) (some : 1 ≤ n) (state : IsS
 
   or_stays_keeps : (out : Option Outcome) → IsLawful n kind here s a out → KeepsLaws n kind here s a (or_stays here s a out)
   or_stays_keeps None h =
-      stays_keeps n kind here s a (Int (pos here)) state act tt refl (λ _ _ _. stays_tells here s a state) (λ _ _ _. stays_tells here s a state)
+      stays_keeps n kind here s a (Int (pos here)) state act tt refl (λ _ _ _. stays_tells here s a) (λ _ _ _. stays_tells here s a)
   or_stays_keeps (Some out) h = h
 
 -- each outcome keeps the laws

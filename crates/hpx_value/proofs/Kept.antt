@@ -331,14 +331,8 @@ answers_messages s a made (Some c) v h e = (answer_message (hand_ids s a made) (
 -- ---- the laws
 
 -- it is the whole answer to a MOVE and to a WHERE
-pub stays_tells : (here : ℕ) (s : State) (a : Act) → IsState s → TellsThePlace here s a (stays s a (Int (pos here)))
-stays_tells here s a h = record {
-  state = ap bare_state (stays_same s a [] (Int (pos here)) h);
-  makes = refl;
-  sends = refl;
-  replies = refl;
-  prints = refl;
-}
+pub stays_tells : (here : ℕ) (s : State) (a : Act) → TellsThePlace here s a (stays s a (Int (pos here)))
+stays_tells here s a = refl
 
 -- an outcome that keeps the state and answers a value without Refs keeps the laws, where it answers MOVE and WHERE rightly
 pub stays_keeps : (n kind here : ℕ) (s : State) (a : Act) (v : Value) → IsState s → IsAct a → IsValue v → refs_in (v ∷ []) ≡ []

@@ -2,10 +2,10 @@
 use Rattle.std.specs.Prelude.{ℕ, pos, Bool, cond, nat_lt, List, [], ◌∷◌, ◌++◌, ◌≡◌, ◌≢◌, ◌+◌, ◌<◌, ◌≤◌, ◌==◌, ◌&&◌, ◌⊎◌, length}
 use Rattle.std.specs.List.{AllByRecursion, count_by}
 use Rattle.hpx_value.specs.Ids.{Id}
-use Rattle.hpx_value.specs.Values.{Value, Int, State, Act, refs_in, bare_state}
+use Rattle.hpx_value.specs.Values.{Value, Int, State, Act, refs_in}
 use Rattle.hpx_value.specs.Shapes.{IsMessage, IsState, IsCount}
 use Rattle.hpx_value.specs.Hands.{Target, Place, Root, SendCont, NoCont, Own, Made, Here, Make, Sending, Reply, Outcome, hand_slots, state_after, sent, replied}
-use Rattle.hpx_value.specs.Kept.{answers}
+use Rattle.hpx_value.specs.Kept.{stays}
 use Rattle.hpx_value.specs.Mentions.{mentions, root_mentions, hand_size, kind_at}
 
 -- the continuation that a send hands on
@@ -129,13 +129,9 @@ pub record IsWellFormed (s : State) (a : Act) (out : Outcome) : Type 0 where
   pub sends : (made : List Id) → AllByRecursion (λ x. IsMessage (sent s a made x)) out.sends
   pub replies : (made : List Id) → AllByRecursion (λ x. IsMessage (replied s a made x)) out.replies
 
--- the state stays, up to credits, and the action's own continuation is told the place
-pub record TellsThePlace (here : ℕ) (s : State) (a : Act) (out : Outcome) : Type 0 where
-  pub state : bare_state (state_after s a [] out) ≡ bare_state s
-  pub makes : out.makes ≡ []
-  pub sends : out.sends ≡ []
-  pub replies : out.replies ≡ answers s a.cont (Int (pos here))
-  pub prints : out.prints ≡ []
+-- the state stays as it was, and the action's own continuation is told the place
+abbrev pub TellsThePlace : ℕ → State → Act → Outcome → Type 0
+TellsThePlace here s a out = out ≡ stays s a (Int (pos here))
 
 -- 6. no send is a SET or a LINE, and a MOVE is one; MOVE and WHERE tell the place and change nothing
 pub record MovesRightly (n kind here : ℕ) (s : State) (a : Act) (out : Outcome) : Type 0 where
