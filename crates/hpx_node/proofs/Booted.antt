@@ -3,6 +3,12 @@ use Rattle.std.proofs.Common.{rules}
 use Rattle.hpx_node.proofs.Common.{Act, Outcome, Profile, State, Tables, [], rules_of, view, ℕ}
 use Rattle.hpx_journal.specs.Roots.{roots}
 use Rattle.hpx_part.specs.Parts.{StandsFor}
+use Rattle.std.proofs.Common.{◌≡◌}
+use Rattle.hpx_journal.specs.Entries.{Rules}
+use Rattle.hpx_steps.specs.Flows.{IsFlowing}
+use Rattle.hpx_steps.specs.Rest.{ArePlaced, IsOrderly, Lacks, MovesBegan, StandsAtRest, StandsWith}
+use Rattle.hpx_steps.specs.Turn.{at_rest}
+use Rattle.hpx_steps.proofs.Booted.{boot_arrived, boot_bare}
 
 -- its tables
 abbrev pub at_boot : ℕ → ℕ → Profile → Tables
@@ -32,3 +38,16 @@ at_boot n here profile = record {
 -- they stand for an empty part
 pub boot_stands : (act_of : ℕ → ℕ → ℕ → State → Act → Outcome) (n here : ℕ) (profile : Profile) → StandsFor (rules_of act_of n profile) (view (at_boot n here profile) [] []) []
 boot_stands act_of n here profile = search rules
+
+-- and so they stand at rest
+pub boot_at_rest : (r : Rules) (t : Tables) → t.came ≡ [] → StandsWith r t [] [] [] → IsOrderly r t [] → Lacks t → MovesBegan r t [] → ArePlaced r t [] → IsFlowing r (at_rest t) [] → StandsAtRest r t []
+boot_at_rest r t came stands orderly lacks begun placed flowing = record {
+  stands = stands;
+  orderly = orderly;
+  lacks = lacks;
+  begun = begun;
+  placed = placed;
+  flowing = flowing;
+  bare = boot_bare t came;
+  arrived = boot_arrived t came;
+}

@@ -2,7 +2,9 @@
 use Rattle.hpx_node.proofs.Common.{Act, AskedFor, Bool, Commits, Continues, Entry, Event, Failing, Fails, Give, Gives, HasCredit, HasFollowed, HasInHand, Id, IfFollows, IsFailing, IsNext, IsParcel, IsReady, IsTidy, KeepsLaws, Leads, List, MayFollow, MayResume, Next, None, Option, Outcome, Parcel, Ready, Rules, Some, Standing, State, Tables, Turn, Waits, Writes, [], answered_by, any_at, ap, append-nil, arith, awaits, bare, bare_act, bare_state, brings_right, broken_near, committed_from, completes, dooms, due_left, effects, eq-eqb, failed_events, failed_remains, fails_first, false, find, find_at, full_stock, get_or, give_right, given_event, given_fails, given_waits, in_hand, is_asked_for, is_last, is_some, length, less_long, log_of, message_of, named, ne_eqb, not, plain, refl, remove, remove_set, rules_of, set, slice_get, some_same, state_left, subst, sym, true, ups_left, with_left, ℕ, ◌&&◌, ◌++◌, ◌+◌, ◌==◌, ◌||◌, ◌∙◌, ◌∷◌, ◌≡◌, ◌⊎◌}
 use Rattle.hpx_node.proofs.Continued.{IsGiven, after_is, at, may_after, may_given, none_then, only_give}
 use Rattle.hpx_node.proofs.FailsThen.{at as fails_at, found_then, given, left, must_then, only_fails, plan_then, refused}
+use Rattle.hpx_node.proofs.Given.{still}
 use Rattle.hpx_node.proofs.GoesOn.{goes_leads}
+use Rattle.hpx_node.proofs.Paused.{paused_at}
 use Rattle.hpx_node.proofs.ReadyStock.{brings_by}
 use Rattle.hpx_node.specs.declared.node.next.Next.TheVariants as nexts
 
@@ -187,7 +189,8 @@ module _ (act_of : ℕ → ℕ → ℕ → State → Act → Outcome)
           let o = refused t n d mid id entry y is g in
           subst (λ (m : Tables). Leads r s t' (given_event id ∷ failed_events m g.after)) (sym g.rest)
           (subst (λ (z : Tables). Leads r s z (given_event id ∷ failed_events u g.after)) (sym end_is)
-          (given_fails r u mid came mailed l id entry hand credit right g (given t n d mid id entry y is g) o.0 y.j is.place.standing (failed_remains g.after) o.1
+          (given_fails r u mid came mailed l id entry hand credit right g (given t n d mid id entry y is g)
+          (still t g.before g.after id entry (paused_at t g.i g.before k.tidy g.there) g.refills credit (brings_by t id right)).other o.0 y.j is.place.standing (failed_remains g.after) o.1
           is.place.stands (found_then t n d mid id entry y is g)
           (left t n d mid id entry y is g k.tidy credit (brings_by t id right))))
 

@@ -1,4 +1,5 @@
 -- A commit that is given an id: it is the first that waits for it.
+use Rattle.std.proofs.Common.{◌≢◌}
 use Rattle.hpx_node.proofs.Common.{Bool, Gives, HasCredit, HasSplit, Id, IsCommit, IsPaused, List, None, Option, Parcel, Refills, Some, Tables, Waits, [], and_true, any_at, ap, arith, awaits, eqb-true, false, find, first_same, get_set, is_asked_for, is_last, is_some, length, length-set, less_long, log_of, none_long, not, refl, remove, set, slice_get, slice_get_less, some_same, subst, sym, take, true, waits_for_one, ℕ, ◌<◌, ◌==◌, ◌∙◌, ◌≡◌, ◌⊎◌}
 use Rattle.hpx_steps.proofs.Refilled.{still_commit, still_split}
 use Rattle.hpx_node.proofs.Paused.{commit_of}
@@ -28,6 +29,7 @@ given_to t n d mid id entry g i w there for first =
 pub record IsStill (t : Tables) (w : Waits) : Type 0 where
   pub its : IsCommit t.here t.localities w
   pub split : HasSplit t.profile.credit_log w
+  pub other : w.job.action.code ≢ 1
 
 pub still : (t : Tables) (w w' : Waits) (id : Id) (entry : ℕ) → IsPaused t.here t.localities t.profile.credit_log t.objects w → Refills id entry w w' → HasCredit id
     → (log_of id.log ≡ 0) ⊎ (log_of id.log ≡ t.profile.credit_log) → IsStill t w'
@@ -37,6 +39,7 @@ still t w w' id entry was refills credit brings =
           (still_commit t.here t.localities t.profile.credit_log w refills.k refills.ask id entry commit was.split refills.there refills.for credit brings);
       split = subst (HasSplit t.profile.credit_log) (sym refills.now)
           (still_split t.here t.localities t.profile.credit_log w refills.k refills.ask id entry commit was.split refills.there refills.for credit brings);
+      other = subst (λ (v : Waits). v.job.action.code ≢ 1) (sym refills.now) was.stays;
     }
 
 -- where it waited for one alone, it waits for none

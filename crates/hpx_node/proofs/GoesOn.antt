@@ -105,7 +105,7 @@ module _ (act_of : ℕ → ℕ → ℕ → State → Act → Outcome)
   leads =
       subst (λ z. Leads r (in_hand u came mailed l) z (given_event id ∷ ((births_of t.here t.births (map birth_of w.outcome.makes) ++ splits_from 0 s.hand s.places)
       ++ (Done (name_of w.job.action) false ∷ (due ++ last))))) (sym end_is)
-      (given_done r u mid came mailed l id entry hand credit right g none front later back w.places hand_is later_bare
+      (given_done r u mid came mailed l id entry hand credit right g none k.other front later back w.places hand_is later_bare
       (omega (arith, many, enough, length-take (length made) (drop own w.hand), length-drop own w.hand))
       (omega (arith, enough, length-take own w.hand)) (made_fit m (seen w.job) w.outcome (fit_seen w.job k.its.job) may.place.few laws) j x (remains u (seen w.job) w.outcome s)
       its_stock.names.within (λ q lt. its_stock.lasts q) may.place.stands may.place.found tidy.drawn

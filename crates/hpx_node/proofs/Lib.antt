@@ -26,6 +26,7 @@ pub mod Made
 pub mod Messages
 pub mod Numbers
 pub mod OfPrepared
+pub mod Passive
 pub mod Paused
 pub mod PlanLimits
 pub mod PlanRoom
@@ -52,3 +53,4 @@ pub mod Turned
 pub mod Turns
 pub mod Waited
 pub mod Unread
+pub mod Stays

@@ -1,11 +1,11 @@
 -- A prepared commit of an action that runs, as the call writes it.
-use Rattle.hpx_node.proofs.Common.{Act, Done, Ends, Entry, Event, Id, IsAt, IsFitJob, IsKept, IsLeftBy, IsPrepared, IsStock, IsTidy, Job, KeepsLaws, List, Makes, OnlyLeaves, Option, Outcome, Prepared, Some, Standing, Stands, State, Stock, Tables, Writes, [], all_at, answered_by, ap, append-nil, append_assoc, at_all, bare, bare_act, bare_state, birth_of, births_of, committed, committed_from, committed_told, due_dealt, false, halved_from, hand_of, length, made_of, map, message_of, name_of, named, new_standing, own_stock, places_in_hand, plain, refl, remains, remove, rider_events, rider_of, rules_of, seen, set, slice_get, some_same, splits_from, state_dealt, subst, sym, unnamed, ups, with_done_told, written_due, ℕ, ◌++◌, ◌+◌, ◌<◌, ◌∙◌, ◌∷◌, ◌≡◌, ◌≤◌}
+use Rattle.hpx_node.proofs.Common.{Act, Done, Ends, Entry, Event, Id, IsAt, IsFitJob, IsKept, IsLeftBy, IsPrepared, IsStock, IsTidy, Job, KeepsLaws, List, Makes, OnlyLeaves, Option, Outcome, Prepared, Some, Standing, Stands, State, Stock, Tables, Writes, [], all_at, answered_by, ap, append-nil, append_assoc, at_all, bare, bare_act, bare_state, birth_of, births_of, committed, committed_from, committed_told, due_dealt, false, halved_from, hand_of, length, made_of, map, message_of, name_of, named, new_standing, own_stock, places_in_hand, plain, refl, remains, remove, rider_events, rider_of, rules_of, seen, set, slice_get, some_same, splits_from, state_dealt, subst, sym, unnamed, ups, with_done_told, written_due, ℕ, ◌++◌, ◌+◌, ◌<◌, ◌∙◌, ◌∷◌, ◌≡◌, ◌≤◌, true}
 use Rattle.std.specs.Option.{option_to_list}
 use Rattle.hpx_tables.specs.declared.kept.Arrival.{Arrival}
 use Rattle.hpx_steps.proofs.Committed.{told_stands}
-use Rattle.hpx_node.specs.Commits.{Notes}
+use Rattle.hpx_node.specs.Commits.{Notes, tells}
 use Rattle.hpx_node.proofs.Committing.{all_told, all_written, new_there}
-use Rattle.hpx_node.proofs.Told.{noted, told_of}
+use Rattle.hpx_node.proofs.Told.{move_notes, noted, told_of}
 use Rattle.hpx_node.proofs.LeftBy.{kept_then, left_by}
 use Rattle.hpx_node.proofs.Planned.{made_fit}
 use Rattle.hpx_node.proofs.Seen.{fit_seen}
@@ -104,8 +104,10 @@ runs_stands act_of blind t t' job out fit few laws right p is own i j at below e
     lent_kept x job.state (all_at IsKept t.objects j x (at_rest_tidy act_of t e0 h).objects at.stands) at.state fit.state in
     let by = left_by t job out its_fit few laws deal its_stock (record { object = x.object; state = bare_state job.state }) kept at.kind refl act_of blind right at.here in
     let its_notes = subst (λ ids. Notes job.action ids t.came came told) (ap (λ (s : Stock). unnamed s.hand s.places) same) notes in
+    let must : job.action.code ≡ 1 → tells job.action (unnamed deal.hand deal.places) ≡ true = λ code. subst (λ (s : Stock). tells job.action (unnamed s.hand s.places) ≡ true) same
+    (move_notes t.localities t job out fit laws x at.found at.kind code) in
     let stands = told_stands act_of t e0 h i j job out x at.runs at.stands at.found at.here (sym at.kind) (sym at.state) (few, below) places (made_fit t its out its_fit few laws)
-    came (option_to_list told) (noted job.action (unnamed deal.hand deal.places) t.came came told its_notes) (remains t its out deal)
+    came (option_to_list told) (noted t job.action (unnamed deal.hand deal.places) came must told its_notes) (remains t its out deal)
     (told_of job.action (unnamed deal.hand deal.places) t.came came told its_notes) its_stock.names.within (λ q lt. its_stock.lasts q)
     (subst (λ u. IsLeftBy (rules_of act_of t.localities t.profile) t.here job out (record { object = x.object; state = bare_state u })
     (halved_from (length deal.hand) 0 deal).hand (map bare made) (remains t its out deal)) (sym at.state) by) in

@@ -1,9 +1,17 @@
 -- A MOVE with which its object came is done: the home of the object is told.
 use Rattle.std.specs.Option.{option_to_list}
-use Rattle.hpx_node.proofs.Common.{Act, AreOf, Id, List, None, Option, Some, [], and_true, any_at, ap, arith, bare, eq-eqb, eqb-true, false, inl, inr, is_some, length, list_any, name_of, not, refl, remove, same_object, slice_get, sym, target_of, true, ℕ, ◌&&◌, ◌<◌, ◌==◌, ◌∙◌, ◌∷◌, ◌≡◌, ◌⊎◌}
+use Rattle.hpx_node.proofs.Common.{Act, AreOf, Id, List, None, Option, Some, [], and_true, any_at, ap, arith, bare, eq-eqb, eqb-true, false, inl, inr, is_some, length, list_any, name_of, not, refl, remove, same_object, slice_get, sym, target_of, true, ℕ, ◌&&◌, ◌<◌, ◌==◌, ◌∙◌, ◌∷◌, ◌≡◌, ◌⊎◌, Tables, Job, Outcome, IsFitJob, Standing, find, is_standing, plain, subst}
 use Rattle.hpx_journal.proofs.Same.{same_object-refl, same_object-true}
 use Rattle.hpx_tables.specs.declared.kept.Arrival.{Arrival}
-use Rattle.hpx_node.specs.Commits.{Notes, arrival_of, is_arrival, tells}
+use Rattle.hpx_value.specs.Laws.{KeepsLaws}
+use Rattle.hpx_value.specs.Hands.{id_at}
+use Rattle.hpx_value.proofs.Riders.{plain_code, plain_target}
+use Rattle.hpx_commit.specs.Deals.{AllLast, unnamed}
+use Rattle.hpx_steps.specs.Steps.{CameWith, CameAlone}
+use Rattle.hpx_steps.specs.Turn.{at_rest}
+use Rattle.hpx_node.specs.Commits.{Notes, arrival_of, hand_of, is_arrival, made_of, places_in_hand, seen, tells}
+use Rattle.hpx_node.proofs.Seen.{fit_seen}
+use Rattle.hpx_node.proofs.Stays.{move_lasts, move_tells, movable_kind}
 
 -- what an action is that tells, and the first of these ids
 tells_parts : (act : Act) (ids : List Id) → tells act ids ≡ true → (act.code ≡ 1) × AreOf (bare (target_of act) ∷ []) ids
@@ -21,13 +29,27 @@ module _ (act : Act) (ids : List Id) (was came : List Arrival) where
       each [] k = absurd k
       each (x ∷ xs) k = (h.0 ∙ k.0, tt)
 
-  -- it is noted, or nothing is
-  pub noted : (told : Option Id) → Notes act ids was came told
-      → ((came ≡ was) × (option_to_list told ≡ []))
-      ⊎ ((n : ℕ) × (act.code ≡ 1) × (slice_get was n ≡ Some (record { name = name_of act; object = bare (target_of act) })) × (came ≡ remove was n)
-      × (option_to_list told ≡ bare (target_of act) ∷ []))
-  noted None h = inl (h.0, refl)
-  noted (Some o) h = inr (h.2.0, (tells_parts act ids h.1).0, h.2.1, h.2.2, ap (λ x. x ∷ []) h.0)
+-- a MOVE with which its object came is noted, or it is none
+pub noted : (t : Tables) (act : Act) (ids : List Id) (came : List Arrival) → (act.code ≡ 1 → tells act ids ≡ true) → (told : Option Id) → Notes act ids t.came came told
+    → CameWith (at_rest t) act (record { came = came; untold = option_to_list told }) ⊎ CameAlone (at_rest t) act (record { came = came; untold = option_to_list told })
+noted t act ids came must None h = inr (record { none = λ code. h.1 (must code); came = h.0; untold = refl })
+noted t act ids came must (Some o) h = inl (record { i = h.2.0; there = h.2.1; came = h.2.2; untold = ap (λ x. x ∷ []) h.0 })
+
+-- a MOVE that is done tells: nobody names its target
+pub move_notes : (n : ℕ) (t : Tables) (job : Job) (out : Outcome) → IsFitJob job → KeepsLaws n job.kind job.at job.state (plain job.action) out → (x : Standing)
+    → find (is_standing (target_of job.action)) t.objects ≡ Some x → x.object.kind ≡ job.kind → job.action.code ≡ 1
+    → tells job.action (unnamed (hand_of t (seen job) out) (places_in_hand t (seen job) out)) ≡ true
+move_notes n t job out fit laws x found kind code =
+    let k = move_tells n (seen job) out (fit_seen job fit) laws (movable_kind t.objects job.action job.kind x found kind (fit.action.moves code).0) (plain_code job.action ∙ code) (made_of t out) in
+    let first : tells job.action (id_at (plain job.action).ids 0 ∷ k.0) ≡ true = rw (eq-eqb job.action.code 1 code, plain_target job.action) (same_object-refl (target_of job.action)) in
+    subst (λ ids. tells job.action ids ≡ true) (sym k.1) first
+
+-- and it does not wait
+pub move_goes : (n : ℕ) (t : Tables) (job : Job) (out : Outcome) → IsFitJob job → KeepsLaws n job.kind job.at job.state (plain job.action) out → (x : Standing)
+    → find (is_standing (target_of job.action)) t.objects ≡ Some x → x.object.kind ≡ job.kind → job.action.code ≡ 1
+    → AllLast (hand_of t (seen job) out) (places_in_hand t (seen job) out)
+move_goes n t job out fit laws x found kind code =
+    move_lasts n (seen job) out (fit_seen job fit) laws (movable_kind t.objects job.action job.kind x found kind (fit.action.moves code).0) (plain_code job.action ∙ code) (made_of t out)
 
 -- there is one
 pub some_of : (o : Id) (ids : List Id) → AreOf (o ∷ []) ids → 0 < length ids

@@ -1,4 +1,5 @@
 -- A commit begins to wait, as the calls do it.
+use Rattle.std.proofs.Common.{◌≢◌}
 use Rattle.hpx_node.proofs.Common.{Act, AllByRecursion, AllLast, AreWithin, Ask, Begins, Entry, HasCredit, HasLeastCredit, HasRightCredit, HasSplit, Id, IsAt, IsBefore, IsFitJob, IsKept, IsState, IsTidy, Job, KeepsLaws, List, Outcome, Pauses, Some, Standing, Stands, State, Stock, Tables, Waits, [], action_few, ahead, all_at, ap, append_assoc, arith, asked_at, asked_events, at_all, at_all_append, bare, bare_state, first_cuts, get_or, hand_before, hand_of, id_at, inl, lacking, length, length-append, length-map, made_of, map, none_short, own_many, places_in_hand, plain, refl, remove, seen, set, short_before, short_places, slice_get, some_same, split_stock, splits_before, state_filled, stock_before, subst, sym, take, take_more, waits_with, with_asks, with_mail, ℕ, ◌++◌, ◌+◌, ◌<◌, ◌∙◌, ◌∷◌, ◌≡◌, ◌≤◌}
 use Rattle.hpx_commit.proofs.Stripped.{short_few}
 use Rattle.hpx_node.specs.declared.node.wait.Before.{Before}
@@ -144,8 +145,8 @@ pub begins_by : (act_of : ℕ → ℕ → ℕ → State → Act → Outcome) (t 
     → n ≡ t.localities → job.at < n → w ≡ waits_with job out n b.asked.items b.stock → Pauses i j job w t m
     → t' ≡ record (with_asks m.here m.asked b.lacking.items m) { asked = m.asked + length b.lacking.items }
     → e1 ≡ (e0 ++ at_all t.here (first_cuts b.own 0 b.hand.items b.places.items)) ++ at_all t.here (asked_events b.lacking.items)
-    → 1 ≤ length (lacking t (seen job) out) → Stands act_of t e0 → Stands act_of t' e1 × Begins t t' job out e0 e1
-begins_by act_of t m t' job out n b i j w e0 e1 fit few laws is near below w_is pauses asked cut some h =
+    → 1 ≤ length (lacking t (seen job) out) → job.action.code ≢ 1 → Stands act_of t e0 → Stands act_of t' e1 × Begins t t' job out e0 e1
+begins_by act_of t m t' job out n b i j w e0 e1 fit few laws is near below w_is pauses asked cut some other h =
     let its : Job = seen job in
     let its_fit = fit_seen job fit in
     let ids : List Id = lacking t (seen job) out in
@@ -171,7 +172,7 @@ begins_by act_of t m t' job out n b i j w e0 e1 fit few laws is near below w_is 
     let stands = wait_stands act_of t e0 h i j job out at.standing at.runs at.stands at.found at.here (sym at.kind) (sym at.state)
     (few, omega (arith, below, near)) (map bare (made_of t out)) (none_of (map bare (made_of t out)) (made_of_job n t its out laws its_fit).bare) (places_in_hand t its out)
     (within_hand n t its out laws its_fit) (least_split n t its out laws its_fit)
-    (omega (arith, some, length-map (short_before t its out) (id_at (split_stock t its out).hand))) (fresh_split n t job out laws fit t.profile.credit_log t.localities t.asked) in (
+    (omega (arith, some, length-map (short_before t its out) (id_at (split_stock t its out).hand))) other (fresh_split n t job out laws fit t.profile.credit_log t.localities t.asked) in (
       subst (λ (y : Tables). Stands act_of y e1) (sym ends) (subst (Stands act_of (waited at.standing.state)) (sym written) stands),
       record {
         i = i;

@@ -1,5 +1,5 @@
 -- What is done for objects that move, behind messages: they leave, and what waited for them goes on.
-use Rattle.std.specs.Prelude.{ℕ, zero, suc, Bool, true, false, not, cond, List, [], ◌∷◌, ◌≡◌, ◌&&◌, length, slice_get, is_some, Option, Some, None}
+use Rattle.std.specs.Prelude.{ℕ, zero, suc, Bool, true, false, not, cond, List, [], ◌∷◌, ◌≡◌, ◌&&◌, length, slice_get, take, is_some, Option, Some, None}
 use Rattle.std.specs.Option.{option_map_or}
 use Rattle.std.specs.List.{find, list_any, remove}
 use Rattle.std.specs.List.Sorted.{IsPermutation}
@@ -29,11 +29,12 @@ abbrev pub may_leave : Tables → Parcel → Bool
 may_leave t (Go act) = is_done_with t (target_of act)
 may_leave t _ = false
 
--- an object that is to leave leaves, with its MOVE: nothing is done on it; all others stand, maybe in another order
+-- an object that is to leave leaves, with its MOVE, the first on which nothing is done; all others stand, maybe in another order
 pub record Departs (t t' : Tables) (entries entries' : List Entry) : Type 0 where
   pub i : ℕ
   pub act : Act
   pub there : slice_get t.leaving i ≡ Some (Go act)
+  pub first : list_any (may_leave t) (take i t.leaving) ≡ false
   pub done : is_done_with t (target_of act) ≡ true
   pub to : ℕ
   pub moves : move_to act ≡ Some to

@@ -8,6 +8,7 @@ use Rattle.hpx_part.specs.Data.{Name}
 use Rattle.hpx_parcel.specs.Parcels.{HasCredit, HasRightCredit}
 use Rattle.hpx_tables.specs.declared.births.Birth.{Birth}
 use Rattle.hpx_tables.specs.declared.kept.Arrival.{Arrival}
+pub use Rattle.hpx_steps.specs.Sound.{arrival_of}
 use Rattle.hpx_tables.specs.Births.{IsBirth, birth_of, births_of, objects_of, records_of, ids_of}
 
 -- ---- a commit
@@ -121,10 +122,6 @@ pub record Commits (job : Job) (out : Outcome) (s : Stock) (j : ℕ) (t t' : Tab
   pub stands : slice_get t.objects j ≡ Some standing
   pub found : find (is_standing (target_of job.action)) t.objects ≡ Some standing
   pub goes : t' ≡ committed_to job out s j standing t
-
--- a MOVE with which its object came
-abbrev pub arrival_of : Act → Arrival
-arrival_of act = record { name = name_of act; object = bare (target_of act) }
 
 -- it is that of this name with which this object came
 abbrev pub is_arrival : Name → Id → Arrival → Bool

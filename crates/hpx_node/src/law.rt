@@ -8,7 +8,7 @@ ghost use Rattle.hpx_journal.specs.Local.{is_standing};
 ghost use Rattle.hpx_journal.specs.Names.{names};
 ghost use Rattle.hpx_journal.specs.Tokens.{is_held};
 ghost use Rattle.hpx_journal.specs.Weights.{HasRoom};
-ghost use Rattle.hpx_journal.specs.Whole.{part, run_local, IsClean};
+ghost use Rattle.hpx_journal.specs.Whole.{part, run_local, IsClean, IsQuietAt};
 ghost use Rattle.hpx_part.specs.Data.{Entry};
 ghost use Rattle.hpx_part.specs.Parts.{at_boot};
 ghost use Rattle.hpx_commit.specs.Deals.{AreWithin};
@@ -18,12 +18,17 @@ ghost use Rattle.hpx_tables.specs.Awaited.{awaited_here, awaited_at};
 ghost use Rattle.hpx_tables.specs.Tables.{Tables, IsPassive, fired_acts};
 ghost use Rattle.hpx_steps.specs.Rows.{Row, IsRowAt, goes, causes, hops, sets_out};
 ghost use Rattle.hpx_steps.specs.Rest.{unpaid, StandsWith};
+ghost use Rattle.hpx_steps.specs.Frames.{IsSpelled};
 ghost use Rattle.hpx_tables.specs.Free.{NoneIsFree};
+ghost use Rattle.hpx_tables.specs.Jobs.{Starts, IsRunning};
+ghost use Rattle.hpx_node.specs.Handled.{Tends};
+ghost use Rattle.hpx_value.specs.declared.acts.Job.{Job};
 ghost use Rattle.hpx_steps.specs.Limits.{IsWithin, AddsATurn};
 ghost use Rattle.hpx_tables.specs.Kept.{stands_here, held_here, owed_here, held_worth, owed_worth};
 
-/// Between calls nothing of the part is fresh, and nothing is due, up to a foreign arrival. Nothing accepted is stuck: where nothing
-/// runs and no commit waits, some accepted action is free, if there is one.
+/// Between calls nothing of the part is fresh, and nothing is due, up to a foreign arrival; where the node is passive, nothing waits,
+/// is fired or travels either, and no credit is owed. Nothing accepted is stuck: where nothing runs and no commit waits, some accepted
+/// action is free, if there is one.
 /// Calls say `Stands` of a node. From there a reader comes to what this law, the idle and the numbers laws ask for (`StandsWith`) by
 /// `tables_law` of hpx_steps, its clause `told`.
 pub fn settled_law()
@@ -31,8 +36,19 @@ pub fn settled_law()
         IsClean r (at_boot r t.here) (part t.here entries) → (run_local r (at_boot r t.here) (part t.here entries)).fresh ≡ [] }
     ensures due { (r : Rules) (t : Tables) (entries : List Entry) → StandsWith r t [] [] entries →
         IsClean r (at_boot r t.here) (part t.here entries) → (run_local r (at_boot r t.here) (part t.here entries)).due ≡ [] }
+    ensures quiet { (r : Rules) (t : Tables) (entries : List Entry) → StandsWith r t [] [] entries → IsPassive t →
+        IsClean r (at_boot r t.here) (part t.here entries) → IsQuietAt (run_local r (at_boot r t.here) (part t.here entries)) }
     ensures stuck { (r : Rules) (t : Tables) (entries : List Entry) → StandsWith r t [] [] entries →
         NoneIsFree (fired_acts t) t.objects t.accepted → t.running ≡ [] → t.pending ≡ [] → t.accepted ≡ [] }
+{}
+
+/// A passive node has no action to start, no job to finish, nothing to tend to and no frame to send: the next entry that it writes is a
+/// line that is fed, or a frame that comes.
+pub fn sleep_law()
+    ensures starts { (t t' : Tables) (job : Job) → IsPassive t → Starts t t' job → ⊥ }
+    ensures finishes { (t : Tables) (job : Job) → IsPassive t → IsRunning t job → ⊥ }
+    ensures tends { (t t' : Tables) (entries entries' : List Entry) → IsPassive t → Tends t t' entries entries' → ⊥ }
+    ensures sends { (t : Tables) (to : ℕ) (frame : List ℕ) → IsPassive t → IsSpelled t to frame → ⊥ }
 {}
 
 /// Nothing idle: in each row what has gone and what is still here is what was caused, from boot on, and from any moment on

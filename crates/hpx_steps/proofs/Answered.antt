@@ -1,6 +1,6 @@
 -- An ask is answered: more credit is granted, or refused.
-use Rattle.hpx_steps.proofs.Common.{Ask, Bool, Came, Count, Entry, Give, Going, Granted, Grants, HasCredit, HasInHand, HasLeastCredit, HasPlaces, Id, IsSound, IsTidy, Item, Leads, List, Mailed, MatchOption, OnDesk, Option, Parcel, Reason, Record, Recounts, Refused, Refuses, Row, Rules, Some, MovesOn, Tables, TidyAt, Token, Turn, View, [], ap, arith, asked_by, asks_for, asks_under, bare, bare_due, cases_Bool, causes, cond, count_by, count_in, counted, counts_of, counts_true, drops, eq-eqb, false, find, find_record, flat_map, follows_granted, follows_refused, freeing, given_to, gives_for, goes, going, hopping, inl, inr, is_least, is_other, is_recorded, is_refusal, is_refused, joined, log_of, mails, map, nat_lt, nat_tests, ne_eqb, one_if, option_map_or, owed_token, owes, parcel_asks, parcel_tokens, parcels, pow_pos, raised, refl, same_object, same_object-true, same_token, some_same, subst, sum_by, sum_by-cons, sym, token_own, tokens, true, unpaid, view, waits_for, weigh, weight, with_records, worth, wrote, ℕ, ◌+◌, ◌-◌, ◌<◌, ◌==◌, ◌^◌, ◌∙◌, ◌∷◌, ◌≡◌, ◌≢◌, ◌≤◌, ◌⊎◌, Travel, Act, grants_here, is_away, leads_away, tells_come, flow, flow_of, Flow, record_moves, record_rests, tells_own}
-use Rattle.hpx_steps.proofs.Tools.{Changes, Keeps, Sees, asks_of, bound_none, by_bool, by_rows, counts_near, drop_change, drop_moves, fewer, frees_of, hand_fit, holding, if_so, in_hand, is_frame, mail_change, mail_tidy, owed_by, own_is, same_asks, same_dead, sees_leads, sent_if, sent_total, then, told_as, total, view_worth, same_travels, ships_of, same_waits, acting, tracks_by, flowless, by_flows}
+use Rattle.hpx_steps.proofs.Common.{Ask, Bool, Came, Count, Entry, Give, Going, Granted, Grants, HasCredit, HasInHand, HasLeastCredit, HasPlaces, Id, IsSound, IsTidy, Item, Leads, List, Mailed, MatchOption, OnDesk, Option, Parcel, Reason, Record, Recounts, Refused, Refuses, Row, Rules, Some, Tables, TidyAt, Token, Turn, View, [], ap, arith, asked_by, asks_for, asks_under, bare, bare_due, cases_Bool, causes, cond, count_by, count_in, counted, counts_of, counts_true, drops, eq-eqb, false, find, find_record, flat_map, follows_granted, follows_refused, freeing, given_to, gives_for, goes, going, hopping, inl, inr, is_least, is_other, is_recorded, is_refusal, is_refused, joined, log_of, mails, map, nat_lt, nat_tests, ne_eqb, one_if, option_map_or, owed_token, owes, parcel_asks, parcel_tokens, parcels, pow_pos, raised, refl, same_object, same_object-true, same_token, some_same, subst, sum_by, sum_by-cons, sym, token_own, tokens, true, unpaid, view, waits_for, weigh, weight, with_records, worth, wrote, ℕ, ◌+◌, ◌-◌, ◌<◌, ◌==◌, ◌^◌, ◌∙◌, ◌∷◌, ◌≡◌, ◌≢◌, ◌≤◌, ◌⊎◌, Travel, Act, grants_here, is_away, leads_away, tells_come, flow, flow_of, Flow, record_moves, record_rests, tells_own, brought, moved_by, IsLive}
+use Rattle.hpx_steps.proofs.Tools.{Changes, Keeps, Sees, asks_of, bound_none, by_bool, by_rows, counts_near, drop_change, drop_moves, fewer, frees_of, hand_fit, holding, if_so, in_hand, is_frame, mail_change, mail_tidy, owed_by, own_is, same_asks, same_dead, sees_leads, sent_if, sent_total, then, told_as, total, view_worth, same_travels, ships_of, same_waits, acting, tracks_by, flowless, by_flows, all_flows}
 use Rattle.hpx_steps.proofs.Records.{found_counted, one_recounted, places_still, away_in, away_still, placed_still, reads_still}
 
 -- what a message weighs that is sent, on the desk or away
@@ -112,13 +112,12 @@ module _ (r : Rules) (s : Turn) (entries : List Entry) (h : IsSound r s entries)
           omega (arith, t, given_was j d o n, given_less j o n);
     };
     says = record { placed = λ o x m. inr (inl (placed o x m)); told = λ q j. omega (arith, moves (tells_come q j) 0 0 refl refl refl refl); own = λ q. omega (arith, moves (tells_own q) 0 0 refl refl refl refl) };
-    flows = record {
-      flows = λ f own.
-          let a = flowless s.tables.here f (Ask id asker entry) tt in
-          let b = flowless s.tables.here f give tt in
-          let c = reads f in inr (omega (arith, moves (flow s.tables.here f) 0 0 a.0 a.0 b.0 (b.1 asker), c.0, c.1));
-      near = λ o x m. inl (placed o x m);
-    };
+    arrived = λ a. omega (arith, h.arrived a, moves (brought a) 0 0 refl refl refl refl, moves (moved_by a) 0 0 refl refl refl refl);
+    flows = all_flows r (Some (Count (bare id) count why)) s now (λ o. rw alive refl) (λ f own.
+        let a = flowless s.tables.here f (Ask id asker entry) tt in
+        let b = flowless s.tables.here f give tt in
+        let c = reads f in omega (arith, moves (flow s.tables.here f) 0 0 a.0 a.0 b.0 (b.1 asker), c.0, c.1))
+        (λ o x m. inl (placed o x m));
     tracks = tracks_by (λ q. 0) (λ q. 0) s now away refl refl (λ q. omega (arith, moves (grants_here q) 0 0 refl refl refl refl))
         (λ q. inl (omega (arith, moves (leads_away s.tables.here q) 0 0 refl refl refl refl)));
     counts = counts_near s now (Count (bare id) count why) refl (omega arith) (omega arith) (omega arith) (omega arith) (omega arith) (λ x. refl);
@@ -200,15 +199,15 @@ module _ (r : Rules) (s : Turn) (entries : List Entry) (h : IsSound r s entries)
           ∙ ap (λ n. cond (same_object x (bare id)) n (count_in (find (is_recorded x) (map counted s.tables.records)))) (ap (λ (x : Record). x.count) raised_is ∙ omega (arith, sum))),
       sees_leads r seen grants sees,
     ) (places_still s.tables id old (Some (raised s.tables.profile old)) records recounts
-        (λ x is at. subst MovesOn (sym raised_is ∙ some_same (raised s.tables.profile old) x is) at) h.places)
+        (λ x is at. subst IsLive (sym raised_is ∙ some_same (raised s.tables.profile old) x is) (at.0, omega (arith, at.1, pow_pos log))) h.places)
         (away_still s.tables.here id old (Some (raised s.tables.profile old)) s.tables.records records recounts
         (λ x is. subst (λ (y : Record). is_away s.tables.here y ≡ true → is_away s.tables.here old ≡ true) (sym raised_is ∙ some_same (raised s.tables.profile old) x is) (λ m. m)))
         (placed_so id old (Some (raised s.tables.profile old)) s.tables.records records recounts (λ x is. subst (λ (y : Record). old.place ≡ y.place) (sym raised_is ∙ some_same (raised s.tables.profile old) x is) refl))
         (λ f. reads_so id old (raised s.tables.profile old) s.tables.records records recounts s.tables.here f
         (subst (λ (y : Record). record_moves s.tables.here f (Some y) ≡ record_moves s.tables.here f (Some old)) (sym raised_is)
-        (by_flows (λ f. record_moves s.tables.here f (Some (record old { count = old.count + 2 ^ log - 1 })) ≡ record_moves s.tables.here f (Some old)) (λ o t. refl) (λ o j. refl) f))
+        (by_flows (λ f. record_moves s.tables.here f (Some (record old { count = old.count + 2 ^ log - 1 })) ≡ record_moves s.tables.here f (Some old)) (λ o t. refl) (λ o j. refl) (λ o j. refl) f))
         (subst (λ (y : Record). record_rests f (Some y) ≡ record_rests f (Some old)) (sym raised_is)
-        (by_flows (λ f. record_rests f (Some (record old { count = old.count + 2 ^ log - 1 })) ≡ record_rests f (Some old)) (λ o t. refl) (λ o j. refl) f)))
+        (by_flows (λ f. record_rests f (Some (record old { count = old.count + 2 ^ log - 1 })) ≡ record_rests f (Some old)) (λ o t. refl) (λ o j. refl) (λ o j. refl) f)))
 
   module _ (records : List Record) (same : count ≡ old.count) (limit : s.tables.profile.credit_limit + 1 < count + 2 ^ s.tables.profile.credit_log)
       (recounts : Recounts id old (Some old) s.tables.records records) where
@@ -251,7 +250,7 @@ module _ (r : Rules) (s : Turn) (entries : List Entry) (h : IsSound r s entries)
               (omega (arith, limit, h.rules.credit_limit, ap (λ n. 2 ^ n) h.rules.credit_log)) one_owed,
           sees_leads r (record (view s) { last = Some (Count (bare id) count Refused) }) refuses sees,
         )
-        (places_still s.tables id old (Some old) records recounts (λ x is at. subst MovesOn (some_same old x is) at) h.places)
+        (places_still s.tables id old (Some old) records recounts (λ x is at. subst IsLive (some_same old x is) at) h.places)
         (away_still s.tables.here id old (Some old) s.tables.records records recounts (λ x is. subst (λ (y : Record). is_away s.tables.here y ≡ true → is_away s.tables.here old ≡ true) (some_same old x is) (λ m. m)))
         (placed_so id old (Some old) s.tables.records records recounts (λ x is. ap (λ (y : Record). y.place) (some_same old x is)))
         (λ f. reads_so id old old s.tables.records records recounts s.tables.here f refl refl)

@@ -1,5 +1,5 @@
 -- A message in hand is put aside, without an entry: what grants a move, or what stays for good.
-use Rattle.hpx_steps.proofs.Common.{Bool, Id, cond, grants, list_any, same_object-true, sum_by-append, sum_by-cons, bare_act, eq-eqb, Act, Apply, Arrived, Ask, Cached, Came, Entry, Free, Give, Go, HasInHand, IfSome, IsSound, IsStray, Item, Leaving, List, Mailed, Marks, Move, None, Option, Parcel, Parks, Return, Rules, Shipped, Some, Stray, TidyAt, Turn, [], and_true, ap, arith, asked_by, asks_as, asks_for, asks_under, count_by, drops, false, freeing, frees_one, given_to, gives_for, hopping, inl, inr, is_to, joined, leaves_here, move_to, not, owes, parcel_acts, parcel_asks, parcel_frees, parcel_tokens, parcel_travels, refl, same_object, stands_here, subst, sum_by, sym, target_of, true, unpaid, view, waits_for, weigh, worth, ℕ, ◌++◌, ◌+◌, ◌∙◌, ◌∷◌, ◌≡◌, ◌≢◌, ◌≤◌, ◌⊎◌, grants_here, grants_of, Among, away_here, leads_away, tells_come, tells_at, flow, flow_in, flow_go, Flow, tells_own, tell_of}
+use Rattle.hpx_steps.proofs.Common.{Bool, Id, cond, grants, list_any, same_object-true, sum_by-append, sum_by-cons, bare_act, eq-eqb, Act, Apply, Arrived, Ask, Cached, Came, Entry, Free, Give, Go, HasInHand, IfSome, IsSound, IsStray, Item, Leaving, List, Mailed, Marks, Move, None, Option, Parcel, Parks, Return, Rules, Shipped, Some, Stray, TidyAt, Turn, [], and_true, ap, arith, asked_by, asks_as, asks_for, asks_under, count_by, drops, false, freeing, frees_one, given_to, gives_for, hopping, inl, inr, is_to, joined, leaves_here, move_to, not, owes, parcel_acts, parcel_asks, parcel_frees, parcel_tokens, parcel_travels, refl, same_object, stands_here, subst, sum_by, sym, target_of, true, unpaid, view, waits_for, weigh, worth, ℕ, ◌++◌, ◌+◌, ◌∙◌, ◌∷◌, ◌≡◌, ◌≢◌, ◌≤◌, ◌⊎◌, grants_here, grants_of, Among, away_here, leads_away, tells_come, tells_at, flow, flow_in, flow_go, Flow, tells_own, tell_of, brought, moved_by}
 use Rattle.hpx_steps.proofs.Tools.{if_so, none_of, Changes, Sees, Stills, acting, asks_of, drop_change, fewer, frees_of, hand_fit, hand_weighs, holding, in_hand, is_frame, leaving_change, more_come, move_to-bare, same_asks, same_dead, same_travels, same_waits, sees_leads, ships_of, stray_change, then, view_worth, same_says, same_flows, by_flows}
 use Rattle.hpx_steps.proofs.Common.{State, Local, Shows, Travel, bare_state, flat_map, messages, IsParcel, same_object-refl, ◌<◌}
 use Rattle.hpx_journal.specs.Local.{is_travel}
@@ -75,6 +75,7 @@ module _ (r : Rules) (s : Turn) (entries : List Entry) (h : IsSound r s entries)
   no_told = by_flows (λ f. flow_in s.tables.here f p ≡ flow_go s.tables.here f p)
       (λ o t. let k = none (tells_at o t) (λ a. refl) (λ a. refl) (λ a. refl) (λ a b. refl) in omega (arith, k))
       (λ o j. let k = none (tells_at o j) (λ a. refl) (λ a. refl) (λ a. refl) (λ a b. refl) in omega (arith, k))
+      (λ o j. let k = none (tells_at o j) (λ a. refl) (λ a. refl) (λ a. refl) (λ a b. refl) in omega (arith, k))
 
   sees : Sees (view s) now
   sees = record {
@@ -124,7 +125,8 @@ module _ (r : Rules) (s : Turn) (entries : List Entry) (h : IsSound r s entries)
         let k : frees_one o p ≡ 0 = none (frees_one o) (λ a. refl) (λ a. refl) (λ a. refl) (λ a b. refl) in
         omega (arith, moves (freeing o) 0 k refl refl refl);
     says = same_says (λ q j. 0) (λ q. 0) s now refl (λ q j. let k = none (tells_at q j) (λ a. refl) (λ a. refl) (λ a. refl) (λ a b. refl) in omega (arith, moves (tells_come q j) 0 k refl refl refl)) (λ q. let k = none (tell_of q) (λ a. refl) (λ a. refl) (λ a. refl) (λ a b. refl) in omega (arith, moves (tells_own q) 0 refl k refl refl));
-    flows = same_flows r None s now refl (λ f own. omega (arith, moves (flow s.tables.here f) (flow_go s.tables.here f p) (no_told f) (no_told f) refl refl));
+    arrived = λ a. omega (arith, h.arrived a, moves (brought a) 0 refl refl refl refl, moves (moved_by a) 0 refl refl refl refl);
+    flows = same_flows r None s now refl (λ o. refl) (λ f own. omega (arith, moves (flow s.tables.here f) (flow_go s.tables.here f p) (no_told f) (no_told f) refl refl));
     tracks = record {
       kept = λ q. omega (arith, moves (grants_here q) (grants_of q p) refl refl refl refl);
       away = λ q m. inl m;

@@ -1,5 +1,5 @@
 -- An id is asked for.
-use Rattle.hpx_steps.proofs.Common.{AreNumbered, Ask, Asked, AskedFor, AsksFor, Bool, Entry, Going, HasLeastCredit, Id, IsCommit, IsSound, IsTidy, Item, List, OnDesk, Parcel, Row, Rules, Some, TidyAt, Token, Turn, View, Waits, Working, [], all_append, ap, arith, asked_by, asking, asks_as, asks_for, asks_under, bare, bare_act, bare_due, cases_Bool, causes, cond, count_by, counts_of, eq-eqb, eqb-true, false, fired_of, follows_asked, freeing, given_to, goes, going, held_token, hopping, id_at, ids_named, inl, inr, is_asked, is_asked_for, is_other, joined, length, mails, map, one_if, owed_token, parcel_asks, refl, refusals_of, same_object, set, slice_get, subst, sum_by, sum_by-append, sum_by-cons, sym, tokens, tokens_of, true, unpaid, view, waits_for, weigh, weight, worth, wrote, ℕ, ◌&&◌, ◌++◌, ◌+◌, ◌<◌, ◌==◌, ◌∙◌, ◌∷◌, ◌≡◌, grants_here, leads_away, tells_come, flow, tells_own}
+use Rattle.hpx_steps.proofs.Common.{AreNumbered, Ask, Asked, AskedFor, AsksFor, Bool, Entry, Going, HasLeastCredit, Id, IsCommit, IsSound, IsTidy, Item, List, OnDesk, Parcel, Row, Rules, Some, TidyAt, Token, Turn, View, Waits, Working, [], all_append, ap, arith, asked_by, asking, asks_as, asks_for, asks_under, bare, bare_act, bare_due, cases_Bool, causes, cond, count_by, counts_of, eq-eqb, eqb-true, false, fired_of, follows_asked, freeing, given_to, goes, going, held_token, hopping, id_at, ids_named, inl, inr, is_asked, is_asked_for, is_other, joined, length, mails, map, one_if, owed_token, parcel_asks, refl, refusals_of, same_object, set, slice_get, subst, sum_by, sum_by-append, sum_by-cons, sym, tokens, tokens_of, true, unpaid, view, waits_for, weigh, weight, worth, wrote, ℕ, ◌&&◌, ◌++◌, ◌+◌, ◌<◌, ◌==◌, ◌∙◌, ◌∷◌, ◌≡◌, grants_here, leads_away, tells_come, flow, tells_own, brought, moved_by}
 use Rattle.hpx_steps.proofs.Tools.{Changes, Keeps, Sees, asks_of, at_place, bound_none, by_rows, counts_near, first_turns, frees_of, has_not_asked, held_by, holding, ids_each, mail_change, mail_tidy, no_tokens, owed_by, put_asked, put_bare, put_elsewhere, put_for, put_names, put_there, recommit, same_dead, seen_sum, sees_by, sees_leads, sent_if, sent_total, set_sum, then, token_held, told_as, total, view_asking, view_worth, work_commits, working_change, same_travels, ships_of, same_waits, acting, same_tracks, same_says, same_flows, flowless}
 
 module _ (r : Rules) (s : Turn) (entries : List Entry) (h : IsSound r s entries) (w : Waits) (rest : List Waits) (p : ℕ) (id : Id) (due : s.due ≡ []) (fresh : s.fresh ≡ [])
@@ -141,7 +141,8 @@ module _ (r : Rules) (s : Turn) (entries : List Entry) (h : IsSound r s entries)
       given = λ j d o n. omega (arith, moves (given_to j o n) 0 refl (bound_none (id.home == j) 0 refl));
     };
     says = same_says (λ q j. 0) (λ q. 0) s now refl (λ q j. omega (arith, moves (tells_come q j) 0 refl refl)) (λ q. omega (arith, moves (tells_own q) 0 refl refl));
-    flows = same_flows r (Some (Asked (bare id))) s now refl (λ f own. let k = flowless s.tables.here f ask tt in omega (arith, moves (flow s.tables.here f) 0 k.0 (k.1 id.home)));
+    arrived = λ a. omega (arith, h.arrived a, moves (brought a) 0 refl refl, moves (moved_by a) 0 refl refl);
+    flows = same_flows r (Some (Asked (bare id))) s now refl (λ o. refl) (λ f own. let k = flowless s.tables.here f ask tt in omega (arith, moves (flow s.tables.here f) 0 k.0 (k.1 id.home)));
     tracks = same_tracks (λ q. 0) (λ q. 0) s now (λ q. refl) refl refl (λ q. omega (arith, moves (grants_here q) 0 refl refl)) (λ q. omega (arith, moves (leads_away s.tables.here q) 0 refl refl));
     counts = counts_near s now (Asked (bare id)) refl (omega arith) (omega arith) (omega arith) (omega arith) (omega arith) (λ l. refl);
   }

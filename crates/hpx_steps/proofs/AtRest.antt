@@ -1,5 +1,5 @@
 -- Between turns all that holds of a turn is what holds of the tables, and the other way round.
-use Rattle.hpx_steps.proofs.Common.{cond, same_object, Arrival, Untold, hops_left, of_accepted, of_came, Brought, IsGranted, IsStray, IsWaitingFor, Leaving, Queued, Stray, Waiting, brings, queued_parcels, ◌++◌, Accepted, Act, AllByRecursion, AreFired, ArePaused, AreRules, Came, Entry, Going, HasObject, Id, IfSome, IsDue, IsFit, IsForHere, IsKept, IsOnItsWay, IsOwn, IsParcel, IsPaused, IsSound, List, Loose, Mailed, OnDesk, Outgoing, Parcel, Pending, Row, Rules, Running, Standing, StandsAtRest, StandsFor, StandsHere, Tables, Waits, Working, [], all_parts, append-nil, arith, asked_by, asks_for, at_rest, bare_act, bound_for, freeing, given_to, gives_for, hopping, joined, length, map, move_to, of_act, part, stands_here, subst, sum_by, sym, target_of, true, weigh, ℕ, ◌+◌, ◌≡◌, ◌≢◌, ◌≤◌, act_in, grants_here, grants_in, leads_away, grants_of_all, leads_on, tells_come, tells_own, tell_of, count_by}
+use Rattle.hpx_steps.proofs.Common.{cond, same_object, Arrival, Untold, hops_left, of_accepted, of_came, Brought, IsGranted, IsStray, IsWaitingFor, Leaving, Queued, Stray, Waiting, brings, queued_parcels, ◌++◌, Accepted, Act, AllByRecursion, AreFired, ArePaused, AreRules, Came, Entry, Going, HasObject, Id, IfSome, IsDue, IsFit, IsForHere, IsKept, IsOnItsWay, IsOwn, IsParcel, IsPaused, IsSound, List, Loose, Mailed, OnDesk, Outgoing, Parcel, Pending, Row, Rules, Running, Standing, StandsAtRest, StandsFor, StandsHere, Tables, Waits, Working, [], all_parts, append-nil, arith, asked_by, asks_for, at_rest, bare_act, bound_for, freeing, given_to, gives_for, hopping, joined, length, map, move_to, of_act, part, stands_here, subst, sum_by, sym, target_of, true, weigh, ℕ, ◌+◌, ◌≡◌, ◌≢◌, ◌≤◌, act_in, grants_here, grants_in, leads_away, grants_of_all, leads_on, tells_come, tells_own, tell_of, count_by, None}
 use Rattle.hpx_steps.proofs.Tools.{same_sum, all_among, among_all, by_rows, map_all, tidy_messages, long_sum, two_sums, zeros}
 use Rattle.hpx_steps.specs.Rest.{IsTidy, tokens, unpaid, view, waits_for}
 use Rattle.hpx_steps.specs.Rows.{TellsOf, unpaid as turn_unpaid}
@@ -96,6 +96,7 @@ module _ (t : Tables) where
             refused = a.0.refused;
             once = a.0.once;
             split = a.1;
+            stays = a.3;
           });
       single = h.places.single;
       apart = h.commits.apart;
@@ -161,6 +162,8 @@ module _ (t : Tables) where
       placed = record { placed = h.placed.placed; own = λ o. omega (arith, h.placed.own o, own_is o) };
       flowing = h.flowing;
       lacks = all_among (λ (w : Waits). w.asked ≢ []) t.pending (λ w m. (h.tidy (Pending w) m).2);
+      bare = all_among (λ (a : Arrival). a.object.log ≡ None) t.came (λ a m. h.tidy (Brought a) m);
+      arrived = h.arrived;
     }
 
   -- ---- and back
@@ -194,7 +197,7 @@ module _ (t : Tables) where
     )
     tidies (Leaving p) m = (among_all IsParcel p t.leaving m parts.3, among_all (IsGranted t.here t.objects) p t.leaving m h.stands.tidy.leaving)
     tidies (Stray p) m = (among_all IsParcel p t.stray m parts.4, among_all IsStray p t.stray m h.stands.tidy.stray)
-    tidies (Brought a) m = tt
+    tidies (Brought a) m = among_all (λ (b : Arrival). b.object.log ≡ None) a t.came m h.bare
     tidies (Untold o) m = absurd m
     tidies (Accepted a) m = (
       among_all IsFit a t.accepted m h.stands.tidy.accepted,
@@ -207,6 +210,7 @@ module _ (t : Tables) where
           record { job = p.job; here = p.here; localities = p.localities; few = p.few; hand = p.hand; within = p.within; refused = p.refused; once = p.once },
           p.split,
           among_all (λ (v : Waits). v.asked ≢ []) w t.pending m h.lacks,
+          p.stays,
         )
     tidies (Working w) m = absurd m
     tidies (StandsHere x) m = (
@@ -254,5 +258,6 @@ module _ (t : Tables) where
       };
       placed = record { placed = h.placed.placed; told = λ o j. omega (arith, none_told o j); own = λ o. omega (arith, h.placed.own o, own_is o) };
       flowing = h.flowing;
+      arrived = h.arrived;
       numbers = grind arith;
     }

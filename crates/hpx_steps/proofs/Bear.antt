@@ -1,6 +1,6 @@
 -- A commit makes an object.
-use Rattle.hpx_steps.proofs.Common.{Bears, Bool, Born, Entry, Event, HasPlaces, Id, IsBirth, IsCommit, IsSound, IsTidy, List, Make, None, Option, Record, Rules, Some, Standing, StandsHere, State, MovesOn, TidyAt, Token, Turn, View, Waits, Working, [], ap, append-nil, arith, asking, bare, bare_due, bare_id, bare_standing, birth_of, birth_state, cond, count_by, count_in, counted, false, false_from, find, find_record, follows_born, held_token, id_at, ids_named, inl, is_asked, is_asked_for, is_recorded, is_standing, length, map, map-append, refl, same_object, same_object-true, session, some_same, subst, sum_by, sum_by-cons, sym, take, tokens, tokens_of, true, view, works_on, worth, wrote, ℕ, ◌++◌, ◌+◌, ◌^◌, ◌∙◌, ◌∷◌, ◌≡◌, ◌≤◌, grants_here, is_away, away_here, leads_away, option_map_or, eq-eqb, not, ◌||◌, ◌==◌, tells_come, weigh, inr, ◌⊎◌, flow, flow_of, Flow, dies, record_here, record_moves, record_rests, one_if, ◌<◌, tells_own}
-use Rattle.hpx_steps.proofs.Tools.{Changes, Keeps, all_among, by_rows, counts_near, first_turns, holding, if_so, more_come, more_commits, numbered_so, objects_change, orders_so, pays_so, recommit, retidy, sees_by, sees_leads, single_more, stand_more, take_place, then, view_asking, view_worth, work_commits, working_change, tracks_by, by_flows, eq_turned}
+use Rattle.hpx_steps.proofs.Common.{Bears, Bool, Born, Entry, Event, HasPlaces, Id, IsBirth, IsCommit, IsSound, IsTidy, List, Make, None, Option, Record, Rules, Some, Standing, StandsHere, State, TidyAt, Token, Turn, View, Waits, Working, [], ap, append-nil, arith, asking, bare, bare_due, bare_id, bare_standing, birth_of, birth_state, cond, count_by, count_in, counted, false, false_from, find, find_record, follows_born, held_token, id_at, ids_named, inl, is_asked, is_asked_for, is_recorded, is_standing, length, map, map-append, refl, same_object, same_object-true, session, some_same, subst, sum_by, sum_by-cons, sym, take, tokens, tokens_of, true, view, works_on, worth, wrote, ℕ, ◌++◌, ◌+◌, ◌^◌, ◌∙◌, ◌∷◌, ◌≡◌, ◌≤◌, grants_here, is_away, away_here, leads_away, option_map_or, eq-eqb, not, ◌||◌, ◌==◌, tells_come, weigh, inr, ◌⊎◌, flow, flow_of, Flow, record_here, record_moves, record_rests, one_if, ◌<◌, tells_own, brought, moved_by, IsLive, pow_pos}
+use Rattle.hpx_steps.proofs.Tools.{Changes, Keeps, all_among, by_rows, counts_near, first_turns, holding, if_so, more_come, more_commits, numbered_so, objects_change, orders_so, pays_so, recommit, retidy, sees_by, sees_leads, single_more, stand_more, take_place, then, view_asking, view_worth, work_commits, working_change, tracks_by, by_flows, eq_turned, all_flows}
 use Rattle.hpx_steps.proofs.Records.{found_counted}
 
 module _ (r : Rules) (s : Turn) (entries : List Entry) (h : IsSound r s entries) (w : Waits) (rest : List Waits) (make : Make) (hand : List Id) (due : s.due ≡ [])
@@ -85,8 +85,8 @@ module _ (r : Rules) (s : Turn) (entries : List Entry) (h : IsSound r s entries)
     once = h.places.once;
   }
     where
-      at : (x : Id) (y : Record) (b : Bool) → same_object x o ≡ b → cond (same_object x o) (Some made) (find_record x s.tables.records) ≡ Some y → MovesOn y
-      at x y true t is = let k : Some made ≡ Some y = rw t at is in subst MovesOn (some_same made y k) (λ same. cc)
+      at : (x : Id) (y : Record) (b : Bool) → same_object x o ≡ b → cond (same_object x o) (Some made) (find_record x s.tables.records) ≡ Some y → IsLive y
+      at x y true t is = let k : Some made ≡ Some y = rw t at is in subst IsLive (some_same made y k) (λ same. cc, pow_pos s.tables.profile.credit_log)
       at x y false f is = h.places.places x y (rw f at is)
 
   not_away : (x : Id) → away_here now.tables x ≡ true → away_here s.tables x ≡ true
@@ -114,15 +114,15 @@ module _ (r : Rules) (s : Turn) (entries : List Entry) (h : IsSound r s entries)
       each true k = inr (inl (ap (λ (z : Record). z.place) (sym (some_same made y k))))
       each false k = inl (y, k, refl)
 
-  flows_now : (f : Flow) → (flow_of f).home ≡ s.tables.here → (1 ≤ dies (flow_of f) e)
-      ⊎ (record_moves s.tables.here f (record_here now.tables (flow_of f)) + 0 + weigh (flow s.tables.here f) s + record_rests f (record_here s.tables (flow_of f))
+  flows_now : (f : Flow) → (flow_of f).home ≡ s.tables.here → (record_moves s.tables.here f (record_here now.tables (flow_of f)) + 0 + weigh (flow s.tables.here f) s + record_rests f (record_here s.tables (flow_of f))
       ≡ record_moves s.tables.here f (record_here s.tables (flow_of f)) + weigh (flow s.tables.here f) now + 0 + record_rests f (record_here now.tables (flow_of f)))
   flows_now f own =
       let is = found_more (flow_of f) in
-      inr (omega (arith, ap (record_moves s.tables.here f) is, ap (record_rests f) is, each (same_object (flow_of f) o) refl, change.0 (flow s.tables.here f)))
+      omega (arith, ap (record_moves s.tables.here f) is, ap (record_rests f) is, each (same_object (flow_of f) o) refl, change.0 (flow s.tables.here f))
     where
       new_one : (f : Flow) → record_moves s.tables.here f (Some made) + record_rests f None ≡ record_moves s.tables.here f None + record_rests f (Some made)
       new_one f = by_flows (λ f. record_moves s.tables.here f (Some made) + record_rests f None ≡ record_moves s.tables.here f None + record_rests f (Some made)) (λ x t. refl)
+          (λ x j. let k : one_if (j == s.tables.here) ≡ one_if (s.tables.here == j) = ap one_if (eq_turned j s.tables.here) in omega (arith, k))
           (λ x j. let k : one_if (j == s.tables.here) ≡ one_if (s.tables.here == j) = ap one_if (eq_turned j s.tables.here) in omega (arith, k)) f
 
       each : (b : Bool) → same_object (flow_of f) o ≡ b
@@ -162,7 +162,8 @@ module _ (r : Rules) (s : Turn) (entries : List Entry) (h : IsSound r s entries)
     pays = pays_so r s now e (Working w ∷ []) (Working bearer ∷ StandsHere new ∷ []) change.0 (by_rows _ (λ at. refl) (λ at. refl) (λ at. refl) (λ at. refl) (λ at. refl) (λ at. refl) (λ at. refl) (λ at. refl) (λ at. refl) (λ at. refl) (λ at. refl) (λ o at. refl) (λ o to at. refl) (λ o to at. refl) (λ o to at. refl) (λ o at. refl)) (omega arith) (omega arith) (λ o. omega arith);
     orders = orders_so r s now e (Working w ∷ []) (Working bearer ∷ StandsHere new ∷ []) change.0 tt (λ o n. omega (arith, ap (λ ys. count_by (is_asked_for w o n) ys) lacks, ap (λ ys. count_by (is_asked_for bearer o n) ys) lacks)) (λ j d o n. omega arith);
     says = record { placed = placed_now; told = λ x j. omega (arith, change.0 (tells_come x j)); own = λ q. omega (arith, change.0 (tells_own q)) };
-    flows = record { flows = flows_now; near = near_now };
+    arrived = λ a. omega (arith, h.arrived a, change.0 (brought a), change.0 (moved_by a));
+    flows = all_flows r (Some e) s now (λ o. refl) flows_now near_now;
     tracks = tracks_by (λ x. 0) (λ x. 0) s now not_away refl refl (λ x. omega (arith, change.0 (grants_here x))) (λ x. inl (omega (arith, change.0 (leads_away s.tables.here x))));
     counts = counts_near s now e refl (omega arith) (omega arith) (omega arith) (omega arith) (omega arith) (λ l. refl);
   }

@@ -1,6 +1,6 @@
 -- Where nothing is on its way, nothing waits and there is no record, no move has begun.
-use Rattle.hpx_steps.proofs.Common.{Among, Apply, ArePlaced, Id, IsFlowing, MovesBegan, None, Record, Rules, Some, Tables, [], ap, arith, at_rest, false, find_record, flow, flow_of, inr, leads_on, OnDesk, Going, Leaving, Stray, Brought, ◌∷◌, option_map_or, is_away, record_moves, record_rests, refl, subst, sum_by, sym, true, ◌≡◌, ◌≤◌, Outgoing, List, AllByRecursion, grants_of_all, target_of, act_in, Waiting, Parcel, Shipped}
-use Rattle.hpx_steps.proofs.Tools.{by_flows, zeros}
+use Rattle.hpx_steps.proofs.Common.{Among, Apply, ArePlaced, Id, IsFlowing, MovesBegan, None, Record, Rules, Some, Tables, [], ap, arith, at_rest, false, find_record, flow, flow_of, inr, leads_on, OnDesk, Going, Leaving, Stray, Brought, ◌∷◌, option_map_or, is_away, record_moves, record_rests, refl, subst, sum_by, sym, true, ◌≡◌, ◌≤◌, Outgoing, List, AllByRecursion, grants_of_all, target_of, act_in, Waiting, Parcel, Shipped, EndsAt, Flow, weigh, ◌+◌, ◌==◌, Arrival, brought, moved_by}
+use Rattle.hpx_steps.proofs.Tools.{by_flows, zeros, bound_none}
 
 no_record : (rs : List Record) (o : Id) (x : Record) → rs ≡ [] → find_record o rs ≡ Some x → ⊥
 no_record [] o x e is = cc
@@ -23,22 +23,45 @@ boot_placed r t records desk came = record {
 
 pub boot_flowing : (r : Rules) (t : Tables) → t.records ≡ [] → t.desk ≡ [] → t.outgoing ≡ [] → t.queued ≡ [] → t.leaving ≡ [] → t.stray ≡ [] → t.came ≡ [] → IsFlowing r (at_rest t) []
 boot_flowing r t records desk outgoing queued leaving stray came = record {
-  flows = λ f own. inr (omega (
-    arith,
-    ap (λ (rs : List Record). record_moves t.here f (find_record (flow_of f) rs)) records,
-    ap (λ (rs : List Record). record_rests f (find_record (flow_of f) rs)) records,
-    by_flows (λ f. record_moves t.here f None ≡ 0) (λ o j. refl) (λ o j. refl) f,
-    by_flows (λ f. record_rests f None ≡ 0) (λ o j. refl) (λ o j. refl) f,
-    ap (sum_by (λ p. flow t.here f (OnDesk p))) desk,
-    ap (sum_by (λ x. flow t.here f (Going x))) outgoing,
-    ap (sum_by (λ p. flow t.here f (Leaving p))) leaving,
-    ap (sum_by (λ p. flow t.here f (Stray p))) stray,
-    ap (sum_by (λ a. flow t.here f (Brought a))) came,
-    zeros t.queued,
-    zeros t.accepted,
-    zeros t.running,
-    zeros t.pending,
-    zeros t.objects,
-  ));
+  flows = λ f own. inr (empty f);
+  ends = λ o j own. omega (arith, empty (EndsAt o j), bound_none (j == t.here) 0 refl);
   near = λ o x is. absurd (no_record t.records o x records is);
 }
+  where
+    empty : (f : Flow) → record_moves t.here f (find_record (flow_of f) t.records) + 0 ≡ weigh (flow t.here f) (at_rest t) + 0 + record_rests f (find_record (flow_of f) t.records)
+    empty f = omega (
+      arith,
+      ap (λ (rs : List Record). record_moves t.here f (find_record (flow_of f) rs)) records,
+      ap (λ (rs : List Record). record_rests f (find_record (flow_of f) rs)) records,
+      by_flows (λ f. record_moves t.here f None ≡ 0) (λ o j. refl) (λ o j. refl) (λ o j. refl) f,
+      by_flows (λ f. record_rests f None ≡ 0) (λ o j. refl) (λ o j. refl) (λ o j. refl) f,
+      ap (sum_by (λ p. flow t.here f (OnDesk p))) desk,
+      ap (sum_by (λ x. flow t.here f (Going x))) outgoing,
+      ap (sum_by (λ p. flow t.here f (Leaving p))) leaving,
+      ap (sum_by (λ p. flow t.here f (Stray p))) stray,
+      ap (sum_by (λ a. flow t.here f (Brought a))) came,
+      zeros t.queued,
+      zeros t.accepted,
+      zeros t.running,
+      zeros t.pending,
+      zeros t.objects,
+    )
+
+-- and no object came
+pub boot_arrived : (t : Tables) → t.came ≡ [] → (a : Arrival) → weigh (brought a) (at_rest t) ≤ weigh (moved_by a) (at_rest t)
+boot_arrived t came a = omega (
+  arith,
+  ap (sum_by (λ b. brought a (Brought b))) came,
+  zeros t.desk,
+  zeros t.outgoing,
+  zeros t.queued,
+  zeros t.leaving,
+  zeros t.stray,
+  zeros t.accepted,
+  zeros t.running,
+  zeros t.pending,
+  zeros t.objects,
+)
+
+pub boot_bare : (t : Tables) → t.came ≡ [] → AllByRecursion (λ (a : Arrival). a.object.log ≡ None) t.came
+boot_bare t came = subst (AllByRecursion (λ (a : Arrival). a.object.log ≡ None)) (sym came) tt

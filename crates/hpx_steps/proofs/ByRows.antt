@@ -1,5 +1,5 @@
 -- By cases: one row after the other, and both ways of a test.
-use Rattle.hpx_steps.proofs.Common.{ℕ, Actions, Asks, Bool, Counts, Frees, FreesOf, Id, Refusals, Returns, Row, false, refl, true, ◌≡◌, Flow, MovesTo, PlacedAt, eq-eqb, eqb-true, false_from, sym, ◌==◌, ◌∙◌}
+use Rattle.hpx_steps.proofs.Common.{ℕ, Actions, Asks, Bool, Counts, Frees, FreesOf, Id, Refusals, Returns, Row, false, refl, true, ◌≡◌, Flow, MovesTo, PlacedAt, EndsAt, eq-eqb, eqb-true, false_from, sym, ◌==◌, ◌∙◌}
 use Rattle.hpx_steps.specs.Rows.{Gives, GosOf, Landeds, Landings, LandsOf, Leavings, Objects, ShipsOf, TellsOf}
 
 pub by_rows : (P : Row → Type 0) → P Returns → P Asks → P Gives → P Frees → P Counts → P Refusals → P Actions → P Objects → P Landeds → P Leavings → P Landings → ((o : Id) → P (FreesOf o))
@@ -29,9 +29,10 @@ pub if_so : {P : Type 0} (b : Bool) → (b ≡ true → P) → (b ≡ false → 
 if_so true a b = a refl
 if_so false a b = b refl
 
-pub by_flows : (P : Flow → Type 0) → ((o : Id) (t : ℕ) → P (MovesTo o t)) → ((o : Id) (j : ℕ) → P (PlacedAt o j)) → (f : Flow) → P f
-by_flows P a b (MovesTo o t) = a o t
-by_flows P a b (PlacedAt o j) = b o j
+pub by_flows : (P : Flow → Type 0) → ((o : Id) (t : ℕ) → P (MovesTo o t)) → ((o : Id) (j : ℕ) → P (PlacedAt o j)) → ((o : Id) (j : ℕ) → P (EndsAt o j)) → (f : Flow) → P f
+by_flows P a b c (MovesTo o t) = a o t
+by_flows P a b c (PlacedAt o j) = b o j
+by_flows P a b c (EndsAt o j) = c o j
 
 -- an equality from the other side
 pub eq_turned : (a b : ℕ) → (a == b) ≡ (b == a)

@@ -1,5 +1,5 @@
 -- What many entries have in common.
-use Rattle.hpx_steps.proofs.Common.{IsRowAt, Act, Standing, starts, AreNumbered, Bool, Event, Id, IsOwn, Item, List, Local, Parcel, Row, Rules, SameTokens, SendsOwn, Tables, Turn, View, ap, arith, arrives_at, asked_by, asks_for, asks_under, causes, come, cond, count_by, counts_of, done_after, fires_one, freeing, given_to, gives_for, goes, gone, gone_to, hopping, joined, joins, length, outs_by, own, parcel_asks, parcel_frees, same_object, spends, subst, sym, tokens, unpaid, view, waits_for, weigh, wrote, ℕ, ◌+◌, ◌∙◌, ◌≡◌, ◌≢◌, ◌≤◌, SameSums, Travel, parcel_travels, sum_by, grants_gone, grants_here, away_here, leads_away, leads_on, tells_at, tells_come, Flow, Some, flow, flow_comes, flow_goes, tells_own, is_landed_of, one_if}
+use Rattle.hpx_steps.proofs.Common.{IsRowAt, Act, Standing, starts, AreNumbered, Bool, Event, Id, IsOwn, Item, List, Local, Parcel, Row, Rules, SameTokens, SendsOwn, Tables, Turn, View, ap, arith, arrives_at, asked_by, asks_for, asks_under, causes, come, cond, count_by, counts_of, done_after, fires_one, freeing, given_to, gives_for, goes, gone, gone_to, hopping, joined, joins, length, outs_by, own, parcel_asks, parcel_frees, same_object, spends, subst, sym, tokens, unpaid, view, waits_for, weigh, wrote, ℕ, ◌+◌, ◌∙◌, ◌≡◌, ◌≢◌, ◌≤◌, SameSums, Travel, parcel_travels, sum_by, grants_gone, grants_here, away_here, leads_away, leads_on, tells_at, tells_come, Flow, Some, flow, flow_comes, flow_goes, tells_own, is_landed_of, one_if, dies}
 use Rattle.hpx_steps.proofs.Changes.{Sums, total}
 use Rattle.hpx_steps.proofs.Seen.{Sees, as_seen}
 use Rattle.hpx_steps.proofs.Sums.{acted, acting, by_own, by_parcel, own_sum, seen_sum, stands_of, view_fired, view_objects, wait_sum}
@@ -54,9 +54,9 @@ module _ (r : Rules) (s s' : Turn) (e : Event) (out into : List Item) (sums : Su
   says_so records told own = same_says (λ o j. come r (tells_at o j) e) (λ o. one_if (is_landed_of o e)) s s' records (λ o j. omega (arith, sums (tells_come o j), told o j))
       (λ o. omega (arith, sums (tells_own o), own o))
 
-  pub flows_so : s'.tables.records ≡ s.tables.records
+  pub flows_so : s'.tables.records ≡ s.tables.records → ((o : Id) → dies o e ≡ 0)
       → ((f : Flow) → flow_comes r s.tables.here f e + total (flow s.tables.here f) out ≡ total (flow s.tables.here f) into + flow_goes r s.tables.here f e) → Flows r (Some e) s s'
-  flows_so records same = same_flows r (Some e) s s' records (λ f own. omega (arith, sums (flow s.tables.here f), same f))
+  flows_so records lives same = same_flows r (Some e) s s' records lives (λ f own. omega (arith, sums (flow s.tables.here f), same f))
 
   pub numbered_so : s.tables.asked ≤ s'.tables.asked → ((n : ℕ) → total (asks_under n) into ≤ total (asks_under n) out) → AreNumbered s → AreNumbered s'
   numbered_so asked less = fewer s s' asked (λ n. omega (arith, sums (asks_under n), less n))

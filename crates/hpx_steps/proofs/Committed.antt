@@ -1,5 +1,5 @@
 -- A commit in work is done, or fails: its objects are made, its ids are halved, it ends, what is due is sent, and what nobody names is given up.
-use Rattle.hpx_steps.proofs.Common.{Arrival, with_returns, Arrived, AreOf, Label, MatchOption, Note, Steps, Suspend, Writes, inl, inr, mails, slice_get, up_of, ups, with_done_told, with_told, written, wrote, ◌⊎◌, Act, AllByRecursion, AreMade, AreWithin, Birth, Bool, Commits, Deals, Done, Due, Ends, Entry, Event, HasCredit, HasRightCredit, Id, IsBirth, IsFitDue, IsKept, IsLeftBy, Job, Lasts, List, Merge, MessageDue, None, Option, PrintDue, Remains, Return, Rules, Some, Standing, Stands, StandsHere, State, Step, Stock, Tables, Turn, Up, Waits, [], all_at, all_set, answered_by, ap, append-nil, append_assoc, arith, at_all, at_rest, bare, bare_act, bare_standing, bare_state, birth_of, births_of, cond, due_with, ends, false, find, find_passes, get_before, hand_ids, id_at, ids_named, ids_of, is_some, is_standing, length, length-map, map, may_merge, merged_in, name_of, named, named_act, objects_of, plain, records_of, refl, remove, rider_event, rider_events, rider_of, rules_of, set, splits_from, state_after, subst, suc, sym, target_of, true, waits_with, with_act, with_credit, with_due, with_left, with_mail, with_rider, with_riders, written_due, zero, ℕ, ◌++◌, ◌+◌, ◌<◌, ◌∙◌, ◌∷◌, ◌≡◌, ◌≤◌}
+use Rattle.hpx_steps.proofs.Common.{Arrival, with_returns, Arrived, AreOf, Label, MatchOption, Steps, Suspend, Writes, inl, inr, mails, slice_get, up_of, ups, with_done_told, with_told, written, wrote, ◌⊎◌, Act, AllByRecursion, AreMade, AreWithin, Birth, Bool, Commits, Deals, Done, Due, Ends, Entry, Event, HasCredit, HasRightCredit, Id, IsBirth, IsFitDue, IsKept, IsLeftBy, Job, Lasts, List, Merge, MessageDue, None, Option, PrintDue, Remains, Return, Rules, Some, Standing, Stands, StandsHere, State, Step, Stock, Tables, Turn, Up, Waits, [], all_at, all_set, answered_by, ap, append-nil, append_assoc, arith, at_all, at_rest, bare, bare_act, bare_standing, bare_state, birth_of, births_of, cond, due_with, ends, false, find, find_passes, get_before, hand_ids, id_at, ids_named, ids_of, is_some, is_standing, length, length-map, map, may_merge, merged_in, name_of, named, named_act, objects_of, plain, records_of, refl, remove, rider_event, rider_events, rider_of, rules_of, set, splits_from, state_after, subst, suc, sym, target_of, true, waits_with, with_act, with_credit, with_due, with_left, with_mail, with_rider, with_riders, written_due, zero, ℕ, ◌++◌, ◌+◌, ◌<◌, ◌∙◌, ◌∷◌, ◌≡◌, ◌≤◌, Moved, CameWith, CameAlone, arrival_of}
 use Rattle.hpx_steps.proofs.Tools.{all_among, find_more, get_set, right_log, single_found, single_set, some_log}
 use Rattle.hpx_value.specs.Riders.{rider_at, rider_place}
 use Rattle.hpx_value.specs.Values.{message_of}
@@ -128,11 +128,25 @@ all_right [] h = tt
 all_right (id ∷ ids) h = (right_log id.kind id.log h.0, all_right ids h.1)
 
 -- it ends, under the name of its action
-pub ends_so : (s : Turn) (w : Waits) (rest : List Waits) (j : ℕ) (x : Standing) (left : Remains) → s.due ≡ [] → s.working ≡ w ∷ rest → w.asked ≡ [] → slice_get s.tables.objects j ≡ Some x
+pub ends_so : (s : Turn) (w : Waits) (rest : List Waits) (j : ℕ) (x : Standing) (left : Remains) (moved : Moved) → s.due ≡ [] → s.working ≡ w ∷ rest → w.asked ≡ [] → slice_get s.tables.objects j ≡ Some x
     → find (is_standing (target_of w.job.action)) s.tables.objects ≡ Some x → IsKept (record { object = x.object; state = left.state }) → (x.object.kind ≡ 7 → left.state ≡ x.state)
     → AllByRecursion HasRightCredit left.state.ids → AllByRecursion IsFitDue left.due → AllByRecursion HasCredit left.loose → Deals w.hand left.state left.due left.loose
-    → Ends s (name_of w.job.action) w rest j x left
-ends_so s w rest j x left due works lacks stands found kept plain credit fits given_up deals = grind (arith, all_right)
+    → CameWith s w.job.action moved ⊎ CameAlone s w.job.action moved → Ends s (name_of w.job.action) w rest j x left moved
+ends_so s w rest j x left moved due works lacks stands found kept plain credit fits given_up deals told = grind (arith, all_right)
+
+-- it came so, or not, in another turn too
+pub came_so : (s s' : Turn) (act : Act) (moved : Moved) → s'.tables.came ≡ s.tables.came → s'.untold ≡ s.untold → CameWith s act moved ⊎ CameAlone s act moved → CameWith s' act moved ⊎ CameAlone s' act moved
+came_so s s' act moved same untold (inl k) = inl (record {
+  i = k.i;
+  there = subst (λ (c : List Arrival). slice_get c k.i ≡ Some (arrival_of act)) (sym same) k.there;
+  came = k.came ∙ ap (λ (c : List Arrival). remove c k.i) (sym same);
+  untold = k.untold ∙ ap (λ os. os ++ bare (target_of act) ∷ []) (sym untold);
+})
+came_so s s' act moved same untold (inr k) = inr (record {
+  none = subst (λ (c : List Arrival). act.code ≡ 1 → (i : ℕ) → slice_get c i ≡ Some (arrival_of act) → ⊥) (sym same) k.none;
+  came = k.came ∙ sym same;
+  untold = k.untold ∙ sym untold;
+})
 
 -- ---- a commit with this in its hand, and these places named there
 
@@ -172,28 +186,28 @@ module _ (r : Rules) (s : Turn) (w : Waits) (rest : List Waits) (front later bac
       (two.0, writes_append r (with_hand w rest (front ++ (later ++ back)) s) m (ready two.0) (births_of s.tables.here s.tables.births (map birth_of w.outcome.makes)) (splits_from 0 full_hand places) one.1 two.1)
 
   -- the whole commit, where its object is x, at j
-  pub done_steps : (j : ℕ) (x : Standing) (left : Remains) → AreOf s.untold left.loose → AreWithin full_hand places → ((q : ℕ) → q < length full_hand → Lasts (id_at full_hand q) (named places q))
+  pub done_steps : (j : ℕ) (x : Standing) (left : Remains) (moved : Moved) → CameWith s w.job.action moved ⊎ CameAlone s w.job.action moved → AreOf moved.untold left.loose → AreWithin full_hand places → ((q : ℕ) → q < length full_hand → Lasts (id_at full_hand q) (named places q))
       → slice_get s.tables.objects j ≡ Some x → find (is_standing (target_of w.job.action)) s.tables.objects ≡ Some x → AllByRecursion (Drawn s.tables.here s.tables.births) s.tables.objects
       → IsLeftBy r s.tables.here w.job w.outcome x halved_hand (map bare (ids_of s.tables.here s.tables.births s.tables.profile.credit_log (map birth_of w.outcome.makes))) left
       → (l : Option Event) × Writing r (with_hand w rest (front ++ (later ++ back)) s) (events ++ (Done (name_of w.job.action) false ∷ (written_due s.tables.here s.tables.serial left.due ++ (rider_events s.tables.profile.credit_log left.state.ids (rider_of w.job.action) ++ ups left.loose))))
-      (record (ends j (record w { hand = halved_hand }) rest x left (ready l)) {
+      (record (ends j (record w { hand = halved_hand }) rest x left moved (ready l)) {
         due = [];
         loose = [];
         untold = [];
-        tables = with_done_told s.untold j (record { object = x.object; state = left.state }) left.due (rider_of w.job.action) left.loose (ends j (record w { hand = halved_hand }) rest x left (ready l)).tables;
+        tables = with_done_told moved.untold j (record { object = x.object; state = left.state }) left.due (rider_of w.job.action) left.loose (ends j (record w { hand = halved_hand }) rest x left moved (ready l)).tables;
         last = l;
       })
-  done_steps j x left of within lasts stands found drawn by =
+  done_steps j x left moved told of within lasts stands found drawn by =
       let born : List Id = map bare (ids_of s.tables.here s.tables.births s.tables.profile.credit_log (map birth_of w.outcome.makes)) in
       let is_fresh : born ≡ s.fresh ++ born = ap (λ os. os ++ born) (sym fresh) in
       let new : List Standing = objects_of s.tables.here s.tables.births (map birth_of w.outcome.makes) in
       let more : List Event = written_due s.tables.here s.tables.serial left.due ++ (rider_events s.tables.profile.credit_log left.state.ids (rider_of w.job.action) ++ ups left.loose) in
       let then_is : Standing = record { object = x.object; state = left.state } in
       let one = ready_steps within lasts in
-      let d : Turn = wrote (Done (name_of w.job.action) false) (ends j (record w { hand = halved_hand }) rest x left (ready one.0)) in
+      let d : Turn = wrote (Done (name_of w.job.action) false) (ends j (record w { hand = halved_hand }) rest x left moved (ready one.0)) in
       let two = left_steps r (record d { due = []; loose = [] }) w.job.action j then_is left.due left.loose refl by.given_up of
       (get_set (s.tables.objects ++ new) j x then_is (get_before s.tables.objects new j x stands)) in
-      let end : Turn = record d { due = []; loose = []; untold = []; tables = with_done_told s.untold j then_is left.due (rider_of w.job.action) left.loose d.tables; last = two.0 } in
+      let end : Turn = record d { due = []; loose = []; untold = []; tables = with_done_told moved.untold j then_is left.due (rider_of w.job.action) left.loose d.tables; last = two.0 } in
       let start : d ≡ record d { due = left.due; loose = with_credit (rider_of w.job.action) ++ left.loose } = ap (λ is. record d { loose = is ++ (with_credit (rider_of w.job.action) ++ left.loose) }) loose in
       let done : Commits r (ready one.0) (name_of w.job.action) d = record {
         w = record w { hand = halved_hand };
@@ -201,8 +215,9 @@ module _ (r : Rules) (s : Turn) (w : Waits) (rest : List Waits) (front later bac
         j = j;
         x = x;
         left = left;
-        ending = ends_so (ready one.0) (record w { hand = halved_hand }) rest j x left due refl lacks (get_before s.tables.objects new j x stands)
-            (find_more (is_standing (target_of w.job.action)) s.tables.objects new x found) by.kept by.plain by.credit by.fits by.given_up by.deals;
+        moved = moved;
+        ending = ends_so (ready one.0) (record w { hand = halved_hand }) rest j x left moved due refl lacks (get_before s.tables.objects new j x stands)
+            (find_more (is_standing (target_of w.job.action)) s.tables.objects new x found) by.kept by.plain by.credit by.fits by.given_up by.deals (came_so s (ready one.0) w.job.action moved refl refl told);
         right = by.right;
         made = subst (λ os. AreMade w.outcome.makes os (map bare_standing (s.tables.objects ++ new))) is_fresh
             (made_so s.tables.here s.tables.births s.tables.profile.credit_log w.outcome.makes s.tables.objects fit drawn);
@@ -277,40 +292,13 @@ module _ (act_of : ℕ → ℕ → ℕ → State → Act → Outcome) (t : Table
     answered = t.answered + answered_by (Some job.action);
   })
 
-  -- the same where nothing is told
-  abbrev pub committed : Remains → Tables
-  committed left = committed_so t.came [] left
+  -- what is known then of the objects that came
+  abbrev pub moved_so : List Arrival → List Id → Moved
+  moved_so came told = record { came = came; untold = told }
 
-  -- a MOVE with which its object came is noted, or nothing is
+  -- a MOVE with which its object came is noted, or it is none
   abbrev pub Noted : List Arrival → List Id → Type 0
-  Noted came told = ((came ≡ t.came) × (told ≡ []))
-      ⊎ ((n : ℕ) × (job.action.code ≡ 1) × (slice_get t.came n ≡ Some (record { name = name_of job.action; object = bare (target_of job.action) })) × (came ≡ remove t.came n) × (told ≡ bare (target_of job.action) ∷ []))
-
-  -- without an entry
-  record Noting (came : List Arrival) (told : List Id) : Type 1 where
-    labels : List Label
-    none : written labels ≡ []
-    steps : Steps r begun labels (record begun { untold = told; tables = record begun.tables { came = came } })
-
-  notes : (came : List Arrival) (told : List Id) → Noted came told → Noting came told
-  notes came told (inl k) = record { labels = []; none = refl; steps = ap (λ c. record begun { untold = told; tables = record begun.tables { came = c } }) k.0 ∙ ap (λ o. record begun { untold = o }) k.1 }
-  notes came told (inr k) = record {
-    labels = Note ∷ [];
-    none = refl;
-    steps = (
-      record begun { untold = told; tables = record begun.tables { came = came } },
-      record {
-        w = w;
-        rest = [];
-        i = k.0;
-        works = refl;
-        moves = k.1;
-        there = k.2;
-        now = ap (λ c. record begun { untold = told; tables = record begun.tables { came = c } }) k.3 ∙ ap (λ o. record begun { untold = o; tables = record begun.tables { came = remove t.came k.0 } }) k.4;
-      },
-      refl,
-    );
-  }
+  Noted came told = CameWith (at_rest t) job.action (record { came = came; untold = told }) ⊎ CameAlone (at_rest t) job.action (record { came = came; untold = told })
 
   pub told_stands : (came : List Arrival) (told : List Id) → Noted came told → (left : Remains) → AreOf told left.loose → AreWithin hand places
       → ((q : ℕ) → q < length hand → Lasts (id_at hand q) (named places q))
@@ -319,10 +307,10 @@ module _ (act_of : ℕ → ℕ → ℕ → State → Act → Outcome) (t : Table
       ++ (splits_from 0 hand places ++ (Done (name_of job.action) false ∷ (written_due t.here t.serial left.due
       ++ (rider_events t.profile.credit_log left.state.ids (rider_of job.action) ++ ups left.loose))))))
   told_stands came told noted left of within lasts by =
-      let s : Turn = record begun { working = []; untold = told; tables = record begun.tables { came = came } } in
+      let s : Turn = record begun { working = [] } in
       let drawn : AllByRecursion (Drawn t.here t.births) t.objects = all_among (Drawn t.here t.births) t.objects (λ y m. (h.tidy (StandsHere y) m).1) in
       let more = done_steps r s w [] own later [] places refl refl refl refl (all_none_log made) (omega (arith, length-map made bare, made_long t.here t.births t.profile.credit_log (map birth_of out.makes), length-map out.makes birth_of))
-      (omega arith) fit j lent left of within lasts (get_set t.objects j x lent stands)
+      (omega arith) fit j lent left (moved_so came told) (came_so (at_rest t) s job.action (moved_so came told) refl refl noted) of within lasts (get_set t.objects j x lent stands)
       (single_found (set t.objects j lent) j lent (target_of job.action) (single_set t.objects j x lent stands refl h.places.single) (get_set t.objects j x lent stands)
       (find_passes (is_standing (target_of job.action)) t.objects x found))
       (all_set (Drawn t.here t.births) t.objects j lent drawn (all_at (Drawn t.here t.births) t.objects j x drawn stands)) by in
@@ -332,8 +320,7 @@ module _ (act_of : ℕ → ℕ → ℕ → State → Act → Outcome) (t : Table
       let objects : set (set t.objects j lent ++ objects_of t.here t.births (map birth_of out.makes)) j (record { object = x.object; state = left.state })
       ≡ set (t.objects ++ objects_of t.here t.births (map birth_of out.makes)) j (record { object = x.object; state = left.state }) =
       set_twice t.objects (objects_of t.here t.births (map birth_of out.makes)) j x lent (record { object = x.object; state = left.state }) stands in
-      let note = notes came told noted in
-      let work : Writing r (record begun { untold = told; tables = record begun.tables { came = came } }) events ends =
+      let work : Writing r begun events ends =
       subst (λ z. Writing r z events ends) (ap (λ ids. record s { working = record w { hand = ids } ∷ [] }) (sym hand_is)) (subst (λ os. Writing r (with_hand w [] (own ++ (later ++ [])) s) events
       (record (at_rest (with_done_told told j (record { object = x.object; state = left.state }) left.due (rider_of job.action) left.loose (record t {
         running = remove t.running i;
@@ -344,12 +331,11 @@ module _ (act_of : ℕ → ℕ → ℕ → State → Act → Outcome) (t : Table
         answered = t.answered + answered_by (Some job.action);
       }))) { last = more.0 })) objects more.1) in
       subst (λ es. Stands act_of (committed_so came told left) (entries ++ at_all t.here es))
-      (written_append note.labels (map (λ e. Writes e) events) ∙ (ap (λ es. es ++ written (map (λ e. Writes e) events)) note.none
-      ∙ (written_events events ∙ append_assoc (births_of t.here t.births (map birth_of out.makes)) (splits_from 0 hand places) (Done (name_of job.action) false ∷ last))))
-      (turn_stands act_of t (committed_so came told left) entries (Suspend ∷ (note.labels ++ map (λ e. Writes e) events)) more.0 h (
+      (written_events events ∙ append_assoc (births_of t.here t.births (map birth_of out.makes)) (splits_from 0 hand places) (Done (name_of job.action) false ∷ last))
+      (turn_stands act_of t (committed_so came told left) entries (Suspend ∷ map (λ e. Writes e) events) more.0 h (
         begun,
         begins r t i j job out x runs stands found at kind state few later (all_none_log made) places,
-        steps_append r begun (record begun { untold = told; tables = record begun.tables { came = came } }) ends note.labels (map (λ e. Writes e) events) note.steps work,
+        work,
       ))
     where
       all_none_log : (ids : List Id) → AllByRecursion (λ (id : Id). id.log ≡ None) (map bare ids)
@@ -359,11 +345,3 @@ module _ (act_of : ℕ → ℕ → ℕ → State → Act → Outcome) (t : Table
       made_long : (here n log : ℕ) (xs : List Birth) → length (ids_of here n log xs) ≡ length xs
       made_long here n log [] = refl
       made_long here n log (y ∷ ys) = ap (λ k. suc k) (made_long here (n + 1) log ys)
-
-  -- where nothing is told
-  pub commit_stands : (left : Remains) → AreWithin hand places → ((q : ℕ) → q < length hand → Lasts (id_at hand q) (named places q))
-      → IsLeftBy r t.here job out (record { object = x.object; state = bare_state x.state }) cut (map bare made) left
-      → Stands act_of (committed left) (entries ++ at_all t.here (births_of t.here t.births (map birth_of out.makes)
-      ++ (splits_from 0 hand places ++ (Done (name_of job.action) false ∷ (written_due t.here t.serial left.due
-      ++ (rider_events t.profile.credit_log left.state.ids (rider_of job.action) ++ ups left.loose))))))
-  commit_stands left = told_stands t.came [] (inl (refl, refl)) left tt

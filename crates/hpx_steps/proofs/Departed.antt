@@ -1,5 +1,5 @@
 -- An object leaves.
-use Rattle.hpx_steps.proofs.Common.{◌&&◌, moves_to, one_if, Brought, Came, IsDue, Loose, Pending, Queued, Running, Stray, Untold, Working, eqb-true, ◌==◌, Accepted, Act, AllByRecursion, Among, Apply, Arrived, Ask, Bool, Cached, Departs, Entry, Event, Exchanges, Free, Give, Go, Going, Has, HasRightCredit, Id, IfSome, IsGranted, IsManaged, IsParcel, IsSound, IsTidy, Item, Leaving, Left, List, Mailed, Move, OnDesk, Parcel, Return, Row, Rules, Shipped, Some, Standing, StandsHere, TidyAt, Travel, Turn, View, Waits, [], action_of, acts_on, any_counted, ap, arith, asked_by, asks_under, bare, bare_act, bare_due, bare_standing, bare_state, causes, commits, cond, count_by, eq-eqb, false, false_from, find, find_passes, fired_of, freeing, given_to, goes, going, grants, hopping, inl, inr, is_busy, is_other, is_some, is_standing, joined, list_any, mails, map, move_to, owes, parcel_tokens, parcel_travels, refl, remove, same_object, same_object-from, same_object-refl, same_object-sym, same_object-true, session, slice_get, subst, sum_by, sum_by-cons, sym, target_of, true, unpaid, view, waiting, waits_for, weigh, weight, worth, wrote, ℕ, ◌+◌, ◌∙◌, ◌∷◌, ◌≡◌, ◌≢◌, ◌≤◌, grants_here, grants_gone, leads_away, tells_come, flow, flow_go, flow_left, Flow, tells_own}
+use Rattle.hpx_steps.proofs.Common.{◌&&◌, moves_to, one_if, Brought, Came, IsDue, Loose, Pending, Queued, Running, Stray, Untold, Working, eqb-true, ◌==◌, Accepted, Act, AllByRecursion, Among, Apply, Arrived, Ask, Bool, Cached, Departs, Entry, Event, Exchanges, Free, Give, Go, Going, Has, HasRightCredit, Id, IfSome, IsGranted, IsManaged, IsParcel, IsSound, IsTidy, Item, Leaving, Left, List, Mailed, Move, OnDesk, Parcel, Return, Row, Rules, Shipped, Some, Standing, StandsHere, TidyAt, Travel, Turn, View, Waits, [], action_of, acts_on, any_counted, ap, arith, asked_by, asks_under, bare, bare_act, bare_due, bare_standing, bare_state, causes, commits, cond, count_by, eq-eqb, false, false_from, find, find_passes, fired_of, freeing, given_to, goes, going, grants, hopping, inl, inr, is_busy, is_other, is_some, is_standing, joined, list_any, mails, map, move_to, owes, parcel_tokens, parcel_travels, refl, remove, same_object, same_object-from, same_object-refl, same_object-sym, same_object-true, session, slice_get, subst, sum_by, sum_by-cons, sym, target_of, true, unpaid, view, waiting, waits_for, weigh, weight, worth, wrote, ℕ, ◌+◌, ◌∙◌, ◌∷◌, ◌≡◌, ◌≢◌, ◌≤◌, grants_here, grants_gone, leads_away, tells_come, flow, flow_go, flow_left, Flow, tells_own, brought, moved_by}
 use Rattle.hpx_journal.specs.Frames.{travel_of}
 use Rattle.hpx_journal.specs.Local.{leaving}
 use Rattle.hpx_journal.specs.Rows.{is_move_of, is_to}
@@ -136,7 +136,7 @@ module _ (r : Rules) (s : Turn) (entries : List Entry) (h : IsSound r s entries)
   retidied (Going p) m = before (Going p) m
   retidied (Queued p) m = before (Queued p) m
   retidied (Stray p) m = before (Stray p) m
-  retidied (Brought p) m = tt
+  retidied (Brought p) m = h.tidy (Brought p) m
   retidied (Untold p) m = tt
   retidied (Running p) m = before (Running p) m
   retidied (Pending p) m = before (Pending p) m
@@ -197,7 +197,7 @@ module _ (r : Rules) (s : Turn) (entries : List Entry) (h : IsSound r s entries)
 
   gone : (f : Flow) → flow_go s.tables.here f (Go act) ≡ flow_left s.tables.here f (bare (target_of act)) to
   gone = by_flows (λ f. flow_go s.tables.here f (Go act) ≡ flow_left s.tables.here f (bare (target_of act)) to)
-      (λ o t. ap (λ m. one_if (same_object o (target_of act) && is_to t m)) goes_to) (λ o j. refl)
+      (λ o t. ap (λ m. one_if (same_object o (target_of act) && is_to t m)) goes_to) (λ o j. refl) (λ o j. omega arith)
 
   pub left_keeps : Keeps r s now (Left (bare (target_of act)) to)
   left_keeps = record {
@@ -230,7 +230,8 @@ module _ (r : Rules) (s : Turn) (entries : List Entry) (h : IsSound r s entries)
       given = λ k d q n. omega (arith, moves (given_to k q n) 0 refl (bound_none (to == k) 0 refl));
     };
     says = same_says (λ q j. 0) (λ q. 0) s now refl (λ q k. omega (arith, moves (tells_come q k) 0 refl refl)) (λ q. omega (arith, moves (tells_own q) 0 refl refl));
-    flows = same_flows r (Some e) s now refl (λ f own. let k = flowless s.tables.here f (Shipped act x.state) tt in omega (arith, moves (flow s.tables.here f) 0 k.0 (k.1 to), gone f));
+    arrived = λ a. omega (arith, h.arrived a, moves (brought a) 0 refl refl, moves (moved_by a) 0 refl refl);
+    flows = same_flows r (Some e) s now refl (λ o. refl) (λ f own. let k = flowless s.tables.here f (Shipped act x.state) tt in omega (arith, moves (flow s.tables.here f) 0 k.0 (k.1 to), gone f));
     tracks = same_tracks (λ q. grants_gone r q e) (λ q. 0) s now (λ q. refl) refl refl (λ q. omega (arith, moves (grants_here q) 0 refl refl)) (λ q. omega (arith, moves (leads_away s.tables.here q) 0 refl refl));
     counts = counts_near s now e refl (omega arith) (omega arith) (omega arith) (omega arith) (omega arith) (λ l. refl);
   }

@@ -1,5 +1,5 @@
 -- An accepted action runs.
-use Rattle.hpx_steps.proofs.Common.{sum_by, Accepted, Act, Apart, Entry, Fire, Fires, IsSound, IsTidy, List, Name, Rules, Running, Some, Standing, TidyAt, Turn, View, [], action_of, ap, append_assoc, arith, bare_act, bare_due, bare_standing, commits, drop, false, find, fired_of, flat_map, follows_fire, is_busy, is_standing, map, map-append, name_of, parcel_acts, parcels, refl, remove, slice_get, split_get, subst, suc, sym, take, target_of, view, waiting, worth, wrote, ℕ, ◌++◌, ◌∙◌, ◌∷◌, ◌≡◌}
+use Rattle.hpx_steps.proofs.Common.{sum_by, Accepted, Act, Apart, Entry, Fire, Fires, IsSound, IsTidy, List, Name, Rules, Running, Some, Standing, TidyAt, Turn, View, [], action_of, ap, append_assoc, arith, bare_act, bare_due, bare_standing, commits, drop, false, find, fired_of, flat_map, follows_fire, is_busy, is_standing, map, map-append, name_of, parcel_acts, parcels, refl, remove, slice_get, split_get, subst, suc, sym, take, target_of, view, waiting, worth, wrote, ℕ, ◌++◌, ◌∙◌, ◌∷◌, ◌≡◌, brought, moved_by}
 use Rattle.hpx_steps.proofs.Tools.{Changes, Keeps, Sees, accepted_change, among_at, apart_more, busy-bare, by_rows, counts_near, found-bare, holding, more_come, numbered_so, one_goes, orders_so, pays_so, running_change, sees_by, sees_leads, target-bare, then, told_as, view_worth, tracks_so, says_so, flows_so}
 
 module _ (r : Rules) (s : Turn) (entries : List Entry) (h : IsSound r s entries) (i : ℕ) (act : Act) (x : Standing) (due : s.due ≡ []) (fresh : s.fresh ≡ [])
@@ -65,7 +65,8 @@ module _ (r : Rules) (s : Turn) (entries : List Entry) (h : IsSound r s entries)
     pays = pays_so r s now (Fire (name_of act)) (Accepted act ∷ []) (Running act ∷ []) change.0 (by_rows _ (λ at. omega arith) (λ at. omega arith) (λ at. omega arith) (λ at. omega arith) (λ at. omega arith) (λ at. omega arith) (λ at. omega arith) (λ at. omega arith) (λ at. omega arith) (λ at. omega arith) (λ at. omega arith) (λ o at. omega arith) (λ o to at. omega arith) (λ o to at. omega arith) (λ o to at. omega arith) (λ o at. omega arith)) (omega arith) (omega arith) (λ o. omega arith);
     orders = orders_so r s now (Fire (name_of act)) (Accepted act ∷ []) (Running act ∷ []) change.0 tt (λ o n. omega arith) (λ j d o n. omega arith);
     says = says_so r s now (Fire (name_of act)) (Accepted act ∷ []) (Running act ∷ []) change.0 refl (λ o j. omega arith) (λ o. omega arith);
-    flows = flows_so r s now (Fire (name_of act)) (Accepted act ∷ []) (Running act ∷ []) change.0 refl (λ f. omega arith);
+    arrived = λ a. omega (arith, h.arrived a, change.0 (brought a), change.0 (moved_by a));
+    flows = flows_so r s now (Fire (name_of act)) (Accepted act ∷ []) (Running act ∷ []) change.0 refl (λ o. refl) (λ f. omega arith);
     tracks = tracks_so r s now (Fire (name_of act)) (Accepted act ∷ []) (Running act ∷ []) change.0 (λ o. refl) refl refl (λ o. omega arith) (λ o. omega arith);
     counts = counts_near s now (Fire (name_of act)) refl (omega arith) (omega arith) (omega arith) (omega arith) (omega arith) (λ l. refl);
   }

@@ -1,6 +1,6 @@
 -- A dead object goes.
-use Rattle.hpx_steps.proofs.Common.{Untold, Among, Apply, Arrived, Ask, Brought, Cached, Give, Go, IsGranted, Leaving, Move, Parcel, Queued, Return, Shipped, Stray, messages, Accepted, Act, AllByRecursion, Came, Entry, Follows, Free, Freed, Going, Has, HasInHand, HasRightCredit, Id, IsDue, IsForHere, IsManaged, IsSound, IsTidy, IsTold, Item, List, Loose, Mailed, None, OnDesk, Pending, Row, Rules, Running, Some, Standing, StandsHere, TidyAt, Token, Turn, View, Waits, Working, [], acts_on, any_counted, ap, arith, asked_by, asks_under, bare_act, bare_due, bare_standing, causes, commits, cond, count_by, credit_list, drop, drops, false, false_from, find, find_passes, flat_map, follows_freed_mailed, follows_freed_taken, freeing, given_to, goes, held, held_here, hopping, inl, inr, is_some, is_standing, joined, list_any, map, map-append, owes, parcel_frees, refl, remove, same_object, same_object-from, same_object-refl, same_object-sym, same_object-true, session, slice_get, split_get, subst, suc, sum_by, sum_by-cons, sym, take, target_of, true, unpaid, view, waits_for, waits_here, weigh, with_credit, worth, wrote, ℕ, ◌++◌, ◌+◌, ◌∙◌, ◌∷◌, ◌≡◌, ◌≤◌, grants_here, leads_away, tells_come, flow, tells_own}
-use Rattle.hpx_steps.proofs.Tools.{Changes, Keeps, Sees, all_with, among_all, among_at, asks_of, by_bool, by_rows, acting, counts_near, credit_tokens, drop_change, fewer, freed_whole, frees_now, frees_of, hand_fit, hand_weighs, holding, ids_each, in_hand, is_frame, less_commits, loose_change, more_come, none_of, none_sum, objects_change, one_goes, same_asks, same_dead, sees_by, sees_leads, single_less, stand_less, target-bare, then, total, total_map, view_worth, zeros, same_travels, same_waits, ships_of, same_tracks, same_says, same_flows, flowless}
+use Rattle.hpx_steps.proofs.Common.{Untold, Among, Apply, Arrived, Ask, Brought, Cached, Give, Go, IsGranted, Leaving, Move, Parcel, Queued, Return, Shipped, Stray, messages, Accepted, Act, AllByRecursion, Came, Entry, Follows, Free, Freed, Going, Has, HasInHand, HasRightCredit, Id, IsDue, IsForHere, IsManaged, IsSound, IsTidy, IsTold, Item, List, Loose, Mailed, None, OnDesk, Pending, Row, Rules, Running, Some, Standing, StandsHere, TidyAt, Token, Turn, View, Waits, Working, [], acts_on, any_counted, ap, arith, asked_by, asks_under, bare_act, bare_due, bare_standing, causes, commits, cond, count_by, credit_list, drop, drops, false, false_from, find, find_passes, flat_map, follows_freed_mailed, follows_freed_taken, freeing, given_to, goes, held, held_here, hopping, inl, inr, is_some, is_standing, joined, list_any, map, map-append, owes, parcel_frees, refl, remove, same_object, same_object-from, same_object-refl, same_object-sym, same_object-true, session, slice_get, split_get, subst, suc, sum_by, sum_by-cons, sym, take, target_of, true, unpaid, view, waits_for, waits_here, weigh, with_credit, worth, wrote, ℕ, ◌++◌, ◌+◌, ◌∙◌, ◌∷◌, ◌≡◌, ◌≤◌, grants_here, leads_away, tells_come, flow, tells_own, Flow, flow_in, flow_freed, brought, moved_by}
+use Rattle.hpx_steps.proofs.Tools.{Changes, Keeps, Sees, all_with, among_all, among_at, asks_of, by_bool, by_rows, acting, counts_near, credit_tokens, drop_change, fewer, freed_whole, frees_now, frees_of, hand_fit, hand_weighs, holding, ids_each, in_hand, is_frame, less_commits, loose_change, more_come, none_of, none_sum, objects_change, one_goes, same_asks, same_dead, sees_by, sees_leads, single_less, stand_less, target-bare, then, total, total_map, view_worth, zeros, same_travels, same_waits, ships_of, same_tracks, same_says, same_flows, by_flows}
 use Rattle.hpx_steps.specs.Steps.{Frees}
 use Rattle.hpx_steps.proofs.Unheld.{none_accepted, none_fired, none_leaves, none_waits}
 
@@ -96,7 +96,7 @@ module _ (r : Rules) (s : Turn) (entries : List Entry) (h : IsSound r s entries)
   retidied (Queued p) m = h.tidy (Queued p) m
   retidied (Leaving p) m = let k = h.tidy (Leaving p) m in (k.0, leaves p m k.1)
   retidied (Stray p) m = h.tidy (Stray p) m
-  retidied (Brought p) m = tt
+  retidied (Brought p) m = h.tidy (Brought p) m
   retidied (Untold p) m = tt
   retidied (Running p) m = h.tidy (Running p) m
   retidied (Pending p) m = h.tidy (Pending p) m
@@ -181,11 +181,15 @@ module _ (r : Rules) (s : Turn) (entries : List Entry) (h : IsSound r s entries)
       given = λ k d q n. omega (arith, stays (given_to k q n) refl refl refl (λ id. refl));
     };
     says = same_says (λ q j. 0) (λ q. 0) s now refl (λ q j. omega (arith, stays (tells_come q j) refl refl refl (λ id. refl))) (λ q. omega (arith, stays (tells_own q) refl refl refl (λ id. refl)));
-    flows = same_flows r (Some (Freed o)) s now refl (λ f own. let k = flowless s.tables.here f (Free o) tt in omega (arith, stays (flow s.tables.here f) k.0 k.0 refl (λ id. refl)));
+    arrived = λ a. omega (arith, h.arrived a, stays (brought a) refl refl refl (λ id. refl), stays (moved_by a) refl refl refl (λ id. refl));
+    flows = same_flows r (Some (Freed o)) s now refl (λ o. refl) (λ f own. omega (arith, moves (flow s.tables.here f), zeros (with_credit x.state.ids), hand_weighs (Free o) s hand (flow s.tables.here f) (flow_in s.tables.here f (Free o)) refl refl, freed_flow f));
     tracks = same_tracks (λ q. 0) (λ q. 0) s now (λ q. refl) refl refl (λ q. omega (arith, stays (grants_here q) refl refl refl (λ id. refl))) (λ q. omega (arith, stays (leads_away s.tables.here q) refl refl refl (λ id. refl)));
     counts = counts_near s now (Freed o) refl (omega arith) (omega arith) (omega arith) (omega arith) (omega arith) (λ lc. refl);
   }
     where
+      freed_flow : (f : Flow) → flow_in s.tables.here f (Free o) ≡ flow_freed s.tables.here f o
+      freed_flow = by_flows (λ f. flow_in s.tables.here f (Free o) ≡ flow_freed s.tables.here f o) (λ q t. refl) (λ q j. refl) (λ q j. omega arith)
+
       costs : (row : Row) → goes r row (Freed o) ≡ owes row (Free o) + causes r row (Freed o)
       costs = by_rows (λ row. goes r row (Freed o) ≡ owes row (Free o) + causes r row (Freed o)) (omega arith) (omega arith) (omega arith) (omega arith) (omega arith) (omega arith) (omega arith) (omega arith) (omega arith) (omega arith) (omega arith) (λ q. omega arith) (λ q to. omega arith) (λ q to. omega arith) (λ q to. omega arith) (λ q. omega arith)
 

@@ -1,5 +1,5 @@
 -- Credit that was asked for is given to a commit that waits for it.
-use Rattle.hpx_steps.proofs.Common.{same_refusal, Act, AskedFor, Bool, Came, Entry, Give, Given, HasCommits, HasCredit, HasInHand, Id, IsCommit, IsGiven, IsSound, IsTidy, Item, List, Mailed, Pending, Refusal, Row, Rules, Some, TidyAt, Token, Turn, View, Waits, Working, [], and_true, any_counted, ap, append_assoc, arith, asked_by, asking, asks_under, bare, bare_act, bare_due, causes, commits, cond, count_by, counted_any, counts_false, counts_of, counts_true, drop, drops, eqb-true, false, follows_given, freeing, given_to, gives_for, goes, goes_on, held_token, hopping, id_at, ids_named, is_asked, is_asked_for, is_least, joined, length, log_of, map, name_of, one_if, owed_token, owes, parcel_asks, refilled, refl, refusal_of, refusals_of, remove, same_object, same_token, set, slice_get, split_get, split_set, subst, suc, sum_by, sum_by-append, sum_by-cons, sym, take, token_own, tokens, tokens_of, true, unpaid, view, waits_for, weigh, worth, wrote, ℕ, ◌&&◌, ◌++◌, ◌+◌, ◌==◌, ◌∙◌, ◌∷◌, ◌≡◌, ◌≤◌, ◌⊎◌, Travel, grants_here, leads_away, tells_come, flow, tells_own}
+use Rattle.hpx_steps.proofs.Common.{same_refusal, Act, AskedFor, Bool, Came, Entry, Give, Given, HasCommits, HasCredit, HasInHand, Id, IsCommit, IsGiven, IsSound, IsTidy, Item, List, Mailed, Pending, Refusal, Row, Rules, Some, TidyAt, Token, Turn, View, Waits, Working, [], and_true, any_counted, ap, append_assoc, arith, asked_by, asking, asks_under, bare, bare_act, bare_due, causes, commits, cond, count_by, counted_any, counts_false, counts_of, counts_true, drop, drops, eqb-true, false, follows_given, freeing, given_to, gives_for, goes, goes_on, held_token, hopping, id_at, ids_named, is_asked, is_asked_for, is_least, joined, length, log_of, map, name_of, one_if, owed_token, owes, parcel_asks, refilled, refl, refusal_of, refusals_of, remove, same_object, same_token, set, slice_get, split_get, split_set, subst, suc, sum_by, sum_by-append, sum_by-cons, sym, take, token_own, tokens, tokens_of, true, unpaid, view, waits_for, weigh, worth, wrote, ℕ, ◌&&◌, ◌++◌, ◌+◌, ◌==◌, ◌∙◌, ◌∷◌, ◌≡◌, ◌≤◌, ◌⊎◌, Travel, grants_here, leads_away, tells_come, flow, tells_own, brought, moved_by}
 use Rattle.hpx_steps.proofs.Tools.{Changes, Keeps, among_at, asks_of, bare_tokens, by_bool, by_commit, by_rows, counts_near, drop_change, fewer, fired_sum, first_comes, hand_fit, hand_weighs, has_not_asked, held_by, holding, ids_each, in_hand, is_frame, less_sum, long_sum, map_sum, move_commits, one_goes, one_turns, owed_by, pending_change, put_asked, put_bare, put_for, refuses, same_dead, seen_sum, sees_leads, set_sum, then, view_asking, view_refusals, view_worth, working_change, same_travels, ships_of, same_waits, frees_of, acting, same_fires, acted, same_tracks, same_says, same_flows, flowless}
 use Rattle.hpx_steps.proofs.Refilled.{asked_at_place, asked_low, asked_same, still_commit, still_split, was_asked}
 
@@ -94,6 +94,7 @@ module _ (r : Rules) (s : Turn) (entries : List Entry) (h : IsSound r s entries)
         fit_commit,
         still_split s.tables.here s.tables.localities s.tables.profile.credit_log w n ask id entry its.0 its.1 asked for credit brings,
         λ none. absurd (let t : true ≡ false = sym (ap (λ (xs : List AskedFor). length xs == 0) none) ∙ e in cc),
+        its.3,
       )
 
   old : Id
@@ -243,7 +244,8 @@ module _ (r : Rules) (s : Turn) (entries : List Entry) (h : IsSound r s entries)
       given = λ j d o m. omega (arith, moves (given_to j o m) 0 refl refl refl);
     };
     says = same_says (λ q j. 0) (λ q. 0) s now refl (λ q j. omega (arith, moves (tells_come q j) 0 refl refl refl)) (λ q. omega (arith, moves (tells_own q) 0 refl refl refl));
-    flows = same_flows r (Some (Given (bare id) log)) s now refl (λ f own. let k = flowless s.tables.here f (Give id entry) tt in omega (arith, moves (flow s.tables.here f) 0 k.0 k.0 refl));
+    arrived = λ a. omega (arith, h.arrived a, moves (brought a) 0 refl refl refl, moves (moved_by a) 0 refl refl refl);
+    flows = same_flows r (Some (Given (bare id) log)) s now refl (λ o. refl) (λ f own. let k = flowless s.tables.here f (Give id entry) tt in omega (arith, moves (flow s.tables.here f) 0 k.0 k.0 refl));
     tracks = same_tracks (λ q. 0) (λ q. 0) s now (λ q. refl) refl refl (λ q. omega (arith, moves (grants_here q) 0 refl refl refl)) (λ q. omega (arith, moves (leads_away s.tables.here q) 0 refl refl refl));
     counts = counts_near s now (Given (bare id) log) refl (omega arith) (omega arith) (omega arith) (omega arith) (omega arith) (λ l. refl);
   }

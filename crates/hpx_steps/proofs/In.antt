@@ -1,5 +1,5 @@
 -- A frame comes in.
-use Rattle.hpx_steps.proofs.Common.{weighed, brings, Came, ComesIn, Entry, Exchanges, In, IsParcel, IsSound, IsTidy, List, Parcel, Rules, Some, TidyAt, Turn, [], ap, arith, asks_for, bare_act, bare_due, counts_of, follows_in, gives_for, load_of, map, nothing, owes, parcel_acts, parcel_asks, parcel_travels, refl, same_object, subst, sum_by, sum_by-append, sym, tokens, view, waiting, worth, wrote, ℕ, ◌+◌, ◌∷◌, ◌≡◌, tells_at, flow_in}
+use Rattle.hpx_steps.proofs.Common.{weighed, brings, Came, ComesIn, Entry, Exchanges, In, IsParcel, IsSound, IsTidy, List, Parcel, Rules, Some, TidyAt, Turn, [], ap, arith, asks_for, bare_act, bare_due, counts_of, follows_in, gives_for, load_of, map, nothing, owes, parcel_acts, parcel_asks, parcel_travels, refl, same_object, subst, sum_by, sum_by-append, sym, tokens, view, waiting, worth, wrote, ℕ, ◌+◌, ◌∷◌, ◌≡◌, tells_at, flow_in, brought, moved_by}
 use Rattle.hpx_steps.proofs.Tools.{Changes, Keeps, asks_of, by_parcel, came_change, counts_near, holding, numbered_so, one_comes, orders_so, pays_so, seen_sum, ships_of, view_worth, tracks_so, says_so, flows_so}
 
 module _ (r : Rules) (s : Turn) (entries : List Entry) (h : IsSound r s entries) (p : Parcel) (bytes : List ℕ) (due : s.due ≡ []) (fresh : s.fresh ≡ [])
@@ -41,7 +41,8 @@ module _ (r : Rules) (s : Turn) (entries : List Entry) (h : IsSound r s entries)
     orders = orders_so r s now (In bytes) [] (Came p ∷ []) change.0 tt
         (λ o n. omega (arith, told (gives_for o n), told (asks_for s.tables.here o n))) (λ j d o n. omega (arith, told (asks_for j o n)));
     says = says_so r s now (In bytes) [] (Came p ∷ []) change.0 refl (λ o j. omega (arith, told (tells_at o j))) (λ o. omega arith);
-    flows = flows_so r s now (In bytes) [] (Came p ∷ []) change.0 refl (λ f. omega (arith, told (flow_in s.tables.here f)));
+    arrived = λ a. omega (arith, h.arrived a, change.0 (brought a), change.0 (moved_by a));
+    flows = flows_so r s now (In bytes) [] (Came p ∷ []) change.0 refl (λ o. refl) (λ f. omega (arith, told (flow_in s.tables.here f)));
     tracks = tracks_so r s now (In bytes) [] (Came p ∷ []) change.0 (λ o. refl) refl refl (λ o. omega arith) (λ o. omega arith);
     counts = counts_near s now (In bytes) refl (omega arith) (omega arith) (omega arith) (omega arith) refl (λ l. refl);
   }

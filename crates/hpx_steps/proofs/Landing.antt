@@ -1,5 +1,5 @@
 -- An object lands.
-use Rattle.hpx_steps.proofs.Common.{eq-eqb, Bool, Arrival, IsRowAt, is_to, moves_to, one_if, ◌&&◌, inl, inr, Parcel, parcel_tokens, HasInHand, Mailed, messages, false_from, Accepted, Act, AllByRecursion, Brought, Came, Entry, Event, Exchanges, Id, IfSome, IsManaged, IsParcel, IsSound, IsTidy, Item, Landed, Lands, List, None, Row, Rules, Shipped, Some, Standing, StandsHere, State, TidyAt, Travel, Turn, View, [], ap, arith, asked_by, asks_under, bare, bare_act, bare_due, bare_state, causes, commits, drops, false, find, flat_map, freeing, given_to, goes, hopping, is_some, is_standing, joined, map, move_to, name_of, owes, own_parcels, parcel_travels, refl, same_object, same_object-refl, same_object-sym, session, subst, sum_by, sum_by-cons, sym, target_of, true, unpaid, view, waits_for, weigh, worth, wrote, ℕ, ◌++◌, ◌+◌, ◌∙◌, ◌∷◌, ◌≡◌, ◌≤◌, grants_here, leads_away, tells_come, flow, tells_own}
+use Rattle.hpx_steps.proofs.Common.{eq-eqb, Bool, Arrival, IsRowAt, is_to, moves_to, one_if, ◌&&◌, inl, inr, Parcel, parcel_tokens, HasInHand, Mailed, messages, false_from, Accepted, Act, AllByRecursion, Brought, Came, Entry, Event, Exchanges, Id, IfSome, IsManaged, IsParcel, IsSound, IsTidy, Item, Landed, Lands, List, None, Row, Rules, Shipped, Some, Standing, StandsHere, State, TidyAt, Travel, Turn, View, [], ap, arith, asked_by, asks_under, bare, bare_act, bare_due, bare_state, causes, commits, drops, false, find, flat_map, freeing, given_to, goes, hopping, is_some, is_standing, joined, map, move_to, name_of, owes, own_parcels, parcel_travels, refl, same_object, same_object-refl, same_object-sym, session, subst, sum_by, sum_by-cons, sym, target_of, true, unpaid, view, waits_for, weigh, worth, wrote, ℕ, ◌++◌, ◌+◌, ◌∙◌, ◌∷◌, ◌≡◌, ◌≤◌, grants_here, leads_away, tells_come, flow, tells_own, brought, moved_by, move_of, same_arrival, Option, place_in, is_movable, ◌==◌, cond}
 use Rattle.hpx_journal.specs.Frames.{travel_of}
 use Rattle.hpx_journal.specs.Local.{is_travel, stood}
 use Rattle.hpx_part.proofs.MoveRows.{follows_landed}
@@ -16,6 +16,14 @@ none_same o (x ∷ xs) none = if_so (same_object o x.object) (λ t. absurd (let 
 found_last : (o : Id) (xs : List Standing) (y : Standing) → same_object o y.object ≡ true → is_some (find (is_standing o) (xs ++ y ∷ [])) ≡ true
 found_last o [] y t = rw t refl
 found_last o (x ∷ xs) y t = if_so (same_object o x.object) (λ u. rw u refl) (λ u. rw u (found_last o xs y t))
+
+-- what moves is a MOVE
+move_code : (act : Act) (to : ℕ) → move_to act ≡ Some to → (act.code == 1) ≡ true
+move_code act to h = each (act.code == 1) (is_movable (target_of act).kind) (place_in act.args) h
+  where
+    each : (b c : Bool) (p : Option ℕ) → cond (b && c) p None ≡ Some to → b ≡ true
+    each true c p e = refl
+    each false c p e = cc
 
 module _ (r : Rules) (s : Turn) (entries : List Entry) (h : IsSound r s entries) (act : Act) (state : State) (due : s.due ≡ []) (fresh : s.fresh ≡ [])
     (hand : HasInHand (Shipped act state) s) (goes_to : move_to act ≡ Some s.tables.here) (absent : find (is_standing (target_of act)) s.tables.objects ≡ None)
@@ -78,7 +86,7 @@ module _ (r : Rules) (s : Turn) (entries : List Entry) (h : IsSound r s entries)
             subst (λ m. IfSome m (λ k. k ≡ s.tables.here)) (sym (move_to-bare act ∙ goes_to)) refl,
             found_last (target_of act) s.tables.objects new (same_object-refl (target_of act)),
           ),
-          (tt, tt),
+          (refl, tt),
         ),
       )
 
@@ -155,7 +163,9 @@ module _ (r : Rules) (s : Turn) (entries : List Entry) (h : IsSound r s entries)
       given = λ k d q n. omega (arith, moves (given_to k q n) 0 refl refl);
     };
     says = same_says (λ q j. 0) (λ q. one_if (same_object q (bare (target_of act)))) s now refl (λ q j. omega (arith, moves (tells_come q j) 0 refl refl)) (λ q. omega (arith, moves (tells_own q) 0 refl refl));
-    flows = same_flows r (Some e) s now refl (λ f own. let k = flowless s.tables.here f (Shipped act state) tt in omega (arith, moves (flow s.tables.here f) 0 k.0 k.0));
+    arrived = λ a. let c : move_of a act ≡ one_if (same_arrival a arrival) = ap (λ (b : Bool). one_if (b && same_arrival a arrival)) (move_code act s.tables.here goes_to) in
+        omega (arith, h.arrived a, moves (brought a) 0 refl refl, moves (moved_by a) 0 refl refl, c);
+    flows = same_flows r (Some e) s now refl (λ o. refl) (λ f own. let k = flowless s.tables.here f (Shipped act state) tt in omega (arith, moves (flow s.tables.here f) 0 k.0 k.0));
     tracks = same_tracks (λ q. 0) (λ q. 0) s now (λ q. refl) refl refl (λ q. omega (arith, moves (grants_here q) 0 refl refl)) (λ q. omega (arith, moves (leads_away s.tables.here q) 0 refl refl));
     counts = counts_near s now e refl (omega arith) (omega arith) (omega arith) (omega arith) (omega arith) (λ l. refl);
   }

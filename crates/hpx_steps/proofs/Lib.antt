@@ -31,7 +31,6 @@ pub mod Line
 pub mod Answered
 pub mod Place
 pub mod Aside
-pub mod Noted
 pub mod Departed
 pub mod Landing
 pub mod Release

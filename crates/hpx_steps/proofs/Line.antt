@@ -1,5 +1,5 @@
 -- A line is fed.
-use Rattle.hpx_steps.proofs.Common.{sym, ap, Accept, session, way, Accepted, Act, Entry, Feeds, IsFit, IsSound, Line, List, Name, Rules, Some, TidyAt, Turn, View, [], arith, bare_due, draws, follows_line, length, line_act, map, posts, refl, subst, view, waiting, worth, wrote, ℕ, ◌+◌, ◌∷◌, ◌≡◌, ◌≤◌, sum_by-cons, grants_here, weigh, leads_away, tells_come, flow, tells_own}
+use Rattle.hpx_steps.proofs.Common.{sym, ap, Accept, session, way, Accepted, Act, Entry, Feeds, IsFit, IsSound, Line, List, Name, Rules, Some, TidyAt, Turn, View, [], arith, bare_due, draws, follows_line, length, line_act, map, posts, refl, subst, view, waiting, worth, wrote, ℕ, ◌+◌, ◌∷◌, ◌≡◌, ◌≤◌, sum_by-cons, grants_here, weigh, leads_away, tells_come, flow, tells_own, brought, moved_by}
 use Rattle.hpx_steps.proofs.Tools.{begins_counted, begins_places, root_stays, Changes, Keeps, Sees, asks_of, by_rows, counts_near, frees_of, holding, numbered_so, orders_so, pays_so, post_change, put_as, same_asks, same_dead, sees_by, sees_leads, told_as, view_worth, same_travels, ships_of, acting, wait_sum, posted_tracks, posted_says, posted_flows}
 
 -- a line is well formed
@@ -44,7 +44,8 @@ module _ (r : Rules) (s : Turn) (entries : List Entry) (h : IsSound r s entries)
     orders = orders_so r s now (Line name bytes) [] (Accepted act ∷ []) change.0 tt (λ o n. omega arith) (λ j d o n. omega arith);
     says = posted_says (λ q j. 0) (λ q. 0) s now (draws s).tables act refl refl (λ q j. omega (arith, change.0 (tells_come q j)))
         (λ q. omega (arith, change.0 (tells_own q)));
-    flows = posted_flows r (Some (Line name bytes)) s now (draws s).tables act refl refl refl refl (λ f. refl) (λ f. refl) (λ f. subst (λ v. weigh (flow s.tables.here f) now ≡ weigh (flow s.tables.here f) s + flow s.tables.here f (put_as s.tables v act)) (sym accepts_it) (omega (arith, change.0 (flow s.tables.here f)))) h.flowing.near;
+    arrived = λ a. omega (arith, h.arrived a, change.0 (brought a), change.0 (moved_by a));
+    flows = posted_flows r (Some (Line name bytes)) s now (draws s).tables act refl refl refl refl (λ o. refl) (λ f. refl) (λ f. refl) (λ f. subst (λ v. weigh (flow s.tables.here f) now ≡ weigh (flow s.tables.here f) s + flow s.tables.here f (put_as s.tables v act)) (sym accepts_it) (omega (arith, change.0 (flow s.tables.here f)))) h.flowing.near;
     tracks = posted_tracks (λ q. 0) (λ q. 0) s now (draws s).tables act refl refl refl refl refl (λ w m. m) refl (λ q. omega (arith, change.0 (grants_here q)))
         (λ q. subst (λ v. grants_here q (put_as s.tables v act) ≤ weigh (grants_here q) now) (sym accepts_it) (omega arith)) (λ q. omega (arith, change.0 (leads_away s.tables.here q)));
     counts = counts_near s now (Line name bytes) refl (omega arith) (omega arith) (omega arith) (omega arith) (omega arith) (λ l. refl);

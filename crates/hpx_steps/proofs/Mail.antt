@@ -1,5 +1,5 @@
 -- The first message on the desk is taken up.
-use Rattle.hpx_steps.proofs.Common.{Act, Apply, Arrived, Ask, Cached, Free, Give, Go, Id, IsForHere, IsRowAt, Move, None, Option, Return, Shipped, causes, eqb-true, go_to, goes, is_to, move_to, moves_to, same_object, same_object-true, ship_to, some_same, target_of, tell_of, true, unpaid, ℕ, ◌+◌, ◌<◌, ◌∙◌, ◌≢◌, Entry, IsSound, IsTidy, List, Mail, Mailed, OnDesk, Parcel, Rules, Some, TakesUp, TidyAt, Turn, [], ap, arith, bare_due, follows_mail, inl, kind_of, map, refl, subst, sym, view, wrote, ◌∷◌, ◌≡◌, ◌≤◌}
+use Rattle.hpx_steps.proofs.Common.{Act, Apply, Arrived, Ask, Cached, Free, Give, Go, Id, IsForHere, IsRowAt, Move, None, Option, Return, Shipped, causes, eqb-true, go_to, goes, is_to, move_to, moves_to, same_object, same_object-true, ship_to, some_same, target_of, tell_of, true, unpaid, ℕ, ◌+◌, ◌<◌, ◌∙◌, ◌≢◌, Entry, IsSound, IsTidy, List, Mail, Mailed, OnDesk, Parcel, Rules, Some, TakesUp, TidyAt, Turn, [], ap, arith, bare_due, follows_mail, inl, kind_of, map, refl, subst, sym, view, wrote, ◌∷◌, ◌≡◌, ◌≤◌, brought, moved_by}
 use Rattle.hpx_steps.proofs.Tools.{if_so, move_to-bare, total, Changes, Keeps, by_rows, counts_near, desk_change, first_goes, holding, mailed_change, numbered_so, one_comes, orders_so, own_asks, pays_so, sees_leads, then, tracks_so, says_so, flows_so}
 
 kind_low : (p : Parcel) → (1 ≤ kind_of p) × (kind_of p ≤ 10)
@@ -84,7 +84,8 @@ module _ (r : Rules) (s : Turn) (entries : List Entry) (h : IsSound r s entries)
         (λ o at. omega (arith, desk_tells p its.1 o at.0 at.1)) row own) (omega arith) (omega arith) (λ o. omega arith);
     orders = orders_so r s now (Mail (kind_of p)) (OnDesk p ∷ []) (Mailed p ∷ []) change.0 tt (λ o n. omega arith) (λ j d o n. omega (arith, own_asks s.tables.here s.tables.profile.credit_log j d o n p its.2));
     says = says_so r s now (Mail (kind_of p)) (OnDesk p ∷ []) (Mailed p ∷ []) change.0 refl (λ o j. omega arith) (λ o. omega arith);
-    flows = flows_so r s now (Mail (kind_of p)) (OnDesk p ∷ []) (Mailed p ∷ []) change.0 refl (λ f. omega arith);
+    arrived = λ a. omega (arith, h.arrived a, change.0 (brought a), change.0 (moved_by a));
+    flows = flows_so r s now (Mail (kind_of p)) (OnDesk p ∷ []) (Mailed p ∷ []) change.0 refl (λ o. refl) (λ f. omega arith);
     tracks = tracks_so r s now (Mail (kind_of p)) (OnDesk p ∷ []) (Mailed p ∷ []) change.0 (λ o. refl) refl refl (λ o. omega arith) (λ o. omega arith);
     counts = counts_near s now (Mail (kind_of p)) refl (omega arith) (omega arith) (omega arith) (omega arith) (omega arith) (λ l. refl);
   }

@@ -45,20 +45,21 @@ some_log kind b h = grind arith
 pub right_log : (kind : ℕ) (l : Option ℕ) → MatchOption l ⊥ (λ x. 16 ≤ kind) → MatchOption l (kind < 16) (λ x. 16 ≤ kind)
 right_log kind b h = grind arith
 
--- it grants no move, and tells of none
+-- it grants no move, tells of none, and frees nothing
 abbrev pub IsFlowless : Parcel → Type 0
 IsFlowless (Go act) = ⊥
 IsFlowless (Arrived id place) = ⊥
+IsFlowless (Free id) = ⊥
 IsFlowless _ = Unit {0}
 
 pub flowless : (k : ℕ) (f : Flow) (p : Parcel) → IsFlowless p → (flow_in k f p ≡ 0) × ((j : ℕ) → flow_go j f p ≡ 0)
 flowless k f (Go act) u = absurd u
 flowless k f (Arrived id place) u = absurd u
-flowless k f (Apply act) u = by_flows (λ f. (flow_in k f (Apply act) ≡ 0) × ((j : ℕ) → flow_go j f (Apply act) ≡ 0)) (λ o t. (refl, λ j. refl)) (λ o i. (refl, λ j. refl)) f
-flowless k f (Move act) u = by_flows (λ f. (flow_in k f (Move act) ≡ 0) × ((j : ℕ) → flow_go j f (Move act) ≡ 0)) (λ o t. (refl, λ j. refl)) (λ o i. (refl, λ j. refl)) f
-flowless k f (Return id) u = by_flows (λ f. (flow_in k f (Return id) ≡ 0) × ((j : ℕ) → flow_go j f (Return id) ≡ 0)) (λ o t. (refl, λ j. refl)) (λ o i. (refl, λ j. refl)) f
-flowless k f (Ask id asker entry) u = by_flows (λ f. (flow_in k f (Ask id asker entry) ≡ 0) × ((j : ℕ) → flow_go j f (Ask id asker entry) ≡ 0)) (λ o t. (refl, λ j. refl)) (λ o i. (refl, λ j. refl)) f
-flowless k f (Give id entry) u = by_flows (λ f. (flow_in k f (Give id entry) ≡ 0) × ((j : ℕ) → flow_go j f (Give id entry) ≡ 0)) (λ o t. (refl, λ j. refl)) (λ o i. (refl, λ j. refl)) f
-flowless k f (Cached id place) u = by_flows (λ f. (flow_in k f (Cached id place) ≡ 0) × ((j : ℕ) → flow_go j f (Cached id place) ≡ 0)) (λ o t. (refl, λ j. refl)) (λ o i. (refl, λ j. refl)) f
-flowless k f (Shipped act state) u = by_flows (λ f. (flow_in k f (Shipped act state) ≡ 0) × ((j : ℕ) → flow_go j f (Shipped act state) ≡ 0)) (λ o t. (refl, λ j. refl)) (λ o i. (refl, λ j. refl)) f
-flowless k f (Free id) u = by_flows (λ f. (flow_in k f (Free id) ≡ 0) × ((j : ℕ) → flow_go j f (Free id) ≡ 0)) (λ o t. (refl, λ j. refl)) (λ o i. (refl, λ j. refl)) f
+flowless k f (Apply act) u = by_flows (λ f. (flow_in k f (Apply act) ≡ 0) × ((j : ℕ) → flow_go j f (Apply act) ≡ 0)) (λ o t. (refl, λ j. refl)) (λ o i. (refl, λ j. refl)) (λ o i. (refl, λ j. refl)) f
+flowless k f (Move act) u = by_flows (λ f. (flow_in k f (Move act) ≡ 0) × ((j : ℕ) → flow_go j f (Move act) ≡ 0)) (λ o t. (refl, λ j. refl)) (λ o i. (refl, λ j. refl)) (λ o i. (refl, λ j. refl)) f
+flowless k f (Return id) u = by_flows (λ f. (flow_in k f (Return id) ≡ 0) × ((j : ℕ) → flow_go j f (Return id) ≡ 0)) (λ o t. (refl, λ j. refl)) (λ o i. (refl, λ j. refl)) (λ o i. (refl, λ j. refl)) f
+flowless k f (Ask id asker entry) u = by_flows (λ f. (flow_in k f (Ask id asker entry) ≡ 0) × ((j : ℕ) → flow_go j f (Ask id asker entry) ≡ 0)) (λ o t. (refl, λ j. refl)) (λ o i. (refl, λ j. refl)) (λ o i. (refl, λ j. refl)) f
+flowless k f (Give id entry) u = by_flows (λ f. (flow_in k f (Give id entry) ≡ 0) × ((j : ℕ) → flow_go j f (Give id entry) ≡ 0)) (λ o t. (refl, λ j. refl)) (λ o i. (refl, λ j. refl)) (λ o i. (refl, λ j. refl)) f
+flowless k f (Cached id place) u = by_flows (λ f. (flow_in k f (Cached id place) ≡ 0) × ((j : ℕ) → flow_go j f (Cached id place) ≡ 0)) (λ o t. (refl, λ j. refl)) (λ o i. (refl, λ j. refl)) (λ o i. (refl, λ j. refl)) f
+flowless k f (Shipped act state) u = by_flows (λ f. (flow_in k f (Shipped act state) ≡ 0) × ((j : ℕ) → flow_go j f (Shipped act state) ≡ 0)) (λ o t. (refl, λ j. refl)) (λ o i. (refl, λ j. refl)) (λ o i. (refl, λ j. refl)) f
+flowless k f (Free id) u = absurd u

@@ -1,5 +1,5 @@
 -- A rider is merged into an id of a state.
-use Rattle.hpx_steps.proofs.Common.{Act, AllByRecursion, Entry, Event, HasCommits, HasObject, HasRightCredit, Id, IsKept, IsSound, IsTidy, IsWhole, List, Loose, MatchOption, Merge, Merges, None, Option, Rules, Single, Some, Standing, StandsHere, State, TidyAt, Token, Turn, View, Waits, [], action_of, all_at, all_set, and_true, ap, arith, bare, bare_due, bare_names, bare_standing, bare_state, commits, cond, count_by, counts_of, counts_true, eqb-true, false, follows_merge, has_log, held_token, is_busy, is_like, is_some, is_standing, length, list_any, map, may_merge, merged, merged_in, named_act, nat_lt, nat_tests, not, refl, same_object, same_object-refl, same_object-sym, same_object-true, same_token, session, set, slice_get, some_same, subst, suc, sum_by, sum_by-cons, sym, target_of, token_own, tokens, tokens_of, true, view, worth, wrote, ℕ, ◌&&◌, ◌+◌, ◌<◌, ◌==◌, ◌∙◌, ◌∷◌, ◌≡◌, ◌≤◌}
+use Rattle.hpx_steps.proofs.Common.{Act, AllByRecursion, Entry, Event, HasCommits, HasObject, HasRightCredit, Id, IsKept, IsSound, IsTidy, IsWhole, List, Loose, MatchOption, Merge, Merges, None, Option, Rules, Single, Some, Standing, StandsHere, State, TidyAt, Token, Turn, View, Waits, [], action_of, all_at, all_set, and_true, ap, arith, bare, bare_due, bare_names, bare_standing, bare_state, commits, cond, count_by, counts_of, counts_true, eqb-true, false, follows_merge, has_log, held_token, is_busy, is_like, is_some, is_standing, length, list_any, map, may_merge, merged, merged_in, named_act, nat_lt, nat_tests, not, refl, same_object, same_object-refl, same_object-sym, same_object-true, same_token, session, set, slice_get, some_same, subst, suc, sum_by, sum_by-cons, sym, target_of, token_own, tokens, tokens_of, true, view, worth, wrote, ℕ, ◌&&◌, ◌+◌, ◌<◌, ◌==◌, ◌∙◌, ◌∷◌, ◌≡◌, ◌≤◌, brought, moved_by}
 use Rattle.hpx_steps.proofs.Tools.{Changes, Keeps, Sees, among_at, by_rows, counts_near, each_set, first_goes, held_by, holding, if_so, ids_append, less_sum, loose_change, never, none_busy, numbered_so, objects_change, one_turns, orders_so, pays_so, plain_ids, retidy, same_map, sees_by, sees_covers, sees_leads, set_sum, single_found, single_set, stand_set, then, told_as, view_covered, view_worth, tracks_so, says_so, flows_so}
 
 -- ---- ids, of which one has the log above
@@ -197,7 +197,8 @@ module _ (r : Rules) (s : Turn) (entries : List Entry) (h : IsSound r s entries)
     pays = pays_so r s now e (Loose id ∷ StandsHere x ∷ []) (StandsHere raised ∷ []) change.0 (by_rows _ (λ at. refl) (λ at. refl) (λ at. refl) (λ at. refl) (λ at. refl) (λ at. refl) (λ at. refl) (λ at. refl) (λ at. refl) (λ at. refl) (λ at. refl) (λ o at. refl) (λ o to at. refl) (λ o to at. refl) (λ o to at. refl) (λ o at. refl)) (omega arith) (omega arith) (λ o. omega arith);
     orders = orders_so r s now e (Loose id ∷ StandsHere x ∷ []) (StandsHere raised ∷ []) change.0 tt (λ o n. omega arith) (λ k d o n. omega arith);
     says = says_so r s now e (Loose id ∷ StandsHere x ∷ []) (StandsHere raised ∷ []) change.0 refl (λ o j. omega arith) (λ o. omega arith);
-    flows = flows_so r s now e (Loose id ∷ StandsHere x ∷ []) (StandsHere raised ∷ []) change.0 refl (λ f. omega arith);
+    arrived = λ a. omega (arith, h.arrived a, change.0 (brought a), change.0 (moved_by a));
+    flows = flows_so r s now e (Loose id ∷ StandsHere x ∷ []) (StandsHere raised ∷ []) change.0 refl (λ o. refl) (λ f. omega arith);
     tracks = tracks_so r s now e (Loose id ∷ StandsHere x ∷ []) (StandsHere raised ∷ []) change.0 (λ o. refl) refl refl (λ o. omega arith) (λ o. omega arith);
     counts = counts_near s now e refl (omega arith) (omega arith) (omega arith) (omega arith) (omega arith) (λ l. refl);
   }

@@ -1,5 +1,5 @@
 -- A frame goes out.
-use Rattle.hpx_steps.proofs.Common.{Id, any_counted, count_by, counts_true, list_any, parcel_frees, same_object-refl, sum_by-cons, true, Apply, Arrived, Ask, Cached, Entry, Exchanges, Free, Give, Go, GoesOut, Going, IsSound, IsTidy, List, MayGoTo, MayLeave, Move, Out, Outgoing, Parcel, Return, Rules, Shipped, Some, TidyAt, Turn, View, [], ap, arith, asks_for, bare_act, bare_due, follows, cond, counts_of, follows_out, gives_for, inl, load_of, map, nothing, parcel_acts, parcel_asks, parcel_travels, refl, same_object, sum_by, sum_by-append, tokens, view, waiting, weighed, weight, worth, wrote, ℕ, ◌+◌, ◌==◌, ◌∷◌, ◌≡◌, grants_of, leads_on, flow_go}
+use Rattle.hpx_steps.proofs.Common.{Id, any_counted, count_by, counts_true, list_any, parcel_frees, same_object-refl, sum_by-cons, true, Apply, Arrived, Ask, Cached, Entry, Exchanges, Free, Give, Go, GoesOut, Going, IsSound, IsTidy, List, MayGoTo, MayLeave, Move, Out, Outgoing, Parcel, Return, Rules, Shipped, Some, TidyAt, Turn, View, [], ap, arith, asks_for, bare_act, bare_due, follows, cond, counts_of, follows_out, gives_for, inl, load_of, map, nothing, parcel_acts, parcel_asks, parcel_travels, refl, same_object, sum_by, sum_by-append, tokens, view, waiting, weighed, weight, worth, wrote, ℕ, ◌+◌, ◌==◌, ◌∷◌, ◌≡◌, grants_of, leads_on, flow_go, brought, moved_by}
 use Rattle.hpx_steps.proofs.Tools.{own_sum, Changes, Keeps, Sees, asks_of, by_parcel, counts_near, first_goes, frees_of, holding, numbered_so, orders_so, outgoing_change, pays_so, same_dead, seen_sum, sees_by, sees_covers, sees_leads, ships_of, told_as, view_covered, view_worth, tracks_so, says_so, flows_so}
 
 -- what may go may leave what is seen
@@ -76,7 +76,8 @@ module _ (r : Rules) (s : Turn) (entries : List Entry) (h : IsSound r s entries)
     orders = orders_so r s now (Out x.to bytes) (Going x ∷ []) [] change.0 (record { parcel = x.parcel; spelled = spelled; way = its.1; own = its.2 })
         (λ o n. omega (arith, told (asks_for s.tables.here o n))) (λ j d o n. omega (arith, ap (λ k. cond (x.to == j) k 0) (told (gives_for o n))));
     says = says_so r s now (Out x.to bytes) (Going x ∷ []) [] change.0 refl (λ o j. omega arith) (λ o. omega arith);
-    flows = flows_so r s now (Out x.to bytes) (Going x ∷ []) [] change.0 refl (λ f. omega (arith, told (flow_go x.to f)));
+    arrived = λ a. omega (arith, h.arrived a, change.0 (brought a), change.0 (moved_by a));
+    flows = flows_so r s now (Out x.to bytes) (Going x ∷ []) [] change.0 refl (λ o. refl) (λ f. omega (arith, told (flow_go x.to f)));
     tracks = tracks_so r s now (Out x.to bytes) (Going x ∷ []) [] change.0 (λ o. refl) refl refl (λ o. omega (arith, told (grants_of o))) (λ o. omega (arith, told (leads_on s.tables.here o)));
     counts = counts_near s now (Out x.to bytes) refl (omega arith) (omega arith) (omega arith) refl (omega arith) (λ l. refl);
   }

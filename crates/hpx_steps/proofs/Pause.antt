@@ -1,9 +1,9 @@
 -- A commit begins to wait.
-use Rattle.hpx_steps.proofs.Common.{Entry, HasCommits, HasSplit, IsCommit, IsSound, List, Pauses, Pending, Refusal, Rules, TidyAt, Turn, View, Waits, Working, [], action_of, any_counted, ap, append-nil, append_assoc, arith, asked_by, asking, asks_under, bare_act, commits, counted_any, counts_of, fired_of, freeing, given_to, hopping, inl, joined, map, refl, refusals_of, same_refusal, subst, sum_by, sym, unpaid, view, waits_for, worth, ℕ, ◌++◌, ◌∙◌, ◌∷◌, ◌≡◌, ◌≢◌, grants_here, leads_away, tells_come, flow, None, tells_own}
+use Rattle.hpx_steps.proofs.Common.{Entry, HasCommits, HasSplit, IsCommit, IsSound, List, Pauses, Pending, Refusal, Rules, TidyAt, Turn, View, Waits, Working, [], action_of, any_counted, ap, append-nil, append_assoc, arith, asked_by, asking, asks_under, bare_act, commits, counted_any, counts_of, fired_of, freeing, given_to, hopping, inl, joined, map, refl, refusals_of, same_refusal, subst, sum_by, sym, unpaid, view, waits_for, worth, ℕ, ◌++◌, ◌∙◌, ◌∷◌, ◌≡◌, ◌≢◌, grants_here, leads_away, tells_come, flow, None, tells_own, brought, moved_by}
 use Rattle.hpx_steps.proofs.Tools.{Changes, Sees, Stills, by_commit, fewer, first_goes, holding, long_sum, more_come, move_commits, pending_change, recommit, refuses, sees_leads, then, view_asking, view_refusals, view_worth, was_fired, working_change, same_fires, acted, same_tracks, same_says, same_flows}
 
 module _ (r : Rules) (s : Turn) (entries : List Entry) (h : IsSound r s entries) (w : Waits) (rest : List Waits) (places : List ℕ) (works : s.working ≡ w ∷ rest)
-    (lacks : w.asked ≢ []) (split : HasSplit s.tables.profile.credit_log (record w { places = places })) where
+    (lacks : w.asked ≢ []) (stays : w.job.action.code ≢ 1) (split : HasSplit s.tables.profile.credit_log (record w { places = places })) where
   abbrev waiter : Waits
   waiter = record w { places = places }
 
@@ -62,7 +62,7 @@ module _ (r : Rules) (s : Turn) (entries : List Entry) (h : IsSound r s entries)
   pause_stills = record {
     same = refl;
     leads = sees_leads r (view s) now sees;
-    tidy = holding (TidyAt s) (Pending waiter ∷ []) s now change.1 h.tidy ((fit_commit, split, lacks), tt);
+    tidy = holding (TidyAt s) (Pending waiter ∷ []) s now change.1 h.tidy ((fit_commit, split, lacks, stays), tt);
     places = h.places;
     commits = subst (HasCommits s.tables.objects s.tables.running) behind (move_commits s.tables.objects s.tables.running [] others others [] w waiter refl same was);
     numbered = fewer s now (omega arith) (λ n. omega (arith, change.0 (asks_under n)));
@@ -71,11 +71,12 @@ module _ (r : Rules) (s : Turn) (entries : List Entry) (h : IsSound r s entries)
     fired = omega (arith, change.0 joined);
     frees = λ o. omega (arith, change.0 (freeing o));
     says = same_says (λ q j. 0) (λ q. 0) s now refl (λ q k. omega (arith, change.0 (tells_come q k))) (λ q. omega (arith, change.0 (tells_own q)));
-    flows = same_flows r None s now refl (λ f own. omega (arith, change.0 (flow s.tables.here f)));
+    arrived = λ a. omega (arith, h.arrived a, change.0 (brought a), change.0 (moved_by a));
+    flows = same_flows r None s now refl (λ o. refl) (λ f own. omega (arith, change.0 (flow s.tables.here f)));
     tracks = same_tracks (λ q. 0) (λ q. 0) s now (λ q. refl) refl refl (λ q. omega (arith, change.0 (grants_here q))) (λ q. omega (arith, change.0 (leads_away s.tables.here q)));
     asked = λ o n. omega (arith, change.0 (asked_by s.tables.here o n), change.0 (waits_for o n));
     given = λ k d o n. omega (arith, change.0 (given_to k o n));
   }
 
 pub pause_step : (r : Rules) (s s' : Turn) (entries : List Entry) → IsSound r s entries → Pauses s s' → Stills r s s'
-pause_step r s s' entries h g = subst (Stills r s) (sym g.now) (pause_stills r s entries h g.w g.rest g.places g.works g.lacks g.split)
+pause_step r s s' entries h g = subst (Stills r s) (sym g.now) (pause_stills r s entries h g.w g.rest g.places g.works g.lacks g.stays g.split)

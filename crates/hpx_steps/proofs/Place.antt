@@ -1,5 +1,5 @@
 -- An action that is in hand waits here, or goes on.
-use Rattle.hpx_steps.proofs.Common.{sym, ap, Accept, Queued, count_in, find, is_recorded, waits, way, sum_by-cons, Accepted, Act, Apply, Came, Entry, Going, HasInHand, IsApplied, IsFit, IsMove, IsParcel, IsSound, Item, List, Mailed, Move, OnDesk, Parcel, Places, Row, Rules, TidyAt, Turn, [], arith, asked_by, asks_as, asks_for, asks_under, bare_act, brings, count_by, drops, freeing, frees_one, given_to, gives_for, going, hopping, inl, inr, joined, of_act, owes, parcel_acts, parcel_asks, parcel_frees, parcel_tokens, posts, refl, same_object, subst, sum_by, tokens_of, unpaid, view, waits_for, weigh, worth, ℕ, ◌+◌, ◌==◌, ◌∙◌, ◌∷◌, ◌≡◌, ◌≢◌, ◌≤◌, ◌⊎◌, parcel_travels, grants_here, grants_of, leads_away, tells_come, tells_at, flow, flow_in, Flow, None, tells_own, tell_of}
+use Rattle.hpx_steps.proofs.Common.{sym, ap, Accept, Queued, count_in, find, is_recorded, waits, way, sum_by-cons, Accepted, Act, Apply, Came, Entry, Going, HasInHand, IsApplied, IsFit, IsMove, IsParcel, IsSound, Item, List, Mailed, Move, OnDesk, Parcel, Places, Row, Rules, TidyAt, Turn, [], arith, asked_by, asks_as, asks_for, asks_under, bare_act, brings, count_by, drops, freeing, frees_one, given_to, gives_for, going, hopping, inl, inr, joined, of_act, owes, parcel_acts, parcel_asks, parcel_frees, parcel_tokens, posts, refl, same_object, subst, sum_by, tokens_of, unpaid, view, waits_for, weigh, worth, ℕ, ◌+◌, ◌==◌, ◌∙◌, ◌∷◌, ◌≡◌, ◌≢◌, ◌≤◌, ◌⊎◌, parcel_travels, grants_here, grants_of, leads_away, tells_come, tells_at, flow, flow_in, Flow, None, tells_own, tell_of, brought, moved_by}
 use Rattle.hpx_steps.proofs.Tools.{follows_few, Carries, begins_counted, begins_places, Changes, Sees, Stills, both, bound_none, brings_few, by_own, by_parcel, carried, drop_change, fewer, hand_fit, hand_weighs, holding, in_hand, is_frame, post_change, put_as, put_less, put_sum, put_tidy, same_asks, same_dead, sees_leads, then, view_worth, weighs_act, same_travels, ships_of, same_waits, acting, posted_tracks, posted_says, posted_flows, flowless}
 
 module _ (r : Rules) (s : Turn) (entries : List Entry) (h : IsSound r s entries) (act : Act) (p : Parcel) (carries : (p ≡ Apply act) ⊎ (p ≡ Move act))
@@ -101,7 +101,8 @@ module _ (r : Rules) (s : Turn) (entries : List Entry) (h : IsSound r s entries)
     frees = λ o. omega (arith, moves (freeing o) 0 (none (frees_one o) refl refl) refl refl (both act (λ q. 0) 0 refl refl refl));
     says = posted_says (λ q j. 0) (λ q. 0) s now s.tables act refl refl (λ q j. let k = none (tells_at q j) refl refl in omega (arith, turns (tells_come q j), hand_weighs p s hand (tells_come q j) 0 k refl, put_sum (tells_come q j) s.tables (way s.tables act) act 0 refl (λ c e. (refl, λ to. refl, λ i. refl))))
         (λ q. let k = none (tell_of q) refl refl in omega (arith, turns (tells_own q), hand_weighs p s hand (tells_own q) 0 refl k, put_sum (tells_own q) s.tables (way s.tables act) act 0 refl (λ c e. (carried act (tell_of q) 0 refl refl refl c e, λ to. refl, λ i. refl))));
-    flows = posted_flows r None s now s.tables act refl refl refl refl (λ f. refl) (λ f. refl) (λ f. let k = none_flow f in omega (arith, turns (flow s.tables.here f), hand_weighs p s hand (flow s.tables.here f) 0 k k)) h.flowing.near;
+    arrived = λ a. omega (arith, h.arrived a, turns (brought a), turns (moved_by a), put_sum (brought a) s.tables (way s.tables act) act 0 refl (λ c e. (refl, λ to. refl, λ i. refl)), hand_weighs p s hand (moved_by a) 0 refl refl);
+    flows = posted_flows r None s now s.tables act refl refl refl refl (λ o. refl) (λ f. refl) (λ f. refl) (λ f. let k = none_flow f in omega (arith, turns (flow s.tables.here f), hand_weighs p s hand (flow s.tables.here f) 0 k k)) h.flowing.near;
     tracks = posted_tracks (λ q. 0) (λ q. 0) s now s.tables act refl refl refl refl refl (λ w m. m) refl
         (λ q. let k = none (grants_of q) refl refl in omega (arith, turns (grants_here q), hand_weighs p s hand (grants_here q) 0 k k))
         (λ q. let k = none (grants_of q) refl refl in omega (arith, turns (grants_here q), hand_weighs p s hand (grants_here q) 0 k k))

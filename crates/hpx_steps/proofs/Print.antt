@@ -1,5 +1,5 @@
 -- The first of what is due is printed.
-use Rattle.hpx_steps.proofs.Common.{Due, Entry, IsDue, IsSound, List, Print, PrintDue, Prints, Rules, Some, TidyAt, Turn, View, [], ap, arith, bare_due, follows_print, map, refl, subst, sym, view, worth, wrote, ℕ, ◌∷◌, ◌≡◌}
+use Rattle.hpx_steps.proofs.Common.{Due, Entry, IsDue, IsSound, List, Print, PrintDue, Prints, Rules, Some, TidyAt, Turn, View, [], ap, arith, bare_due, follows_print, map, refl, subst, sym, view, worth, wrote, ℕ, ◌∷◌, ◌≡◌, brought, moved_by}
 use Rattle.hpx_steps.proofs.Tools.{Changes, Keeps, Sees, by_rows, counts_near, due_change, first_goes, holding, numbered_so, orders_so, pays_so, sees_by, sees_leads, view_worth, tracks_so, says_so, flows_so}
 
 module _ (r : Rules) (s : Turn) (entries : List Entry) (h : IsSound r s entries) (bytes : List ℕ) (rest : List Due) (fresh : s.fresh ≡ []) (due : s.due ≡ PrintDue bytes ∷ rest) where
@@ -25,7 +25,8 @@ module _ (r : Rules) (s : Turn) (entries : List Entry) (h : IsSound r s entries)
     pays = pays_so r s now (Print bytes) (IsDue (PrintDue bytes) ∷ []) [] change.0 (by_rows _ (λ at. refl) (λ at. refl) (λ at. refl) (λ at. refl) (λ at. refl) (λ at. refl) (λ at. refl) (λ at. refl) (λ at. refl) (λ at. refl) (λ at. refl) (λ o at. refl) (λ o to at. refl) (λ o to at. refl) (λ o to at. refl) (λ o at. refl)) (omega arith) (omega arith) (λ o. omega arith);
     orders = orders_so r s now (Print bytes) (IsDue (PrintDue bytes) ∷ []) [] change.0 tt (λ o n. omega arith) (λ j d o n. omega arith);
     says = says_so r s now (Print bytes) (IsDue (PrintDue bytes) ∷ []) [] change.0 refl (λ o j. omega arith) (λ o. omega arith);
-    flows = flows_so r s now (Print bytes) (IsDue (PrintDue bytes) ∷ []) [] change.0 refl (λ f. omega arith);
+    arrived = λ a. omega (arith, h.arrived a, change.0 (brought a), change.0 (moved_by a));
+    flows = flows_so r s now (Print bytes) (IsDue (PrintDue bytes) ∷ []) [] change.0 refl (λ o. refl) (λ f. omega arith);
     tracks = tracks_so r s now (Print bytes) (IsDue (PrintDue bytes) ∷ []) [] change.0 (λ o. refl) refl refl (λ o. omega arith) (λ o. omega arith);
     counts = counts_near s now (Print bytes) refl (omega arith) (omega arith) (omega arith) (omega arith) (omega arith) (λ l. refl);
   }

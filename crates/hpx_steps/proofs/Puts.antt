@@ -1,11 +1,11 @@
 -- One more action: what it weighs and that it is tidy, wherever it goes.
-use Rattle.hpx_steps.proofs.Common.{follows, same_object-from, Among, Apply, Arrived, Ask, Cached, Free, Give, IsMovable, IsTidy, Leaving, Return, Shipped, Turn, false_from, grants, list_any, ◌<◌, Accept, Accepted, Act, AllByRecursion, Begin, Bool, Go, Going, HasPlaces, Id, IfSome, IsFit, IsGranted, IsMove, IsOwn, IsParcel, IsTidyIn, IsWaitingFor, Item, List, MayGoTo, Move, MovesOn, None, OnDesk, Option, Parcel, Queue, Queued, Record, Recounts, Row, Some, Tables, To, Way, [], and_true, ap, arith, bare, bare_act, begins, brings, cond, counted, eq-eqb, eqb-true, false, find_record, going, id_at, inl, inr, is_movable, is_other, is_some, kept, kind_of, leaves_here, map, move_by, move_to, nat_lt, not, of_act, one_if, parcel_for, place_in, record_here, refl, remade, same_object, same_object-sym, same_object-true, some_same, stands_here, stays_here, subst, sym, target_of, true, way, way_by, way_to, waits, weight, ℕ, ◌&&◌, ◌==◌, ◌||◌, ◌∙◌, ◌∷◌, ◌≡◌, ◌≢◌, ◌≤◌, ◌⊎◌, Waiting, act_in, grants_here, queues, sent_as, weigh, ◌+◌, is_away, away_here, leads_away, option_map_or, leads_on, tells_come, Rules, Event, Flow, MovesTo, PlacedAt, flow, flow_comes, flow_goes, flow_of, go_for, record_moves, record_rests, moves_to, is_to, nat_tests, tells_own}
+use Rattle.hpx_steps.proofs.Common.{follows, same_object-from, Among, Apply, Arrived, Ask, Cached, Free, Give, IsMovable, IsTidy, Leaving, Return, Shipped, Turn, false_from, grants, list_any, ◌<◌, Accept, Accepted, Act, AllByRecursion, Begin, Bool, Go, Going, HasPlaces, Id, IfSome, IsFit, IsGranted, IsMove, IsOwn, IsParcel, IsTidyIn, IsWaitingFor, Item, List, MayGoTo, Move, None, OnDesk, Option, Parcel, Queue, Queued, Record, Recounts, Row, Some, Tables, To, Way, [], and_true, ap, arith, bare, bare_act, begins, brings, cond, counted, eq-eqb, eqb-true, false, find_record, going, id_at, inl, inr, is_movable, is_other, is_some, kept, kind_of, leaves_here, map, move_by, move_to, nat_lt, not, of_act, one_if, parcel_for, place_in, record_here, refl, remade, same_object, same_object-sym, same_object-true, some_same, stands_here, stays_here, subst, sym, target_of, true, way, way_by, way_to, waits, weight, ℕ, ◌&&◌, ◌==◌, ◌||◌, ◌∙◌, ◌∷◌, ◌≡◌, ◌≢◌, ◌≤◌, ◌⊎◌, Waiting, act_in, grants_here, queues, sent_as, weigh, ◌+◌, is_away, away_here, leads_away, option_map_or, leads_on, tells_come, Rules, Event, Flow, MovesTo, PlacedAt, flow, flow_comes, flow_goes, flow_of, go_for, record_moves, record_rests, moves_to, is_to, nat_tests, tells_own, EndsAt, dies, IsLive}
 use Rattle.hpx_steps.proofs.ByRows.{by_bool, if_so, by_flows, eq_turned}
 use Rattle.hpx_steps.proofs.Changes.{put_as, sent_if, last_comes}
 use Rattle.hpx_steps.specs.Frames.{IsGrantFor}
 use Rattle.hpx_steps.proofs.Mails.{mail_tidy, IsFlowless, flowless, own_is}
 use Rattle.hpx_steps.proofs.Records.{places_still, away_in}
-use Rattle.hpx_steps.proofs.Then.{Tracks, Says, Flows, of_event}
+use Rattle.hpx_steps.proofs.Then.{Tracks, Says, Flows, all_flows, of_event}
 
 -- ---- what it weighs
 
@@ -300,7 +300,7 @@ begins_places t act h = each (way t act) (way_goes t act)
         let made : Record = record g.old { moving = move_to act } in
         places_still t (target_of act) g.old (Some made) (begins (Begin place) act t.records)
         (remade_recounts (target_of act) (λ r. record r { moving = move_to act }) (λ r. refl) g.old t.records g.was)
-        (λ x is on. subst MovesOn (some_same made x is) (λ e. g.away (some_same b.1.0 place (sym b.1.1 ∙ (e ∙ ap (λ n. Some n) g.at))))) h
+        (λ x is on. subst IsLive (some_same made x is) (λ e. g.away (some_same b.1.0 place (sym b.1.1 ∙ (e ∙ ap (λ n. Some n) g.at))), on.1)) h
 
 -- ---- what moves, and what waits for it
 
@@ -426,6 +426,11 @@ module _ (t : Tables) (act : Act) (f : Flow) where
       let b : one_if (not (is_some (move_to act)) && (old.place == j)) ≡ 0 = rw moves refl in
       let c : flow t.here (PlacedAt o j) (sent_as other p (Go act)) ≡ one_if (j == p) = taken o j other own e in
       let d : one_if (j == p) ≡ one_if (p == j) = ap one_if (eq_turned j p) in omega (arith, a, b, c, d))
+      (λ o j e.
+      let a : one_if (not (is_some old.moving) && (old.place == j)) ≡ one_if (p == j) = rw (still, at) refl in
+      let b : one_if (not (is_some (move_to act)) && (old.place == j)) ≡ 0 = rw moves refl in
+      let c : flow t.here (EndsAt o j) (sent_as other p (Go act)) ≡ one_if (j == p) = taken_end o j other own e in
+      let d : one_if (j == p) ≡ one_if (p == j) = ap one_if (eq_turned j p) in omega (arith, a, b, c, d))
       f same
     where
       moved : (o : Id) (j : ℕ) (other : Bool) → same_object o (target_of act) ≡ true → flow t.here (MovesTo o j) (sent_as other p (Go act)) ≡ one_if (is_to j (move_to act))
@@ -436,9 +441,13 @@ module _ (t : Tables) (act : Act) (f : Flow) where
       taken o j true own e = rw e refl
       taken o j false own e = let k : go_for o j t.here (Go act) ≡ one_if (j == t.here) = rw e refl in let q : one_if (j == p) ≡ one_if (j == t.here) = ap (λ (n : ℕ). one_if (j == n)) (own refl) in omega (arith, k, q)
 
+      taken_end : (o : Id) (j : ℕ) (other : Bool) → (other ≡ false → p ≡ t.here) → same_object o (target_of act) ≡ true → flow t.here (EndsAt o j) (sent_as other p (Go act)) ≡ one_if (j == p)
+      taken_end o j true own e = let k : go_for o j p (Go act) ≡ one_if (j == p) = rw e refl in omega (arith, k)
+      taken_end o j false own e = let k : go_for o j t.here (Go act) ≡ one_if (j == t.here) = rw e refl in let q : one_if (j == p) ≡ one_if (j == t.here) = ap (λ (n : ℕ). one_if (j == n)) (own refl) in omega (arith, k, q)
+
   -- nothing of another object
   none_begun : (p : ℕ) (other : Bool) → same_object (flow_of f) (target_of act) ≡ false → flow t.here f (sent_as other p (Go act)) ≡ 0
-  none_begun p other off = by_flows (λ f. same_object (flow_of f) (target_of act) ≡ false → flow t.here f (sent_as other p (Go act)) ≡ 0) (λ o j e. each o j other e) (λ o j e. other_one o j other e) f off
+  none_begun p other off = by_flows (λ f. same_object (flow_of f) (target_of act) ≡ false → flow t.here f (sent_as other p (Go act)) ≡ 0) (λ o j e. each o j other e) (λ o j e. other_one o j other e) (λ o j e. other_end o j other e) f off
     where
       each : (o : Id) (j : ℕ) (other : Bool) → same_object o (target_of act) ≡ false → flow t.here (MovesTo o j) (sent_as other p (Go act)) ≡ 0
       each o j true e = rw e refl
@@ -447,6 +456,10 @@ module _ (t : Tables) (act : Act) (f : Flow) where
       other_one : (o : Id) (j : ℕ) (other : Bool) → same_object o (target_of act) ≡ false → flow t.here (PlacedAt o j) (sent_as other p (Go act)) ≡ 0
       other_one o j true e = rw e refl
       other_one o j false e = rw e refl
+
+      other_end : (o : Id) (j : ℕ) (other : Bool) → same_object o (target_of act) ≡ false → flow t.here (EndsAt o j) (sent_as other p (Go act)) ≡ 0
+      other_end o j true e = rw e refl
+      other_end o j false e = rw e refl
 
   carried_flow : (p : ℕ) (other : Bool) → flow t.here f (sent_as other p (parcel_for act)) ≡ 0
   carried_flow p other = as_parcel (λ c. flow t.here f (sent_as other p c) ≡ 0) act (each (Apply act) tt other) (each (Move act) tt other)
@@ -491,32 +504,30 @@ module _ (t : Tables) (act : Act) (f : Flow) where
           (λ a. absurd (let lt : nat_lt p t.localities ≡ true = search (arith, nat_tests, low) in let e : true ≡ false = rw (lt, a) at own in cc))
 
 pub posted_flows : (r : Rules) (e : Option Event) (s s' : Turn) (t : Tables) (act : Act) → t.records ≡ s.tables.records → t.here ≡ s.tables.here → t.localities ≡ s.tables.localities
-    → s'.tables.records ≡ begins (way t act) act t.records
+    → s'.tables.records ≡ begins (way t act) act t.records → ((o : Id) → of_event (dies o) e ≡ 0)
     → ((f : Flow) → of_event (flow_comes r s.tables.here f) e ≡ 0) → ((f : Flow) → of_event (flow_goes r s.tables.here f) e ≡ 0)
     → ((f : Flow) → weigh (flow s.tables.here f) s' ≡ weigh (flow s.tables.here f) s + flow s.tables.here f (put_as t (way t act) act))
     → ((o : Id) (x : Record) → find_record o s.tables.records ≡ Some x → (x.place ≡ s.tables.here) ⊎ (x.place < s.tables.localities)) → Flows r e s s'
-posted_flows r e s s' t act records here count now comes goes put near = record {
-  flows = λ f own. inr (
-      let k : record_moves s.tables.here f (find_record (flow_of f) (begins (way t act) act t.records)) + record_rests f (find_record (flow_of f) t.records)
-      ≡ record_moves s.tables.here f (find_record (flow_of f) t.records) + flow s.tables.here f (put_as t (way t act) act) + record_rests f (find_record (flow_of f) (begins (way t act) act t.records)) =
-      subst (λ (n : ℕ). record_moves n f (find_record (flow_of f) (begins (way t act) act t.records)) + record_rests f (find_record (flow_of f) t.records)
-      ≡ record_moves n f (find_record (flow_of f) t.records) + flow n f (put_as t (way t act) act) + record_rests f (find_record (flow_of f) (begins (way t act) act t.records))) here
-      (posted_flow t act f near_t (way t act) (way_goes t act)) in
-      omega (
-        arith,
-        k,
-        comes f,
-        goes f,
-        put f,
-        ap (λ (rs : List Record). record_moves s.tables.here f (find_record (flow_of f) rs)) now,
-        ap (λ (rs : List Record). record_rests f (find_record (flow_of f) rs)) now,
-        ap (λ (rs : List Record). record_moves s.tables.here f (find_record (flow_of f) rs)) records,
-        ap (λ (rs : List Record). record_rests f (find_record (flow_of f) rs)) records,
-      ));
-  near = λ o x m.
-      let k = begun_found (way t act) act t.records o x (subst (λ (rs : List Record). find_record o rs ≡ Some x) now m) in
-      inl (k.0, subst (λ (rs : List Record). find_record o rs ≡ Some k.0) records k.1, k.2);
-}
+posted_flows r e s s' t act records here count now lives comes goes put near = all_flows r e s s' lives (λ f own.
+    let k : record_moves s.tables.here f (find_record (flow_of f) (begins (way t act) act t.records)) + record_rests f (find_record (flow_of f) t.records)
+    ≡ record_moves s.tables.here f (find_record (flow_of f) t.records) + flow s.tables.here f (put_as t (way t act) act) + record_rests f (find_record (flow_of f) (begins (way t act) act t.records)) =
+    subst (λ (n : ℕ). record_moves n f (find_record (flow_of f) (begins (way t act) act t.records)) + record_rests f (find_record (flow_of f) t.records)
+    ≡ record_moves n f (find_record (flow_of f) t.records) + flow n f (put_as t (way t act) act) + record_rests f (find_record (flow_of f) (begins (way t act) act t.records))) here
+    (posted_flow t act f near_t (way t act) (way_goes t act)) in
+    omega (
+      arith,
+      k,
+      comes f,
+      goes f,
+      put f,
+      ap (λ (rs : List Record). record_moves s.tables.here f (find_record (flow_of f) rs)) now,
+      ap (λ (rs : List Record). record_rests f (find_record (flow_of f) rs)) now,
+      ap (λ (rs : List Record). record_moves s.tables.here f (find_record (flow_of f) rs)) records,
+      ap (λ (rs : List Record). record_rests f (find_record (flow_of f) rs)) records,
+    ))
+    (λ o x m.
+    let k = begun_found (way t act) act t.records o x (subst (λ (rs : List Record). find_record o rs ≡ Some x) now m) in
+    inl (k.0, subst (λ (rs : List Record). find_record o rs ≡ Some k.0) records k.1, k.2))
   where
     near_t : (o : Id) (x : Record) → find_record o t.records ≡ Some x → (x.place ≡ t.here) ⊎ (x.place < t.localities)
     near_t o x m = subst (λ (n : ℕ). (x.place ≡ n) ⊎ (x.place < t.localities)) (sym here) (subst (λ (n : ℕ). (x.place ≡ s.tables.here) ⊎ (x.place < n)) (sym count)

@@ -1,5 +1,5 @@
 -- The record of one object changes.
-use Rattle.hpx_steps.proofs.Common.{HasPlaces, Id, List, Option, Record, Recounts, Some, MovesOn, Tables, [], ap, bare, cases_Bool, cond, count_in, counted, false, find, find_record, inl, inr, is_recorded, map, option_map_or, refl, same_object, same_object-sym, same_object-true, sym, true, ◌∙◌, ◌∷◌, ◌≡◌, None, ℕ, subst, Bool, is_away}
+use Rattle.hpx_steps.proofs.Common.{HasPlaces, Id, List, Option, Record, Recounts, Some, IsLive, Tables, [], ap, bare, cases_Bool, cond, count_in, counted, false, find, find_record, inl, inr, is_recorded, map, option_map_or, refl, same_object, same_object-sym, same_object-true, sym, true, ◌∙◌, ◌∷◌, ◌≡◌, None, ℕ, subst, Bool, is_away}
 use Rattle.hpx_steps.proofs.ByRows.{if_so}
 
 pub found_counted : (x : Id) (rs : List Record) → count_in (find (is_recorded x) (map counted rs)) ≡ option_map_or (λ (r : Record). r.count) (find_record x rs) 0
@@ -23,9 +23,9 @@ one_recounted id old made rs rs' k x = elim (cases_Bool (same_object x (bare id)
       ∙ (ap (λ (o : Option Record). option_map_or (λ (r : Record). r.count) o 0) (k.others x (other_way x id t)) ∙ sym (found_counted x rs)))
 ]
 
--- what was not born has no record still, and no record says that its object moves to where it is
+-- what was not born has no record still, and each record is live
 pub places_still : (t : Tables) (id : Id) (old : Record) (made : Option Record) (rs' : List Record) → Recounts id old made t.records rs'
-    → ((x : Record) → made ≡ Some x → MovesOn old → MovesOn x) → HasPlaces t.here t.births t.objects t.records t.leaving → HasPlaces t.here t.births t.objects rs' t.leaving
+    → ((x : Record) → made ≡ Some x → IsLive old → IsLive x) → HasPlaces t.here t.births t.objects t.records t.leaving → HasPlaces t.here t.births t.objects rs' t.leaving
 places_still t id old made rs' k stays h = record {
   serves = h.serves;
   single = h.single;

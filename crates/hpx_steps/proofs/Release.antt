@@ -1,5 +1,5 @@
 -- The first action that waits for an object goes its way.
-use Rattle.hpx_steps.proofs.Common.{Accepted, Act, Apply, Entry, Going, IsApplied, IsFit, IsMove, IsParcel, IsSound, Item, List, Move, OnDesk, Parcel, Queued, Releases, Rules, Some, TidyAt, Turn, Waiting, [], ap, arith, asked_by, asks_as, asks_for, asks_under, bare_act, brings, count_by, count_in, find, freeing, given_to, gives_for, going, hopping, inl, inr, is_for, is_recorded, joined, of_act, parcel_acts, parcel_asks, parcel_frees, parcel_tokens, parcel_travels, posts, refl, same_object, subst, sum_by, sum_by-cons, sym, tokens_of, unpaid, view, waits, waits_for, way, weigh, weight, without_first, worth, ℕ, ◌+◌, ◌==◌, ◌∷◌, ◌≡◌, ◌⊎◌, grants_here, leads_away, tells_come, flow, flow_in, None, tells_own, tell_of}
+use Rattle.hpx_steps.proofs.Common.{Accepted, Act, Apply, Entry, Going, IsApplied, IsFit, IsMove, IsParcel, IsSound, Item, List, Move, OnDesk, Parcel, Queued, Releases, Rules, Some, TidyAt, Turn, Waiting, [], ap, arith, asked_by, asks_as, asks_for, asks_under, bare_act, brings, count_by, count_in, find, freeing, given_to, gives_for, going, hopping, inl, inr, is_for, is_recorded, joined, of_act, parcel_acts, parcel_asks, parcel_frees, parcel_tokens, parcel_travels, posts, refl, same_object, subst, sum_by, sum_by-cons, sym, tokens_of, unpaid, view, waits, waits_for, way, weigh, weight, without_first, worth, ℕ, ◌+◌, ◌==◌, ◌∷◌, ◌≡◌, ◌⊎◌, grants_here, leads_away, tells_come, flow, flow_in, None, tells_own, tell_of, brought, moved_by}
 use Rattle.hpx_steps.proofs.Tools.{found_among, Carries, Changes, Sees, Stills, acting, asks_of, begins_counted, begins_places, both, bound_none, brings_few, carried, fewer, first_leaves, follows_few, frees_of, holding, post_change, put_as, put_less, put_sum, put_tidy, queued_change, same_asks, same_dead, same_travels, same_waits, sees_leads, ships_of, then, view_worth, weighs_act, posted_tracks, posted_says, posted_flows, flowless}
 
 module _ (r : Rules) (s : Turn) (entries : List Entry) (h : IsSound r s entries) (n : ℕ) (first : Waiting Parcel) (act : Act) (there : find (is_for n) s.tables.queued ≡ Some first)
@@ -87,7 +87,8 @@ module _ (r : Rules) (s : Turn) (entries : List Entry) (h : IsSound r s entries)
     frees = λ o. omega (arith, moves (freeing o) 0 refl refl (both act (λ q. 0) 0 refl refl refl));
     says = posted_says (λ q j. 0) (λ q. 0) s now less.tables act refl refl (λ q j. omega (arith, turns (tells_come q j), put_sum (tells_come q j) less.tables (way less.tables act) act 0 refl (λ c e. (refl, λ to. refl, λ i. refl))))
         (λ q. omega (arith, turns (tells_own q), put_sum (tells_own q) less.tables (way less.tables act) act 0 refl (λ c e. (carried act (tell_of q) 0 refl refl refl c e, λ to. refl, λ i. refl))));
-    flows = posted_flows r None s now less.tables act refl refl refl refl (λ f. refl) (λ f. refl) (λ f. let k = of_both (λ q. flow_in s.tables.here f q ≡ 0) (flowless s.tables.here f (Apply act) tt).0 (flowless s.tables.here f (Move act) tt).0 in omega (arith, turns (flow s.tables.here f), k)) h.flowing.near;
+    arrived = λ a. omega (arith, h.arrived a, turns (brought a), turns (moved_by a), put_sum (brought a) less.tables (way less.tables act) act 0 refl (λ c e. (refl, λ to. refl, λ i. refl)));
+    flows = posted_flows r None s now less.tables act refl refl refl refl (λ o. refl) (λ f. refl) (λ f. refl) (λ f. let k = of_both (λ q. flow_in s.tables.here f q ≡ 0) (flowless s.tables.here f (Apply act) tt).0 (flowless s.tables.here f (Move act) tt).0 in omega (arith, turns (flow s.tables.here f), k)) h.flowing.near;
     tracks = posted_tracks (λ q. 0) (λ q. 0) s now less.tables act refl refl refl refl refl
         (λ w m. elim ((first_leaves n first s.tables.queued there).there w m) [
           | inl k ↦ k

@@ -1,5 +1,5 @@
 -- The objects that stand here are in another order.
-use Rattle.hpx_steps.proofs.Common.{AllByRecursion, Among, Bool, Entry, HasCommits, HasObject, Id, IsSound, IsTidy, IsWhole, List, None, Option, Reorders, Rules, Single, Some, Standing, StandsHere, TidyAt, Turn, Waits, Act, [], ap, arith, asked_by, asks_under, bare_names, commits, count_by, counts_false, counts_of, counts_true, find, find_passes, freeing, given_to, hopping, inl, inr, is_some, is_standing, joined, refl, same_object-refl, same_object-true, session, slice_get, subst, suc, sum_by-cons, sym, target_of, unpaid, view, waits_for, worth, zero, ℕ, ◌∙◌, ◌∷◌, ◌≡◌, ◌≤◌, grants_here, leads_away, tells_come, flow, tells_own}
+use Rattle.hpx_steps.proofs.Common.{AllByRecursion, Among, Bool, Entry, HasCommits, HasObject, Id, IsSound, IsTidy, IsWhole, List, None, Option, Reorders, Rules, Single, Some, Standing, StandsHere, TidyAt, Turn, Waits, Act, [], ap, arith, asked_by, asks_under, bare_names, commits, count_by, counts_false, counts_of, counts_true, find, find_passes, freeing, given_to, hopping, inl, inr, is_some, is_standing, joined, refl, same_object-refl, same_object-true, session, slice_get, subst, suc, sum_by-cons, sym, target_of, unpaid, view, waits_for, worth, zero, ℕ, ◌∙◌, ◌∷◌, ◌≡◌, ◌≤◌, grants_here, leads_away, tells_come, flow, tells_own, brought, moved_by}
 use Rattle.hpx_steps.proofs.Tools.{found_among, same_objects, stands_of, Changes, Sees, Stills, all_among, among_all, fewer, holding, if_so, objects_change, retidy, sees_leads, single_found, view_worth, same_tracks, same_says, same_flows}
 use Rattle.hpx_journal.proofs.Bags.{find-nothing}
 use Rattle.std.proofs.lemmas.List.Elements.{All-from_recursion, recursion_from_All}
@@ -134,7 +134,8 @@ module _ (r : Rules) (s : Turn) (entries : List Entry) (h : IsSound r s entries)
     fired = omega (arith, change.0 joined);
     frees = λ o. omega (arith, change.0 (freeing o));
     says = same_says (λ q j. 0) (λ q. 0) s now refl (λ q k. omega (arith, change.0 (tells_come q k))) (λ q. omega (arith, change.0 (tells_own q)));
-    flows = same_flows r None s now refl (λ f own. omega (arith, change.0 (flow s.tables.here f)));
+    arrived = λ a. omega (arith, h.arrived a, change.0 (brought a), change.0 (moved_by a));
+    flows = same_flows r None s now refl (λ o. refl) (λ f own. omega (arith, change.0 (flow s.tables.here f)));
     tracks = same_tracks (λ q. 0) (λ q. 0) s now (λ q. refl) refl refl (λ q. omega (arith, change.0 (grants_here q))) (λ q. omega (arith, change.0 (leads_away s.tables.here q)));
     asked = λ o n. omega (arith, change.0 (asked_by s.tables.here o n), change.0 (waits_for o n));
     given = λ k d o n. omega (arith, change.0 (given_to k o n));

@@ -1,19 +1,27 @@
 -- Credit that was asked for is given to a commit that waits for nothing more then: it goes on, and ends or fails.
-use Rattle.hpx_steps.proofs.Common.{AllByRecursion, AreWithin, AskedFor, Done, Event, Give, Given, Gives, HasCredit, HasInHand, Id, IsBirth, IsLeftBy, IsLeftFailed, Lasts, List, None, Option, Parcel, Remains, Rules, Some, Standing, Tables, Turn, Waits, Writes, [], answered_by, ap, at_rest, bare, birth_of, births_of, brings_right, cond, drops, ends, false, find, goes_on, id_at, ids_named, ids_of, is_standing, length, log_of, map, name_of, named, objects_of, records_of, refl, remove, rider_events, rider_of, set, slice_get, splits_from, subst, sym, target_of, true, ups, with_credit, with_done, with_left, works_on, written_due, wrote, ℕ, ◌++◌, ◌+◌, ◌<◌, ◌==◌, ◌∷◌, ◌≡◌, ◌≤◌}
+use Rattle.hpx_steps.proofs.Common.{AllByRecursion, AreWithin, AskedFor, Done, Event, Give, Given, Gives, HasCredit, HasInHand, Id, IsBirth, IsLeftBy, IsLeftFailed, Lasts, List, None, Option, Parcel, Remains, Rules, Some, Standing, Tables, Turn, Waits, Writes, [], answered_by, ap, at_rest, bare, birth_of, births_of, brings_right, cond, drops, ends, false, find, goes_on, id_at, ids_named, ids_of, is_standing, length, log_of, map, name_of, named, objects_of, records_of, refl, remove, rider_events, rider_of, set, slice_get, splits_from, subst, sym, target_of, true, ups, with_credit, with_done, with_left, works_on, written_due, wrote, ℕ, ◌++◌, ◌+◌, ◌<◌, ◌==◌, ◌∷◌, ◌≡◌, ◌≤◌, Act, Moved, CameWith, CameAlone, inr, ◌⊎◌, ◌≢◌}
 use Rattle.hpx_steps.proofs.Committed.{done_steps, ends_so, failed_steps}
 use Rattle.hpx_steps.proofs.Handled.{Leads, Writing, given_leads, written_events}
 use Rattle.hpx_steps.proofs.Made.{Drawn}
 use Rattle.hpx_steps.proofs.Work.{halved_from}
 
+-- ---- an action that is no MOVE ends
+
+abbrev pub same_moved : Turn → Moved
+same_moved s = record { came = s.tables.came; untold = s.untold }
+
+pub no_move : (s : Turn) (act : Act) → act.code ≢ 1 → CameWith s act (same_moved s) ⊎ CameAlone s act (same_moved s)
+no_move s act other = inr (record { none = λ is. absurd (other is); came = refl; untold = refl })
+
 -- ---- an action fails
 
 -- its Done, what is due, and what is given up
 pub fail_steps : (r : Rules) (s : Turn) (w : Waits) (rest : List Waits) (refusal : Id) (j : ℕ) (x : Standing) (left : Remains) → s.due ≡ [] → s.fresh ≡ [] → s.loose ≡ []
-    → w.asked ≡ [] → w.refused ≡ Some refusal → slice_get s.tables.objects j ≡ Some x → find (is_standing (target_of w.job.action)) s.tables.objects ≡ Some x → IsLeftFailed w x left
+    → w.asked ≡ [] → w.refused ≡ Some refusal → slice_get s.tables.objects j ≡ Some x → find (is_standing (target_of w.job.action)) s.tables.objects ≡ Some x → w.job.action.code ≢ 1 → IsLeftFailed w x left
     → (l : Option Event) × Writing r (works_on w rest s) (Done (name_of w.job.action) true ∷ (written_due s.tables.here s.tables.serial left.due ++ ups (with_credit (rider_of w.job.action) ++ left.loose)))
-    (record (ends j w rest x left s) { due = []; loose = []; tables = with_left left.due (with_credit (rider_of w.job.action) ++ left.loose) (ends j w rest x left s).tables; last = l })
-fail_steps r s w rest refusal j x left due fresh loose lacks refused stands found by =
-    let d : Turn = wrote (Done (name_of w.job.action) true) (ends j w rest x left s) in
+    (record (ends j w rest x left (same_moved s) s) { due = []; loose = []; tables = with_left left.due (with_credit (rider_of w.job.action) ++ left.loose) (ends j w rest x left (same_moved s) s).tables; last = l })
+fail_steps r s w rest refusal j x left due fresh loose lacks refused stands found other by =
+    let d : Turn = wrote (Done (name_of w.job.action) true) (ends j w rest x left (same_moved s) s) in
     let all : List Id = with_credit (rider_of w.job.action) ++ left.loose in
     let more = failed_steps r (record d { due = []; loose = [] }) left.due (rider_of w.job.action) left.loose refl by.given_up in
     let start : d ≡ record d { due = left.due; loose = with_credit (rider_of w.job.action) ++ left.loose } = ap (λ is. record d { loose = is ++ all }) loose in (
@@ -26,7 +34,8 @@ fail_steps r s w rest refusal j x left due fresh loose lacks refused stands foun
           j = j;
           x = x;
           left = left;
-          ending = ends_so (works_on w rest s) w rest j x left due refl lacks stands found by.kept by.plain by.credit by.fits by.given_up by.deals;
+          moved = same_moved s;
+          ending = ends_so (works_on w rest s) w rest j x left (same_moved s) due refl lacks stands found by.kept by.plain by.credit by.fits by.given_up by.deals (no_move (works_on w rest s) w.job.action other);
           fresh = fresh;
           refusal = refusal;
           refused = refused;
@@ -50,7 +59,7 @@ abbrev pub given_event : Id → Event
 given_event id = Given (bare id) (log_of id.log)
 
 module _ (r : Rules) (t mid : Tables) (came mailed : List Parcel) (before : Option Event) (id : Id) (entry : ℕ) (hand : HasInHand (Give id entry) (in_hand t came mailed before))
-    (credit : HasCredit id) (right : brings_right t id ≡ true) (g : Gives id entry t mid) (complete : g.after.asked ≡ []) where
+    (credit : HasCredit id) (right : brings_right t id ≡ true) (g : Gives id entry t mid) (complete : g.after.asked ≡ []) (other : g.after.job.action.code ≢ 1) where
   -- where the commit is in work
   abbrev pub resumed : Turn
   resumed = record (at_rest (record t { pending = remove t.pending g.i })) { working = g.after ∷ []; last = Some (given_event id) }
@@ -89,7 +98,7 @@ module _ (r : Rules) (t mid : Tables) (came mailed : List Parcel) (before : Opti
       → Leads r (in_hand t came mailed before) (failed j x left) (given_event id ∷ (Done (name_of g.after.job.action) true ∷ (written_due t.here t.serial left.due ++ ups (with_credit (rider_of g.after.job.action) ++ left.loose))))
   given_fails refusal j x left refused stands found by =
       given_ends (failed j x left) (Done (name_of g.after.job.action) true ∷ (written_due t.here t.serial left.due ++ ups (with_credit (rider_of g.after.job.action) ++ left.loose)))
-      (fail_steps r resumed g.after [] refusal j x left refl refl refl complete refused stands found by)
+      (fail_steps r resumed g.after [] refusal j x left refl refl refl complete refused stands found other by)
 
   -- where it is done
   abbrev pub done : ℕ → Standing → Remains → Tables
@@ -123,6 +132,6 @@ module _ (r : Rules) (t mid : Tables) (came mailed : List Parcel) (before : Opti
         let s : Turn = record resumed { working = [] } in
         let events : List Event = (births_of t.here t.births (map birth_of g.after.outcome.makes) ++ splits_from 0 full places)
         ++ (Done (name_of g.after.job.action) false ∷ (written_due t.here t.serial left.due ++ (rider_events t.profile.credit_log left.state.ids (rider_of g.after.job.action) ++ ups left.loose))) in
-        let more = done_steps r s g.after [] front later back places refl refl refl complete none many long fit j x left tt within lasts stands found drawn by in
+        let more = done_steps r s g.after [] front later back places refl refl refl complete none many long fit j x left (same_moved s) (no_move s g.after.job.action other) tt within lasts stands found drawn by in
         given_ends (done j x left) events
         (more.0, subst (λ ids. Writing r (record s { working = record g.after { hand = ids } ∷ [] }) events (record (at_rest (done j x left)) { last = more.0 })) (sym is) more.1)

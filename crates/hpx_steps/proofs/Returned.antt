@@ -1,7 +1,7 @@
 -- Credit comes home.
 use Rattle.hpx_steps.specs.Rows.{Gives, GosOf, Landings, LandsOf, Leavings}
-use Rattle.hpx_steps.proofs.Common.{Actions, Arrived, Arrives, Counts, FreesOf, IsParcel, Parcel, Refusals, asks_as, asks_for, brings, frees_one, gives_for, parcel_acts, parcel_asks, parcel_tokens, parcel_travels, ◌⊎◌, inl, inr, some_same, ◌-◌, MovesOn, None, Bool, Came, Count, Entry, Event, Free, Going, HasInHand, Id, IsSound, IsTidy, Item, List, Mailed, MatchOption, OnDesk, Option, Record, Recounts, Return, Returned, Row, Rules, Some, TakesBack, TidyAt, Token, Turn, View, [], ap, arith, asked_by, asks_under, bare, bare_due, causes, cond, count_by, count_in, counted, counts_of, counts_true, credit, credit_of_log, drops, eqb-true, false, find, follows_returned, freeing, given_to, goes, going, hopping, is_other, is_recorded, joined, lowered, mails_if, map, one_if, option_map_or, owed_token, owes, parcel_frees, refl, same_object, same_token, subst, sum_by, sum_by-cons, sym, token_own, tokens, true, unpaid, view, waits_for, weigh, weight, with_records, worth, wrote, ℕ, ◌&&◌, ◌++◌, ◌+◌, ◌==◌, ◌^◌, ◌∙◌, ◌∷◌, ◌≡◌, ◌≤◌, grants_here, grants_of, is_away, away_here, find_record, false_from, same_object-sym, same_object-true, not, nat_lt, leads_on, leads_away, tells_come, tells_at, Among, eq-eqb, flow, flow_in, flow_of, Flow, dies, record_moves, record_rests, is_to, is_some, ◌<◌, tells_own}
-use Rattle.hpx_steps.proofs.Tools.{Changes, Keeps, Sees, asks_of, bound_none, by_rows, counts_near, drop_change, fewer, frees_of, hand_fit, hand_weighs, holding, if_so, in_hand, is_frame, mail_change, mail_tidy, owed_by, own_sum, same_asks, sees_covers, sees_leads, sent_if, sent_total, then, told_as, total, view_covered, view_worth, same_travels, ships_of, same_waits, acting, tracks_by, flowless, by_flows}
+use Rattle.hpx_steps.proofs.Common.{Actions, Arrived, Arrives, Counts, FreesOf, IsParcel, Parcel, Refusals, asks_as, asks_for, brings, frees_one, gives_for, parcel_acts, parcel_asks, parcel_tokens, parcel_travels, ◌⊎◌, inl, inr, some_same, ◌-◌, MovesOn, None, Bool, Came, Count, Entry, Event, Free, Going, HasInHand, Id, IsSound, IsTidy, Item, List, Mailed, MatchOption, OnDesk, Option, Record, Recounts, Return, Returned, Row, Rules, Some, TakesBack, TidyAt, Token, Turn, View, [], ap, arith, asked_by, asks_under, bare, bare_due, causes, cond, count_by, count_in, counted, counts_of, counts_true, credit, credit_of_log, drops, eqb-true, false, find, follows_returned, freeing, given_to, goes, going, hopping, is_other, is_recorded, joined, lowered, mails_if, map, one_if, option_map_or, owed_token, owes, parcel_frees, refl, same_object, same_token, subst, sum_by, sum_by-cons, sym, token_own, tokens, true, unpaid, view, waits_for, weigh, weight, with_records, worth, wrote, ℕ, ◌&&◌, ◌++◌, ◌+◌, ◌==◌, ◌^◌, ◌∙◌, ◌∷◌, ◌≡◌, ◌≤◌, grants_here, grants_of, is_away, away_here, find_record, false_from, same_object-sym, same_object-true, not, nat_lt, leads_on, leads_away, tells_come, tells_at, Among, eq-eqb, flow, flow_in, flow_of, Flow, dies, record_moves, record_rests, is_to, is_some, ◌<◌, tells_own, EndsAt, flow_go, free_for, MovesTo, PlacedAt, brought, moved_by, IsLive, cases_lt}
+use Rattle.hpx_steps.proofs.Tools.{Changes, Keeps, Sees, asks_of, bound_none, by_rows, counts_near, drop_change, fewer, frees_of, hand_fit, hand_weighs, holding, if_so, in_hand, is_frame, mail_change, mail_tidy, owed_by, own_sum, same_asks, sees_covers, sees_leads, sent_if, sent_total, then, told_as, total, view_covered, view_worth, same_travels, ships_of, same_waits, acting, tracks_by, flowless, by_flows, own_is, eq_turned}
 use Rattle.hpx_steps.proofs.Records.{found_counted, one_recounted, places_still, away_still, placed_still}
 
 lowered_place : (old x : Record) (id : Id) → lowered old id ≡ Some x → old.place ≡ x.place
@@ -25,7 +25,7 @@ lands_at s id place tidy (inr k) = inl (tidy (Mailed (Arrived id place)) (subst 
 apart_flow : (k : ℕ) (id : Id) (place : ℕ) (f : Flow) → same_object id (flow_of f) ≡ false → flow_in k f (Arrived id place) ≡ 0
 apart_flow k id place f off =
     let turned : same_object (flow_of f) id ≡ false = false_from (same_object (flow_of f) id) (λ u. let z : true ≡ false = sym (same_object-sym (flow_of f) id u) ∙ off in cc) in
-    by_flows (λ f. same_object (flow_of f) id ≡ false → flow_in k f (Arrived id place) ≡ 0) (λ o t e. rw e refl) (λ o j e. rw e refl) f turned
+    by_flows (λ f. same_object (flow_of f) id ≡ false → flow_in k f (Arrived id place) ≡ 0) (λ o t e. rw e refl) (λ o j e. rw e refl) (λ o j e. rw e refl) f turned
 
 turn_flow : (k : ℕ) (id : Id) (place : ℕ) (old : Record) → old.moving ≡ Some place → (f : Flow) → same_object id (flow_of f) ≡ true
     → record_moves k f (Some (record old { place = place; moving = None })) + flow_in k f (Arrived id place) + record_rests f (Some old)
@@ -34,6 +34,7 @@ turn_flow k id place old moves f same = by_flows (λ f. same_object (flow_of f) 
     ≡ record_moves k f (Some old) + record_rests f (Some (record old { place = place; moving = None })))
     (λ o t e. let a : one_if (is_to t old.moving) ≡ one_if (place == t) = ap (λ m. one_if (is_to t m)) moves in let b : tells_at o t (Arrived id place) ≡ one_if (place == t) = rw e refl in omega (arith, a, b))
     (λ o j e. let a : one_if (not (is_some old.moving) && (old.place == j)) ≡ 0 = rw moves refl in let b : tells_at o j (Arrived id place) ≡ one_if (place == j) = rw e refl in omega (arith, a, b))
+    (λ o j e. let a : one_if (not (is_some old.moving) && (old.place == j)) ≡ 0 = rw moves refl in let b : tells_at o j (Arrived id place) ≡ one_if (place == j) = rw e refl in omega (arith, a, b))
     f (same_object-sym id (flow_of f) same)
 
 none_own : (q : Id) (dead other : Bool) (to : ℕ) (id : Id) → total (tells_own q) (sent_if dead other to (Free id)) ≡ 0
@@ -41,10 +42,26 @@ none_own q false other to id = refl
 none_own q true false to id = refl
 none_own q true true to id = refl
 
-none_flow : (k : ℕ) (f : Flow) (dead other : Bool) (to : ℕ) (id : Id) → total (flow k f) (sent_if dead other to (Free id)) ≡ 0
-none_flow k f false other to id = refl
-none_flow k f true false to id = let e = flowless k f (Free id) tt in omega (arith, e.0)
-none_flow k f true true to id = let e = flowless k f (Free id) tt in omega (arith, e.1 to)
+-- the Free of another object, and where none goes
+other_flow : (k : ℕ) (f : Flow) (dead other : Bool) (to : ℕ) (id : Id) → same_object id (flow_of f) ≡ false → total (flow k f) (sent_if dead other to (Free (bare id))) ≡ 0
+other_flow k f dead other to id off =
+    let turned : same_object (flow_of f) id ≡ false = false_from (same_object (flow_of f) id) (λ u. let z : true ≡ false = sym (same_object-sym (flow_of f) id u) ∙ off in cc) in
+    by_flows (λ f. same_object (flow_of f) id ≡ false → total (flow k f) (sent_if dead other to (Free (bare id))) ≡ 0)
+    (λ o t e. each (MovesTo o t) (λ j. refl) refl dead other) (λ o j e. each (PlacedAt o j) (λ t. refl) refl dead other)
+    (λ o j e. each (EndsAt o j) (λ t. rw e refl) (rw e refl) dead other) f turned
+  where
+    each : (f : Flow) → ((t : ℕ) → flow_go t f (Free (bare id)) ≡ 0) → flow_in k f (Free (bare id)) ≡ 0 → (dead other : Bool) → total (flow k f) (sent_if dead other to (Free (bare id))) ≡ 0
+    each f a b false other = refl
+    each f a b true false = omega (arith, b)
+    each f a b true true = omega (arith, a to)
+
+-- its own is for the place that it goes to
+own_flow : (k : ℕ) (o : Id) (j : ℕ) (other : Bool) (to : ℕ) (id : Id) → same_object id o ≡ true → (other ≡ false → to ≡ k)
+    → total (flow k (EndsAt o j)) (sent_if true other to (Free (bare id))) ≡ one_if (j == to)
+own_flow k o j true to id at near = let e : free_for o j to (Free (bare id)) ≡ one_if (j == to) = rw (same_object-sym id o at) refl in omega (arith, e)
+own_flow k o j false to id at near =
+    let e : free_for o j k (Free (bare id)) ≡ one_if (j == k) = rw (same_object-sym id o at) refl in
+    let q : one_if (j == to) ≡ one_if (j == k) = ap (λ (n : ℕ). one_if (j == n)) (near refl) in omega (arith, e, q)
 
 none_told : (o : Id) (j : ℕ) (dead other : Bool) (to : ℕ) (p : Parcel) → total (tells_come o j) (sent_if dead other to p) ≡ 0
 none_told o j false other to p = refl
@@ -65,9 +82,15 @@ none_away k o true true to p (inr e) = omega (arith, e)
 other_away : (k : ℕ) (low : Bool) (x : Record) → (low && not (x.place == k)) ≡ true → is_away k x ≡ true
 other_away k low x h = grind arith
 
-pub lowered_stays : (old x : Record) (id : Id) → lowered old id ≡ Some x → MovesOn old → MovesOn x
-lowered_stays old x id is on = if_so (old.count == credit id) (λ t. absurd (let e : None ≡ Some x = rw t at is in cc))
-    (λ t. let e : record old { count = old.count - credit id } ≡ x = some_same _ x (rw t at is) in subst MovesOn e on)
+pub lowered_stays : (old x : Record) (id : Id) → credit id ≤ old.count → lowered old id ≡ Some x → MovesOn old → IsLive x
+lowered_stays old x id few is on = if_so (old.count == credit id) (λ t. absurd (let e : None ≡ Some x = rw t at is in cc))
+    (λ t. let e : record old { count = old.count - credit id } ≡ x = some_same _ x (rw t at is) in subst IsLive e (on, more t))
+  where
+    more : (old.count == credit id) ≡ false → 1 ≤ old.count - credit id
+    more t = elim (cases_lt (credit id) old.count) [
+      | inl lt ↦ omega (arith, lt)
+      | inr ge ↦ absurd (let e : true ≡ false = sym (eq-eqb old.count (credit id) (omega (arith, few, ge))) ∙ t in cc)
+    ]
 
 lowered_count : (old : Record) (id : Id) (count : ℕ) → count + credit id ≡ old.count → option_map_or (λ (r : Record). r.count) (lowered old id) 0 ≡ count
 lowered_count old id count sum = if_so (old.count == credit id) (λ t. rw t (let e = eqb-true old.count (credit id) t in omega (arith, e, sum))) (λ t. rw t (omega (arith, sum)))
@@ -219,29 +242,108 @@ module _ (r : Rules) (s : Turn) (entries : List Entry) (h : IsSound r s entries)
       (λ t. absurd (let z : count ≡ 0 = omega (arith, sum, same, eqb-true after.count (credit id) t, ap credit_of_log has) in let e : true ≡ false = sym (eq-eqb count 0 z) ∙ more in cc))
       (λ t. rw t refl)
 
-  flow_gone : (f : Flow) → weigh (flow s.tables.here f) now + flow_in s.tables.here f p ≡ weigh (flow s.tables.here f) s
+  flow_gone : (f : Flow) → weigh (flow s.tables.here f) now + flow_in s.tables.here f p
+      ≡ weigh (flow s.tables.here f) s + total (flow s.tables.here f) (sent_if (count == 0) (is_other s.tables after.place) after.place (Free (bare id)))
   flow_gone f =
       let c : weigh (flow s.tables.here f) now + (flow s.tables.here f was + 0) ≡ weigh (flow s.tables.here f) s + total (flow s.tables.here f) (sent_if dead other after.place (Free (bare id))) = change.0 (flow s.tables.here f) in
-      omega (arith, c, none_flow s.tables.here f dead other after.place (bare id), hand_weighs p s hand (flow s.tables.here f) (flow_in s.tables.here f p) refl refl)
+      omega (arith, c, hand_weighs p s hand (flow s.tables.here f) (flow_in s.tables.here f p) refl refl)
 
-  flow_turns : (f : Flow) → (flow_of f).home ≡ s.tables.here → (1 ≤ dies (flow_of f) e)
-      ⊎ (record_moves s.tables.here f (find_record (flow_of f) records) + 0 + weigh (flow s.tables.here f) s + record_rests f (find_record (flow_of f) s.tables.records)
-      ≡ record_moves s.tables.here f (find_record (flow_of f) s.tables.records) + weigh (flow s.tables.here f) now + 0 + record_rests f (find_record (flow_of f) records))
-  flow_turns f own = if_so (same_object id (flow_of f))
-      (λ at. if_so dead (λ last. inl (rw (last, same_object-sym id (flow_of f) at) (omega arith))) (λ more.
+  unsent : (f : Flow) → (count == 0) ≡ false → total (flow s.tables.here f) (sent_if (count == 0) (is_other s.tables after.place) after.place (Free (bare id))) ≡ 0
+  unsent f e = rw e refl
+
+  -- what the flows of an object, and of what frees it, change
+  abbrev Turned : Flow → Type 0
+  Turned f = record_moves s.tables.here f (find_record (flow_of f) records) + 0 + weigh (flow s.tables.here f) s + record_rests f (find_record (flow_of f) s.tables.records)
+      ≡ record_moves s.tables.here f (find_record (flow_of f) s.tables.records) + weigh (flow s.tables.here f) now + 0 + record_rests f (find_record (flow_of f) records)
+
+  was_found : (o : Id) → same_object id o ≡ true → find_record o s.tables.records ≡ Some old
+  was_found o at = ap (λ (y : Id). find_record y s.tables.records) (sym (same_object-true id o at)) ∙ recounts.was
+
+  own_turns : (f : Flow) → same_object id (flow_of f) ≡ true → dead ≡ false → Turned f
+  own_turns f at more =
       let is : find_record (flow_of f) records ≡ Some (record after { count = after.count - credit id }) =
       ap (λ (y : Id). find_record y records) (sym (same_object-true id (flow_of f) at)) ∙ (recounts.own ∙ lowered_is more) in
-      let was' : find_record (flow_of f) s.tables.records ≡ Some old = ap (λ (y : Id). find_record y s.tables.records) (sym (same_object-true id (flow_of f) at)) ∙ recounts.was in
+      let was' : find_record (flow_of f) s.tables.records ≡ Some old = was_found (flow_of f) at in
       let a : record_moves s.tables.here f (find_record (flow_of f) records) ≡ record_moves s.tables.here f (Some after) = ap (record_moves s.tables.here f) is ∙ counted_moves f in
       let b : record_rests f (find_record (flow_of f) records) ≡ record_rests f (Some after) = ap (record_rests f) is ∙ counted_rests f in
-      inr (omega (arith, a, b, ap (record_moves s.tables.here f) was', ap (record_rests f) was', flow_gone f, turns f at))))
-      (λ off. inr (omega (arith, ap (record_moves s.tables.here f) (recounts.others (flow_of f) off), ap (record_rests f) (recounts.others (flow_of f) off), flow_gone f, apart f off)))
+      omega (arith, a, b, ap (record_moves s.tables.here f) was', ap (record_rests f) was', flow_gone f, unsent f more, turns f at)
     where
       counted_moves : (f : Flow) → record_moves s.tables.here f (Some (record after { count = after.count - credit id })) ≡ record_moves s.tables.here f (Some after)
-      counted_moves f = by_flows (λ f. record_moves s.tables.here f (Some (record after { count = after.count - credit id })) ≡ record_moves s.tables.here f (Some after)) (λ o t. refl) (λ o j. refl) f
+      counted_moves f = by_flows (λ f. record_moves s.tables.here f (Some (record after { count = after.count - credit id })) ≡ record_moves s.tables.here f (Some after)) (λ o t. refl) (λ o j. refl) (λ o j. refl) f
 
       counted_rests : (f : Flow) → record_rests f (Some (record after { count = after.count - credit id })) ≡ record_rests f (Some after)
-      counted_rests f = by_flows (λ f. record_rests f (Some (record after { count = after.count - credit id })) ≡ record_rests f (Some after)) (λ o t. refl) (λ o j. refl) f
+      counted_rests f = by_flows (λ f. record_rests f (Some (record after { count = after.count - credit id })) ≡ record_rests f (Some after)) (λ o t. refl) (λ o j. refl) (λ o j. refl) f
+
+  other_turns : (f : Flow) → same_object id (flow_of f) ≡ false → Turned f
+  other_turns f off = omega (
+    arith,
+    ap (record_moves s.tables.here f) (recounts.others (flow_of f) off),
+    ap (record_rests f) (recounts.others (flow_of f) off),
+    flow_gone f,
+    other_flow s.tables.here f dead other after.place id off,
+    apart f off,
+  )
+
+  flow_turns : (f : Flow) → (flow_of f).home ≡ s.tables.here → (1 ≤ dies (flow_of f) e) ⊎ Turned f
+  flow_turns f own = if_so (same_object id (flow_of f))
+      (λ at. if_so dead (λ last. inl (rw (last, same_object-sym id (flow_of f) at) (omega arith))) (λ more. inr (own_turns f at more)))
+      (λ off. inr (other_turns f off))
+
+  -- with the last credit the record goes
+  lowered_none : dead ≡ true → lowered after id ≡ None
+  lowered_none last = rw (eq-eqb after.count (credit id) (omega (arith, sum, same, eqb-true count 0 last, ap credit_of_log has))) refl
+
+  -- and its place is freed
+  near_place : other ≡ false → after.place ≡ s.tables.here
+  near_place off = elim near [
+    | inl e ↦ elim (h.flowing.near id old recounts.was) [
+      | inl at ↦ sym e ∙ at
+      | inr low ↦ own_is s.tables after.place off (omega (arith, e, low))
+    ]
+    | inr low ↦ own_is s.tables after.place off low
+  ]
+
+  abbrev Ended : Id → ℕ → Type 0
+  Ended o j = record_moves s.tables.here (EndsAt o j) (find_record o records) + cond (j == s.tables.here) (dies o e) 0 + 0
+      + weigh (flow s.tables.here (EndsAt o j)) s + record_rests (EndsAt o j) (find_record o s.tables.records)
+      ≤ record_moves s.tables.here (EndsAt o j) (find_record o s.tables.records) + weigh (flow s.tables.here (EndsAt o j)) now + 0 + record_rests (EndsAt o j) (find_record o records)
+
+  last_ends : (o : Id) (j : ℕ) → same_object id o ≡ true → dead ≡ true → Ended o j
+  last_ends o j at last =
+      let f : Flow = EndsAt o j in
+      let is : find_record o records ≡ None = ap (λ (y : Id). find_record y records) (sym (same_object-true id o at)) ∙ (recounts.own ∙ lowered_none last) in
+      let was' : find_record o s.tables.records ≡ Some old = was_found o at in
+      let one : dies o e ≡ 1 = rw (last, same_object-sym id o at) refl in
+      let sent : total (flow s.tables.here f) (sent_if (count == 0) (is_other s.tables after.place) after.place (Free (bare id))) ≡ one_if (j == after.place) =
+      ap (λ b. total (flow s.tables.here f) (sent_if b other after.place (Free (bare id)))) last ∙ own_flow s.tables.here o j other after.place id at near_place in
+      omega (
+        arith,
+        ap (record_moves s.tables.here f) is,
+        ap (record_rests f) is,
+        ap (record_moves s.tables.here f) was',
+        ap (record_rests f) was',
+        ap (λ n. cond (j == s.tables.here) n 0) one,
+        flow_gone f,
+        sent,
+        turns f at,
+        placed_less (not (is_some after.moving)) (after.place == j) (j == after.place) (eq_turned after.place j),
+      )
+    where
+      placed_less : (a b c : Bool) → b ≡ c → one_if (a && b) ≤ one_if c
+      placed_less a b c e = grind arith
+
+  ends_turn : (o : Id) (j : ℕ) → o.home ≡ s.tables.here → Ended o j
+  ends_turn o j own = if_so (same_object id o)
+      (λ at. if_so dead (λ last. last_ends o j at last) (λ more. omega (arith, own_turns (EndsAt o j) at more, bound_none (j == s.tables.here) (dies o e) (rw more refl))))
+      (λ off. omega (
+        arith,
+        other_turns (EndsAt o j) off,
+        bound_none (j == s.tables.here) (dies o e)
+            (no_death dead (same_object o (bare id)) (false_from (same_object o id) (λ u. let z : true ≡ false = sym (same_object-sym o id u) ∙ off in cc))),
+      ))
+    where
+      no_death : (b c : Bool) → c ≡ false → one_if (b && c) ≡ 0
+      no_death b c e = grind arith
 
   abbrev Near : Id → Record → Type 0
   Near o x = ((y : Record) × (find_record o s.tables.records ≡ Some y) × (y.place ≡ x.place)) ⊎ ((x.place ≡ s.tables.here) ⊎ (x.place < s.tables.localities))
@@ -273,7 +375,7 @@ module _ (r : Rules) (s : Turn) (entries : List Entry) (h : IsSound r s entries)
       sees_leads r seen now sees,
     );
     tidy = tidy;
-    places = places_still s.tables id old (lowered after id) records recounts (λ x is at. lowered_stays after x id is (on at)) h.places;
+    places = places_still s.tables id old (lowered after id) records recounts (λ x is at. lowered_stays after x id (omega (arith, sum, same, ap credit_of_log has)) is (on at.0)) h.places;
     commits = h.commits;
     numbered = fewer s now (omega arith) (λ n. omega (arith, leaves (asks_under n) 0 refl (none_in (asks_as n) refl refl) refl refl));
     pays = record {
@@ -288,7 +390,8 @@ module _ (r : Rules) (s : Turn) (entries : List Entry) (h : IsSound r s entries)
       given = λ j d o n. let k = none_in (asks_for j o n) refl refl in omega (arith, leaves (given_to j o n) 0 k k refl (bound_none (after.place == j) 0 refl));
     };
     says = record { placed = placed_now; told = told_less; own = own_less };
-    flows = record { flows = flow_turns; near = near_now };
+    arrived = λ a. omega (arith, h.arrived a, leaves (brought a) 0 refl refl refl refl, leaves (moved_by a) 0 refl refl refl refl);
+    flows = record { flows = flow_turns; ends = ends_turn; near = near_now };
     tracks = tracks_by (λ q. 0) (λ q. 0) s now (away_still s.tables.here id old (lowered after id) s.tables.records records recounts (λ x is m. moved (lowered_away s.tables.here after x id is m))) refl refl
         (λ q. let k = none_in (grants_of q) refl refl in omega (arith, leaves (grants_here q) 0 k k refl refl)) free_goes;
     counts = counts_near s now e refl (omega arith) (omega arith) (omega arith) (omega arith) (omega arith) (λ l. refl);

@@ -1,5 +1,5 @@
 -- The first of what is due is sent.
-use Rattle.hpx_steps.proofs.Common.{sym, ap, Queued, waits, way, Accepted, Act, Due, Entry, Going, IsDue, IsFit, IsSound, IsTidy, Item, List, Message, MessageDue, Name, OnDesk, Parcel, Row, Rules, Sends, Sent, Some, TidyAt, Turn, View, [], arith, asked_by, asks_as, asks_for, asks_under, bare_due, bare_message, causes, count_by, draws, follows_sent, freeing, given_to, gives_for, goes, going, hopping, inl, joined, map, named_act, of_act, parcel_asks, parcel_frees, parcel_tokens, posts, refl, same_object, sum_by, tokens_of, unpaid, view, waiting, waits_for, weigh, worth, wrote, ℕ, ◌+◌, ◌==◌, ◌∷◌, ◌≡◌, parcel_travels, sum_by-cons, parcel_acts, bare_act, grants_here, leads_away, tells_come, flow, tells_own, tell_of}
+use Rattle.hpx_steps.proofs.Common.{sym, ap, Queued, waits, way, Accepted, Act, Due, Entry, Going, IsDue, IsFit, IsSound, IsTidy, Item, List, Message, MessageDue, Name, OnDesk, Parcel, Row, Rules, Sends, Sent, Some, TidyAt, Turn, View, [], arith, asked_by, asks_as, asks_for, asks_under, bare_due, bare_message, causes, count_by, draws, follows_sent, freeing, given_to, gives_for, goes, going, hopping, inl, joined, map, named_act, of_act, parcel_asks, parcel_frees, parcel_tokens, posts, refl, same_object, sum_by, tokens_of, unpaid, view, waiting, waits_for, weigh, worth, wrote, ℕ, ◌+◌, ◌==◌, ◌∷◌, ◌≡◌, parcel_travels, sum_by-cons, parcel_acts, bare_act, grants_here, leads_away, tells_come, flow, tells_own, tell_of, brought, moved_by}
 use Rattle.hpx_steps.proofs.Tools.{follows_few, Carries, begins_counted, begins_places, Changes, Keeps, Sees, asks_of, both, bound_none, brings_few, by_rows, carried, counts_near, due_change, fewer, first_goes, frees_of, holding, post_change, put_as, put_less, put_sum, put_tidy, same_asks, same_dead, sees_by, sees_leads, then, told_as, view_worth, weighs_act, same_travels, ships_of, acting, wait_sum, posted_tracks, posted_says, posted_flows}
 
 module _ (r : Rules) (s : Turn) (entries : List Entry) (h : IsSound r s entries) (m : Message) (rest : List Due) (fresh : s.fresh ≡ []) (due : s.due ≡ MessageDue m ∷ rest) where
@@ -81,7 +81,8 @@ module _ (r : Rules) (s : Turn) (entries : List Entry) (h : IsSound r s entries)
     };
     says = posted_says (λ q j. 0) (λ q. 0) s now before.tables act refl refl (λ q j. omega (arith, turned (tells_come q j), put_sum (tells_come q j) before.tables (way before.tables act) act 0 refl (λ c e. (refl, λ to. refl, λ i. refl))))
         (λ q. omega (arith, turned (tells_own q), put_sum (tells_own q) before.tables (way before.tables act) act 0 refl (λ c e. (carried act (tell_of q) 0 refl refl refl c e, λ to. refl, λ i. refl))));
-    flows = posted_flows r (Some (Sent name)) s now before.tables act refl refl refl refl (λ f. refl) (λ f. refl) (λ f. omega (arith, turned (flow s.tables.here f))) h.flowing.near;
+    arrived = λ a. omega (arith, h.arrived a, turned (brought a), turned (moved_by a), put_sum (brought a) before.tables (way before.tables act) act 0 refl (λ c e. (refl, λ to. refl, λ i. refl)));
+    flows = posted_flows r (Some (Sent name)) s now before.tables act refl refl refl refl (λ o. refl) (λ f. refl) (λ f. refl) (λ f. omega (arith, turned (flow s.tables.here f))) h.flowing.near;
     tracks = posted_tracks (λ q. 0) (λ q. 0) s now before.tables act refl refl refl refl refl (λ w m. m) refl (λ q. omega (arith, turned (grants_here q))) (λ q. omega (arith, turned (grants_here q)))
         (λ q. omega (arith, turned (leads_away s.tables.here q)));
     counts = counts_near s now (Sent name) refl (omega arith) (omega arith) (omega arith) (omega arith) (omega arith) (λ l. refl);

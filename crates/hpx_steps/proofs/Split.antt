@@ -1,5 +1,5 @@
 -- An id in the hand of a commit is halved.
-use Rattle.hpx_steps.proofs.Common.{Entry, Id, IsCommit, IsSound, List, Rules, Some, Split, Splits, TidyAt, Token, Turn, View, Waits, Working, [], ap, arith, asking, bare, bare_act, bare_due, cond, count_by, false, fired_of, follows_split, half, held_token, ids_named, inl, is_asked, is_asked_for, length, map, names_of, option_map, refl, refusals_of, set, slice_get, sum_by, sum_by-cons, sym, tokens, tokens_of, view, works_on, worth, wrote, ℕ, ◌++◌, ◌+◌, ◌-◌, ◌∙◌, ◌∷◌, ◌≡◌, ◌≤◌}
+use Rattle.hpx_steps.proofs.Common.{Entry, Id, IsCommit, IsSound, List, Rules, Some, Split, Splits, TidyAt, Token, Turn, View, Waits, Working, [], ap, arith, asking, bare, bare_act, bare_due, cond, count_by, false, fired_of, follows_split, half, held_token, ids_named, inl, is_asked, is_asked_for, length, map, names_of, option_map, refl, refusals_of, set, slice_get, sum_by, sum_by-cons, sym, tokens, tokens_of, view, works_on, worth, wrote, ℕ, ◌++◌, ◌+◌, ◌-◌, ◌∙◌, ◌∷◌, ◌≡◌, ◌≤◌, brought, moved_by}
 use Rattle.hpx_steps.proofs.Tools.{Changes, Keeps, Sees, by_rows, counts_near, first_asked, first_at, first_map, first_turns, hand_long, has_not_asked, held_by, holding, ids_append, ids_each, numbered_so, orders_so, pays_so, recommit, sees_by, sees_leads, set_sum, token_held, told_as, view_asking, view_worth, work_commits, working_change, tracks_so, says_so, flows_so}
 
 module _ (r : Rules) (s : Turn) (entries : List Entry) (h : IsSound r s entries) (w : Waits) (rest : List Waits) (p : ℕ) (id : Id) (log : ℕ) (due : s.due ≡ [])
@@ -64,7 +64,8 @@ module _ (r : Rules) (s : Turn) (entries : List Entry) (h : IsSound r s entries)
     pays = pays_so r s now (Split (bare id) log) (Working w ∷ []) (Working split ∷ []) change.0 (by_rows _ (λ at. refl) (λ at. refl) (λ at. refl) (λ at. refl) (λ at. refl) (λ at. refl) (λ at. refl) (λ at. refl) (λ at. refl) (λ at. refl) (λ at. refl) (λ o at. refl) (λ o to at. refl) (λ o to at. refl) (λ o to at. refl) (λ o at. refl)) (omega arith) (omega arith) (λ o. omega arith);
     orders = orders_so r s now (Split (bare id) log) (Working w ∷ []) (Working split ∷ []) change.0 tt (λ o n. omega (arith, ap (λ ys. count_by (is_asked_for w o n) ys) lacks, ap (λ ys. count_by (is_asked_for split o n) ys) lacks)) (λ j d o n. omega arith);
     says = says_so r s now (Split (bare id) log) (Working w ∷ []) (Working split ∷ []) change.0 refl (λ o j. omega arith) (λ o. omega arith);
-    flows = flows_so r s now (Split (bare id) log) (Working w ∷ []) (Working split ∷ []) change.0 refl (λ f. omega arith);
+    arrived = λ a. omega (arith, h.arrived a, change.0 (brought a), change.0 (moved_by a));
+    flows = flows_so r s now (Split (bare id) log) (Working w ∷ []) (Working split ∷ []) change.0 refl (λ o. refl) (λ f. omega arith);
     tracks = tracks_so r s now (Split (bare id) log) (Working w ∷ []) (Working split ∷ []) change.0 (λ o. refl) refl refl (λ o. omega arith) (λ o. omega arith);
     counts = counts_near s now (Split (bare id) log) refl (omega arith) (omega arith) (omega arith) (omega arith) (omega arith) (λ l. refl);
   }

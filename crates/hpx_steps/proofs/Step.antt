@@ -1,5 +1,5 @@
 -- Each step keeps all that holds.
-use Rattle.hpx_steps.proofs.Common.{inl, inr, Note, Mark, Park, Release, AreNumbered, Asked, Born, Count, Done, Entry, Event, Fire, Freed, Given, Granted, In, IsSound, Label, Landed, Left, Line, List, Looked, Mail, Merge, Out, Pause, Place, Print, Refused, Reorder, Returned, Rules, Sent, Split, Step, Steps, Suspend, Tables, Turn, Up, Writes, [], ap, append-nil, append_assoc, at_all, entry_at, false, map-append, refl, subst, sym, true, written, written_by, ◌++◌, ◌∙◌, ◌∷◌, ◌≡◌}
+use Rattle.hpx_steps.proofs.Common.{inl, inr, Mark, Park, Release, AreNumbered, Asked, Born, Count, Done, Entry, Event, Fire, Freed, Given, Granted, In, IsSound, Label, Landed, Left, Line, List, Looked, Mail, Merge, Out, Pause, Place, Print, Refused, Reorder, Returned, Rules, Sent, Split, Step, Steps, Suspend, Tables, Turn, Up, Writes, [], ap, append-nil, append_assoc, at_all, entry_at, false, map-append, refl, subst, sym, true, written, written_by, ◌++◌, ◌∙◌, ◌∷◌, ◌≡◌}
 use Rattle.hpx_steps.proofs.Tools.{Keeps, Stills, sound_then, still_sound}
 use Rattle.hpx_part.specs.Data.{Looked}
 
@@ -58,7 +58,6 @@ step_sound r s s' Place entries h g = still r s s' entries h (Rattle.hpx_steps.p
 step_sound r s s' Mark entries h g = still r s s' entries h (Rattle.hpx_steps.proofs.Aside.mark_step r s s' entries h g)
 step_sound r s s' Park entries h g = still r s s' entries h (Rattle.hpx_steps.proofs.Aside.park_step r s s' entries h g)
 step_sound r s s' Release entries h g = still r s s' entries h (Rattle.hpx_steps.proofs.Release.release_step r s s' entries h g)
-step_sound r s s' Note entries h g = still r s s' entries h (Rattle.hpx_steps.proofs.Noted.note_step r s s' entries h g)
 step_sound r s s' Reorder entries h g = still r s s' entries h (Rattle.hpx_steps.proofs.Reorder.reorder_step r s s' entries h g)
 
 pub steps_sound : (r : Rules) (s s' : Turn) (labels : List Label) (entries : List Entry) → IsSound r s entries → Steps r s labels s' → Sound r s s' entries (written labels)

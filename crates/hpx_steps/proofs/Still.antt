@@ -1,5 +1,5 @@
 -- What is done without an entry.
-use Rattle.hpx_steps.proofs.Common.{IsRowAt, AllByRecursion, AreFired, AreNumbered, AreNumbers, AreRules, Entry, Event, HasCommits, HasPlaces, Id, IsOrderly, IsPaid, IsSound, IsTidy, Leads, List, None, Row, Rules, SendsOwn, StandsFor, Tables, Turn, [], ap, append-nil, arith, asked_by, commits, freeing, given_to, grow, hopping, joined, map, part, refl, subst, sym, unpaid, view, waits_for, weaker_leads, weigh, ℕ, ◌+◌, ◌∙◌, ◌∷◌, ◌≡◌, ◌≢◌, ◌≤◌, HasBegun, IsPlaced, IsFlowing}
+use Rattle.hpx_steps.proofs.Common.{IsRowAt, AllByRecursion, AreFired, AreNumbered, AreNumbers, AreRules, Entry, Event, HasCommits, HasPlaces, Id, IsOrderly, IsPaid, IsSound, IsTidy, Leads, List, None, Row, Rules, SendsOwn, StandsFor, Tables, Turn, [], ap, append-nil, arith, asked_by, commits, freeing, given_to, grow, hopping, joined, map, part, refl, subst, sym, unpaid, view, waits_for, weaker_leads, weigh, ℕ, ◌+◌, ◌∙◌, ◌∷◌, ◌≡◌, ◌≢◌, ◌≤◌, HasBegun, IsPlaced, IsFlowing, Arrival, brought, moved_by}
 use Rattle.hpx_steps.proofs.Calm.{SameNumbers}
 use Rattle.hpx_steps.proofs.Then.{Tracks, begun_then, shown_then, Says, placed_then, Flows, flowing_then}
 
@@ -19,6 +19,7 @@ pub record Stills (r : Rules) (s s' : Turn) : Type 0 where
   pub tracks : Tracks (λ o. 0) (λ o. 0) s s'
   pub says : Says (λ o j. 0) (λ o. 0) s s'
   pub flows : Flows r None s s'
+  pub arrived : (a : Arrival) → weigh (brought a) s' ≤ weigh (moved_by a) s'
 
 fired_more : (n m : ℕ) (es : List Event) → n ≤ m → AreFired n es → AreFired m es
 fired_more n m [] less h = tt
@@ -50,6 +51,7 @@ still_sound r s s' entries h k =
       begun = subst (HasBegun r s') (sym there) (begun_then r s s' (λ o. 0) (λ o. 0) es es here (λ o. omega arith) (λ o. omega arith) h.begun k.tracks (λ clean. (clean, shown_then r s entries h clean)));
       placed = subst (IsPlaced r s') (sym there) (placed_then r s s' (λ o j. 0) (λ o. 0) es es here (λ o j. omega arith) (λ o. omega arith) h.placed k.says);
       flowing = subst (IsFlowing r s') (sym there) (flowing_then r None s s' es es here (ap (λ (t : Tables). t.localities) k.same) (λ f. omega arith) h.flowing k.flows);
+      arrived = k.arrived;
       numbers = let n = subst (λ (t : Tables). AreNumbers r (record s { tables = t }) entries) (sym k.same)
           (record { born = h.numbers.born; few = h.numbers.few; asked = h.numbers.asked; sent = h.numbers.sent; taken = h.numbers.taken; few_answers = h.numbers.few_answers; answered = h.numbers.answered }) in
           record { born = n.born; few = n.few; asked = n.asked; sent = n.sent; taken = n.taken; few_answers = n.few_answers; answered = n.answered };
@@ -90,6 +92,7 @@ rest_sound r s entries h = record {
   orderly = record { sent = h.orderly.sent; asked = h.orderly.asked; given = h.orderly.given };
   begun = record { away = h.begun.away; queued = h.begun.queued; stray = h.begun.stray; onward = h.begun.onward; lands = h.begun.lands };
   placed = record { placed = h.placed.placed; told = h.placed.told; own = h.placed.own };
-  flowing = record { flows = h.flowing.flows; near = h.flowing.near };
+  flowing = record { flows = h.flowing.flows; ends = h.flowing.ends; near = h.flowing.near };
+  arrived = h.arrived;
   numbers = grind arith;
 }

@@ -1,5 +1,5 @@
 -- A commit begins: its object and its action put their ids into its hand.
-use Rattle.hpx_steps.proofs.Common.{Act, AllByRecursion, Entry, HasRightCredit, Id, IsCommit, IsFit, IsSound, IsState, IsTidy, Job, List, None, Outcome, Rules, Running, Some, Standing, StandsHere, State, Suspends, TidyAt, Turn, Waits, Working, [], action_of, all_append, ap, append_assoc, arith, asked_by, asking, asks_under, bare, bare_standing, bare_state, commits, cond, filter, find, find_passes, freeing, given_to, hand_ids, hopping, id_at, is_asked, is_standing, joined, length, length-map, map, names_of, own_ids, plain, plain_all, refl, remove, same_object, session, set, slice_get, subst, sum_by, sym, take, take_at, target_of, tokens_of, true, unpaid, view, waits_for, waits_with, worth, ℕ, ◌++◌, ◌<◌, ◌∙◌, ◌∷◌, ◌≡◌, ◌≤◌, grants_here, leads_away, tells_come, flow, tells_own}
+use Rattle.hpx_steps.proofs.Common.{Act, AllByRecursion, Entry, HasRightCredit, Id, IsCommit, IsFit, IsSound, IsState, IsTidy, Job, List, None, Outcome, Rules, Running, Some, Standing, StandsHere, State, Suspends, TidyAt, Turn, Waits, Working, [], action_of, all_append, ap, append_assoc, arith, asked_by, asking, asks_under, bare, bare_standing, bare_state, commits, cond, filter, find, find_passes, freeing, given_to, hand_ids, hopping, id_at, is_asked, is_standing, joined, length, length-map, map, names_of, own_ids, plain, plain_all, refl, remove, same_object, session, set, slice_get, subst, sum_by, sym, take, take_at, target_of, tokens_of, true, unpaid, view, waits_for, waits_with, worth, ℕ, ◌++◌, ◌<◌, ◌∙◌, ◌∷◌, ◌≡◌, ◌≤◌, grants_here, leads_away, tells_come, flow, tells_own, brought, moved_by}
 use Rattle.hpx_steps.proofs.Tools.{Changes, Sees, Stills, all_none, among_at, bare_all, begin_commits, fewer, first_comes, front_place, holding, ids_append, no_tokens, none_tokens, not_asked, objects_change, one_goes, one_turns, plain_ids, retidy, ridden_tokens, running_change, runs_whole, same_map, sees_leads, single_set, stand_set, then, view_asking, view_worth, working_change, same_fires, acted, same_tracks, same_says, same_flows}
 
 bare_fit : (s : State) → IsState s → IsState (bare_state s)
@@ -118,7 +118,8 @@ module _ (r : Rules) (s : Turn) (entries : List Entry) (h : IsSound r s entries)
     fired = omega (arith, change.0 joined);
     frees = λ o. omega (arith, change.0 (freeing o));
     says = same_says (λ q j. 0) (λ q. 0) s now refl (λ q k. omega (arith, change.0 (tells_come q k))) (λ q. omega (arith, change.0 (tells_own q)));
-    flows = same_flows r None s now refl (λ f own. omega (arith, change.0 (flow s.tables.here f)));
+    arrived = λ a. omega (arith, h.arrived a, change.0 (brought a), change.0 (moved_by a));
+    flows = same_flows r None s now refl (λ o. refl) (λ f own. omega (arith, change.0 (flow s.tables.here f)));
     tracks = same_tracks (λ q. 0) (λ q. 0) s now (λ q. refl) refl refl (λ q. omega (arith, change.0 (grants_here q))) (λ q. omega (arith, change.0 (leads_away s.tables.here q)));
     asked = λ o n. omega (arith, change.0 (asked_by s.tables.here o n), change.0 (waits_for o n));
     given = λ k d o n. omega (arith, change.0 (given_to k o n));

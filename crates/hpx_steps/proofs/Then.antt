@@ -1,5 +1,5 @@
 -- One more entry: what has to be shown of it once, for all that holds of a locality and its part.
-use Rattle.hpx_steps.proofs.Common.{IsRowAt, starts, Agree, AllByRecursion, AreFired, AreNumbered, AreNumbers, Entry, Event, HasCommits, HasPlaces, Id, IsOrderly, IsPaid, IsSound, IsTidy, Leads, List, Local, Row, Rules, SendsOwn, Turn, [], all_append, all_count, ap, arith, arrives_at, asked_by, asks_for, asks_under, at_all, at_boot, bare_act, causes, clean_front, come, commits, cond, count_by, done_after, entry_at, fired_of, fires_one, freeing, given_to, gives_for, goes, gone, gone_to, grow, hopping, ins, is_act, is_answer, is_free_of, is_freed, joined, joins, length, length-append, map, map-append, outs, outs_by, part, part_append, part_at, refl, run_local, run_local_append, spends, subst, sum_by-append, sum_by-cons, sym, takes_such, unpaid, view, waits_for, weigh, ℕ, ◌++◌, ◌+◌, ◌∙◌, ◌∷◌, ◌≡◌, ◌≢◌, ◌≤◌, Among, HasBegun, Parcel, Waiting, act_in, grants_gone, grants_here, inl, inr, target_of, true, ◌⊎◌, Act, Apply, away_here, leads_away, grants_made, leads_on, IsPlaced, Record, Some, find_record, tells_at, tells_come, Flow, IsFlowing, None, Option, dies, flow, flow_comes, flow_goes, flow_of, record_here, record_moves, record_rests, ◌<◌, tells_own, is_landed_of, one_if, false, State, Shipped, Shows, is_to, move_to}
+use Rattle.hpx_steps.proofs.Common.{IsRowAt, starts, Agree, AllByRecursion, AreFired, AreNumbered, AreNumbers, Entry, Event, HasCommits, HasPlaces, Id, IsOrderly, IsPaid, IsSound, IsTidy, Leads, List, Local, Row, Rules, SendsOwn, Turn, [], all_append, all_count, ap, arith, arrives_at, asked_by, asks_for, asks_under, at_all, at_boot, bare_act, causes, clean_front, come, commits, cond, count_by, done_after, entry_at, fired_of, fires_one, freeing, given_to, gives_for, goes, gone, gone_to, grow, hopping, ins, is_act, is_answer, is_free_of, is_freed, joined, joins, length, length-append, map, map-append, outs, outs_by, part, part_append, part_at, refl, run_local, run_local_append, spends, subst, sum_by-append, sum_by-cons, sym, takes_such, unpaid, view, waits_for, weigh, ℕ, ◌++◌, ◌+◌, ◌∙◌, ◌∷◌, ◌≡◌, ◌≢◌, ◌≤◌, Among, HasBegun, Parcel, Waiting, act_in, grants_gone, grants_here, inl, inr, target_of, true, ◌⊎◌, Act, Apply, away_here, leads_away, grants_made, leads_on, IsPlaced, Record, Some, find_record, tells_at, tells_come, Flow, IsFlowing, None, Option, dies, flow, flow_comes, flow_goes, flow_of, record_here, record_moves, record_rests, ◌<◌, tells_own, is_landed_of, one_if, false, State, Shipped, Shows, is_to, move_to, EndsAt, Bool, ◌==◌, Arrival, brought, moved_by}
 use Rattle.hpx_journal.specs.Foreign.{IsUndrawn, kept}
 use Rattle.hpx_journal.specs.Local.{after}
 use Rattle.hpx_journal.specs.Whole.{IsClean}
@@ -141,21 +141,44 @@ pub record Flows (r : Rules) (e : Option Event) (s s' : Turn) : Type 0 where
   pub flows : (f : Flow) → (flow_of f).home ≡ s.tables.here → (1 ≤ of_event (dies (flow_of f)) e)
       ⊎ (record_moves s.tables.here f (record_here s'.tables (flow_of f)) + of_event (flow_comes r s.tables.here f) e + weigh (flow s.tables.here f) s + record_rests f (record_here s.tables (flow_of f))
       ≡ record_moves s.tables.here f (record_here s.tables (flow_of f)) + weigh (flow s.tables.here f) s' + of_event (flow_goes r s.tables.here f) e + record_rests f (record_here s'.tables (flow_of f)))
+  pub ends : (o : Id) (j : ℕ) → o.home ≡ s.tables.here
+      → record_moves s.tables.here (EndsAt o j) (record_here s'.tables o) + cond (j == s.tables.here) (of_event (dies o) e) 0 + of_event (flow_comes r s.tables.here (EndsAt o j)) e
+      + weigh (flow s.tables.here (EndsAt o j)) s + record_rests (EndsAt o j) (record_here s.tables o)
+      ≤ record_moves s.tables.here (EndsAt o j) (record_here s.tables o) + weigh (flow s.tables.here (EndsAt o j)) s' + of_event (flow_goes r s.tables.here (EndsAt o j)) e
+      + record_rests (EndsAt o j) (record_here s'.tables o)
   pub near : (o : Id) (x : Record) → find_record o s'.tables.records ≡ Some x
       → ((y : Record) × (find_record o s.tables.records ≡ Some y) × (y.place ≡ x.place)) ⊎ ((x.place ≡ s.tables.here) ⊎ (x.place < s.tables.localities))
 
--- where records stay
-pub same_flows : (r : Rules) (e : Option Event) (s s' : Turn) → s'.tables.records ≡ s.tables.records
+none_if : (b : Bool) (n : ℕ) → n ≡ 0 → ◌≡◌ {A = ℕ} (cond b n 0) 0
+none_if b n e = grind arith
+
+sum_if : (b : Bool) (n m l : ℕ) → n ≡ m + l → ◌≡◌ {A = ℕ} (cond b n 0) (cond b m 0 + cond b l 0)
+sum_if b n m l e = grind arith
+
+-- where no object dies
+pub all_flows : (r : Rules) (e : Option Event) (s s' : Turn) → ((o : Id) → of_event (dies o) e ≡ 0)
+    → ((f : Flow) → (flow_of f).home ≡ s.tables.here
+    → record_moves s.tables.here f (record_here s'.tables (flow_of f)) + of_event (flow_comes r s.tables.here f) e + weigh (flow s.tables.here f) s + record_rests f (record_here s.tables (flow_of f))
+    ≡ record_moves s.tables.here f (record_here s.tables (flow_of f)) + weigh (flow s.tables.here f) s' + of_event (flow_goes r s.tables.here f) e + record_rests f (record_here s'.tables (flow_of f)))
+    → ((o : Id) (x : Record) → find_record o s'.tables.records ≡ Some x
+    → ((y : Record) × (find_record o s.tables.records ≡ Some y) × (y.place ≡ x.place)) ⊎ ((x.place ≡ s.tables.here) ⊎ (x.place < s.tables.localities)))
+    → Flows r e s s'
+all_flows r e s s' lives same near = record {
+  flows = λ f own. inr (same f own);
+  ends = λ o j own. omega (arith, same (EndsAt o j) own, none_if (j == s.tables.here) (of_event (dies o) e) (lives o));
+  near = near;
+}
+
+-- and where records stay
+pub same_flows : (r : Rules) (e : Option Event) (s s' : Turn) → s'.tables.records ≡ s.tables.records → ((o : Id) → of_event (dies o) e ≡ 0)
     → ((f : Flow) → (flow_of f).home ≡ s.tables.here → of_event (flow_comes r s.tables.here f) e + weigh (flow s.tables.here f) s ≡ weigh (flow s.tables.here f) s' + of_event (flow_goes r s.tables.here f) e)
     → Flows r e s s'
-same_flows r e s s' records same = record {
-  flows = λ f own.
-      let a : record_moves s.tables.here f (record_here s'.tables (flow_of f)) ≡ record_moves s.tables.here f (record_here s.tables (flow_of f)) =
-      ap (λ (rs : List Record). record_moves s.tables.here f (find_record (flow_of f) rs)) records in
-      let b : record_rests f (record_here s'.tables (flow_of f)) ≡ record_rests f (record_here s.tables (flow_of f)) = ap (λ (rs : List Record). record_rests f (find_record (flow_of f) rs)) records in
-      inr (omega (arith, a, b, same f own));
-  near = λ o x m. inl (x, subst (λ (rs : List Record). find_record o rs ≡ Some x) records m, refl);
-}
+same_flows r e s s' records lives same = all_flows r e s s' lives (λ f own.
+    let a : record_moves s.tables.here f (record_here s'.tables (flow_of f)) ≡ record_moves s.tables.here f (record_here s.tables (flow_of f)) =
+    ap (λ (rs : List Record). record_moves s.tables.here f (find_record (flow_of f) rs)) records in
+    let b : record_rests f (record_here s'.tables (flow_of f)) ≡ record_rests f (record_here s.tables (flow_of f)) = ap (λ (rs : List Record). record_rests f (find_record (flow_of f) rs)) records in
+    omega (arith, a, b, same f own))
+    (λ o x m. inl (x, subst (λ (rs : List Record). find_record o rs ≡ Some x) records m, refl))
 
 pub flowing_then : (r : Rules) (e : Option Event) (s s' : Turn) (es es' : List Entry) → s'.tables.here ≡ s.tables.here → s'.tables.localities ≡ s.tables.localities
     → ((f : Event → ℕ) → all_count f es' ≡ all_count f es + of_event f e) → IsFlowing r s es → Flows r e s s' → IsFlowing r s' es'
@@ -163,6 +186,16 @@ flowing_then r e s s' es es' here count more old k = record {
   flows = λ f own. subst (λ (n : ℕ). (1 ≤ all_count (dies (flow_of f)) es')
       ⊎ (record_moves n f (record_here s'.tables (flow_of f)) + all_count (flow_comes r n f) es' ≡ weigh (flow n f) s' + all_count (flow_goes r n f) es' + record_rests f (record_here s'.tables (flow_of f))))
       (sym here) (each f (own ∙ here));
+  ends = λ o j own. subst (λ (n : ℕ). record_moves n (EndsAt o j) (record_here s'.tables o) + cond (j == n) (all_count (dies o) es') 0 + all_count (flow_comes r n (EndsAt o j)) es'
+      ≤ weigh (flow n (EndsAt o j)) s' + all_count (flow_goes r n (EndsAt o j)) es' + record_rests (EndsAt o j) (record_here s'.tables o))
+      (sym here) (omega (
+        arith,
+        old.ends o j (own ∙ here),
+        k.ends o j (own ∙ here),
+        more (flow_comes r s.tables.here (EndsAt o j)),
+        more (flow_goes r s.tables.here (EndsAt o j)),
+        sum_if (j == s.tables.here) (all_count (dies o) es') (all_count (dies o) es) (of_event (dies o) e) (more (dies o)),
+      ));
   near = λ o x m. elim (k.near o x m) [
     | inl was ↦ subst (λ (n : ℕ). (x.place ≡ n) ⊎ (x.place < s'.tables.localities)) (sym here) (subst (λ (n : ℕ). (x.place ≡ s.tables.here) ⊎ (x.place < n)) (sym count)
         (subst (λ (n : ℕ). (n ≡ s.tables.here) ⊎ (n < s.tables.localities)) was.2 (old.near o was.0 was.1)))
@@ -212,6 +245,7 @@ pub record Keeps (r : Rules) (s s' : Turn) (e : Event) : Type 0 where
   pub tracks : Tracks (λ o. grants_gone r o e) (λ o. gone r (leads_on s.tables.here o) e) s s'
   pub says : Says (λ o j. come r (tells_at o j) e) (λ o. one_if (is_landed_of o e)) s s'
   pub flows : Flows r (Some e) s s'
+  pub arrived : (a : Arrival) → weigh (brought a) s' ≤ weigh (moved_by a) s'
   pub counts : Counts s s' e
 
 -- ---- a part with one more entry
@@ -318,5 +352,6 @@ module _ (r : Rules) (s s' : Turn) (e : Event) (entries : List Entry) (h : IsSou
         (λ clean. let first = (clean_front r (at_boot r here) old one clean).0 in (first, shown_then r s entries h first)));
     placed = subst (IsPlaced r s') (sym grown) (placed_then r s s' (λ o j. come r (tells_at o j) e) (λ o. one_if (is_landed_of o e)) old (old ++ one) k.counts.here (λ o j. more (come r (tells_at o j))) (λ o. more (λ x. one_if (is_landed_of o x))) h.placed k.says);
     flowing = subst (IsFlowing r s') (sym grown) (flowing_then r (Some e) s s' old (old ++ one) k.counts.here k.counts.localities more h.flowing k.flows);
+    arrived = k.arrived;
     numbers = numbers_then;
   }

@@ -7,7 +7,7 @@ pub use Rattle.hpx_steps.proofs.Bare.{all_none, all_with, bare_all, bare_lent, b
 pub use Rattle.hpx_steps.proofs.Objects.{find_more, get_set, plain_ids, retidy, single_found, single_less, single_more, single_set, stand_less, stand_more, stand_set}
 pub use Rattle.hpx_steps.proofs.Busy.{apart_more, busy-bare, found-bare, never, none_busy, none_of, or_false}
 pub use Rattle.hpx_steps.proofs.Beside.{begin_commits, each_set, end_commits, freed_whole, is_fired, less_commits, more_commits, move_commits, runs_whole, same_fired, was_fired}
-pub use Rattle.hpx_steps.proofs.Then.{Keeps, fewer, frees_now, sound_then, Tracks, same_tracks, tracks_by, Says, same_says, Flows, of_event, same_flows}
+pub use Rattle.hpx_steps.proofs.Then.{Keeps, fewer, frees_now, sound_then, Tracks, same_tracks, tracks_by, Says, same_says, Flows, of_event, all_flows, same_flows}
 pub use Rattle.hpx_steps.proofs.Still.{Stills, rest_sound, still_sound}
 pub use Rattle.hpx_steps.proofs.ByRows.{by_bool, by_rows, if_so, by_flows, eq_turned}
 pub use Rattle.hpx_steps.proofs.Mails.{hand_fit, held_by, mail_tidy, other_is, owed_by, own_is, right_log, sent_total, some_log, IsFlowless, flowless}

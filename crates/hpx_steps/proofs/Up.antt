@@ -1,5 +1,5 @@
 -- An id is given up, or tells its home where its object is.
-use Rattle.hpx_steps.proofs.Common.{inr, Arrived, IsOwn, IsParcel, MayGoTo, Parcel, Tells, Untold, append-nil, asks_as, asks_for, count_by, follows, gives_for, parcel_acts, parcel_asks, parcel_frees, parcel_tokens, parcel_travels, same_object, ◌⊎◌, Entry, Event, GivesUp, Going, HasCredit, Id, IsSound, IsTidy, Item, List, Loose, MatchOption, OnDesk, Return, Row, Rules, Some, TidyAt, Token, Turn, Up, View, [], ap, arith, asked_by, asks_under, bare, bare_due, causes, counts_of, counts_true, follows_up, freeing, given_to, going, held_token, hopping, inl, is_other, joined, mails, map, owed_token, refl, same_token, subst, sum_by, sum_by-cons, sym, token_own, tokens, true, unpaid, view, waits_for, weigh, weight, worth, wrote, ℕ, ◌+◌, ◌<◌, ◌==◌, ◌∷◌, ◌≡◌, ◌≤◌, grants_here, grants_of, leads_away, leads_on, tells_come, flow, flow_at, flow_in, flow_go, flow_of, Flow, one_if, not, nat_lt, and_true, false, false_from, same_object-true, eq-eqb, ◌&&◌, ◌∙◌, Bool, tells_own}
+use Rattle.hpx_steps.proofs.Common.{inr, Arrived, IsOwn, IsParcel, MayGoTo, Parcel, Tells, Untold, append-nil, asks_as, asks_for, count_by, follows, gives_for, parcel_acts, parcel_asks, parcel_frees, parcel_tokens, parcel_travels, same_object, ◌⊎◌, Entry, Event, GivesUp, Going, HasCredit, Id, IsSound, IsTidy, Item, List, Loose, MatchOption, OnDesk, Return, Row, Rules, Some, TidyAt, Token, Turn, Up, View, [], ap, arith, asked_by, asks_under, bare, bare_due, causes, counts_of, counts_true, follows_up, freeing, given_to, going, held_token, hopping, inl, is_other, joined, mails, map, owed_token, refl, same_token, subst, sum_by, sum_by-cons, sym, token_own, tokens, true, unpaid, view, waits_for, weigh, weight, worth, wrote, ℕ, ◌+◌, ◌<◌, ◌==◌, ◌∷◌, ◌≡◌, ◌≤◌, grants_here, grants_of, leads_away, leads_on, tells_come, flow, flow_at, flow_in, flow_go, flow_of, Flow, one_if, not, nat_lt, and_true, false, false_from, same_object-true, eq-eqb, ◌&&◌, ◌∙◌, Bool, tells_own, brought, moved_by}
 use Rattle.hpx_steps.specs.Frames.{IsGrantFor}
 use Rattle.hpx_steps.proofs.Tools.{Trade, none_trade, untold_change, Changes, Keeps, Sees, asks_of, bound_none, by_rows, counts_near, fewer, first_goes, frees_of, held_by, holding, loose_change, mail_change, mail_tidy, owed_by, same_asks, same_dead, sees_by, sees_covers, sees_leads, sent_if, sent_total, then, told_as, total, view_covered, view_worth, same_travels, ships_of, same_waits, acting, same_tracks, same_says, same_flows, flowless, by_flows, eq_turned}
 
@@ -17,13 +17,14 @@ returned_flow k f false to id = let e = flowless k f (Return id) tt in omega (ar
 
 own_flow : (k : ℕ) (f : Flow) (id : Id) → flow_at k f (bare id) ≡ flow_in k f (Arrived id k)
 own_flow k f id = by_flows (λ f. flow_at k f (bare id) ≡ flow_in k f (Arrived id k)) (λ o t. let e : one_if (same_object o id && (t == k)) ≡ one_if (same_object o id && (k == t)) = ap (λ b. one_if (same_object o id && b)) (eq_turned t k) in omega (arith, e))
+    (λ o j. let e : one_if (same_object o id && (j == k)) ≡ one_if (same_object o id && (k == j)) = ap (λ b. one_if (same_object o id && b)) (eq_turned j k) in omega (arith, e))
     (λ o j. let e : one_if (same_object o id && (j == k)) ≡ one_if (same_object o id && (k == j)) = ap (λ b. one_if (same_object o id && b)) (eq_turned j k) in omega (arith, e)) f
 
 no_flow : (k : ℕ) (f : Flow) (id : Id) → same_object (flow_of f) id ≡ false → flow_at k f (bare id) ≡ 0
-no_flow k f id = by_flows (λ f. same_object (flow_of f) id ≡ false → flow_at k f (bare id) ≡ 0) (λ o t off. rw off refl) (λ o j off. rw off refl) f
+no_flow k f id = by_flows (λ f. same_object (flow_of f) id ≡ false → flow_at k f (bare id) ≡ 0) (λ o t off. rw off refl) (λ o j off. rw off refl) (λ o j off. rw off refl) f
 
 sent_flow : (k : ℕ) (f : Flow) (to : ℕ) (id : Id) → flow_go to f (Arrived id k) ≡ 0
-sent_flow k f to id = by_flows (λ f. flow_go to f (Arrived id k) ≡ 0) (λ o t. refl) (λ o j. refl) f
+sent_flow k f to id = by_flows (λ f. flow_go to f (Arrived id k) ≡ 0) (λ o t. refl) (λ o j. refl) (λ o j. refl) f
 
 -- an object that landed here is told of to here, if this is its home
 told_flow : (s : Turn) (f : Flow) → (flow_of f).home ≡ s.tables.here → (other : Bool) (id : Id) → is_other s.tables id.home ≡ other
@@ -136,7 +137,8 @@ module _ (r : Rules) (s : Turn) (entries : List Entry) (h : IsSound r s entries)
       given = λ j d o n. omega (arith, moves (given_to j o n) 0 refl (bound_none (id.home == j) (gives_for o n p) (none (gives_for o n) refl refl)) (λ q. refl));
     };
     says = same_says (λ q j. 0) (λ q. 0) s now refl (λ q j. omega (arith, moves (tells_come q j) 0 refl refl (λ o. refl))) (λ q. let k : weigh (tells_own q) now + (0 + total (tells_own q) out) ≡ weigh (tells_own q) s + total (tells_own q) sent = change.0 (tells_own q) in omega (arith, k, owned q));
-    flows = same_flows r (Some e) s now refl (λ f own. let k : weigh (flow s.tables.here f) now + (0 + total (flow s.tables.here f) out) ≡ weigh (flow s.tables.here f) s + total (flow s.tables.here f) sent = change.0 (flow s.tables.here f) in omega (arith, k, flowing f own));
+    arrived = λ a. omega (arith, h.arrived a, moves (brought a) 0 refl refl (λ o. refl), moves (moved_by a) 0 refl refl (λ o. refl));
+    flows = same_flows r (Some e) s now refl (λ o. refl) (λ f own. let k : weigh (flow s.tables.here f) now + (0 + total (flow s.tables.here f) out) ≡ weigh (flow s.tables.here f) s + total (flow s.tables.here f) sent = change.0 (flow s.tables.here f) in omega (arith, k, flowing f own));
     tracks = same_tracks (λ q. 0) (λ q. 0) s now (λ q. refl) refl refl (λ q. let k = none (grants_of q) refl refl in omega (arith, moves (grants_here q) 0 k k (λ o. refl)))
         (λ q. let k = none (leads_on s.tables.here q) refl refl in omega (arith, moves (leads_away s.tables.here q) 0 refl k (λ o. refl)));
     counts = counts_near s now e refl (omega arith) (omega arith) (omega arith) (omega arith) (omega arith) (λ l. refl);

@@ -82,9 +82,9 @@ module _ (act_of : ℕ → ℕ → ℕ → State → Act → Outcome) (t : Table
   abbrev begun : Turn
   begun = record (at_rest lent) { working = w ∷ [] }
 
-  pub wait_stands : AreWithin first.hand places → AllByRecursion (λ p. HasLeastCredit (id_at split.hand p)) short → 1 ≤ length short → HasSplit t.profile.credit_log waits
+  pub wait_stands : AreWithin first.hand places → AllByRecursion (λ p. HasLeastCredit (id_at split.hand p)) short → 1 ≤ length short → job.action.code ≢ 1 → HasSplit t.profile.credit_log waits
       → Stands act_of waited (entries ++ at_all t.here (first_cuts many 0 first.hand places ++ asked_events lacking))
-  wait_stands within least some split_so =
+  wait_stands within least some stays split_so =
       let fits : many ≤ length first.hand = omega (arith, length-append job.state.ids ((plain job.action).ids ++ later), length-append (plain job.action).ids later, length-append job.state.ids (plain job.action).ids) in
       let longer : many ≤ length split.hand = omega (arith, fits, (ahead_is many first fits within).longer) in
       let one = ahead_steps r w [] first.hand places refl (record begun { working = [] }) many 0 first refl (omega (arith, fits)) within (omega arith) (λ q le lt. (refl, refl)) in
@@ -102,6 +102,7 @@ module _ (act_of : ℕ → ℕ → ℕ → State → Act → Outcome) (t : Table
         works = refl;
         places = (stripped short split).places;
         lacks = some_asked t.asked short some;
+        stays = stays;
         split = subst (λ (z : Tables). HasSplit z.profile.credit_log waits) (sym rest) split_so;
         now = refl;
       } in

@@ -31,10 +31,10 @@ use Rattle.hpx_tables.specs.Tables.{Tables, messages, fired_acts}
 use Rattle.hpx_steps.specs.Frames.{IsOnItsWay, IsForHere}
 use Rattle.hpx_steps.specs.Paused.{Apart, Single, HasSplit, bare_names, names_of}
 use Rattle.hpx_steps.specs.Rows.{Row, TellsOf, IsRowAt, Actions, Landeds, AreFired, goes, causes, spends, starts, weight, owes, brings, follows, tells_at, tell_of, one_if}
-use Rattle.hpx_steps.specs.Sound.{IsOwn, IsWaitingFor, IsGranted, IsStray, MovesOn, SendsOwn, all_count, gone, gone_to, come, asks_for, gives_for, IsSound, grants_of, grants_gone, away_here, leads_on}
+use Rattle.hpx_steps.specs.Sound.{IsOwn, IsWaitingFor, IsGranted, IsStray, IsLive, SendsOwn, all_count, gone, gone_to, come, asks_for, gives_for, IsSound, grants_of, grants_gone, away_here, leads_on, brought, moved_by}
 use Rattle.hpx_steps.specs.Turn.{at_rest, bare_due, bare_standing, counted, parcel_tokens, parcel_acts, parcel_travels, parcel_asks, parcel_frees, tokens_of}
 use Rattle.hpx_steps.specs.Calls.{act_in}
-use Rattle.hpx_steps.specs.Items.{Among}
+use Rattle.hpx_steps.specs.Items.{Among, weigh}
 use Rattle.hpx_steps.specs.Flows.{IsFlowing}
 use Rattle.hpx_journal.specs.Moving.{is_landed_of}
 
@@ -86,9 +86,9 @@ view t due loose = record {
 
 -- ---- what is kept
 
--- no record that is found says that its object moves to where it is
-abbrev pub MoveOn : List Record → Type 0
-MoveOn records = (o : Id) (x : Record) → find_record o records ≡ Some x → MovesOn x
+-- no record that is found says that its object moves to where it is, or is of one without credit
+abbrev pub AreLive : List Record → Type 0
+AreLive records = (o : Id) (x : Record) → find_record o records ≡ Some x → IsLive x
 
 -- each message is where it may be
 abbrev pub AreOnTheirWay : Tables → Type 0
@@ -96,7 +96,7 @@ AreOnTheirWay t = AllByRecursion (IsOnItsWay t.localities t.here) t.outgoing × 
 
 -- a commit that waits at k, of n localities, where new objects have credit of this log: its object stands here as the job found it,
 -- but without credits, and the hand names what its object and its plain action name; of these each managed id without credit is asked
--- for once, and one that was refused is among them
+-- for once, and one that was refused is among them; and it is no MOVE
 pub record IsPaused (k n log : ℕ) (objects : List Standing) (w : Waits) : Type 0 where
   pub job : IsFitJob w.job
   pub here : w.job.at ≡ k
@@ -111,6 +111,7 @@ pub record IsPaused (k n log : ℕ) (objects : List Standing) (w : Waits) : Type
   pub refused : (o : Id) → w.refused ≡ Some o → list_any (same_object o) (ids_named w) ≡ true
   pub once : (p : ℕ) → p < length (ids_named w) → count_by (λ x. x.place == p) w.asked ≡ cond (is_asked (id_at w.hand p)) 1 0
   pub split : HasSplit log w
+  pub stays : w.job.action.code ≢ 1
 
 -- the commits that wait, beside these objects and actions that run: no object stands here twice, and no two fired actions keep one busy; the ids of an
 -- object that no such commit keeps busy have their credits, and no more ids of states are without than those in their hands
@@ -125,7 +126,7 @@ pub record ArePaused (here n log : ℕ) (objects : List Standing) (running : Lis
 -- all that is kept, due or on its way is well formed; a MOVE is accepted only to here, and an action only where its object
 -- stands; what waits for an object of here waits for that of its target, an object that is to leave stands here, and leaves once, and what is stray is
 -- an action or an object; the session stands at locality 0; what was born here has a number that was drawn; no object of this home moves to
--- where it is; messages are where they may be
+-- where it is, and each of which there is a record has credit; messages are where they may be
 pub record IsTidy (t : Tables) (due : List Due) : Type 0 where
   pub accepted : AllByRecursion IsFit t.accepted
   pub running : AllByRecursion IsFit t.running
@@ -141,7 +142,7 @@ pub record IsTidy (t : Tables) (due : List Due) : Type 0 where
   pub serves : t.here ≡ 0 → stands_here t session ≡ true
   pub drawn : AllByRecursion (λ x. 16 ≤ x.object.kind → x.object.home ≡ t.here → x.object.number ≤ t.births) t.objects
   pub unborn : (o : Id) → t.births < o.number → find (λ x. same_object o x.gid) t.records ≡ None
-  pub places : MoveOn t.records
+  pub places : AreLive t.records
   pub ways : AreOnTheirWay t
   pub paused : ArePaused t.here t.localities t.profile.credit_log t.objects t.running t.pending
 
@@ -264,13 +265,15 @@ rules_of act_of n profile = record {
 }
 
 -- the same in one: nothing is due, each id is named, own messages are in order, each move was granted, each object is where
--- it was told to be, and what waits lacks something
+-- it was told to be, the MOVE with which an object came is here and not done, and what waits lacks something
 pub record StandsAtRest (r : Rules) (t : Tables) (entries : List Entry) : Type 0 where
   pub stands : StandsWith r t [] [] entries
   pub orderly : IsOrderly r t (part t.here entries)
   pub begun : MovesBegan r t (part t.here entries)
   pub placed : ArePlaced r t (part t.here entries)
   pub flowing : IsFlowing r (at_rest t) (part t.here entries)
+  pub bare : AllByRecursion (λ (a : Arrival). a.object.log ≡ None) t.came
+  pub arrived : (a : Arrival) → weigh (brought a) (at_rest t) ≤ weigh (moved_by a) (at_rest t)
   pub lacks : Lacks t
 
 -- all that holds of a turn holds of these tables at rest, by their own rules

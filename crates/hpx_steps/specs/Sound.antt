@@ -1,13 +1,13 @@
 -- What holds of a locality and its part of the journal in the middle of a turn.
 use Rattle.std.specs.Prelude.{ℕ, true, cond, List, [], ◌∷◌, ◌≡◌, ◌≢◌, ◌≤◌, ◌<◌, ◌+◌, ◌==◌, ◌&&◌, ◌⊎◌, map, length, Some, None, IfSome, is_some, Bool, false, not, ◌||◌}
 use Rattle.std.specs.List.{sum_by, count_by, find, filter, AllByRecursion}
-use Rattle.hpx_value.specs.Ids.{same_object}
+use Rattle.hpx_value.specs.Ids.{bare, same_object}
 use Rattle.hpx_value.specs.Riders.{rider_of}
 use Rattle.hpx_value.specs.Values.{bare_act}
 use Rattle.hpx_value.specs.Hands.{session}
 use Rattle.hpx_parcel.specs.Parcels.{IsParcel, HasRightCredit}
 use Rattle.hpx_journal.specs.Data.{Id, Parcel, Apply, Ask, Give, Move, Go, Shipped, Act, State, Free}
-use Rattle.hpx_journal.specs.Entries.{Rules, move_to, target_of}
+use Rattle.hpx_journal.specs.Entries.{Rules, move_to, name_of, same_name, target_of}
 use Rattle.hpx_journal.specs.Local.{is_standing}
 use Rattle.hpx_journal.specs.Rows.{is_to}
 use Rattle.hpx_journal.specs.Names.{due_ids}
@@ -18,6 +18,7 @@ use Rattle.hpx_part.specs.Parts.{StandsFor, at_boot}
 use Rattle.hpx_agas.specs.Records.{find_record}
 use Rattle.hpx_agas.specs.declared.record.Record.{Record}
 use Rattle.hpx_commit.specs.Deals.{log_of}
+use Rattle.hpx_tables.specs.declared.kept.Arrival.{Arrival}
 use Rattle.hpx_tables.specs.Awaited.{is_answer}
 use Rattle.hpx_tables.specs.Fit.{IsFit, IsKept, IsFitDue}
 use Rattle.hpx_tables.specs.Kept.{grants, record_here}
@@ -70,7 +71,11 @@ IsStray _ = ⊥
 abbrev pub MovesOn : Record → Type 0
 MovesOn x = x.moving ≢ Some x.place
 
--- what is kept, due or on its way is well formed and where it may be, and what waits lacks something: at k, of n localities, where new
+-- and it is of an object of which credit is out
+abbrev pub IsLive : Record → Type 0
+IsLive x = MovesOn x × (1 ≤ x.count)
+
+-- what is kept, due or on its way is well formed and where it may be, and what waits lacks something and is no MOVE: at k, of n localities, where new
 -- objects have credit of this log, so many were born, and these objects stand
 abbrev pub IsTidyIn : ℕ → ℕ → ℕ → ℕ → List Standing → Item → Type 0
 IsTidyIn k n log births objects (Came p) = IsParcel p
@@ -80,12 +85,12 @@ IsTidyIn k n log births objects (Going x) = IsParcel x.parcel × IsOnItsWay n k 
 IsTidyIn k n log births objects (Queued w) = IsParcel w.item × IsWaitingFor k w.number w.item
 IsTidyIn k n log births objects (Leaving p) = IsParcel p × IsGranted k objects p
 IsTidyIn k n log births objects (Stray p) = IsParcel p × IsStray p
-IsTidyIn k n log births objects (Brought a) = Unit {0}
+IsTidyIn k n log births objects (Brought a) = a.object.log ≡ None
 IsTidyIn k n log births objects (Untold o) = Unit {0}
 IsTidyIn k n log births objects (Accepted act) =
     IsFit act × IfSome (move_to (bare_act act)) (λ to. to ≡ k) × (is_some (find (is_standing (target_of act)) objects) ≡ true)
 IsTidyIn k n log births objects (Running act) = IsFit act
-IsTidyIn k n log births objects (Pending w) = IsCommit k n w × HasSplit log w × (w.asked ≢ [])
+IsTidyIn k n log births objects (Pending w) = IsCommit k n w × HasSplit log w × (w.asked ≢ []) × (w.job.action.code ≢ 1)
 IsTidyIn k n log births objects (Working w) = IsCommit k n w
 IsTidyIn k n log births objects (StandsHere x) = IsKept x × (16 ≤ x.object.kind → x.object.home ≡ k → x.object.number ≤ births)
 IsTidyIn k n log births objects (IsDue d) = IsFitDue d
@@ -99,11 +104,11 @@ abbrev pub IsTidy : Turn → Type 0
 IsTidy s = Holds (TidyAt s) s
 
 -- at k, where so many were born: at locality 0 the session stands; what was not born has no record, and no record says that its object
--- moves to where it is; no object stands here twice, or is to leave twice
+-- moves to where it is, or is of one without credit; no object stands here twice, or is to leave twice
 pub record HasPlaces (k births : ℕ) (objects : List Standing) (records : List Record) (leaving : List Parcel) : Type 0 where
   pub serves : k ≡ 0 → is_some (find (is_standing session) objects) ≡ true
   pub unborn : (o : Id) → births < o.number → find_record o records ≡ None
-  pub places : (o : Id) (x : Record) → find_record o records ≡ Some x → MovesOn x
+  pub places : (o : Id) (x : Record) → find_record o records ≡ Some x → IsLive x
   pub single : Single objects
   pub once : (o : Id) → count_by (grants o) leaving ≤ 1
 
@@ -292,6 +297,32 @@ pub record IsPlaced (r : Rules) (s : Turn) (entries : List Entry) : Type 0 where
   pub told : (o : Id) (j : ℕ) → weigh (tells_come o j) s ≤ all_count (come r (tells_at o j)) entries
   pub own : (o : Id) → weigh (tells_own o) s ≤ all_count (λ e. one_if (is_landed_of o e)) entries
 
+-- ---- objects that came
+
+-- the MOVE with which its object came, by its name
+abbrev pub arrival_of : Act → Arrival
+arrival_of act = record { name = name_of act; object = bare (target_of act) }
+
+-- the same MOVE
+abbrev pub same_arrival : Arrival → Arrival → Bool
+same_arrival a b = same_name a.name b.name && (same_object a.object b.object && not (is_some b.object.log))
+
+-- how often an object came with it
+abbrev pub brought : Arrival → Item → ℕ
+brought a (Brought b) = one_if (same_arrival a b)
+brought a _ = 0
+
+-- how often it is here, and not done
+abbrev pub move_of : Arrival → Act → ℕ
+move_of a act = one_if ((act.code == 1) && same_arrival a (arrival_of act))
+
+abbrev pub moved_by : Arrival → Item → ℕ
+moved_by a (Accepted act) = move_of a act
+moved_by a (Running act) = move_of a act
+moved_by a (Pending w) = move_of a w.job.action
+moved_by a (Working w) = move_of a w.job.action
+moved_by a _ = 0
+
 -- ---- numbers
 
 -- numbers that were drawn and frames stay below the entries; and the session has had the answers that were done
@@ -318,4 +349,6 @@ pub record IsSound (r : Rules) (s : Turn) (entries : List Entry) : Type 0 where
   pub begun : HasBegun r s (part s.tables.here entries)
   pub placed : IsPlaced r s (part s.tables.here entries)
   pub flowing : IsFlowing r s (part s.tables.here entries)
+  -- the MOVE with which an object came is here, and not done
+  pub arrived : (a : Arrival) → weigh (brought a) s ≤ weigh (moved_by a) s
   pub numbers : AreNumbers r s entries

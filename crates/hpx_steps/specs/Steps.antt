@@ -30,12 +30,13 @@ use Rattle.hpx_tables.specs.Awaited.{answered_by}
 use Rattle.hpx_tables.specs.Kept.{held_here, waits_here, stays_here}
 use Rattle.hpx_tables.specs.Merged.{may_merge, merged_in}
 use Rattle.hpx_tables.specs.Pending.{Waits, Refills, awaits, waits_with, ids_named, fired_of}
+use Rattle.hpx_tables.specs.declared.kept.Arrival.{Arrival}
 use Rattle.hpx_tables.specs.declared.kept.Outgoing.{Outgoing}
 use Rattle.hpx_steps.specs.Paused.{HasSplit}
 use Rattle.hpx_steps.specs.Turn.{Turn, commits, tokens_of, bare_due, bare_standing}
 use Rattle.hpx_steps.specs.Rows.{kind_of}
 use Rattle.hpx_steps.specs.Mail.{mails, mails_if, draws, wrote}
-use Rattle.hpx_steps.specs.Sound.{IsStray, away_here}
+use Rattle.hpx_steps.specs.Sound.{IsStray, arrival_of, away_here}
 use Rattle.hpx_steps.specs.Ways.{Accept, way, posts}
 
 -- ---- when
@@ -151,13 +152,14 @@ pub record Bears (s : Turn) (o : Id) (state : State) (s' : Turn) : Type 0 where
     };
   })
 
--- a commit begins to wait, without an entry: it lacks something, and its hand is that of its job, split ahead
+-- a commit begins to wait, without an entry: it lacks something, it is no MOVE, and its hand is that of its job, split ahead
 pub record Pauses (s s' : Turn) : Type 0 where
   pub w : Waits
   pub rest : List Waits
   pub works : s.working ≡ w ∷ rest
   pub places : List ℕ
   pub lacks : w.asked ≢ []
+  pub stays : w.job.action.code ≢ 1
   pub split : HasSplit s.tables.profile.credit_log (record w { places = places })
   pub now : s' ≡ record s { working = rest; tables = record s.tables { pending = s.tables.pending ++ record w { places = places } ∷ [] } }
 
@@ -172,26 +174,47 @@ pub record Remains : Type 0 where
   pub due : List Due
   pub loose : List Id
 
+-- the MOVEs with which objects came, once an action ended, and the objects whose homes are to be told then
+pub record Moved : Type 0 where
+  pub came : List Arrival
+  pub untold : List Id
+
+-- an action that ends is the MOVE with which its object came: the home of that is to be told
+pub record CameWith (s : Turn) (act : Act) (moved : Moved) : Type 0 where
+  pub i : ℕ
+  pub there : slice_get s.tables.came i ≡ Some (arrival_of act)
+  pub came : moved.came ≡ remove s.tables.came i
+  pub untold : moved.untold ≡ s.untold ++ bare (target_of act) ∷ []
+
+-- it is not: nothing is to be told
+pub record CameAlone (s : Turn) (act : Act) (moved : Moved) : Type 0 where
+  pub none : act.code ≡ 1 → (i : ℕ) → slice_get s.tables.came i ≡ Some (arrival_of act) → ⊥
+  pub came : moved.came ≡ s.tables.came
+  pub untold : moved.untold ≡ s.untold
+
 -- those of these ids that have a credit
 abbrev pub with_credit : List Id → List Id
 with_credit ids = filter (λ id. is_some id.log) ids
 
--- it ends: its commit is in work no more, and its object, x at j, is left so; its rider is loose
-abbrev pub ends : ℕ → Waits → List Waits → Standing → Remains → Turn → Turn
-ends j w rest x left s = record s {
+-- it ends: its commit is in work no more, and its object, x at j, is left so; its rider is loose; and homes are to be told so
+abbrev pub ends : ℕ → Waits → List Waits → Standing → Remains → Moved → Turn → Turn
+ends j w rest x left moved s = record s {
   working = rest;
   fresh = [];
   due = left.due;
   loose = s.loose ++ (with_credit (rider_of w.job.action) ++ left.loose);
+  untold = moved.untold;
   tables = record s.tables {
     objects = set s.tables.objects j (record { object = x.object; state = left.state });
+    came = moved.came;
     answered = s.tables.answered + answered_by (Some w.job.action);
   };
 }
 
 -- an action ends, of which a commit is in work that waits for nothing: its object, x at j, keeps its form, and one of kind Plain its
--- state; what is left is well formed, and the credits of the hand are dealt to it
-pub record Ends (s : Turn) (a : Name) (w : Waits) (rest : List Waits) (j : ℕ) (x : Standing) (left : Remains) : Type 0 where
+-- state; what is left is well formed, and the credits of the hand are dealt to it; where it is the MOVE with which its object came, its home
+-- is to be told
+pub record Ends (s : Turn) (a : Name) (w : Waits) (rest : List Waits) (j : ℕ) (x : Standing) (left : Remains) (moved : Moved) : Type 0 where
   pub due : s.due ≡ []
   pub works : s.working ≡ w ∷ rest
   pub lacks : w.asked ≡ []
@@ -204,6 +227,7 @@ pub record Ends (s : Turn) (a : Name) (w : Waits) (rest : List Waits) (j : ℕ) 
   pub fits : AllByRecursion IsFitDue left.due
   pub given_up : AllByRecursion HasRightCredit left.loose
   pub deals : Deals w.hand left.state left.due left.loose
+  pub told : CameWith s w.job.action moved ⊎ CameAlone s w.job.action moved
 
 -- it is done: what it leaves is what its outcome says, which is that of its plain action
 pub record Commits (r : Rules) (s : Turn) (a : Name) (s' : Turn) : Type 0 where
@@ -212,12 +236,13 @@ pub record Commits (r : Rules) (s : Turn) (a : Name) (s' : Turn) : Type 0 where
   pub j : ℕ
   pub x : Standing
   pub left : Remains
-  pub ending : Ends s a w rest j x left
+  pub moved : Moved
+  pub ending : Ends s a w rest j x left moved
   pub right : w.outcome ≡ r.outcome_of x.object.kind s.tables.here x.state (plain (bare_act w.job.action))
   pub made : AreMade w.outcome.makes s.fresh (map bare_standing s.tables.objects)
   pub says : bare_state left.state ≡ state_after x.state (plain (bare_act w.job.action)) s.fresh w.outcome
   pub leaves : map bare_due left.due ≡ due_with x.state (plain (bare_act w.job.action)) s.fresh w.outcome
-  pub now : s' ≡ wrote (Done a false) (ends j w rest x left s)
+  pub now : s' ≡ wrote (Done a false) (ends j w rest x left moved s)
 
 -- it fails: one of its ids was refused; its object stays as it was, and the failure is due
 pub record Fails (s : Turn) (a : Name) (s' : Turn) : Type 0 where
@@ -226,13 +251,14 @@ pub record Fails (s : Turn) (a : Name) (s' : Turn) : Type 0 where
   pub j : ℕ
   pub x : Standing
   pub left : Remains
-  pub ending : Ends s a w rest j x left
+  pub moved : Moved
+  pub ending : Ends s a w rest j x left moved
   pub fresh : s.fresh ≡ []
   pub refusal : Id
   pub refused : w.refused ≡ Some refusal
   pub says : bare_state left.state ≡ bare_state w.job.state
   pub leaves : map bare_due left.due ≡ failure (bare_act w.job.action)
-  pub now : s' ≡ wrote (Done a true) (ends j w rest x left s)
+  pub now : s' ≡ wrote (Done a true) (ends j w rest x left moved s)
 
 -- ---- what is due, and what is loose
 
@@ -468,16 +494,6 @@ pub record Lands (s : Turn) (o : Id) (s' : Turn) : Type 0 where
     };
   })
 
--- a MOVE with which its object came is about to be done, without an entry: the home of the object is to be told
-pub record Notes (s s' : Turn) : Type 0 where
-  pub w : Waits
-  pub rest : List Waits
-  pub i : ℕ
-  pub works : s.working ≡ w ∷ rest
-  pub moves : w.job.action.code ≡ 1
-  pub there : slice_get s.tables.came i ≡ Some (record { name = name_of w.job.action; object = bare (target_of w.job.action) })
-  pub now : s' ≡ record s { untold = s.untold ++ bare (target_of w.job.action) ∷ []; tables = record s.tables { came = remove s.tables.came i } }
-
 -- ---- messages
 
 -- the first message on the desk is taken up
@@ -563,7 +579,6 @@ pub data Label : Type 0 where
   Mark : Label
   Park : Label
   Release : Label
-  Note : Label
   Reorder : Label
 
 -- one step
@@ -596,7 +611,6 @@ Step r s Place s' = Places s s'
 Step r s Mark s' = Marks s s'
 Step r s Park s' = Parks s s'
 Step r s Release s' = Releases s s'
-Step r s Note s' = Notes s s'
 Step r s Reorder s' = Reorders s s'
 
 -- one step after another

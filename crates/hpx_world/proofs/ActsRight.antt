@@ -1,39 +1,32 @@
 -- Each action that waits or is on the road is right.
-use Rattle.std.proofs.Common.{ℕ, List, [], ◌∷◌, ◌++◌, ◌≡◌, ◌≢◌, ◌<◌, ◌≤◌, Some, map, refl, sym, ◌∙◌, subst, append_assoc}
+use Rattle.std.proofs.Common.{ℕ, List, [], ◌∷◌, ◌≢◌, ◌<◌, ◌≤◌, Some, map, refl}
 use Rattle.std.specs.Prelude.{flat_map}
 use Rattle.std.specs.List.{AllByRecursion}
 use Rattle.hpx_value.specs.Values.{bare_act}
-use Rattle.hpx_journal.specs.Data.{Act, Parcel}
-use Rattle.hpx_journal.specs.Entries.{Rules, Frame, name_of, target_of}
+use Rattle.hpx_journal.specs.Data.{Act}
+use Rattle.hpx_journal.specs.Entries.{Rules, Frame, target_of}
 use Rattle.hpx_journal.specs.Frames.{acts_in}
-use Rattle.hpx_journal.specs.Laws.{IsOnRoad}
-use Rattle.hpx_journal.specs.Local.{is_act}
 use Rattle.hpx_journal.specs.Natives.{EachAct, StandsAtHome}
 use Rattle.hpx_journal.specs.Whole.{Space, IsLegal, replayed, credit_sum}
-use Rattle.hpx_journal.proofs.Alls.{all-find}
 use Rattle.hpx_journal.proofs.Credited.{named_credited}
 use Rattle.hpx_journal.proofs.Origins.{each_origin}
-use Rattle.hpx_journal.proofs.PoolMoves.{arrived}
 use Rattle.hpx_journal.proofs.Start.{joined_legal, legal_whole}
 use Rattle.hpx_journal.proofs.Still.{legal_still}
 use Rattle.hpx_journal.proofs.Targets.{all_near, targets_stand}
 use Rattle.hpx_part.specs.Data.{Entry}
-use Rattle.hpx_part.specs.Keyed.{Agree}
-use Rattle.hpx_part.proofs.Keyed.{Agree-found}
-use Rattle.hpx_part.proofs.Keys.{means, own}
 use Rattle.hpx_tables.specs.Tables.{Tables, messages}
 use Rattle.hpx_tables.proofs.Alls.{all_parts}
-use Rattle.hpx_node.proofs.Messages.{messages_first}
+use Rattle.hpx_world.proofs.Nearby.{agree_from}
 use Rattle.hpx_world.proofs.Shown.{IsCalm, IsShown}
-use Rattle.hpx_world.proofs.Welcome.{IsActRight}
 
--- what holds of the actions of a locality holds of those that its tables show
-agree_from : (Q : Act → Type 0) (xs ys : List Act) → Agree is_act xs ys → AllByRecursion Q xs → (l m : List Act) → ys ≡ l ++ m → AllByRecursion Q m
-agree_from Q xs ys h all l [] is = tt
-agree_from Q xs ys h all l (x ∷ m) is = (
-  all-find Q (is_act (name_of x)) xs x all (Agree-found is_act name_of means own xs l m x (subst (Agree is_act xs) is h)),
-  agree_from Q xs ys h all (l ++ x ∷ []) m (is ∙ sym (append_assoc l (x ∷ []) m)),
-)
+-- an action with bare ids: it comes from a locality that there is, as do its ids; its target stands at its home, what is managed has
+-- credit, and it is no MOVE
+pub record IsActRight (r : Rules) (w : Space) (act : Act) : Type 0 where
+  pub origin : act.origin < r.localities
+  pub near : AllByRecursion (λ o. o.home < r.localities) act.ids
+  pub stands : StandsAtHome r.localities w (target_of act)
+  pub credited : AllByRecursion (λ o. 16 ≤ o.kind → 1 ≤ credit_sum r o w) act.ids
+  pub still : act.code ≢ 1
 
 all_right : (r : Rules) (w : Space) (acts : List Act) → AllByRecursion (λ act. act.origin < r.localities) acts
     → AllByRecursion (λ act. AllByRecursion (λ o. o.home < r.localities) act.ids) acts
@@ -71,20 +64,8 @@ module _ (r : Rules) (es : List Entry) (calm : IsCalm r es) where
       road_all (f ∷ fs) a b c d e =
           (all_right r (replayed r es) (acts_in (r.parcel_of f.1)) a.0 b.0 c.0 d.0 e.0, road_all fs a.1 b.1 c.1 d.1 e.1)
 
-  -- in a frame on the road
-  pub road_acts : (f : Frame) (p : Parcel) → IsOnRoad f (replayed r es) → r.parcel_of f.1 ≡ Some p → AllByRecursion (IsActRight r (replayed r es)) (acts_in (Some p))
-  road_acts f p on spelled =
-      subst (λ x. AllByRecursion (IsActRight r (replayed r es)) (acts_in x)) spelled
-      (arrived (λ x. AllByRecursion (IsActRight r (replayed r es)) (acts_in (r.parcel_of x.1))) (replayed r es).road f each.road on)
-
   module _ (log k : ℕ) (t : Tables) (s : IsShown r log es k t) where
     pub carried : AllByRecursion (IsActRight r (replayed r es)) (flat_map (λ q. acts_in (Some q)) (messages t))
     carried =
         (all_parts (IsActRight r (replayed r es)) (map bare_act t.accepted) (flat_map (λ q. acts_in (Some q)) (messages t))
         (agree_from (IsActRight r (replayed r es)) ((replayed r es).places k).waiting _ s.shows.acts.waiting (each.waiting k s.lt) [] _ refl)).1
-
-    -- in the first message on a desk
-    pub desk_acts : (p : Parcel) (rest : List Parcel) → t.desk ≡ p ∷ rest → AllByRecursion (IsActRight r (replayed r es)) (acts_in (Some p))
-    desk_acts p rest first =
-        (all_parts (IsActRight r (replayed r es)) (acts_in (Some p)) (flat_map (λ q. acts_in (Some q)) (messages (record t { desk = rest })))
-        (subst (λ ps. AllByRecursion (IsActRight r (replayed r es)) (flat_map (λ q. acts_in (Some q)) ps)) (messages_first t p rest first) carried)).0

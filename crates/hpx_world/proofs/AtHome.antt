@@ -1,14 +1,13 @@
 -- Where nothing moves, what an audit tells of stands at its home, and so it says.
-use Rattle.std.proofs.Common.{ℕ, Bool, List, [], ◌∷◌, ◌≡◌, ◌≤◌, ◌+◌, ◌==◌, cond, true, false, append-nil, sym, arith, inl, inr}
+use Rattle.std.proofs.Common.{ℕ, Bool, List, [], ◌∷◌, ◌≡◌, ◌≤◌, ◌==◌, cond, true, false, append-nil, sym, arith, inl, inr}
 use Rattle.std.specs.Prelude.{◌⊎◌}
-use Rattle.std.specs.List.{sum_by, AllByRecursion}
-use Rattle.std.proofs.lemmas.List.Sums.{sum_by-cons}
+use Rattle.std.specs.List.{AllByRecursion}
 use Rattle.hpx_value.specs.Ids.{same_object}
 use Rattle.hpx_journal.specs.Entries.{Rules}
-use Rattle.hpx_journal.specs.Laws.{HasGrammar, KeepsActLaws, count_events}
+use Rattle.hpx_journal.specs.Laws.{HasGrammar, KeepsActLaws}
 use Rattle.hpx_journal.specs.Moving.{is_landed_of}
 use Rattle.hpx_journal.specs.Natives.{NothingMoves, StandsAtHome}
-use Rattle.hpx_journal.specs.Whole.{part, replayed, recorded_in}
+use Rattle.hpx_journal.specs.Whole.{replayed, recorded_in}
 use Rattle.hpx_journal.proofs.Alls.{all-any}
 use Rattle.hpx_journal.proofs.Credited.{credit_alive}
 use Rattle.hpx_journal.proofs.Frames.{part_sum, sum_le}

@@ -68,7 +68,7 @@ module _ {A : Type 0} {g : Ghosts A} where
   work_at k x z before (faults.JournalFull e w (Some done)) h = (h.0, record { k = k; before = before; did = h.1 }, h.2)
   work_at k x z before (faults.OutOfMemory None) h =
       let s = h.1 in
-      (h.0, (s.0, inl (ap (λ o. o.hand) s.1, ap (λ o. o.flight) s.1, ap (λ o. o.trace) s.1)), inl ((k, to_fire_same z.nodes x.nodes k (sym s.0.tables) h.2), s.1))
+      (h.0, (s.0, inl (ap (λ o. o.hand) s.1, ap (λ o. o.flight) s.1, ap (λ o. o.trace) s.1)), inl (record { k = k; before = before; did = to_fire_same z.nodes x.nodes k (sym s.0.tables) h.2 }, s.1))
   work_at k x z before (faults.OutOfMemory (Some done)) h = (h.0, h.1, record { k = k; before = before; did = h.2 })
   work_at k x z before (faults.NotRun job) h = (h.0, record { k = k; before = before; did = h.1 })
   work_at k x z before faults.Fabric h = absurd h
@@ -81,43 +81,43 @@ module _ {A : Type 0} {g : Ghosts A} where
   work_refuses k x y z e before fault h = work_at k x z before fault (subst (λ s. RefusedWork k fault s z) e h)
 
   -- a message to the own locality is refused
-  desk_at : (k : ℕ) (x z : Stage) → NoneFires x → (fault : WorldFault A g) → Refused {A = A} {g = g} (choices.Desk k) fault x z → RefusedStep fault x z
-  desk_at k x z none (faults.JournalFull e w u) h = subst (λ v. RefusedStep {A = A} {g = g} (faults.JournalFull e w v) x z) (sym h.2) (h.0, h.1)
-  desk_at k x z none (faults.OutOfMemory u) h =
+  desk_at : (k : ℕ) (x z : Stage) → NoneFires x → AllByRecursion HasNothingToTend (take k x.nodes) → (fault : WorldFault A g) → Refused {A = A} {g = g} (choices.Desk k) fault x z → RefusedStep fault x z
+  desk_at k x z none before (faults.JournalFull e w u) h = subst (λ v. RefusedStep {A = A} {g = g} (faults.JournalFull e w v) x z) (sym h.2) (h.0, h.1)
+  desk_at k x z none before (faults.OutOfMemory u) h =
       let s = h.1.0 in
       subst (λ v. RefusedStep {A = A} {g = g} (faults.OutOfMemory v) x z) (sym h.1.1) (
         h.0,
         (s.0, inl (ap (λ o. o.hand) s.1, ap (λ o. o.flight) s.1, ap (λ o. o.trace) s.1)),
-        inr (inl (none, (k, to_tend_same z.nodes x.nodes k (sym s.0.tables) h.1.2), s.1)),
+        inr (inl (none, record { k = k; before = before; did = to_tend_same z.nodes x.nodes k (sym s.0.tables) h.1.2 }, s.1)),
       )
-  desk_at k x z none (faults.Strange to rule object kept) h =
-      (h.0, inr (none, (h.1.0, refl, subst (λ j. IsStrangeMail z.nodes j rule object kept) (sym h.1.1) h.1.2)))
-  desk_at k x z none faults.Fabric h = absurd h.1
-  desk_at k x z none (faults.BadFrame to at why) h = absurd h.1
-  desk_at k x z none (faults.EarlyEnd sent taken) h = absurd h.1
-  desk_at k x z none (faults.NotRun job) h = absurd h.1
+  desk_at k x z none before (faults.Strange to rule object kept) h =
+      (h.0, inr (none, record { k = k; before = before; did = h.1 }))
+  desk_at k x z none before faults.Fabric h = absurd h.1
+  desk_at k x z none before (faults.BadFrame to at why) h = absurd h.1
+  desk_at k x z none before (faults.EarlyEnd sent taken) h = absurd h.1
+  desk_at k x z none before (faults.NotRun job) h = absurd h.1
 
-  pub desk_refuses : (k : ℕ) (x y z : Stage) → y ≡ x → NoneFires x → (fault : WorldFault A g) → Refused {A = A} {g = g} (choices.Desk k) fault y z → RefusedStep fault x z
-  desk_refuses k x y z e none fault h = desk_at k x z none fault (subst (λ s. Refused {A = A} {g = g} (choices.Desk k) fault s z) e h)
+  pub desk_refuses : (k : ℕ) (x y z : Stage) → y ≡ x → NoneFires x → AllByRecursion HasNothingToTend (take k x.nodes) → (fault : WorldFault A g) → Refused {A = A} {g = g} (choices.Desk k) fault y z → RefusedStep fault x z
+  desk_refuses k x y z e none before fault h = desk_at k x z none before fault (subst (λ s. Refused {A = A} {g = g} (choices.Desk k) fault s z) e h)
 
   -- a message to another is not sent
-  pump_at : (k : ℕ) (x z : Stage) → NoneClears x → (fault : WorldFault A g) → Refused {A = A} {g = g} (choices.Pump k) fault x z → RefusedStep fault x z
-  pump_at k x z none (faults.JournalFull e w u) h = subst (λ v. RefusedStep {A = A} {g = g} (faults.JournalFull e w v) x z) (sym h.2) (h.0, h.1)
-  pump_at k x z none (faults.OutOfMemory u) h =
+  pump_at : (k : ℕ) (x z : Stage) → NoneClears x → AllByRecursion SendsNothing (take k x.nodes) → (fault : WorldFault A g) → Refused {A = A} {g = g} (choices.Pump k) fault x z → RefusedStep fault x z
+  pump_at k x z none before (faults.JournalFull e w u) h = subst (λ v. RefusedStep {A = A} {g = g} (faults.JournalFull e w v) x z) (sym h.2) (h.0, h.1)
+  pump_at k x z none before (faults.OutOfMemory u) h =
       let s = h.1.0 in
       subst (λ v. RefusedStep {A = A} {g = g} (faults.OutOfMemory v) x z) (sym h.1.1) (
         h.0,
         (s.0, inl (ap (λ o. o.hand) s.1, ap (λ o. o.flight) s.1, ap (λ o. o.trace) s.1)),
-        inr (inr (inl (none, (k, to_send_same z.nodes x.nodes k (sym s.0.tables) h.1.2), s.1))),
+        inr (inr (inl (none, record { k = k; before = before; did = to_send_same z.nodes x.nodes k (sym s.0.tables) h.1.2 }, s.1))),
       )
-  pump_at k x z none faults.Fabric h = (h.0, none, h.1.0)
-  pump_at k x z none (faults.Strange to rule object kept) h = absurd h.1
-  pump_at k x z none (faults.BadFrame to at why) h = absurd h.1
-  pump_at k x z none (faults.EarlyEnd sent taken) h = absurd h.1
-  pump_at k x z none (faults.NotRun job) h = absurd h.1
+  pump_at k x z none before faults.Fabric h = (h.0, none, h.1.0)
+  pump_at k x z none before (faults.Strange to rule object kept) h = absurd h.1
+  pump_at k x z none before (faults.BadFrame to at why) h = absurd h.1
+  pump_at k x z none before (faults.EarlyEnd sent taken) h = absurd h.1
+  pump_at k x z none before (faults.NotRun job) h = absurd h.1
 
-  pub pump_refuses : (k : ℕ) (x y z : Stage) → y ≡ x → NoneClears x → (fault : WorldFault A g) → Refused {A = A} {g = g} (choices.Pump k) fault y z → RefusedStep fault x z
-  pump_refuses k x y z e none fault h = pump_at k x z none fault (subst (λ s. Refused {A = A} {g = g} (choices.Pump k) fault s z) e h)
+  pub pump_refuses : (k : ℕ) (x y z : Stage) → y ≡ x → NoneClears x → AllByRecursion SendsNothing (take k x.nodes) → (fault : WorldFault A g) → Refused {A = A} {g = g} (choices.Pump k) fault y z → RefusedStep fault x z
+  pump_refuses k x y z e none before fault h = pump_at k x z none before fault (subst (λ s. Refused {A = A} {g = g} (choices.Pump k) fault s z) e h)
 
   -- a frame is not accepted
   take_at : (x z : Stage) → NonePumps x → (fault : WorldFault A g) → Refused {A = A} {g = g} choices.Take fault x z → RefusedStep fault x z

@@ -1,8 +1,8 @@
 -- Where a home was told that an object has landed, it did.
-use Rattle.std.proofs.Common.{ℕ, Bool, true, false, cond, List, [], ◌∷◌, ◌≡◌, ◌≢◌, ◌<◌, ◌≤◌, ◌+◌, ◌==◌, Option, Some, None, length, refl, sym, ap, ◌∙◌, subst, arith, inl, inr}
+use Rattle.std.proofs.Common.{ℕ, Bool, true, false, cond, List, [], ◌∷◌, ◌≡◌, ◌<◌, ◌≤◌, ◌==◌, Option, Some, None, length, refl, sym, ap, ◌∙◌, subst, arith, inl, inr}
 use Rattle.std.specs.Prelude.{◌&&◌, ◌⊎◌}
-use Rattle.std.specs.List.{slice_get, sum_by, AllByRecursion}
-use Rattle.std.proofs.lemmas.Bool.{cases_Bool, cases_lt, eqb-true}
+use Rattle.std.specs.List.{slice_get, AllByRecursion}
+use Rattle.std.proofs.lemmas.Bool.{cases_lt, eqb-true}
 use Rattle.std.proofs.lemmas.List.Sums.{sum_by-cons}
 use Rattle.hpx_value.specs.Ids.{same_object}
 use Rattle.hpx_value.specs.declared.profile.Profile.{Profile}
@@ -18,7 +18,7 @@ use Rattle.hpx_journal.proofs.Same.{and_true, same_object-true}
 use Rattle.hpx_part.specs.Data.{Event, Entry, In, Out, Landed}
 use Rattle.hpx_steps.specs.Frames.{IsOnItsWay}
 use Rattle.hpx_steps.specs.Rest.{IsPaid, rules_of}
-use Rattle.hpx_steps.specs.Rows.{Row, TellsOf, IsRowAt, causes, goes, owes, tell_of, tells_at, weighed}
+use Rattle.hpx_steps.specs.Rows.{TellsOf, IsRowAt, causes, goes, owes, tell_of, tells_at, weighed}
 use Rattle.hpx_steps.specs.Sound.{SendsOwn, all_count, come}
 use Rattle.hpx_agas.specs.Records.{find_record}
 use Rattle.hpx_agas.specs.declared.record.Record.{Record}

@@ -115,12 +115,12 @@ pump_refused (Err e) k x z room same hand out waits (inr w) =
 -- what can come, where three faults are excluded
 pub can_come : {T A : Type 0} {g : Ghosts A} (r : Result T (WorldFault A g)) (rules : Rules)
     → ((to at : ℕ) (why : Why) → r ≢ Err (faults.BadFrame to at why))
-    → (NothingMoves rules → (to rule : ℕ) (object : Id) (kept : ℕ) → r ≢ Err (faults.Strange to rule object kept))
+    → ((to rule : ℕ) (object : Id) (kept : ℕ) → r ≢ Err (faults.Strange to rule object kept))
     → ((sent taken : ℕ) → r ≢ Err (faults.EarlyEnd sent taken)) → IfErr r (CanCome rules)
 can_come (Ok t) rules bad strange early = tt
 can_come (Err faults.Fabric) rules bad strange early = tt
 can_come (Err (faults.BadFrame to at why)) rules bad strange early = bad to at why refl
-can_come (Err (faults.Strange to rule object kept)) rules bad strange early = λ still. strange still to rule object kept refl
+can_come (Err (faults.Strange to rule object kept)) rules bad strange early = strange to rule object kept refl
 can_come (Err (faults.EarlyEnd sent taken)) rules bad strange early = early sent taken refl
 can_come (Err (faults.JournalFull e w u)) rules bad strange early = tt
 can_come (Err (faults.OutOfMemory u)) rules bad strange early = tt

@@ -1,37 +1,33 @@
 -- Where no action is a MOVE, nothing moves: no move is granted, no object waits to leave, no action waits for one, and each object is at
 -- home.
-use Rattle.std.proofs.Common.{ℕ, Bool, true, false, cond, List, [], ◌∷◌, ◌++◌, ◌≡◌, ◌+◌, ◌<◌, ◌≤◌, ◌==◌, Option, Some, None, map, length, refl, sym, ap, ◌∙◌, subst, arith, inl, inr, zero, suc}
+use Rattle.std.proofs.Common.{ℕ, Bool, true, false, cond, List, [], ◌∷◌, ◌++◌, ◌≡◌, ◌+◌, ◌≤◌, ◌==◌, Option, Some, None, map, length, refl, sym, subst, arith, inl, inr, zero, suc}
 use Rattle.std.specs.Prelude.{flat_map, ◌⊎◌}
 use Rattle.std.specs.List.{sum_by, list_any, AllByRecursion}
 use Rattle.std.proofs.lemmas.Bool.{cases_Bool, eq-eqb}
 use Rattle.std.proofs.lemmas.List.Sums.{sum_by-cons}
-use Rattle.hpx_value.specs.Values.{bare_act}
 use Rattle.hpx_parcel.specs.Parcels.{IsParcel}
 use Rattle.hpx_journal.specs.Data.{Id, Act, Parcel, Apply, Return, Ask, Give, Cached, Move, Go, Shipped, Arrived, Free}
 use Rattle.hpx_journal.specs.Entries.{Rules, target_of}
 use Rattle.hpx_journal.specs.Frames.{acts_in}
-use Rattle.hpx_journal.specs.Laws.{count_events, HasGrammar}
+use Rattle.hpx_journal.specs.Laws.{HasGrammar}
 use Rattle.hpx_journal.specs.Natives.{is_left}
 use Rattle.hpx_journal.specs.Whole.{part, replayed}
 use Rattle.hpx_journal.proofs.Frames.{part_sum, sum_le}
 use Rattle.hpx_journal.proofs.Alls.{all-any}
 use Rattle.hpx_journal.proofs.Still.{is_landed, sends_move, legal_no_left, legal_no_landed, legal_no_sent}
 use Rattle.hpx_part.specs.Data.{Event, Entry, Left, Landed, Out, In}
-use Rattle.hpx_agas.specs.declared.record.Record.{Record}
 use Rattle.hpx_agas.specs.declared.record.Waiting.{Waiting}
-use Rattle.hpx_tables.specs.Kept.{record_here}
 use Rattle.hpx_tables.specs.Tables.{Tables, messages, queued_parcels}
 use Rattle.hpx_tables.specs.declared.kept.Outgoing.{Outgoing}
 use Rattle.hpx_tables.proofs.Alls.{all_parts}
 use Rattle.hpx_steps.specs.Calls.{act_in}
 use Rattle.hpx_steps.specs.Items.{Among}
-use Rattle.hpx_steps.specs.Rest.{grants_in, grants_of_all}
+use Rattle.hpx_steps.specs.Rest.{grants_of_all}
 use Rattle.hpx_steps.specs.Rows.{Landeds, causes, goes, weight, weighed, owes}
 use Rattle.hpx_steps.specs.Sound.{IsGranted, IsStray, all_count, away_here, gone, grants_of, grants_gone, leads_on}
 use Rattle.hpx_node.proofs.Messages.{messages_sum}
-use Rattle.hpx_world.proofs.ActsRight.{carried}
+use Rattle.hpx_world.proofs.ActsRight.{IsActRight, carried}
 use Rattle.hpx_world.proofs.Shown.{IsCalm, IsShown, legal}
-use Rattle.hpx_world.proofs.Welcome.{IsActRight}
 use Rattle.hpx_value.specs.Ids.{same_object}
 
 each_part : {X Y : Type 0} (Q : Y → Type 0) (g : X → List Y) (xs : List X) → AllByRecursion Q (flat_map g xs) → AllByRecursion (λ x. AllByRecursion Q (g x)) xs

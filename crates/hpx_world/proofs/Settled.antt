@@ -1,6 +1,6 @@
 -- Where nothing can be done and no job is out, the world is quiet: it does not end early.
 use Rattle.std.proofs.Common.{ℕ, List, [], ◌≡◌, ◌<◌, Option, Some, None, length, refl, sym, ◌∙◌, subst}
-use Rattle.std.specs.List.{slice_get, count_by, AllByRecursion}
+use Rattle.std.specs.List.{slice_get, count_by}
 use Rattle.hpx_value.specs.declared.profile.Profile.{Profile}
 use Rattle.hpx_journal.specs.Data.{Id}
 use Rattle.hpx_journal.specs.Entries.{Rules, Frame}
@@ -26,7 +26,7 @@ use Rattle.hpx_world.proofs.Idle.{none_runs_at}
 use Rattle.hpx_world.proofs.Lacking.{none_owed, none_pending}
 use Rattle.hpx_world.proofs.Resting.{none_came, none_leaving, none_queued, none_stray}
 use Rattle.hpx_world.proofs.Sound.{get_some, told_all}
-use Rattle.hpx_world.proofs.Strange.{AreStill, calm, is_shown, are_shown}
+use Rattle.hpx_world.proofs.Strange.{AreStill, calm, is_shown, are_shown, lawful_now}
 
 module _ (act_of : Meaning) (profile : Profile) (nodes : List Tables) (es : List Entry) (sound : IsSound act_of profile nodes es)
     (still : AreStill act_of (length nodes) profile) (fl : Option (List Frame)) (tr : Option (List Wire))
@@ -39,25 +39,25 @@ module _ (act_of : Meaning) (profile : Profile) (nodes : List Tables) (es : List
 
   no_mail : (k : ℕ) (t : Tables) → slice_get nodes k ≡ Some t → messages t ≡ []
   no_mail k t at =
-      let s = is_shown act_of profile nodes es sound still c.carried k t at in
-      let quiet = calm act_of profile nodes es sound still c.carried in
+      let s = is_shown act_of profile nodes es sound (lawful_now act_of profile nodes es sound still.laws) c.carried k t at in
+      let quiet = calm act_of profile nodes es sound (lawful_now act_of profile nodes es sound still.laws) c.carried still.still in
       none_here t (all_at HasNothingToTend nodes k t idle.desk at).1 (all_at SendsNothing nodes k t idle.pump at) (none_queued r profile.credit_log es quiet k t s)
       (none_leaving r profile.credit_log es quiet k t s) (none_stray r profile.credit_log es quiet k t s)
 
   silent : (o : Id) (k : ℕ) → k < length nodes → count_by (is_owed o) ((replayed r es).places k).tokens ≡ 0
   silent o k lt =
       let x = get_some nodes k lt in
-      none_owed r profile.credit_log es (calm act_of profile nodes es sound still c.carried) (are_shown act_of profile nodes es sound still c.carried) k x.0
-      (is_shown act_of profile nodes es sound still c.carried k x.0 x.1) (no_mail k x.0 x.1) o
+      none_owed r profile.credit_log es (calm act_of profile nodes es sound (lawful_now act_of profile nodes es sound still.laws) c.carried still.still) (are_shown act_of profile nodes es sound (lawful_now act_of profile nodes es sound still.laws) c.carried) k x.0
+      (is_shown act_of profile nodes es sound (lawful_now act_of profile nodes es sound still.laws) c.carried k x.0 x.1) (no_mail k x.0 x.1) o
 
   passive : (k : ℕ) (t : Tables) → slice_get nodes k ≡ Some t → IsPassive t
   passive k t at =
-      let pending = none_pending r profile.credit_log es (calm act_of profile nodes es sound still c.carried)
-      (are_shown act_of profile nodes es sound still c.carried) empty silent k t (is_shown act_of profile nodes es sound still c.carried k t at)
+      let pending = none_pending r profile.credit_log es (calm act_of profile nodes es sound (lawful_now act_of profile nodes es sound still.laws) c.carried still.still)
+      (are_shown act_of profile nodes es sound (lawful_now act_of profile nodes es sound still.laws) c.carried) empty silent k t (is_shown act_of profile nodes es sound (lawful_now act_of profile nodes es sound still.laws) c.carried k t at)
       (told_all act_of profile nodes es sound k t at).lacks in
       let running = none_runs_at nodes k t none at in
-      let s = is_shown act_of profile nodes es sound still c.carried k t at in
-      let quiet = calm act_of profile nodes es sound still c.carried in
+      let s = is_shown act_of profile nodes es sound (lawful_now act_of profile nodes es sound still.laws) c.carried k t at in
+      let quiet = calm act_of profile nodes es sound (lawful_now act_of profile nodes es sound still.laws) c.carried still.still in
       record {
         accepted = none_stuck t t.accepted running pending (told_all act_of profile nodes es sound k t at).stands.tidy.targets (all_at IsStuck nodes k t idle.fire at);
         running = running;

@@ -66,6 +66,7 @@ other_stands r s k events es es' grows away h =
       begun = subst (HasBegun r s) (sym same) h.begun;
       placed = subst (IsPlaced r s) (sym same) h.placed;
       flowing = subst (IsFlowing r s) (sym same) h.flowing;
+      arrived = h.arrived;
       numbers = record {
         born = omega (arith, h.numbers.born, more);
         few = omega (arith, h.numbers.few, more);

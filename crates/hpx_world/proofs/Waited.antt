@@ -1,6 +1,6 @@
 -- What is given was asked for, and is still waited for.
 use Rattle.std.proofs.Common.{ℕ, Bool, true, false, cond, List, [], ◌∷◌, ◌≡◌, ◌≢◌, ◌+◌, ◌==◌, ◌<◌, ◌≤◌, Some, refl, sym, ap, ◌∙◌, arith, inl, inr}
-use Rattle.std.specs.List.{sum_by, AllByRecursion}
+use Rattle.std.specs.List.{slice_get, sum_by, AllByRecursion}
 use Rattle.std.proofs.lemmas.Bool.{cases_eq, eq-eqb, ne_eqb}
 use Rattle.std.proofs.lemmas.List.Sums.{sum_by-cons}
 use Rattle.hpx_value.specs.Ids.{same_object}
@@ -21,10 +21,11 @@ use Rattle.hpx_part.specs.Data.{Event, Entry, In, Out}
 use Rattle.hpx_steps.specs.Frames.{MayGoTo}
 use Rattle.hpx_steps.specs.Rows.{weighed}
 use Rattle.hpx_steps.specs.Sound.{IsOwn, SendsOwn, asks_for, gives_for, gone, gone_to, come, all_count}
-use Rattle.hpx_steps.specs.Rest.{waits_for}
+use Rattle.hpx_steps.specs.Rest.{waits_for, AreInOrder}
 use Rattle.hpx_tables.specs.Tables.{Tables}
-use Rattle.hpx_world.proofs.SentRight.{IsSentRight, carried, sends_own, arrivals_right}
-use Rattle.hpx_world.proofs.Shown.{IsCalm, IsShown, AreShown}
+use Rattle.hpx_world.proofs.Counted.{AreNodes}
+use Rattle.hpx_world.proofs.FromOthers.{IsSentWell, sends_own, arrivals_well}
+use Rattle.hpx_world.proofs.Known.{IsJoined, IsShown}
 
 -- what the message of a frame counts, if it goes to j
 abbrev counts_to : Rules → ℕ → (Parcel → ℕ) → Frame → ℕ
@@ -107,7 +108,7 @@ module _ (r : Rules) (log : ℕ) (o : Id) (n k : ℕ) where
   sent_asks from _ h = omega arith
 
   -- no ask of k comes to k
-  arrived_asks : (at : ℕ) (e : Event) → AllByRecursion (IsSentRight r log) (arrives_at at e) → sum_by (counts_to r k (asks_for k o n)) (arrives_at at e) ≡ 0
+  arrived_asks : (at : ℕ) (e : Event) → AllByRecursion (IsSentWell r log) (arrives_at at e) → sum_by (counts_to r k (asks_for k o n)) (arrives_at at e) ≡ 0
   arrived_asks at (In bytes) h = elim (cases_eq at k) [
     | inl same ↦
         let x = h.0 in
@@ -120,19 +121,25 @@ module _ (r : Rules) (log : ℕ) (o : Id) (n k : ℕ) where
 
 -- ---- all of them
 
-module _ (r : Rules) (log : ℕ) (es : List Entry) (calm : IsCalm r es) (each : AreShown r log es) (o : Id) (n k : ℕ) (near : o.home < r.localities) where
+module _ (r : Rules) (log : ℕ) (nodes : List Tables) (es : List Entry) (joined : IsJoined r es) (each : AreNodes r log nodes es) (o : Id) (n k : ℕ) (near : o.home < r.localities) where
   abbrev gives_away : ℕ
   gives_away = sum_by (counts_to r k (gives_for o n)) (road_run [] es)
 
   abbrev asked_there : ℕ
   asked_there = all_count (gone r (asks_for k o n)) (part k es)
 
+  abbrev its_home : (t : Tables) × (slice_get nodes o.home ≡ Some t)
+  its_home = each.node o.home near
+
   gives_sent : gives_away + all_count (come r (gives_for o n)) (part k es) ≡ sum_by (λ (e : Entry). sum_by (counts_to r k (gives_for o n)) (sends e.event)) es
   gives_sent = omega (
     arith,
-    frames_carried r (counts_to r k (gives_for o n)) [] es (carried r log es calm each),
+    frames_carried r (counts_to r k (gives_for o n)) [] es joined.join.carried,
     comes r k (gives_for o n) es,
   )
+
+  home_order : AreInOrder r r.localities o.home log its_home.0.desk its_home.0.outgoing its_home.0.pending (part o.home es)
+  home_order = (each.shown o.home its_home.0 its_home.1).order
 
   -- no more is given than was asked for
   gives_few : gives_away + all_count (come r (gives_for o n)) (part k es) ≤ asked_there
@@ -142,7 +149,7 @@ module _ (r : Rules) (log : ℕ) (es : List Entry) (calm : IsCalm r es) (each : 
       gives_sent,
       zero_all (λ (e : Entry). sum_by (counts_to r k (gives_for o n)) (sends e.event)) es
           (all-map (λ (e : Entry). SendsOwn r r.localities e.at log e.event) (λ (e : Entry). sum_by (counts_to r k (gives_for o n)) (sends e.event) ≡ 0)
-          (λ e h. sent_none r log o n k same e.at e.event h) es (sends_own r log es calm each)),
+          (λ e h. sent_none r log o n k same e.at e.event h) es (sends_own r log nodes es joined each)),
     )
     | inr other ↦ omega (
       arith,
@@ -150,15 +157,15 @@ module _ (r : Rules) (log : ℕ) (es : List Entry) (calm : IsCalm r es) (each : 
       sum_le (λ (e : Entry). sum_by (counts_to r k (gives_for o n)) (sends e.event)) (λ (e : Entry). cond (e.at == o.home) (gone_to r k (gives_for o n) e.event) 0) es
           (all-map (λ (e : Entry). SendsOwn r r.localities e.at log e.event)
           (λ (e : Entry). sum_by (counts_to r k (gives_for o n)) (sends e.event) ≤ cond (e.at == o.home) (gone_to r k (gives_for o n) e.event) 0)
-          (λ e h. sent_gives r log o n k e.at e.event h) es (sends_own r log es calm each)),
+          (λ e h. sent_gives r log o n k e.at e.event h) es (sends_own r log nodes es joined each)),
       part_sum o.home (gone_to r k (gives_for o n)) es,
-      (each o.home near).1.order.given k (λ e. other (sym e)) o n,
-      frames_carried r (counts_to r o.home (asks_for k o n)) [] es (carried r log es calm each),
+      home_order.given k (λ e. other (sym e)) o n,
+      frames_carried r (counts_to r o.home (asks_for k o n)) [] es joined.join.carried,
       comes r o.home (asks_for k o n) es,
       sum_le (λ (e : Entry). sum_by (counts_to r o.home (asks_for k o n)) (sends e.event)) (λ (e : Entry). cond (e.at == k) (gone r (asks_for k o n) e.event) 0) es
           (all-map (λ (e : Entry). SendsOwn r r.localities e.at log e.event)
           (λ (e : Entry). sum_by (counts_to r o.home (asks_for k o n)) (sends e.event) ≤ cond (e.at == k) (gone r (asks_for k o n) e.event) 0)
-          (λ e h. sent_asks r log o n k e.at e.event h) es (sends_own r log es calm each)),
+          (λ e h. sent_asks r log o n k e.at e.event h) es (sends_own r log nodes es joined each)),
       part_sum k (gone r (asks_for k o n)) es,
     )
   ]
@@ -167,8 +174,8 @@ module _ (r : Rules) (log : ℕ) (es : List Entry) (calm : IsCalm r es) (each : 
   own_asks =
       sym (comes r k (asks_for k o n) es)
       ∙ zero_all (λ e. sum_by (counts_to r k (asks_for k o n)) (arrives e)) es
-      (all-map (λ e. AllByRecursion (IsSentRight r log) (arrives e)) (λ e. sum_by (counts_to r k (asks_for k o n)) (arrives e) ≡ 0)
-      (λ e h. arrived_asks r log o n k e.at e.event h) es (arrivals_right r log es calm each))
+      (all-map (λ e. AllByRecursion (IsSentWell r log) (arrives e)) (λ e. sum_by (counts_to r k (asks_for k o n)) (arrives e) ≡ 0)
+      (λ e h. arrived_asks r log o n k e.at e.event h) es (arrivals_well r log nodes es joined each))
 
   module _ (t : Tables) (s : IsShown r log es k t) where
     -- what is given on the road to k, or on its own desk, is waited for there
@@ -183,3 +190,9 @@ road_given r es id entry k bytes on spelled =
     let few = arrived (λ x. (g : Frame → ℕ) → g x ≤ sum_by g (replayed r es).road) (replayed r es).road (k, bytes) (among (replayed r es).road) on
     (counts_to r k (gives_for id entry)) in
     omega (arith, one, few, ap (sum_by (counts_to r k (gives_for id entry))) (run_road r (first r) es))
+
+-- a Give that is first on a desk
+pub desk_given : (id : Id) (entry : ℕ) (t : Tables) (p : Parcel) (rest : List Parcel) → t.desk ≡ p ∷ rest → p ≡ Give id entry → 1 ≤ sum_by (gives_for id entry) t.desk
+desk_given id entry t p rest first is =
+    let one : gives_for id entry (Give id entry) ≡ 1 = rw (eq-eqb entry entry refl, same_object-refl id) refl in
+    omega (arith, one, ap (gives_for id entry) is, ap (sum_by (gives_for id entry)) first, sum_by-cons (gives_for id entry) p rest)

@@ -1,12 +1,13 @@
 -- The audit of all localities.
-use Rattle.std.specs.Prelude.{ℕ, List, [], ◌∷◌, ◌≡◌, ◌≤◌, ◌<◌, ◌⊎◌, ◌+◌, ◌-◌, ◌^◌, min, map, flat_map}
-use Rattle.std.specs.List.{sum_by, count_by, AllByRecursion}
+use Rattle.std.specs.Prelude.{ℕ, true, List, [], ◌∷◌, ◌≡◌, ◌≤◌, ◌<◌, ◌⊎◌, ◌+◌, ◌-◌, ◌^◌, min, map, flat_map}
+use Rattle.std.specs.List.{sum_by, count_by, list_any, AllByRecursion}
 use Rattle.hpx_value.specs.Ids.{same_object}
 use Rattle.hpx_agas.specs.declared.record.Record.{Record}
 use Rattle.hpx_journal.specs.Bags.{total}
 use Rattle.hpx_journal.specs.Data.{Id}
 use Rattle.hpx_journal.specs.Entries.{Rules}
 use Rattle.hpx_journal.specs.Frames.{tokens_in}
+use Rattle.hpx_journal.specs.Local.{is_standing}
 use Rattle.hpx_journal.specs.Natives.{StandsAtHome}
 use Rattle.hpx_journal.specs.Tokens.{worth}
 use Rattle.hpx_journal.specs.Whole.{Space, recorded_in, part, replayed}
@@ -79,6 +80,15 @@ pub record Tells (r : Rules) (es : List Entry) (x : AuditLine) : Type 0 where
 pub record IsAudit (r : Rules) (es : List Entry) (lines : List AuditLine) : Type 0 where
   pub tell : AllByRecursion (Tells r es) lines
   pub each : (o : Id) → 1 ≤ recorded_in o (replayed r es) → count_by (λ x. same_object o x.gid) lines ≡ 1
+
+-- an object stands at k, one of n localities
+pub record StandsIn (n : ℕ) (w : Space) (o : Id) (k : ℕ) : Type 0 where
+  pub below : k < n
+  pub stands : list_any (is_standing o) (w.places k).objects ≡ true
+
+-- each object that they tell of stands where they say
+abbrev pub StandWhereTold : Rules → List Entry → List AuditLine → Type 0
+StandWhereTold r es lines = AllByRecursion (λ (x : AuditLine). StandsIn r.localities (replayed r es) x.gid x.at) lines
 
 -- each object that they tell of stands at its home, and so they tell
 abbrev pub StandAtHome : Rules → List Entry → List AuditLine → Type 0

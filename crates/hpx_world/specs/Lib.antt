@@ -8,3 +8,4 @@ pub mod Stages
 pub mod Steps
 pub mod Refusals
 pub mod Audit
+pub mod Tracks

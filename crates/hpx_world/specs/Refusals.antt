@@ -15,7 +15,9 @@ use Rattle.hpx_world.specs.declared.turns.Turned.TheVariants as turned
 use Rattle.hpx_world.specs.Sound.{Meaning, IsSame}
 use Rattle.hpx_world.specs.Away.{Fetches, Puts, Keeps}
 use Rattle.hpx_world.specs.Stages.{Stage}
-use Rattle.hpx_world.specs.Steps.{IsEarly, DidHandOut, DidHandBack, GoesTo, NoneFires, NoneClears, NonePumps}
+use Rattle.hpx_node.specs.Handled.{HasNothingToTend}
+use Rattle.hpx_world.specs.Quiet.{IsStuck, SendsNothing}
+use Rattle.hpx_world.specs.Steps.{IsEarly, AtFirst, DidHandOut, DidHandBack, GoesTo, NoneFires, NoneClears, NonePumps}
 use Rattle.hpx_world.specs.Turns.{DidFeed, DidFire, DidFinish, DidDesk, DidPump, DidTake, HoldsBadFrame, HoldsStrangeFrame, HoldsRightFrame, IsStrangeMail, HasToTend, HasToFire, HasToSend, HasJob}
 
 -- ---- what a turn does
@@ -148,13 +150,14 @@ RefusedWork k (faults.OutOfMemory (Some done)) x z = HasRoom x.entries × HasRoo
 RefusedWork k (faults.NotRun job) x z = HasRoom x.entries × DidHandOut (length z.nodes) job k x z
 RefusedWork k _ x z = ⊥
 
--- for want of memory, the first turn of these that could be made was not: an action may be fired; the oldest message to an own
--- locality breaks no rule; a message to another waits; the frame in hand breaks none, or none is in hand and one may be in flight
+-- for want of memory, the first turn of these that could be made was not, at the first locality that can: an action may be fired; the
+-- oldest message to an own locality breaks no rule, or an object may leave; a message to another waits; the frame in hand breaks no
+-- rule, or none is in hand and one may be in flight
 abbrev pub LacksMemory : Stage → Stage → Type 0
 LacksMemory x z =
-    (((k : ℕ) × HasToFire x.nodes k) × (z.outside ≡ x.outside))
-    ⊎ (NoneFires x × ((k : ℕ) × HasToTend x.nodes k) × (z.outside ≡ x.outside))
-    ⊎ (NoneClears x × ((k : ℕ) × HasToSend x.nodes k) × (z.outside ≡ x.outside))
+    (AtFirst IsStuck (HasToFire x.nodes) x.nodes × (z.outside ≡ x.outside))
+    ⊎ (NoneFires x × AtFirst HasNothingToTend (HasToTend x.nodes) x.nodes × (z.outside ≡ x.outside))
+    ⊎ (NoneClears x × AtFirst SendsNothing (HasToSend x.nodes) x.nodes × (z.outside ≡ x.outside))
     ⊎ (NonePumps x × HoldsRightFrame z.nodes z.outside.hand z.outside.flight)
 
 -- a step: what goes before could not be done, or its first action was fired and the job is handed back
@@ -168,7 +171,7 @@ RefusedStep {A} {g} faults.Fabric x z = HasRoom x.entries × NoneClears x × Sta
 RefusedStep {A} {g} (faults.BadFrame to place why) x z = HasRoom x.entries × NonePumps x × RefusedTake {A = A} {g = g} (faults.BadFrame to place why) x z
 RefusedStep {A} {g} (faults.Strange to rule object kept) x z =
     HasRoom x.entries × ((NonePumps x × RefusedTake {A = A} {g = g} (faults.Strange to rule object kept) x z)
-    ⊎ (NoneFires x × RefusedDesk {A = A} {g = g} to (faults.Strange to rule object kept) x z))
+    ⊎ (NoneFires x × AtFirst HasNothingToTend (λ k. RefusedDesk {A = A} {g = g} k (faults.Strange to rule object kept) x z) x.nodes))
 RefusedStep {A} {g} (faults.EarlyEnd sent taken) x z = HasRoom x.entries × NonePumps x × RefusedTake {A = A} {g = g} (faults.EarlyEnd sent taken) x z
 
 -- steps, and then one that is refused; or nothing applies and no frame was there, no job is out, and the world is not quiet
@@ -191,16 +194,16 @@ abbrev pub CountsFaults : {T A : Type 0} {g : Ghosts A} → Result T (WorldFault
 CountsFaults (Err faults.Fabric) old new = Rose old new
 CountsFaults _ old new = new ≡ old
 
--- over a fabric that tells: no frame is bad and no end is early, and where nothing moves no parcel is strange
+-- over a fabric that tells: no frame is bad, no parcel is strange, and no end is early
 abbrev pub CanCome : {A : Type 0} {g : Ghosts A} → Rules → WorldFault A g → Type 0
 CanCome r (faults.BadFrame to place why) = ⊥
-CanCome r (faults.Strange to rule object kept) = NothingMoves r → ⊥
+CanCome r (faults.Strange to rule object kept) = ⊥
 CanCome r (faults.EarlyEnd sent taken) = ⊥
 CanCome r _ = Unit {0}
 
 -- the same of steps: where something moves, they may end where the world is not quiet though all frames came
 abbrev pub CanComeOfSteps : {A : Type 0} {g : Ghosts A} → Rules → WorldFault A g → Type 0
 CanComeOfSteps r (faults.BadFrame to place why) = ⊥
-CanComeOfSteps r (faults.Strange to rule object kept) = NothingMoves r → ⊥
+CanComeOfSteps r (faults.Strange to rule object kept) = ⊥
 CanComeOfSteps r (faults.EarlyEnd sent taken) = (sent ≡ taken) × (NothingMoves r → ⊥)
 CanComeOfSteps r _ = Unit {0}

@@ -2,6 +2,7 @@
 #![tactic(auto)]
 
 pub mod audit;
+pub mod law;
 mod locals;
 mod steps;
 pub mod turns;

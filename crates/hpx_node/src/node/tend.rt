@@ -1,5 +1,5 @@
 //! What is done for objects that move, behind messages: they leave, and what waited for them goes on.
-ghost use Rattle.std.specs.Prelude.{◌≡◌, ◌≤◌, List, true, false, Some, Ok, OnErr, IfSome, IfNone, length, slice_get};
+ghost use Rattle.std.specs.Prelude.{◌≡◌, ◌≤◌, List, true, false, Some, Ok, OnErr, IfSome, IfNone, length, slice_get, take};
 ghost use Rattle.std.specs.List.{list_any};
 ghost use Rattle.hpx_journal.specs.Local.{acts_on};
 ghost use Rattle.hpx_journal.specs.Weights.{HasRoom};
@@ -70,6 +70,7 @@ impl<A: Acts + Copy> Node<A> {
     #[tactic(auto, using(hpx_part::proofs::Keyed::find_step, hpx_part::proofs::Keyed::find_at_index))]
     fn first_to_leave(&self) -> Option<usize>
         ensures some { IfSome result (λ i. (p : _) × (slice_get self.now.tables.leaving i ≡ Some p) × (may_leave self.now.tables p ≡ true)) }
+        ensures first { IfSome result (λ i. list_any (may_leave self.now.tables) (take i self.now.tables.leaving) ≡ false) }
         ensures none { IfNone result (list_any (may_leave self.now.tables) self.now.tables.leaving ≡ false) }
     {
         let leaving = self.moves.leaving();
@@ -84,6 +85,7 @@ impl<A: Acts + Copy> Node<A> {
     /// The object of the move at i leaves, with its MOVE. It takes no memory.
     fn leave_with(&mut self, book: &mut Journal, i: usize)
         requires may { (p : _) × (slice_get self.old.tables.leaving i ≡ Some p) × (may_leave self.old.tables p ≡ true) }
+        requires first { list_any (may_leave self.old.tables) (take i self.old.tables.leaving) ≡ false }
         requires stands { Stands A.act_of self.old.tables book.old.entries }
         requires spare { 1 ≤ self.old.spare }
         requires page { 1 ≤ book.old.spare }

@@ -2,6 +2,7 @@ use Rattle.hpx_node.proofs.Common.{Locality, Tables, ap, arith, asked_events, at
 use Rattle.hpx_node.proofs.Seen.{fit_seen}
 use Rattle.hpx_node.proofs.TurnSteps.{adds_asks}
 use Rattle.hpx_node.proofs.Waited.{before_short, before_own, before_least, lacks_few, kept_before, begins_by, something}
+use Rattle.hpx_node.proofs.Told.{move_goes}
 use Rattle.hpx_node.proofs.Turned.{at_rest_tidy}
 use Rattle.hpx_node.proofs.node.Node.begin.Goals as goal
 
@@ -54,7 +55,8 @@ returns g c =
     let some = something d.localities t (seen d.job) d.outcome c.requires.laws (fit_seen d.job c.requires.fit) (omega (arith, c.requires.localities, c.requires.few)) valid.log_least c.requires.short in
     let k = begins_by g.A.Acts.act_of t c.pause.new.self.tables c.ask_all.new.self.tables d.job d.outcome d.localities c.args.before c.args.i c.args.j _ c.args.book.now.entries
     c.push_asks.new.book.entries c.requires.fit c.requires.few c.requires.laws c.requires.before c.requires.localities c.requires.here refl pauses asks
-    (asked ∙ ap (λ es. es ++ at_all t.here (asked_events c.args.before.lacking.items)) cut) some c.requires.stands in
+    (asked ∙ ap (λ es. es ++ at_all t.here (asked_events c.args.before.lacking.items)) cut) some
+    (λ code. c.requires.short (move_goes d.localities t d.job d.outcome c.requires.fit c.requires.laws c.requires.at.standing c.requires.at.found c.requires.at.kind code)) c.requires.stands in
     record {
       stands = k.0;
       turn = adds_asks c.self.inside.here c.args.before.own c.as_slice.result.now c.as_slice-2.result.now c.as_slice-3.result.now _ _ _

@@ -1,39 +1,34 @@
 use Rattle.hpx_node.proofs.Common.{[], refl, rules, rules_of, sound_at_rest}
 use Rattle.hpx_steps.proofs.Booted.{boot_begun, boot_placed, boot_flowing}
-use Rattle.hpx_node.proofs.Booted.{boot_stands}
+use Rattle.hpx_node.proofs.Booted.{boot_at_rest, boot_stands}
 use Rattle.hpx_node.proofs.node.Node.boot.Goals as goal
 
 pub returns-clause-stands : goal.returns-clause-stands
 returns-clause-stands g c =
-    sound_at_rest _ (rules_of g.A.Acts.act_of c.localities-localities.result c.args.profile) [] (record { localities = refl; credit_log = refl; credit_limit = refl }) (record {
-      stands = record {
-        keeps = rw (
-          c.new.ensures.items,
-          c.new-2.ensures.items,
-          c.new-3.ensures.items,
-          c.new-4.ensures.items,
-          c.new-5.ensures.items,
-          c.new-6.ensures.leaving,
-          c.new-6.ensures.stray,
-          c.new-7.ensures.waiting,
-          c.new-7.ensures.births,
-          c.new-7.ensures.records,
-          c.in_ok-objects.ensures,
-        )
-            (boot_stands g.A.Acts.act_of c.localities-localities.result c.args.here c.args.profile);
-        tidy = search rules;
-        born = search rules;
-        few = search rules;
-        asked = search rules;
-        sent = search rules;
-        taken = search rules;
-        paid = search rules;
-        few_answers = search rules;
-        answered = search rules;
-      };
-      orderly = search rules;
-      lacks = search rules;
-      begun = boot_begun _ _ c.new-7.ensures.records c.new-7.ensures.waiting c.new-6.ensures.stray c.new-5.ensures.items;
-      placed = boot_placed _ _ c.new-7.ensures.records c.new-4.ensures.items c.new-6.ensures.came;
-      flowing = boot_flowing _ _ c.new-7.ensures.records c.new-4.ensures.items c.new-5.ensures.items c.new-7.ensures.waiting c.new-6.ensures.leaving c.new-6.ensures.stray c.new-6.ensures.came;
-    })
+    sound_at_rest _ (rules_of g.A.Acts.act_of c.localities-localities.result c.args.profile) [] (record { localities = refl; credit_log = refl; credit_limit = refl }) (boot_at_rest _ _ c.new-6.ensures.came (record {
+      keeps = rw (
+        c.new.ensures.items,
+        c.new-2.ensures.items,
+        c.new-3.ensures.items,
+        c.new-4.ensures.items,
+        c.new-5.ensures.items,
+        c.new-6.ensures.leaving,
+        c.new-6.ensures.stray,
+        c.new-7.ensures.waiting,
+        c.new-7.ensures.births,
+        c.new-7.ensures.records,
+        c.in_ok-objects.ensures,
+      )
+          (boot_stands g.A.Acts.act_of c.localities-localities.result c.args.here c.args.profile);
+      tidy = search rules;
+      born = search rules;
+      few = search rules;
+      asked = search rules;
+      sent = search rules;
+      taken = search rules;
+      paid = search rules;
+      few_answers = search rules;
+      answered = search rules;
+    }) (search rules) (search rules) (boot_begun _ _ c.new-7.ensures.records c.new-7.ensures.waiting c.new-6.ensures.stray c.new-5.ensures.items)
+    (boot_placed _ _ c.new-7.ensures.records c.new-4.ensures.items c.new-6.ensures.came)
+    (boot_flowing _ _ c.new-7.ensures.records c.new-4.ensures.items c.new-5.ensures.items c.new-7.ensures.waiting c.new-6.ensures.leaving c.new-6.ensures.stray c.new-6.ensures.came))

@@ -1,4 +1,4 @@
-use Rattle.hpx_node.proofs.Common.{Parcel, Some, Stands, Tables, any_at, arith, refl, slice_get, subst, sym, true, ◌≡◌}
+use Rattle.hpx_node.proofs.Common.{false, list_any, take, Parcel, Some, Stands, Tables, any_at, arith, refl, slice_get, subst, sym, true, ◌≡◌}
 use Rattle.hpx_node.proofs.Departs.{departs_from}
 use Rattle.hpx_node.proofs.Same.{same_too}
 use Rattle.hpx_node.proofs.Targets.{at_error}
@@ -19,6 +19,10 @@ returns-in_err-reserve-2-clause-waits g c =
 pub leave_with-requires-clause-may : goal.leave_with-requires-clause-may
 leave_with-requires-clause-may g c =
     subst (λ (t : Tables). (p : Parcel) × (slice_get t.leaving c.in-Some.i ≡ Some p) × (may_leave t p ≡ true)) (sym c.in_ok-reserve.ensures.same) c.in-Some.ensures.some
+
+pub leave_with-requires-clause-first : goal.leave_with-requires-clause-first
+leave_with-requires-clause-first g c =
+    subst (λ (t : Tables). list_any (may_leave t) (take c.in-Some.i t.leaving) ≡ false) (sym c.in_ok-reserve.ensures.same) c.in-Some.ensures.first
 
 pub leave_with-requires-clause-stands : goal.leave_with-requires-clause-stands
 leave_with-requires-clause-stands g c =

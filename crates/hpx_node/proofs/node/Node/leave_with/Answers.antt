@@ -88,6 +88,7 @@ returns-clause-departs g c =
       i = c.args.i;
       act = c.in-Go.action;
       there = granted g.A.Acts.act_of _ _ h c.args.i may c.into_parcel.result got c.in-Go.action c.in-Go.is;
+      first = rw (← c.self.view_is) at c.requires.first;
       done = done g.A.Acts.act_of _ _ h c.args.i may c.into_parcel.result got c.in-Go.action c.in-Go.is;
       to = c.in-Some-move_to.to;
       moves = sym c.move_to.ensures ∙ c.in-Some-move_to.is;

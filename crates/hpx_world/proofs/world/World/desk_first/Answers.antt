@@ -24,4 +24,4 @@ loop-k-preserved g c =
 pub returns-in_err-turn-clause-stops : goal.returns-in_err-turn-clause-stops
 returns-in_err-turn-clause-stops g c =
     err_then c.from_residual.result c.in_err-turn.field-0.0 _ c.from_residual.ensures.1
-    (desk_refuses c.loop-k.k _ _ _ c.loop-k.invariant.same c.requires.none c.in_err-turn.field-0.0 c.in_err-turn.ensures.stops)
+    (desk_refuses c.loop-k.k _ _ _ c.loop-k.invariant.same c.requires.none c.loop-k.invariant.none c.in_err-turn.field-0.0 c.in_err-turn.ensures.stops)

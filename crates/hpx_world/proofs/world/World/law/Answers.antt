@@ -10,6 +10,7 @@ use Rattle.hpx_world.proofs.Ordered.{ordered}
 use Rattle.hpx_world.proofs.Promised.{promised}
 use Rattle.hpx_world.proofs.Rested.{quiet_rests}
 use Rattle.hpx_world.proofs.Sound.{spells_well, told_all}
+use Rattle.hpx_world.proofs.WhereTold.{where_told}
 use Rattle.hpx_world.proofs.world.World.law.Goals as goal
 
 pub returns-clause-promises : goal.returns-clause-promises
@@ -53,3 +54,13 @@ returns-clause-at_home g c = rw (← c.self.view_is) (λ still carried.
     at_home (rules_of g.A.Acts.act_of (length nodes) profile) entries grammar laws still
     (promised g.A.Acts.act_of profile nodes entries c.self.invariant.1 grammar laws carried).ledger (audit_lines nodes)
     (audited g.A.Acts.act_of profile nodes entries c.self.invariant.1 grammar carried c.self.invariant.2 c.records_law.ensures))
+
+pub returns-clause-stand : goal.returns-clause-stand
+returns-clause-stand g c = rw (← c.self.view_is) (λ carried quiet.
+    let sound = c.self.invariant.1 in
+    let nodes = (tables_of c.self.inside.locals.nodes.items) in
+    let profile = c.self.inside.locals.profile in
+    let entries = c.self.inside.locals.journal.entries in
+    let laws : KeepsActLaws (rules_of g.A.Acts.act_of (length (tables_of c.self.inside.locals.nodes.items)) c.self.inside.locals.profile) =
+    record { laws = λ kind here s a h state act. g.met.A.Acts.keeps_laws _ kind here s a sound.some sound.few h state act } in
+    where_told g.A.Acts.act_of profile nodes entries c.self.invariant.1 laws carried c.self.inside.locals.hand quiet c.records_law.ensures)

@@ -3,8 +3,9 @@ use Rattle.std.specs.List.{slice_get}
 use Rattle.hpx_world.specs.Away.{Puts}
 use Rattle.hpx_world.specs.Quiet.{SendsNothing}
 use Rattle.hpx_world.proofs.Idle.{passed}
+use Rattle.hpx_world.proofs.FirstSteps.{pump_refuses}
 use Rattle.hpx_world.proofs.Next.{not_both, pumped_none}
-use Rattle.hpx_world.proofs.Refusing.{outside_is, stage_is}
+use Rattle.hpx_world.proofs.Refusing.{err_then, outside_is, stage_is}
 use Rattle.hpx_world.proofs.world.World.pump_first.Goals as goal
 
 pub loop-k-preserved : goal.loop-k-preserved
@@ -20,3 +21,8 @@ loop-k-preserved g c =
       faults = c.in_ok-turn.ensures.faults ∙ i.faults;
       none = passed SendsNothing c.loop-k.k _ _ refl (λ t at. none.2 t (ap (λ s. slice_get s.nodes c.loop-k.k) i.same ∙ at)) i.none;
     }
+
+pub returns-in_err-turn-clause-stops : goal.returns-in_err-turn-clause-stops
+returns-in_err-turn-clause-stops g c =
+    err_then c.from_residual.result c.in_err-turn.field-0.0 _ c.from_residual.ensures.1
+    (pump_refuses c.loop-k.k _ _ _ c.loop-k.invariant.same c.requires.none c.loop-k.invariant.none c.in_err-turn.field-0.0 c.in_err-turn.ensures.stops)

@@ -7,7 +7,7 @@ use Rattle.hpx_world.specs.Away.{Fetches}
 use Rattle.hpx_world.proofs.Carrying.{carrying_same}
 use Rattle.hpx_world.proofs.Refused.{strange_frame_same}
 use Rattle.hpx_world.proofs.Refusing.{outside_is, fire_refused, job_refused, desk_refused, pump_refused, take_refused, can_come}
-use Rattle.hpx_world.proofs.Strange.{no_strange_hand, no_strange_mail}
+use Rattle.hpx_world.proofs.Strange.{strange_hand, strange_own}
 use Rattle.hpx_world.proofs.Unfed.{unfed_of, finished_unfed, cleared_unfed, took_unfed}
 use Rattle.hpx_world.proofs.world.World.turn.Goals as goal
 
@@ -90,28 +90,22 @@ pub returns-in-Desk-clause-never : goal.returns-in-Desk-clause-never
 returns-in-Desk-clause-never g c = rw (← c.self.view_is) (λ carrying.
     can_come c.desk.result (rules_of g.A.Acts.act_of (length (tables_of c.self.inside.locals.nodes.items)) c.self.inside.locals.profile)
     (λ to at why is. let w = rw is at c.desk.ensures.which in elim w [ inl e ↦ (cc) | inr e ↦ (cc) ])
-    (λ still to rule object kept is.
+    (λ to rule object kept is.
     let mail = c.desk.ensures.strange to rule object kept is in
-    no_strange_mail g.A.Acts.act_of c.self.inside.locals.profile (tables_of c.self.inside.locals.nodes.items) c.self.inside.locals.journal.entries c.self.invariant.1
+    strange_own g.A.Acts.act_of c.self.inside.locals.profile (tables_of c.self.inside.locals.nodes.items) c.self.inside.locals.journal.entries c.self.invariant.1
     (length (tables_of c.self.inside.locals.nodes.items)) c.self.inside.locals.profile refl refl
-    (record {
-      laws = λ n kind here s a some few h state act. g.met.A.Acts.keeps_laws n kind here s a some few h state act;
-      still = still;
-    }) _ _ _ carrying _ rule object kept mail.1)
+    (λ n kind here s a some few h state act. g.met.A.Acts.keeps_laws n kind here s a some few h state act) _ _ _ carrying _ rule object kept mail.1)
     (λ sent taken is. let w = rw is at c.desk.ensures.which in elim w [ inl e ↦ (cc) | inr e ↦ (cc) ]))
 
 pub returns-in-Take-clause-never : goal.returns-in-Take-clause-never
 returns-in-Take-clause-never g c = rw (← c.self.view_is) (λ carrying.
     can_come c.take.result (rules_of g.A.Acts.act_of (length (tables_of c.self.inside.locals.nodes.items)) c.self.inside.locals.profile)
     (λ to at why is. c.take.ensures.never_bad carrying to at why is)
-    (λ still to rule object kept is.
+    (λ to rule object kept is.
     let strange = c.take.ensures.strange to rule object kept is in
     let same = rw is at c.take.ensures.err in
-    no_strange_hand g.A.Acts.act_of c.take.new.self.profile (tables_of c.take.new.self.nodes.items) c.take.new.self.journal.entries c.take.ensures.sound
+    strange_hand g.A.Acts.act_of c.take.new.self.profile (tables_of c.take.new.self.nodes.items) c.take.new.self.journal.entries c.take.ensures.sound
     (length (tables_of c.self.inside.locals.nodes.items)) c.self.inside.locals.profile c.take.ensures.count c.take.ensures.profile
-    (record {
-      laws = λ n kind here s a some few h state act. g.met.A.Acts.keeps_laws n kind here s a some few h state act;
-      still = still;
-    }) _ _ _ (c.take.ensures.carrying carrying) to strange.0 rule object kept strange.1
+    (λ n kind here s a some few h state act. g.met.A.Acts.keeps_laws n kind here s a some few h state act) _ _ _ (c.take.ensures.carrying carrying) to strange.0 rule object kept strange.1
     (strange_frame_same _ _ to strange.0 rule object kept same.tables strange.2))
     (λ sent taken is. c.take.ensures.never_early carrying sent taken is))
