@@ -11,7 +11,7 @@ use Rattle.hpx_world.specs.declared.turns.WorldFault.TheVariants as faults
 use Rattle.hpx_world.specs.Away.{IsCarrying}
 use Rattle.hpx_world.specs.Places.{Places, rules_in}
 use Rattle.hpx_world.specs.declared.turns.Choice.{Choice}
-use Rattle.hpx_world.specs.Refusals.{CountsFaults, CanCome, CanComeOfSteps, Refused, RefusedDrain}
+use Rattle.hpx_world.specs.Refusals.{CountsFaults, CanCome, CanComeOfSteps, FeedsNoLine, Refused, RefusedDrain}
 use Rattle.hpx_world.specs.Sound.{Meaning}
 use Rattle.hpx_world.specs.Stages.{Stage}
 use Rattle.hpx_world.specs.Steps.{IsIdle, IsUnfed}
@@ -39,7 +39,8 @@ since was x z same (faults.JournalFull e w job_back) c = c
 since was x z same (faults.BadFrame to place why) c = c
 since was x z same (faults.Strange to rule object kept) c = c
 since was x z same (faults.EarlyEnd s t) c = c
-since was x z same (faults.OutOfMemory job_back) c = tt
+since was x z same (faults.OutOfMemory None) c = c
+since was x z same (faults.OutOfMemory (Some done)) c = c
 since was x z same (faults.NotRun job) c = tt
 
 -- the count stands, unless the fabric is the cause
@@ -92,9 +93,9 @@ module _ {A : Type 0} {g : Ghosts A} (act_of : Meaning) (was x z : Seen) (stop :
   stands_still f counts cause room never = on (Some f) (counts_still f x.faults z.faults counts) (since was x z (h.still (calm stop going)) f cause) room never
 
   -- a turn was refused
-  pub turn_stops : (c : Choice A g) (f : WorldFault A g) → Refused c f (stage_of x) (stage_of z) → CountsFaults {T = ℕ} (Err f) x.faults z.faults → (Carries act_of x → CanCome (rules_in act_of x.world) f)
+  pub turn_stops : (c : Choice A g) → FeedsNoLine c → (f : WorldFault A g) → Refused c f (stage_of x) (stage_of z) → CountsFaults {T = ℕ} (Err f) x.faults z.faults → (Carries act_of x → CanCome (rules_in act_of x.world) f)
       → Held act_of was z (Some f)
-  turn_stops c f refused counts never = stands_still f counts (turn_cause x z c f refused counts) (turn_room z x c f refused) (λ q. comes_of_steps (rules_in act_of x.world) f (never q))
+  turn_stops c fed f refused counts never = stands_still f counts (turn_cause x z c fed f refused counts) (turn_room z x c f refused) (λ q. comes_of_steps (rules_in act_of x.world) f (never q))
 
   -- steps were refused
   pub steps_stop : (f : WorldFault A g) → RefusedDrain act_of f (stage_of x) (stage_of z) → CountsFaults {T = ℕ} (Err f) x.faults z.faults → (Carries act_of x → CanComeOfSteps (rules_in act_of x.world) f)

@@ -75,7 +75,7 @@ fn may_be<A: Acts>(n: u32, choice: &Choice<A>) -> bool
 impl<'b, 'w, 'f, A: Acts + Copy, F: Fabric, E: Past> Kept<'b, 'w, 'f, A, F, E> {
     /// What is lent, to be shared.
     #[tactic(auto, using(crate::proofs::Helds::held_first))]
-    pub fn new(lent: &'b mut Lent<'w, 'f, A, F>) -> Kept<'b, 'w, 'f, A, F, E>
+    pub(crate) fn new(lent: &'b mut Lent<'w, 'f, A, F>) -> Kept<'b, 'w, 'f, A, F, E>
         requires lent { lent.ghost_name ≡ E.lent }
         requires world { lent.old.world.ghost_name ≡ E.world }
         requires fabric { lent.old.fabric.ghost_name ≡ E.fabric }
@@ -142,12 +142,12 @@ impl<'b, 'w, 'f, A: Acts + Copy, F: Fabric, E: Past> Kept<'b, 'w, 'f, A, F, E> {
     }
 
     /// Takes back a job that was run. Where the world stands still its action stays fired.
-    pub fn take_back(&mut self, alloc: Global, done: Done<A>) {
+    pub(crate) fn take_back(&mut self, alloc: Global, done: Done<A>) {
         self.turn(alloc, Choice::Finish(done));
     }
 
     /// The world stands still, as there was no memory to run a job.
-    pub fn stand_still(&mut self, job: Job) {
+    pub(crate) fn stand_still(&mut self, job: Job) {
         if self.stop.is_none() {
             self.stop = Some(WorldFault::NotRun { job });
         }
@@ -208,7 +208,7 @@ impl<'b, 'w, 'f, A: Acts + Copy, F: Fabric, E: Past> Kept<'b, 'w, 'f, A, F, E> {
     }
 
     /// Runs jobs that are left.
-    pub fn run_all(&mut self, alloc: Global, acts: &A, jobs: Vec<Job>) {
+    pub(crate) fn run_all(&mut self, alloc: Global, acts: &A, jobs: Vec<Job>) {
         for job in jobs {
             self.run(alloc, acts, job);
         }

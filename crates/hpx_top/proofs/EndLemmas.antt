@@ -303,5 +303,6 @@ short_from count said input left before rest reading entries old new h c is read
     (subst (λ all. IsCutAt count said 1 all old entries new) (told input left h) c) (is ∙ ap (option_map (behind count)) h)
     (subst (λ all. HasRead all reading rest) h read) never
 
-pub short_opening : (said : Said) (input : List ℕ) (rest : Option (List ℕ)) (entries : List Entry) (old new : Option (List ℕ)) → IsCutAtOpening old entries new → IsShort said input rest entries old new
-short_opening said input rest entries old new c = inr (opening_broken entries old new c)
+pub short_opening : (said : Said) (input : List ℕ) (rest : Option (List ℕ)) (entries : List Entry) (old new : Option (List ℕ)) → rest ≡ Some input → IsCutAtOpening old entries new
+    → IsShort said input rest entries old new
+short_opening said input rest entries old new unread c = inr (opening_broken entries old new c, unread)

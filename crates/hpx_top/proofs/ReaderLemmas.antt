@@ -3,7 +3,7 @@ use Rattle.std.specs.Prelude.{ℕ, Bool, true, false, Option, Some, None, Result
 use Rattle.std.specs.Option.{option_map}
 use Rattle.std.specs.List.{slice_split, list_any}
 use Rattle.std.specs.Str.Lines.{strip_carriage_return}
-use Rattle.std.proofs.Common.{sym, ap, ◌∙◌, subst, arith, append_assoc, append-nil}
+use Rattle.std.proofs.Common.{inl, inr, sym, ap, ◌∙◌, subst, arith, append_assoc, append-nil}
 use Rattle.std.proofs.lemmas.List.{append_cancel_right, take-append-drop, take-append-le, take-take, take_all, take_rest, drop-drop, length-take, length-drop, length-append}
 use Rattle.std.proofs.lemmas.List.Folds.{list_any-append}
 use Rattle.std.proofs.Math.Seq.{take-add, take-append-add}
@@ -16,7 +16,7 @@ use Rattle.app_console.specs.Lines.{is_long, is_quit, is_newline, IsPiece, lines
 use Rattle.hpx_top.specs.Pending.{IsNewlineAt, IsSearched, ReadsOnto}
 use Rattle.hpx_top.specs.declared.reader.ReadFault.{ReadFault}
 use Rattle.hpx_top.specs.declared.reader.ReadFault.TheVariants.{Failed, OutOfMemory}
-use Rattle.hpx_top.specs.Reader.{Reading, HasRead, still_left, input_left, lines_left, bytes_left, behind_line, Answers, LeavesFewer, LeavesBehind, IsFull, IsOut, IsNoLine, IsLast, next_of}
+use Rattle.hpx_top.specs.Reader.{Reading, HasRead, still_left, input_left, lines_left, bytes_left, behind_line, Answers, LeavesFewer, LeavesBehind, IsFull, IsOut, IsNoLine, IsLast, WantsMemory, next_of}
 use Rattle.hpx_top.proofs.PlainLemmas.{lines_in-first, lines_in-last}
 
 -- ---- pieces
@@ -299,6 +299,21 @@ not_full-last (Err fault) mid new n same last err full =
     let goes_on : mid.ended ≡ false = subst (λ r. r.ended ≡ false) same full.goes_on in
     let ended : mid.ended ≡ true = last.ended in
     cc
+
+-- where a line is not handed out, it is one that is pending
+pub lacks-newline : (result : Result Next ReadFault) (mid new : Reading) (n : ℕ) → OnErr result (new ≡ mid) → IsNewlineAt mid.pending n
+    → OnErr result ((is_long (strip_carriage_return (take n mid.pending)) ≡ false) × (is_quit (strip_carriage_return (take n mid.pending)) ≡ false))
+    → IsErrOf result OutOfMemory → WantsMemory new
+lacks-newline (Ok next) mid new n same here fit err = absurd (let never : Ok next ≡ Err OutOfMemory = err in cc)
+lacks-newline (Err fault) mid new n same here fit err =
+    subst WantsMemory (sym same) (inr (record { n = n; found = inl here; fits = fit.0; goes_on = fit.1 }))
+
+pub lacks-last : (result : Result Next ReadFault) (mid new : Reading) (n : ℕ) → OnErr result (new ≡ mid) → IsLast mid n
+    → OnErr result ((is_long (strip_carriage_return (take n mid.pending)) ≡ false) × (is_quit (strip_carriage_return (take n mid.pending)) ≡ false))
+    → IsErrOf result OutOfMemory → WantsMemory new
+lacks-last (Ok next) mid new n same last fit err = absurd (let never : Ok next ≡ Err OutOfMemory = err in cc)
+lacks-last (Err fault) mid new n same last fit err =
+    subst WantsMemory (sym same) (inr (record { n = n; found = inr last; fits = fit.0; goes_on = fit.1 }))
 
 -- whether a read has met the end is left as it is
 kept_on : (result : Result Next ReadFault) (mid new : Reading) (rest : List ℕ) → OnOk result (new ≡ record mid { pending = rest }) → OnErr result (new ≡ mid) → new.ended ≡ mid.ended

@@ -9,7 +9,8 @@ use Rattle.hpx_journal.specs.Weights.{HasRoom}
 use Rattle.hpx_journal.specs.Whole.{IsCarried}
 use Rattle.hpx_ports.specs.declared.fabric.Wire.{Wire}
 use Rattle.hpx_steps.specs.Limits.{IsWithin}
-use Rattle.hpx_world.specs.Audit.{audit_lines, IsAudit, StandAtHome}
+use Rattle.hpx_world.specs.Quiet.{IsQuiet}
+use Rattle.hpx_world.specs.Audit.{audit_lines, IsAudit, StandAtHome, StandWhereTold}
 use Rattle.hpx_world.specs.Away.{IsCarrying}
 use Rattle.hpx_world.specs.Promises.{KeepsPromises}
 use Rattle.hpx_ports.specs.Faults.{Rose}
@@ -180,13 +181,15 @@ pub lawful_of : (w : Places) (flight : Option (List Frame)) (trace : Option (Lis
     → (IsCarried (rules w) [] w.journal.entries → KeepsPromises (rules w) w.journal.entries)
     → (IsCarried (rules w) [] w.journal.entries → IsAudit (rules w) w.journal.entries (audit_lines w.nodes))
     → (NothingMoves (rules w) → IsCarried (rules w) [] w.journal.entries → StandAtHome (rules w) w.journal.entries (audit_lines w.nodes))
+    → (IsCarried (rules w) [] w.journal.entries → IsQuiet w.nodes w.hand → StandWhereTold (rules w) w.journal.entries (audit_lines w.nodes))
     → IsCarrying (rules w) w.hand flight trace w.journal.entries → IsLawful w flight trace
-lawful_of w flight trace within promises audit at_home carrying = record {
+lawful_of w flight trace within promises audit at_home stand carrying = record {
   granted = λ ample. all_granted (length w.nodes) w.profile w.journal.entries ample within.entries (promises carrying.carried);
   promises = promises carrying.carried;
   within = within;
   audit = audit carrying.carried;
   at_home = at_home (still (length w.nodes) w.profile) carrying.carried;
+  stand = stand carrying.carried;
   carrying = carrying;
 }
 

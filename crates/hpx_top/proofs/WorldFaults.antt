@@ -17,8 +17,8 @@ module _ {A : Type 0} {g : Ghosts A} (r : Rules) (fault : WorldFault A g) where
   pub no_bad : {to : ℕ} {at : ℕ} {why : Why} → fault ≡ faults.BadFrame to at why → CanCome r fault → ⊥
   no_bad e h = subst (CanCome r) e h
 
-  pub no_strange : {to : ℕ} {rule : ℕ} {object : Id} {kept : ℕ} → fault ≡ faults.Strange to rule object kept → NothingMoves r → CanCome r fault → ⊥
-  no_strange e still h = subst (CanCome r) e h still
+  pub no_strange : {to : ℕ} {rule : ℕ} {object : Id} {kept : ℕ} → fault ≡ faults.Strange to rule object kept → CanCome r fault → ⊥
+  no_strange e h = subst (CanCome r) e h
 
   pub no_early : {sent taken : ℕ} → fault ≡ faults.EarlyEnd sent taken → CanCome r fault → ⊥
   no_early e h = subst (CanCome r) e h
@@ -26,8 +26,8 @@ module _ {A : Type 0} {g : Ghosts A} (r : Rules) (fault : WorldFault A g) where
   pub no_bad_step : {to : ℕ} {at : ℕ} {why : Why} → fault ≡ faults.BadFrame to at why → CanComeOfSteps r fault → ⊥
   no_bad_step e h = subst (CanComeOfSteps r) e h
 
-  pub no_strange_step : {to : ℕ} {rule : ℕ} {object : Id} {kept : ℕ} → fault ≡ faults.Strange to rule object kept → NothingMoves r → CanComeOfSteps r fault → ⊥
-  no_strange_step e still h = subst (CanComeOfSteps r) e h still
+  pub no_strange_step : {to : ℕ} {rule : ℕ} {object : Id} {kept : ℕ} → fault ≡ faults.Strange to rule object kept → CanComeOfSteps r fault → ⊥
+  no_strange_step e h = subst (CanComeOfSteps r) e h
 
   pub no_early_step : {sent taken : ℕ} → fault ≡ faults.EarlyEnd sent taken → NothingMoves r → CanComeOfSteps r fault → ⊥
   no_early_step e still h = (subst (CanComeOfSteps r) e h).1 still

@@ -96,10 +96,11 @@ pub record IsFullBehind (lines : ℕ) (input : List ℕ) (left : Option (List �
   pub behind_is : behind lines input ≡ piece ++ rest
   pub no_line : IsPiece piece
 
--- Memory was wanting at a line, or as the accumulator was made; not where the input is full behind the lines that were handled.
+-- Memory was wanting at a line, or as the accumulator was made, before anything was read; not where the input is full behind the lines
+-- that were handled.
 abbrev pub IsShort : Said → List ℕ → Option (List ℕ) → List Entry → Option (List ℕ) → Option (List ℕ) → Type 0
 IsShort said input left entries old new =
-    ((b : IsBrokenOff said 1 input entries old new) × (IsFullBehind (length b.handled) input left → ⊥)) ⊎ IsBrokenAtOpening entries old new
+    ((b : IsBrokenOff said 1 input entries old new) × (IsFullBehind (length b.handled) input left → ⊥)) ⊎ (IsBrokenAtOpening entries old new × (left ≡ Some input))
 
 -- how a session was broken off: at a write anywhere, otherwise behind a prompt, or in the line behind it, or where the accumulator is made
 abbrev pub IsEndedBy : SessionFault → Said → List ℕ → List Entry → Option (List ℕ) → Option (List ℕ) → Type 0

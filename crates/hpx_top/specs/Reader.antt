@@ -1,7 +1,8 @@
 -- A reader of lines: what it holds, what is left of its input, and what each of its answers says.
-use Rattle.std.specs.Prelude.{ℕ, zero, suc, Bool, true, false, Option, Some, Result, Ok, Err, IfSome, List, [], ◌∷◌, ◌++◌, ◌≡◌, ◌==◌, ◌&&◌, not, ◌+◌, ◌-◌, ◌^◌, ◌<◌, length, if◌then◌else◌}
+use Rattle.std.specs.Prelude.{ℕ, zero, suc, Bool, true, false, Option, Some, Result, Ok, Err, IfSome, List, [], ◌∷◌, ◌++◌, ◌≡◌, ◌==◌, ◌&&◌, not, ◌+◌, ◌-◌, ◌^◌, ◌<◌, ◌⊎◌, length, take, if◌then◌else◌}
 use Rattle.std.specs.Option.{option_map}
 use Rattle.std.specs.List.{slice_split, list_any}
+use Rattle.std.specs.Str.Lines.{strip_carriage_return}
 use Rattle.hpx_ports.specs.Told.{preceded}
 use Rattle.hpx_top.specs.declared.reader.Next.{Next}
 use Rattle.hpx_top.specs.declared.reader.Next.TheVariants.{Line, Long, Quit, End, Full}
@@ -65,6 +66,13 @@ pub record IsFull (reading : Reading) : Type 0 where
 abbrev pub wants_more : Reading → Bool
 wants_more reading = not (list_any is_newline reading.pending) && (not reading.ended && not (reading.read == 67108864))
 
+-- the bytes that are pending, n of them, are the last ones, and hold no newline
+pub record IsLast (reading : Reading) (n : ℕ) : Type 0 where
+  pub ended : reading.ended ≡ true
+  pub count : length reading.pending ≡ n
+  pub some : 0 < n
+  pub no_line : IsPiece reading.pending
+
 -- what an answer says of the reader, and of the source's bytes, before and after
 abbrev pub Answers : Next → Reading → Reading → Option (List ℕ) → Option (List ℕ) → Type 0
 Answers (Line line) old new left later = TakesLine line (lines_left old left) (lines_left new later)
@@ -106,6 +114,17 @@ IsNoLine (Ok Long) = ⊥
 IsNoLine (Err OutOfMemory) = ⊥
 IsNoLine _ = Unit {0}
 
+-- a line is pending that is handed out: it is not too long, and no `quit`
+pub record IsLineNext (reading : Reading) : Type 0 where
+  pub n : ℕ
+  pub found : IsNewlineAt reading.pending n ⊎ IsLast reading n
+  pub fits : is_long (strip_carriage_return (take n reading.pending)) ≡ false
+  pub goes_on : is_quit (strip_carriage_return (take n reading.pending)) ≡ false
+
+-- memory is wanted: for bytes that are to be read, or for a line that is to be handed out
+abbrev pub WantsMemory : Reading → Type 0
+WantsMemory reading = (wants_more reading ≡ true) ⊎ IsLineNext reading
+
 -- how many bytes may still be handed out or read
 abbrev pub bytes_left : Reading → ℕ
 bytes_left reading = (67108864 - reading.read) + length reading.pending
@@ -129,13 +148,6 @@ pub record HasRead (all : Option (List ℕ)) (reading : Reading) (left : Option 
 -- how many reads may come at most
 abbrev pub reads_left : Reading → ℕ
 reads_left reading = (67108864 - reading.read) + (if reading.ended then 0 else 1)
-
--- the bytes that are pending, n of them, are the last ones, and hold no newline
-pub record IsLast (reading : Reading) (n : ℕ) : Type 0 where
-  pub ended : reading.ended ≡ true
-  pub count : length reading.pending ≡ n
-  pub some : 0 < n
-  pub no_line : IsPiece reading.pending
 
 -- what was found among the bytes that are pending
 abbrev pub IsFound : Found → Reading → Type 0

@@ -8,9 +8,10 @@ use Rattle.hpx_steps.specs.Limits.{IsWithin}
 use Rattle.hpx_ports.specs.declared.fabric.Wire.{Wire}
 use Rattle.hpx_ports.specs.Faults.{Rose}
 use Rattle.hpx_ports.specs.Told.{followed}
-use Rattle.hpx_world.specs.Audit.{audit_lines, IsAudit, StandAtHome}
+use Rattle.hpx_world.specs.Audit.{audit_lines, IsAudit, StandAtHome, StandWhereTold}
 use Rattle.hpx_world.specs.Away.{IsCarrying}
 use Rattle.hpx_world.specs.Places.{Places}
+use Rattle.hpx_world.specs.Quiet.{IsQuiet}
 use Rattle.hpx_world.specs.Promises.{KeepsPromises}
 use Rattle.hpx_top.specs.declared.task.Task.{Task}
 use Rattle.hpx_top.specs.declared.task.Task.TheVariants.{Accumulator}
@@ -119,6 +120,7 @@ pub record IsLawful (w : Places) (flight : Option (List Frame)) (trace : Option 
   pub within : IsWithin w.journal.entries
   pub audit : IsAudit (rules w) w.journal.entries (audit_lines w.nodes)
   pub at_home : StandAtHome (rules w) w.journal.entries (audit_lines w.nodes)
+  pub stand : IsQuiet w.nodes w.hand → StandWhereTold (rules w) w.journal.entries (audit_lines w.nodes)
   pub carrying : IsCarrying (rules w) w.hand flight trace w.journal.entries
 
 -- all that was begun is done, and nothing is under way

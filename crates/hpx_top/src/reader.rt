@@ -3,8 +3,8 @@ ghost use Rattle.hpx_top.specs.declared.reader.ReadFault.TheVariants.{Failed as 
 ghost use Rattle.std.specs.Prelude.{◌≡◌, ◌+◌, ◌<◌, ◌≤◌, true, false, Ok, [], IfOk, OnOk, OnErr, IsErrOf, IfErr, length, take, drop};
 ghost use Rattle.std.specs.Str.Lines.{strip_carriage_return};
 ghost use Rattle.hpx_ports.specs.Faults.{Rose};
-ghost use Rattle.app_console.specs.Lines.{IsPiece};
-ghost use Rattle.hpx_top.specs.Reader.{input_left, bytes_left, reads_left, wants_more, IsFound, IsFull, IsOut, IsNoLine, last_of, next_of, Answers, LeavesFewer, LeavesBehind, HasRead};
+ghost use Rattle.app_console.specs.Lines.{IsPiece, is_long, is_quit};
+ghost use Rattle.hpx_top.specs.Reader.{input_left, bytes_left, reads_left, wants_more, WantsMemory, IsFound, IsFull, IsOut, IsNoLine, last_of, next_of, Answers, LeavesFewer, LeavesBehind, HasRead};
 
 mod pending;
 
@@ -141,6 +141,8 @@ impl LineReader {
         ensures no_line { IsErrOf result ReadFault.Failed → IsPiece self.new.pending }
         ensures goes_on { IsErrOf result ReadFault.Failed → self.new.ended ≡ false }
         ensures memory { IsErrOf result ReadFault.OutOfMemory → self.new.read < 67108864 }
+        ensures lacks { IsErrOf result ReadFault.OutOfMemory → wants_more self.new ≡ true }
+        ensures same { wants_more self.old ≡ false → self.new ≡ self.old }
         ensures still { wants_more self.old ≡ false → source.new ≡ source.old }
         ensures cause { IsErrOf result ReadFault.Failed → Rose (S.faults source.old) (S.faults source.new) }
         ensures stands { (IsErrOf result ReadFault.Failed → ⊥) → S.faults source.new ≡ S.faults source.old }
@@ -167,6 +169,7 @@ impl LineReader {
         ensures ok { OnOk result (self.new ≡ record self.old { pending = drop count self.old.pending }) }
         ensures err { OnErr result (self.new ≡ self.old) }
         ensures cause { IfErr result (λ fault. fault ≡ ReadFault.OutOfMemory) }
+        ensures lacks { let line = strip_carriage_return (take len self.old.pending) in OnErr result ((is_long line ≡ false) × (is_quit line ≡ false)) }
     {
         let next = next_for(alloc, line_of(&self.pending.as_slice()[..len]))?;
         self.pending.skip(count);
@@ -184,6 +187,8 @@ impl LineReader {
         ensures goes_on { IsErrOf result ReadFault.Failed → self.new.ended ≡ false }
         ensures out { IsOut self.new (input_left self.old (S.left source.old)) (S.left source.new) → IsNoLine result }
         ensures memory { IsErrOf result ReadFault.OutOfMemory → IsFull self.new → ⊥ }
+        ensures lacks { IsErrOf result ReadFault.OutOfMemory → WantsMemory self.new }
+        ensures same { wants_more self.old ≡ false → OnErr result (self.new ≡ self.old) }
         ensures still { wants_more self.old ≡ false → source.new ≡ source.old }
         ensures reads { (all : _) → HasRead all self.old (S.left source.old) → HasRead all self.new (S.left source.new) }
         ensures counted { self.new.read + S.taken source.old ≡ self.old.read + S.taken source.new }
@@ -202,7 +207,8 @@ impl LineReader {
 
 /// How a line is handed out.
 fn next_for(alloc: Global, line: &[u8]) -> Result<Next, AllocError>
-    ensures { IfOk result (λ next. next ≡ next_of line.now) }
+    ensures ok { IfOk result (λ next. next ≡ next_of line.now) }
+    ensures err { OnErr result ((is_long line.now ≡ false) × (is_quit line.now ≡ false)) }
 {
     if is_long(line) {
         return Ok(Next::Long);

@@ -18,7 +18,7 @@ returns-clause-places g c = (c.serve-served.ensures.count ∙ c.in-Ok.ensures.co
 
 pub returns-clause-lawful : goal.returns-clause-lawful
 returns-clause-lawful g c =
-    lawful_of c.serve-served.new.world _ _ c.law.ensures.within c.law.ensures.promises c.law.ensures.audit c.law.ensures.at_home c.serve-served.ensures.carrying
+    lawful_of c.serve-served.new.world _ _ c.law.ensures.within c.law.ensures.promises c.law.ensures.audit c.law.ensures.at_home c.law.ensures.stand c.serve-served.ensures.carrying
 
 pub returns-clause-ended : goal.returns-clause-ended
 returns-clause-ended g c =

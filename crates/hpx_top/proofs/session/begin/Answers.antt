@@ -11,6 +11,6 @@ returns-clause-cause g c =
     of_three c.fault_of.result c.fault_of.ensures.other
     (λ e. no_bad (rules w) _ (c.fault_of.ensures.bad_frame e).3 never)
     (λ e. neither
-    (λ s. no_strange (rules w) _ s.4 (still (length w.nodes) w.profile) never)
+    (λ s. no_strange (rules w) _ s.4 never)
     (λ s. no_early (rules w) _ s.2 never)
     (c.fault_of.ensures.strange e))

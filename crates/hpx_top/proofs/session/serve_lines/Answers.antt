@@ -136,7 +136,7 @@ returns-in_err-serve_line-clause-short g c =
 pub returns-in_err-open-clause-short : goal.returns-in_err-open-clause-short
 returns-in_err-open-clause-short g c =
     let cut = cut_opening (g.K.Sink.held c.args.sink.now) (g.K.Sink.held c.write.new.sink) _ _ c.requires.empty c.in_err-open.ensures.once (c.in_ok-write.ensures.held ∙ ap (followed (g.K.Sink.held c.args.sink.now)) c.help.ensures) in
-    λ input said h tells e. short_opening said input (g.S.Source.left c.args.source.now) _ (g.K.Sink.held c.args.sink.now) (g.K.Sink.held c.write.new.sink) cut
+    λ input said h tells e. short_opening said input (g.S.Source.left c.args.source.now) _ (g.K.Sink.held c.args.sink.now) (g.K.Sink.held c.write.new.sink) h cut
 
 pub returns-in_err-serve_line-clause-read_on : goal.returns-in_err-serve_line-clause-read_on
 returns-in_err-serve_line-clause-read_on g c =

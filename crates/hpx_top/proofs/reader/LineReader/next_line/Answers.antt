@@ -1,6 +1,6 @@
 use Rattle.std.proofs.Common.{arith, ◌+◌, drop, subst}
 use Rattle.hpx_top.specs.Reader.{IsFound}
-use Rattle.hpx_top.proofs.ReaderLemmas.{newline_within, lines_left-newline, lines_left-last, handed_out, handed_out-fewer, not_full-newline, not_full-last, handed_out-behind, left_behind-newline, left_behind-last, out-newline, out-last}
+use Rattle.hpx_top.proofs.ReaderLemmas.{newline_within, lines_left-newline, lines_left-last, handed_out, handed_out-fewer, not_full-newline, not_full-last, lacks-newline, lacks-last, handed_out-behind, left_behind-newline, left_behind-last, out-newline, out-last}
 use Rattle.hpx_top.proofs.reader.LineReader.next_line.Goals as goal
 
 pub returns-in-Newline-clause-ok : goal.returns-in-Newline-clause-ok
@@ -65,3 +65,15 @@ returns-in-Last-clause-out g c =
     let mid = c.find_line.new.self in
     let found = subst (λ found. IsFound found mid) c.in-Last.is c.in_ok-n.ensures.found in
     out-last _ mid _ c.in-Last.n (drop c.in-Last.n mid.pending) _ _ c.hand_out-in-Last.ensures.ok c.hand_out-in-Last.ensures.err found
+
+pub returns-in-Newline-clause-lacks : goal.returns-in-Newline-clause-lacks
+returns-in-Newline-clause-lacks g c =
+    let mid = c.find_line.new.self in
+    let found = subst (λ found. IsFound found mid) c.in-Newline.is c.in_ok-n.ensures.found in
+    lacks-newline _ mid _ c.in-Newline.n c.hand_out.ensures.err found.0 c.hand_out.ensures.lacks
+
+pub returns-in-Last-clause-lacks : goal.returns-in-Last-clause-lacks
+returns-in-Last-clause-lacks g c =
+    let mid = c.find_line.new.self in
+    let found = subst (λ found. IsFound found mid) c.in-Last.is c.in_ok-n.ensures.found in
+    lacks-last _ mid _ c.in-Last.n c.hand_out-in-Last.ensures.err found c.hand_out-in-Last.ensures.lacks
