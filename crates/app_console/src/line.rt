@@ -174,12 +174,12 @@ fn refusal(
 ) -> Option<Refusal>
     ensures { result ≡ refusal (sight localities (kind_of state.now) desk.now) need word.now }
 {
-    let status = status(desk.names.as_slice(), state, word);
+    let names = desk.names.as_slice();
     match need {
-        Need::NewName => named_refusal(word, new_refusal(status)),
-        Need::BoundName => named_refusal(word, bound_refusal(status)),
+        Need::NewName => named_refusal(word, new_refusal(status(names, state, word))),
+        Need::BoundName => named_refusal(word, bound_refusal(status(names, state, word))),
         Need::AnyName => named_refusal(word, None),
-        Need::It => it_refusal(status),
+        Need::It => it_refusal(status(names, state, word)),
         Need::NewIt => None,
         Need::Locality => match count_of(word) {
             Some(at) if at < u64::from(localities) => None,

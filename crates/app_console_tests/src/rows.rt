@@ -1,5 +1,5 @@
 //! Sessions of both consoles, and what they print: of each row this is proved of the plain space, and tests run it over worlds.
-ghost use Rattle.std.specs.Prelude.{◌≡◌};
+ghost use Rattle.std.specs.Prelude.{◌≡◌, length};
 ghost use Rattle.std.specs.List.{AllByRecursion};
 ghost use Rattle.app_console_tests.specs.Rows.{plain_text};
 
@@ -164,6 +164,32 @@ const ROWS: &[Row] = &[
         b"commands: reset, add [amount], query, help, quit\nerror: bad number\nerror: bad number\nerror: bad number\nerror: bad command\nerror: bad command\n-3\n",
     ),
     (Console::Accumulator, 64, b"add 1\nquery", b"1\n"),
+    // Which bytes a name may have.
+    (
+        Console::Space,
+        2,
+        b"new a -0\nwhere a\nnew z{ 0\nnew a@ 0\nnew a[ 0\nnew a/ 0\nnew a: 0\nnew zZ 1\nwhere zZ",
+        b"0\nerror: bad name\nerror: bad name\nerror: bad name\nerror: bad name\nerror: bad name\n1\n",
+    ),
+    // All who wait are told, a barrier works again, and a shelf forgets one of two.
+    (
+        Console::Space,
+        2,
+        b"channel c 1\nget c\nget c\nclose c\nget c",
+        b"error: closed\nerror: closed\nerror: closed\n",
+    ),
+    (
+        Console::Space,
+        2,
+        b"barrier b 0 2\narrive b\narrive b\narrive b\narrive b",
+        b"released\nreleased\nreleased\nreleased\n",
+    ),
+    (
+        Console::Space,
+        2,
+        b"new a 1\nnew b 1\nshare a 0\nshare b 0\nunshare a 0\nunshare b 0\nunshare b 0",
+        b"error: no such name\n",
+    ),
 ];
 
 /// Sessions in which objects move: they keep what they hold, and all their names, and stand where the last move left them.
@@ -205,14 +231,16 @@ const MOVING_ROWS: &[Row] = &[
 
 /// The rows in which nothing moves. What each prints is the text of the plain space.
 pub fn rows() -> &'static [Row]
-    ensures { AllByRecursion (λ row. plain_text row.0 row.1 row.2.now ≡ row.3.now) result.now }
+    ensures many { length result.now ≡ 29 }
+    ensures plain { AllByRecursion (λ row. plain_text row.0 row.1 row.2.now ≡ row.3.now) result.now }
 {
     ROWS
 }
 
 /// The rows in which objects move. What each prints is the text of the plain space.
 pub fn moving_rows() -> &'static [Row]
-    ensures { AllByRecursion (λ row. plain_text row.0 row.1 row.2.now ≡ row.3.now) result.now }
+    ensures many { length result.now ≡ 6 }
+    ensures plain { AllByRecursion (λ row. plain_text row.0 row.1 row.2.now ≡ row.3.now) result.now }
 {
     MOVING_ROWS
 }

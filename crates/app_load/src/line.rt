@@ -1,5 +1,5 @@
 //! The one line that is printed for a made session.
-ghost use Rattle.std.specs.Prelude.{◌≡◌, IfOk};
+ghost use Rattle.std.specs.Prelude.{◌≡◌, IfOk, length};
 ghost use Rattle.std.specs.List.{AllByRecursion};
 ghost use Rattle.app_load.specs.Load.{is_error, summary, summary_of};
 
@@ -37,7 +37,8 @@ const ROWS: &[Row] = &[
 
 /// Worked sessions. What each comes to is said by the plain space.
 pub fn rows() -> &'static [Row]
-    ensures { AllByRecursion (λ row. summary row.0 row.1 row.2 ≡ row.3.now) result.now }
+    ensures many { length result.now ≡ 3 }
+    ensures plain { AllByRecursion (λ row. summary row.0 row.1 row.2 ≡ row.3.now) result.now }
 {
     ROWS
 }

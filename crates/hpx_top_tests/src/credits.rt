@@ -1,7 +1,7 @@
 //! Sessions by the credit of their accumulator, as the audit tells it.
 use crate::runs::{Ended, adds, session};
-use crate::worlds::{ORDERS, audit, drain, feed, printed};
 use app_console::lines::{ACCUMULATOR, marked};
+use hpx_space_tests::worlds::{ORDERS, audit, drain, feed, printed};
 use hpx_value::memory::OutOfMemory;
 use std::alloc::Global;
 use std::test::Fail;

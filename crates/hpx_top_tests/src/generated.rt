@@ -1,7 +1,7 @@
 //! 300 sessions made from the numbers 1 to 300, a third of them over each order of delivery.
 use crate::runs::{Ended, session};
-use crate::worlds::{Asks, PROFILE, asks_in, is_legal};
 use hpx_ports::order::Order;
+use hpx_space_tests::worlds::{Asks, PROFILE, asks_in, is_legal};
 use hpx_value::memory::OutOfMemory;
 use std::alloc::Global;
 use std::test::Fail;

@@ -1,4 +1,4 @@
-//! Runs of the top call over ports in memory, and sessions of both consoles over worlds.
+//! Runs of the top call over ports in memory.
 #![tactic(auto)]
 
 #[cfg(test)]
@@ -11,8 +11,3 @@ mod limits;
 mod lines;
 #[cfg(test)]
 mod runs;
-#[cfg(test)]
-mod space;
-pub mod space_acts;
-#[cfg(test)]
-mod worlds;

@@ -1,11 +1,11 @@
 //! A limit of credit that refuses.
 ghost use Rattle.std.specs.Prelude.{◌≡◌, length};
 
-use crate::worlds::{Asks, asks_in, drain, feed, is_legal, printed};
 use app_console::lines::{ACCUMULATOR, marked, opening};
 use hpx_ports::fabric::Fabric;
 use hpx_ports::memory_fabric::SureFabric;
 use hpx_ports::order::Order;
+use hpx_space_tests::worlds::{Asks, asks_in, drain, feed, is_legal, printed};
 use hpx_top::acts::AllActs;
 use hpx_value::acts::Done;
 use hpx_value::memory::OutOfMemory;

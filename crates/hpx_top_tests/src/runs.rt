@@ -1,10 +1,10 @@
 //! Runs of the accumulator over ports in memory.
-use crate::worlds::ORDERS;
 use hpx_ports::fabric::{Fabric, Wire};
 use hpx_ports::memory_fabric::MemFabric;
 use hpx_ports::memory_sink::MemSink;
 use hpx_ports::memory_source::MemSource;
 use hpx_ports::order::Order;
+use hpx_space_tests::worlds::ORDERS;
 use hpx_top::acts::AllActs;
 use hpx_top::run::{End, run};
 use hpx_value::items::{Bytes, Items, Lengths, Text, Texts};

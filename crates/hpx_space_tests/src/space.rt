@@ -1,70 +1,14 @@
 //! Sessions of both consoles over worlds, over each order of delivery.
-use crate::space_acts::SpaceActs;
-use crate::worlds::{ORDERS, PROFILE, audit, drain, feed, printed};
-use app_console::lines::{ACCUMULATOR, SPACE, is_long, marked};
+use crate::running::{Pace, Running};
+use crate::worlds::{ORDERS, PROFILE, audit};
+use app_console::lines::{ACCUMULATOR, SPACE};
 use app_console::table::Console;
-use app_console_tests::rows::rows;
-use hpx_ports::memory_fabric::SureFabric;
+use app_console_tests::rows::{moving_rows, rows};
 use hpx_ports::order::Order;
 use hpx_value::memory::OutOfMemory;
 use hpx_value::profile::Profile;
-use hpx_world::world::World;
 use std::alloc::Global;
 use std::test::Fail;
-
-/// When lines are fed.
-#[derive(Clone, Copy, Debug, PartialEq, Eq)]
-enum Pace {
-    /// Each once the world is at rest.
-    Calm,
-    /// All before the first turn.
-    Hurried,
-}
-
-/// A world, and the fabric below it.
-#[derive(Drop)]
-struct Running {
-    world: World<SpaceActs>,
-    fabric: SureFabric,
-    pace: Pace,
-}
-
-impl Running {
-    fn new(
-        alloc: Global,
-        localities: u32,
-        profile: Profile,
-        order: Order,
-        pace: Pace,
-    ) -> Result<Running, OutOfMemory> {
-        if localities == 0 || localities > 64 || !profile.is_valid() {
-            return Err(OutOfMemory);
-        }
-        Ok(Running {
-            world: World::boot(alloc, SpaceActs { localities }, profile)?,
-            fabric: SureFabric::new(alloc, order),
-            pace,
-        })
-    }
-
-    fn line(&mut self, alloc: Global, mark: u8, line: &[u8]) -> Result<(), OutOfMemory> {
-        if is_long(line) {
-            return Err(OutOfMemory);
-        }
-        let text = marked(alloc, mark, line)?;
-        feed(alloc, &mut self.world, text, &mut self.fabric)?;
-        if self.pace == Pace::Calm {
-            drain(alloc, &mut self.world, &mut self.fabric)?;
-        }
-        Ok(())
-    }
-
-    /// All that was printed once the world is at rest.
-    fn text(&mut self, alloc: Global) -> Result<Vec<u8>, OutOfMemory> {
-        drain(alloc, &mut self.world, &mut self.fabric)?;
-        printed(alloc, self.world.journal(), 0)
-    }
-}
 
 /// The mark of a console's lines.
 fn mark_of(console: Console) -> u8 {
@@ -98,7 +42,7 @@ fn session(
 fn worlds_print_what_one_plain_space_says(rt: HostRuntime) -> Result<(), Fail> {
     let alloc = rt.alloc();
     for order in ORDERS {
-        for (console, localities, input, want) in rows() {
+        for (console, localities, input, want) in rows().iter().chain(moving_rows()) {
             let text = session(alloc, *console, *localities, input, order, Pace::Calm)?;
             assert_eq!(rt; text.as_slice(), *want);
         }
@@ -203,6 +147,61 @@ fn names_answers_and_keys_are_few(rt: HostRuntime) -> Result<(), Fail> {
             assert_eq!(rt; text.as_slice(), want);
         }
     }
+    Ok(())
+}
+
+// Answers that came are awaited no more.
+#[test]
+fn what_came_is_awaited_no_more(rt: HostRuntime) -> Result<(), Fail> {
+    let alloc = rt.alloc();
+    let mut input = Vec::from_slice(alloc, b"latch l 0 1\n")?;
+    repeated(99, b"wait l\n", &mut input)?;
+    input.extend_from_slice(b"down l\nchannel c 1\n")?;
+    repeated(100, b"get c\n", &mut input)?;
+    input.extend_from_slice(b"get c\nwait l\nlocalities\nunregister k\nunshare l 0")?;
+    let mut want = Vec::new(alloc);
+    repeated(99, b"released\n", &mut want)?;
+    repeated(5, b"error: too many pending\n", &mut want)?;
+    for order in ORDERS {
+        let text = session(
+            alloc,
+            Console::Space,
+            2,
+            input.as_slice(),
+            order,
+            Pace::Calm,
+        )?;
+        assert_eq!(rt; text.as_slice(), want.as_slice());
+    }
+    Ok(())
+}
+
+// Names of 31 and 32 letters, and as many answers that are awaited.
+#[test]
+fn a_hundred_long_names_fit(rt: HostRuntime) -> Result<(), Fail> {
+    let alloc = rt.alloc();
+    let mut input = Vec::from_slice(alloc, b"channel c 1\n")?;
+    numbered(
+        alloc,
+        99,
+        "new abcdefghijklmnopqrstuvwxyz_ABC",
+        " 1",
+        &mut input,
+    )?;
+    repeated(100, b"get c\n", &mut input)?;
+    input.extend_from_slice(b"new x 1\nget c")?;
+    let text = session(
+        alloc,
+        Console::Space,
+        2,
+        input.as_slice(),
+        Order::FirstIn,
+        Pace::Calm,
+    )?;
+    assert_eq!(rt;
+        text.as_slice(),
+        b"error: too many names\nerror: too many pending\n".as_slice()
+    );
     Ok(())
 }
 

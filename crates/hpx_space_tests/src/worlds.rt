@@ -6,7 +6,6 @@ use hpx_journal::journal::Journal;
 use hpx_ports::fabric::Fabric;
 use hpx_ports::order::Order;
 use hpx_replay::replay::replay;
-use hpx_top::acts::AllActs;
 use hpx_value::acts::Acts;
 use hpx_value::items::Text;
 use hpx_value::memory::OutOfMemory;
@@ -83,12 +82,14 @@ pub fn printed(alloc: Global, journal: &Journal, from: u64) -> Result<Vec<u8>, O
     Ok(text)
 }
 
-/// Whether the judge accepts the journal of a world of two localities.
-pub fn is_legal(alloc: Global, world: &World<AllActs>, profile: Profile) -> bool {
+/// Whether the judge accepts the journal of a world.
+pub fn is_legal<A: Acts + Copy>(alloc: Global, world: &World<A>, profile: Profile) -> bool {
     let acts = world.acts();
-    acts.localities == 2
+    let n = acts.localities();
+    1 <= n
+        && n <= 64
         && profile.is_valid()
-        && replay(alloc, acts, 2, profile, world.journal()).is_ok()
+        && replay(alloc, acts, n, profile, world.journal()).is_ok()
 }
 
 /// How often credit was asked for, granted, refused and given, and how many actions failed.

@@ -14,7 +14,7 @@ pub struct SpaceActs {
 }
 
 impl Acts for SpaceActs {
-    ghost use Rattle.hpx_top_tests.specs.SpaceActs.{act_of, keeps_laws, is_blind};
+    ghost use Rattle.hpx_space_tests.specs.SpaceActs.{act_of, keeps_laws, is_blind};
 
     ghost count = { λ acts. acts.localities };
 
