@@ -7,6 +7,7 @@ ghost use Rattle.hpx_top.specs.Usage.{bad_word, notice_in};
 ghost use Rattle.hpx_program.specs.Program.{HasRunAsAsked};
 
 use hpx_ports::fabric::Fabric;
+use hpx_ports::gate::Gate;
 use hpx_ports::sink::{Sink, write_all};
 use hpx_ports::source::Source;
 use hpx_ports::words::{Words, all_words};
@@ -14,6 +15,8 @@ use hpx_top::run::{End, run};
 use hpx_top::task::Notice;
 use hpx_value::memory::OutOfMemory;
 use std::alloc::Global;
+use std::sync::Wait;
+use std::thread::Threads;
 
 /// The status where there is no memory for the words.
 const OUT_OF_MEMORY: u8 = 6;
@@ -31,13 +34,15 @@ fn say_no_memory<E: Sink>(err: &mut E)
 
 /// Runs on the words that it is started with, and ends as that run ends. Where there is no memory for the words, nothing is run, and
 /// the status is 6. A status other than 0 writes one line on `err`, and nothing else is written there.
-pub fn program<W: Words, S: Source, K: Sink, E: Sink, F: Fabric>(
+pub fn program<W: Words, S: Source, K: Sink, E: Sink, F: Fabric, R: Threads + Wait + Sync, G: Gate>(
+    rt: &R,
     alloc: Global,
     given: &W,
     source: &mut S,
     sink: &mut K,
     err: &mut E,
     fabric: F,
+    gate: &G,
 ) -> End<F>
     requires flight { F.flight fabric ≡ Some [] }
     requires trace { F.trace fabric ≡ Some [] }
@@ -66,7 +71,7 @@ pub fn program<W: Words, S: Source, K: Sink, E: Sink, F: Fabric>(
         IfSome result.world (λ w. HasRunAsAsked (W.words given.now) result.status w x z) }
 {
     match all_words(alloc, given) {
-        Ok(words) => run(alloc, &words, source, sink, err, fabric),
+        Ok(words) => run(rt, alloc, &words, source, sink, err, fabric, gate),
         Err(OutOfMemory) => {
             say_no_memory(err);
             End {

@@ -1,7 +1,7 @@
 -- A text that is fed, and how serving it ends.
 use Rattle.std.specs.Prelude.{◌⊎◌, Result, Ok, Err, OnOk, OnErr, IfErr, ◌≢◌}
-use Rattle.std.specs.List.{concat, slice_get, AllByRecursion}
-use Rattle.std.proofs.Common.{ℕ, zero, suc, List, [], ◌∷◌, ◌++◌, ◌≡◌, ◌≤◌, length, drop, set, Option, Some, refl, sym, ap, ◌∙◌, subst, inl, inr, arith, append_assoc}
+use Rattle.std.specs.List.{concat}
+use Rattle.std.proofs.Common.{ℕ, List, [], ◌∷◌, ◌++◌, ◌≡◌, ◌≤◌, length, drop, Option, Some, refl, sym, ap, ◌∙◌, subst, inl, inr, arith, append_assoc}
 use Rattle.hpx_value.specs.declared.profile.Profile.{Profile}
 use Rattle.hpx_journal.specs.declared.entry.Name.{Name}
 use Rattle.hpx_journal.specs.declared.entry.Entry.{Entry}
@@ -15,16 +15,15 @@ use Rattle.hpx_journal.proofs.Ample.{legal_ample}
 use Rattle.hpx_journal.proofs.Sessions.{quiet_settled}
 use Rattle.hpx_journal.proofs.Start.{quiet_fires, quiet_dones}
 use Rattle.hpx_steps.specs.Rest.{rules_of}
-use Rattle.hpx_tables.specs.Tables.{Tables, IsPassive}
+use Rattle.hpx_tables.specs.Tables.{Tables}
 use Rattle.hpx_ports.specs.Told.{followed}
 use Rattle.hpx_world.specs.declared.turns.Turned.{Turned}
 use Rattle.hpx_world.specs.declared.turns.Turned.TheVariants as turned
 use Rattle.hpx_world.specs.Places.{Places}
 use Rattle.hpx_world.specs.Promises.{KeepsPromises}
-use Rattle.hpx_world.specs.Quiet.{NoneRuns, IsAtRest}
-use Rattle.hpx_world.specs.Sound.{DoneAt}
+use Rattle.hpx_world.specs.Quiet.{IsAtRest}
 use Rattle.hpx_world.specs.Steps.{IsUnfed}
-use Rattle.hpx_world.specs.Turns.{Feeds as FeedsAt, next_name, DidFeed}
+use Rattle.hpx_world.specs.Turns.{next_name, DidFeed}
 use Rattle.app_console.specs.Console.{prompt}
 use Rattle.app_console.specs.Lines.{opening}
 use Rattle.hpx_top.specs.Acts.{act_of}
@@ -67,37 +66,6 @@ fed_then text t nodes nodes' old mid new d unfed =
       is = unfed.is ∙ (ap (λ x. x ++ unfed.more) w.is ∙ append_assoc old (e ∷ []) unfed.more);
       begins = ((w.name, refl), unfed.unfed);
     }
-
--- ---- feeding hands no job out
-
-passive_runs : (nodes : List Tables) → AllByRecursion IsPassive nodes → NoneRuns nodes
-passive_runs [] h = tt
-passive_runs (t ∷ ts) h = ((h.0).running, passive_runs ts h.1)
-
-set_runs : (nodes : List Tables) (k : ℕ) (t : Tables) → NoneRuns nodes → t.running ≡ [] → NoneRuns (set nodes k t)
-set_runs [] k t h none = tt
-set_runs (x ∷ xs) zero t h none = (none, h.1)
-set_runs (x ∷ xs) (suc k) t h none = (h.0, set_runs xs k t h.1 none)
-
-get_runs : (nodes : List Tables) (k : ℕ) (t : Tables) → NoneRuns nodes → slice_get nodes k ≡ Some t → t.running ≡ []
-get_runs [] k t h at = cc
-get_runs (x ∷ xs) zero t h at = let e : x ≡ t = cc in ap (λ (y : Tables). y.running) (sym e) ∙ h.0
-get_runs (x ∷ xs) (suc k) t h at = get_runs xs k t h.1 at
-
-fed_runs : (text : List ℕ) (nodes nodes' : List Tables) (old new : List Entry) → DoneAt 0 (FeedsAt text old new) nodes nodes' → NoneRuns nodes → NoneRuns nodes'
-fed_runs text nodes nodes' old new d none =
-    let same : d.after.running ≡ d.before.running =
-    ap (λ (x : Tables). x.running) d.does.waits in
-    subst NoneRuns (sym d.others) (set_runs nodes 0 d.after none (same ∙ get_runs nodes 0 d.before none d.there))
-
-pub none_out : (text : List ℕ) (t : Turned) (nodes nodes' : List Tables) (old new : List Entry) → DidFeed text t nodes nodes' old new
-    → AllByRecursion IsPassive nodes → NoneRuns nodes'
-none_out text turned.Fed nodes nodes' old new d passive = fed_runs text nodes nodes' old new d (passive_runs nodes passive)
-none_out text (turned.Fired job) nodes nodes' old new d passive = absurd d
-none_out text turned.Idle nodes nodes' old new d passive = absurd d
-none_out text (turned.Finished f) nodes nodes' old new d passive = absurd d
-none_out text turned.Moved nodes nodes' old new d passive = absurd d
-none_out text turned.Empty nodes nodes' old new d passive = absurd d
 
 -- ---- no MOVE is sent
 

@@ -12,3 +12,4 @@ pub mod EndLemmas
 pub mod RunLemmas
 pub mod DoneLemmas
 pub mod WorldFaults
+pub mod WorkerLemmas

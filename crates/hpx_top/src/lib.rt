@@ -3,6 +3,7 @@
 
 pub mod acts;
 mod compute;
+pub mod crew;
 mod printed;
 pub mod reader;
 pub mod run;

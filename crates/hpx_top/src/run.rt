@@ -13,12 +13,14 @@ ghost use Rattle.hpx_top.specs.Usage.{IsRequest, IsSetup, bad_word, notice_in, r
 
 use crate::acts::AllActs;
 use crate::compute::{compute_all, task_line};
+use crate::crew::Crew;
 use crate::printed::{print, write_values};
 use crate::session::{SessionFault, serve};
 use crate::task::{Notice, Request, Setup, request_in};
 use hpx_counters::counter::Counter;
 use hpx_options::texts;
 use hpx_ports::fabric::Fabric;
+use hpx_ports::gate::Gate;
 use hpx_ports::sink::{Sink, write_all};
 use hpx_ports::source::Source;
 use hpx_value::items::Texts;
@@ -26,6 +28,8 @@ use hpx_value::memory::OutOfMemory;
 use hpx_value::profile::Profile;
 use hpx_world::world::World;
 use std::alloc::Global;
+use std::sync::Wait;
+use std::thread::Threads;
 
 /// How a run ended: its status, the world where one was booted, and the fabric.
 #[derive(Drop)]
@@ -64,7 +68,8 @@ fn say<E: Sink>(err: &mut E, line: &[u8])
 
 /// A session over so many localities, on a fabric in which nothing is in flight yet.
 #[tactic(auto, using(crate::proofs::Carried::carrying_start))]
-fn serve_all<S: Source, K: Sink, F: Fabric>(
+fn serve_all<S: Source, K: Sink, F: Fabric, R: Threads + Wait + Sync, G: Gate>(
+    crew: &Crew<R, G>,
     alloc: Global,
     localities: u32,
     profile: Profile,
@@ -96,13 +101,14 @@ fn serve_all<S: Source, K: Sink, F: Fabric>(
         Ok(world) => world,
         Err(_) => return (None, Err(SessionFault::OutOfMemory)),
     };
-    let served = serve(alloc, &mut world, source, sink, fabric);
+    let served = serve(crew, alloc, &mut world, source, sink, fabric);
     world.law();
     (Some(world), served)
 }
 
 /// The task of a setup, on a fabric in which nothing is in flight yet.
-fn run_task<S: Source, K: Sink, F: Fabric>(
+fn run_task<S: Source, K: Sink, F: Fabric, R: Threads + Wait + Sync, G: Gate>(
+    crew: &Crew<R, G>,
     alloc: Global,
     setup: &Setup,
     source: &mut S,
@@ -129,8 +135,8 @@ fn run_task<S: Source, K: Sink, F: Fabric>(
 {
     let (localities, profile) = (setup.localities, setup.profile);
     match task_line(alloc, setup.task) {
-        Ok(None) => serve_all(alloc, localities, profile, source, sink, fabric),
-        Ok(Some(line)) => compute_all(alloc, localities, profile, line, sink, fabric),
+        Ok(None) => serve_all(crew, alloc, localities, profile, source, sink, fabric),
+        Ok(Some(line)) => compute_all(crew, alloc, localities, profile, line, sink, fabric),
         Err(OutOfMemory) => (None, Err(SessionFault::OutOfMemory)),
     }
 }
@@ -155,7 +161,9 @@ fn write_counters<K: Sink>(
 }
 
 /// A setup: its task, and where that ends well, the values of its counters.
-fn run_setup<S: Source, K: Sink, F: Fabric>(
+fn run_setup<S: Source, K: Sink, F: Fabric, R: Threads + Wait + Sync, G: Gate>(
+    rt: &R,
+    gate: &G,
     alloc: Global,
     setup: &Setup,
     source: &mut S,
@@ -179,7 +187,12 @@ fn run_setup<S: Source, K: Sink, F: Fabric>(
     ensures none { result.0 ≡ None → result.1 ≡ Err SessionFault.OutOfMemory }
     ensures untouched { result.0 ≡ None → (source.new ≡ source.old) × (sink.new ≡ sink.old) × (fabric.new ≡ fabric.old) }
 {
-    let (world, done) = run_task(alloc, setup, source, sink, fabric);
+    let crew = Crew {
+        rt,
+        gate,
+        threads: setup.threads,
+    };
+    let (world, done) = run_task(&crew, alloc, setup, source, sink, fabric);
     let counted = match done {
         Ok(()) => write_counters(setup.counters.as_slice(), &world, sink),
         Err(fault) => Err(fault),
@@ -188,7 +201,9 @@ fn run_setup<S: Source, K: Sink, F: Fabric>(
 }
 
 /// What the words ask for, on a fabric in which nothing is in flight yet.
-fn fulfil<S: Source, K: Sink, F: Fabric>(
+fn fulfil<S: Source, K: Sink, F: Fabric, R: Threads + Wait + Sync, G: Gate>(
+    rt: &R,
+    gate: &G,
     alloc: Global,
     request: &Request,
     source: &mut S,
@@ -217,18 +232,21 @@ fn fulfil<S: Source, K: Sink, F: Fabric>(
 {
     match request {
         Request::Print(notice) => (None, print(alloc, *notice, sink)),
-        Request::Run(setup) => run_setup(alloc, setup, source, sink, fabric),
+        Request::Run(setup) => run_setup(rt, gate, alloc, setup, source, sink, fabric),
     }
 }
 
-/// Runs the program on its words. A status other than 0 writes one line on `err`; where that fails, the status stays.
-pub fn run<S: Source, K: Sink, E: Sink, F: Fabric>(
+/// Runs the program on its words, by as many threads as they ask for, which pass the gate before each body. A status other than 0
+/// writes one line on `err`; where that fails, the status stays.
+pub fn run<S: Source, K: Sink, E: Sink, F: Fabric, R: Threads + Wait + Sync, G: Gate>(
+    rt: &R,
     alloc: Global,
     words: &Texts,
     source: &mut S,
     sink: &mut K,
     err: &mut E,
     mut fabric: F,
+    gate: &G,
 ) -> End<F>
     requires flight { F.flight fabric ≡ Some [] }
     requires trace { F.trace fabric ≡ Some [] }
@@ -266,7 +284,7 @@ pub fn run<S: Source, K: Sink, E: Sink, F: Fabric>(
             };
         }
     };
-    let (world, ended) = fulfil(alloc, &request, source, sink, &mut fabric);
+    let (world, ended) = fulfil(rt, gate, alloc, &request, source, sink, &mut fabric);
     let status = match ended {
         Ok(()) => 0,
         Err(fault) => {

@@ -8,7 +8,7 @@ ghost use Rattle.hpx_ports.specs.Faults.{Rose};
 ghost use Rattle.hpx_ports.specs.Told.{followed};
 ghost use Rattle.hpx_world.specs.Away.{IsCarrying};
 ghost use Rattle.hpx_world.specs.Promises.{KeepsPromises};
-ghost use Rattle.hpx_world.specs.Quiet.{IsQuiet, NoneRuns};
+ghost use Rattle.hpx_world.specs.Quiet.{IsQuiet};
 ghost use Rattle.hpx_world.specs.Steps.{IsUnfed};
 ghost use Rattle.hpx_world.specs.Turns.{DidFeed};
 ghost use Rattle.hpx_world.specs.declared.turns.Turned.{Turned};
@@ -20,6 +20,7 @@ ghost use Rattle.hpx_top.specs.Runs.{ports_of, HasCause, HasServed};
 ghost use Rattle.hpx_top.specs.Statuses.{IsStatus, status_after};
 
 use crate::acts::AllActs;
+use crate::crew::Crew;
 use crate::reader::{LineReader, Next, ReadFault};
 use app_console::lines::{ACCUMULATOR, PROMPT, TOO_LONG, marked, opening};
 use app_console::say::help;
@@ -28,12 +29,16 @@ use hpx_journal::entry::{Entry, Event};
 use hpx_journal::journal::Journal;
 use hpx_ports::fabric::Fabric;
 use hpx_ports::fault::Failed;
+use hpx_ports::gate::Gate;
 use hpx_ports::sink::{Sink, write_all};
 use hpx_ports::source::Source;
+use hpx_site::workers::drain_by;
 use hpx_value::items::Text;
 use hpx_world::turns::{Choice, WorldFault};
 use hpx_world::world::World;
 use std::alloc::Global;
+use std::sync::Wait;
+use std::thread::Threads;
 use thiserror::Error;
 
 /// Why a session ends before its input does.
@@ -175,8 +180,10 @@ fn begin<F: Fabric>(
     }
 }
 
-/// Lets the world come to rest. The fabric tells: no frame without a parcel comes, and none that breaks a rule.
-fn settle<F: Fabric>(
+/// Lets the world come to rest, by those who run its bodies. The fabric tells: no frame without a parcel comes, and none that breaks a
+/// rule.
+fn settle<F: Fabric, R: Threads + Wait + Sync, G: Gate>(
+    crew: &Crew<R, G>,
     alloc: Global,
     world: &mut World<AllActs>,
     fabric: &mut F,
@@ -188,7 +195,7 @@ fn settle<F: Fabric>(
     ensures profile { world.new.profile ≡ world.old.profile }
     ensures unfed { IsUnfed world.old.journal.entries world.new.journal.entries }
     ensures promises { KeepsPromises (rules world.new) world.new.journal.entries }
-    ensures rest { NoneRuns world.old.nodes → OnOk result (IsRested world.new) }
+    ensures rest { OnOk result (IsRested world.new) }
 
     ensures fabric { result ≡ Err SessionFault.Fabric → Rose (F.faults fabric.old) (F.faults fabric.new) }
     ensures full { result ≡ Err SessionFault.JournalFull → HasRoom world.new.journal.entries → ⊥ }
@@ -196,16 +203,22 @@ fn settle<F: Fabric>(
     ensures cause { IfErr result (λ fault. (fault ≡ SessionFault.Fabric) ⊎ (fault ≡ SessionFault.JournalFull) ⊎ (fault ≡ SessionFault.OutOfMemory)) }
     ensures stands { result ≢ Err SessionFault.Fabric → F.faults fabric.new ≡ F.faults fabric.old }
 {
-    let drained = world.drain(alloc, fabric);
+    let drained = drain_by(crew.rt, alloc, world, fabric, crew.threads, crew.gate);
     world.law();
-    match drained {
-        Ok(()) => Ok(()),
-        Err(fault) => Err(fault_of(fault, world.journal().room())),
+    if let Err(fault) = drained {
+        return Err(fault_of(fault, world.journal().room()));
+    }
+    if world.quiet() {
+        Ok(())
+    } else {
+        // A job is out that no worker has brought back.
+        Err(SessionFault::OutOfMemory)
     }
 }
 
 /// Feeds a text, and lets the world come to rest.
-pub(crate) fn feed<F: Fabric>(
+pub(crate) fn feed<F: Fabric, R: Threads + Wait + Sync, G: Gate>(
+    crew: &Crew<R, G>,
     alloc: Global,
     world: &mut World<AllActs>,
     text: Text,
@@ -231,11 +244,12 @@ pub(crate) fn feed<F: Fabric>(
     ensures stands { result ≢ Err SessionFault.Fabric → F.faults fabric.new ≡ F.faults fabric.old }
 {
     begin(alloc, world, text, fabric)?;
-    settle(alloc, world, fabric)
+    settle(crew, alloc, world, fabric)
 }
 
 /// Has the accumulator made.
-fn open<F: Fabric>(
+fn open<F: Fabric, R: Threads + Wait + Sync, G: Gate>(
+    crew: &Crew<R, G>,
     alloc: Global,
     world: &mut World<AllActs>,
     fabric: &mut F,
@@ -259,13 +273,14 @@ fn open<F: Fabric>(
     ensures stands { result ≢ Err SessionFault.Fabric → F.faults fabric.new ≡ F.faults fabric.old }
 {
     match opening(alloc) {
-        Ok(text) => feed(alloc, world, text, fabric),
+        Ok(text) => feed(crew, alloc, world, text, fabric),
         Err(_) => Err(SessionFault::OutOfMemory),
     }
 }
 
 /// Feeds a line, and writes what it prints.
-fn serve_text<K: Sink, F: Fabric>(
+fn serve_text<K: Sink, F: Fabric, R: Threads + Wait + Sync, G: Gate>(
+    crew: &Crew<R, G>,
     alloc: Global,
     world: &mut World<AllActs>,
     line: &Text,
@@ -297,12 +312,13 @@ fn serve_text<K: Sink, F: Fabric>(
     let Ok(text) = marked(alloc, ACCUMULATOR, line.as_slice()) else {
         return Err(SessionFault::OutOfMemory);
     };
-    feed(alloc, world, text, fabric)?;
+    feed(crew, alloc, world, text, fabric)?;
     show(world.journal(), cut, sink)
 }
 
 /// One line: a prompt, and what the line prints. False where the lines end.
-fn serve_line<S: Source, K: Sink, F: Fabric>(
+fn serve_line<S: Source, K: Sink, F: Fabric, R: Threads + Wait + Sync, G: Gate>(
+    crew: &Crew<R, G>,
     alloc: Global,
     world: &mut World<AllActs>,
     reader: &mut LineReader,
@@ -363,7 +379,7 @@ fn serve_line<S: Source, K: Sink, F: Fabric>(
     write(sink, PROMPT)?;
     match reader.next_line(alloc, source) {
         Ok(Next::Line(line)) => {
-            serve_text(alloc, world, &line, sink, fabric)?;
+            serve_text(crew, alloc, world, &line, sink, fabric)?;
             Ok(true)
         }
         Ok(Next::Long) => {
@@ -379,7 +395,8 @@ fn serve_line<S: Source, K: Sink, F: Fabric>(
 }
 
 /// Writes the commands, has the accumulator made, and serves each line.
-fn serve_lines<S: Source, K: Sink, F: Fabric>(
+fn serve_lines<S: Source, K: Sink, F: Fabric, R: Threads + Wait + Sync, G: Gate>(
+    crew: &Crew<R, G>,
     alloc: Global,
     world: &mut World<AllActs>,
     source: &mut S,
@@ -424,14 +441,15 @@ fn serve_lines<S: Source, K: Sink, F: Fabric>(
     ensures fabric_only { result ≢ Err SessionFault.Fabric → F.faults fabric.new ≡ F.faults fabric.old }
 {
     write(sink, help(Console::Accumulator))?;
-    open(alloc, world, fabric)?;
+    open(crew, alloc, world, fabric)?;
     let mut reader = LineReader::new(alloc);
-    while serve_line(alloc, world, &mut reader, source, sink, fabric)? {}
+    while serve_line(crew, alloc, world, &mut reader, source, sink, fabric)? {}
     Ok(())
 }
 
 /// A session, from the first text to the last prompt. Its world is at boot.
-pub fn serve<S: Source, K: Sink, F: Fabric>(
+pub fn serve<S: Source, K: Sink, F: Fabric, R: Threads + Wait + Sync, G: Gate>(
+    crew: &Crew<R, G>,
     alloc: Global,
     world: &mut World<AllActs>,
     source: &mut S,
@@ -457,5 +475,5 @@ pub fn serve<S: Source, K: Sink, F: Fabric>(
     ensures count { length world.new.nodes ≡ length world.old.nodes }
     ensures profile { world.new.profile ≡ world.old.profile }
 {
-    serve_lines(alloc, world, source, sink, fabric)
+    serve_lines(crew, alloc, world, source, sink, fabric)
 }
