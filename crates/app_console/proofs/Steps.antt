@@ -379,9 +379,9 @@ taken acts n here drawn names aw slot v what few low little fit held =
     record {
       out = out;
       out_is =
-          acts.session n here st a c few low shown (ap (λ vs. is_own acts.consoles (SpelledInt (pos slot) ∷ vs)) (one_numbered v))
-          ∙ (ap (Session.session_by acts.consoles n st a) shown
-          ∙ (ap (λ vs. Session.session_args acts.consoles n st a c 3 (SpelledInt (pos slot) ∷ vs)) (one_numbered v)
+          acts.session n here st a c few low shown (ap (λ vs. is_own (SpelledInt (pos slot) ∷ vs)) (one_numbered v))
+          ∙ (ap (Session.session_by n st a) shown
+          ∙ (ap (λ vs. Session.session_args n st a c 3 (SpelledInt (pos slot) ∷ vs)) (one_numbered v)
           ∙ ap (Session.taken st a c slot (one_spelled v)) (ap (Desks.held_at slot) awaits ∙ held)));
       makes = refl;
       sends = refl;
