@@ -51,7 +51,7 @@ pub record IsEarly (nodes : List Tables) (held : Option Frame) (frames : Option 
 abbrev pub NoneFires : Stage → Type 0
 NoneFires x = AllByRecursion IsStuck x.nodes
 
--- nor has one a message to itself
+-- nor has one an object that may leave, or a message to itself
 abbrev pub NoneClears : Stage → Type 0
 NoneClears x = NoneFires x × AllByRecursion HasNothingToTend x.nodes
 

@@ -251,7 +251,7 @@ impl<A: Acts + Copy> Locals<A> {
         }
     }
 
-    /// The locality k deals with the oldest message to itself.
+    /// The locality k tends to its own: an object leaves, or the oldest message to itself is dealt with.
     pub fn desk(&mut self, alloc: Global, k: usize) -> Result<Turned, WorldFault<A>>
         requires range { k < length (tables_of self.old.nodes.items) }
         requires room { HasRoom self.old.journal.entries }

@@ -87,7 +87,8 @@ impl<A: Acts + Copy> World<A> {
         Ok(false)
     }
 
-    /// The first locality with a message to itself deals with it. False where none has one.
+    /// The first locality that has something to tend to does: an object leaves, or a message to itself is dealt with. False where
+    /// none has.
     fn desk_first<F: Fabric>(
         &mut self,
         alloc: Global,
@@ -152,7 +153,7 @@ impl<A: Acts + Copy> World<A> {
     }
 
     /// The first of the turns that can be made, in this order: a job is handed out, run and taken back at the first locality that
-    /// can; the first message to an own locality is dealt with; the first message to another is sent; a frame is accepted.
+    /// can; the first locality that has something of its own to tend to does; the first message to another is sent; a frame is accepted.
     /// False where none can. Nothing is fed.
     pub fn step<F: Fabric>(&mut self, alloc: Global, fabric: &mut F) -> Result<bool, WorldFault<A>>
         ensures count { length self.new.nodes ≡ length self.old.nodes }

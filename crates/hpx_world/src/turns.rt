@@ -16,7 +16,7 @@ pub enum Choice<A: Acts> {
     Fire(u32),
     /// A job that is done is committed.
     Finish(Done<A>),
-    /// A locality deals with the oldest message to itself.
+    /// A locality tends to its own: an object leaves, or the oldest message to itself is dealt with.
     Desk(u32),
     /// A locality sends its oldest message to another.
     Pump(u32),
@@ -33,12 +33,12 @@ pub enum Turned {
     Idle,
     Finished(Finished),
     Moved,
-    /// There was no message to deal with or to send, or no frame to accept.
+    /// There was nothing to tend to, no message to send, or no frame to accept.
     Empty,
 }
 
 impl Turned {
-    /// Whether a message was dealt with or sent, or a frame was accepted.
+    /// Whether an object left, a message was dealt with or sent, or a frame was accepted.
     pub fn moved(&self) -> bool
         ensures { IsTrue result ↔ (self.now ≡ Turned.Moved) }
     {
