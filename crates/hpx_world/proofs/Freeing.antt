@@ -1,8 +1,7 @@
 -- What the home of an object counts of its moves and of what frees it, once no credit of it is out.
-use Rattle.std.proofs.Common.{ℕ, Bool, true, false, cond, List, [], ◌∷◌, ◌≡◌, ◌≢◌, ◌+◌, ◌≤◌, ◌==◌, Option, Some, None, refl, sym, ap, ◌∙◌, subst, arith, inl, inr}
-use Rattle.std.specs.Prelude.{◌&&◌, ◌⊎◌}
+use Rattle.std.proofs.Common.{ℕ, Bool, true, false, cond, List, [], ◌∷◌, ◌≡◌, ◌≢◌, ◌+◌, ◌≤◌, ◌==◌, Option, Some, None, refl, sym, ap, ◌∙◌, subst, arith}
+use Rattle.std.specs.Prelude.{◌&&◌}
 use Rattle.std.specs.List.{sum_by, count_by}
-use Rattle.std.proofs.lemmas.Bool.{cases_eq, eq-eqb, ne_eqb}
 use Rattle.std.proofs.lemmas.List.Sums.{sum_by-cons}
 use Rattle.hpx_value.specs.Ids.{same_object}
 use Rattle.hpx_journal.specs.Data.{Id, Parcel, Free}
@@ -26,7 +25,7 @@ use Rattle.hpx_tables.specs.declared.kept.Arrival.{Arrival}
 use Rattle.hpx_tables.specs.declared.kept.Outgoing.{Outgoing}
 use Rattle.hpx_world.proofs.AtItsHome.{and_cond, count_if, two_counts}
 use Rattle.hpx_world.proofs.Known.{IsShown}
-use Rattle.hpx_world.proofs.Mails.{both_few, for_few, for_is}
+use Rattle.hpx_world.proofs.Mails.{both_few, for_few, for_is, if_at, nothing}
 use Rattle.hpx_world.proofs.Rowed.{none_sum}
 use Rattle.hpx_world.proofs.Unnamed.{NoneIn, less_each}
 
@@ -34,24 +33,8 @@ use Rattle.hpx_world.proofs.Unnamed.{NoneIn, less_each}
 
 -- what frees goes where it frees
 pub free_is : (o : Id) (j k : ℕ) (p : Parcel) → free_for o j k p ≡ cond (k == j) (frees_one o p) 0
-free_is o j k (Free x) = each (same_object o x) (cases_eq j k)
-  where
-    each : (b : Bool) → (j ≡ k) ⊎ (j ≢ k) → one_if (b && (j == k)) ≡ cond (k == j) (one_if b) 0
-    each b (inl e) = rw (eq-eqb j k e, eq-eqb k j (sym e)) (yes b)
-      where
-        yes : (b : Bool) → one_if (b && true) ≡ one_if b
-        yes true = refl
-        yes false = refl
-    each b (inr d) = rw (ne_eqb j k d, ne_eqb k j (λ e. d (sym e))) (no b)
-      where
-        no : (b : Bool) → one_if (b && false) ≡ 0
-        no true = refl
-        no false = refl
-free_is o j k _ = none (k == j)
-  where
-    none : (b : Bool) → ◌≡◌ {A = ℕ} 0 (cond b 0 0)
-    none true = refl
-    none false = refl
+free_is o j k (Free x) = if_at (same_object o x) j k
+free_is o j k _ = nothing (k == j)
 
 -- and from its home
 pub free_home : (o : Id) (k to : ℕ) (p : Parcel) → MayGoTo k to p → o.home ≢ k → frees_one o p ≡ 0

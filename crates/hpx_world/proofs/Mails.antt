@@ -35,19 +35,9 @@ pub nothing : (b : Bool) → ◌≡◌ {A = ℕ} 0 (cond b 0 0)
 nothing true = refl
 nothing false = refl
 
--- ---- grants
-
-pub go_few : (o : Id) (t : ℕ) (p : Parcel) → go_to o t p ≤ grants_of o p
-go_few o t (Go act) = both_few (same_object o (target_of act)) (is_to t (move_to act))
-go_few o t _ = omega arith
-
-pub for_few : (o : Id) (j k : ℕ) (p : Parcel) → go_for o j k p ≤ grants_of o p
-for_few o j k (Go act) = both_few (same_object o (target_of act)) (j == k)
-for_few o j k _ = omega arith
-
--- one for j counts where it goes there
-pub for_is : (o : Id) (j k : ℕ) (p : Parcel) → go_for o j k p ≡ cond (k == j) (grants_of o p) 0
-for_is o j k (Go act) = each (same_object o (target_of act)) (cases_eq j k)
+-- one that counts at its own locality alone
+pub if_at : (b : Bool) (j k : ℕ) → one_if (b && (j == k)) ≡ cond (k == j) (one_if b) 0
+if_at b j k = each b (cases_eq j k)
   where
     each : (b : Bool) → (j ≡ k) ⊎ (j ≢ k) → one_if (b && (j == k)) ≡ cond (k == j) (one_if b) 0
     each b (inl e) = rw (eq-eqb j k e, eq-eqb k j (sym e)) (yes b)
@@ -60,6 +50,20 @@ for_is o j k (Go act) = each (same_object o (target_of act)) (cases_eq j k)
         no : (b : Bool) → one_if (b && false) ≡ 0
         no true = refl
         no false = refl
+
+-- ---- grants
+
+pub go_few : (o : Id) (t : ℕ) (p : Parcel) → go_to o t p ≤ grants_of o p
+go_few o t (Go act) = both_few (same_object o (target_of act)) (is_to t (move_to act))
+go_few o t _ = omega arith
+
+pub for_few : (o : Id) (j k : ℕ) (p : Parcel) → go_for o j k p ≤ grants_of o p
+for_few o j k (Go act) = both_few (same_object o (target_of act)) (j == k)
+for_few o j k _ = omega arith
+
+-- one for j counts where it goes there
+pub for_is : (o : Id) (j k : ℕ) (p : Parcel) → go_for o j k p ≡ cond (k == j) (grants_of o p) 0
+for_is o j k (Go act) = if_at (same_object o (target_of act)) j k
 for_is o j k _ = nothing (k == j)
 
 -- only the home of an object grants its moves
